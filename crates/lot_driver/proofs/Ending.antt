@@ -1,5 +1,5 @@
 -- The end of a call.
-use Rattle.std.proofs.Common.{ℕ, ◌≡◌, true, false, List, Option, None, Some, inl, inr, refl, sym, ap, ◌∙◌, subst}
+use Rattle.std.proofs.Common.{ℕ, ◌≡◌, Bool, true, false, List, Option, None, Some, inl, inr, refl, sym, ap, ◌∙◌, subst}
 use Rattle.lot_calls.specs.declared.outcomes.Answer.{Answer}
 use Rattle.lot_calls.specs.declared.outcomes.OnceState.{OnceState}
 use Rattle.lot_calls.specs.declared.calls.OnceCall.TheVariants.{CallOnce}
@@ -12,6 +12,8 @@ use Rattle.lot_mutex.specs.declared.places.MutexPlace.TheVariants as at_mutex_pl
 use Rattle.lot_mutex.specs.declared.hand_off.HandOffAt as hand_off
 use Rattle.lot_mutex.specs.declared.lock.LockAt as lock
 use Rattle.lot_mutex.specs.declared.unlock.UnlockAt as unlock
+use Rattle.lot_condvar.specs.declared.places.CondvarPlace.{CondvarPlace}
+use Rattle.lot_condvar.specs.declared.places.CondvarPlace.TheVariants as waiting
 use Rattle.lot_once.specs.declared.places.OncePlace.{OncePlace}
 use Rattle.lot_once.specs.declared.places.OncePlace.TheVariants.{Look, Run}
 use Rattle.lot_once.specs.declared.run.RunAt.TheVariants as run
@@ -28,7 +30,8 @@ use Rattle.lot_rwlock.specs.declared.purposes.RwLockPurpose.{RwLockPurpose}
 use Rattle.lot_rwlock.specs.declared.purposes.RwLockPurpose.TheVariants as purposes
 use Rattle.lot_driver.specs.RwLockFitting.{Answers}
 use Rattle.lot_driver.proofs.RwLockLeading.{rwlock_no_closure}
-use Rattle.lot_driver.specs.Fitting.{Aim, nothing, of_fair, of_mutex, of_once, of_run, of_rwlock, AreWordsFor, aim_of, answer_of, Fits, IsOver, IsStopped}
+use Rattle.lot_driver.specs.Fitting.{Aim, nothing, of_fair, of_mutex, of_notify, of_once, of_run, of_rwlock, of_wait, AreWordsFor, aim_of, answer_of, Fits, IsOver, IsStopped}
+use Rattle.lot_driver.specs.CondvarFitting.{IsWaitOver}
 use Rattle.lot_driver.specs.MutexFitting.{Purpose, enters, releases, hands_over, FitsMutex, IsMutexOver}
 use Rattle.lot_driver.specs.Paths.{closure_of}
 use Rattle.lot_driver.specs.Words.{alone, at_in, kind_in}
@@ -70,6 +73,14 @@ module _ (up : Type 0) (base owns : List Ownership) where
   rwlock_ended l a (purposes.Downgrade d) answer inside last h = h
   rwlock_ended l a (purposes.Upgrade how) answer inside last h = h
 
+  wait_ended : (m : ℕ) (timed : Bool) (answer : Answer) (inside : Option Inside) (last : Option SectionRecord) → IsWaitOver up m timed base answer (stage owns inside last) → IsWaitOver up m timed base answer (stage owns None last)
+  wait_ended m timed answer inside last (inl h) = inl (h.0, h.1, (h.2.0, refl))
+  wait_ended m timed answer inside last (inr h) = inr (h.0, h.1, h.2, (h.3.0, refl))
+
+  wait_outside : (m : ℕ) (timed : Bool) (answer : Answer) (inside : Option Inside) (last : Option SectionRecord) → IsWaitOver up m timed base answer (stage owns inside last) → inside ≡ None
+  wait_outside m timed answer inside last (inl h) = h.2.1
+  wait_outside m timed answer inside last (inr h) = h.3.1
+
   -- where a call ended, its thread is outside all sections
   pub ended : (aim : Aim) (answer : Answer) (inside : Option Inside) (last : Option SectionRecord) → IsOver up base aim answer (stage owns inside last) → IsOver up base aim answer (stage owns None last)
   ended nothing answer inside last h = absurd h
@@ -78,6 +89,8 @@ module _ (up : Type 0) (base owns : List Ownership) where
   ended (of_fair l a x) answer inside last h = (refl, h.1, h.2, h.3)
   ended (of_once l c) answer inside last h = (refl, h.1)
   ended (of_run l succeeded) answer inside last h = (refl, h.1, h.2, h.3)
+  ended (of_wait l m timed) answer inside last h = wait_ended m timed answer inside last h
+  ended (of_notify l m all) answer inside last h = ((h.0.0, refl), h.1)
 
   pub outside : (aim : Aim) (answer : Answer) (inside : Option Inside) (last : Option SectionRecord) → IsOver up base aim answer (stage owns inside last) → inside ≡ None
   outside nothing answer inside last h = absurd h
@@ -86,9 +99,11 @@ module _ (up : Type 0) (base owns : List Ownership) where
   outside (of_fair l a x) answer inside last h = h.0
   outside (of_once l c) answer inside last h = h.0
   outside (of_run l succeeded) answer inside last h = h.0
+  outside (of_wait l m timed) answer inside last h = wait_outside m timed answer inside last h
+  outside (of_notify l m all) answer inside last h = h.0.1
 
 -- no call of a mutex runs a closure
-no_closure : (n : ℕ) (state : OnceState) (up : Type 0) (base : List Ownership) (at : MutexPlace) (st : Stage) → FitsMutex up n base at st → mutex_act n at ≡ act.TheVariants.Closure state → ⊥
+pub no_closure : (n : ℕ) (state : OnceState) (up : Type 0) (base : List Ownership) (at : MutexPlace) (st : Stage) → FitsMutex up n base at st → mutex_act n at ≡ act.TheVariants.Closure state → ⊥
 no_closure n state up base (at_mutex_place.Lock e retries lock.TheVariants.First) st f is = cc
 no_closure n state up base (at_mutex_place.Lock e retries lock.TheVariants.Load) st f is = cc
 no_closure n state up base (at_mutex_place.Lock e retries (lock.TheVariants.Decide seen)) st f is =
@@ -120,9 +135,15 @@ once_runs l n purpose (Run forced (run.Enter succeeded)) e = let aim : of_run l 
 once_runs l n purpose (Run forced (run.Take succeeded)) e = let aim : of_run l succeeded ≡ of_mutex n purpose = e in cc
 once_runs l n purpose (Run forced (run.Leave succeeded any)) e = let aim : of_run l succeeded ≡ of_mutex n purpose = e in cc
 
+-- and of a condition variable neither
+condvar_pauses : (l n : ℕ) (purpose : Purpose) (at : CondvarPlace) → aim_of (Condvar l at) ≡ of_mutex n purpose → ⊥
+condvar_pauses l n purpose (waiting.Wait m timed at) e = let aim : of_wait l m timed ≡ of_mutex n purpose = e in cc
+condvar_pauses l n purpose (waiting.Look all) e = let aim : nothing ≡ of_mutex n purpose = e in cc
+condvar_pauses l n purpose (waiting.Notify all m at) e = let aim : of_notify l m all ≡ of_mutex n purpose = e in cc
+
 pub never_paused : (up : Type 0) (base : List Ownership) (n : ℕ) (purpose : Purpose) (p : Place) (state : OnceState) (st : Stage) → IsStopped up base (of_mutex n purpose) (Paused p state) st → ⊥
 never_paused up base n purpose Idle state st s = s.0
-never_paused up base n purpose (Condvar l at) state st s = s.0
+never_paused up base n purpose (Condvar l at) state st s = condvar_pauses l n purpose at s.1
 never_paused up base n purpose (RwLock l a at) state st s = rwlock_no_closure up l a base at st state s.0 s.2
 never_paused up base n purpose (Once l at) state st s = once_runs l n purpose at s.1
 never_paused up base n purpose (Mutex l at) state st s = no_closure l state up base at st s.0 s.2
@@ -130,7 +151,9 @@ never_paused up base n purpose (Mutex l at) state st s = no_closure l state up b
 -- no call comes to a closure that steps on the word of a reader-writer lock
 pub never_closes : (up : Type 0) (base : List Ownership) (aim : Aim) (p : Place) (state : OnceState) (st : Stage) (word : Word) → word.kind ≡ kinds.TheVariants.RwLock → AreWordsFor p (kind_in (alone word)) (at_in (alone word)) → IsStopped up base aim (Paused p state) st → ⊥
 never_closes up base aim Idle state st word is words s = s.0
-never_closes up base aim (Condvar l at) state st word is words s = s.0
+never_closes up base aim (Condvar l (waiting.Wait m timed at)) state st word is words s = let e : kinds.TheVariants.Condvar ≡ kinds.TheVariants.RwLock = sym words.1.1 ∙ is in cc
+never_closes up base aim (Condvar l (waiting.Look all)) state st word is words s = s.0
+never_closes up base aim (Condvar l (waiting.Notify all m at)) state st word is words s = let e : kinds.TheVariants.Condvar ≡ kinds.TheVariants.RwLock = sym words.1.1 ∙ is in cc
 never_closes up base aim (RwLock l a at) state st word is words s = rwlock_no_closure up l a base at st state s.0 s.2
 never_closes up base aim (Mutex l at) state st word is words s = no_closure l state up base at st s.0 s.2
 never_closes up base aim (Once l at) state st word is words s = let e : kinds.TheVariants.Once ≡ kinds.TheVariants.RwLock = sym (ap (λ (g : ℕ → WordKind). g 0) words.1) ∙ is in cc

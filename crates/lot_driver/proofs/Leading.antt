@@ -9,9 +9,12 @@ use Rattle.lot_mutex.specs.MutexSteps.{mutex_act, mutex_looking, lock_act, unloc
 use Rattle.lot_rwlock_fair.specs.FairProfiles.{call_looking}
 use Rattle.lot_rwlock_fair.specs.FairSteps.{call_act}
 use Rattle.lot_rwlock_fair.specs.declared.places.RwLockCallPlace.{RwLockCallPlace}
+use Rattle.lot_condvar.specs.CondvarSteps as condvar_steps
+use Rattle.lot_condvar.specs.declared.places.CondvarPlace.TheVariants.{Wait}
+use Rattle.lot_condvar.specs.declared.wait.WaitAt.TheVariants as waiting
 use Rattle.lot_once.specs.OnceSteps.{once_act, once_looking}
 use Rattle.lot_once.specs.declared.places.OncePlace.{OncePlace}
-use Rattle.lot_steps.specs.Steps.{late_key, in_mutex, in_rwlock, in_once}
+use Rattle.lot_steps.specs.Steps.{late_key, in_condvar, in_mutex, in_rwlock, in_once}
 use Rattle.lot_acts.specs.declared.acts.Act.{Act}
 use Rattle.lot_acts.specs.declared.acts.Act as act
 use Rattle.lot_acts.specs.declared.acts.Reply.{Reply}
@@ -39,6 +42,7 @@ use Rattle.lot_driver.specs.Paths.{GoesFrom, mutex_at, mutexes, at_mutex, rwlock
 use Rattle.lot_driver.specs.declared.acting.Sleeper.{Sleeper}
 use Rattle.lot_driver.specs.Stages.{Stage, Inside, ActNeeds, Became, HasKey, IsFresh, MayLeave, IsLeft, took_as, listed, entered_now, stage, stepped}
 use Rattle.lot_driver.proofs.HandingOver.{hand_off_needs, hand_off_leads}
+use Rattle.lot_driver.proofs.CondvarLeading.{condvar_place_leads}
 use Rattle.lot_driver.proofs.OnceLeading.{once_place_leads}
 use Rattle.lot_driver.proofs.RwLockLeading.{rwlock_place_leads}
 
@@ -239,7 +243,7 @@ places_lead up kinds at base (Mutex n p) st words f =
     subst (λ (k : (ℕ → WordKind) × (ℕ → ℕ)). ActNeeds k.0 k.1 st (mutex_act n p) × Looks up base (Mutex n p) st
     × ((reply : Reply) (new : Stage) → Became up k.0 k.1 (sleeper_at (Mutex n p)) st (mutex_act n p) reply new → Reached up base (Mutex n p) reply new))
     (sym (both_words kinds at mutexes (at_mutex n) words.1 words.2)) (mutex_place_leads up n base p st f)
-places_lead up kinds at base (Condvar n p) st words f = absurd f
+places_lead up kinds at base (Condvar n p) st words f = condvar_place_leads up (mutex_place_leads up) n kinds at base p st words.1 f
 
 -- where a call goes on from, it has what it had
 pub fits_from : (up : Type 0) (kinds : ℕ → WordKind) (at : ℕ → ℕ) (base : List Ownership) (p q : Place) (st : Stage) → GoesFrom p q → AreWordsFor p kinds at → Fits up base p st → Fits up base q st × (aim_of q ≡ aim_of p)
@@ -264,4 +268,9 @@ words_from kinds at (Mutex l p) q (inr is) words = by_place (mutex_looking p) is
     by_place : (o : Option MutexPlace) → in_mutex l o ≡ Some q → AreWordsFor q kinds at
     by_place None e = absurd cc
     by_place (Some p2) e = let there : Mutex l p2 ≡ q = cc in subst (λ r. AreWordsFor r kinds at) there words
-words_from kinds at (Condvar l p) q (inr is) words = absurd words
+words_from kinds at (Condvar l (Wait m timed (waiting.Lock timed_out p))) q (inr is) words = by_place (mutex_looking p) is
+  where
+    by_place : (o : Option MutexPlace) → in_condvar l (condvar_steps.in_lock m timed timed_out o) ≡ Some q → AreWordsFor q kinds at
+    by_place None e = absurd cc
+    by_place (Some p2) e = let there : Condvar l (Wait m timed (waiting.Lock timed_out p2)) ≡ q = cc in subst (λ r. AreWordsFor r kinds at) there words
+words_from kinds at (Condvar l p) q (inr is) words = absurd cc

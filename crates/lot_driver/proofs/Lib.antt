@@ -13,10 +13,12 @@ pub mod RwLockBumpFull
 pub mod RwLockBumping
 pub mod RwLockLeading
 pub mod OnceLeading
+pub mod CondvarLeading
 pub mod Leading
 pub mod RwLockBeginning
 pub mod Turning
 pub mod OnceCalling
+pub mod CondvarCalling
 pub mod RwLockCalling
 pub mod RwLockCourses
 pub mod RwLockTakes

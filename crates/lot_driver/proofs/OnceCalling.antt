@@ -10,6 +10,7 @@ use Rattle.lot_calls.specs.declared.outcomes.OnceState.{OnceState}
 use Rattle.lot_acts.specs.declared.acts.Act as act
 use Rattle.lot_acts.specs.declared.acts.Next as next
 use Rattle.lot_acts.specs.declared.acts.Reply.TheVariants.{Value}
+use Rattle.lot_condvar.specs.declared.places.CondvarPlace.TheVariants as waiting
 use Rattle.lot_once.specs.OnceSteps.{course_act, course_of, ended, in_run, look_act, state_before, word_behind}
 use Rattle.lot_once.specs.declared.look.Course.{Course}
 use Rattle.lot_once.specs.declared.look.Course.TheVariants.{Ends, Runs, Marks, Parks}
@@ -67,7 +68,9 @@ pub record InClosure (n : ℕ) (c : OnceCall) (base : List Ownership) (p : Place
 
 pub paused : (n : ℕ) (c : OnceCall) (base : List Ownership) (p : Place) (state : OnceState) (st : Stage) → IsStopped ⊥ base (of_once n c) (Paused p state) st → InClosure n c base p state st
 paused n c base Idle state st s = absurd s.0
-paused n c base (Condvar l at) state st s = absurd s.0
+paused n c base (Condvar l (waiting.Wait m timed at)) state st s = let e = s.1 in absurd cc
+paused n c base (Condvar l (waiting.Look all)) state st s = absurd s.0
+paused n c base (Condvar l (waiting.Notify all m at)) state st s = let e = s.1 in absurd cc
 paused n c base (Mutex l at) state st s = let e = s.1 in absurd cc
 paused n c base (RwLock l a at) state st s = absurd (rwlock_no_closure ⊥ l a base at st state s.0 s.2)
 paused n c base (Once l (Look c2 r at)) state st s = absurd (no_look l c2 at state s.2)
@@ -89,7 +92,9 @@ paused n c base (Once l (Run forced (run.Leave succeeded any))) state st s = let
 -- a run that has ended comes to no closure
 pub runs_out : (n : ℕ) (succeeded : Bool) (base : List Ownership) (p : Place) (state : OnceState) (st : Stage) → IsStopped ⊥ base (of_run n succeeded) (Paused p state) st → ⊥
 runs_out n succeeded base Idle state st s = s.0
-runs_out n succeeded base (Condvar l at) state st s = s.0
+runs_out n succeeded base (Condvar l (waiting.Wait m timed at)) state st s = let e = s.1 in cc
+runs_out n succeeded base (Condvar l (waiting.Look all)) state st s = s.0
+runs_out n succeeded base (Condvar l (waiting.Notify all m at)) state st s = let e = s.1 in cc
 runs_out n succeeded base (Mutex l at) state st s = let e = s.1 in cc
 runs_out n succeeded base (RwLock l a at) state st s = rwlock_no_closure ⊥ l a base at st state s.0 s.2
 runs_out n succeeded base (Once l (Look c r at)) state st s = no_look l c at state s.2

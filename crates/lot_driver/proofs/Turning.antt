@@ -7,9 +7,13 @@ use Rattle.lot_base.specs.declared.ops.Op.TheVariants.{Load}
 use Rattle.lot_mutex.specs.MutexSteps.{mutex_next}
 use Rattle.lot_rwlock_fair.specs.FairSteps.{call_next}
 use Rattle.lot_rwlock_fair.specs.declared.places.RwLockCallPlace.{RwLockCallPlace}
+use Rattle.lot_condvar.specs.CondvarSteps.{in_notify, in_wait, next_notify, next_wait}
+use Rattle.lot_condvar.specs.declared.notify.NotifyAt.{NotifyAt}
+use Rattle.lot_condvar.specs.declared.places.CondvarPlace.TheVariants.{Wait, Look, Notify}
+use Rattle.lot_condvar.specs.declared.wait.WaitAt.{WaitAt}
 use Rattle.lot_once.specs.OnceSteps.{once_next}
 use Rattle.lot_once.specs.declared.places.OncePlace.{OncePlace}
-use Rattle.lot_steps.specs.Steps.{act_of, next_place, mutex_goes, rwlock_goes, once_goes, HasKeys, ShowsKeys}
+use Rattle.lot_steps.specs.Steps.{act_of, next_place, mutex_goes, rwlock_goes, once_goes, condvar_goes, HasKeys, ShowsKeys}
 use Rattle.lot_acts.specs.declared.acts.Next.{Next}
 use Rattle.lot_acts.specs.declared.acts.Next.TheVariants.{At, End}
 use Rattle.lot_mutex.specs.declared.places.MutexPlace.{MutexPlace}
@@ -79,21 +83,32 @@ words_on (Mutex l place) reply kinds at w = by_next (mutex_next place reply)
     by_next : (goes : Next MutexPlace) → AreWordsFor (mutex_goes l goes) kinds at
     by_next (At next) = w
     by_next (End answer) = tt
-words_on (Condvar l place) reply kinds at w = absurd w
+words_on (Condvar l (Wait m timed place)) reply kinds at w = by_next (next_wait m timed place reply)
+  where
+    by_next : (goes : Next WaitAt) → AreWordsFor (condvar_goes l (in_wait m timed goes)) kinds at
+    by_next (At next) = w
+    by_next (End answer) = tt
+words_on (Condvar l (Look all)) reply kinds at w = absurd w.1
+words_on (Condvar l (Notify all m place)) reply kinds at w = by_next (next_notify all m place reply)
+  where
+    by_next : (goes : Next NotifyAt) → AreWordsFor (condvar_goes l (in_notify all m goes)) kinds at
+    by_next (At next) = w
+    by_next (End answer) = tt
 
 pub has_keys : (p : Place) (kinds : ℕ → WordKind) (at : ℕ → ℕ) → AreWordsFor p kinds at → HasKeys p
 has_keys (Mutex l at) kinds places w = w.0
 has_keys Idle kinds at w = tt
 has_keys (RwLock l a place) kinds at w = w.0
 has_keys (Once l place) kinds at w = w.0
-has_keys (Condvar l place) kinds at w = absurd w
+has_keys (Condvar l place) kinds at w = w.0
 
+-- and no call shows another mutex then
 pub shows_keys : (p : Place) (reply : Reply) (kinds : ℕ → WordKind) (at : ℕ → ℕ) → AreWordsFor p kinds at → ShowsKeys p reply
 shows_keys Idle reply kinds at w = tt
 shows_keys (Mutex l place) reply kinds at w = tt
 shows_keys (RwLock l a place) reply kinds at w = tt
 shows_keys (Once l place) reply kinds at w = tt
-shows_keys (Condvar l place) reply kinds at w = absurd w
+shows_keys (Condvar l place) reply kinds at w = has_keys (next_place (Condvar l place) reply) kinds at (words_on (Condvar l place) reply kinds at w)
 
 -- a step on a word, as the stage has it
 pub by_stage : (w : Word) (op : Op) (seen : ℕ) (old : Token) (section : Option Section) (new : Token) → view_of new ≡ after_step w.kind (word_index w.number w.kind) op seen (view_of old) → last_of new ≡ None → CodesWith w.kind (word_index w.number w.kind) seen (view_of old).owns

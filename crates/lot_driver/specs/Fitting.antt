@@ -1,5 +1,5 @@
 -- What a thread has at each place of its call, and at its end. Each sort of lock says so in a file of its own.
-use Rattle.std.specs.Prelude.{ℕ, ◌≡◌, List, Option, Some, None, true, false, unwrap_or, Bool}
+use Rattle.std.specs.Prelude.{ℕ, ◌≡◌, ◌≢◌, List, Option, Some, None, true, false, unwrap_or, Bool}
 use Rattle.lot_rwlock_fair.specs.FairProfiles.{call_wants}
 use Rattle.lot_base.specs.declared.wants.Want.TheVariants.{Exclusive}
 use Rattle.lot_calls.specs.declared.outcomes.Answer.{Answer}
@@ -24,11 +24,16 @@ use Rattle.lot_once.specs.declared.places.OncePlace.{OncePlace}
 use Rattle.lot_once.specs.declared.places.OncePlace.TheVariants.{Look, Run}
 use Rattle.lot_once.specs.declared.run.RunAt.{RunAt}
 use Rattle.lot_once.specs.declared.run.RunAt.TheVariants as run
+use Rattle.lot_condvar.specs.CondvarSteps.{mutex_beside}
+use Rattle.lot_condvar.specs.declared.places.CondvarPlace.{CondvarPlace}
+use Rattle.lot_condvar.specs.declared.places.CondvarPlace.TheVariants as condvars
+use Rattle.lot_words.specs.declared.words.WordKind.TheVariants as kind
+use Rattle.lot_driver.specs.CondvarFitting.{FitsCondvar, IsNotifyOver, IsWaitOver, condvar_sleeper}
 use Rattle.lot_calls.specs.declared.calls.Patience.TheVariants.{Patient}
 use Rattle.lot_driver.specs.MutexFitting.{Purpose, purpose_at, FitsMutex, IsMutexOver}
 use Rattle.lot_driver.specs.RwLockFitting.{FitsCall, IsFairlyOver, IsRwLockOver, may_be_handed, purpose_in}
 use Rattle.lot_driver.specs.OnceFitting.{FitsOnce, IsLookOver, IsRunOver}
-use Rattle.lot_driver.specs.Paths.{mutexes, at_mutex, rwlocks, at_rwlock, onces, at_once}
+use Rattle.lot_driver.specs.Paths.{mutexes, at_mutex, rwlocks, at_rwlock, onces, at_once, condvar_at, mutex_at}
 use Rattle.lot_driver.specs.Stages.{Stage, ActNeeds, Became}
 use Rattle.lot_driver.specs.declared.acting.Sleeper.{Sleeper}
 use Rattle.lot_driver.specs.declared.driver.Stop.{Stop}
@@ -47,6 +52,10 @@ pub data Aim : Type 0 where
   of_once : ℕ → OnceCall → Aim
   -- to end a run, by whether it succeeded
   of_run : ℕ → Bool → Aim
+  -- to wait, with this mutex, up to a deadline or without one
+  of_wait : ℕ → ℕ → Bool → Aim
+  -- to notify the first or all who wait with this mutex
+  of_notify : ℕ → ℕ → Bool → Aim
 
 -- who hands the lock over releases it fairly, or bumps
 abbrev pub handing_aim : ℕ → Admission → Access → Bool → Aim
@@ -69,12 +78,17 @@ abbrev pub once_aim : ℕ → OncePlace → Aim
 once_aim l (Look c retries at) = of_once l c
 once_aim l (Run forced at) = run_aim l forced at
 
+abbrev pub condvar_aim : ℕ → CondvarPlace → Aim
+condvar_aim l (condvars.Wait m timed at) = of_wait l m timed
+condvar_aim l (condvars.Look all) = nothing
+condvar_aim l (condvars.Notify all m at) = of_notify l m all
+
 abbrev pub aim_of : Place → Aim
 aim_of Idle = nothing
 aim_of (Mutex l at) = of_mutex l (purpose_at at)
 aim_of (RwLock l a c) = call_aim l a c
 aim_of (Once l at) = once_aim l at
-aim_of (Condvar l at) = nothing
+aim_of (Condvar l at) = condvar_aim l at
 
 -- for what a thread sleeps in a call, the keys under which it may be late, and whether it goes on where it is handed the lock.
 -- Nobody is moved from the queue of a lock
@@ -86,7 +100,13 @@ sleeper_at (RwLock l a c) =
     record { lock = l; want = unwrap_or (call_wants c) Exclusive; late = late_key (RwLock l a c); moved = None; takes_over = may_be_handed c }
 sleeper_at (Once l at) =
     record { lock = l; want = unwrap_or (once_wants at) Exclusive; late = late_key (Once l at); moved = None; takes_over = false }
-sleeper_at (Condvar l at) = record { lock = l; want = Exclusive; late = None; moved = None; takes_over = false }
+sleeper_at (Condvar l at) = condvar_sleeper l at
+
+-- the word of a condition variable, and that of the mutex beside it
+abbrev pub AreWordsBeside : ℕ → Option ℕ → (ℕ → WordKind) → (ℕ → ℕ) → Type 0
+AreWordsBeside l None kinds at = ⊥
+AreWordsBeside l (Some m) kinds at = (l ≢ m) × (kinds l ≡ kind.Condvar) × (at l ≡ condvar_at l)
+    × (kinds m ≡ kind.Mutex) × (at m ≡ mutex_at m)
 
 -- the keys of the call's lock are numbers, and its words are of the kinds that the call steps on
 abbrev pub AreWordsFor : Place → (ℕ → WordKind) → (ℕ → ℕ) → Type 0
@@ -95,7 +115,7 @@ AreWordsFor (Mutex l place) kinds at = HasKeys (Mutex l place) × (kinds ≡ mut
 AreWordsFor (RwLock l a place) kinds at =
     HasKeys (RwLock l a place) × (kinds ≡ rwlocks) × (at ≡ at_rwlock l)
 AreWordsFor (Once l place) kinds at = HasKeys (Once l place) × (kinds ≡ onces) × (at ≡ at_once l)
-AreWordsFor (Condvar l place) kinds at = ⊥
+AreWordsFor (Condvar l place) kinds at = HasKeys (Condvar l place) × AreWordsBeside l (mutex_beside place) kinds at
 
 -- and behind its closure they are so still
 abbrev pub AreWordsAfter : Stop → (ℕ → WordKind) → (ℕ → ℕ) → Type 0
@@ -110,8 +130,7 @@ module _ (up : Type 0) where
   Fits base (Mutex l at) st = FitsMutex up l base at st
   Fits base (RwLock l a c) st = FitsCall up l base a c st
   Fits base (Once l at) st = FitsOnce l base at st
-  -- no call of a condition variable is run as yet
-  Fits base (Condvar l at) st = ⊥
+  Fits base (Condvar l at) st = FitsCondvar up l base at st
 
   -- what an answer says at the end of a call
   abbrev pub IsOver : List Ownership → Aim → Answer → Stage → Type 0
@@ -121,6 +140,8 @@ module _ (up : Type 0) where
   IsOver base (of_fair l a x) answer st = IsFairlyOver l base a x answer st
   IsOver base (of_once l c) answer st = IsLookOver l c base answer st
   IsOver base (of_run l succeeded) answer st = IsRunOver l succeeded base answer st
+  IsOver base (of_wait l m timed) answer st = IsWaitOver up m timed base answer st
+  IsOver base (of_notify l m all) answer st = IsNotifyOver l m all base answer st
 
   -- what a run came to: the end of its call, or a closure, which is outside all sections
   abbrev pub IsStopped : List Ownership → Aim → Stop → Stage → Type 0

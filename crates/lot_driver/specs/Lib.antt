@@ -5,11 +5,13 @@ pub mod Stages
 pub mod Telling
 pub mod MutexFitting
 pub mod OnceFitting
+pub mod CondvarFitting
 pub mod OnceCalls
 pub mod RwLockFitting
 pub mod RwLockRefusals
 pub mod Fitting
 pub mod Calls
+pub mod CondvarCalls
 pub mod RwLockCalls
 pub mod Courses
 pub mod Drawing

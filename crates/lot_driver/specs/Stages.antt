@@ -1,5 +1,5 @@
 -- What a thread has between two acts of a call, and what each act needs and changes, whatever the lock is.
-use Rattle.std.specs.Prelude.{ℕ, ◌≡◌, ◌≢◌, ◌≤◌, ◌==◌, not, length, ◌++◌, List, [], ◌∷◌, Option, Some, None, Bool, true, false, ◌<◌, ◌^◌, if◌then◌else◌}
+use Rattle.std.specs.Prelude.{ℕ, ◌≡◌, ◌≢◌, ◌≤◌, ◌==◌, ◌+◌, not, length, ◌++◌, List, [], ◌∷◌, Option, Some, None, Bool, true, false, ◌<◌, ◌^◌, if◌then◌else◌}
 use Rattle.lot_base.specs.Lines.{threads_of}
 use Rattle.lot_base.specs.Words.{apply}
 use Rattle.lot_base.specs.declared.keys.Keys.{Keys}
@@ -29,7 +29,7 @@ use Rattle.lot_acts.specs.declared.acts.Wakes as wakes
 use Rattle.lot_acts.specs.declared.acts.Whom.{Whom}
 use Rattle.lot_acts.specs.declared.acts.Whom as whom
 use Rattle.parking_lot_core.specs.Keys.{AreKeys, IsKeyOf, first_key}
-use Rattle.parking_lot_core.specs.Sections.{waiting_in, taken_in, wants_in, rightless_in, MayNote}
+use Rattle.parking_lot_core.specs.Sections.{waiting_in, taken_in, wants_in, rightless_in, moved_in, MayNote}
 use Rattle.parking_lot_core.specs.Tokens.{view_of, last_of}
 use Rattle.parking_lot_core.specs.declared.lot.ParkingLot.{ParkingLot}
 use Rattle.parking_lot_core.specs.declared.sections.Section.{Section}
@@ -43,13 +43,15 @@ use Rattle.lot_driver.specs.Paths.{step}
 use Rattle.lot_driver.specs.Takes.{more_in, sharers_in, successor_in}
 use Rattle.lot_driver.specs.declared.acting.Sleeper.{Sleeper}
 
--- a section that a thread is inside: what it did there, whom it took, what each of them wants, and which of them have no right yet
+-- a section that a thread is inside: what it did there, whom it took, what each of them wants, which of them have no right yet, and
+-- how many it moved to another queue
 pub record Inside : Type 0 where
   pub keys : Keys
   pub did : Did
   pub taken : List ℕ
   pub wants : List Want
   pub rightless : List ℕ
+  pub moved : ℕ
 
 pub record Stage : Type 0 where
   pub owns : List Ownership
@@ -67,6 +69,7 @@ inside_of (Some section) = Some (record {
   taken = taken_in section;
   wants = wants_in section;
   rightless = rightless_in section;
+  moved = moved_in section;
 })
 
 -- who stands in the queues of a section
@@ -94,7 +97,7 @@ IsIn lot (Some section) = section.lot.now ≡ lot
 
 -- one in which nothing was done
 abbrev pub entered_now : Keys → Option Inside
-entered_now keys = Some (record { keys = keys; did = Nothing; taken = []; wants = []; rightless = [] })
+entered_now keys = Some (record { keys = keys; did = Nothing; taken = []; wants = []; rightless = []; moved = 0 })
 
 abbrev pub first_in : List Waiter → Option Waiter
 first_in [] = None
@@ -112,12 +115,17 @@ listed (Some waiter) = waiter ∷ []
 -- a section of these keys, in which these were taken, of whom these have no right yet
 abbrev pub having_taken : Keys → Did → List Waiter → List ℕ → Inside
 having_taken keys did waiters rightless =
-    record { keys = keys; did = did; taken = threads_of waiters; wants = wants_of waiters; rightless = rightless }
+    record { keys = keys; did = did; taken = threads_of waiters; wants = wants_of waiters; rightless = rightless; moved = 0 }
 
 -- these were taken, and have no right yet
 abbrev pub took_as : Did → List Waiter → Option Inside → Option Inside
 took_as did waiters None = None
 took_as did waiters (Some inside) = Some (having_taken inside.keys did waiters (threads_of waiters))
+
+-- and so many were moved
+abbrev pub moving : ℕ → Option Inside → Option Inside
+moving number None = None
+moving number (Some inside) = Some (record inside { moved = number })
 
 -- each of those who were taken was given a right
 abbrev pub all_given : Option Inside → Option Inside
@@ -203,6 +211,12 @@ IsLeft None last = ⊥
 IsLeft (Some inside) last = (number : ℕ)
     × (last ≡ Some (record { key = first_key inside.keys; did = inside.did; number = number }))
 
+-- which counts whom it took and moved
+abbrev pub IsCounted : Option Inside → Option SectionRecord → Type 0
+IsCounted None last = ⊥
+IsCounted (Some inside) last =
+    last ≡ Some (record { key = first_key inside.keys; did = inside.did; number = length inside.taken + inside.moved })
+
 -- whom a take took, by its reply; of those who were picked one at most wants more than to share, and a list holds them
 abbrev pub TookBy : ℕ → Whom → Reply → Option Inside → Option Inside → Type 0
 TookBy key whom.TheVariants.First (Took any none_left) old new =
@@ -254,11 +268,11 @@ Became up kinds at sleeper st (act.TheVariants.Stand key _) Done new = new ≡ s
 Became up kinds at sleeper st (act.TheVariants.Take key whom) reply new =
     TookBy key whom reply st.inside new.inside × (new.owns ≡ st.owns) × (new.last ≡ st.last)
 Became up kinds at sleeper st (act.TheVariants.Requeue from to how) (Requeued number none_left) new =
-    (first : Option Waiter) × (length (listed first) ≤ number)
-    × (new ≡ stage st.owns (took_as (did.TheVariants.Requeue from to how) (listed first) st.inside) st.last)
+    (first : Option Waiter) × (moved : ℕ) × (number ≡ length (listed first) + moved)
+    × (new ≡ stage st.owns (moving moved (took_as (did.TheVariants.Requeue from to how) (listed first) st.inside)) st.last)
 Became up kinds at sleeper st (act.TheVariants.Remove key) (Removed none_left) new = new ≡ st
 Became up kinds at sleeper st (act.TheVariants.Leave keys wakes) Done new =
-    (new.owns ≡ st.owns) × (new.inside ≡ None) × IsLeft st.inside new.last
+    (new.owns ≡ st.owns) × (new.inside ≡ None) × IsLeft st.inside new.last × IsCounted st.inside new.last
 Became up kinds at sleeper st act.TheVariants.Sleep reply new =
     Awoke up (kinds sleeper.lock) (at sleeper.lock) sleeper st reply new
 Became up kinds at sleeper st act.TheVariants.Accept Done new = new ≡ st

@@ -11,6 +11,10 @@ use Rattle.lot_driver.specs.declared.words.Words.{Words}
 abbrev pub alone : Word → Words
 alone word = record { one = word; other = None }
 
+-- and of one that steps on two
+abbrev pub both : Word → Word → Words
+both word other = record { one = word; other = Some other }
+
 abbrev pub other_or : Option Word → Word → ℕ → Word
 other_or None one lock = one
 other_or (Some other) one lock = if other.number == lock then other else one

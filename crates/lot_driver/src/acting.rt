@@ -13,7 +13,7 @@ ghost use Rattle.parking_lot_core.specs.Tokens.{IsTokenOf, IsSameThread, view_of
 ghost use Rattle.lot_driver.specs.Paths.{closure_of, step};
 ghost use Rattle.lot_driver.specs.Telling.{AreWaiting, HasStepped, MayFind, MayTake, MayTakeAt, StandsLast, index_of, is_empty_at, owns_of, steps_of};
 ghost use Rattle.lot_driver.specs.Words.{AreWordsOf, word_in, kind_in, at_in};
-ghost use Rattle.lot_driver.specs.Stages.{Adds, Awoke, AwokeLate, HandsEach, HasKey, IsFresh, IsUngiven, MayLeave, IsIn, IsLeft, TookBy, handed, note_of, inside_of, stage_of, waiting_of, wanted_in, entered_now, ActNeeds, Became};
+ghost use Rattle.lot_driver.specs.Stages.{Adds, Awoke, AwokeLate, HandsEach, HasKey, IsCounted, IsFresh, IsUngiven, MayLeave, IsIn, IsLeft, TookBy, handed, note_of, inside_of, stage_of, waiting_of, wanted_in, entered_now, ActNeeds, Became};
 
 use crate::taking::{requeue, take_all, take_first, take_picked, tell_wants};
 use crate::words::Words;
@@ -160,7 +160,7 @@ fn leave<R: Wait>(
     requires { IsTokenOf lot.now token.old × IsIn lot.now section.old × MayLeave note (inside_of section.old) }
     ensures own { IsSameThread lot.now token.old token.new × (view_of token.new ≡ view_of token.old) }
     ensures left { (inside_of section.new ≡ None) × IsIn lot.now section.new
-        × IsLeft (inside_of section.old) (last_of token.new) }
+        × IsLeft (inside_of section.old) (last_of token.new) × IsCounted (inside_of section.old) (last_of token.new) }
 {
     match section.take() {
         Some(inside) => inside.leave(rt, token, note),

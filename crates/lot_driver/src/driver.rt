@@ -14,7 +14,9 @@ ghost use Rattle.parking_lot_core.specs.Tokens.{IsTokenOf, IsSameThread, view_of
 ghost use Rattle.lot_driver.specs.Calls.{MeetAt, beginning, purpose_in, IsUnfinished, WalksBehind};
 ghost use Rattle.lot_driver.specs.Fitting.{PlacesLead, AreWordsFor, AreWordsAfter, Fits, IsStopped, Reached, answer_of, aim_of, sleeper_at};
 ghost use Rattle.lot_driver.specs.MutexFitting.{IsMutexOver};
+ghost use Rattle.lot_driver.specs.CondvarFitting.{condvar_sleeper};
 ghost use Rattle.lot_driver.specs.RwLockFitting.{may_be_handed};
+ghost use Rattle.lot_steps.specs.declared.places.Place.TheVariants.{Condvar};
 ghost use Rattle.lot_driver.specs.Paths.{closure_of, mutex_at, at_mutex, GoesFrom, Runs, Told};
 ghost use Rattle.lot_driver.specs.Words.{AreWordsOf, kind_in, at_in};
 ghost use Rattle.lot_driver.specs.Stages.{IsIn, stage_of};
@@ -22,7 +24,9 @@ ghost use Rattle.lot_driver.specs.Telling.{HasStepped, MayFind, MayTake, owns_of
 
 use crate::acting::{Sleeper, end, perform};
 use crate::words::Words;
+use lot_base::main_key;
 use lot_calls::{Answer, MutexCall, OnceState};
+use lot_condvar::{CondvarPlace, WaitAt};
 use lot_rwlock::park::ParkAt;
 use lot_rwlock::places::RwLockAt;
 use lot_rwlock_fair::RwLockCallPlace;
@@ -147,6 +151,36 @@ fn may_be_handed(at: RwLockCallPlace) -> bool
     }
 }
 
+// For what a thread sleeps in a call of a condition variable: for its mutex, to the queue of which it may be moved meanwhile.
+fn condvar_sleeper(lock: usize, at: CondvarPlace) -> Sleeper
+    requires { HasKeys (Condvar lock at) }
+    ensures { result ≡ condvar_sleeper lock at }
+{
+    let (lock, late, moved, takes_over) = match at {
+        CondvarPlace::Wait {
+            mutex,
+            at: WaitAt::Lock { at, .. },
+            ..
+        } => (
+            mutex,
+            Place::Mutex { lock: mutex, at }.late_key(),
+            None,
+            true,
+        ),
+        CondvarPlace::Wait { mutex, .. } => {
+            (mutex, at.late_key(lock), Some(main_key(mutex)), true)
+        }
+        _ => (lock, None, None, false),
+    };
+    Sleeper {
+        lock,
+        want: Want::Exclusive,
+        late,
+        moved,
+        takes_over,
+    }
+}
+
 // For what a thread sleeps in its call.
 fn sleeper(place: Place) -> Sleeper
     requires { HasKeys place }
@@ -164,7 +198,7 @@ fn sleeper(place: Place) -> Sleeper
         }
         // Nobody hands a `Once` over.
         Place::Once { lock, at } => (lock, at.wants().unwrap_or(Want::Exclusive), false),
-        Place::Condvar { lock, .. } => (lock, Want::Exclusive, false),
+        Place::Condvar { lock, at } => return condvar_sleeper(lock, at),
     };
     Sleeper {
         lock,

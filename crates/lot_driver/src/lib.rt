@@ -2,6 +2,7 @@
 #![tactic(auto)]
 
 mod acting;
+pub mod condvar_calls;
 pub mod courses;
 pub mod driver;
 pub mod fair_calls;

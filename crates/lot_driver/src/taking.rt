@@ -7,7 +7,7 @@ ghost use Rattle.lot_base.specs.Requeues.{moved_by, requeued};
 ghost use Rattle.lot_queues.specs.Wants.{wants_of};
 ghost use Rattle.parking_lot_core.specs.declared.tokens.Did.TheVariants.{TakeFirst, TakeAll, TakePicked};
 ghost use Rattle.parking_lot_core.specs.declared.tokens.Did.TheVariants as did;
-ghost use Rattle.lot_driver.specs.Stages.{HasKey, IsFresh, IsIn, first_in, inside_of, is_there, listed, taken_of, threads_taken, took_as, waiting_of, wants_taken};
+ghost use Rattle.lot_driver.specs.Stages.{HasKey, IsFresh, IsIn, first_in, inside_of, is_there, listed, moving, taken_of, threads_taken, took_as, waiting_of, wants_taken};
 ghost use Rattle.lot_driver.specs.Telling.{AreWaiting, HasTaken, MayTakeAt, is_empty_at, line_in};
 ghost use Rattle.lot_driver.specs.Takes.{shares, sharers_in, successor_in};
 
@@ -123,8 +123,9 @@ pub(crate) fn requeue(
     how: Requeue,
 ) -> (usize, bool)
     requires { MayTakeAt _lot.now from section.old × HasKey to (inside_of section.old) × (from ≢ to) }
-    ensures did { HasTaken _lot.now (did.Requeue from to how) (listed (taken_of how (line_in from section.old)))
-        section.old section.new }
+    ensures did { IsIn _lot.now section.new × (inside_of section.new
+        ≡ moving (length (moved_by how (line_in from section.old)))
+        (took_as (did.Requeue from to how) (listed (taken_of how (line_in from section.old))) (inside_of section.old))) }
     ensures number { result.0 ≡ length (listed (taken_of how (line_in from section.old)))
         + length (moved_by how (line_in from section.old)) }
     ensures left { AreWaiting (requeued how from to (waiting_of section.old)) section.new

@@ -1,6 +1,6 @@
 //! The words on which a call steps.
 ghost use Rattle.std.specs.Prelude.{◌≡◌};
-ghost use Rattle.lot_driver.specs.Words.{alone, word_in};
+ghost use Rattle.lot_driver.specs.Words.{alone, both, word_in};
 
 use parking_lot_core::Word;
 
@@ -18,6 +18,15 @@ impl Words {
         Words {
             one: word,
             other: None,
+        }
+    }
+
+    pub(crate) fn both(word: Word, other: Word) -> Words
+        ensures { result ≡ both word other }
+    {
+        Words {
+            one: word,
+            other: Some(other),
         }
     }
 

@@ -12,7 +12,7 @@ use Rattle.lot_driver.specs.Words.{kind_in, at_in}
 use Rattle.lot_driver.proofs.Ending.{closed, closes_outside, end_of, ended, outside}
 use Rattle.lot_driver.proofs.Leading.{places_lead, fits_from, words_from}
 use Rattle.lot_driver.proofs.Paths.{comes_here, comes_on, comes_from, comes_to_end}
-use Rattle.lot_driver.proofs.Turning.{words_on}
+use Rattle.lot_driver.proofs.Turning.{shows_keys, words_on}
 use Rattle.lot_driver.proofs.driver.run.Goals as goal
 
 pub loop-init : goal.loop-init
@@ -72,3 +72,6 @@ returns-in-Some-closure_of-clause-stopped g c = let p = c.loop.place in let word
     λ (base : List Ownership) fits. let needs = (places_lead (IsUp g.C.Clock.tells c.args.limit) (kind_in words) (at_in words) base p st before.words (before.fits base fits)).0 in
     closed (IsUp g.C.Clock.tells c.args.limit) base (view_of token).owns (aim_of c.args.start) p c.in-Some-closure_of.state (inside_of c.loop.section) (last_of token) is
     (closes_outside (kind_in words) (at_in words) st (act_of p) c.in-Some-closure_of.state is needs) (before.fits base fits) before.aim
+
+pub advance-next-requires-clause-shown : goal.advance-next-requires-clause-shown
+advance-next-requires-clause-shown g c = shows_keys c.loop.place c.turn-reply.result (kind_in c.args.words) (at_in c.args.words) c.loop.invariant.words

@@ -1,0 +1,97 @@
+//! The calls of a condition variable.
+ghost use Rattle.std.specs.Prelude.{◌≡◌, None};
+ghost use Rattle.lot_base.specs.Clocks.{IsUp};
+ghost use Rattle.parking_lot_core.specs.Tokens.{IsSameThread};
+ghost use Rattle.lot_driver.specs.CondvarCalls.{HasNotified, HasWaited, MeetBeside, notify_behind, wait_begin};
+ghost use Rattle.lot_driver.specs.CondvarFitting.{IsNotifyOver, IsWaitOver, OwnsIt};
+ghost use Rattle.lot_driver.specs.Stages.{stage_of};
+ghost use Rattle.lot_driver.specs.Telling.{owns_of, steps_of};
+
+use crate::driver::{NO_LIMIT, Stop, run};
+use crate::words::Words;
+use lot_calls::Answer;
+use lot_condvar::{CondvarPlace, NotifyAt, WaitAt};
+use lot_steps::Place;
+use parking_lot_core::{Clock, ParkingLot, Token, Word};
+use std::sync::Wait;
+
+// Where a wait begins.
+fn begins(condvar: Word, mutex: Word, timed: bool) -> Place
+    ensures { result ≡ wait_begin condvar.number mutex.number timed }
+{
+    Place::Condvar {
+        lock: condvar.number(),
+        at: CondvarPlace::Wait {
+            mutex: mutex.number(),
+            timed,
+            at: WaitAt::Enter,
+        },
+    }
+}
+
+/// Releases a mutex, which the thread owns, and locks it again once the thread is notified, or where its time is up in a timed wait.
+/// It answers with the mutex: that another one is shown, and this one was not released; that the thread was notified; or that its
+/// time was up before.
+#[cold]
+#[inline(never)]
+pub fn wait<R: Wait, C: Clock>(
+    rt: &R,
+    lot: &ParkingLot,
+    token: &mut Token,
+    condvar: Word,
+    mutex: Word,
+    limit: Option<(&C, u64)>,
+    timed: bool,
+) -> Answer
+    requires own { MeetBeside lot.now token.old condvar mutex }
+    requires owned { OwnsIt mutex.number (owns_of token.old) }
+    ensures own { IsSameThread lot.now token.old token.new }
+    ensures path { HasWaited condvar.number mutex.number timed result (steps_of token.old) (steps_of token.new) }
+    ensures over { IsWaitOver (IsUp C.tells limit.entry) mutex.number timed (owns_of token.old) result (stage_of token.new None) }
+{
+    let start = begins(condvar, mutex, timed);
+    match run(rt, lot, token, Words::both(condvar, mutex), limit, start) {
+        Stop::Ended(answer) => answer,
+        // No wait runs a closure.
+        Stop::Paused { .. } => unreachable!(),
+    }
+}
+
+// Where a notification goes on that has seen this mutex.
+fn notifies(condvar: Word, mutex: Word, all: bool) -> Place
+    ensures { result ≡ notify_behind condvar.number mutex.number all }
+{
+    Place::Condvar {
+        lock: condvar.number(),
+        at: CondvarPlace::Notify {
+            all,
+            mutex: mutex.number(),
+            at: NotifyAt::Enter,
+        },
+    }
+}
+
+/// The rest of a notification whose first step saw this mutex: it wakes the first who waits with it, or all, or moves them to its
+/// queue.
+#[cold]
+#[inline(never)]
+pub fn notify_shown<R: Wait>(
+    rt: &R,
+    lot: &ParkingLot,
+    token: &mut Token,
+    condvar: Word,
+    mutex: Word,
+    all: bool,
+) -> Answer
+    requires own { MeetBeside lot.now token.old condvar mutex }
+    ensures own { IsSameThread lot.now token.old token.new }
+    ensures path { HasNotified condvar.number mutex.number all result (steps_of token.old) (steps_of token.new) }
+    ensures over { IsNotifyOver condvar.number mutex.number all (owns_of token.old) result (stage_of token.new None) }
+{
+    let start = notifies(condvar, mutex, all);
+    match run(rt, lot, token, Words::both(condvar, mutex), NO_LIMIT, start) {
+        Stop::Ended(answer) => answer,
+        // No notification runs a closure.
+        Stop::Paused { .. } => unreachable!(),
+    }
+}
