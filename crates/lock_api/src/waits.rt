@@ -152,8 +152,8 @@ impl<R: RawCondvarTimed> Condvar<R> {
 
     /// Waits for as long as the condition holds of the value, or until the clock, in nanoseconds, has come to the deadline.
     ///
-    /// The condition is called first, and again after each wait, also after one whose time was up. It timed out where the last call
-    /// still held.
+    /// The condition is called first, and again after each wait, also after one whose time was up. It timed out where it held at
+    /// the last call still.
     ///
     /// # Errors
     ///
@@ -194,8 +194,7 @@ impl<R: RawCondvarTimed> Condvar<R> {
         unreachable!()
     }
 
-    /// Waits for as long as the condition holds of the value, or until so much time, in nanoseconds of the clock, has passed since
-    /// the call.
+    /// Waits for as long as the condition holds of the value, or until so much time, in nanoseconds of the clock, has passed.
     ///
     /// The condition is called as by `wait_while_until`. A time that ends past all that a `u64` tells is no limit.
     ///

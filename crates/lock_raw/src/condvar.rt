@@ -27,7 +27,7 @@ pub trait RawCondvar {
     ghost waited: { Self → Self.RawMutex → Bool → Answer → Self.RawMutex.Token → Self.RawMutex.Token → Type 0 };
     // Between them it took the steps of a notification of the first who waits, or of all, to this answer.
     ghost notified: { Self → Bool → Answer → Self.RawMutex.Token → Self.RawMutex.Token → Type 0 };
-    // Between them it left both queues with so many whom it took or moved, of the first or of all, where it saw the same mutex twice.
+    // Between them it took or moved so many, of the first or of all, and where it saw the same mutex twice its last section tells so.
     ghost moved: { Self → Bool → ℕ → Self.RawMutex.Token → Self.RawMutex.Token → Type 0 };
 
     /// A condition variable on which nobody waits.
