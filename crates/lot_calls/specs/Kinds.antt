@@ -28,3 +28,12 @@ has_call _ c = false
 abbrev pub is_fair : Kind → Bool
 is_fair Fair = true
 is_fair kind = false
+
+-- whether it is a mutex that condition variables work with
+abbrev pub is_plain_mutex : Kind → Bool
+is_plain_mutex Mutex = true
+is_plain_mutex kind = false
+
+abbrev pub is_condvar : Kind → Bool
+is_condvar Condvar = true
+is_condvar kind = false

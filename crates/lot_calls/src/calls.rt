@@ -1,6 +1,6 @@
 //! The calls of a world's threads, and the turns of a schedule.
 ghost use Rattle.std.specs.Prelude.{◌≡◌};
-ghost use Rattle.lot_calls.specs.Calls.{lock_in};
+ghost use Rattle.lot_calls.specs.Calls.{lock_in, mutex_in, right_in};
 
 /// The calls of a mutex.
 #[derive(Clone, Copy, Debug, PartialEq, Eq)]
@@ -22,6 +22,7 @@ pub enum Call {
     Mutex { lock: usize, call: MutexCall },
     RwLock { lock: usize, call: RwLockCall },
     Once { lock: usize, call: OnceCall },
+    Condvar { lock: usize, call: CondvarCall },
 }
 
 /// A right to a reader-writer lock.
@@ -81,6 +82,16 @@ pub enum OnceCall {
     Wait { forced: bool },
 }
 
+/// The calls of a condition variable.
+#[derive(Clone, Copy, Debug, PartialEq, Eq)]
+pub enum CondvarCall {
+    /// Releases the mutex of this number, and locks it again once it is notified, or where its time is up. Needs the exclusive right
+    /// to the mutex.
+    Wait { mutex: usize, timed: bool },
+    /// Wakes the first waiter, or all. Where their mutex is owned they wait for that instead.
+    Notify { all: bool },
+}
+
 /// What a thread is to do.
 #[derive(Clone, Copy, Debug, PartialEq, Eq)]
 pub enum Turn {
@@ -111,7 +122,30 @@ impl Call {
         ensures { result ≡ lock_in self }
     {
         match self {
-            Call::Mutex { lock, .. } | Call::RwLock { lock, .. } | Call::Once { lock, .. } => lock,
+            Call::Mutex { lock, .. }
+            | Call::RwLock { lock, .. }
+            | Call::Once { lock, .. }
+            | Call::Condvar { lock, .. } => lock,
         }
+    }
+
+    /// The mutex that a wait on a condition variable names.
+    pub fn mutex(self) -> Option<usize>
+        ensures { result ≡ mutex_in self }
+    {
+        match self {
+            Call::Condvar {
+                call: CondvarCall::Wait { mutex, .. },
+                ..
+            } => Some(mutex),
+            _ => None,
+        }
+    }
+
+    /// The lock to which the call needs a right, if it needs one: of a wait the mutex that it names.
+    pub fn needs_right_to(self) -> usize
+        ensures { result ≡ right_in self }
+    {
+        self.mutex().unwrap_or(self.lock())
     }
 }

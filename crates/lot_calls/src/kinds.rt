@@ -1,6 +1,6 @@
 //! The kinds of lock.
 ghost use Rattle.std.specs.Prelude.{◌≡◌};
-ghost use Rattle.lot_calls.specs.Kinds.{fits, has_call, is_fair};
+ghost use Rattle.lot_calls.specs.Kinds.{fits, has_call, is_condvar, is_fair, is_plain_mutex};
 
 use crate::calls::Call;
 
@@ -51,5 +51,18 @@ impl Kind {
         ensures { result ≡ is_fair self }
     {
         matches!(self, Kind::Fair)
+    }
+
+    /// Whether it is a mutex that condition variables work with. A fair one isn't.
+    pub fn is_plain_mutex(self) -> bool
+        ensures { result ≡ is_plain_mutex self }
+    {
+        matches!(self, Kind::Mutex)
+    }
+
+    pub fn is_condvar(self) -> bool
+        ensures { result ≡ is_condvar self }
+    {
+        matches!(self, Kind::Condvar)
     }
 }

@@ -7,6 +7,8 @@ pub mod calls;
 pub mod kinds;
 pub mod outcomes;
 
-pub use calls::{Access, Call, Downgrade, MutexCall, OnceCall, Patience, RwLockCall, Step, Turn};
+pub use calls::{
+    Access, Call, CondvarCall, Downgrade, MutexCall, OnceCall, Patience, RwLockCall, Step, Turn,
+};
 pub use kinds::Kind;
 pub use outcomes::{Answer, OnceState, Outcome};

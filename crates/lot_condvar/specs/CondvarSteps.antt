@@ -17,6 +17,7 @@ use Rattle.lot_acts.specs.declared.acts.Next.{Next}
 use Rattle.lot_acts.specs.declared.acts.Next.TheVariants.{At, End}
 use Rattle.lot_acts.specs.declared.owners.Owners.{Owners}
 use Rattle.lot_acts.specs.Acts.{wakes_taken}
+use Rattle.lot_acts.specs.Owners.{is_thread}
 use Rattle.lot_mutex.specs.declared.lock.Entry.TheVariants as entry
 use Rattle.lot_mutex.specs.declared.lock.LockAt.TheVariants as lock
 use Rattle.lot_mutex.specs.declared.places.MutexPlace.{MutexPlace}
@@ -25,8 +26,8 @@ use Rattle.lot_mutex.specs.declared.unlock.UnlockAt.TheVariants as unlock
 use Rattle.lot_mutex.specs.MutexSteps.{is_locked, mutex_act, mutex_looking, mutex_next, mutex_owners}
 use Rattle.lot_condvar.specs.declared.notify.NotifyAt.{NotifyAt}
 use Rattle.lot_condvar.specs.declared.notify.NotifyAt.TheVariants as notify
-use Rattle.lot_condvar.specs.declared.places.CondvarCall.{CondvarCall}
-use Rattle.lot_condvar.specs.declared.places.CondvarCall.TheVariants as call
+use Rattle.lot_calls.specs.declared.calls.CondvarCall.{CondvarCall}
+use Rattle.lot_calls.specs.declared.calls.CondvarCall.TheVariants as call
 use Rattle.lot_condvar.specs.declared.places.CondvarPlace.{CondvarPlace}
 use Rattle.lot_condvar.specs.declared.places.CondvarPlace.TheVariants.{Wait, Look, Notify}
 use Rattle.lot_condvar.specs.declared.wait.Stands.{Stands}
@@ -48,6 +49,11 @@ is_shown v m = not (v == 0) && (v - 1 == m)
 abbrev pub condvar_first : CondvarCall → CondvarPlace
 condvar_first (call.Wait m timed) = Wait m timed wait.Enter
 condvar_first (call.Notify all) = Look all
+
+-- who waits owns the mutex
+abbrev pub condvar_right : CondvarCall → ℕ → Owners → Bool
+condvar_right (call.Wait m timed) t owners = is_thread t owners.exclusive
+condvar_right (call.Notify all) t owners = true
 
 -- the mutex that a wait names, or that a notification has seen
 abbrev pub mutex_beside : CondvarPlace → Option ℕ

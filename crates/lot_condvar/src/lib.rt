@@ -6,6 +6,7 @@ pub mod notify;
 pub mod places;
 pub mod wait;
 
+pub use lot_calls::CondvarCall;
 pub use notify::NotifyAt;
-pub use places::{CondvarCall, CondvarPlace, shown, shows};
+pub use places::{CondvarPlace, condvar_right, shown, shows};
 pub use wait::{Stands, WaitAt};

@@ -9,23 +9,14 @@
 ghost use Rattle.std.specs.Prelude.{ℕ, ◌≡◌, ◌<◌, ◌^◌};
 ghost use Rattle.lot_acts.specs.Acts.{outcome_of};
 ghost use Rattle.lot_condvar.specs.CondvarProfiles.{condvar_taker, condvar_wants, condvar_late_key, condvar_owes, condvar_retries};
-ghost use Rattle.lot_condvar.specs.CondvarSteps.{HasMutexKey, condvar_act, condvar_first, condvar_looking, condvar_next, condvar_owners, is_shown, look_next, mutex_beside, mutex_shown, shown_as};
+ghost use Rattle.lot_condvar.specs.CondvarSteps.{HasMutexKey, condvar_act, condvar_first, condvar_looking, condvar_next, condvar_owners, condvar_right, is_shown, look_next, mutex_beside, mutex_shown, shown_as};
 
 use crate::notify::{NotifyAt, next_notify, notified, notify_act};
 use crate::wait::{Stands, WaitAt, next_wait, wait_act};
 use lot_acts::{Act, Next, Owners, Reply};
 use lot_base::{Key, Op, Want, main_key};
-use lot_calls::Outcome;
+use lot_calls::{CondvarCall, Outcome};
 use lot_mutex::MutexPlace;
-
-/// The calls of a condition variable.
-#[derive(Clone, Copy, Debug, PartialEq, Eq)]
-pub enum CondvarCall {
-    /// Releases the mutex, which the thread owns, and locks it again once it is notified, or where its time is up.
-    Wait { mutex: usize, timed: bool },
-    /// Wakes the first waiter, or all. Where their mutex is owned they wait for that instead.
-    Notify { all: bool },
-}
 
 /// Where a thread stands in a call of a condition variable.
 #[derive(Clone, Copy, Debug, PartialEq, Eq)]
@@ -74,6 +65,16 @@ fn look_next(all: bool, seen: u64) -> Next<CondvarPlace>
         mutex: (seen - 1) as usize,
         at: NotifyAt::Enter,
     })
+}
+
+/// Whether a thread has the right that a call needs: of a wait, to the mutex that it names, with these owners.
+pub fn condvar_right(call: CondvarCall, thread: usize, owners: Owners) -> bool
+    ensures { result ≡ condvar_right call thread owners }
+{
+    match call {
+        CondvarCall::Wait { .. } => owners.exclusive == Some(thread),
+        CondvarCall::Notify { .. } => true,
+    }
 }
 
 impl CondvarPlace {

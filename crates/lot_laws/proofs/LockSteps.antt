@@ -81,7 +81,7 @@ use Rattle.lot_mutex.specs.MutexSteps.{mutex_first, mutex_right, is_locked, is_p
 use Rattle.lot_steps.specs.Steps.{act_of, next_place, next_act, mutex_goes, mutex_does, looking, late_key, is_idle, has_right, first_place, rwlock_goes, key_in, calls}
 use Rattle.lot_machine.specs.Machine.{unshared_then, hand_over_told, State, place_at, word_at, owners_at, kind_at, section_at, put, state_after_act, go_reply, state_after_operation, state_after_hand_over, state_with_sections, reply_to, can_do, state_after_look, look_outcome, state_after_go, state_after_going, go_outcome, going_outcome, state_after_late_on, is_free_under, state_after_begin, can_begin, is_open_to, can_turn, state_after_turn, turn_outcome, is_possible, after, step_outcome, share_at}
 use Rattle.lot_machine.specs.Fits.{IsShaped, SameSize, PlaceFits, GivesUpTimed}
-use Rattle.lot_machine.proofs.Shape.{looking_shaped, after_size, both, performed_counts}
+use Rattle.lot_machine.proofs.Shape.{looking_shaped, after_size, both, no_condvar_call, performed_counts}
 use Rattle.lot_laws.proofs.Possible.{may_go, go_possible, may_be_late, late_possible, told_gone, told_step, begins_awake, turner_there, gone_sections, late_sections, late_awake}
 use Rattle.lot_machine.proofs.Looks.{mutex_looks}
 use Rattle.lot_laws.proofs.CountsPut.{looking_counted}
@@ -624,6 +624,9 @@ begin_goes w t (call.TheVariants.Once l c) shape steady there can = (
     once_right : (l : ℕ) (c : OnceCall) → HasRight (locks_of w) t (Some (once_purpose l c))
     once_right l (once_call.CallOnce forced) = tt
     once_right l (once_call.Wait forced) = tt
+begin_goes w t (call.TheVariants.Condvar l c) shape steady there can =
+    let open_to = both (nat_lt l (length w.locks)) _ (both (is_idle (place_at w t)) (is_open_to w t (call.TheVariants.Condvar l c)) can).1 in
+    absurd (no_condvar_call (kind_at w l) l c (both (has_call (kind_at w l) (call.TheVariants.Condvar l c)) _ open_to.1).0)
 begin_goes w t (call.TheVariants.Mutex l c) shape steady there can = (
   record { thread = there; idle = rw idle refl; lock = ltb-true l (length w.locks) open_to.0; right = rw (purpose_is (kind_at w l) l c is_kind) (right_held w t l (is_fair (kind_at w l)) c held.1) },
   placed w t shape steady there w.sections Idle (Mutex l (mutex_first (is_fair (kind_at w l)) c)) idle (untaken_first w t l (is_fair (kind_at w l)) c) _
@@ -657,6 +660,15 @@ begin_refused w t (call.TheVariants.Once l c) cannot may = let idle : is_idle (p
     either : (b : Bool) → has_call (kind_at w l) (call.TheVariants.Once l c) ≡ b → is_idle (place_at w t) ≡ true → nat_lt l (length w.locks) ≡ true → ⊥
     either false e idle there = no_purpose (locks_of w) t (kind_at w l) (call.TheVariants.Once l c) e may.right
     either true e idle there = let open_now : can_begin w t (call.TheVariants.Once l c) ≡ true = rw (idle, there, e) refl in let f : true ≡ false = sym open_now ∙ cannot in cc
+begin_refused w t (call.TheVariants.Condvar l c) cannot may = by_kind (kind_at w l) may.right
+  where
+    by_kind : (k : Kind) → HasRight (locks_of w) t (purpose_of k (call.TheVariants.Condvar l c)) → ⊥
+    by_kind kind.TheVariants.Mutex right = right
+    by_kind kind.TheVariants.Fair right = right
+    by_kind (kind.TheVariants.RwLock limit) right = right
+    by_kind (kind.TheVariants.Recursive limit) right = right
+    by_kind kind.TheVariants.Condvar right = right
+    by_kind kind.TheVariants.Once right = right
 begin_refused w t (call.TheVariants.Mutex l c) cannot may = let idle : is_idle (place_at w t) ≡ true = no_call_idle (place_at w t) (rights w t) may.idle in
     let there : nat_lt l (length w.locks) ≡ true = lt-ltb l (length w.locks) may.lock in either (has_call (kind_at w l) (call.TheVariants.Mutex l c)) refl idle there
   where

@@ -36,7 +36,7 @@ use Rattle.lot_laws.specs.SitesOf.{is_mutex}
 use Rattle.lot_laws.specs.MutexDeeds.{mutex_doing, mutex_station, acts, begins}
 use Rattle.lot_laws.specs.Stations.{nowhere, station}
 use Rattle.lot_laws.specs.SitesOf.{AreCounted, IsSteady, Goes}
-use Rattle.lot_machine.proofs.Shape.{both, looking_shaped}
+use Rattle.lot_machine.proofs.Shape.{both, looking_shaped, no_condvar_call}
 use Rattle.lot_laws.proofs.KindsKept.{calls_mutex, calls_readers}
 use Rattle.lot_laws.proofs.Glue.{parts_at, same, thread_is}
 use Rattle.lot_laws.proofs.MutexTable.{mutex, own_doing, meets, others_same}
@@ -89,6 +89,10 @@ module _ (w : State) (t : ℕ) (steady : IsSteady w) (shape : IsShaped w) (there
       let open_to = both (nat_lt l (length w.locks)) _ parts.1 in
       let right = both (has_call (kind_at w l) (calling.TheVariants.Once l c)) _ open_to.1 in
       goes_steady w _ l _ steady (once_begins w t l c steady there (idle_is (place_at w t) parts.0) (calls_once (kind_at w l) l c right.0))
+  begun_kept (calling.TheVariants.Condvar l c) can =
+      let parts = both (is_idle (place_at w t)) (is_open_to w t (calling.TheVariants.Condvar l c)) can in
+      let open_to = both (nat_lt l (length w.locks)) _ parts.1 in
+      let has = both (has_call (kind_at w l) (calling.TheVariants.Condvar l c)) _ open_to.1 in absurd (no_condvar_call (kind_at w l) l c has.0)
   begun_kept (calling.TheVariants.RwLock l c) can =
       let parts = both (is_idle (place_at w t)) (is_open_to w t (calling.TheVariants.RwLock l c)) can in
       let open_to = both (nat_lt l (length w.locks)) _ parts.1 in

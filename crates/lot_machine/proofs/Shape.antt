@@ -24,7 +24,9 @@ use Rattle.lot_acts.specs.declared.acts.Next as next
 use Rattle.lot_calls.specs.declared.outcomes.Answer as answer
 use Rattle.lot_calls.specs.declared.calls.Call.{Call}
 use Rattle.lot_calls.specs.declared.calls.Call as call
+use Rattle.lot_calls.specs.declared.calls.CondvarCall.{CondvarCall}
 use Rattle.lot_calls.specs.declared.kinds.Kind.{Kind}
+use Rattle.lot_calls.specs.declared.kinds.Kind.TheVariants as kinds
 use Rattle.lot_calls.specs.declared.calls.Turn.{Turn}
 use Rattle.lot_calls.specs.declared.calls.Turn as turn
 use Rattle.lot_calls.specs.declared.calls.Step.{Step}
@@ -62,7 +64,7 @@ use Rattle.lot_base.specs.Lines.{threads_of}
 use Rattle.lot_base.specs.Picks.{without_picked, without_lock_picked, lock_picked, lock_answer, next_picker, lock_picker}
 use Rattle.lot_base.specs.Requeues.{taken_by, moved_by}
 use Rattle.lot_machine.proofs.QueueLemmas.{told_count}
-use Rattle.lot_calls.specs.Kinds.{is_fair}
+use Rattle.lot_calls.specs.Kinds.{has_call, is_fair}
 use Rattle.lot_mutex.specs.MutexSteps.{is_locked, is_parked, is_timed, entered, mutex_next, mutex_first, next_unlock, next_hand_off, looked, unlock_fair_next, bump_next, try_next, in_lock, in_unlock, in_hand_off}
 use Rattle.lot_acts.specs.Owners.{is_thread}
 use Rattle.lot_calls.specs.Calls.{lock_in}
@@ -269,10 +271,20 @@ first_fits locks l false mutex_call.TheVariants.Unlock h = (h, tt)
 first_fits locks l fair mutex_call.TheVariants.UnlockFair h = (h, tt)
 first_fits locks l fair mutex_call.TheVariants.Bump h = (h, tt)
 
-call_fits : (locks : ℕ) (kind : Kind) (c : Call) → lock_in c < locks → PlaceFits locks (first_place kind c)
-call_fits locks kind (call.TheVariants.Mutex l c) h = first_fits locks l (is_fair kind) c h
-call_fits locks kind (call.TheVariants.RwLock l c) h = h
-call_fits locks kind (call.TheVariants.Once l c) h = h
+-- no kind has a call of a condition variable yet
+pub no_condvar_call : (kind : Kind) (l : ℕ) (c : CondvarCall) → has_call kind (call.TheVariants.Condvar l c) ≡ true → ⊥
+no_condvar_call kinds.Mutex l c has = cc
+no_condvar_call kinds.Fair l c has = cc
+no_condvar_call (kinds.RwLock limit) l c has = cc
+no_condvar_call (kinds.Recursive limit) l c has = cc
+no_condvar_call kinds.Condvar l c has = cc
+no_condvar_call kinds.Once l c has = cc
+
+call_fits : (locks : ℕ) (kind : Kind) (c : Call) → has_call kind c ≡ true → lock_in c < locks → PlaceFits locks (first_place kind c)
+call_fits locks kind (call.TheVariants.Mutex l c) has h = first_fits locks l (is_fair kind) c h
+call_fits locks kind (call.TheVariants.RwLock l c) has h = h
+call_fits locks kind (call.TheVariants.Once l c) has h = h
+call_fits locks kind (call.TheVariants.Condvar l c) has h = absurd (no_condvar_call kind l c has)
 
 -- ---------------------------------------------------------------- states
 
@@ -513,7 +525,8 @@ begun_shaped : (w : State) (t : ℕ) (c : Call) → IsShaped w → can_begin w t
 begun_shaped w t c s can =
     let open_to = both (is_idle (place_at w t)) (is_open_to w t c) can in
     let there = both (nat_lt (lock_in c) (length w.locks)) _ open_to.1 in
-    put_shaped w t (first_place (kind_at w (lock_in c)) c) s (call_fits (length w.locks) (kind_at w (lock_in c)) c (ltb-true (lock_in c) (length w.locks) there.0))
+    let has = both (has_call (kind_at w (lock_in c)) c) _ there.1 in
+    put_shaped w t (first_place (kind_at w (lock_in c)) c) s (call_fits (length w.locks) (kind_at w (lock_in c)) c has.0 (ltb-true (lock_in c) (length w.locks) there.0))
 
 -- a thread stands where it looks
 pub looking_shaped : (w : State) (t : ℕ) (q : Place) → IsShaped w → looking (place_at w t) ≡ Some q → IsShaped (put w t q)

@@ -36,10 +36,10 @@ use Rattle.lot_calls.specs.declared.calls.Turn as turn
 use Rattle.lot_calls.specs.declared.calls.Step.{Step}
 use Rattle.lot_calls.specs.declared.outcomes.Outcome.{Outcome}
 use Rattle.lot_calls.specs.declared.outcomes.Outcome as outcome
-use Rattle.lot_calls.specs.Kinds.{has_call}
+use Rattle.lot_calls.specs.Kinds.{has_call, is_plain_mutex}
 use Rattle.lot_acts.specs.Acts.{holds, takes_effect, outcome_of}
 use Rattle.lot_acts.specs.Owners.{is_thread, with_exclusive}
-use Rattle.lot_calls.specs.Calls.{lock_in}
+use Rattle.lot_calls.specs.Calls.{lock_in, mutex_in, right_in}
 use Rattle.lot_steps.specs.Steps.{first_place, has_right, is_idle, act_of, next_place, next_act, owners_after, shares_after, taker, wants, looking, late_key}
 use Rattle.abstract_locks.specs.Codes.{fills}
 use Rattle.abstract_locks.specs.Locks.{Taken, wants_shared}
@@ -420,9 +420,20 @@ state_after_close w t succeeded = state_after_going w t (closed_place w t succee
 abbrev pub close_outcome : State → ℕ → Bool → Outcome
 close_outcome w t succeeded = going_outcome w t (closed_place w t succeeded)
 
+-- a call names no mutex, or one that is there
+abbrev pub has_mutex : State → Option ℕ → Bool
+has_mutex w None = true
+has_mutex w (Some m) = nat_lt m (length w.locks) && is_plain_mutex (kind_at w m)
+
+-- the thread has the right that the call needs
+abbrev pub holds_right : State → ℕ → Call → Bool
+holds_right w t call = has_right call t (owners_at w (right_in call)) (share_at w (right_in call) t)
+
 -- the lock is there, has the call, and the thread has the right that the call needs
 abbrev pub is_open_to : State → ℕ → Call → Bool
-is_open_to w t call = nat_lt (lock_in call) (length w.locks) && (has_call (kind_at w (lock_in call)) call && has_right call t (owners_at w (lock_in call)) (share_at w (lock_in call) t))
+is_open_to w t call =
+    nat_lt (lock_in call) (length w.locks)
+    && (has_call (kind_at w (lock_in call)) call && (has_mutex w (mutex_in call) && holds_right w t call))
 
 abbrev pub can_begin : State → ℕ → Call → Bool
 can_begin w t call = is_idle (place_at w t) && is_open_to w t call

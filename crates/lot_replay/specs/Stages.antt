@@ -1,5 +1,5 @@
 -- What the lines of a schedule do, one after another.
-use Rattle.std.specs.Prelude.{ℕ, Bool, ◌&&◌, nat_le, nat_lt, is_none, List, [], ◌∷◌, ◌++◌, length, if◌then◌else◌, Option, None, Some, option_map, option_and_then}
+use Rattle.std.specs.Prelude.{ℕ, Bool, true, false, ◌&&◌, nat_le, nat_lt, is_none, List, [], ◌∷◌, ◌++◌, length, if◌then◌else◌, Option, None, Some, option_map, option_and_then}
 use Rattle.lot_calls.specs.declared.kinds.Kind.{Kind}
 use Rattle.lot_text.specs.declared.grammar.NamedCall.{NamedCall}
 use Rattle.lot_text.specs.declared.grammar.NamedCall.TheVariants as calling
@@ -10,8 +10,11 @@ use Rattle.lot_calls.specs.declared.calls.Turn as turns
 use Rattle.lot_calls.specs.declared.calls.Step.{Step}
 use Rattle.lot_calls.specs.declared.outcomes.Outcome.{Outcome}
 use Rattle.lot_calls.specs.declared.outcomes.Outcome as outcome
-use Rattle.lot_calls.specs.Kinds.{fits}
-use Rattle.lot_machine.specs.Machine.{State, opening, is_possible, after, step_outcome, solo}
+use Rattle.lot_calls.specs.declared.calls.CondvarCall.TheVariants as condvar
+use Rattle.lot_calls.specs.declared.calls.OnceCall.{OnceCall}
+use Rattle.lot_calls.specs.declared.calls.OnceCall.TheVariants.{Wait}
+use Rattle.lot_calls.specs.Kinds.{fits, is_condvar}
+use Rattle.lot_machine.specs.Machine.{State, kind_at, opening, is_possible, after, step_outcome, solo}
 use Rattle.lot_text.specs.declared.grammar.Command.{Command}
 use Rattle.lot_text.specs.declared.grammar.Command as command
 use Rattle.lot_text.specs.declared.grammar.NamedTurn.{NamedTurn}
@@ -32,25 +35,38 @@ pub data Stage : Type 0 where
 
 -- ---------------------------------------------------------------- turns
 
+-- a wait that names no mutex
+abbrev pub is_bare_wait : OnceCall → Bool
+is_bare_wait (Wait false) = true
+is_bare_wait call = false
+
+abbrev pub wait_with : ℕ → Bool → ℕ → Call
+wait_with lock timed mutex = calls.TheVariants.Condvar lock (condvar.Wait mutex timed)
+
+-- the call of a lock of this kind: a wait names a mutex exactly where the lock is a condition variable
+abbrev pub call_at : List (List ℕ) → Kind → NamedCall → ℕ → Option Call
+call_at names kind (calling.Mutex call) lock = Some (calls.TheVariants.Mutex lock call)
+call_at names kind (calling.RwLock call) lock = Some (calls.TheVariants.RwLock lock call)
+call_at names kind (calling.Once call) lock =
+    if is_condvar kind && is_bare_wait call then None else Some (calls.TheVariants.Once lock call)
+call_at names kind (calling.Notify all) lock = Some (calls.TheVariants.Condvar lock (condvar.Notify all))
+call_at names kind (calling.Wait mutex timed) lock =
+    if is_condvar kind then option_map (wait_with lock timed) (lock_named names mutex) else None
+
 -- the call of the lock that has the name
-abbrev pub call_at : NamedCall → ℕ → Call
-call_at (calling.Mutex call) lock = calls.TheVariants.Mutex lock call
-call_at (calling.RwLock call) lock = calls.TheVariants.RwLock lock call
-call_at (calling.Once call) lock = calls.TheVariants.Once lock call
+abbrev pub call_named : List (List ℕ) → State → NamedCall → List ℕ → Option Call
+call_named names w call name = option_and_then (λ lock. call_at names (kind_at w lock) call lock) (lock_named names name)
 
-abbrev pub call_named : List (List ℕ) → NamedCall → List ℕ → Option Call
-call_named names call name = option_map (call_at call) (lock_named names name)
-
-abbrev pub action_of : List (List ℕ) → NamedTurn → Option Action
-action_of names (named.TheVariants.Begin call name) =
-    option_map (λ called. actions.TheVariants.Turn (turns.TheVariants.Begin called)) (call_named names call name)
-action_of names named.TheVariants.Go = Some (actions.TheVariants.Turn turns.TheVariants.Go)
-action_of names named.TheVariants.Spin = Some (actions.TheVariants.Turn turns.TheVariants.Spin)
-action_of names named.TheVariants.Late = Some (actions.TheVariants.Turn turns.TheVariants.Late)
-action_of names named.TheVariants.Ok = Some (actions.TheVariants.Turn turns.TheVariants.Ok)
-action_of names named.TheVariants.Err = Some (actions.TheVariants.Turn turns.TheVariants.Err)
-action_of names named.TheVariants.Solo = Some actions.TheVariants.Solo
-action_of names (named.TheVariants.Do call name) = option_map actions.TheVariants.Do (call_named names call name)
+abbrev pub action_of : List (List ℕ) → State → NamedTurn → Option Action
+action_of names w (named.TheVariants.Begin call name) =
+    option_map (λ called. actions.TheVariants.Turn (turns.TheVariants.Begin called)) (call_named names w call name)
+action_of names w named.TheVariants.Go = Some (actions.TheVariants.Turn turns.TheVariants.Go)
+action_of names w named.TheVariants.Spin = Some (actions.TheVariants.Turn turns.TheVariants.Spin)
+action_of names w named.TheVariants.Late = Some (actions.TheVariants.Turn turns.TheVariants.Late)
+action_of names w named.TheVariants.Ok = Some (actions.TheVariants.Turn turns.TheVariants.Ok)
+action_of names w named.TheVariants.Err = Some (actions.TheVariants.Turn turns.TheVariants.Err)
+action_of names w named.TheVariants.Solo = Some actions.TheVariants.Solo
+action_of names w (named.TheVariants.Do call name) = option_map actions.TheVariants.Do (call_named names w call name)
 
 -- where a step leads, and its outcome
 abbrev pub stepped : State → ℕ → Turn → State × Outcome
@@ -79,7 +95,7 @@ acted names w t action = (running names (done_by w t action).0, turn_line t (don
 
 -- what a turn or a `show` leads to in a world, or none where it names no lock or is neither
 abbrev pub played : List (List ℕ) → State → Command → Option (Stage × List ℕ)
-played names w (command.TheVariants.Turn t turn) = option_map (acted names w t) (action_of names turn)
+played names w (command.TheVariants.Turn t turn) = option_map (acted names w t) (action_of names w turn)
 played names w command.TheVariants.Show = Some (running names w, show_lines w 0 names)
 played names w _ = None
 

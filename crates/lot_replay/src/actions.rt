@@ -1,10 +1,14 @@
 //! What a thread is told to do, of locks by their numbers, and how it is done.
-ghost use Rattle.std.specs.Prelude.{◌≡◌, length};
+ghost use Rattle.std.specs.Prelude.{◌≡◌, ◌<◌, length};
+ghost use Rattle.lot_machine.specs.Machine.{kind_at};
+ghost use Rattle.lot_replay.specs.Sessions.{session_world};
 ghost use Rattle.lot_replay.specs.Stages.{call_named, action_of, done_by};
 
+use crate::session::Session;
 use lot_base::ListQueues;
+use lot_calls::{CondvarCall, OnceCall};
 use lot_text::{Name, NamedCall, NamedTurn, lock_named};
-use lot_world::{Call, Outcome, Step, Turn, World};
+use lot_world::{Call, Kind, Outcome, Step, Turn, World};
 
 /// What a thread does, of locks by their numbers.
 #[derive(Clone, Copy, Debug, PartialEq, Eq)]
@@ -14,37 +18,62 @@ pub enum Action {
     Do(Call),
 }
 
-/// The same turn, of locks by their numbers.
-pub fn action_of(names: &[Name], turn: NamedTurn) -> Option<Action>
-    ensures { result ≡ action_of names.now turn }
-{
-    match turn {
-        NamedTurn::Begin { call, name } => {
-            let call = call_named(names, call, name)?;
-            Some(Action::Turn(Turn::Begin(call)))
-        }
-        NamedTurn::Go => Some(Action::Turn(Turn::Go)),
-        NamedTurn::Spin => Some(Action::Turn(Turn::Spin)),
-        NamedTurn::Late => Some(Action::Turn(Turn::Late)),
-        NamedTurn::Ok => Some(Action::Turn(Turn::Ok)),
-        NamedTurn::Err => Some(Action::Turn(Turn::Err)),
-        NamedTurn::Solo => Some(Action::Solo),
-        NamedTurn::Do { call, name } => {
-            let call = call_named(names, call, name)?;
-            Some(Action::Do(call))
+impl Session {
+    /// The same turn, of locks by their numbers.
+    pub(crate) fn action_of(&self, turn: NamedTurn) -> Option<Action>
+        ensures { result ≡ action_of self.now.names.items (session_world self.now) turn }
+    {
+        match turn {
+            NamedTurn::Begin { call, name } => {
+                let call = self.call_named(call, name)?;
+                Some(Action::Turn(Turn::Begin(call)))
+            }
+            NamedTurn::Go => Some(Action::Turn(Turn::Go)),
+            NamedTurn::Spin => Some(Action::Turn(Turn::Spin)),
+            NamedTurn::Late => Some(Action::Turn(Turn::Late)),
+            NamedTurn::Ok => Some(Action::Turn(Turn::Ok)),
+            NamedTurn::Err => Some(Action::Turn(Turn::Err)),
+            NamedTurn::Solo => Some(Action::Solo),
+            NamedTurn::Do { call, name } => {
+                let call = self.call_named(call, name)?;
+                Some(Action::Do(call))
+            }
         }
     }
-}
 
-fn call_named(names: &[Name], call: NamedCall, name: Name) -> Option<Call>
-    ensures { result ≡ call_named names.now call name }
-{
-    let lock = lock_named(names, name)?;
-    Some(match call {
-        NamedCall::Mutex(call) => Call::Mutex { lock, call },
-        NamedCall::RwLock(call) => Call::RwLock { lock, call },
-        NamedCall::Once(call) => Call::Once { lock, call },
-    })
+    fn call_named(&self, call: NamedCall, name: Name) -> Option<Call>
+        ensures { result ≡ call_named self.now.names.items (session_world self.now) call name }
+    {
+        let lock = lock_named(self.names.as_slice(), name)?;
+        let on_condvar = self.kind_of(lock).is_condvar();
+        match call {
+            NamedCall::Mutex(call) => Some(Call::Mutex { lock, call }),
+            NamedCall::RwLock(call) => Some(Call::RwLock { lock, call }),
+            // A wait on a condition variable names its mutex.
+            NamedCall::Once(OnceCall::Wait { forced: false }) if on_condvar => None,
+            NamedCall::Once(call) => Some(Call::Once { lock, call }),
+            NamedCall::Notify { all } => {
+                let call = CondvarCall::Notify { all };
+                Some(Call::Condvar { lock, call })
+            }
+            NamedCall::Wait { mutex, timed } if on_condvar => {
+                let mutex = lock_named(self.names.as_slice(), mutex)?;
+                let call = CondvarCall::Wait { mutex, timed };
+                Some(Call::Condvar { lock, call })
+            }
+            NamedCall::Wait { .. } => None,
+        }
+    }
+
+    fn kind_of(&self, lock: usize) -> Kind
+        requires { lock < length self.now.names.items }
+        ensures { result ≡ kind_at (session_world self.now) lock }
+    {
+        match &self.world {
+            Some(world) => world.kind(lock),
+            None => self.kinds[lock],
+        }
+    }
 }
 
 /// Does it, and answers the last outcome.

@@ -7,7 +7,7 @@ ghost use Rattle.lot_replay.specs.Stages.{nothing, declaring, running, acted, pl
 ghost use Rattle.lot_replay.specs.Sessions.{session_stage, session_world, stage_of};
 ghost use Rattle.lot_replay.specs.Answers.{AnswersTo};
 
-use crate::actions::{Action, action_of, perform};
+use crate::actions::{Action, perform};
 use crate::session::Session;
 use crate::show::show_locks;
 use lot_text::{Command, Name, Page, lock_named, meaning, print_turn};
@@ -99,7 +99,7 @@ impl Session {
         match command {
             Command::Threads(_) => Err(Refusal::Malformed),
             Command::Lock { name, kind } => self.declare(name, kind),
-            Command::Turn { thread, turn } => match action_of(self.names.as_slice(), turn) {
+            Command::Turn { thread, turn } => match self.action_of(turn) {
                 Some(action) => self.act(alloc, page, writer, thread, action),
                 None => Err(Refusal::Malformed),
             },

@@ -29,7 +29,7 @@ use Rattle.lot_once.specs.declared.places.OncePlace.{OncePlace}
 use Rattle.lot_once.specs.OnceSteps.{once_first, once_act, once_next, once_looking, once_owners}
 use Rattle.lot_once.specs.OnceProfiles.{once_profile}
 use Rattle.lot_condvar.specs.declared.places.CondvarPlace.{CondvarPlace}
-use Rattle.lot_condvar.specs.CondvarSteps.{HasMutexKey, condvar_act, condvar_next, condvar_looking, condvar_owners, mutex_beside}
+use Rattle.lot_condvar.specs.CondvarSteps.{HasMutexKey, condvar_act, condvar_first, condvar_right, condvar_next, condvar_looking, condvar_owners, mutex_beside}
 use Rattle.lot_condvar.specs.CondvarProfiles.{condvar_profile, mutex_side}
 
 -- where a call of a lock of a kind begins
@@ -37,12 +37,14 @@ abbrev pub first_place : Kind → Call → Place
 first_place kind (call.TheVariants.Mutex lock c) = Mutex lock (mutex_first (is_fair kind) c)
 first_place kind (call.TheVariants.RwLock lock c) = RwLock lock (admission_of kind) (call_first c)
 first_place kind (call.TheVariants.Once lock c) = Once lock (once_first c)
+first_place kind (call.TheVariants.Condvar lock c) = Condvar lock (condvar_first c)
 
--- whether a thread has the right that a call needs; a call of a `Once` needs none
+-- whether a thread has the right that a call needs, of the lock with these owners; a call of a `Once` needs none
 abbrev pub has_right : Call → ℕ → Owners → ℕ → Bool
 has_right (call.TheVariants.Mutex lock c) t owners shares = mutex_right c t owners
 has_right (call.TheVariants.RwLock lock c) t owners shares = call_right c t owners shares
 has_right (call.TheVariants.Once lock c) t owners shares = true
+has_right (call.TheVariants.Condvar lock c) t owners shares = condvar_right c t owners
 
 abbrev pub is_idle : Place → Bool
 is_idle Idle = true

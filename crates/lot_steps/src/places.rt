@@ -6,7 +6,7 @@ ghost use Rattle.lot_steps.specs.Steps.{HasKeys, ShowsKeys, first_place, has_rig
 use lot_acts::{Act, Next, Owners, Reply};
 use lot_base::{Key, Want};
 use lot_calls::{Call, Kind, Outcome};
-use lot_condvar::CondvarPlace;
+use lot_condvar::{CondvarPlace, condvar_right};
 use lot_mutex::{MutexPlace, mutex_right};
 use lot_once::OncePlace;
 use lot_rwlock::Admission;
@@ -54,6 +54,10 @@ impl Place {
             Call::Once { lock, call } => Place::Once {
                 lock,
                 at: OncePlace::first(call),
+            },
+            Call::Condvar { lock, call } => Place::Condvar {
+                lock,
+                at: CondvarPlace::first(call),
             },
         }
     }
@@ -244,6 +248,7 @@ pub fn has_right(call: Call, thread: usize, owners: Owners, shares: usize) -> bo
         Call::Mutex { call, .. } => mutex_right(call, thread, owners),
         Call::RwLock { call, .. } => call_right(call, thread, owners, shares),
         Call::Once { .. } => true,
+        Call::Condvar { call, .. } => condvar_right(call, thread, owners),
     }
 }
 

@@ -27,12 +27,12 @@ some_word (b ∷ bs) = go (eqb b 32) (words_of bs) refl refl
     go false [] e f = (b ∷ [], [], ap (λ t. cond t ([] ∷ words_of bs) (onto_first b (words_of bs))) e ∙ ap (onto_first b) f)
     go false (w ∷ ws) e f = (b ∷ w, ws, ap (λ t. cond t ([] ∷ words_of bs) (onto_first b (words_of bs))) e ∙ ap (onto_first b) f)
 
--- five words mean nothing
-pub five_words : (line second third fourth more : List ℕ) (a b c d : List ℕ) → words_of line ≡ a ∷ words_of second → words_of second ≡ b ∷ words_of third
-    → words_of third ≡ c ∷ words_of fourth → words_of fourth ≡ d ∷ words_of more → command_of (words_of line) ≡ None
-five_words line second third fourth more a b c d p q r s =
-    let fifth = some_word more in
-    ap command_of (p ∙ ap (λ l. a ∷ l) (q ∙ ap (λ l. b ∷ l) (r ∙ ap (λ l. c ∷ l) (s ∙ ap (λ l. d ∷ l) fifth.2))))
+-- six words mean nothing
+pub six_words : (line second third fourth fifth more : List ℕ) (a b c d e : List ℕ) → words_of line ≡ a ∷ words_of second → words_of second ≡ b ∷ words_of third
+    → words_of third ≡ c ∷ words_of fourth → words_of fourth ≡ d ∷ words_of fifth → words_of fifth ≡ e ∷ words_of more → command_of (words_of line) ≡ None
+six_words line second third fourth fifth more a b c d e p q r s t =
+    let sixth = some_word more in
+    ap command_of (p ∙ ap (λ l. a ∷ l) (q ∙ ap (λ l. b ∷ l) (r ∙ ap (λ l. c ∷ l) (s ∙ ap (λ l. d ∷ l) (t ∙ ap (λ l. e ∷ l) sixth.2)))))
 
 pub small : (n i : ℕ) → n < 10 ^ i → i < 19 → n * 10 + 9 < 2 ^ 64
 small n i h k = let most : 10 ^ i ≤ 10 ^ 18 = (let le : i ≤ 18 = omega arith in pow-le-pow_right {n = 10} (omega arith) le) in omega arith

@@ -52,7 +52,8 @@ kind_of word =
     if bytes_eq word (codes "mutex") then Some kind.TheVariants.Mutex
     else (if bytes_eq word (codes "fair") then Some kind.TheVariants.Fair
     else (if bytes_eq word (codes "once") then Some kind.TheVariants.Once
-    else limited_kind_of word (Some MOST_READERS)))
+    else (if bytes_eq word (codes "condvar") then Some kind.TheVariants.Condvar
+    else limited_kind_of word (Some MOST_READERS))))
 
 abbrev pub mutex_call_of : List ℕ → Option MutexCall
 mutex_call_of word =
@@ -111,15 +112,32 @@ once_call_of word =
     else (if bytes_eq word (codes "wait_force") then Some (Wait true)
     else None)))
 
+-- one that notifies who waits on a condition variable
+abbrev pub notification_of : List ℕ → Option NamedCall
+notification_of word =
+    if bytes_eq word (codes "notify_one") then Some (call.TheVariants.Notify false)
+    else (if bytes_eq word (codes "notify_all") then Some (call.TheVariants.Notify true)
+    else None)
+
+-- one that waits there with the mutex of a name
+abbrev pub wait_of : List ℕ → Option (List ℕ) → Option NamedCall
+wait_of word None = None
+wait_of word (Some mutex) =
+    if bytes_eq word (codes "wait") then Some (call.TheVariants.Wait mutex false)
+    else (if bytes_eq word (codes "wait_timed") then Some (call.TheVariants.Wait mutex true)
+    else None)
+
 -- the first of them that is there
-abbrev pub first_call : Option MutexCall → Option RwLockCall → Option RwLockCall → Option OnceCall → Option NamedCall
-first_call (Some c) enters other once = Some (call.TheVariants.Mutex c)
-first_call None (Some c) other once = Some (call.TheVariants.RwLock c)
-first_call None None (Some c) once = Some (call.TheVariants.RwLock c)
-first_call None None None once = option_map call.TheVariants.Once once
+abbrev pub first_call : Option MutexCall → Option RwLockCall → Option RwLockCall → Option OnceCall → Option NamedCall → Option NamedCall
+first_call (Some c) enters other once notifies = Some (call.TheVariants.Mutex c)
+first_call None (Some c) other once notifies = Some (call.TheVariants.RwLock c)
+first_call None None (Some c) once notifies = Some (call.TheVariants.RwLock c)
+first_call None None None (Some c) notifies = Some (call.TheVariants.Once c)
+first_call None None None None notifies = notifies
 
 abbrev pub call_of : List ℕ → Option NamedCall
-call_of word = first_call (mutex_call_of word) (entering_call_of word) (other_call_of word) (once_call_of word)
+call_of word =
+    first_call (mutex_call_of word) (entering_call_of word) (other_call_of word) (once_call_of word) (notification_of word)
 
 -- a turn by which a closure answers
 abbrev pub closing_turn_of : List ℕ → Option NamedTurn
@@ -154,12 +172,12 @@ lock_command None kind = None
 lock_command (Some name) kind = option_map (command.TheVariants.Lock name) kind
 
 -- a thread's number, `begin` or `do`, a call and the name of a lock
-abbrev pub calling_command_of : List ℕ → List ℕ → List ℕ → List ℕ → Option Command
+abbrev pub calling_command_of : List ℕ → List ℕ → Option NamedCall → List ℕ → Option Command
 calling_command_of a b c d =
-    turn_command (number_of a) (option_and_then (λ call. option_and_then (calling_turn_of b call) (name_of d)) (call_of c))
+    turn_command (number_of a) (option_and_then (λ call. option_and_then (calling_turn_of b call) (name_of d)) c)
 
 -- the words of a line with a meaning: `show`, `threads N`, `T TURN`, `lock NAME KIND`, `lock NAME KIND LIMIT`, `T begin CALL NAME`,
--- `T do CALL NAME`
+-- `T do CALL NAME`, and of a wait on a condition variable `T begin CALL NAME MUTEX`, `T do CALL NAME MUTEX`
 abbrev pub command_of : List (List ℕ) → Option Command
 command_of (a ∷ []) = if bytes_eq a (codes "show") then Some command.TheVariants.Show else None
 command_of (a ∷ b ∷ []) =
@@ -168,7 +186,8 @@ command_of (a ∷ b ∷ []) =
 command_of (a ∷ b ∷ c ∷ []) = if bytes_eq a (codes "lock") then lock_command (name_of b) (kind_of c) else None
 command_of (a ∷ b ∷ c ∷ d ∷ []) =
     if bytes_eq a (codes "lock") then lock_command (name_of b) (limited_kind_of c (number_of d))
-    else calling_command_of a b c d
+    else calling_command_of a b (call_of c) d
+command_of (a ∷ b ∷ c ∷ d ∷ e ∷ []) = calling_command_of a b (wait_of c (name_of e)) d
 command_of _ = None
 
 abbrev pub meaning : List ℕ → Option Command

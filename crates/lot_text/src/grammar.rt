@@ -1,7 +1,7 @@
 //! What a line means.
 ghost use Rattle.std.specs.Prelude.{ℕ, List, Some, decimal, ◌^◌, ◌≡◌, ◌≢◌, ◌<◌, ◌≤◌, [], ◌∷◌, length, take, slice_index, All, MatchOption};
 ghost use Rattle.lot_text.specs.Names.{name_of};
-ghost use Rattle.lot_text.specs.Grammar.{words_of, number_of, digits_after, kind_of, limited_kind_of, mutex_call_of, entering_call_of, fair_call_of, other_call_of, once_call_of, call_of, turn_of, closing_turn_of, calling_turn_of, lock_command, turn_command, calling_command_of, command_of, meaning};
+ghost use Rattle.lot_text.specs.Grammar.{words_of, number_of, digits_after, kind_of, limited_kind_of, mutex_call_of, entering_call_of, fair_call_of, other_call_of, once_call_of, notification_of, wait_of, call_of, turn_of, closing_turn_of, calling_turn_of, lock_command, turn_command, calling_command_of, command_of, meaning};
 
 use crate::names::Name;
 use lot_calls::kinds::MOST_READERS;
@@ -29,6 +29,10 @@ pub enum NamedCall {
     Mutex(MutexCall),
     RwLock(RwLockCall),
     Once(OnceCall),
+    /// It notifies the first waiter of a condition variable, or all.
+    Notify { all: bool },
+    /// It waits on a condition variable with the mutex of this name.
+    Wait { mutex: Name, timed: bool },
 }
 
 /// What a thread does, of locks by their names.
@@ -69,10 +73,14 @@ pub fn meaning(line: &[u8]) -> Option<Command>
         return command_of_three(first, second, third);
     };
     let (fourth, rest) = split_word(rest);
+    let Some(rest) = rest else {
+        return command_of_four(first, second, third, fourth);
+    };
+    let (fifth, rest) = split_word(rest);
     if let Some(_) = rest {
         return None;
     }
-    command_of_four(first, second, third, fourth)
+    command_of_five(first, second, third, fourth, fifth)
 }
 
 /// The first word, and what comes after its space.
@@ -134,7 +142,21 @@ fn command_of_four(first: &[u8], second: &[u8], third: &[u8], fourth: &[u8]) -> 
     if first == b"lock".as_slice() {
         return limited_lock(second, third, fourth);
     }
-    calling_command(first, second, third, fourth)
+    calling_command(first, second, call(third), fourth)
+}
+
+/// A wait on a condition variable, with a mutex.
+fn command_of_five(
+    first: &[u8],
+    second: &[u8],
+    third: &[u8],
+    fourth: &[u8],
+    fifth: &[u8],
+) -> Option<Command>
+    ensures { result ≡ command_of (first.now ∷ second.now ∷ third.now ∷ fourth.now ∷ fifth.now ∷ []) }
+{
+    let call = wait(third, Name::from_word(fifth));
+    calling_command(first, second, call, fourth)
 }
 
 /// A lock with a reader limit.
@@ -147,11 +169,16 @@ fn limited_lock(name: &[u8], kind: &[u8], limit: &[u8]) -> Option<Command>
 }
 
 /// A turn that calls a lock.
-fn calling_command(thread: &[u8], turn: &[u8], call: &[u8], name: &[u8]) -> Option<Command>
-    ensures { result ≡ calling_command_of thread.now turn.now call.now name.now }
+fn calling_command(
+    thread: &[u8],
+    turn: &[u8],
+    call: Option<NamedCall>,
+    name: &[u8],
+) -> Option<Command>
+    ensures { result ≡ calling_command_of thread.now turn.now call name.now }
 {
     let thread = number(thread)?;
-    let call = self::call(call)?;
+    let call = call?;
     let name = Name::from_word(name)?;
     let turn = calling_turn(turn, call, name)?;
     Some(Command::Turn { thread, turn })
@@ -210,6 +237,8 @@ fn kind(word: &[u8]) -> Option<Kind>
         Some(Kind::Fair)
     } else if word == b"once".as_slice() {
         Some(Kind::Once)
+    } else if word == b"condvar".as_slice() {
+        Some(Kind::Condvar)
     } else {
         limited_kind(word, MOST_READERS as usize)
     }
@@ -229,7 +258,7 @@ fn limited_kind(word: &[u8], limit: usize) -> Option<Kind>
     }
 }
 
-/// The call that a word names.
+/// The call that a word names, of the lock that is named behind it alone.
 fn call(word: &[u8]) -> Option<NamedCall>
     ensures { result ≡ call_of word.now }
 {
@@ -242,7 +271,10 @@ fn call(word: &[u8]) -> Option<NamedCall>
     if let Some(call) = other_call(word) {
         return Some(NamedCall::RwLock(call));
     }
-    once_call(word).map(NamedCall::Once)
+    if let Some(call) = once_call(word) {
+        return Some(NamedCall::Once(call));
+    }
+    notification(word)
 }
 
 /// The call of a mutex that a word names.
@@ -359,6 +391,36 @@ fn once_call(word: &[u8]) -> Option<OnceCall>
         Some(OnceCall::Wait { forced: false })
     } else if word == b"wait_force".as_slice() {
         Some(OnceCall::Wait { forced: true })
+    } else {
+        None
+    }
+}
+
+/// The call that a word names, which notifies who waits on a condition variable.
+fn notification(word: &[u8]) -> Option<NamedCall>
+    ensures { result ≡ notification_of word.now }
+{
+    if word == b"notify_one".as_slice() {
+        Some(NamedCall::Notify { all: false })
+    } else if word == b"notify_all".as_slice() {
+        Some(NamedCall::Notify { all: true })
+    } else {
+        None
+    }
+}
+
+/// The call that a word names, which waits on a condition variable with a mutex.
+fn wait(word: &[u8], mutex: Option<Name>) -> Option<NamedCall>
+    ensures { result ≡ wait_of word.now mutex }
+{
+    let mutex = mutex?;
+    if word == b"wait".as_slice() {
+        Some(NamedCall::Wait {
+            mutex,
+            timed: false,
+        })
+    } else if word == b"wait_timed".as_slice() {
+        Some(NamedCall::Wait { mutex, timed: true })
     } else {
         None
     }

@@ -1,42 +1,31 @@
-use lot_base::{ListQueues, Waiter, Want};
+//! Reader-writer locks that are handed over.
+use super::scripts::{Does, Shown, look, rests, surprise};
+use lot_base::{ListQueues, Want};
 use lot_calls::{Access, Patience, RwLockCall};
-use lot_world::{Answer, Call, Kind, Outcome, Owner, Step, Turn, World};
+use lot_world::{Answer, Call, Kind, Outcome, Owner, World};
 use std::test::Fail;
-
-const SHARED: RwLockCall = RwLockCall::Enter {
-    access: Access::Shared,
-    patience: Patience::Patient,
-};
-
-const UPGRADABLE: RwLockCall = RwLockCall::Enter {
-    access: Access::Upgradable,
-    patience: Patience::Patient,
-};
-
-const EXCLUSIVE: RwLockCall = RwLockCall::Enter {
-    access: Access::Exclusive,
-    patience: Patience::Patient,
-};
 
 const LOCK: Kind = Kind::RwLock { limit: 4 };
 
 const DONE: Outcome = Outcome::End(Answer::Ok);
 
-// A call, alone from its beginning.
-fn calls(world: &mut World<ListQueues>, thread: usize, call: RwLockCall) -> Outcome {
-    let turn = Turn::Begin(Call::RwLock { lock: 0, call });
-    match world.step(Step { thread, turn }) {
-        Outcome::Step => world.solo(thread),
-        refused => refused,
-    }
+fn calls(call: RwLockCall) -> Does {
+    Does::Calls(Call::RwLock { lock: 0, call })
 }
 
-fn waiter(thread: usize, want: Want) -> Waiter {
-    Waiter {
-        key: 0,
-        thread,
-        want,
-    }
+fn enters(access: Access) -> Does {
+    calls(RwLockCall::Enter {
+        access,
+        patience: Patience::Patient,
+    })
+}
+
+fn releases(access: Access) -> Does {
+    calls(RwLockCall::ReleaseFair(access))
+}
+
+fn bumps(access: Access) -> Does {
+    calls(RwLockCall::Bump(access))
 }
 
 #[test]
@@ -44,81 +33,79 @@ fn a_fair_release_hands_the_lock_to_readers_and_the_writer_behind_them(
     rt: HostRuntime,
 ) -> Result<(), Fail> {
     let mut world = World::<ListQueues>::new(rt.alloc(), &[LOCK], 4)?;
-    for (thread, call, outcome) in [
-        (0, EXCLUSIVE, DONE),
-        (1, SHARED, Outcome::Sleep),
-        (2, SHARED, Outcome::Sleep),
-        (3, EXCLUSIVE, Outcome::Sleep),
-        (1, RwLockCall::ReleaseFair(Access::Shared), Outcome::NotNow),
-        (0, RwLockCall::ReleaseFair(Access::Exclusive), DONE),
-    ] {
-        assert_eq!(rt; calls(&mut world, thread, call), outcome);
-    }
-    assert_eq!(rt; world.locks(), 1);
+    let hands_over = [
+        (0, enters(Access::Exclusive), DONE),
+        (1, enters(Access::Shared), Outcome::Sleep),
+        (2, enters(Access::Shared), Outcome::Sleep),
+        (3, enters(Access::Exclusive), Outcome::Sleep),
+        (1, releases(Access::Shared), Outcome::NotNow),
+        (0, releases(Access::Exclusive), DONE),
+    ];
+    assert_eq!(rt; surprise(&mut world, &hands_over), None);
     // Two readers, and the writer behind them, which waits for them.
-    assert_eq!(rt; world.word(0), 40);
-    let owners: Vec<(Owner, usize)> = world.owners(0).collect(rt.alloc())?;
+    assert_eq!(rt; look(&world, 0), rests(40, Some((Owner::Pending, 3))));
+    let owners: Vec<(Owner, usize)> = if world.locks() == 1 {
+        world.owners(0).collect(rt.alloc())?
+    } else {
+        Vec::new(rt.alloc())
+    };
     let wanted = [(Owner::Pending, 3), (Owner::Shared, 1), (Owner::Shared, 2)];
     assert_eq!(rt; owners.as_slice(), wanted.as_slice());
-    assert!(rt; world.queue(0).next().is_none());
-    assert_eq!(rt; world.solo(3), Outcome::Sleep);
-    for thread in [1, 2] {
-        assert_eq!(rt; world.solo(thread), DONE);
-        assert_eq!(rt;
-            calls(&mut world, thread, RwLockCall::ReleaseFair(Access::Shared)),
-            DONE
-        );
-    }
-    assert_eq!(rt; world.locks(), 1);
-    assert_eq!(rt; world.solo(3), DONE);
-    assert_eq!(rt; world.owners(0).next(), Some((Owner::Exclusive, 3)));
+    let follows = [
+        (3, Does::GoesOn, Outcome::Sleep),
+        (1, Does::GoesOn, DONE),
+        (1, releases(Access::Shared), DONE),
+        (2, Does::GoesOn, DONE),
+        (2, releases(Access::Shared), DONE),
+        (3, Does::GoesOn, DONE),
+    ];
+    assert_eq!(rt; surprise(&mut world, &follows), None);
+    assert_eq!(rt; look(&world, 0), rests(8, Some((Owner::Exclusive, 3))));
     Ok(())
 }
 
 #[test]
 fn a_bump_enters_again_behind_those_to_whom_it_gave_way(rt: HostRuntime) -> Result<(), Fail> {
     let mut world = World::<ListQueues>::new(rt.alloc(), &[LOCK], 3)?;
-    for (thread, call, outcome) in [
-        (0, EXCLUSIVE, DONE),
-        (1, UPGRADABLE, Outcome::Sleep),
-        (2, EXCLUSIVE, Outcome::Sleep),
-        (0, RwLockCall::Bump(Access::Exclusive), Outcome::Sleep),
-    ] {
-        assert_eq!(rt; calls(&mut world, thread, call), outcome);
-    }
-    assert_eq!(rt; world.locks(), 1);
-    assert_eq!(rt; world.solo(1), DONE);
-    assert_eq!(rt; world.owners(0).next(), Some((Owner::Upgradable, 1)));
-    let waiters: Vec<Waiter> = world.queue(0).collect(rt.alloc())?;
-    let wanted = [waiter(2, Want::Exclusive), waiter(0, Want::Exclusive)];
-    assert_eq!(rt; waiters.as_slice(), wanted.as_slice());
+    let gives_way = [
+        (0, enters(Access::Exclusive), DONE),
+        (1, enters(Access::Upgradable), Outcome::Sleep),
+        (2, enters(Access::Exclusive), Outcome::Sleep),
+        (0, bumps(Access::Exclusive), Outcome::Sleep),
+        (1, Does::GoesOn, DONE),
+    ];
+    assert_eq!(rt; surprise(&mut world, &gives_way), None);
+    let first = Shown {
+        word: 21,
+        owner: Some((Owner::Upgradable, 1)),
+        waiter: Some((2, Want::Exclusive)),
+        debt: None,
+    };
+    assert_eq!(rt; look(&world, 0), Some(first));
     // Another fair release, of the lesser right: the next writer has it at once.
-    assert_eq!(rt;
-        calls(&mut world, 1, RwLockCall::ReleaseFair(Access::Upgradable)),
-        DONE
-    );
-    assert_eq!(rt; world.locks(), 1);
-    assert_eq!(rt; world.owners(0).next(), Some((Owner::Exclusive, 2)));
+    let next = [(1, releases(Access::Upgradable), DONE)];
+    assert_eq!(rt; surprise(&mut world, &next), None);
+    let second = Shown {
+        word: 9,
+        owner: Some((Owner::Exclusive, 2)),
+        waiter: Some((0, Want::Exclusive)),
+        debt: None,
+    };
+    assert_eq!(rt; look(&world, 0), Some(second));
     Ok(())
 }
 
 #[test]
 fn a_fair_release_that_nobody_waits_for_lets_the_lock_go(rt: HostRuntime) -> Result<(), Fail> {
     let mut world = World::<ListQueues>::new(rt.alloc(), &[LOCK], 2)?;
-    for (enters, access) in [
-        (SHARED, Access::Shared),
-        (UPGRADABLE, Access::Upgradable),
-        (EXCLUSIVE, Access::Exclusive),
-    ] {
-        for call in [
-            enters,
-            RwLockCall::Bump(access),
-            RwLockCall::ReleaseFair(access),
-        ] {
-            assert_eq!(rt; calls(&mut world, 0, call), DONE);
-        }
-        assert_eq!(rt; world.locks(), 1);
-        assert_eq!(rt; world.word(0), 0);
+    for access in [Access::Shared, Access::Upgradable, Access::Exclusive] {
+        let script = [
+            (0, enters(access), DONE),
+            (0, bumps(access), DONE),
+            (0, releases(access), DONE),
+        ];
+        assert_eq!(rt; surprise(&mut world, &script), None);
+        assert_eq!(rt; look(&world, 0), rests(0, None));
     }
     Ok(())
 }

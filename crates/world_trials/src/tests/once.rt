@@ -1,8 +1,10 @@
-use lot_base::{Keys, ListQueues, Note, Waiter, Want};
+//! Worlds of a `Once`.
+use super::scripts::{Does, Shown, look, rests, surprise};
+use lot_base::{Keys, ListQueues, Note, Want};
 use lot_calls::{OnceCall, OnceState};
 use lot_steps::lot_once::{LookAt, OncePlace, RunAt};
 use lot_steps::{Act, Answer, Call, Kind, Op, Owners, Phase, Place, Reply, advance, has_right};
-use lot_world::{Debt, Outcome, Owner, Step, Turn, World};
+use lot_world::{Debt, Outcome, Owner, Turn, World};
 use std::test::Fail;
 
 const CALL: Call = Call::Once {
@@ -26,64 +28,12 @@ const RUNS_NEW: Outcome = Outcome::Closure(OnceState::New);
 
 const RUNS_POISONED: Outcome = Outcome::Closure(OnceState::Poisoned);
 
-/// What a line of a script has its thread do.
-#[derive(Clone, Copy)]
-enum Does {
-    /// A call, alone from its beginning.
-    Calls(OnceCall),
-    Turns(Turn),
-    /// Alone, until it rests.
-    GoesOn,
-}
+const OK: Does = Does::Turns(Turn::Ok);
 
-fn outcome_of(world: &mut World<ListQueues>, thread: usize, what: Does) -> Outcome {
-    match what {
-        Does::Calls(call) => {
-            let turn = Turn::Begin(Call::Once { lock: 0, call });
-            match world.step(Step { thread, turn }) {
-                Outcome::Step => world.solo(thread),
-                refused => refused,
-            }
-        }
-        Does::Turns(turn) => world.step(Step { thread, turn }),
-        Does::GoesOn => world.solo(thread),
-    }
-}
+const ERR: Does = Does::Turns(Turn::Err);
 
-// Whether each line of the script comes to what it says.
-fn plays(world: &mut World<ListQueues>, script: &[(usize, Does, Outcome)]) -> bool {
-    for line in script {
-        let (thread, what, told) = *line;
-        if outcome_of(world, thread, what) != told {
-            return false;
-        }
-    }
-    true
-}
-
-// The word of the only lock, and who runs it.
-fn shown(world: &World<ListQueues>) -> Option<(u64, Option<(Owner, usize)>)> {
-    if world.locks() == 1 {
-        Some((world.word(0), world.owners(0).next()))
-    } else {
-        None
-    }
-}
-
-fn first_waiter(world: &World<ListQueues>) -> Option<Waiter> {
-    if world.locks() == 1 {
-        world.queue(0).next()
-    } else {
-        None
-    }
-}
-
-fn first_debt(world: &World<ListQueues>) -> Option<(Debt, usize)> {
-    if world.locks() == 1 {
-        world.debt(0).next()
-    } else {
-        None
-    }
+fn calls(call: OnceCall) -> Does {
+    Does::Calls(Call::Once { lock: 0, call })
 }
 
 #[test]
@@ -144,145 +94,162 @@ fn who_waits_for_a_run_tries_again_when_woken(rt: HostRuntime) {
 #[test]
 fn a_run_that_fails_poisons_until_one_is_forced(rt: HostRuntime) -> Result<(), Fail> {
     let mut world = World::<ListQueues>::new(rt.alloc(), &[Kind::Once], 1)?;
-    assert!(rt; plays(&mut world, &[(0, Does::Calls(RUN), RUNS_NEW)]));
-    assert_eq!(rt; shown(&world), Some((4, Some((Owner::Running, 0)))));
+    let begins = [(0, calls(RUN), RUNS_NEW)];
+    assert_eq!(rt; surprise(&mut world, &begins), None);
+    assert_eq!(rt; look(&world, 0), rests(4, Some((Owner::Running, 0))));
     let fails = [
-        (0, Does::Turns(Turn::Err), Outcome::End(Answer::Failed)),
-        (0, Does::Calls(RUN), POISONED),
-        (0, Does::Calls(WAIT), POISONED),
+        (0, ERR, Outcome::End(Answer::Failed)),
+        (0, calls(RUN), POISONED),
+        (0, calls(WAIT), POISONED),
     ];
-    assert!(rt; plays(&mut world, &fails));
-    assert_eq!(rt; shown(&world), Some((2, None)));
+    assert_eq!(rt; surprise(&mut world, &fails), None);
+    assert_eq!(rt; look(&world, 0), rests(2, None));
     let succeeds = [
-        (0, Does::Calls(RUN_FORCED), RUNS_POISONED),
-        (0, Does::Turns(Turn::Ok), DONE),
-        (0, Does::Calls(RUN), DONE),
-        (0, Does::Calls(WAIT), DONE),
+        (0, calls(RUN_FORCED), RUNS_POISONED),
+        (0, OK, DONE),
+        (0, calls(RUN), DONE),
+        (0, calls(WAIT), DONE),
     ];
-    assert!(rt; plays(&mut world, &succeeds));
-    assert_eq!(rt; shown(&world), Some((1, None)));
+    assert_eq!(rt; surprise(&mut world, &succeeds), None);
+    assert_eq!(rt; look(&world, 0), rests(1, None));
     Ok(())
 }
 
 #[test]
 fn who_waits_before_the_run_sees_it_done(rt: HostRuntime) -> Result<(), Fail> {
     let mut world = World::<ListQueues>::new(rt.alloc(), &[Kind::Once], 2)?;
-    assert!(rt; plays(&mut world, &[(0, Does::Calls(WAIT), Outcome::Sleep)]));
-    assert_eq!(rt; shown(&world), Some((8, None)));
-    assert!(rt; plays(&mut world, &[(1, Does::Calls(RUN), RUNS_NEW)]));
-    assert_eq!(rt; shown(&world), Some((12, Some((Owner::Running, 1)))));
-    assert!(rt; plays(&mut world, &[(1, Does::Turns(Turn::Ok), Outcome::Step)]));
-    assert_eq!(rt; shown(&world), Some((1, None)));
-    let waiter = Waiter {
-        key: 0,
-        thread: 0,
-        want: Want::Wait,
+    let waits = [(0, calls(WAIT), Outcome::Sleep)];
+    assert_eq!(rt; surprise(&mut world, &waits), None);
+    let waiting = Shown {
+        word: 8,
+        owner: None,
+        waiter: Some((0, Want::Wait)),
+        debt: None,
     };
-    assert_eq!(rt; first_waiter(&world), Some(waiter));
-    assert_eq!(rt; first_debt(&world), Some((Debt::Owes, 1)));
-    assert!(rt;
-        plays(
-            &mut world,
-            &[(1, Does::GoesOn, DONE), (0, Does::GoesOn, DONE)]
-        )
-    );
-    assert!(rt; first_debt(&world).is_none());
+    assert_eq!(rt; look(&world, 0), Some(waiting));
+    let begins = [(1, calls(RUN), RUNS_NEW)];
+    assert_eq!(rt; surprise(&mut world, &begins), None);
+    let running = Shown {
+        word: 12,
+        owner: Some((Owner::Running, 1)),
+        ..waiting
+    };
+    assert_eq!(rt; look(&world, 0), Some(running));
+    let closes = [(1, OK, Outcome::Step)];
+    assert_eq!(rt; surprise(&mut world, &closes), None);
+    let owing = Shown {
+        word: 1,
+        debt: Some((Debt::Owes, 1)),
+        ..waiting
+    };
+    assert_eq!(rt; look(&world, 0), Some(owing));
+    let ends = [(1, Does::GoesOn, DONE), (0, Does::GoesOn, DONE)];
+    assert_eq!(rt; surprise(&mut world, &ends), None);
+    assert_eq!(rt; look(&world, 0), rests(1, None));
     Ok(())
 }
 
 #[test]
 fn only_its_end_takes_a_thread_out_of_its_closure(rt: HostRuntime) -> Result<(), Fail> {
     let mut world = World::<ListQueues>::new(rt.alloc(), &[Kind::Once], 2)?;
-    let script = [
-        (0, Does::Turns(Turn::Ok), Outcome::NotNow),
-        (0, Does::Calls(RUN), RUNS_NEW),
+    let stays = [
+        (0, OK, Outcome::NotNow),
+        (0, calls(RUN), RUNS_NEW),
         (0, Does::Turns(Turn::Go), Outcome::NotNow),
         (0, Does::Turns(Turn::Spin), Outcome::NotNow),
         (0, Does::Turns(Turn::Late), Outcome::NotNow),
-        (0, Does::Calls(RUN), Outcome::NotNow),
-        (1, Does::Turns(Turn::Ok), Outcome::NotNow),
-        (1, Does::Turns(Turn::Err), Outcome::NotNow),
+        (0, calls(RUN), Outcome::NotNow),
+        (1, OK, Outcome::NotNow),
+        (1, ERR, Outcome::NotNow),
     ];
-    assert!(rt; plays(&mut world, &script));
-    assert_eq!(rt; shown(&world), Some((4, Some((Owner::Running, 0)))));
-    let end = [
-        (0, Does::Turns(Turn::Ok), DONE),
-        (0, Does::Turns(Turn::Err), Outcome::NotNow),
-    ];
-    assert!(rt; plays(&mut world, &end));
+    assert_eq!(rt; surprise(&mut world, &stays), None);
+    assert_eq!(rt; look(&world, 0), rests(4, Some((Owner::Running, 0))));
+    let ends = [(0, OK, DONE), (0, ERR, Outcome::NotNow)];
+    assert_eq!(rt; surprise(&mut world, &ends), None);
     Ok(())
 }
 
 #[test]
 fn a_failed_run_wakes_all_and_a_forced_one_begins(rt: HostRuntime) -> Result<(), Fail> {
     let mut world = World::<ListQueues>::new(rt.alloc(), &[Kind::Once], 5)?;
-    let waits = [
-        (0, Does::Calls(RUN), RUNS_NEW),
-        (1, Does::Calls(RUN), Outcome::Sleep),
-        (2, Does::Calls(WAIT), Outcome::Sleep),
-        (3, Does::Calls(WAIT_FORCED), Outcome::Sleep),
-        (4, Does::Calls(RUN_FORCED), Outcome::Sleep),
-        (0, Does::Turns(Turn::Err), Outcome::Step),
+    let fails = [
+        (0, calls(RUN), RUNS_NEW),
+        (1, calls(RUN), Outcome::Sleep),
+        (2, calls(WAIT), Outcome::Sleep),
+        (3, calls(WAIT_FORCED), Outcome::Sleep),
+        (4, calls(RUN_FORCED), Outcome::Sleep),
+        (0, ERR, Outcome::Step),
     ];
-    assert!(rt; plays(&mut world, &waits));
-    assert_eq!(rt; shown(&world), Some((2, None)));
+    assert_eq!(rt; surprise(&mut world, &fails), None);
+    let owing = Shown {
+        word: 2,
+        owner: None,
+        waiter: Some((1, Want::CallOnce)),
+        debt: Some((Debt::Owes, 0)),
+    };
+    assert_eq!(rt; look(&world, 0), Some(owing));
     let wakes = [(0, Does::GoesOn, Outcome::End(Answer::Failed))];
-    assert!(rt; plays(&mut world, &wakes));
-    assert!(rt; first_waiter(&world).is_none());
+    assert_eq!(rt; surprise(&mut world, &wakes), None);
+    let woken = Shown {
+        waiter: None,
+        debt: Some((Debt::Retries, 1)),
+        ..owing
+    };
+    assert_eq!(rt; look(&world, 0), Some(woken));
     let begins = [
         (1, Does::GoesOn, POISONED),
         (2, Does::GoesOn, POISONED),
         (4, Does::GoesOn, RUNS_POISONED),
         (3, Does::GoesOn, Outcome::Sleep),
     ];
-    assert!(rt; plays(&mut world, &begins));
-    assert_eq!(rt; shown(&world), Some((12, Some((Owner::Running, 4)))));
+    assert_eq!(rt; surprise(&mut world, &begins), None);
+    let running = Shown {
+        word: 12,
+        owner: Some((Owner::Running, 4)),
+        waiter: Some((3, Want::Wait)),
+        debt: None,
+    };
+    assert_eq!(rt; look(&world, 0), Some(running));
     let ends = [
-        (4, Does::Turns(Turn::Ok), Outcome::Step),
+        (4, OK, Outcome::Step),
         (4, Does::GoesOn, DONE),
         (3, Does::GoesOn, DONE),
     ];
-    assert!(rt; plays(&mut world, &ends));
-    assert_eq!(rt; shown(&world), Some((1, None)));
+    assert_eq!(rt; surprise(&mut world, &ends), None);
+    assert_eq!(rt; look(&world, 0), rests(1, None));
     Ok(())
-}
-
-// Every thread but the first makes one of four calls beside its run, and afterwards ends it.
-fn nine_wait(world: &mut World<ListQueues>) -> bool {
-    for thread in 1..10 {
-        let call = match thread % 4 {
-            0 => WAIT,
-            1 => RUN,
-            2 => WAIT_FORCED,
-            _ => RUN_FORCED,
-        };
-        if outcome_of(world, thread, Does::Calls(call)) != Outcome::Sleep {
-            return false;
-        }
-    }
-    true
-}
-
-fn nine_end(world: &mut World<ListQueues>) -> bool {
-    for thread in 1..10 {
-        if world.solo(thread) != DONE {
-            return false;
-        }
-    }
-    true
 }
 
 #[test]
 fn a_run_beside_nine_waiters_wakes_them_all(rt: HostRuntime) -> Result<(), Fail> {
     let mut world = World::<ListQueues>::new(rt.alloc(), &[Kind::Once], 10)?;
-    assert!(rt; plays(&mut world, &[(0, Does::Calls(RUN), RUNS_NEW)]));
-    assert!(rt; nine_wait(&mut world));
-    assert!(rt; plays(&mut world, &[(0, Does::Turns(Turn::Ok), Outcome::Step)]));
-    assert!(rt; first_waiter(&world).is_some());
-    assert!(rt; plays(&mut world, &[(0, Does::GoesOn, DONE)]));
-    assert!(rt; first_waiter(&world).is_none());
-    assert!(rt; nine_end(&mut world));
-    assert_eq!(rt; shown(&world), Some((1, None)));
-    assert!(rt; first_debt(&world).is_none());
+    let beside = [
+        (0, calls(RUN), RUNS_NEW),
+        (1, calls(RUN), Outcome::Sleep),
+        (2, calls(WAIT_FORCED), Outcome::Sleep),
+        (3, calls(RUN_FORCED), Outcome::Sleep),
+        (4, calls(WAIT), Outcome::Sleep),
+        (5, calls(RUN), Outcome::Sleep),
+        (6, calls(WAIT_FORCED), Outcome::Sleep),
+        (7, calls(RUN_FORCED), Outcome::Sleep),
+        (8, calls(WAIT), Outcome::Sleep),
+        (9, calls(RUN), Outcome::Sleep),
+        (0, OK, Outcome::Step),
+    ];
+    assert_eq!(rt; surprise(&mut world, &beside), None);
+    let owing = Shown {
+        word: 1,
+        owner: None,
+        waiter: Some((1, Want::CallOnce)),
+        debt: Some((Debt::Owes, 0)),
+    };
+    assert_eq!(rt; look(&world, 0), Some(owing));
+    let wakes = [(0, Does::GoesOn, DONE)];
+    assert_eq!(rt; surprise(&mut world, &wakes), None);
+    for thread in 1..10 {
+        let ends = [(thread, Does::GoesOn, DONE)];
+        assert_eq!(rt; surprise(&mut world, &ends), None);
+    }
+    assert_eq!(rt; look(&world, 0), rests(1, None));
     Ok(())
 }

@@ -2,12 +2,15 @@
 ghost use Rattle.std.specs.Prelude.{◌≤◌, ◌≡◌, true};
 ghost use Rattle.lot_calls.specs.Kinds.{fits};
 
-use super::turn;
 use lot_base::ListQueues;
 use lot_world::{Answer, Call, Kind, MutexCall, Outcome, Step, Turn, World};
 use std::alloc::{AllocError, Global};
 use std::process::Abort;
 use std::test::Fail;
+
+fn turn(thread: usize, turn: Turn) -> Step {
+    Step { thread, turn }
+}
 
 fn begin(lock: usize, call: MutexCall) -> Turn {
     Turn::Begin(Call::Mutex { lock, call })
