@@ -3,8 +3,8 @@ ghost use Rattle.lot_condvar.specs.CondvarSteps.{HasMutexKey};
 
 use lot_acts::{Act, Next, Reply, Wakes, Whom};
 use lot_base::{Keys, Note, Op, Requeue, Want};
-use lot_calls::{Answer, Outcome};
-use lot_condvar::{CondvarCall, CondvarPlace};
+use lot_calls::{Answer, CondvarCall, Outcome};
+use lot_condvar::CondvarPlace;
 use std::process::Abort;
 
 const WAIT: CondvarCall = CondvarCall::Wait {

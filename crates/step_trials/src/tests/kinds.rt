@@ -1,5 +1,7 @@
 //! Kinds and what they have.
-use lot_calls::{Access, Call, Downgrade, Kind, MutexCall, OnceCall, Patience, RwLockCall};
+use lot_calls::{
+    Access, Call, CondvarCall, Downgrade, Kind, MutexCall, OnceCall, Patience, RwLockCall,
+};
 use std::process::Abort;
 
 #[test]
@@ -52,6 +54,27 @@ fn a_once_has_its_calls(rt: HostRuntime) {
         assert!(rt; Kind::Once.has_call(call));
         assert!(rt; !Kind::Mutex.has_call(call) && !Kind::Condvar.has_call(call));
     }
+}
+
+#[test]
+fn a_wait_needs_a_right_to_its_mutex(rt: HostRuntime) {
+    let wait = Call::Condvar {
+        lock: 3,
+        call: CondvarCall::Wait {
+            mutex: 5,
+            timed: true,
+        },
+    };
+    assert_eq!(rt; (wait.lock(), wait.mutex()), (3, Some(5)));
+    assert_eq!(rt; wait.needs_right_to(), 5);
+    let notify = Call::Condvar {
+        lock: 3,
+        call: CondvarCall::Notify { all: true },
+    };
+    assert_eq!(rt; (notify.lock(), notify.mutex()), (3, None));
+    assert_eq!(rt; notify.needs_right_to(), 3);
+    assert!(rt; Kind::Mutex.is_plain_mutex() && !Kind::Fair.is_plain_mutex());
+    assert!(rt; Kind::Condvar.is_condvar() && !Kind::Once.is_condvar());
 }
 
 #[test]

@@ -374,6 +374,54 @@ fn calls_of_a_once_have_their_meaning(rt: HostRuntime) {
 }
 
 #[test]
+fn calls_of_a_condition_variable_have_their_meaning(rt: HostRuntime) {
+    let c = Name::from_word(b"c");
+    let m = Name::from_word(b"m");
+    let lock = c.map(|name| Command::Lock {
+        name,
+        kind: Kind::Condvar,
+    });
+    assert_eq!(rt; meaning(b"lock c condvar"), lock);
+    let (Some(name), Some(mutex)) = (c, m) else {
+        return;
+    };
+    for (line, call) in [
+        ("3 begin notify_one c", NamedCall::Notify { all: false }),
+        ("3 begin notify_all c", NamedCall::Notify { all: true }),
+        (
+            "3 begin wait c m",
+            NamedCall::Wait {
+                mutex,
+                timed: false,
+            },
+        ),
+        (
+            "3 begin wait_timed c m",
+            NamedCall::Wait { mutex, timed: true },
+        ),
+    ] {
+        let begun = Command::Turn {
+            thread: 3,
+            turn: NamedTurn::Begin { call, name },
+        };
+        assert_eq!(rt; meaning(line.as_bytes()), Some(begun));
+    }
+    // Only a wait has a second name, and a timed one always has.
+    for line in [
+        "3 begin notify_one c m",
+        "3 begin lock c m",
+        "3 begin wait_force c m",
+        "3 begin wait c m m",
+        "3 begin wait c M",
+        "3 begin wait c ",
+        "3 begin wait_timed c",
+        "3 go c m x y",
+    ] {
+        assert_eq!(rt; meaning(line.as_bytes()), None, "for {line:?}");
+    }
+}
+
+#[test]
 fn names_are_told_apart(rt: HostRuntime) {
     for word in ["a", "z9", "abcdefghijklmno9"] {
         let name = Name::from_word(word.as_bytes());
