@@ -5,7 +5,7 @@ use Rattle.std.proofs.lemmas.Bool.Decides.{nat_tests}
 use Rattle.std.proofs.lemmas.List.Sums.{sum_by-set}
 use Rattle.lot_base.specs.declared.wants.Want.{Want}
 use Rattle.lot_base.specs.declared.wants.Want.TheVariants.{Exclusive, Upgradable, Shared}
-use Rattle.abstract_locks.specs.Locks.{Sort, Mutex, Normal, Recursive, Semaphore, Once, Rules, LockCase, OfOnce, Enter, Pend, Settle, Leave, Convert, Wake, HandOff, Rollback, Knows, NoWriter, IsFreeAt, is_recursive, count, readers, one_if_some}
+use Rattle.abstract_locks.specs.Locks.{Sort, Mutex, Normal, Recursive, Semaphore, Once, Rules, LockCase, OfOnce, Enter, Pend, Settle, Leave, Convert, Wake, HandOff, Rollback, Knows, NoWriter, IsFreeAt, is_recursive, count, readers, one_if_some, OfCondvar, SeeOwner, Look, Show, Hide, Condvar}
 use Rattle.abstract_locks.specs.Sites.{Site, IsSite, Case, Needed, after_deed, has_readers}
 use Rattle.abstract_locks.specs.Codes.{bit, writers, code_of, rw_code, count_in, has_writer, has_upgradable, has_aside, has_parked, is_blocked, lost, rolled, IsHandOff, WordFollows, WordsTellTrue}
 use Rattle.abstract_locks.proofs.Seen.{packed_count, packed_writer, packed_upgradable, packed_aside, packed_parked}
@@ -32,6 +32,7 @@ module _ (r : Rules) (s : Site) (t : ℕ) (readers : has_readers r.sort ≡ true
   follows Wake n other = absurd n.1
   follows (HandOff x y) n other = absurd (other tt)
   follows (OfOnce case) n other = absurd (let e : has_readers Once ≡ true = rw n.0.0 at readers in cc)
+  follows (OfCondvar case) n other = absurd (let e : has_readers Condvar ≡ true = rw n.0.0 at readers in cc)
   follows case n other = grind arith
 
 -- ---------------------------------------------------------------- what is read
@@ -107,6 +108,7 @@ words_follow r case s t rw there h n other = by_sort r.sort rw
     by_sort Mutex e = absurd cc
     by_sort Semaphore e = absurd cc
     by_sort Once e = absurd cc
+    by_sort Condvar e = absurd cc
 
 pub rw_is : (sort : Sort) (limit : ℕ) (s : Site) → has_readers sort ≡ true → code_of sort limit s ≡ rw_code s
 rw_is Normal limit s e = refl
@@ -114,6 +116,7 @@ rw_is Recursive limit s e = refl
 rw_is Mutex limit s e = absurd cc
 rw_is Semaphore limit s e = absurd cc
 rw_is Once limit s e = absurd cc
+rw_is Condvar limit s e = absurd cc
 
 pub words_tell_true : WordsTellTrue
 words_tell_true r s rw_sort h =
@@ -133,6 +136,7 @@ words_tell_true r s rw_sort h =
     blocked Mutex e x knows b = absurd cc
     blocked Semaphore e x knows b = absurd cc
     blocked Once e x knows b = absurd cc
+    blocked Condvar e x knows b = absurd cc
 
     free : (sort : Sort) → has_readers sort ≡ true → (x : Want) → Knows sort x → is_blocked (is_recursive sort) x (code_of sort r.limit s) ≡ false → IsFreeAt sort r.limit s.lock x
     free Normal e x knows b = normal_free r s h x knows b
@@ -140,3 +144,4 @@ words_tell_true r s rw_sort h =
     free Mutex e x knows b = absurd cc
     free Semaphore e x knows b = absurd cc
     free Once e x knows b = absurd cc
+    free Condvar e x knows b = absurd cc

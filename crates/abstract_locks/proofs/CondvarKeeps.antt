@@ -147,16 +147,16 @@ condvar_deed_keeps Clear c t h n = record { once = h.once; inside = known c t h 
 
 -- ---------------------------------------------------------------- whom a notification moves
 
-times_in_line : (u : ℕ) (xs : List Queued) → times u (map in_line xs) ≡ times u xs
+pub times_in_line : (u : ℕ) (xs : List Queued) → times u (map in_line xs) ≡ times u xs
 times_in_line u [] = refl
 times_in_line u (x ∷ xs) = grind (arith, times_in_line u xs)
 
-all_known : (xs : List Queued) → KnowsAll Mutex (map in_line xs)
+pub all_known : (xs : List Queued) → KnowsAll Mutex (map in_line xs)
 all_known [] = tt
 all_known (x ∷ xs) = (tt, all_known xs)
 
 -- the first and the others are all
-parts : (locked : Bool) (moved : List Queued) → taken_of locked moved ++ line_of locked moved ≡ map in_line moved
+pub parts : (locked : Bool) (moved : List Queued) → taken_of locked moved ++ line_of locked moved ≡ map in_line moved
 parts true moved = refl
 parts false [] = refl
 parts false (x ∷ xs) = refl
@@ -167,7 +167,7 @@ untaken true moved some e = refl
 untaken false [] some e = absurd (some refl)
 untaken false (x ∷ xs) some e = absurd cc
 
-moved_fewer : (all : Bool) (u : ℕ) (q : List Queued) → times u (moved_of all q) ≤ times u q
+pub moved_fewer : (all : Bool) (u : ℕ) (q : List Queued) → times u (moved_of all q) ≤ times u q
 moved_fewer true u q = grind arith
 moved_fewer false u [] = grind arith
 moved_fewer false u (x ∷ q) = grind arith

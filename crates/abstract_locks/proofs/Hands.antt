@@ -1,12 +1,12 @@
 -- Who is taken from a queue, and that the turn is passed on.
-use Rattle.std.proofs.Common.{ℕ, Bool, true, false, Option, Some, None, ◌≡◌, ◌≢◌, ◌≤◌, ◌<◌, ◌+◌, ◌⊎◌, inl, inr, List, [], ◌∷◌, ◌++◌, take, drop, subst, refl, ap, length, ◌∙◌, arith}
+use Rattle.std.proofs.Common.{ℕ, Bool, true, false, Option, Some, None, ◌≡◌, ◌≢◌, ◌≤◌, ◌<◌, ◌+◌, ◌⊎◌, inl, inr, List, [], ◌∷◌, ◌++◌, take, drop, subst, refl, ap, length, ◌∙◌, arith, suc}
 use Rattle.std.specs.Prelude.{filter, not, zero, suc, slice_index, if◌then◌else◌, ◌==◌, ◌-◌}
 use Rattle.std.proofs.lemmas.Bool.Decides.{nat_tests}
 use Rattle.std.proofs.lemmas.List.{take-append-drop}
 use Rattle.std.proofs.Math.Seq.{take-nil, drop-nil}
 use Rattle.lot_base.specs.declared.wants.Want.{Want}
 use Rattle.lot_base.specs.declared.wants.Want.TheVariants.{Exclusive, Upgradable, Shared}
-use Rattle.abstract_locks.specs.Locks.{LockState, sharing_handed, sharing_from, shares_handed, without_owner, Queued, Taken, Sort, Mutex, Normal, Recursive, Semaphore, Once, Rules, Knows, IsLockState, times, taking, picked, unpicked, front_of, keeps_more, sharers, stop_of, wants_shared, one_if_some, putting, without, keep_from, let_go, with_owner, pending_for, succeeding, with_successor, handed, readers}
+use Rattle.abstract_locks.specs.Locks.{LockState, sharing_handed, sharing_from, shares_handed, without_owner, Queued, Taken, Sort, Mutex, Normal, Recursive, Semaphore, Once, Rules, Knows, IsLockState, times, taking, picked, unpicked, front_of, keeps_more, sharers, stop_of, wants_shared, one_if_some, putting, without, keep_from, let_go, with_owner, pending_for, succeeding, with_successor, handed, readers, Condvar, is_recursive}
 use Rattle.abstract_locks.specs.Sites.{IsOpen, counts, counts_taken}
 use Rattle.abstract_locks.proofs.LockKeeps.{times_append, times_filter}
 
@@ -43,8 +43,19 @@ times_picked sort start u q = times_part u (front_of start q) (stop_of sort star
 -- ---------------------------------------------------------------- the turn is passed on
 
 -- whoever wants to share ahead of the others is picked
+abbrev part : ℕ → ℕ → List Queued → List Queued
+part m n q = take m (take n q) ++ sharers (drop m (take n q))
+
+front_more : (start : Option Want) (x : Queued) (q : List Queued) → wants_shared x.want ≡ true → front_of start (x ∷ q) ≡ suc (front_of start q)
+front_more start x q shares = grind arith
+
+stop_more : (sort : Sort) (start : Option Want) (x : Queued) (q : List Queued) → wants_shared x.want ≡ true → stop_of sort start (x ∷ q) ≡ suc (stop_of sort start q)
+stop_more sort start x q shares = grind arith
+
 sharer_picked : (sort : Sort) (start : Option Want) (x : Queued) (q : List Queued) → wants_shared x.want ≡ true → picked sort start (x ∷ q) ≡ x ∷ picked sort start q
-sharer_picked sort start x q shares = grind arith
+sharer_picked sort start x q shares =
+    ap (λ m. part m (stop_of sort start (x ∷ q)) (x ∷ q)) (front_more start x q shares)
+    ∙ ap (λ n. part (suc (front_of start q)) n (x ∷ q)) (stop_more sort start x q shares)
 
 sharer_unpicked : (sort : Sort) (start : Option Want) (x : Queued) (q : List Queued) → wants_shared x.want ≡ true → unpicked sort start (x ∷ q) ≡ unpicked sort start q
 sharer_unpicked sort start x q shares = grind arith
@@ -169,6 +180,7 @@ counts_more Recursive w knows lock c e = let g : counts Recursive Shared ≡ tru
 counts_more Semaphore w knows lock c e = lock refl
 counts_more Mutex w knows lock c e = knows
 counts_more Once w knows lock c e = cc
+counts_more Condvar w knows lock c e = cc
 
 -- ---------------------------------------------------------------- behind a hand-over each in hand has its right
 

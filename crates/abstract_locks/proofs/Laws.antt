@@ -10,7 +10,7 @@ use Rattle.lot_calls.specs.declared.outcomes.Outcome as outcome
 use Rattle.abstract_locks.specs.Locks.{Enter, Pend, Settle, Leave, Park, Aside, TakePicked, Wake, Late, Rollback, Rights, Rules, LockState, Needs, IsFree, is_thread}
 use Rattle.abstract_locks.specs.Purposes.{Purpose, Releases, IsMadeOf, Timed, Try}
 use Rattle.abstract_locks.proofs.Runs.{needs_of}
-use Rattle.abstract_locks.specs.Runs.{LocksState, Event, Nothing, AtLock, MayDo, MayHappen, Does, Agrees, going_on, locks_after, rights_in, rules_at, no_rights}
+use Rattle.abstract_locks.specs.Runs.{LocksState, Event, Nothing, AtLock, Moves, MayDo, MayHappen, Does, Agrees, going_on, locks_after, rights_in, rules_at, no_rights}
 use Rattle.abstract_locks.specs.Laws.{PossibleTurnsAreTaken, CallsTakeSteps, FairReleasesHandOver, OwnersExclude, FreeMutexIsGot, trying}
 
 -- what is done is told, and never as a refusal
@@ -37,7 +37,7 @@ calls_take_steps w v t c a h = elim h.1 [
 fair_wakes_none : (w : LocksState) (t l : ℕ) (o : Option Purpose) → o ≡ Some (Releases l Exclusive true) → MayDo w t l Wake o → ⊥
 fair_wakes_none w t l None e m = m
 fair_wakes_none w t l (Some p) e m = let q : p ≡ Releases l Exclusive true = cc in
-    let made : IsMadeOf (Releases l Exclusive true) (w.calls t).gave_up (w.calls t).released l Wake = subst (λ x. IsMadeOf x (w.calls t).gave_up (w.calls t).released l Wake) q m.0 in
+    let made : IsMadeOf (Releases l Exclusive true) (w.calls t).gave_up (w.calls t).released (w.calls t).recalls l Wake = subst (λ x. IsMadeOf x (w.calls t).gave_up (w.calls t).released (w.calls t).recalls l Wake) q m.0 in
     elim made.1 [
       | inl h ↦ cc
       | inr h ↦ cc
@@ -74,6 +74,7 @@ no_try_fails v (AtLock l Settle) may led kinds agrees = may.1.0
 no_try_fails v (AtLock l Aside) may led kinds agrees = may.1.0
 no_try_fails v (AtLock l (Leave y)) may led kinds agrees = may.0.1
 no_try_fails v (AtLock l case) may led kinds agrees = may.0.1
+no_try_fails v (Moves c m all owned number) may led kinds agrees = let e = may.notifies in cc
 
 pub free_mutex : FreeMutexIsGot
 free_mutex v h = elim h.1 [

@@ -8,7 +8,7 @@ use Rattle.std.specs.Prelude.{not, filter, take, drop}
 use Rattle.lot_base.specs.declared.wants.Want.{Want}
 use Rattle.lot_base.specs.declared.wants.Want.TheVariants.{Shared, Wait, CallOnce}
 use Rattle.abstract_locks.specs.Onces.{Phase, OnceCase, Start, Finish, Fail, Rest, TakeAll, MayRest}
-use Rattle.abstract_locks.specs.Locks.{LockState, Queued, Taken, Sort, Rules, LockCase, OfOnce, OnceNeeds, once_after, Once, Enter, Pend, Settle, Leave, Convert, Park, Aside, TakeFirst, TakeAside, TakePicked, Wake, HandOff, Late, Rollback, Needs, after_case, IsLockState, Knows, KnowsAll, NoWriter, Owns, without_owner, sharing_from, sharing_handed, succeeding, times, one_if_some, taking, wants_shared, front_of, stop_of, opening_lock}
+use Rattle.abstract_locks.specs.Locks.{LockState, Queued, Taken, Sort, Rules, LockCase, OfOnce, OnceNeeds, once_after, Once, Enter, Pend, Settle, Leave, Convert, Park, Aside, TakeFirst, TakeAside, TakePicked, Wake, HandOff, Late, Rollback, Needs, after_case, IsLockState, Knows, KnowsAll, NoWriter, Owns, without_owner, sharing_from, sharing_handed, succeeding, times, one_if_some, taking, wants_shared, front_of, stop_of, opening_lock, OfCondvar, SeeOwner, Look, Show, Hide}
 
 none_if_not : {A : Type 0} (o : Option A) → ((x : A) → o ≡ Some x → ⊥) → o ≡ None
 none_if_not o h = grind arith
@@ -81,6 +81,20 @@ rephased r s p c = record {
   unwritten = c.unwritten;
 }
 
+-- another mutex is shown, or none
+pub reshown : (r : Rules) (s : LockState) (m : Option ℕ) → IsLockState r s → IsLockState r (record s { shown = m })
+reshown r s m c = record {
+  exclusive_alone = c.exclusive_alone;
+  pending_alone = c.pending_alone;
+  aside_pending = c.aside_pending;
+  once = c.once;
+  known_queue = c.known_queue;
+  known_taken = c.known_taken;
+  unshared = c.unshared;
+  unpending = c.unpending;
+  unwritten = c.unwritten;
+}
+
 rests_known : (x : Want) (forced : Bool) (p : Phase) → MayRest x forced p → Knows Once x
 rests_known CallOnce forced p may = tt
 rests_known Wait forced p may = tt
@@ -114,6 +128,10 @@ case_keeps r (HandOff right (Some x)) s t c n = let left = shares r s t right c 
 case_keeps r Late s t c n = grind (arith, nat_tests, times_filter, known_filter)
 case_keeps r Rollback s t c n = grind arith
 case_keeps r (OfOnce case) s t c n = once_keeps r case s t c n.0 n.1
+case_keeps r (OfCondvar (Look seen)) s t c n = c
+case_keeps r (OfCondvar (Show m)) s t c n = reshown r s _ c
+case_keeps r (OfCondvar Hide) s t c n = reshown r s _ c
+case_keeps r (SeeOwner owned) s t c n = c
 
 pub opening_is_state : (r : Rules) (threads : ℕ) → IsLockState r (opening_lock threads)
 opening_is_state r threads = grind (arith, sum_by-replicate)

@@ -3,7 +3,7 @@ use Rattle.std.proofs.Common.{ℕ, Bool, true, false, Option, Some, None, if◌t
 use Rattle.lot_base.specs.declared.wants.Want.{Want}
 use Rattle.lot_base.specs.declared.wants.Want.TheVariants.{Exclusive, Upgradable, Shared}
 use Rattle.abstract_locks.specs.Onces.{Done, OnceCase, Start, Finish, Fail, Rest, TakeAll, MayStart}
-use Rattle.abstract_locks.specs.Locks.{LockCase, LockState, Needs, Pending, Rules, after_case, Enter, Pend, Settle, Leave, Convert, Park, Aside, TakeFirst, TakeAside, TakePicked, Wake, HandOff, Late, Rollback, OfOnce, OnceNeeds, once_after, Sort, Once, with_owner, without_owner, converted, falling_back, pending_for}
+use Rattle.abstract_locks.specs.Locks.{LockCase, LockState, Needs, Pending, Rules, after_case, Enter, Pend, Settle, Leave, Convert, Park, Aside, TakeFirst, TakeAside, TakePicked, Wake, HandOff, Late, Rollback, OfOnce, OnceNeeds, once_after, Sort, Once, with_owner, without_owner, converted, falling_back, pending_for, OfCondvar, SeeOwner, Look, Show, Hide}
 use Rattle.abstract_locks.specs.Sites.{Main, Doing, IsOpen, IsDebtor}
 use Rattle.abstract_locks.specs.OnceLaws.{NothingLeavesDone, CallersAreLookedAfter}
 use Rattle.abstract_locks.proofs.Hands.{is_handed}
@@ -64,6 +64,10 @@ phase_by r (HandOff x successor) s t = inl ((is_handed t x successor s).phase)
 phase_by r Late s t = inl refl
 phase_by r Rollback s t = inl (fallen t s.pending (record s { pending = None }))
 phase_by r (OfOnce c) s t = inr (c, refl)
+phase_by r (OfCondvar (Look seen)) s t = inl refl
+phase_by r (OfCondvar (Show m)) s t = inl refl
+phase_by r (OfCondvar Hide) s t = inl refl
+phase_by r (SeeOwner owned) s t = inl refl
 
 pub done_stays : NothingLeavesDone
 done_stays r case s t n e = elim (phase_by r case s t) [

@@ -6,7 +6,7 @@ use Rattle.std.specs.Prelude.{zero, suc, length, slice_index}
 use Rattle.std.proofs.lemmas.List.Sums.{sum_by-set}
 use Rattle.lot_base.specs.declared.wants.Want.{Want}
 use Rattle.lot_base.specs.declared.wants.Want.TheVariants.{Exclusive, Upgradable, Shared}
-use Rattle.abstract_locks.specs.Locks.{LockState, Queued, Taken, Sort, Mutex, Normal, Recursive, Semaphore, Once, Rules, LockCase, OfOnce, Enter, Pend, Settle, Leave, Convert, Park, Aside, TakeFirst, TakeAside, TakePicked, Wake, HandOff, Late, Rollback, Knows, IsLockState, IsBlocked, readers, standing, times, is_thread, one_if_some, putting, let_go}
+use Rattle.abstract_locks.specs.Locks.{LockState, Queued, Taken, Sort, Mutex, Normal, Recursive, Semaphore, Once, Rules, LockCase, OfOnce, Enter, Pend, Settle, Leave, Convert, Park, Aside, TakeFirst, TakeAside, TakePicked, Wake, HandOff, Late, Rollback, Knows, IsLockState, IsBlocked, readers, standing, times, is_thread, one_if_some, putting, let_go, OfCondvar, SeeOwner, Look, Show, Hide, Condvar}
 use Rattle.abstract_locks.specs.Sites.{Line, Main, Second, Doing, Site, IsSite, Begin, End, In, Out, Mark, Clear, FindNobody, MarkOwned, MarkBrought, Bring, Case, Needed, after_deed, done, case_doing, idle, leaves, wakened, counts_taken}
 use Rattle.abstract_locks.specs.Codes.{bit}
 use Rattle.abstract_locks.specs.Permits.{total, debt, debts, HasPermits, EachDeedKeepsPermits, PermitsAreLookedAfter}
@@ -129,6 +129,7 @@ module _ (r : Rules) (s : Site) (t : ℕ) (sort : r.sort ≡ Semaphore) (lt : t 
   left_debt Normal e parked none = absurd cc
   left_debt Recursive e parked none = absurd cc
   left_debt Once e parked none = absurd cc
+  left_debt Condvar e parked none = absurd cc
 
   full : (x : Want) → IsBlocked r s.lock x → r.limit ≤ readers s.lock
   full x blocked = elim (cases_lt (readers s.lock) r.limit) [
@@ -142,6 +143,7 @@ module _ (r : Rules) (s : Site) (t : ℕ) (sort : r.sort ≡ Semaphore) (lt : t 
   unset_left Normal e = p.unset t
   unset_left Recursive e = p.unset t
   unset_left Once e = p.unset t
+  unset_left Condvar e = p.unset t
 
   some_first : (x : Queued) → (rest : List Queued) → s.lock.queue ≡ x ∷ rest → s.lock.queue ≢ []
   some_first x rest e = λ f. cc
@@ -167,6 +169,8 @@ module _ (r : Rules) (s : Site) (t : ℕ) (sort : r.sort ≡ Semaphore) (lt : t 
   cases_keep (HandOff x successor) n = absurd (grind (arith, plain))
   cases_keep Rollback n = absurd (grind (arith, plain))
   cases_keep (OfOnce case) n = absurd (let e = n.0.0 in cc)
+  cases_keep (OfCondvar case) n = absurd (let e = n.0.0 in cc)
+  cases_keep (SeeOwner owned) n = absurd (let e = n.0.0 in cc)
 
   -- t leaves, and whom it has taken tries again: its debt goes to one of them
   abbrev v : Site

@@ -1,5 +1,5 @@
 -- The picker of a reader-writer lock's main queue takes those whom the abstract lock says.
-use Rattle.std.proofs.Common.{ℕ, true, false, suc, Option, ◌≡◌, ◌≢◌, List, [], ◌∷◌, ◌++◌, refl, arith, take, drop, append-nil}
+use Rattle.std.proofs.Common.{ℕ, true, false, suc, Option, ◌≡◌, ◌≢◌, List, [], ◌∷◌, ◌++◌, refl, arith, take, drop, append-nil, ap, ◌∙◌}
 use Rattle.std.proofs.lemmas.Bool.Decides.{nat_tests}
 use Rattle.std.proofs.Math.Seq.{take-length, drop-length, take-nil, drop-nil}
 use Rattle.std.specs.Prelude.{map}
@@ -10,7 +10,7 @@ use Rattle.lot_base.specs.declared.wants.Want.{Want}
 use Rattle.lot_base.specs.declared.wants.Want.TheVariants.{Exclusive}
 use Rattle.lot_base.specs.Lines.{line}
 use Rattle.lot_base.specs.Picks.{picked, without_picked, lock_answer, next_picker, lock_picker}
-use Rattle.abstract_locks.specs.Locks.{Queued, Sort, keeps_more, sharers, others, ahead_of_unshared, is_recursive, wants_shared}
+use Rattle.abstract_locks.specs.Locks.{Queued, Sort, keeps_more, sharers, others, ahead_of_unshared, is_recursive, wants_shared, front_of, stop_of}
 use Rattle.abstract_locks.specs.Locks as locks
 use Rattle.abstract_locks.specs.Picks.{queued_of}
 use Rattle.abstract_locks.specs.Picks.{PickersPickAsTheLocksSay, queue_under}
@@ -39,8 +39,19 @@ keeper_unpicked : (sort : Sort) (start : Option Want) (q : List Queued) → keep
 keeper_unpicked sort start q more = grind (arith, take-length q, drop-length q, others_from q, append-nil (others q))
 
 -- whoever wants to share ahead of the others is picked
+abbrev part : ℕ → ℕ → List Queued → List Queued
+part m n q = take m (take n q) ++ sharers (drop m (take n q))
+
+front_more : (start : Option Want) (x : Queued) (q : List Queued) → wants_shared x.want ≡ true → front_of start (x ∷ q) ≡ suc (front_of start q)
+front_more start x q shares = grind arith
+
+stop_more : (sort : Sort) (start : Option Want) (x : Queued) (q : List Queued) → wants_shared x.want ≡ true → stop_of sort start (x ∷ q) ≡ suc (stop_of sort start q)
+stop_more sort start x q shares = grind arith
+
 sharer_picked : (sort : Sort) (start : Option Want) (x : Queued) (q : List Queued) → wants_shared x.want ≡ true → locks.picked sort start (x ∷ q) ≡ x ∷ locks.picked sort start q
-sharer_picked sort start x q shares = grind arith
+sharer_picked sort start x q shares =
+    ap (λ m. part m (stop_of sort start (x ∷ q)) (x ∷ q)) (front_more start x q shares)
+    ∙ ap (λ n. part (suc (front_of start q)) n (x ∷ q)) (stop_more sort start x q shares)
 
 sharer_unpicked : (sort : Sort) (start : Option Want) (x : Queued) (q : List Queued) → wants_shared x.want ≡ true → locks.unpicked sort start (x ∷ q) ≡ locks.unpicked sort start q
 sharer_unpicked sort start x q shares = grind arith

@@ -7,7 +7,7 @@ use Rattle.std.specs.Prelude.{length, slice_index, slice_set}
 use Rattle.lot_base.specs.declared.wants.Want.{Want}
 use Rattle.lot_base.specs.declared.wants.Want.TheVariants.{Exclusive, Upgradable, Shared}
 use Rattle.abstract_locks.specs.Onces.{OnceCase, Start, Finish, Fail, Rest, TakeAll}
-use Rattle.abstract_locks.specs.Locks.{LockState, Rules, Rights, LockCase, Enter, Pend, Settle, Leave, Convert, Park, Aside, TakeFirst, TakeAside, TakePicked, Wake, HandOff, Late, Rollback, OfOnce, once_after, Needs, after_case, IsLockState, Owns, MayConvert, Queued, putting, rights_of, with_right, without_right, with_owner, without_owner, pending_for, readers}
+use Rattle.abstract_locks.specs.Locks.{LockState, Rules, Rights, LockCase, Enter, Pend, Settle, Leave, Convert, Park, Aside, TakeFirst, TakeAside, TakePicked, Wake, HandOff, Late, Rollback, OfOnce, once_after, Needs, after_case, IsLockState, Owns, MayConvert, Queued, putting, rights_of, with_right, without_right, with_owner, without_owner, pending_for, readers, OfCondvar, SeeOwner, Look, Show, Hide}
 
 abbrev pub rights_by : ℕ → ℕ → ℕ → ℕ → Rights
 rights_by e p u s = record { exclusive = e; pending = p; upgradable = u; shared = s }
@@ -131,6 +131,10 @@ module _ (r : Rules) (s : LockState) (t u : ℕ) (state : IsLockState r s) (ne :
   others_keep Late not_hand n = refl
   others_keep Rollback not_hand n = grind (arith, nat_tests)
   others_keep (OfOnce case) not_hand n = once_keeps case s t u
+  others_keep (OfCondvar (Look seen)) not_hand n = refl
+  others_keep (OfCondvar (Show m)) not_hand n = refl
+  others_keep (OfCondvar Hide) not_hand n = refl
+  others_keep (SeeOwner owned) not_hand n = refl
 
 -- ---------------------------------------------------------------- rights of each lock, where one lock's are told
 

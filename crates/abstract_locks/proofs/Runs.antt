@@ -5,11 +5,13 @@ use Rattle.lot_calls.specs.declared.calls.Turn.{Turn}
 use Rattle.lot_calls.specs.declared.calls.Turn as turn
 use Rattle.lot_calls.specs.declared.calls.Step.{Step}
 use Rattle.lot_calls.specs.declared.outcomes.Outcome.{Outcome}
-use Rattle.abstract_locks.specs.Locks.{LockState, LockCase, Needs, IsLockState}
+use Rattle.abstract_locks.specs.Locks.{LockState, LockCase, Needs, IsLockState, putting}
 use Rattle.abstract_locks.specs.Locks as locks
 use Rattle.abstract_locks.specs.Purposes.{Purpose}
-use Rattle.abstract_locks.specs.Runs.{LocksState, Event, Nothing, AtLock, CallState, AreLockStates, GoesOn, Stays, Does, MayDo, MayHappen, Turned, IsStep, IsRun, rules_at, locks_after}
+use Rattle.abstract_locks.specs.Runs.{LocksState, Event, Nothing, AtLock, Moves, joined_by, left_behind, CallState, AreLockStates, GoesOn, Stays, Does, MayDo, MayHappen, Turned, IsStep, IsRun, rules_at, locks_after}
+use Rattle.abstract_locks.specs.Condvars.{moved_of}
 use Rattle.abstract_locks.proofs.LockKeeps.{case_keeps}
+use Rattle.abstract_locks.proofs.Moves.{condvar_keeps, mutex_keeps}
 
 pub needs_of : (w : LocksState) (t l : ℕ) (case : LockCase) (o : Option Purpose) → MayDo w t l case o → Needs (rules_at w l) case (w.locks l) t
 needs_of w t l case None h = absurd h
@@ -17,6 +19,15 @@ needs_of w t l case (Some p) h = h.1
 
 event_keeps : (w : LocksState) (t : ℕ) (e : Event) → AreLockStates w → MayHappen w t e → (l : ℕ) → IsLockState (rules_at w l) (locks_after w t e l)
 event_keeps w t Nothing all may l = all l
+event_keeps w t (Moves c m every owned n) all may l = at_mutex (l == m) refl
+  where
+    at_condvar : (b : Bool) → (l == c) ≡ b → IsLockState (rules_at w l) (if b then left_behind every (w.locks c) else w.locks l)
+    at_condvar false e = all l
+    at_condvar true e = let same : l ≡ c = eqb-true l c e in rw same (condvar_keeps w t c m every owned n all may)
+
+    at_mutex : (b : Bool) → (l == m) ≡ b → IsLockState (rules_at w l) (if b then joined_by owned t (moved_of every (w.locks c).queue) (w.locks m) else putting w.locks c (left_behind every (w.locks c)) l)
+    at_mutex false e = at_condvar (l == c) refl
+    at_mutex true e = let same : l ≡ m = eqb-true l m e in rw same (mutex_keeps w t c m every owned n all may)
 event_keeps w t (AtLock k case) all may l = either (l == k) refl
   where
     either : (b : Bool) → (l == k) ≡ b → IsLockState (rules_at w l) (if b then locks.after_case (rules_at w k) case (w.locks k) t else w.locks l)

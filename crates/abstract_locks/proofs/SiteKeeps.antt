@@ -8,7 +8,7 @@ use Rattle.std.proofs.lemmas.List.Sums.{sum_by-set}
 use Rattle.std.proofs.lemmas.Bool.Decides.{nat_tests}
 use Rattle.lot_base.specs.declared.wants.Want.{Want}
 use Rattle.lot_base.specs.declared.wants.Want.TheVariants.{Exclusive, Upgradable, Shared}
-use Rattle.abstract_locks.specs.Locks.{LockState, Pending, Queued, Taken, Sort, Rules, LockCase, Enter, Pend, Settle, Leave, Convert, Park, Aside, TakeFirst, TakeAside, TakePicked, Wake, HandOff, Late, Rollback, OfOnce, once_after, TakesFirst, has_caller, without, Needs, IsLockState, HasTakenNobody, IsTaken, Knows, KnowsAll, Mutex, Normal, Recursive, Semaphore, Once, keeps_more, Owns, IsSuccessor, picked, unpicked, times, taking, standing, is_thread, one_if_some, readers, putting}
+use Rattle.abstract_locks.specs.Locks.{LockState, Pending, Queued, Taken, Sort, Rules, LockCase, Enter, Pend, Settle, Leave, Convert, Park, Aside, TakeFirst, TakeAside, TakePicked, Wake, HandOff, Late, Rollback, OfOnce, once_after, TakesFirst, has_caller, without, Needs, IsLockState, HasTakenNobody, IsTaken, Knows, KnowsAll, Mutex, Normal, Recursive, Semaphore, Once, keeps_more, Owns, IsSuccessor, picked, unpicked, times, taking, standing, is_thread, one_if_some, readers, putting, OfCondvar, SeeOwner, Look, Show, Hide, Condvar}
 use Rattle.abstract_locks.specs.Sites.{Line, Main, Second, Claim, Doing, Site, IsSite, Begin, End, In, Out, Mark, Clear, FindNobody, MarkOwned, MarkBrought, Bring, Case, Needed, after_deed, with_doing, done, case_doing, taking_main, IsEmpty, IsOpen, IsDebtor, bringing, late_found, gives_way, shares_less, KeepsOwned, Has, Pends, Runs, Ran, Holds, counts, counts_taken, is_full, EachDeedKeeps}
 use Rattle.abstract_locks.specs.Onces.{OnceCase, Start, Finish, Fail, Rest, TakeAll}
 use Rattle.abstract_locks.specs.Locks as locks
@@ -46,6 +46,7 @@ same_open Mutex a b e f g p q free = sym e ∙ free
 same_open Normal a b e f g p q free = (sym e ∙ free.0, sym f ∙ free.1, sym g ∙ free.2)
 same_open Recursive a b e f g p q free = (sym e ∙ free.0, sym f ∙ free.1, sym g ∙ free.2)
 same_open Semaphore a b e f g p q free = absurd free
+same_open Condvar a b e f g p q free = absurd free
 same_open Once a b e f g p q free = (q free.0, rw (← p) free.1)
 
 -- who waits to run a `Once` among those who are left waited before
@@ -384,6 +385,7 @@ module _ (r : Rules) (s : Site) (t : ℕ) (h : IsSite r s) where
   shares_less_local n Normal e = grind (arith, state (Leave Shared) n, h.emptied t, h.covered t, h.unwoken t, h.brought t, h.setting t, share_other, fewer_share s.lock.shared t, alone_aside r s.lock h.state)
   shares_less_local n Recursive e = grind (arith, state (Leave Shared) n, h.emptied t, h.covered t, h.unwoken t, h.brought t, h.setting t, share_other, fewer_share s.lock.shared t, alone_aside r s.lock h.state)
   shares_less_local n Once e = absurd (let none = h.state.unshared (λ k. let g : Knows Once Shared = rw e at k in g) in let some = fewer_share s.lock.shared t n.0 in omega arith)
+  shares_less_local n Condvar e = absurd (let none = h.state.unshared (λ k. let g : Knows Condvar Shared = rw e at k in g) in let some = fewer_share s.lock.shared t n.0 in omega arith)
   shares_less_local n Semaphore e = grind (arith, state (Leave Shared) n, h.emptied t, h.covered t, h.unwoken t, h.brought t, h.setting t, share_other, fewer_share s.lock.shared t, no_aside r s.lock h.state (h.state.unpending (λ k. let g : Knows Semaphore Upgradable = rw e at k in g)).0)
 
   -- who is to set the bit, and has seen no waiters, has taken some
@@ -429,6 +431,7 @@ module _ (r : Rules) (s : Site) (t : ℕ) (h : IsSite r s) where
   barred_aside u e Normal f free = grind (arith, h.state.aside_pending u e)
   barred_aside u e Recursive f free = grind (arith, h.state.aside_pending u e)
   barred_aside u e Semaphore f free = free
+  barred_aside u e Condvar f free = free
 
   aside_local : (u : ℕ) (n : Needed r (Case (TakeAside u)) s t)
       → Local r s (done r (TakeAside u) s t (locks.after_case r (TakeAside u) s.lock t)) t (s.doing t) (record (s.doing t) { wakes = None; carries = true; empty = Some Second })
@@ -588,6 +591,19 @@ module _ (r : Rules) (s : Site) (t : ℕ) (h : IsSite r s) where
   once_acts (Rest wanted forced) n = acts (OfOnce (Rest wanted forced)) (rests_local wanted forced n)
   once_acts TakeAll n = acts (OfOnce TakeAll) (takes_all_local n)
 
+  -- what is shown is no matter of owners, waiters or hands
+  still_holds : (m : Option ℕ) (u : ℕ) (c : Claim) → Holds s.lock u c → Holds (record s.lock { shown = m }) u c
+  still_holds m u (Has Exclusive) e = e
+  still_holds m u (Has Upgradable) e = e
+  still_holds m u (Has Shared) e = e
+  still_holds m u (Has x) e = absurd e
+  still_holds m u (Pends falls_back) e = e
+  still_holds m u Runs e = e
+  still_holds m u Ran e = e
+
+  still_open : (m : Option ℕ) (sort : Sort) → IsOpen sort (record s.lock { shown = m }) → IsOpen sort s.lock
+  still_open m sort free = same_open sort (record s.lock { shown = m }) s.lock refl refl refl refl (λ e. e) free
+
   act_keeps : (c : LockCase) → Needed r (Case c) s t → IsSite r (after_deed r (Case c) s t)
   act_keeps (Enter Exclusive) n = acts (Enter Exclusive) (grind (arith, state (Enter Exclusive) n, h.emptied t, h.covered t, h.unwoken t, h.brought t, h.setting t))
   act_keeps (Enter Upgradable) n = acts (Enter Upgradable) (grind (arith, state (Enter Upgradable) n, h.emptied t, h.covered t, h.unwoken t, h.brought t, h.setting t))
@@ -613,6 +629,10 @@ module _ (r : Rules) (s : Site) (t : ℕ) (h : IsSite r s) where
   act_keeps (Convert Upgradable Exclusive) n = acts (Convert Upgradable Exclusive) (upgrades n (readers s.lock == 0) refl (state (Convert Upgradable Exclusive) n))
   act_keeps (Convert x y) n = absurd (grind arith)
   act_keeps (OfOnce c) n = once_acts c n
+  act_keeps (OfCondvar (Look seen)) n = acts (OfCondvar (Look seen)) (grind (arith, state (OfCondvar (Look seen)) n, h.emptied t, h.covered t, h.unwoken t, h.brought t, h.setting t))
+  act_keeps (OfCondvar (Show m)) n = acts (OfCondvar (Show m)) (grind (arith, state (OfCondvar (Show m)) n, h.emptied t, h.covered t, h.unwoken t, h.brought t, h.setting t, still_holds (Some m), still_open (Some m)))
+  act_keeps (OfCondvar Hide) n = acts (OfCondvar Hide) (grind (arith, state (OfCondvar Hide) n, h.emptied t, h.covered t, h.unwoken t, h.brought t, h.setting t, still_holds None, still_open None))
+  act_keeps (SeeOwner owned) n = acts (SeeOwner owned) (grind (arith, state (SeeOwner owned) n, h.emptied t, h.covered t, h.unwoken t, h.brought t, h.setting t))
   act_keeps (HandOff x successor) n = acts (HandOff x successor) (hands_local x successor n)
 
   -- a notification brings waiters

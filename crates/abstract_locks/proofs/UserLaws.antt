@@ -1,6 +1,6 @@
 -- What users rely on holds of each step: of each case that a call is made of.
 use Rattle.std.proofs.Common.{ℕ, Bool, true, false, Option, Some, None, if◌then◌else◌, ◌==◌, ◌≡◌, ◌≢◌, ◌≤◌, ◌<◌, ◌+◌, ◌⊎◌, inl, inr, List, [], ◌∷◌, ◌++◌, refl, sym, ap, ◌∙◌, subst, length, get_or-set_same, arith}
-use Rattle.std.proofs.lemmas.Bool.{cases_eq}
+use Rattle.std.proofs.lemmas.Bool.{cases_eq, eqb-true}
 use Rattle.std.proofs.lemmas.Bool.Decides.{nat_tests}
 use Rattle.std.proofs.lemmas.List.{get_or_past, take-append-drop}
 use Rattle.std.proofs.lemmas.List.Sums.{get_or-le-sum_by}
@@ -11,12 +11,14 @@ use Rattle.lot_calls.specs.declared.calls.Turn.{Turn}
 use Rattle.lot_calls.specs.declared.calls.Turn as turn
 use Rattle.lot_calls.specs.declared.calls.Step.{Step}
 use Rattle.lot_calls.specs.declared.outcomes.Outcome.{Outcome}
-use Rattle.abstract_locks.specs.Locks.{LockState, LockCase, MayConvert, Enter, Pend, Settle, Leave, Convert, Park, Aside, TakeFirst, TakeAside, TakePicked, Wake, HandOff, Late, Rollback, OfOnce, once_after, Needs, IsLockState, Rules, Normal, Recursive, Queued, Pending, Rights, rights_of, Owns, readers, sharers, times, after_case, wants_shared}
+use Rattle.abstract_locks.specs.Locks.{LockState, LockCase, MayConvert, Enter, Pend, Settle, Leave, Convert, Park, Aside, TakeFirst, TakeAside, TakePicked, Wake, HandOff, Late, Rollback, OfOnce, once_after, Needs, IsLockState, Rules, Normal, Recursive, Queued, Pending, Rights, rights_of, Owns, readers, sharers, times, after_case, wants_shared, OfCondvar, SeeOwner, Look, Show, Hide, putting}
 use Rattle.abstract_locks.specs.Onces.{OnceCase, Start, Finish, Fail, Rest, TakeAll}
 use Rattle.abstract_locks.specs.Locks as locks
 use Rattle.abstract_locks.specs.Purposes.{Purpose, Converts, ConvertsBy, Patience}
-use Rattle.abstract_locks.specs.Runs.{LocksState, Event, Nothing, AtLock, AreLockStates, GoesOn, Does, MayDo, MayHappen, Turned, IsStep, rules_at, locks_after}
+use Rattle.abstract_locks.specs.Runs.{LocksState, Event, Nothing, AtLock, Moves, joined_by, left_behind, AreLockStates, GoesOn, Does, MayDo, MayHappen, Turned, IsStep, rules_at, locks_after}
 use Rattle.abstract_locks.specs.UserLaws.{ReadersStayOut, RereadersPass, UpgradesLetNobodyWrite, DowngradesOwn, OfEachStep, IsFirstWriter, waits_to_share}
+use Rattle.abstract_locks.specs.Condvars.{moved_of}
+use Rattle.abstract_locks.specs.Sites.{has_readers}
 use Rattle.abstract_locks.proofs.SiteKeeps.{fewer_share}
 use Rattle.abstract_locks.proofs.Rights.{others_keep}
 use Rattle.abstract_locks.proofs.Hands.{sharing_more}
@@ -24,14 +26,32 @@ use Rattle.abstract_locks.proofs.Runs.{needs_of, step_keeps}
 
 -- ---------------------------------------------------------------- what a step does to one lock
 
+-- the owners are the same
+pub record HasOwnersOf (s s2 : LockState) : Type 0 where
+  pub exclusive : s2.exclusive ≡ s.exclusive
+  pub pending : s2.pending ≡ s.pending
+  pub upgradable : s2.upgradable ≡ s.upgradable
+  pub shared : s2.shared ≡ s.shared
+
 -- the lock is as it was, or its thread did one case to it, of which its call is made
 pub data Change (w : LocksState) (t l : ℕ) (s2 : LockState) : Type 0 where
   None_ : s2 ≡ w.locks l → Change w t l s2
   By : (case : LockCase) → MayDo w t l case (w.calls t).purpose → s2 ≡ after_case (rules_at w l) case (w.locks l) t → Change w t l s2
+  -- or a notification moved waiters from it, or to it: its owners stay, and it isn't shared
+  Moved : has_readers (rules_at w l).sort ≡ false → HasOwnersOf (w.locks l) s2 → Change w t l s2
 
 module _ (w : LocksState) (t l : ℕ) where
   happened : (e : Event) → MayHappen w t e → Change w t l (locks_after w t e l)
   happened Nothing may = None_ refl
+  happened (Moves c m all owned n) may = at_mutex (l == m) refl
+    where
+      at_condvar : (b : Bool) → (l == c) ≡ b → Change w t l (if b then left_behind all (w.locks c) else w.locks l)
+      at_condvar false e = None_ refl
+      at_condvar true e = let same : l ≡ c = eqb-true l c e in rw same (Moved (rw may.sorts.0 refl) (record { exclusive = refl; pending = refl; upgradable = refl; shared = refl }))
+
+      at_mutex : (b : Bool) → (l == m) ≡ b → Change w t l (if b then joined_by owned t (moved_of all (w.locks c).queue) (w.locks m) else putting w.locks c (left_behind all (w.locks c)) l)
+      at_mutex false e = at_condvar (l == c) refl
+      at_mutex true e = let same : l ≡ m = eqb-true l m e in rw same (Moved (rw may.sorts.1 refl) (record { exclusive = refl; pending = refl; upgradable = refl; shared = refl }))
   happened (AtLock k case) may = elim (cases_eq l k) [
     | inl e ↦ rw e (By case may (ap (λ b. if b then after_case (rules_at w k) case (w.locks k) t else w.locks k) (same k)))
     | inr n ↦ None_ (ap (λ b. if b then after_case (rules_at w k) case (w.locks k) t else w.locks l) (differ l k n))
@@ -77,10 +97,12 @@ module _ (r : Rules) (s : LockState) (t : ℕ) (c : IsLockState r s) (normal : r
   no_reader (HandOff x y) n was is = absurd (grind arith)
   no_reader Rollback n was is = grind arith
   no_reader (OfOnce case) n was is = absurd (let e = n.0 in cc)
+  no_reader (OfCondvar case) n was is = absurd (let e = n.0 in cc)
   no_reader case n was is = grind arith
 
 readers_stay : (w v : LocksState) (t l : ℕ) → AreLockStates w → (rules_at w l).sort ≡ Normal → (w.locks l).pending ≢ None → (s2 : LockState) → Change w t l s2 → s2.pending ≢ None → readers s2 ≤ readers (w.locks l)
 readers_stay w v t l all normal was s2 (None_ e) is = rw e (omega arith)
+readers_stay w v t l all normal was s2 (Moved unshared same) is = absurd (let e : false ≡ true = sym unshared ∙ ap has_readers normal in cc)
 readers_stay w v t l all normal was s2 (By case may e) is = rw e (no_reader (rules_at w l) (w.locks l) t (all l) normal case (needs_of w t l case (w.calls t).purpose may) was (subst (λ (s : LockState). s.pending ≢ None) e is))
 
 pub readers_stay_out : OfEachStep ReadersStayOut
@@ -131,10 +153,12 @@ module _ (r : Rules) (s : LockState) (t u : ℕ) (c : IsLockState r s) (recursiv
   rereads (TakeFirst x) n = absurd (grind (arith, recursive))
   rereads Late n = among_filter t (λ (x : Queued). not (x.thread == u)) s.queue
   rereads (OfOnce case) n = absurd (let e = n.0 in cc)
+  rereads (OfCondvar case) n = absurd (let e = n.0 in cc)
   rereads case n = grind arith
 
 reread : (w : LocksState) (t u l : ℕ) → AreLockStates w → (rules_at w l).sort ≡ Recursive → Owns (w.locks l) t Shared → (s2 : LockState) → Change w u l s2 → waits_to_share t s2 ≤ waits_to_share t (w.locks l)
 reread w t u l all recursive shares s2 (None_ e) = rw e (omega arith)
+reread w t u l all recursive shares s2 (Moved unshared same) = absurd (let e : false ≡ true = sym unshared ∙ ap has_readers recursive in cc)
 reread w t u l all recursive shares s2 (By case may e) = rw e (rereads (rules_at w l) (w.locks l) t u (all l) recursive shares case (needs_of w u l case (w.calls u).purpose may))
 
 pub rereaders_pass : OfEachStep RereadersPass
@@ -177,6 +201,11 @@ module _ (r : Rules) (s : LockState) (t u : ℕ) (c : IsLockState r s) where
 
 upgrade_holds : (w : LocksState) (t u l : ℕ) (how : Patience) → AreLockStates w → (w.calls t).purpose ≡ Some (Converts l Upgradable Exclusive how) → IsFirstWriter (w.locks l) t → (s2 : LockState) → Change w u l s2 → IsFirstWriter s2 t
 upgrade_holds w t u l how all for h s2 (None_ e) = rw e h
+upgrade_holds w t u l how all for h s2 (Moved unshared same) = elim h [
+  | inl up ↦ inl (same.upgradable ∙ up)
+  | inr (inl pends) ↦ inr (inl (same.pending ∙ pends))
+  | inr (inr alone) ↦ inr (inr (same.exclusive ∙ alone))
+]
 upgrade_holds w t u l how all for h s2 (By case may e) = rw e (upgrades (rules_at w l) (w.locks l) t u (all l) case (needs_of w u l case (w.calls u).purpose may)
     (λ same. (how, (w.calls u).gave_up, made_of w u l case Upgradable Exclusive how (w.calls u).purpose may (rw same for))) h)
 
@@ -267,8 +296,18 @@ module _ (w : LocksState) (t u l : ℕ) (x y : Want) (how : Patience) (all : Are
         | inr own ↦ inr (beside (rules_at w l) (w.locks l) t u (all l) other case needs y own)
       ]
 
+  owns_still : (z : Want) {s2 : LockState} → HasOwnersOf (w.locks l) s2 → Owns (w.locks l) t z → Owns s2 t z
+  owns_still Exclusive same own = same.exclusive ∙ own
+  owns_still Upgradable same own = same.upgradable ∙ own
+  owns_still Shared same own = rw same.shared own
+  owns_still z same own = absurd own
+
   downgrade_holds : (s2 : LockState) → Change w u l s2 → Owns s2 t x ⊎ Owns s2 t y
   downgrade_holds s2 (None_ e) = rw e h
+  downgrade_holds s2 (Moved unshared same) = elim h [
+    | inl own ↦ inl (owns_still x same own)
+    | inr own ↦ inr (owns_still y same own)
+  ]
   downgrade_holds s2 (By case may e) = rw e (by_thread case may (cases_eq t u))
 
 pub downgrades_hold : OfEachStep DowngradesOwn

@@ -2,7 +2,7 @@
 use Rattle.std.proofs.Common.{ℕ, Bool, true, false, Option, Some, None, if◌then◌else◌, ◌==◌, ◌≡◌, ◌≢◌, ◌≤◌, ◌+◌, ◌⊎◌, inl, inr, [], refl, sym, ap, ◌∙◌, arith}
 use Rattle.std.proofs.lemmas.Bool.{cases_eq}
 use Rattle.std.proofs.lemmas.Bool.Decides.{nat_tests}
-use Rattle.abstract_locks.specs.Locks.{Taken, Sort, Mutex, Normal, Recursive, Semaphore, Once, Rules, Wake, readers, times, is_thread, standing, one_if_some, keep_from, let_go, putting}
+use Rattle.abstract_locks.specs.Locks.{Taken, Sort, Mutex, Normal, Recursive, Semaphore, Once, Rules, Wake, readers, times, is_thread, standing, one_if_some, keep_from, let_go, putting, Condvar}
 use Rattle.abstract_locks.specs.Sites.{Line, Main, Second, Claim, Doing, Site, IsSite, IsEmpty, IsOpen, IsDebtor, LooksAfter, Holds, Out, Needed, after_deed, leaves, wakened, counts_some, counts_taken}
 use Rattle.abstract_locks.proofs.LockKeeps.{case_keeps}
 use Rattle.abstract_locks.proofs.Hands.{kept_few, kept_counts, kept_by}
@@ -154,6 +154,7 @@ module _ (r : Rules) (s : Site) (t : ℕ) (h : IsSite r s) (n : Needed r Out s t
   was_open Recursive e = e
   was_open Semaphore e = e
   was_open Once e = e
+  was_open Condvar e = e
 
   -- who tries again is in nobody's hand
   in_no_hand : (u : ℕ) → counts_some r.sort (s.doing u).retries ≡ true → (o : Option Taken) → s.lock.taken u ≡ o → keep_from t o ≡ o

@@ -2,7 +2,7 @@
 use Rattle.std.specs.Prelude.{ℕ, Bool, true, false, Option, Some, None, if◌then◌else◌, ◌==◌, ◌&&◌, ◌||◌, not, ◌+◌, ◌-◌, ◌*◌, ◌/◌, ◌%◌, ◌<◌, ◌≤◌, ◌≡◌, length, nat_le}
 use Rattle.lot_base.specs.declared.wants.Want.{Want}
 use Rattle.lot_base.specs.declared.wants.Want.TheVariants.{Exclusive, Upgradable, Shared}
-use Rattle.abstract_locks.specs.Locks.{LockState, Pending, Sort, Mutex, Normal, Recursive, Semaphore, Once, Rules, LockCase, Enter, Pend, Leave, Convert, HandOff, Rollback, Knows, NoWriter, IsFree, IsBlocked, is_recursive, count, readers, one_if_some, Needs, IsLockState}
+use Rattle.abstract_locks.specs.Locks.{LockState, Pending, Sort, Mutex, Normal, Recursive, Semaphore, Once, Condvar, Rules, LockCase, Enter, Pend, Leave, Convert, HandOff, Rollback, Knows, NoWriter, IsFree, IsBlocked, is_recursive, count, readers, one_if_some, Needs, IsLockState}
 use Rattle.abstract_locks.specs.Onces.{phase_code}
 use Rattle.abstract_locks.specs.Locks as locks
 use Rattle.abstract_locks.specs.Sites.{Site, IsSite, Case, Needed, after_deed, has_readers}
@@ -19,6 +19,11 @@ packed c w u a p = 16 * c + 8 * w + 4 * u + 2 * a + p
 abbrev pub writers : LockState → ℕ
 writers s = one_if_some s.exclusive + one_if_some s.pending
 
+-- a condition variable shows a mutex by one more than its number, and 0 where it shows none
+abbrev pub shown_code : Option ℕ → ℕ
+shown_code None = 0
+shown_code (Some m) = m + 1
+
 -- the word of a lock, by its owners and its two parked bits
 abbrev pub word_by : Sort → ℕ → LockState → (aside parked : Bool) → ℕ
 word_by Mutex limit s aside parked = one_if_some s.exclusive + 2 * bit parked
@@ -27,6 +32,7 @@ word_by Recursive limit s aside parked =
     packed (count s) (writers s) (one_if_some s.upgradable) (bit aside) (bit parked)
 word_by Semaphore limit s aside parked = 2 * (limit - readers s) + bit parked
 word_by Once limit s aside parked = 8 * bit parked + phase_code s.phase
+word_by Condvar limit s aside parked = shown_code s.shown
 
 abbrev pub rw_code : Site → ℕ
 rw_code s = packed (count s.lock) (writers s.lock) (one_if_some s.lock.upgradable) (bit s.aside_parked) (bit s.parked)
@@ -70,6 +76,7 @@ is_marked v = v / 8 == 1
 abbrev pub parked_in : Sort → ℕ → Bool
 parked_in Mutex v = v / 2 % 2 == 1
 parked_in Once v = is_marked v
+parked_in Condvar v = true
 parked_in sort v = has_parked v
 
 abbrev pub aside_in : Sort → ℕ → Bool

@@ -2,7 +2,7 @@
 use Rattle.std.specs.Prelude.{ℕ, Bool, false, Option, Some, None, List, [], ◌∷◌}
 use Rattle.abstract_locks.specs.Locks.{LockState, LockCase, Rules, Wake, Needs, after_case}
 use Rattle.abstract_locks.specs.Sites.{Site, Deed, Out, Bring, Case, Needed, after_deed}
-use Rattle.abstract_locks.specs.Runs.{Event, Nothing, AtLock}
+use Rattle.abstract_locks.specs.Runs.{Event, Nothing, AtLock, Moves}
 
 -- the site behind them
 abbrev pub after_all : Rules → List Deed → Site → ℕ → Site
@@ -44,11 +44,13 @@ event_by l (Some case) = AtLock l case
 abbrev pub event_of : ℕ → Option Bool → List Deed → Event
 event_of l hand ds = event_by l (case_of hand ds)
 
--- what an event needs of its lock, and where it leads it
+-- what an event of one lock needs of it, and where it leads it
 abbrev pub EventNeeds : Rules → Event → LockState → ℕ → Type 0
 EventNeeds r Nothing s t = Unit {0}
 EventNeeds r (AtLock l case) s t = Needs r case s t
+EventNeeds r (Moves c m all owned number) s t = ⊥
 
 abbrev pub after_event : Rules → Event → LockState → ℕ → LockState
 after_event r Nothing s t = s
 after_event r (AtLock l case) s t = after_case r case s t
+after_event r (Moves c m all owned number) s t = s

@@ -1,5 +1,5 @@
 -- The abstract locks: who owns, who waits, and what one thread may do to a lock in one step.
-use Rattle.std.specs.Prelude.{ℕ, Bool, true, false, Option, Some, None, if◌then◌else◌, ◌==◌, ◌&&◌, ◌||◌, not, ◌+◌, ◌-◌, ◌<◌, ◌≤◌, ◌≡◌, ◌≢◌, ◌↔◌, List, [], ◌∷◌, ◌++◌, filter, sum, slice_index, slice_set, take, drop, length, replicate, find}
+use Rattle.std.specs.Prelude.{ℕ, Bool, true, false, Option, Some, None, if◌then◌else◌, ◌==◌, ◌&&◌, ◌||◌, not, ◌+◌, ◌-◌, ◌<◌, ◌≤◌, ◌≡◌, ◌≢◌, ◌↔◌, List, [], ◌∷◌, ◌++◌, filter, sum, slice_index, slice_set, take, drop, length, replicate, find, is_some, ◌⊎◌}
 use Rattle.std.specs.List.{prefix_len}
 use Rattle.lot_base.specs.declared.wants.Want.{Want}
 use Rattle.lot_base.specs.declared.wants.Want.TheVariants.{Exclusive, Upgradable, Shared, Wait, CallOnce}
@@ -22,7 +22,7 @@ pub record Pending : Type 0 where
 
 -- The owners: one exclusive, pending and upgradable at most, and each thread's number of shared rights, by the thread's number.
 -- The waiters: the main queue from its front, the pending writer that sleeps aside, and who was taken from a queue by whom. A `Once` has a
--- phase in place of owners; that of any other lock stays the first.
+-- phase in place of owners, and a condition variable shows the mutex with which its waiters wait; those of any other lock stay the first.
 pub record LockState : Type 0 where
   pub exclusive : Option ℕ
   pub pending : Option Pending
@@ -32,15 +32,17 @@ pub record LockState : Type 0 where
   pub aside : Option ℕ
   pub taken : ℕ → Option Taken
   pub phase : Phase
+  pub shown : Option ℕ
 
 -- the sorts of lock: one owner; many readers beside each other; the same, where a reader may come back beside a pending writer;
--- a number of permits; a run that completes once
+-- a number of permits; a run that completes once; a list of those who wait, each with a mutex, to be notified
 pub data Sort : Type 0 where
   Mutex : Sort
   Normal : Sort
   Recursive : Sort
   Semaphore : Sort
   Once : Sort
+  Condvar : Sort
 
 -- a sort, and how many may share
 pub record Rules : Type 0 where
@@ -173,9 +175,10 @@ Knows Recursive Shared = Unit {0}
 Knows Semaphore Shared = Unit {0}
 Knows Once Wait = Unit {0}
 Knows Once CallOnce = Unit {0}
+Knows Condvar Wait = Unit {0}
 Knows sort x = ⊥
 
--- what the owners that are there must allow; the readers' limit is left out
+-- what the owners that are there must allow; the readers' limit is left out. Nobody enters a condition variable
 abbrev pub IsFreeAt : Sort → ℕ → LockState → Want → Type 0
 IsFreeAt Mutex limit s x = s.exclusive ≡ None
 IsFreeAt Normal limit s Shared = (s.exclusive ≡ None) × (s.pending ≡ None)
@@ -184,6 +187,7 @@ IsFreeAt Recursive limit s Shared = (s.exclusive ≡ None) × (s.pending ≢ Non
 IsFreeAt Recursive limit s x = NoWriter s
 IsFreeAt Semaphore limit s x = readers s < limit
 IsFreeAt Once limit s x = Unit {0}
+IsFreeAt Condvar limit s x = ⊥
 
 abbrev pub IsFree : Rules → LockState → Want → Type 0
 IsFree r s x = Knows r.sort x × IsFreeAt r.sort r.limit s x
@@ -260,6 +264,15 @@ unpicked sort start q = others (drop (front_of start q) (before_stop sort start 
 
 -- ---------------------------------------------------------------- the cases
 
+-- what a thread does to a condition variable, in its section or as it looks from outside; that it waits is `Park`, and that it gives up `Late`
+pub data CondvarCase : Type 0 where
+  -- it sees which mutex is shown
+  Look : (seen : Option ℕ) → CondvarCase
+  -- it shows its own, where none or this one is shown
+  Show : (mutex : ℕ) → CondvarCase
+  -- it shows none: nobody is left, or all are to be taken
+  Hide : CondvarCase
+
 -- what a thread may do to a lock in one step
 pub data LockCase : Type 0 where
   -- it comes in
@@ -291,6 +304,10 @@ pub data LockCase : Type 0 where
   Rollback : LockCase
   -- what a thread does to a `Once`
   OfOnce : OnceCase → LockCase
+  -- and to a condition variable
+  OfCondvar : CondvarCase → LockCase
+  -- a notification sees whether somebody owns the mutex that is shown
+  SeeOwner : (owned : Bool) → LockCase
 
 -- the state with one right more
 abbrev pub with_owner : ℕ → Want → LockState → LockState
@@ -394,6 +411,17 @@ once_after (Rest wanted forced) s t = record s { queue = s.queue ++ (record { th
 once_after TakeAll s t = record s { queue = []; taken = taking t s.queue s.taken }
 once_after case s t = record s { phase = phase_after case t s.phase }
 
+-- a mutex is shown where none or this one is
+abbrev pub CondvarNeeds : CondvarCase → LockState → Type 0
+CondvarNeeds (Look seen) s = seen ≡ s.shown
+CondvarNeeds (Show m) s = (s.shown ≡ None) ⊎ (s.shown ≡ Some m)
+CondvarNeeds Hide s = Unit {0}
+
+abbrev pub condvar_after : CondvarCase → LockState → LockState
+condvar_after (Look seen) s = s
+condvar_after (Show m) s = record s { shown = Some m }
+condvar_after Hide s = record s { shown = None }
+
 abbrev pub IsSomePending : Option Pending → ℕ → Type 0
 IsSomePending None t = ⊥
 IsSomePending (Some p) t = p.thread ≡ t
@@ -418,6 +446,8 @@ Needs r (HandOff right successor) s t =
 Needs r Late s t = 1 ≤ times t s.queue + is_thread t s.aside
 Needs r Rollback s t = IsSomePending s.pending t × (s.aside ≡ None)
 Needs r (OfOnce case) s t = (r.sort ≡ Once) × OnceNeeds case s t
+Needs r (OfCondvar case) s t = (r.sort ≡ Condvar) × CondvarNeeds case s
+Needs r (SeeOwner owned) s t = (r.sort ≡ Mutex) × (owned ≡ is_some s.exclusive)
 
 -- and where it leads
 abbrev pub after_case : Rules → LockCase → LockState → ℕ → LockState
@@ -438,6 +468,8 @@ after_case r (HandOff right successor) s t = handed t right successor s
 after_case r Late s t = record s { queue = without t s.queue; aside = aside_without t s.aside }
 after_case r Rollback s t = falling_back t s.pending (record s { pending = None })
 after_case r (OfOnce case) s t = once_after case s t
+after_case r (OfCondvar case) s t = condvar_after case s
+after_case r (SeeOwner owned) s t = s
 
 -- ---------------------------------------------------------------- what holds in every state
 
@@ -473,4 +505,5 @@ opening_lock threads = record {
   aside = None;
   taken = λ u. None;
   phase = New;
+  shown = None;
 }

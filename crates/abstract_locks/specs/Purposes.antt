@@ -19,7 +19,7 @@ use Rattle.lot_calls.specs.declared.calls.RwLockCall.TheVariants as rwlock_call
 use Rattle.lot_calls.specs.declared.calls.OnceCall.{OnceCall}
 use Rattle.lot_calls.specs.declared.calls.OnceCall.TheVariants as once_call
 use Rattle.abstract_locks.specs.Onces.{Start, Rest}
-use Rattle.abstract_locks.specs.Locks.{Rules, Mutex, Normal, Recursive, Once, LockCase, Enter, Pend, Settle, Leave, Convert, Park, Aside, TakeFirst, TakeAside, TakePicked, Wake, HandOff, Late, Rollback, OfOnce}
+use Rattle.abstract_locks.specs.Locks.{Rules, Mutex, Normal, Recursive, Once, Condvar, LockCase, Enter, Pend, Settle, Leave, Convert, Park, Aside, TakeFirst, TakeAside, TakePicked, Wake, HandOff, Late, Rollback, OfOnce, CondvarCase, Look, Show, Hide, OfCondvar, SeeOwner}
 
 -- what a call of a lock is for
 pub data Purpose : Type 0 where
@@ -30,6 +30,9 @@ pub data Purpose : Type 0 where
   -- of a `Once`: it runs a closure, or waits for another's run
   CallsOnce : (lock : ℕ) → (forced : Bool) → Purpose
   Awaits : (lock : ℕ) → (forced : Bool) → Purpose
+  -- of a condition variable: it gives the mutex up until it is notified, up to a deadline or without one; or it notifies the first, or all
+  Waits : (lock mutex : ℕ) → (timed : Bool) → Purpose
+  Notifies : (lock : ℕ) → (all : Bool) → Purpose
 
 -- a fair mutex is released fairly by any release
 abbrev pub mutex_purpose : Bool → ℕ → MutexCall → Purpose
@@ -81,6 +84,20 @@ purpose_of (kind.TheVariants.Recursive limit) (call.TheVariants.RwLock l c) = So
 purpose_of kind.TheVariants.Once (call.TheVariants.Once l c) = Some (once_purpose l c)
 purpose_of k c = None
 
+-- what a call of a condition variable remembers of its own steps, and of what a notification did to it
+pub data Recall : Type 0 where
+  Blank : Recall
+  -- a notification has seen this mutex shown
+  Saw : (mutex : ℕ) → Recall
+  -- and inside both sections, whether somebody owns it
+  SawOwner : (mutex : ℕ) → (owned : Bool) → Recall
+  -- it has taken and moved so many
+  HasMoved : (mutex number : ℕ) → Recall
+  -- a wait was moved to the queue of its mutex
+  WasMoved : Recall
+  -- or taken by a notification; or woken, or handed its mutex, since it was moved
+  WasNotified : Recall
+
 -- the lock of which a call is
 abbrev pub lock_for : Purpose → ℕ
 lock_for (Enters l x how) = l
@@ -89,6 +106,8 @@ lock_for (Converts l x y how) = l
 lock_for (Bumps l x) = l
 lock_for (CallsOnce l forced) = l
 lock_for (Awaits l forced) = l
+lock_for (Waits l m timed) = l
+lock_for (Notifies l all) = l
 
 -- a call that may sleep until it has the lock, or until a `Once` is run
 abbrev pub MayWait : Option Purpose → ℕ → Type 0
@@ -97,6 +116,7 @@ MayWait (Some (Converts l x y how)) k = (l ≡ k) × (how ≢ Try)
 MayWait (Some (Bumps l x)) k = l ≡ k
 MayWait (Some (CallsOnce l forced)) k = l ≡ k
 MayWait (Some (Awaits l forced)) k = l ≡ k
+MayWait (Some (Waits l m timed)) k = (l ≡ k) ⊎ (m ≡ k)
 MayWait purpose k = ⊥
 
 -- a call that releases the lock; a bump does so until it has, and then it enters; and a call that runs a closure, once its run has begun
@@ -104,13 +124,15 @@ abbrev pub IsReleasing : Option Purpose → Bool → ℕ → Type 0
 IsReleasing (Some (Releases l x fair)) released k = l ≡ k
 IsReleasing (Some (Bumps l x)) released k = (l ≡ k) × (released ≡ false)
 IsReleasing (Some (CallsOnce l forced)) released k = (l ≡ k) × (released ≡ true)
+IsReleasing (Some (Waits l m timed)) released k = (m ≡ k) × (released ≡ false)
 IsReleasing purpose released k = ⊥
 
--- the rules of a lock of each kind; a condition variable has none, and nobody enters it
+-- the rules of a lock of each kind
 abbrev pub rules_of : Kind → Rules
 rules_of (kind.TheVariants.RwLock limit) = record { sort = Normal; limit = limit }
 rules_of (kind.TheVariants.Recursive limit) = record { sort = Recursive; limit = limit }
 rules_of kind.TheVariants.Once = record { sort = Once; limit = 0 }
+rules_of kind.TheVariants.Condvar = record { sort = Condvar; limit = 0 }
 rules_of k = record { sort = Mutex; limit = 0 }
 
 -- ---------------------------------------------------------------- which cases a call is made of
@@ -168,13 +190,47 @@ abbrev pub AwaitsBy : Bool → LockCase → Type 0
 AwaitsBy forced (OfOnce (Rest x by)) = (x ≡ Wait) × (by ≡ forced)
 AwaitsBy forced case = ⊥
 
+-- what a wait does to its condition variable: it gives up only where it has a deadline, and hides only after it gave up
+abbrev pub WaitsThere : ℕ → Bool → Option ℕ → LockCase → Type 0
+WaitsThere m timed gave_up (OfCondvar (Show shown)) = shown ≡ m
+WaitsThere m timed gave_up (OfCondvar Hide) = gave_up ≢ None
+WaitsThere m timed gave_up (Park x) = x ≡ Wait
+WaitsThere m timed gave_up Late = (timed ≡ true) × (gave_up ≡ None)
+WaitsThere m timed gave_up case = ⊥
+
+-- it releases its mutex once
+abbrev pub ReleasesOnce : Bool → LockCase → Type 0
+ReleasesOnce released (Leave y) = (y ≡ Exclusive) × (released ≡ false)
+ReleasesOnce released case = ReleasesBy Exclusive false case
+
+-- and has it again by that release alone; it gives up in the queue of the mutex too, where it was moved there
+abbrev pub WaitsBeside : Bool → Option ℕ → Bool → Recall → LockCase → Type 0
+WaitsBeside timed gave_up released recalls Late = (timed ≡ true) × (gave_up ≡ None) × (recalls ≡ WasMoved)
+WaitsBeside timed gave_up released recalls case =
+    ReleasesOnce released case ⊎ ((released ≡ true) × EntersBy Exclusive Patient gave_up case)
+
+-- what a notification does to its condition variable, and to the mutex that it has seen; its move is one event of both
+abbrev pub NotifiesThere : LockCase → Type 0
+NotifiesThere (OfCondvar (Look seen)) = Unit {0}
+NotifiesThere (OfCondvar Hide) = Unit {0}
+NotifiesThere case = ⊥
+
+abbrev pub NotifiesBeside : Recall → ℕ → LockCase → Type 0
+NotifiesBeside recalls m (SeeOwner owned) = recalls ≡ Saw m
+NotifiesBeside recalls m Wake = (number : ℕ) × (recalls ≡ HasMoved m number)
+NotifiesBeside recalls m case = ⊥
+
 -- the call does this to this lock; gave_up is the lock whose queue it left because its time was up, released whether it has given
 -- its right up: a bump enters only then
-abbrev pub IsMadeOf : Purpose → Option ℕ → Bool → ℕ → LockCase → Type 0
-IsMadeOf (Enters l x p) gave_up released k case = (k ≡ l) × EntersBy x p gave_up case
-IsMadeOf (Releases l x fair) gave_up released k case = (k ≡ l) × ReleasesBy x fair case
-IsMadeOf (Converts l x y p) gave_up released k case = (k ≡ l) × ConvertsBy x y p gave_up case
-IsMadeOf (Bumps l x) gave_up released k case =
+abbrev pub IsMadeOf : Purpose → Option ℕ → Bool → Recall → ℕ → LockCase → Type 0
+IsMadeOf (Enters l x p) gave_up released recalls k case = (k ≡ l) × EntersBy x p gave_up case
+IsMadeOf (Releases l x fair) gave_up released recalls k case = (k ≡ l) × ReleasesBy x fair case
+IsMadeOf (Converts l x y p) gave_up released recalls k case = (k ≡ l) × ConvertsBy x y p gave_up case
+IsMadeOf (Bumps l x) gave_up released recalls k case =
     (k ≡ l) × (GivesWay x released case ⊎ ((released ≡ true) × EntersBy x Patient gave_up case))
-IsMadeOf (CallsOnce l forced) gave_up released k case = (k ≡ l) × CallsOnceBy forced case
-IsMadeOf (Awaits l forced) gave_up released k case = (k ≡ l) × AwaitsBy forced case
+IsMadeOf (CallsOnce l forced) gave_up released recalls k case = (k ≡ l) × CallsOnceBy forced case
+IsMadeOf (Awaits l forced) gave_up released recalls k case = (k ≡ l) × AwaitsBy forced case
+IsMadeOf (Waits l m timed) gave_up released recalls k case =
+    ((k ≡ l) × WaitsThere m timed gave_up case) ⊎ ((k ≡ m) × WaitsBeside timed gave_up released recalls case)
+IsMadeOf (Notifies l all) gave_up released recalls k case =
+    ((k ≡ l) × NotifiesThere case) ⊎ NotifiesBeside recalls k case

@@ -1,6 +1,6 @@
 -- A run of the abstract locks: each step is one case of one lock, or changes nothing, each answer is true, and a step is refused
 -- exactly where it isn't possible.
-use Rattle.std.specs.Prelude.{ℕ, Option, Some, None, ◌<◌, ◌≤◌, ◌≡◌, ◌≢◌, ◌⊎◌, List, [], ◌∷◌, Bool, true, false, if◌then◌else◌, ◌==◌, ◌*◌, ◌+◌, ◌↔◌}
+use Rattle.std.specs.Prelude.{ℕ, Option, Some, None, ◌<◌, ◌≤◌, ◌≡◌, ◌≢◌, ◌⊎◌, List, [], ◌∷◌, ◌++◌, drop, length, nat_le, Bool, true, false, if◌then◌else◌, ◌==◌, ◌*◌, ◌+◌, ◌↔◌}
 use Rattle.lot_base.specs.declared.keys.Keys.{Keys}
 use Rattle.lot_base.specs.declared.keys.Keys as keys
 use Rattle.lot_base.specs.declared.wants.Want.{Want}
@@ -17,9 +17,11 @@ use Rattle.lot_calls.specs.declared.outcomes.Outcome as outcome
 use Rattle.lot_calls.specs.declared.outcomes.OnceState.{OnceState}
 use Rattle.lot_calls.specs.declared.outcomes.OnceState as once_state
 use Rattle.lot_calls.specs.Calls.{lock_in}
+use Rattle.lot_calls.specs.Kinds.{is_plain_mutex}
 use Rattle.abstract_locks.specs.Onces.{Phase, New, Poisoned, InProgress, Done, OnceCase, Start, Finish, Fail, Rest}
-use Rattle.abstract_locks.specs.Locks.{LockState, Taken, LockCase, Enter, Pend, Settle, Leave, Park, Aside, Wake, HandOff, Late, OfOnce, Rules, Rights, Mutex, Needs, after_case, rights_of, with_right, without_right, Owns, IsFree, IsBlocked, count, readers, putting, standing, HasTakenNobody, IsLockState, opening_lock, times}
-use Rattle.abstract_locks.specs.Purposes.{Purpose, Enters, Releases, Converts, Bumps, CallsOnce, Awaits, Patience, Patient, Timed, Try, lock_for, purpose_of, rules_of, IsMadeOf}
+use Rattle.abstract_locks.specs.Condvars.{moved_of, taken_of, line_of}
+use Rattle.abstract_locks.specs.Locks.{LockState, Queued, taking, Taken, LockCase, Enter, Pend, Settle, Leave, Park, Aside, Wake, HandOff, Late, OfOnce, CondvarCase, Look, OfCondvar, SeeOwner, Condvar, Rules, Rights, Mutex, Needs, after_case, rights_of, with_right, without_right, Owns, IsFree, IsBlocked, count, readers, putting, standing, HasTakenNobody, IsLockState, opening_lock, times}
+use Rattle.abstract_locks.specs.Purposes.{Purpose, Enters, Releases, Converts, Bumps, CallsOnce, Awaits, Waits, Notifies, Recall, Blank, Saw, SawOwner, HasMoved, WasMoved, WasNotified, Patience, Patient, Timed, Try, lock_for, purpose_of, rules_of, IsMadeOf}
 
 -- what is remembered of a call: what its answer needs of earlier steps, and whether it tries again
 pub record CallState : Type 0 where
@@ -37,6 +39,8 @@ pub record CallState : Type 0 where
   pub late : Bool
   -- whether its run of a `Once` failed
   pub failed : Bool
+  -- of a condition variable: what it has seen and moved, and what befell it
+  pub recalls : Recall
 
 -- how a thread stands between two steps
 pub record Stance : Type 0 where
@@ -69,7 +73,7 @@ rights_in w t l = rights_of (w.locks l) t
 
 abbrev pub new_call : Option Purpose → (ℕ → Rights) → CallState
 new_call purpose former =
-    record { purpose = purpose; former = former; gave_up = None; retries = None; released = false; late = false; failed = false }
+    record { purpose = purpose; former = former; gave_up = None; retries = None; released = false; late = false; failed = false; recalls = Blank }
 
 abbrev pub no_rights : Rights
 no_rights = record { exclusive = 0; pending = 0; upgradable = 0; shared = 0 }
@@ -95,14 +99,25 @@ pub record IsOpening (w : LocksState) : Type 0 where
 
 -- ---------------------------------------------------------------- what a step does
 
--- nothing, or one case of one lock
+-- nothing, or one case of one lock; or a notification of the first waiter, or of all, moves so many to a mutex that it saw owned or free
 pub data Event : Type 0 where
   Nothing : Event
   AtLock : (lock : ℕ) → LockCase → Event
+  Moves : (condvar mutex : ℕ) → (all owned : Bool) → (number : ℕ) → Event
+
+-- those whom it moves leave the list of the condition variable
+abbrev pub left_behind : Bool → LockState → LockState
+left_behind all s = record s { queue = if all then [] else drop 1 s.queue }
+
+-- and stand behind the last who waits for the mutex; of a free one the first of them is in its hand
+abbrev pub joined_by : Bool → ℕ → List Queued → LockState → LockState
+joined_by owned t moved s = record s { queue = s.queue ++ line_of owned moved; taken = taking t (taken_of owned moved) s.taken }
 
 abbrev pub locks_after : LocksState → ℕ → Event → ℕ → LockState
 locks_after w t Nothing = w.locks
 locks_after w t (AtLock l case) = putting w.locks l (after_case (rules_at w l) case (w.locks l) t)
+locks_after w t (Moves c m all owned number) =
+    putting (putting w.locks c (left_behind all (w.locks c))) m (joined_by owned t (moved_of all (w.locks c).queue) (w.locks m))
 
 -- what the thread of the step remembers of it: an ownership, a run, or a place in a queue, ends its retry
 abbrev pub going_on : Event → CallState → CallState
@@ -117,18 +132,38 @@ going_on (AtLock l (HandOff x successor)) c = record c { released = true }
 going_on (AtLock l (OfOnce (Start forced))) c = record c { retries = None; released = true }
 going_on (AtLock l (OfOnce (Rest x forced))) c = record c { retries = None }
 going_on (AtLock l (OfOnce Fail)) c = record c { failed = true }
+going_on (AtLock l (OfCondvar (Look (Some m)))) c = record c { recalls = Saw m }
+going_on (AtLock l (SeeOwner owned)) c = record c { recalls = SawOwner l owned }
+going_on (Moves l m all owned number) c = record c { recalls = HasMoved m number }
 going_on event c = c
 
 abbrev pub is_taken_by : ℕ → Option Taken → Bool
 is_taken_by t None = false
 is_taken_by t (Some h) = h.by == t
 
--- and any other thread: whoever is woken tries the lock again, and who was handed it doesn't
-abbrev pub woken : LocksState → ℕ → Event → ℕ → CallState → CallState
-woken w t (AtLock l Wake) u c = if is_taken_by t ((w.locks l).taken u) then record c { retries = Some l } else c
-woken w t (AtLock l (HandOff x successor)) u c =
-    if is_taken_by t ((w.locks l).taken u) then record c { retries = None }
+-- who was moved to the queue of its mutex, and is woken or handed it, was notified
+abbrev pub behind_wake : Recall → Recall
+behind_wake WasMoved = WasNotified
+behind_wake recalls = recalls
+
+abbrev pub is_among : ℕ → List Queued → Bool
+is_among u q = nat_le 1 (times u q)
+
+-- what a notification made of those whom it took, and of those whom it moved
+abbrev pub befallen : ℕ → List Queued → List Queued → CallState → CallState
+befallen u taken moved c =
+    if is_among u taken then record c { recalls = WasNotified }
+    else if is_among u moved then record c { recalls = WasMoved }
     else c
+
+-- and any other thread: whoever is woken tries the lock again, and who was handed it doesn't; who was notified knows it
+abbrev pub woken : LocksState → ℕ → Event → ℕ → CallState → CallState
+woken w t (AtLock l Wake) u c = if is_taken_by t ((w.locks l).taken u) then record c { retries = Some l; recalls = behind_wake c.recalls } else c
+woken w t (AtLock l (HandOff x successor)) u c =
+    if is_taken_by t ((w.locks l).taken u) then record c { retries = None; recalls = behind_wake c.recalls }
+    else c
+woken w t (Moves l m all owned number) u c =
+    befallen u (taken_of owned (moved_of all (w.locks l).queue)) (line_of owned (moved_of all (w.locks l).queue)) c
 woken w t event u c = c
 
 -- a call that ends is forgotten
@@ -150,12 +185,25 @@ IsTimely late case = Unit {0}
 abbrev pub MayDo : LocksState → ℕ → ℕ → LockCase → Option Purpose → Type 0
 MayDo w t l case None = ⊥
 MayDo w t l case (Some purpose) =
-    IsMadeOf purpose (w.calls t).gave_up (w.calls t).released l case × Needs (rules_at w l) case (w.locks l) t
+    IsMadeOf purpose (w.calls t).gave_up (w.calls t).released (w.calls t).recalls l case × Needs (rules_at w l) case (w.locks l) t
     × IsTimely (w.calls t).late case
+
+-- a notification moves the first waiter, or all: there are some, each waits with this mutex and stands nowhere there, and it has nobody in
+-- its hand
+pub record MayMove (w : LocksState) (t c m : ℕ) (all owned : Bool) (n : ℕ) : Type 0 where
+  pub notifies : (w.calls t).purpose ≡ Some (Notifies c all)
+  pub sorts : ((rules_at w c).sort ≡ Condvar) × ((rules_at w m).sort ≡ Mutex)
+  pub saw : (w.calls t).recalls ≡ SawOwner m owned
+  pub some : n ≢ 0
+  pub number : n ≡ length (moved_of all (w.locks c).queue)
+  pub wait : (u : ℕ) → is_among u (moved_of all (w.locks c).queue) ≡ true
+      → ((timed : Bool) × ((w.calls u).purpose ≡ Some (Waits c m timed))) × (standing u (w.locks m) ≡ 0)
+  pub free : HasTakenNobody (w.locks m) t
 
 abbrev pub MayHappen : LocksState → ℕ → Event → Type 0
 MayHappen w t Nothing = Unit {0}
 MayHappen w t (AtLock l case) = MayDo w t l case (w.calls t).purpose
+MayHappen w t (Moves c m all owned number) = MayMove w t c m all owned number
 
 -- ---------------------------------------------------------------- answers
 
@@ -225,6 +273,43 @@ abbrev pub AwaitsAnswer : LocksState → ℕ → CallState → ℕ → Bool → 
 AwaitsAnswer w t c l forced answer.TheVariants.Failed = ⊥
 AwaitsAnswer w t c l forced a = CallsOnceAnswer w t c l forced a
 
+-- its mutex is owned again, got since it released it
+abbrev pub HasAgain : LocksState → ℕ → CallState → Type 0
+HasAgain w t c = (c.released ≡ true) × Keeps w t c
+
+-- a notification has moved it
+abbrev pub IsNotified : Recall → Type 0
+IsNotified WasMoved = Unit {0}
+IsNotified WasNotified = Unit {0}
+IsNotified recalls = ⊥
+
+-- a mutex is shown, and not this one
+abbrev pub ShowsOther : LockState → ℕ → Type 0
+ShowsOther s m = (s.shown ≢ None) × (s.shown ≢ Some m)
+
+abbrev pub WaitsAnswer : LocksState → ℕ → CallState → ℕ → ℕ → Bool → Answer → Type 0
+WaitsAnswer w t c l m false answer.TheVariants.Ok = IsNotified c.recalls × HasAgain w t c
+WaitsAnswer w t c l m true answer.TheVariants.Notified = IsNotified c.recalls × HasAgain w t c
+WaitsAnswer w t c l m true answer.TheVariants.TimedOut = (c.gave_up ≡ Some l) × HasAgain w t c
+WaitsAnswer w t c l m timed answer.TheVariants.TwoMutexes = (c.released ≡ false) × ShowsOther (w.locks l) m × Keeps w t c
+WaitsAnswer w t c l m timed a = ⊥
+
+-- it moved nobody: no mutex was shown, or another than it saw first, or none
+abbrev pub MovedNobody : LockState → Recall → Type 0
+MovedNobody s Blank = s.shown ≡ None
+MovedNobody s (Saw m) = s.shown ≢ Some m
+MovedNobody s recalls = ⊥
+
+abbrev pub HasMovedSome : ℕ → Recall → Type 0
+HasMovedSome number recalls = (m : ℕ) × (recalls ≡ HasMoved m number)
+
+abbrev pub NotifiesAnswer : LocksState → ℕ → CallState → ℕ → Bool → Answer → Type 0
+NotifiesAnswer w t c l false answer.TheVariants.Yes = HasMovedSome 1 c.recalls × Keeps w t c
+NotifiesAnswer w t c l false answer.TheVariants.No = MovedNobody (w.locks l) c.recalls × Keeps w t c
+NotifiesAnswer w t c l true (answer.TheVariants.Number number) =
+    ((number ≡ 0) × MovedNobody (w.locks l) c.recalls × Keeps w t c) ⊎ (HasMovedSome number c.recalls × Keeps w t c)
+NotifiesAnswer w t c l all a = ⊥
+
 -- what an answer says of the state in which it is given
 abbrev pub AnswerHolds : Option Purpose → LocksState → ℕ → CallState → Answer → Type 0
 AnswerHolds (Some (Enters l x how)) w t c a = EntersAnswer w t c l x how a
@@ -233,6 +318,8 @@ AnswerHolds (Some (Converts l x y how)) w t c a = ConvertsAnswer w t c l x y how
 AnswerHolds (Some (Bumps l x)) w t c a = BumpsAnswer w t c l x a
 AnswerHolds (Some (CallsOnce l forced)) w t c a = CallsOnceAnswer w t c l forced a
 AnswerHolds (Some (Awaits l forced)) w t c a = AwaitsAnswer w t c l forced a
+AnswerHolds (Some (Waits l m timed)) w t c a = WaitsAnswer w t c l m timed a
+AnswerHolds (Some (Notifies l all)) w t c a = NotifiesAnswer w t c l all a
 AnswerHolds purpose w t c a = ⊥
 
 -- what a thread is told agrees with the state that its step led to; c is its call with this step in it
@@ -258,12 +345,13 @@ Begins w event o = Unit {0}
 
 -- ---------------------------------------------------------------- steps
 
--- the thread has the right that its call needs
+-- the thread has the right that its call needs: who waits owns a mutex that condition variables work with
 abbrev pub HasRight : LocksState → ℕ → Option Purpose → Type 0
 HasRight w t None = ⊥
 HasRight w t (Some (Releases l x fair)) = Owns (w.locks l) t x
 HasRight w t (Some (Converts l x y how)) = Owns (w.locks l) t x
 HasRight w t (Some (Bumps l x)) = Owns (w.locks l) t x
+HasRight w t (Some (Waits l m timed)) = (is_plain_mutex (w.kinds m) ≡ true) × Owns (w.locks m) t Exclusive
 HasRight w t (Some purpose) = Unit {0}
 
 abbrev pub purpose_at : LocksState → Call → Option Purpose
@@ -289,11 +377,12 @@ pub record MayGo (w : LocksState) (t : ℕ) : Type 0 where
   pub outside : (w.stances t).in_closure ≡ false
   pub free : AreFree w (w.stances t).enters
 
--- a call of the lock that has a deadline
-abbrev pub IsTimed : Option Purpose → ℕ → Type 0
-IsTimed (Some (Enters l x how)) k = (l ≡ k) × (how ≡ Timed)
-IsTimed (Some (Converts l x y how)) k = (l ≡ k) × (how ≡ Timed)
-IsTimed purpose k = ⊥
+-- a call of the lock that has a deadline; a wait has it in the queue of its mutex too, where it was moved there
+abbrev pub IsTimed : Option Purpose → Recall → ℕ → Type 0
+IsTimed (Some (Enters l x how)) recalls k = (l ≡ k) × (how ≡ Timed)
+IsTimed (Some (Converts l x y how)) recalls k = (l ≡ k) × (how ≡ Timed)
+IsTimed (Some (Waits l m timed)) recalls k = (timed ≡ true) × ((l ≡ k) ⊎ ((m ≡ k) × (recalls ≡ WasMoved)))
+IsTimed purpose recalls k = ⊥
 
 -- the thread stands in a queue of the lock, whose section is free
 abbrev pub StandsFreely : LocksState → ℕ → ℕ → Type 0
@@ -304,7 +393,7 @@ StandsFreely w t l =
 -- its time may be up: its call has a deadline, and it sleeps in a queue whose section is free
 pub record MayBeLate (w : LocksState) (t : ℕ) : Type 0 where
   pub lock : ℕ
-  pub timed : IsTimed (w.calls t).purpose lock
+  pub timed : IsTimed (w.calls t).purpose (w.calls t).recalls lock
   pub asleep : (w.stances t).asleep ≡ true
   pub stands : StandsFreely w t lock
 

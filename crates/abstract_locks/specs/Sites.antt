@@ -4,7 +4,7 @@ pub use Rattle.lot_base.specs.declared.keys.Line.{Line}
 pub use Rattle.lot_base.specs.declared.keys.Line.TheVariants.{Main, Second}
 use Rattle.lot_base.specs.declared.wants.Want.{Want}
 use Rattle.lot_base.specs.declared.wants.Want.TheVariants.{Exclusive, Upgradable, Shared}
-use Rattle.abstract_locks.specs.Locks.{LockState, Taken, Queued, Pending, Sort, Mutex, Normal, Recursive, Semaphore, Once, Rules, LockCase, Enter, Pend, Settle, Leave, Convert, Park, Aside, TakeFirst, TakeAside, TakePicked, Wake, HandOff, Late, Rollback, OfOnce, Needs, Owns, Knows, NoWriter, IsLockState, KnowsAll, IsTaken, putting, taking, readers, count, times, standing, is_thread, is_writer, has_caller, keeps_more, unpicked, wants_shared, let_go, opening_lock}
+use Rattle.abstract_locks.specs.Locks.{LockState, Taken, Queued, Pending, Sort, Mutex, Normal, Recursive, Semaphore, Once, Condvar, Rules, LockCase, Enter, Pend, Settle, Leave, Convert, Park, Aside, TakeFirst, TakeAside, TakePicked, Wake, HandOff, Late, Rollback, OfOnce, OfCondvar, SeeOwner, Needs, Owns, Knows, NoWriter, IsLockState, KnowsAll, IsTaken, putting, taking, readers, count, times, standing, is_thread, is_writer, has_caller, keeps_more, unpicked, wants_shared, let_go, opening_lock}
 use Rattle.abstract_locks.specs.Onces.{InProgress, Done, IsRunning, OnceCase, Start, Finish, Fail, Rest, TakeAll}
 use Rattle.abstract_locks.specs.Locks as locks
 
@@ -69,6 +69,7 @@ opening_site threads =
 abbrev pub IsOpen : Sort → LockState → Type 0
 IsOpen Mutex s = s.exclusive ≡ None
 IsOpen Semaphore s = ⊥
+IsOpen Condvar s = ⊥
 IsOpen Once s = (has_caller s.queue ≡ true) × (IsRunning s.phase → ⊥)
 IsOpen sort s = NoWriter s
 
@@ -77,6 +78,7 @@ abbrev pub counts : Sort → Want → Bool
 counts Mutex x = true
 counts Semaphore x = true
 counts Once x = false
+counts Condvar x = false
 counts sort x = not (wants_shared x)
 
 abbrev pub counts_some : Sort → Option Want → Bool
@@ -246,6 +248,8 @@ case_doing sort s now (HandOff x successor) d = record d { covers = false; claim
 case_doing sort s now Late d = record d { empty = late_found now d.inside }
 case_doing sort s now Rollback d = gives_way s d (fallen s.lock.pending)
 case_doing sort s now (OfOnce case) d = once_doing case s d
+case_doing sort s now (OfCondvar case) d = d
+case_doing sort s now (SeeOwner owned) d = d
 
 -- a hand-over stores the word anew: the bit of the main line stands where somebody is left, and an exclusive owner leaves no
 -- other
@@ -352,6 +356,8 @@ CaseFits r s t (HandOff x successor) d = (d.inside ≡ Some Main) × (d.covers �
 CaseFits r s t Late d = StandsIn s.lock t d.inside × (d.carries ≡ false)
 CaseFits r s t Rollback d = (d.wakes ≡ None) × (d.carries ≡ false)
 CaseFits r s t (OfOnce case) d = OnceFits case s d
+CaseFits r s t (OfCondvar case) d = Unit {0}
+CaseFits r s t (SeeOwner owned) d = Unit {0}
 
 -- a call ends outside of the sections, and one that was woken has what it wanted, or another has, or the lock is full
 abbrev pub MayEnd : Rules → LockState → Doing → Type 0

@@ -6,7 +6,7 @@ use Rattle.lot_acts.specs.declared.acts.Next.TheVariants.{At, End}
 use Rattle.lot_acts.specs.Profiles.{Profile}
 use Rattle.abstract_locks.specs.Locks.{LockState, Rules, Rights, rights_of, putting}
 use Rattle.abstract_locks.specs.Purposes.{IsMadeOf}
-use Rattle.abstract_locks.specs.Runs.{LocksState, CallState, Event, Nothing, AtLock, IsTimely, AnswerHolds, going_on, rights_in, rules_at}
+use Rattle.abstract_locks.specs.Runs.{LocksState, CallState, Event, Nothing, AtLock, Moves, IsTimely, AnswerHolds, going_on, rights_in, rules_at}
 use Rattle.abstract_locks.specs.Sites.{Deed}
 use Rattle.abstract_locks.specs.Deeds.{AreOneCase, event_of, after_event}
 
@@ -20,13 +20,15 @@ call_by l row rights = record {
   released = row.released;
   late = row.late;
   failed = row.failed;
+  recalls = row.recalls;
 }
 
 -- the call is made of the case, and it is time for it
 abbrev pub MayCome : ℕ → Profile → Event → Type 0
 MayCome l row Nothing = Unit {0}
 MayCome l row (AtLock k case) =
-    IsMadeOf (row.purpose l) (if row.gave_up then Some l else None) row.released k case × IsTimely row.late case
+    IsMadeOf (row.purpose l) (if row.gave_up then Some l else None) row.released row.recalls k case × IsTimely row.late case
+MayCome l row (Moves c m all owned number) = ⊥
 
 -- what the thread owns of each lock, where this one is so
 abbrev pub rights_where : ℕ → LockState → ℕ → (ℕ → Rights) → ℕ → Rights

@@ -56,4 +56,5 @@ lock_seen shared o main second taken = record {
   aside = first_of second;
   taken = taken;
   phase = phase_seen o.phase;
+  shown = o.shown;
 }

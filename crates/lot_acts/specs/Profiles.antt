@@ -3,7 +3,7 @@ use Rattle.std.specs.Prelude.{ℕ, Bool, false, Option, Some, None, if◌then◌
 use Rattle.lot_base.specs.declared.wants.Want.{Want}
 use Rattle.lot_base.specs.declared.wants.Want.TheVariants.{Exclusive}
 use Rattle.abstract_locks.specs.Locks.{Rights, Taken}
-use Rattle.abstract_locks.specs.Purposes.{Purpose, Enters, Try}
+use Rattle.abstract_locks.specs.Purposes.{Purpose, Enters, Try, Recall, Blank}
 use Rattle.abstract_locks.specs.Sites.{Doing, Line, idle}
 
 -- in whose hand a thread is, and whether it was handed the lock since
@@ -46,6 +46,8 @@ pub record Profile : Type 0 where
   pub gave_up : Bool
   -- its run of a `Once` failed
   pub failed : Bool
+  -- what a call of a condition variable has seen and moved, and what befell it
+  pub recalls : Recall
   -- what its call is for, by the lock, and whether it has given its right up
   pub purpose : ℕ → Purpose
   pub released : Bool
@@ -67,6 +69,7 @@ blank = record {
   late = false;
   gave_up = false;
   failed = false;
+  recalls = Blank;
   purpose = λ l. Enters l Exclusive Try;
   released = false;
   former = λ l rights. rights;

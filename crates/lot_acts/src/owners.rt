@@ -40,13 +40,15 @@ pub enum Phase {
     Done,
 }
 
-/// The owners of a lock, of each sort that one thread has alone; of a `Once`, how far it has come.
+/// The owners of a lock, of each sort that one thread has alone; of a `Once`, how far it has come; of a condition variable, the mutex
+/// with which its waiters wait.
 #[derive(Clone, Copy, Debug, PartialEq, Eq)]
 pub struct Owners {
     pub exclusive: Option<usize>,
     pub pending: Option<Pending>,
     pub upgradable: Option<usize>,
     pub phase: Phase,
+    pub shown: Option<usize>,
 }
 
 impl Owners {
@@ -55,6 +57,7 @@ impl Owners {
         pending: None,
         upgradable: None,
         phase: Phase::New,
+        shown: None,
     };
 
     /// The same owners but for the exclusive one.
@@ -89,6 +92,13 @@ impl Owners {
         ensures { result ≡ record self { phase = phase } }
     {
         Owners { phase, ..self }
+    }
+
+    /// The same owners but for the mutex that is shown.
+    pub fn with_shown(self, shown: Option<usize>) -> Owners
+        ensures { result ≡ record self { shown = shown } }
+    {
+        Owners { shown, ..self }
     }
 }
 
