@@ -150,7 +150,7 @@ module _ (c : CondvarSite) (t : ℕ) (site : IsCondvar c) where
     waits wait.Hide (reply.Value seen) a h = record { needed = (a.stage, tt); next = record { stage = refl; listed = a.listed; names = a.names } }
     waits wait.GiveUp reply.Done a h = record { needed = (may_go Rests a.stage tt, tt); next = record { stage = tt; listed = a.listed; names = a.names } }
     waits wait.RemoveMoved (reply.Removed none_left) a h = record { needed = tt; next = record { stage = a.stage; listed = a.listed; names = a.names } }
-    waits wait.GiveUpMoved reply.Done a h = record { needed = tt; next = record { stage = a.stage; listed = a.listed; names = a.names } }
+    waits (wait.GiveUpMoved none_left) reply.Done a h = record { needed = tt; next = record { stage = a.stage; listed = a.listed; names = a.names } }
     waits (wait.Lock timed_out at) told a h = let d = locks timed_out at a (mutex_next at told) in record { needed = d.needed; next = d.next }
     waits p told a h = absurd h
 
@@ -288,7 +288,7 @@ module _ (c : CondvarSite) (t : ℕ) where
   leaves_word k (Wait m timed wait.Remove) f is ne = absurd cc
   leaves_word k (Wait m timed wait.GiveUp) f is ne = absurd cc
   leaves_word k (Wait m timed wait.RemoveMoved) f is ne = absurd cc
-  leaves_word k (Wait m timed wait.GiveUpMoved) f is ne = absurd cc
+  leaves_word k (Wait m timed (wait.GiveUpMoved none_left)) f is ne = absurd cc
   leaves_word k (Look all) f is ne = let e : op.Load ≡ f = cc in rw (← e) refl
   leaves_word k (Notify all m notify.Again) f is ne = let e : op.Load ≡ f = cc in rw (← e) (looks_word m (is_shown (word_of c.shown) m))
   leaves_word k (Notify all m notify.Hide) f is ne = let e : op.Store 0 ≡ f = cc in rw (← e) refl

@@ -1,2 +1,3 @@
 pub mod CondvarFit
 pub mod NotifierFit
+pub mod WaiterFit

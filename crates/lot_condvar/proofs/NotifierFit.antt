@@ -24,7 +24,7 @@ use Rattle.lot_condvar.specs.CondvarProfiles.{has_moved, notify_row}
 use Rattle.lot_condvar.specs.CondvarMutex.{FollowsBeside, MayHearBeside, NotifiersCode, NotifiersFollow, beside_deeds, doing_next}
 use Rattle.lot_condvar.proofs.CondvarFit.{not_none, some_left}
 
-put_same : (f : ℕ → Doing) (t : ℕ) (x : Doing) → putting f t x t ≡ x
+pub put_same : (f : ℕ → Doing) (t : ℕ) (x : Doing) → putting f t x t ≡ x
 put_same f t x = grind (arith, nat_tests)
 
 unlocked : (parked : Bool) → is_locked (0 + 2 * bit parked) ≡ false
@@ -159,13 +159,13 @@ notifiers_follow r s c t m all p told sort is h = notifies r s c t m sort all p 
 -- ---------------------------------------------------------------- the word
 
 -- the word of a mutex, owned or not
-abbrev word_of : Bool → Option ℕ → ℕ
+abbrev pub word_of : Bool → Option ℕ → ℕ
 word_of parked o = one_if_some o + 2 * bit parked
 
 coded : (r : Rules) (s : Site) → r.sort ≡ Mutex → code r s ≡ word_of s.parked s.lock.exclusive
 coded r s sort = ap (λ x. code_of x r.limit s) sort
 
-owned_word : (parked : Bool) (o : Option ℕ) → is_locked (word_of parked o) ≡ true → 3 ≡ word_of true o
+pub owned_word : (parked : Bool) (o : Option ℕ) → is_locked (word_of parked o) ≡ true → 3 ≡ word_of true o
 owned_word parked (Some u) e = refl
 owned_word true None e = absurd cc
 owned_word false None e = absurd cc

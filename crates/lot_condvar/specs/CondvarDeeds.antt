@@ -113,7 +113,7 @@ MayHearWaiting c t wait.Remove (Removed none_left) = none_left ≡ is_empty (wit
 MayHearWaiting c t wait.Hide (Value seen) = Unit {0}
 MayHearWaiting c t wait.GiveUp Done = Unit {0}
 MayHearWaiting c t wait.RemoveMoved (Removed none_left) = Unit {0}
-MayHearWaiting c t wait.GiveUpMoved Done = Unit {0}
+MayHearWaiting c t (wait.GiveUpMoved none_left) Done = Unit {0}
 MayHearWaiting c t (wait.Lock timed_out at) told = Unit {0}
 MayHearWaiting c t at told = ⊥
 

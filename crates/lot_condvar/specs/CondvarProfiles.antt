@@ -7,7 +7,7 @@ use Rattle.lot_base.specs.declared.wants.Want.TheVariants as wants
 use Rattle.lot_acts.specs.Profiles as profiles
 use Rattle.lot_acts.specs.Profiles.{Hand, Profile, hand, hand_owner, in_hand, in_line}
 use Rattle.abstract_locks.specs.Condvars.{Stage, Rests, Adds, Refuses, Misses, Sees, Clears, moving}
-use Rattle.abstract_locks.specs.Sites.{Doing, Line, Has, Main, idle}
+use Rattle.abstract_locks.specs.Sites.{Doing, Line, Has, Main, found, idle}
 use Rattle.lot_mutex.specs.MutexProfiles.{inside, mutex_profile, owner}
 use Rattle.lot_condvar.specs.declared.notify.NotifyAt.{NotifyAt}
 use Rattle.lot_condvar.specs.declared.notify.NotifyAt.TheVariants as notify
@@ -122,9 +122,9 @@ abbrev pub coming : Stage → CondvarRow
 coming stage = record (waiting_at stage) { doing = owner }
 
 -- inside the section of the mutex, to which it was moved
-abbrev pub leaving_mutex : Bool → CondvarRow
-leaving_mutex moved =
-    record blank { doing = inside; moved = moved; wants = Some wants.Exclusive; owes_mutex = true }
+abbrev pub leaving_mutex : Bool → Doing → CondvarRow
+leaving_mutex moved doing =
+    record blank { doing = doing; moved = moved; wants = Some wants.Exclusive; owes_mutex = true }
 
 abbrev pub wait_row : ℕ → WaitAt → CondvarRow
 wait_row m wait.Enter = record blank { doing = owner; wants = Some wants.Wait }
@@ -137,8 +137,8 @@ wait_row m (wait.Asleep s) = standing s (record blank { doing = befell s idle })
 wait_row m wait.Remove = record (waiting_at Rests) { listed = true }
 wait_row m wait.Hide = waiting_at Clears
 wait_row m wait.GiveUp = waiting_at Rests
-wait_row m wait.RemoveMoved = leaving_mutex true
-wait_row m wait.GiveUpMoved = leaving_mutex false
+wait_row m wait.RemoveMoved = leaving_mutex true inside
+wait_row m (wait.GiveUpMoved none_left) = leaving_mutex false (record inside { empty = found Main none_left })
 wait_row m (wait.Lock timed_out at) = beside (mutex_profile at)
 
 -- ---------------------------------------------------------------- who notifies
@@ -246,11 +246,11 @@ has_given_up p = is_late p
 -- or that of the mutex
 abbrev pub is_late_beside : CondvarPlace → Bool
 is_late_beside (Wait m timed wait.RemoveMoved) = true
-is_late_beside (Wait m timed wait.GiveUpMoved) = true
+is_late_beside (Wait m timed (wait.GiveUpMoved none_left)) = true
 is_late_beside p = false
 
 abbrev pub has_given_up_beside : CondvarPlace → Bool
-has_given_up_beside (Wait m timed wait.GiveUpMoved) = true
+has_given_up_beside (Wait m timed (wait.GiveUpMoved none_left)) = true
 has_given_up_beside p = false
 
 -- whether it has anybody in hand, who waits for the mutex

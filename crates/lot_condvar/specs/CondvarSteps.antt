@@ -83,7 +83,7 @@ wait_act c m wait.Remove = act.Remove (2 * c)
 wait_act c m wait.Hide = act.Word c (op.Store 0)
 wait_act c m wait.GiveUp = act.Leave (One (2 * c)) Nobody
 wait_act c m wait.RemoveMoved = act.Remove (2 * m)
-wait_act c m wait.GiveUpMoved = act.Leave (One (2 * m)) Nobody
+wait_act c m (wait.GiveUpMoved none_left) = act.Leave (One (2 * m)) Nobody
 wait_act c m (wait.Lock timed_out at) = mutex_act m at
 
 -- whom it moves to a mutex that somebody owned, or else takes
@@ -173,8 +173,8 @@ next_wait m timed (wait.Asleep s) reply = At (asleep_next s reply)
 next_wait m timed wait.Remove (Removed none_left) = if none_left then At wait.Hide else At wait.GiveUp
 next_wait m timed wait.Hide (Value seen) = At wait.GiveUp
 next_wait m timed wait.GiveUp Done = At (wait.Lock true (first_lock false))
-next_wait m timed wait.RemoveMoved (Removed none_left) = At wait.GiveUpMoved
-next_wait m timed wait.GiveUpMoved Done = At (wait.Lock false (first_lock false))
+next_wait m timed wait.RemoveMoved (Removed none_left) = At (wait.GiveUpMoved none_left)
+next_wait m timed (wait.GiveUpMoved none_left) Done = At (wait.Lock false (first_lock false))
 next_wait m timed (wait.Lock timed_out at) reply = relocked timed timed_out (mutex_next at reply)
 next_wait m timed at reply = At at
 

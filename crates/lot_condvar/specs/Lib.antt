@@ -2,3 +2,4 @@ pub mod CondvarSteps
 pub mod CondvarProfiles
 pub mod CondvarDeeds
 pub mod CondvarMutex
+pub mod CondvarWaits

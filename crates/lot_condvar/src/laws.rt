@@ -1,6 +1,7 @@
 //! What the steps of a condition variable do to it.
 ghost use Rattle.lot_condvar.specs.CondvarDeeds.{CondvarMovesFit, CondvarStepsCode, CondvarStepsFollow};
 ghost use Rattle.lot_condvar.specs.CondvarMutex.{NotifiersCode, NotifiersFollow};
+ghost use Rattle.lot_condvar.specs.CondvarWaits.{WaitersCode, WaitersFollow, WaitersHear};
 
 /// Each step of a thread may do to the condition variable what its deeds say, and its next place says where the thread is behind them.
 pub fn condvar_steps_follow()
@@ -25,4 +26,19 @@ pub fn notifiers_follow()
 /// And each of its steps on the word of the mutex leaves the word of the mutex behind its deeds.
 pub fn notifiers_code()
     ensures { NotifiersCode }
+{}
+
+/// Each step of a wait may do to its mutex what its deeds say, and its next place says what the thread does there then.
+pub fn waiters_follow()
+    ensures { WaitersFollow }
+{}
+
+/// And each of its steps on the word of the mutex leaves the word of the mutex behind its deeds, and the owner.
+pub fn waiters_code()
+    ensures { WaitersCode }
+{}
+
+/// What befalls it, as it stands in a queue or is in a hand, makes of what it does there what its next place says.
+pub fn waiters_hear()
+    ensures { WaitersHear }
 {}

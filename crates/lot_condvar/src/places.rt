@@ -188,7 +188,7 @@ impl CondvarPlace {
         match self {
             CondvarPlace::Wait { at, .. } => match at {
                 WaitAt::Release { stands, .. } | WaitAt::Asleep(stands) => Some(stands.wants()),
-                WaitAt::RemoveMoved | WaitAt::GiveUpMoved => Some(Want::Exclusive),
+                WaitAt::RemoveMoved | WaitAt::GiveUpMoved { .. } => Some(Want::Exclusive),
                 WaitAt::Lock { at, .. } => at.wants(),
                 _ => Some(Want::Wait),
             },

@@ -61,7 +61,8 @@ pub enum WaitAt {
     GiveUp,
     /// Late, inside the section of its mutex, and still in that queue.
     RemoveMoved,
-    GiveUpMoved,
+    /// Whether nobody is left in that queue, whose bit it leaves.
+    GiveUpMoved { none_left: bool },
     /// Its time was up while it stood in the queue of the condition variable, or somebody moved it.
     Lock { timed_out: bool, at: MutexPlace },
 }
@@ -118,7 +119,7 @@ impl WaitAt {
     {
         match self {
             WaitAt::Release { at, .. } | WaitAt::Lock { at, .. } => at.owes() == Some(Line::Main),
-            WaitAt::RemoveMoved | WaitAt::GiveUpMoved => true,
+            WaitAt::RemoveMoved | WaitAt::GiveUpMoved { .. } => true,
             _ => false,
         }
     }
@@ -269,8 +270,10 @@ pub(super) fn next_wait(mutex: usize, timed: bool, at: WaitAt, reply: Reply) -> 
             timed_out: true,
             at: first_lock(false),
         }),
-        (WaitAt::RemoveMoved, Reply::Removed { .. }) => Next::At(WaitAt::GiveUpMoved),
-        (WaitAt::GiveUpMoved, Reply::Done) => Next::At(WaitAt::Lock {
+        (WaitAt::RemoveMoved, Reply::Removed { none_left }) => {
+            Next::At(WaitAt::GiveUpMoved { none_left })
+        }
+        (WaitAt::GiveUpMoved { .. }, Reply::Done) => Next::At(WaitAt::Lock {
             timed_out: false,
             at: first_lock(false),
         }),
@@ -309,7 +312,7 @@ pub(super) fn wait_act(condvar: usize, mutex: usize, at: WaitAt) -> Act
             op: Op::Store(0),
         },
         WaitAt::RemoveMoved => Act::Remove(main_key(mutex)),
-        WaitAt::GiveUpMoved => Act::Leave {
+        WaitAt::GiveUpMoved { .. } => Act::Leave {
             keys: Keys::One(main_key(mutex)),
             wakes: Wakes::Nobody,
         },

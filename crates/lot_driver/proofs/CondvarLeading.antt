@@ -221,7 +221,7 @@ module _ (up : Type 0) (c m : ℕ) (kinds : ℕ → WordKind) (at : ℕ → ℕ)
       wait_needs wait.Hide f = may_here (Store 0) st.owns (condvar_steps (condvar_at c) st.owns).hide
       wait_needs wait.GiveUp f = subst (MayLeave Normal) (sym f.1.1) refl
       wait_needs wait.RemoveMoved f = subst (HasKey (2 * m)) (sym f.1) refl
-      wait_needs wait.GiveUpMoved f = subst (MayLeave Normal) (sym f.1) refl
+      wait_needs (wait.GiveUpMoved none_left) f = subst (MayLeave Normal) (sym f.1) refl
       wait_needs (wait.Lock timed_out (Lock entry.Lock retries l)) f = needs_there st (lock_act m l) (only_lock m l) (law m (apart m base) (Lock entry.Lock retries l) st f.1).0
       wait_needs (wait.Lock timed_out p) f = absurd f.1
 
@@ -348,7 +348,7 @@ module _ (up : Type 0) (c m : ℕ) (kinds : ℕ → WordKind) (at : ℕ → ℕ)
       wait_leads wait.Hide f (Value seen) b = ((f.0, shows_on (Store 0) seen (apart m base) _ b f.1), refl)
       wait_leads wait.GiveUp f Done b = ((f.0, (b.0 ∙ f.1.0, b.1)), refl)
       wait_leads wait.RemoveMoved f (Removed none_left) b = (stays (apart m base) _ _ b refl refl f, refl)
-      wait_leads wait.GiveUpMoved f Done b = ((tt, (b.0 ∙ f.0, b.1)), refl)
+      wait_leads (wait.GiveUpMoved none_left) f Done b = ((tt, (b.0 ∙ f.0, b.1)), refl)
       wait_leads (wait.Lock timed_out (Lock entry.Lock retries l)) f reply b = relock_comes timed_out (still_retries retries reply) (next_lock entry.Lock l reply) f.0 (by_mutex (Lock entry.Lock retries l) f.1 (only_lock m l) reply b)
       wait_leads (wait.Lock timed_out p) f reply b = absurd f.1
       wait_leads w f reply b = absurd b

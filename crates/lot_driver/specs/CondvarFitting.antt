@@ -131,7 +131,7 @@ module _ (up : Type 0) where
   FitsWait c m timed base wait.Hide st = LateIf timed true × Within c (apart m base) st
   FitsWait c m timed base wait.GiveUp st = LateIf timed true × Within c (apart m base) st
   FitsWait c m timed base wait.RemoveMoved st = Within m (apart m base) st
-  FitsWait c m timed base wait.GiveUpMoved st = Within m (apart m base) st
+  FitsWait c m timed base (wait.GiveUpMoved none_left) st = Within m (apart m base) st
   FitsWait c m timed base (wait.Lock timed_out at) st = LateIf timed timed_out × FitsRelock m base at st
 
   -- what a thread has in a call of a condition variable, which owned so much as it began. The first step of a notification is taken before

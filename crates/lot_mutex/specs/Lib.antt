@@ -1,2 +1,3 @@
 pub mod MutexSteps
 pub mod MutexProfiles
+pub mod MutexDeeds
