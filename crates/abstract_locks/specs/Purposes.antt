@@ -93,9 +93,9 @@ pub data Recall : Type 0 where
   SawOwner : (mutex : ℕ) → (owned : Bool) → Recall
   -- it has taken and moved so many
   HasMoved : (mutex number : ℕ) → Recall
-  -- a wait was moved to the queue of its mutex
+  -- a wait was moved to its mutex: to its queue, or into a hand
   WasMoved : Recall
-  -- or taken by a notification; or woken, or handed its mutex, since it was moved
+  -- and was woken since, or handed its mutex, or left that queue
   WasNotified : Recall
 
 -- the lock of which a call is
@@ -205,7 +205,7 @@ ReleasesOnce released case = ReleasesBy Exclusive false case
 
 -- and has it again by that release alone; it gives up in the queue of the mutex too, where it was moved there
 abbrev pub WaitsBeside : Bool → Option ℕ → Bool → Recall → LockCase → Type 0
-WaitsBeside timed gave_up released recalls Late = (timed ≡ true) × (gave_up ≡ None) × (recalls ≡ WasMoved)
+WaitsBeside timed gave_up released recalls Late = (timed ≡ true) × (recalls ≡ WasMoved)
 WaitsBeside timed gave_up released recalls case =
     ReleasesOnce released case ⊎ ((released ≡ true) × EntersBy Exclusive Patient gave_up case)
 

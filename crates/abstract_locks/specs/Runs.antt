@@ -119,9 +119,14 @@ locks_after w t (AtLock l case) = putting w.locks l (after_case (rules_at w l) c
 locks_after w t (Moves c m all owned number) =
     putting (putting w.locks c (left_behind all (w.locks c))) m (joined_by owned t (moved_of all (w.locks c).queue) (w.locks m))
 
+-- its time is up, and it leaves the queue of this lock: a wait that was moved to the queue of its mutex was notified all the same
+abbrev pub gives_up : ℕ → Recall → CallState → CallState
+gives_up l WasMoved c = record c { recalls = WasNotified; late = false }
+gives_up l recalls c = record c { gave_up = Some l }
+
 -- what the thread of the step remembers of it: an ownership, a run, or a place in a queue, ends its retry
 abbrev pub going_on : Event → CallState → CallState
-going_on (AtLock l Late) c = record c { gave_up = Some l }
+going_on (AtLock l Late) c = gives_up l c.recalls c
 going_on (AtLock l (Enter x)) c = record c { retries = None }
 going_on (AtLock l Pend) c = record c { retries = None }
 going_on (AtLock l Settle) c = record c { retries = None }
@@ -149,12 +154,9 @@ behind_wake recalls = recalls
 abbrev pub is_among : ℕ → List Queued → Bool
 is_among u q = nat_le 1 (times u q)
 
--- what a notification made of those whom it took, and of those whom it moved
-abbrev pub befallen : ℕ → List Queued → List Queued → CallState → CallState
-befallen u taken moved c =
-    if is_among u taken then record c { recalls = WasNotified }
-    else if is_among u moved then record c { recalls = WasMoved }
-    else c
+-- what a notification makes of those whom it moves to their mutex, or takes
+abbrev pub befallen : ℕ → List Queued → CallState → CallState
+befallen u moved c = if is_among u moved then record c { recalls = WasMoved } else c
 
 -- and any other thread: whoever is woken tries the lock again, and who was handed it doesn't; who was notified knows it
 abbrev pub woken : LocksState → ℕ → Event → ℕ → CallState → CallState
@@ -162,8 +164,7 @@ woken w t (AtLock l Wake) u c = if is_taken_by t ((w.locks l).taken u) then reco
 woken w t (AtLock l (HandOff x successor)) u c =
     if is_taken_by t ((w.locks l).taken u) then record c { retries = None; recalls = behind_wake c.recalls }
     else c
-woken w t (Moves l m all owned number) u c =
-    befallen u (taken_of owned (moved_of all (w.locks l).queue)) (line_of owned (moved_of all (w.locks l).queue)) c
+woken w t (Moves l m all owned number) u c = befallen u (moved_of all (w.locks l).queue) c
 woken w t event u c = c
 
 -- a call that ends is forgotten
