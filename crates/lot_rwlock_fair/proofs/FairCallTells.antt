@@ -19,8 +19,8 @@ use Rattle.lot_acts.specs.Profiles.{Profile}
 use Rattle.lot_acts.specs.Calls.{CallFollows, MayCome, ComesTo, call_by, rights_where, event_at}
 use Rattle.abstract_locks.specs.Onces.{OnceCase, Start, Finish, Fail, Rest, TakeAll}
 use Rattle.abstract_locks.specs.Locks.{LockState, Rules, Rights, Leave, TakeAside, Late, Wake, Owns, after_case, rights_of, with_right, without_right, without_owner, standing, OfOnce, CondvarCase, Look, Show, Hide, OfCondvar}
-use Rattle.abstract_locks.specs.Purposes.{Enters, Bumps, IsMadeOf}
-use Rattle.abstract_locks.specs.Runs.{LocksState, CallState, Event, Nothing, AtLock, Moves, AnswerHolds, going_on, EntersAnswer, BumpsAnswer, rights_in, one_more_at, one_less_at}
+use Rattle.abstract_locks.specs.Purposes.{Enters, Bumps, IsMadeOf, Recall, Blank, Saw, SawOwner, HasMoved, WasMoved, WasNotified}
+use Rattle.abstract_locks.specs.Runs.{LocksState, CallState, Event, Nothing, AtLock, Moves, AnswerHolds, gives_up, going_on, EntersAnswer, BumpsAnswer, rights_in, one_more_at, one_less_at}
 use Rattle.abstract_locks.specs.Sites.{Has, Doing, Site, IsSite, Deed, Case, Clear, End}
 use Rattle.abstract_locks.specs.Deeds.{after_event}
 use Rattle.abstract_locks.specs.Codes.{code, count_in, has_aside}
@@ -63,7 +63,15 @@ lifted l x c = record c { purpose = Some (Bumps l x); released = true; former = 
 
 lifts : (l : ℕ) (x : Want) (event : Event) (c : CallState) → lifted l x (going_on event c) ≡ going_on event (lifted l x c)
 lifts l x Nothing c = refl
-lifts l x (AtLock k Late) c = refl
+lifts l x (AtLock k Late) c = lifts_late c.recalls
+  where
+    lifts_late : (recalls : Recall) → lifted l x (gives_up k recalls c) ≡ gives_up k recalls (lifted l x c)
+    lifts_late Blank = refl
+    lifts_late (Saw m) = refl
+    lifts_late (SawOwner m owned) = refl
+    lifts_late (HasMoved m number) = refl
+    lifts_late WasMoved = refl
+    lifts_late WasNotified = refl
 lifts l x (AtLock k (OfOnce case)) c = lifts_once case
   where
     lifts_once : (case : OnceCase) → lifted l x (going_on (AtLock k (OfOnce case)) c) ≡ going_on (AtLock k (OfOnce case)) (lifted l x c)
