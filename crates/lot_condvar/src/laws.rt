@@ -1,5 +1,5 @@
 //! What the steps of a condition variable do to it.
-ghost use Rattle.lot_condvar.specs.CondvarDeeds.{CondvarMovesFit, CondvarStepsCode, CondvarStepsFollow};
+ghost use Rattle.lot_condvar.specs.CondvarDeeds.{CondvarMovesFit, CondvarOwnersFollow, CondvarStepsCode, CondvarStepsFollow};
 ghost use Rattle.lot_condvar.specs.CondvarMutex.{NotifiersCode, NotifiersFollow};
 ghost use Rattle.lot_condvar.specs.CondvarWaits.{WaitersCode, WaitersFollow, WaitersHear};
 
@@ -11,6 +11,11 @@ pub fn condvar_steps_follow()
 /// And each step on the word leaves the word of the condition variable behind its deeds.
 pub fn condvar_steps_code()
     ensures { CondvarStepsCode }
+{}
+
+/// And shows the mutex that is shown then.
+pub fn condvar_owners_follow()
+    ensures { CondvarOwnersFollow }
 {}
 
 /// Where a notification moves waiters, there are some, each waits with the mutex that it saw, and that mutex may be brought them.
