@@ -12,6 +12,7 @@ use Rattle.lot_acts.specs.declared.acts.Next.{Next}
 use Rattle.lot_acts.specs.declared.acts.Next.TheVariants.{At, End}
 use Rattle.lot_acts.specs.declared.acts.Reply.{Reply}
 use Rattle.lot_acts.specs.declared.acts.Reply.TheVariants as reply
+use Rattle.lot_acts.specs.declared.owners.Owners.{Owners}
 use Rattle.abstract_locks.specs.Condvars.{Stage, Rests, Adds, Refuses, Misses, Sees, Takes, Clears, Inside, CondvarSite, IsCondvar, CondvarDeed, EndsWait, GoesIn, GoesOut, Show, SeeOther, StandLast, SeeAgain, MissIt, Hide, MoveFirst, MoveAll, LeaveList, Clear, MayGo, MayGoOut, CondvarNeeded, IsAsInside, IsInsideAt, IsInsideNot, at, clears_if, condvar_leads, hidden, moving, waiter}
 use Rattle.abstract_locks.specs.Condvars as condvars
 use Rattle.abstract_locks.specs.Locks.{Queued, putting, times, without}
@@ -32,9 +33,9 @@ use Rattle.lot_condvar.specs.declared.wait.Stands.{Stands}
 use Rattle.lot_condvar.specs.declared.wait.Stands.TheVariants as stands
 use Rattle.lot_condvar.specs.declared.wait.WaitAt.{WaitAt}
 use Rattle.lot_condvar.specs.declared.wait.WaitAt.TheVariants as wait
-use Rattle.lot_condvar.specs.CondvarSteps.{befallen, befalls, behind, condvar_act, in_notify, in_wait, is_shown, marks, mutex_beside, mutex_shown, notified, released, relocked, shown_as}
+use Rattle.lot_condvar.specs.CondvarSteps.{befallen, befalls, behind, condvar_act, condvar_owners, in_notify, in_wait, is_shown, marks, mutex_beside, mutex_shown, notified, released, relocked, shown_as}
 use Rattle.lot_condvar.specs.CondvarProfiles.{is_listed, told_stage}
-use Rattle.lot_condvar.specs.CondvarDeeds.{AllNeeded, CondvarMovesFit, CondvarStepsCode, CondvarStepsFollow, Follows, IsAt, IsAtNext, IsListed, MayHear, after_all, condvar_deeds, relocked_deeds, word_of}
+use Rattle.lot_condvar.specs.CondvarDeeds.{AllNeeded, CondvarMovesFit, CondvarOwnersFollow, CondvarStepsCode, CondvarStepsFollow, Follows, IsAt, IsAtNext, IsListed, MayHear, after_all, condvar_deeds, relocked_deeds, word_of}
 
 times_gone : (t : ℕ) (q : List Queued) → times t (without t q) ≡ 0
 times_gone t [] = refl
@@ -270,6 +271,12 @@ module _ (c : CondvarSite) (t : ℕ) where
   shows_word m (Some n) e true h = same_word n m h
   shows_word m (Some n) e false h = other_word n m ∙ ap word_of (sym e)
 
+  other_owners : (n m : ℕ) (o : Owners) → (if shown_as n == 0 then record o { shown = Some m } else o) ≡ o
+  other_owners n m o = grind (arith, nat_tests)
+
+  shown_still : (n m : ℕ) (o : Owners) → n ≡ m → o.shown ≡ Some n → (if shown_as n == 0 then record o { shown = Some m } else o) ≡ record o { shown = Some m }
+  shown_still n m o same e = other_owners n m o ∙ (λ i. record o { shown = (e ∙ ap (λ k. Some k) same) i })
+
   looks_word : (m : ℕ) (b : Bool) → word_of c.shown ≡ word_of (after_all (if b then SeeAgain m ∷ [] else MissIt m ∷ []) c t).shown
   looks_word m true = refl
   looks_word m false = refl
@@ -302,8 +309,50 @@ module _ (c : CondvarSite) (t : ℕ) where
   leaves_word k (Notify false m (notify.Move false)) f is ne = absurd cc
   leaves_word k (Notify all m (notify.Leave any number)) f is ne = absurd cc
 
+  shows_owners : (m : ℕ) (o : Owners) (x : Option ℕ) → c.shown ≡ x → o.shown ≡ x → (b : Bool) → ((word_of x == 0) || is_shown (word_of x) m) ≡ b
+      → (if word_of x == 0 then record o { shown = Some m } else o) ≡ record o { shown = (after_all (if b then Show m ∷ [] else SeeOther m ∷ []) c t).shown }
+  shows_owners m o None e f true h = refl
+  shows_owners m o None e f false h = absurd cc
+  shows_owners m o (Some n) e f true h = shown_still n m o (same_shown n m h) f
+  shows_owners m o (Some n) e f false h = other_owners n m o ∙ (λ i. record o { shown = (f ∙ sym e) i })
+
+  looks_owners : (m : ℕ) (o : Owners) → o.shown ≡ c.shown → (b : Bool) → o ≡ record o { shown = (after_all (if b then SeeAgain m ∷ [] else MissIt m ∷ []) c t).shown }
+  looks_owners m o e true = λ i. record o { shown = e i }
+  looks_owners m o e false = λ i. record o { shown = e i }
+
+  leaves_owners : (k : ℕ) (p : CondvarPlace) (f : Op) (o : Owners) → condvar_act k p ≡ act.Word k f → mutex_beside p ≢ Some k → o.shown ≡ c.shown
+      → condvar_owners p t (word_of c.shown) o ≡ record o { shown = (after_all (condvar_deeds p (reply.Value (word_of c.shown))) c t).shown }
+  leaves_owners k (Wait m timed wait.Show) f o is ne e = shows_owners m o c.shown refl e ((word_of c.shown == 0) || is_shown (word_of c.shown) m) refl
+  leaves_owners k (Wait m timed wait.Hide) f o is ne e = refl
+  leaves_owners k (Wait m timed (wait.Release s at)) f o is ne e = absurd (ne (ap (λ l. Some l) (mutex_word_is m k f at is)))
+  leaves_owners k (Wait m timed (wait.Lock timed_out at)) f o is ne e = absurd (ne (ap (λ l. Some l) (mutex_word_is m k f at is)))
+  leaves_owners k (Wait m timed wait.Enter) f o is ne e = absurd cc
+  leaves_owners k (Wait m timed wait.Stand) f o is ne e = absurd cc
+  leaves_owners k (Wait m timed wait.Leave) f o is ne e = absurd cc
+  leaves_owners k (Wait m timed wait.Refuse) f o is ne e = absurd cc
+  leaves_owners k (Wait m timed (wait.Asleep s)) f o is ne e = absurd cc
+  leaves_owners k (Wait m timed wait.Remove) f o is ne e = absurd cc
+  leaves_owners k (Wait m timed wait.GiveUp) f o is ne e = absurd cc
+  leaves_owners k (Wait m timed wait.RemoveMoved) f o is ne e = absurd cc
+  leaves_owners k (Wait m timed (wait.GiveUpMoved none_left)) f o is ne e = absurd cc
+  leaves_owners k (Look all) f o is ne e = λ i. record o { shown = e i }
+  leaves_owners k (Notify all m notify.Again) f o is ne e = looks_owners m o e (is_shown (word_of c.shown) m)
+  leaves_owners k (Notify all m notify.Hide) f o is ne e = refl
+  leaves_owners k (Notify all m (notify.Clear any)) f o is ne e = refl
+  leaves_owners k (Notify all m notify.Mark) f o is ne e = absurd (ne (ap (λ l. Some l) (let g : m ≡ k = cc in g)))
+  leaves_owners k (Notify all m (notify.Set seen)) f o is ne e = absurd (ne (ap (λ l. Some l) (let g : m ≡ k = cc in g)))
+  leaves_owners k (Notify all m (notify.MarkMoved number)) f o is ne e = absurd (ne (ap (λ l. Some l) (let g : m ≡ k = cc in g)))
+  leaves_owners k (Notify all m notify.Enter) f o is ne e = absurd cc
+  leaves_owners k (Notify true m (notify.Move locked)) f o is ne e = absurd cc
+  leaves_owners k (Notify false m (notify.Move true)) f o is ne e = absurd cc
+  leaves_owners k (Notify false m (notify.Move false)) f o is ne e = absurd cc
+  leaves_owners k (Notify all m (notify.Leave any number)) f o is ne e = absurd cc
+
 pub condvar_steps_follow : CondvarStepsFollow
 condvar_steps_follow c t p told site a h = follows c t site p told a h
+
+pub condvar_owners_follow : CondvarOwnersFollow
+condvar_owners_follow c t k p f o is ne e = leaves_owners c t k p f o is ne e
 
 pub condvar_steps_code : CondvarStepsCode
 condvar_steps_code c t k p f is ne = leaves_word c t k p f is ne

@@ -8,6 +8,7 @@ use Rattle.lot_acts.specs.declared.acts.Next.{Next}
 use Rattle.lot_acts.specs.declared.acts.Next.TheVariants.{At, End}
 use Rattle.lot_acts.specs.declared.acts.Reply.{Reply}
 use Rattle.lot_acts.specs.declared.acts.Reply.TheVariants.{Done, Value, Took, Requeued, Removed, Late}
+use Rattle.lot_acts.specs.declared.owners.Owners.{Owners}
 use Rattle.abstract_locks.specs.Condvars.{Stage, CondvarSite, IsCondvar, CondvarDeed, EndsWait, GoesIn, GoesOut, Show, SeeOther, StandLast, SeeAgain, MissIt, Hide, MoveFirst, MoveAll, LeaveList, Clear, CondvarNeeded, IsInsideAt, IsInsideNot, MoveFits, WaitsAside, condvar_leads}
 use Rattle.abstract_locks.specs.Locks.{Mutex, Rules, times, without}
 use Rattle.abstract_locks.specs.Sites.{Site, is_empty}
@@ -20,7 +21,7 @@ use Rattle.lot_condvar.specs.declared.places.CondvarPlace.TheVariants.{Wait, Loo
 use Rattle.lot_condvar.specs.declared.wait.Stands.TheVariants as stands
 use Rattle.lot_condvar.specs.declared.wait.WaitAt.{WaitAt}
 use Rattle.lot_condvar.specs.declared.wait.WaitAt.TheVariants as wait
-use Rattle.lot_condvar.specs.CondvarSteps.{befalls, condvar_act, condvar_next, is_shown, mutex_beside, shown_as}
+use Rattle.lot_condvar.specs.CondvarSteps.{befalls, condvar_act, condvar_next, condvar_owners, is_shown, mutex_beside, shown_as}
 use Rattle.lot_condvar.specs.CondvarProfiles.{condvar_row, notify_row}
 
 -- ---------------------------------------------------------------- the deeds of each step
@@ -153,6 +154,14 @@ abbrev pub CondvarStepsCode : Type 0
 CondvarStepsCode =
     (c : CondvarSite) (t k : ℕ) (p : CondvarPlace) (f : Op) → condvar_act k p ≡ act.Word k f → mutex_beside p ≢ Some k
     → apply f (word_of c.shown) ≡ word_of (after_all (condvar_deeds p (Value (word_of c.shown))) c t).shown
+
+-- and shows what is shown then
+abbrev pub CondvarOwnersFollow : Type 0
+CondvarOwnersFollow =
+    (c : CondvarSite) (t k : ℕ) (p : CondvarPlace) (f : Op) (o : Owners) → condvar_act k p ≡ act.Word k f
+    → mutex_beside p ≢ Some k → o.shown ≡ c.shown
+    → condvar_owners p t (word_of c.shown) o
+    ≡ record o { shown = (after_all (condvar_deeds p (Value (word_of c.shown))) c t).shown }
 
 -- where a notification moves, it moves somebody, each of them waits with the mutex that it saw, and that mutex may be brought them
 abbrev pub CondvarMovesFit : Type 0

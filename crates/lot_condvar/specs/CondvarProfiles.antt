@@ -1,14 +1,16 @@
 -- What each place of a condition variable says of its thread, there and at the mutex beside it: a row for each place. All that is asked of
 -- a place is read off its row.
-use Rattle.std.specs.Prelude.{ℕ, Bool, true, false, Option, Some, None, if◌then◌else◌, ◌==◌, ◌&&◌, ◌||◌, ◌*◌}
+use Rattle.std.specs.Prelude.{ℕ, Bool, true, false, Option, Some, None, if◌then◌else◌, ◌==◌, ◌&&◌, ◌||◌, ◌*◌, is_none}
 use Rattle.lot_base.specs.declared.notes.Note.TheVariants as note
 use Rattle.lot_base.specs.declared.wants.Want.{Want}
 use Rattle.lot_base.specs.declared.wants.Want.TheVariants as wants
 use Rattle.lot_acts.specs.Profiles as profiles
 use Rattle.lot_acts.specs.Profiles.{Hand, Profile, hand, hand_owner, in_hand, in_line}
 use Rattle.abstract_locks.specs.Condvars.{Stage, Rests, Adds, Refuses, Misses, Sees, Clears, moving}
+use Rattle.abstract_locks.specs.Locks.{Rights}
+use Rattle.abstract_locks.specs.Purposes.{Purpose, Waits, Notifies, Recall, Blank, Saw, SawOwner, HasMoved, WasMoved, WasNotified}
 use Rattle.abstract_locks.specs.Sites.{Doing, Line, Has, Main, found, idle}
-use Rattle.lot_mutex.specs.MutexProfiles.{inside, mutex_profile, owner}
+use Rattle.lot_mutex.specs.MutexProfiles.{before_release, inside, mutex_profile, owner}
 use Rattle.lot_condvar.specs.declared.notify.NotifyAt.{NotifyAt}
 use Rattle.lot_condvar.specs.declared.notify.NotifyAt.TheVariants as notify
 use Rattle.lot_condvar.specs.declared.places.CondvarPlace.{CondvarPlace}
@@ -231,8 +233,9 @@ abbrev pub may_give_up : CondvarPlace → Bool
 may_give_up (Wait m timed (wait.Asleep s)) = timed
 may_give_up p = false
 
--- its time is up, and it leaves, or has left, the queue of the condition variable
+-- its time is up, and it leaves, or has left, the queue of the condition variable; or it leaves that of the mutex
 abbrev pub is_late : CondvarPlace → Bool
+is_late (Wait m timed wait.RemoveMoved) = true
 is_late (Wait m timed wait.Remove) = true
 is_late (Wait m timed wait.Hide) = true
 is_late (Wait m timed wait.GiveUp) = true
@@ -241,17 +244,64 @@ is_late p = false
 
 abbrev pub has_given_up : CondvarPlace → Bool
 has_given_up (Wait m timed wait.Remove) = false
+has_given_up (Wait m timed wait.RemoveMoved) = false
 has_given_up p = is_late p
 
--- or that of the mutex
 abbrev pub is_late_beside : CondvarPlace → Bool
 is_late_beside (Wait m timed wait.RemoveMoved) = true
-is_late_beside (Wait m timed (wait.GiveUpMoved none_left)) = true
 is_late_beside p = false
 
-abbrev pub has_given_up_beside : CondvarPlace → Bool
-has_given_up_beside (Wait m timed (wait.GiveUpMoved none_left)) = true
-has_given_up_beside p = false
+-- what its call is for
+abbrev pub condvar_purpose : CondvarPlace → ℕ → Purpose
+condvar_purpose (Wait m timed at) c = Waits c m timed
+condvar_purpose (Look all) c = Notifies c all
+condvar_purpose (Notify all m at) c = Notifies c all
+
+-- whether a wait has released its mutex
+abbrev pub has_released : WaitAt → Bool
+has_released wait.Enter = false
+has_released wait.Show = false
+has_released wait.Stand = false
+has_released wait.Leave = false
+has_released wait.Refuse = false
+has_released (wait.Release s at) = (mutex_profile at).released
+has_released at = true
+
+abbrev pub condvar_released : CondvarPlace → Bool
+condvar_released (Wait m timed at) = has_released at
+condvar_released p = false
+
+-- what its call recalls
+abbrev pub stands_recalls : Stands → Recall
+stands_recalls stands.Listed = Blank
+stands_recalls stands.Moved = WasMoved
+stands_recalls (stands.InHand by) = WasMoved
+stands_recalls s = WasNotified
+
+abbrev pub wait_recalls : WaitAt → Recall
+wait_recalls (wait.Release s at) = stands_recalls s
+wait_recalls (wait.Asleep s) = stands_recalls s
+wait_recalls wait.RemoveMoved = WasMoved
+wait_recalls (wait.GiveUpMoved none_left) = WasNotified
+wait_recalls (wait.Lock timed_out at) = if timed_out then Blank else WasNotified
+wait_recalls at = Blank
+
+abbrev pub notify_recalls : ℕ → NotifyAt → Recall
+notify_recalls m (notify.Move locked) = SawOwner m locked
+notify_recalls m (notify.Clear any) = HasMoved m 1
+notify_recalls m (notify.MarkMoved number) = HasMoved m number
+notify_recalls m (notify.Leave any number) = if number == 0 then Saw m else HasMoved m number
+notify_recalls m at = Saw m
+
+abbrev pub condvar_recalls : CondvarPlace → Recall
+condvar_recalls (Wait m timed at) = wait_recalls at
+condvar_recalls (Look all) = Blank
+condvar_recalls (Notify all m at) = notify_recalls m at
+
+-- a wait owned its mutex as it began, by whether it does now
+abbrev pub owned_before : CondvarPlace → ℕ → (ℕ → Rights) → ℕ → Rights
+owned_before (Wait m timed at) l rights = before_release l (is_none (wait_row m at).doing.claims) rights
+owned_before p l rights = rights
 
 -- whether it has anybody in hand, who waits for the mutex
 abbrev pub wait_carries : WaitAt → Option Bool
@@ -281,6 +331,9 @@ condvar_profile p = record profiles.blank {
   late_line = if may_give_up p then in_line (condvar_row p).listed Main else None;
   late = is_late p;
   gave_up = has_given_up p;
+  recalls = condvar_recalls p;
+  purpose = condvar_purpose p;
+  released = condvar_released p;
 }
 
 -- and at the mutex beside it
@@ -296,5 +349,5 @@ mutex_side p = record profiles.blank {
   timed = has_deadline p;
   late_line = if may_give_up p then in_line (condvar_row p).moved Main else None;
   late = is_late_beside p;
-  gave_up = has_given_up_beside p;
+  former = owned_before p;
 }

@@ -245,8 +245,12 @@ condvar_looking p = None
 
 -- ---------------------------------------------------------------- who owns
 
--- who owns the mutex behind an operation on a word that saw this value
+-- who owns the mutex, or which one is shown, behind an operation on a word that saw this value
 abbrev pub condvar_owners : CondvarPlace → ℕ → ℕ → Owners → Owners
+condvar_owners (Wait m timed wait.Show) t seen owners = if seen == 0 then record owners { shown = Some m } else owners
+condvar_owners (Wait m timed wait.Hide) t seen owners = record owners { shown = None }
+condvar_owners (Notify all m notify.Hide) t seen owners = record owners { shown = None }
+condvar_owners (Notify all m (notify.Clear any)) t seen owners = record owners { shown = None }
 condvar_owners (Wait m timed (wait.Release s at)) t seen owners = mutex_owners at t seen owners
 condvar_owners (Wait m timed (wait.Lock timed_out at)) t seen owners = mutex_owners at t seen owners
 condvar_owners p t seen owners = owners

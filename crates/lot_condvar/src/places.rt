@@ -154,7 +154,7 @@ impl CondvarPlace {
         }
     }
 
-    /// Who owns the mutex after the thread's operation on a word, which saw this value.
+    /// Who owns the mutex, or which one is shown, after the thread's operation on a word, which saw this value.
     pub fn owners_after(self, thread: usize, seen: u64, owners: Owners) -> Owners
         ensures { result ≡ condvar_owners self thread seen owners }
     {
@@ -163,6 +163,19 @@ impl CondvarPlace {
                 at: WaitAt::Release { at, .. } | WaitAt::Lock { at, .. },
                 ..
             } => at.owners_after(thread, seen, owners),
+            CondvarPlace::Wait {
+                mutex,
+                at: WaitAt::Show,
+                ..
+            } if seen == 0 => owners.with_shown(Some(mutex)),
+            CondvarPlace::Wait {
+                at: WaitAt::Hide,
+                ..
+            }
+            | CondvarPlace::Notify {
+                at: NotifyAt::Hide | NotifyAt::Clear { .. },
+                ..
+            } => owners.with_shown(None),
             _ => owners,
         }
     }
