@@ -26,8 +26,11 @@ module _ (words n : ℕ) (all : Bool) (seen : ℕ) (answer : Answer) (old mid : 
 
   -- it saw that nobody waits
   pub nobody_waits : seen ≡ 0 → answer ≡ notified all 0 → Notifies words n all answer old mid
-  nobody_waits zero told = inl (n + 1, ends_at_once (at_condvar n (n + 1)) (notify_begin n all) n Load seen old mid answer refl (beside (n + 1) (λ e. omega arith))
-    (subst (λ v. next_act (notify_begin n all) (Value v) ≡ End answer) (sym zero) (ap End (sym told))))
+  nobody_waits zero told = inl (
+    n + 1,
+    ends_at_once (at_condvar n (n + 1)) (notify_begin n all) n Load seen old mid answer refl (beside (n + 1) (λ e. omega arith))
+        (subst (λ v. next_act (notify_begin n all) (Value v) ≡ End answer) (sym zero) (ap End (sym told))),
+  )
 
   leads : (m : ℕ) → seen ≡ m + 1 → next_place (notify_begin n all) (Value seen) ≡ notify_behind n m all
   leads m e =
@@ -38,6 +41,9 @@ module _ (words n : ℕ) (all : Bool) (seen : ℕ) (answer : Answer) (old mid : 
 
   -- or that a mutex is shown
   pub some_wait : (new : List WordStep) → NotifiesBehind words n all seen answer mid new → Notifies words n all answer old new
-  some_wait new (inl b) = inl (b.0, goes_on (at_condvar n b.0) (notify_begin n all) n Load seen old mid new answer refl (beside b.0 b.1)
-    (subst (λ (p : Place). Walks (at_condvar n b.0) p mid new answer) (sym (leads b.0 b.2)) b.3))
+  some_wait new (inl b) = inl (
+    b.0,
+    goes_on (at_condvar n b.0) (notify_begin n all) n Load seen old mid new answer refl (beside b.0 b.1)
+        (subst (λ (p : Place). Walks (at_condvar n b.0) p mid new answer) (sym (leads b.0 b.2)) b.3),
+  )
   some_wait new (inr b) = inr (seen, b.0, b.1, b.2 ∙ added)

@@ -1,7 +1,8 @@
 //! The condition variable, with whose guards of raw mutexes threads wait.
 ghost use Rattle.std.specs.Prelude.{◌≡◌, ◌<◌, ◌*◌, Bool, MatchResult};
 ghost use Rattle.std.specs.Arc.{arc_value};
-ghost use Rattle.lot_base.specs.Clocks.{IsUp};
+ghost use Rattle.std.specs.Duration.{as_nanos};
+ghost use Rattle.lot_base.specs.Clocks.{HasElapsed, IsUp};
 ghost use Rattle.lock_raw.specs.Answers.{GivesBack, IsRefusedWith};
 ghost use Rattle.lot_calls.specs.declared.outcomes.Answer.{Answer};
 ghost use Rattle.lot_words.specs.Lots.{IsWordOf};
@@ -50,6 +51,14 @@ fn ended(answer: Answer, guard: RawGuard) -> Result<(RawGuard, bool), (Fault, Ra
         Answer::TimedOut => Ok((guard, true)),
         _ => Ok((guard, false)),
     }
+}
+
+// The limit of who waits for so long, from now on.
+fn limit_in<C: Clock>(clock: &C, timeout: Duration) -> Option<(&C, u64)>
+    ensures { IsUp C.tells result → HasElapsed (C.tells clock.now) (as_nanos timeout) }
+{
+    let deadline = to_deadline(clock.now(), timeout)?;
+    Some((clock, deadline))
 }
 
 impl RawCondvar {
@@ -151,7 +160,7 @@ impl lock_raw::RawCondvarTimed for RawCondvar {
         clock: &C,
         timeout: Duration,
     ) -> Result<(RawGuard, bool), (Fault, RawGuard)> {
-        let limit = to_deadline(clock.now(), timeout).map(|deadline| (clock, deadline));
+        let limit = limit_in(clock, timeout);
         let (answer, guard) = self.wait_with(rt, token, mutex, guard, limit, true);
         ended(answer, guard)
     }
