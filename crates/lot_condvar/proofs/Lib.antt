@@ -1,3 +1,5 @@
 pub mod CondvarFit
 pub mod NotifierFit
 pub mod WaiterFit
+pub mod WaitTells
+pub mod NotifyTells

@@ -45,18 +45,18 @@ use Rattle.lot_condvar.proofs.NotifierFit.{owned_word, put_same, word_of}
 
 -- ---------------------------------------------------------------- the word of a mutex
 
-parked_is : (p : Bool) (o : Option ℕ) → is_parked (word_of p o) ≡ p
+pub parked_is : (p : Bool) (o : Option ℕ) → is_parked (word_of p o) ≡ p
 parked_is true None = refl
 parked_is true (Some u) = refl
 parked_is false None = refl
 parked_is false (Some u) = refl
 
-zero_free : (p : Bool) (o : Option ℕ) → (word_of p o == 0) ≡ true → o ≡ None
+pub zero_free : (p : Bool) (o : Option ℕ) → (word_of p o == 0) ≡ true → o ≡ None
 zero_free p None e = refl
 zero_free true (Some u) e = absurd cc
 zero_free false (Some u) e = absurd cc
 
-unlocked_free : (p : Bool) (o : Option ℕ) → is_locked (word_of p o) ≡ false → o ≡ None
+pub unlocked_free : (p : Bool) (o : Option ℕ) → is_locked (word_of p o) ≡ false → o ≡ None
 unlocked_free p None e = refl
 unlocked_free true (Some u) e = absurd cc
 unlocked_free false (Some u) e = absurd cc
@@ -111,7 +111,7 @@ module _ (limit : ℕ) (s : Site) (t m : ℕ) (h : IsSite (record { sort = Mutex
     claims_it true = refl
     claims_it false = refl
 
-    owns : s.doing t ≡ befell st owner → s.lock.exclusive ≡ Some t
+    pub owns : s.doing t ≡ befell st owner → s.lock.exclusive ≡ Some t
     owns is = h.held t (Has Exclusive) (ap (λ (d : Doing). d.claims) is ∙ claims_it (has_mutex st))
 
     left_mutex : s.doing t ≡ befell st owner → has_mutex st ≡ false → (b : Bool) → s.parked ≡ b

@@ -3,3 +3,4 @@ pub mod CondvarProfiles
 pub mod CondvarDeeds
 pub mod CondvarMutex
 pub mod CondvarWaits
+pub mod CondvarCalls

@@ -1,4 +1,5 @@
 //! What the steps of a condition variable do to it.
+ghost use Rattle.lot_condvar.specs.CondvarCalls.{CondvarPlacesReached, LooksTell, NotifiesTell, WaitersAreTold, WaitsTell};
 ghost use Rattle.lot_condvar.specs.CondvarDeeds.{CondvarMovesFit, CondvarOwnersFollow, CondvarStepsCode, CondvarStepsFollow};
 ghost use Rattle.lot_condvar.specs.CondvarMutex.{NotifiersCode, NotifiersFollow};
 ghost use Rattle.lot_condvar.specs.CondvarWaits.{WaitersCode, WaitersFollow, WaitersHear};
@@ -46,4 +47,30 @@ pub fn waiters_code()
 /// What befalls it, as it stands in a queue or is in a hand, makes of what it does there what its next place says.
 pub fn waiters_hear()
     ensures { WaitersHear }
+{}
+
+/// Each step of a wait makes of its call what its next rows say, the call is made of what the step does, and its answer is true: no wait
+/// ends as notified that wasn't, and each has its mutex again.
+pub fn waits_tell()
+    ensures { WaitsTell }
+{}
+
+/// What befalls a waiter makes of its call what its next rows say.
+pub fn waiters_are_told()
+    ensures { WaitersAreTold }
+{}
+
+/// Each step of a notification makes of its call what its next rows say, and it answers how many it has moved.
+pub fn notifies_tell()
+    ensures { NotifiesTell }
+{}
+
+/// And so does its first look.
+pub fn looks_tell()
+    ensures { LooksTell }
+{}
+
+/// A call comes only to places at which these laws speak of it.
+pub fn condvar_places_reached()
+    ensures { CondvarPlacesReached }
 {}
