@@ -204,7 +204,7 @@ begins_nothing w l row None o runs may told = by_outcome o told
 begins_nothing w l row (Some case) o runs may told = by_case case o may told
   where
     by_case : (case : LockCase) (o : Outcome) → MayCome l row (AtLock l case) → is_closure o ≡ false → Begins w (AtLock l case) o
-    by_case (OfOnce (Start forced)) o m h = absurd (never_starts (row.purpose l) _ row.released l forced runs m.0)
+    by_case (OfOnce (Start forced)) o m h = absurd (never_starts (row.purpose l) _ row.released row.recalls l forced runs m.0)
     by_case case (outcome.TheVariants.Closure state) m h = absurd cc
     by_case case o m h = tt
 

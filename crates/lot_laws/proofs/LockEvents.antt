@@ -176,54 +176,31 @@ woken_call (RwLock k a (places.HandOver x b to)) t l single h r = absurd (let he
 woken_call (RwLock k a (places.Handed x how b (handed.Asleep u alone))) t l single h r = absurd (let held = taken_hand (RwLock k a (places.Handed x how b (handed.Asleep u alone))) t l tt h in let f : hand u true ≡ hand t false = held.0 in cc)
 woken_call (RwLock k a (places.Handed x how b handed.Accept)) t l single h r = absurd (let held = taken_hand (RwLock k a (places.Handed x how b handed.Accept)) t l tt h in let f : ◌≡◌ {A = Option Hand} None (hand t false) = held.0 in cc)
 
--- where a wait locks its mutex again nothing befalls it
-lock_taken : (k m : ℕ) (timed late : Bool) (at : MutexPlace) (by : ℕ) (r : ℕ → Rights) → call_state (next_place (Condvar k (Wait m timed (wait.Lock late at))) (TakenBy by)) r ≡ call_state (Condvar k (Wait m timed (wait.Lock late at))) r
-lock_taken k m timed late (Lock entry retries First) by r = refl
-lock_taken k m timed late (Lock entry retries at) by r = refl
-lock_taken k m timed late TryLock by r = refl
-lock_taken k m timed late (Unlock unlock.Subtract) by r = refl
-lock_taken k m timed late (Unlock at) by r = refl
-lock_taken k m timed late UnlockFair by r = refl
-lock_taken k m timed late Bump by r = refl
-lock_taken k m timed late (HandOff bumps hand_off.Enter) by r = refl
-lock_taken k m timed late (HandOff bumps at) by r = refl
-
 -- a call goes on as it is where a thread is taken
-pub taken_call : (p : Place) (by : ℕ) (r : ℕ → Rights) → call_state (next_place p (TakenBy by)) r ≡ call_state p r
-taken_call Idle by r = refl
-taken_call (RwLock k a (places.Plain p)) by r = let goes = taken_goes a k p by in ap (λ n. call_state (plain_goes k a n) r) goes.1 ∙ goes.2 r
-taken_call (RwLock k a (places.Bump p)) by r = let goes = taken_goes a k p by in
+pub taken_call : (p : Place) (by : ℕ) → IsSingle p → (r : ℕ → Rights) → call_state (next_place p (TakenBy by)) r ≡ call_state p r
+taken_call Idle by single r = refl
+taken_call (RwLock k a (places.Plain p)) by single r = let goes = taken_goes a k p by in ap (λ n. call_state (plain_goes k a n) r) goes.1 ∙ goes.2 r
+taken_call (RwLock k a (places.Bump p)) by single r = let goes = taken_goes a k p by in
     ap (λ n. call_state (rwlock_goes k a (bump_next p.purpose n)) r) goes.1 ∙ ap (λ q. call_by k (bumping q (rwlock_profile a goes.0)) r) goes.3 ∙ ap (in_bump p.purpose k) (goes.2 r)
-taken_call (RwLock k a (places.Glance x)) by r = refl
-taken_call (RwLock k a (places.HandOver x b handing.Load)) by r = refl
-taken_call (RwLock k a (places.HandOver x b to)) by r = refl
-taken_call (RwLock k a (places.Handed x how b (handed.Asleep u alone))) by r = refl
-taken_call (RwLock k a (places.Handed x how b handed.Accept)) by r = refl
-taken_call (Once k (Look c again look_at.Asleep)) by r = refl
-taken_call (Once k (Look c again at)) by r = refl
-taken_call (Once k (Run forced (run_at.Closure poisoned))) by r = refl
-taken_call (Once k (Run forced at)) by r = refl
-taken_call (Condvar k (Wait m timed (wait.Lock late at))) by r = lock_taken k m timed late at by r
-taken_call (Condvar k (Wait m timed at)) by r = refl
-taken_call (Condvar k (Looks all)) by r = refl
-taken_call (Condvar k (Notify all m notify.Enter)) by r = refl
-taken_call (Condvar k (Notify all m notify.Again)) by r = refl
-taken_call (Condvar k (Notify all m notify.Hide)) by r = refl
-taken_call (Condvar k (Notify all m notify.Mark)) by r = refl
-taken_call (Condvar k (Notify all m (notify.Set seen))) by r = refl
-taken_call (Condvar k (Notify all m (notify.Move locked))) by r = refl
-taken_call (Condvar k (Notify all m (notify.Clear any))) by r = refl
-taken_call (Condvar k (Notify all m (notify.MarkMoved number))) by r = refl
-taken_call (Condvar k (Notify all m (notify.Leave any number))) by r = refl
-taken_call (Mutex k (Lock entry retries First)) by r = refl
-taken_call (Mutex k (Lock entry retries at)) by r = refl
-taken_call (Mutex k TryLock) by r = refl
-taken_call (Mutex k (Unlock unlock.Subtract)) by r = refl
-taken_call (Mutex k (Unlock at)) by r = refl
-taken_call (Mutex k UnlockFair) by r = refl
-taken_call (Mutex k Bump) by r = refl
-taken_call (Mutex k (HandOff bumps hand_off.Enter)) by r = refl
-taken_call (Mutex k (HandOff bumps at)) by r = refl
+taken_call (RwLock k a (places.Glance x)) by single r = refl
+taken_call (RwLock k a (places.HandOver x b handing.Load)) by single r = refl
+taken_call (RwLock k a (places.HandOver x b to)) by single r = refl
+taken_call (RwLock k a (places.Handed x how b (handed.Asleep u alone))) by single r = refl
+taken_call (RwLock k a (places.Handed x how b handed.Accept)) by single r = refl
+taken_call (Once k (Look c again look_at.Asleep)) by single r = refl
+taken_call (Once k (Look c again at)) by single r = refl
+taken_call (Once k (Run forced (run_at.Closure poisoned))) by single r = refl
+taken_call (Once k (Run forced at)) by single r = refl
+taken_call (Condvar k at) by single r = absurd single
+taken_call (Mutex k (Lock entry retries First)) by single r = refl
+taken_call (Mutex k (Lock entry retries at)) by single r = refl
+taken_call (Mutex k TryLock) by single r = refl
+taken_call (Mutex k (Unlock unlock.Subtract)) by single r = refl
+taken_call (Mutex k (Unlock at)) by single r = refl
+taken_call (Mutex k UnlockFair) by single r = refl
+taken_call (Mutex k Bump) by single r = refl
+taken_call (Mutex k (HandOff bumps hand_off.Enter)) by single r = refl
+taken_call (Mutex k (HandOff bumps at)) by single r = refl
 
 -- only a call of a condition variable recalls anything, so that no wake changes what another recalls
 mutex_recalls : (at : MutexPlace) → (mutex_profile at).recalls ≡ Blank

@@ -134,7 +134,7 @@ look_promises l c again at = record {
   asleep = look_asleep l c again at;
   tells = λ h. absurd (look_carries (again_of c again) at h);
   late = λ m h. absurd (once_never_late (Look c again at) m h);
-  may_be_late = λ m h s timed. absurd (untimed l l c timed);
+  may_be_late = λ m h s timed. absurd (untimed l l c (once_profile (Look c again at)).recalls timed);
 }
 
 -- ---------------------------------------------------------------- who runs its closure

@@ -28,7 +28,7 @@ use Rattle.lot_laws.proofs.StandsMoved.{mutex_rules}
 use Rattle.lot_laws.proofs.LineActs.{IsOfLine, IsLineAct, line_act}
 use Rattle.lot_laws.proofs.MutexRows.{mutex_promises}
 use Rattle.lot_laws.proofs.SitesPromise.{first_out}
-use Rattle.lot_laws.proofs.RowPromises.{LetsIn, LetsInAt, IsWaiting, calls_one, taken_of, RowPromises}
+use Rattle.lot_laws.proofs.RowPromises.{LetsIn, LetsInAt, IsWaiting, calls_one as purpose_of_one, taken_of, RowPromises}
 use Rattle.lot_laws.proofs.CallEvents.{rights}
 use Rattle.lot_laws.proofs.CallRows.{call_promises}
 use Rattle.lot_rwlock_fair.specs.FairProfiles.{call_profile}
@@ -147,7 +147,7 @@ module _ (w : State) (t : ℕ) (steady : IsSteady w) where
           let other : false ≡ true = sym (ap has_readers (ap (sort_at w) here ∙ is_condvar)) ∙ admitted.0.0 in cc
 
   pub row_calls_one : (l : ℕ) → lock_of (place_at w t) ≡ Some l → CallsOneLock (Some ((profile (place_at w t)).purpose l))
-  row_calls_one l own = calls_one (sort_at w l) ((profile (place_at w t)).purpose l) ((row_promises l own).known (λ k. sort_at w l) refl) (not_condvar l own)
+  row_calls_one l own = purpose_of_one (sort_at w l) ((profile (place_at w t)).purpose l) ((row_promises l own).known (λ k. sort_at w l) refl) (not_condvar l own)
 
   pub calls_one_lock : CallsOneLock (call_at w t).purpose
   calls_one_lock = by_lock (lock_of (place_at w t)) refl

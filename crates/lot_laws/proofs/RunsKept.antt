@@ -1,6 +1,6 @@
 -- A run of a `Once` is on only while its thread is in the closure of its call.
 use Rattle.abstract_locks.specs.Condvars.{moved_of}
-use Rattle.std.proofs.Common.{ℕ, Bool, true, false, Option, Some, None, if◌then◌else◌, ◌≡◌, ◌≢◌, ◌⊎◌, inl, inr, is_some, List, get_or-set_other, refl, sym, ◌∙◌, ap, subst}
+use Rattle.std.proofs.Common.{◌==◌, eqb-true, ℕ, Bool, true, false, Option, Some, None, if◌then◌else◌, ◌≡◌, ◌≢◌, ◌⊎◌, inl, inr, is_some, List, get_or-set_other, refl, sym, ◌∙◌, ap, subst}
 use Rattle.std.proofs.lemmas.Bool.{cases_eq}
 use Rattle.lot_calls.specs.declared.calls.Step.{Step}
 use Rattle.lot_calls.specs.declared.calls.Turn.{Turn}
@@ -14,7 +14,7 @@ use Rattle.lot_acts.specs.declared.acts.Reply.{Reply}
 use Rattle.lot_acts.specs.declared.acts.Reply.TheVariants.{TakenBy, MovedTo, HandedBy, Woken}
 use Rattle.abstract_locks.specs.Locks.{LockCase, LockState, OfOnce, Rules, after_case, once_after, rights_of}
 use Rattle.abstract_locks.proofs.OnceLaws.{phase_by}
-use Rattle.abstract_locks.specs.Onces.{OnceCase, New, InProgress, Start, Finish, Fail, Rest, TakeAll}
+use Rattle.abstract_locks.specs.Onces.{Phase, OnceCase, New, InProgress, Start, Finish, Fail, Rest, TakeAll}
 use Rattle.abstract_locks.specs.Purposes.{Purpose, Enters, Releases, Converts, Bumps, CallsOnce, Awaits, Waits, Notifies}
 use Rattle.abstract_locks.specs.Runs.{AtLock, Begins, CallState, Closes, Does, Event, GoesOn, IsStep, LocksState, MayDo, MayHappen, MayTurn, Nothing, calls_after, is_closure, locks_after, rules_at, state_told, Moves, joined_by, left_behind}
 use Rattle.lot_calls.specs.declared.calls.OnceCall.{OnceCall}
