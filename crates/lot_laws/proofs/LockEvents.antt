@@ -32,9 +32,6 @@ use Rattle.lot_once.specs.declared.places.OncePlace.TheVariants.{Look, Run}
 use Rattle.lot_once.specs.declared.look.LookAt.TheVariants as look_at
 use Rattle.lot_once.specs.declared.run.RunAt.TheVariants as run_at
 use Rattle.lot_steps.specs.Steps.{next_place, profile, rwlock_goes, calls}
-use Rattle.lot_condvar.specs.declared.places.CondvarPlace.TheVariants.{Wait, Look as Looks, Notify}
-use Rattle.lot_condvar.specs.declared.notify.NotifyAt.TheVariants as notify
-use Rattle.lot_condvar.specs.declared.wait.WaitAt.TheVariants as wait
 use Rattle.lot_mutex.specs.declared.places.MutexPlace.{MutexPlace}
 use Rattle.lot_steps.specs.declared.places.Place.{Place}
 use Rattle.lot_steps.specs.declared.places.Place.TheVariants.{Idle, Mutex, RwLock, Once, Condvar}
