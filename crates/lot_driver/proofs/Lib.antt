@@ -19,6 +19,7 @@ pub mod RwLockBeginning
 pub mod Turning
 pub mod OnceCalling
 pub mod CondvarCalling
+pub mod CondvarNotifying
 pub mod RwLockCalling
 pub mod RwLockCourses
 pub mod RwLockTakes

@@ -1,7 +1,8 @@
 -- What the calls of a condition variable did.
-use Rattle.std.specs.Prelude.{ℕ, ◌≡◌, ◌≢◌, ◌<◌, Bool, List}
+use Rattle.std.specs.Prelude.{ℕ, ◌≡◌, ◌≢◌, ◌<◌, ◌≤◌, ◌*◌, ◌+◌, ◌++◌, ◌⊎◌, Bool, true, false, List, Option, Some, if◌then◌else◌}
 use Rattle.lot_calls.specs.declared.outcomes.Answer.{Answer}
-use Rattle.lot_condvar.specs.declared.places.CondvarPlace.TheVariants.{Wait, Notify}
+use Rattle.lot_calls.specs.declared.outcomes.Answer.TheVariants as answers
+use Rattle.lot_condvar.specs.declared.places.CondvarPlace.TheVariants.{Wait, Look, Notify}
 use Rattle.lot_condvar.specs.declared.notify.NotifyAt.TheVariants as notify
 use Rattle.lot_condvar.specs.declared.wait.WaitAt.TheVariants as wait
 use Rattle.lot_steps.specs.declared.places.Place.{Place}
@@ -13,7 +14,12 @@ use Rattle.lot_words.specs.declared.words.WordKind.TheVariants as kind
 use Rattle.parking_lot_core.specs.declared.lot.ParkingLot.{ParkingLot}
 use Rattle.parking_lot_core.specs.declared.tokens.Token.{Token}
 use Rattle.lot_driver.specs.Calls.{MeetAt}
-use Rattle.lot_driver.specs.Paths.{Walks, at_condvar}
+use Rattle.lot_base.specs.declared.ops.Op.TheVariants.{Load}
+use Rattle.lot_condvar.specs.CondvarSteps.{notified}
+use Rattle.parking_lot_core.specs.Tokens.{IsTokenOf}
+use Rattle.parking_lot_core.specs.declared.tokens.SectionRecord.{SectionRecord}
+use Rattle.lot_driver.specs.CondvarFitting.{move_did}
+use Rattle.lot_driver.specs.Paths.{Walks, at_condvar, condvar_at, step}
 
 -- a thread of the lot, a mutex of it, and a condition variable of it of another number, whose keys are numbers
 abbrev pub MeetBeside : ParkingLot → Token → Word → Word → Type 0
@@ -35,3 +41,33 @@ notify_behind c m all = Condvar c (Notify all m notify.Enter)
 
 abbrev pub HasNotified : ℕ → ℕ → Bool → Answer → List WordStep → List WordStep → Type 0
 HasNotified c m all answer old new = Walks (at_condvar c m) (notify_behind c m all) old new answer
+
+-- a thread of the lot, and a condition variable of it whose keys are numbers
+abbrev pub MeetsCondvar : ParkingLot → Token → Word → Type 0
+MeetsCondvar lot token condvar = IsTokenOf lot token × IsWordOf lot.words condvar
+    × (condvar.kind ≡ kind.Condvar) × (condvar.number < 9223372036854775808)
+
+-- a value that shows no mutex beside this condition variable, in a lot of so many words. Nobody makes a word show that, and the rule of the
+-- lot doesn't say so
+abbrev pub IsStray : ℕ → ℕ → ℕ → Type 0
+IsStray words c seen = (words < seen) ⊎ (seen ≡ c + 1)
+
+abbrev pub notify_begin : ℕ → Bool → Place
+notify_begin c all = Condvar c (Look all)
+
+-- behind its first step, which saw this: the rest leads to its answer; a stray value is answered as where nobody waits
+abbrev pub NotifiesBehind : ℕ → ℕ → Bool → ℕ → Answer → List WordStep → List WordStep → Type 0
+NotifiesBehind words c all seen answer old new =
+    ((m : ℕ) × (m ≢ c) × (seen ≡ m + 1) × HasNotified c m all answer old new)
+    ⊎ (IsStray words c seen × (answer ≡ notified all 0) × (new ≡ old))
+
+-- the steps of a notification lead to its answer, beside the mutex that it saw, if any
+abbrev pub Notifies : ℕ → ℕ → Bool → Answer → List WordStep → List WordStep → Type 0
+Notifies words c all answer old new = ((m : ℕ) × Walks (at_condvar c m) (notify_begin c all) old new answer)
+    ⊎ ((seen : ℕ) × IsStray words c seen × (answer ≡ notified all 0) × (new ≡ old ++ step (condvar_at c) Load seen))
+
+-- one that has moved some left both sections, with a record of that; who notifies all tells its number
+abbrev pub TellsMoved : ℕ → Bool → Answer → Option SectionRecord → Type 0
+TellsMoved c all answer last = (answer ≡ notified all 0) ⊎ ((m : ℕ) × (locked : Bool) × (number : ℕ)
+    × (answer ≡ (if all then answers.Number number else answers.Yes))
+    × (last ≡ Some (record { key = 2 * c; did = move_did all locked c m; number = number })))

@@ -1,8 +1,9 @@
 //! The calls of a condition variable.
-ghost use Rattle.std.specs.Prelude.{◌≡◌, None};
+ghost use Rattle.std.specs.Prelude.{◌≡◌, ◌≢◌, None};
 ghost use Rattle.lot_base.specs.Clocks.{IsUp};
-ghost use Rattle.parking_lot_core.specs.Tokens.{IsSameThread};
-ghost use Rattle.lot_driver.specs.CondvarCalls.{HasNotified, HasWaited, MeetBeside, notify_behind, wait_begin};
+ghost use Rattle.parking_lot_core.specs.Tokens.{IsSameThread, last_of};
+ghost use Rattle.lot_condvar.specs.CondvarSteps.{notified};
+ghost use Rattle.lot_driver.specs.CondvarCalls.{HasNotified, HasWaited, MeetBeside, MeetsCondvar, Notifies, NotifiesBehind, TellsMoved, notify_behind, wait_begin};
 ghost use Rattle.lot_driver.specs.CondvarFitting.{IsNotifyOver, IsWaitOver, OwnsIt};
 ghost use Rattle.lot_driver.specs.Stages.{stage_of};
 ghost use Rattle.lot_driver.specs.Telling.{owns_of, steps_of};
@@ -12,7 +13,8 @@ use crate::words::Words;
 use lot_calls::Answer;
 use lot_condvar::{CondvarPlace, NotifyAt, WaitAt};
 use lot_steps::Place;
-use parking_lot_core::{Clock, ParkingLot, Token, Word};
+use lot_words::laws::condvar_may_step;
+use parking_lot_core::{Clock, Op, ParkingLot, Token, Word};
 use std::sync::Wait;
 
 // Where a wait begins.
@@ -94,4 +96,61 @@ pub fn notify_shown<R: Wait>(
         // No notification runs a closure.
         Stop::Paused { .. } => unreachable!(),
     }
+}
+
+// What a notification answers where nobody waits.
+fn nobody(all: bool) -> Answer
+    ensures { result ≡ notified all 0 }
+{
+    if all { Answer::Number(0) } else { Answer::No }
+}
+
+// The rest of a notification whose first step saw that a mutex is shown.
+#[cold]
+#[inline(never)]
+fn notify_seen<R: Wait>(
+    rt: &R,
+    lot: &ParkingLot,
+    token: &mut Token,
+    condvar: Word,
+    all: bool,
+    seen: u64,
+) -> Answer
+    requires own { MeetsCondvar lot.now token.old condvar }
+    requires some { seen ≢ 0 }
+    ensures own { IsSameThread lot.now token.old token.new }
+    ensures path { NotifiesBehind lot.now.words.count condvar.number all seen result (steps_of token.old) (steps_of token.new) }
+    ensures owns { owns_of token.new ≡ owns_of token.old }
+    ensures record { TellsMoved condvar.number all result (last_of token.new) }
+{
+    match lot.mutex_shown(seen) {
+        Some(mutex) if mutex.number() != condvar.number() => {
+            notify_shown(rt, lot, token, condvar, mutex, all)
+        }
+        _ => nobody(all),
+    }
+}
+
+/// Wakes the first who waits, or all: those whose mutex somebody owns it moves to the queue of that, but for the first where nobody owns
+/// it. It answers how many it took and moved, of the first whether there was one.
+#[inline]
+pub fn notify<R: Wait>(
+    rt: &R,
+    lot: &ParkingLot,
+    token: &mut Token,
+    condvar: Word,
+    all: bool,
+) -> Answer
+    requires own { MeetsCondvar lot.now token.old condvar }
+    ensures own { IsSameThread lot.now token.old token.new }
+    ensures path { Notifies lot.now.words.count condvar.number all result (steps_of token.old) (steps_of token.new) }
+    ensures owns { owns_of token.new ≡ owns_of token.old }
+    ensures record { TellsMoved condvar.number all result (last_of token.new) }
+{
+    condvar_may_step();
+    let seen = lot.word(token, condvar, Op::Load);
+    if seen == 0 {
+        return nobody(all);
+    }
+    notify_seen(rt, lot, token, condvar, all, seen)
 }

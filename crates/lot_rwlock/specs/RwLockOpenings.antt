@@ -4,6 +4,7 @@ use Rattle.lot_acts.specs.Profiles.{Profile}
 use Rattle.lot_acts.specs.Stations.{station_by, nowhere}
 use Rattle.abstract_locks.specs.Locks.{Rights}
 use Rattle.abstract_locks.specs.Sites.{Claim, idle}
+use Rattle.abstract_locks.specs.Purposes.{Blank}
 use Rattle.lot_rwlock.specs.declared.places.Admission.{Admission}
 use Rattle.lot_rwlock.specs.declared.purposes.RwLockPurpose.{RwLockPurpose}
 use Rattle.lot_rwlock.specs.RwLockBegins.{rwlock_first}
@@ -18,6 +19,7 @@ pub record IsOpening (row : Profile) : Type 0 where
   pub late : row.late ≡ false
   pub gave_up : row.gave_up ≡ false
   pub failed : row.failed ≡ false
+  pub recalls : row.recalls ≡ Blank
   pub retries : row.retries ≡ false
   pub released : row.released ≡ false
   pub former : (l : ℕ) (rights : ℕ → Rights) → row.former l rights ≡ rights

@@ -24,7 +24,7 @@ use Rattle.lot_acts.specs.Profiles.{Hand, Profile, hand, hand_owner, in_hand, in
 use Rattle.abstract_locks.specs.Codes.{has_aside}
 use Rattle.abstract_locks.specs.Locks.{Rights, putting}
 use Rattle.abstract_locks.specs.Runs.{one_more_at, one_less_at}
-use Rattle.abstract_locks.specs.Purposes.{Purpose, Enters, Releases, Converts}
+use Rattle.abstract_locks.specs.Purposes.{Purpose, Enters, Releases, Converts, Blank}
 
 -- ---------------------------------------------------------------- on its way into a queue, and out of it
 
@@ -175,6 +175,7 @@ rwlock_profile a p = record {
   late = late_at is_late p.purpose p.at;
   gave_up = late_at has_given_up p.purpose p.at;
   failed = false;
+  recalls = Blank;
   purpose = purpose_by p.purpose;
   released = has_released p.purpose p.at;
   former = before p.purpose p.at;

@@ -18,9 +18,9 @@ use Rattle.lot_acts.specs.declared.acts.Reply.TheVariants as reply
 use Rattle.lot_acts.specs.Profiles.{Profile}
 use Rattle.lot_acts.specs.Calls.{CallFollows, MayCome, ComesTo, call_by, rights_where, event_at}
 use Rattle.abstract_locks.specs.Onces.{OnceCase, Start, Finish, Fail, Rest, TakeAll}
-use Rattle.abstract_locks.specs.Locks.{LockState, Rules, Rights, Leave, TakeAside, Late, Wake, Owns, after_case, rights_of, with_right, without_right, without_owner, standing, OfOnce}
-use Rattle.abstract_locks.specs.Purposes.{Enters, Bumps, IsMadeOf}
-use Rattle.abstract_locks.specs.Runs.{LocksState, CallState, Event, Nothing, AtLock, AnswerHolds, going_on, EntersAnswer, BumpsAnswer, rights_in, one_more_at, one_less_at}
+use Rattle.abstract_locks.specs.Locks.{LockState, Rules, Rights, Leave, TakeAside, Late, Wake, Owns, after_case, rights_of, with_right, without_right, without_owner, standing, OfOnce, CondvarCase, Look, Show, Hide, OfCondvar}
+use Rattle.abstract_locks.specs.Purposes.{Enters, Bumps, IsMadeOf, Recall, Blank, Saw, SawOwner, HasMoved, WasMoved, WasNotified}
+use Rattle.abstract_locks.specs.Runs.{LocksState, CallState, Event, Nothing, AtLock, Moves, AnswerHolds, gives_up, going_on, EntersAnswer, BumpsAnswer, rights_in, one_more_at, one_less_at}
 use Rattle.abstract_locks.specs.Sites.{Has, Doing, Site, IsSite, Deed, Case, Clear, End}
 use Rattle.abstract_locks.specs.Deeds.{after_event}
 use Rattle.abstract_locks.specs.Codes.{code, count_in, has_aside}
@@ -63,7 +63,15 @@ lifted l x c = record c { purpose = Some (Bumps l x); released = true; former = 
 
 lifts : (l : ℕ) (x : Want) (event : Event) (c : CallState) → lifted l x (going_on event c) ≡ going_on event (lifted l x c)
 lifts l x Nothing c = refl
-lifts l x (AtLock k Late) c = refl
+lifts l x (AtLock k Late) c = lifts_late c.recalls
+  where
+    lifts_late : (recalls : Recall) → lifted l x (gives_up k recalls c) ≡ gives_up k recalls (lifted l x c)
+    lifts_late Blank = refl
+    lifts_late (Saw m) = refl
+    lifts_late (SawOwner m owned) = refl
+    lifts_late (HasMoved m number) = refl
+    lifts_late WasMoved = refl
+    lifts_late WasNotified = refl
 lifts l x (AtLock k (OfOnce case)) c = lifts_once case
   where
     lifts_once : (case : OnceCase) → lifted l x (going_on (AtLock k (OfOnce case)) c) ≡ going_on (AtLock k (OfOnce case)) (lifted l x c)
@@ -72,7 +80,15 @@ lifts l x (AtLock k (OfOnce case)) c = lifts_once case
     lifts_once Fail = refl
     lifts_once (Rest wanted forced) = refl
     lifts_once TakeAll = refl
+lifts l x (AtLock k (OfCondvar case)) c = lifts_condvar case
+  where
+    lifts_condvar : (case : CondvarCase) → lifted l x (going_on (AtLock k (OfCondvar case)) c) ≡ going_on (AtLock k (OfCondvar case)) (lifted l x c)
+    lifts_condvar (Look None) = refl
+    lifts_condvar (Look (Some m)) = refl
+    lifts_condvar (Show m) = refl
+    lifts_condvar Hide = refl
 lifts l x (AtLock k case) c = refl
+lifts l x (Moves v m all owned number) c = refl
 
 -- and its answer
 answers : (v : LocksState) (t l : ℕ) (x : Want) (c : CallState) (a : Answer) → EntersAnswer v t c l x Patient a → BumpsAnswer v t (lifted l x c) l x a
@@ -90,7 +106,8 @@ module _ (r : Rules) (s : LockState) (t l : ℕ) (x : Access) (row : Profile) (d
 
   may_again : (e : Event) → MayCome l row e → MayCome l (bumping (purpose.Enter x Patient) row) e
   may_again Nothing may = tt
-  may_again (AtLock k case) may = let made = subst (λ q. IsMadeOf q (if row.gave_up then Some l else None) row.released k case) enters may.0 in ((made.0, inr (refl, made.1)), may.1)
+  may_again (AtLock k case) may = let made = subst (λ q. IsMadeOf q (if row.gave_up then Some l else None) row.released row.recalls k case) enters may.0 in ((made.0, inr (refl, made.1)), may.1)
+  may_again (Moves c m all owned number) may = may
 
   comes_again : (n : Next Profile) → ComesTo r l row event s (after_event r event s t) t n → ComesTo r l (bumping (purpose.Enter x Patient) row) event s (after_event r event s t) t (again_rows x n)
   comes_again (next.At row2) comes = λ rights e. ap (lifted l (wanted x)) (comes rights e) ∙ lifts l (wanted x) event (call_by l row rights)

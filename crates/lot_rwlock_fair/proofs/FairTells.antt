@@ -16,7 +16,7 @@ use Rattle.lot_acts.specs.declared.acts.Reply.{Reply}
 use Rattle.lot_acts.specs.declared.acts.Reply.TheVariants as reply
 use Rattle.lot_acts.specs.Calls.{CallFollows}
 use Rattle.abstract_locks.specs.Locks.{Rules, Rights, LockCase, Leave, TakePicked, HandOff, Wake, Owns, after_case, handed, rights_of, with_right, without_owner}
-use Rattle.abstract_locks.specs.Purposes.{IsMadeOf, ReleasesBy, is_fair_bump}
+use Rattle.abstract_locks.specs.Purposes.{Blank, IsMadeOf, ReleasesBy, is_fair_bump}
 use Rattle.abstract_locks.specs.Runs.{CallState}
 use Rattle.abstract_locks.specs.Sites.{Has, Doing, Site, IsSite, Deed, Case, In, Out}
 use Rattle.abstract_locks.specs.Codes.{code, has_parked}
@@ -62,7 +62,7 @@ module _ (r : Rules) (a : Admission) (s : Site) (t l : ℕ) where
   -- ---------------------------------------------------------------- who hands over
 
   -- a case of the lock that the call is made of: it takes, gives its right up, or hands over
-  made_of : (b : Bool) (x : Want) (case : LockCase) → ReleasesBy x (is_fair_bump x) case → ReleasesBy x true case → IsMadeOf (release_purpose b x l) None false l case
+  made_of : (b : Bool) (x : Want) (case : LockCase) → ReleasesBy x (is_fair_bump x) case → ReleasesBy x true case → IsMadeOf (release_purpose b x l) None false Blank l case
   made_of false x case by fair = (refl, fair)
   made_of true x (Leave y) by fair = (refl, inl (by, refl))
   made_of true x (HandOff y successor) by fair = (refl, inl (by, refl))

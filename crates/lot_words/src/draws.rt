@@ -1,5 +1,5 @@
 //! How words are drawn: each once, from a counter that never falls.
-ghost use Rattle.std.specs.Prelude.{◌≡◌, ◌+◌, ◌<◌, [], ◌∷◌, length, IfOk, MatchOption, MatchResult};
+ghost use Rattle.std.specs.Prelude.{◌≡◌, ◌+◌, ◌<◌, ◌⊎◌, [], ◌∷◌, length, IfOk, MatchOption, MatchResult};
 ghost use Rattle.lot_words.specs.Lots.{IsSeatOf, IsWordOf};
 ghost use Rattle.lot_words.specs.Draws.{IsDrawn, IsDrawRefused};
 ghost use Rattle.lot_words.specs.declared.words.WordKind.TheVariants.{Mutex, Count};
@@ -66,5 +66,17 @@ impl LotWords {
             }
             None => Err(Fault::LotFull),
         }
+    }
+
+    /// The mutex that a condition variable shows by this value, by one more than its number. None where it shows none, or a number that no
+    /// word of the lot has.
+    pub fn mutex_shown(&self, seen: u64) -> Option<Word>
+        ensures { MatchOption result ((seen ≡ 0) ⊎ (self.now.count < seen))
+            (λ word. IsWordOf self.now word × (word.kind ≡ Mutex) × (seen ≡ word.number + 1)) }
+    {
+        if seen == 0 || seen > self.count as u64 {
+            return None;
+        }
+        Some(Word::new((seen - 1) as usize, WordKind::Mutex, self.tag))
     }
 }

@@ -1,3 +1,4 @@
+pub mod CondvarUsers
 pub mod OnceUsers
 pub mod RwLockGuards
 pub mod RwLockUsers

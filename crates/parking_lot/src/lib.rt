@@ -2,6 +2,7 @@
 #![tactic(auto)]
 
 pub use lock_api;
+pub use lock_api::WaitTimeoutResult;
 pub use lock_api_rw;
 pub use lock_raw;
 pub use lot_base::{ListQueues, Queues};
@@ -12,7 +13,7 @@ pub use parking_lot_core::{
     Clock, Did, Fault, Key, Keys, Note, Op, ParkingLot, Requeue, Right, Section, SectionRecord,
     Slept, SystemClock, TickClock, Ticket, Token, Want, Word, WordKind, to_deadline,
 };
-pub use raw_mutexes::{OpenGuard, RawFairMutex, RawGuard, RawMutex};
+pub use raw_mutexes::{OpenGuard, RawCondvar, RawFairMutex, RawGuard, RawMutex};
 pub use raw_rwlocks::{
     RawExclusiveGuard, RawRwLock, RawRwLockRecursive, RawSharedGuard, RawUpgradableGuard,
 };
@@ -29,6 +30,11 @@ pub type FairMutex<T> = lock_api::Mutex<RawFairMutex, T>;
 
 /// The guard of a [`FairMutex`].
 pub type FairMutexGuard<'a, T> = lock_api::MutexGuard<'a, RawFairMutex, T>;
+
+/// Where who has the guard of a [`Mutex`] gives it up and waits to be notified.
+///
+/// Nobody wakes by itself. `notify_one` tells whether anybody waited, and `notify_all` how many did.
+pub type Condvar = lock_api::Condvar<RawCondvar>;
 
 /// A value of a lot that many threads may read, or one may write. A writer that waits keeps further readers out.
 pub type RwLock<T> = lock_api_rw::RwLock<RawRwLock<false>, T>;

@@ -1,5 +1,5 @@
 //! Steps on words, draws and rights, by tokens.
-ghost use Rattle.std.specs.Prelude.{◌≡◌, ℕ, ◌+◌, ◌∷◌, [], true, None, IfOk, MatchResult};
+ghost use Rattle.std.specs.Prelude.{◌≡◌, ℕ, ◌+◌, ◌<◌, ◌⊎◌, ◌∷◌, [], true, None, IfOk, MatchOption, MatchResult};
 ghost use Rattle.lot_words.specs.Indices.{word_index};
 ghost use Rattle.lot_words.specs.Codes.{IsCountCode};
 ghost use Rattle.lot_words.specs.Steps.{MayStep, CodesWith, after_step, has};
@@ -48,6 +48,14 @@ impl ParkingLot {
         condvar_may_step();
         let to = mutex.number() as u64 + 1;
         self.word(token, condvar, Op::Exchange { from: 0, to })
+    }
+
+    /// The mutex that a condition variable of this lot shows by this value. None where it shows none, or a number that no word of the lot has.
+    pub fn mutex_shown(&self, seen: u64) -> Option<Word>
+        ensures { MatchOption result ((seen ≡ 0) ⊎ (self.now.words.count < seen))
+            (λ word. IsWordOf self.now.words word × (word.kind ≡ Mutex) × (seen ≡ word.number + 1)) }
+    {
+        self.words.mutex_shown(seen)
     }
 
     /// Counts once more how often the thread has locked a mutex that it owns. It answers the count before, which the thread said.

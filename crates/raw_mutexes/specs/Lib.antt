@@ -1,2 +1,4 @@
 pub mod MutexGuards
 pub mod Words
+pub mod CondvarCalls
+pub mod CondvarWords

@@ -2,9 +2,11 @@
 #![tactic(auto)]
 
 pub mod guards;
+pub mod raw_condvar;
 pub mod raw_fair_mutex;
 pub mod raw_mutex;
 
 pub use guards::{OpenGuard, RawGuard};
+pub use raw_condvar::RawCondvar;
 pub use raw_fair_mutex::RawFairMutex;
 pub use raw_mutex::RawMutex;

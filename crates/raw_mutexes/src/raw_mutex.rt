@@ -46,7 +46,7 @@ const LEAVE: Op = Op::Exchange {
 #[derive(Drop)]
 pub struct RawMutex {
     lot: Arc<ParkingLot>,
-    word: Word,
+    pub(crate) word: Word,
     ghost drawn: { IsWordOf (arc_value lot).words word × (word.kind ≡ Mutex) × (word.number < 9223372036854775808) },
 }
 
@@ -62,7 +62,7 @@ impl RawMutex {
 
     // The guard of who owns the mutex. It takes the lot from its caller, who has it at hand: behind an atomic step it would be loaded anew.
     #[inline]
-    fn split(&self, lot: &ParkingLot, token: &mut Token) -> RawGuard
+    pub(crate) fn split(&self, lot: &ParkingLot, token: &mut Token) -> RawGuard
         requires lot { lot.now ≡ lot_of self.now }
         requires own { IsTokenOf (lot_of self.now) token.old }
         requires held { has (held (word_of self.now).number) (view_of token.old).owns ≡ true }
@@ -77,7 +77,7 @@ impl RawMutex {
 
     // Spends a guard: the token owns the mutex then.
     #[inline]
-    fn join(&self, lot: &ParkingLot, token: &mut Token, guard: RawGuard)
+    pub(crate) fn join(&self, lot: &ParkingLot, token: &mut Token, guard: RawGuard)
         requires lot { lot.now ≡ lot_of self.now }
         requires own { IsTokenOf (lot_of self.now) token.old × IsGuardOf (lot_of self.now) (word_of self.now) guard }
         ensures own { IsSameThread (lot_of self.now) token.old token.new × (last_of token.new ≡ last_of token.old) }

@@ -1,0 +1,5 @@
+use Rattle.parking_lot_core.specs.Tokens.{IsTokenOf}
+use Rattle.condvar_trials.proofs.tests.stand_under.Given as goal
+
+abbrev pub invariant-loop : goal.invariant-loop
+invariant-loop g l = IsTokenOf l.lot l.token

@@ -1,0 +1,345 @@
+//! One thread that waits, and one that notifies it.
+ghost use Rattle.std.specs.Prelude.{◌≡◌};
+ghost use Rattle.parking_lot.specs.CondvarUsers.{lot_of as condvar_lot};
+ghost use Rattle.parking_lot.specs.Users.{IsTicketOf, IsTokenOf, lock_of, lot_of};
+
+use super::{Room, await_flag, look, next_of, room_for, seats, stand_under};
+use parking_lot::{Condvar, Fault, Mutex, MutexGuard, ParkingLot, TickClock, Ticket, Token};
+use std::alloc::Global;
+use std::sync::Wait;
+use std::sync::atomic::AtomicBool;
+use std::sync::atomic::Ordering::SeqCst;
+use std::test::Fail;
+use std::thread::{Threads, join, yield_now};
+use std::time::Duration;
+
+// So many nanoseconds that no test comes to their end.
+const LONG: u64 = 3_600_000_000_000;
+
+// How the one waits, and how the other comes to notify it.
+#[derive(Clone, Copy, PartialEq, Eq)]
+enum Way {
+    // Under the mutex, for which it had to wait.
+    UnderMutex,
+    // While nobody has the mutex.
+    Free,
+    // Under the mutex, for which it had waited before the other gave it up.
+    InLine,
+    // As the first, and the other waits with a limit.
+    Timed,
+}
+
+// Waits once. Whether it was notified.
+fn wait_once<R: Wait>(
+    rt: &R,
+    room: &Room<u32>,
+    token: &mut Token,
+    guard: MutexGuard<'_, u32>,
+) -> bool
+    requires token { IsTokenOf (lot_of room.now.mutex) token.old }
+    requires guard { lot_of (lock_of guard) ≡ lot_of room.now.mutex }
+    ensures { IsTokenOf (lot_of room.now.mutex) token.new }
+{
+    match room.condvar.wait(rt, token, guard) {
+        Ok(guard) => {
+            guard.unlock(rt, token);
+            true
+        }
+        Err((_, guard)) => {
+            guard.unlock(rt, token);
+            false
+        }
+    }
+}
+
+// The same with a limit.
+fn wait_long<R: Wait>(
+    rt: &R,
+    room: &Room<u32>,
+    token: &mut Token,
+    guard: MutexGuard<'_, u32>,
+) -> bool
+    requires token { IsTokenOf (lot_of room.now.mutex) token.old }
+    requires guard { lot_of (lock_of guard) ≡ lot_of room.now.mutex }
+    ensures { IsTokenOf (lot_of room.now.mutex) token.new }
+{
+    let clock = TickClock::new();
+    match room
+        .condvar
+        .wait_for(rt, token, guard, &clock, Duration::from_nanos(LONG))
+    {
+        Ok((guard, ended)) => {
+            guard.unlock(rt, token);
+            !ended.timed_out()
+        }
+        Err((_, guard)) => {
+            guard.unlock(rt, token);
+            false
+        }
+    }
+}
+
+// Locks, tells so, and waits. Whether it was notified.
+fn lock_and_wait<R: Wait>(
+    rt: &R,
+    lot: &ParkingLot,
+    room: &Room<u32>,
+    ticket: Ticket,
+    locked: &AtomicBool,
+    way: Way,
+) -> bool
+    requires { IsTicketOf lot.now ticket × (lot_of room.now.mutex ≡ lot.now) }
+{
+    let mut token = ticket.enter();
+    let guard = room.mutex.lock(rt, &mut token);
+    locked.store(true, SeqCst);
+    let came = way != Way::InLine || stand_under(rt, lot, &mut token, room.mutex.raw().key(), 1);
+    let notified = if way == Way::Timed {
+        wait_long(rt, room, &mut token, guard)
+    } else {
+        wait_once(rt, room, &mut token, guard)
+    };
+    drop(token.leave());
+    came && notified
+}
+
+// Notifies one. Whether there was one.
+fn notify<R: Wait>(rt: &R, room: &Room<u32>, ticket: Ticket, locked: &AtomicBool, way: Way) -> bool
+    requires { IsTicketOf (lot_of room.now.mutex) ticket }
+{
+    let mut token = ticket.enter();
+    await_flag(rt, locked);
+    let guard = room.mutex.lock(rt, &mut token);
+    let notified = if way == Way::Free {
+        guard.unlock(rt, &mut token);
+        room.condvar.notify_one(rt, &mut token)
+    } else {
+        let notified = room.condvar.notify_one(rt, &mut token);
+        guard.unlock(rt, &mut token);
+        notified
+    };
+    drop(token.leave());
+    notified
+}
+
+fn wait_and_notify<R: Threads + Wait + Sync>(
+    rt: &R,
+    lot: &ParkingLot,
+    room: &Room<u32>,
+    one: Ticket,
+    other: Ticket,
+    way: Way,
+) -> (bool, bool)
+    requires room { lot_of room.now.mutex ≡ lot.now }
+    requires tickets { IsTicketOf lot.now one × IsTicketOf lot.now other }
+{
+    let flag = AtomicBool::new(false);
+    let locked = &flag;
+    join(
+        rt,
+        move ||
+            requires { IsTicketOf lot.now one × (lot_of room.now.mutex ≡ lot.now) }
+        { lock_and_wait(rt, lot, room, one, locked, way) },
+        move ||
+            requires { IsTicketOf (lot_of room.now.mutex) other }
+        { notify(rt, room, other, locked, way) },
+    )
+}
+
+// Whether one was notified that waited, and nobody waits behind it.
+fn meet<R: Threads + Wait + Sync>(rt: &R, alloc: Global, way: Way) -> Result<bool, Fault> {
+    let (lot, room, mut token, mut others) = room_for(alloc, 3, 0u32)?;
+    let Some(one) = next_of(&lot, &mut others) else {
+        return Err(Fault::NoMemory);
+    };
+    let Some(other) = next_of(&lot, &mut others) else {
+        return Err(Fault::NoMemory);
+    };
+    let ended = wait_and_notify(rt, &lot, &room, one, other, way);
+    Ok(ended == (true, true) && !room.condvar.notify_one(rt, &mut token))
+}
+
+#[test]
+fn who_waits_is_notified_under_the_mutex(rt: HostRuntime) -> Result<(), Fail> {
+    assert!(rt; meet(&rt, rt.alloc(), Way::UnderMutex)?);
+    Ok(())
+}
+
+#[test]
+fn who_waits_is_notified_where_nobody_has_the_mutex(rt: HostRuntime) -> Result<(), Fail> {
+    assert!(rt; meet(&rt, rt.alloc(), Way::Free)?);
+    Ok(())
+}
+
+#[test]
+fn who_waits_lets_in_who_waited_for_the_mutex(rt: HostRuntime) -> Result<(), Fail> {
+    assert!(rt; meet(&rt, rt.alloc(), Way::InLine)?);
+    Ok(())
+}
+
+#[test]
+fn who_waits_with_a_limit_is_notified_in_time(rt: HostRuntime) -> Result<(), Fail> {
+    assert!(rt; meet(&rt, rt.alloc(), Way::Timed)?);
+    Ok(())
+}
+
+// Holds the mutex, and bumps it until it has notified one.
+fn bump_until_notified<R: Wait>(rt: &R, room: &Room<u32>, ticket: Ticket)
+    requires { IsTicketOf (lot_of room.now.mutex) ticket }
+{
+    let mut token = ticket.enter();
+    let mut guard = room.mutex.lock(rt, &mut token);
+    for _ in rt.forever() {
+        if room.condvar.notify_one(rt, &mut token) {
+            break;
+        }
+        guard = guard.bump(rt, &mut token);
+        yield_now();
+    }
+    guard.unlock(rt, &mut token);
+    drop(token.leave());
+}
+
+fn wait_beside_bumps<R: Threads + Wait + Sync>(
+    rt: &R,
+    lot: &ParkingLot,
+    room: &Room<u32>,
+    one: Ticket,
+    other: Ticket,
+) -> bool
+    requires room { lot_of room.now.mutex ≡ lot.now }
+    requires tickets { IsTicketOf lot.now one × IsTicketOf lot.now other }
+{
+    let flag = AtomicBool::new(false);
+    let locked = &flag;
+    let (notified, _) = join(
+        rt,
+        move ||
+            requires { IsTicketOf lot.now one × (lot_of room.now.mutex ≡ lot.now) }
+        { lock_and_wait(rt, lot, room, one, locked, Way::UnderMutex) },
+        move ||
+            requires { IsTicketOf (lot_of room.now.mutex) other }
+        { bump_until_notified(rt, room, other) },
+    );
+    notified
+}
+
+#[test]
+fn who_waits_is_moved_to_a_mutex_that_is_held(rt: HostRuntime) -> Result<(), Fail> {
+    let (lot, room, _token, mut others) = room_for(rt.alloc(), 3, 0u32)?;
+    let (Some(one), Some(other)) = (next_of(&lot, &mut others), next_of(&lot, &mut others)) else {
+        return Err(Fail::from(Fault::NoMemory));
+    };
+    assert!(rt; wait_beside_bumps(&rt, &lot, &room, one, other));
+    Ok(())
+}
+
+// Waits with another mutex. Whether that was refused, and the mutex is locked still.
+fn is_refused<R: Wait>(rt: &R, condvar: &Condvar, mutex: &Mutex<u32>, token: &mut Token) -> bool
+    requires token { IsTokenOf (lot_of mutex.now) token.old }
+    requires condvar { condvar_lot condvar.now ≡ lot_of mutex.now }
+    ensures { IsTokenOf (lot_of mutex.now) token.new }
+{
+    let guard = mutex.lock(rt, token);
+    match condvar.wait(rt, token, guard) {
+        Ok(guard) => {
+            guard.unlock(rt, token);
+            false
+        }
+        Err((fault, guard)) => {
+            let locked = mutex.is_locked(token);
+            guard.unlock(rt, token);
+            locked && matches!(fault, Fault::TwoMutexes)
+        }
+    }
+}
+
+// Waits with another mutex, in vain. Whether that timed out.
+fn times_out<R: Wait>(rt: &R, condvar: &Condvar, mutex: &Mutex<u32>, token: &mut Token) -> bool
+    requires token { IsTokenOf (lot_of mutex.now) token.old }
+    requires condvar { condvar_lot condvar.now ≡ lot_of mutex.now }
+    ensures { IsTokenOf (lot_of mutex.now) token.new }
+{
+    let clock = TickClock::new();
+    let guard = mutex.lock(rt, token);
+    match condvar.wait_until(rt, token, guard, &clock, 20) {
+        Ok((guard, ended)) => {
+            guard.unlock(rt, token);
+            ended.timed_out()
+        }
+        Err((_, guard)) => {
+            guard.unlock(rt, token);
+            false
+        }
+    }
+}
+
+// Comes with another mutex while one waits, notifies that one, and comes again: it was refused, notified one, and timed out.
+fn come_with_another<R: Wait>(
+    rt: &R,
+    lot: &ParkingLot,
+    room: &Room<u32>,
+    other: &Mutex<u32>,
+    ticket: Ticket,
+) -> (bool, bool, bool)
+    requires locks { (lot_of room.now.mutex ≡ lot.now) × (lot_of other.now ≡ lot.now) }
+    requires ticket { IsTicketOf lot.now ticket }
+{
+    let mut token = ticket.enter();
+    stand_under(rt, lot, &mut token, room.condvar.raw().key(), 1);
+    let refused = is_refused(rt, &room.condvar, other, &mut token);
+    look(rt, room, &mut token);
+    let notified = room.condvar.notify_one(rt, &mut token);
+    let late = times_out(rt, &room.condvar, other, &mut token);
+    drop(token.leave());
+    (refused, notified, late)
+}
+
+fn wait_with_two<R: Threads + Wait + Sync>(
+    rt: &R,
+    lot: &ParkingLot,
+    room: &Room<u32>,
+    other: &Mutex<u32>,
+    tickets: (Ticket, Ticket),
+) -> (bool, (bool, bool, bool))
+    requires locks { (lot_of room.now.mutex ≡ lot.now) × (lot_of other.now ≡ lot.now) }
+    requires tickets { IsTicketOf lot.now tickets.0 × IsTicketOf lot.now tickets.1 }
+{
+    let (one, two) = tickets;
+    let flag = AtomicBool::new(false);
+    let locked = &flag;
+    join(
+        rt,
+        move ||
+            requires { IsTicketOf lot.now one × (lot_of room.now.mutex ≡ lot.now) }
+        { lock_and_wait(rt, lot, room, one, locked, Way::UnderMutex) },
+        move ||
+            requires { (lot_of room.now.mutex ≡ lot.now) × (lot_of other.now ≡ lot.now) × IsTicketOf lot.now two }
+        { come_with_another(rt, lot, room, other, two) },
+    )
+}
+
+fn two_mutexes<R: Threads + Wait + Sync>(
+    rt: &R,
+    alloc: Global,
+) -> Result<(bool, (bool, bool, bool)), Fault> {
+    let (lot, mut token, mut others) = seats(alloc, 3, 3)?;
+    let room = Room::new(&lot, &mut token, 0u32)?;
+    let other = match Mutex::new(&lot, &mut token, 0u32) {
+        Ok(other) => other,
+        Err((fault, _)) => return Err(fault),
+    };
+    let Some(one) = next_of(&lot, &mut others) else {
+        return Err(Fault::NoMemory);
+    };
+    let Some(two) = next_of(&lot, &mut others) else {
+        return Err(Fault::NoMemory);
+    };
+    Ok(wait_with_two(rt, &lot, &room, &other, (one, two)))
+}
+
+#[test]
+fn those_who_wait_at_a_time_have_one_mutex(rt: HostRuntime) -> Result<(), Fail> {
+    assert_eq!(rt; two_mutexes(&rt, rt.alloc())?, (true, (true, true, true)));
+    Ok(())
+}

@@ -1,0 +1,62 @@
+-- What the waits of a raw condition variable answer, by what they give.
+use Rattle.std.proofs.Common.{ℕ, ◌≡◌, ◌∙◌, Bool, true, false, List, inl, inr, refl, sym, subst}
+use Rattle.lot_calls.specs.declared.outcomes.Answer.{Answer}
+use Rattle.lot_calls.specs.declared.outcomes.Answer.TheVariants.{TimedOut, TwoMutexes}
+use Rattle.lot_condvar.specs.CondvarSteps.{waited}
+use Rattle.lock_raw.specs.Answers.{GivesBack, GivesBackTimed, IsLate, timed_answer, waiting_answer}
+use Rattle.lot_words.specs.declared.owners.Ownership.{Ownership}
+use Rattle.lot_driver.specs.CondvarFitting.{IsWaitOver, LateIf}
+use Rattle.lot_driver.specs.Stages.{Stage}
+use Rattle.raw_mutexes.specs.CondvarCalls.{AnswersWait, ended, given_back}
+
+module _ {G : Type 0} (guard : G) where
+  pub waits_so : (answer : Answer) → AnswersWait false answer → waiting_answer (given_back answer guard) ≡ answer
+  waits_so answer (inl other) = subst (λ (a : Answer). waiting_answer (given_back a guard) ≡ a) (sym other) refl
+  waits_so answer (inr told) = subst (λ (a : Answer). waiting_answer (given_back a guard) ≡ a) (sym told.1) refl
+
+  pub gives_back : (holds : G → Type 0) (answer : Answer) → AnswersWait false answer → holds guard → GivesBack (given_back answer guard) holds
+  gives_back holds answer (inl other) h = subst (λ (a : Answer). GivesBack (given_back a guard) holds) (sym other) (refl, h)
+  gives_back holds answer (inr told) h = subst (λ (a : Answer). GivesBack (given_back a guard) holds) (sym told.1) h
+
+  pub ends_so : (answer : Answer) → AnswersWait true answer → timed_answer (ended answer guard) ≡ answer
+  ends_so answer (inl other) = subst (λ (a : Answer). timed_answer (ended a guard) ≡ a) (sym other) refl
+  ends_so answer (inr told) = by_time told.0 told.1
+    where
+      by_time : (late : Bool) → answer ≡ waited true late → timed_answer (ended answer guard) ≡ answer
+      by_time true e = subst (λ (a : Answer). timed_answer (ended a guard) ≡ a) (sym e) refl
+      by_time false e = subst (λ (a : Answer). timed_answer (ended a guard) ≡ a) (sym e) refl
+
+  pub ends_with : (holds : G → Type 0) (answer : Answer) → AnswersWait true answer → holds guard → GivesBackTimed (ended answer guard) holds
+  ends_with holds answer (inl other) h = subst (λ (a : Answer). GivesBackTimed (ended a guard) holds) (sym other) (refl, h)
+  ends_with holds answer (inr told) h = by_time told.0 told.1
+    where
+      by_time : (late : Bool) → answer ≡ waited true late → GivesBackTimed (ended answer guard) holds
+      by_time true e = subst (λ (a : Answer). GivesBackTimed (ended a guard) holds) (sym e) h
+      by_time false e = subst (λ (a : Answer). GivesBackTimed (ended a guard) holds) (sym e) h
+
+  pub ends_late : (passed : Type 0) (answer : Answer) → AnswersWait true answer → (answer ≡ TimedOut → passed) → IsLate (ended answer guard) passed
+  ends_late passed answer (inl other) late = subst (λ (a : Answer). IsLate (ended a guard) passed) (sym other) tt
+  ends_late passed answer (inr told) late = by_time told.0 told.1
+    where
+      by_time : (b : Bool) → answer ≡ waited true b → IsLate (ended answer guard) passed
+      by_time true e = subst (λ (a : Answer). IsLate (ended a guard) passed) (sym e) (λ yes. late e)
+      by_time false e = subst (λ (a : Answer). IsLate (ended a guard) passed) (sym e) (λ yes. absurd (let no : false ≡ true = yes in cc))
+
+-- who tells that its time was up says so of its clock
+pub late_of : (up : Type 0) (timed late : Bool) (answer : Answer) → answer ≡ waited timed late → LateIf up timed late → answer ≡ TimedOut → up
+late_of up timed true answer told late e = late.1
+late_of up true false answer told late e = absurd (let k : waited true false ≡ TimedOut = sym told ∙ e in cc)
+late_of up false false answer told late e = absurd (let k : waited false false ≡ TimedOut = sym told ∙ e in cc)
+
+module _ (up : Type 0) (m : ℕ) (timed : Bool) (base : List Ownership) (answer : Answer) (st : Stage) (over : IsWaitOver up m timed base answer st) where
+  pub tells : AnswersWait timed answer
+  tells = elim over [
+    | inl other ↦ inl other.0
+    | inr told ↦ inr (told.0, told.1)
+  ]
+
+  pub tells_late : answer ≡ TimedOut → up
+  tells_late e = elim over [
+    | inl other ↦ absurd (let k : TwoMutexes ≡ TimedOut = sym other.0 ∙ e in cc)
+    | inr told ↦ late_of up timed told.0 answer told.1 told.2 e
+  ]

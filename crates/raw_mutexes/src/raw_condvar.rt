@@ -1,0 +1,187 @@
+//! The condition variable, with whose guards of raw mutexes threads wait.
+ghost use Rattle.std.specs.Prelude.{◌≡◌, ◌<◌, ◌*◌, Bool, MatchResult};
+ghost use Rattle.std.specs.Arc.{arc_value};
+ghost use Rattle.std.specs.Duration.{as_nanos};
+ghost use Rattle.lot_base.specs.Clocks.{HasElapsed, IsUp};
+ghost use Rattle.lock_raw.specs.Answers.{GivesBack, IsRefusedWith};
+ghost use Rattle.lot_calls.specs.declared.outcomes.Answer.{Answer};
+ghost use Rattle.lot_words.specs.Lots.{IsWordOf};
+ghost use Rattle.lot_words.specs.declared.words.WordKind.TheVariants.{Condvar};
+ghost use Rattle.parking_lot_core.specs.Tokens.{IsTokenOf};
+ghost use Rattle.lot_driver.specs.CondvarCalls.{Notifies};
+ghost use Rattle.lot_driver.specs.Drawing.{Drew};
+ghost use Rattle.lot_driver.specs.Telling.{steps_of};
+ghost use Rattle.raw_mutexes.specs.CondvarCalls.{AnswersWait, HasMoved, WaitsBy};
+ghost use Rattle.raw_mutexes.specs.CondvarCalls as answers;
+ghost use Rattle.raw_mutexes.specs.MutexGuards.{IsGuardOf, StaysAs};
+ghost use Rattle.raw_mutexes.specs.Words as mutexes;
+
+use crate::guards::RawGuard;
+use crate::raw_mutex::RawMutex;
+use lot_base::main_key;
+use lot_calls::Answer;
+use lot_driver::condvar_calls::{notify, wait};
+use lot_driver::driver::NO_LIMIT;
+use parking_lot_core::{Clock, Fault, Key, ParkingLot, Token, Word, WordKind, to_deadline};
+use std::sync::{Arc, Wait};
+use std::time::Duration;
+
+/// A condition variable of a lot. Its word is 0 where nobody waits, and else shows the mutex with which threads wait.
+#[derive(Drop)]
+pub struct RawCondvar {
+    lot: Arc<ParkingLot>,
+    word: Word,
+    ghost drawn: { IsWordOf (arc_value lot).words word × (word.kind ≡ Condvar) × (word.number < 9223372036854775808) },
+}
+
+fn given_back(answer: Answer, guard: RawGuard) -> Result<RawGuard, (Fault, RawGuard)>
+    ensures { result ≡ answers.given_back answer guard }
+{
+    match answer {
+        Answer::TwoMutexes => Err((Fault::TwoMutexes, guard)),
+        _ => Ok(guard),
+    }
+}
+
+fn ended(answer: Answer, guard: RawGuard) -> Result<(RawGuard, bool), (Fault, RawGuard)>
+    ensures { result ≡ answers.ended answer guard }
+{
+    match answer {
+        Answer::TwoMutexes => Err((Fault::TwoMutexes, guard)),
+        Answer::TimedOut => Ok((guard, true)),
+        _ => Ok((guard, false)),
+    }
+}
+
+// The limit of who waits for so long, from now on.
+fn limit_in<C: Clock>(clock: &C, timeout: Duration) -> Option<(&C, u64)>
+    ensures { IsUp C.tells result → HasElapsed (C.tells clock.now) (as_nanos timeout) }
+{
+    let deadline = to_deadline(clock.now(), timeout)?;
+    Some((clock, deadline))
+}
+
+impl RawCondvar {
+    ghost use Rattle.raw_mutexes.specs.CondvarWords.{lot_of, word_of};
+
+    /// The key of its queue.
+    pub fn key(&self) -> Key
+        ensures { result ≡ 2 * (word_of self.now).number }
+    {
+        main_key(self.word.number())
+    }
+
+    // Waits up to a deadline, or without one. It answers whether the time was up, with the guard.
+    fn wait_with<R: Wait, C: Clock>(
+        &self,
+        rt: &R,
+        token: &mut Token,
+        mutex: &RawMutex,
+        guard: RawGuard,
+        limit: Option<(&C, u64)>,
+        timed: bool,
+    ) -> (Answer, RawGuard)
+        requires token { IsTokenOf (lot_of self.now) token.old }
+        requires lot { mutexes.lot_of mutex.now ≡ lot_of self.now }
+        requires guard { IsGuardOf (lot_of self.now) (mutexes.word_of mutex.now) guard }
+        ensures token { IsTokenOf (lot_of self.now) token.new × StaysAs token.old token.new }
+        ensures guard { IsGuardOf (lot_of self.now) (mutexes.word_of mutex.now) result.1 }
+        ensures path { WaitsBy (word_of self.now).number (mutexes.word_of mutex.now).number timed result.0
+            (steps_of token.old) (steps_of token.new) }
+        ensures told { AnswersWait timed result.0 }
+        ensures late { result.0 ≡ Answer.TimedOut → IsUp C.tells limit.entry }
+    {
+        if self.word.number() == mutex.word.number() {
+            return (Answer::TwoMutexes, guard);
+        }
+        let lot: &ParkingLot = &self.lot;
+        mutex.join(lot, token, guard);
+        let answer = wait(rt, lot, token, self.word, mutex.word, limit, timed);
+        (answer, mutex.split(lot, token))
+    }
+}
+
+impl lock_raw::RawCondvar for RawCondvar {
+    type RawMutex = RawMutex;
+
+    ghost lot_of = { λ condvar. arc_value condvar.lot };
+
+    ghost drew = { λ condvar old new. Drew Condvar (arc_value condvar.lot) condvar.word old new };
+
+    ghost waited = { λ condvar mutex timed answer old new.
+        WaitsBy condvar.word.number mutex.word.number timed answer (steps_of old) (steps_of new) };
+
+    ghost notified = { λ condvar all answer old new.
+        Notifies (arc_value condvar.lot).words.count condvar.word.number all answer (steps_of old) (steps_of new) };
+
+    ghost moved = { λ condvar all number old new. HasMoved condvar.word.number all number new };
+
+    fn new(lot: &Arc<ParkingLot>, token: &mut Token) -> Result<RawCondvar, Fault> {
+        let Ok(lot) = Arc::try_clone(lot) else {
+            return Err(Fault::NoMemory);
+        };
+        let word = lot.new_word(token, WordKind::Condvar)?;
+        Ok(RawCondvar { lot, word })
+    }
+
+    fn wait<R: Wait>(
+        &self,
+        rt: &R,
+        token: &mut Token,
+        mutex: &RawMutex,
+        guard: RawGuard,
+    ) -> Result<RawGuard, (Fault, RawGuard)> {
+        let (answer, guard) = self.wait_with(rt, token, mutex, guard, NO_LIMIT, false);
+        given_back(answer, guard)
+    }
+
+    #[inline]
+    fn notify_one<R: Wait>(&self, rt: &R, token: &mut Token) -> bool {
+        matches!(notify(rt, &self.lot, token, self.word, false), Answer::Yes)
+    }
+
+    #[inline]
+    fn notify_all<R: Wait>(&self, rt: &R, token: &mut Token) -> usize {
+        match notify(rt, &self.lot, token, self.word, true) {
+            Answer::Number(number) => number,
+            // Who notifies all answers a number.
+            _ => unreachable!(),
+        }
+    }
+}
+
+impl lock_raw::RawCondvarTimed for RawCondvar {
+    fn wait_for<R: Wait, C: Clock>(
+        &self,
+        rt: &R,
+        token: &mut Token,
+        mutex: &RawMutex,
+        guard: RawGuard,
+        clock: &C,
+        timeout: Duration,
+    ) -> Result<(RawGuard, bool), (Fault, RawGuard)> {
+        let limit = limit_in(clock, timeout);
+        let (answer, guard) = self.wait_with(rt, token, mutex, guard, limit, true);
+        ended(answer, guard)
+    }
+
+    fn wait_until<R: Wait, C: Clock>(
+        &self,
+        rt: &R,
+        token: &mut Token,
+        mutex: &RawMutex,
+        guard: RawGuard,
+        clock: &C,
+        deadline: u64,
+    ) -> Result<(RawGuard, bool), (Fault, RawGuard)> {
+        let (answer, guard) = self.wait_with(
+            rt,
+            token,
+            mutex,
+            guard,
+            Some((clock, deadline)),
+            true,
+        );
+        ended(answer, guard)
+    }
+}
