@@ -1,7 +1,7 @@
 //! Inputs that end at a malformed line, with the text that they lead to.
 
 /// Inputs that end at a malformed line, with the text that they lead to.
-pub const MALFORMED: [(&str, &str); 29] = [
+pub const MALFORMED: [(&str, &str); 27] = [
     // The form of a line.
     ("\n", "line 1 malformed\n"),
     ("threads 1\n\nlock m mutex\n", "line 2 malformed\n"),
@@ -51,26 +51,17 @@ pub const MALFORMED: [(&str, &str); 29] = [
         "threads 1\nlock m mutex\nshow\n0 fly\n0 go\n",
         "m 0\nline 4 malformed\n",
     ),
-    // Only a wait on a condition variable has a second name, and it must have one.
+    // Only a wait on a condition variable has a second name. A call that its lock lacks is a possible line.
     (
-        "threads 1\nlock m mutex\nlock c condvar\n0 begin wait c\n",
-        "line 4 malformed\n",
+        "threads 1\nlock m mutex\n0 do wait m m\n",
+        "line 3 malformed\n",
     ),
     (
-        "threads 1\nlock m mutex\nlock c condvar\n0 do wait m m\n",
-        "line 4 malformed\n",
+        "threads 1\nlock m mutex\n0 do notify_one m m\n",
+        "line 3 malformed\n",
     ),
     (
-        "threads 1\nlock m mutex\nlock c condvar\n0 do wait_timed c x\n",
-        "line 4 malformed\n",
-    ),
-    (
-        "threads 1\nlock m mutex\nlock c condvar\n0 do notify_one c m\n",
-        "line 4 malformed\n",
-    ),
-    // A call that its lock lacks, and a second name that is no mutex of which threads may wait, are possible lines.
-    (
-        "threads 1\nlock m mutex\nlock f fair\nlock c condvar\n0 begin wait m\n0 begin notify_one m\n0 begin wait c c\n0 begin wait c f\n0 begin wait_force c\n0 begin lock c\nend\n",
-        "0 not now\n0 not now\n0 not now\n0 not now\n0 not now\n0 not now\nline 11 malformed\n",
+        "threads 1\nlock m mutex\n0 begin wait m\n0 begin notify_one m\n0 begin wait_timed m\n",
+        "0 not now\n0 not now\nline 5 malformed\n",
     ),
 ];
