@@ -65,8 +65,8 @@ module _ (w : LocksState) (t c m : ℕ) (all owned : Bool) (n : ℕ) (states : A
 
   pub mutex_keeps : IsLockState (rules_at w m) (joined_by owned t (moved_of all (w.locks c).queue) (w.locks m))
   mutex_keeps = joined_keeps (rules_at w m) owned t (moved_of all (w.locks c).queue) (w.locks m) may.sorts.1 (states m)
-    (λ u. let a = moved_fewer all u (w.locks c).queue in let b = (states c).once u in omega arith)
-    (λ u e. (may.wait u (listed u e)).1)
+      (λ u. let a = moved_fewer all u (w.locks c).queue in let b = (states c).once u in omega arith)
+      (λ u e. (may.wait u (listed u e)).1)
     where
       listed : (u : ℕ) → 1 ≤ times u (moved_of all (w.locks c).queue) → is_among u (moved_of all (w.locks c).queue) ≡ true
       listed u e = grind (arith, nat_tests)

@@ -3,3 +3,4 @@ pub mod NotifierFit
 pub mod WaiterFit
 pub mod WaitTells
 pub mod NotifyTells
+pub mod CondvarActs

@@ -7,7 +7,7 @@ use Rattle.lot_calls.specs.declared.outcomes.Answer.TheVariants as answer
 use Rattle.lot_acts.specs.declared.acts.Next.{Next}
 use Rattle.lot_acts.specs.declared.acts.Next.TheVariants.{At, End as Over}
 use Rattle.lot_acts.specs.declared.acts.Reply.{Reply}
-use Rattle.lot_acts.specs.declared.acts.Reply.TheVariants.{Done, Value, Took, Requeued, Removed, Late}
+use Rattle.lot_acts.specs.declared.acts.Reply.TheVariants.{Done, Value, Parked, Took, Requeued, Removed, Late, Woken}
 use Rattle.abstract_locks.specs.Condvars.{CondvarSite, Inside, IsAsInside, IsCondvar, IsInsideAt, Misses, MoveFits, Rests, Stage, Takes}
 use Rattle.abstract_locks.specs.Condvars as condvars
 use Rattle.abstract_locks.specs.Deeds.{after_all}
@@ -16,7 +16,12 @@ use Rattle.abstract_locks.specs.Locks.{LockState, Mutex, OfCondvar, Rights, Rule
 use Rattle.abstract_locks.specs.Purposes.{Blank, HasMoved, Notifies, Saw}
 use Rattle.abstract_locks.specs.Runs.{AnswerHolds, AtLock, CallState, Keeps, LocksState, MovedNobody, Moves, Nothing, going_on}
 use Rattle.abstract_locks.specs.Sites.{MarkOwned, Site}
-use Rattle.lot_mutex.specs.MutexSteps.{is_locked, mutex_next}
+use Rattle.lot_mutex.specs.declared.lock.Entry.TheVariants as entry
+use Rattle.lot_mutex.specs.declared.lock.LockAt.{LockAt}
+use Rattle.lot_mutex.specs.declared.lock.LockAt.TheVariants as lock
+use Rattle.lot_mutex.specs.declared.places.MutexPlace.TheVariants as mutex
+use Rattle.lot_mutex.specs.declared.unlock.UnlockAt.{UnlockAt}
+use Rattle.lot_mutex.specs.MutexSteps.{entered, in_lock, in_unlock, is_locked, next_lock, next_unlock, still_retries}
 use Rattle.lot_condvar.specs.declared.notify.NotifyAt.{NotifyAt}
 use Rattle.lot_condvar.specs.declared.notify.NotifyAt.TheVariants as notify
 use Rattle.lot_condvar.specs.declared.places.CondvarPlace.{CondvarPlace}
@@ -25,13 +30,12 @@ use Rattle.lot_condvar.specs.declared.wait.Stands.{Stands}
 use Rattle.lot_condvar.specs.declared.wait.Stands.TheVariants as stands
 use Rattle.lot_condvar.specs.declared.wait.WaitAt.TheVariants as wait
 use Rattle.lot_base.specs.declared.notes.Note.TheVariants as note
-use Rattle.lot_mutex.specs.declared.places.MutexPlace.{MutexPlace}
 use Rattle.lot_condvar.specs.CondvarSteps.{behind, befallen, befalls, condvar_next, in_notify, in_wait, is_shown, marks, moved_one, mutex_shown, notified, released, relocked}
-use Rattle.lot_condvar.specs.CondvarProfiles.{condvar_profile}
+use Rattle.lot_condvar.specs.CondvarProfiles.{may_give_up}
 use Rattle.lot_condvar.specs.CondvarDeeds.{IsAt, MayHear, condvar_deeds, word_of}
 use Rattle.lot_condvar.specs.CondvarDeeds as deeds
 use Rattle.lot_condvar.specs.CondvarMutex.{MayHearBeside, beside_deeds}
-use Rattle.lot_condvar.specs.CondvarCalls.{CallFollows, CondvarPlacesReached, IsReached, IsReachedNext, LooksTell, NotifiesTell, call_at, heard, notify_event}
+use Rattle.lot_condvar.specs.CondvarCalls.{CallFollows, CondvarPlacesReached, IsLockOf, IsReached, IsReachedNext, LooksTell, NotifiesTell, call_at, heard, notify_event}
 use Rattle.lot_condvar.proofs.CondvarFit.{not_none, some_left}
 use Rattle.lot_condvar.proofs.WaitTells.{keeps, same_rights}
 
@@ -161,17 +165,51 @@ goes_behind m timed stands.Listed = tt
 goes_behind m timed stands.Moved = tt
 goes_behind m timed (stands.InHand by) = tt
 goes_behind m timed (stands.Handed by) = tt
-goes_behind m timed (stands.Noted note.Normal) = λ e. cc
-goes_behind m timed (stands.Noted note.HandOff) = λ e. cc
+goes_behind m timed (stands.Noted note.Normal) = ((λ e. cc), tt)
+goes_behind m timed (stands.Noted note.HandOff) = ((λ e. cc), tt)
 
-releases : (m : ℕ) (timed : Bool) (st st2 : Stands) (at : MutexPlace) (b : Bool) (n : Next MutexPlace) → IsReached (Wait m timed (if b then wait.Release st2 at else released st n))
+releases : (m : ℕ) (timed : Bool) (st st2 : Stands) (at : UnlockAt) (b : Bool) (n : Next UnlockAt) → IsReached (Wait m timed (if b then wait.Release st2 (mutex.Unlock at) else released st (in_unlock n)))
 releases m timed st st2 at true n = tt
 releases m timed st st2 at false (At q) = tt
 releases m timed st st2 at false (Over answer) = goes_behind m timed st
 
-relocks : (m : ℕ) (timed timed_out : Bool) (n : Next MutexPlace) → (timed_out ≡ true → timed ≡ true) → IsReachedNext (in_wait m timed (relocked timed timed_out n))
-relocks m timed timed_out (At q) late = late
-relocks m timed timed_out (Over answer) late = tt
+abbrev AreLocks : Next LockAt → Type 0
+AreLocks (At at) = IsLockOf at
+AreLocks (Over answer) = Unit {0}
+
+-- it locks the mutex without a deadline
+locks_on : (at : LockAt) (told : Reply) → IsLockOf at → (told ≡ Late → ⊥) → AreLocks (next_lock entry.Lock at told)
+locks_on lock.First (Value seen) is late = by (seen == 0)
+  where
+    by : (b : Bool) → AreLocks (if b then Over (entered entry.Lock) else At lock.Load)
+    by true = tt
+    by false = tt
+locks_on lock.Load (Value seen) is late = tt
+locks_on (lock.Decide expected) (Value seen) is late = by (seen == expected) (is_locked seen)
+  where
+    by : (same locked : Bool) → AreLocks (if not same then At (lock.Decide seen) else if locked then At (lock.Decide 3) else Over (entered entry.Lock))
+    by false locked = tt
+    by true true = tt
+    by true false = tt
+locks_on (lock.Leave true) Done is late = tt
+locks_on (lock.Leave false) Done is late = tt
+locks_on lock.Asleep Late is late = absurd (late refl)
+locks_on lock.Asleep (Woken note.Normal) is late = tt
+locks_on lock.Asleep (Woken note.HandOff) is late = tt
+locks_on (lock.Taken by) (Woken note.Normal) is late = tt
+locks_on (lock.Taken by) (Woken note.HandOff) is late = tt
+locks_on (lock.Handed by) (Woken note.Normal) is late = tt
+locks_on (lock.Handed by) (Woken note.HandOff) is late = tt
+locks_on lock.Check (Parked b) is late = tt
+locks_on lock.Accept Done is late = tt
+locks_on lock.Remove told is late = absurd is
+locks_on lock.Clear told is late = absurd is
+locks_on lock.GiveUp told is late = absurd is
+locks_on at told is late = is
+
+relocks : (m : ℕ) (timed timed_out retries : Bool) (n : Next LockAt) → AreLocks n → (timed_out ≡ true → timed ≡ true) → IsReachedNext (in_wait m timed (relocked timed timed_out (in_lock entry.Lock retries n)))
+relocks m timed timed_out retries (At q) is late = (late, is)
+relocks m timed timed_out retries (Over answer) is late = tt
 
 marks_reached : (all : Bool) (m seen : ℕ) (b : Bool) → IsReached (Notify all m (if b then notify.Set seen else notify.Move false))
 marks_reached all m seen true = tt
@@ -191,7 +229,7 @@ module _ (c : CondvarSite) (t : ℕ) (site : IsCondvar c) where
   again_reached false true m = tt
   again_reached all false m = ((λ e. cc), λ e. omega arith)
 
-  reaches : (p : CondvarPlace) (told : Reply) → IsReached p → MayHear c t p told → IsAt c t p → (told ≡ Late → (condvar_profile p).timed ≡ true) → IsReachedNext (condvar_next p told)
+  reaches : (p : CondvarPlace) (told : Reply) → IsReached p → MayHear c t p told → IsAt c t p → (told ≡ Late → may_give_up p ≡ true) → IsReachedNext (condvar_next p told)
   reaches (Wait m timed wait.Enter) Done reached h a late = tt
   reaches (Wait m timed wait.Show) (Value seen) reached h a late = shows _
     where
@@ -201,7 +239,8 @@ module _ (c : CondvarSite) (t : ℕ) (site : IsCondvar c) where
   reaches (Wait m timed wait.Stand) Done reached h a late = tt
   reaches (Wait m timed wait.Leave) Done reached h a late = tt
   reaches (Wait m timed wait.Refuse) Done reached h a late = tt
-  reaches (Wait m timed (wait.Release st at)) told reached h a late = releases m timed st (befallen st told) at (befalls told) (mutex_next at told)
+  reaches (Wait m timed (wait.Release st (mutex.Unlock at))) told reached h a late = releases m timed st (befallen st told) at (befalls told) (next_unlock at told)
+  reaches (Wait m timed (wait.Release st at)) told reached h a late = absurd reached
   reaches (Wait m timed (wait.Asleep stands.Listed)) Late reached h a late = late refl
   reaches (Wait m timed (wait.Asleep stands.Moved)) Late reached h a late = late refl
   reaches (Wait m timed wait.Remove) (Removed none_left) reached h a late = unlisted none_left
@@ -210,10 +249,11 @@ module _ (c : CondvarSite) (t : ℕ) (site : IsCondvar c) where
       unlisted true = reached
       unlisted false = reached
   reaches (Wait m timed wait.Hide) (Value seen) reached h a late = reached
-  reaches (Wait m timed wait.GiveUp) Done reached h a late = λ e. reached
+  reaches (Wait m timed wait.GiveUp) Done reached h a late = ((λ e. reached), tt)
   reaches (Wait m timed wait.RemoveMoved) (Removed none_left) reached h a late = tt
-  reaches (Wait m timed (wait.GiveUpMoved none_left)) Done reached h a late = λ e. cc
-  reaches (Wait m timed (wait.Lock timed_out at)) told reached h a late = relocks m timed timed_out (mutex_next at told) reached
+  reaches (Wait m timed (wait.GiveUpMoved none_left)) Done reached h a late = ((λ e. cc), tt)
+  reaches (Wait m timed (wait.Lock timed_out (mutex.Lock entry.Lock retries at))) told reached h a late = relocks m timed timed_out (still_retries retries told) (next_lock entry.Lock at told) (locks_on at told reached.1 (λ e. let g : false ≡ true = late e in cc)) reached.0
+  reaches (Wait m timed (wait.Lock timed_out at)) told reached h a late = absurd reached.1
   reaches (Look all) (Value seen) reached h a late = looks_on (seen == 0)
     where
       looks_on : (b : Bool) → IsReachedNext (if b then Over (notified all 0) else At (Notify all (mutex_shown seen) notify.Enter))

@@ -254,7 +254,7 @@ module _ (v : CondvarSite) (limit : ℕ) (s : Site) (t c m : ℕ) (timed : Bool)
   tells wait.GiveUp whom Done a is f reached = keeps c m t _ _ Done Nothing v.shown s.lock _ tt refl (λ rights. refl)
   tells wait.RemoveMoved whom (Removed none_left) a is f reached = keeps c m t _ _ (Removed none_left) (AtLock m cases.Late) v.shown s.lock _ (inr (refl, (reached, refl)), refl) refl (λ rights. refl)
   tells (wait.GiveUpMoved none_left) whom Done a is f reached = keeps c m t _ _ Done Nothing v.shown s.lock _ tt refl (λ rights. refl)
-  tells (wait.Lock timed_out (mutex.Lock e retries at)) whom told a is f reached = locks e retries timed_out reached at whom told f
+  tells (wait.Lock timed_out (mutex.Lock e retries at)) whom told a is f reached = locks e retries timed_out reached.0 at whom told f
   tells at whom told a is f reached = absurd f
 
 pub waits_tell : WaitsTell

@@ -21,7 +21,7 @@ use Rattle.lot_acts.specs.Moves.{IsFree}
 use Rattle.lot_acts.specs.Owners.{with_exclusive}
 use Rattle.abstract_locks.specs.Codes.{code}
 use Rattle.abstract_locks.specs.Deeds.{AllNeeded, after_all}
-use Rattle.abstract_locks.specs.Locks.{Enter, HasTakenNobody, IsSomePending, KnowsAll, Pending, aside_without, is_thread, Late as GivesUp, Leave, Mutex, Queued, Rules, Knows, first_thread, standing, times, without}
+use Rattle.abstract_locks.specs.Locks.{Enter, HasTakenNobody, IsSomePending, KnowsAll, Pending, aside_without, Late as GivesUp, Leave, Mutex, Queued, Rules, Knows, first_thread, standing, times, without}
 use Rattle.abstract_locks.specs.Sites.{Case, Deed, Doing, End, Has, In, IsSite, Line, Main, Mark, Out, Second, Site, StandsIn, after_deed, counts_some, found, idle, is_empty, late_found, leaves, seen_main, wakened}
 use Rattle.lot_mutex.specs.declared.lock.Entry.{Entry}
 use Rattle.lot_mutex.specs.declared.lock.Entry.TheVariants as entry
@@ -253,10 +253,10 @@ module _ (limit : ℕ) (s : Site) (t m : ℕ) (h : IsSite (record { sort = Mutex
   goes_in : s.doing t ≡ idle → IsFree s Main → Does (In Main ∷ []) inside
   goes_in is free = (((free, ap (λ (d : Doing). d.inside) is, ap (λ (d : Doing). d.empty) is), tt), put_same s.doing t _ ∙ ap (λ (d : Doing). record d { inside = Some Main }) is)
 
-  late : s.doing t ≡ inside → (b : Bool) → times t s.lock.queue ≡ 1 → b ≡ is_empty (without t s.lock.queue)
+  late : s.doing t ≡ inside → (b : Bool) → 1 ≤ times t s.lock.queue → b ≡ is_empty (without t s.lock.queue)
       → Does (Case GivesUp ∷ []) (record inside { empty = found Main b })
   late is b listed e = (
-    ((subst (λ n. 1 ≤ n + is_thread t s.lock.aside) (sym listed) (omega arith), subst (λ n. StandsIn s.lock t n × ((s.doing t).carries ≡ false)) (sym (ap (λ (d : Doing). d.inside) is)) (beside, ap (λ (d : Doing). d.carries) is)), tt),
+    ((omega (arith, listed), subst (λ n. StandsIn s.lock t n × ((s.doing t).carries ≡ false)) (sym (ap (λ (d : Doing). d.inside) is)) (beside, ap (λ (d : Doing). d.carries) is)), tt),
     put_same s.doing t _
         ∙ (λ i. record (is i) { empty = late_found (record s.lock { queue = without t s.lock.queue; aside = aside_without t s.lock.aside }) (is i).inside })
         ∙ ap (λ c. record inside { empty = found Main c }) (sym e),

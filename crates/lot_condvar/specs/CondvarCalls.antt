@@ -17,6 +17,11 @@ use Rattle.abstract_locks.specs.Locks.{LockCase, LockState, Mutex, OfCondvar, Pa
 use Rattle.abstract_locks.specs.Purposes.{Notifies, SawOwner, WasMoved}
 use Rattle.abstract_locks.specs.Runs.{AnswerHolds, AtLock, CallState, Event, LocksState, Moves, Nothing, behind_wake, going_on, one_more_at, rights_in}
 use Rattle.abstract_locks.specs.Sites.{IsSite, Site}
+use Rattle.lot_mutex.specs.declared.lock.Entry.TheVariants as entry
+use Rattle.lot_mutex.specs.declared.lock.LockAt.{LockAt}
+use Rattle.lot_mutex.specs.declared.lock.LockAt.TheVariants as lock
+use Rattle.lot_mutex.specs.declared.places.MutexPlace.{MutexPlace}
+use Rattle.lot_mutex.specs.declared.places.MutexPlace.TheVariants as mutex
 use Rattle.lot_mutex.specs.MutexSteps.{is_locked}
 use Rattle.lot_condvar.specs.declared.notify.NotifyAt.{NotifyAt}
 use Rattle.lot_condvar.specs.declared.notify.NotifyAt.TheVariants as notify
@@ -26,7 +31,7 @@ use Rattle.lot_condvar.specs.declared.wait.Stands.TheVariants as stands
 use Rattle.lot_condvar.specs.declared.wait.WaitAt.{WaitAt}
 use Rattle.lot_condvar.specs.declared.wait.WaitAt.TheVariants as wait
 use Rattle.lot_condvar.specs.CondvarSteps.{condvar_next, mutex_shown, next_wait}
-use Rattle.lot_condvar.specs.CondvarProfiles.{condvar_profile, mutex_side, notify_row, wait_carries, wait_row}
+use Rattle.lot_condvar.specs.CondvarProfiles.{condvar_profile, may_give_up, mutex_side, notify_row, wait_carries, wait_row}
 use Rattle.lot_condvar.specs.CondvarDeeds as deeds
 use Rattle.lot_condvar.specs.CondvarDeeds.{IsAt, MayHear, condvar_deeds, wait_deeds}
 use Rattle.lot_condvar.specs.CondvarMutex.{MayHearBeside, beside_deeds}
@@ -104,13 +109,29 @@ pub record CallFollows (c m : ℕ) (p : CondvarPlace) (told : Reply) (event : Ev
 
 -- ---------------------------------------------------------------- the places that calls come to
 
+-- a wait releases its mutex as `unlock` does, and locks it again as `lock` does
+abbrev pub IsRelease : MutexPlace → Type 0
+IsRelease (mutex.Unlock at) = Unit {0}
+IsRelease at = ⊥
+
+abbrev pub IsLockOf : LockAt → Type 0
+IsLockOf lock.Remove = ⊥
+IsLockOf lock.Clear = ⊥
+IsLockOf lock.GiveUp = ⊥
+IsLockOf at = Unit {0}
+
+abbrev pub IsRelock : MutexPlace → Type 0
+IsRelock (mutex.Lock entry.Lock retries at) = IsLockOf at
+IsRelock at = ⊥
+
 -- only a timed wait is ever late, and who is to wake somebody has moved some: the first alone where it isn't to move all
 abbrev pub IsReached : CondvarPlace → Type 0
+IsReached (Wait m timed (wait.Release s at)) = IsRelease at
 IsReached (Wait m timed wait.Remove) = timed ≡ true
 IsReached (Wait m timed wait.Hide) = timed ≡ true
 IsReached (Wait m timed wait.GiveUp) = timed ≡ true
 IsReached (Wait m timed wait.RemoveMoved) = timed ≡ true
-IsReached (Wait m timed (wait.Lock timed_out at)) = timed_out ≡ true → timed ≡ true
+IsReached (Wait m timed (wait.Lock timed_out at)) = (timed_out ≡ true → timed ≡ true) × IsRelock at
 IsReached (Notify all m (notify.MarkMoved number)) = (all ≡ true) × (number ≢ 0)
 IsReached (Notify all m (notify.Leave any number)) = (any ≡ true → number ≢ 0) × (all ≡ false → number ≤ 1)
 IsReached p = Unit {0}
@@ -122,7 +143,7 @@ IsReachedNext (Over answer) = Unit {0}
 abbrev pub CondvarPlacesReached : Type 0
 CondvarPlacesReached =
     (c : CondvarSite) (t : ℕ) (p : CondvarPlace) (told : Reply) → IsReached p → MayHear c t p told → IsCondvar c
-    → IsAt c t p → (told ≡ Late → (condvar_profile p).timed ≡ true) → IsReachedNext (condvar_next p told)
+    → IsAt c t p → (told ≡ Late → may_give_up p ≡ true) → IsReachedNext (condvar_next p told)
 
 -- ---------------------------------------------------------------- the laws
 

@@ -1,5 +1,5 @@
 -- What each step of a wait does to its mutex, and what befalls it there: the deeds of each place, and their laws.
-use Rattle.std.specs.Prelude.{ℕ, Bool, false, Option, Some, None, ◌==◌, not, ◌≡◌, ◌≢◌, List, [], ◌∷◌, drop, is_none}
+use Rattle.std.specs.Prelude.{ℕ, Bool, false, Option, Some, None, ◌==◌, not, ◌≡◌, ◌≢◌, ◌≤◌, List, [], ◌∷◌, drop, is_none}
 use Rattle.lot_base.specs.declared.notes.Note.TheVariants.{Normal, HandOff as HandOffNote}
 use Rattle.lot_base.specs.declared.ops.Op.{Op}
 use Rattle.lot_base.specs.declared.wants.Want.TheVariants.{Exclusive}
@@ -90,7 +90,7 @@ MayHearWaiter r s t wait.Remove whom (Removed none_left) = Unit {0}
 MayHearWaiter r s t wait.Hide whom (Value seen) = Unit {0}
 MayHearWaiter r s t wait.GiveUp whom Done = Unit {0}
 MayHearWaiter r s t wait.RemoveMoved whom (Removed none_left) =
-    (times t s.lock.queue ≡ 1) × (none_left ≡ is_empty (without t s.lock.queue))
+    (1 ≤ times t s.lock.queue) × (none_left ≡ is_empty (without t s.lock.queue))
 MayHearWaiter r s t (wait.GiveUpMoved none_left) whom Done = Unit {0}
 MayHearWaiter r s t (wait.Lock timed_out (mutex.Lock e retries at)) whom told = MayHearLocking r s t at told
 MayHearWaiter r s t at whom told = ⊥

@@ -4,3 +4,4 @@ pub mod CondvarDeeds
 pub mod CondvarMutex
 pub mod CondvarWaits
 pub mod CondvarCalls
+pub mod CondvarMoves

@@ -1,6 +1,7 @@
 //! What the steps of a condition variable do to it.
 ghost use Rattle.lot_condvar.specs.CondvarCalls.{CondvarPlacesReached, LooksTell, NotifiesTell, WaitersAreTold, WaitsTell};
 ghost use Rattle.lot_condvar.specs.CondvarDeeds.{CondvarMovesFit, CondvarOwnersFollow, CondvarStepsCode, CondvarStepsFollow};
+ghost use Rattle.lot_condvar.specs.CondvarMoves.{LooksMove, NotifiesMove, WaitersMove, WaitsMove};
 ghost use Rattle.lot_condvar.specs.CondvarMutex.{NotifiersCode, NotifiersFollow};
 ghost use Rattle.lot_condvar.specs.CondvarWaits.{WaitersCode, WaitersFollow, WaitersHear};
 
@@ -73,4 +74,25 @@ pub fn looks_tell()
 /// A call comes only to places at which these laws speak of it.
 pub fn condvar_places_reached()
     ensures { CondvarPlacesReached }
+{}
+
+/// Each step of a wait takes its thread in the machine where its act says, at each of its two locks: into sections and queues, out of them,
+/// and into hands.
+pub fn waits_move()
+    ensures { WaitsMove }
+{}
+
+/// And so does each of a notification.
+pub fn notifies_move()
+    ensures { NotifiesMove }
+{}
+
+/// And its first look.
+pub fn looks_move()
+    ensures { LooksMove }
+{}
+
+/// And so does what befalls a waiter.
+pub fn waiters_move()
+    ensures { WaitersMove }
 {}
