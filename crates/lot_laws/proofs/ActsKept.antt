@@ -220,7 +220,7 @@ module _ (w : State) (t l : ℕ) (steady : IsSteady w) (own : IsOf l (place_at w
 
   -- the word is the lock's, whoever stands in its lines and wherever its callers are
   pub word_by_lines : (m s : List Waiter) (q : ℕ → Place) → word_at w l ≡ code r (seen_in r l (record (parts_at w l) { main = m; second = s }) q)
-  word_by_lines m s q = steady.sites.word l ∙ (λ i. code (rules i) (lock_by w l (rules i))) ∙ same_word r.sort r.limit _ _ _ _ refl refl refl refl refl
+  word_by_lines m s q = steady.sites.word l ∙ (λ i. code (rules i) (lock_by w l (rules i))) ∙ same_word r.sort r.limit _ _ _ _ refl refl refl refl refl refl
 
   base_stays : (v : State) → v.locks ≡ w.locks → v.shares ≡ w.shares → v.places ≡ set w.places t p2 → (k : ℕ) → base_at v k ≡ base_at w k
   base_stays v el es ep k = λ i. record { shared = get_or (es i) k (replicate ((ap (λ (xs : List Place). length xs) ep ∙ length-set w.places t p2) i) 0); filled = (get_or (el i) k (unlocked kind.TheVariants.Mutex)).filled }

@@ -24,7 +24,7 @@ use Rattle.lot_rwlock_fair.specs.declared.hand_over.HandOverAt.TheVariants as ha
 use Rattle.lot_rwlock_fair.specs.FairBegins.{call_first}
 use Rattle.lot_rwlock_fair.specs.FairDeeds.{call_doing}
 use Rattle.lot_rwlock_fair.specs.FairSteps.{enters_again, gives_way}
-use Rattle.abstract_locks.specs.Locks.{LockState, Rights, Sort, Mutex as Mutual, Normal, Recursive, Semaphore, Once, Rules, IsBlocked, IsFree, MayEnter, Owns, count, is_recursive, one_if_some, readers, rights_of, with_right}
+use Rattle.abstract_locks.specs.Locks.{LockState, Rights, Sort, Mutex as Mutual, Normal, Recursive, Semaphore, Once, Rules, IsBlocked, IsFree, MayEnter, Owns, count, is_recursive, one_if_some, readers, rights_of, with_right, Condvar}
 use Rattle.abstract_locks.specs.Codes.{TellsTrue, bit, code, count_in, has_parked, has_writer, writers}
 use Rattle.abstract_locks.specs.Purposes.{Bumps, rwlock_purpose}
 use Rattle.abstract_locks.specs.Runs.{LocksState, IsRun, one_more_at, rules_at}
@@ -170,6 +170,7 @@ module _ (w : State) (t l : ℕ) (a : Admission) (x : Access) (holds : IsWorld w
       by_sort Mutual e f = ap (λ (b : Bool). not b || (count_in word == 1)) (sym f)
       by_sort Semaphore e f = ap (λ (b : Bool). not b || (count_in word == 1)) (sym f)
       by_sort Once e f = ap (λ (b : Bool). not b || (count_in word == 1)) (sym f)
+      by_sort Condvar e f = ap (λ (b : Bool). not b || (count_in word == 1)) (sym f)
 
   reads_last : (not a.recursive || (count_in word == 1)) ≡ true → (rules_in w l).sort ≡ Recursive → count s ≡ 1
   reads_last h e = sym counted ∙ eqb-true (count_in word) 1 (ap (λ (b : Bool). not b || (count_in word == 1)) (ap is_recursive (sym e) ∙ admits.1) ∙ h)

@@ -1,10 +1,10 @@
 -- What a step of a thread is to the abstract locks, whatever lock it calls and wherever it stands: the event is the one case of its deeds, and
 -- its call comes to what its rows say.
 use Rattle.std.proofs.Common.{ℕ, Bool, true, false, Option, Some, None, if◌then◌else◌, ◌==◌, ◌≡◌, ◌≢◌, ◌⊎◌, ◌≤◌, List, [], ◌∷◌, ◌++◌, inl, inr, refl, sym, ◌∙◌, ap, subst, arith}
-use Rattle.abstract_locks.specs.Runs.{Nothing}
+use Rattle.abstract_locks.specs.Runs.{Nothing, gives_up}
 use Rattle.lot_laws.specs.Promises.{KnowsRights}
-use Rattle.abstract_locks.specs.Locks.{Once, OfOnce, Sort}
-use Rattle.abstract_locks.specs.Purposes.{Enters, Releases, Converts, Bumps, CallsOnce, Awaits, lock_for}
+use Rattle.abstract_locks.specs.Locks.{Once, OfOnce, Sort, CondvarCase, Look, Show, Hide}
+use Rattle.abstract_locks.specs.Purposes.{Enters, Releases, Converts, Bumps, CallsOnce, Awaits, lock_for, Recall, Blank, Saw, SawOwner, HasMoved, WasMoved, WasNotified, Waits, Notifies}
 use Rattle.abstract_locks.specs.Runs.{is_closure}
 use Rattle.abstract_locks.specs.Runs.{Begins}
 use Rattle.std.proofs.lemmas.Bool.{cases_eq, eqb-true}
@@ -134,7 +134,23 @@ same_purpose l None x = refl
 same_purpose l (Some case) x = by_case case
   where
     by_case : (case : LockCase) → (going_on (AtLock l case) x).purpose ≡ x.purpose
-    by_case locks.Late = refl
+    by_case locks.Late = late_purpose x.recalls
+      where
+        late_purpose : (recalls : Recall) → (gives_up l recalls x).purpose ≡ x.purpose
+        late_purpose Blank = refl
+        late_purpose (Saw m) = refl
+        late_purpose (SawOwner m owned) = refl
+        late_purpose (HasMoved m number) = refl
+        late_purpose WasMoved = refl
+        late_purpose WasNotified = refl
+    by_case (locks.OfCondvar case) = by_condvar case
+      where
+        by_condvar : (case : CondvarCase) → (going_on (AtLock l (locks.OfCondvar case)) x).purpose ≡ x.purpose
+        by_condvar (Look None) = refl
+        by_condvar (Look (Some m)) = refl
+        by_condvar (Show m) = refl
+        by_condvar Hide = refl
+    by_case (locks.SeeOwner owned) = refl
     by_case (locks.Enter y) = refl
     by_case locks.Pend = refl
     by_case locks.Settle = refl
@@ -153,7 +169,7 @@ same_purpose l (Some case) x = by_case case
     by_case case = refl
 
 -- a case may happen where the call is made of it and what it needs is there
-may_do : (w : LocksState) (t l : ℕ) (case : LockCase) (purpose : Purpose) (c : CallState) → w.calls t ≡ c → c.purpose ≡ Some purpose → IsMadeOf purpose c.gave_up c.released l case
+may_do : (w : LocksState) (t l : ℕ) (case : LockCase) (purpose : Purpose) (c : CallState) → w.calls t ≡ c → c.purpose ≡ Some purpose → IsMadeOf purpose c.gave_up c.released c.recalls l case
     → Needs (locks_rules w l) case (w.locks l) t → IsTimely c.late case → MayHappen w t (AtLock l case)
 may_do w t l case purpose c is e made needs timely = rw (is, e) (rw is made, needs, rw is timely)
 
@@ -168,13 +184,15 @@ runs_nothing sorts l (CallsOnce k forced) own knows other = other (subst (λ j. 
 runs_nothing sorts l (Awaits k forced) own knows other = other (subst (λ j. sorts j ≡ Once) own knows)
 runs_nothing sorts l p own knows other = tt
 
-never_starts : (p : Purpose) (g : Option ℕ) (r : Bool) (l : ℕ) (forced : Bool) → RunsNothing p → IsMadeOf p g r l (OfOnce (Start forced)) → ⊥
-never_starts (Enters k x how) g r l forced h m = m.1
-never_starts (Releases k x fair) g r l forced h m = m.1
-never_starts (Converts k x y how) g r l forced h m = m.1
-never_starts (Bumps k x) g r l forced h m = elim m.1 [ inl a ↦ a | inr b ↦ b.1 ]
-never_starts (CallsOnce k f) g r l forced h m = h
-never_starts (Awaits k f) g r l forced h m = h
+never_starts : (p : Purpose) (g : Option ℕ) (r : Bool) (q : Recall) (l : ℕ) (forced : Bool) → RunsNothing p → IsMadeOf p g r q l (OfOnce (Start forced)) → ⊥
+never_starts (Enters k x how) g r q l forced h m = m.1
+never_starts (Releases k x fair) g r q l forced h m = m.1
+never_starts (Converts k x y how) g r q l forced h m = m.1
+never_starts (Bumps k x) g r q l forced h m = elim m.1 [ inl a ↦ a | inr b ↦ b.1 ]
+never_starts (CallsOnce k f) g r q l forced h m = h
+never_starts (Awaits k f) g r q l forced h m = h
+never_starts (Waits k n timed) g r q l forced h m = elim m [ inl there ↦ there.1 | inr beside ↦ elim beside.1 [ inl a ↦ a | inr b ↦ b.1 ] ]
+never_starts (Notifies k all) g r q l forced h m = elim m [ inl there ↦ there.1 | inr beside ↦ beside ]
 
 -- and is told of no closure
 pub begins_nothing : (w : LocksState) (l : ℕ) (row : Profile) (c : Option LockCase) (o : Outcome) → RunsNothing (row.purpose l) → MayCome l row (event_by l c) → is_closure o ≡ false → Begins w (event_by l c) o
@@ -186,7 +204,7 @@ begins_nothing w l row None o runs may told = by_outcome o told
 begins_nothing w l row (Some case) o runs may told = by_case case o may told
   where
     by_case : (case : LockCase) (o : Outcome) → MayCome l row (AtLock l case) → is_closure o ≡ false → Begins w (AtLock l case) o
-    by_case (OfOnce (Start forced)) o m h = absurd (never_starts (row.purpose l) _ row.released l forced runs m.0)
+    by_case (OfOnce (Start forced)) o m h = absurd (never_starts (row.purpose l) _ row.released row.recalls l forced runs m.0)
     by_case case (outcome.TheVariants.Closure state) m h = absurd cc
     by_case case o m h = tt
 

@@ -246,6 +246,7 @@ first_bare c = refl
 pub begins_bare : (l : ℕ) (kind : Kind) (c : Call) → counted_on (first_place kind c) l ≡ None
 begins_bare l kind (call.TheVariants.Mutex j c) = refl
 begins_bare l kind (call.TheVariants.Once j c) = refl
+begins_bare l kind (call.TheVariants.Condvar j c) = refl
 begins_bare l kind (call.TheVariants.RwLock j c) = ap (λ o. if j == l then o else None) (first_bare c) ∙ nothing (j == l)
 
 -- who looks at the word once more hands nothing over

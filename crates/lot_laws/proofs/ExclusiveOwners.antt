@@ -15,6 +15,7 @@ use Rattle.lot_acts.specs.declared.acts.Reply.TheVariants as reply
 use Rattle.lot_acts.specs.declared.owners.Phase.TheVariants as phases
 use Rattle.lot_condvar.specs.CondvarSteps.{condvar_owners}
 use Rattle.lot_condvar.specs.declared.places.CondvarPlace.TheVariants.{Wait, Look as Looks, Notify}
+use Rattle.lot_condvar.specs.declared.notify.NotifyAt.TheVariants as notify
 use Rattle.lot_condvar.specs.declared.wait.WaitAt.TheVariants as wait
 use Rattle.lot_condvar.specs.declared.places.CondvarPlace.{CondvarPlace}
 use Rattle.lot_steps.specs.declared.places.Place.{Place}
@@ -160,8 +161,16 @@ mutex_is (HandOff bumps at) t v r = refl
 condvar_is : (at : CondvarPlace) (t v : ℕ) (r : Owners) → (condvar_owners at t v r).exclusive ≡ condvar_owner_after at t v r.exclusive
 condvar_is (Wait m timed (wait.Release s at)) t v r = mutex_is at t v r
 condvar_is (Wait m timed (wait.Lock late at)) t v r = mutex_is at t v r
+condvar_is (Wait m timed wait.Show) t v r = either (v == 0)
+  where
+    either : (b : Bool) → (if b then record r { shown = Some m } else r).exclusive ≡ r.exclusive
+    either true = refl
+    either false = refl
+condvar_is (Wait m timed wait.Hide) t v r = refl
 condvar_is (Wait m timed at) t v r = refl
 condvar_is (Looks all) t v r = refl
+condvar_is (Notify all m notify.Hide) t v r = refl
+condvar_is (Notify all m (notify.Clear any)) t v r = refl
 condvar_is (Notify all m at) t v r = refl
 
 pub exclusive-owners : (p : Place) (t v : ℕ) (r : Owners) → (owners_after p t v r).exclusive ≡ owner_after p t v r.exclusive

@@ -2,6 +2,7 @@
 use Rattle.std.proofs.Common.{ℕ, Bool, true, false, Option, Some, None, if◌then◌else◌, ◌==◌, ◌&&◌, not, ◌≡◌, ◌≢◌, ◌+◌, ◌*◌, ◌<◌, ◌⊎◌, inl, inr, [], length, refl, sym, ◌∙◌, ap, subst, arith, get_or-set_same, length-set}
 use Rattle.lot_calls.specs.declared.calls.OnceCall.TheVariants as once_call
 use Rattle.lot_once.specs.declared.places.OncePlace.TheVariants.{Look, Run}
+use Rattle.lot_laws.specs.Promises.{CallsOneLock}
 use Rattle.lot_laws.proofs.Closures.{closes_one}
 use Rattle.std.proofs.lemmas.Bool.{cases_eq, eqb-true, ltb-true}
 use Rattle.std.proofs.lemmas.Bool.Decides.{nat_tests}
@@ -42,13 +43,13 @@ use Rattle.std.specs.Prelude.{nat_lt}
 use Rattle.abstract_locks.specs.Onces.{OnceCase, Start, Finish, Fail, Rest, TakeAll}
 use Rattle.abstract_locks.specs.Locks.{LockState, Rules, Rights, Taken, LockCase, Enter, Pend, Settle, Leave, Convert, Park, Aside, TakeFirst, TakeAside, TakePicked, Wake, HandOff as HandsLockOff, Late, Rollback, OfOnce, Needs, IsTaken, HasTakenNobody, IsLockState, keep_from, first_thread, Owns}
 use Rattle.abstract_locks.specs.Locks as locks
-use Rattle.abstract_locks.specs.Runs.{LocksState, CallState, Event, Nothing, AtLock, AreLockStates, GoesOn, Stays, Does, MayHappen, IsStep, Turned, rules_at, locks_after}
-use Rattle.lot_laws.specs.Refinement.{lock_state, locks_of, call_state, owner_at}
+use Rattle.abstract_locks.specs.Runs.{LocksState, CallState, Event, Nothing, AtLock, AreLockStates, GoesOn, Stays, Does, MayHappen, IsStep, Turned, rules_at, locks_after, Moves}
+use Rattle.lot_laws.specs.Refinement.{call_at, lock_state, locks_of, call_state, owner_at}
 use Rattle.lot_laws.specs.Fair.{ReleasesFairly, IsFairRelease, OwnsOn, HandsOver, LetsGo, IsFair, IsToGiveAt, GivesUpFairly, ComesTo as GivesFrom}
 use Rattle.lot_rwlock_fair.specs.FairGives.{IsToGive}
 use Rattle.lot_rwlock_fair.specs.FairSteps.{call_act}
 use Rattle.lot_laws.proofs.SharedFair.{goes_giving, owner_stays}
-use Rattle.lot_laws.proofs.PlacePromises.{row_promises}
+use Rattle.lot_laws.proofs.PlacePromises.{calls_one_lock, row_promises}
 use Rattle.lot_laws.proofs.CountsPut.{looking_counted}
 use Rattle.lot_rwlock.specs.declared.places.Admission.{Admission}
 use Rattle.lot_rwlock_fair.specs.declared.places.RwLockCallPlace.{RwLockCallPlace}
@@ -67,7 +68,7 @@ use Rattle.lot_acts.specs.Owners.{with_exclusive}
 use Rattle.lot_laws.proofs.CallEvents.{rights}
 use Rattle.lot_laws.proofs.LockSteps.{after_step}
 use Rattle.abstract_locks.proofs.Runs.{needs_of}
-use Rattle.abstract_locks.specs.Purposes.{Purpose, Enters, Releases, Converts, Bumps, CallsOnce, Awaits, lock_for}
+use Rattle.abstract_locks.specs.Purposes.{Purpose, Enters, Releases, Converts, Bumps, CallsOnce, Awaits, Waits, Notifies, lock_for}
 use Rattle.abstract_locks.specs.Sites.{has_readers}
 use Rattle.lot_rwlock_fair.specs.FairProfiles.{call_profile}
 use Rattle.lot_laws.proofs.CallRows.{call_promises}
@@ -82,6 +83,8 @@ released_lock (Releases k x fair) l h = absurd h
 released_lock (Bumps k x) l h = absurd h
 released_lock (CallsOnce k forced) l h = absurd h
 released_lock (Awaits k forced) l h = absurd h
+released_lock (Waits k m timed) l h = absurd h
+released_lock (Notifies k all) l h = absurd h
 
 -- ---------------------------------------------------------------- what others do to an owner
 
@@ -92,6 +95,17 @@ once_keeps Finish s u = (refl, refl)
 once_keeps Fail s u = (refl, refl)
 once_keeps (Rest wanted forced) s u = (refl, refl)
 once_keeps TakeAll s u = (refl, refl)
+
+-- nor does what is done to a condition variable, and nobody is taken by it
+pub record SameOwners (s v : LockState) : Type 0 where
+  pub exclusive : v.exclusive ≡ s.exclusive
+  pub upgradable : v.upgradable ≡ s.upgradable
+  pub taken : v.taken ≡ s.taken
+
+pub condvar_keeps : (case : locks.CondvarCase) (s : LockState) → SameOwners s (locks.condvar_after case s)
+condvar_keeps (locks.Look seen) s = record { exclusive = refl; upgradable = refl; taken = refl }
+condvar_keeps (locks.Show m) s = record { exclusive = refl; upgradable = refl; taken = refl }
+condvar_keeps locks.Hide s = record { exclusive = refl; upgradable = refl; taken = refl }
 
 -- no case of another thread takes a lock from its owner
 others_keep : (r : Rules) (s : LockState) (t u : ℕ) → IsLockState r s → s.exclusive ≡ Some t → u ≢ t → (c : LockCase) → Needs r c s u → (locks.after_case r c s u).exclusive ≡ Some t
@@ -110,6 +124,8 @@ others_keep r s t u is own ne Wake n = own
 others_keep r s t u is own ne (HandsLockOff right x) n = grind (arith, is.exclusive_alone t own)
 others_keep r s t u is own ne Late n = own
 others_keep r s t u is own ne (OfOnce case) n = (once_keeps case s u).0 ∙ own
+others_keep r s t u is own ne (locks.OfCondvar case) n = (condvar_keeps case s).exclusive ∙ own
+others_keep r s t u is own ne (locks.SeeOwner owned) n = own
 others_keep r s t u is own ne Rollback n = grind (arith, is.exclusive_alone t own)
 
 upgradable_keep : (r : Rules) (s : LockState) (t u : ℕ) → IsLockState r s → s.upgradable ≡ Some t → u ≢ t → (c : LockCase) → Needs r c s u → (locks.after_case r c s u).upgradable ≡ Some t
@@ -128,6 +144,8 @@ upgradable_keep r s t u is own ne Wake n = own
 upgradable_keep r s t u is own ne (HandsLockOff right x) n = grind (arith, is.exclusive_alone u)
 upgradable_keep r s t u is own ne Late n = own
 upgradable_keep r s t u is own ne (OfOnce case) n = (once_keeps case s u).1 ∙ own
+upgradable_keep r s t u is own ne (locks.OfCondvar case) n = (condvar_keeps case s).upgradable ∙ own
+upgradable_keep r s t u is own ne (locks.SeeOwner owned) n = own
 upgradable_keep r s t u is own ne Rollback n = grind (arith, is.pending_alone)
 
 -- whoever is taken from a mutex stood first
@@ -153,13 +171,16 @@ taken_was s t u a x is Wake n h = inl (let_go_was a (s.taken u) _ h)
 taken_was s t u a x is (HandsLockOff right y) n h = inl (grind (arith, let_go_was))
 taken_was s t u a x is Late n h = inl h
 taken_was s t u a x is (OfOnce case) n h = absurd (let e : locks.Mutex ≡ locks.Once = n.0 in cc)
+taken_was s t u a x is (locks.OfCondvar case) n h = absurd (let e : locks.Mutex ≡ locks.Condvar = n.0 in cc)
+taken_was s t u a x is (locks.SeeOwner owned) n h = inl h
 taken_was s t u a x is Rollback n h = inl (grind arith)
 
 -- what holds of a lock before and after each case, and where nothing happens, holds of each step
-module _ (P : LockState → LockState → Type 0) (w v : LocksState) (a l : ℕ) (stays : P (w.locks l) (w.locks l))
+module _ (P : LockState → LockState → Type 0) (w v : LocksState) (a l : ℕ) (one : CallsOneLock (w.calls a).purpose) (stays : P (w.locks l) (w.locks l))
     (goes : (c : LockCase) → Needs (rules_at w l) c (w.locks l) a → P (w.locks l) (locks.after_case (rules_at w l) c (w.locks l) a)) where
   event_so : (e : Event) → MayHappen w a e → P (w.locks l) (locks_after w a e l)
   event_so Nothing may = stays
+  event_so (Moves c m all owned number) may = absurd (subst CallsOneLock may.notifies one)
   event_so (AtLock k case) may = either (l == k) refl
     where
       either : (b : Bool) → (l == k) ≡ b → P (w.locks l) (if b then locks.after_case (rules_at w k) case (w.locks k) a else w.locks l)
@@ -399,15 +420,15 @@ pub is_fair : (w : State) (s : Step) → IsShaped w → IsSteady w → AreCounte
 is_fair w s shape steady counted = record {
   gives = λ t l h. elim (cases_eq s.thread t) [
     | inl e ↦ told t l h (after_gives w t l shape steady h.1 h.2 h.0 s e)
-    | inr ne ↦ inl (owned t l h (turned_so (λ x y. x.exclusive ≡ Some t → y.exclusive ≡ Some t) (locks_of w) (locks_of (after w s)) s.thread l (λ e. e)
+    | inr ne ↦ inl (owned t l h (turned_so (λ x y. x.exclusive ≡ Some t → y.exclusive ≡ Some t) (locks_of w) (locks_of (after w s)) s.thread l one (λ e. e)
         (λ c n e. others_keep (rules_at (locks_of w) l) (lock_state w l) t s.thread (all l) e ne c n) s.turn (step_outcome w s) step.1 h.1))
   ];
-  takes = λ t l u h. turned_so (λ x y. IsTaken y t u Exclusive → IsTaken x t u Exclusive ⊎ (first_thread x.queue ≡ Some u)) (locks_of w) (locks_of (after w s)) s.thread l (λ e. inl e)
+  takes = λ t l u h. turned_so (λ x y. IsTaken y t u Exclusive → IsTaken x t u Exclusive ⊎ (first_thread x.queue ≡ Some u)) (locks_of w) (locks_of (after w s)) s.thread l one (λ e. inl e)
       (λ c n. let rules : rules_at (locks_of w) l ≡ mutex = mutex_rules (kind_at w l) h.2 in
       rw rules (taken_was (lock_state w l) t u s.thread Exclusive (subst (λ r. IsLockState r (lock_state w l)) rules (all l)) c (subst (λ r. Needs r c (lock_state w l) s.thread) rules n))) s.turn (step_outcome w s) step.1;
   shared = λ t l x h. elim (cases_eq s.thread t) [
     | inl e ↦ after_gives_shared w t l shape steady counted x h s e
-    | inr ne ↦ inl (turned_so (λ y z. Owns y t x → Owns z t x) (locks_of w) (locks_of (after w s)) s.thread l (λ e. e)
+    | inr ne ↦ inl (turned_so (λ y z. Owns y t x → Owns z t x) (locks_of w) (locks_of (after w s)) s.thread l one (λ e. e)
         (λ c n own. rights_keep (rules_at (locks_of w) l) (lock_state w l) t s.thread x (all l) h.1 own ne c n) s.turn (step_outcome w s) step.1 h.2)
   ];
 }
@@ -417,6 +438,9 @@ is_fair w s shape steady counted = record {
 
     step : IsStep (locks_of w) s (step_outcome w s) (locks_of (after w s))
     step = after_step w s shape steady counted
+
+    one : CallsOneLock (call_at w s.thread).purpose
+    one = calls_one_lock w s.thread steady
 
     coded : (t l : ℕ) → ReleasesFairly w t l → IsMutexWord (word_at (after w s) l) (owner_at (after w s) l)
     coded t l h = words_coded (after w s) (after_steady w s shape steady counted) l

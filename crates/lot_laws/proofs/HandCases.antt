@@ -66,6 +66,12 @@ once_holds r s t a u is ne Fail = refl
 once_holds r s t a u is ne (Rest wanted forced) = refl
 once_holds r s t a u is ne TakeAll = taken_holds t a u s.queue s.taken ne (λ h. in_line_free r s u is (omega arith))
 
+-- what is done to a condition variable takes nobody
+condvar_taken : (case : locks.CondvarCase) (s : LockState) → (locks.condvar_after case s).taken ≡ s.taken
+condvar_taken (locks.Look seen) s = refl
+condvar_taken (locks.Show m) s = refl
+condvar_taken locks.Hide s = refl
+
 pub others_hold : (r : Rules) (s : LockState) (t a u : ℕ) → IsLockState r s → t ≢ a → (c : LockCase) → Needs r c s a → wanted_of t ((locks.after_case r c s a).taken u) ≡ wanted_of t (s.taken u)
 others_hold r s t a u is ne (Enter x) n = ap (wanted_of t) (let e : (locks.after_case r (Enter x) s a).taken u ≡ s.taken u = grind arith in e)
 others_hold r s t a u is ne Pend n = refl
@@ -81,6 +87,8 @@ others_hold r s t a u is ne Wake n = kept_holds t a (s.taken u) ne
 others_hold r s t a u is ne (HandOff right x) n = ap (wanted_of t) ((is_handed a right x s).taken u) ∙ kept_holds t a (s.taken u) ne
 others_hold r s t a u is ne Late n = refl
 others_hold r s t a u is ne (OfOnce case) n = once_holds r s t a u is ne case
+others_hold r s t a u is ne (locks.OfCondvar case) n = ap (λ (f : ℕ → Option Taken). wanted_of t (f u)) (condvar_taken case s)
+others_hold r s t a u is ne (locks.SeeOwner owned) n = refl
 others_hold r s t a u is ne Rollback n = ap (wanted_of t) (let e : (locks.after_case r Rollback s a).taken u ≡ s.taken u = grind arith in e)
 
 -- ---------------------------------------------------------------- a case of its own
@@ -187,3 +195,5 @@ module _ (s : LockState) (t : ℕ) (none : HasTakenNobody s t) where
   takes_one_more r lock few Late n = as_before (locks.after_case r Late s t) (λ u. refl)
   takes_one_more r lock few Rollback n = as_before (locks.after_case r Rollback s t) (λ u. grind arith)
   takes_one_more r lock few (OfOnce case) n = absurd (lock n.0)
+  takes_one_more r lock few (locks.OfCondvar case) n = as_before (locks.condvar_after case s) (λ u i. condvar_taken case s i u)
+  takes_one_more r lock few (locks.SeeOwner owned) n = as_before s (λ u. refl)

@@ -9,16 +9,16 @@ use Rattle.lot_steps.specs.declared.places.Place.{Place}
 use Rattle.lot_steps.specs.declared.places.Place.TheVariants.{Idle}
 use Rattle.lot_steps.specs.Steps.{next_place}
 use Rattle.abstract_locks.specs.Locks.{Queued, Rights, Taken, HandOff, IsTaken, handed, putting, readers, rights_of}
-use Rattle.abstract_locks.specs.Runs.{AtLock, is_taken_by}
+use Rattle.abstract_locks.specs.Runs.{AtLock, behind_wake, is_taken_by}
 use Rattle.lot_machine.specs.Machine.{State, place_at}
 use Rattle.lot_laws.specs.Refinement.{call_state, lock_state, taken_at}
 use Rattle.lot_laws.specs.MutexDeeds.{Act}
 use Rattle.lot_laws.specs.SitesOf.{rules_in}
-use Rattle.lot_laws.proofs.Glue.{past_all, put_same, same}
+use Rattle.lot_laws.proofs.Glue.{past_all, put_same, same, singles}
 use Rattle.lot_laws.proofs.CallEvents.{AreClaims, Happens, OthersFollow, rights, rights_led}
 use Rattle.lot_laws.proofs.HandRights.{given, given_right, handed_have, others_have}
 use Rattle.lot_laws.proofs.HandsKept.{claim_of, claims_given}
-use Rattle.lot_laws.proofs.LockEvents.{Befalls}
+use Rattle.lot_laws.proofs.LockEvents.{Befalls, recalls_nothing, unmoved}
 
 -- ---------------------------------------------------------------- claims
 
@@ -70,11 +70,12 @@ module _ (w v : State) (t l : ℕ) (right : Want) (successor : Option Queued) (h
           (λ i k. (led_to u (rights w u l) (others_have (rules_in w l) (lock_state w l) t right successor (h.before.sites.site l).state h.needs u ne none) k ∙ put_same (rights w u) l (rights w u l) refl k) i)
 
       by_hand : (o : Option Taken) → taken_at (place_at w u) l ≡ o → call_state (if is_taken_by t o then next_place (place_at w u) (HandedBy t alone) else place_at w u) (rights v u)
-          ≡ (if is_taken_by t o then record (call_state (place_at w u) (rights w u)) { retries = None } else call_state (place_at w u) (rights w u))
+          ≡ (if is_taken_by t o then record (call_state (place_at w u) (rights w u)) { retries = None; recalls = behind_wake (call_state (place_at w u) (rights w u)).recalls } else call_state (place_at w u) (rights w u))
       by_hand None e = other_call (λ x is. let f : ◌≡◌ {A = Option Taken} None (Some (record { by = t; want = x })) = sym e ∙ is in cc)
       by_hand (Some g) e = either (g.by == t) refl
         where
-          either : (b : Bool) → (g.by == t) ≡ b → call_state (if b then next_place (place_at w u) (HandedBy t alone) else place_at w u) (rights v u) ≡ (if b then record (call_state (place_at w u) (rights w u)) { retries = None } else call_state (place_at w u) (rights w u))
+          either : (b : Bool) → (g.by == t) ≡ b → call_state (if b then next_place (place_at w u) (HandedBy t alone) else place_at w u) (rights v u) ≡ (if b then record (call_state (place_at w u) (rights w u)) { retries = None; recalls = behind_wake (call_state (place_at w u) (rights w u)).recalls } else call_state (place_at w u) (rights w u))
           either true f = handed_call g.want (e ∙ (let mine : g.by ≡ t = eqb-true g.by t f in λ i. Some (record { by = mine i; want = g.want })))
+              ∙ unmoved None (call_state (place_at w u) (rights w u)) (recalls_nothing (place_at w u) (singles w h.before u) (rights w u))
           either false f = other_call (λ x is. let both : Some g ≡ Some (record { by = t; want = x }) = sym e ∙ is in let mine : g ≡ record { by = t; want = x } = cc in
               let yes : (g.by == t) ≡ true = ap (λ (y : Taken). y.by == t) mine ∙ same t in let no_more : true ≡ false = sym yes ∙ f in cc)

@@ -132,6 +132,7 @@ unknown : (sort : Sort) (x : Want) → has_readers sort ≡ true → x ≢ Exclu
 unknown Mutex x r e u s k = cc
 unknown Semaphore x r e u s k = cc
 unknown Once x r e u s k = cc
+unknown locks.Condvar x r e u s k = cc
 unknown sort Exclusive r e u s k = e refl
 unknown sort Upgradable r e u s k = u refl
 unknown sort Shared r e u s k = s refl
@@ -156,6 +157,7 @@ code_doing r s d = by_sort r.sort
     by_sort Normal = refl
     by_sort Recursive = refl
     by_sort Semaphore = refl
+    by_sort locks.Condvar = refl
     by_sort Once = refl
 
 -- ---------------------------------------------------------------- owners

@@ -4,7 +4,7 @@ use Rattle.std.proofs.Common.{ℕ, true, ◌||◌, ◌≡◌, ◌<◌, List, [],
 use Rattle.lot_base.specs.declared.ops.Op.{Op}
 use Rattle.lot_base.specs.Words.{apply}
 use Rattle.lot_steps.specs.declared.places.Place.{Place}
-use Rattle.abstract_locks.specs.Locks.{Rules, Sort, Mutex, Normal, Recursive, Semaphore, Once}
+use Rattle.abstract_locks.specs.Locks.{Rules, Sort, Mutex, Normal, Recursive, Semaphore, Once, Condvar}
 use Rattle.abstract_locks.specs.Sites.{Site, IsSite, Deed, has_readers, after_deed}
 use Rattle.abstract_locks.specs.Codes.{code, fills, parked_in, aside_in, has_parked, has_aside, TellsTrue}
 use Rattle.abstract_locks.specs.Deeds as laws
@@ -33,6 +33,7 @@ parked_read Recursive v h = refl
 parked_read Mutex v h = absurd cc
 parked_read Semaphore v h = absurd cc
 parked_read Once v h = absurd cc
+parked_read Condvar v h = absurd cc
 
 pub aside_read : (sort : Sort) (v : ℕ) → has_readers sort ≡ true → aside_in sort v ≡ has_aside v
 aside_read Normal v h = refl
@@ -40,6 +41,7 @@ aside_read Recursive v h = refl
 aside_read Mutex v h = absurd cc
 aside_read Semaphore v h = absurd cc
 aside_read Once v h = absurd cc
+aside_read Condvar v h = absurd cc
 
 module _ (w : State) (t l : ℕ) (steady : IsSteady w) (own : IsOf l (place_at w t)) (there : t < length w.places) (r : Rules) (rules : rules_in w l ≡ r) (p2 : Place) (of : IsOf l p2) (fits : FitsItsLock w p2) (readers : has_readers r.sort ≡ true) (p : Place) (f : Op) (ds : List Deed) where
   -- the site behind the deeds

@@ -1,4 +1,9 @@
 -- What becomes of the calls of those whom a thread has in hand: they try again, or were handed the lock.
+use Rattle.lot_rwlock_fair.specs.declared.places.RwLockCallPlace.{RwLockCallPlace}
+use Rattle.lot_rwlock.specs.declared.places.Admission.{Admission}
+use Rattle.lot_once.specs.declared.places.OncePlace.{OncePlace}
+use Rattle.lot_once.specs.OnceProfiles.{once_profile}
+use Rattle.lot_mutex.specs.MutexProfiles.{mutex_profile}
 use Rattle.std.proofs.Common.{ℕ, Bool, true, false, Option, Some, None, if◌then◌else◌, ◌==◌, ◌≡◌, ◌≢◌, ◌+◌, ◌-◌, ◌⊎◌, inl, inr, List, refl, sym, ◌∙◌, ap, arith}
 use Rattle.lot_rwlock.proofs.RwLockCallPlaces.{taken_goes, woken_goes}
 use Rattle.lot_rwlock.specs.RwLockProfiles.{rwlock_profile}
@@ -22,7 +27,7 @@ use Rattle.lot_rwlock_fair.specs.declared.places.RwLockCallPlace.TheVariants as 
 use Rattle.lot_rwlock_fair.specs.declared.hand_over.HandOverAt.TheVariants as handing
 use Rattle.lot_rwlock_fair.specs.declared.handed.HandedAt.TheVariants as handed
 use Rattle.lot_rwlock_fair.specs.FairSteps.{bump_next}
-use Rattle.lot_rwlock_fair.specs.FairProfiles.{bump_former, bump_released, bumping}
+use Rattle.lot_rwlock_fair.specs.FairProfiles.{bump_former, bump_released, bumping, call_profile}
 use Rattle.lot_once.specs.declared.places.OncePlace.TheVariants.{Look, Run}
 use Rattle.lot_once.specs.declared.look.LookAt.TheVariants as look_at
 use Rattle.lot_once.specs.declared.run.RunAt.TheVariants as run_at
@@ -35,8 +40,8 @@ use Rattle.lot_steps.specs.declared.places.Place.{Place}
 use Rattle.lot_steps.specs.declared.places.Place.TheVariants.{Idle, Mutex, RwLock, Once, Condvar}
 use Rattle.abstract_locks.specs.Locks.{LockState, Queued, Taken as LockTaken, Rights, Enter, Wake, HandOff as HandsOff, IsTaken, IsLockState, Knows, Needs, rights_of, with_right, without_right, is_thread, putting}
 use Rattle.abstract_locks.specs.Locks as locks
-use Rattle.abstract_locks.specs.Purposes.{Bumps}
-use Rattle.abstract_locks.specs.Runs.{CallState, is_taken_by, AtLock, one_more_at, one_less_at}
+use Rattle.abstract_locks.specs.Purposes.{Bumps, Blank}
+use Rattle.abstract_locks.specs.Runs.{CallState, behind_wake, is_taken_by, AtLock, one_more_at, one_less_at}
 use Rattle.abstract_locks.specs.Sites.{Site, IsSite}
 use Rattle.abstract_locks.proofs.LockKeeps.{sharing_same}
 use Rattle.lot_machine.specs.Machine.{State, place_at}
@@ -44,7 +49,7 @@ use Rattle.lot_laws.specs.Refinement.{owner_at, lock_state, taken_at, is_bump, b
 use Rattle.lot_laws.specs.MutexDeeds.{queued}
 use Rattle.lot_laws.specs.SitesOf.{rules_in}
 use Rattle.lot_laws.proofs.PlainCalls.{plain_goes}
-use Rattle.lot_laws.proofs.Glue.{IsTakenAt, heir, put_same, same, IsMutexCall, mutex_calls, taken_elsewhere, IsSingle, single_taken}
+use Rattle.lot_laws.proofs.Glue.{IsTakenAt, heir, put_same, same, IsMutexCall, mutex_calls, taken_elsewhere, IsSingle, single_taken, singles}
 use Rattle.lot_laws.proofs.MutexTable.{mutex}
 use Rattle.lot_laws.proofs.CallEvents.{put_is, rights, rights_led, Happens, Others, OthersFollow}
 
@@ -171,61 +176,67 @@ woken_call (RwLock k a (places.HandOver x b to)) t l single h r = absurd (let he
 woken_call (RwLock k a (places.Handed x how b (handed.Asleep u alone))) t l single h r = absurd (let held = taken_hand (RwLock k a (places.Handed x how b (handed.Asleep u alone))) t l tt h in let f : hand u true ≡ hand t false = held.0 in cc)
 woken_call (RwLock k a (places.Handed x how b handed.Accept)) t l single h r = absurd (let held = taken_hand (RwLock k a (places.Handed x how b handed.Accept)) t l tt h in let f : ◌≡◌ {A = Option Hand} None (hand t false) = held.0 in cc)
 
--- where a wait locks its mutex again nothing befalls it
-lock_taken : (k m : ℕ) (timed late : Bool) (at : MutexPlace) (by : ℕ) (r : ℕ → Rights) → call_state (next_place (Condvar k (Wait m timed (wait.Lock late at))) (TakenBy by)) r ≡ call_state (Condvar k (Wait m timed (wait.Lock late at))) r
-lock_taken k m timed late (Lock entry retries First) by r = refl
-lock_taken k m timed late (Lock entry retries at) by r = refl
-lock_taken k m timed late TryLock by r = refl
-lock_taken k m timed late (Unlock unlock.Subtract) by r = refl
-lock_taken k m timed late (Unlock at) by r = refl
-lock_taken k m timed late UnlockFair by r = refl
-lock_taken k m timed late Bump by r = refl
-lock_taken k m timed late (HandOff bumps hand_off.Enter) by r = refl
-lock_taken k m timed late (HandOff bumps at) by r = refl
-
 -- a call goes on as it is where a thread is taken
-pub taken_call : (p : Place) (by : ℕ) (r : ℕ → Rights) → call_state (next_place p (TakenBy by)) r ≡ call_state p r
-taken_call Idle by r = refl
-taken_call (RwLock k a (places.Plain p)) by r = let goes = taken_goes a k p by in ap (λ n. call_state (plain_goes k a n) r) goes.1 ∙ goes.2 r
-taken_call (RwLock k a (places.Bump p)) by r = let goes = taken_goes a k p by in
+pub taken_call : (p : Place) (by : ℕ) → IsSingle p → (r : ℕ → Rights) → call_state (next_place p (TakenBy by)) r ≡ call_state p r
+taken_call Idle by single r = refl
+taken_call (RwLock k a (places.Plain p)) by single r = let goes = taken_goes a k p by in ap (λ n. call_state (plain_goes k a n) r) goes.1 ∙ goes.2 r
+taken_call (RwLock k a (places.Bump p)) by single r = let goes = taken_goes a k p by in
     ap (λ n. call_state (rwlock_goes k a (bump_next p.purpose n)) r) goes.1 ∙ ap (λ q. call_by k (bumping q (rwlock_profile a goes.0)) r) goes.3 ∙ ap (in_bump p.purpose k) (goes.2 r)
-taken_call (RwLock k a (places.Glance x)) by r = refl
-taken_call (RwLock k a (places.HandOver x b handing.Load)) by r = refl
-taken_call (RwLock k a (places.HandOver x b to)) by r = refl
-taken_call (RwLock k a (places.Handed x how b (handed.Asleep u alone))) by r = refl
-taken_call (RwLock k a (places.Handed x how b handed.Accept)) by r = refl
-taken_call (Once k (Look c again look_at.Asleep)) by r = refl
-taken_call (Once k (Look c again at)) by r = refl
-taken_call (Once k (Run forced (run_at.Closure poisoned))) by r = refl
-taken_call (Once k (Run forced at)) by r = refl
-taken_call (Condvar k (Wait m timed (wait.Lock late at))) by r = lock_taken k m timed late at by r
-taken_call (Condvar k (Wait m timed at)) by r = refl
-taken_call (Condvar k (Looks all)) by r = refl
-taken_call (Condvar k (Notify all m notify.Enter)) by r = refl
-taken_call (Condvar k (Notify all m notify.Again)) by r = refl
-taken_call (Condvar k (Notify all m notify.Hide)) by r = refl
-taken_call (Condvar k (Notify all m notify.Mark)) by r = refl
-taken_call (Condvar k (Notify all m (notify.Set seen))) by r = refl
-taken_call (Condvar k (Notify all m (notify.Move locked))) by r = refl
-taken_call (Condvar k (Notify all m (notify.Clear any))) by r = refl
-taken_call (Condvar k (Notify all m (notify.MarkMoved number))) by r = refl
-taken_call (Condvar k (Notify all m (notify.Leave any number))) by r = refl
-taken_call (Mutex k (Lock entry retries First)) by r = refl
-taken_call (Mutex k (Lock entry retries at)) by r = refl
-taken_call (Mutex k TryLock) by r = refl
-taken_call (Mutex k (Unlock unlock.Subtract)) by r = refl
-taken_call (Mutex k (Unlock at)) by r = refl
-taken_call (Mutex k UnlockFair) by r = refl
-taken_call (Mutex k Bump) by r = refl
-taken_call (Mutex k (HandOff bumps hand_off.Enter)) by r = refl
-taken_call (Mutex k (HandOff bumps at)) by r = refl
+taken_call (RwLock k a (places.Glance x)) by single r = refl
+taken_call (RwLock k a (places.HandOver x b handing.Load)) by single r = refl
+taken_call (RwLock k a (places.HandOver x b to)) by single r = refl
+taken_call (RwLock k a (places.Handed x how b (handed.Asleep u alone))) by single r = refl
+taken_call (RwLock k a (places.Handed x how b handed.Accept)) by single r = refl
+taken_call (Once k (Look c again look_at.Asleep)) by single r = refl
+taken_call (Once k (Look c again at)) by single r = refl
+taken_call (Once k (Run forced (run_at.Closure poisoned))) by single r = refl
+taken_call (Once k (Run forced at)) by single r = refl
+taken_call (Condvar k at) by single r = absurd single
+taken_call (Mutex k (Lock entry retries First)) by single r = refl
+taken_call (Mutex k (Lock entry retries at)) by single r = refl
+taken_call (Mutex k TryLock) by single r = refl
+taken_call (Mutex k (Unlock unlock.Subtract)) by single r = refl
+taken_call (Mutex k (Unlock at)) by single r = refl
+taken_call (Mutex k UnlockFair) by single r = refl
+taken_call (Mutex k Bump) by single r = refl
+taken_call (Mutex k (HandOff bumps hand_off.Enter)) by single r = refl
+taken_call (Mutex k (HandOff bumps at)) by single r = refl
+
+-- only a call of a condition variable recalls anything, so that no wake changes what another recalls
+mutex_recalls : (at : MutexPlace) → (mutex_profile at).recalls ≡ Blank
+mutex_recalls (Lock e retries First) = refl
+mutex_recalls (Lock e retries at) = refl
+mutex_recalls at = refl
+
+once_recalls : (at : OncePlace) → (once_profile at).recalls ≡ Blank
+once_recalls (Look c retries look_at.Load) = refl
+once_recalls (Look c retries at) = refl
+once_recalls (Run forced (run_at.Closure poisoned)) = refl
+once_recalls (Run forced at) = refl
+
+shared_recalls : (a : Admission) (at : RwLockCallPlace) → (call_profile a at).recalls ≡ Blank
+shared_recalls a (places.Plain p) = refl
+shared_recalls a at = refl
+
+pub recalls_nothing : (p : Place) → IsSingle p → (r : ℕ → Rights) → (call_state p r).recalls ≡ Blank
+recalls_nothing Idle single r = refl
+recalls_nothing (Mutex k at) single r = mutex_recalls at
+recalls_nothing (RwLock k a at) single r = shared_recalls a at
+recalls_nothing (Once k at) single r = once_recalls at
+recalls_nothing (Condvar k at) single r = absurd single
+
+pub unmoved : (q : Option ℕ) (c : CallState) → c.recalls ≡ Blank → record c { retries = q } ≡ record c { retries = q; recalls = behind_wake c.recalls }
+unmoved q c e = λ i. record c { retries = q; recalls = stays i }
+  where
+    stays : c.recalls ≡ behind_wake c.recalls
+    stays = e ∙ (λ i. behind_wake (sym e i))
 
 module _ (w v : State) (t l : ℕ) where
   pub wakes_others : ((u : ℕ) → IsSingle (place_at w u)) → Befalls w v t l (Woken Normal) → Others w v t (AtLock l Wake)
   wakes_others single befalls u ne r = ap (λ p. call_state p r) (befalls u ne) ∙ either (is_taken_by t (taken_at (place_at w u) l)) refl
     where
-      either : (b : Bool) → is_taken_by t (taken_at (place_at w u) l) ≡ b → call_state (if b then next_place (place_at w u) (Woken Normal) else place_at w u) r ≡ (if b then record (call_state (place_at w u) r) { retries = Some l } else call_state (place_at w u) r)
-      either true e = woken_call (place_at w u) t l (single u) e r
+      either : (b : Bool) → is_taken_by t (taken_at (place_at w u) l) ≡ b → call_state (if b then next_place (place_at w u) (Woken Normal) else place_at w u) r ≡ (if b then record (call_state (place_at w u) r) { retries = Some l; recalls = behind_wake (call_state (place_at w u) r).recalls } else call_state (place_at w u) r)
+      either true e = woken_call (place_at w u) t l (single u) e r ∙ unmoved (Some l) (call_state (place_at w u) r) (recalls_nothing (place_at w u) (single u) r)
       either false e = refl
 
 -- ---------------------------------------------------------------- it hands its right over
@@ -283,8 +294,9 @@ module _ (w v : State) (t l : ℕ) (to : Option ℕ) (h : Happens w v t l (AtLoc
       cases_to (Some x) = elim (cases_eq x u) [ inl e ↦ inl (ap Some e) | inr ne ↦ inr (λ e. ne cc) ]
 
       either : ((to ≡ Some u) ⊎ (to ≢ Some u)) → call_state (if is_taken_by t (taken_at (place_at w u) l) then next_place (place_at w u) (HandedBy t alone) else place_at w u) (rights v u)
-          ≡ (if is_taken_by t (taken_at (place_at w u) l) then record (call_state (place_at w u) (rights w u)) { retries = None } else call_state (place_at w u) (rights w u))
-      either (inl e) = let taken : is_taken_by t (taken_at (place_at w u) l) ≡ true = rw (heir_of u e) (same t) in rw taken (handed_call u e (place_at w u) alone (taken_place (place_at w u) t l (mutex_calls w l (place_at w u) (h.before.stands.calls u) rules) taken))
+          ≡ (if is_taken_by t (taken_at (place_at w u) l) then record (call_state (place_at w u) (rights w u)) { retries = None; recalls = behind_wake (call_state (place_at w u) (rights w u)).recalls } else call_state (place_at w u) (rights w u))
+      either (inl e) = let taken : is_taken_by t (taken_at (place_at w u) l) ≡ true = rw (heir_of u e) (same t) in rw taken (handed_call u e (place_at w u) alone (taken_place (place_at w u) t l (mutex_calls w l (place_at w u) (h.before.stands.calls u) rules) taken)
+          ∙ unmoved None (call_state (place_at w u) (rights w u)) (recalls_nothing (place_at w u) (singles w h.before u) (rights w u)))
       either (inr other) = rw (no_heir u other) (ap (call_state (place_at w u)) (λ i k. (led_to u (rights w u l) (neither (lock_state w l) t state to h.needs.0 apart u ne other) k ∙ put_same (rights w u) l (rights w u l) refl k) i))
 
 -- who has an heir that isn't itself gives its right up

@@ -1,6 +1,6 @@
 -- A thread that looks at the word once more goes on from another place of its call. Standing there changes nothing that locks and calls see.
 use Rattle.std.proofs.Common.{◌&&◌, not, ℕ, zero, suc, List, set, true, Option, Some, None, if◌then◌else◌, ◌≡◌, ◌<◌, inl, inr, [], ◌∷◌, length, replicate, refl, sym, ◌∙◌, ap, subst, get_or-set_other, get_or-set_same, length-set, get_or}
-use Rattle.abstract_locks.specs.Runs.{Event}
+use Rattle.abstract_locks.specs.Runs.{Event, Stance, MayHappen, Nothing, AtLock, Moves}
 use Rattle.std.proofs.Common.{Bool}
 use Rattle.lot_laws.proofs.Closures.{RunsOne}
 use Rattle.lot_machine.specs.Machine.{closed_place}
@@ -140,14 +140,20 @@ module _ (w : State) (t : ℕ) (there : t < length w.places) (q : Place) (it : I
     stances = λ u. stance_of (place_at moved u);
   }
 
+  -- what may happen hangs on locks and calls alone
+  may_alike : (s : ℕ → Stance) (e : Event) → MayHappen (record (locks_of w) { stances = s }) t e → MayHappen (locks_of w) t e
+  may_alike s Nothing h = h
+  may_alike s (AtLock l case) h = h
+  may_alike s (Moves c m all owned number) h = record { notifies = h.notifies; sorts = h.sorts; saw = h.saw; some = h.some; number = h.number; wait = h.wait; free = h.free }
+
   pub alike_goes : (o : Outcome) (v : LocksState) → GoesOn (locks_of moved) t o v → GoesOn (locks_of w) t o v
   alike_goes o v g = let h = subst (λ x. GoesOn x t o v) (sym sees) g in
-      record { called = h.called; event = h.event; may = h.may; locks = h.locks; calls = h.calls; agrees = h.agrees; begins = h.begins }
+      record { called = h.called; event = h.event; may = may_alike (λ u. stance_of (place_at moved u)) h.event h.may; locks = h.locks; calls = h.calls; agrees = h.agrees; begins = h.begins }
 
   -- by the same event
   pub alike_event : (o : Outcome) (v : LocksState) (e : Event) → ((g : GoesOn (locks_of moved) t o v) × (g.event ≡ e)) → (g : GoesOn (locks_of w) t o v) × (g.event ≡ e)
   alike_event o v e g = let h = subst (λ x. (g : GoesOn x t o v) × (g.event ≡ e)) (sym sees) g in
-      (record { called = h.0.called; event = h.0.event; may = h.0.may; locks = h.0.locks; calls = h.0.calls; agrees = h.0.agrees; begins = h.0.begins }, h.1)
+      (record { called = h.0.called; event = h.0.event; may = may_alike (λ u. stance_of (place_at moved u)) h.0.event h.0.may; locks = h.0.locks; calls = h.0.calls; agrees = h.0.agrees; begins = h.0.begins }, h.1)
 
   pub alike_stays : (o : Outcome) (v : LocksState) → Stays (locks_of moved) t ((locks_of moved).calls t) o v → Stays (locks_of w) t ((locks_of w).calls t) o v
   alike_stays o v s = let h = subst (λ x. Stays x t (x.calls t) o v) (sym sees) s in

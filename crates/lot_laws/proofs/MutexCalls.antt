@@ -21,7 +21,7 @@ use Rattle.lot_mutex.specs.declared.hand_off.HandOffAt.TheVariants as hand_off
 use Rattle.lot_mutex.specs.MutexSteps.{is_locked, is_timed, entered, looked, in_lock, in_unlock, in_hand_off, lock_act, hand_off_act, mutex_act}
 use Rattle.abstract_locks.specs.Locks.{LockState, LockCase, Rights, Queued, Enter, Leave as GivesBack, Park, TakeFirst, HandOff as HandsOff, Owns, after_case, rights_of, with_right, without_right}
 use Rattle.abstract_locks.specs.Locks as locks
-use Rattle.abstract_locks.specs.Purposes.{IsMadeOf}
+use Rattle.abstract_locks.specs.Purposes.{IsMadeOf, Blank}
 use Rattle.abstract_locks.specs.Runs.{LocksState, CallState, AtLock, going_on, AnswerHolds, rights_in, one_more_at, one_less_at}
 use Rattle.abstract_locks.specs.Sites.{Deed, Main, End, Out, Mark, Case}
 use Rattle.abstract_locks.specs.Deeds.{AreOneCase, case_of, after_event}
@@ -97,26 +97,26 @@ module _ (l t : ℕ) (s : LockState) where
 
   -- ---------------------------------------------------------------- the cases that calls are made of
 
-  enters_by : (entry : Entry) → IsMadeOf (entry_purpose l entry) None (is_bump entry) l (Enter Exclusive)
+  enters_by : (entry : Entry) → IsMadeOf (entry_purpose l entry) None (is_bump entry) Blank l (Enter Exclusive)
   enters_by entries.Lock = (refl, refl)
   enters_by entries.LockTimed = (refl, refl)
   enters_by entries.Bump = (refl, inr (refl, refl))
 
-  parks_by : (entry : Entry) → IsMadeOf (entry_purpose l entry) None (is_bump entry) l (Park Exclusive)
+  parks_by : (entry : Entry) → IsMadeOf (entry_purpose l entry) None (is_bump entry) Blank l (Park Exclusive)
   parks_by entries.Lock = (refl, (refl, λ h. cc))
   parks_by entries.LockTimed = (refl, (refl, λ h. cc))
   parks_by entries.Bump = (refl, inr (refl, (refl, λ h. cc)))
 
-  late_by : (entry : Entry) → is_timed entry ≡ true → IsMadeOf (entry_purpose l entry) None (is_bump entry) l locks.Late
+  late_by : (entry : Entry) → is_timed entry ≡ true → IsMadeOf (entry_purpose l entry) None (is_bump entry) Blank l locks.Late
   late_by entries.Lock h = absurd cc
   late_by entries.LockTimed h = (refl, (refl, refl))
   late_by entries.Bump h = absurd cc
 
-  takes_by : (bumps : Bool) (x : Queued) → IsMadeOf (release_purpose l bumps) None false l (TakeFirst x)
+  takes_by : (bumps : Bool) (x : Queued) → IsMadeOf (release_purpose l bumps) None false Blank l (TakeFirst x)
   takes_by true x = (refl, inl tt)
   takes_by false x = (refl, tt)
 
-  hands_by : (bumps : Bool) (x : Option Queued) → IsMadeOf (release_purpose l bumps) None false l (HandsOff Exclusive x)
+  hands_by : (bumps : Bool) (x : Option Queued) → IsMadeOf (release_purpose l bumps) None false Blank l (HandsOff Exclusive x)
   hands_by true x = (refl, inl ((refl, refl), refl))
   hands_by false x = (refl, (refl, refl))
 

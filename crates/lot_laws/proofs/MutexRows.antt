@@ -267,7 +267,7 @@ late l (Lock e r lock.First) m h = absurd cc
 late l (Lock e r at) m h = absurd cc
 late l at m h = absurd cc
 
-may_be_late : (l : ℕ) (at : MutexPlace) (m : Line) → (mutex_row at).stands ≡ Some m → mutex_act l at ≡ Sleep → IsTimed (Some ((mutex_row at).purpose l)) l → (mutex_row at).late_line ≡ Some m
+may_be_late : (l : ℕ) (at : MutexPlace) (m : Line) → (mutex_row at).stands ≡ Some m → mutex_act l at ≡ Sleep → IsTimed (Some ((mutex_row at).purpose l)) (mutex_row at).recalls l → (mutex_row at).late_line ≡ Some m
 may_be_late l (Lock entries.LockTimed r lock.Asleep) m h sleeps timed = h
 may_be_late l (Lock entries.Lock r at) m h sleeps timed = absurd (let e = timed.1 in cc)
 may_be_late l (Lock entries.Bump r at) m h sleeps timed = absurd timed

@@ -10,7 +10,7 @@ use Rattle.lot_acts.specs.declared.acts.Act.TheVariants.{Sleep}
 use Rattle.abstract_locks.specs.Locks.{Sort}
 use Rattle.abstract_locks.specs.Locks as locks
 use Rattle.abstract_locks.specs.Sites.{Line, Main, Second, counts_some}
-use Rattle.abstract_locks.specs.Purposes.{IsReleasing, MayWait, lock_for, once_purpose}
+use Rattle.abstract_locks.specs.Purposes.{IsReleasing, MayWait, lock_for, once_purpose, Recall}
 use Rattle.abstract_locks.specs.Runs.{IsTimed}
 use Rattle.lot_once.specs.declared.look.LookAt.{LookAt}
 use Rattle.lot_once.specs.declared.look.LookAt.TheVariants as look
@@ -40,9 +40,9 @@ knows : (sorts : ℕ → Sort) (l : ℕ) (c : OnceCall) → sorts l ≡ locks.On
 knows sorts l (CallOnce forced) e = e
 knows sorts l (Wait forced) e = e
 
-untimed : (l k : ℕ) (c : OnceCall) → IsTimed (Some (once_purpose l c)) k → ⊥
-untimed l k (CallOnce forced) h = h
-untimed l k (Wait forced) h = h
+untimed : (l k : ℕ) (c : OnceCall) (q : Recall) → IsTimed (Some (once_purpose l c)) q k → ⊥
+untimed l k (CallOnce forced) q h = h
+untimed l k (Wait forced) q h = h
 
 no_aside : (l : ℕ) (c : OnceCall) (m : Line) → WakesAside (Some (once_purpose l c)) l m → ⊥
 no_aside l c Main h = h
@@ -134,7 +134,7 @@ look_promises l c again at = record {
   asleep = look_asleep l c again at;
   tells = λ h. absurd (look_carries (again_of c again) at h);
   late = λ m h. absurd (once_never_late (Look c again at) m h);
-  may_be_late = λ m h s timed. absurd (untimed l l c timed);
+  may_be_late = λ m h s timed. absurd (untimed l l c (once_profile (Look c again at)).recalls timed);
 }
 
 -- ---------------------------------------------------------------- who runs its closure

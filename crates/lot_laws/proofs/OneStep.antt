@@ -9,11 +9,11 @@ use Rattle.lot_base.specs.declared.wants.Want.TheVariants as wants
 use Rattle.lot_base.specs.Lines.{waiter, without, times}
 use Rattle.lot_steps.specs.declared.places.Place.{Place}
 use Rattle.abstract_locks.specs.Onces.{OnceCase, Start, Finish, Fail, Rest, TakeAll}
-use Rattle.abstract_locks.specs.Locks.{LockState, LockCase, Pending, Rules, Sort, Mutex, Normal, Recursive, Semaphore, Once, OfOnce, once_after, putting, readers}
+use Rattle.abstract_locks.specs.Locks.{LockState, LockCase, Pending, Rules, Sort, Mutex, Normal, Recursive, Semaphore, Once, OfOnce, once_after, putting, readers, CondvarCase, Look, Show, Hide}
 use Rattle.abstract_locks.specs.Locks as locks
 use Rattle.abstract_locks.specs.Picks.{queued_of}
 use Rattle.abstract_locks.specs.Sites.{Site, IsSite, Deed, Main, Begin, End, In, Out, Mark, Clear, FindNobody, MarkOwned, Bring, MarkBrought, Case, has_readers, is_empty, is_full, after_deed, Needed}
-use Rattle.abstract_locks.specs.Codes.{bit, packed, code, word_by, parked_in, aside_in, fills, HasLimit, IsHandOff}
+use Rattle.abstract_locks.specs.Codes.{bit, packed, code, word_by, parked_in, aside_in, fills, HasLimit, IsHandOff, shown_code}
 use Rattle.abstract_locks.proofs.CodeLaws.{words_tell_true}
 use Rattle.abstract_locks.proofs.Limits.{limit_kept}
 use Rattle.abstract_locks.proofs.SiteKeeps.{deed_keeps}
@@ -179,6 +179,11 @@ module _ (t : ℕ) where
   once_count (Rest wanted forced) s = refl
   once_count TakeAll s = refl
 
+  condvar_count : (case : CondvarCase) (s : LockState) → length (locks.condvar_after case s).shared ≡ length s.shared
+  condvar_count (Look seen) s = refl
+  condvar_count (Show m) s = refl
+  condvar_count Hide s = refl
+
   -- as many numbers as before
   case_count : (r : Rules) (case : LockCase) (s : LockState) → (IsHandOff case → ⊥) → length (locks.after_case r case s t).shared ≡ length s.shared
   case_count r (locks.Enter x) s other = with_owner_count x s
@@ -187,6 +192,7 @@ module _ (t : ℕ) where
   case_count r locks.Rollback s other = fallen_count s.pending (record s { pending = None })
   case_count r (locks.HandOff x y) s other = absurd (other tt)
   case_count r (OfOnce case) s other = once_count case s
+  case_count r (locks.OfCondvar case) s other = condvar_count case s
   case_count r case s other = refl
 
 -- what a deed that hands nothing over keeps
@@ -222,13 +228,14 @@ acts_limited r (a ∷ more) s n readers some e o site needed h =
 
 -- ---------------------------------------------------------------- words
 
--- the word is the lock's by its owners, and that of a `Once` by its phase
-pub same_word : (sort : Sort) (limit : ℕ) (s v : LockState) (x y : Bool) → v.exclusive ≡ s.exclusive → v.pending ≡ s.pending → v.upgradable ≡ s.upgradable → v.shared ≡ s.shared → v.phase ≡ s.phase → word_by sort limit v x y ≡ word_by sort limit s x y
-same_word Mutex limit s v x y e p u n f = λ i. locks.one_if_some (e i) + 2 * bit y
-same_word Normal limit s v x y e p u n f = λ i. packed (sum (n i) + locks.one_if_some (u i)) (locks.one_if_some (e i) + locks.one_if_some (p i)) (locks.one_if_some (u i)) (bit x) (bit y)
-same_word Recursive limit s v x y e p u n f = λ i. packed (sum (n i) + locks.one_if_some (u i)) (locks.one_if_some (e i) + locks.one_if_some (p i)) (locks.one_if_some (u i)) (bit x) (bit y)
-same_word Semaphore limit s v x y e p u n f = λ i. word_by Semaphore limit (record s { shared = n i }) x y
-same_word Once limit s v x y e p u n f = λ i. word_by Once limit (record s { phase = f i }) x y
+-- the word is the lock's by its owners, that of a `Once` by its phase, and that of a condition variable by the mutex that it shows
+pub same_word : (sort : Sort) (limit : ℕ) (s v : LockState) (x y : Bool) → v.exclusive ≡ s.exclusive → v.pending ≡ s.pending → v.upgradable ≡ s.upgradable → v.shared ≡ s.shared → v.phase ≡ s.phase → v.shown ≡ s.shown → word_by sort limit v x y ≡ word_by sort limit s x y
+same_word Mutex limit s v x y e p u n f m = λ i. locks.one_if_some (e i) + 2 * bit y
+same_word Normal limit s v x y e p u n f m = λ i. packed (sum (n i) + locks.one_if_some (u i)) (locks.one_if_some (e i) + locks.one_if_some (p i)) (locks.one_if_some (u i)) (bit x) (bit y)
+same_word Recursive limit s v x y e p u n f m = λ i. packed (sum (n i) + locks.one_if_some (u i)) (locks.one_if_some (e i) + locks.one_if_some (p i)) (locks.one_if_some (u i)) (bit x) (bit y)
+same_word Semaphore limit s v x y e p u n f m = λ i. word_by Semaphore limit (record s { shared = n i }) x y
+same_word Once limit s v x y e p u n f m = λ i. word_by Once limit (record s { phase = f i }) x y
+same_word locks.Condvar limit s v x y e p u n f m = ap shown_code m
 
 -- ---------------------------------------------------------------- a site by its parts
 

@@ -20,8 +20,12 @@ use Rattle.lot_laws.proofs.Glue.{past_all, seen_by}
 use Rattle.lot_machine.proofs.Opening.{idle_at, none_at, empty_at, nobody_owns, no_readers, opening_shares}
 use Rattle.lot_machine.proofs.Shape.{both}
 
+-- by its word, which is 0
+abbrev unwritten : Sort → ℕ → Site
+unwritten sort n = record (opening_site n) { parked = parked_in sort 0; aside_parked = aside_in sort 0 }
+
 -- where the limit leaves room for a reader
-opening_is_site : (r : Rules) (n : ℕ) → (is_full r (opening_lock n) ≡ true → ⊥) → IsSite r (opening_site n)
+opening_is_site : (r : Rules) (n : ℕ) → (is_full r (opening_lock n) ≡ true → ⊥) → IsSite r (unwritten r.sort n)
 opening_is_site r n room = record {
   state = opening_is_state r n;
   alone = λ t u m h k. absurd cc;
@@ -92,16 +96,8 @@ opening_limit r n = let none : sum (replicate n 0) ≡ 0 = no_readers n in recor
   falls_normal = λ p h f g. absurd cc;
 }
 
--- no bit is set in a word that is 0
-no_bits : (sort : Sort) (n : ℕ) → record (opening_site n) { parked = parked_in sort 0; aside_parked = aside_in sort 0 } ≡ opening_site n
-no_bits locks.Mutex n = refl
-no_bits locks.Normal n = refl
-no_bits locks.Recursive n = refl
-no_bits locks.Semaphore n = refl
-no_bits locks.Once n = refl
-
 -- the word of a new lock
-zero_code : (k : Kind) (n : ℕ) → code (rules_of k) (opening_site n) ≡ 0
+zero_code : (k : Kind) (n : ℕ) → code (rules_of k) (unwritten (rules_of k).sort n) ≡ 0
 zero_code (kind.TheVariants.RwLock limit) n = let none : sum (replicate n 0) ≡ 0 = no_readers n in omega arith
 zero_code (kind.TheVariants.Recursive limit) n = let none : sum (replicate n 0) ≡ 0 = no_readers n in omega arith
 zero_code kind.TheVariants.Mutex n = refl
@@ -119,8 +115,8 @@ module _ (kinds : List Kind) (threads : ℕ) where
     | inr ge ↦ rw (past_all kinds l kind.TheVariants.Mutex ge) refl
   ])
 
-  opening_seen : (l : ℕ) → site_of first l ≡ opening_site (length first.places)
-  opening_seen l = (λ i. seen_by (rules_in first l) l (record { shared = opening_shares kinds threads l i; filled = unfilled_0 kinds l i }) (word_0 kinds l i) (nobody_owns kinds l i) (empty_at (2 * length kinds) (2 * l) i) (empty_at (2 * length kinds) (2 * l + 1) i) (λ u. idle_at threads u i)) ∙ no_bits (rules_in first l).sort (length first.places)
+  opening_seen : (l : ℕ) → site_of first l ≡ unwritten (rules_in first l).sort (length first.places)
+  opening_seen l = λ i. seen_by (rules_in first l) l (record { shared = opening_shares kinds threads l i; filled = unfilled_0 kinds l i }) (word_0 kinds l i) (nobody_owns kinds l i) (empty_at (2 * length kinds) (2 * l) i) (empty_at (2 * length kinds) (2 * l + 1) i) (λ u. idle_at threads u i)
 
   stands_nowhere : (t l : ℕ) → station_at (place_at first t) l ≡ nowhere
   stands_nowhere t l = ap (λ p. station_at p l) (idle_at threads t)

@@ -18,9 +18,15 @@ use Rattle.lot_acts.specs.declared.acts.Whom.TheVariants as whom
 use Rattle.lot_acts.specs.declared.acts.Wakes.TheVariants as wakes
 use Rattle.lot_acts.specs.declared.acts.Reply.{Reply}
 use Rattle.lot_acts.specs.declared.acts.Reply.TheVariants.{TakenBy, Woken}
+use Rattle.lot_acts.specs.declared.acts.Next.{Next}
+use Rattle.lot_acts.specs.declared.acts.Next.TheVariants as next
 use Rattle.lot_acts.specs.Owners.{is_thread}
 use Rattle.lot_acts.specs.Profiles.{hand}
-use Rattle.lot_steps.specs.Steps.{lock_of, next_place, taker}
+use Rattle.lot_mutex.specs.MutexSteps.{mutex_next}
+use Rattle.lot_mutex.specs.declared.places.MutexPlace.{MutexPlace}
+use Rattle.lot_once.specs.OnceSteps.{once_next}
+use Rattle.lot_once.specs.declared.places.OncePlace.{OncePlace}
+use Rattle.lot_steps.specs.Steps.{lock_of, mutex_goes, next_place, once_goes, rwlock_goes, taker}
 use Rattle.lot_steps.specs.declared.places.Place.{Place}
 use Rattle.lot_steps.specs.declared.places.Place.TheVariants.{Idle, RwLock, Mutex, Once, Condvar}
 use Rattle.lot_rwlock_fair.specs.declared.places.RwLockCallPlace.{RwLockCallPlace}
@@ -28,10 +34,10 @@ use Rattle.lot_rwlock_fair.specs.declared.places.RwLockCallPlace.TheVariants.{Pl
 use Rattle.lot_rwlock_fair.specs.declared.handed.HandedAt.TheVariants as handed
 use Rattle.lot_rwlock_fair.specs.FairCalls.{CallStands}
 use Rattle.lot_rwlock_fair.specs.FairProfiles.{call_profile}
-use Rattle.lot_rwlock_fair.specs.FairSteps.{handed_woken}
+use Rattle.lot_rwlock_fair.specs.FairSteps.{call_next, handed_woken}
 use Rattle.lot_rwlock_fair.proofs.FairActs.{fair_sleepers_move}
 use Rattle.lot_rwlock_fair.proofs.FairSleepers.{fair_sleepers_hear, never_given}
-use Rattle.abstract_locks.specs.Locks.{Rights, LockCase, Wake, HandOff}
+use Rattle.abstract_locks.specs.Locks.{Rights, LockCase, Wake, HandOff, putting}
 use Rattle.abstract_locks.specs.Runs.{AtLock, is_taken_by}
 use Rattle.abstract_locks.specs.Deeds.{event_by}
 use Rattle.lot_machine.specs.Machine.{State, queue_at, place_at, put, state_after_act, state_after_telling, state_after_taking, state_with_sections, places_told, place_after_telling}
@@ -39,7 +45,7 @@ use Rattle.lot_laws.specs.Refinement.{call_state, taken_at}
 use Rattle.lot_laws.specs.Stations.{Station, hand, station, nowhere}
 use Rattle.lot_laws.specs.SitesOf.{IsSteady, carried_at, hand_at, FitsItsLock}
 use Rattle.lot_laws.proofs.AtPlaces.{unless_held}
-use Rattle.lot_laws.proofs.Glue.{IsLock, IsOf, IsTakenAt, IsHandedAt, is_taken, is_handed, held_where, held_taker, station_elsewhere, same, put_of, put_same, set_puts, past_all, singles, of_own}
+use Rattle.lot_laws.proofs.Glue.{IsLock, IsOf, IsTakenAt, IsHandedAt, is_taken, is_handed, held_where, held_taker, station_elsewhere, same, put_of, put_same, set_puts, past_all, singles, of_own, IsSingle}
 use Rattle.lot_laws.proofs.CallEvents.{Happens, IsNoHandOff, Others}
 use Rattle.lot_laws.proofs.LockEvents.{Befalls, taken_call, wakes_others}
 
@@ -102,15 +108,45 @@ lonely_stay w t p a h = refl
 
 -- ---------------------------------------------------------------- many are told one after another
 
--- what leaves the call of each leaves all
-told_same : (reply : Reply) → ((p : Place) (r : ℕ → Rights) → call_state (next_place p reply) r ≡ call_state p r) → (us : List ℕ) (ps : List Place) (u : ℕ) (r : ℕ → Rights) → call_state (get_or (places_told reply us ps) u Idle) r ≡ call_state (get_or ps u Idle) r
-told_same reply keeps [] ps u r = refl
-told_same reply keeps (x ∷ us) ps u r = told_same reply keeps us _ u r ∙ one
+-- a call of one lock stays one
+next_single : (p : Place) (r : Reply) → IsSingle p → IsSingle (next_place p r)
+next_single Idle r single = tt
+next_single (Mutex l at) r single = by_next (mutex_next at r)
   where
+    by_next : (n : Next MutexPlace) → IsSingle (mutex_goes l n)
+    by_next (next.At q) = tt
+    by_next (next.End answer) = tt
+next_single (RwLock l a c) r single = by_next (call_next a c r)
+  where
+    by_next : (n : Next RwLockCallPlace) → IsSingle (rwlock_goes l a n)
+    by_next (next.At q) = tt
+    by_next (next.End answer) = tt
+next_single (Once l at) r single = by_next (once_next at r)
+  where
+    by_next : (n : Next OncePlace) → IsSingle (once_goes l n)
+    by_next (next.At q) = tt
+    by_next (next.End answer) = tt
+next_single (Condvar l at) r single = absurd single
+
+-- what leaves the call of each leaves all
+told_same : (reply : Reply) → ((p : Place) → IsSingle p → (r : ℕ → Rights) → call_state (next_place p reply) r ≡ call_state p r) → (us : List ℕ) (ps : List Place) → ((u : ℕ) → IsSingle (get_or ps u Idle)) → (u : ℕ) (r : ℕ → Rights) → call_state (get_or (places_told reply us ps) u Idle) r ≡ call_state (get_or ps u Idle) r
+told_same reply keeps [] ps single u r = refl
+told_same reply keeps (x ∷ us) ps single u r = told_same reply keeps us _ single_then u r ∙ one
+  where
+    told_then : (v : ℕ) → get_or (set ps x (next_place (get_or ps x Idle) reply)) v Idle ≡ putting (λ k. get_or ps k Idle) x (next_place (get_or ps x Idle) reply) v
+    told_then v = set_puts ps x (next_place (get_or ps x Idle) reply) Idle (λ h. ap (λ p. next_place p reply) (past_all ps x Idle h)) v
+
+    single_then : (v : ℕ) → IsSingle (get_or (set ps x (next_place (get_or ps x Idle) reply)) v Idle)
+    single_then v = subst IsSingle (sym (told_then v)) (either (v == x))
+      where
+        either : (b : Bool) → IsSingle (if b then next_place (get_or ps x Idle) reply else get_or ps v Idle)
+        either true = next_single (get_or ps x Idle) reply (single x)
+        either false = single v
+
     one : call_state (get_or (set ps x (next_place (get_or ps x Idle) reply)) u Idle) r ≡ call_state (get_or ps u Idle) r
-    one = ap (λ p. call_state p r) (set_puts ps x (next_place (get_or ps x Idle) reply) Idle (λ h. ap (λ p. next_place p reply) (past_all ps x Idle h)) u)
+    one = ap (λ p. call_state p r) (told_then u)
         ∙ put_of (λ p. call_state p r) (λ k. get_or ps k Idle) x (next_place (get_or ps x Idle) reply) u
-        ∙ put_same (λ k. call_state (get_or ps k Idle) r) x (call_state (next_place (get_or ps x Idle) reply) r) (sym (keeps (get_or ps x Idle) r)) u
+        ∙ put_same (λ k. call_state (get_or ps k Idle) r) x (call_state (next_place (get_or ps x Idle) reply) r) (sym (keeps (get_or ps x Idle) (single x) r)) u
 
 -- ---------------------------------------------------------------- a thread goes elsewhere by its act
 
@@ -126,14 +162,14 @@ module _ (w : State) (t : ℕ) (p2 : Place) where
   lonely p a h u ne r = ap (λ q. call_state q r) (stay_in (state_after_act w t p a) (lonely_stay w t p a h) u ne)
 
   -- whoever is taken goes on in its call
-  taken_first : (queues : List (List Waiter)) (o : Option ℕ) → Stay (put (state_after_taking (record w { queues = queues }) t o) t p2)
-  taken_first queues None u ne r = ap (λ q. call_state q r) (stay_in (record w { queues = queues }) refl u ne)
-  taken_first queues (Some x) u ne r = ap (λ q. call_state q r) (get_or-set_other _ t u p2 Idle ne) ∙ told_same (TakenBy t) (λ p r. taken_call p t r) (x ∷ []) w.places u r
+  taken_first : ((u : ℕ) → IsSingle (place_at w u)) → (queues : List (List Waiter)) (o : Option ℕ) → Stay (put (state_after_taking (record w { queues = queues }) t o) t p2)
+  taken_first single queues None u ne r = ap (λ q. call_state q r) (stay_in (record w { queues = queues }) refl u ne)
+  taken_first single queues (Some x) u ne r = ap (λ q. call_state q r) (get_or-set_other _ t u p2 Idle ne) ∙ told_same (TakenBy t) (λ p. taken_call p t) (x ∷ []) w.places single u r
 
-  pub takes : (p : Place) (key : ℕ) (x : Whom) → Stay (put (state_after_act w t p (act.Take key x)) t p2)
-  takes p key whom.First u ne r = taken_first _ _ u ne r
-  takes p key (whom.Picked start recursive) u ne r = ap (λ q. call_state q r) (get_or-set_other _ t u p2 Idle ne) ∙ told_same (TakenBy t) (λ p r. taken_call p t r) (threads_of (lock_picked start recursive (queue_at w key))) w.places u r
-  takes p key whom.All u ne r = ap (λ q. call_state q r) (get_or-set_other _ t u p2 Idle ne) ∙ told_same (TakenBy t) (λ p r. taken_call p t r) (threads_of (queue_at w key)) w.places u r
+  pub takes : ((u : ℕ) → IsSingle (place_at w u)) → (p : Place) (key : ℕ) (x : Whom) → Stay (put (state_after_act w t p (act.Take key x)) t p2)
+  takes single p key whom.First u ne r = taken_first single _ _ u ne r
+  takes single p key (whom.Picked start recursive) u ne r = ap (λ q. call_state q r) (get_or-set_other _ t u p2 Idle ne) ∙ told_same (TakenBy t) (λ p. taken_call p t) (threads_of (lock_picked start recursive (queue_at w key))) w.places single u r
+  takes single p key whom.All u ne r = ap (λ q. call_state q r) (get_or-set_other _ t u p2 Idle ne) ∙ told_same (TakenBy t) (λ p. taken_call p t) (threads_of (queue_at w key)) w.places single u r
 
   -- so they are behind any case that wakes nobody and hands nothing over
   pub calm : (v : State) (l : ℕ) (c : Option LockCase) → IsCalm c → Stay v → Others w v t (event_by l c)
@@ -237,5 +273,5 @@ module _ (w : State) (t l : ℕ) (steady : IsSteady w) (own : lock_of (place_at 
       (λ u ne r. subst (λ y. call_state (place_at (put (state_after_telling (state_with_sections w keys None) t (Woken y)) t p2) u) r ≡ call_state (place_at w u) r) (sym h.1.0) (tells_handed (state_with_sections w keys None) (sections_stay w keys None) h.0 u ne r))
   wakes_own p (act.Requeue from to how) c h = absurd h
   wakes_own p (act.HandOver lock op) c h = absurd h
-  wakes_own p (act.Take key x) c h = calm w t p2 (put (state_after_act w t p (act.Take key x)) t p2) l c h (takes w t p2 p key x)
+  wakes_own p (act.Take key x) c h = calm w t p2 (put (state_after_act w t p (act.Take key x)) t p2) l c h (takes w t p2 (singles w steady) p key x)
   wakes_own p a c h = calm w t p2 (put (state_after_act w t p a) t p2) l c h (lonely w t p2 p a tt)

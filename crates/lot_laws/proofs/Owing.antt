@@ -1,4 +1,5 @@
 -- Who owes a wake does so since it saw waiters, or since it entered the section.
+use Rattle.lot_laws.specs.Promises.{CallsOneLock}
 use Rattle.std.proofs.Common.{ℕ, Bool, true, false, Option, Some, None, if◌then◌else◌, ◌≡◌, ◌≢◌, ◌<◌, ◌⊎◌, ◌↔◌, inl, inr, length, refl, sym, ◌∙◌, ap, subst, get_or-set_same, nat_lt, is_some, length-set}
 use Rattle.lot_machine.specs.Machine.{closed_place}
 use Rattle.lot_laws.proofs.Looking.{alike_calls, closing_steady, like}
@@ -37,7 +38,7 @@ use Rattle.lot_acts.specs.Calls.{call_by}
 use Rattle.abstract_locks.specs.Runs.{CallState, no_call}
 use Rattle.abstract_locks.specs.Purposes.{lock_for}
 use Rattle.lot_laws.proofs.RowPromises.{RowFinds, RowLooks, releases_for, downgrades_for}
-use Rattle.lot_laws.proofs.PlacePromises.{LetsBy, row_promises, owing_is, owes_own, owed_own, inside_own, call_own, lets_in, lets_out}
+use Rattle.lot_laws.proofs.PlacePromises.{LetsBy, row_promises, row_calls_one, owing_is, owes_own, owed_own, inside_own, call_own, lets_in, lets_out}
 use Rattle.lot_laws.proofs.LineActs.{late_line}
 use Rattle.lot_laws.proofs.PlaceSteps.{owed_by, owed_is, owes_befallen, owes_next, first_owes, late_next}
 
@@ -67,9 +68,9 @@ idle_shut w t l none h = by_call (subst (LetsBy w t l) (ap (λ o. call_on o (pro
 lets_own : (w : State) (t l : ℕ) → IsSteady w → LetsOthersIn w t l → lock_of (place_at w t) ≡ Some l
 lets_own w t l steady lets = by_lock (lock_of (place_at w t)) refl
   where
-    by_row : (k : ℕ) (row : Profile) (r : ℕ → Rights) → lock_for (row.purpose k) ≡ k → LetsBy w t l (call_by k row r) → k ≡ l
-    by_row k row r of (inl releases) = sym of ∙ releases_for (row.purpose k) row.released l releases
-    by_row k row r of (inr shared) = elim shared.1 [ inl less ↦ sym of ∙ downgrades_for (row.purpose k) l less | inr left ↦ gave_up_for row.gave_up k left.0 ]
+    by_row : (k : ℕ) (row : Profile) (r : ℕ → Rights) → lock_for (row.purpose k) ≡ k → CallsOneLock (Some (row.purpose k)) → LetsBy w t l (call_by k row r) → k ≡ l
+    by_row k row r of one (inl releases) = sym of ∙ releases_for (row.purpose k) row.released l one releases
+    by_row k row r of one (inr shared) = elim shared.1 [ inl less ↦ sym of ∙ downgrades_for (row.purpose k) l less | inr left ↦ gave_up_for row.gave_up k left.0 ]
       where
         gave_up_for : (b : Bool) (k : ℕ) → (if b then Some k else None) ≡ Some l → k ≡ l
         gave_up_for true k h = cc
@@ -77,7 +78,7 @@ lets_own w t l steady lets = by_lock (lock_of (place_at w t)) refl
 
     by_lock : (o : Option ℕ) → lock_of (place_at w t) ≡ o → o ≡ Some l
     by_lock None e = absurd (idle_shut w t l e lets)
-    by_lock (Some k) e = ap Some (by_row k (profile (place_at w t)) (rights_at w t) (row_promises w t steady k e).own (subst (LetsBy w t l) (call_own w t steady k e) lets))
+    by_lock (Some k) e = ap Some (by_row k (profile (place_at w t)) (rights_at w t) (row_promises w t steady k e).own (row_calls_one w t steady k e) (subst (LetsBy w t l) (call_own w t steady k e) lets))
 
 module _ (w v : State) (t : ℕ) (steady : IsSteady w) (behind : IsSteady v) where
   -- what it sees, by its row

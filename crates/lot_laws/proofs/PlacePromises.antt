@@ -20,7 +20,7 @@ use Rattle.lot_laws.specs.Refinement.{lock_state, call_on, call_at, taken_at}
 use Rattle.lot_laws.specs.Stations.{Station, nowhere, station, station_at, doing_on, station_by}
 use Rattle.lot_laws.specs.SitesOf.{IsSteady, FitsItsLock, key_of, stood_in, rules_in}
 use Rattle.lot_laws.specs.Owing.{Owes, IsInside, LetsOthersIn, IsDowngrade, sort_at}
-use Rattle.lot_laws.specs.Promises.{GoesToWake, WakesAside}
+use Rattle.lot_laws.specs.Promises.{CallsOneLock, GoesToWake, WakesAside}
 use Rattle.lot_laws.proofs.Counts.{none_first}
 use Rattle.lot_laws.proofs.Glue.{same, differ, taken_out, calls_none, inside_is, IsSingle, single_station, single_doing, single_taken, single_owes, singles}
 use Rattle.lot_laws.proofs.MutexTable.{queued_times}
@@ -28,7 +28,7 @@ use Rattle.lot_laws.proofs.StandsMoved.{mutex_rules}
 use Rattle.lot_laws.proofs.LineActs.{IsOfLine, IsLineAct, line_act}
 use Rattle.lot_laws.proofs.MutexRows.{mutex_promises}
 use Rattle.lot_laws.proofs.SitesPromise.{first_out}
-use Rattle.lot_laws.proofs.RowPromises.{LetsIn, LetsInAt, IsWaiting, taken_of, RowPromises}
+use Rattle.lot_laws.proofs.RowPromises.{LetsIn, LetsInAt, IsWaiting, calls_one as purpose_of_one, taken_of, RowPromises}
 use Rattle.lot_laws.proofs.CallEvents.{rights}
 use Rattle.lot_laws.proofs.CallRows.{call_promises}
 use Rattle.lot_rwlock_fair.specs.FairProfiles.{call_profile}
@@ -125,6 +125,36 @@ module _ (w : State) (t : ℕ) (steady : IsSteady w) where
           let here : k ≡ l = cc in
           let admitted : FitsItsLock w (RwLock k a c) = rw is at (steady.stands.calls t) in
           subst (λ j. RowPromises (sort_at w j) j (call_profile a c) (call_act k a c)) here (call_promises (rules_in w k) a k c admitted.0 admitted.1)
+
+  not_condvar : (l : ℕ) → lock_of (place_at w t) ≡ Some l → sort_at w l ≢ locks.Condvar
+  not_condvar l own is_condvar = by_place (place_at w t) refl own
+    where
+      by_place : (p : Place) → place_at w t ≡ p → lock_of p ≡ Some l → ⊥
+      by_place Idle is own = cc
+      by_place (Condvar k at) is own = subst (FitsItsLock w) is (steady.stands.calls t)
+      by_place (Once k at) is own =
+          let here : k ≡ l = cc in
+          let sort : sort_at w k ≡ locks.Once = subst (FitsItsLock w) is (steady.stands.calls t) in
+          let other : sort_at w k ≡ locks.Condvar = ap (sort_at w) here ∙ is_condvar in cc
+      by_place (Mutex k at) is own =
+          let here : k ≡ l = cc in
+          let admitted : FitsItsLock w (Mutex k at) = rw is at (steady.stands.calls t) in
+          let sort : sort_at w k ≡ locks.Mutex = ap (λ r. r.sort) (mutex_rules (kind_at w k) admitted) in
+          let other : sort_at w k ≡ locks.Condvar = ap (sort_at w) here ∙ is_condvar in cc
+      by_place (RwLock k a c) is own =
+          let here : k ≡ l = cc in
+          let admitted : FitsItsLock w (RwLock k a c) = rw is at (steady.stands.calls t) in
+          let other : false ≡ true = sym (ap has_readers (ap (sort_at w) here ∙ is_condvar)) ∙ admitted.0.0 in cc
+
+  pub row_calls_one : (l : ℕ) → lock_of (place_at w t) ≡ Some l → CallsOneLock (Some ((profile (place_at w t)).purpose l))
+  row_calls_one l own = purpose_of_one (sort_at w l) ((profile (place_at w t)).purpose l) ((row_promises l own).known (λ k. sort_at w l) refl) (not_condvar l own)
+
+  pub calls_one_lock : CallsOneLock (call_at w t).purpose
+  calls_one_lock = by_lock (lock_of (place_at w t)) refl
+    where
+      by_lock : (o : Option ℕ) → lock_of (place_at w t) ≡ o → CallsOneLock (call_at w t).purpose
+      by_lock None e = subst (λ (c : CallState). CallsOneLock c.purpose) (sym (ap (λ o. call_on o (profile (place_at w t)) (rights w t)) e)) tt
+      by_lock (Some l) e = subst (λ (c : CallState). CallsOneLock c.purpose) (sym (ap (λ o. call_on o (profile (place_at w t)) (rights w t)) e)) (row_calls_one l e)
 
   -- ---------------------------------------------------------------- where it stands
 

@@ -1,4 +1,5 @@
 -- What a step makes of what a thread owes, at each place.
+use Rattle.lot_calls.specs.declared.calls.CondvarCall.TheVariants as condvar
 use Rattle.std.proofs.Common.{Bool, ℕ, true, false, Option, Some, None, if◌then◌else◌, ◌==◌, ◌≡◌, refl, sym, ◌∙◌, ap, subst}
 use Rattle.lot_laws.proofs.OnceNext.{once_owes_next}
 use Rattle.lot_calls.specs.declared.calls.Call.{Call}
@@ -143,6 +144,8 @@ pub first_owes : (k : Kind) (c : Call) → (profile (first_place k c)).owes ≡ 
 first_owes k (call.TheVariants.Mutex m c) = mutex_first_owes (is_fair k) c
 first_owes k (call.TheVariants.RwLock m c) = rwlock_first_owes (admission_of k) c
 first_owes k (call.TheVariants.Once m c) = refl
+first_owes k (call.TheVariants.Condvar m (condvar.Wait n timed)) = refl
+first_owes k (call.TheVariants.Condvar m (condvar.Notify all)) = refl
 
 pub late_next : (p : Place) (m : Line) → IsSingle p → (profile p).late_line ≡ Some m → IsLateNext (next_place p Late) m
 late_next Idle m single h = absurd cc

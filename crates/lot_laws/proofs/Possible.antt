@@ -1,4 +1,5 @@
 -- A turn is possible exactly where the abstract locks and the call say so, and a thread is told that it sleeps where it does.
+use Rattle.lot_calls.specs.declared.calls.CondvarCall.TheVariants as condvar
 use Rattle.std.proofs.Common.{is_some, subst, ℕ, Bool, true, false, Option, Some, None, if◌then◌else◌, ◌&&◌, ◌≡◌, ◌≢◌, ◌+◌, ◌*◌, ◌≤◌, ◌<◌, ◌↔◌, ◌⊎◌, inl, inr, List, length, is_none, refl, sym, ◌∙◌, ap, arith, get_or-set_other, get_or-set_same}
 use Rattle.lot_laws.proofs.OnceOwing.{once_never_late}
 use Rattle.lot_once.specs.OnceProfiles.{once_profile}
@@ -151,7 +152,7 @@ module _ (w : State) (t : ℕ) (steady : IsSteady w) where
       let row = (row_promises w t steady of.0 of.1).late of.2.0 of.2.1 in
       record {
         lock = of.0;
-        timed = subst (λ (c : CallState). IsTimed c.purpose of.0) (sym (call_own w t steady of.0 of.1)) row.timed;
+        timed = subst (λ (c : CallState). IsTimed c.purpose c.recalls of.0) (sym (call_own w t steady of.0 of.1)) row.timed;
         asleep = ap sleeps row.asleep;
         stands = stands_freely of.0 of.2.0 (ap (λ (x : Station). x.stands) (station_own (place_at w t) of.0 of.1) ∙ row.stands) (none_is (section_at w (key_of of.0 of.2.0)) (subst (λ k. is_none (section_at w k) ≡ true) of.2.2 can));
       }
@@ -164,7 +165,7 @@ module _ (w : State) (t : ℕ) (steady : IsSteady w) where
       let stood = stands_free may.lock may.stands in
       let own = station_calls (place_at w t) may.lock (singles w steady t) (λ out. let e : ◌≡◌ {A = Option Line} None (Some stood.0) = sym (ap (λ (x : Station). x.stands) out) ∙ stood.1 in cc) in
       let stands : (profile (place_at w t)).stands ≡ Some stood.0 = sym (ap (λ (x : Station). x.stands) (station_own (place_at w t) may.lock own)) ∙ stood.1 in
-      let timed : IsTimed (Some ((profile (place_at w t)).purpose may.lock)) may.lock = subst (λ (c : CallState). IsTimed c.purpose may.lock) (call_own w t steady may.lock own) may.timed in
+      let timed : IsTimed (Some ((profile (place_at w t)).purpose may.lock)) (profile (place_at w t)).recalls may.lock = subst (λ (c : CallState). IsTimed c.purpose c.recalls may.lock) (call_own w t steady may.lock own) may.timed in
       let row : (profile (place_at w t)).late_line ≡ Some stood.0 = (row_promises w t steady may.lock own).may_be_late stood.0 stands (sleeps_is (act_of (place_at w t)) may.asleep) timed in
       ap (is_free_under w) (single_late (place_at w t) (singles w steady t) ∙ (λ i. key_in (own i) (row i))) ∙ stood.2
 
@@ -229,6 +230,8 @@ closure_gone (Condvar l at) r = by_next (condvar_next at r)
 pub begins_outside : (k : Kind) (c : Call) → runs_closure (act_of (first_place k c)) ≡ false
 begins_outside k (call.TheVariants.RwLock l c) = call_runs_none l (admission_of k) (call_first c)
 begins_outside k (call.TheVariants.Once l c) = refl
+begins_outside k (call.TheVariants.Condvar l (condvar.Wait m timed)) = refl
+begins_outside k (call.TheVariants.Condvar l (condvar.Notify all)) = refl
 begins_outside k (call.TheVariants.Mutex l c) = mutex_runs_none l (mutex_first (is_fair k) c)
 
 pub late_outside : (p : Place) → late_key p ≢ None → runs_closure (act_of (next_place p Late)) ≡ false
@@ -260,6 +263,8 @@ told_step false h = ((λ e. cc), λ e. cc)
 
 -- a call begins awake
 pub begins_awake : (k : Kind) (c : Call) → sleeps (act_of (first_place k c)) ≡ false
+begins_awake k (call.TheVariants.Condvar l (condvar.Wait m timed)) = refl
+begins_awake k (call.TheVariants.Condvar l (condvar.Notify all)) = refl
 begins_awake k (call.TheVariants.RwLock l c) = by_call c
   where
     by_call : (c : RwLockCall) → sleeps (call_act l (admission_of k) (call_first c)) ≡ false

@@ -20,27 +20,28 @@ use Rattle.abstract_locks.specs.Onces.{InProgress, IsRunning}
 use Rattle.abstract_locks.specs.Locks as sorts
 use Rattle.abstract_locks.specs.Sites.{Doing, Line, Main, Second, Has, Pends, Runs, IsOpen, counts_some, has_readers, idle}
 use Rattle.abstract_locks.specs.Codes.{HasLimit}
-use Rattle.abstract_locks.specs.Purposes.{Enters, Converts, Bumps, CallsOnce, Awaits, Purpose, MayWait, rules_of}
+use Rattle.abstract_locks.specs.Purposes.{Enters, Converts, Bumps, CallsOnce, Awaits, Purpose, MayWait, rules_of, Waits}
 use Rattle.lot_laws.specs.Refinement.{RunsClosure, locks_of, lock_state, lock_seen, taken_at, call_at, call_on, call_state, stance_of}
 use Rattle.lot_laws.specs.Owing.{Owes, sort_at}
-use Rattle.lot_laws.specs.Promises.{IsKept, KnowsRights, WaitsFor, WakesWaiters, IsDebtorOf, IsLookedAfter, IsOpenNow, WasNeverFull, HasOrPends, IsHandedOver, IsOwedWake, IsWithinLimit, want_of, IsOfOne}
+use Rattle.lot_laws.specs.Promises.{IsKept, KnowsRights, WaitsFor, WakesWaiters, IsDebtorOf, IsLookedAfter, IsOpenNow, WasNeverFull, HasOrPends, IsHandedOver, IsOwedWake, IsWithinLimit, want_of, IsOfOne, CallsOneLock}
 use Rattle.lot_laws.proofs.Closures.{runs_one}
 use Rattle.lot_laws.proofs.TurnsKept.{after_steady}
 use Rattle.lot_laws.proofs.SitesPromise.{not_empty}
 use Rattle.lot_laws.proofs.RowPromises.{IsDebtorIn, HasClaimed, HasDebt, WasHanded, RowLooksAfter}
-use Rattle.lot_laws.proofs.PlacePromises.{row_promises, station_own, doing_own, owed_own, owes_own, doing_calls, station_calls, stands_waiting, waiting_stands, call_own, inside_own, owing_is}
+use Rattle.lot_laws.proofs.PlacePromises.{row_promises, station_own, doing_own, owed_own, owes_own, calls_one_lock, doing_calls, station_calls, stands_waiting, waiting_stands, call_own, inside_own, owing_is}
 use Rattle.lot_laws.proofs.Glue.{same, calls_none, single_retries, singles, single_taker, IsSingle}
 use Rattle.lot_machine.proofs.Opening.{idle_at, none_at, empty_at, nobody_owns, opening_shares}
 use Rattle.std.proofs.lemmas.Bool.{cases_lt, eqb-true}
 
 -- a call waits for one lock
-one_purpose : (o : Option Purpose) (l k : ℕ) → MayWait o l → MayWait o k → l ≡ k
-one_purpose (Some (Enters j x how)) l k h g = sym h.0 ∙ g.0
-one_purpose (Some (Converts j x y how)) l k h g = sym h.0 ∙ g.0
-one_purpose (Some (Bumps j x)) l k h g = sym h ∙ g
-one_purpose (Some (CallsOnce j forced)) l k h g = sym h ∙ g
-one_purpose (Some (Awaits j forced)) l k h g = sym h ∙ g
-one_purpose o l k h g = absurd h
+one_purpose : (o : Option Purpose) (l k : ℕ) → CallsOneLock o → MayWait o l → MayWait o k → l ≡ k
+one_purpose (Some (Enters j x how)) l k one h g = sym h.0 ∙ g.0
+one_purpose (Some (Converts j x y how)) l k one h g = sym h.0 ∙ g.0
+one_purpose (Some (Bumps j x)) l k one h g = sym h ∙ g
+one_purpose (Some (CallsOnce j forced)) l k one h g = sym h ∙ g
+one_purpose (Some (Awaits j forced)) l k one h g = sym h ∙ g
+one_purpose (Some (Waits j m timed)) l k one h g = absurd one
+one_purpose o l k one h g = absurd h
 
 one_of : (p : Place) → IsSingle p → IsOfOne p
 one_of Idle single = tt
@@ -77,6 +78,7 @@ open_unowned sorts.Mutex s none h = h
 open_unowned sorts.Normal s none h = h.0
 open_unowned sorts.Recursive s none h = h.0
 open_unowned sorts.Semaphore s none h = absurd h
+open_unowned sorts.Condvar s none h = absurd h
 open_unowned sorts.Once s none h = none (λ k. k)
 
 -- who does nothing owes nothing
@@ -245,7 +247,8 @@ module _ (w : State) (steady : IsSteady w) where
   kept running = record {
     of_one = λ t. one_of (place_at w t) (singles w steady t);
     state = λ l. (steady.sites.site l).state;
-    one_place = λ t l k h g. one_purpose (call_at w t).purpose l k (waits t l h) (waits t k g);
+    calls_one = λ t. calls_one_lock w t steady;
+    one_place = λ t l k h g. one_purpose (call_at w t).purpose l k (calls_one_lock w t steady) (waits t l h) (waits t k g);
     waiting = waits;
     known = known;
     coded = λ l. steady.sites.word l;

@@ -18,12 +18,12 @@ use Rattle.lot_steps.specs.Steps.{act_of, profile}
 use Rattle.abstract_locks.specs.Codes.{parked_in}
 use Rattle.abstract_locks.specs.Locks.{Sort, Taken}
 use Rattle.abstract_locks.specs.Locks as sorts
-use Rattle.abstract_locks.specs.Purposes.{Purpose, Enters, Releases, Converts, Bumps, CallsOnce, Awaits, MayWait, IsReleasing, lock_for}
+use Rattle.abstract_locks.specs.Purposes.{Purpose, Enters, Releases, Converts, Bumps, CallsOnce, Awaits, MayWait, IsReleasing, lock_for, Waits, Notifies}
 use Rattle.abstract_locks.specs.Runs.{IsTimed}
 use Rattle.abstract_locks.specs.Sites.{Claim, Doing, Line, Main, Second, Has, Pends, IsDebtor, counts_some, has_readers}
 use Rattle.lot_laws.specs.SitesOf.{key_of}
 use Rattle.lot_laws.specs.Owing.{IsDowngrade, LooksFirst, line_let_in, tells_by, tells_of}
-use Rattle.lot_laws.specs.Promises.{KnowsRights, WakesAside, WakesWaiters, want_of}
+use Rattle.lot_laws.specs.Promises.{CallsOneLock, KnowsRights, WakesAside, WakesWaiters, want_of}
 
 -- what a thread in a call does
 abbrev pub is_acting : Act → Bool
@@ -31,13 +31,21 @@ is_acting Rest = false
 is_acting (End answer) = false
 is_acting a = true
 
-pub releases_for : (q : Purpose) (released : Bool) (l : ℕ) → IsReleasing (Some q) released l → lock_for q ≡ l
-releases_for (Enters k x how) released l h = absurd h
-releases_for (Releases k x fair) released l h = h
-releases_for (Converts k x y how) released l h = absurd h
-releases_for (Bumps k x) released l h = h.0
-releases_for (CallsOnce k forced) released l h = h.0
-releases_for (Awaits k forced) released l h = absurd h
+-- a call of a lock that is no condition variable is of one lock
+pub calls_one : (sort : Sort) (q : Purpose) → KnowsRights (λ k. sort) (Some q) → sort ≢ sorts.Condvar → CallsOneLock (Some q)
+calls_one sort (Waits k m timed) knows other = other knows.0
+calls_one sort (Notifies k all) knows other = other knows
+calls_one sort q knows other = tt
+
+pub releases_for : (q : Purpose) (released : Bool) (l : ℕ) → CallsOneLock (Some q) → IsReleasing (Some q) released l → lock_for q ≡ l
+releases_for (Enters k x how) released l one h = absurd h
+releases_for (Releases k x fair) released l one h = h
+releases_for (Converts k x y how) released l one h = absurd h
+releases_for (Bumps k x) released l one h = h.0
+releases_for (CallsOnce k forced) released l one h = h.0
+releases_for (Awaits k forced) released l one h = absurd h
+releases_for (Waits k m timed) released l one h = absurd one
+releases_for (Notifies k all) released l one h = absurd one
 
 pub downgrades_for : (q : Purpose) (l : ℕ) → IsDowngrade (Some q) l → lock_for q ≡ l
 downgrades_for (Enters k x how) l h = absurd h
@@ -46,6 +54,8 @@ downgrades_for (Converts k x y how) l h = h.0
 downgrades_for (Bumps k x) l h = absurd h
 downgrades_for (CallsOnce k forced) l h = absurd h
 downgrades_for (Awaits k forced) l h = absurd h
+downgrades_for (Waits k m timed) l h = absurd h
+downgrades_for (Notifies k all) l h = absurd h
 
 -- by whom it was taken from a queue of its lock
 abbrev pub taken_of : Profile → Option Taken
@@ -108,7 +118,7 @@ pub record RowLooksAfter (sort : Sort) (l : ℕ) (row : Profile) (a : Act) (m : 
 pub record RowIsLate (sort : Sort) (l : ℕ) (row : Profile) (a : Act) (m : Line) : Type 0 where
   pub stands : row.stands ≡ Some m
   pub asleep : a ≡ Sleep
-  pub timed : IsTimed (Some (row.purpose l)) l
+  pub timed : IsTimed (Some (row.purpose l)) row.recalls l
   pub shut : LetsIn sort l row → ⊥
 
 pub record RowPromises (sort : Sort) (l : ℕ) (row : Profile) (a : Act) : Type 0 where
@@ -128,7 +138,7 @@ pub record RowPromises (sort : Sort) (l : ℕ) (row : Profile) (a : Act) : Type 
   -- who has handed the lock over leaves its section next, and tells so
   pub tells : row.carries ≡ Some true → (a ≡ Leave (One (2 * l)) (wakes.TheVariants.All note.HandOff)) × (row.doing.inside ≡ Some Main)
   pub late : (m : Line) → row.late_line ≡ Some m → RowIsLate sort l row a m
-  pub may_be_late : (m : Line) → row.stands ≡ Some m → a ≡ Sleep → IsTimed (Some (row.purpose l)) l → row.late_line ≡ Some m
+  pub may_be_late : (m : Line) → row.stands ≡ Some m → a ≡ Sleep → IsTimed (Some (row.purpose l)) row.recalls l → row.late_line ≡ Some m
 
 -- ---------------------------------------------------------------- a step
 
@@ -168,6 +178,8 @@ mutex_tells (Some (Enters l x how)) m v = refl
 mutex_tells (Some (Converts l x y how)) m v = refl
 mutex_tells (Some (CallsOnce l forced)) m v = refl
 mutex_tells (Some (Awaits l forced)) m v = refl
+mutex_tells (Some (Waits l k timed)) m v = refl
+mutex_tells (Some (Notifies l all)) m v = refl
 mutex_tells (Some (Releases l x false)) m v = by_right x m
   where
     by_right : (x : Want) (m : Line) → tells_by sorts.Mutex (Some (Releases l x false)) m v ≡ tells_of sorts.Mutex m v

@@ -1,5 +1,6 @@
 -- A run of a `Once` is on only while its thread is in the closure of its call.
-use Rattle.std.proofs.Common.{ℕ, Bool, true, false, Option, Some, None, if◌then◌else◌, ◌≡◌, ◌≢◌, ◌⊎◌, inl, inr, is_some, List, get_or-set_other, refl, sym, ◌∙◌, ap, subst}
+use Rattle.abstract_locks.specs.Condvars.{moved_of}
+use Rattle.std.proofs.Common.{◌==◌, eqb-true, ℕ, Bool, true, false, Option, Some, None, if◌then◌else◌, ◌≡◌, ◌≢◌, ◌⊎◌, inl, inr, is_some, List, get_or-set_other, refl, sym, ◌∙◌, ap, subst}
 use Rattle.std.proofs.lemmas.Bool.{cases_eq}
 use Rattle.lot_calls.specs.declared.calls.Step.{Step}
 use Rattle.lot_calls.specs.declared.calls.Turn.{Turn}
@@ -13,9 +14,9 @@ use Rattle.lot_acts.specs.declared.acts.Reply.{Reply}
 use Rattle.lot_acts.specs.declared.acts.Reply.TheVariants.{TakenBy, MovedTo, HandedBy, Woken}
 use Rattle.abstract_locks.specs.Locks.{LockCase, LockState, OfOnce, Rules, after_case, once_after, rights_of}
 use Rattle.abstract_locks.proofs.OnceLaws.{phase_by}
-use Rattle.abstract_locks.specs.Onces.{OnceCase, New, InProgress, Start, Finish, Fail, Rest, TakeAll}
-use Rattle.abstract_locks.specs.Purposes.{Purpose, Enters, Releases, Converts, Bumps, CallsOnce, Awaits}
-use Rattle.abstract_locks.specs.Runs.{AtLock, Begins, CallState, Closes, Does, Event, GoesOn, IsStep, LocksState, MayDo, MayHappen, MayTurn, Nothing, calls_after, is_closure, locks_after, rules_at, state_told}
+use Rattle.abstract_locks.specs.Onces.{Phase, OnceCase, New, InProgress, Start, Finish, Fail, Rest, TakeAll}
+use Rattle.abstract_locks.specs.Purposes.{Purpose, Enters, Releases, Converts, Bumps, CallsOnce, Awaits, Waits, Notifies}
+use Rattle.abstract_locks.specs.Runs.{AtLock, Begins, CallState, Closes, Does, Event, GoesOn, IsStep, LocksState, MayDo, MayHappen, MayTurn, Nothing, calls_after, is_closure, locks_after, rules_at, state_told, Moves, joined_by, left_behind}
 use Rattle.lot_calls.specs.declared.calls.OnceCall.{OnceCall}
 use Rattle.lot_mutex.specs.declared.places.MutexPlace.{MutexPlace}
 use Rattle.lot_mutex.specs.MutexSteps.{mutex_next}
@@ -66,10 +67,21 @@ by_case r case s u t e = elim (phase_by r case s u) [
     told c (inl on) = inl on
     told c (inr now) = inr (now.0, ap OfOnce now.1, now.2)
 
+-- a notification's move changes none
+moves_phase : (w : LocksState) (u c m : ℕ) (all owned : Bool) (number l : ℕ) → (locks_after w u (Moves c m all owned number) l).phase ≡ (w.locks l).phase
+moves_phase w u c m all owned number l = either (l == m) (l == c) refl refl
+  where
+    either : (at_mutex at_condvar : Bool) → (l == m) ≡ at_mutex → (l == c) ≡ at_condvar
+        → ◌≡◌ {A = Phase} (if at_mutex then joined_by owned u (moved_of all (w.locks c).queue) (w.locks m) else if at_condvar then left_behind all (w.locks c) else w.locks l).phase (w.locks l).phase
+    either true there e f = ap (λ k. (w.locks k).phase) (sym (eqb-true l m e))
+    either false true e f = ap (λ k. (w.locks k).phase) (sym (eqb-true l c f))
+    either false false e f = refl
+
 -- and behind an event
 by_event : (w : LocksState) (u : ℕ) (event : Event) (l t : ℕ) → (locks_after w u event l).phase ≡ InProgress t
     → ((w.locks l).phase ≡ InProgress t) ⊎ ((forced : Bool) × (event ≡ AtLock l (OfOnce (Start forced))) × (t ≡ u))
 by_event w u Nothing l t e = inl e
+by_event w u (Moves c m all owned number) l t e = inl (sym (moves_phase w u c m all owned number l) ∙ e)
 by_event w u (AtLock k case) l t e = elim (cases_eq l k) [
   | inl here ↦ subst (λ n. (locks_after w u (AtLock n case) l).phase ≡ InProgress t → ((w.locks l).phase ≡ InProgress t) ⊎ ((forced : Bool) × (AtLock n case ≡ AtLock l (OfOnce (Start forced))) × (t ≡ u)))
       here (λ f. at_it (by_case (rules_at w l) case (w.locks l) u t (sym (ap (λ (s : LockState). s.phase) (put_here w.locks l (after_case (rules_at w l) case (w.locks l) u))) ∙ f))) e
@@ -197,6 +209,8 @@ starts_only w t l forced (Some (Awaits k own)) may = absurd (may.0.1)
 starts_only w t l forced (Some (Enters k x how)) may = absurd (may.0.1)
 starts_only w t l forced (Some (Releases k x fair)) may = absurd (may.0.1)
 starts_only w t l forced (Some (Converts k x y how)) may = absurd (may.0.1)
+starts_only w t l forced (Some (Waits k m timed)) may = absurd (elim (may.0) [ inl there ↦ there.1 | inr beside ↦ elim beside.1 [ inl a ↦ a | inr b ↦ b.1 ] ])
+starts_only w t l forced (Some (Notifies k all)) may = absurd (elim (may.0) [ inl there ↦ there.1 | inr beside ↦ beside ])
 starts_only w t l forced (Some (Bumps k x)) may = absurd (elim (may.0.1) [ inl gives ↦ gives | inr enters ↦ enters.1 ])
 
 -- ---------------------------------------------------------------- a step

@@ -35,7 +35,7 @@ use Rattle.lot_rwlock_fair.specs.declared.hand_over.HandOverAt.TheVariants as ha
 use Rattle.lot_rwlock_fair.specs.FairProfiles.{call_profile}
 use Rattle.lot_rwlock_fair.specs.FairBegins.{call_first}
 use Rattle.lot_rwlock.specs.RwLockDeeds.{Admits, doing_at, rwlock_doing}
-use Rattle.abstract_locks.specs.Locks.{LockState, Pending, Rights, with_right, is_thread, Sort, Mutex, Normal, Recursive, Semaphore, Once, Rules, NoWriter, IsFreeAt, IsSomePending, one_if_some, IsFree, IsBlocked, MayEnter, Owns, is_recursive, count, readers, rights_of}
+use Rattle.abstract_locks.specs.Locks.{LockState, Pending, Rights, with_right, is_thread, Sort, Mutex, Normal, Recursive, Semaphore, Once, Rules, NoWriter, IsFreeAt, IsSomePending, one_if_some, IsFree, IsBlocked, MayEnter, Owns, is_recursive, count, readers, rights_of, Condvar}
 use Rattle.abstract_locks.specs.Codes.{code, count_in, has_parked, is_blocked, TellsTrue}
 use Rattle.abstract_locks.specs.Picks.{queued_of}
 use Rattle.abstract_locks.specs.Purposes.{Enters, Releases, Converts}
@@ -207,6 +207,7 @@ module _ (w : State) (t l : ℕ) (a : Admission) (steady : IsSteady w) (admits :
   no_writer Mutex limit h free = absurd cc
   no_writer Semaphore limit h free = absurd cc
   no_writer Once limit h free = absurd cc
+  no_writer Condvar limit h free = absurd cc
 
   no_upgradable : NoWriter (lock_state w l) → count (lock_state w l) ≡ readers (lock_state w l)
   no_upgradable none = ap (λ (o : Option ℕ). readers (lock_state w l) + one_if_some o) none.2 ∙ (omega arith)

@@ -286,6 +286,7 @@ module _ (l : ℕ) (a : Admission) (c : RwLockCall) where
     released = opens.opening.released i;
     late = opens.opening.late i;
     failed = opens.opening.failed i;
+    recalls = opens.opening.recalls i;
   }
 
   pub rwlock_untaken_first : (k : ℕ) → taken_at (RwLock l a (call_first c)) k ≡ None

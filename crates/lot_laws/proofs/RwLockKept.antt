@@ -208,6 +208,7 @@ word_few r s readers site room limit = by_sort r.sort refl readers
     by_sort locks.Mutex e h = absurd cc
     by_sort Semaphore e h = absurd cc
     by_sort locks.Once e h = absurd cc
+    by_sort locks.Condvar e h = absurd cc
 
 -- ---------------------------------------------------------------- deeds that leave the others as they are
 

@@ -34,7 +34,7 @@ use Rattle.lot_acts.specs.Profiles.{Profile, hand, in_line, taken_from}
 use Rattle.abstract_locks.specs.Codes.{has_aside}
 use Rattle.abstract_locks.specs.Locks.{Rules, Sort, Knows}
 use Rattle.abstract_locks.specs.Locks as sorts
-use Rattle.abstract_locks.specs.Purposes.{MayWait, lock_for}
+use Rattle.abstract_locks.specs.Purposes.{MayWait, lock_for, Blank}
 use Rattle.abstract_locks.specs.Runs.{IsTimed}
 use Rattle.abstract_locks.specs.Sites.{Pends, Claim, counts_some, has_readers, idle}
 use Rattle.lot_laws.specs.Promises.{KnowsRights, WakesAside}
@@ -264,7 +264,7 @@ hands_nothing (at.Wake m to) h = cc
 hands_nothing to h = cc
 
 -- whose call has a deadline
-timed_is : (q : RwLockPurpose) (l : ℕ) → IsTimed (Some (purpose_by q l)) l → is_timed (patience_of q) ≡ true
+timed_is : (q : RwLockPurpose) (l : ℕ) → IsTimed (Some (purpose_by q l)) Blank l → is_timed (patience_of q) ≡ true
 timed_is (purpose.Enter x how) l h = ap is_timed h.1
 timed_is (purpose.Upgrade how) l h = ap is_timed h.1
 timed_is (purpose.Release x) l h = absurd h
@@ -472,7 +472,7 @@ module _ (r : Rules) (readers : has_readers r.sort ≡ true) (a : Admission) (l 
   late_by q again (at.Aside to) stands m h = absurd cc
   late_by q again to stands m h = absurd cc
 
-  may_be_late : (q : RwLockPurpose) (again : Bool) (to : RwLockAt) (m : Line) → stands_at to ≡ Some m → act_at l a (of q again to) to ≡ Sleep → IsTimed (Some (purpose_by q l)) l → late_line_at (patience_of q) to ≡ Some m
+  may_be_late : (q : RwLockPurpose) (again : Bool) (to : RwLockAt) (m : Line) → stands_at to ≡ Some m → act_at l a (of q again to) to ≡ Sleep → IsTimed (Some (purpose_by q l)) Blank l → late_line_at (patience_of q) to ≡ Some m
   may_be_late q again (at.Park parking.Asleep) m h sleeps timed = ap (λ b. in_line b Main) (timed_is q l timed) ∙ h
   may_be_late q again (at.Aside parking.Asleep) m h sleeps timed = ap (λ b. in_line b Second) (timed_is q l timed) ∙ h
   may_be_late q again (at.Park (parking.Taken by)) m h sleeps timed = absurd cc

@@ -46,7 +46,7 @@ use Rattle.lot_machine.specs.Machine.{State, word_at, section_at, queue_at, queu
 use Rattle.lot_rwlock.specs.RwLockCalls.{IsNoRefusal, MayStand, StandsAt, IsDecided}
 use Rattle.lot_rwlock.proofs.RwLockStands.{decides_to_park, aside_set}
 use Rattle.lot_laws.specs.SitesOf.{IsSteady, key_of, rules_in, site_of}
-use Rattle.abstract_locks.specs.Locks.{Rules, Sort, Mutex, Normal, Recursive, Semaphore, Once, count, one_if_some}
+use Rattle.abstract_locks.specs.Locks.{Rules, Sort, Mutex, Normal, Recursive, Semaphore, Once, count, one_if_some, Condvar}
 use Rattle.lot_laws.specs.Solo.{Rests}
 use Rattle.lot_laws.proofs.Glue.{same}
 use Rattle.lot_laws.proofs.SoloActs.{Leads, leads_rest, leads_step, leads_more, leads_so}
@@ -577,6 +577,7 @@ code_small r s readers site few top = by_sort r.sort readers
     by_sort Mutex h = absurd cc
     by_sort Semaphore h = absurd cc
     by_sort Once h = absurd cc
+    by_sort Condvar h = absurd cc
 
 pub word_small : (w : State) (l : ℕ) → IsSteady w → has_readers (rules_in w l).sort ≡ true → word_at w l < 2 ^ 64
 word_small w l steady readers = let limits = steady.sites.limits l readers in

@@ -33,6 +33,7 @@ use Rattle.lot_mutex.specs.declared.hand_off.HandOffAt.{HandOffAt}
 use Rattle.lot_mutex.specs.declared.hand_off.HandOffAt.TheVariants as hand_off
 use Rattle.lot_calls.specs.declared.calls.OnceCall.{OnceCall}
 use Rattle.lot_once.specs.declared.places.OncePlace.{OncePlace}
+use Rattle.lot_condvar.specs.CondvarSteps.{condvar_first}
 use Rattle.lot_once.specs.OnceSteps.{once_first}
 use Rattle.lot_laws.proofs.OnceEnds.{once_alone}
 use Rattle.lot_laws.proofs.OnceRows.{main_only}
@@ -634,6 +635,7 @@ first_busy : (k : Kind) (c : Call) (p : Place) → p ≡ first_place k c → p �
 first_busy k (call.TheVariants.Mutex l c) p is idle = let e : Mutex l (mutex_first (is_fair k) c) ≡ Idle = sym is ∙ idle in cc
 first_busy k (call.TheVariants.RwLock l c) p is idle = let e : RwLock l (admission_of k) (call_first c) ≡ Idle = sym is ∙ idle in cc
 first_busy k (call.TheVariants.Once l c) p is idle = let e : Once l (once_first c) ≡ Idle = sym is ∙ idle in cc
+first_busy k (call.TheVariants.Condvar l c) p is idle = let e : Condvar l (condvar_first c) ≡ Idle = sym is ∙ idle in cc
 
 module _ (w : State) (t : ℕ) (shape : IsShaped w) (steady : IsSteady w) (counted : AreCounted w) (running : RunsInClosures w) where
   pub rests_alone : IsUnderWay w t → HasItsWay w t → Rests (solo 64 w t outcome.TheVariants.NotNow).outcome
@@ -641,6 +643,7 @@ module _ (w : State) (t : ℕ) (shape : IsShaped w) (steady : IsSteady w) (count
 
   pub ends_alone : (c : Call) → place_at w t ≡ first_place (kind_at w (lock_in c)) c → HasItsWay w t
       → EndsAlone w t (purpose_at (locks_of w) c) (solo 64 w t outcome.TheVariants.NotNow).outcome (solo 64 w t outcome.TheVariants.NotNow).state
+  ends_alone (call.TheVariants.Condvar l c) is way = absurd (subst (FitsItsLock w) is (steady.stands.calls t))
   ends_alone (call.TheVariants.Once l c) is way = once_ends w t shape steady counted running (stands_there w.places t (first_busy (kind_at w l) (call.TheVariants.Once l c) (place_at w t) is)) way l c is
   ends_alone (call.TheVariants.Mutex l c) is way = mutex_ends w t shape steady counted running (stands_there w.places t (first_busy (kind_at w l) (call.TheVariants.Mutex l c) (place_at w t) is)) way l c is 64 outcome.TheVariants.NotNow (omega arith)
   ends_alone (call.TheVariants.RwLock l c) is way = rwlock_ends w t shape steady counted running (stands_there w.places t (first_busy (kind_at w l) (call.TheVariants.RwLock l c) (place_at w t) is)) way l c is

@@ -1,12 +1,13 @@
 -- What the answer says of a call whose thread has stepped alone to its end.
-use Rattle.std.proofs.Common.{ℕ, zero, suc, Bool, Option, if◌then◌else◌, ◌≡◌, ◌≢◌, inl, inr, List, [], ◌∷◌, length, replicate, refl, sym, ◌∙◌, ap, subst}
+use Rattle.std.proofs.Common.{Some, None, ℕ, zero, suc, Bool, Option, if◌then◌else◌, ◌≡◌, ◌≢◌, inl, inr, List, [], ◌∷◌, length, replicate, refl, sym, ◌∙◌, ap, subst}
 use Rattle.lot_calls.specs.declared.outcomes.Answer.{Answer}
 use Rattle.lot_calls.specs.declared.outcomes.Outcome.{Outcome}
 use Rattle.lot_calls.specs.declared.outcomes.Outcome.TheVariants as outcome
 use Rattle.abstract_locks.specs.Locks.{Rights, Enter, Pend, Settle, Leave, Park, Aside, HandOff, Late, OfOnce}
 use Rattle.abstract_locks.specs.Onces.{OnceCase, Start, Finish, Fail, Rest, TakeAll}
-use Rattle.abstract_locks.specs.Purposes.{Purpose}
-use Rattle.abstract_locks.specs.Runs.{LocksState, CallState, Event, Nothing, AtLock, IsStep, IsRun, GoesOn, AnswerHolds, going_on, woken}
+use Rattle.abstract_locks.specs.Locks as locks
+use Rattle.abstract_locks.specs.Purposes.{Purpose, Recall, WasMoved}
+use Rattle.abstract_locks.specs.Runs.{LocksState, CallState, Event, Nothing, AtLock, IsStep, IsRun, GoesOn, AnswerHolds, going_on, woken, Moves, gives_up}
 use Rattle.lot_machine.specs.Machine.{go_of}
 use Rattle.lot_laws.specs.Solo.{GoesOnUntil, last_told}
 use Rattle.lot_laws.proofs.Glue.{same}
@@ -25,10 +26,23 @@ once_keeps_former Fail l c = refl
 once_keeps_former (Rest wanted forced) l c = refl
 once_keeps_former TakeAll l c = refl
 
+late_keeps_purpose : (l : ℕ) (recalls : Recall) (c : CallState) → (gives_up l recalls c).purpose ≡ c.purpose
+late_keeps_purpose l WasMoved c = refl
+late_keeps_purpose l recalls c = refl
+
+late_keeps_former : (l : ℕ) (recalls : Recall) (c : CallState) → (gives_up l recalls c).former ≡ c.former
+late_keeps_former l WasMoved c = refl
+late_keeps_former l recalls c = refl
+
 -- an event leaves what the call is for, and what its thread owned as it began
 purpose_stays : (e : Event) (c : CallState) → (going_on e c).purpose ≡ c.purpose
 purpose_stays Nothing c = refl
-purpose_stays (AtLock l Late) c = refl
+purpose_stays (AtLock l Late) c = late_keeps_purpose l c.recalls c
+purpose_stays (AtLock l (locks.OfCondvar (locks.Look None))) c = refl
+purpose_stays (AtLock l (locks.OfCondvar (locks.Look (Some m)))) c = refl
+purpose_stays (AtLock l (locks.OfCondvar case)) c = refl
+purpose_stays (AtLock l (locks.SeeOwner owned)) c = refl
+purpose_stays (Moves l m all owned number) c = refl
 purpose_stays (AtLock l (Enter x)) c = refl
 purpose_stays (AtLock l Pend) c = refl
 purpose_stays (AtLock l Settle) c = refl
@@ -41,7 +55,12 @@ purpose_stays (AtLock l case) c = refl
 
 former_stays : (e : Event) (c : CallState) → (going_on e c).former ≡ c.former
 former_stays Nothing c = refl
-former_stays (AtLock l Late) c = refl
+former_stays (AtLock l Late) c = late_keeps_former l c.recalls c
+former_stays (AtLock l (locks.OfCondvar (locks.Look None))) c = refl
+former_stays (AtLock l (locks.OfCondvar (locks.Look (Some m)))) c = refl
+former_stays (AtLock l (locks.OfCondvar case)) c = refl
+former_stays (AtLock l (locks.SeeOwner owned)) c = refl
+former_stays (Moves l m all owned number) c = refl
 former_stays (AtLock l (Enter x)) c = refl
 former_stays (AtLock l Pend) c = refl
 former_stays (AtLock l Settle) c = refl

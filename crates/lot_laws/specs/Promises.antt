@@ -1,5 +1,6 @@
 -- What is promised of every state, before and after each step, under every schedule. Each clause is told by the sort of lock, so that it
 -- stays as it is for sorts that have no call yet.
+use Rattle.abstract_locks.specs.Locks as locks
 use Rattle.std.specs.Prelude.{ℕ, Bool, false, true, None, Option, ◌≡◌, ◌≢◌, ◌<◌, ◌≤◌, ◌⊎◌, ◌↔◌, Some, ◌*◌, ◌+◌}
 use Rattle.lot_base.specs.declared.keys.Keys.TheVariants.{One}
 use Rattle.lot_base.specs.declared.wants.Want.{Want}
@@ -16,7 +17,7 @@ use Rattle.abstract_locks.specs.Onces.{InProgress, IsRunning}
 use Rattle.abstract_locks.specs.Codes.{word_by, parked_in, aside_in}
 use Rattle.abstract_locks.specs.Runs.{AreLockStates}
 use Rattle.abstract_locks.specs.Sites.{Line, Main, Second, IsOpen, counts_some, has_readers}
-use Rattle.abstract_locks.specs.Purposes.{Purpose, Enters, Releases, Converts, Bumps, CallsOnce, Awaits, MayWait}
+use Rattle.abstract_locks.specs.Purposes.{Purpose, Enters, Releases, Converts, Bumps, CallsOnce, Awaits, MayWait, Waits, Notifies}
 use Rattle.lot_laws.specs.Refinement.{RunsClosure, lock_state, locks_of, call_at}
 use Rattle.lot_laws.specs.Stations.{doing_on}
 use Rattle.lot_laws.specs.SitesOf.{rules_in, key_of}
@@ -58,7 +59,7 @@ GoesToWake w t l m =
     (act_of (place_at w t) ≡ Enter (One (key_of l m))) × (LetsOthersIn w t l ⊎ WakesAside (call_at w t).purpose l m)
 
 -- a call that wakes whom it takes of the main line: a release that hands nothing over, a conversion that lets others in, or a writer
--- beside readers that has given up; or a call that runs the closure of a `Once`
+-- beside readers that has given up; or a call that runs the closure of a `Once`; a wait, of its mutex, and a notification
 abbrev pub WakesWaiters : Sort → Option Purpose → Option ℕ → ℕ → Type 0
 WakesWaiters sort (Some (Releases k x fair)) gave_up l = (k ≡ l) × ((fair ≡ false) ⊎ (x ≡ Upgradable))
 WakesWaiters sort (Some (Converts k x y how)) gave_up l = (k ≡ l) × ((y ≢ Exclusive) ⊎ ((gave_up ≡ Some l) × (has_readers sort ≡ true)))
@@ -66,6 +67,8 @@ WakesWaiters sort (Some (Enters k x how)) gave_up l = (k ≡ l) × (gave_up ≡ 
 WakesWaiters sort (Some (Bumps k x)) gave_up l = (k ≡ l) × (x ≢ Exclusive)
 WakesWaiters sort (Some (CallsOnce k forced)) gave_up l = k ≡ l
 WakesWaiters sort (Some (Awaits k forced)) gave_up l = ⊥
+WakesWaiters sort (Some (Waits k m timed)) gave_up l = m ≡ l
+WakesWaiters sort (Some (Notifies k all)) gave_up l = Unit {0}
 WakesWaiters sort None gave_up l = ⊥
 
 -- a call is for rights that its lock knows
@@ -76,6 +79,8 @@ KnowsRights sort (Some (Converts l x y how)) = Knows (sort l) x × Knows (sort l
 KnowsRights sort (Some (Bumps l x)) = Knows (sort l) x
 KnowsRights sort (Some (CallsOnce l forced)) = sort l ≡ Once
 KnowsRights sort (Some (Awaits l forced)) = sort l ≡ Once
+KnowsRights sort (Some (Waits l m timed)) = (sort l ≡ locks.Condvar) × (sort m ≡ locks.Mutex)
+KnowsRights sort (Some (Notifies l all)) = sort l ≡ locks.Condvar
 KnowsRights sort None = Unit {0}
 
 -- what a call is to own in the end
@@ -150,8 +155,14 @@ abbrev pub IsOfOne : Place → Type 0
 IsOfOne (Condvar l at) = ⊥
 IsOfOne p = Unit {0}
 
+abbrev pub CallsOneLock : Option Purpose → Type 0
+CallsOneLock (Some (Waits l m timed)) = ⊥
+CallsOneLock (Some (Notifies l all)) = ⊥
+CallsOneLock purpose = Unit {0}
+
 pub record IsKept (w : State) : Type 0 where
   pub of_one : (t : ℕ) → IsOfOne (place_at w t)
+  pub calls_one : (t : ℕ) → CallsOneLock (call_at w t).purpose
   -- owners exclude each other, and a thread stands at most once in the queue of a lock, aside of it or taken from it
   pub state : AreLockStates (locks_of w)
   -- and at one lock at most

@@ -14,10 +14,10 @@ use Rattle.lot_steps.specs.Steps.{act_of, lock_of}
 use Rattle.lot_machine.specs.Machine.{State, place_at, word_at, kind_at, section_at, go_of, runs_closure}
 use Rattle.abstract_locks.specs.Locks.{Sort, Mutex, Recursive, Rules, LockState, first_thread, Queued, MayEnter, IsBlocked, Owns, count, readers, with_right}
 use Rattle.abstract_locks.specs.Sites.{Line, Main, Second, has_readers}
-use Rattle.abstract_locks.specs.Purposes.{rules_of, Purpose, Enters, Releases, Converts, Bumps, CallsOnce, Awaits, Patience, Patient, Try}
+use Rattle.abstract_locks.specs.Purposes.{rules_of, Purpose, Enters, Releases, Converts, Bumps, CallsOnce, Awaits, Patience, Patient, Try, Waits, Notifies}
 use Rattle.abstract_locks.specs.Codes.{has_parked}
 use Rattle.abstract_locks.specs.Onces.{Phase, New, Poisoned, InProgress, Done}
-use Rattle.abstract_locks.specs.Runs.{LocksState, IsFull, IsRun, rules_at, rights_in}
+use Rattle.abstract_locks.specs.Runs.{LocksState, IsFull, IsRun, rules_at, rights_in, ShowsOther}
 use Rattle.lot_laws.specs.SitesOf.{key_of}
 use Rattle.lot_laws.specs.Refinement.{locks_of}
 use Rattle.lot_laws.specs.WorldRuns.{IsWorldRun}
@@ -153,6 +153,17 @@ AwaitsAlone Done s t forced o s2 = o ≡ outcome.TheVariants.End answer.TheVaria
 AwaitsAlone Poisoned s t false o s2 = o ≡ outcome.TheVariants.End answer.TheVariants.Poisoned
 AwaitsAlone phase s t forced o s2 = SleepsLast s t Wait o s2
 
+-- what a wait comes to: it sleeps behind the last, its mutex let go, or ends where another mutex is shown
+pub record StandsAlone (w : LocksState) (t l m : ℕ) (o : Outcome) (v : LocksState) : Type 0 where
+  pub other : ShowsOther (w.locks l) m → o ≡ outcome.TheVariants.End answer.TheVariants.TwoMutexes
+  pub own : (ShowsOther (w.locks l) m → ⊥) → SleepsLast (w.locks l) t Wait o (v.locks l) × ((v.locks m).exclusive ≡ None)
+
+-- and a notification: it moves the first, or all
+abbrev pub NotifiesAlone : Bool → List Queued → Outcome → List Queued → Type 0
+NotifiesAlone false [] o q2 = o ≡ outcome.TheVariants.End answer.TheVariants.No
+NotifiesAlone false (x ∷ q) o q2 = (o ≡ outcome.TheVariants.End answer.TheVariants.Yes) × (q2 ≡ q)
+NotifiesAlone true q o q2 = (o ≡ outcome.TheVariants.End (answer.TheVariants.Number (length q))) × (q2 ≡ [])
+
 abbrev pub EndsBy : (ℕ → ℕ) → LocksState → ℕ → Option Purpose → Outcome → LocksState → Type 0
 EndsBy words w t (Some (Enters l x how)) o v = EntersAlone (words l ≡ 0) w t l x how o v
 EndsBy words w t (Some (Releases l x fair)) o v = ReleasesAlone w t l x fair o v
@@ -162,6 +173,8 @@ EndsBy words w t (Some (Bumps l x)) o v =
     × (has_readers (rules_at w l).sort ≡ true → BumpsShared (has_parked (words l) ≡ false) w t l x o v)
 EndsBy words w t (Some (CallsOnce l forced)) o v = CallsOnceAlone (w.locks l).phase (w.locks l) t forced o (v.locks l)
 EndsBy words w t (Some (Awaits l forced)) o v = AwaitsAlone (w.locks l).phase (w.locks l) t forced o (v.locks l)
+EndsBy words w t (Some (Waits l m timed)) o v = StandsAlone w t l m o v
+EndsBy words w t (Some (Notifies l all)) o v = NotifiesAlone all (w.locks l).queue o (v.locks l).queue
 EndsBy words w t None o v = Unit {0}
 
 -- what a call comes to, by what it is for

@@ -57,7 +57,7 @@ pub record State : Type 0 where
   pub queues : List (List Waiter)
 
 abbrev pub nobody : Owners
-nobody = record { exclusive = None; pending = None; upgradable = None; phase = phases.New }
+nobody = record { exclusive = None; pending = None; upgradable = None; phase = phases.New; shown = None }
 
 -- the word of a new lock
 abbrev pub first_word : Kind → ℕ

@@ -237,8 +237,6 @@ fn kind(word: &[u8]) -> Option<Kind>
         Some(Kind::Fair)
     } else if word == b"once".as_slice() {
         Some(Kind::Once)
-    } else if word == b"condvar".as_slice() {
-        Some(Kind::Condvar)
     } else {
         limited_kind(word, MOST_READERS as usize)
     }

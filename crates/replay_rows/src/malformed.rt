@@ -1,7 +1,7 @@
 //! Inputs that end at a malformed line, with the text that they lead to.
 
 /// Inputs that end at a malformed line, with the text that they lead to.
-pub const MALFORMED: [(&str, &str); 25] = [
+pub const MALFORMED: [(&str, &str); 27] = [
     // The form of a line.
     ("\n", "line 1 malformed\n"),
     ("threads 1\n\nlock m mutex\n", "line 2 malformed\n"),
@@ -46,13 +46,22 @@ pub const MALFORMED: [(&str, &str); 25] = [
         "threads 1\nlock m mutex\n0 do lock mm\n",
         "line 3 malformed\n",
     ),
-    (
-        "threads 1\nlock m mutex\n0 begin notify_one m\n",
-        "line 3 malformed\n",
-    ),
     // A line before.
     (
         "threads 1\nlock m mutex\nshow\n0 fly\n0 go\n",
         "m 0\nline 4 malformed\n",
+    ),
+    // Only a wait on a condition variable has a second name. A call that its lock lacks is a possible line.
+    (
+        "threads 1\nlock m mutex\n0 do wait m m\n",
+        "line 3 malformed\n",
+    ),
+    (
+        "threads 1\nlock m mutex\n0 do notify_one m m\n",
+        "line 3 malformed\n",
+    ),
+    (
+        "threads 1\nlock m mutex\n0 begin wait m\n0 begin notify_one m\n0 begin wait_timed m\n",
+        "0 not now\n0 not now\nline 5 malformed\n",
     ),
 ];
