@@ -1,5 +1,10 @@
 -- Each step in a call of a condition variable takes its thread in the machine where its act says, at each of its two locks.
-use Rattle.std.proofs.Common.{ℕ, Bool, true, false, Option, Some, None, if◌then◌else◌, ◌==◌, ◌≡◌, ◌+◌, ◌*◌, ◌⊎◌, inl, inr, List, [], ◌∷◌, refl, sym, ap, ◌∙◌, subst}
+use Rattle.std.proofs.Common.{ℕ, Bool, true, false, Option, Some, None, if◌then◌else◌, ◌==◌, ◌≡◌, ◌+◌, ◌*◌, ◌⊎◌, inl, inr, List, [], ◌∷◌, refl, sym, ap, ◌∙◌, subst, arith}
+use Rattle.std.proofs.lemmas.Bool.Decides.{nat_tests}
+use Rattle.lot_mutex.specs.declared.lock.Entry.{Entry}
+use Rattle.abstract_locks.specs.Locks.{putting}
+use Rattle.abstract_locks.specs.Sites.{Has, Doing}
+use Rattle.lot_condvar.proofs.NotifierFit.{put_same}
 use Rattle.std.specs.Prelude.{nat_lt, not, ◌||◌}
 use Rattle.lot_base.specs.declared.keys.Keys.TheVariants.{One}
 use Rattle.lot_base.specs.declared.notes.Note.TheVariants as note
@@ -34,13 +39,13 @@ use Rattle.lot_condvar.specs.declared.wait.Stands.{Stands}
 use Rattle.lot_condvar.specs.declared.wait.Stands.TheVariants as stands
 use Rattle.lot_condvar.specs.declared.wait.WaitAt.{WaitAt}
 use Rattle.lot_condvar.specs.declared.wait.WaitAt.TheVariants as wait
-use Rattle.lot_condvar.specs.CondvarSteps.{behind, condvar_act, in_notify, in_wait, is_shown, marks, moved_one, mutex_shown, notified, released, relocked}
-use Rattle.lot_condvar.specs.CondvarProfiles.{has_moved, mutex_side}
+use Rattle.lot_condvar.specs.CondvarSteps.{in_lock as in_lock_once, behind, condvar_act, in_notify, in_wait, is_shown, marks, moved_one, mutex_shown, notified, released, relocked}
+use Rattle.lot_condvar.specs.CondvarProfiles.{has_moved, mutex_side, condvar_profile}
 use Rattle.lot_condvar.specs.CondvarDeeds.{relocked_deeds}
 use Rattle.lot_condvar.specs.CondvarWaits as waits
 use Rattle.lot_condvar.specs.CondvarWaits.{waiter_deeds}
 use Rattle.lot_condvar.specs.CondvarCalls.{IsLockOf, IsReached}
-use Rattle.lot_condvar.specs.CondvarMoves.{CondvarMoves, IsInHand, LooksMove, NotifiesMove, SleepsBeside, SleepsThere, StayBeside, StayThere, StaysBeside, StaysThere, WaitersMove, WaitsAtBoth, WaitsMove, beside, row_beside, row_there, there}
+use Rattle.lot_condvar.specs.CondvarMoves.{WaitersLookAgain, WaitsBegin, CondvarMoves, IsInHand, LooksMove, NotifiesMove, SleepsBeside, SleepsThere, StayBeside, StayThere, StaysBeside, StaysThere, WaitersMove, WaitsAtBoth, WaitsMove, beside, row_beside, row_there, there}
 
 -- where a thread is next, at each lock
 abbrev there_next : Next CondvarPlace → Station
@@ -86,7 +91,7 @@ module _ (c m : ℕ) (timed : Bool) where
       by_beside true = refl
       by_beside false = behind_beside st
 
-      by_deeds : (b : Bool) → StayBeside (waits.going_on (Case (Leave Exclusive) ∷ (if b then [] else End ∷ [])))
+      by_deeds : (b : Bool) → StayBeside (waits.unended (Case (Leave Exclusive) ∷ (if b then [] else End ∷ [])))
       by_deeds true = tt
       by_deeds false = tt
 
@@ -96,7 +101,7 @@ module _ (c m : ℕ) (timed : Bool) where
   releases st unlock.Take =
       inl (refl, record { inside = refl; empty_handed = refl; deeds = takes_so; goes = λ any none_left. took any none_left; may = λ r s t whom any none_left first nobody. (first, nobody) }, λ any none_left. record { deeds = tt; goes = left_there any none_left })
     where
-      takes_so : (whom : Option ℕ) (any none_left : Bool) → waits.going_on (takes whom) ≡ takes whom
+      takes_so : (whom : Option ℕ) (any none_left : Bool) → waits.unended (takes whom) ≡ takes whom
       takes_so None any none_left = refl
       takes_so (Some u) any none_left = refl
 
@@ -432,3 +437,27 @@ module _ (m : ℕ) (timed : Bool) where
 
 pub waiters_move : WaitersMove
 waiters_move m timed at reached = sleepers m timed at reached
+
+-- ---------------------------------------------------------------- where a call begins, and where it looks at its mutex once more
+
+pub waits_begin : WaitsBegin
+waits_begin v r s t c m timed away own is = record {
+  reached = tt;
+  needed = ((away.unlisted, away.outside), own);
+  at = record { stage = away.outside; listed = away.unlisted; names = names };
+  doing = put_same s.doing t _ ∙ ap (λ (d : Doing). record d { claims = Some (Has Exclusive) }) is;
+  stations = (refl, refl);
+  call = λ rights. refl;
+}
+  where
+    names : putting v.waits_with t (Some m) t ≡ Some m
+    names = grind (arith, nat_tests)
+
+looks_once_more : (m : ℕ) (timed timed_out retries : Bool) (e : Entry) (seen : ℕ) (p2 : CondvarPlace) (b : Bool) → in_lock_once m timed timed_out (if b then Some (mutex.Lock e retries lock.Load) else None) ≡ Some p2
+    → (condvar_profile p2 ≡ condvar_profile (Wait m timed (wait.Lock timed_out (mutex.Lock e retries (lock.Decide seen))))) × (mutex_side p2 ≡ mutex_side (Wait m timed (wait.Lock timed_out (mutex.Lock e retries (lock.Decide seen)))))
+looks_once_more m timed timed_out retries e seen p2 true is = let g : Wait m timed (wait.Lock timed_out (mutex.Lock e retries lock.Load)) ≡ p2 = cc in (ap condvar_profile (sym g), ap mutex_side (sym g))
+looks_once_more m timed timed_out retries e seen p2 false is = absurd cc
+
+pub waiters_look_again : WaitersLookAgain
+waiters_look_again (Wait m timed (wait.Lock timed_out (mutex.Lock e retries (lock.Decide seen)))) p2 is = looks_once_more m timed timed_out retries e seen p2 (seen == 1) is
+waiters_look_again p p2 is = absurd cc

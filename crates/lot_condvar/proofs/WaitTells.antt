@@ -121,7 +121,7 @@ module _ (v : CondvarSite) (limit : ℕ) (s : Site) (t c m : ℕ) (timed : Bool)
   wakes (stands.Noted note.HandOff) false shown s2 stay = keeps c m t _ _ Done Nothing shown s.lock s2 tt stay (λ rights. refl)
 
   took : (st : Stands) (whom : Option ℕ) (any none_left : Bool) (shown : Option ℕ)
-      → CallFollows c m (releasing st unlock.Take) (Took any none_left) (or_else (event_of m None (waits.going_on (takes whom))) Nothing) shown s.lock (after_all r (waits.going_on (takes whom)) s t).lock t
+      → CallFollows c m (releasing st unlock.Take) (Took any none_left) (or_else (event_of m None (waits.unended (takes whom))) Nothing) shown s.lock (after_all r (waits.unended (takes whom)) s t).lock t
       (At (place (released st (in_unlock (if none_left then At (unlock.Clear any) else At (unlock.Leave any))))))
   took st None any true shown = keeps c m t _ _ (Took any true) Nothing shown s.lock _ tt refl (λ rights. refl)
   took st None any false shown = keeps c m t _ _ (Took any false) Nothing shown s.lock _ tt refl (λ rights. refl)
@@ -136,7 +136,7 @@ module _ (v : CondvarSite) (limit : ℕ) (s : Site) (t c m : ℕ) (timed : Bool)
   releases st unlock.Subtract whom (Value seen) is f = by_bit (is_parked seen)
     where
       by_bit : (b : Bool)
-          → CallFollows c m (releasing st unlock.Subtract) (Value seen) (AtLock m (Leave Exclusive)) v.shown s.lock (after_all r (waits.going_on (Case (Leave Exclusive) ∷ (if b then [] else End ∷ []))) s t).lock t
+          → CallFollows c m (releasing st unlock.Subtract) (Value seen) (AtLock m (Leave Exclusive)) v.shown s.lock (after_all r (waits.unended (Case (Leave Exclusive) ∷ (if b then [] else End ∷ []))) s t).lock t
           (At (place (released st (in_unlock (if b then At unlock.Enter else Over answer.Ok)))))
       by_bit true = subtracts st seen v.shown (owns limit s t m h st is) f.1 true
       by_bit false = subtracts st seen v.shown (owns limit s t m h st is) f.1 false

@@ -40,7 +40,7 @@ use Rattle.lot_condvar.specs.declared.wait.WaitAt.{WaitAt}
 use Rattle.lot_condvar.specs.declared.wait.WaitAt.TheVariants as wait
 use Rattle.lot_condvar.specs.CondvarSteps.{behind, is_shown, released, relocked, wait_act}
 use Rattle.lot_condvar.specs.CondvarProfiles.{befell, has_mutex, wait_row}
-use Rattle.lot_condvar.specs.CondvarWaits.{LeavesMutex, MayHearLocking, MayHearReleasing, MayHearWaiter, TakesFirst, WaiterFollows, WaitersCode, WaitersFollow, WaitersHear, going_on, itself_woken, waiter_next}
+use Rattle.lot_condvar.specs.CondvarWaits.{LeavesMutex, MayHearLocking, MayHearReleasing, MayHearWaiter, TakesFirst, WaiterFollows, WaitersCode, WaitersFollow, WaitersHear, unended, itself_woken, waiter_next}
 use Rattle.lot_condvar.proofs.NotifierFit.{owned_word, put_same, word_of}
 
 -- ---------------------------------------------------------------- the word of a mutex
@@ -105,7 +105,7 @@ module _ (limit : ℕ) (s : Site) (t m : ℕ) (h : IsSite (record { sort = Mutex
 
   module _ (st : Stands) where
     abbrev Releases : List Deed → Next UnlockAt → Type 0
-    Releases ds n = Does (going_on ds) (waiter_next m (At (released st (in_unlock n))))
+    Releases ds n = Does (unended ds) (waiter_next m (At (released st (in_unlock n))))
 
     claims_it : (b : Bool) → (if b then Some (Has Exclusive) else Some (Has Exclusive)) ≡ Some (Has Exclusive)
     claims_it true = refl
@@ -344,7 +344,7 @@ module _ (limit : ℕ) (s : Site) (t k m : ℕ) (apart : k ≢ m) (h : IsSite (r
   Leaves ds w owner = (w ≡ code rules (after_all rules ds s t)) × (owner ≡ (after_all rules ds s t).lock.exclusive)
 
   -- behind a release
-  released_word : s.lock.exclusive ≡ Some t → (b : Bool) → Leaves (going_on (Case (Leave Exclusive) ∷ (if b then [] else End ∷ []))) (apply (op.Sub 1) v) None
+  released_word : s.lock.exclusive ≡ Some t → (b : Bool) → Leaves (unended (Case (Leave Exclusive) ∷ (if b then [] else End ∷ []))) (apply (op.Sub 1) v) None
   released_word own true = (ap (λ e. apply (op.Sub 1) (word_of s.parked e)) own ∙ less_one s.parked t, refl)
   released_word own false = (ap (λ e. apply (op.Sub 1) (word_of s.parked e)) own ∙ less_one s.parked t, refl)
 

@@ -6,6 +6,7 @@ use Rattle.lot_base.specs.declared.requeues.Requeue.{Requeue}
 use Rattle.lot_base.specs.declared.requeues.Requeue.TheVariants as requeue
 use Rattle.lot_base.specs.declared.wants.Want.TheVariants.{Exclusive, Wait as WaitHere}
 use Rattle.lot_base.specs.Keys.{key_of}
+use Rattle.lot_calls.specs.declared.calls.CondvarCall.TheVariants as call
 use Rattle.lot_acts.specs.declared.acts.Act.{Act}
 use Rattle.lot_acts.specs.declared.acts.Act.TheVariants as act
 use Rattle.lot_acts.specs.declared.acts.Next.{Next}
@@ -17,21 +18,24 @@ use Rattle.lot_acts.specs.declared.acts.Whom.TheVariants.{First}
 use Rattle.lot_acts.specs.Acts.{wakes_taken}
 use Rattle.lot_acts.specs.Moves.{Accepts, AreLeaving, AreOfWord, Hears, IsFree, LeavesLine, Move, Parks, inside_of, station_of, station_then}
 use Rattle.lot_acts.specs.Profiles.{Profile, blank, hand, in_hand}
-use Rattle.lot_acts.specs.Stations.{Station, station_by}
-use Rattle.abstract_locks.specs.Condvars.{CondvarDeed, CondvarSite, EndsWait, GoesIn, GoesOut, LeaveList, MoveAll, MoveFirst, StandLast, line_of, moved_of, taken_of}
-use Rattle.abstract_locks.specs.Locks.{HasTakenNobody, Queued, Rules}
-use Rattle.abstract_locks.specs.Sites.{Bring, Deed, In, Main, MarkBrought, MarkOwned, Site}
+use Rattle.lot_acts.specs.Stations.{Station, station_by, nowhere}
+use Rattle.abstract_locks.specs.Condvars.{BeginsWait, CondvarNeeded, condvar_leads, CondvarDeed, CondvarSite, EndsWait, GoesIn, GoesOut, LeaveList, MoveAll, MoveFirst, StandLast, line_of, moved_of, taken_of}
+use Rattle.abstract_locks.specs.Locks.{HasTakenNobody, Owns, Queued, Rights, Rules}
+use Rattle.abstract_locks.specs.Sites.{Begin, Bring, Deed, Has, In, Main, MarkBrought, MarkOwned, Needed, Site, after_deed, idle}
+use Rattle.abstract_locks.specs.Purposes.{Waits}
+use Rattle.abstract_locks.specs.Runs.{new_call}
 use Rattle.lot_mutex.specs.MutexDeeds.{takes}
 use Rattle.lot_condvar.specs.declared.notify.NotifyAt.{NotifyAt}
 use Rattle.lot_condvar.specs.declared.places.CondvarPlace.{CondvarPlace}
 use Rattle.lot_condvar.specs.declared.places.CondvarPlace.TheVariants.{Wait, Look, Notify}
 use Rattle.lot_condvar.specs.declared.wait.WaitAt.{WaitAt}
-use Rattle.lot_condvar.specs.CondvarSteps.{condvar_act, condvar_next}
-use Rattle.lot_condvar.specs.CondvarProfiles.{condvar_profile, mutex_side}
-use Rattle.lot_condvar.specs.CondvarDeeds.{condvar_deeds}
+use Rattle.lot_condvar.specs.declared.wait.WaitAt.TheVariants as wait
+use Rattle.lot_condvar.specs.CondvarSteps.{condvar_act, condvar_first, condvar_looking, condvar_next}
+use Rattle.lot_condvar.specs.CondvarProfiles.{condvar_profile, mutex_side, wait_row}
+use Rattle.lot_condvar.specs.CondvarDeeds.{IsAt, IsAway, condvar_deeds}
 use Rattle.lot_condvar.specs.CondvarMutex.{MayHearBeside, beside_deeds}
 use Rattle.lot_condvar.specs.CondvarWaits.{MayHearWaiter, TakesFirst, waiter_deeds}
-use Rattle.lot_condvar.specs.CondvarCalls.{IsReached}
+use Rattle.lot_condvar.specs.CondvarCalls.{IsReached, call_at}
 
 -- ---------------------------------------------------------------- a thread at a place, seen at each of its locks
 
@@ -254,3 +258,27 @@ pub record WaitsAtBoth (p : CondvarPlace) : Type 0 where
 
 abbrev pub WaitersMove : Type 0
 WaitersMove = (m : ℕ) (timed : Bool) (at : WaitAt) → IsReached (Wait m timed at) → WaitsAtBoth (Wait m timed at)
+
+-- ---------------------------------------------------------------- where a call begins, and where it looks at its mutex once more
+
+-- it stands nowhere, and a wait owns its mutex
+pub record BeginsAt (v : CondvarSite) (r : Rules) (s : Site) (t c m : ℕ) (timed : Bool) : Type 0 where
+  pub reached : IsReached (condvar_first (call.Wait m timed))
+  pub needed : CondvarNeeded (BeginsWait m) v t × Needed r (Begin (Some (Has Exclusive))) s t
+  pub at : IsAt (condvar_leads (BeginsWait m) v t) t (condvar_first (call.Wait m timed))
+  pub doing : (after_deed r (Begin (Some (Has Exclusive))) s t).doing t ≡ (wait_row m wait.Enter).doing
+  pub stations : (there (condvar_first (call.Wait m timed)) ≡ nowhere)
+      × (station_of (beside [] (condvar_first (call.Wait m timed))) ≡ nowhere)
+  pub call : (rights : ℕ → Rights)
+      → call_at c m (condvar_first (call.Wait m timed)) rights ≡ new_call (Some (Waits c m timed)) rights
+
+abbrev pub WaitsBegin : Type 0
+WaitsBegin =
+    (v : CondvarSite) (r : Rules) (s : Site) (t c m : ℕ) (timed : Bool) → IsAway v t → Owns s.lock t Exclusive
+    → s.doing t ≡ idle → BeginsAt v r s t c m timed
+
+-- its rows are the same there
+abbrev pub WaitersLookAgain : Type 0
+WaitersLookAgain =
+    (p p2 : CondvarPlace) → condvar_looking p ≡ Some p2
+    → (condvar_profile p2 ≡ condvar_profile p) × (mutex_side p2 ≡ mutex_side p)

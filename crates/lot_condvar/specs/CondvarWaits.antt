@@ -31,17 +31,17 @@ use Rattle.lot_condvar.specs.CondvarProfiles.{has_mutex, wait_row}
 
 -- ---------------------------------------------------------------- the deeds of each step
 
--- its release ends, and the wait goes on
-abbrev pub going_on : List Deed → List Deed
-going_on [] = []
-going_on (End ∷ ds) = going_on ds
-going_on (d ∷ ds) = d ∷ going_on ds
+-- where its release ends the wait goes on
+abbrev pub unended : List Deed → List Deed
+unended [] = []
+unended (End ∷ ds) = unended ds
+unended (d ∷ ds) = d ∷ unended ds
 
 -- As in calls of the mutex, but for a wait that was moved to it and is late: that leaves the bit. Whom the release takes is no part of a
 -- place: `whom`.
 abbrev pub waiter_deeds : WaitAt → Option ℕ → Reply → List Deed
 waiter_deeds wait.Refuse whom Done = End ∷ []
-waiter_deeds (wait.Release s at) whom told = going_on (mutex_deeds at whom told)
+waiter_deeds (wait.Release s at) whom told = unended (mutex_deeds at whom told)
 waiter_deeds (wait.Asleep stands.Moved) whom Late = In Main ∷ []
 waiter_deeds wait.RemoveMoved whom (Removed none_left) = Case GivesUp ∷ []
 waiter_deeds (wait.GiveUpMoved none_left) whom Done = Out ∷ []

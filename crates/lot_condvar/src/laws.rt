@@ -1,7 +1,7 @@
 //! What the steps of a condition variable do to it.
 ghost use Rattle.lot_condvar.specs.CondvarCalls.{CondvarPlacesReached, LooksTell, NotifiesTell, WaitersAreTold, WaitsTell};
 ghost use Rattle.lot_condvar.specs.CondvarDeeds.{CondvarMovesFit, CondvarOwnersFollow, CondvarStepsCode, CondvarStepsFollow};
-ghost use Rattle.lot_condvar.specs.CondvarMoves.{LooksMove, NotifiesMove, WaitersMove, WaitsMove};
+ghost use Rattle.lot_condvar.specs.CondvarMoves.{LooksMove, NotifiesMove, WaitersLookAgain, WaitersMove, WaitsBegin, WaitsMove};
 ghost use Rattle.lot_condvar.specs.CondvarMutex.{NotifiersCode, NotifiersFollow};
 ghost use Rattle.lot_condvar.specs.CondvarWaits.{WaitersCode, WaitersFollow, WaitersHear};
 
@@ -95,4 +95,14 @@ pub fn looks_move()
 /// And so does what befalls a waiter.
 pub fn waiters_move()
     ensures { WaitersMove }
+{}
+
+/// A wait begins where its thread stands nowhere and owns its mutex.
+pub fn waits_begin()
+    ensures { WaitsBegin }
+{}
+
+/// Where a waiter looks at its mutex once more, its place says the same.
+pub fn waiters_look_again()
+    ensures { WaitersLookAgain }
 {}
