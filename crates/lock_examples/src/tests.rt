@@ -1,7 +1,8 @@
-//! A shared counter, a queue of workers, a try with a limit, a cache, a table that is filled once, and a value that is made once.
+//! A shared counter, queues of workers, a try with a limit, a cache, a table that is filled once, and a value that is made once.
 mod cache;
 mod rates;
 mod table;
+mod workers;
 
 ghost use Rattle.std.specs.Prelude.{All, IfOk};
 ghost use Rattle.std.specs.Arc.{arc_value};
