@@ -3,3 +3,4 @@ pub mod Laws
 pub mod ActionLemmas
 pub mod StartLemmas
 pub mod ShowLemmas
+mod StageLemmas

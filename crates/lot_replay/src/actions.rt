@@ -1,8 +1,8 @@
 //! What a thread is told to do, of locks by their numbers, and how it is done.
-ghost use Rattle.std.specs.Prelude.{◌≡◌, ◌<◌, length};
+ghost use Rattle.std.specs.Prelude.{◌≡◌, ◌<◌, ◌&&◌, if◌then◌else◌, None, Some, length};
 ghost use Rattle.lot_machine.specs.Machine.{kind_at};
 ghost use Rattle.lot_replay.specs.Sessions.{session_world};
-ghost use Rattle.lot_replay.specs.Stages.{call_named, action_of, done_by};
+ghost use Rattle.lot_replay.specs.Stages.{call_named, action_of, done_by, is_bare_wait};
 
 use crate::session::Session;
 use lot_base::ListQueues;
@@ -49,19 +49,19 @@ impl Session {
         match call {
             NamedCall::Mutex(call) => Some(Call::Mutex { lock, call }),
             NamedCall::RwLock(call) => Some(Call::RwLock { lock, call }),
-            // A wait on a condition variable names its mutex.
-            NamedCall::Once(OnceCall::Wait { forced: false }) if on_condvar => None,
-            NamedCall::Once(call) => Some(Call::Once { lock, call }),
+            NamedCall::Once(call) => once_call(lock, call, on_condvar),
             NamedCall::Notify { all } => {
                 let call = CondvarCall::Notify { all };
                 Some(Call::Condvar { lock, call })
             }
-            NamedCall::Wait { mutex, timed } if on_condvar => {
+            NamedCall::Wait { mutex, timed } => {
+                if !on_condvar {
+                    return None;
+                }
                 let mutex = lock_named(self.names.as_slice(), mutex)?;
                 let call = CondvarCall::Wait { mutex, timed };
                 Some(Call::Condvar { lock, call })
             }
-            NamedCall::Wait { .. } => None,
         }
     }
 
@@ -74,6 +74,16 @@ impl Session {
             None => self.kinds[lock],
         }
     }
+}
+
+// A wait on a condition variable would name its mutex.
+fn once_call(lock: usize, call: OnceCall, on_condvar: bool) -> Option<Call>
+    ensures { result ≡ (if on_condvar && is_bare_wait call then None else Some (Call.Once lock call)) }
+{
+    if on_condvar && matches!(call, OnceCall::Wait { forced: false }) {
+        return None;
+    }
+    Some(Call::Once { lock, call })
 }
 
 /// Does it, and answers the last outcome.
