@@ -24,10 +24,14 @@ THEIRS = os.path.join(RUST, "out", "release", "lotbench")
 REGISTRY = "/usr/share/cargo/registry"
 MUTEXES = ["raw_mutex", "raw_mutex_try", "mutex", "mutex_try", "fair"]
 RWLOCKS = ["raw_read", "raw_write", "read", "write", "rw_mix", "read_recursive", "upgradable", "upgrade", "downgrade"]
-MODES = MUTEXES + RWLOCKS + ["once"]
+CONDVARS = ["notify", "notify_all", "pingpong", "queue"]
+MODES = MUTEXES + RWLOCKS + ["once"] + CONDVARS
 # Ours beside a mode of the other program that has another name.
 BESIDE = {"once": ["once", "std_once"]}
 THREADS = [1, 2, 4, 8]
+# Where threads wait for one another: for how many, and one operation for so many of another mode.
+TOGETHER = {"notify_all": [2, 4, 8], "pingpong": [2], "queue": [2, 4, 8]}
+FEWER = 100
 COLLECTED = re.compile(r"Collected\s*:\s*(\d+)")
 
 
@@ -89,12 +93,13 @@ def main():
     print("|---|---|---|---|---|---|")
     for mode in modes:
         for other in BESIDE.get(mode, [mode]):
-            for threads in THREADS:
-                print(row(mode, other, threads, asked.n, asked.runs), flush=True)
+            operations = asked.n // FEWER if mode in TOGETHER else asked.n
+            for threads in TOGETHER.get(mode, THREADS):
+                print(row(mode, other, threads, operations, asked.runs), flush=True)
     print()
     print("| mode | ours, instructions | Rust, instructions |")
     print("|---|---|---|")
-    for mode in modes:
+    for mode in (mode for mode in modes if mode not in TOGETHER):
         for other in BESIDE.get(mode, [mode]):
             print(f"| `{other}` | {for_one(OURS, mode):.1f} | {for_one(THEIRS, other):.1f} |", flush=True)
 

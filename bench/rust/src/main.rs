@@ -1,7 +1,7 @@
 //! `lotbench` over the Rust crate `parking_lot`: the same arguments, the same line.
 
 use parking_lot::lock_api::{RawMutex as _, RawRwLock as _};
-use parking_lot::{FairMutex, Mutex, Once, RawMutex, RawRwLock, RwLock, RwLockUpgradableReadGuard, RwLockWriteGuard};
+use parking_lot::{Condvar, FairMutex, Mutex, Once, RawMutex, RawRwLock, RwLock, RwLockUpgradableReadGuard, RwLockWriteGuard};
 use std::hint::black_box;
 use std::process::ExitCode;
 use std::sync::atomic::{AtomicU64, Ordering::Relaxed};
@@ -11,9 +11,11 @@ use std::time::Instant;
 const BATCH: u64 = 128;
 // One operation in so many writes, where some read and some write.
 const ONE_IN: u64 = 16;
+// How many items a queue holds.
+const PLACES: u64 = 16;
 const MOST_THREADS: usize = 64;
 const MOST_OPERATIONS: u64 = 1_000_000_000_000;
-const USAGE: &str = "usage: lotbench raw_mutex|raw_mutex_try|mutex|mutex_try|fair|raw_read|raw_write|read|write|rw_mix|read_recursive|upgradable|upgrade|downgrade|once|std_once THREADS N";
+const USAGE: &str = "usage: lotbench raw_mutex|raw_mutex_try|mutex|mutex_try|fair|raw_read|raw_write|read|write|rw_mix|read_recursive|upgradable|upgrade|downgrade|once|notify|notify_all|pingpong|queue|std_once THREADS N";
 
 #[derive(Clone, Copy)]
 enum Mode {
@@ -32,7 +34,11 @@ enum Mode {
     Upgrade,
     Downgrade,
     Once,
-    /// The same, of the standard library.
+    Notify,
+    NotifyAll,
+    PingPong,
+    Queue,
+    /// `Once`, of the standard library.
     StdOnce,
 }
 
@@ -54,6 +60,10 @@ impl Mode {
             "upgrade" => Some(Mode::Upgrade),
             "downgrade" => Some(Mode::Downgrade),
             "once" => Some(Mode::Once),
+            "notify" => Some(Mode::Notify),
+            "notify_all" => Some(Mode::NotifyAll),
+            "pingpong" => Some(Mode::PingPong),
+            "queue" => Some(Mode::Queue),
             "std_once" => Some(Mode::StdOnce),
             _ => None,
         }
@@ -76,6 +86,10 @@ impl Mode {
             Mode::Upgrade => "upgrade",
             Mode::Downgrade => "downgrade",
             Mode::Once => "once",
+            Mode::Notify => "notify",
+            Mode::NotifyAll => "notify_all",
+            Mode::PingPong => "pingpong",
+            Mode::Queue => "queue",
             Mode::StdOnce => "std_once",
         }
     }
@@ -85,6 +99,132 @@ impl Mode {
 #[repr(align(128))]
 struct Apart<T>(T);
 
+/// What threads share that meet, take turns, or send items to one another.
+struct Tally {
+    came: u64,
+    /// Whose turn it is, or how many have met or are in the queue.
+    at: u64,
+    left: u64,
+    done: u64,
+}
+
+impl Tally {
+    fn come(&mut self) -> u64 {
+        self.came += 1;
+        self.came - 1
+    }
+
+    fn count(&mut self) -> bool {
+        if self.left == 0 {
+            return false;
+        }
+        self.left -= 1;
+        self.done += 1;
+        true
+    }
+
+    fn turn(&mut self, threads: u64) {
+        self.at += 1;
+        if self.at == threads {
+            self.at = 0;
+        }
+    }
+
+    fn take(&mut self) -> bool {
+        if self.at == 0 {
+            return false;
+        }
+        self.at -= 1;
+        true
+    }
+}
+
+/// A tally under a mutex, and the condition variables on which threads wait for it.
+struct Desk {
+    tally: Apart<Mutex<Tally>>,
+    filled: Apart<Condvar>,
+    emptied: Apart<Condvar>,
+}
+
+impl Desk {
+    fn new(operations: u64) -> Desk {
+        Desk {
+            tally: Apart(Mutex::new(Tally { came: 0, at: 0, left: operations, done: 0 })),
+            filled: Apart(Condvar::new()),
+            emptied: Apart(Condvar::new()),
+        }
+    }
+
+    fn meet(&self, threads: u64) -> bool {
+        let mut tally = self.tally.0.lock();
+        let round = tally.done;
+        if tally.left == 0 {
+            return false;
+        }
+        tally.turn(threads);
+        if tally.at == 0 {
+            tally.count();
+            drop(tally);
+            self.filled.0.notify_all();
+            return true;
+        }
+        self.filled.0.wait_while(&mut tally, |tally| tally.done == round);
+        true
+    }
+
+    fn take_turn(&self, number: u64, threads: u64) -> bool {
+        let mut tally = self.tally.0.lock();
+        self.filled.0.wait_while(&mut tally, |tally| tally.left != 0 && tally.at != number);
+        let any = tally.count();
+        tally.turn(threads);
+        drop(tally);
+        self.filled.0.notify_all();
+        any
+    }
+
+    fn send(&self) -> bool {
+        let mut tally = self.tally.0.lock();
+        self.emptied.0.wait_while(&mut tally, |tally| tally.left != 0 && tally.at >= PLACES);
+        let any = tally.count();
+        if any {
+            tally.at += 1;
+            drop(tally);
+            self.filled.0.notify_one();
+        } else {
+            drop(tally);
+            self.filled.0.notify_all();
+            self.emptied.0.notify_all();
+        }
+        any
+    }
+
+    fn receive(&self) -> bool {
+        let mut tally = self.tally.0.lock();
+        self.filled.0.wait_while(&mut tally, |tally| tally.left != 0 && tally.at == 0);
+        let any = tally.take();
+        drop(tally);
+        self.emptied.0.notify_one();
+        any
+    }
+
+    fn work(&self, mode: Mode, threads: u64) -> u64 {
+        let number = self.tally.0.lock().come();
+        let mut done = 0;
+        loop {
+            let any = match mode {
+                Mode::NotifyAll => self.meet(threads),
+                Mode::PingPong => self.take_turn(number, threads),
+                _ if number % 2 == 0 => self.send(),
+                _ => self.receive(),
+            };
+            if !any {
+                return done;
+            }
+            done += 1;
+        }
+    }
+}
+
 struct Bench {
     raw: Apart<RawMutex>,
     value: Apart<Mutex<u64>>,
@@ -93,6 +233,7 @@ struct Bench {
     rwlock: Apart<RwLock<u64>>,
     once: Apart<Once>,
     std_once: Apart<sync::Once>,
+    desk: Apart<Desk>,
     taken: Apart<AtomicU64>,
     operations: u64,
 }
@@ -249,7 +390,17 @@ fn call_std_once(bench: &Bench, times: u64) {
     }
 }
 
-fn work(mode: Mode, bench: &Bench) -> u64 {
+#[inline(never)]
+fn notify_nobody(bench: &Bench, times: u64) {
+    for _ in 0..times {
+        bench.desk.0.filled.0.notify_one();
+    }
+}
+
+fn work(mode: Mode, bench: &Bench, threads: usize) -> u64 {
+    if matches!(mode, Mode::NotifyAll | Mode::PingPong | Mode::Queue) {
+        return bench.desk.0.work(mode, threads as u64);
+    }
     let mut done = 0;
     loop {
         let times = bench.take();
@@ -272,6 +423,8 @@ fn work(mode: Mode, bench: &Bench) -> u64 {
             Mode::Upgrade => upgrade_value(bench, times),
             Mode::Downgrade => downgrade_value(bench, times),
             Mode::Once => call_once(bench, times),
+            Mode::Notify => notify_nobody(bench, times),
+            Mode::NotifyAll | Mode::PingPong | Mode::Queue => {}
             Mode::StdOnce => call_std_once(bench, times),
         }
         done += times;
@@ -284,7 +437,9 @@ fn plan_of(args: &[String]) -> Option<(Mode, usize, u64)> {
     };
     let (mode, threads) = (Mode::named(mode)?, threads.parse().ok()?);
     let operations = operations.parse().ok()?;
-    ((1..=MOST_THREADS).contains(&threads) && (1..=MOST_OPERATIONS).contains(&operations))
+    // Who sends alone through a queue waits for ever.
+    let least = if matches!(mode, Mode::Queue) { 2 } else { 1 };
+    ((least..=MOST_THREADS).contains(&threads) && (1..=MOST_OPERATIONS).contains(&operations))
         .then_some((mode, threads, operations))
 }
 
@@ -306,6 +461,7 @@ fn main() -> ExitCode {
         rwlock: Apart(RwLock::new(0)),
         once: Apart(Once::new()),
         std_once: Apart(sync::Once::new()),
+        desk: Apart(Desk::new(operations)),
         taken: Apart(AtomicU64::new(0)),
         operations,
     });
@@ -314,7 +470,7 @@ fn main() -> ExitCode {
     let started = Instant::now();
     let counts: Vec<u64> = thread::scope(|scope| {
         let shared = &bench;
-        let spawned: Vec<_> = (0..threads).map(|_| scope.spawn(move || work(mode, shared))).collect();
+        let spawned: Vec<_> = (0..threads).map(|_| scope.spawn(move || work(mode, shared, threads))).collect();
         spawned.into_iter().map(|thread| thread.join().unwrap()).collect()
     });
     let nanos = started.elapsed().as_nanos();
@@ -322,6 +478,7 @@ fn main() -> ExitCode {
         Mode::Mutex | Mode::MutexTry => *bench.value.0.lock(),
         Mode::Fair => *bench.fair.0.lock(),
         Mode::Write | Mode::Upgrade | Mode::Downgrade => *bench.rwlock.0.read(),
+        Mode::NotifyAll | Mode::PingPong | Mode::Queue => bench.desk.0.tally.0.lock().done,
         _ => counts.iter().sum(),
     };
     let (low, high) = (counts.iter().min().unwrap(), counts.iter().max().unwrap());

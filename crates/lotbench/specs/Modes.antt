@@ -1,7 +1,7 @@
 -- The names of the modes.
 use Rattle.std.specs.Prelude.{◌≡◌, ◌≢◌, ℕ, List, codes, Option, MatchOption}
 use Rattle.lotbench.specs.declared.plans.Mode.{Mode}
-use Rattle.lotbench.specs.declared.plans.Mode.TheVariants.{RawMutex, RawMutexTry, Mutex, MutexTry, Fair, RawRead, RawWrite, Read, Write, RwMix, ReadRecursive, Upgradable, Upgrade, Downgrade, Once}
+use Rattle.lotbench.specs.declared.plans.Mode.TheVariants.{RawMutex, RawMutexTry, Mutex, MutexTry, Fair, RawRead, RawWrite, Read, Write, RwMix, ReadRecursive, Upgradable, Upgrade, Downgrade, Once, Notify, NotifyAll, PingPong, Queue}
 
 abbrev pub name_of : Mode → List ℕ
 name_of RawMutex = codes "raw_mutex"
@@ -19,6 +19,10 @@ name_of Upgradable = codes "upgradable"
 name_of Upgrade = codes "upgrade"
 name_of Downgrade = codes "downgrade"
 name_of Once = codes "once"
+name_of Notify = codes "notify"
+name_of NotifyAll = codes "notify_all"
+name_of PingPong = codes "pingpong"
+name_of Queue = codes "queue"
 
 -- the mode of a name, and none where no mode has it
 abbrev pub IsModeNamed : List ℕ → Option Mode → Type 0

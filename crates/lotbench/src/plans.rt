@@ -42,6 +42,14 @@ pub(crate) enum Mode {
     Downgrade,
     /// A call of a `Once` that is done.
     Once,
+    /// A notification where nobody waits.
+    Notify,
+    /// All threads meet: the last who comes notifies those who wait.
+    NotifyAll,
+    /// Threads take turns: each waits for its own, and notifies the next.
+    PingPong,
+    /// An item goes through a bounded queue, from a half of the threads to the others.
+    Queue,
 }
 
 impl Mode {
@@ -65,6 +73,10 @@ impl Mode {
             "upgrade" => Some(Mode::Upgrade),
             "downgrade" => Some(Mode::Downgrade),
             "once" => Some(Mode::Once),
+            "notify" => Some(Mode::Notify),
+            "notify_all" => Some(Mode::NotifyAll),
+            "pingpong" => Some(Mode::PingPong),
+            "queue" => Some(Mode::Queue),
             _ => None,
         }
     }
@@ -88,6 +100,10 @@ impl Mode {
             Mode::Upgrade => "upgrade",
             Mode::Downgrade => "downgrade",
             Mode::Once => "once",
+            Mode::Notify => "notify",
+            Mode::NotifyAll => "notify_all",
+            Mode::PingPong => "pingpong",
+            Mode::Queue => "queue",
         }
     }
 }
@@ -111,6 +127,10 @@ pub(crate) fn plan_of(args: &[&str]) -> Option<Plan> {
     let threads = threads.parse::<usize>().ok()?;
     let operations = operations.parse::<u64>().ok()?;
     if threads == 0 || threads > MOST_THREADS || operations == 0 || operations > MOST_OPERATIONS {
+        return None;
+    }
+    // Who sends alone through a queue waits for ever.
+    if mode == Mode::Queue && threads == 1 {
         return None;
     }
     Some(Plan {

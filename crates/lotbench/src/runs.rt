@@ -1,11 +1,13 @@
 //! Plans, carried out by threads.
 ghost use Rattle.std.specs.Prelude.{◌≡◌, ◌≤◌, IfOk, IfSome, All};
 ghost use Rattle.std.specs.Arc.{arc_value};
+ghost use Rattle.parking_lot.specs.CondvarUsers.{lot_of as condvar_lot};
 ghost use Rattle.parking_lot.specs.RwLockUsers.{lot_of as rwlot_of};
 ghost use Rattle.parking_lot.specs.OnceUsers.{lot_of as once_lot};
 ghost use Rattle.parking_lot.specs.Users.{lock_of, lot_of};
 ghost use Rattle.parking_lot_core.specs.Tokens.{IsTicketOf, IsTokenOf};
 
+use crate::condvars::{DESK, Desk, Way, desk_for, done_at, notify_nobody, work_at};
 use crate::plans::{Mode, Plan};
 use crate::rwlocks::{
     RWLOCKS, RwLocks, come_upgradable, downgrade_value, mix_value, read_raw, read_value,
@@ -32,7 +34,7 @@ pub(crate) struct Figures {
     pub(crate) high: u64,
 }
 
-// A mutex without a value, one with, and a fair one, reader-writer locks, and a `Once` that is done, of one lot.
+// A mutex without a value, one with, and a fair one, reader-writer locks, a `Once` that is done, and a desk, of one lot.
 #[derive(Drop)]
 struct Bench {
     raw: RawMutex,
@@ -40,8 +42,9 @@ struct Bench {
     fair: FairMutex<u64>,
     rwlocks: RwLocks,
     done: Once,
+    desk: Desk,
     ghost together: { (lot_of mutex ≡ lot_of raw) × (lot_of fair ≡ lot_of raw) × (rwlot_of rwlocks.raw ≡ lot_of raw)
-        × (once_lot done ≡ lot_of raw) },
+        × (once_lot done ≡ lot_of raw) × (condvar_lot desk.filled ≡ lot_of raw) },
 }
 
 fn one_of(lot: &ParkingLot, tickets: &mut Vec<Ticket>) -> Option<Ticket>
@@ -63,7 +66,11 @@ fn put_back(lot: &ParkingLot, tickets: &mut Vec<Ticket>, ticket: Ticket) -> Resu
 }
 
 // The locks, drawn from the lot by the thread of a ticket.
-fn bench_by(lot: &Arc<ParkingLot>, ticket: Ticket) -> Result<(Bench, Ticket), Fault>
+fn bench_by(
+    lot: &Arc<ParkingLot>,
+    ticket: Ticket,
+    operations: u64,
+) -> Result<(Bench, Ticket), Fault>
     requires { IsTicketOf (arc_value lot.now) ticket }
     ensures { IfOk result (λ made. (lot_of made.0.raw ≡ arc_value lot.now) × IsTicketOf (arc_value lot.now) made.1) }
 {
@@ -79,26 +86,28 @@ fn bench_by(lot: &Arc<ParkingLot>, ticket: Ticket) -> Result<(Bench, Ticket), Fa
     };
     let rwlocks = rwlocks_of(lot, &mut token)?;
     let done = Once::new_completed(lot, &mut token)?;
+    let desk = desk_for(lot, &mut token, operations)?;
     let bench = Bench {
         raw,
         mutex,
         fair,
         rwlocks,
         done,
+        desk,
     };
     Ok((bench, token.leave()))
 }
 
 // A lot with so many threads, and locks of it.
-fn bench_for(alloc: Global, threads: usize) -> Result<(Bench, Vec<Ticket>), Fault>
+fn bench_for(alloc: Global, threads: usize, operations: u64) -> Result<(Bench, Vec<Ticket>), Fault>
     requires { (1 ≤ threads) × (threads ≤ 64) }
     ensures { IfOk result (λ made. All (IsTicketOf (lot_of made.0.raw)) made.1.items) }
 {
-    let (lot, mut tickets) = ParkingLot::new(alloc, 4 + RWLOCKS, threads)?;
+    let (lot, mut tickets) = ParkingLot::new(alloc, 4 + RWLOCKS + DESK, threads)?;
     let Some(first) = one_of(&lot, &mut tickets) else {
         return Err(Fault::NoMemory);
     };
-    let (bench, first) = bench_by(&lot, first)?;
+    let (bench, first) = bench_by(&lot, first, operations)?;
     put_back(&lot, &mut tickets, first)?;
     Ok((bench, tickets))
 }
@@ -220,14 +229,33 @@ fn operate<R: Wait>(rt: &R, mode: Mode, bench: &Bench, token: &mut Token, times:
         Mode::Upgrade => upgrade_value(rt, &rwlocks.value, token, times),
         Mode::Downgrade => downgrade_value(rt, &rwlocks.value, token, times),
         Mode::Once => call_once(rt, &bench.done, token, times),
+        Mode::Notify => notify_nobody(rt, &bench.desk.filled, token, times),
+        // These share no operations in batches.
+        Mode::NotifyAll | Mode::PingPong | Mode::Queue => (),
+    }
+}
+
+// How the threads of a mode work at a desk, if they do.
+fn way_of(mode: Mode) -> Option<Way> {
+    match mode {
+        Mode::NotifyAll => Some(Way::Meet),
+        Mode::PingPong => Some(Way::TakeTurns),
+        Mode::Queue => Some(Way::Queue),
+        _ => None,
     }
 }
 
 // Does operations until none is left. How many it did.
-fn work<R: Wait>(rt: &R, mode: Mode, bench: &Bench, ticket: Ticket, shares: &Shares) -> u64
+fn work<R: Wait>(rt: &R, plan: Plan, bench: &Bench, ticket: Ticket, shares: &Shares) -> u64
     requires { IsTicketOf (lot_of bench.now.raw) ticket }
 {
+    let mode = plan.mode;
     let mut token = ticket.enter();
+    if let Some(way) = way_of(mode) {
+        let done = work_at(rt, &bench.desk, &mut token, way, plan.threads as u64);
+        drop(token.leave());
+        return done;
+    }
     let mut done = 0u64;
     for _ in rt.forever() {
         let times = shares.take();
@@ -246,6 +274,7 @@ fn total_of(mode: Mode, bench: Bench, counts: &[u64]) -> u64 {
         Mode::Mutex | Mode::MutexTry => bench.mutex.into_inner(),
         Mode::Fair => bench.fair.into_inner(),
         Mode::Write | Mode::Upgrade | Mode::Downgrade => value_in(bench.rwlocks),
+        Mode::NotifyAll | Mode::PingPong | Mode::Queue => done_at(bench.desk),
         Mode::RawMutex
         | Mode::RawMutexTry
         | Mode::RawRead
@@ -254,7 +283,8 @@ fn total_of(mode: Mode, bench: Bench, counts: &[u64]) -> u64 {
         | Mode::RwMix
         | Mode::ReadRecursive
         | Mode::Upgradable
-        | Mode::Once => counts
+        | Mode::Once
+        | Mode::Notify => counts
             .iter()
             .fold(0u64, |all, count| all.saturating_add(*count)),
     }
@@ -271,14 +301,14 @@ pub(crate) fn carry_out<R: Threads + Wait + Sync + Clock>(
         threads,
         operations,
     } = plan;
-    let (bench, tickets) = bench_for(alloc, threads)?;
+    let (bench, tickets) = bench_for(alloc, threads, operations)?;
     let shares = Shares::new(operations);
     let started = match Instant::now(rt) {
         Ok(started) => started,
         Err(e) => return Ok(Err(e)),
     };
     let (shared, left) = (&bench, &shares);
-    let Ok(counts) = map_vec(rt, tickets, &|ticket| work(rt, mode, shared, ticket, left)) else {
+    let Ok(counts) = map_vec(rt, tickets, &|ticket| work(rt, plan, shared, ticket, left)) else {
         return Err(Fault::NoMemory);
     };
     let nanos = match started.elapsed(rt) {

@@ -15,6 +15,8 @@ fn reads_plans(rt: HostRuntime) {
         (["mutex", "1", "1000000000001"], false),
         (["mutex", "one", "1"], false),
         (["mutex", "1", "-1"], false),
+        (["queue", "1", "1"], false),
+        (["queue", "2", "1"], true),
     ] {
         assert_eq!(rt; plan_of(&args).is_some(), is_plan, "{args:?}");
     }
@@ -40,6 +42,7 @@ fn does_every_operation(rt: HostRuntime) -> Result<(), Fail> {
         ("upgrade", Mode::Upgrade),
         ("downgrade", Mode::Downgrade),
         ("once", Mode::Once),
+        ("notify", Mode::Notify),
     ] {
         let plan = plan_of(&[name, "2", "1000"]).ok_or("it is a plan")?;
         assert_eq!(rt; (plan.mode, plan.threads, plan.operations), (mode, 2, 1000));
@@ -48,6 +51,18 @@ fn does_every_operation(rt: HostRuntime) -> Result<(), Fail> {
         };
         assert_eq!(rt; figures.answer, 1000, "by {name}");
         assert_eq!(rt; figures.low.saturating_add(figures.high), 1000, "by {name}");
+    }
+    Ok(())
+}
+
+#[test]
+fn threads_meet_and_take_turns(rt: HostRuntime) -> Result<(), Fail> {
+    for name in ["notify_all", "pingpong", "queue"] {
+        let plan = plan_of(&[name, "2", "1000"]).ok_or("it is a plan")?;
+        let Ok(figures) = carry_out(&rt, rt.alloc(), plan)? else {
+            panic!(rt; "the clock failed")
+        };
+        assert_eq!(rt; figures.answer, 1000, "by {name}");
     }
     Ok(())
 }

@@ -1,0 +1,254 @@
+//! What is timed of condition variables.
+ghost use Rattle.std.specs.Prelude.{◌≡◌, IfOk};
+ghost use Rattle.std.specs.Arc.{arc_value};
+ghost use Rattle.parking_lot.specs.CondvarUsers.{lot_of as condvar_lot};
+ghost use Rattle.parking_lot.specs.Users.{IsTokenOf, lock_of, lot_of};
+
+use parking_lot::{Condvar, Fault, Mutex, MutexGuard, ParkingLot, Token};
+use std::sync::{Arc, Wait};
+
+// How many items a queue holds.
+const PLACES: u64 = 16;
+
+// What threads share that meet, take turns, or send items to one another.
+#[derive(Drop)]
+struct Tally {
+    // How many threads have come, by which each has its number.
+    came: u64,
+    // Whose turn it is, or how many have met or are in the queue.
+    at: u64,
+    left: u64,
+    done: u64,
+}
+
+impl Tally {
+    fn come(&mut self) -> u64 {
+        let number = self.came;
+        self.came = number.wrapping_add(1);
+        number
+    }
+
+    // Does one operation more, if one is left. Whether it was.
+    fn count(&mut self) -> bool {
+        if self.left == 0 {
+            return false;
+        }
+        self.left = self.left.wrapping_sub(1);
+        self.done = self.done.wrapping_add(1);
+        true
+    }
+
+    // Gives the turn to the next of so many.
+    fn turn(&mut self, threads: u64) {
+        self.at = self.at.wrapping_add(1);
+        if self.at == threads {
+            self.at = 0;
+        }
+    }
+
+    // Puts an item into the queue.
+    fn put(&mut self) {
+        self.at = self.at.wrapping_add(1);
+    }
+
+    // Takes one from it. Whether there was one.
+    fn take(&mut self) -> bool {
+        if self.at == 0 {
+            return false;
+        }
+        self.at = self.at.wrapping_sub(1);
+        true
+    }
+}
+
+/// A tally under a mutex, and the condition variables on which threads wait for it.
+#[derive(Drop)]
+pub(crate) struct Desk {
+    tally: Mutex<Tally>,
+    pub(crate) filled: Condvar,
+    emptied: Condvar,
+    ghost together: { (condvar_lot filled ≡ lot_of tally) × (condvar_lot emptied ≡ lot_of tally) },
+}
+
+/// How many words they take of their lot.
+pub(crate) const DESK: usize = 3;
+
+/// A desk at which so many operations are to be done.
+pub(crate) fn desk_for(
+    lot: &Arc<ParkingLot>,
+    token: &mut Token,
+    operations: u64,
+) -> Result<Desk, Fault>
+    requires { IsTokenOf (arc_value lot.now) token.old }
+    ensures token { IsTokenOf (arc_value lot.now) token.new }
+    ensures made { IfOk result (λ desk. condvar_lot desk.filled ≡ arc_value lot.now) }
+{
+    let filled = Condvar::new(lot, token)?;
+    let emptied = Condvar::new(lot, token)?;
+    let tally = Tally {
+        came: 0,
+        at: 0,
+        left: operations,
+        done: 0,
+    };
+    match Mutex::new(lot, token, tally) {
+        Ok(tally) => Ok(Desk {
+            tally,
+            filled,
+            emptied,
+        }),
+        Err((fault, _)) => Err(fault),
+    }
+}
+
+/// How many operations were done there.
+pub(crate) fn done_at(desk: Desk) -> u64 {
+    desk.tally.into_inner().done
+}
+
+/// Notifies the first of nobody, so many times.
+pub(crate) fn notify_nobody<R: Wait>(rt: &R, condvar: &Condvar, token: &mut Token, times: u64)
+    requires { IsTokenOf (condvar_lot condvar.now) token.old }
+    ensures { IsTokenOf (condvar_lot condvar.now) token.new }
+{
+    for _ in 0..times {
+        condvar.notify_one(rt, token);
+    }
+}
+
+// Waits for as long as a condition holds. Nobody waits there with another mutex.
+#[inline]
+fn wait_while<'d, R: Wait, F: FnMut(&mut Tally) -> bool + Drop>(
+    rt: &R,
+    condvar: &Condvar,
+    token: &mut Token,
+    guard: MutexGuard<'d, Tally>,
+    condition: F,
+) -> MutexGuard<'d, Tally>
+    requires token { IsTokenOf (condvar_lot condvar.now) token.old }
+    requires condvar { lot_of (lock_of guard) ≡ condvar_lot condvar.now }
+    requires callable { F.IsAlwaysCallable condition }
+    ensures token { IsTokenOf (condvar_lot condvar.now) token.new }
+    ensures guard { lock_of result ≡ lock_of guard.entry }
+{
+    match condvar.wait_while(rt, token, guard, condition) {
+        Ok(guard) => guard,
+        Err((_, guard)) => guard,
+    }
+}
+
+// Waits until all of so many have come, of whom the last notifies the others.
+fn meet<R: Wait>(rt: &R, desk: &Desk, token: &mut Token, threads: u64) -> bool
+    requires { IsTokenOf (condvar_lot desk.now.filled) token.old }
+    ensures { IsTokenOf (condvar_lot desk.now.filled) token.new }
+{
+    let mut guard = desk.tally.lock(rt, token);
+    let round = guard.done;
+    if guard.left == 0 {
+        guard.unlock(rt, token);
+        return false;
+    }
+    guard.turn(threads);
+    if guard.at == 0 {
+        guard.count();
+        guard.unlock(rt, token);
+        desk.filled.notify_all(rt, token);
+        return true;
+    }
+    let guard = wait_while(rt, &desk.filled, token, guard, move |tally: &mut Tally| {
+        tally.done == round
+    });
+    guard.unlock(rt, token);
+    true
+}
+
+// Waits for its turn, and gives it to the next. Whether anything was left to do.
+fn take_turn<R: Wait>(rt: &R, desk: &Desk, token: &mut Token, number: u64, threads: u64) -> bool
+    requires { IsTokenOf (condvar_lot desk.now.filled) token.old }
+    ensures { IsTokenOf (condvar_lot desk.now.filled) token.new }
+{
+    let guard = desk.tally.lock(rt, token);
+    let mut guard = wait_while(rt, &desk.filled, token, guard, move |tally: &mut Tally| {
+        tally.left != 0 && tally.at != number
+    });
+    let any = guard.count();
+    guard.turn(threads);
+    guard.unlock(rt, token);
+    desk.filled.notify_all(rt, token);
+    any
+}
+
+// Waits for a place, and puts an item there. Whether one was left to put.
+fn send<R: Wait>(rt: &R, desk: &Desk, token: &mut Token) -> bool
+    requires { IsTokenOf (condvar_lot desk.now.filled) token.old }
+    ensures { IsTokenOf (condvar_lot desk.now.filled) token.new }
+{
+    let guard = desk.tally.lock(rt, token);
+    let mut guard = wait_while(rt, &desk.emptied, token, guard, |tally: &mut Tally| {
+        tally.left != 0 && tally.at >= PLACES
+    });
+    let any = guard.count();
+    if any {
+        guard.put();
+        guard.unlock(rt, token);
+        desk.filled.notify_one(rt, token);
+    } else {
+        guard.unlock(rt, token);
+        desk.filled.notify_all(rt, token);
+        desk.emptied.notify_all(rt, token);
+    }
+    any
+}
+
+// Waits for an item, and takes it. Whether one came.
+fn receive<R: Wait>(rt: &R, desk: &Desk, token: &mut Token) -> bool
+    requires { IsTokenOf (condvar_lot desk.now.filled) token.old }
+    ensures { IsTokenOf (condvar_lot desk.now.filled) token.new }
+{
+    let guard = desk.tally.lock(rt, token);
+    let mut guard = wait_while(rt, &desk.filled, token, guard, |tally: &mut Tally| {
+        tally.left != 0 && tally.at == 0
+    });
+    let any = guard.take();
+    guard.unlock(rt, token);
+    desk.emptied.notify_one(rt, token);
+    any
+}
+
+/// How threads work at a desk.
+#[derive(Clone, Copy, PartialEq, Eq)]
+pub(crate) enum Way {
+    Meet,
+    TakeTurns,
+    Queue,
+}
+
+/// Works at a desk until nothing is left. How many operations it took part in.
+pub(crate) fn work_at<R: Wait>(
+    rt: &R,
+    desk: &Desk,
+    token: &mut Token,
+    way: Way,
+    threads: u64,
+) -> u64
+    requires { IsTokenOf (condvar_lot desk.now.filled) token.old }
+    ensures { IsTokenOf (condvar_lot desk.now.filled) token.new }
+{
+    let mut guard = desk.tally.lock(rt, token);
+    let number = guard.come();
+    guard.unlock(rt, token);
+    let mut done = 0u64;
+    for _ in rt.forever() {
+        let any = match way {
+            Way::Meet => meet(rt, desk, token, threads),
+            Way::TakeTurns => take_turn(rt, desk, token, number, threads),
+            Way::Queue if number % 2 == 0 => send(rt, desk, token),
+            Way::Queue => receive(rt, desk, token),
+        };
+        if !any {
+            break;
+        }
+        done = done.wrapping_add(1);
+    }
+    done
+}
