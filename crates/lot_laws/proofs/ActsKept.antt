@@ -1,7 +1,7 @@
 -- Each act of one thread keeps every lock of the world a site whose word says so, wherever the thread stands: the laws of its sort of lock say that
 -- its deeds may be done, and what it does then.
 use Rattle.std.proofs.Common.{ℕ, Bool, true, false, Option, Some, None, if◌then◌else◌, ◌==◌, ◌||◌, ◌≡◌, ◌≢◌, ◌+◌, ◌*◌, ◌/◌, ◌%◌, ◌≤◌, ◌<◌, ◌⊎◌, List, [], ◌∷◌, ◌++◌, length, replicate, get_or, set, map, drop, inl, inr, refl, sym, ◌∙◌, ap, subst, arith, length-set, get_or-set_same, get_or-set_other}
-use Rattle.std.proofs.lemmas.Bool.{cases_eq}
+use Rattle.std.proofs.lemmas.Bool.{cases_eq, eqb-true}
 use Rattle.std.proofs.lemmas.List.{length-map}
 use Rattle.std.proofs.Math.ListN.{get_or-map}
 use Rattle.lot_base.specs.declared.keys.Keys.TheVariants.{One}
@@ -28,7 +28,7 @@ use Rattle.lot_laws.specs.Refinement.{lock_state, taken_at}
 use Rattle.lot_laws.specs.MutexDeeds.{acts}
 use Rattle.lot_laws.specs.MutexDeeds as deeds
 use Rattle.lot_laws.specs.Stations.{Station, station, station_at, nowhere, doing_on}
-use Rattle.lot_laws.specs.SitesOf.{ActsNeeded, HasRoom, SameNumbers, IsSteady, Follows, Goes, FitsItsLock, Waits, AreWaiting, after_acts, site_of, rules_in, key_of, stood_in}
+use Rattle.lot_laws.specs.SitesOf.{ActsNeeded, HasRoom, SameNumbers, IsSteady, Follows, Goes, FitsItsLock, Waits, AreWaiting, after_acts, site_of, rules_in, key_of, stood_in, Stands, FollowAll}
 use Rattle.lot_laws.proofs.Counts.{without_absent}
 use Rattle.lot_laws.proofs.Glue.{Parts, base_at, parts_at, lock_in, seen_in, same, differ, put_places, put_here, put_other, IsOf, doing_elsewhere, taken_elsewhere, inside_is, station_here, station_elsewhere}
 use Rattle.lot_laws.proofs.KindsKept.{operated_kinds}
@@ -103,45 +103,62 @@ limited w l steady r rules ds ordinary needed readers = by_rules r rules (ordina
     by_rules x e plain n h = let before = steady.sites.limits l (ap (λ y. has_readers y.sort) e ∙ h) in
         acts_limited x ds (lock_by w l x) (length w.places) h (subst (λ (y : Rules). 1 ≤ y.limit) e before.0.0) (steady.numbers.threads l) plain (subst (λ y. IsSite y (lock_by w l y)) e (steady.sites.site l)) n (subst (λ y. HasLimit y (lock_by w l y).lock) e before.1)
 
--- keeps all
-pub goes_steady : (w v : State) (l : ℕ) (ds : List deeds.Act) → IsSteady w → Goes w v l ds → IsSteady v
-goes_steady w v l ds steady g = record {
+-- a step of any number of locks keeps all
+pub goes_all_steady : (w v : State) (ds : ℕ → List deeds.Act) → IsSteady w → FollowAll w v ds → Stands v → IsSteady v
+goes_all_steady w v ds steady f stands = record {
   sites = record {
-    site = λ k. subst (λ x. IsSite (rules_of x) (site_of v k)) (sym (g.follows.kinds k)) (elim (cases_eq k l) [
-      | inl e ↦ rw e (subst (λ s. IsSite (rules_in w l) s) (sym g.follows.site) (acts_keep (rules_in w l) ds (site_of w l) (steady.sites.site l) g.follows.needed))
-      | inr ne ↦ subst (λ s. IsSite (rules_in w k) s) (sym (g.follows.others k ne).0) (steady.sites.site k)
-    ]);
-    word = λ k. elim (cases_eq k l) [
-      | inl e ↦ rw e (g.follows.word ∙ (λ i. code (rules_of (sym (g.follows.kinds l) i)) (site_of v l)))
-      | inr ne ↦ (g.follows.others k ne).1 ∙ steady.sites.word k ∙ sym (λ i. code (rules_of (g.follows.kinds k i)) ((g.follows.others k ne).0 i))
-    ];
-    unfilled = λ k h. let of_w : has_readers (rules_in w k).sort ≡ false = was_sort k false h in elim (cases_eq k l) [
-      | inl e ↦ rw e (unfilled_here (rw e at of_w))
-      | inr ne ↦ ap (λ (s : Site). s.filled) (g.follows.others k ne).0 ∙ steady.sites.unfilled k of_w
-    ];
-    limits = λ k h. subst (λ x. HasRoom (length v.places) (rules_of x) × HasLimit (rules_of x) (lock_state v k)) (sym (g.follows.kinds k)) (let of_w : has_readers (rules_in w k).sort ≡ true = was_sort k true h in elim (cases_eq k l) [
-      | inl e ↦ rw e (limited_here (rw e at of_w))
-      | inr ne ↦ (room_then k of_w, subst (λ (s : Site). HasLimit (rules_in w k) s.lock) (sym (g.follows.others k ne).0) (steady.sites.limits k of_w).1)
-    ]);
+    site = λ k. subst (λ x. IsSite (rules_of x) (site_of v k)) (sym (f.kinds k))
+        (subst (λ s. IsSite (rules_in w k) s) (sym (f.site k)) (acts_keep (rules_in w k) (ds k) (site_of w k) (steady.sites.site k) (f.needed k)));
+    word = λ k. f.word k ∙ (λ i. code (rules_of (sym (f.kinds k) i)) (site_of v k));
+    unfilled = λ k h. let of_w = was_sort k false h in
+        ap (λ (s : Site). s.filled) (f.site k) ∙ same_filled (rules_in w k) (ds k) (site_of w k) of_w ∙ steady.sites.unfilled k of_w;
+    limits = λ k h. subst (λ x. HasRoom (length v.places) (rules_of x) × HasLimit (rules_of x) (lock_state v k)) (sym (f.kinds k))
+        (let of_w = was_sort k true h in (room_then k of_w, f.limit k of_w));
   };
-  stands = g.stands;
+  stands = stands;
   numbers = record {
-    locks = g.follows.numbers.shares ∙ steady.numbers.locks ∙ sym g.follows.numbers.locks;
-    threads = λ k. g.follows.sharers k ∙ steady.numbers.threads k ∙ sym g.follows.numbers.threads;
+    locks = f.numbers.shares ∙ steady.numbers.locks ∙ sym f.numbers.locks;
+    threads = λ k. f.sharers k ∙ steady.numbers.threads k ∙ sym f.numbers.threads;
   };
 }
   where
     was_sort : (k : ℕ) (b : Bool) → has_readers (rules_in v k).sort ≡ b → has_readers (rules_in w k).sort ≡ b
-    was_sort k b h = sym (ap (λ x. has_readers (rules_of x).sort) (g.follows.kinds k)) ∙ h
-
-    unfilled_here : has_readers (rules_in w l).sort ≡ false → filled_at v l ≡ false
-    unfilled_here h = ap (λ (s : Site). s.filled) g.follows.site ∙ same_filled (rules_in w l) ds (site_of w l) h ∙ steady.sites.unfilled l h
+    was_sort k b h = sym (ap (λ x. has_readers (rules_of x).sort) (f.kinds k)) ∙ h
 
     room_then : (k : ℕ) → has_readers (rules_in w k).sort ≡ true → HasRoom (length v.places) (rules_in w k)
-    room_then k h = subst (λ n. HasRoom n (rules_in w k)) (sym g.follows.numbers.threads) (steady.sites.limits k h).0
+    room_then k h = subst (λ n. HasRoom n (rules_in w k)) (sym f.numbers.threads) (steady.sites.limits k h).0
 
-    limited_here : has_readers (rules_in w l).sort ≡ true → HasRoom (length v.places) (rules_in w l) × HasLimit (rules_in w l) (lock_state v l)
-    limited_here h = (room_then l h, g.follows.limit h)
+-- a step of one lock leaves the others as they were
+abbrev only_at : ℕ → List deeds.Act → ℕ → List deeds.Act
+only_at l ds k = if k == l then ds else []
+
+follows_all : (w v : State) (l : ℕ) (ds : List deeds.Act) → IsSteady w → Follows w v l ds → FollowAll w v (only_at l ds)
+follows_all w v l ds steady f = record {
+  site = λ k. (either k (k == l) refl).0;
+  needed = λ k. (either k (k == l) refl).1;
+  word = λ k. (either k (k == l) refl).2;
+  kinds = f.kinds;
+  numbers = f.numbers;
+  sharers = f.sharers;
+  limit = λ k. (either k (k == l) refl).3;
+}
+  where
+    AtLock : ℕ → List deeds.Act → Type 0
+    AtLock k here =
+        (site_of v k ≡ after_acts (rules_in w k) here (site_of w k)) × ActsNeeded (rules_in w k) here (site_of w k)
+        × (word_at v k ≡ code (rules_in w k) (site_of v k)) × (has_readers (rules_in w k).sort ≡ true → HasLimit (rules_in w k) (lock_state v k))
+
+    either : (k : ℕ) (b : Bool) → (k == l) ≡ b → AtLock k (if b then ds else [])
+    either k true e = subst (λ j. AtLock j ds) (sym (eqb-true k l e)) (f.site, f.needed, f.word, f.limit)
+    either k false e = let there = f.others k (λ g. let h : true ≡ false = sym (ap (λ j. j == l) g ∙ same l) ∙ e in cc) in (
+      there.0, tt,
+      there.1 ∙ steady.sites.word k ∙ (λ i. code (rules_in w k) (sym there.0 i)),
+      λ h. subst (λ (s : Site). HasLimit (rules_in w k) s.lock) (sym there.0) (steady.sites.limits k h).1,
+    )
+
+-- and keeps all
+pub goes_steady : (w v : State) (l : ℕ) (ds : List deeds.Act) → IsSteady w → Goes w v l ds → IsSteady v
+goes_steady w v l ds steady g = goes_all_steady w v (only_at l ds) steady (follows_all w v l ds steady g.follows) g.stands
 
 -- ---------------------------------------------------------------- what an operation on the word makes of the lock
 

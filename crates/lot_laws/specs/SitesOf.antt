@@ -165,6 +165,16 @@ pub record SameNumbers (w v : State) : Type 0 where
   pub locks : length v.locks ≡ length w.locks
   pub shares : length v.shares ≡ length w.shares
 
+-- each lock has been through deeds of its own that are allowed, and its word says so
+pub record FollowAll (w v : State) (ds : ℕ → List Act) : Type 0 where
+  pub site : (k : ℕ) → site_of v k ≡ after_acts (rules_in w k) (ds k) (site_of w k)
+  pub needed : (k : ℕ) → ActsNeeded (rules_in w k) (ds k) (site_of w k)
+  pub word : (k : ℕ) → word_at v k ≡ code (rules_in w k) (site_of v k)
+  pub kinds : (k : ℕ) → kind_at v k ≡ kind_at w k
+  pub numbers : SameNumbers w v
+  pub sharers : (k : ℕ) → length (shares_at v k) ≡ length (shares_at w k)
+  pub limit : (k : ℕ) → has_readers (rules_in w k).sort ≡ true → HasLimit (rules_in w k) (lock_state v k)
+
 -- one lock has been through deeds that are allowed, its word says so, and the others are as they were
 pub record Follows (w v : State) (l : ℕ) (ds : List Act) : Type 0 where
   pub site : site_of v l ≡ after_acts (rules_in w l) ds (site_of w l)
