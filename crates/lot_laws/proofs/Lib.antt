@@ -11,6 +11,9 @@ pub mod MutexTable
 pub mod MutexSections
 pub mod StandsKept
 pub mod StandsMoved
+pub mod TwoMoved
+pub mod Following
+pub mod ActsAt
 pub mod ActsKept
 pub mod LawsKept
 pub mod ToldKept
