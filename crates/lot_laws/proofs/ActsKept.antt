@@ -1,39 +1,23 @@
 -- Each act of one thread in a call of one lock keeps every lock of the world a site whose word says so.
-use Rattle.std.proofs.Common.{ℕ, Bool, true, false, Option, Some, None, if◌then◌else◌, ◌==◌, ◌||◌, ◌≡◌, ◌≢◌, ◌+◌, ◌*◌, ◌/◌, ◌%◌, ◌≤◌, ◌<◌, ◌⊎◌, List, [], ◌∷◌, ◌++◌, length, replicate, get_or, set, map, drop, inl, inr, refl, sym, ◌∙◌, ap, subst, arith, length-set, get_or-set_same, get_or-set_other}
-use Rattle.std.proofs.lemmas.Bool.{cases_eq, eqb-true}
-use Rattle.std.proofs.lemmas.List.{length-map}
-use Rattle.std.proofs.Math.ListN.{get_or-map}
+use Rattle.std.proofs.Common.{ℕ, true, Some, None, ◌≡◌, ◌≢◌, ◌<◌, List, [], ◌∷◌, ◌++◌, length, sym, ◌∙◌, ap}
 use Rattle.lot_base.specs.declared.keys.Keys.TheVariants.{One}
 use Rattle.lot_base.specs.declared.ops.Op.{Op}
 use Rattle.lot_base.specs.declared.wants.Waiter.{Waiter}
 use Rattle.lot_base.specs.declared.wants.Want.{Want}
 use Rattle.lot_base.specs.Words.{apply}
-use Rattle.lot_base.specs.Lines.{waiter, without, first_of, times}
-use Rattle.lot_base.proofs.Counts.{times_append, times_without, times_gone}
-use Rattle.lot_calls.specs.declared.kinds.Kind as kind
+use Rattle.lot_base.specs.Lines.{waiter, without}
 use Rattle.lot_steps.specs.declared.places.Place.{Place}
-use Rattle.lot_steps.specs.declared.places.Place.TheVariants.{Idle}
-use Rattle.lot_acts.specs.Owners.{shares_then}
-use Rattle.lot_steps.specs.Steps.{owners_after, shares_after}
-use Rattle.abstract_locks.specs.Locks.{Rules, Taken, putting, keep_from}
-use Rattle.abstract_locks.specs.Locks as locks
-use Rattle.abstract_locks.specs.Picks.{queued_of}
-use Rattle.abstract_locks.specs.Sites.{Doing, Site, IsSite, Deed, Line, Main, Second, In, FindNobody, Case, has_readers, after_deed}
-use Rattle.abstract_locks.specs.Codes.{code, fills, HasLimit, IsHandOff}
-use Rattle.abstract_locks.specs.Purposes.{rules_of}
-use Rattle.lot_machine.specs.declared.locks.Lock.{Lock}
-use Rattle.lot_machine.specs.Machine.{State, unlocked, place_at, word_at, owners_at, shares_at, share_at, shares_with, filled_at, kind_at, queue_at, section_at, put, state_after_operation, state_with_sections, queues_with_last, queues_without, queues_without_first}
-use Rattle.lot_laws.specs.Refinement.{lock_state, taken_at}
+use Rattle.abstract_locks.specs.Locks.{Rules, putting}
+use Rattle.abstract_locks.specs.Sites.{Doing, IsSite, Deed, Line, In, FindNobody, has_readers, after_deed}
+use Rattle.abstract_locks.specs.Codes.{code}
+use Rattle.lot_machine.specs.Machine.{State, place_at, word_at, queue_at, section_at, put, state_after_operation, state_with_sections, queues_with_last, queues_without, queues_without_first}
+use Rattle.lot_laws.specs.Refinement.{taken_at}
 use Rattle.lot_laws.specs.MutexDeeds.{acts}
-use Rattle.lot_laws.specs.MutexDeeds as deeds
 use Rattle.lot_laws.specs.Stations.{Station, station, station_at, nowhere, doing_on}
-use Rattle.lot_laws.specs.SitesOf.{ActsNeeded, HasRoom, SameNumbers, IsSteady, Follows, Goes, FitsItsLock, Waits, AreWaiting, after_acts, site_of, rules_in, key_of, stood_in, Stands, FollowAll}
-use Rattle.lot_laws.proofs.Counts.{without_absent}
-use Rattle.lot_laws.proofs.Glue.{Parts, base_at, parts_at, lock_in, seen_in, same, differ, put_places, put_here, put_other, IsOf, doing_elsewhere, taken_elsewhere, inside_is, station_here, station_elsewhere}
-use Rattle.lot_laws.proofs.KindsKept.{operated_kinds}
-use Rattle.lot_laws.proofs.OneStep.{AreOrdinary, Steps, steps_by, same_word, noted, acts_keep, acts_limited, same_filled, queued_behind}
-use Rattle.lot_laws.proofs.StandsKept.{other_key, other_line, same_line, AlikeBeside, own_alike, part_else, waiting_same, waiting_behind, waiting_without}
-use Rattle.lot_laws.proofs.StandsMoved.{still, goes_in, goes_out, line_changes}
+use Rattle.lot_laws.specs.SitesOf.{ActsNeeded, IsSteady, Goes, FitsItsLock, rules_in, key_of}
+use Rattle.lot_laws.proofs.Glue.{parts_at, seen_in, IsOf, station_here, station_elsewhere}
+use Rattle.lot_laws.proofs.OneStep.{Steps}
+use Rattle.lot_laws.proofs.StandsKept.{AlikeBeside, own_alike}
 pub use Rattle.lot_laws.proofs.Following.{AlikeAt, Moves, NoHandOff, asides, follows_by, goes_all_steady, goes_steady, lates, limited, lock_by, operated, ordinary_by, parks, stood_one, stood_other, with_line}
 use Rattle.lot_laws.proofs.Following as following
 use Rattle.lot_laws.proofs.ActsAt as at

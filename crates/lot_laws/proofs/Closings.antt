@@ -3,7 +3,7 @@ use Rattle.std.proofs.Common.{ℕ, Bool, true, ◌≡◌, ◌<◌, length, lengt
 use Rattle.lot_machine.specs.Machine.{held_by, reply_to}
 use Rattle.std.proofs.lemmas.List.{set-set}
 use Rattle.lot_acts.specs.declared.acts.Reply.TheVariants.{Closed}
-use Rattle.lot_acts.specs.Profiles.{Profile, hand_owner}
+use Rattle.lot_acts.specs.Profiles.{hand_owner}
 use Rattle.lot_once.specs.declared.places.OncePlace.TheVariants.{Run}
 use Rattle.lot_once.specs.declared.run.RunAt.TheVariants as run
 use Rattle.lot_steps.specs.declared.places.Place.{Place}

@@ -1,38 +1,29 @@
 -- What a step makes of each lock: behind deeds that are allowed, every lock is a site again, and its word says so.
-use Rattle.std.proofs.Common.{ℕ, Bool, true, false, Option, Some, None, if◌then◌else◌, ◌==◌, ◌||◌, ◌≡◌, ◌≢◌, ◌+◌, ◌*◌, ◌/◌, ◌%◌, ◌≤◌, ◌<◌, ◌⊎◌, List, [], ◌∷◌, ◌++◌, length, replicate, get_or, set, map, drop, inl, inr, refl, sym, ◌∙◌, ap, subst, arith, length-set, get_or-set_same, get_or-set_other}
+use Rattle.std.proofs.Common.{ℕ, Bool, true, false, Option, Some, None, if◌then◌else◌, ◌==◌, ◌||◌, ◌≡◌, ◌≢◌, ◌+◌, ◌*◌, ◌≤◌, ◌<◌, List, [], ◌∷◌, ◌++◌, length, replicate, get_or, set, map, inl, inr, refl, sym, ◌∙◌, ap, subst, length-set, get_or-set_same, get_or-set_other}
 use Rattle.std.proofs.lemmas.Bool.{cases_eq, eqb-true}
-use Rattle.std.proofs.lemmas.List.{length-map}
-use Rattle.std.proofs.Math.ListN.{get_or-map}
-use Rattle.lot_base.specs.declared.keys.Keys.TheVariants.{One}
 use Rattle.lot_base.specs.declared.ops.Op.{Op}
 use Rattle.lot_base.specs.declared.wants.Waiter.{Waiter}
 use Rattle.lot_base.specs.declared.wants.Want.{Want}
 use Rattle.lot_base.specs.Words.{apply}
-use Rattle.lot_base.specs.Lines.{waiter, without, first_of, times}
-use Rattle.lot_base.proofs.Counts.{times_append, times_without, times_gone}
-use Rattle.lot_calls.specs.declared.kinds.Kind as kind
+use Rattle.lot_base.specs.Lines.{waiter, first_of}
 use Rattle.lot_steps.specs.declared.places.Place.{Place}
-use Rattle.lot_steps.specs.declared.places.Place.TheVariants.{Idle}
 use Rattle.lot_acts.specs.Owners.{shares_then}
 use Rattle.lot_steps.specs.Steps.{owners_after, shares_after}
 use Rattle.abstract_locks.specs.Locks.{Rules, Taken, putting, keep_from}
 use Rattle.abstract_locks.specs.Locks as locks
 use Rattle.abstract_locks.specs.Picks.{queued_of}
-use Rattle.abstract_locks.specs.Sites.{Doing, Site, IsSite, Deed, Line, Main, Second, In, FindNobody, Case, has_readers, after_deed}
+use Rattle.abstract_locks.specs.Sites.{Site, IsSite, Deed, Line, Main, Second, Case, has_readers, after_deed}
 use Rattle.abstract_locks.specs.Codes.{code, fills, HasLimit, IsHandOff}
 use Rattle.abstract_locks.specs.Purposes.{rules_of}
-use Rattle.lot_machine.specs.declared.locks.Lock.{Lock}
-use Rattle.lot_machine.specs.Machine.{State, unlocked, place_at, word_at, owners_at, shares_at, share_at, shares_with, filled_at, kind_at, queue_at, section_at, put, state_after_operation, state_with_sections, queues_with_last, queues_without, queues_without_first}
+use Rattle.lot_machine.specs.Machine.{State, place_at, word_at, owners_at, shares_at, share_at, shares_with, filled_at, kind_at, queue_at}
 use Rattle.lot_laws.specs.Refinement.{lock_state, taken_at}
 use Rattle.lot_laws.specs.MutexDeeds.{acts}
 use Rattle.lot_laws.specs.MutexDeeds as deeds
-use Rattle.lot_laws.specs.Stations.{Station, station, station_at, nowhere, doing_on}
-use Rattle.lot_laws.specs.SitesOf.{ActsNeeded, HasRoom, SameNumbers, IsSteady, Follows, Goes, FitsItsLock, Waits, AreWaiting, after_acts, site_of, rules_in, key_of, stood_in, Stands, FollowAll}
-use Rattle.lot_laws.proofs.Counts.{without_absent}
-use Rattle.lot_laws.proofs.Glue.{Parts, base_at, parts_at, lock_in, seen_in, same, differ, put_places, put_here, put_other, IsOf, doing_elsewhere, taken_elsewhere, inside_is, station_here, station_elsewhere}
-use Rattle.lot_laws.proofs.KindsKept.{operated_kinds}
-use Rattle.lot_laws.proofs.OneStep.{AreOrdinary, Steps, steps_by, same_word, noted, acts_keep, acts_limited, same_filled, queued_behind}
-use Rattle.lot_laws.proofs.StandsKept.{other_key, other_line, same_line, AlikeBeside, part_else, waiting_same, waiting_behind, waiting_without}
+use Rattle.lot_laws.specs.Stations.{doing_on}
+use Rattle.lot_laws.specs.SitesOf.{ActsNeeded, HasRoom, SameNumbers, IsSteady, Follows, Goes, after_acts, site_of, rules_in, stood_in, Stands, FollowAll}
+use Rattle.lot_laws.proofs.Glue.{Parts, parts_at, lock_in, seen_in, same, put_here, put_other}
+use Rattle.lot_laws.proofs.OneStep.{AreOrdinary, Steps, steps_by, noted, acts_keep, acts_limited, same_filled, queued_behind}
+use Rattle.lot_laws.proofs.StandsKept.{AlikeBeside}
 
 -- what another lock sees of each place
 abbrev pub AlikeAt : ℕ → Place → Place → Type 0
@@ -149,7 +140,8 @@ follows_all w v l ds steady f = record {
     either : (k : ℕ) (b : Bool) → (k == l) ≡ b → AtLock k (if b then ds else [])
     either k true e = subst (λ j. AtLock j ds) (sym (eqb-true k l e)) (f.site, f.needed, f.word, f.limit)
     either k false e = let there = f.others k (λ g. let h : true ≡ false = sym (ap (λ j. j == l) g ∙ same l) ∙ e in cc) in (
-      there.0, tt,
+      there.0,
+      tt,
       there.1 ∙ steady.sites.word k ∙ (λ i. code (rules_in w k) (sym there.0 i)),
       λ h. subst (λ (s : Site). HasLimit (rules_in w k) s.lock) (sym there.0) (steady.sites.limits k h).1,
     )
@@ -223,4 +215,3 @@ module _ (r : Rules) (l : ℕ) (a : Parts) (p : ℕ → Place) (t : ℕ) (p2 : P
       (λ i. record (lock_in a (λ u. taken_at (p u) l)) { queue = mains i; aside = seconds i }) refl refl (noted r (seen_in r l a p) site) own
   lates Second q mains seconds needed own = steps_by r l a (with_line a Second q) p t p2 (Case locks.Late ∷ []) needed (tt, tt) hand
       (λ i. record (lock_in a (λ u. taken_at (p u) l)) { queue = mains i; aside = seconds i }) refl refl (noted r (seen_in r l a p) site) own
-

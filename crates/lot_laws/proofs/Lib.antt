@@ -16,10 +16,13 @@ pub mod Following
 pub mod ActsAt
 pub mod ActsKept
 pub mod LawsKept
+pub mod ToldAt
 pub mod ToldKept
 pub mod HandsKept
 pub mod HandRights
+pub mod WakesAt
 pub mod WakesKept
+pub mod TakesAt
 pub mod TakesKept
 pub mod PicksKept
 pub mod AnyPicked

@@ -1,22 +1,16 @@
 -- Where two threads of a mutex go elsewhere: one takes the other, or hands it the mutex.
-use Rattle.std.proofs.Common.{Bool, List, None, Option, Some, [], ap, arith, cond, false, if◌then◌else◌, inl, inr, not, refl, subst, sym, true, ℕ, ◌&&◌, ◌*◌, ◌++◌, ◌+◌, ◌==◌, ◌↔◌, ◌∙◌, ◌∷◌, ◌≡◌, ◌≢◌, ◌≤◌, ◌⊎◌}
-use Rattle.lot_calls.specs.declared.kinds.Kind as kind
-use Rattle.std.proofs.lemmas.Bool.{cases_eq, eqb-true}
+use Rattle.std.proofs.Common.{Bool, List, None, Option, Some, ap, arith, false, if◌then◌else◌, inl, inr, refl, subst, sym, true, ℕ, ◌*◌, ◌+◌, ◌==◌, ◌∙◌, ◌∷◌, ◌≡◌, ◌≢◌, ◌≤◌}
+use Rattle.std.proofs.lemmas.Bool.{cases_eq}
 use Rattle.lot_base.specs.declared.wants.Waiter.{Waiter}
-use Rattle.lot_base.specs.Lines.{times, without}
+use Rattle.lot_base.specs.Lines.{times}
 use Rattle.lot_steps.specs.declared.places.Place.{Place}
-use Rattle.lot_steps.specs.declared.places.Place.TheVariants.{Idle, Mutex, RwLock, Once, Condvar}
-use Rattle.abstract_locks.specs.Locks.{putting, Rules}
-use Rattle.abstract_locks.specs.Purposes.{rules_of}
-use Rattle.lot_rwlock.specs.RwLockDeeds.{Admits}
+use Rattle.abstract_locks.specs.Locks.{putting}
 use Rattle.abstract_locks.specs.Sites.{Line, Main, Second}
 use Rattle.lot_machine.specs.Machine.{State, kind_at, place_at, section_at, queue_at}
-use Rattle.lot_laws.specs.SitesOf.{is_mutex, Sections, Lines, Waits, AreWaiting, Hands, FitsItsLock, key_of, stood_in, carried_at, hand_at, Stands, TakesOne, rules_in, stations_of}
+use Rattle.lot_laws.specs.SitesOf.{is_mutex, Sections, Lines, Waits, AreWaiting, Hands, FitsItsLock, key_of, stood_in, carried_at, hand_at, Stands, TakesOne, stations_of}
 use Rattle.lot_laws.specs.Stations.{Hand, Station, hand, nowhere, station, station_at}
-use Rattle.lot_laws.proofs.Glue.{IsOf, nothing_at, put_here, put_other, same, station_is, station_here, station_elsewhere, IsMutexOf, of_single, differ}
-use Rattle.lot_calls.specs.declared.kinds.Kind.{Kind}
+use Rattle.lot_laws.proofs.Glue.{IsOf, nothing_at, put_here, put_other, same, station_here, station_elsewhere, of_single, differ}
 use Rattle.lot_base.specs.declared.wants.Want.{Want}
-use Rattle.lot_laws.proofs.MutexTable.{mutex}
 use Rattle.lot_laws.proofs.StandsKept.{own_alike, part_put, part_else, sections_same, lines_same, line_moved, waiting_same, waits_same, same_line, other_line, other_key, calls_in}
 use Rattle.lot_laws.proofs.StandsMoved.{mutex_rules, takes_one, hands_in, calls_put, calls_one}
 
