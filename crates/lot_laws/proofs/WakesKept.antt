@@ -15,9 +15,9 @@ use Rattle.lot_laws.specs.Stations.{Hand, Station, hand, station, station_at, no
 use Rattle.lot_laws.specs.SitesOf.{ActsNeeded, IsSteady, Goes, FitsItsLock, after_acts, rules_in, key_of, hand_at}
 use Rattle.lot_laws.proofs.Glue.{Parts, seen_in, IsOf, IsHeldBy, LetGo, held_taker, held_where, next_of, singles, station_elsewhere, station_here}
 use Rattle.lot_laws.proofs.ActsKept.{lock_by}
-use Rattle.lot_laws.proofs.StandsKept.{own_alike}
+use Rattle.lot_laws.proofs.StandsKept.{AlikeBeside, own_alike}
 pub use Rattle.lot_acts.specs.Moves.{AreLeaving}
-use Rattle.lot_laws.proofs.ToldAt.{HoldsHere}
+use Rattle.lot_laws.proofs.ToldAt.{HoldsHere, same_hands}
 use Rattle.lot_laws.proofs.WakesAt.{IsWokenAt}
 use Rattle.lot_laws.proofs.WakesAt as at
 
@@ -76,11 +76,14 @@ module _ (w : State) (t l : ℕ) (steady : IsSteady w) (own : IsOf l (place_at w
   pub wake_goes : (station p2).carries ≡ None → (station p2).hand ≡ None → (m : Line) → (line : key_of l m < length w.sections) → (station (place_at w t)).inside ≡ Some m → (station p2).stands ≡ (station (place_at w t)).stands → (station p2).waits ≡ (station (place_at w t)).waits → (station p2).inside ≡ None
       → (r : Rules) → rules_in w l ≡ r → taken_at (place_at w t) l ≡ None → taken_at p2 l ≡ None → (ds : List Deed) → AreLeaving ds → ActsNeeded r (acts t ds) (lock_by w l r) → doing_on p2 l ≡ (after_acts r (acts t ds) (lock_by w l r)).doing t
       → Goes w (put (state_after_telling (state_with_sections w (One (key_of l m)) None) t (Woken x)) t p2) l (acts t ds)
-  wake_goes bare unheld m line within stood waited out r rules none none2 = at.wake_goes w t l steady there p2 (own_alike l (place_at w t) p2 own of) fits holds x woken_at
-      (ap (λ (y : Station). y.carries) is_here ∙ bare) (unheld_then (at.is_told w t l steady there p2 (own_alike l (place_at w t) p2 own of) fits holds x woken_at t))
-      m line (ap (λ (y : Station). y.inside) was_here ∙ within) (ap (λ (y : Station). y.stands) is_here ∙ stood ∙ sym (ap (λ (y : Station). y.stands) was_here))
+  wake_goes bare unheld m line within stood waited out r rules none none2 = at.wake_goes w t l steady there p2 (same_hands l (place_at w t) p2 beside) fits holds x woken_at
+      (ap (λ (y : Station). y.carries) is_here ∙ bare) (unheld_then (at.is_told w t l steady there p2 (same_hands l (place_at w t) p2 beside) fits holds x woken_at t))
+      beside m line (ap (λ (y : Station). y.inside) was_here ∙ within) (ap (λ (y : Station). y.stands) is_here ∙ stood ∙ sym (ap (λ (y : Station). y.stands) was_here))
       (ap (λ (y : Station). y.waits) is_here ∙ waited ∙ sym (ap (λ (y : Station). y.waits) was_here)) (ap (λ (y : Station). y.inside) is_here ∙ out) r rules (none2 ∙ sym (ap (keep_from t) none))
     where
+      beside : AlikeBeside l (place_at w t) p2
+      beside = own_alike l (place_at w t) p2 own of
+
       unheld_then : (b : Bool) → (station_at p2 l).hand ≡ (if b then None else (station_at (place_at w t) l).hand)
       unheld_then true = ap (λ (y : Station). y.hand) is_here ∙ unheld
       unheld_then false = ap (λ (y : Station). y.hand) is_here ∙ unheld ∙ sym free ∙ sym (ap (λ (y : Station). y.hand) was_here)
