@@ -22,6 +22,7 @@ pub mod HandsKept
 pub mod HandRights
 pub mod WakesAt
 pub mod WakesKept
+pub mod TwoLocks
 pub mod TakesAt
 pub mod TakesKept
 pub mod PicksKept

@@ -196,3 +196,8 @@ pub record Follows (w v : State) (l : ℕ) (ds : List Act) : Type 0 where
 pub record Goes (w v : State) (l : ℕ) (ds : List Act) : Type 0 where
   pub follows : Follows w v l ds
   pub stands : Stands v
+
+-- of any number of locks
+pub record GoesAll (w v : State) (ds : ℕ → List Act) : Type 0 where
+  pub follows : FollowAll w v ds
+  pub stands : Stands v
