@@ -10,8 +10,6 @@ use Rattle.lot_base.specs.declared.notes.Note.TheVariants as note
 use Rattle.lot_acts.specs.declared.owners.Owners.{Owners}
 use Rattle.lot_once.specs.declared.places.OncePlace.{OncePlace}
 use Rattle.lot_once.specs.OnceSteps.{once_next}
-use Rattle.lot_condvar.specs.declared.places.CondvarPlace.{CondvarPlace}
-use Rattle.lot_condvar.specs.CondvarSteps.{condvar_next}
 use Rattle.lot_steps.specs.declared.places.Place.{Place}
 use Rattle.lot_steps.specs.declared.places.Place.TheVariants.{Idle, Mutex, RwLock, Once, Condvar}
 use Rattle.lot_mutex.specs.declared.lock.Entry.{Entry}
@@ -31,7 +29,7 @@ use Rattle.lot_acts.specs.declared.acts.Next as next
 use Rattle.lot_mutex.specs.MutexSteps.{mutex_next}
 use Rattle.lot_base.specs.declared.wants.Want.{Want}
 use Rattle.lot_acts.specs.Profiles.{Hand, Of, hand_owner, taken_from, Profile, blank}
-use Rattle.lot_steps.specs.Steps.{next_place, taker, mutex_goes, rwlock_goes, once_goes, lock_of, profile, wants, is_lock, calls, condvar_goes, beside_of, or_else, profile_beside, key_in, late_key, line_owed, retries_on}
+use Rattle.lot_steps.specs.Steps.{next_place, taker, mutex_goes, rwlock_goes, once_goes, lock_of, profile, wants, is_lock, calls, beside_of, or_else, profile_beside, key_in, late_key, line_owed, retries_on}
 use Rattle.abstract_locks.specs.Locks.{LockState, Taken, Queued, Rules, TakeFirst, keep_from, let_go, shares_handed, sharing_from, putting}
 use Rattle.std.specs.Prelude.{sum, ◌&&◌, ◌||◌}
 use Rattle.lot_acts.specs.Owners.{is_thread, with_exclusive}

@@ -32,7 +32,7 @@ use Rattle.lot_laws.specs.MutexDeeds.{mutex_station}
 use Rattle.lot_laws.specs.Stations.{Station, station, station_at, station_by}
 use Rattle.lot_laws.specs.SitesOf.{FitsItsLock, IsSteady, key_of, stood_in}
 use Rattle.lot_laws.proofs.Counts.{without_absent}
-use Rattle.lot_laws.proofs.Glue.{IsLock, IsOf, station_here, station_elsewhere, IsSingle, single_late, of_own, singles}
+use Rattle.lot_laws.proofs.Glue.{IsOf, station_here, station_elsewhere, IsSingle, single_late, of_own, singles}
 use Rattle.lot_rwlock.specs.declared.places.Admission.{Admission}
 use Rattle.lot_rwlock.specs.declared.places.RwLockPlace.{RwLockPlace}
 use Rattle.lot_rwlock.specs.declared.places.RwLockAt.{RwLockAt}

@@ -1,6 +1,6 @@
 -- What a step makes of what a thread owes, at each place.
 use Rattle.lot_calls.specs.declared.calls.CondvarCall.TheVariants as condvar
-use Rattle.std.proofs.Common.{Bool, ℕ, true, false, Option, Some, None, if◌then◌else◌, ◌==◌, ◌≡◌, refl, sym, ◌∙◌, ap, subst}
+use Rattle.std.proofs.Common.{Bool, ℕ, true, false, Option, Some, None, if◌then◌else◌, ◌≡◌, refl, sym, ◌∙◌, ap, subst}
 use Rattle.lot_laws.proofs.OnceNext.{once_owes_next}
 use Rattle.lot_calls.specs.declared.calls.Call.{Call}
 use Rattle.lot_calls.specs.declared.calls.Call as call

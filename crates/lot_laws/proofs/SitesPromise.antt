@@ -5,7 +5,6 @@ use Rattle.lot_base.specs.declared.wants.Waiter.{Waiter}
 use Rattle.lot_base.specs.Lines as Lines
 use Rattle.lot_mutex.specs.MutexSteps.{is_parked}
 use Rattle.lot_once.specs.OnceProfiles.{once_profile}
-use Rattle.lot_steps.specs.Steps.{profile}
 use Rattle.lot_steps.specs.declared.places.Place.{Place}
 use Rattle.lot_steps.specs.declared.places.Place.TheVariants.{Idle, Mutex, RwLock, Once, Condvar}
 use Rattle.abstract_locks.specs.Locks.{Queued, times, one_if_some}
