@@ -46,7 +46,8 @@ use Rattle.lot_laws.proofs.MutexTable.{mutex, parts, IsCode, OnWord, MutexSteps,
 use Rattle.lot_laws.proofs.KindsKept.{given_kinds, given_filled, given_shares}
 use Rattle.lot_laws.specs.SitesOf.{is_mutex}
 use Rattle.lot_laws.proofs.StandsKept.{calls_of}
-use Rattle.lot_laws.proofs.StandsMoved.{mutex_rules, takes_one, hands_lock, takes}
+use Rattle.lot_laws.proofs.StandsMoved.{mutex_rules, takes_one}
+use Rattle.lot_laws.proofs.TwoMoved.{hands_lock, takes}
 use Rattle.lot_laws.proofs.MutexSections.{hands_needed, take_needed, first_wants}
 
 -- g is f, but for x at i
