@@ -4,6 +4,7 @@ use Rattle.lot_calls.specs.declared.calls.OnceCall.TheVariants as once_call
 use Rattle.lot_once.specs.declared.places.OncePlace.TheVariants.{Look, Run}
 use Rattle.lot_laws.specs.Promises.{CallsOneLock}
 use Rattle.lot_laws.proofs.Closures.{closes_one}
+use Rattle.lot_laws.proofs.OwnPlace.{gone}
 use Rattle.std.proofs.lemmas.Bool.{cases_eq, eqb-true, ltb-true}
 use Rattle.std.proofs.lemmas.Bool.Decides.{nat_tests}
 use Rattle.lot_base.specs.declared.keys.Keys.TheVariants.{One}
@@ -356,7 +357,7 @@ module _ (w : State) (t l : ℕ) (shape : IsShaped w) (steady : IsSteady w) (cou
 
   -- from its place
   go_gives_shared : t < length w.places → can_do w (act_of (place_at w t)) ≡ true → ToGive (place_at w t) → Owns (lock_state w l) t x → Gives (state_after_go w t)
-  go_gives_shared there can gives own = by_place (place_at w t) refl (shape.places t) can gives
+  go_gives_shared there can gives own = subst Gives (sym (gone w t steady)) (by_place (place_at w t) refl (shape.places t) can gives)
     where
       by_place : (p : Place) → place_at w t ≡ p → PlaceFits (length w.locks) p → can_do w (act_of p) ≡ true → ToGive p → Gives (put (state_after_act w t p (act_of p)) t (next_place p (reply_to w t (act_of p))))
       by_place Idle is fits can gives = absurd gives

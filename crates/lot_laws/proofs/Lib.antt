@@ -38,6 +38,7 @@ pub mod HandsCounted
 pub mod HandCases
 pub mod Counting
 pub mod Befallen
+pub mod OwnPlace
 pub mod SitesKept
 pub mod RwLockKept
 pub mod HandsOn
