@@ -167,14 +167,14 @@ woken w t (AtLock l (HandOff x successor)) u c =
 woken w t (Moves l m all owned number) u c = befallen u (moved_of all (w.locks l).queue) c
 woken w t event u c = c
 
--- a call that ends is forgotten
+-- a call that ends is forgotten; a wait's own release of its mutex may wake it
 abbrev pub unless_ended : Outcome → CallState → CallState
 unless_ended (outcome.TheVariants.End a) c = no_call
 unless_ended o c = c
 
 abbrev pub calls_after : LocksState → ℕ → Event → Outcome → ℕ → CallState
 calls_after w t event o u =
-    if u == t then unless_ended o (going_on event (w.calls t))
+    if u == t then unless_ended o (woken w t event t (going_on event (w.calls t)))
     else woken w t event u (w.calls u)
 
 -- nobody leaves a queue but whose time is up

@@ -50,6 +50,7 @@ pub mod PlacePromises
 pub mod AtPlaces
 pub mod ExclusiveOwners
 pub mod LineActs
+pub mod OwnHand
 pub mod CallEvents
 pub mod MutexCalls
 pub mod LockEvents
