@@ -1,6 +1,5 @@
 -- Those whom a notification moves leave the list of a condition variable, and what holds of it holds again.
 use Rattle.std.proofs.Common.{ℕ, Bool, true, false, ◌≡◌, ◌≤◌, List, [], ◌∷◌, drop, refl, arith, if◌then◌else◌}
-use Rattle.std.proofs.lemmas.Bool.Decides.{nat_tests}
 use Rattle.abstract_locks.specs.Locks.{LockState, Queued, Rules, IsLockState, KnowsAll, left_behind, times}
 
 pub left_none : (all : Bool) (q : List Queued) → q ≡ [] → (if all then [] else drop 1 q) ≡ []

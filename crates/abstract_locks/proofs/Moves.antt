@@ -1,8 +1,8 @@
 -- A notification's move keeps what holds of the condition variable and of the mutex.
-use Rattle.std.proofs.Common.{ℕ, Bool, true, false, Option, Some, None, ◌≡◌, ◌≤◌, ◌+◌, List, [], ◌∷◌, ◌++◌, map, drop, refl, sym, ap, ◌∙◌, arith, if◌then◌else◌}
+use Rattle.std.proofs.Common.{ℕ, Bool, true, ◌≡◌, ◌≤◌, ◌+◌, List, sym, ap, ◌∙◌, arith}
 use Rattle.std.proofs.lemmas.Bool.Decides.{nat_tests}
-use Rattle.abstract_locks.specs.Condvars.{in_line, line_of, moved_of, taken_of}
-use Rattle.abstract_locks.specs.Locks.{LockState, Queued, Rules, Mutex, Condvar, IsLockState, KnowsAll, Knows, left_behind, standing, taking, times}
+use Rattle.abstract_locks.specs.Condvars.{line_of, moved_of, taken_of}
+use Rattle.abstract_locks.specs.Locks.{LockState, Queued, Rules, Mutex, IsLockState, KnowsAll, left_behind, standing, times}
 use Rattle.abstract_locks.specs.Runs.{LocksState, AreLockStates, MayMove, is_among, joined_by, rules_at}
 use Rattle.abstract_locks.proofs.CondvarKeeps.{all_known, moved_fewer, parts, times_in_line}
 use Rattle.abstract_locks.proofs.Left.{left_keeps}

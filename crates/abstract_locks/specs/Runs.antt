@@ -20,7 +20,7 @@ use Rattle.lot_calls.specs.Calls.{lock_in}
 use Rattle.lot_calls.specs.Kinds.{is_plain_mutex}
 use Rattle.abstract_locks.specs.Onces.{Phase, New, Poisoned, InProgress, Done, OnceCase, Start, Finish, Fail, Rest}
 use Rattle.abstract_locks.specs.Condvars.{moved_of, taken_of, line_of}
-use Rattle.abstract_locks.specs.Locks.{LockState, Queued, taking, Taken, LockCase, Enter, Pend, Settle, Leave, Park, Aside, Wake, HandOff, Late, OfOnce, CondvarCase, Look, OfCondvar, SeeOwner, Condvar, Rules, Rights, Mutex, Needs, after_case, rights_of, with_right, without_right, Owns, IsFree, IsBlocked, count, readers, putting, standing, HasTakenNobody, IsLockState, left_behind, opening_lock, times}
+use Rattle.abstract_locks.specs.Locks.{LockState, Queued, taking, Taken, LockCase, Enter, Pend, Settle, Leave, Park, Aside, Wake, HandOff, Late, OfOnce, Look, OfCondvar, SeeOwner, Condvar, Rules, Rights, Mutex, Needs, after_case, rights_of, with_right, without_right, Owns, IsFree, IsBlocked, count, readers, putting, standing, HasTakenNobody, IsLockState, left_behind, opening_lock, times}
 use Rattle.abstract_locks.specs.Purposes.{Purpose, Enters, Releases, Converts, Bumps, CallsOnce, Awaits, Waits, Notifies, Recall, Blank, Saw, SawOwner, HasMoved, WasMoved, WasNotified, Patience, Patient, Timed, Try, lock_for, purpose_of, rules_of, IsMadeOf}
 
 -- what is remembered of a call: what its answer needs of earlier steps, and whether it tries again
