@@ -36,6 +36,7 @@ use Rattle.lot_laws.specs.MutexDeeds.{Act, acts}
 use Rattle.lot_laws.specs.SitesOf.{IsSteady, Goes, ActsNeeded, rules_in, after_acts, site_of}
 use Rattle.lot_laws.proofs.ActsKept.{goes_steady}
 use Rattle.lot_laws.proofs.AtPlaces.{taken_nobody}
+use Rattle.lot_laws.proofs.OwnHand.{own_hand}
 
 -- ---------------------------------------------------------------- functions with one value set
 
@@ -246,6 +247,10 @@ module _ (w v : State) (t l : ℕ) (c : Option LockCase) (h : Happens w v t l (e
     abbrev behind : LockState
     behind = after_event (rules_in w l) (event_by l c) (lock_state w l) t
 
+    -- its own call behind the event, unless it ends
+    abbrev own_call : CallState
+    own_call = woken (locks_of w) t (event_by l c) t (going_on (event_by l c) call_then)
+
     called_by : (r : ℕ → Rights) → call_state (place_at w t) r ≡ call_by l (profile p) r
     called_by r = ap (λ q. call_state q r) is ∙ ap (λ o. call_on o (profile p) r) of
 
@@ -272,15 +277,22 @@ module _ (w v : State) (t l : ℕ) (c : Option LockCase) (h : Happens w v t l (e
       begins = begins;
     }
       where
+        -- it is in no hand of its own
+        unwoken : (c : Option LockCase) (x : CallState) → woken (locks_of w) t (event_by l c) t x ≡ x
+        unwoken (Some locks.Wake) x = rw (own_hand w h.before t l) refl
+        unwoken (Some (HandOff y z)) x = rw (own_hand w h.before t l) refl
+        unwoken None x = refl
+        unwoken (Some case) x = refl
+
         rules_then : rules_in v l ≡ rules_in w l
         rules_then = ap rules_of (h.kinds l)
 
         own : (n : Next Profile) → ComesTo (rules_in w l) l (profile p) (event_by l c) (lock_state w l) behind t n → LeadsTo v t l n o
-            → call_state (place_at v t) (rights v t) ≡ unless_ended o (going_on (event_by l c) call_then)
+            → call_state (place_at v t) (rights v t) ≡ unless_ended o own_call
         own (next.At row) comes leads = ap (λ x. call_on x (profile (place_at v t)) (rights v t)) leads.0 ∙ ap (λ x. call_by l x (rights v t)) leads.1
-            ∙ ap (call_by l row) (λ i k. rights_led t k i) ∙ comes (rights w t) refl ∙ goes_on leads.2
+            ∙ ap (call_by l row) (λ i k. rights_led t k i) ∙ comes (rights w t) refl ∙ sym (unwoken c (going_on (event_by l c) call_then)) ∙ goes_on leads.2
           where
-            goes_on : GoesAs v t l o → going_on (event_by l c) call_then ≡ unless_ended o (going_on (event_by l c) call_then)
+            goes_on : GoesAs v t l o → own_call ≡ unless_ended o own_call
             goes_on (inl e) = rw e refl
             goes_on (inr (inl e)) = rw e.0 refl
             goes_on (inr (inr e)) = rw e.1 refl

@@ -58,6 +58,7 @@ pub mod PlacePromises
 pub mod AtPlaces
 pub mod ExclusiveOwners
 pub mod LineActs
+pub mod OwnHand
 pub mod CallEvents
 pub mod MutexCalls
 pub mod LockEvents
