@@ -215,7 +215,7 @@ fits_single w Idle fits = tt
 fits_single w (Mutex k at) fits = tt
 fits_single w (RwLock k a at) fits = tt
 fits_single w (Once k at) fits = tt
-fits_single w (Condvar k at) fits = absurd fits
+fits_single w (Condvar k at) fits = absurd fits.begun
 
 pub fits_one : (locks : ℕ) (p : Place) → PlaceFits locks p → IsSingle p
 fits_one locks Idle fits = tt
@@ -292,7 +292,7 @@ mutex_calls w l (RwLock k a c) calls rules = λ here.
     let none : has_readers (rules_in w k).sort ≡ false = ap (λ n. has_readers (rules_in w n).sort) here ∙ ap (λ (r : Rules). has_readers r.sort) rules in cc
 mutex_calls w l (Once k at) calls rules = λ here.
     let both : locks.Once ≡ locks.Mutex = sym calls ∙ ap (λ n. (rules_in w n).sort) here ∙ ap (λ (r : Rules). r.sort) rules in cc
-mutex_calls w l (Condvar k at) calls rules = absurd calls
+mutex_calls w l (Condvar k at) calls rules = absurd calls.begun
 mutex_calls w l (Mutex k at) calls rules = tt
 mutex_calls w l Idle calls rules = tt
 

@@ -71,7 +71,7 @@ asleep_at k l at f g = absurd cc
 
 pub asleep : (w : State) (p : Place) (l : ℕ) → rules_in w l ≡ mutex → FitsItsLock w p → (station_at p l).stands ≡ Some Main → ((station_at p l).inside ≡ Some Main) ⊎ IsAsleep p l
 asleep w Idle l r c h = absurd cc
-asleep w (Condvar k at) l r c h = absurd c
+asleep w (Condvar k at) l r c h = absurd c.begun
 asleep w (Once k at) l r c h = either (k == l) refl h
   where
     either : (b : Bool) → (k == l) ≡ b → (if b then station (Once k at) else nowhere).stands ≡ Some Main → ((if b then station (Once k at) else nowhere).inside ≡ Some Main) ⊎ IsAsleep (Once k at) l

@@ -419,7 +419,7 @@ never_aside w l (RwLock k a c) fits sort e = either (k == l) refl
     either true h = let own : (rules_in w k).sort ≡ locks.Once = subst (λ n. (rules_in w n).sort ≡ locks.Once) (sym (eqb-true k l h)) sort in
         let other : true ≡ false = sym (fits.0.0) ∙ ap has_readers own in cc
     either false h = let none : None ≡ Some Second = sym (ap (λ b. (if b then station (RwLock k a c) else nowhere).inside) h) ∙ e in cc
-never_aside w l (Condvar k at) fits sort e = absurd fits
+never_aside w l (Condvar k at) fits sort e = absurd fits.begun
 never_aside w l (Once k at) fits sort e = either (k == l) refl
   where
     either : (b : Bool) → (k == l) ≡ b → ⊥
@@ -643,7 +643,7 @@ module _ (w : State) (t : ℕ) (shape : IsShaped w) (steady : IsSteady w) (count
 
   pub ends_alone : (c : Call) → place_at w t ≡ first_place (kind_at w (lock_in c)) c → HasItsWay w t
       → EndsAlone w t (purpose_at (locks_of w) c) (solo 64 w t outcome.TheVariants.NotNow).outcome (solo 64 w t outcome.TheVariants.NotNow).state
-  ends_alone (call.TheVariants.Condvar l c) is way = absurd (subst (FitsItsLock w) is (steady.stands.calls t))
+  ends_alone (call.TheVariants.Condvar l c) is way = absurd (subst (FitsItsLock w) is (steady.stands.calls t)).begun
   ends_alone (call.TheVariants.Once l c) is way = once_ends w t shape steady counted running (stands_there w.places t (first_busy (kind_at w l) (call.TheVariants.Once l c) (place_at w t) is)) way l c is
   ends_alone (call.TheVariants.Mutex l c) is way = mutex_ends w t shape steady counted running (stands_there w.places t (first_busy (kind_at w l) (call.TheVariants.Mutex l c) (place_at w t) is)) way l c is 64 outcome.TheVariants.NotNow (omega arith)
   ends_alone (call.TheVariants.RwLock l c) is way = rwlock_ends w t shape steady counted running (stands_there w.places t (first_busy (kind_at w l) (call.TheVariants.RwLock l c) (place_at w t) is)) way l c is
