@@ -6,6 +6,7 @@ pub mod Alone
 pub mod Runs
 pub mod Glue
 pub mod Beside
+pub mod Waiters
 pub mod OneStep
 pub mod MutexTable
 pub mod MutexSections
