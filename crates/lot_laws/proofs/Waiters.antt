@@ -15,7 +15,10 @@ use Rattle.lot_mutex.specs.declared.lock.Entry.TheVariants as entries
 use Rattle.lot_mutex.specs.declared.lock.LockAt.{LockAt}
 use Rattle.lot_mutex.specs.declared.lock.LockAt.TheVariants as lock
 use Rattle.lot_mutex.specs.declared.places.MutexPlace.{MutexPlace}
-use Rattle.lot_mutex.specs.declared.places.MutexPlace.TheVariants.{Lock}
+use Rattle.lot_mutex.specs.declared.places.MutexPlace.TheVariants.{Lock, Unlock, HandOff}
+use Rattle.lot_mutex.specs.declared.unlock.UnlockAt.TheVariants as unlock
+use Rattle.lot_mutex.specs.declared.hand_off.HandOffAt.TheVariants as hand_off
+use Rattle.lot_mutex.specs.MutexProfiles.{inside as mutex_inside}
 use Rattle.lot_condvar.specs.declared.notify.NotifyAt.{NotifyAt}
 use Rattle.lot_condvar.specs.declared.notify.NotifyAt.TheVariants as notify
 use Rattle.lot_condvar.specs.declared.places.CondvarPlace.{CondvarPlace}
@@ -25,7 +28,7 @@ use Rattle.lot_condvar.specs.declared.wait.Stands.TheVariants as stands
 use Rattle.lot_condvar.specs.declared.wait.WaitAt.{WaitAt}
 use Rattle.lot_condvar.specs.declared.wait.WaitAt.TheVariants as wait
 use Rattle.lot_condvar.specs.CondvarSteps.{mutex_beside}
-use Rattle.lot_condvar.specs.CondvarProfiles.{condvar_profile, mutex_side, notify_row}
+use Rattle.lot_condvar.specs.CondvarProfiles.{condvar_profile, has_moved, mutex_side, notify_row}
 use Rattle.lot_condvar.specs.CondvarCalls.{IsReached, IsLockOf, IsRelock}
 use Rattle.abstract_locks.specs.Locks.{Rules, Taken}
 use Rattle.abstract_locks.specs.Locks as locks
@@ -61,12 +64,16 @@ pub record SleepsAt (l : ℕ) (p : Place) : Type 0 where
 -- taken by t, it is handed the mutex or woken
 pub record IsHeldAt (l t : ℕ) (p : Place) : Type 0 where
   pub was : taken_at p l ≡ Some (record { by = t; want = Exclusive })
+  pub stands : (station_at p l).stands ≡ None
+  pub waits : (station_at p l).waits ≡ None
   pub handed : (alone : Bool) → IsTold l p (next_place p (HandedBy t alone)) (λ s. record s { hand = hand t true }) (λ d. record d { claims = Some (Has Exclusive) }) None
   pub woken : IsTold l p (next_place p (Woken note.Normal)) (λ s. record s { hand = None }) (λ d. record d { retries = Some Exclusive }) None
 
 -- handed the mutex by t, it is told so
 pub record WasGivenAt (l t : ℕ) (p : Place) : Type 0 where
   pub was : taken_at p l ≡ None
+  pub stands : (station_at p l).stands ≡ None
+  pub waits : (station_at p l).waits ≡ None
   pub told : IsTold l p (next_place p (Woken note.HandOff)) (λ s. record s { hand = None }) (λ d. d) None
 
 -- who stands at the mutex l calls it, or waits with it
@@ -165,6 +172,8 @@ module _ (k l : ℕ) (apart : k ≢ l) (m : ℕ) (timed : Bool) (of : mutex_besi
   release_held : (t : ℕ) (at : MutexPlace) → IsHeldAt l t (wait_at (wait.Release (stands.InHand t) at))
   release_held t at = record {
     was = taken_beside k l apart (Wait m timed (wait.Release (stands.InHand t) at)) of;
+    stands = ap (λ (s : Station). s.stands) (station_beside k l apart (Wait m timed (wait.Release (stands.InHand t) at)) of);
+    waits = ap (λ (s : Station). s.waits) (station_beside k l apart (Wait m timed (wait.Release (stands.InHand t) at)) of);
     handed = λ alone. condvar_told k l apart (Wait m timed (wait.Release (stands.InHand t) at)) (Wait m timed (wait.Release (stands.Handed t) at)) of of refl refl _ _ _ refl refl refl (λ h. h);
     woken = condvar_told k l apart (Wait m timed (wait.Release (stands.InHand t) at)) (Wait m timed (wait.Release (stands.Noted note.Normal) at)) of of refl refl _ _ _ refl refl refl (λ h. h);
   }
@@ -172,6 +181,8 @@ module _ (k l : ℕ) (apart : k ≢ l) (m : ℕ) (timed : Bool) (of : mutex_besi
   release_given : (t : ℕ) (at : MutexPlace) → WasGivenAt l t (wait_at (wait.Release (stands.Handed t) at))
   release_given t at = record {
     was = taken_beside k l apart (Wait m timed (wait.Release (stands.Handed t) at)) of;
+    stands = ap (λ (s : Station). s.stands) (station_beside k l apart (Wait m timed (wait.Release (stands.Handed t) at)) of);
+    waits = ap (λ (s : Station). s.waits) (station_beside k l apart (Wait m timed (wait.Release (stands.Handed t) at)) of);
     told = condvar_told k l apart (Wait m timed (wait.Release (stands.Handed t) at)) (Wait m timed (wait.Release (stands.Noted note.HandOff) at)) of of refl refl _ _ _ refl refl refl (λ h. h);
   }
 
@@ -186,6 +197,8 @@ module _ (k l : ℕ) (apart : k ≢ l) (m : ℕ) (timed : Bool) (of : mutex_besi
   asleep_held : (t : ℕ) → IsHeldAt l t (wait_at (wait.Asleep (stands.InHand t)))
   asleep_held t = record {
     was = taken_beside k l apart (Wait m timed (wait.Asleep (stands.InHand t))) of;
+    stands = ap (λ (s : Station). s.stands) (station_beside k l apart (Wait m timed (wait.Asleep (stands.InHand t))) of);
+    waits = ap (λ (s : Station). s.waits) (station_beside k l apart (Wait m timed (wait.Asleep (stands.InHand t))) of);
     handed = λ alone. condvar_told k l apart (Wait m timed (wait.Asleep (stands.InHand t))) (Wait m timed (wait.Asleep (stands.Handed t))) of of refl refl _ _ _ refl refl refl (λ h. h);
     woken = condvar_told k l apart (Wait m timed (wait.Asleep (stands.InHand t))) (Wait m timed (wait.Lock false (Lock entries.Lock true lock.First))) of of refl refl _ _ _ refl refl refl (λ h. (λ f. absurd cc, tt));
   }
@@ -193,6 +206,8 @@ module _ (k l : ℕ) (apart : k ≢ l) (m : ℕ) (timed : Bool) (of : mutex_besi
   asleep_given : (t : ℕ) → WasGivenAt l t (wait_at (wait.Asleep (stands.Handed t)))
   asleep_given t = record {
     was = taken_beside k l apart (Wait m timed (wait.Asleep (stands.Handed t))) of;
+    stands = ap (λ (s : Station). s.stands) (station_beside k l apart (Wait m timed (wait.Asleep (stands.Handed t))) of);
+    waits = ap (λ (s : Station). s.waits) (station_beside k l apart (Wait m timed (wait.Asleep (stands.Handed t))) of);
     told = condvar_told k l apart (Wait m timed (wait.Asleep (stands.Handed t))) (Wait m timed (wait.Lock false (Lock entries.Lock false lock.Accept))) of of refl refl _ _ _ refl refl refl (λ h. (λ f. absurd cc, tt));
   }
 
@@ -211,6 +226,8 @@ module _ (k l : ℕ) (apart : k ≢ l) (m : ℕ) (timed : Bool) (of : mutex_besi
     lock_held : (t : ℕ) → IsHeldAt l t (wait_at (lock_at r (lock.Taken t)))
     lock_held t = record {
       was = taken_beside k l apart (Wait m timed (lock_at r (lock.Taken t))) of;
+      stands = ap (λ (s : Station). s.stands) (station_beside k l apart (Wait m timed (lock_at r (lock.Taken t))) of);
+      waits = ap (λ (s : Station). s.waits) (station_beside k l apart (Wait m timed (lock_at r (lock.Taken t))) of);
       handed = λ alone. condvar_told k l apart (Wait m timed (lock_at r (lock.Taken t))) (Wait m timed (lock_at false (lock.Handed t))) of of refl refl _ _ _ refl refl refl (λ h. (h.0, relocks e r false (lock.Taken t) (lock.Handed t) tt h.1));
       woken = condvar_told k l apart (Wait m timed (lock_at r (lock.Taken t))) (Wait m timed (lock_at true lock.Load)) of of refl refl _ _ _ refl refl refl (λ h. (h.0, relocks e r true (lock.Taken t) lock.Load tt h.1));
     }
@@ -218,6 +235,8 @@ module _ (k l : ℕ) (apart : k ≢ l) (m : ℕ) (timed : Bool) (of : mutex_besi
     lock_given : (t : ℕ) → WasGivenAt l t (wait_at (lock_at r (lock.Handed t)))
     lock_given t = record {
       was = taken_beside k l apart (Wait m timed (lock_at r (lock.Handed t))) of;
+      stands = ap (λ (s : Station). s.stands) (station_beside k l apart (Wait m timed (lock_at r (lock.Handed t))) of);
+      waits = ap (λ (s : Station). s.waits) (station_beside k l apart (Wait m timed (lock_at r (lock.Handed t))) of);
       told = condvar_told k l apart (Wait m timed (lock_at r (lock.Handed t))) (Wait m timed (lock_at r lock.Accept)) of of refl refl _ _ _ refl refl refl (λ h. (h.0, relocks e r r (lock.Handed t) lock.Accept tt h.1));
     }
 
@@ -296,6 +315,8 @@ module _ (l : ℕ) where
   mutex_held : (t : ℕ) (at : MutexPlace) → (mutex_station at).hand ≡ hand t false → IsHeldAt l t (Mutex l at)
   mutex_held t (Lock e r (lock.Taken by)) h = let who : by ≡ t = cc in rw who (record {
     was = rw (same l) refl;
+    stands = ap (λ b. (if b then mutex_station (Lock e r (lock.Taken t)) else nowhere).stands) (same l);
+    waits = ap (λ b. (if b then mutex_station (Lock e r (lock.Taken t)) else nowhere).waits) (same l);
     handed = λ alone. mutex_told l (Lock e r (lock.Taken t)) (Lock e false (lock.Handed t)) _ _ _ refl refl refl;
     woken = mutex_told l (Lock e r (lock.Taken t)) (Lock e true lock.Load) _ _ _ refl refl refl;
   })
@@ -304,6 +325,8 @@ module _ (l : ℕ) where
   mutex_given : (t : ℕ) (at : MutexPlace) → (mutex_station at).hand ≡ hand t true → WasGivenAt l t (Mutex l at)
   mutex_given t (Lock e r (lock.Handed by)) h = let who : by ≡ t = cc in rw who (record {
     was = refl;
+    stands = ap (λ b. (if b then mutex_station (Lock e r (lock.Handed t)) else nowhere).stands) (same l);
+    waits = ap (λ b. (if b then mutex_station (Lock e r (lock.Handed t)) else nowhere).waits) (same l);
     told = mutex_told l (Lock e r (lock.Handed t)) (Lock e r lock.Accept) _ _ _ refl refl refl;
   })
   mutex_given t at h = absurd cc
@@ -312,7 +335,7 @@ module _ (l : ℕ) where
 module _ (l : ℕ) (T : Place → Type 0) {A : Type 0} (g : Station → A) (x : A) (none : g nowhere ≡ x → ⊥)
     (mutexes : (at : MutexPlace) → g (mutex_station at) ≡ x → T (Mutex l at))
     (waits : (k : ℕ) → k ≢ l → (m : ℕ) (timed : Bool) (at : WaitAt) → mutex_beside (Wait m timed wait.Enter) ≡ Some l → g (station_by (mutex_side (Wait m timed at))) ≡ x → T (Condvar k (Wait m timed at)))
-    (notifies : (all : Bool) (m : ℕ) (at : NotifyAt) → g (station_by (mutex_side (Notify all m at))) ≡ x → ⊥) where
+    (notifies : (k : ℕ) → k ≢ l → (all : Bool) (m : ℕ) (at : NotifyAt) → mutex_beside (Notify all m notify.Enter) ≡ Some l → g (station_by (mutex_side (Notify all m at))) ≡ x → T (Condvar k (Notify all m at))) where
   by_row : (p : Place) → CallsMutex l p → g (station_at p l) ≡ x → T p
   by_row Idle of h = absurd (none h)
   by_row (Mutex k at) of h = either (k == l) refl h
@@ -330,7 +353,7 @@ module _ (l : ℕ) (T : Place → Type 0) {A : Type 0} (g : Station → A) (x : 
       by_call : (p : CondvarPlace) → mutex_beside p ≡ Some l → g (station_by (mutex_side p)) ≡ x → T (Condvar k p)
       by_call (Wait m timed at) named f = waits k of.0 m timed at named f
       by_call (Look all) named f = absurd cc
-      by_call (Notify all m at) named f = absurd (notifies all m at f)
+      by_call (Notify all m at) named f = notifies k of.0 all m at named f
 
 -- who stands in the line of the mutex is inside its section, or sleeps there
 pub stands_or_sleeps : (p : Place) (l : ℕ) → CallsMutex l p → (station_at p l).stands ≡ Some Main → ((station_at p l).inside ≡ Some Main) ⊎ SleepsAt l p
@@ -343,13 +366,59 @@ stands_or_sleeps p l = by_row l (λ q. ((station_at q l).inside ≡ Some Main) �
       | inl within ↦ inl (ap (λ (s : Station). s.inside) (station_beside k l apart (Wait m timed at) of) ∙ within)
       | inr sleeps ↦ inr sleeps
     ])
-    (λ all m at h. let none : (notify_row all m at).moved ≡ false = (notifier_stands all m at).0 in let f : ◌≡◌ {A = Option Line} None (Some Main) = sym (ap (λ b. in_line b Main) none) ∙ h in cc) p
+    (λ k apart all m at of h. absurd (let f : ◌≡◌ {A = Option Line} None (Some Main) = sym (ap (λ b. in_line b Main) (notifier_stands all m at).0) ∙ h in cc)) p
 
 -- who is in a hand there was taken or handed the mutex
 pub held_there : (p : Place) (t l : ℕ) → CallsMutex l p → hand_at p l ≡ hand t false → IsHeldAt l t p
 held_there p t l = by_row l (IsHeldAt l t) (λ (s : Station). s.hand) (hand t false) (λ h. cc) (mutex_held l t) (λ k apart m timed at of h. wait_held k l apart m timed of t at h)
-    (λ all m at h. let f : ◌≡◌ {A = Option Hand} None (hand t false) = sym (notifier_stands all m at).1 ∙ h in cc) p
+    (λ k apart all m at of h. absurd (let f : ◌≡◌ {A = Option Hand} None (hand t false) = sym (notifier_stands all m at).1 ∙ h in cc)) p
 
 pub given_there : (p : Place) (t l : ℕ) → CallsMutex l p → hand_at p l ≡ hand t true → WasGivenAt l t p
 given_there p t l = by_row l (WasGivenAt l t) (λ (s : Station). s.hand) (hand t true) (λ h. cc) (mutex_given l t) (λ k apart m timed at of h. wait_given k l apart m timed of t at h)
-    (λ all m at h. let f : ◌≡◌ {A = Option Hand} None (hand t true) = sym (notifier_stands all m at).1 ∙ h in cc) p
+    (λ k apart all m at of h. absurd (let f : ◌≡◌ {A = Option Hand} None (hand t true) = sym (notifier_stands all m at).1 ∙ h in cc)) p
+
+-- who has somebody in hand at the mutex is inside its section
+mutex_carries : (at : MutexPlace) (b : Bool) → (mutex_station at).carries ≡ Some b → (mutex_station at).inside ≡ Some Main
+mutex_carries (Unlock (unlock.Clear any)) b h = refl
+mutex_carries (Unlock (unlock.Leave any)) b h = refl
+mutex_carries (HandOff bumps (hand_off.Store any none_left)) b h = refl
+mutex_carries (HandOff bumps (hand_off.Leave any)) b h = refl
+mutex_carries at b h = absurd cc
+
+wait_inside : (m : ℕ) (timed : Bool) (at : WaitAt) (b : Bool) → (station_by (mutex_side (Wait m timed at))).carries ≡ Some b → (station_by (mutex_side (Wait m timed at))).inside ≡ Some Main
+wait_inside m timed (wait.Release s at) b h = mutex_carries at b h
+wait_inside m timed (wait.Lock late at) b h = mutex_carries at b h
+wait_inside m timed at b h = absurd cc
+
+notifier_inside : (all : Bool) (m : ℕ) (at : NotifyAt) (b : Bool) → (station_by (mutex_side (Notify all m at))).carries ≡ Some b → (station_by (mutex_side (Notify all m at))).inside ≡ Some Main
+notifier_inside all m (notify.Clear any) b h = refl
+notifier_inside all m (notify.MarkMoved number) b h = refl
+notifier_inside all m (notify.Leave any number) b h = by_number (number == 0)
+  where
+    by_number : (c : Bool) → (if c then mutex_inside else has_moved any false).inside ≡ Some Main
+    by_number true = refl
+    by_number false = refl
+notifier_inside all m at b h = absurd cc
+
+pub carries_inside : (p : Place) (l : ℕ) (b : Bool) → CallsMutex l p → (station_at p l).carries ≡ Some b → (station_at p l).inside ≡ Some Main
+carries_inside p l b = by_row l (λ q. (station_at q l).inside ≡ Some Main) (λ (s : Station). s.carries) (Some b) (λ h. cc)
+    (λ at h. ap (λ c. (if c then mutex_station at else nowhere).inside) (same l) ∙ mutex_carries at b h)
+    (λ k apart m timed at of h. ap (λ (s : Station). s.inside) (station_beside k l apart (Wait m timed at) of) ∙ wait_inside m timed at b h)
+    (λ k apart all m at of h. ap (λ (s : Station). s.inside) (station_beside k l apart (Notify all m at) of) ∙ notifier_inside all m at b h) p
+
+pub bare_outside : (p : Place) (l : ℕ) → CallsMutex l p → (station_at p l).inside ≡ None → (station_at p l).carries ≡ None
+bare_outside p l of out = by_hand (station_at p l).carries refl
+  where
+    by_hand : (o : Option Bool) → (station_at p l).carries ≡ o → o ≡ None
+    by_hand None e = refl
+    by_hand (Some b) e = absurd (let within : (station_at p l).inside ≡ Some Main = carries_inside p l b of e in cc)
+
+-- so that outside the section it stands in the line there, or is in a hand, and that is all
+pub sleeps_station : (p : Place) (l : ℕ) → CallsMutex l p → SleepsAt l p → (station_at p l).inside ≡ None → (station_at p l).stands ≡ Some Main → station_at p l ≡ record nowhere { stands = Some Main; waits = (station_at p l).waits }
+sleeps_station p l of sleeps out stood = λ i. record (station_at p l) { inside = out i; stands = stood i; carries = bare_outside p l of out i; hand = sleeps.free i }
+
+pub held_station : (p : Place) (l t : ℕ) → CallsMutex l p → IsHeldAt l t p → hand_at p l ≡ hand t false → (station_at p l).inside ≡ None → station_at p l ≡ record nowhere { hand = hand t false }
+held_station p l t of held in_hand out = λ i. record (station_at p l) { inside = out i; stands = held.stands i; waits = held.waits i; carries = bare_outside p l of out i; hand = in_hand i }
+
+pub given_station : (p : Place) (l t : ℕ) → CallsMutex l p → WasGivenAt l t p → hand_at p l ≡ hand t true → (station_at p l).inside ≡ None → station_at p l ≡ record nowhere { hand = hand t true }
+given_station p l t of given in_hand out = λ i. record (station_at p l) { inside = out i; stands = given.stands i; waits = given.waits i; carries = bare_outside p l of out i; hand = in_hand i }
