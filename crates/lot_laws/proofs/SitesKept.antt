@@ -41,7 +41,8 @@ use Rattle.lot_laws.specs.MutexDeeds.{mutex_doing, mutex_deeds, mutex_station, a
 use Rattle.lot_laws.specs.Stations.{Station, hand, nowhere, station, doing_on}
 use Rattle.lot_laws.specs.MutexDeeds as deeds
 use Rattle.lot_laws.specs.SitesOf.{SameNumbers, TakesOne, rules_in, ActsNeeded, IsSteady, Follows, Goes, FitsItsLock, carried_at, hand_at, after_acts}
-use Rattle.lot_laws.proofs.Glue.{base_at, seen_in, seen, goes_from, put_places, put_here, put_other, IsOf, next_of, own_stance, leaving, taking, told_one, successor_one, none_given, tries, accepts, lets_nobody, IsTakenAt, is_taken, IsHandedAt, is_handed, untaken, handing, hands_acts, IsMutexCall, WantsAlone, mutex_calls, held_alone, IsMutexOf, own_of, next_mutex, singles}
+use Rattle.lot_laws.proofs.Glue.{base_at, seen_in, seen, goes_from, put_places, put_here, put_other, IsOf, next_of, own_stance, leaving, taking, told_one, successor_one, none_given, tries, accepts, lets_nobody, IsTakenAt, is_taken, IsHandedAt, is_handed, untaken, handing, hands_acts, IsMutexCall, WantsAlone, mutex_calls, IsMutexOf, own_of, next_mutex, aparts, of_carries}
+use Rattle.lot_laws.proofs.Waiters.{CallsMutex, calls_mutex_at, held_alone}
 use Rattle.lot_laws.proofs.MutexTable.{mutex, parts, IsCode, OnWord, MutexSteps, own_doing, goes_in as goes_into}
 use Rattle.lot_laws.proofs.KindsKept.{given_kinds, given_filled, given_shares}
 use Rattle.lot_laws.specs.SitesOf.{is_mutex}
@@ -106,7 +107,8 @@ mutexes_at w t l at steady is u = mutex_calls w l (place_at w u) (steady.stands.
 
 -- so whom it has in hand wants to own alone
 pub alone_at : (w : State) (t l : ℕ) (at : MutexPlace) → IsSteady w → place_at w t ≡ Mutex l at → (u : ℕ) → WantsAlone t (place_at w u)
-alone_at w t l at steady is = held_alone (place_at w) (singles w steady) steady.stands.hands t l (rw is refl) (mutexes_at w t l at steady is)
+alone_at w t l at steady is = held_alone (place_at w) (aparts w steady) steady.stands.hands t l (of_carries l (place_at w t) (rw is refl))
+    (λ u. calls_mutex_at w l (place_at w u) (steady.stands.calls u) (mutex_rules (kind_at w l) (let c : FitsItsLock w (Mutex l at) = rw is at (steady.stands.calls t) in c)))
 
 -- ---------------------------------------------------------------- what the acts change
 
@@ -230,7 +232,7 @@ module _ (w : State) (t l : ℕ) (steady : IsSteady w) (there : t < length w.pla
 
     -- it is told alone
     pub told_it : (reply : Reply) → state_after_telling (state_with_sections w (One (2 * l)) None) t reply ≡ state_after_reply (state_with_sections w (One (2 * l)) None) one_held.0 reply
-    told_it reply = told_one (state_with_sections w (One (2 * l)) None) t l one_held.0 b reply (singles w steady) steady.stands.hands (single w t l at steady is there) (own w t l at steady is there) one_held.1
+    told_it reply = told_one (state_with_sections w (One (2 * l)) None) t l one_held.0 b reply (aparts w steady) steady.stands.hands (single w t l at steady is there) (of_carries l (place_at w t) (own w t l at steady is there)) one_held.1
 
   -- a release leaves, and wakes the one that it took
   pub release_wakes : 2 * l < length w.sections → place_at w t ≡ Mutex l (Unlock (unlock.Leave true)) → Goes w (go_by w t (Mutex l (Unlock (unlock.Leave true))) (act.TheVariants.Leave (One (2 * l)) (wakes.TheVariants.All note.Normal))) l (acts t (Out ∷ []))
@@ -287,11 +289,11 @@ module _ (w : State) (t l : ℕ) (steady : IsSteady w) (there : t < length w.pla
       after = put (state_after_reply before u (hand_over_told w t l)) t p2
 
       told : state_after_telling before t (hand_over_told w t l) ≡ state_after_reply before u (hand_over_told w t l)
-      told = told_one before t l u false (hand_over_told w t l) (singles w steady) steady.stands.hands (single w t l at steady is there) own_t held
+      told = told_one before t l u false (hand_over_told w t l) (aparts w steady) steady.stands.hands (single w t l at steady is there) (of_carries l (place_at w t) own_t) held
 
       owners_given : Changed (owners_at w) (owners_at after) l (with_exclusive (owners_at w l) (Some u))
       owners_given = record {
-        here = ap (λ x. x.owners) (get_or-set_same w.locks l _ (unlocked kind.TheVariants.Mutex) lt) ∙ successor_one w t l u false (singles w steady) steady.stands.hands (single w t l at steady is there) own_t held (alone_at w t l at steady is) (unshared_at w t l at steady is) (with_exclusive (owners_at w l) None);
+        here = ap (λ x. x.owners) (get_or-set_same w.locks l _ (unlocked kind.TheVariants.Mutex) lt) ∙ successor_one w t l u false (aparts w steady) steady.stands.hands (single w t l at steady is there) (of_carries l (place_at w t) own_t) held (alone_at w t l at steady is) (unshared_at w t l at steady is) (with_exclusive (owners_at w l) None);
         other = λ k ne. ap (λ x. x.owners) (get_or-set_other w.locks l k _ (unlocked kind.TheVariants.Mutex) ne);
       }
 

@@ -66,7 +66,7 @@ use Rattle.lot_laws.proofs.MutexEvents.{free_word, owned_word}
 use Rattle.lot_laws.proofs.MutexCalls.{decides}
 use Rattle.lot_laws.proofs.LockSteps.{purpose_is}
 use Rattle.lot_laws.proofs.Counts.{first_times}
-use Rattle.lot_laws.proofs.Glue.{nothing_at, IsTakenAt, put_here, station_here, own_stance, successor_one, same, mutex_calls, singles, differ}
+use Rattle.lot_laws.proofs.Glue.{nothing_at, IsTakenAt, put_here, station_here, own_stance, successor_one, same, mutex_calls, singles, differ, aparts, of_carries}
 use Rattle.lot_laws.proofs.SitesPromise.{parked_at}
 use Rattle.lot_mutex.specs.declared.places.MutexPlace.{MutexPlace}
 use Rattle.lot_acts.specs.declared.acts.Whom as whoms
@@ -332,7 +332,7 @@ module _ (t l : ℕ) where
         taken_place (place_at taken_then x.thread) t l (mutex_calls taken_then l (place_at taken_then x.thread) (goes.stands.calls x.thread) (ap rules_of (goes.follows.kinds l) ∙ mutex_rules (kind_at w l) (let c : FitsItsLock w (Mutex l taking) = rw f.place at (f.steady.stands.calls t) in c))) (rw (← same_one, hand) (same t))
 
     heir_first : (o : Owners) → owners_handed_over (after w (go_of t)) t l o ≡ with_exclusive o (Some x.thread)
-    heir_first = successor_one (after w (go_of t)) t l x.thread false (singles (after w (go_of t)) steady_then) steady_then.stands.hands (single_at (after w (go_of t)) t l (HandOff bumps (hand_off.Store true (length rest == 0))) steady_then here.place) (rw here.place refl) (subst (λ (z : State). hand_at (place_at z x.thread) l ≡ hand t false) (sym led) held) (alone_at (after w (go_of t)) t l (HandOff bumps (hand_off.Store true (length rest == 0))) steady_then here.place) (unshared_at (after w (go_of t)) t l (HandOff bumps (hand_off.Store true (length rest == 0))) steady_then here.place)
+    heir_first = successor_one (after w (go_of t)) t l x.thread false (aparts (after w (go_of t)) steady_then) steady_then.stands.hands (single_at (after w (go_of t)) t l (HandOff bumps (hand_off.Store true (length rest == 0))) steady_then here.place) (of_carries l (place_at (after w (go_of t)) t) (rw here.place refl)) (subst (λ (z : State). hand_at (place_at z x.thread) l ≡ hand t false) (sym led) held) (alone_at (after w (go_of t)) t l (HandOff bumps (hand_off.Store true (length rest == 0))) steady_then here.place) (unshared_at (after w (go_of t)) t l (HandOff bumps (hand_off.Store true (length rest == 0))) steady_then here.place)
       where
         led : after w (go_of t) ≡ taken_then
         led = act_led w t l (Mutex l taking) v o s (x ∷ rest) f refl
@@ -395,7 +395,7 @@ module _ (t l : ℕ) where
   hand_off_rests bumps (hand_off.Store false none_left) v o s q w f way = fair_rests 8 bumps None q w (omega arith) (store_leads bumps none_left None q v o s w f (λ u e. absurd cc))
   hand_off_rests bumps (hand_off.Store true none_left) v o s q w f way =
       let one : (u : ℕ) × (hand_at (place_at w u) l ≡ hand t false) = f.steady.stands.hands.carried t l false (ap (λ (x : Station). x.carries) (own_stance l (place_at w t) (HandOff bumps (hand_off.Store true none_left)) f.place)) in
-      fair_rests 8 bumps (Some one.0) q w (omega arith) (store_leads bumps none_left (Some one.0) q v o s w f (λ u e o2. successor_one w t l one.0 false (singles w f.steady) f.steady.stands.hands (single_at w t l (HandOff bumps (hand_off.Store true none_left)) f.steady f.place) (rw f.place refl) one.1 (alone_at w t l (HandOff bumps (hand_off.Store true none_left)) f.steady f.place) (unshared_at w t l (HandOff bumps (hand_off.Store true none_left)) f.steady f.place) o2 ∙ ap (λ (z : Option ℕ). with_exclusive o2 z) e))
+      fair_rests 8 bumps (Some one.0) q w (omega arith) (store_leads bumps none_left (Some one.0) q v o s w f (λ u e o2. successor_one w t l one.0 false (aparts w f.steady) f.steady.stands.hands (single_at w t l (HandOff bumps (hand_off.Store true none_left)) f.steady f.place) (of_carries l (place_at w t) (rw f.place refl)) one.1 (alone_at w t l (HandOff bumps (hand_off.Store true none_left)) f.steady f.place) (unshared_at w t l (HandOff bumps (hand_off.Store true none_left)) f.steady f.place) o2 ∙ ap (λ (z : Option ℕ). with_exclusive o2 z) e))
   hand_off_rests bumps (hand_off.Leave any) v o s q w f way = fair_rests 7 bumps o q w (omega arith) (told_leads bumps any q v o s w f)
 
 -- ---------------------------------------------------------------- the laws

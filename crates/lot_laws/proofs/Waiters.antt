@@ -9,7 +9,7 @@ use Rattle.lot_acts.specs.declared.acts.Reply.TheVariants.{Woken, TakenBy, Hande
 use Rattle.lot_acts.specs.Profiles.{Profile, taken_from, in_line}
 use Rattle.lot_steps.specs.declared.places.Place.{Place}
 use Rattle.lot_steps.specs.declared.places.Place.TheVariants.{Idle, Mutex, RwLock, Once, Condvar}
-use Rattle.lot_steps.specs.Steps.{next_place, profile}
+use Rattle.lot_steps.specs.Steps.{next_place, or_else, wants}
 use Rattle.lot_mutex.specs.declared.lock.Entry.{Entry}
 use Rattle.lot_mutex.specs.declared.lock.Entry.TheVariants as entries
 use Rattle.lot_mutex.specs.declared.lock.LockAt.{LockAt}
@@ -38,8 +38,8 @@ use Rattle.lot_machine.specs.Machine.{State, kind_at}
 use Rattle.lot_laws.specs.Refinement.{taken_at}
 use Rattle.lot_laws.specs.MutexDeeds.{mutex_row, mutex_station}
 use Rattle.lot_laws.specs.Stations.{Station, Hand, Of, hand, nowhere, station, station_at, station_by, doing_on}
-use Rattle.lot_laws.specs.SitesOf.{FitsItsLock, FitsCondvar, hand_at, rules_in}
-use Rattle.lot_laws.proofs.Glue.{same, differ, mutex, taken_out}
+use Rattle.lot_laws.specs.SitesOf.{FitsItsLock, Hands, hand_at, rules_in}
+use Rattle.lot_laws.proofs.Glue.{same, differ, mutex, taken_out, IsApart, CarriesAt, WantsAlone, in_hand_where, in_hand_here}
 
 -- a lock sees of a thread at a place what it saw
 pub record SameAt (k : ℕ) (p q : Place) : Type 0 where
@@ -376,6 +376,29 @@ held_there p t l = by_row l (IsHeldAt l t) (λ (s : Station). s.hand) (hand t fa
 pub given_there : (p : Place) (t l : ℕ) → CallsMutex l p → hand_at p l ≡ hand t true → WasGivenAt l t p
 given_there p t l = by_row l (WasGivenAt l t) (λ (s : Station). s.hand) (hand t true) (λ h. cc) (mutex_given l t) (λ k apart m timed at of h. wait_given k l apart m timed of t at h)
     (λ k apart all m at of h. absurd (let f : ◌≡◌ {A = Option Hand} None (hand t true) = sym (notifier_stands all m at).1 ∙ h in cc)) p
+
+-- whoever is in a hand there wants to own alone
+mutex_wanted : (at : MutexPlace) (t : ℕ) (b : Bool) → (mutex_station at).hand ≡ hand t b → (mutex_row at).wants ≡ Some Exclusive
+mutex_wanted (Lock e r at) t b h = refl
+mutex_wanted at t b h = absurd cc
+
+wait_wanted : (m : ℕ) (timed : Bool) (at : WaitAt) (t : ℕ) (b : Bool) → (mutex_side (Wait m timed at)).hand ≡ hand t b → (mutex_side (Wait m timed at)).wants ≡ Some Exclusive
+wait_wanted m timed (wait.Release stands.Listed at) t b h = absurd cc
+wait_wanted m timed (wait.Release s at) t b h = refl
+wait_wanted m timed (wait.Asleep stands.Listed) t b h = absurd cc
+wait_wanted m timed (wait.Asleep s) t b h = refl
+wait_wanted m timed (wait.Lock late (Lock e r at)) t b h = refl
+wait_wanted m timed at t b h = absurd cc
+
+pub held_wants : (p : Place) (t l : ℕ) (b : Bool) → CallsMutex l p → hand_at p l ≡ hand t b → wants p ≡ Some Exclusive
+held_wants p t l b = by_row l (λ q. wants q ≡ Some Exclusive) (λ (s : Station). s.hand) (hand t b) (λ h. cc) (λ at h. mutex_wanted at t b h)
+    (λ k apart m timed at of h. ap (λ x. or_else x (condvar_profile (Wait m timed at)).wants) (wait_wanted m timed at t b h))
+    (λ k apart all m at of h. absurd (let f : ◌≡◌ {A = Option Hand} None (hand t b) = sym (notifier_stands all m at).1 ∙ h in cc)) p
+
+-- so does each whom t has in hand, where it has nobody in hand elsewhere
+pub held_alone : {one : ℕ → Type 0} (p : ℕ → Place) → ((u : ℕ) → IsApart (p u)) → Hands one p → (t l : ℕ) → CarriesAt l (p t) → ((u : ℕ) → CallsMutex l (p u)) → (u : ℕ) → WantsAlone t (p u)
+held_alone p apart hands t l here mutexes u h = let x = in_hand_where (p u) t (apart u) h in
+    held_wants (p u) t l x.handed (mutexes u) (subst (λ k. hand_at (p u) k ≡ hand t x.handed) (in_hand_here p hands t l u here x) x.hand)
 
 -- who has somebody in hand at the mutex is inside its section
 mutex_carries : (at : MutexPlace) (b : Bool) → (mutex_station at).carries ≡ Some b → (mutex_station at).inside ≡ Some Main
