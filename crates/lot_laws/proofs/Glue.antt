@@ -173,14 +173,6 @@ pub record LetGo (t l : ℕ) (p p2 : Place) : Type 0 where
 pub stays : (t l : ℕ) (p : Place) → Untaken t (taken_at p l) → LetGo t l p p
 stays t l p e = record { taken = sym e; doing = sym (not_wakened t (taken_at p l) (doing_on p l) e) }
 
--- who was taken is woken and tries again
-pub tries : (t l : ℕ) (e : Entry) (retries : Bool) → LetGo t l (Mutex l (Lock e retries (lock.Taken t))) (next_place (Mutex l (Lock e retries (lock.Taken t))) (Woken note.Normal))
-tries t l e retries = record { taken = rw (same l, same t) refl; doing = rw (same l, same t) refl }
-
--- who was handed the lock has it
-pub accepts : (t l by : ℕ) (e : Entry) (retries : Bool) → LetGo t l (Mutex l (Lock e retries (lock.Handed by))) (next_place (Mutex l (Lock e retries (lock.Handed by))) (Woken note.HandOff))
-accepts t l by e retries = record { taken = refl; doing = refl }
-
 module _ (r : Rules) (l : ℕ) (n : Base) (word : ℕ) (o : Owners) (m s : List Waiter) (p q : ℕ → Place) (t : ℕ) where
   -- leaving a section, whoever is woken by it
   pub leaving : taken_at (p t) l ≡ None → taken_at (q t) l ≡ None → doing_on (q t) l ≡ leaves (doing_on (p t) l) → ((u : ℕ) → u ≢ t → LetGo t l (p u) (q u))
@@ -761,38 +753,6 @@ successor_one w t l u b apart hands single here held_at alone unshared o =
 pub lets_nobody : {one : ℕ → Type 0} (places : ℕ → Place) (hands : Hands one places) (t l : ℕ) (p2 : Place) → carried_at (places t) l ≡ None → (u : ℕ) → u ≢ t → LetGo t l (places u) (putting places t p2 u)
 lets_nobody places hands t l p2 none u ne = rw (put_other places t p2 u ne) (stays t l (places u) (untaken (places u) t l (λ h. let a : carried_at (places t) l ≡ Some false = hands.taken t u l false h in absurd cc)))
 
--- ---------------------------------------------------------------- the first of a line is taken
-
-module _ (r : Rules) (l : ℕ) (n : Base) (word : ℕ) (o : Owners) (s rest : List Waiter) (x : Waiter) (p : ℕ → Place) (t : ℕ) (entry : Entry) (retries : Bool) (sort : r.sort ≡ locks.Mutex)
-    (first : p x.thread ≡ Mutex l (Lock entry retries lock.Asleep)) (wants : x.want ≡ Exclusive) (apart : x.thread ≢ t) where
-  abbrev before : Site
-  before = seen l n word o (x ∷ rest) s p
-
-  abbrev taken_then : ℕ → Option Taken
-  taken_then = putting (λ u. taken_at (p u) l) x.thread (Some (record { by = t; want = Exclusive }))
-
-  pub taking : (p2 : Place) → taken_at (p t) l ≡ None → taken_at p2 l ≡ None → doing_on p2 l ≡ taking_main true (lock_seen n.shared o rest s taken_then) (doing_on (p t) l)
-      → seen l n word o rest s (putting (putting p x.thread (next_place (p x.thread) (TakenBy t))) t p2) ≡ after_deed r (Case (TakeFirst (queued x.thread))) before t
-  taking p2 none none2 own = λ i. record before { lock = lock_seen n.shared o rest s (λ u. taken_now u i); filled = unfilled i; doing = λ u. doing_now u i }
-    where
-      unfilled : n.filled ≡ (n.filled || is_full r (locks.after_case r (TakeFirst (queued x.thread)) before.lock t))
-      unfilled = rw sort (sym (or-false n.filled))
-
-      hand_now : taken_at (next_place (p x.thread) (TakenBy t)) l ≡ Some (record { by = t; want = Exclusive })
-      hand_now = rw (first, same l) refl
-
-      taken_now : (u : ℕ) → taken_at (putting (putting p x.thread (next_place (p x.thread) (TakenBy t))) t p2 u) l ≡ taken_then u
-      taken_now u = elim (cases_eq u t) [
-        | inl e ↦ rw (e, put_here (putting p x.thread (next_place (p x.thread) (TakenBy t))) t p2) (none2 ∙ sym none ∙ sym (put_other (λ k. taken_at (p k) l) x.thread (Some (record { by = t; want = Exclusive })) t (λ f. apart (sym f))))
-        | inr ne ↦ rw (put_other (putting p x.thread (next_place (p x.thread) (TakenBy t))) t p2 u ne) (put_of (λ k. taken_at k l) p x.thread (next_place (p x.thread) (TakenBy t)) u ∙ ap (λ h. putting (λ k. taken_at (p k) l) x.thread h u) hand_now)
-      ]
-
-      doing_now : (u : ℕ) → doing_on (putting (putting p x.thread (next_place (p x.thread) (TakenBy t))) t p2 u) l ≡ putting (λ k. doing_on (p k) l) t (taking_main true (lock_seen n.shared o rest s taken_then) (doing_on (p t) l)) u
-      doing_now u = put_is (λ k. doing_on (p k) l) (λ k. doing_on (putting (putting p x.thread (next_place (p x.thread) (TakenBy t))) t p2 k) l) t (taking_main true (lock_seen n.shared o rest s taken_then) (doing_on (p t) l))
-          (rw (put_here (putting p x.thread (next_place (p x.thread) (TakenBy t))) t p2) own)
-          (λ k ne. rw (put_other (putting p x.thread (next_place (p x.thread) (TakenBy t))) t p2 k ne) (put_of (λ y. doing_on y l) p x.thread (next_place (p x.thread) (TakenBy t)) k ∙ put_same (λ y. doing_on (p y) l) x.thread (doing_on (next_place (p x.thread) (TakenBy t)) l) (rw (first, same l) refl) k))
-          u
-
 -- ---------------------------------------------------------------- a lock is handed over
 
 -- to whom the lock goes, if to anybody
@@ -808,75 +768,3 @@ handed_is t n o m s p l to state = (λ i. locks.with_successor (heir to) (record
     by_heir : (to : Option ℕ) → locks.with_successor (heir to) (lock_seen n.shared (with_exclusive o None) m s (let_go t (λ u. taken_at (p u) l))) ≡ lock_seen n.shared (with_exclusive o to) m s (let_go t (λ u. taken_at (p u) l))
     by_heir None = refl
     by_heir (Some u) = ap (λ (k : ℕ). if k == 0 then lock_seen n.shared (with_exclusive o (Some u)) m s (let_go t (λ x. taken_at (p x) l)) else locks.pending_for u false (lock_seen n.shared (with_exclusive o None) m s (let_go t (λ x. taken_at (p x) l)))) (state.unshared (λ h. h))
-
-module _ (r : Rules) (l : ℕ) (n : Base) (word : ℕ) (o : Owners) (m s : List Waiter) (p : ℕ → Place) (one : ℕ → Type 0) (hands : Hands one p) (single : one l) (mutexes : (x : ℕ) → IsMutexCall l (p x)) (t u : ℕ) (alone bumps none_left : Bool) (sort : r.sort ≡ locks.Mutex) (state : IsLockState mutex (lock_seen n.shared o m s (λ x. taken_at (p x) l)))
-    (store : p t ≡ Mutex l (HandOff bumps (hand_off.Store true none_left))) (held : hand_at (p u) l ≡ hand t false) where
-  abbrev at_store : Site
-  at_store = seen l n word o m s p
-
-  abbrev pub handed_places : ℕ → Place
-  handed_places = putting (putting p u (next_place (p u) (HandedBy t alone))) t (Mutex l (HandOff bumps (hand_off.Leave true)))
-
-  pub taken_there : IsTakenAt (p u) t l
-  taken_there = is_taken (p u) t l (mutexes u) held
-
-  apart : u ≢ t
-  apart e = let a : Mutex l (HandOff bumps (hand_off.Store true none_left)) ≡ Mutex l (Lock taken_there.entry taken_there.retries (lock.Taken t)) = sym store ∙ ap p (sym e) ∙ taken_there.is in cc
-
-  let_go_now : (x : ℕ) → taken_at (handed_places x) l ≡ keep_from t (taken_at (p x) l)
-  let_go_now x = elim (cases_eq x t) [
-    | inl e ↦ rw (e, put_here (putting p u (next_place (p u) (HandedBy t alone))) t (Mutex l (HandOff bumps (hand_off.Leave true))), store) refl
-    | inr nt ↦ rw (put_other (putting p u (next_place (p u) (HandedBy t alone))) t (Mutex l (HandOff bumps (hand_off.Leave true))) x nt) (elim (cases_eq x u) [
-      | inl e ↦ rw (e, put_here p u (next_place (p u) (HandedBy t alone)), taken_there.is, same l, same t) refl
-      | inr nu ↦ rw (put_other p u (next_place (p u) (HandedBy t alone)) x nu) (sym (untaken (p x) t l (λ h. nu (hands.alone t l u x false false single held h))))
-    ])
-  ]
-
-  abbrev pub hands_acts : Bool → List Act
-  hands_acts b = record { by = t; deed = Case (locks.HandOff Exclusive (Some (queued u))) } ∷ record { by = t; deed = if b then Clear Main else Mark Main } ∷ record { by = u; deed = Begin (Some (Has Exclusive)) } ∷ []
-
-  doing_then : (b : Bool) → none_left ≡ b → (x : ℕ)
-      → doing_on (handed_places x) l ≡ (after_acts r (hands_acts b) at_store).doing x
-  doing_then true f x = elim (cases_eq x t) [
-    | inl e ↦ rw (e, put_here (putting p u (next_place (p u) (HandedBy t alone))) t (Mutex l (HandOff bumps (hand_off.Leave true))), differ t u (λ g. apart (sym g)), same t, store, same l) refl
-    | inr nt ↦ rw (put_other (putting p u (next_place (p u) (HandedBy t alone))) t (Mutex l (HandOff bumps (hand_off.Leave true))) x nt) (elim (cases_eq x u) [
-      | inl e ↦ rw (e, put_here p u (next_place (p u) (HandedBy t alone)), same u, differ u t apart, taken_there.is, same l) refl
-      | inr nu ↦ rw (put_other p u (next_place (p u) (HandedBy t alone)) x nu, differ x u nu, differ x t nt) refl
-    ])
-  ]
-  doing_then false f x = elim (cases_eq x t) [
-    | inl e ↦ rw (e, put_here (putting p u (next_place (p u) (HandedBy t alone))) t (Mutex l (HandOff bumps (hand_off.Leave true))), differ t u (λ g. apart (sym g)), same t, store, same l, f) refl
-    | inr nt ↦ rw (put_other (putting p u (next_place (p u) (HandedBy t alone))) t (Mutex l (HandOff bumps (hand_off.Leave true))) x nt) (elim (cases_eq x u) [
-      | inl e ↦ rw (e, put_here p u (next_place (p u) (HandedBy t alone)), same u, differ u t apart, taken_there.is, same l) refl
-      | inr nu ↦ rw (put_other p u (next_place (p u) (HandedBy t alone)) x nu, differ x u nu, differ x t nt) refl
-    ])
-  ]
-
-  -- the store does what its deeds do
-  pub handing : (b : Bool) → none_left ≡ b → seen l n (if b then 1 else 3) (with_exclusive o (Some u)) m s handed_places ≡ after_acts r (hands_acts b) at_store
-  handing b f = λ i. record at_store {
-    lock = (let_go_lock ∙ sym (handed_is t n o m s p l (Some u) state) ∙ same_lock b) i;
-    parked = bit b i;
-    aside_parked = no_aside b i;
-    filled = unfilled b i;
-    doing = λ x. doing_then b f x i;
-  }
-    where
-      let_go_lock : lock_seen n.shared (with_exclusive o (Some u)) m s (λ x. taken_at (handed_places x) l) ≡ lock_seen n.shared (with_exclusive o (Some u)) m s (let_go t (λ x. taken_at (p x) l))
-      let_go_lock = λ i. lock_seen n.shared (with_exclusive o (Some u)) m s (λ x. let_go_now x i)
-
-      same_lock : (b : Bool) → locks.handed t Exclusive (heir (Some u)) (lock_seen n.shared o m s (λ x. taken_at (p x) l)) ≡ (after_acts r (hands_acts b) at_store).lock
-      same_lock true = refl
-      same_lock false = refl
-
-      bit : (b : Bool) → is_parked (if b then 1 else 3) ≡ (after_acts r (hands_acts b) at_store).parked
-      bit true = refl
-      bit false = refl
-
-      no_aside : (b : Bool) → false ≡ (after_acts r (hands_acts b) at_store).aside_parked
-      no_aside true = refl
-      no_aside false = refl
-
-      unfilled : (b : Bool) → n.filled ≡ (after_acts r (hands_acts b) at_store).filled
-      unfilled true = rw sort (sym (or-false n.filled))
-      unfilled false = rw sort (sym (or-false n.filled))

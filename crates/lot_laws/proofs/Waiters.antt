@@ -9,7 +9,7 @@ use Rattle.lot_acts.specs.declared.acts.Reply.TheVariants.{Woken, TakenBy, Hande
 use Rattle.lot_acts.specs.Profiles.{Profile, taken_from, in_line}
 use Rattle.lot_steps.specs.declared.places.Place.{Place}
 use Rattle.lot_steps.specs.declared.places.Place.TheVariants.{Idle, Mutex, RwLock, Once, Condvar}
-use Rattle.lot_steps.specs.Steps.{next_place, or_else, wants}
+use Rattle.lot_steps.specs.Steps.{is_lock, lock_of, next_place, or_else, wants}
 use Rattle.lot_mutex.specs.declared.lock.Entry.{Entry}
 use Rattle.lot_mutex.specs.declared.lock.Entry.TheVariants as entries
 use Rattle.lot_mutex.specs.declared.lock.LockAt.{LockAt}
@@ -39,7 +39,7 @@ use Rattle.lot_laws.specs.Refinement.{taken_at}
 use Rattle.lot_laws.specs.MutexDeeds.{mutex_row, mutex_station}
 use Rattle.lot_laws.specs.Stations.{Station, Hand, Of, hand, nowhere, station, station_at, station_by, doing_on}
 use Rattle.lot_laws.specs.SitesOf.{FitsItsLock, Hands, hand_at, rules_in}
-use Rattle.lot_laws.proofs.Glue.{same, differ, mutex, taken_out, IsApart, CarriesAt, WantsAlone, in_hand_where, in_hand_here}
+use Rattle.lot_laws.proofs.Glue.{same, differ, mutex, taken_out, IsApart, CarriesAt, WantsAlone, in_hand_where, in_hand_here, IsLock, IsOf, IsSingle, of_lock, single_station}
 
 -- a lock sees of a thread at a place what it saw
 pub record SameAt (k : ℕ) (p q : Place) : Type 0 where
@@ -436,6 +436,37 @@ bare_outside p l of out = by_hand (station_at p l).carries refl
     by_hand None e = refl
     by_hand (Some b) e = absurd (let within : (station_at p l).inside ≡ Some Main = carries_inside p l b of e in cc)
 
+-- a mutex has one section
+mutex_inside_main : (at : MutexPlace) (m : Line) → (mutex_station at).inside ≡ Some m → m ≡ Main
+mutex_inside_main (Lock e r lock.Check) m h = cc
+mutex_inside_main (Unlock unlock.Take) m h = cc
+mutex_inside_main (HandOff bumps hand_off.Take) m h = cc
+mutex_inside_main at m h = cc
+
+wait_inside_main : (n : ℕ) (timed : Bool) (at : WaitAt) (m : Line) → (station_by (mutex_side (Wait n timed at))).inside ≡ Some m → m ≡ Main
+wait_inside_main n timed (wait.Release s at) m h = mutex_inside_main at m h
+wait_inside_main n timed (wait.Lock late at) m h = mutex_inside_main at m h
+wait_inside_main n timed at m h = cc
+
+notifier_inside_main : (all : Bool) (n : ℕ) (at : NotifyAt) (m : Line) → (station_by (mutex_side (Notify all n at))).inside ≡ Some m → m ≡ Main
+notifier_inside_main all n (notify.Leave any number) m h = by_number (number == 0) h
+  where
+    by_number : (c : Bool) → (if c then mutex_inside else has_moved any false).inside ≡ Some m → m ≡ Main
+    by_number true g = cc
+    by_number false g = cc
+notifier_inside_main all n at m h = cc
+
+inside_main : (p : Place) (l : ℕ) (m : Line) → CallsMutex l p → (station_at p l).inside ≡ Some m → m ≡ Main
+inside_main p l m = by_row l (λ q. m ≡ Main) (λ (s : Station). s.inside) (Some m) (λ h. cc) (λ at h. mutex_inside_main at m h)
+    (λ k apart n timed at of h. wait_inside_main n timed at m h) (λ k apart all n at of h. notifier_inside_main all n at m h) p
+
+pub outside : (p : Place) (l : ℕ) → CallsMutex l p → ((station_at p l).inside ≡ Some Main → ⊥) → (station_at p l).inside ≡ None
+outside p l of out = by_line (station_at p l).inside refl
+  where
+    by_line : (o : Option Line) → (station_at p l).inside ≡ o → o ≡ None
+    by_line None e = refl
+    by_line (Some m) e = absurd (out (e ∙ ap Some (inside_main p l m of e)))
+
 -- so that outside the section it stands in the line there, or is in a hand, and that is all
 pub sleeps_station : (p : Place) (l : ℕ) → CallsMutex l p → SleepsAt l p → (station_at p l).inside ≡ None → (station_at p l).stands ≡ Some Main → station_at p l ≡ record nowhere { stands = Some Main; waits = (station_at p l).waits }
 sleeps_station p l of sleeps out stood = λ i. record (station_at p l) { inside = out i; stands = stood i; carries = bare_outside p l of out i; hand = sleeps.free i }
@@ -445,3 +476,15 @@ held_station p l t of held in_hand out = λ i. record (station_at p l) { inside 
 
 pub given_station : (p : Place) (l t : ℕ) → CallsMutex l p → WasGivenAt l t p → hand_at p l ≡ hand t true → (station_at p l).inside ≡ None → station_at p l ≡ record nowhere { hand = hand t true }
 given_station p l t of given in_hand out = λ i. record (station_at p l) { inside = out i; stands = given.stands i; waits = given.waits i; carries = bare_outside p l of out i; hand = in_hand i }
+
+-- a call of one lock that is seen at a lock is of that lock
+pub of_part : {A : Type 0} (g : Station → Option A) (x : A) → g nowhere ≡ None → (p : Place) (l : ℕ) → IsSingle p → g (station_at p l) ≡ Some x → IsOf l p
+of_part {A = A} g x none p l single h = of_lock l p single (by_lock (lock_of p) (sym (ap g (single_station p l single)) ∙ h))
+  where
+    by_lock : (o : Option ℕ) → g (if is_lock l o then station p else nowhere) ≡ Some x → IsLock l o
+    by_lock None e = tt
+    by_lock (Some k) e = either (k == l) refl e
+      where
+        either : (b : Bool) → (k == l) ≡ b → g (if b then station p else nowhere) ≡ Some x → k ≡ l
+        either true f e = eqb-true k l f
+        either false f e = absurd (let a : ◌≡◌ {A = Option A} None (Some x) = sym none ∙ e in cc)
