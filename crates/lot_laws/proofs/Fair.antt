@@ -58,7 +58,6 @@ use Rattle.lot_laws.proofs.Glue.{own_stance, successor_one, aparts, of_carries}
 use Rattle.lot_laws.proofs.Waiters.{held_there}
 use Rattle.lot_laws.proofs.AtPlaces.{coded as words_coded, in_no_hand}
 use Rattle.lot_laws.proofs.TurnsKept.{after_steady}
-use Rattle.lot_laws.proofs.Glue.{same}
 use Rattle.lot_laws.proofs.MutexTable.{mutex}
 use Rattle.lot_laws.proofs.StandsMoved.{mutex_rules}
 use Rattle.lot_laws.proofs.KindsKept.{after_kinds}

@@ -1,7 +1,6 @@
 -- A thread goes on: every lock is a site again. Here a call of a mutex.
 use Rattle.std.proofs.Common.{ℕ, Bool, true, false, Option, Some, None, if◌then◌else◌, ◌==◌, ◌&&◌, not, ◌≡◌, ◌≢◌, ◌+◌, ◌*◌, ◌<◌, ◌⊎◌, List, [], ◌∷◌, length, map, drop, is_none, inl, inr, refl, sym, ◌∙◌, ap, subst, arith}
 use Rattle.lot_laws.proofs.OnceKept.{goes_once}
-use Rattle.abstract_locks.specs.Locks as locks
 use Rattle.std.proofs.lemmas.Bool.{eqb-true}
 use Rattle.lot_base.specs.declared.keys.Keys.TheVariants.{One}
 use Rattle.lot_base.specs.declared.ops.Op.{Op}
@@ -32,19 +31,19 @@ use Rattle.lot_mutex.specs.MutexSteps.{is_locked, is_parked, lock_act, unlock_ac
 use Rattle.lot_steps.specs.Steps.{next_place, act_of}
 use Rattle.abstract_locks.specs.Locks.{one_if_some, TakeFirst}
 use Rattle.abstract_locks.specs.Codes.{bit}
-use Rattle.abstract_locks.specs.Sites.{Main, Second, End, has_readers, is_empty, found, leaves, In, Out, Case, FindNobody}
+use Rattle.abstract_locks.specs.Sites.{Main, Second, End, is_empty, found, leaves, In, Out, Case, FindNobody}
 use Rattle.lot_machine.specs.Machine.{State, place_at, word_at, owners_at, queue_at, section_at, can_do, put, state_with_sections, queues_with_last, queues_without, queues_without_first, state_after_reply, state_after_taking, is_there, reply_to}
 use Rattle.lot_machine.specs.Fits.{IsShaped, PlaceFits}
 use Rattle.lot_laws.specs.Refinement.{taken_at}
 use Rattle.abstract_locks.specs.Picks.{queued_of}
 use Rattle.lot_laws.specs.MutexDeeds.{mutex_doing, mutex_station, acts, deeds, mutex_deeds, queued}
 use Rattle.lot_laws.specs.Stations.{Station, nowhere, station, station_at}
-use Rattle.lot_laws.specs.SitesOf.{AreCounted, FitsItsLock, IsSteady, Goes, rules_in, stood_in}
+use Rattle.lot_laws.specs.SitesOf.{AreCounted, IsSteady, Goes, stood_in}
 use Rattle.lot_machine.proofs.Shape.{main_line_there, main_key_there}
 use Rattle.lot_laws.proofs.Glue.{base_at, same, own_stance, inside_is, doing_of, doing_here, IsMutexOf, own_of}
-use Rattle.lot_laws.proofs.MutexTable.{mutex, Fits, own_doing, ends, looks, at_first, at_load, at_decide_free, at_decide_one, at_clear, at_release_clear, at_try, at_subtract, at_unlock_fair, at_bump, at_store_none}
+use Rattle.lot_laws.proofs.MutexTable.{Fits, own_doing, ends, looks, at_first, at_load, at_decide_free, at_decide_one, at_clear, at_release_clear, at_try, at_subtract, at_unlock_fair, at_bump, at_store_none}
 use Rattle.lot_laws.proofs.OneStep.{empty_line}
-use Rattle.lot_laws.proofs.SitesKept.{go_by, goes_steady, rules, site_l, word_l, word_keeps, place_keeps, enter_keeps, leave_keeps, one_held, release_wakes, tells, hands_over, take_keeps, mutexes_at}
+use Rattle.lot_laws.proofs.SitesKept.{go_by, goes_steady, site_l, word_l, word_keeps, place_keeps, enter_keeps, leave_keeps, one_held, release_wakes, tells, hands_over, take_keeps, mutexes_at}
 use Rattle.lot_laws.proofs.Waiters.{stands_or_sleeps}
 use Rattle.lot_laws.proofs.StandsKept.{in_main}
 use Rattle.lot_laws.proofs.RwLockGoes.{rwlock_goes_on}

@@ -7,16 +7,13 @@ use Rattle.lot_base.specs.declared.notes.Note.TheVariants as note
 use Rattle.lot_base.specs.declared.ops.Op.{Op}
 use Rattle.lot_base.specs.declared.ops.Op.TheVariants as op
 use Rattle.lot_base.specs.declared.wants.Waiter.{Waiter}
-use Rattle.lot_base.specs.declared.wants.Want.TheVariants.{Exclusive}
 use Rattle.lot_base.specs.Words.{apply}
 use Rattle.lot_calls.specs.declared.kinds.Kind as kind
 use Rattle.lot_acts.specs.declared.owners.Owners.{Owners}
 use Rattle.lot_steps.specs.declared.places.Place.{Place}
 use Rattle.lot_steps.specs.declared.places.Place.TheVariants.{Idle, Mutex}
-use Rattle.lot_mutex.specs.declared.lock.Entry.{Entry}
 use Rattle.lot_mutex.specs.declared.places.MutexPlace.{MutexPlace}
-use Rattle.lot_mutex.specs.declared.places.MutexPlace.TheVariants.{Lock, Unlock, HandOff}
-use Rattle.lot_mutex.specs.declared.lock.LockAt.TheVariants as lock
+use Rattle.lot_mutex.specs.declared.places.MutexPlace.TheVariants.{Unlock, HandOff}
 use Rattle.lot_mutex.specs.declared.unlock.UnlockAt.TheVariants as unlock
 use Rattle.lot_mutex.specs.declared.hand_off.HandOffAt.TheVariants as hand_off
 use Rattle.lot_acts.specs.declared.acts.Act.{Act}

@@ -1,12 +1,11 @@
 -- What befalls who stands in the queue of a mutex, or is in a hand there: by its rows at the mutex, in a call of that mutex or in one of a
 -- condition variable beside it. Every other lock sees of it what it saw.
-use Rattle.std.proofs.Common.{ℕ, Bool, true, false, Option, Some, None, if◌then◌else◌, ◌==◌, ◌&&◌, not, ◌≡◌, ◌≢◌, ◌⊎◌, inl, inr, refl, sym, ◌∙◌, ap, subst}
+use Rattle.std.proofs.Common.{ℕ, Bool, true, false, Option, Some, None, if◌then◌else◌, ◌==◌, ◌≡◌, ◌≢◌, ◌⊎◌, inl, inr, refl, sym, ◌∙◌, ap, subst}
 use Rattle.std.proofs.lemmas.Bool.{cases_eq, eqb-true}
 use Rattle.lot_base.specs.declared.notes.Note.TheVariants as note
-use Rattle.lot_base.specs.declared.wants.Want.{Want}
 use Rattle.lot_base.specs.declared.wants.Want.TheVariants.{Exclusive}
 use Rattle.lot_acts.specs.declared.acts.Reply.TheVariants.{Woken, TakenBy, HandedBy}
-use Rattle.lot_acts.specs.Profiles.{Profile, taken_from, in_line}
+use Rattle.lot_acts.specs.Profiles.{taken_from, in_line}
 use Rattle.lot_steps.specs.declared.places.Place.{Place}
 use Rattle.lot_steps.specs.declared.places.Place.TheVariants.{Idle, Mutex, RwLock, Once, Condvar}
 use Rattle.lot_steps.specs.Steps.{is_lock, lock_of, next_place, or_else, wants}
@@ -23,7 +22,6 @@ use Rattle.lot_condvar.specs.declared.notify.NotifyAt.{NotifyAt}
 use Rattle.lot_condvar.specs.declared.notify.NotifyAt.TheVariants as notify
 use Rattle.lot_condvar.specs.declared.places.CondvarPlace.{CondvarPlace}
 use Rattle.lot_condvar.specs.declared.places.CondvarPlace.TheVariants.{Wait, Look, Notify}
-use Rattle.lot_condvar.specs.declared.wait.Stands.{Stands as Standing}
 use Rattle.lot_condvar.specs.declared.wait.Stands.TheVariants as stands
 use Rattle.lot_condvar.specs.declared.wait.WaitAt.{WaitAt}
 use Rattle.lot_condvar.specs.declared.wait.WaitAt.TheVariants as wait
@@ -32,12 +30,11 @@ use Rattle.lot_condvar.specs.CondvarProfiles.{condvar_profile, has_moved, mutex_
 use Rattle.lot_condvar.specs.CondvarCalls.{IsReached, IsLockOf, IsRelock}
 use Rattle.abstract_locks.specs.Locks.{Rules, Taken}
 use Rattle.abstract_locks.specs.Locks as locks
-use Rattle.abstract_locks.specs.Purposes.{rules_of}
-use Rattle.abstract_locks.specs.Sites.{Doing, Line, Main, Has, has_readers, idle}
-use Rattle.lot_machine.specs.Machine.{State, kind_at}
+use Rattle.abstract_locks.specs.Sites.{Doing, Line, Main, Has, has_readers}
+use Rattle.lot_machine.specs.Machine.{State}
 use Rattle.lot_laws.specs.Refinement.{taken_at}
 use Rattle.lot_laws.specs.MutexDeeds.{mutex_row, mutex_station}
-use Rattle.lot_laws.specs.Stations.{Station, Hand, Of, hand, nowhere, station, station_at, station_by, doing_on}
+use Rattle.lot_laws.specs.Stations.{Station, Hand, hand, nowhere, station, station_at, station_by, doing_on}
 use Rattle.lot_laws.specs.SitesOf.{FitsItsLock, Hands, hand_at, rules_in}
 use Rattle.lot_laws.proofs.Glue.{same, differ, mutex, taken_out, IsApart, CarriesAt, WantsAlone, in_hand_where, in_hand_here, IsLock, IsOf, IsSingle, of_lock, single_station}
 
