@@ -6,6 +6,8 @@ pub mod Alone
 pub mod Runs
 pub mod Glue
 pub mod Beside
+pub mod Waiters
+pub mod MutexHands
 pub mod OneStep
 pub mod MutexTable
 pub mod MutexSections

@@ -6,7 +6,7 @@ use Rattle.lot_base.specs.Lines.{times}
 use Rattle.lot_steps.specs.declared.places.Place.{Place}
 use Rattle.lot_steps.specs.declared.places.Place.TheVariants.{Idle, Mutex as OfMutex, RwLock as OfRwLock, Once as OfOnce, Condvar as OfCondvar}
 use Rattle.lot_base.specs.declared.wants.Want.{Want}
-use Rattle.abstract_locks.specs.Locks.{Rules, Mutex as OneOwner, Once as OnceSort}
+use Rattle.abstract_locks.specs.Locks.{Rules, Mutex as OneOwner, Once as OnceSort, Condvar as CondvarSort}
 use Rattle.abstract_locks.specs.Sites.{Line, Main, Second, Site, IsSite, has_readers, after_deed, Needed}
 use Rattle.abstract_locks.specs.Codes.{code, parked_in, aside_in, HasLimit}
 use Rattle.abstract_locks.specs.Purposes.{rules_of}
@@ -16,11 +16,15 @@ use Rattle.lot_laws.specs.Refinement.{RunsClosure, lock_state}
 use Rattle.abstract_locks.specs.Onces.{InProgress}
 use Rattle.lot_calls.specs.declared.kinds.Kind.{Kind}
 use Rattle.lot_calls.specs.declared.kinds.Kind as kind
+use Rattle.lot_calls.specs.Kinds.{is_plain_mutex}
 use Rattle.lot_rwlock.specs.declared.places.Admission.{Admission}
 use Rattle.lot_rwlock.specs.RwLockDeeds.{Admits}
 use Rattle.lot_rwlock_fair.specs.declared.places.RwLockCallPlace.{RwLockCallPlace}
 use Rattle.lot_rwlock_fair.specs.declared.hand_over.Taken.{Taken as Counted}
 use Rattle.lot_rwlock_fair.specs.FairCalls.{CallStands, in_hand_of}
+use Rattle.lot_condvar.specs.declared.places.CondvarPlace.{CondvarPlace}
+use Rattle.lot_condvar.specs.CondvarSteps.{mutex_beside}
+use Rattle.lot_condvar.specs.CondvarCalls.{IsReached}
 use Rattle.lot_laws.specs.MutexDeeds.{Act}
 use Rattle.lot_laws.specs.Stations.{Hand, Station, hand, station_at, doing_on}
 
@@ -114,13 +118,24 @@ is_mutex kind.TheVariants.Mutex = true
 is_mutex kind.TheVariants.Fair = true
 is_mutex k = false
 
--- a call is of a lock of its sort, and stands where it may; none of a condition variable begins here
+-- calls of condition variables begin: not yet
+abbrev pub CondvarsBegin : Type 0
+CondvarsBegin = ⊥
+
+-- a call of a condition variable has come to its place, and the mutex that it names is a plain one
+pub record FitsCondvar (w : State) (l : ℕ) (at : CondvarPlace) : Type 0 where
+  pub sort : (rules_in w l).sort ≡ CondvarSort
+  pub reached : IsReached at
+  pub mutex : (m : ℕ) → mutex_beside at ≡ Some m → is_plain_mutex (kind_at w m) ≡ true
+  pub begun : CondvarsBegin
+
+-- a call is of a lock of its sort, and stands where it may
 abbrev pub FitsItsLock : State → Place → Type 0
 FitsItsLock w Idle = Unit {0}
 FitsItsLock w (OfMutex l at) = is_mutex (kind_at w l) ≡ true
 FitsItsLock w (OfRwLock l a c) = Admits (rules_in w l) a × CallStands a c
 FitsItsLock w (OfOnce l at) = (rules_in w l).sort ≡ OnceSort
-FitsItsLock w (OfCondvar l at) = ⊥
+FitsItsLock w (OfCondvar l at) = FitsCondvar w l at
 
 pub record Stands (w : State) : Type 0 where
   pub sections : Sections (stations_of (place_at w)) (section_at w)
