@@ -9,7 +9,7 @@ use Rattle.lot_calls.specs.declared.outcomes.Outcome.{Outcome}
 use Rattle.lot_calls.specs.declared.outcomes.Outcome as outcome
 use Rattle.lot_acts.specs.Acts.{outcome_of}
 use Rattle.lot_steps.specs.Steps.{act_of, next_act, looking}
-use Rattle.lot_machine.specs.Machine.{State, Alone, alone_after, solo, after, step_outcome, is_possible, state_after_turn, turn_outcome, go_of, reply_to, closed_place, place_at, put, can_turn, going_outcome, look_outcome}
+use Rattle.lot_machine.specs.Machine.{State, Alone, alone_after, solo, after, step_outcome, is_possible, state_after_turn, turn_outcome, go_of, reply_to, closed_place, place_at, put, can_turn, going_outcome, look_outcome, state_after_act}
 use Rattle.lot_steps.specs.declared.places.Place.{Place}
 use Rattle.lot_machine.proofs.Shape.{both}
 
@@ -21,7 +21,7 @@ outcome_possible (Closure state) h = cc
 outcome_possible act h = cc
 
 going_possible : (w : State) (t : ℕ) (p : Place) → going_outcome w t p ≢ outcome.TheVariants.NotNow
-going_possible w t p h = outcome_possible (next_act p (reply_to w t (act_of p))) h
+going_possible w t p h = outcome_possible (next_act (place_at (state_after_act w t p (act_of p)) t) (reply_to w t (act_of p))) h
 
 turn_possible : (w : State) (t : ℕ) (x : Turn) → can_turn w t x ≡ true → turn_outcome w t x ≢ outcome.TheVariants.NotNow
 turn_possible w t turn.TheVariants.Go can h = going_possible w t (place_at w t) h
@@ -30,8 +30,8 @@ turn_possible w t turn.TheVariants.Spin can h = by_look (looking (place_at w t))
     by_look : (o : Option Place) → is_some o ≡ true → look_outcome w t o ≢ outcome.TheVariants.NotNow
     by_look None can h = absurd cc
     by_look (Some q) can h = going_possible (put w t q) t (place_at (put w t q) t) h
-turn_possible w t turn.TheVariants.Ok can h = going_possible w t (closed_place w t true) h
-turn_possible w t turn.TheVariants.Err can h = going_possible w t (closed_place w t false) h
+turn_possible w t turn.TheVariants.Ok can h = going_possible (put w t (closed_place w t true)) t (place_at (put w t (closed_place w t true)) t) h
+turn_possible w t turn.TheVariants.Err can h = going_possible (put w t (closed_place w t false)) t (place_at (put w t (closed_place w t false)) t) h
 turn_possible w t x can h = cc
 
 -- a step that wasn't possible has changed nothing

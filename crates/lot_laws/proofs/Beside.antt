@@ -1,6 +1,5 @@
 -- From where a thread looks at a word once more, its place says the same of the lock beside.
 use Rattle.std.proofs.Common.{ℕ, Bool, true, false, Option, Some, None, if◌then◌else◌, ◌≡◌, refl, subst}
-use Rattle.lot_acts.specs.Profiles.{Profile, blank}
 use Rattle.lot_condvar.specs.declared.places.CondvarPlace.{CondvarPlace}
 use Rattle.lot_condvar.specs.declared.places.CondvarPlace.TheVariants.{Wait}
 use Rattle.lot_condvar.specs.declared.wait.WaitAt.TheVariants as wait

@@ -41,9 +41,10 @@ use Rattle.abstract_locks.specs.Codes.{has_aside}
 use Rattle.lot_steps.specs.declared.places.Place.{Place}
 use Rattle.lot_steps.specs.declared.places.Place.TheVariants.{Idle, RwLock}
 use Rattle.lot_steps.specs.Steps.{act_of, next_act, next_place, rwlock_does, rwlock_goes, shares_after}
-use Rattle.lot_machine.specs.Machine.{Alone as Ran, State, state_after_operation, after, alone_after, can_do, can_go, go_of, go_outcome, held, is_possible, owners_at, place_at, put, queue_at, queues_with_last, reply_to, runs_closure, solo, state_after_act, state_after_go, step_outcome, word_at}
+use Rattle.lot_machine.specs.Machine.{Alone as Ran, State, state_after_operation, after, alone_after, can_do, can_go, go_of, go_outcome, held, is_possible, owners_at, place_at, put, queue_at, queues_with_last, reply_to, runs_closure, solo, state_after_act, state_after_go, step_outcome, word_at, going_outcome, state_after_going}
 use Rattle.lot_machine.specs.Fits.{IsShaped, SameSize}
 use Rattle.lot_machine.proofs.Shape.{after_shaped, after_size, performed_counts, put_shaped}
+use Rattle.lot_laws.proofs.OwnPlace.{goes_from_there, told_from_there}
 use Rattle.lot_laws.specs.SitesOf.{AreCounted, IsSteady, rules_in}
 use Rattle.lot_laws.proofs.Closures.{call_runs_none}
 use Rattle.lot_laws.proofs.RunsKept.{put_running}
@@ -336,11 +337,11 @@ module _ (t l : ℕ) (a : Admission) (x : Access) where
     does_same (End answer) = refl
 
     told_plain : go_outcome plain_w t ≡ outcome_of (rwlock_does l a (plain_next n))
-    told_plain = ap (λ q. outcome_of (next_act q (reply_to plain_w t (act_of q)))) here ∙ ap (λ r. outcome_of (next_act (RwLock l a (Plain p)) r)) (replies_same w t l a p y entering)
+    told_plain = ap (going_outcome plain_w t) here ∙ told_from_there plain_w t (RwLock l a (Plain p)) here tt ∙ ap (λ r. outcome_of (next_act (RwLock l a (Plain p)) r)) (replies_same w t l a p y entering)
         ∙ ap (λ (o : Option RwLockCallPlace). outcome_of (rwlock_does l a (unless_given o (plain_next n)))) (never_given w t false p y)
 
     told_bump : go_outcome w t ≡ outcome_of (rwlock_does l a (bump_next (purpose.Enter x Patient) n))
-    told_bump = ap (λ q. outcome_of (next_act q (reply_to w t (act_of q)))) g.place ∙ ap (λ (o : Option RwLockCallPlace). outcome_of (rwlock_does l a (unless_given o (bump_next (purpose.Enter x Patient) n)))) (never_given w t true p y)
+    told_bump = ap (going_outcome w t) g.place ∙ told_from_there w t (RwLock l a (Bump p)) g.place tt ∙ ap (λ (o : Option RwLockCallPlace). outcome_of (rwlock_does l a (unless_given o (bump_next (purpose.Enter x Patient) n)))) (never_given w t true p y)
 
     told_same : go_outcome plain_w t ≡ go_outcome w t
     told_same = told_plain ∙ does_same n ∙ sym told_bump
@@ -353,11 +354,11 @@ module _ (t l : ℕ) (a : Admission) (x : Access) where
     acted = state_after_act w t (RwLock l a (Bump p)) y
 
     went : is_possible w (go_of t) ≡ true → after w (go_of t) ≡ put acted t (rwlock_goes l a (bump_next (purpose.Enter x Patient) n))
-    went able = ap (λ b. if b then state_after_go w t else w) able ∙ ap (λ q. put (state_after_act w t q (act_of q)) t (next_place q (reply_to w t (act_of q)))) g.place
+    went able = ap (λ b. if b then state_after_go w t else w) able ∙ ap (state_after_going w t) g.place ∙ goes_from_there w t (RwLock l a (Bump p)) g.place tt
         ∙ ap (λ (o : Option RwLockCallPlace). put acted t (rwlock_goes l a (unless_given o (bump_next (purpose.Enter x Patient) n)))) (never_given w t true p y)
 
     went_plain : is_possible w (go_of t) ≡ true → after plain_w (go_of t) ≡ put acted t (rwlock_goes l a (plain_next n))
-    went_plain able = ap (λ b. if b then state_after_go plain_w t else plain_w) (possible ∙ able) ∙ ap (λ q. put (state_after_act plain_w t q (act_of q)) t (next_place q (reply_to plain_w t (act_of q)))) here
+    went_plain able = ap (λ b. if b then state_after_go plain_w t else plain_w) (possible ∙ able) ∙ ap (state_after_going plain_w t) here ∙ goes_from_there plain_w t (RwLock l a (Plain p)) here tt
         ∙ (λ i. put (acts_same w t l a p y entering i) t (next_place (RwLock l a (Plain p)) (replies_same w t l a p y entering i)))
         ∙ ap (λ (o : Option RwLockCallPlace). put (put acted t (RwLock l a (Plain p))) t (rwlock_goes l a (unless_given o (plain_next n)))) (never_given w t false p y)
         ∙ ap (λ ps. record acted { places = ps }) (set_set acted.places t (RwLock l a (Plain p)) (rwlock_goes l a (plain_next n)))

@@ -1,15 +1,14 @@
 -- A closure has answered: its thread goes on from behind it, as from any other place of its call.
-use Rattle.std.proofs.Common.{ℕ, Bool, true, ◌≡◌, ◌<◌, length, length-set, refl, sym, ◌∙◌, ap, subst}
-use Rattle.lot_machine.specs.Machine.{held_by, reply_to}
-use Rattle.std.proofs.lemmas.List.{set-set}
+use Rattle.std.proofs.Common.{ℕ, Bool, true, ◌≡◌, ◌<◌, length, length-set, refl, ◌∙◌, ap}
+use Rattle.lot_machine.specs.Machine.{held_by}
 use Rattle.lot_acts.specs.declared.acts.Reply.TheVariants.{Closed}
-use Rattle.lot_acts.specs.Profiles.{Profile, hand_owner}
+use Rattle.lot_acts.specs.Profiles.{hand_owner}
 use Rattle.lot_once.specs.declared.places.OncePlace.TheVariants.{Run}
 use Rattle.lot_once.specs.declared.run.RunAt.TheVariants as run
 use Rattle.lot_steps.specs.declared.places.Place.{Place}
 use Rattle.lot_steps.specs.declared.places.Place.TheVariants.{Once}
-use Rattle.lot_steps.specs.Steps.{act_of, next_place, or_else}
-use Rattle.lot_machine.specs.Machine.{State, can_go, close_outcome, closed_place, go_outcome, going_outcome, place_at, put, state_after_close, state_after_go, state_after_going}
+use Rattle.lot_steps.specs.Steps.{next_place, or_else}
+use Rattle.lot_machine.specs.Machine.{State, can_go, close_outcome, closed_place, going_outcome, place_at, put, state_after_close, state_after_going}
 use Rattle.lot_machine.specs.Fits.{IsShaped}
 use Rattle.lot_machine.proofs.Shape.{closed_fits, put_shaped}
 use Rattle.lot_laws.specs.SitesOf.{AreCounted}
@@ -34,15 +33,6 @@ module _ (w : State) (t : ℕ) (there : t < length w.places) (succeeded : Bool) 
   pub closing_shaped : IsShaped w → IsShaped closing
   closing_shaped shape = put_shaped w t (closed_place w t succeeded) shape (closed_fits w t succeeded shape)
 
-  -- the step of the turn is the step from there
-  same_going : (q : Place) → q ≡ behind → state_after_going w t q ≡ state_after_going (put w t q) t q
-  same_going q e = subst (λ p. state_after_going w t p ≡ state_after_going (put w t p) t p) (sym e)
-      (λ i. record (state_after_going w t behind) { places = sym (set-set w.places t behind (next_place behind (reply_to w t (act_of behind)))) i })
-
-  pub goes_behind : state_after_close w t succeeded ≡ state_after_go closing t
-  goes_behind = same_going (closed_place w t succeeded) is_behind
-      ∙ ap (state_after_going closing t) (sym (closing_here w t there succeeded one))
-
   pub closing_counted : AreCounted w → AreCounted closing
   closing_counted = put_counted w t (closed_place w t succeeded) there
       (let it = like w t there succeeded one in λ i. held_by (hand_owner (or_else (it.row_beside i).hand (it.row i).hand)) (or_else (it.row_beside i).wants (it.row i).wants))
@@ -52,11 +42,9 @@ module _ (w : State) (t : ℕ) (there : t < length w.places) (succeeded : Bool) 
   pub closing_may : can_go closing t ≡ true
   closing_may = rw (closing_here w t there succeeded one, is_behind) refl
 
+  -- the step of the turn is the step from there
   pub goes_there : state_after_close w t succeeded ≡ state_after_going closing t behind
-  goes_there = same_going (closed_place w t succeeded) is_behind ∙ ap (state_after_going closing t) is_behind
+  goes_there = ap (state_after_going closing t) (closing_here w t there succeeded one ∙ is_behind)
 
   pub told_there : close_outcome w t succeeded ≡ going_outcome closing t behind
-  told_there = ap (λ p. going_outcome w t p) is_behind
-
-  pub told_behind : close_outcome w t succeeded ≡ go_outcome closing t
-  told_behind = told_there ∙ sym (ap (λ p. going_outcome closing t p) (closing_here w t there succeeded one ∙ is_behind))
+  told_there = ap (going_outcome closing t) (closing_here w t there succeeded one ∙ is_behind)

@@ -7,9 +7,10 @@ use Rattle.lot_laws.proofs.Counting.{once_counted, condvar_counted}
 use Rattle.lot_once.specs.OnceSteps.{once_next}
 use Rattle.lot_once.specs.declared.run.RunAt.TheVariants as run
 use Rattle.lot_once.specs.declared.places.OncePlace.TheVariants.{Run}
-use Rattle.lot_acts.specs.declared.acts.Reply.TheVariants.{Closed}
-use Rattle.lot_machine.specs.Machine.{closed_place, reply_to, state_after_close}
+use Rattle.lot_machine.specs.Machine.{reply_to, state_after_close}
 use Rattle.lot_laws.proofs.Closures.{RunsOne, closes_one}
+use Rattle.lot_laws.proofs.Closings.{closing, closing_there, is_behind}
+use Rattle.lot_laws.proofs.OwnPlace.{gone, gone_place}
 use Rattle.std.proofs.lemmas.Bool.{cases_eq, ltb-true}
 use Rattle.lot_base.specs.declared.ops.Op.{Op}
 use Rattle.lot_base.specs.declared.ops.Op.TheVariants as operation
@@ -43,9 +44,9 @@ use Rattle.lot_steps.specs.declared.places.Place.TheVariants.{Idle, Mutex, RwLoc
 use Rattle.lot_steps.specs.Steps.{act_of, first_place, late_key, looking, next_place, rwlock_goes}
 use Rattle.abstract_locks.specs.Locks.{LockState}
 use Rattle.abstract_locks.specs.Runs.{IsStep, Turned}
-use Rattle.lot_machine.specs.Machine.{State, after, can_turn, go_reply, held, is_possible, kind_at, place_at, put, reply_to, state_after_act, state_after_go, state_after_going, state_after_hand_over_by, state_after_late_on, state_after_look, state_after_operation, state_after_turn, step_outcome, word_at}
+use Rattle.lot_machine.specs.Machine.{State, after, can_turn, go_reply, held, is_possible, kind_at, place_at, put, reply_to, state_after_act, state_after_hand_over_by, state_after_late_on, state_after_look, state_after_operation, state_after_turn, step_outcome, word_at}
 use Rattle.lot_machine.specs.Fits.{IsShaped}
-use Rattle.lot_machine.proofs.Shape.{after_size, both, performed_counts}
+use Rattle.lot_machine.proofs.Shape.{after_size, both}
 use Rattle.lot_laws.specs.Refinement.{lock_state, locks_of}
 use Rattle.lot_laws.specs.SitesOf.{AreCounted, IsCounted, IsSteady, rules_in}
 use Rattle.lot_laws.proofs.Befallen.{others_keep_it}
@@ -57,7 +58,7 @@ use Rattle.lot_laws.proofs.HandCases.{others_hold}
 use Rattle.lot_laws.proofs.HandsCounted.{counted_stays, same_hand}
 use Rattle.lot_laws.proofs.InHand.{wanted_of}
 use Rattle.lot_laws.proofs.LockSteps.{after_step}
-use Rattle.lot_laws.proofs.Looking.{set_keeps}
+use Rattle.lot_laws.proofs.Looking.{closing_here, closing_steady, looking_steady, set_keeps}
 use Rattle.lot_laws.proofs.TurnsKept.{after_steady}
 
 -- ---------------------------------------------------------------- another thread goes on
@@ -83,6 +84,9 @@ module _ (w v : State) (a : ℕ) (steady : IsSteady w) (behind : IsSteady v) (co
 -- ---------------------------------------------------------------- the thread itself goes on
 
 module _ (w : State) (t : ℕ) (steady : IsSteady w) (counted : AreCounted w) (there : t < length w.places) where
+  abbrev goes_to : Place → State
+  goes_to p = put (state_after_act w t p (act_of p)) t (next_place p (reply_to w t (act_of p)))
+
   -- no place changes but its own, and that is in no hand
   alone_counts : (b : State) (l : ℕ) (k : Counted) (q : Place) → b.places ≡ w.places → counted_on (place_at w t) l ≡ Some k → counted_on q l ≡ Some k → IsCounted (put b t q) t k
   alone_counts b l k q same_places was now = counted_stays w (put b t q) t (length-set b.places t q ∙ ap (λ ps. length ps) same_places) same_wants k (counts_there w t l k counted was)
@@ -99,7 +103,7 @@ module _ (w : State) (t : ℕ) (steady : IsSteady w) (counted : AreCounted w) (t
     told to = reply_to w t (hand_over_act l a x to)
 
     abbrev Counts : HandOverAt → Type 0
-    Counts to = (k : Counted) → counted_next (hand_over_next a x b to (told to)) ≡ Some k → IsCounted (state_after_going w t (at to)) t k
+    Counts to = (k : Counted) → counted_next (hand_over_next a x b to (told to)) ≡ Some k → IsCounted (goes_to (at to)) t k
 
     -- the place says of the hand what it said
     keeps_count : (v : State) (m k : Counted) (to now : HandOverAt) → v.places ≡ w.places → place_at w t ≡ at to → in_hand_of (HandOver x b to) ≡ Some m → in_hand_of (HandOver x b now) ≡ Some m → m ≡ k → IsCounted (put v t (at now)) t k
@@ -167,14 +171,14 @@ module _ (w : State) (t : ℕ) (steady : IsSteady w) (counted : AreCounted w) (t
         by_room true e = handed (seen == expected) e
         by_room false e = let_go (seen == expected) e
 
-    hand_over_counts : (to : HandOverAt) → place_at w t ≡ at to → IsSteady (state_after_going w t (at to)) → Turned (locks_of w) t y o (locks_of (state_after_going w t (at to))) → Counts to
+    hand_over_counts : (to : HandOverAt) → place_at w t ≡ at to → IsSteady (goes_to (at to)) → Turned (locks_of w) t y o (locks_of (goes_to (at to))) → Counts to
     hand_over_counts handing.Load is behind turned k e = absurd (none_is k (in_hand_of (HandOver x b (looked (word_at w l)))) (looked_bare (word_at w l)) e)
     hand_over_counts (handing.Free expected) is behind turned k e = free_counts expected k e
     hand_over_counts handing.Enter is behind turned k e = absurd cc
     hand_over_counts handing.Take is behind turned k e =
         let so : Some (picked_now w t l a x b steady there is) ≡ Some k = sym (took_is x b (picked_now w t l a x b steady there is)) ∙ e in
         let same_count : picked_now w t l a x b steady there is ≡ k = cc in
-        subst (IsCounted (state_after_going w t (at handing.Take)) t) same_count (take_counts w t l a x b steady there is behind y o turned)
+        subst (IsCounted (goes_to (at handing.Take)) t) same_count (take_counts w t l a x b steady there is behind y o turned)
     hand_over_counts (handing.Store m) is behind turned k e = absurd cc
     hand_over_counts (handing.Look m) is behind turned k e = keeps_count (state_after_operation w t (at (handing.Look m)) l operation.Load) m k (handing.Look m) (handing.Exchange m (word_at w l)) refl is refl refl (let z : m ≡ k = cc in z)
     hand_over_counts (handing.Exchange m expected) is behind turned k e = exchange_counts m expected is k e
@@ -183,7 +187,7 @@ module _ (w : State) (t : ℕ) (steady : IsSteady w) (counted : AreCounted w) (t
   -- by the reply to the act of its place
   module _ (y : Turn) (o : Outcome) where
     abbrev Goes : Place → Type 0
-    Goes p = place_at w t ≡ p → IsSteady (state_after_going w t p) → Turned (locks_of w) t y o (locks_of (state_after_going w t p)) → (l : ℕ) (k : Counted) → counted_on (next_place p (reply_to w t (act_of p))) l ≡ Some k → IsCounted (state_after_going w t p) t k
+    Goes p = place_at w t ≡ p → IsSteady (goes_to p) → Turned (locks_of w) t y o (locks_of (goes_to p)) → (l : ℕ) (k : Counted) → counted_on (next_place p (reply_to w t (act_of p))) l ≡ Some k → IsCounted (goes_to p) t k
 
     bare_goes : (j : ℕ) (a : Admission) (c : RwLockCallPlace) → (IsHandOver c → ⊥) → Goes (RwLock j a c)
     bare_goes j a c other is behind turned l k e = absurd (none_is k _ (goes_counted l j a n ∙ ap (λ z. if j == l then z else None) (others_bare a c (reply_to w t (call_act j a c)) other) ∙ nothing (j == l)) e)
@@ -201,7 +205,7 @@ module _ (w : State) (t : ℕ) (steady : IsSteady w) (counted : AreCounted w) (t
         n : Next RwLockCallPlace
         n = call_next a (HandOver x b to) (reply_to w t (call_act j a (HandOver x b to)))
 
-        either : (c : Bool) → (if c then counted_next n else None) ≡ Some k → IsCounted (state_after_going w t (RwLock j a (HandOver x b to))) t k
+        either : (c : Bool) → (if c then counted_next n else None) ≡ Some k → IsCounted (goes_to (RwLock j a (HandOver x b to))) t k
         either true f = hand_over_counts j a x b y o to is behind turned k f
         either false f = absurd cc
     going_counts (RwLock j a (Plain p)) is behind turned l k e = bare_goes j a (Plain p) (λ no. no) is behind turned l k e
@@ -209,15 +213,11 @@ module _ (w : State) (t : ℕ) (steady : IsSteady w) (counted : AreCounted w) (t
     going_counts (RwLock j a (Glance x)) is behind turned l k e = bare_goes j a (Glance x) (λ no. no) is behind turned l k e
     going_counts (RwLock j a (Handed x how b to)) is behind turned l k e = bare_goes j a (Handed x how b to) (λ no. no) is behind turned l k e
 
--- where it goes
-go_place : (w : State) (t : ℕ) → t < length w.places → place_at (state_after_go w t) t ≡ next_place (place_at w t) (go_reply w t)
-go_place w t there = get_or-set_same (state_after_act w t (place_at w t) (act_of (place_at w t))).places t _ Idle (rw ((performed_counts w t (place_at w t) (act_of (place_at w t))).0) there)
-
 module _ (w : State) (t : ℕ) (steady : IsSteady w) (counted : AreCounted w) (there : t < length w.places) where
   -- it looks at the word once more
   spun_counts : (p : Option Place) → looking (place_at w t) ≡ p → (l : ℕ) (k : Counted) → counted_on (place_at (state_after_look w t p) t) l ≡ Some k → IsCounted (state_after_look w t p) t k
   spun_counts None is l k e = counts_there w t l k counted e
-  spun_counts (Some q) is l k e = absurd (none_is k _ (ap (λ p. counted_on p l) (go_place moved t (rw (length-set w.places t q) there) ∙ ap (λ p. next_place p (go_reply moved t)) (get_or-set_same w.places t q Idle there)) ∙ (looks_bare (place_at w t) q is).goes_on (go_reply moved t) l) e)
+  spun_counts (Some q) is l k e = absurd (none_is k _ (ap (λ p. counted_on p l) (gone_place moved t (looking_steady w t there q is steady) (rw (length-set w.places t q) there) ∙ ap (λ p. next_place p (go_reply moved t)) (get_or-set_same w.places t q Idle there)) ∙ (looks_bare (place_at w t) q is).goes_on (go_reply moved t) l) e)
     where
       moved : State
       moved = put w t q
@@ -228,13 +228,19 @@ module _ (w : State) (t : ℕ) (steady : IsSteady w) (counted : AreCounted w) (t
 
   -- a call of a `Once` counts nobody
   closed_bare : (succeeded : Bool) → RunsOne (place_at w t) → (l : ℕ) → counted_on (place_at (state_after_close w t succeeded) t) l ≡ None
-  closed_bare succeeded one l = ap (λ p. counted_on p l) (get_or-set_same (state_after_act w t (closed_place w t succeeded) (act_of (closed_place w t succeeded))).places t _ Idle (rw ((performed_counts w t (closed_place w t succeeded) (act_of (closed_place w t succeeded))).0) there))
-      ∙ ap (λ p. counted_on (next_place p (reply_to w t (act_of p))) l) (ap (λ p. next_place p (Closed succeeded)) one.is)
-      ∙ once_counted l one.lock (once_next (Run one.forced (run.Close succeeded)) (reply_to w t (act_of (Once one.lock (Run one.forced (run.Close succeeded))))))
+  closed_bare succeeded one l =
+      let v = closing w t there succeeded one in
+      ap (λ p. counted_on p l) (gone_place v t (closing_steady w t there succeeded one steady) (closing_there w t there succeeded one))
+      ∙ ap (λ p. counted_on (next_place p (reply_to v t (act_of p))) l) (closing_here w t there succeeded one ∙ is_behind w t there succeeded one)
+      ∙ once_counted l one.lock (once_next (Run one.forced (run.Close succeeded)) (reply_to v t (act_of (Once one.lock (Run one.forced (run.Close succeeded))))))
 
   turned_counts : (x : Turn) → can_turn w t x ≡ true → IsSteady (state_after_turn w t x) → (o : Outcome) → Turned (locks_of w) t x o (locks_of (state_after_turn w t x)) → (l : ℕ) (k : Counted) → counted_on (place_at (state_after_turn w t x) t) l ≡ Some k → IsCounted (state_after_turn w t x) t k
   turned_counts (turn.TheVariants.Begin c) can behind o turned l k e = absurd (none_is k _ (ap (λ p. counted_on p l) (get_or-set_same w.places t (first_place (kind_at w (lock_in c)) c) Idle there) ∙ begins_bare l (kind_at w (lock_in c)) c) e)
-  turned_counts turn.TheVariants.Go can behind o turned l k e = going_counts w t steady counted there turn.TheVariants.Go o (place_at w t) refl behind turned l k (ap (λ p. counted_on p l) (sym (go_place w t there)) ∙ e)
+  turned_counts turn.TheVariants.Go can behind o turned l k e =
+      let same = gone w t steady in
+      subst (λ (v : State). IsCounted v t k) (sym same) (going_counts w t steady counted there turn.TheVariants.Go o (place_at w t) refl
+      (subst IsSteady same behind) (subst (λ (v : State). Turned (locks_of w) t turn.TheVariants.Go o (locks_of v)) same turned) l k
+      (ap (λ p. counted_on p l) (sym (gone_place w t steady there)) ∙ e))
   turned_counts turn.TheVariants.Spin can behind o turned l k e = spun_counts (looking (place_at w t)) refl l k e
   turned_counts turn.TheVariants.Late can behind o turned l k e = late_counts (late_key (place_at w t)) refl l k e
   turned_counts turn.TheVariants.Ok can behind o turned l k e = absurd (none_is k _ (closed_bare true (closes_one w t true can) l) e)

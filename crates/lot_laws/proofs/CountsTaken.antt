@@ -30,7 +30,7 @@ use Rattle.lot_machine.specs.Machine.{State, held, place_at, places_told, put, q
 use Rattle.lot_machine.proofs.QueueLemmas.{told_count}
 use Rattle.lot_laws.proofs.PlacePromises.{calls_one_lock}
 use Rattle.lot_laws.specs.Refinement.{lock_state, locks_of}
-use Rattle.lot_laws.specs.SitesOf.{FitsItsLock, IsCounted, IsSteady, carried_at, rules_in}
+use Rattle.lot_laws.specs.SitesOf.{stations_of, FitsItsLock, IsCounted, IsSteady, carried_at, rules_in}
 use Rattle.lot_laws.specs.Stations.{nowhere, station}
 use Rattle.lot_laws.proofs.AtPlaces.{in_no_hand}
 use Rattle.lot_laws.proofs.Counting.{HasCounted, counting_row, counted_on}
@@ -52,7 +52,7 @@ queued_more (x ∷ xs) = ap (λ n. (if wants_shared x.want then 0 else 1) + n) (
 
 module _ (w : State) (t l : ℕ) (steady : IsSteady w) where
   few_picked : (start : Option Want) → wanting_more (picked (rules_in w l).sort start (lock_state w l).queue) ≤ 1
-  few_picked start = subst (λ q. wanting_more q ≤ 1) (picks_tied (rules_in w l).sort start (2 * l) (queue_at w (2 * l)) (under_of (place_at w) l Main (queue_at w (2 * l)) (steady.stands.waits l Main)))
+  few_picked start = subst (λ q. wanting_more q ≤ 1) (picks_tied (rules_in w l).sort start (2 * l) (queue_at w (2 * l)) (under_of (stations_of (place_at w)) l Main (queue_at w (2 * l)) (steady.stands.waits l Main)))
       (let one : hands.wanting_more (lock_picked start (is_recursive (rules_in w l).sort) (queue_at w (2 * l))) ≤ 1 = one_more_picked start (is_recursive (rules_in w l).sort) (queue_at w (2 * l)) in
       let tied : wanting_more (map queued_of (lock_picked start (is_recursive (rules_in w l).sort) (queue_at w (2 * l)))) ≡ hands.wanting_more (lock_picked start (is_recursive (rules_in w l).sort) (queue_at w (2 * l))) = queued_more (lock_picked start (is_recursive (rules_in w l).sort) (queue_at w (2 * l))) in
       omega arith)

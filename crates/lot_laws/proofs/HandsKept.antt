@@ -35,14 +35,14 @@ use Rattle.lot_laws.specs.Refinement.{taken_at}
 use Rattle.lot_laws.specs.MutexDeeds.{acts}
 use Rattle.lot_laws.specs.MutexDeeds as deeds
 use Rattle.lot_laws.specs.Stations.{Station, station, station_at, nowhere, doing_on}
-use Rattle.lot_laws.specs.SitesOf.{ActsNeeded, HasRoom, IsSteady, Goes, Hands, TakesOne, FitsItsLock, after_acts, rules_in, carried_at, hand_at}
+use Rattle.lot_laws.specs.SitesOf.{stations_of, ActsNeeded, HasRoom, IsSteady, Goes, Hands, TakesOne, FitsItsLock, after_acts, rules_in, carried_at, hand_at}
 use Rattle.lot_laws.proofs.Glue.{free_of, held_calls, Parts, parts_at, lock_in, seen_in, same, put_here, put_other, put_same, IsOf, station_here, untaken, held_taker, thread_is, past_all, singles, IsSingle, of_single, single_taken, single_wants, next_of}
 use Rattle.lot_laws.proofs.KindsKept.{given_kinds}
 use Rattle.lot_laws.proofs.OneStep.{AreQuiet, AreSingle, acts_keep, full_then, fills_by, others_same}
 use Rattle.lot_laws.proofs.ActsKept.{Moves, lock_by, site_by, follows_by}
 use Rattle.lot_laws.proofs.LawsKept.{after_same, needed_same, parked_read, aside_read}
 use Rattle.lot_laws.proofs.StandsKept.{sections_same, lines_same, waits_same, hands_given, calls_in}
-use Rattle.lot_laws.proofs.StandsMoved.{stands_then, hands_in}
+use Rattle.lot_laws.proofs.StandsMoved.{stands_by}
 use Rattle.lot_laws.proofs.ToldKept.{IsTold, HeldHere, has, told, places_then, held_here, told_on, told_off, not_held, in_hand, carries, alike, calls_then, all_parts, places_are}
 
 -- ---------------------------------------------------------------- deeds of many threads
@@ -521,7 +521,7 @@ module _ (w : State) (t l : ℕ) (steady : IsSteady w) (own : IsOf l (place_at w
             by_any false f = absurd (let none : carried_at (place_at w t) l ≡ None = held_before ∙ ap (λ a. in_hand_if a false) f in let g : ◌≡◌ {A = Option Bool} None (Some (at_hand u h).handed) = sym none ∙ held_so in cc)
 
         hands_now : Hands (TakesOne w) places_behind
-        hands_now = hands_given (TakesOne w) (place_at w) places_behind steady.stands.hands t l is_told (station p2).carries
+        hands_now = hands_given (TakesOne w) (stations_of (place_at w)) (stations_of places_behind) steady.stands.hands t l is_told (station p2).carries
             (in_hand w t l steady own there p2 of fits (hand_over_told w t l) (hand t true) all_told free unheld)
             (carries w t l steady own there p2 of fits (hand_over_told w t l) (hand t true) all_told free)
             (λ u h. ((at_hand u h).handed, (at_hand u h).hand)) (λ u b h. held_taker (place_at w u) t l b (singles w steady u) h) some_held full_hand
@@ -532,10 +532,12 @@ module _ (w : State) (t l : ℕ) (steady : IsSteady w) (own : IsOf l (place_at w
         pub hand_over_goes : Goes w v l (acts t own_deeds ++ claims)
         hand_over_goes = record {
           follows = follows_by w v l parts_then places_behind moves r rules (acts t own_deeds ++ claims) (λ h. within) led all_needed coded;
-          stands = stands_then v places_behind places
-              (sections_same (place_at w) places_behind (section_at w) steady.stands.sections (part_kept (λ y. y.inside) (λ h. refl) inside))
-              (lines_same (place_at w) places_behind (queue_at w) (queue_at v) steady.stands.lines (part_kept (λ y. y.stands) (λ h. refl) stands) (λ key. refl))
-              (waits_same (place_at w) places_behind (queue_at w) (queue_at v) steady.stands.waits (part_kept (λ y. y.waits) (λ h. refl) waits) (λ key. refl))
-              (hands_in w v places_behind moves.kinds hands_now)
+          stands = stands_by w v places_behind places moves.kinds
+              (record {
+                sections = sections_same (stations_of (place_at w)) (stations_of places_behind) (section_at w) steady.stands.sections (part_kept (λ y. y.inside) (λ h. refl) inside);
+                lines = lines_same (stations_of (place_at w)) (stations_of places_behind) (queue_at w) (queue_at v) steady.stands.lines (part_kept (λ y. y.stands) (λ h. refl) stands) (λ key. refl);
+                waits = waits_same (stations_of (place_at w)) (stations_of places_behind) (queue_at w) (queue_at v) steady.stands.waits (part_kept (λ y. y.waits) (λ h. refl) waits) (λ key. refl);
+                hands = hands_now;
+              })
               (λ u. calls_in w v (places_behind u) moves.kinds (calls_then w t l steady own there p2 of fits (hand_over_told w t l) (hand t true) all_told free u));
         }

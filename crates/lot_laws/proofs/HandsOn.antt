@@ -270,7 +270,7 @@ module _ (w : State) (t l : ℕ) (a : Admission) (c : RwLockCallPlace) (steady :
 
         by_place : (q : Place) → place_at w u ≡ q → hand_at q l ≡ hand t b → IsGiven w t l b (unshared_then w t l) q
         by_place Idle f h = absurd cc
-        by_place (Condvar j at) f h = absurd (subst (FitsItsLock w) f (steady.stands.calls u))
+        by_place (Condvar j at) f h = absurd (subst (FitsItsLock w) f (steady.stands.calls u)).begun
         by_place (Once j at) f h = either (j == l) refl h
           where
             either : (y : Bool) → (j == l) ≡ y → (if y then station (Once j at) else nowhere).hand ≡ hand t b → IsGiven w t l b (unshared_then w t l) (Once j at)

@@ -121,7 +121,7 @@ module _ (w : State) (t l : ℕ) (a : Admission) (c : RwLockCallPlace) (steady :
     where
       by_place : (q : Place) → place_at w u ≡ q → taken_at q l ≡ Some (record { by = t; want = x }) → IsHandedCall l t alone x q
       by_place Idle f h = absurd cc
-      by_place (Condvar j at) f h = absurd (subst (FitsItsLock w) f (steady.stands.calls u))
+      by_place (Condvar j at) f h = absurd (subst (FitsItsLock w) f (steady.stands.calls u)).begun
       by_place (Once j at) f h = either (j == l) refl h
         where
           either : (y : Bool) → (j == l) ≡ y → taken_from (profile (Once j at)).hand (profile (Once j at)).wants y ≡ Some (record { by = t; want = x }) → IsHandedCall l t alone x (Once j at)

@@ -109,8 +109,8 @@ turned_kinds w t (turn.TheVariants.Begin c) k = refl
 turned_kinds w t turn.TheVariants.Go k = performed_kinds w t (place_at w t) (act_of (place_at w t)) k
 turned_kinds w t turn.TheVariants.Spin k = spun_kinds w t (looking (place_at w t)) k
 turned_kinds w t turn.TheVariants.Late k = late_kinds w t (late_key (place_at w t)) k
-turned_kinds w t turn.TheVariants.Ok k = performed_kinds w t (closed_place w t true) (act_of (closed_place w t true)) k
-turned_kinds w t turn.TheVariants.Err k = performed_kinds w t (closed_place w t false) (act_of (closed_place w t false)) k
+turned_kinds w t turn.TheVariants.Ok k = spun_kinds w t (Some (closed_place w t true)) k
+turned_kinds w t turn.TheVariants.Err k = spun_kinds w t (Some (closed_place w t false)) k
 
 pub after_kinds : (w : State) (s : Step) (k : ℕ) → kind_at (after w s) k ≡ kind_at w k
 after_kinds w s k = either (is_possible w s)

@@ -32,7 +32,7 @@ use Rattle.lot_laws.specs.MutexDeeds.{mutex_station}
 use Rattle.lot_laws.specs.Stations.{Station, station, station_at, station_by}
 use Rattle.lot_laws.specs.SitesOf.{FitsItsLock, IsSteady, key_of, stood_in}
 use Rattle.lot_laws.proofs.Counts.{without_absent}
-use Rattle.lot_laws.proofs.Glue.{IsLock, IsOf, station_here, station_elsewhere, IsSingle, single_late, of_own, singles}
+use Rattle.lot_laws.proofs.Glue.{IsOf, station_here, station_elsewhere, IsSingle, single_late, of_own, singles}
 use Rattle.lot_rwlock.specs.declared.places.Admission.{Admission}
 use Rattle.lot_rwlock.specs.declared.places.RwLockPlace.{RwLockPlace}
 use Rattle.lot_rwlock.specs.declared.places.RwLockAt.{RwLockAt}
@@ -190,7 +190,7 @@ pub line_act : (w : State) (p : Place) (l : ℕ) → FitsItsLock w p → lock_of
 line_act w Idle l fits h = absurd cc
 line_act w (RwLock k a c) l fits h = let e : k ≡ l = cc in subst (λ j. IsLineAct j (station (RwLock k a c)) (act_of (RwLock k a c))) e (call_lines k a c)
 line_act w (Once k at) l fits h = let e : k ≡ l = cc in subst (λ j. IsLineAct j (station (Once k at)) (act_of (Once k at))) e (once_lines k at)
-line_act w (Condvar k at) l fits h = absurd fits
+line_act w (Condvar k at) l fits h = absurd fits.begun
 line_act w (Mutex k at) l fits h = let e : k ≡ l = cc in subst (λ j. IsLineAct j (mutex_station at) (mutex_act k at)) e (mutex_lines k at)
 
 -- a thread that may be late sleeps in a line of its lock

@@ -1,5 +1,5 @@
 -- A thread that steps alone at a lock of two lines: what each of its acts leads to.
-use Rattle.std.proofs.Common.{ℕ, true, false, Bool, Option, Some, None, if◌then◌else◌, ◌≡◌, ◌+◌, ◌*◌, ◌<◌, List, [], ◌∷◌, ◌++◌, length, get_or, map, refl, sym, ◌∙◌, ap, arith, get_or-set_same, get_or-set_other}
+use Rattle.std.proofs.Common.{ℕ, true, false, Bool, Option, Some, None, if◌then◌else◌, ◌≡◌, ◌+◌, ◌*◌, ◌<◌, List, [], ◌∷◌, ◌++◌, length, get_or, map, refl, sym, ◌∙◌, ap, arith, get_or-set_same, get_or-set_other, subst}
 use Rattle.std.proofs.lemmas.Bool.{lt-ltb}
 use Rattle.std.proofs.lemmas.List.{length-map}
 use Rattle.std.proofs.Math.ListN.{get_or-map}
@@ -24,13 +24,14 @@ use Rattle.lot_steps.specs.declared.places.Place.{Place}
 use Rattle.lot_steps.specs.declared.places.Place.TheVariants.{Idle}
 use Rattle.lot_steps.specs.Steps.{act_of, next_place, next_act}
 use Rattle.abstract_locks.specs.Sites.{Line, Main, Second}
-use Rattle.lot_machine.specs.Machine.{State, unlocked, place_at, word_at, section_at, queue_at, put, state_after_hand_over_by, state_after_operation, state_with_sections, queues_with_last, state_after_act, state_after_take, state_after_wake, state_after_go, go_outcome, reply_to, can_do, is_possible, after, step_outcome, go_of}
+use Rattle.lot_machine.specs.Machine.{State, unlocked, place_at, word_at, section_at, queue_at, put, state_after_hand_over_by, state_after_operation, state_with_sections, queues_with_last, state_after_act, state_after_take, state_after_wake, state_after_go, go_outcome, reply_to, can_do, is_possible, after, step_outcome, go_of, going_outcome, state_after_going}
 use Rattle.lot_machine.specs.Fits.{IsShaped, SameSize}
 use Rattle.lot_machine.proofs.Shape.{after_shaped, after_size, main_key_there, performed_counts}
+use Rattle.lot_laws.proofs.OwnPlace.{goes_from_there, told_from_there}
 use Rattle.lot_laws.specs.SitesOf.{AreCounted, IsSteady, RunsInClosures, key_of, stood_in}
 use Rattle.lot_laws.proofs.RunsKept.{running_after}
 use Rattle.lot_laws.specs.Stations.{station, station_at}
-use Rattle.lot_laws.proofs.Glue.{nothing_at, singles}
+use Rattle.lot_laws.proofs.Glue.{nothing_at, singles, IsSingle}
 use Rattle.lot_laws.proofs.Counts.{without_absent}
 use Rattle.lot_laws.proofs.CountsKept.{counted_after}
 use Rattle.lot_laws.proofs.TurnsKept.{after_steady}
@@ -60,11 +61,14 @@ module _ (w : State) (t l : ℕ) (p : Place) (v : ℕ) (q : Line → List Waiter
   possible : can_do w (act_of p) ≡ true → is_possible w (go_of t) ≡ true
   possible can = rw (lt-ltb t (length w.places) f.thread, f.place) can
 
+  single : IsSingle p
+  single = subst IsSingle f.place (singles w f.steady t)
+
   goes : can_do w (act_of p) ≡ true → after w (go_of t) ≡ put (state_after_act w t p (act_of p)) t (next_place p (reply_to w t (act_of p)))
-  goes can = ap (λ b. if b then state_after_go w t else w) (possible can) ∙ ap (λ x. put (state_after_act w t x (act_of x)) t (next_place x (reply_to w t (act_of x)))) f.place
+  goes can = ap (λ b. if b then state_after_go w t else w) (possible can) ∙ ap (state_after_going w t) f.place ∙ goes_from_there w t p f.place single
 
   told : can_do w (act_of p) ≡ true → step_outcome w (go_of t) ≡ outcome_of (next_act p (reply_to w t (act_of p)))
-  told can = ap (λ b. if b then go_outcome w t else outcome.NotNow) (possible can) ∙ ap (λ x. outcome_of (next_act x (reply_to w t (act_of x)))) f.place
+  told can = ap (λ b. if b then go_outcome w t else outcome.NotNow) (possible can) ∙ ap (going_outcome w t) f.place ∙ told_from_there w t p f.place single
 
   -- where the act leads to b, and its reply is this
   comes : (b : State) (reply : Reply) (v2 : ℕ) (q2 : Line → List Waiter) → can_do w (act_of p) ≡ true → state_after_act w t p (act_of p) ≡ b → reply_to w t (act_of p) ≡ reply → word_at b l ≡ v2 → ((m : Line) → queue_at b (key_of l m) ≡ q2 m)

@@ -6,11 +6,12 @@ use Rattle.abstract_locks.specs.Purposes.{rules_of}
 use Rattle.abstract_locks.specs.Codes.{is_marked}
 use Rattle.lot_laws.proofs.OnceGoes.{closes_event, step_event}
 use Rattle.lot_laws.proofs.Looking.{alike_event, closing_here, closing_steady, like}
-use Rattle.lot_laws.proofs.Closings.{closing_shaped, closing_there, goes_behind, goes_there, is_behind, told_behind, told_there}
+use Rattle.lot_laws.proofs.Closings.{closing_shaped, closing_there, goes_there, is_behind, told_there}
+use Rattle.lot_laws.proofs.OwnPlace.{gone, gone_told, goes_from_there, told_from_there}
 use Rattle.abstract_locks.specs.Locks.{OfOnce}
 use Rattle.lot_laws.proofs.Closures.{RunsOne}
 use Rattle.lot_laws.proofs.Closings.{closing}
-use Rattle.lot_machine.specs.Machine.{can_close, close_outcome, closed_place, runs_closure, state_after_close, state_after_going}
+use Rattle.lot_machine.specs.Machine.{can_close, close_outcome, closed_place, runs_closure, state_after_close, state_after_going, can_go}
 use Rattle.lot_once.specs.declared.run.RunAt.TheVariants as run
 use Rattle.lot_once.specs.OnceDeeds.{end_of}
 use Rattle.abstract_locks.specs.Runs.{Closes}
@@ -363,13 +364,13 @@ module _ (w : State) (t : ℕ) (shape : IsShaped w) (steady : IsSteady w) (there
 
     load_stays : (e : Entry) (again : Bool) → place_at w t ≡ Mutex l (Lock e again Load)
         → Stays (locks_of w) t (call_state (place_at w t) (rights w t)) (going_outcome w t (Mutex l (Lock e again Load))) (locks_of (state_after_going w t (Mutex l (Lock e again Load))))
-    load_stays e again is = record {
-      told = decides_on (word_at w l) (is_locked (word_at w l)) (word_at w l == 1);
+    load_stays e again is = subst (λ (v : State). Stays (locks_of w) t (call_state (place_at w t) (rights w t)) (going_outcome w t (Mutex l (Lock e again Load))) (locks_of v)) (sym (goes_from_there w t (Mutex l (Lock e again Load)) is tt)) (record {
+      told = told_from_there w t (Mutex l (Lock e again Load)) is tt ∙ decides_on (word_at w l) (is_locked (word_at w l)) (word_at w l == 1);
       locks = locks_stay;
       calls = λ u. put_is (λ x. call_state (place_at w x) (rights w x)) t (call_state (place_at w t) (rights w t)) u _
           (λ e. rw e (λ i. place_then i (rights_stay t i)))
           (λ ne. λ i. call_state (get_or-set_other w.places t u (next_place (Mutex l (Lock e again Load)) (Value (word_at w l))) Idle ne i) (rights_stay u i));
-    }
+    })
       where
         decided : State
         decided = behind (Lock e again Load) is refl tt
@@ -389,6 +390,11 @@ module _ (w : State) (t : ℕ) (shape : IsShaped w) (steady : IsSteady w) (there
   go_goes counted (Once l at) is fits of can = once_step w t l at steady shape there fits is can
   go_goes counted (RwLock l a c) is fits of can = rwlock_step w t l a c steady shape there fits is counted can
   go_goes counted (Mutex l at) is fits of can = mutex_goes_on l fits.0 (mutex_rules (kind_at w l) of) at is can fits.1
+
+  going_goes : AreCounted w → can_go w t ≡ true → GoesOn (locks_of w) t (go_outcome w t) (locks_of (state_after_go w t))
+  going_goes counted can = subst (λ o. GoesOn (locks_of w) t o (locks_of (state_after_go w t))) (sym (gone_told w t steady))
+      (subst (λ v. GoesOn (locks_of w) t (outcome_of (next_act (place_at w t) (go_reply w t))) (locks_of v)) (sym (gone w t steady))
+      (go_goes counted (place_at w t) refl (shape.places t) (steady.stands.calls t) can))
 
   -- ---------------------------------------------------------------- turns by which the place alone changes
 
@@ -414,7 +420,7 @@ module _ (w : State) (t : ℕ) (shape : IsShaped w) (steady : IsSteady w) (there
   late_goes : (p : Place) → place_at w t ≡ p → is_free_under w (late_key p) ≡ true
       → Stays (locks_of w) t (record (call_state p (rights w t)) { late = true }) outcome.TheVariants.Step (locks_of (state_after_late_on w t (late_key p)))
   late_goes Idle is can = absurd cc
-  late_goes (Condvar l at) is can = absurd (subst (FitsItsLock w) is (steady.stands.calls t))
+  late_goes (Condvar l at) is can = absurd (subst (FitsItsLock w) is (steady.stands.calls t)).begun
   late_goes (Once l at) is can = by_line (once_profile at).late_line refl can
     where
       by_line : (m : Option Line) → (once_profile at).late_line ≡ m → is_free_under w (key_in (Some l) m) ≡ true
@@ -494,7 +500,7 @@ module _ (w : State) (t : ℕ) (shape : IsShaped w) (steady : IsSteady w) (there
 
   look_stays : (p : Place) → place_at w t ≡ p → IsOfMutex (locks_of w) (call_state p (rights w t)).purpose → Stays (locks_of w) t ((locks_of w).calls t) (go_outcome moved t) (locks_of (state_after_go moved t))
   look_stays Idle e of = absurd of
-  look_stays (Condvar l at) e of = absurd (subst (FitsItsLock w) e (steady.stands.calls t))
+  look_stays (Condvar l at) e of = absurd (subst (FitsItsLock w) e (steady.stands.calls t)).begun
   look_stays (Once l at) e of = absurd (let calls : FitsItsLock w (Once l at) = subst (FitsItsLock w) e (steady.stands.calls t) in once_no_mutex w l at calls (rights w t) of)
   look_stays (RwLock l a c) e of = absurd (let calls : FitsItsLock w (RwLock l a c) = subst (FitsItsLock w) e (steady.stands.calls t) in not_mutex w l a c calls.0 (rights w t) of)
   look_stays (Mutex l at) e of = let loads = mutex_looks l at q (ap looking (sym e) ∙ is) in
@@ -511,7 +517,7 @@ module _ (w : State) (t : ℕ) (shape : IsShaped w) (steady : IsSteady w) (there
   looks : AreCounted w → Looks (locks_of w) t (go_outcome moved t) (locks_of (state_after_go moved t))
   looks counted = record {
     goes = goes_as_before w t there q is _ (locks_of (state_after_go moved t))
-        (go_goes moved t shaped_moved steady_moved there_moved (looking_counted w t there q is counted) (place_at moved t) refl (shaped_moved.places t) (steady_moved.stands.calls t) (looks_now w t there q is));
+        (going_goes moved t shaped_moved steady_moved there_moved (looking_counted w t there q is counted) (looks_now w t there q is));
     stays = λ of. look_stays (place_at w t) refl of;
   }
 
@@ -703,8 +709,8 @@ module _ (w : State) (t : ℕ) (shape : IsShaped w) (steady : IsSteady w) (there
       v = closing w t there succeeded one
 
       ended : (g : GoesOn (locks_of w) t (close_outcome w t succeeded) (locks_of (state_after_close w t succeeded))) × (g.event ≡ AtLock one.lock (OfOnce (end_of succeeded)))
-      ended = subst (λ x. (g : GoesOn (locks_of w) t (close_outcome w t succeeded) (locks_of x)) × (g.event ≡ AtLock one.lock (OfOnce (end_of succeeded)))) (sym (goes_there w t there succeeded one))
-          (subst (λ o. (g : GoesOn (locks_of w) t o (locks_of (state_after_going v t (Once one.lock at)))) × (g.event ≡ AtLock one.lock (OfOnce (end_of succeeded)))) (sym (told_there w t there succeeded one))
+      ended = subst (λ x. (g : GoesOn (locks_of w) t (close_outcome w t succeeded) (locks_of x)) × (g.event ≡ AtLock one.lock (OfOnce (end_of succeeded)))) (sym (goes_there w t there succeeded one ∙ goes_from_there v t (Once one.lock at) is_v tt))
+          (subst (λ o. (g : GoesOn (locks_of w) t o (locks_of (go_by v t (Once one.lock at) (act_of (Once one.lock at))))) × (g.event ≡ AtLock one.lock (OfOnce (end_of succeeded)))) (sym (told_there w t there succeeded one ∙ told_from_there v t (Once one.lock at) is_v tt))
           (alike_event w t there (closed_place w t succeeded) (like w t there succeeded one) _ _ (AtLock one.lock (OfOnce (end_of succeeded)))
           (once_step v t one.lock at steady_v shape_v there_v lt is_v refl, step_event v t one.lock at steady_v shape_v there_v lt is_v refl ∙ closes_event one.lock succeeded (is_marked (word_at v one.lock)))))
         where
@@ -725,7 +731,7 @@ module _ (w : State) (t : ℕ) (shape : IsShaped w) (steady : IsSteady w) (there
 
   turned_does : AreCounted w → (x : Turn) → can_turn w t x ≡ true → MayTurn (locks_of w) t x × Does (locks_of w) t x (turn_outcome w t x) (locks_of (state_after_turn w t x))
   turned_does counted (turn.TheVariants.Begin c) can = begin_goes w t c shape steady there can
-  turned_does counted turn.TheVariants.Go can = (may_go w t can, go_goes w t shape steady there counted (place_at w t) refl (shape.places t) (steady.stands.calls t) can)
+  turned_does counted turn.TheVariants.Go can = (may_go w t can, going_goes w t shape steady there counted can)
   turned_does counted turn.TheVariants.Spin can = (can, by_look (looking (place_at w t)) refl can)
     where
       by_look : (o : Option Place) → looking (place_at w t) ≡ o → is_some o ≡ true → Looks (locks_of w) t (look_outcome w t o) (locks_of (state_after_look w t o))
@@ -759,12 +765,12 @@ module _ (w : State) (t : ℕ) (there : t < length w.places) where
   put_sleeps b p size = ap (λ q. sleeps (act_of q)) (get_or-set_same b.places t p Idle (rw size there))
 
   told_going : (go_outcome w t ≡ outcome.TheVariants.Sleep) ↔ (sleeps (act_of (place_at (state_after_go w t) t)) ≡ true)
-  told_going = rw (put_sleeps (state_after_act w t (place_at w t) (act_of (place_at w t))) (next_place (place_at w t) (go_reply w t)) (performed_counts w t (place_at w t) (act_of (place_at w t))).0)
-      (told_gone (place_at w t) (go_reply w t))
+  told_going = let acted = state_after_act w t (place_at w t) (act_of (place_at w t)) in
+      rw (put_sleeps acted (next_place (place_at acted t) (go_reply w t)) (performed_counts w t (place_at w t) (act_of (place_at w t))).0) (told_gone (place_at acted t) (go_reply w t))
 
 module _ (w : State) (t : ℕ) (shape : IsShaped w) (steady : IsSteady w) (there : t < length w.places) where
   closed_sections : (succeeded : Bool) → can_close w t succeeded ≡ true → (key : ℕ) → SectionChanges (section_at w key) t (section_at (state_after_close w t succeeded) key)
-  closed_sections succeeded can key = let one = closes_one w t succeeded can in inl (ap (λ p. section_at (state_after_going w t (next_place p (reply.Closed succeeded))) key) one.is)
+  closed_sections succeeded can key = let one = closes_one w t succeeded can in inl (ap (λ (v : State). section_at v key) (goes_there w t there succeeded one))
 
   turned_sections : (x : Turn) → can_turn w t x ≡ true → (key : ℕ) → SectionChanges (section_at w key) t (section_at (state_after_turn w t x) key)
   turned_sections (turn.TheVariants.Begin c) can key = inl refl
@@ -779,10 +785,7 @@ module _ (w : State) (t : ℕ) (shape : IsShaped w) (steady : IsSteady w) (there
   turned_sections turn.TheVariants.Err can key = closed_sections false can key
 
   closed_told : (succeeded : Bool) → can_close w t succeeded ≡ true → (close_outcome w t succeeded ≡ outcome.TheVariants.Sleep) ↔ (sleeps (act_of (place_at (state_after_close w t succeeded) t)) ≡ true)
-  closed_told succeeded can = let one = closes_one w t succeeded can in
-      subst (λ o. (o ≡ outcome.TheVariants.Sleep) ↔ (sleeps (act_of (place_at (state_after_close w t succeeded) t)) ≡ true)) (sym (told_behind w t there succeeded one))
-      (subst (λ x. (go_outcome (closing w t there succeeded one) t ≡ outcome.TheVariants.Sleep) ↔ (sleeps (act_of (place_at x t)) ≡ true)) (sym (goes_behind w t there succeeded one))
-      (told_going (closing w t there succeeded one) t (closing_there w t there succeeded one)))
+  closed_told succeeded can = let one = closes_one w t succeeded can in told_going (closing w t there succeeded one) t (closing_there w t there succeeded one)
 
   turned_told : (x : Turn) → can_turn w t x ≡ true → (turn_outcome w t x ≡ outcome.TheVariants.Sleep) ↔ (sleeps (act_of (place_at (state_after_turn w t x) t)) ≡ true)
   turned_told (turn.TheVariants.Begin c) can = told_step _ (put_sleeps w t there w (first_place (kind_at w (lock_in c)) c) refl ∙ begins_awake (kind_at w (lock_in c)) c)
@@ -797,13 +800,11 @@ module _ (w : State) (t : ℕ) (shape : IsShaped w) (steady : IsSteady w) (there
   turned_told turn.TheVariants.Err can = closed_told false can
 
   going_runs : (v : State) → t < length v.places → is_closure (go_outcome v t) ≡ runs_closure (act_of (place_at (state_after_go v t) t))
-  going_runs v there_v = closure_gone (place_at v t) (go_reply v t)
-      ∙ sym (ap (λ p. runs_closure (act_of p)) (get_or-set_same (state_after_act v t (place_at v t) (act_of (place_at v t))).places t (next_place (place_at v t) (go_reply v t)) Idle (rw (performed_counts v t (place_at v t) (act_of (place_at v t))).0 there_v)))
+  going_runs v there_v = let acted = state_after_act v t (place_at v t) (act_of (place_at v t)) in closure_gone (place_at acted t) (go_reply v t)
+      ∙ sym (ap (λ p. runs_closure (act_of p)) (get_or-set_same acted.places t (next_place (place_at acted t) (go_reply v t)) Idle (rw (performed_counts v t (place_at v t) (act_of (place_at v t))).0 there_v)))
 
   closing_runs : (succeeded : Bool) → can_close w t succeeded ≡ true → is_closure (close_outcome w t succeeded) ≡ runs_closure (act_of (place_at (state_after_close w t succeeded) t))
-  closing_runs succeeded can = let one = closes_one w t succeeded can in
-      ap is_closure (told_behind w t there succeeded one) ∙ going_runs (closing w t there succeeded one) (closing_there w t there succeeded one)
-      ∙ sym (ap (λ x. runs_closure (act_of (place_at x t))) (goes_behind w t there succeeded one))
+  closing_runs succeeded can = let one = closes_one w t succeeded can in going_runs (closing w t there succeeded one) (closing_there w t there succeeded one)
 
   late_runs : (o : Option ℕ) → late_key (place_at w t) ≡ o → is_free_under w o ≡ true → false ≡ runs_closure (act_of (place_at (state_after_late_on w t o) t))
   late_runs None e can = absurd cc

@@ -58,7 +58,7 @@ of_lock l o e = rw e refl
 -- it is in the same call, of a lock of its sort
 calls_on : (w : State) (p q : Place) → looking p ≡ Some q → FitsItsLock w p → FitsItsLock w q
 calls_on w Idle q is calls = absurd cc
-calls_on w (Condvar l at) q is calls = absurd calls
+calls_on w (Condvar l at) q is calls = absurd calls.begun
 calls_on w (Once l at) q is calls = by_place (once_looking at) is
   where
     by_place : (o : Option OncePlace) → in_once l o ≡ Some q → FitsItsLock w q

@@ -35,7 +35,7 @@ use Rattle.lot_machine.specs.Machine.{State, place_at, word_at, queue_at, sectio
 use Rattle.lot_laws.specs.Refinement.{taken_at}
 use Rattle.lot_laws.specs.MutexDeeds.{acts}
 use Rattle.lot_laws.specs.Stations.{station, station_at, doing_on}
-use Rattle.lot_laws.specs.SitesOf.{ActsNeeded, AreWaiting, IsSteady, Goes, FitsItsLock, TakesOne, after_acts, rules_in, key_of, stood_in, carried_at, hand_at}
+use Rattle.lot_laws.specs.SitesOf.{stations_of, ActsNeeded, AreWaiting, IsSteady, Goes, FitsItsLock, TakesOne, after_acts, rules_in, key_of, stood_in, carried_at, hand_at}
 use Rattle.lot_laws.proofs.Counts.{without_absent, first_times, none_first}
 use Rattle.lot_laws.proofs.Glue.{free_of, held_calls, IsOf, IsLock, IsHeldBy, held_where, held_taker, nothing_at, next_of, inside_is, parts_at, lock_in, same, put_here, doing_here, station_here, lets_nobody, singles, of_single, IsSingle, single_station, single_taken, single_wants, of_lock}
 use Rattle.lot_laws.proofs.OneStep.{AreSingle, HasOneCase, steps_by, empty_line, queued_times, queued_without}
@@ -428,7 +428,7 @@ module _ (w : State) (t l : ℕ) (steady : IsSteady w) (there : t < length w.pla
         let k = by_calls (place_at w y.thread) (singles w steady y.thread) (λ (y : Station). y.stands) Second refl (stands_aside y.thread first) in by_sleeper k.0 k.1 (asleep y.thread k.0)
       where
         waits_there : (station_at (place_at w y.thread) l).waits ≡ Some y.want
-        waits_there = (subst (AreWaiting (place_at w) l Second) e (steady.stands.waits l Second)).0.1
+        waits_there = (subst (AreWaiting (stations_of (place_at w)) l Second) e (steady.stands.waits l Second)).0.1
 
         by_sleeper : calls (place_at w y.thread) l ≡ true → (station (place_at w y.thread)).stands ≡ Some Second → (z : IsSleeper y.thread) → y.want ≡ Exclusive
         by_sleeper calls_l h z = let a = z.waits.aside (sym (ap (λ (y : Profile). y.stands) z.row) ∙ h) in
@@ -572,7 +572,7 @@ module _ (w : State) (t l : ℕ) (steady : IsSteady w) (there : t < length w.pla
         then_at = next_place (place_at w t) told_picked
 
         under : AllUnder (2 * l) (queue_at w (2 * l))
-        under = under_of (place_at w) l Main (queue_at w (2 * l)) (steady.stands.waits l Main)
+        under = under_of (stations_of (place_at w)) l Main (queue_at w (2 * l)) (steady.stands.waits l Main)
 
         counted : (u : ℕ) → times u chosen + times u others ≡ times u (queue_at w (2 * l))
         counted u = picked_counts u (2 * l) (lock_picker start (is_recursive r.sort)) (queue_at w (2 * l)) under

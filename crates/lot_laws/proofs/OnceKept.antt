@@ -221,7 +221,7 @@ module _ (w : State) (t l : ℕ) (at : OncePlace) (steady : IsSteady w) (shape :
 
       by_place : (q : Place) → place_at w u ≡ q → calls q l ≡ true → IsSleeper w t l steady there own (rules_in w l) refl (once_move at) same_row u
       by_place Idle e g = absurd cc
-      by_place (Condvar k at) e g = absurd (subst (FitsItsLock w) e (steady.stands.calls u))
+      by_place (Condvar k at) e g = absurd (subst (FitsItsLock w) e (steady.stands.calls u)).begun
       by_place (Mutex k m) e g = absurd (of_mutex k m e (eqb-true k l g))
       by_place (RwLock k a c) e g = absurd (of_rwlock k a c e (eqb-true k l g))
       by_place (Once k p) e g = record {

@@ -1,13 +1,12 @@
 -- A step changes one word at most, or queues whose sections its thread is in.
 use Rattle.std.proofs.Common.{subst, sym, ℕ, Bool, true, false, Option, Some, None, if◌then◌else◌, ◌≡◌, ◌<◌, ◌⊎◌, inl, inr, List, [], ◌∷◌, ◌++◌, get_or, set, map, drop, refl, ◌∙◌, ap, get_or-set_other}
 use Rattle.lot_acts.specs.declared.acts.Reply.TheVariants.{Value}
-use Rattle.lot_steps.specs.declared.places.Place.TheVariants.{Once}
 use Rattle.lot_once.specs.OnceSteps.{word_behind}
-use Rattle.lot_once.specs.declared.run.RunAt.TheVariants as run
-use Rattle.lot_once.specs.declared.places.OncePlace.TheVariants.{Run}
-use Rattle.lot_acts.specs.declared.acts.Reply.TheVariants.{Closed}
-use Rattle.lot_machine.specs.Machine.{state_after_close, state_after_going, state_after_operation}
+use Rattle.lot_machine.specs.Machine.{state_after_close, state_after_operation, closed_place}
 use Rattle.lot_laws.proofs.Closures.{RunsOne, closes_one}
+use Rattle.lot_laws.proofs.Closings.{behind, closing, goes_there, is_behind}
+use Rattle.lot_laws.proofs.Looking.{closing_here}
+use Rattle.lot_laws.proofs.OwnPlace.{goes_from_there}
 use Rattle.std.proofs.lemmas.Bool.{cases_eq, ltb-true}
 use Rattle.lot_base.specs.declared.keys.Keys.{Keys}
 use Rattle.lot_base.specs.declared.keys.Keys.TheVariants.{One, Two}
@@ -141,15 +140,19 @@ module _ (w : State) (t : ℕ) (steady : IsSteady w) (there : t < length w.place
 
   -- behind its closure it swaps the word of its `Once`
   closed_one : (succeeded : Bool) → RunsOne (place_at w t) → ChangesOneThing w t (state_after_close w t succeeded)
-  closed_one succeeded one = subst (λ q. ChangesOneThing w t (state_after_going w t q)) (sym (ap (λ p. next_place p (Closed succeeded)) one.is))
-      (put_one w (state_after_operation w t (behind succeeded one) one.lock (op.TheVariants.Swap (word_behind succeeded))) t t (next_place (behind succeeded one) (Value (word_at w one.lock))) (word_one (behind succeeded one) one.lock (op.TheVariants.Swap (word_behind succeeded))))
+  closed_one succeeded one = subst (ChangesOneThing w t) (sym (goes_there w t there succeeded one ∙ goes_from_there (closing w t there succeeded one) t swaps (closing_here w t there succeeded one ∙ is_behind w t there succeeded one) tt))
+      (put_one w (put swapped t (closed_place w t succeeded)) t t (next_place swaps (Value (word_at w one.lock))) (put_one w swapped t t (closed_place w t succeeded) (word_one swaps one.lock (op.TheVariants.Swap (word_behind succeeded)))))
     where
-      behind : Bool → RunsOne (place_at w t) → Place
-      behind succeeded one = Once one.lock (Run one.forced (run.Close succeeded))
+      swaps : Place
+      swaps = behind w t there succeeded one
+
+      swapped : State
+      swapped = state_after_operation w t swaps one.lock (op.TheVariants.Swap (word_behind succeeded))
 
   turned_one : (x : Turn) → can_turn w t x ≡ true → ChangesOneThing w t (state_after_turn w t x)
   turned_one (turn.TheVariants.Begin c) can = put_one w w t t (first_place (kind_at w (lock_in c)) c) stays
-  turned_one turn.TheVariants.Go can = put_one w (state_after_act w t (place_at w t) (act_of (place_at w t))) t t (next_place (place_at w t) (go_reply w t)) (gone_one (lock_of (place_at w t)) refl)
+  turned_one turn.TheVariants.Go can = let acted = state_after_act w t (place_at w t) (act_of (place_at w t)) in
+      put_one w acted t t (next_place (place_at acted t) (go_reply w t)) (gone_one (lock_of (place_at w t)) refl)
   turned_one turn.TheVariants.Spin can = spin_one (looking (place_at w t)) refl
   turned_one turn.TheVariants.Late can = late_one (late_key (place_at w t))
   turned_one turn.TheVariants.Ok can = closed_one true (closes_one w t true can)

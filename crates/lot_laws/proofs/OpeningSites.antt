@@ -8,7 +8,6 @@ use Rattle.lot_calls.specs.declared.kinds.TheConstants.{MOST_READERS}
 use Rattle.lot_calls.specs.Kinds.{fits}
 use Rattle.lot_steps.specs.declared.places.Place.TheVariants.{Idle}
 use Rattle.abstract_locks.specs.Locks.{Rules, Sort, opening_lock}
-use Rattle.abstract_locks.specs.Locks as locks
 use Rattle.abstract_locks.specs.Codes.{code, parked_in, aside_in, HasLimit}
 use Rattle.abstract_locks.specs.Purposes.{rules_of}
 use Rattle.abstract_locks.specs.Sites.{Site, IsSite, opening_site, is_full, has_readers}

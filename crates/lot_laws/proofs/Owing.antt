@@ -1,9 +1,11 @@
 -- Who owes a wake does so since it saw waiters, or since it entered the section.
+use Rattle.lot_acts.specs.Acts.{outcome_of}
 use Rattle.lot_laws.specs.Promises.{CallsOneLock}
 use Rattle.std.proofs.Common.{ℕ, Bool, true, false, Option, Some, None, if◌then◌else◌, ◌≡◌, ◌≢◌, ◌<◌, ◌⊎◌, ◌↔◌, inl, inr, length, refl, sym, ◌∙◌, ap, subst, get_or-set_same, nat_lt, is_some, length-set}
 use Rattle.lot_machine.specs.Machine.{closed_place}
 use Rattle.lot_laws.proofs.Looking.{alike_calls, closing_steady, like}
-use Rattle.lot_laws.proofs.Closings.{closing, closing_there, goes_behind, told_behind}
+use Rattle.lot_laws.proofs.Closings.{closing, closing_there}
+use Rattle.lot_laws.proofs.OwnPlace.{gone_place, gone_told}
 use Rattle.lot_machine.specs.Machine.{close_outcome, state_after_close}
 use Rattle.lot_laws.proofs.Closures.{RunsOne, closes_one}
 use Rattle.std.proofs.lemmas.Bool.{ltb-true}
@@ -19,8 +21,8 @@ use Rattle.lot_acts.specs.declared.acts.Reply.TheVariants.{Late}
 use Rattle.lot_steps.specs.declared.places.Place.{Place}
 use Rattle.lot_steps.specs.declared.places.Place.TheVariants.{Idle}
 use Rattle.lot_calls.specs.Calls.{lock_in}
-use Rattle.lot_steps.specs.Steps.{act_of, next_place, first_place, is_idle, looking, late_key, lock_of, line_owed, profile}
-use Rattle.lot_machine.specs.Machine.{State, place_at, word_at, state_after_act, state_after_go, go_reply, go_outcome, is_free_under, is_open_to, can_begin, state_after_begin, can_turn, turn_outcome, kind_at, put, state_after_look, look_outcome, state_after_late_on, state_after_turn, is_possible, after, step_outcome}
+use Rattle.lot_steps.specs.Steps.{act_of, next_place, first_place, is_idle, looking, late_key, lock_of, line_owed, profile, next_act}
+use Rattle.lot_machine.specs.Machine.{State, place_at, word_at, state_after_go, go_reply, go_outcome, is_free_under, is_open_to, can_begin, state_after_begin, can_turn, turn_outcome, kind_at, put, state_after_look, look_outcome, state_after_late_on, state_after_turn, is_possible, after, step_outcome}
 use Rattle.lot_laws.proofs.Befallen.{others_keep_it}
 use Rattle.lot_laws.specs.Refinement.{call_on}
 use Rattle.abstract_locks.specs.Locks.{Rights}
@@ -28,7 +30,7 @@ use Rattle.lot_laws.specs.Owing.{Owes, IsInside, SeesWaiters, OwesSince, OnlyLoo
 use Rattle.lot_machine.specs.Fits.{IsShaped}
 use Rattle.abstract_locks.specs.Sites.{Line}
 use Rattle.lot_laws.specs.SitesOf.{AreCounted, IsSteady, key_of}
-use Rattle.lot_machine.proofs.Shape.{both, performed_counts}
+use Rattle.lot_machine.proofs.Shape.{both}
 use Rattle.lot_laws.proofs.TurnsKept.{idle_is, after_steady}
 use Rattle.lot_laws.proofs.Glue.{IsLock, next_of, calls_none, singles, of_lock_of, of_own}
 use Rattle.lot_laws.proofs.Looking.{looking_steady, calls_same}
@@ -111,14 +113,14 @@ module _ (w v : State) (t : ℕ) (steady : IsSteady w) (behind : IsSteady v) whe
     row_then h = ap (λ p. (profile p).owes) (sym at_q) ∙ sym (owed_own (place_at v t) l (owes_own (place_at v t) l m (singles v behind t) h) (singles v behind t)) ∙ h
 
   -- it goes on by the reply to its act
-  go_owes : place_at v t ≡ next_place (place_at w t) (go_reply w t) → (l : ℕ) (m : Line) → Owes v t l m ↔ (IsInside v t l m ⊎ SeesWaiters w t l m (go_outcome w t) v)
+  go_owes : place_at v t ≡ next_place (place_at w t) (go_reply w t) → (l : ℕ) (m : Line) → Owes v t l m ↔ (IsInside v t l m ⊎ SeesWaiters w t l m (outcome_of (next_act (place_at w t) (go_reply w t))) v)
   go_owes at_q l m = (since, λ h. elim h [ inl i ↦ inside_then q at_q l m o i | inr s ↦ saw s ])
     where
       q : Place
       q = next_place (place_at w t) (go_reply w t)
 
       o : Outcome
-      o = go_outcome w t
+      o = outcome_of (next_act (place_at w t) (go_reply w t))
 
       own_before : lock_of q ≡ Some l → (x : Option ℕ) → lock_of (place_at w t) ≡ x → x ≡ Some l
       own_before own None e = absurd (let f : lock_of q ≡ None = ap (λ p. lock_of (next_place p (go_reply w t))) (calls_none (place_at w t) e) in let g : ◌≡◌ {A = Option ℕ} None (Some l) = sym f ∙ own in cc)
@@ -163,9 +165,10 @@ module _ (w v : State) (t : ℕ) (steady : IsSteady w) (behind : IsSteady v) whe
     λ h. elim h [ inl i ↦ inside_then q at_q l m o i | inr s ↦ absurd (shut l s.0) ],
   )
 
-module _ (w : State) (t : ℕ) (there : t < length w.places) where
-  go_place : place_at (state_after_go w t) t ≡ next_place (place_at w t) (go_reply w t)
-  go_place = get_or-set_same (state_after_act w t (place_at w t) (act_of (place_at w t))).places t _ Idle (rw ((performed_counts w t (place_at w t) (act_of (place_at w t))).0) there)
+gone_owes : (w : State) (t : ℕ) (steady : IsSteady w) (there : t < length w.places) → IsSteady (state_after_go w t) → (l : ℕ) (m : Line)
+    → Owes (state_after_go w t) t l m ↔ (IsInside (state_after_go w t) t l m ⊎ SeesWaiters w t l m (go_outcome w t) (state_after_go w t))
+gone_owes w t steady there behind l m = let v = state_after_go w t in
+    subst (λ o. Owes v t l m ↔ (IsInside v t l m ⊎ SeesWaiters w t l m o v)) (sym (gone_told w t steady)) (go_owes w v t steady behind (gone_place w t steady there) l m)
 
 module _ (w : State) (t : ℕ) (shape : IsShaped w) (steady : IsSteady w) (there : t < length w.places) where
   begun_owing : (c : Call) → can_begin w t c ≡ true → IsSteady (state_after_begin w t c) → (l : ℕ) (m : Line) (o : Outcome) → Owes (state_after_begin w t c) t l m ↔ (IsInside (state_after_begin w t c) t l m ⊎ SeesWaiters w t l m o (state_after_begin w t c))
@@ -189,23 +192,21 @@ module _ (w : State) (t : ℕ) (shape : IsShaped w) (steady : IsSteady w) (there
       → Owes (state_after_look w t o) t l m ↔ (IsInside (state_after_look w t o) t l m ⊎ SeesWaiters w t l m (look_outcome w t o) (state_after_look w t o))
   spun_owing None is can behind l m = absurd cc
   spun_owing (Some q) is can behind l m = subst (λ (c : CallState). Owes (state_after_go (put w t q) t) t l m ↔ (IsInside (state_after_go (put w t q) t) t l m ⊎ SeesBy w t l m (go_outcome (put w t q) t) (state_after_go (put w t q) t) c)) (calls_same w t there q is t)
-      (go_owes (put w t q) (state_after_go (put w t q) t) t (looking_steady w t there q is steady) behind (go_place (put w t q) t (rw (length-set w.places t q) there)) l m)
+      (gone_owes (put w t q) t (looking_steady w t there q is steady) (rw (length-set w.places t q) there) behind l m)
 
   -- its closure has answered, and it is in its call as before
   closed_owing : (succeeded : Bool) (one : RunsOne (place_at w t)) → IsSteady (state_after_close w t succeeded) → (l : ℕ) (m : Line)
       → Owes (state_after_close w t succeeded) t l m ↔ (IsInside (state_after_close w t succeeded) t l m ⊎ SeesWaiters w t l m (close_outcome w t succeeded) (state_after_close w t succeeded))
   closed_owing succeeded one behind l m =
-      subst (λ o. Owes (state_after_close w t succeeded) t l m ↔ (IsInside (state_after_close w t succeeded) t l m ⊎ SeesWaiters w t l m o (state_after_close w t succeeded))) (sym (told_behind w t there succeeded one))
-      (subst (λ x. Owes x t l m ↔ (IsInside x t l m ⊎ SeesWaiters w t l m (go_outcome v t) x)) (sym (goes_behind w t there succeeded one))
-      (subst (λ (c : CallState). Owes (state_after_go v t) t l m ↔ (IsInside (state_after_go v t) t l m ⊎ SeesBy w t l m (go_outcome v t) (state_after_go v t) c)) (alike_calls w t there (closed_place w t succeeded) (like w t there succeeded one) t)
-      (go_owes v (state_after_go v t) t (closing_steady w t there succeeded one steady) (subst IsSteady (goes_behind w t there succeeded one) behind) (go_place v t (closing_there w t there succeeded one)) l m)))
+      subst (λ (c : CallState). Owes (state_after_go v t) t l m ↔ (IsInside (state_after_go v t) t l m ⊎ SeesBy w t l m (go_outcome v t) (state_after_go v t) c)) (alike_calls w t there (closed_place w t succeeded) (like w t there succeeded one) t)
+      (gone_owes v t (closing_steady w t there succeeded one steady) (closing_there w t there succeeded one) behind l m)
     where
       v : State
       v = closing w t there succeeded one
 
   turned_owing : (x : Turn) → can_turn w t x ≡ true → IsSteady (state_after_turn w t x) → (l : ℕ) (m : Line) → Owes (state_after_turn w t x) t l m ↔ (IsInside (state_after_turn w t x) t l m ⊎ SeesWaiters w t l m (turn_outcome w t x) (state_after_turn w t x))
   turned_owing (turn.TheVariants.Begin c) can behind l m = begun_owing c can behind l m outcome.TheVariants.Step
-  turned_owing turn.TheVariants.Go can behind l m = go_owes w (state_after_go w t) t steady behind (go_place w t there) l m
+  turned_owing turn.TheVariants.Go can behind l m = gone_owes w t steady there behind l m
   turned_owing turn.TheVariants.Spin can behind l m = spun_owing (looking (place_at w t)) refl can behind l m
   turned_owing turn.TheVariants.Late can behind l m = late_owing (late_key (place_at w t)) refl can behind l m outcome.TheVariants.Step
   turned_owing turn.TheVariants.Ok can behind l m = closed_owing true (closes_one w t true can) behind l m

@@ -25,7 +25,7 @@ use Rattle.lot_machine.proofs.QueueLemmas.{told_count}
 use Rattle.lot_laws.specs.Refinement.{taken_at}
 use Rattle.lot_laws.specs.MutexDeeds.{acts}
 use Rattle.lot_laws.specs.Stations.{Station, station, doing_on}
-use Rattle.lot_laws.specs.SitesOf.{ActsNeeded, AreWaiting, TakesOne, IsSteady, Goes, FitsItsLock, after_acts, rules_in, key_of}
+use Rattle.lot_laws.specs.SitesOf.{stations_of, ActsNeeded, AreWaiting, TakesOne, IsSteady, Goes, FitsItsLock, after_acts, rules_in, key_of}
 use Rattle.lot_laws.proofs.Glue.{put_places, same, station_here, IsOf}
 use Rattle.lot_laws.proofs.OneStep.{noted}
 use Rattle.lot_laws.proofs.ActsKept.{lock_by, site_by}
@@ -52,11 +52,11 @@ picked_counts u key picker [] h = refl
 picked_counts u key picker (x ∷ xs) h = grind (arith, nat_tests, picked_counts u key (next_picker picker x.want) xs h.1)
 
 -- who stands in a line does so under its key
-pub under_of : (p : ℕ → Place) (l : ℕ) (m : Line) (xs : List Waiter) → AreWaiting p l m xs → AllUnder (key_of l m) xs
+pub under_of : (p : ℕ → ℕ → Station) (l : ℕ) (m : Line) (xs : List Waiter) → AreWaiting p l m xs → AllUnder (key_of l m) xs
 under_of p l m [] h = tt
 under_of p l m (x ∷ xs) h = (h.0.0, under_of p l m xs h.1)
 
-waiting_left : (p : ℕ → Place) (l : ℕ) (m : Line) (picker : LockPicker) (xs : List Waiter) → AreWaiting p l m xs → AreWaiting p l m (without_picked lock_answer next_picker picker (key_of l m) xs)
+waiting_left : (p : ℕ → ℕ → Station) (l : ℕ) (m : Line) (picker : LockPicker) (xs : List Waiter) → AreWaiting p l m xs → AreWaiting p l m (without_picked lock_answer next_picker picker (key_of l m) xs)
 waiting_left p l m picker [] h = tt
 waiting_left p l m picker (x ∷ xs) h = either (x.key == key_of l m) (lock_answer picker x.want) (waiting_left p l m (next_picker picker x.want) xs h.1) (waiting_left p l m picker xs h.1)
   where
@@ -72,7 +72,7 @@ waiting_left p l m picker (x ∷ xs) h = either (x.key == key_of l m) (lock_answ
     either true Stop more same_ones = h
     either false answer more same_ones = (h.0, same_ones)
 
-waiting_picked : (p : ℕ → Place) (l : ℕ) (m : Line) (picker : LockPicker) (xs : List Waiter) → AreWaiting p l m xs → AreWaiting p l m (picked lock_answer next_picker picker xs)
+waiting_picked : (p : ℕ → ℕ → Station) (l : ℕ) (m : Line) (picker : LockPicker) (xs : List Waiter) → AreWaiting p l m xs → AreWaiting p l m (picked lock_answer next_picker picker xs)
 waiting_picked p l m picker [] h = tt
 waiting_picked p l m picker (x ∷ xs) h = either (lock_answer picker x.want) (waiting_picked p l m (next_picker picker x.want) xs h.1)
   where
@@ -86,7 +86,7 @@ waiting_picked p l m picker (x ∷ xs) h = either (lock_answer picker x.want) (w
     either Stop more = tt
 
 -- whoever is taken is so for what it waits for
-wants_held : (w : State) (t l : ℕ) (m : Line) (xs : List Waiter) → AreWaiting (place_at w) l m xs → ((u : ℕ) → member u xs ≡ true → IsTakenFrom w t l m (place_at w u)) → AllAre t (λ u. taken_at (next_place (place_at w u) (TakenBy t)) l) xs
+wants_held : (w : State) (t l : ℕ) (m : Line) (xs : List Waiter) → AreWaiting (stations_of (place_at w)) l m xs → ((u : ℕ) → member u xs ≡ true → IsTakenFrom w t l m (place_at w u)) → AllAre t (λ u. taken_at (next_place (place_at w u) (TakenBy t)) l) xs
 wants_held w t l m [] h sleeps = tt
 wants_held w t l m (x ∷ xs) h sleeps = (
   (sleeps x.thread here).held x.want (sym (ap (λ (y : Station). y.waits) (station_here l (place_at w x.thread) (sleeps x.thread here).calls ∙ (sleeps x.thread here).was)) ∙ h.0.1),
@@ -126,13 +126,13 @@ module _ (w : State) (t l : ℕ) (steady : IsSteady w) (own : IsOf l (place_at w
     rest = without_lock_picked start (is_recursive r.sort) (2 * l) (queue_at w (2 * l))
 
     under : AllUnder (2 * l) (queue_at w (2 * l))
-    under = under_of (place_at w) l Main (queue_at w (2 * l)) (steady.stands.waits l Main)
+    under = under_of (stations_of (place_at w)) l Main (queue_at w (2 * l)) (steady.stands.waits l Main)
 
     pub picked_goes : ((u : ℕ) → member u picks ≡ true → IsTakenFrom w t l Main (place_at w u))
         → ((b : Bool) → (station p2).carries ≡ Some b → (b ≡ false) × ((u : ℕ) × (member u picks ≡ true))) → ((u : ℕ) → member u picks ≡ true → (station p2).carries ≡ Some false) → ActsNeeded r (acts t (Case (TakePicked start) ∷ [])) (lock_by w l r)
         → doing_on p2 l ≡ (after_acts r (acts t (Case (TakePicked start) ∷ [])) (lock_by w l r)).doing t → Goes w (put (state_after_take w t (2 * l) (whom.TheVariants.Picked start (is_recursive r.sort))) t p2) l (acts t (Case (TakePicked start) ∷ []))
     picked_goes sleeps some full needed own_is = take_goes w t l steady own there p2 of fits many Main picks rest
-        (record { counts = λ u. picked_counts u (2 * l) (lock_picker start (is_recursive r.sort)) (queue_at w (2 * l)) under; sleeps = sleeps; lefts = waiting_left (place_at w) l Main (lock_picker start (is_recursive r.sort)) (queue_at w (2 * l)) (steady.stands.waits l Main); wants = wants_held w t l Main picks (waiting_picked (place_at w) l Main (lock_picker start (is_recursive r.sort)) (queue_at w (2 * l)) (steady.stands.waits l Main)) sleeps }) out free bare r rules none none2 v refl refl refl threads places
+        (record { counts = λ u. picked_counts u (2 * l) (lock_picker start (is_recursive r.sort)) (queue_at w (2 * l)) under; sleeps = sleeps; lefts = waiting_left (stations_of (place_at w)) l Main (lock_picker start (is_recursive r.sort)) (queue_at w (2 * l)) (steady.stands.waits l Main); wants = wants_held w t l Main picks (waiting_picked (stations_of (place_at w)) l Main (lock_picker start (is_recursive r.sort)) (queue_at w (2 * l)) (steady.stands.waits l Main)) sleeps }) out free bare r rules none none2 v refl refl refl threads places
         (get_or-set_same w.queues (2 * l) rest [] some_line) (λ key ne. get_or-set_other w.queues (2 * l) key rest [] ne) inside stands unheld some full
         (Case (TakePicked start)) (tt, tt) ((λ h. h), tt) needed
         (λ i. record (lock_by w l r).lock { queue = left_tied r.sort start (2 * l) (queue_at w (2 * l)) under i; taken = locks.taking t (picks_tied r.sort start (2 * l) (queue_at w (2 * l)) under i) (λ u. taken_at (place_at w u) l) })
@@ -174,7 +174,7 @@ module _ (w : State) (t l : ℕ) (steady : IsSteady w) (own : IsOf l (place_at w
     pub aside_goes : IsTakenFrom w t l Second (place_at w x.thread) → (station p2).carries ≡ Some false → ActsNeeded r (acts t (Case (TakeAside x.thread) ∷ [])) (lock_by w l r)
         → doing_on p2 l ≡ (after_acts r (acts t (Case (TakeAside x.thread) ∷ [])) (lock_by w l r)).doing t → Goes w (put (state_after_reply (record w { queues = queues_without_first w.queues (2 * l + 1) }) x.thread (TakenBy t)) t p2) l (acts t (Case (TakeAside x.thread) ∷ []))
     aside_goes sleeps carries needed own_is = take_goes w t l steady own there p2 of fits many Second (x ∷ []) []
-        (record { counts = λ u. let a : times u (queue_at w (2 * l + 1)) ≡ times u (x ∷ []) = ap (times u) first in omega arith; sleeps = λ u h. one_sleeps u (x.thread == u) refl h; lefts = tt; wants = wants_held w t l Second (x ∷ []) (subst (AreWaiting (place_at w) l Second) first (steady.stands.waits l Second)) (λ u h. one_sleeps u (x.thread == u) refl h) }) out free bare r rules none none2 v refl refl refl threads places
+        (record { counts = λ u. let a : times u (queue_at w (2 * l + 1)) ≡ times u (x ∷ []) = ap (times u) first in omega arith; sleeps = λ u h. one_sleeps u (x.thread == u) refl h; lefts = tt; wants = wants_held w t l Second (x ∷ []) (subst (AreWaiting (stations_of (place_at w)) l Second) first (steady.stands.waits l Second)) (λ u h. one_sleeps u (x.thread == u) refl h) }) out free bare r rules none none2 v refl refl refl threads places
         (get_or-set_same w.queues (2 * l + 1) (drop 1 (queue_at w (2 * l + 1))) [] some_line ∙ ap (drop 1) first) (λ key ne. get_or-set_other w.queues (2 * l + 1) key (drop 1 (queue_at w (2 * l + 1))) [] ne) inside stands unheld
         (λ b e. let f : Some false ≡ Some b = sym carries ∙ e in let g : false ≡ b = cc in (sym g, (x.thread, same_one))) (λ u h. carries)
         (Case (TakeAside x.thread)) (tt, tt) ((λ h. h), tt) needed

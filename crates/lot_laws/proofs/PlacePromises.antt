@@ -109,7 +109,7 @@ module _ (w : State) (t : ℕ) (steady : IsSteady w) where
     where
       by_place : (p : Place) → place_at w t ≡ p → lock_of p ≡ Some l → RowPromises (sort_at w l) l (profile p) (act_of p)
       by_place Idle is own = absurd cc
-      by_place (Condvar k at) is own = absurd (subst (FitsItsLock w) is (steady.stands.calls t))
+      by_place (Condvar k at) is own = absurd (subst (FitsItsLock w) is (steady.stands.calls t)).begun
       by_place (Once k at) is own =
           let here : k ≡ l = cc in
           let admitted : (rules_in w k).sort ≡ locks.Once = subst (FitsItsLock w) is (steady.stands.calls t) in
@@ -131,7 +131,7 @@ module _ (w : State) (t : ℕ) (steady : IsSteady w) where
     where
       by_place : (p : Place) → place_at w t ≡ p → lock_of p ≡ Some l → ⊥
       by_place Idle is own = cc
-      by_place (Condvar k at) is own = subst (FitsItsLock w) is (steady.stands.calls t)
+      by_place (Condvar k at) is own = (subst (FitsItsLock w) is (steady.stands.calls t)).begun
       by_place (Once k at) is own =
           let here : k ≡ l = cc in
           let sort : sort_at w k ≡ locks.Once = subst (FitsItsLock w) is (steady.stands.calls t) in

@@ -329,7 +329,7 @@ module _ (w : State) (t l : ℕ) (a : Admission) (c : RwLockCallPlace) (steady :
     where
       by_place : (q : Place) → place_at w u ≡ q → calls q l ≡ true → IsSleeper w t l steady there own (rules_in w l) refl (call_move a c) same_row u
       by_place Idle e g = absurd cc
-      by_place (Condvar k at) e g = absurd (subst (FitsItsLock w) e (steady.stands.calls u))
+      by_place (Condvar k at) e g = absurd (subst (FitsItsLock w) e (steady.stands.calls u)).begun
       by_place (Once k at) e g = absurd (of_no_once u k at e (eqb-true k l g))
       by_place (Mutex k m) e g = absurd (of_no_mutex u k m e (eqb-true k l g))
       by_place (RwLock k b q) e g = record {
@@ -451,7 +451,7 @@ module _ (w : State) (t l : ℕ) (a : Admission) (c : RwLockCallPlace) (steady :
     where
       by_place : (q : Place) → place_at w u ≡ q → hand_at q l ≡ hand t true → IsWoken w t l true HandOff q
       by_place Idle e h = absurd cc
-      by_place (Condvar k at) e h = absurd (subst (FitsItsLock w) e (steady.stands.calls u))
+      by_place (Condvar k at) e h = absurd (subst (FitsItsLock w) e (steady.stands.calls u)).begun
       by_place (Once k at) e h = either (k == l) refl h
         where
           either : (b : Bool) → (k == l) ≡ b → (if b then station (Once k at) else nowhere).hand ≡ hand t true → IsWoken w t l true HandOff (Once k at)

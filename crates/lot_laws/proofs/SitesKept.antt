@@ -7,16 +7,13 @@ use Rattle.lot_base.specs.declared.notes.Note.TheVariants as note
 use Rattle.lot_base.specs.declared.ops.Op.{Op}
 use Rattle.lot_base.specs.declared.ops.Op.TheVariants as op
 use Rattle.lot_base.specs.declared.wants.Waiter.{Waiter}
-use Rattle.lot_base.specs.declared.wants.Want.TheVariants.{Exclusive}
 use Rattle.lot_base.specs.Words.{apply}
 use Rattle.lot_calls.specs.declared.kinds.Kind as kind
 use Rattle.lot_acts.specs.declared.owners.Owners.{Owners}
 use Rattle.lot_steps.specs.declared.places.Place.{Place}
 use Rattle.lot_steps.specs.declared.places.Place.TheVariants.{Idle, Mutex}
-use Rattle.lot_mutex.specs.declared.lock.Entry.{Entry}
 use Rattle.lot_mutex.specs.declared.places.MutexPlace.{MutexPlace}
-use Rattle.lot_mutex.specs.declared.places.MutexPlace.TheVariants.{Lock, Unlock, HandOff}
-use Rattle.lot_mutex.specs.declared.lock.LockAt.TheVariants as lock
+use Rattle.lot_mutex.specs.declared.places.MutexPlace.TheVariants.{Unlock, HandOff}
 use Rattle.lot_mutex.specs.declared.unlock.UnlockAt.TheVariants as unlock
 use Rattle.lot_mutex.specs.declared.hand_off.HandOffAt.TheVariants as hand_off
 use Rattle.lot_acts.specs.declared.acts.Act.{Act}
@@ -38,15 +35,18 @@ use Rattle.lot_machine.specs.Machine.{unshared_then, State, hand_over_told, shar
 use Rattle.lot_laws.specs.Refinement.{taken_at, lock_state}
 use Rattle.abstract_locks.specs.Picks.{queued_of}
 use Rattle.lot_laws.specs.MutexDeeds.{mutex_doing, mutex_deeds, mutex_station, acts, owner, queued}
-use Rattle.lot_laws.specs.Stations.{Station, hand, nowhere, station, doing_on}
+use Rattle.lot_laws.specs.Stations.{Station, Of, hand, nowhere, station, station_at, doing_on}
 use Rattle.lot_laws.specs.MutexDeeds as deeds
 use Rattle.lot_laws.specs.SitesOf.{SameNumbers, TakesOne, rules_in, ActsNeeded, IsSteady, Follows, Goes, FitsItsLock, carried_at, hand_at, after_acts}
-use Rattle.lot_laws.proofs.Glue.{base_at, seen_in, seen, goes_from, put_places, put_here, put_other, IsOf, next_of, own_stance, leaving, taking, told_one, successor_one, none_given, tries, accepts, lets_nobody, IsTakenAt, is_taken, IsHandedAt, is_handed, untaken, handing, hands_acts, IsMutexCall, WantsAlone, mutex_calls, held_alone, IsMutexOf, own_of, next_mutex, singles}
+use Rattle.lot_laws.proofs.Glue.{base_at, seen_in, seen, goes_from, put_places, put_here, put_other, IsOf, next_of, own_stance, leaving, told_one, successor_one, none_given, lets_nobody, untaken, WantsAlone, inside_is, station_here, singles, IsMutexOf, own_of, next_mutex, aparts, of_carries}
+use Rattle.lot_laws.proofs.Waiters.{CallsMutex, IsHeldAt, SleepsAt, WasGivenAt, calls_mutex_at, held_alone, held_there, given_there, held_station, given_station, sleeps_station, outside, of_part}
+use Rattle.lot_laws.proofs.MutexHands.{taking, tries, accepts, handing, hands_acts}
 use Rattle.lot_laws.proofs.MutexTable.{mutex, parts, IsCode, OnWord, MutexSteps, own_doing, goes_in as goes_into}
 use Rattle.lot_laws.proofs.KindsKept.{given_kinds, given_filled, given_shares}
 use Rattle.lot_laws.specs.SitesOf.{is_mutex}
 use Rattle.lot_laws.proofs.StandsKept.{calls_of}
-use Rattle.lot_laws.proofs.StandsMoved.{mutex_rules, takes_one, hands_lock, takes}
+use Rattle.lot_laws.proofs.StandsMoved.{mutex_rules, takes_one}
+use Rattle.lot_laws.proofs.TwoMoved.{hands_lock, takes}
 use Rattle.lot_laws.proofs.MutexSections.{hands_needed, take_needed, first_wants}
 
 -- g is f, but for x at i
@@ -101,12 +101,12 @@ pub single_at : (w : State) (t l : ℕ) (at : MutexPlace) → IsSteady w → pla
 single_at w t l at steady is = takes_one w l (mutex_rules (kind_at w l) (let c : FitsItsLock w (Mutex l at) = rw is at (steady.stands.calls t) in c))
 
 -- who calls it calls a mutex
-pub mutexes_at : (w : State) (t l : ℕ) (at : MutexPlace) → IsSteady w → place_at w t ≡ Mutex l at → (u : ℕ) → IsMutexCall l (place_at w u)
-mutexes_at w t l at steady is u = mutex_calls w l (place_at w u) (steady.stands.calls u) (mutex_rules (kind_at w l) (let c : FitsItsLock w (Mutex l at) = rw is at (steady.stands.calls t) in c))
+pub mutexes_at : (w : State) (t l : ℕ) (at : MutexPlace) → IsSteady w → place_at w t ≡ Mutex l at → (u : ℕ) → CallsMutex l (place_at w u)
+mutexes_at w t l at steady is u = calls_mutex_at w l (place_at w u) (steady.stands.calls u) (mutex_rules (kind_at w l) (let c : FitsItsLock w (Mutex l at) = rw is at (steady.stands.calls t) in c))
 
 -- so whom it has in hand wants to own alone
 pub alone_at : (w : State) (t l : ℕ) (at : MutexPlace) → IsSteady w → place_at w t ≡ Mutex l at → (u : ℕ) → WantsAlone t (place_at w u)
-alone_at w t l at steady is = held_alone (place_at w) (singles w steady) steady.stands.hands t l (rw is refl) (mutexes_at w t l at steady is)
+alone_at w t l at steady is = held_alone (place_at w) (aparts w steady) steady.stands.hands t l (of_carries l (place_at w t) (rw is refl)) (mutexes_at w t l at steady is)
 
 -- ---------------------------------------------------------------- what the acts change
 
@@ -200,14 +200,42 @@ module _ (w : State) (t l : ℕ) (at : MutexPlace) (steady : IsSteady w) (is : p
   out_doing : (p2 : Place) → taken_at (Mutex l at) l ≡ None → doing_on p2 l ≡ leaves (mutex_doing at) → doing_on p2 l ≡ (after_acts mutex (acts t (Out ∷ [])) (mutex_at w l)).doing t
   out_doing p2 none e = e ∙ sym (ap leaves (own_doing l (place_at w t) at is)) ∙ sym (ap (λ x. wakened t x (putting (λ y. doing_on (place_at w y) l) t (leaves (doing_on (place_at w t) l)) t)) (hand_none none) ∙ put_here (λ y. doing_on (place_at w y) l) t (leaves (doing_on (place_at w t) l)))
 
-  -- whom it had taken tries again, and whom it handed the lock has it
-  woken_taken : (u : ℕ) → hand_at (place_at w u) l ≡ hand t false → IsWoken w t l false note.Normal (place_at w u)
-  woken_taken u held = let k : IsTakenAt (place_at w u) t l = is_taken (place_at w u) t l (mutexes_at w t l at steady is u) held in
-      record { lets = rw k.is (tries t l k.entry k.retries); was = rw k.is refl; free = rw k.is refl; fits = rw k.is of_mutex }
+  -- nobody else is inside while it is
+  pub out_of : (mutex_doing at).inside ≡ Some Main → (u : ℕ) → u ≢ t → (station_at (place_at w u) l).inside ≡ None
+  out_of within u ne = outside (place_at w u) l (mutexes_at w t l at steady is u) (λ h. ne (site_l.alone u t Main (inside_is (place_at w u) l ∙ h) (inside_is (place_at w t) l ∙ ap (λ (y : Station). y.inside) (own_stance l (place_at w t) at is) ∙ within)))
 
-  woken_handed : (u : ℕ) → hand_at (place_at w u) l ≡ hand t true → IsWoken w t l true note.HandOff (place_at w u)
-  woken_handed u held = let k : IsHandedAt (place_at w u) t l = is_handed (place_at w u) t l (mutexes_at w t l at steady is u) held in
-      record { lets = rw k.is (accepts t l t k.entry k.retries); was = rw k.is refl; free = rw k.is refl; fits = rw k.is of_mutex }
+  -- it is in nobody's hand itself
+  pub not_own : (mutex_station at).hand ≡ None → (u : ℕ) (b : Bool) → hand_at (place_at w u) l ≡ hand t b → u ≢ t
+  not_own free u b held e = let a : hand_at (place_at w t) l ≡ hand t b = subst (λ j. hand_at (place_at w j) l ≡ hand t b) e held in let none : hand_at (place_at w t) l ≡ None = ap (λ (y : Station). y.hand) (own_stance l (place_at w t) at is) ∙ free in cc
+
+  module _ (within : (mutex_doing at).inside ≡ Some Main) (free : (mutex_station at).hand ≡ None) (u : ℕ) where
+    of_held : (b : Bool) → hand_at (place_at w u) l ≡ hand t b → IsOf l (place_at w u)
+    of_held b = of_part (λ (y : Station). y.hand) (Of t b) refl (place_at w u) l (singles w steady u)
+
+    -- whom it had taken tries again, and whom it handed the lock has it
+    pub woken_taken : hand_at (place_at w u) l ≡ hand t false → IsWoken w t l false note.Normal (place_at w u)
+    woken_taken held =
+        let calls = mutexes_at w t l at steady is u in
+        let k : IsHeldAt l t (place_at w u) = held_there (place_at w u) t l calls held in
+        let of_u = of_held false held in
+        let stood = held_station (place_at w u) l t calls k held (out_of within u (not_own free u false held)) in record {
+          lets = tries l t (place_at w u) k;
+          was = sym (station_here l (place_at w u) of_u) ∙ stood;
+          free = sym (station_here l (next_place (place_at w u) (Woken note.Normal)) (next_of l (place_at w u) (Woken note.Normal) of_u)) ∙ k.woken.station ∙ ap (λ (y : Station). record y { hand = None }) stood;
+          fits = k.woken.fits w (steady.stands.calls u);
+        }
+
+    pub woken_handed : hand_at (place_at w u) l ≡ hand t true → IsWoken w t l true note.HandOff (place_at w u)
+    woken_handed held =
+        let calls = mutexes_at w t l at steady is u in
+        let k : WasGivenAt l t (place_at w u) = given_there (place_at w u) t l calls held in
+        let of_u = of_held true held in
+        let stood = given_station (place_at w u) l t calls k held (out_of within u (not_own free u true held)) in record {
+          lets = accepts l t t (place_at w u) k;
+          was = sym (station_here l (place_at w u) of_u) ∙ stood;
+          free = sym (station_here l (next_place (place_at w u) (Woken note.HandOff)) (next_of l (place_at w u) (Woken note.HandOff) of_u)) ∙ k.told.station ∙ ap (λ (y : Station). record y { hand = None }) stood;
+          fits = k.told.fits w (steady.stands.calls u);
+        }
 
   -- who has taken somebody has handed nobody the lock, and the other way round
   not_both : (b c : Bool) → (mutex_station at).carries ≡ Some b → (u : ℕ) → hand_at (place_at w u) l ≡ hand t c → b ≡ c
@@ -230,15 +258,15 @@ module _ (w : State) (t l : ℕ) (steady : IsSteady w) (there : t < length w.pla
 
     -- it is told alone
     pub told_it : (reply : Reply) → state_after_telling (state_with_sections w (One (2 * l)) None) t reply ≡ state_after_reply (state_with_sections w (One (2 * l)) None) one_held.0 reply
-    told_it reply = told_one (state_with_sections w (One (2 * l)) None) t l one_held.0 b reply (singles w steady) steady.stands.hands (single w t l at steady is there) (own w t l at steady is there) one_held.1
+    told_it reply = told_one (state_with_sections w (One (2 * l)) None) t l one_held.0 b reply (aparts w steady) steady.stands.hands (single w t l at steady is there) (of_carries l (place_at w t) (own w t l at steady is there)) one_held.1
 
   -- a release leaves, and wakes the one that it took
   pub release_wakes : 2 * l < length w.sections → place_at w t ≡ Mutex l (Unlock (unlock.Leave true)) → Goes w (go_by w t (Mutex l (Unlock (unlock.Leave true))) (act.TheVariants.Leave (One (2 * l)) (wakes.TheVariants.All note.Normal))) l (acts t (Out ∷ []))
-  release_wakes line is = wake_keeps w t l (Unlock (unlock.Leave true)) steady is there line false note.Normal Idle tt (woken_taken w t l (Unlock (unlock.Leave true)) steady is there) refl refl refl refl refl refl refl
+  release_wakes line is = wake_keeps w t l (Unlock (unlock.Leave true)) steady is there line false note.Normal Idle tt (woken_taken w t l (Unlock (unlock.Leave true)) steady is there refl refl) refl refl refl refl refl refl refl
 
   -- a fair one leaves, and tells the one that it handed the lock
   pub tells : 2 * l < length w.sections → (bumps : Bool) (is : place_at w t ≡ Mutex l (HandOff bumps (hand_off.Leave true))) (p2 : Place) → IsMutexOf l p2 → taken_at p2 l ≡ None → doing_on p2 l ≡ idle → station p2 ≡ nowhere → Goes w (put (state_after_telling (state_with_sections w (One (2 * l)) None) t (Woken note.HandOff)) t p2) l (acts t (Out ∷ []))
-  tells line bumps is p2 of none e s = wake_keeps w t l (HandOff bumps (hand_off.Leave true)) steady is there line true note.HandOff p2 of (woken_handed w t l (HandOff bumps (hand_off.Leave true)) steady is there) refl none e refl refl refl s
+  tells line bumps is p2 of none e s = wake_keeps w t l (HandOff bumps (hand_off.Leave true)) steady is there line true note.HandOff p2 of (woken_handed w t l (HandOff bumps (hand_off.Leave true)) steady is there refl refl) refl none e refl refl refl s
 
   -- the store that hands the lock over
   pub hands_over : l < length w.locks → (bumps none_left : Bool) (u : ℕ) → place_at w t ≡ Mutex l (HandOff bumps (hand_off.Store true none_left)) → hand_at (place_at w u) l ≡ hand t false → Goes w (go_by w t (Mutex l (HandOff bumps (hand_off.Store true none_left))) (act.TheVariants.HandOver l (op.Store (hand_off_word true none_left)))) l (acts t (deeds.hands_over (Some u) none_left) ++ deeds.claims_of (Some u))
@@ -253,7 +281,8 @@ module _ (w : State) (t l : ℕ) (steady : IsSteady w) (there : t < length w.pla
         (handing mutex l (base_at w l) (word_at w l) (owners_at w l) (queue_at w (2 * l)) (queue_at w (2 * l + 1)) (place_at w) (TakesOne w) steady.stands.hands (single w t l at steady is there) (mutexes_at w t l at steady is) t u (unshared_then w t l) bumps none_left refl state is held none_left refl)
         (hands_needed l (base_at w l) (word_at w l) (owners_at w l) (queue_at w (2 * l)) (queue_at w (2 * l + 1)) (place_at w) (TakesOne w) steady.stands.hands (single w t l at steady is there) (mutexes_at w t l at steady is) t u (unshared_then w t l) bumps none_left is held (site_l w t l at steady is there) none_left refl)
         (coded none_left);
-    stands = hands_lock w after steady.stands same_kinds l t u apart (of_mutex w t l at steady is there) own_t of_u p2 pu refl of_pu (of_mutex w t l at steady is there) (rw there_u.is (of_mutex w t l at steady is there)) places (λ key. refl) (λ key. refl) (ap station is) (rw there_u.is refl) refl (rw there_u.is refl);
+    stands = hands_lock w after steady.stands same_kinds l t u apart (of_mutex w t l at steady is there) own_t of_u p2 pu refl of_pu (of_mutex w t l at steady is there) ((there_u.handed (unshared_then w t l)).fits w (steady.stands.calls u)) places (λ key. refl) (λ key. refl) (ap station is)
+        (sym (station_here l (place_at w u) of_u) ∙ stood) refl (sym (station_here l pu of_pu) ∙ (there_u.handed (unshared_then w t l)).station ∙ ap (λ (y : Station). record y { hand = hand t true }) stood);
   })
     where
       at : MutexPlace
@@ -265,20 +294,23 @@ module _ (w : State) (t l : ℕ) (steady : IsSteady w) (there : t < length w.pla
       pu : Place
       pu = next_place (place_at w u) (hand_over_told w t l)
 
-      there_u : IsTakenAt (place_at w u) t l
-      there_u = is_taken (place_at w u) t l (mutexes_at w t l at steady is u) held
+      there_u : IsHeldAt l t (place_at w u)
+      there_u = held_there (place_at w u) t l (mutexes_at w t l at steady is u) held
 
       own_t : IsOf l (place_at w t)
       own_t = rw is refl
 
       of_u : IsOf l (place_at w u)
-      of_u = rw there_u.is refl
+      of_u = of_part (λ (y : Station). y.hand) (Of t false) refl (place_at w u) l (singles w steady u) held
 
       of_pu : IsOf l pu
       of_pu = next_of l (place_at w u) (hand_over_told w t l) of_u
 
       apart : u ≢ t
-      apart e = let a : Mutex l (HandOff bumps (hand_off.Store true none_left)) ≡ Mutex l (Lock there_u.entry there_u.retries (lock.Taken t)) = sym is ∙ ap (place_at w) (sym e) ∙ there_u.is in cc
+      apart = not_own w t l at steady is there refl u false held
+
+      stood : station_at (place_at w u) l ≡ record nowhere { hand = hand t false }
+      stood = held_station (place_at w u) l t (mutexes_at w t l at steady is u) there_u held (out_of w t l at steady is there refl u apart)
 
       before : State
       before = state_after_hand_over w t (Mutex l at) l (op.Store (hand_off_word true none_left))
@@ -287,11 +319,11 @@ module _ (w : State) (t l : ℕ) (steady : IsSteady w) (there : t < length w.pla
       after = put (state_after_reply before u (hand_over_told w t l)) t p2
 
       told : state_after_telling before t (hand_over_told w t l) ≡ state_after_reply before u (hand_over_told w t l)
-      told = told_one before t l u false (hand_over_told w t l) (singles w steady) steady.stands.hands (single w t l at steady is there) own_t held
+      told = told_one before t l u false (hand_over_told w t l) (aparts w steady) steady.stands.hands (single w t l at steady is there) (of_carries l (place_at w t) own_t) held
 
       owners_given : Changed (owners_at w) (owners_at after) l (with_exclusive (owners_at w l) (Some u))
       owners_given = record {
-        here = ap (λ x. x.owners) (get_or-set_same w.locks l _ (unlocked kind.TheVariants.Mutex) lt) ∙ successor_one w t l u false (singles w steady) steady.stands.hands (single w t l at steady is there) own_t held (alone_at w t l at steady is) (unshared_at w t l at steady is) (with_exclusive (owners_at w l) None);
+        here = ap (λ x. x.owners) (get_or-set_same w.locks l _ (unlocked kind.TheVariants.Mutex) lt) ∙ successor_one w t l u false (aparts w steady) steady.stands.hands (single w t l at steady is there) (of_carries l (place_at w t) own_t) held (alone_at w t l at steady is) (unshared_at w t l at steady is) (with_exclusive (owners_at w l) None);
         other = λ k ne. ap (λ x. x.owners) (get_or-set_other w.locks l k _ (unlocked kind.TheVariants.Mutex) ne);
       }
 
@@ -316,7 +348,7 @@ pub changed_main : {A : Type 0} (xs : List A) (l : ℕ) (x d : A) → 2 * l < le
 changed_main xs l x d lt = record { here = get_or-set_same xs (2 * l) x d lt; other = λ j ne. get_or-set_other xs (2 * l) (2 * j) x d (λ e. ne (omega arith)) }
 
 module _ (w : State) (t l : ℕ) (at : MutexPlace) (steady : IsSteady w) (is : place_at w t ≡ Mutex l at) (there : t < length w.places) (line : 2 * l < length w.queues)
-    (x : Waiter) (rest : List Waiter) (first : queue_at w (2 * l) ≡ x ∷ rest) (entry : Entry) (retries : Bool) (asleep : place_at w x.thread ≡ Mutex l (Lock entry retries lock.Asleep)) (apart : x.thread ≢ t) where
+    (x : Waiter) (rest : List Waiter) (first : queue_at w (2 * l) ≡ x ∷ rest) (sleeps : SleepsAt l (place_at w x.thread)) (stands_there : (station_at (place_at w x.thread) l).stands ≡ Some Main) (apart : x.thread ≢ t) where
   site_first : IsSite mutex (seen l (base_at w l) (word_at w l) (owners_at w l) (x ∷ rest) (queue_at w (2 * l + 1)) (place_at w))
   site_first = subst (λ (q : List Waiter). IsSite mutex (seen l (base_at w l) (word_at w l) (owners_at w l) q (queue_at w (2 * l + 1)) (place_at w))) first (site_l w t l at steady is there)
 
@@ -332,14 +364,15 @@ module _ (w : State) (t l : ℕ) (at : MutexPlace) (steady : IsSteady w) (is : p
         (λ k. get_or-set_other w.queues (2 * l) (2 * k + 1) (drop 1 (queue_at w (2 * l))) [] (λ h. omega arith)) (λ k. refl)
         (λ k ne y. alike_both l k (place_at w) x.thread px t p2 of_x of_px own_t (own_of l p2 of) apart ne y)
         (acts t (Case (TakeFirst (queued x.thread)) ∷ []))
-        (taking mutex l (base_at w l) (word_at w l) (owners_at w l) (queue_at w (2 * l + 1)) rest x (place_at w) t entry retries refl asleep (first_wants l (base_at w l) (word_at w l) (owners_at w l) (queue_at w (2 * l + 1)) rest x (place_at w) t site_first) apart p2
+        (taking mutex l (base_at w l) (word_at w l) (owners_at w l) (queue_at w (2 * l + 1)) rest x (place_at w) t refl sleeps (first_wants l (base_at w l) (word_at w l) (owners_at w l) (queue_at w (2 * l + 1)) rest x (place_at w) t site_first) apart p2
         (ap (λ y. taken_at y l) is ∙ none) none2 (e ∙ sym (ap (λ (d : Doing). record d { wakes = None; carries = true; covers = true; empty = found Main (is_empty (map queued_of rest)) }) (own_doing l (place_at w t) at is)))
         ∙ same_lines)
         needed
         (word_l w t l at steady is there);
-    stands = takes w after steady.stands (λ k. refl) l t x.thread apart (of_mutex w t l at steady is there) own_t of_x p2 px (own_of l p2 of) of_px (fits w t l at steady is there p2 of) (rw asleep (of_mutex w t l at steady is there)) places rest x (λ key. refl)
+    stands = takes w after steady.stands (λ k. refl) l t x.thread apart (of_mutex w t l at steady is there) own_t of_x p2 px (own_of l p2 of) of_px (fits w t l at steady is there p2 of) ((sleeps.taken t).fits w (steady.stands.calls x.thread)) places rest x (λ key. refl)
         (λ key ne. get_or-set_other w.queues (2 * l) key (drop 1 (queue_at w (2 * l))) [] (λ h. ne h)) first (get_or-set_same w.queues (2 * l) (drop 1 (queue_at w (2 * l))) [] line ∙ ap (drop 1) first) refl
-        (ap (λ (y : Place). (station y).carries) is ∙ nobody) (ap (λ (y : Place). (station y).hand) is ∙ free) (Some Exclusive) (rw asleep refl) (s ∙ sym (ap (λ y. record (station y) { carries = Some false }) is)) (rw asleep refl);
+        (ap (λ (y : Place). (station y).carries) is ∙ nobody) (ap (λ (y : Place). (station y).hand) is ∙ free) (station_at (place_at w x.thread) l).waits (sym (station_here l (place_at w x.thread) of_x) ∙ stood) (s ∙ sym (ap (λ y. record (station y) { carries = Some false }) is))
+        (sym (station_here l px of_px) ∙ (sleeps.taken t).station ∙ ap (λ (y : Station). record y { stands = None; waits = None; hand = hand t false }) stood);
   }
     where
       px : Place
@@ -349,7 +382,10 @@ module _ (w : State) (t l : ℕ) (at : MutexPlace) (steady : IsSteady w) (is : p
       own_t = rw is refl
 
       of_x : IsOf l (place_at w x.thread)
-      of_x = rw asleep refl
+      of_x = of_part (λ (y : Station). y.stands) Main refl (place_at w x.thread) l (singles w steady x.thread) stands_there
+
+      stood : station_at (place_at w x.thread) l ≡ record nowhere { stands = Some Main; waits = (station_at (place_at w x.thread) l).waits }
+      stood = sleeps_station (place_at w x.thread) l (mutexes_at w t l at steady is x.thread) sleeps (out_of w t l at steady is there i x.thread apart) stands_there
 
       of_px : IsOf l px
       of_px = next_of l (place_at w x.thread) (TakenBy t) of_x

@@ -24,8 +24,10 @@ use Rattle.lot_steps.specs.declared.places.Place.TheVariants.{Idle}
 use Rattle.lot_acts.specs.declared.acts.Whom as whoms
 use Rattle.lot_acts.specs.Acts.{takes_effect, outcome_of}
 use Rattle.lot_steps.specs.Steps.{act_of, next_place, next_act}
-use Rattle.lot_machine.specs.Machine.{state_after_hand_over_by, hand_over_told, State, unlocked, place_at, word_at, owners_at, section_at, queue_at, put, state_after_operation, state_with_sections, queues_with_last, queues_without, queues_without_first, state_after_taking, state_after_reply, state_after_act, reply_to, can_do, state_after_go, go_of, is_possible, after, step_outcome, go_outcome, solo, place_after_telling, state_after_telling, state_after_hand_over, owners_handed_over, is_there}
+use Rattle.lot_machine.specs.Machine.{state_after_hand_over_by, hand_over_told, State, unlocked, place_at, word_at, owners_at, section_at, queue_at, put, state_after_operation, state_with_sections, queues_with_last, queues_without, queues_without_first, state_after_taking, state_after_reply, state_after_act, reply_to, can_do, state_after_go, go_of, is_possible, after, step_outcome, go_outcome, solo, place_after_telling, state_after_telling, state_after_hand_over, owners_handed_over, is_there, going_outcome, state_after_going}
 use Rattle.lot_machine.specs.Fits.{IsShaped, SameSize}
+use Rattle.lot_laws.proofs.Glue.{IsSingle, singles}
+use Rattle.lot_laws.proofs.OwnPlace.{goes_from_there, told_from_there}
 use Rattle.lot_laws.specs.Refinement.{owner_at}
 use Rattle.lot_laws.specs.Stations.{station}
 use Rattle.lot_laws.specs.SitesOf.{AreCounted, IsSteady}
@@ -86,14 +88,17 @@ module _ (w : State) (t l : ℕ) (p : Place) (v : ℕ) (o s : Option ℕ) (q : L
   possible : can_do w (act_of p) ≡ true → is_possible w (go_of t) ≡ true
   possible can = rw (lt-ltb t (length w.places) f.thread, f.place) can
 
+  single : IsSingle p
+  single = subst IsSingle f.place (singles w f.steady t)
+
   goes : can_do w (act_of p) ≡ true → after w (go_of t) ≡ state_after_go w t
   goes can = ap (λ b. if b then state_after_go w t else w) (possible can)
 
   told : can_do w (act_of p) ≡ true → step_outcome w (go_of t) ≡ outcome_of (next_act p (reply_to w t (act_of p)))
-  told can = ap (λ b. if b then go_outcome w t else outcome.TheVariants.NotNow) (possible can) ∙ ap (λ x. outcome_of (next_act x (reply_to w t (act_of x)))) f.place
+  told can = ap (λ b. if b then go_outcome w t else outcome.TheVariants.NotNow) (possible can) ∙ ap (going_outcome w t) f.place ∙ told_from_there w t p f.place single
 
   pub act_led : can_do w (act_of p) ≡ true → after w (go_of t) ≡ put (state_after_act w t p (act_of p)) t (next_place p (reply_to w t (act_of p)))
-  act_led can = goes can ∙ ap (λ x. put (state_after_act w t x (act_of x)) t (next_place x (reply_to w t (act_of x)))) f.place
+  act_led can = goes can ∙ ap (state_after_going w t) f.place ∙ goes_from_there w t p f.place single
 
   -- what it leads to, where the act leads to b
   faces : (b : State) (p2 : Place) (v2 : ℕ) (o2 s2 : Option ℕ) (q2 : List Waiter) → can_do w (act_of p) ≡ true → state_after_act w t p (act_of p) ≡ b → length b.places ≡ length w.places

@@ -1,92 +1,29 @@
--- A thread takes waiters of a line of a reader-writer lock, as many as it is to: every lock is a site again.
-use Rattle.std.proofs.Common.{ℕ, Bool, true, false, Option, Some, None, if◌then◌else◌, ◌==◌, ◌&&◌, ◌||◌, ◌≡◌, ◌≢◌, ◌+◌, ◌*◌, ◌≤◌, ◌<◌, ◌⊎◌, replicate, List, [], ◌∷◌, length, get_or, set, map, inl, inr, refl, sym, ◌∙◌, ap, subst, arith}
-use Rattle.std.proofs.lemmas.Bool.{cases_eq}
-use Rattle.std.proofs.lemmas.Bool.Decides.{nat_tests}
+-- A thread in a call of one lock takes waiters of a line of it, as many as it is to, each in a call of that lock.
+use Rattle.std.proofs.Common.{ℕ, Bool, true, false, Option, Some, None, if◌then◌else◌, ◌≡◌, ◌≢◌, ◌+◌, ◌≤◌, ◌<◌, List, [], ◌∷◌, length, map, refl, sym, ◌∙◌, ap, arith}
 use Rattle.lot_base.specs.declared.wants.Waiter.{Waiter}
 use Rattle.lot_base.specs.declared.wants.Want.{Want}
-use Rattle.lot_base.specs.Lines.{times, threads_of}
+use Rattle.lot_base.specs.Lines.{times}
 use Rattle.lot_steps.specs.declared.places.Place.{Place}
-use Rattle.lot_steps.specs.declared.places.Place.TheVariants.{Idle}
-use Rattle.lot_acts.specs.declared.acts.Reply.{Reply}
 use Rattle.lot_acts.specs.declared.acts.Reply.TheVariants.{TakenBy}
 use Rattle.lot_steps.specs.Steps.{next_place}
 use Rattle.abstract_locks.specs.Locks.{Rules, Taken, putting}
 use Rattle.abstract_locks.specs.Locks as locks
 use Rattle.abstract_locks.specs.Picks.{queued_of}
-use Rattle.abstract_locks.specs.Sites.{Site, Deed, Line, Main, Second}
-use Rattle.abstract_locks.specs.Codes.{code}
-use Rattle.lot_calls.specs.declared.kinds.Kind as kind
-use Rattle.lot_machine.specs.Machine.{State, unlocked, shares_at, place_at, section_at, queue_at, kind_at, places_told}
+use Rattle.abstract_locks.specs.Sites.{Site, Deed, Line}
+use Rattle.lot_machine.specs.Machine.{State, place_at, queue_at}
 use Rattle.lot_laws.specs.Refinement.{taken_at}
 use Rattle.lot_laws.specs.MutexDeeds.{acts}
 use Rattle.lot_laws.specs.Stations.{Station, hand, station, station_at, nowhere, doing_on}
-use Rattle.lot_laws.specs.SitesOf.{ActsNeeded, TakesOne, Hands, IsSteady, Goes, FitsItsLock, Lines, Waits, AreWaiting, Sections, after_acts, rules_in, key_of, stood_in, carried_at, hand_at}
-use Rattle.lot_laws.proofs.Glue.{parts_at, base_at, lock_in, seen_in, same, differ, put_here, put_other, set_puts, past_all, IsOf, doing_elsewhere, taken_elsewhere, station_here, station_elsewhere, nothing_at, singles, of_single}
-use Rattle.lot_laws.proofs.OneStep.{AreSingle, others_same}
-use Rattle.lot_laws.proofs.ActsKept.{AlikeAt, Moves, NoHandOff, ordinary_by, limited, with_line, stood_other, follows_by, lock_by, word_by_lines}
-use Rattle.lot_laws.proofs.StandsKept.{same_line, other_key, other_line, sections_same, waiting_same, hands_taken, calls_in}
-use Rattle.lot_laws.proofs.StandsMoved.{stands_then, hands_in}
-
--- ---------------------------------------------------------------- lists of waiters
-
-abbrev pub member : ℕ → List Waiter → Bool
-member u [] = false
-member u (x ∷ xs) = (x.thread == u) || member u xs
-
-pub member_times : (u : ℕ) (xs : List Waiter) → member u xs ≡ true → 1 ≤ times u xs
-member_times u [] h = absurd cc
-member_times u (x ∷ xs) h = grind (arith, nat_tests, member_times u xs)
-
-pub stranger_times : (u : ℕ) (xs : List Waiter) → member u xs ≡ false → times u xs ≡ 0
-stranger_times u [] h = refl
-stranger_times u (x ∷ xs) h = grind (arith, nat_tests, stranger_times u xs)
-
-no_member : (u : ℕ) (xs : List Waiter) → times u xs ≡ 0 → member u xs ≡ false
-no_member u [] h = refl
-no_member u (x ∷ xs) h = grind (arith, nat_tests, no_member u xs)
-
--- what threads are told, one after another
-abbrev pub told_by : Reply → List Waiter → (ℕ → Place) → ℕ → Place
-told_by reply [] p = p
-told_by reply (x ∷ xs) p = told_by reply xs (putting p x.thread (next_place (p x.thread) reply))
-
-pub told_places : (reply : Reply) (xs : List Waiter) (ps : List Place) → (λ u. get_or (places_told reply (threads_of xs) ps) u Idle) ≡ told_by reply xs (λ u. get_or ps u Idle)
-told_places reply [] ps = refl
-told_places reply (x ∷ xs) ps = told_places reply xs (set ps x.thread (next_place (get_or ps x.thread Idle) reply))
-    ∙ ap (told_by reply xs) (λ i u. set_puts ps x.thread (next_place (get_or ps x.thread Idle) reply) Idle (λ h. ap (λ p. next_place p reply) (past_all ps x.thread Idle h)) u i)
-
--- each is told once
-pub told_once : (reply : Reply) (xs : List Waiter) (p : ℕ → Place) (u : ℕ) → times u xs ≤ 1 → told_by reply xs p u ≡ (if member u xs then next_place (p u) reply else p u)
-told_once reply [] p u h = refl
-told_once reply (x ∷ xs) p u h = told_once reply xs now u (omega arith) ∙ either (cases_eq x.thread u)
-  where
-    now : ℕ → Place
-    now = putting p x.thread (next_place (p x.thread) reply)
-
-    either : ((x.thread ≡ u) ⊎ (x.thread ≢ u)) → (if member u xs then next_place (now u) reply else now u) ≡ (if member u (x ∷ xs) then next_place (p u) reply else p u)
-    either (inl e) = let one : times u (x ∷ xs) ≡ 1 + times u xs = rw (e, same u) refl in
-        rw (no_member u xs (omega arith), e, same u) refl
-    either (inr ne) = rw (differ x.thread u ne, put_other p x.thread (next_place (p x.thread) reply) u (λ e. ne (sym e))) refl
-
--- each that is taken is so by t, for what it wants
-abbrev pub AllAre : ℕ → (ℕ → Option Taken) → List Waiter → Type 0
-AllAre t v [] = Unit {0}
-AllAre t v (x ∷ xs) = (v x.thread ≡ Some (record { by = t; want = x.want })) × AllAre t v xs
-
-pub taking_is : (t : ℕ) (xs : List Waiter) (was v : ℕ → Option Taken) (u : ℕ) → AllAre t v xs → locks.taking t (map queued_of xs) was u ≡ (if member u xs then v u else was u)
-taking_is t [] was v u h = refl
-taking_is t (x ∷ xs) was v u h = taking_is t xs now v u h.1 ∙ either (member u xs) (cases_eq x.thread u)
-  where
-    now : ℕ → Option Taken
-    now = putting was x.thread (Some (record { by = t; want = x.want }))
-
-    either : (b : Bool) → ((x.thread ≡ u) ⊎ (x.thread ≢ u)) → (if b then v u else now u) ≡ (if (x.thread == u) || b then v u else was u)
-    either true (inl e) = rw (e, same u) refl
-    either true (inr ne) = rw (differ x.thread u ne) refl
-    either false (inl e) = rw (e, same u) (sym (subst (λ j. v j ≡ Some (record { by = t; want = x.want })) e h.0))
-    either false (inr ne) = rw (differ x.thread u ne, differ u x.thread (λ e. ne (sym e))) refl
-
--- ---------------------------------------------------------------- many are taken
+use Rattle.lot_laws.specs.SitesOf.{ActsNeeded, TakesOne, IsSteady, Goes, FitsItsLock, AreWaiting, after_acts, rules_in, key_of, stood_in, stations_of}
+use Rattle.lot_laws.proofs.Glue.{parts_at, lock_in, seen_in, IsOf, station_here}
+use Rattle.lot_laws.proofs.OneStep.{AreSingle}
+use Rattle.lot_laws.proofs.Following.{NoHandOff, with_line, lock_by}
+use Rattle.lot_laws.proofs.StandsKept.{own_alike}
+use Rattle.lot_acts.specs.Stations.{waits_for}
+use Rattle.lot_steps.specs.Steps.{profile}
+pub use Rattle.lot_laws.proofs.TakesAt.{member, member_times, at_most_one, told_by, told_places, told_once, AllAre}
+use Rattle.lot_laws.proofs.TakesAt.{IsTakenAt, behind_take, stranger_times}
+use Rattle.lot_laws.proofs.TakesAt as at
 
 -- where a thread goes that sleeps in a line and is taken by t
 pub record IsTakenFrom (w : State) (t l : ℕ) (m : Line) (p : Place) : Type 0 where
@@ -103,262 +40,58 @@ pub record IsTakenFrom (w : State) (t l : ℕ) (m : Line) (p : Place) : Type 0 w
 pub record Splits (w : State) (t l : ℕ) (m : Line) (taken left : List Waiter) : Type 0 where
   pub counts : (u : ℕ) → times u taken + times u left ≡ times u (queue_at w (key_of l m))
   pub sleeps : (u : ℕ) → member u taken ≡ true → IsTakenFrom w t l m (place_at w u)
-  pub lefts : AreWaiting (place_at w) l m left
+  pub lefts : AreWaiting (stations_of (place_at w)) l m left
   pub wants : AllAre t (λ u. taken_at (next_place (place_at w u) (TakenBy t)) l) taken
 
-pub at_most_one : (o : Option Line) (m : Line) → stood_in o m ≤ 1
-at_most_one None m = omega arith
-at_most_one (Some Main) Main = omega arith
-at_most_one (Some Main) Second = omega arith
-at_most_one (Some Second) Main = omega arith
-at_most_one (Some Second) Second = omega arith
+taken_so : (w : State) (t l : ℕ) (m : Line) (p : Place) → IsTakenFrom w t l m p → IsTakenAt w t l m p
+taken_so w t l m p s = let here = station_here l p s.calls ∙ s.was in record {
+  stands = ap (λ (y : Station). y.stands) here;
+  unheld = ap (λ (y : Station). y.hand) here;
+  goes = station_here l (next_place p (TakenBy t)) s.calls_then ∙ s.free ∙ sym (ap (behind_take t true) here);
+  alike = own_alike l p (next_place p (TakenBy t)) s.calls s.calls_then;
+  doing = s.doing;
+  fits = s.fits;
+}
 
 module _ (w : State) (t l : ℕ) (steady : IsSteady w) (own : IsOf l (place_at w t)) (there : t < length w.places) (p2 : Place) (of : IsOf l p2) (fits : FitsItsLock w p2) (many : TakesOne w l → ⊥)
     (m : Line) (taken left : List Waiter) (splits : Splits w t l m taken left) (out : (station (place_at w t)).stands ≡ None) (free : (station (place_at w t)).hand ≡ None) (bare : (station (place_at w t)).carries ≡ None) where
-  abbrev has : ℕ → Bool
-  has u = member u taken
+  was_here : station_at (place_at w t) l ≡ station (place_at w t)
+  was_here = station_here l (place_at w t) own
 
-  abbrev told : ℕ → Place
-  told = told_by (TakenBy t) taken (place_at w)
-
-  abbrev pub places_now : ℕ → Place
-  places_now = putting told t p2
-
-  stood : (u : ℕ) → times u taken + times u left ≡ stood_in (station_at (place_at w u) l).stands m
-  stood u = splits.counts u ∙ steady.stands.lines u l m
-
-  once : (u : ℕ) → times u taken ≤ 1
-  once u = let a : times u taken + times u left ≡ stood_in (station_at (place_at w u) l).stands m = stood u in let b : stood_in (station_at (place_at w u) l).stands m ≤ 1 = at_most_one (station_at (place_at w u) l).stands m in omega arith
-
-  told_on : (u : ℕ) → has u ≡ true → told u ≡ next_place (place_at w u) (TakenBy t)
-  told_on u h = told_once (TakenBy t) taken (place_at w) u (once u) ∙ ap (λ b. if b then next_place (place_at w u) (TakenBy t) else place_at w u) h
-
-  told_off : (u : ℕ) → has u ≡ false → told u ≡ place_at w u
-  told_off u h = told_once (TakenBy t) taken (place_at w) u (once u) ∙ ap (λ b. if b then next_place (place_at w u) (TakenBy t) else place_at w u) h
-
-  not_self : has t ≡ false
-  not_self = no_member t taken (let a : times t taken + times t left ≡ stood_in (station_at (place_at w t) l).stands m = stood t in let b : stood_in (station_at (place_at w t) l).stands m ≡ 0 = ap (λ (y : Station). stood_in y.stands m) (station_here l (place_at w t) own) ∙ ap (λ o. stood_in o m) out in omega arith)
-
-  -- by who is looked at
-  by_thread : (P : ℕ → Place → Type 0) → P t p2 → ((u : ℕ) → u ≢ t → has u ≡ true → P u (next_place (place_at w u) (TakenBy t))) → ((u : ℕ) → u ≢ t → has u ≡ false → P u (place_at w u)) → (u : ℕ) → P u (places_now u)
-  by_thread P here on off u = elim (cases_eq u t) [
-    | inl e ↦ rw (e, put_here told t p2) here
-    | inr ne ↦ subst (P u) (sym (put_other told t p2 u ne)) (either ne (has u) refl)
-  ]
+  not_self : member t taken ≡ false
+  not_self = either (member t taken) refl
     where
-      either : u ≢ t → (b : Bool) → has u ≡ b → P u (told u)
-      either ne true h = subst (P u) (sym (told_on u h)) (on u ne h)
-      either ne false h = subst (P u) (sym (told_off u h)) (off u ne h)
+      either : (b : Bool) → member t taken ≡ b → b ≡ false
+      either false h = refl
+      either true h = absurd (let a : times t taken + times t left ≡ stood_in (station_at (place_at w t) l).stands m = splits.counts t ∙ steady.stands.lines t l m in
+          let b : stood_in (station_at (place_at w t) l).stands m ≡ 0 = ap (λ (y : Station). stood_in y.stands m) was_here ∙ ap (λ o. stood_in o m) out in
+          let c : 1 ≤ times t taken = member_times t taken h in omega arith)
 
-  -- a part of a station that neither a line nor a hand is a part of
-  part_now : {A : Type 0} (g : Station → A) → g (station p2) ≡ g (station (place_at w t)) → ((x : Option Want) → g (record nowhere { hand = hand t false }) ≡ g (record nowhere { stands = Some m; waits = x })) → (u k : ℕ) → g (station_at (places_now u) k) ≡ g (station_at (place_at w u) k)
-  part_now g e same_part u k = by_thread (λ u p. g (station_at p k) ≡ g (station_at (place_at w u) k))
-      (elim (cases_eq k l) [
-        | inl f ↦ rw f (ap g (station_here l p2 of) ∙ e ∙ sym (ap g (station_here l (place_at w t) own)))
-        | inr ne ↦ ap g (station_elsewhere l k p2 of ne ∙ sym (station_elsewhere l k (place_at w t) own ne))
-      ])
-      (λ u nu h. let s = splits.sleeps u h in elim (cases_eq k l) [
-        | inl f ↦ rw f (ap g (station_here l (next_place (place_at w u) (TakenBy t)) s.calls_then ∙ s.free) ∙ same_part s.wanted ∙ sym (ap g (station_here l (place_at w u) s.calls ∙ s.was)))
-        | inr ne ↦ ap g (station_elsewhere l k (next_place (place_at w u) (TakenBy t)) s.calls_then ne ∙ sym (station_elsewhere l k (place_at w u) s.calls ne))
-      ])
-      (λ u nu h. refl) u
+  waits_out : (p : Place) → (station p).stands ≡ None → (station p).waits ≡ None
+  waits_out p e = ap (λ o. waits_for o (profile p).wants) e
 
-  -- another lock sees nothing of it
-  alike : (k : ℕ) → k ≢ l → (u : ℕ) → AlikeAt k (place_at w u) (places_now u)
-  alike k ne = by_thread (λ u p. AlikeAt k (place_at w u) p)
-      (taken_elsewhere l k p2 of ne ∙ sym (taken_elsewhere l k (place_at w t) own ne), doing_elsewhere l k p2 of ne ∙ sym (doing_elsewhere l k (place_at w t) own ne))
-      (λ u nu h. let s = splits.sleeps u h in (taken_elsewhere l k (next_place (place_at w u) (TakenBy t)) s.calls_then ne ∙ sym (taken_elsewhere l k (place_at w u) s.calls ne), doing_elsewhere l k (next_place (place_at w u) (TakenBy t)) s.calls_then ne ∙ sym (doing_elsewhere l k (place_at w u) s.calls ne)))
-      (λ u nu h. (refl, refl))
+  -- its station, but for whom it carries
+  now : (station p2).inside ≡ (station (place_at w t)).inside → (station p2).stands ≡ None → (station p2).hand ≡ None → station_at p2 l ≡ record (behind_take t (member t taken) (station_at (place_at w t) l)) { carries = (station p2).carries }
+  now inside stands unheld = station_here l p2 of ∙ (λ i. record (station (place_at w t)) {
+    inside = inside i;
+    stands = (stands ∙ sym out) i;
+    waits = (waits_out p2 stands ∙ sym (waits_out (place_at w t) out)) i;
+    carries = (station p2).carries;
+    hand = (unheld ∙ sym free) i;
+  }) ∙ sym (λ i. record (behind_take t (not_self i) (was_here i)) { carries = (station p2).carries })
 
-  -- those whom it takes are in its hand
-  module _ (unheld : (station p2).hand ≡ None) (some : (b : Bool) → (station p2).carries ≡ Some b → (b ≡ false) × ((u : ℕ) × (has u ≡ true))) (full : (u : ℕ) → has u ≡ true → (station p2).carries ≡ Some false) where
-    none_elsewhere : (u k : ℕ) → k ≢ l → has u ≡ true → hand_at (place_at w u) k ≡ None
-    none_elsewhere u k ne h = ap (λ (y : Station). y.hand) (station_elsewhere l k (place_at w u) (splits.sleeps u h).calls ne)
-
-    in_hand : (u k : ℕ) → hand_at (places_now u) k ≡ (if has u && (k == l) then hand t false else hand_at (place_at w u) k)
-    in_hand u k = by_thread (λ u p. hand_at p k ≡ (if has u && (k == l) then hand t false else hand_at (place_at w u) k))
-        (rw not_self (nothing_at p2 k (of_single l p2 of) (λ y. y.hand) refl unheld ∙ sym (nothing_at (place_at w t) k (singles w steady t) (λ y. y.hand) refl free)))
-        (λ u nu h. rw h (by_lock u h (cases_eq k l)))
-        (λ u nu h. rw h refl) u
-      where
-        by_lock : (u : ℕ) → has u ≡ true → ((k ≡ l) ⊎ (k ≢ l)) → hand_at (next_place (place_at w u) (TakenBy t)) k ≡ (if k == l then hand t false else hand_at (place_at w u) k)
-        by_lock u h (inl f) = let s = splits.sleeps u h in rw (f, same l) (ap (λ (y : Station). y.hand) (station_here l (next_place (place_at w u) (TakenBy t)) s.calls_then ∙ s.free))
-        by_lock u h (inr ne) = let s = splits.sleeps u h in rw (differ k l ne) (ap (λ (y : Station). y.hand) (station_elsewhere l k (next_place (place_at w u) (TakenBy t)) s.calls_then ne) ∙ sym (none_elsewhere u k ne h))
-
-    carries : (i k : ℕ) → carried_at (places_now i) k ≡ (if (i == t) && (k == l) then (station p2).carries else carried_at (place_at w i) k)
-    carries i k = by_thread (λ i p. carried_at p k ≡ (if (i == t) && (k == l) then (station p2).carries else carried_at (place_at w i) k))
-        (rw (same t) (by_lock (cases_eq k l)))
-        (λ u nu h. rw (differ u t nu) (let s = splits.sleeps u h in nothing_at (next_place (place_at w u) (TakenBy t)) k (of_single l (next_place (place_at w u) (TakenBy t)) s.calls_then) (λ y. y.carries) refl (ap (λ (y : Station). y.carries) s.free) ∙ sym (nothing_at (place_at w u) k (of_single l (place_at w u) s.calls) (λ y. y.carries) refl (ap (λ (y : Station). y.carries) s.was))))
-        (λ u nu h. rw (differ u t nu) refl) i
-      where
-        by_lock : ((k ≡ l) ⊎ (k ≢ l)) → carried_at p2 k ≡ (if k == l then (station p2).carries else carried_at (place_at w t) k)
-        by_lock (inl f) = rw (f, same l) (ap (λ (y : Station). y.carries) (station_here l p2 of))
-        by_lock (inr ne) = rw (differ k l ne) (ap (λ (y : Station). y.carries) (station_elsewhere l k p2 of ne ∙ sym (station_elsewhere l k (place_at w t) own ne)))
-
-    hands_now : Hands (TakesOne w) places_now
-    hands_now = hands_taken (TakesOne w) (place_at w) places_now steady.stands.hands t l has many (station p2).carries in_hand carries
-        (ap (λ (y : Station). y.carries) (station_here l (place_at w t) own) ∙ bare)
-        (λ u h. let s = splits.sleeps u h in ap (λ (y : Station). y.hand) (station_here l (place_at w u) s.calls ∙ s.was)) some full
-
-  calls_now : (u : ℕ) → FitsItsLock w (places_now u)
-  calls_now = by_thread (λ u p. FitsItsLock w p) fits (λ u nu h. (splits.sleeps u h).fits) (λ u nu h. steady.stands.calls u)
-
-  -- those who are left stand in the line
-  lines_now : (queue : ℕ → List Waiter) → (station p2).stands ≡ None → queue (key_of l m) ≡ left → ((key : ℕ) → key ≢ key_of l m → queue key ≡ queue_at w key) → Lines places_now queue
-  lines_now queue stands here others u k n = by_thread (λ u p. times u (queue (key_of k n)) ≡ stood_in (station_at p k).stands n)
-      (at_line t (λ f. no_member_left (cases_eq k l)) ∙ sym (ap (λ x. stood_in x n) (nothing_at p2 k (of_single l p2 of) (λ y. y.stands) refl stands)))
-      (λ u nu h. taken_out u h)
-      (λ u nu h. stays u h) u
-    where
-      at_line : (u : ℕ) → ((n ≡ n) → times u (queue (key_of k n)) ≡ 0) → times u (queue (key_of k n)) ≡ 0
-      at_line u f = f refl
-
-      left_times : (u : ℕ) → has u ≡ false → times u left ≡ stood_in (station_at (place_at w u) l).stands m
-      left_times u h = let a : times u taken + times u left ≡ stood_in (station_at (place_at w u) l).stands m = stood u in let b : times u taken ≡ 0 = stranger_times u taken h in omega arith
-
-      stays : (u : ℕ) → has u ≡ false → times u (queue (key_of k n)) ≡ stood_in (station_at (place_at w u) k).stands n
-      stays u h = elim (cases_eq k l) [
-        | inl f ↦ rw f (elim (same_line n m) [
-          | inl g ↦ rw (g, here) (left_times u h)
-          | inr ng ↦ ap (times u) (others (key_of l n) (other_line l m n ng)) ∙ steady.stands.lines u l n
-        ])
-        | inr ne ↦ ap (times u) (others (key_of k n) (other_key l k m n ne)) ∙ steady.stands.lines u k n
-      ]
-
-      no_member_left : ((k ≡ l) ⊎ (k ≢ l)) → times t (queue (key_of k n)) ≡ 0
-      no_member_left any = stays t not_self ∙ ap (λ x. stood_in x n) (nothing_at (place_at w t) k (singles w steady t) (λ y. y.stands) refl out)
-
-      taken_out : (u : ℕ) → has u ≡ true → times u (queue (key_of k n)) ≡ stood_in (station_at (next_place (place_at w u) (TakenBy t)) k).stands n
-      taken_out u h = let s = splits.sleeps u h in none_there (cases_eq k l) ∙ sym (ap (λ x. stood_in x n) (nothing_at (next_place (place_at w u) (TakenBy t)) k (of_single l (next_place (place_at w u) (TakenBy t)) s.calls_then) (λ y. y.stands) refl (ap (λ (y : Station). y.stands) s.free)))
-        where
-          none_there : ((k ≡ l) ⊎ (k ≢ l)) → times u (queue (key_of k n)) ≡ 0
-          none_there (inr ne) = let s = splits.sleeps u h in ap (times u) (others (key_of k n) (other_key l k m n ne)) ∙ steady.stands.lines u k n ∙ ap (λ (y : Station). stood_in y.stands n) (station_elsewhere l k (place_at w u) s.calls ne)
-          none_there (inl f) = rw f (elim (same_line n m) [
-            | inl g ↦ rw (g, here) (let a : times u taken + times u left ≡ stood_in (station_at (place_at w u) l).stands m = stood u in let b : 1 ≤ times u taken = member_times u taken h in let c : stood_in (station_at (place_at w u) l).stands m ≤ 1 = at_most_one (station_at (place_at w u) l).stands m in omega arith)
-            | inr ng ↦ let s = splits.sleeps u h in ap (times u) (others (key_of l n) (other_line l m n ng)) ∙ steady.stands.lines u l n ∙ ap (λ (y : Station). stood_in y.stands n) (station_here l (place_at w u) s.calls ∙ s.was) ∙ stood_other m n ng
-          ])
-
-  -- and wait as before
-  waits_now : (queue : ℕ → List Waiter) → queue (key_of l m) ≡ left → ((key : ℕ) → key ≢ key_of l m → queue key ≡ queue_at w key) → Waits places_now queue
-  waits_now queue here others k n = elim (cases_eq k l) [
-    | inl f ↦ rw f (elim (same_line n m) [
-      | inl g ↦ rw (g, here) (waiting_same (place_at w) places_now l m left splits.lefts (λ u g. left_as u g))
-      | inr ng ↦ waiting_same (place_at w) places_now l n (queue (key_of l n)) (subst (AreWaiting (place_at w) l n) (sym (others (key_of l n) (other_line l m n ng))) (steady.stands.waits l n))
-          (λ u g. other_as u n ng (subst (λ (q : List Waiter). 1 ≤ times u q) (others (key_of l n) (other_line l m n ng)) g))
-    ])
-    | inr ne ↦ waiting_same (place_at w) places_now k n (queue (key_of k n)) (subst (AreWaiting (place_at w) k n) (sym (others (key_of k n) (other_key l k m n ne))) (steady.stands.waits k n)) (λ u g. else_as u ne)
-  ]
-    where
-      nobody_out : (n : Line) → times t (queue_at w (key_of l n)) ≡ 0
-      nobody_out n = steady.stands.lines t l n ∙ ap (λ (y : Station). stood_in y.stands n) (station_here l (place_at w t) own) ∙ ap (λ o. stood_in o n) out
-
-      left_as : (u : ℕ) → 1 ≤ times u left → (station_at (places_now u) l).waits ≡ (station_at (place_at w u) l).waits
-      left_as u g = by_thread (λ u p. 1 ≤ times u left → (station_at p l).waits ≡ (station_at (place_at w u) l).waits)
-          (λ g. absurd (let a : times t taken + times t left ≡ times t (queue_at w (key_of l m)) = splits.counts t in let b : times t (queue_at w (key_of l m)) ≡ 0 = nobody_out m in omega arith))
-          (λ u nu h g. absurd (let a : times u taken + times u left ≡ stood_in (station_at (place_at w u) l).stands m = stood u in let b : 1 ≤ times u taken = member_times u taken h in let c : stood_in (station_at (place_at w u) l).stands m ≤ 1 = at_most_one (station_at (place_at w u) l).stands m in omega arith))
-          (λ u nu h g. refl) u g
-
-      other_as : (u : ℕ) (n : Line) → n ≢ m → 1 ≤ times u (queue_at w (key_of l n)) → (station_at (places_now u) l).waits ≡ (station_at (place_at w u) l).waits
-      other_as u n ng g = by_thread (λ u p. 1 ≤ times u (queue_at w (key_of l n)) → (station_at p l).waits ≡ (station_at (place_at w u) l).waits)
-          (λ g. absurd (let b : times t (queue_at w (key_of l n)) ≡ 0 = nobody_out n in omega arith))
-          (λ u nu h g. absurd (let s = splits.sleeps u h in let a : times u (queue_at w (key_of l n)) ≡ 0 = steady.stands.lines u l n ∙ ap (λ (y : Station). stood_in y.stands n) (station_here l (place_at w u) s.calls ∙ s.was) ∙ stood_other m n ng in omega arith))
-          (λ u nu h g. refl) u g
-
-      else_as : (u : ℕ) → k ≢ l → (station_at (places_now u) k).waits ≡ (station_at (place_at w u) k).waits
-      else_as u ne = by_thread (λ u p. (station_at p k).waits ≡ (station_at (place_at w u) k).waits)
-          (ap (λ (y : Station). y.waits) (station_elsewhere l k p2 of ne ∙ sym (station_elsewhere l k (place_at w t) own ne)))
-          (λ u nu h. let s = splits.sleeps u h in ap (λ (y : Station). y.waits) (station_elsewhere l k (next_place (place_at w u) (TakenBy t)) s.calls_then ne ∙ sym (station_elsewhere l k (place_at w u) s.calls ne)))
-          (λ u nu h. refl) u
-
-  -- the lock, by those whom t has in hand then
   module _ (r : Rules) (rules : rules_in w l ≡ r) (none : taken_at (place_at w t) l ≡ None) (none2 : taken_at p2 l ≡ None) where
     abbrev pub lock_taken : Site
     lock_taken = record (seen_in r l (with_line (parts_at w l) m left) (place_at w)) {
       lock = lock_in (with_line (parts_at w l) m left) (locks.taking t (map queued_of taken) (λ u. taken_at (place_at w u) l));
     }
 
-    taken_now : (u : ℕ) → taken_at (places_now u) l ≡ locks.taking t (map queued_of taken) (λ u. taken_at (place_at w u) l) u
-    taken_now = by_thread (λ u p. taken_at p l ≡ locks.taking t (map queued_of taken) (λ u. taken_at (place_at w u) l) u)
-        (none2 ∙ sym (in_hand_by t ∙ ap (λ b. if b then taken_at (next_place (place_at w t) (TakenBy t)) l else taken_at (place_at w t) l) not_self ∙ none))
-        (λ u nu h. sym (in_hand_by u ∙ ap (λ b. if b then taken_at (next_place (place_at w u) (TakenBy t)) l else taken_at (place_at w u) l) h))
-        (λ u nu h. sym (in_hand_by u ∙ ap (λ b. if b then taken_at (next_place (place_at w u) (TakenBy t)) l else taken_at (place_at w u) l) h))
-      where
-        in_hand_by : (u : ℕ) → locks.taking t (map queued_of taken) (λ u. taken_at (place_at w u) l) u ≡ (if member u taken then taken_at (next_place (place_at w u) (TakenBy t)) l else taken_at (place_at w u) l)
-        in_hand_by u = taking_is t taken (λ u. taken_at (place_at w u) l) (λ u. taken_at (next_place (place_at w u) (TakenBy t)) l) u splits.wants
-
-    take_site : (d : Deed) → AreSingle (d ∷ []) → lock_taken.lock ≡ (after_acts r (acts t (d ∷ [])) (lock_by w l r)).lock → lock_taken.parked ≡ (after_acts r (acts t (d ∷ [])) (lock_by w l r)).parked → lock_taken.aside_parked ≡ (after_acts r (acts t (d ∷ [])) (lock_by w l r)).aside_parked
-        → lock_taken.filled ≡ (after_acts r (acts t (d ∷ [])) (lock_by w l r)).filled → doing_on p2 l ≡ (after_acts r (acts t (d ∷ [])) (lock_by w l r)).doing t → seen_in r l (with_line (parts_at w l) m left) places_now ≡ after_acts r (acts t (d ∷ [])) (lock_by w l r)
-    take_site d single lock parked aside full own_is = λ i. record {
-      lock = ((λ j. lock_in (with_line (parts_at w l) m left) (λ u. taken_now u j)) ∙ lock) i;
-      parked = parked i;
-      aside_parked = aside i;
-      filled = full i;
-      doing = λ u. doing_now u i;
-    }
-      where
-        doing_now : (u : ℕ) → doing_on (places_now u) l ≡ (after_acts r (acts t (d ∷ [])) (lock_by w l r)).doing u
-        doing_now = by_thread (λ u p. doing_on p l ≡ (after_acts r (acts t (d ∷ [])) (lock_by w l r)).doing u) own_is
-            (λ u nu h. (splits.sleeps u h).doing ∙ sym (others_same r (d ∷ []) (lock_by w l r) t u single nu))
-            (λ u nu h. sym (others_same r (d ∷ []) (lock_by w l r) t u single nu))
-
     -- the deed, and what it makes of the lock
-    module _ (v : State) (el : v.locks ≡ w.locks) (eh : v.shares ≡ w.shares) (es : v.sections ≡ w.sections) (threads : length v.places ≡ length w.places) (places : place_at v ≡ places_now) (here : queue_at v (key_of l m) ≡ left) (others : (key : ℕ) → key ≢ key_of l m → queue_at v key ≡ queue_at w key) where
-      same_lock : (k : ℕ) → base_at v k ≡ base_at w k
-      same_lock k = λ i. record { shared = get_or (eh i) k (replicate (threads i) 0); filled = (get_or (el i) k (unlocked kind.TheVariants.Mutex)).filled }
-
-      here_now : (n : Line) → m ≡ n → parts_at v l ≡ with_line (parts_at w l) n left
-      here_now Main e = λ i. record {
-        base = same_lock l i;
-        word = (get_or (el i) l (unlocked kind.TheVariants.Mutex)).word;
-        owners = (get_or (el i) l (unlocked kind.TheVariants.Mutex)).owners;
-        main = (subst (λ n. queue_at v (key_of l n) ≡ left) e here) i;
-        second = (others (2 * l + 1) (subst (λ n. 2 * l + 1 ≢ key_of l n) (sym e) (λ h. omega arith))) i;
-      }
-      here_now Second e = λ i. record {
-        base = same_lock l i;
-        word = (get_or (el i) l (unlocked kind.TheVariants.Mutex)).word;
-        owners = (get_or (el i) l (unlocked kind.TheVariants.Mutex)).owners;
-        main = (others (2 * l) (subst (λ n. 2 * l ≢ key_of l n) (sym e) (λ h. omega arith))) i;
-        second = (subst (λ n. queue_at v (key_of l n) ≡ left) e here) i;
-      }
-
-      moves : Moves w v l (with_line (parts_at w l) m left) places_now
-      moves = record {
-        here = here_now m refl;
-        others = λ k ne i. record {
-          base = same_lock k i;
-          word = (get_or (el i) k (unlocked kind.TheVariants.Mutex)).word;
-          owners = (get_or (el i) k (unlocked kind.TheVariants.Mutex)).owners;
-          main = (others (key_of k Main) (other_key l k m Main ne)) i;
-          second = (others (key_of k Second) (other_key l k m Second ne)) i;
-        };
-        places = places;
-        kinds = same_kinds;
-        alike = alike;
-        numbers = record { threads = threads; locks = λ i. length (el i); shares = λ i. length (eh i) };
-        sharers = same_sharers m;
-      }
-        where
-          same_kinds : (k : ℕ) → kind_at v k ≡ kind_at w k
-          same_kinds k i = (get_or (el i) k (unlocked kind.TheVariants.Mutex)).kind
-
-          same_sharers : (n : Line) → length (with_line (parts_at w l) n left).base.shared ≡ length (shares_at w l)
-          same_sharers Main = refl
-          same_sharers Second = refl
-
-      word_now : (n : Line) → m ≡ n → (with_line (parts_at w l) n left).word ≡ code r (seen_in r l (with_line (parts_at w l) n left) places_now)
-      word_now Main e = word_by_lines w t l steady own there r rules p2 of fits left (queue_at w (2 * l + 1)) places_now
-      word_now Second e = word_by_lines w t l steady own there r rules p2 of fits (queue_at w (2 * l)) left places_now
-
-      pub take_goes : (station p2).inside ≡ (station (place_at w t)).inside → (station p2).stands ≡ None → (station p2).hand ≡ None → ((b : Bool) → (station p2).carries ≡ Some b → (b ≡ false) × ((u : ℕ) × (has u ≡ true))) → ((u : ℕ) → has u ≡ true → (station p2).carries ≡ Some false)
+    module _ (v : State) (el : v.locks ≡ w.locks) (eh : v.shares ≡ w.shares) (es : v.sections ≡ w.sections) (threads : length v.places ≡ length w.places) (places : place_at v ≡ putting (told_by (TakenBy t) taken (place_at w)) t p2) (here : queue_at v (key_of l m) ≡ left) (others : (key : ℕ) → key ≢ key_of l m → queue_at v key ≡ queue_at w key) where
+      pub take_goes : (station p2).inside ≡ (station (place_at w t)).inside → (station p2).stands ≡ None → (station p2).hand ≡ None → ((b : Bool) → (station p2).carries ≡ Some b → (b ≡ false) × ((u : ℕ) × (member u taken ≡ true))) → ((u : ℕ) → member u taken ≡ true → (station p2).carries ≡ Some false)
           → (d : Deed) → AreSingle (d ∷ []) → NoHandOff (d ∷ []) → ActsNeeded r (acts t (d ∷ [])) (lock_by w l r) → lock_taken.lock ≡ (after_acts r (acts t (d ∷ [])) (lock_by w l r)).lock → lock_taken.parked ≡ (after_acts r (acts t (d ∷ [])) (lock_by w l r)).parked
           → lock_taken.aside_parked ≡ (after_acts r (acts t (d ∷ [])) (lock_by w l r)).aside_parked → lock_taken.filled ≡ (after_acts r (acts t (d ∷ [])) (lock_by w l r)).filled → doing_on p2 l ≡ (after_acts r (acts t (d ∷ [])) (lock_by w l r)).doing t → Goes w v l (acts t (d ∷ []))
-      take_goes inside stands unheld some full d single plain needed lock parked aside filled own_is = record {
-        follows = follows_by w v l (with_line (parts_at w l) m left) places_now moves r rules (acts t (d ∷ [])) (limited w l steady r rules (acts t (d ∷ [])) (λ h. ordinary_by (length w.places) t (d ∷ []) there plain) needed) (take_site d single lock parked aside filled own_is) needed (word_now m refl);
-        stands = stands_then v places_now places
-            (subst (λ (f : ℕ → Option ℕ). Sections places_now f) (sym (λ i key. get_or (es i) key None)) (sections_same (place_at w) places_now (section_at w) steady.stands.sections (part_now (λ y. y.inside) inside (λ x. refl))))
-            (lines_now (queue_at v) stands here others)
-            (waits_now (queue_at v) here others)
-            (hands_in w v places_now moves.kinds (hands_now unheld some full))
-            (λ u. calls_in w v (places_now u) moves.kinds (calls_now u));
-      }
+      take_goes inside stands unheld = at.take_goes w t l steady there p2 (own_alike l (place_at w t) p2 own of) fits m taken left
+          (record { counts = splits.counts; sleeps = λ u h. taken_so w t l m (place_at w u) (splits.sleeps u h); lefts = splits.lefts; wants = splits.wants })
+          (λ one. absurd (many one)) (ap (λ (y : Station). y.carries) was_here ∙ bare) (station p2).carries (now inside stands unheld) r rules
+          (none2 ∙ sym (ap (λ b. if b then taken_at (next_place (place_at w t) (TakenBy t)) l else taken_at (place_at w t) l) not_self ∙ none)) v el eh es threads places here others

@@ -2,9 +2,9 @@
 use Rattle.std.proofs.Common.{ℕ, Bool, true, false, Option, Some, None, if◌then◌else◌, ◌≡◌, ◌<◌, [], ◌∷◌, length, length-set, nat_lt, refl, subst, sym, ◌∙◌, ap}
 use Rattle.lot_laws.proofs.OnceKept.{once_begins}
 use Rattle.lot_laws.proofs.KindsKept.{calls_once}
-use Rattle.lot_machine.specs.Machine.{can_close, state_after_close}
+use Rattle.lot_machine.specs.Machine.{can_close, state_after_close, can_go, state_after_go}
 use Rattle.lot_laws.proofs.Looking.{closing_steady}
-use Rattle.lot_laws.proofs.Closings.{closing, closing_counted, closing_may, closing_shaped, closing_there, goes_behind}
+use Rattle.lot_laws.proofs.Closings.{closing, closing_counted, closing_may, closing_shaped, closing_there}
 use Rattle.lot_laws.proofs.Closures.{closes_one}
 use Rattle.lot_laws.proofs.OnceOwing.{once_never_late}
 use Rattle.lot_once.specs.OnceProfiles.{once_profile}
@@ -45,6 +45,7 @@ use Rattle.lot_laws.proofs.SitesKept.{mutex_at, goes_steady, place_goes}
 use Rattle.lot_laws.proofs.Looking.{looking_steady, looks_now}
 use Rattle.lot_laws.proofs.CountsPut.{looking_counted}
 use Rattle.lot_laws.proofs.GoneKept.{enters, gone_kept}
+use Rattle.lot_laws.proofs.OwnPlace.{gone}
 use Rattle.lot_laws.proofs.RwLockKept.{rwlock_begins, rwlock_goes_late}
 use Rattle.lot_rwlock.specs.declared.places.Admission.{Admission}
 use Rattle.lot_rwlock_fair.specs.declared.places.RwLockCallPlace.{RwLockCallPlace}
@@ -58,6 +59,11 @@ idle_is (Mutex l at) h = absurd cc
 idle_is (RwLock l a at) h = absurd cc
 idle_is (Once l at) h = absurd cc
 idle_is (Condvar l at) h = absurd cc
+
+module _ (w : State) (t : ℕ) (steady : IsSteady w) (shape : IsShaped w) (there : t < length w.places) where
+  -- a thread goes on from its place
+  gone_steady : AreCounted w → can_go w t ≡ true → IsSteady (state_after_go w t)
+  gone_steady counted can = subst IsSteady (sym (gone w t steady)) (gone_kept w t steady shape there counted (place_at w t) refl (shape.places t) can)
 
 module _ (w : State) (t : ℕ) (steady : IsSteady w) (shape : IsShaped w) (there : t < length w.places) where
   -- it begins, with the claim that the call needs
@@ -102,8 +108,7 @@ module _ (w : State) (t : ℕ) (steady : IsSteady w) (shape : IsShaped w) (there
   -- it looks at the word once more
   spun_kept : AreCounted w → (o : Option Place) → looking (place_at w t) ≡ o → IsSteady (state_after_look w t o)
   spun_kept counted None is = steady
-  spun_kept counted (Some q) is = let shaped = looking_shaped w t q shape is in
-      gone_kept (put w t q) t (looking_steady w t there q is steady) shaped (rw (length-set w.places t q) there) (looking_counted w t there q is counted) (place_at (put w t q) t) refl (shaped.places t) (looks_now w t there q is)
+  spun_kept counted (Some q) is = gone_steady (put w t q) t (looking_steady w t there q is steady) (looking_shaped w t q shape is) (rw (length-set w.places t q) there) (looking_counted w t there q is counted) (looks_now w t there q is)
 
   -- its time is up, and it goes into the section of its line
   asleep_late : (l : ℕ) (e : Entry) (r : Bool) → place_at w t ≡ Mutex l (Lock e r lock.Asleep) → l < length w.locks → is_free_under w (late_key (Mutex l (Lock e r lock.Asleep))) ≡ true → IsSteady (state_after_late_on w t (late_key (Mutex l (Lock e r lock.Asleep))))
@@ -142,14 +147,12 @@ module _ (w : State) (t : ℕ) (steady : IsSteady w) (shape : IsShaped w) (there
   closed_kept : AreCounted w → (succeeded : Bool) → can_close w t succeeded ≡ true → IsSteady (state_after_close w t succeeded)
   closed_kept counted succeeded can =
       let one = closes_one w t succeeded can in
-      let v = closing w t there succeeded one in
-      let shaped = closing_shaped w t there succeeded one shape in
-      subst IsSteady (sym (goes_behind w t there succeeded one))
-      (gone_kept v t (closing_steady w t there succeeded one steady) shaped (closing_there w t there succeeded one) (closing_counted w t there succeeded one counted) (place_at v t) refl (shaped.places t) (closing_may w t there succeeded one))
+      gone_steady (closing w t there succeeded one) t (closing_steady w t there succeeded one steady) (closing_shaped w t there succeeded one shape) (closing_there w t there succeeded one)
+      (closing_counted w t there succeeded one counted) (closing_may w t there succeeded one)
 
   turned_kept : AreCounted w → (x : Turn) → can_turn w t x ≡ true → IsSteady (state_after_turn w t x)
   turned_kept counted (turn.TheVariants.Begin c) can = begun_kept c can
-  turned_kept counted turn.TheVariants.Go can = gone_kept w t steady shape there counted (place_at w t) refl (shape.places t) can
+  turned_kept counted turn.TheVariants.Go can = gone_steady w t steady shape there counted can
   turned_kept counted turn.TheVariants.Spin can = spun_kept counted (looking (place_at w t)) refl
   turned_kept counted turn.TheVariants.Late can = late_kept (place_at w t) refl (shape.places t) can
   turned_kept counted turn.TheVariants.Ok can = closed_kept counted true can

@@ -1,59 +1,30 @@
--- A thread leaves its section and lets go whomever it has in hand, one or many: every lock is a site again.
-use Rattle.std.proofs.Common.{ℕ, Bool, true, false, Some, None, if◌then◌else◌, ◌==◌, ◌&&◌, ◌≡◌, ◌≢◌, ◌+◌, ◌*◌, ◌<◌, replicate, List, [], ◌∷◌, length, get_or, map, inl, inr, refl, sym, ◌∙◌, ap, subst, length-set, get_or-set_same, get_or-set_other}
+-- A thread in a call of one lock leaves its section and lets go whomever it has in hand, one or many, each in a call of that lock.
+use Rattle.std.proofs.Common.{Option, ℕ, Bool, true, false, Some, None, if◌then◌else◌, ◌≡◌, ◌≢◌, ◌<◌, List, length, inl, inr, sym, ◌∙◌, ap, subst}
 use Rattle.std.proofs.lemmas.Bool.{cases_eq}
-use Rattle.std.proofs.lemmas.List.{length-map}
 use Rattle.lot_base.specs.declared.keys.Keys.TheVariants.{One}
 use Rattle.lot_base.specs.declared.notes.Note.{Note}
 use Rattle.lot_steps.specs.declared.places.Place.{Place}
 use Rattle.lot_acts.specs.declared.acts.Reply.TheVariants.{Woken}
 use Rattle.lot_steps.specs.Steps.{next_place}
-use Rattle.abstract_locks.specs.Locks.{Rules, putting, keep_from}
-use Rattle.abstract_locks.specs.Sites.{Deed, Line, End, Out, idle, wakened, leaves}
-use Rattle.lot_machine.specs.Machine.{State, place_at, filled_at, section_at, queue_at, put, state_with_sections, state_after_telling, place_after_telling}
+use Rattle.abstract_locks.specs.Locks.{Rules, keep_from}
+use Rattle.abstract_locks.specs.Sites.{Deed, Line}
+use Rattle.lot_machine.specs.Machine.{State, place_at, put, state_with_sections, state_after_telling}
 use Rattle.lot_laws.specs.Refinement.{taken_at}
 use Rattle.lot_laws.specs.MutexDeeds.{acts}
-use Rattle.lot_laws.specs.Stations.{Station, hand, station, station_at, nowhere, doing_on}
-use Rattle.lot_laws.specs.SitesOf.{ActsNeeded, TakesOne, Hands, IsSteady, Goes, FitsItsLock, after_acts, rules_in, key_of, carried_at, hand_at}
-use Rattle.lot_laws.proofs.Glue.{Parts, parts_at, lock_in, seen_in, put_here, put_other, IsOf, station_here, LetGo, stays, untaken, held_taker, singles}
-use Rattle.lot_laws.proofs.ActsKept.{limited, follows_by, lock_by, word_by_lines}
-use Rattle.lot_laws.proofs.OneStep.{AreOrdinary}
-use Rattle.lot_laws.proofs.ToldKept.{IsTold, has, told, places_then, held_here, told_on, told_off, not_held, in_hand, carries, alike, calls_then, same_parts, all_parts, places_are}
-use Rattle.lot_laws.proofs.StandsKept.{left, lines_same, waits_same, hands_freed, calls_in}
-use Rattle.lot_laws.proofs.StandsMoved.{stands_then, hands_in}
-
--- out of a section, and where the thread keeps a right of its own, the end of its call
-abbrev pub AreLeaving : List Deed → Type 0
-AreLeaving (Out ∷ []) = Unit {0}
-AreLeaving (Out ∷ End ∷ []) = Unit {0}
-AreLeaving ds = ⊥
+use Rattle.lot_laws.specs.Stations.{Hand, Station, hand, station, station_at, nowhere, doing_on}
+use Rattle.lot_laws.specs.SitesOf.{ActsNeeded, IsSteady, Goes, FitsItsLock, after_acts, rules_in, key_of, hand_at}
+use Rattle.lot_laws.proofs.Glue.{Parts, seen_in, IsOf, IsHeldBy, LetGo, held_taker, held_where, next_of, singles, station_elsewhere, station_here}
+use Rattle.lot_laws.proofs.ActsKept.{lock_by}
+use Rattle.lot_laws.proofs.StandsKept.{AlikeBeside, own_alike}
+pub use Rattle.lot_acts.specs.Moves.{AreLeaving}
+use Rattle.lot_laws.proofs.ToldAt.{HoldsHere, same_hands}
+use Rattle.lot_laws.proofs.WakesAt.{IsWokenAt}
+use Rattle.lot_laws.proofs.WakesAt as at
 
 -- leaving a section, whoever is woken by it
 module _ (r : Rules) (l : ℕ) (a : Parts) (p q : ℕ → Place) (t : ℕ) (none : taken_at (p t) l ≡ None) (none2 : taken_at (q t) l ≡ None) (others : (u : ℕ) → u ≢ t → LetGo t l (p u) (q u)) where
-  taken_now : (u : ℕ) → taken_at (q u) l ≡ keep_from t (taken_at (p u) l)
-  taken_now u = elim (cases_eq u t) [
-    | inl e ↦ rw e (none2 ∙ sym (ap (keep_from t) none))
-    | inr ne ↦ (others u ne).taken
-  ]
-
-  out_of : (u : ℕ) → u ≢ t → doing_on (q u) l ≡ wakened t (taken_at (p u) l) (putting (λ x. doing_on (p x) l) t (leaves (doing_on (p t) l)) u)
-  out_of u ne = (others u ne).doing ∙ sym (ap (wakened t (taken_at (p u) l)) (put_other (λ y. doing_on (p y) l) t (leaves (doing_on (p t) l)) u ne))
-
   pub leaving_by : (ds : List Deed) → AreLeaving ds → doing_on (q t) l ≡ (after_acts r (acts t ds) (seen_in r l a p)).doing t → seen_in r l a q ≡ after_acts r (acts t ds) (seen_in r l a p)
-  leaving_by (Out ∷ []) h own = λ i. record (seen_in r l a q) { lock = lock_in a (λ u. taken_now u i); doing = λ u. doing_now u i }
-    where
-      doing_now : (u : ℕ) → doing_on (q u) l ≡ (after_acts r (acts t (Out ∷ [])) (seen_in r l a p)).doing u
-      doing_now u = elim (cases_eq u t) [
-        | inl e ↦ rw e own
-        | inr ne ↦ out_of u ne
-      ]
-  leaving_by (Out ∷ End ∷ []) h own = λ i. record (seen_in r l a q) { lock = lock_in a (λ u. taken_now u i); doing = λ u. doing_now u i }
-    where
-      doing_now : (u : ℕ) → doing_on (q u) l ≡ (after_acts r (acts t (Out ∷ End ∷ [])) (seen_in r l a p)).doing u
-      doing_now u = elim (cases_eq u t) [
-        | inl e ↦ rw e own
-        | inr ne ↦ out_of u ne ∙ sym (put_other (λ x. wakened t (taken_at (p x) l) (putting (λ y. doing_on (p y) l) t (leaves (doing_on (p t) l)) x)) t idle u ne)
-      ]
-  leaving_by ds h own = absurd h
+  leaving_by = at.leaving_by r l a p q t (none2 ∙ sym (ap (keep_from t) none)) others
 
 -- where a thread goes that t had in hand, and lets go
 pub record IsWoken (w : State) (t l : ℕ) (handed : Bool) (x : Note) (p : Place) : Type 0 where
@@ -62,66 +33,57 @@ pub record IsWoken (w : State) (t l : ℕ) (handed : Bool) (x : Note) (p : Place
   pub free : station (next_place p (Woken x)) ≡ nowhere
   pub fits : FitsItsLock w (next_place p (Woken x))
 
+-- all whom a thread has in hand call the lock that it calls
+pub holds_own : (w : State) (t l : ℕ) → IsSteady w → IsOf l (place_at w t) → HoldsHere w t l
+holds_own w t l steady own = record {
+  held = λ u h. let k = held_where (place_at w u) t (singles w steady u) h in record { lock = k.lock; handed = k.handed; hand = k.hand };
+  taker = λ u b h. held_taker (place_at w u) t l b (singles w steady u) h;
+  nobody = λ k ne. ap (λ (y : Station). y.carries) (station_elsewhere l k (place_at w t) own ne);
+}
+
 module _ (w : State) (t l : ℕ) (steady : IsSteady w) (own : IsOf l (place_at w t)) (there : t < length w.places) (p2 : Place) (of : IsOf l p2) (fits : FitsItsLock w p2) (x : Note)
     (woken : (u : ℕ) (b : Bool) → hand_at (place_at w u) l ≡ hand t b → IsWoken w t l b x (place_at w u)) (free : (station (place_at w t)).hand ≡ None) where
-  all_told : (u : ℕ) (b : Bool) → hand_at (place_at w u) l ≡ hand t b → IsTold w t b None (Woken x) (place_at w u)
-  all_told u b held = let k = woken u b held in record { was = k.was; goes = k.free; fits = k.fits }
+  abbrev holds : HoldsHere w t l
+  holds = holds_own w t l steady own
 
-  abbrev is_told : ℕ → Bool
-  is_told = has w t l steady own there p2 of fits (Woken x) None all_told free
+  was_here : station_at (place_at w t) l ≡ station (place_at w t)
+  was_here = station_here l (place_at w t) own
 
-  abbrev behind : ℕ → Place
-  behind = places_then w t l steady own there p2 of fits (Woken x) None all_told free
+  is_here : station_at p2 l ≡ station p2
+  is_here = station_here l p2 of
 
-  -- each other thread is let go, or stays
-  lets : (u : ℕ) → u ≢ t → LetGo t l (place_at w u) (behind u)
-  lets u ne = subst (λ (y : Place). LetGo t l (place_at w u) y) (sym (put_other (told w t l steady own there p2 of fits (Woken x) None all_told free) t p2 u ne)) (either (is_told u) refl)
+  -- who is in its hand calls the lock
+  calls_it : (u : ℕ) (b : Bool) → hand_at (place_at w u) l ≡ hand t b → IsOf l (place_at w u)
+  calls_it u b h = subst (λ j. IsOf j (place_at w u)) here k.of
     where
-      either : (b : Bool) → is_told u ≡ b → LetGo t l (place_at w u) (told w t l steady own there p2 of fits (Woken x) None all_told free u)
-      either true h = let held = held_here w t l steady own there p2 of fits (Woken x) None all_told free u h in subst (λ (y : Place). LetGo t l (place_at w u) y) (sym (told_on w t l steady own there p2 of fits (Woken x) None all_told free u h)) (woken u held.handed held.hand).lets
-      either false h = subst (λ (y : Place). LetGo t l (place_at w u) y) (sym (told_off w t l steady own there p2 of fits (Woken x) None all_told free u h)) (stays t l (place_at w u) (untaken (place_at w u) t l (not_held w t l steady own there p2 of fits (Woken x) None all_told free u h false)))
+      k : IsHeldBy (place_at w u) t
+      k = held_where (place_at w u) t (singles w steady u) (held_taker (place_at w u) t l b (singles w steady u) h)
 
-  -- t has nobody in hand then
-  module _ (bare : (station p2).carries ≡ None) (unheld : (station p2).hand ≡ None) where
-    hands_then : Hands (TakesOne w) behind
-    hands_then = hands_freed (TakesOne w) (place_at w) behind steady.stands.hands t l is_told (in_hand w t l steady own there p2 of fits (Woken x) None all_told free unheld)
-        (λ i k. carries w t l steady own there p2 of fits (Woken x) None all_told free i k ∙ ap (λ c. if (i == t) && (k == l) then c else carried_at (place_at w i) k) bare)
-        (λ u h. let held = held_here w t l steady own there p2 of fits (Woken x) None all_told free u h in (held.handed, held.hand)) (λ u b h. held_taker (place_at w u) t l b (singles w steady u) h)
+      here : k.lock ≡ l
+      here = elim (cases_eq k.lock l) [
+        | inl e ↦ e
+        | inr ne ↦ absurd (let none : hand_at (place_at w u) l ≡ None = ap (λ (y : Station). y.hand) (station_elsewhere k.lock l (place_at w u) k.of (λ e. ne (sym e))) in let c : ◌≡◌ {A = Option Hand} None (hand t b) = sym none ∙ h in cc)
+      ]
 
-    -- out of a section of the lock
-    module _ (m : Line) (line : key_of l m < length w.sections) (within : (station (place_at w t)).inside ≡ Some m) (stood : (station p2).stands ≡ (station (place_at w t)).stands) (waited : (station p2).waits ≡ (station (place_at w t)).waits) (out : (station p2).inside ≡ None) where
-      abbrev pub v : State
-      v = put (state_after_telling (state_with_sections w (One (key_of l m)) None) t (Woken x)) t p2
+  woken_at : (u : ℕ) (b : Bool) → hand_at (place_at w u) l ≡ hand t b → IsWokenAt w t l x (place_at w u)
+  woken_at u b h = let z = woken u b h in let of_u = calls_it u b h in record {
+    lets = z.lets;
+    goes = station_here l (next_place (place_at w u) (Woken x)) (next_of l (place_at w u) (Woken x) of_u) ∙ z.free ∙ sym (ap (λ (y : Station). record y { hand = None }) (station_here l (place_at w u) of_u ∙ z.was));
+    alike = own_alike l (place_at w u) (next_place (place_at w u) (Woken x)) of_u (next_of l (place_at w u) (Woken x) of_u);
+    fits = z.fits;
+  }
 
-      places : place_at v ≡ behind
-      places = places_are w t l steady own there p2 of fits (Woken x) None all_told free (state_with_sections w (One (key_of l m)) None) refl
+  pub wake_goes : (station p2).carries ≡ None → (station p2).hand ≡ None → (m : Line) → (line : key_of l m < length w.sections) → (station (place_at w t)).inside ≡ Some m → (station p2).stands ≡ (station (place_at w t)).stands → (station p2).waits ≡ (station (place_at w t)).waits → (station p2).inside ≡ None
+      → (r : Rules) → rules_in w l ≡ r → taken_at (place_at w t) l ≡ None → taken_at p2 l ≡ None → (ds : List Deed) → AreLeaving ds → ActsNeeded r (acts t ds) (lock_by w l r) → doing_on p2 l ≡ (after_acts r (acts t ds) (lock_by w l r)).doing t
+      → Goes w (put (state_after_telling (state_with_sections w (One (key_of l m)) None) t (Woken x)) t p2) l (acts t ds)
+  wake_goes bare unheld m line within stood waited out r rules none none2 = at.wake_goes w t l steady there p2 (same_hands l (place_at w t) p2 beside) fits holds x woken_at
+      (ap (λ (y : Station). y.carries) is_here ∙ bare) (unheld_then (at.is_told w t l steady there p2 (same_hands l (place_at w t) p2 beside) fits holds x woken_at t))
+      beside m line (ap (λ (y : Station). y.inside) was_here ∙ within) (ap (λ (y : Station). y.stands) is_here ∙ stood ∙ sym (ap (λ (y : Station). y.stands) was_here))
+      (ap (λ (y : Station). y.waits) is_here ∙ waited ∙ sym (ap (λ (y : Station). y.waits) was_here)) (ap (λ (y : Station). y.inside) is_here ∙ out) r rules (none2 ∙ sym (ap (keep_from t) none))
+    where
+      beside : AlikeBeside l (place_at w t) p2
+      beside = own_alike l (place_at w t) p2 own of
 
-      pub wake_goes : (r : Rules) → rules_in w l ≡ r → taken_at (place_at w t) l ≡ None → taken_at p2 l ≡ None → (ds : List Deed) → AreLeaving ds → ActsNeeded r (acts t ds) (lock_by w l r) → doing_on p2 l ≡ (after_acts r (acts t ds) (lock_by w l r)).doing t → Goes w v l (acts t ds)
-      wake_goes r rules none none2 ds leaving needed e = record {
-        follows = follows_by w v l (parts_at w l) behind (record {
-          here = λ i. record (parts_at w l) { base = record { shared = get_or w.shares l (replicate (threads i) 0); filled = filled_at w l } };
-          others = λ k ne i. record (parts_at w k) { base = record { shared = get_or w.shares k (replicate (threads i) 0); filled = filled_at w k } };
-          places = places;
-          kinds = λ k. refl;
-          alike = alike w t l steady own there p2 of fits (Woken x) None all_told free;
-          numbers = record { threads = threads; locks = refl; shares = refl };
-          sharers = refl;
-        }) r rules (acts t ds) (limited w l steady r rules (acts t ds) (λ h. plain ds leaving) needed)
-            (leaving_by r l (parts_at w l) (place_at w) behind t none (ap (λ y. taken_at y l) (put_here (told w t l steady own there p2 of fits (Woken x) None all_told free) t p2) ∙ none2) lets ds leaving (ap (λ y. doing_on y l) (put_here (told w t l steady own there p2 of fits (Woken x) None all_told free) t p2) ∙ e))
-            needed (word_by_lines w t l steady own there r rules p2 of fits (queue_at w (2 * l)) (queue_at w (2 * l + 1)) behind);
-        stands = stands_then v behind places
-            (left (place_at w) behind (section_at w) (section_at v) steady.stands.sections t l m (same_parts w t l steady own there p2 of fits (Woken x) None all_told free (λ y. y.inside) (λ h. refl)) (λ key ne. get_or-set_other w.sections (key_of l m) key None None ne)
-            (ap (λ (y : Station). y.inside) (station_here l (place_at w t) own) ∙ within) (ap (λ y. (station_at y l).inside) (put_here (told w t l steady own there p2 of fits (Woken x) None all_told free) t p2) ∙ ap (λ (y : Station). y.inside) (station_here l p2 of) ∙ out) (get_or-set_same w.sections (key_of l m) None None line))
-            (lines_same (place_at w) behind (queue_at w) (queue_at v) steady.stands.lines (all_parts w t l steady own there p2 of fits (Woken x) None all_told free (λ y. y.stands) (λ h. refl) stood) (λ key. refl))
-            (waits_same (place_at w) behind (queue_at w) (queue_at v) steady.stands.waits (all_parts w t l steady own there p2 of fits (Woken x) None all_told free (λ y. y.waits) (λ h. refl) waited) (λ key. refl))
-            (hands_in w v behind (λ k. refl) hands_then)
-            (λ u. calls_in w v (behind u) (λ k. refl) (calls_then w t l steady own there p2 of fits (Woken x) None all_told free u));
-      }
-        where
-          threads : length v.places ≡ length w.places
-          threads = length-set (map (place_after_telling t (Woken x)) w.places) t p2 ∙ length-map w.places (place_after_telling t (Woken x))
-
-          plain : (ds : List Deed) → AreLeaving ds → AreOrdinary (length w.places) (acts t ds)
-          plain (Out ∷ []) h = (tt, tt)
-          plain (Out ∷ End ∷ []) h = (tt, (tt, tt))
-          plain ds h = absurd h
+      unheld_then : (b : Bool) → (station_at p2 l).hand ≡ (if b then None else (station_at (place_at w t) l).hand)
+      unheld_then true = ap (λ (y : Station). y.hand) is_here ∙ unheld
+      unheld_then false = ap (λ (y : Station). y.hand) is_here ∙ unheld ∙ sym free ∙ sym (ap (λ (y : Station). y.hand) was_here)

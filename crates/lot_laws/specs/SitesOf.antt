@@ -6,7 +6,7 @@ use Rattle.lot_base.specs.Lines.{times}
 use Rattle.lot_steps.specs.declared.places.Place.{Place}
 use Rattle.lot_steps.specs.declared.places.Place.TheVariants.{Idle, Mutex as OfMutex, RwLock as OfRwLock, Once as OfOnce, Condvar as OfCondvar}
 use Rattle.lot_base.specs.declared.wants.Want.{Want}
-use Rattle.abstract_locks.specs.Locks.{Rules, Mutex as OneOwner, Once as OnceSort}
+use Rattle.abstract_locks.specs.Locks.{Rules, Mutex as OneOwner, Once as OnceSort, Condvar as CondvarSort}
 use Rattle.abstract_locks.specs.Sites.{Line, Main, Second, Site, IsSite, has_readers, after_deed, Needed}
 use Rattle.abstract_locks.specs.Codes.{code, parked_in, aside_in, HasLimit}
 use Rattle.abstract_locks.specs.Purposes.{rules_of}
@@ -16,13 +16,17 @@ use Rattle.lot_laws.specs.Refinement.{RunsClosure, lock_state}
 use Rattle.abstract_locks.specs.Onces.{InProgress}
 use Rattle.lot_calls.specs.declared.kinds.Kind.{Kind}
 use Rattle.lot_calls.specs.declared.kinds.Kind as kind
+use Rattle.lot_calls.specs.Kinds.{is_plain_mutex}
 use Rattle.lot_rwlock.specs.declared.places.Admission.{Admission}
 use Rattle.lot_rwlock.specs.RwLockDeeds.{Admits}
 use Rattle.lot_rwlock_fair.specs.declared.places.RwLockCallPlace.{RwLockCallPlace}
 use Rattle.lot_rwlock_fair.specs.declared.hand_over.Taken.{Taken as Counted}
 use Rattle.lot_rwlock_fair.specs.FairCalls.{CallStands, in_hand_of}
+use Rattle.lot_condvar.specs.declared.places.CondvarPlace.{CondvarPlace}
+use Rattle.lot_condvar.specs.CondvarSteps.{mutex_beside}
+use Rattle.lot_condvar.specs.CondvarCalls.{IsReached}
 use Rattle.lot_laws.specs.MutexDeeds.{Act}
-use Rattle.lot_laws.specs.Stations.{Hand, hand, station_at, doing_on}
+use Rattle.lot_laws.specs.Stations.{Hand, Station, hand, station_at, doing_on}
 
 abbrev pub rules_in : State → ℕ → Rules
 rules_in w l = rules_of (kind_at w l)
@@ -67,22 +71,34 @@ stood_in (Some Main) Main = 1
 stood_in (Some Second) Second = 1
 stood_in line m = 0
 
+-- how each thread stands at each lock
+abbrev pub stations_of : (ℕ → Place) → ℕ → ℕ → Station
+stations_of places t l = station_at (places t) l
+
 -- a section is held by the thread inside it
-abbrev pub Sections : (ℕ → Place) → (ℕ → Option ℕ) → Type 0
-Sections places section = (t l : ℕ) (m : Line) → (station_at (places t) l).inside ≡ Some m ↔ section (key_of l m) ≡ Some t
+abbrev pub Sections : (ℕ → ℕ → Station) → (ℕ → Option ℕ) → Type 0
+Sections at section = (t l : ℕ) (m : Line) → (at t l).inside ≡ Some m ↔ section (key_of l m) ≡ Some t
 
 -- a thread stands in the line that its place says, and once
-abbrev pub Lines : (ℕ → Place) → (ℕ → List Waiter) → Type 0
-Lines places queue = (t l : ℕ) (m : Line) → times t (queue (key_of l m)) ≡ stood_in (station_at (places t) l).stands m
+abbrev pub Lines : (ℕ → ℕ → Station) → (ℕ → List Waiter) → Type 0
+Lines at queue = (t l : ℕ) (m : Line) → times t (queue (key_of l m)) ≡ stood_in (at t l).stands m
 
 -- each who stands in the line does so under its key, and wants what its place says
-abbrev pub AreWaiting : (ℕ → Place) → ℕ → Line → List Waiter → Type 0
-AreWaiting places l m [] = Unit {0}
-AreWaiting places l m (x ∷ q) =
-    ((x.key ≡ key_of l m) × ((station_at (places x.thread) l).waits ≡ Some x.want)) × AreWaiting places l m q
+abbrev pub AreWaiting : (ℕ → ℕ → Station) → ℕ → Line → List Waiter → Type 0
+AreWaiting at l m [] = Unit {0}
+AreWaiting at l m (x ∷ q) = ((x.key ≡ key_of l m) × ((at x.thread l).waits ≡ Some x.want)) × AreWaiting at l m q
 
-abbrev pub Waits : (ℕ → Place) → (ℕ → List Waiter) → Type 0
-Waits places queue = (l : ℕ) (m : Line) → AreWaiting places l m (queue (key_of l m))
+abbrev pub Waits : (ℕ → ℕ → Station) → (ℕ → List Waiter) → Type 0
+Waits at queue = (l : ℕ) (m : Line) → AreWaiting at l m (queue (key_of l m))
+
+-- whom a thread has in hand
+pub record HandsBy (one : ℕ → Type 0) (at : ℕ → ℕ → Station) : Type 0 where
+  -- who has somebody in hand, by its place, has one
+  pub carried : (t l : ℕ) (b : Bool) → (at t l).carries ≡ Some b → (u : ℕ) × ((at u l).hand ≡ hand t b)
+  -- and there no second, where it takes one at a time
+  pub alone : (t l u v : ℕ) (b c : Bool) → one l → (at u l).hand ≡ hand t b → (at v l).hand ≡ hand t c → v ≡ u
+  -- who is in the hand of a thread, is so by that one's place
+  pub taken : (t u l : ℕ) (b : Bool) → (at u l).hand ≡ hand t b → (at t l).carries ≡ Some b
 
 abbrev pub carried_at : Place → ℕ → Option Bool
 carried_at p l = (station_at p l).carries
@@ -90,14 +106,8 @@ carried_at p l = (station_at p l).carries
 abbrev pub hand_at : Place → ℕ → Option Hand
 hand_at p l = (station_at p l).hand
 
--- at some locks a thread has one in hand at a time
-pub record Hands (one : ℕ → Type 0) (p : ℕ → Place) : Type 0 where
-  -- who has somebody in hand, by its place, has one
-  pub carried : (t l : ℕ) (b : Bool) → carried_at (p t) l ≡ Some b → (u : ℕ) × (hand_at (p u) l ≡ hand t b)
-  -- and there no second
-  pub alone : (t l u v : ℕ) (b c : Bool) → one l → hand_at (p u) l ≡ hand t b → hand_at (p v) l ≡ hand t c → v ≡ u
-  -- who is in the hand of a thread, is so by that one's place
-  pub taken : (t u l : ℕ) (b : Bool) → hand_at (p u) l ≡ hand t b → carried_at (p t) l ≡ Some b
+abbrev pub Hands : (ℕ → Type 0) → (ℕ → Place) → Type 0
+Hands one places = HandsBy one (stations_of places)
 
 -- the waiters of a mutex are taken one at a time
 abbrev pub TakesOne : State → ℕ → Type 0
@@ -108,18 +118,29 @@ is_mutex kind.TheVariants.Mutex = true
 is_mutex kind.TheVariants.Fair = true
 is_mutex k = false
 
--- a call is of a lock of its sort, and stands where it may; none of a condition variable begins here
+-- calls of condition variables begin: not yet
+abbrev pub CondvarsBegin : Type 0
+CondvarsBegin = ⊥
+
+-- a call of a condition variable has come to its place, and the mutex that it names is a plain one
+pub record FitsCondvar (w : State) (l : ℕ) (at : CondvarPlace) : Type 0 where
+  pub sort : (rules_in w l).sort ≡ CondvarSort
+  pub reached : IsReached at
+  pub mutex : (m : ℕ) → mutex_beside at ≡ Some m → is_plain_mutex (kind_at w m) ≡ true
+  pub begun : CondvarsBegin
+
+-- a call is of a lock of its sort, and stands where it may
 abbrev pub FitsItsLock : State → Place → Type 0
 FitsItsLock w Idle = Unit {0}
 FitsItsLock w (OfMutex l at) = is_mutex (kind_at w l) ≡ true
 FitsItsLock w (OfRwLock l a c) = Admits (rules_in w l) a × CallStands a c
 FitsItsLock w (OfOnce l at) = (rules_in w l).sort ≡ OnceSort
-FitsItsLock w (OfCondvar l at) = ⊥
+FitsItsLock w (OfCondvar l at) = FitsCondvar w l at
 
 pub record Stands (w : State) : Type 0 where
-  pub sections : Sections (place_at w) (section_at w)
-  pub lines : Lines (place_at w) (queue_at w)
-  pub waits : Waits (place_at w) (queue_at w)
+  pub sections : Sections (stations_of (place_at w)) (section_at w)
+  pub lines : Lines (stations_of (place_at w)) (queue_at w)
+  pub waits : Waits (stations_of (place_at w)) (queue_at w)
   pub hands : Hands (TakesOne w) (place_at w)
   pub calls : (t : ℕ) → FitsItsLock w (place_at w t)
 
@@ -189,4 +210,9 @@ pub record Follows (w v : State) (l : ℕ) (ds : List Act) : Type 0 where
 -- and each thread stands where its place says
 pub record Goes (w v : State) (l : ℕ) (ds : List Act) : Type 0 where
   pub follows : Follows w v l ds
+  pub stands : Stands v
+
+-- of any number of locks
+pub record GoesAll (w v : State) (ds : ℕ → List Act) : Type 0 where
+  pub follows : FollowAll w v ds
   pub stands : Stands v

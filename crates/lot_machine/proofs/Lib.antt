@@ -3,3 +3,4 @@ pub mod ShareLemmas
 pub mod Opening
 pub mod Looks
 pub mod Shape
+pub mod Closures

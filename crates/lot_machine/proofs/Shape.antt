@@ -71,12 +71,13 @@ use Rattle.lot_calls.specs.Calls.{lock_in}
 use Rattle.lot_acts.specs.Profiles.{in_line}
 use Rattle.abstract_locks.specs.Sites.{Main}
 use Rattle.lot_steps.specs.Steps.{is_idle, first_place, taker, act_of, next_place, mutex_goes, rwlock_goes, once_goes, looking, late_key, key_in}
-use Rattle.lot_machine.specs.Machine.{state_after_hand_over_by, hand_over_told, State, unlocked, opening, kind_at, word_at, place_at, queue_at, put, state_after_operation, state_with_sections, queues_with_last, queues_without_first, queues_without, state_after_park, state_after_reply, place_after_telling, state_after_telling, state_after_hand_over, state_after_taking, state_after_wake, state_after_act, state_after_takes, state_after_take_first, state_after_requeue, queues_requeued, left_behind, moved_under, moved_threads, listed, places_told, state_after_going, going_outcome, closed_place, can_do, state_after_go, reply_to, state_after_begin, can_begin, is_open_to, state_after_spin, state_after_late, state_after_late_on, state_after_turn, can_turn, is_possible, after, state_after_look, look_outcome, spin_outcome, can_spin, can_go, go_outcome}
+use Rattle.lot_machine.specs.Machine.{state_after_hand_over_by, hand_over_told, State, unlocked, opening, kind_at, word_at, place_at, queue_at, put, state_after_operation, state_with_sections, queues_with_last, queues_without_first, queues_without, state_after_park, state_after_reply, place_after_telling, state_after_telling, state_after_hand_over, state_after_taking, state_after_wake, state_after_act, state_after_takes, state_after_take_first, state_after_requeue, queues_requeued, left_behind, moved_under, moved_threads, listed, places_told, state_after_going, going_outcome, closed_place, state_after_close, close_outcome, can_close, runs_closure, can_do, state_after_go, reply_to, state_after_begin, can_begin, is_open_to, state_after_spin, state_after_late, state_after_late_on, state_after_turn, can_turn, is_possible, after, state_after_look, look_outcome, spin_outcome, can_spin, can_go, go_outcome}
 use Rattle.lot_base.specs.declared.notes.Note as note
 use Rattle.lot_mutex.specs.declared.lock.LockAt as lock
 use Rattle.lot_acts.specs.declared.acts.Whom as whom
 use Rattle.lot_machine.specs.Fits.{ActFits, GivesUpTimed, PlaceFits, AllBelow, IsShaped, SameSize}
 use Rattle.lot_machine.proofs.Looks.{look}
+use Rattle.lot_machine.proofs.Closures.{closes_freely}
 
 -- what holds of all elements holds of them after one is set
 pub set_all : {A : Type 0} (P : A → Type 0) (xs : List A) (i : ℕ) (y d : A) → P y → ((j : ℕ) → P (get_or xs j d)) → (j : ℕ) → P (get_or (set xs i y) j d)
@@ -487,16 +488,16 @@ acted_there w v t u p act b e lt = rw e (either b)
 
 -- where the reply to the act of a place leads
 pub went : (w v u : State) (t : ℕ) (p : Place) (a : Act) (r : Reply) (b : Bool) → a ≡ act_of p → can_do w a ≡ b
-    → Some r ≡ (if b then Some (reply_to w t a) else None) → v ≡ (if b then state_after_act w t p a else w) → u ≡ put v t (next_place p r)
+    → Some r ≡ (if b then Some (reply_to w t a) else None) → v ≡ (if b then state_after_act w t p a else w) → u ≡ put v t (next_place (place_at v t) r)
     → u ≡ (if can_do w (act_of p) then state_after_going w t p else w)
 went w v u t p a r true ea eb er ev eu = rw (← ea, eb) (let same : r ≡ reply_to w t a = cc in rw (eu, ev, same, ea) refl)
 went w v u t p a r false ea eb er ev eu = absurd cc
 
-pub went_told : (w : State) (t : ℕ) (p : Place) (a : Act) (r : Reply) (b : Bool) → a ≡ act_of p → can_do w a ≡ b
-    → Some r ≡ (if b then Some (reply_to w t a) else None) → (o : Outcome) → o ≡ outcome_of (next_act p r)
+pub went_told : (w v : State) (t : ℕ) (p : Place) (a : Act) (r : Reply) (b : Bool) → a ≡ act_of p → can_do w a ≡ b
+    → Some r ≡ (if b then Some (reply_to w t a) else None) → v ≡ (if b then state_after_act w t p a else w) → (o : Outcome) → o ≡ outcome_of (next_act (place_at v t) r)
     → o ≡ (if can_do w (act_of p) then going_outcome w t p else outcome.TheVariants.NotNow)
-went_told w t p a r true ea eb er o eo = rw (← ea, eb) (let same : r ≡ reply_to w t a = cc in rw (eo, same, ea) refl)
-went_told w t p a r false ea eb er o eo = absurd cc
+went_told w v t p a r true ea eb er ev o eo = rw (← ea, eb) (let same : r ≡ reply_to w t a = cc in rw (eo, ev, same, ea) refl)
+went_told w v t p a r false ea eb er ev o eo = absurd cc
 
 reply_fits : (w : State) (t : ℕ) (p : Place) (act : Act) → IsShaped w → ReplyFits p (reply_to w t act)
 reply_fits w t p (Take key whom.TheVariants.First) s = tt
@@ -504,14 +505,14 @@ reply_fits w t p (Take key (whom.TheVariants.Picked start recursive)) s = tt
 reply_fits w t p (Take key whom.TheVariants.All) s = tt
 reply_fits w t p act s = tt
 
-went_shaped : (w : State) (t : ℕ) (p : Place) → IsShaped w → t < length w.places → PlaceFits (length w.locks) p → IsShaped (state_after_going w t p)
-went_shaped w t p s lt h =
-    let counts = performed_counts w t p (act_of p) in
-    let fits = next_fits (length w.locks) p (reply_to w t (act_of p)) h (reply_fits w t p (act_of p) s) in
-    put_shaped (state_after_act w t p (act_of p)) t (next_place p (reply_to w t (act_of p))) (performed_shaped w t p (act_of p) s lt) (rw counts.1 fits)
+went_shaped : (w : State) (t : ℕ) (p : Place) → IsShaped w → t < length w.places → IsShaped (state_after_going w t p)
+went_shaped w t p s lt =
+    let shape = performed_shaped w t p (act_of p) s lt in
+    befallen_shaped (state_after_act w t p (act_of p)) t (reply_to w t (act_of p)) shape
+    (reply_fits w t (place_at (state_after_act w t p (act_of p)) t) (act_of p) s)
 
 gone_shaped : (w : State) (t : ℕ) → IsShaped w → t < length w.places → IsShaped (state_after_go w t)
-gone_shaped w t s lt = went_shaped w t (place_at w t) s lt (s.places t)
+gone_shaped w t s lt = went_shaped w t (place_at w t) s lt
 
 -- where a closure's answer leads
 pub closed_fits : (w : State) (t : ℕ) (succeeded : Bool) → IsShaped w → PlaceFits (length w.locks) (closed_place w t succeeded)
@@ -586,13 +587,35 @@ lated_shaped w t s = by_place (place_at w t) refl
         by_line (Some m) = befallen_shaped (state_with_sections w (One (key_of l m)) (Some t)) t Late (filled_shaped w (One (key_of l m)) (Some t) s) (rw e tt)
     by_place (Condvar l at) e = absurd (subst (PlaceFits (length w.locks)) e (s.places t))
 
+-- the thread stands behind its closure, and goes on from there
+closing_can : (w : State) (t : ℕ) (succeeded : Bool) → runs_closure (act_of (place_at w t)) ≡ true → can_close w t succeeded ≡ true
+closing_can w t succeeded runs = rw (runs, closes_freely w w t succeeded runs) refl
+
+pub closed : (w v : State) (t : ℕ) (succeeded : Bool) (q : Place) → t < length w.places → runs_closure (act_of (place_at w t)) ≡ true → q ≡ closed_place w t succeeded
+    → v ≡ (if can_do (put w t q) (act_of q) then state_after_going (put w t q) t q else put w t q) → v ≡ (if can_close w t succeeded then state_after_close w t succeeded else w)
+closed w v t succeeded q lt runs is e = rw (closing_can w t succeeded runs) (subst (λ p. v ≡ state_after_go (put w t p) t) is
+    (e ∙ ap (λ b. if b then state_after_going (put w t q) t q else put w t q) (subst (λ p. can_do (put w t q) (act_of p) ≡ true) (sym is) (closes_freely w (put w t q) t succeeded runs))
+        ∙ ap (state_after_going (put w t q) t) (sym (get_or-set_same w.places t q Idle lt))))
+
+pub closed_told : {v w : State} → v ≡ w → (t : ℕ) (succeeded : Bool) (q : Place) (told : Outcome) → t < length v.places → runs_closure (act_of (place_at v t)) ≡ true → q ≡ closed_place v t succeeded
+    → told ≡ (if can_do (put v t q) (act_of q) then going_outcome (put v t q) t q else outcome.TheVariants.NotNow) → told ≡ (if can_close w t succeeded then close_outcome w t succeeded else outcome.TheVariants.NotNow)
+closed_told {v} same t succeeded q told lt runs is e = subst (λ (w : State). told ≡ (if can_close w t succeeded then close_outcome w t succeeded else outcome.TheVariants.NotNow)) same
+    (rw (closing_can v t succeeded runs) (subst (λ p. told ≡ go_outcome (put v t p) t) is
+    (e ∙ ap (λ b. if b then going_outcome (put v t q) t q else outcome.TheVariants.NotNow) (subst (λ p. can_do (put v t q) (act_of p) ≡ true) (sym is) (closes_freely v (put v t q) t succeeded runs))
+        ∙ ap (going_outcome (put v t q) t) (sym (get_or-set_same v.places t q Idle lt)))))
+
+closed_shaped : (w : State) (t : ℕ) (succeeded : Bool) → IsShaped w → t < length w.places → IsShaped (state_after_close w t succeeded)
+closed_shaped w t succeeded s lt =
+    let q = closed_place w t succeeded in
+    gone_shaped (put w t q) t (put_shaped w t q s (closed_fits w t succeeded s)) (rw (length-set w.places t q) lt)
+
 turned_shaped : (w : State) (t : ℕ) (x : Turn) → IsShaped w → t < length w.places → can_turn w t x ≡ true → IsShaped (state_after_turn w t x)
 turned_shaped w t (turn.TheVariants.Begin c) s lt can = begun_shaped w t c s can
 turned_shaped w t turn.TheVariants.Go s lt can = gone_shaped w t s lt
 turned_shaped w t turn.TheVariants.Spin s lt can = spun_shaped w t s lt
 turned_shaped w t turn.TheVariants.Late s lt can = lated_shaped w t s
-turned_shaped w t turn.TheVariants.Ok s lt can = went_shaped w t (closed_place w t true) s lt (closed_fits w t true s)
-turned_shaped w t turn.TheVariants.Err s lt can = went_shaped w t (closed_place w t false) s lt (closed_fits w t false s)
+turned_shaped w t turn.TheVariants.Ok s lt can = closed_shaped w t true s lt
+turned_shaped w t turn.TheVariants.Err s lt can = closed_shaped w t false s lt
 
 -- a step keeps the shape
 pub after_shaped : (w : State) (s : Step) → IsShaped w → IsShaped (after w s)
@@ -633,16 +656,20 @@ went_size w t p =
     let counts = performed_counts w t p (act_of p) in
     record { threads = length-set (state_after_act w t p (act_of p)).places t _ ∙ counts.0; locks = counts.1 }
 
+put_went_size : (w : State) (t : ℕ) (q : Place) → SameSize w (state_after_go (put w t q) t)
+put_went_size w t q = size_more w (put w t q) (state_after_go (put w t q) t) (record { threads = length-set w.places t q; locks = refl })
+    (went_size (put w t q) t (place_at (put w t q) t))
+
 turned_size : (w : State) (t : ℕ) (x : Turn) → SameSize w (state_after_turn w t x)
 turned_size w t (turn.TheVariants.Begin c) = record { threads = length-set w.places t _; locks = refl }
 turned_size w t turn.TheVariants.Go = went_size w t (place_at w t)
-turned_size w t turn.TheVariants.Ok = went_size w t (closed_place w t true)
-turned_size w t turn.TheVariants.Err = went_size w t (closed_place w t false)
+turned_size w t turn.TheVariants.Ok = put_went_size w t (closed_place w t true)
+turned_size w t turn.TheVariants.Err = put_went_size w t (closed_place w t false)
 turned_size w t turn.TheVariants.Spin = by_place (looking (place_at w t))
   where
     by_place : (o : Option Place) → SameSize w (state_after_look w t o)
     by_place None = record { threads = refl; locks = refl }
-    by_place (Some q) = size_more w (put w t q) (state_after_look w t (Some q)) (record { threads = length-set w.places t q; locks = refl }) (went_size (put w t q) t (place_at (put w t q) t))
+    by_place (Some q) = put_went_size w t q
 turned_size w t turn.TheVariants.Late = by_key (late_key (place_at w t))
   where
     by_key : (o : Option ℕ) → SameSize w (state_after_late_on w t o)

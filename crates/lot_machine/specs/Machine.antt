@@ -388,12 +388,12 @@ can_go w t = can_do w (act_of (place_at w t))
 abbrev pub go_reply : State → ℕ → Reply
 go_reply w t = reply_to w t (act_of (place_at w t))
 
--- a thread goes on from a place
+-- the act of a thread that is at a place may befall the thread too, and it goes on from where that has left it
 abbrev pub state_after_going : State → ℕ → Place → State
-state_after_going w t p = put (state_after_act w t p (act_of p)) t (next_place p (reply_to w t (act_of p)))
+state_after_going w t p = let v = state_after_act w t p (act_of p) in put v t (next_place (place_at v t) (reply_to w t (act_of p)))
 
 abbrev pub going_outcome : State → ℕ → Place → Outcome
-going_outcome w t p = outcome_of (next_act p (reply_to w t (act_of p)))
+going_outcome w t p = outcome_of (next_act (place_at (state_after_act w t p (act_of p)) t) (reply_to w t (act_of p)))
 
 -- from where it stands
 abbrev pub state_after_go : State → ℕ → State
@@ -415,10 +415,10 @@ abbrev pub can_close : State → ℕ → Bool → Bool
 can_close w t succeeded = runs_closure (act_of (place_at w t)) && can_do w (act_of (closed_place w t succeeded))
 
 abbrev pub state_after_close : State → ℕ → Bool → State
-state_after_close w t succeeded = state_after_going w t (closed_place w t succeeded)
+state_after_close w t succeeded = state_after_go (put w t (closed_place w t succeeded)) t
 
 abbrev pub close_outcome : State → ℕ → Bool → Outcome
-close_outcome w t succeeded = going_outcome w t (closed_place w t succeeded)
+close_outcome w t succeeded = go_outcome (put w t (closed_place w t succeeded)) t
 
 -- a call names no mutex, or one that is there
 abbrev pub has_mutex : State → Option ℕ → Bool

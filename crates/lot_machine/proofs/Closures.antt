@@ -1,0 +1,179 @@
+-- Only a call of a `Once` runs a closure, while its run is on.
+use Rattle.std.proofs.Common.{ℕ, Bool, true, false, if◌then◌else◌, ◌==◌, not, ◌≡◌, ◌+◌, ◌*◌, refl, sym, ap, ◌∙◌}
+use Rattle.lot_base.specs.declared.keys.Keys.TheVariants.{One}
+use Rattle.lot_base.specs.declared.ops.Op as op
+use Rattle.lot_acts.specs.declared.acts.Act.TheVariants.{Word, HandOver, Enter}
+use Rattle.lot_mutex.specs.declared.places.MutexPlace.TheVariants.{Lock, TryLock, Unlock, UnlockFair, Bump, HandOff}
+use Rattle.lot_mutex.specs.declared.lock.LockAt.TheVariants as lock
+use Rattle.lot_mutex.specs.declared.unlock.UnlockAt.TheVariants as unlock
+use Rattle.lot_mutex.specs.declared.hand_off.HandOffAt.TheVariants as hand_off
+use Rattle.lot_condvar.specs.declared.places.CondvarPlace.{CondvarPlace}
+use Rattle.lot_condvar.specs.declared.notify.NotifyAt.TheVariants as notify
+use Rattle.lot_condvar.specs.declared.wait.WaitAt.TheVariants as wait
+use Rattle.lot_condvar.specs.declared.places.CondvarPlace.TheVariants.{Wait, Look as Looks, Notify}
+use Rattle.lot_steps.specs.declared.places.Place.{Place}
+use Rattle.lot_steps.specs.declared.places.Place.TheVariants.{Idle, Mutex, RwLock, Once, Condvar}
+use Rattle.lot_mutex.specs.MutexSteps.{is_locked}
+use Rattle.lot_base.specs.declared.wants.Want.{Want}
+use Rattle.lot_base.specs.declared.keys.Line.{Line}
+use Rattle.lot_base.specs.declared.keys.Line.TheVariants.{Main, Second}
+use Rattle.abstract_locks.specs.Codes.{has_aside}
+use Rattle.lot_rwlock.specs.declared.places.Admission.{Admission}
+use Rattle.lot_rwlock.specs.declared.places.RwLockPlace.{RwLockPlace}
+use Rattle.lot_rwlock.specs.declared.purposes.RwLockPurpose.{RwLockPurpose}
+use Rattle.lot_rwlock.specs.declared.places.RwLockAt.{RwLockAt}
+use Rattle.lot_rwlock.specs.declared.places.RwLockAt.TheVariants as at
+use Rattle.lot_rwlock.specs.declared.enter.Decision.{Decision}
+use Rattle.lot_rwlock.specs.declared.enter.Decision.TheVariants as decisions
+use Rattle.lot_rwlock.specs.declared.park.ParkAt.{ParkAt}
+use Rattle.lot_rwlock.specs.declared.park.ParkAt.TheVariants as parking
+use Rattle.lot_rwlock.specs.declared.release.WakeAt.{WakeAt}
+use Rattle.lot_rwlock.specs.declared.release.WakeAt.TheVariants as waking
+use Rattle.lot_rwlock.specs.RwLockSteps.{act_at, decided, decided_act, park_act, wake_act, want_at, plus}
+use Rattle.lot_calls.specs.declared.calls.Access.{Access}
+use Rattle.lot_calls.specs.declared.calls.Access.TheVariants as access
+use Rattle.lot_rwlock_fair.specs.declared.places.RwLockCallPlace.{RwLockCallPlace}
+use Rattle.lot_rwlock_fair.specs.declared.places.RwLockCallPlace.TheVariants as places
+use Rattle.lot_rwlock_fair.specs.declared.hand_over.HandOverAt.{HandOverAt}
+use Rattle.lot_rwlock_fair.specs.declared.hand_over.HandOverAt.TheVariants as handing
+use Rattle.lot_rwlock_fair.specs.declared.hand_over.Taken.{Taken}
+use Rattle.lot_rwlock_fair.specs.declared.handed.HandedAt.TheVariants as handed
+use Rattle.lot_rwlock_fair.specs.FairSteps.{accept_act, call_act, hand_over_act, has_room, parked_as, with_taken, without}
+use Rattle.lot_acts.specs.declared.acts.Reply.TheVariants.{Closed}
+use Rattle.lot_steps.specs.Steps.{act_of, next_place}
+use Rattle.lot_machine.specs.Machine.{State, place_at, runs_closure, can_do, closed_place}
+use Rattle.lot_once.specs.declared.look.LookAt.TheVariants as look
+use Rattle.lot_once.specs.declared.look.Course.{Course}
+use Rattle.lot_once.specs.declared.look.Course.TheVariants.{Ends, Runs, Marks, Parks}
+use Rattle.lot_once.specs.declared.run.RunAt.TheVariants as run
+use Rattle.lot_once.specs.declared.places.OncePlace.TheVariants.{Look, Run}
+use Rattle.lot_once.specs.OnceSteps.{course_act, course_of}
+use Rattle.lot_mutex.specs.declared.places.MutexPlace.{MutexPlace}
+
+decides_plainly : (l s : ℕ) (a b : Bool) → runs_closure (if not a then Word l (op.TheVariants.Exchange s (s + 1)) else if b then Word l (op.TheVariants.Exchange 1 3) else Enter (One (2 * l))) ≡ false
+decides_plainly l s false b = refl
+decides_plainly l s true true = refl
+decides_plainly l s true false = refl
+
+rwlock_decides_plainly : (l : ℕ) (q : RwLockPurpose) (s : ℕ) (d : Decision) → runs_closure (decided_act l q s d) ≡ false
+rwlock_decides_plainly l q s decisions.Take = refl
+rwlock_decides_plainly l q s decisions.Mark = refl
+rwlock_decides_plainly l q s decisions.Park = refl
+rwlock_decides_plainly l q s (decisions.Refuse answer) = refl
+
+counts_plainly : (l s : ℕ) (b : Bool) → runs_closure (if b then Enter (One (2 * l + 1)) else Word l (op.TheVariants.Exchange s (plus s 2))) ≡ false
+counts_plainly l s true = refl
+counts_plainly l s false = refl
+
+parks_plainly : (l : ℕ) (a : Admission) (x : Want) (m : Line) (to : ParkAt) → runs_closure (park_act l a x m to) ≡ false
+parks_plainly l a x m parking.Check = refl
+parks_plainly l a x m (parking.Leave b) = refl
+parks_plainly l a x m parking.Asleep = refl
+parks_plainly l a x m (parking.Taken by) = refl
+parks_plainly l a x m parking.Remove = refl
+parks_plainly l a x m parking.Clear = refl
+parks_plainly l a x m parking.GiveUp = refl
+
+wakes_plainly : (l : ℕ) (a : Admission) (q : RwLockPurpose) (m : Line) (to : WakeAt) → runs_closure (wake_act l a q m to) ≡ false
+wakes_plainly l a q m waking.Enter = refl
+wakes_plainly l a q m waking.Take = refl
+wakes_plainly l a q m (waking.Clear any) = refl
+wakes_plainly l a q m (waking.Leave any) = refl
+
+rwlock_runs_none : (l : ℕ) (a : Admission) (p : RwLockPlace) (to : RwLockAt) → runs_closure (act_at l a p to) ≡ false
+rwlock_runs_none l a p at.First = refl
+rwlock_runs_none l a p at.Load = refl
+rwlock_runs_none l a p (at.Decide s) = rwlock_decides_plainly l p.purpose s (decided a p s)
+rwlock_runs_none l a p (at.Park to) = parks_plainly l a (want_at p) Main to
+rwlock_runs_none l a p at.Look = refl
+rwlock_runs_none l a p (at.Count s) = counts_plainly l s (has_aside s)
+rwlock_runs_none l a p at.Marked = refl
+rwlock_runs_none l a p (at.Aside to) = parks_plainly l a (want_at p) Second to
+rwlock_runs_none l a p at.RollBack = refl
+rwlock_runs_none l a p at.GiveWay = refl
+rwlock_runs_none l a p (at.Wake m to) = wakes_plainly l a p.purpose m to
+
+exchanges_plainly : (l limit : ℕ) (x : Access) (k : Taken) (s : ℕ) (b : Bool) → runs_closure (if b then HandOver l (op.TheVariants.Exchange s (with_taken x k s)) else Word l (op.TheVariants.Exchange s (parked_as k.none_left (without x s)))) ≡ false
+exchanges_plainly l limit x k s true = refl
+exchanges_plainly l limit x k s false = refl
+
+hands_over_plainly : (l : ℕ) (a : Admission) (x : Access) (to : HandOverAt) → runs_closure (hand_over_act l a x to) ≡ false
+hands_over_plainly l a x handing.Load = refl
+hands_over_plainly l a x (handing.Free s) = refl
+hands_over_plainly l a x handing.Enter = refl
+hands_over_plainly l a x handing.Take = refl
+hands_over_plainly l a x (handing.Store k) = refl
+hands_over_plainly l a x (handing.Look k) = refl
+hands_over_plainly l a x (handing.Exchange k s) = exchanges_plainly l a.limit x k s (has_room a.limit k s)
+hands_over_plainly l a x (handing.Leave any given) = refl
+
+accepts_plainly : (l : ℕ) (x : Access) → runs_closure (accept_act l x) ≡ false
+accepts_plainly l access.Exclusive = refl
+accepts_plainly l access.Shared = refl
+accepts_plainly l access.Upgradable = refl
+
+pub call_runs_none : (l : ℕ) (a : Admission) (c : RwLockCallPlace) → runs_closure (call_act l a c) ≡ false
+call_runs_none l a (places.Plain p) = rwlock_runs_none l a p p.at
+call_runs_none l a (places.Bump p) = rwlock_runs_none l a p p.at
+call_runs_none l a (places.Glance x) = refl
+call_runs_none l a (places.HandOver x b to) = hands_over_plainly l a x to
+call_runs_none l a (places.Handed x how b (handed.Asleep u alone)) = refl
+call_runs_none l a (places.Handed x how b handed.Accept) = accepts_plainly l x
+
+-- a thread that runs a closure
+pub record RunsOne (p : Place) : Type 0 where
+  pub lock : ℕ
+  pub forced : Bool
+  pub poisoned : Bool
+  pub is : p ≡ Once lock (Run forced (run.Closure poisoned))
+
+pub course_runs_none : (l v : ℕ) (k : Course) → runs_closure (course_act l v k) ≡ false
+course_runs_none l v (Ends answer) = refl
+course_runs_none l v Runs = refl
+course_runs_none l v Marks = refl
+course_runs_none l v Parks = refl
+
+pub mutex_runs_none : (l : ℕ) (m : MutexPlace) → runs_closure (act_of (Mutex l m)) ≡ false
+mutex_runs_none l (Lock e r lock.First) = refl
+mutex_runs_none l (Lock e r (lock.Decide s)) = decides_plainly l s (is_locked s) (s == 1)
+mutex_runs_none l (Lock e r a) = refl
+mutex_runs_none l TryLock = refl
+mutex_runs_none l (Unlock unlock.Subtract) = refl
+mutex_runs_none l (Unlock a) = refl
+mutex_runs_none l UnlockFair = refl
+mutex_runs_none l Bump = refl
+mutex_runs_none l (HandOff b (hand_off.Store false n)) = refl
+mutex_runs_none l (HandOff b (hand_off.Store true n)) = refl
+mutex_runs_none l (HandOff b a) = refl
+
+pub condvar_runs_none : (l : ℕ) (at : CondvarPlace) → runs_closure (act_of (Condvar l at)) ≡ false
+condvar_runs_none l (Wait m timed (wait.Release s at)) = mutex_runs_none m at
+condvar_runs_none l (Wait m timed (wait.Lock late at)) = mutex_runs_none m at
+condvar_runs_none l (Wait m timed at) = refl
+condvar_runs_none l (Looks all) = refl
+condvar_runs_none l (Notify true m (notify.Move locked)) = refl
+condvar_runs_none l (Notify false m (notify.Move true)) = refl
+condvar_runs_none l (Notify false m (notify.Move false)) = refl
+condvar_runs_none l (Notify all m at) = refl
+
+-- it is in a call of a `Once`, and its run is on
+pub runs_one : (p : Place) → runs_closure (act_of p) ≡ true → RunsOne p
+runs_one Idle h = absurd cc
+runs_one (Mutex l m) h = absurd (let e : false ≡ true = sym (mutex_runs_none l m) ∙ h in cc)
+runs_one (RwLock l a c) h = absurd (let e : false ≡ true = sym (call_runs_none l a c) ∙ h in cc)
+runs_one (Condvar l at) h = absurd (let e : false ≡ true = sym (condvar_runs_none l at) ∙ h in cc)
+runs_one (Once l (Run forced (run.Closure poisoned))) h = record { lock = l; forced = forced; poisoned = poisoned; is = refl }
+runs_one (Once l (Run forced (run.Close succeeded))) h = absurd cc
+runs_one (Once l (Run forced (run.Enter succeeded))) h = absurd cc
+runs_one (Once l (Run forced (run.Take succeeded))) h = absurd cc
+runs_one (Once l (Run forced (run.Leave succeeded any))) h = absurd cc
+runs_one (Once l (Look c again (look.Decide seen))) h = absurd (let e : false ≡ true = sym (course_runs_none l seen (course_of c seen)) ∙ h in cc)
+runs_one (Once l (Look c again look.Load)) h = absurd cc
+runs_one (Once l (Look c again look.Check)) h = absurd cc
+runs_one (Once l (Look c again (look.Leave parked))) h = absurd cc
+runs_one (Once l (Look c again look.Asleep)) h = absurd cc
+runs_one (Once l (Look c again (look.Taken by))) h = absurd cc
+
+-- and its word is swapped next, whoever is inside
+pub closes_freely : (w v : State) (t : ℕ) (succeeded : Bool) → runs_closure (act_of (place_at w t)) ≡ true → can_do v (act_of (closed_place w t succeeded)) ≡ true
+closes_freely w v t succeeded runs = ap (λ p. can_do v (act_of (next_place p (Closed succeeded)))) (runs_one (place_at w t) runs).is
