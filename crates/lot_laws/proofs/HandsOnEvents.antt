@@ -99,7 +99,7 @@ module _ (w : State) (t l : ℕ) (a : Admission) (c : RwLockCallPlace) (steady :
   one_case : event ≡ AtLock l (HandOff right successor)
   one_case = ap (λ ds. event_by l (case_of (call_profile a c).carries ds)) ((g w t l a c steady shape there lt is k is_k count op e).deeds heir (word_at w l) takes)
 
-  pub hands_happen : Happens w behind t l event
+  pub hands_happen : Happens w behind t event
   hands_happen = happens w behind t l (call_profile a c).carries done claims steady went (claims_are t alone (λ u. taken_at (place_at w u) l) (length w.places)) (hands_tell w t l a c steady shape there lt is k is_k count op e).one
       (λ none. in_no_hand w steady t l (λ h. none (sym carried_now ∙ h)))
 
@@ -172,7 +172,7 @@ module _ (w : State) (t l : ℕ) (a : Admission) (c : RwLockCallPlace) (steady :
           by_row (Some (Of v false)) (Some s) false p1 p2 p3 z = absurd cc
 
   pub hands_others : OthersFollow w behind t event
-  hands_others = subst (OthersFollow w behind t) (sym one_case) (hands_many w behind t l right successor (subst (Happens w behind t l) one_case hands_happen) alone
+  hands_others = subst (OthersFollow w behind t) (sym one_case) (hands_many w behind t l right successor (subst (Happens w behind t) one_case hands_happen) alone
       (alone_is w t l steady (of w t l a c steady shape there lt is k is_k count op e) there lt (RwLock l a c) (place_at w t) (of w t l a c steady shape there lt is k is_k count op e) (steady.stands.calls t) op (rules_in w l) refl (admits w t l a c steady shape there lt is).0
       (given w t l a c steady shape there lt is k is_k count op e takes) (bare w t l a c steady shape there lt is k is_k count op e) right (more_right w t l a c steady shape there lt is k is_k count op e takes))
       befalls handed_calls)

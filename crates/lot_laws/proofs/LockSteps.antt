@@ -228,7 +228,7 @@ module _ (w : State) (t : ℕ) (shape : IsShaped w) (steady : IsSteady w) (there
       abbrev happened : Option LockCase
       happened = case_of (mutex_row at).carries (mutex_deeds at whom told)
 
-      happens_so : Happens w behind t l (event_by l happened)
+      happens_so : Happens w behind t (event_by l happened)
       happens_so = happens w behind t l (mutex_row at).carries (mutex_deeds at whom told) (claims_at at whom told) steady goes (are_claims at whom told) tells.follows.one (λ none. in_no_hand w steady t l (λ h. none (sym carries ∙ h)))
 
       -- where it is then
@@ -271,7 +271,7 @@ module _ (w : State) (t : ℕ) (shape : IsShaped w) (steady : IsSteady w) (there
 
       -- it hands the lock over
       gives : (to : Option ℕ) → happened ≡ Some (HandsOff Exclusive (heir to)) → (left_alone : Bool) → Befalls w behind t l (HandedBy t left_alone) → taken_at (place_at w t) l ≡ None → GoesOn (locks_of w) t (outcome_of (next_act (Mutex l at) told)) (locks_of behind)
-      gives to case left_alone befalls awake = goes_if (subst (λ c. OthersFollow w behind t (event_by l c)) (sym case) (hands_others w behind t l to (subst (λ c. Happens w behind t l (event_by l c)) case happens_so) rules awake left_alone befalls))
+      gives to case left_alone befalls awake = goes_if (subst (λ c. OthersFollow w behind t (event_by l c)) (sym case) (hands_others w behind t l to (subst (λ c. Happens w behind t (event_by l c)) case happens_so) rules awake left_alone befalls))
 
     -- whichever way it decides, the case is one that leaves the others in peace
     if_calm : (hand : Option Bool) (b : Bool) (xs ys : List Deed) → IsCalm (case_of hand xs) → IsCalm (case_of hand ys) → IsCalm (case_of hand (if b then xs else ys))
@@ -376,10 +376,7 @@ module _ (w : State) (t : ℕ) (shape : IsShaped w) (steady : IsSteady w) (there
         decided = behind (Lock e again Load) is refl tt
 
         locks_stay : (k : ℕ) → lock_state decided k ≡ lock_state w k
-        locks_stay k = let h : Happens w decided t l Nothing = happens_so (Lock e again Load) is refl tt in elim (cases_eq k l) [
-          | inl e ↦ rw e h.led
-          | inr ne ↦ h.elsewhere k ne
-        ]
+        locks_stay k = let h : Happens w decided t Nothing = happens_so (Lock e again Load) is refl tt in h.led k
 
         rights_stay : (u : ℕ) → rights decided u ≡ rights w u
         rights_stay u = λ i k. rights_of (locks_stay k i) u

@@ -72,7 +72,7 @@ WakesOwn hand (act.Requeue from to how) c = ⊥
 WakesOwn hand (act.HandOver lock op) c = ⊥
 WakesOwn hand a c = IsCalm c
 
-module _ (w v : State) (t l : ℕ) (c : Option LockCase) (h : Happens w v t l (event_by l c)) where
+module _ (w v : State) (t l : ℕ) (c : Option LockCase) (h : Happens w v t (event_by l c)) where
   pub no_hand_off : (d : Option LockCase) → IsCalm d → IsNoHandOff w v t l c h d
   no_hand_off None still = tt
   no_hand_off (Some (HandOff x successor)) still = absurd still
