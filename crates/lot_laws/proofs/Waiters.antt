@@ -387,6 +387,11 @@ wait_wanted m timed (wait.Asleep s) t b h = refl
 wait_wanted m timed (wait.Lock late (Lock e r at)) t b h = refl
 wait_wanted m timed at t b h = absurd cc
 
+pub side_wanted : (p : CondvarPlace) (t : ℕ) (b : Bool) → (mutex_side p).hand ≡ hand t b → (mutex_side p).wants ≡ Some Exclusive
+side_wanted (Wait m timed at) t b h = wait_wanted m timed at t b h
+side_wanted (Look all) t b h = absurd cc
+side_wanted (Notify all m at) t b h = absurd (let f : ◌≡◌ {A = Option Hand} None (hand t b) = sym (notifier_stands all m at).1 ∙ h in cc)
+
 pub held_wants : (p : Place) (t l : ℕ) (b : Bool) → CallsMutex l p → hand_at p l ≡ hand t b → wants p ≡ Some Exclusive
 held_wants p t l b = by_row l (λ q. wants q ≡ Some Exclusive) (λ (s : Station). s.hand) (hand t b) (λ h. cc) (λ at h. mutex_wanted at t b h)
     (λ k apart m timed at of h. ap (λ x. or_else x (condvar_profile (Wait m timed at)).wants) (wait_wanted m timed at t b h))
