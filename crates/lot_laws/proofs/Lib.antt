@@ -18,7 +18,6 @@ pub mod ActsAt
 pub mod ActsKept
 pub mod LawsKept
 pub mod ToldAt
-pub mod ToldKept
 pub mod HandsKept
 pub mod HandRights
 pub mod WakesAt
