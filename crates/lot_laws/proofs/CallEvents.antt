@@ -33,12 +33,13 @@ use Rattle.abstract_locks.specs.Deeds as deeds
 use Rattle.abstract_locks.proofs.Deeds.{deeds_lead, deeds_need, kept}
 use Rattle.abstract_locks.proofs.Rights.{others_keep}
 use Rattle.lot_machine.specs.Machine.{State, place_at, kind_at}
-use Rattle.lot_laws.specs.Refinement.{lock_state, call_at, call_on, call_state, locks_of}
+use Rattle.lot_laws.specs.Refinement.{lock_state, call_at, call_state, locks_of}
 use Rattle.lot_laws.specs.MutexDeeds.{Act, acts}
 use Rattle.lot_laws.specs.SitesOf.{FollowAll, IsSteady, Goes, ActsNeeded, rules_in, after_acts, site_of}
 use Rattle.lot_laws.proofs.ActsKept.{goes_steady}
 use Rattle.lot_laws.proofs.AtPlaces.{taken_nobody}
-use Rattle.lot_laws.proofs.Glue.{put_here, put_other}
+use Rattle.lot_laws.proofs.Glue.{IsSingle, put_here, put_other, singles}
+use Rattle.lot_laws.proofs.SingleCalls.{call_here}
 use Rattle.lot_laws.proofs.OwnHand.{own_hand}
 
 -- ---------------------------------------------------------------- functions with one value set
@@ -365,7 +366,7 @@ module _ (w v : State) (t l : ℕ) (c : Option LockCase) (h : Happens w v t (eve
     behind = after_event (rules_in w l) (event_by l c) (lock_state w l) t
 
     called_by : (r : ℕ → Rights) → call_state (place_at w t) r ≡ call_by l (profile p) r
-    called_by r = ap (λ q. call_state q r) is ∙ ap (λ o. call_on o (profile p) r) of
+    called_by r = ap (λ q. call_state q r) is ∙ call_here p l (subst IsSingle is (singles w h.before t)) of r
 
     may_happen : MayCome l (profile p) (event_by l c) → MayHappen (locks_of w) t (event_by l c)
     may_happen may = by_case c may needs_here
@@ -389,7 +390,7 @@ module _ (w v : State) (t l : ℕ) (c : Option LockCase) (h : Happens w v t (eve
 
         led : (n : Next Profile) → ComesTo (rules_in w l) l (profile p) (event_by l c) (lock_state w l) behind t n → LeadsTo v t l n o → CallLed w v t (event_by l c) call_then o
         led (next.At row) comes leads = inl (
-          ap (λ x. call_on x (profile (place_at v t)) (rights v t)) leads.0 ∙ ap (λ x. call_by l x (rights v t)) leads.1
+          call_here (place_at v t) l (singles v h.after t) leads.0 (rights v t) ∙ ap (λ x. call_by l x (rights v t)) leads.1
           ∙ ap (call_by l row) (λ i k. rights_led t k i) ∙ comes (rights w t) refl ∙ sym (unwoken c (going_on (event_by l c) call_then)),
           (l, leads.2),
         )
