@@ -136,7 +136,7 @@ module _ (w : State) (steady : IsSteady w) where
         (λ claims. unowned ((steady.sites.site l).held t (Has Exclusive) (ap (λ (d : Doing). d.claims) (doing_own (place_at w t) l own) ∙ claims)))
 
     debt_of : (n : Line) → HasDebt (sort_at w l) l (profile (place_at w t)) n → IsDebtorOf w t l n
-    debt_of Main (inl wakes) = inl (owed_own (place_at w t) l own (singles w steady t) ∙ wakes.0, subst (λ (c : CallState). WakesWaiters (sort_at w l) c.purpose c.gave_up l) (sym (call_own w t steady l own)) wakes.1)
+    debt_of Main (inl wakes) = inl (owed_own (place_at w t) l own (singles w steady t) ∙ wakes.0, subst (λ (c : CallState). WakesWaiters (sort_at w l) c.purpose c.gave_up c.recalls l) (sym (call_own w t steady l own)) wakes.1)
     debt_of Main (inr again) = inr (ap (λ (c : CallState). c.retries) (call_own w t steady l own) ∙ ap (λ b. if b then Some l else None) again.0, ap (λ (c : CallState). counts_some (sort_at w l) (want_of c.purpose)) (call_own w t steady l own) ∙ again.1)
     debt_of Second owes = owed_own (place_at w t) l own (singles w steady t) ∙ owes
 
