@@ -708,6 +708,14 @@ beside_takes_one w (RwLock k a c) l fits e = absurd cc
 beside_takes_one w (Once k at) l fits e = absurd cc
 beside_takes_one w (Condvar k at) l fits e = ap (λ (r : Rules). r.sort) (plain_rules (kind_at w l) (fits.mutex l e))
 
+-- so a lock that lets many go at once is beside no call
+pub not_beside : (w : State) (p : Place) (l : ℕ) → FitsItsLock w p → (TakesOne w l → ⊥) → is_lock l (beside_of p) ≡ false
+not_beside w p l fits many = by_mutex (beside_of p) refl
+  where
+    by_mutex : (o : Option ℕ) → beside_of p ≡ o → is_lock l o ≡ false
+    by_mutex None e = refl
+    by_mutex (Some m) e = differ m l (λ f. many (beside_takes_one w p l fits (e ∙ ap Some f)))
+
 -- a thread that has somebody in hand at one lock at most
 abbrev pub CarriesAt : ℕ → Place → Type 0
 CarriesAt l p = (k : ℕ) → k ≢ l → carried_at p k ≡ None

@@ -36,7 +36,7 @@ use Rattle.lot_laws.specs.MutexDeeds.{acts}
 use Rattle.lot_laws.specs.MutexDeeds as deeds
 use Rattle.lot_laws.specs.Stations.{Station, station, station_at, nowhere, doing_on}
 use Rattle.lot_laws.specs.SitesOf.{stations_of, ActsNeeded, HasRoom, IsSteady, Goes, Hands, TakesOne, FitsItsLock, after_acts, rules_in, carried_at, hand_at}
-use Rattle.lot_laws.proofs.Glue.{free_of, held_calls, Parts, parts_at, lock_in, seen_in, same, put_here, put_other, put_same, IsOf, station_here, untaken, held_taker, thread_is, past_all, singles, IsSingle, of_single, single_taken, single_wants, next_of}
+use Rattle.lot_laws.proofs.Glue.{free_of, held_calls, Parts, parts_at, lock_in, seen_in, same, put_here, put_other, put_same, IsOf, station_here, untaken, held_tells, thread_is, past_all, IsSingle, of_single, single_taken, single_wants, next_of}
 use Rattle.lot_laws.proofs.KindsKept.{given_kinds}
 use Rattle.lot_laws.proofs.OneStep.{AreQuiet, AreSingle, acts_keep, full_then, fills_by, others_same}
 use Rattle.lot_laws.proofs.ActsKept.{Moves, lock_by, site_by, follows_by}
@@ -368,7 +368,7 @@ module _ (w : State) (t l : ℕ) (steady : IsSteady w) (own : IsOf l (place_at w
       -- who is in hand still
       taken_then : (u : ℕ) → taken_at (places_behind u) l ≡ let_go t taken u
       taken_then u = elim (cases_eq u t) [
-        | inl e ↦ rw e (ap (λ q. taken_at q l) (put_here told_now t p2) ∙ free_of p2 l (of_single l p2 of) unheld ∙ sym (ap (keep_from t) (free_of (place_at w t) l (singles w steady t) free)))
+        | inl e ↦ rw e (ap (λ q. taken_at q l) (put_here told_now t p2) ∙ free_of p2 l (of_single l p2 of) unheld ∙ sym (ap (keep_from t) (free_of (place_at w t) l (of_single l (place_at w t) own) free)))
         | inr ne ↦ ap (λ q. taken_at q l) (put_other told_now t p2 u ne) ∙ either (is_told u) refl
       ]
         where
@@ -437,7 +437,7 @@ module _ (w : State) (t l : ℕ) (steady : IsSteady w) (own : IsOf l (place_at w
 
       doing_then : (u : ℕ) → doing_on (places_behind u) l ≡ with_claim t alone (taken u) (between.doing u)
       doing_then u = elim (cases_eq u t) [
-        | inl e ↦ rw e (ap (λ q. doing_on q l) (put_here told_now t p2) ∙ sym law.doing ∙ sym (ap (λ o. with_claim t alone o (between.doing t)) (free_of (place_at w t) l (singles w steady t) free)))
+        | inl e ↦ rw e (ap (λ q. doing_on q l) (put_here told_now t p2) ∙ sym law.doing ∙ sym (ap (λ o. with_claim t alone o (between.doing t)) (free_of (place_at w t) l (of_single l (place_at w t) own) free)))
         | inr ne ↦ ap (λ q. doing_on q l) (put_other told_now t p2 u ne) ∙ either (is_told u) refl ∙ sym (ap (with_claim t alone (taken u)) (ap (λ (s : Site). s.doing u) (sym (after_same r own_deeds here t)) ∙ others_same r own_deeds here t u (single_bit none_left) ne))
       ]
         where
@@ -497,7 +497,7 @@ module _ (w : State) (t l : ℕ) (steady : IsSteady w) (own : IsOf l (place_at w
 
         within : HasLimit r behind.lock
         within = subst (λ s. HasLimit r s) (sym (ap (λ (s : Site). s.lock) behind_is ∙ lock_between))
-            (handed_limit r right heir here.lock t site.state law.needed.0.0 (subst (λ n. t < n) (sym (steady.numbers.threads l)) there) (free_of (place_at w t) l (singles w steady t) free) (subst (λ n. n ≤ r.limit) (sym (steady.numbers.threads l)) room.1))
+            (handed_limit r right heir here.lock t site.state law.needed.0.0 (subst (λ n. t < n) (sym (steady.numbers.threads l)) there) (free_of (place_at w t) l (of_single l (place_at w t) own) free) (subst (λ n. n ≤ r.limit) (sym (steady.numbers.threads l)) room.1))
 
         held_before : carried_at (place_at w t) l ≡ in_hand_if any false
         held_before = ap (λ (y : Station). y.carries) (station_here l (place_at w t) own) ∙ carried
@@ -507,7 +507,7 @@ module _ (w : State) (t l : ℕ) (steady : IsSteady w) (own : IsOf l (place_at w
         some_held b e = by_any any refl (sym carries_now ∙ e)
           where
             by_any : (a : Bool) → any ≡ a → in_hand_if a true ≡ Some b → (b ≡ true) × ((u : ℕ) × (is_told u ≡ true))
-            by_any true f g = (let h : true ≡ b = cc in sym h, let u = steady.stands.hands.carried t l false (held_before ∙ ap (λ a. in_hand_if a false) f) in (u.0, held_taker (place_at w u.0) t l false (singles w steady u.0) u.1))
+            by_any true f g = (let h : true ≡ b = cc in sym h, let u = steady.stands.hands.carried t l false (held_before ∙ ap (λ a. in_hand_if a false) f) in (u.0, held_tells (place_at w u.0) t l false u.1))
             by_any false f g = absurd cc
 
         full_hand : (u : ℕ) → is_told u ≡ true → (station p2).carries ≡ Some true
@@ -524,7 +524,7 @@ module _ (w : State) (t l : ℕ) (steady : IsSteady w) (own : IsOf l (place_at w
         hands_now = hands_given (TakesOne w) (stations_of (place_at w)) (stations_of places_behind) steady.stands.hands t l is_told (station p2).carries
             (in_hand w t l steady own there p2 of fits (hand_over_told w t l) (hand t true) all_told free unheld)
             (carries w t l steady own there p2 of fits (hand_over_told w t l) (hand t true) all_told free)
-            (λ u h. ((at_hand u h).handed, (at_hand u h).hand)) (λ u b h. held_taker (place_at w u) t l b (singles w steady u) h) some_held full_hand
+            (λ u h. ((at_hand u h).handed, (at_hand u h).hand)) (λ u b h. held_tells (place_at w u) t l b h) some_held full_hand
 
         part_kept : {A : Type 0} (g : Station → A) → ((h : Option Hand) → g (record nowhere { hand = h }) ≡ g nowhere) → g (station p2) ≡ g (station (place_at w t)) → (u k : ℕ) → g (station_at (places_behind u) k) ≡ g (station_at (place_at w u) k)
         part_kept = all_parts w t l steady own there p2 of fits (hand_over_told w t l) (hand t true) all_told free

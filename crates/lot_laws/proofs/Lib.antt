@@ -25,6 +25,7 @@ pub mod HandRights
 pub mod WakesAt
 pub mod WakesKept
 pub mod TwoLocks
+pub mod CondvarSites
 pub mod TakesAt
 pub mod TakesKept
 pub mod PicksKept

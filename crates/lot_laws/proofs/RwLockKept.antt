@@ -73,14 +73,15 @@ use Rattle.lot_laws.specs.Refinement.{taken_at}
 use Rattle.lot_laws.specs.MutexDeeds.{acts}
 use Rattle.lot_laws.specs.Stations.{station, doing_on}
 use Rattle.lot_laws.specs.SitesOf.{IsSteady, Goes, FitsItsLock, TakesOne, HasRoom, carried_at, hand_at, is_mutex, rules_in, key_of}
-use Rattle.lot_laws.proofs.Glue.{free_of, IsOf, next_of, parts_at, put_here, doing_here, station_here, of_single}
+use Rattle.lot_condvar.specs.declared.places.CondvarPlace.{CondvarPlace}
+use Rattle.lot_laws.proofs.Glue.{not_beside, free_of, IsOf, next_of, parts_at, put_here, doing_here, station_here, of_single}
 use Rattle.lot_laws.proofs.HandsMoved.{accepts, tells_handed, told_hears}
 use Rattle.lot_laws.proofs.WakesKept.{IsWoken}
 use Rattle.lot_laws.proofs.StandsMoved.{mutex_rules}
 use Rattle.lot_laws.proofs.ActsKept.{lock_by, place_goes}
 use Rattle.lot_laws.proofs.OneStep.{steps_by}
 use Rattle.lot_laws.proofs.OtherCalls.{IsCalm, WakesOwn}
-use Rattle.lot_laws.proofs.MovesKept.{entered_hears, left_hears, parked_hears, removed_hears, picked_hears, picked_deeds, IsFollowed, IsSleeper, stays, goes_in, goes_out, parks_or_turns, leaves_line, takes_whom_aside, takes_chosen, wakes_one, nowhere_here}
+use Rattle.lot_laws.proofs.MovesKept.{entered_hears, left_hears, parked_hears, removed_hears, picked_hears, picked_deeds, IsFollowed, SleepsIfCalls, IsSleeper, stays, goes_in, goes_out, parks_or_turns, leaves_line, takes_whom_aside, takes_chosen, wakes_one, nowhere_here}
 
 -- ---------------------------------------------------------------- rows
 
@@ -324,15 +325,25 @@ module _ (w : State) (t l : ℕ) (a : Admission) (c : RwLockCallPlace) (steady :
       let some : has_readers (rules_in w l).sort ≡ true = admits.0 in
       let both : true ≡ false = sym some ∙ ap (λ j. has_readers (rules_in w j).sort) (sym same_lock) ∙ ap has_readers of_once in cc
 
-  asleep : (u : ℕ) → calls (place_at w u) l ≡ true → IsSleeper w t l steady there own (rules_in w l) refl (call_move a c) same_row u
-  asleep u h = by_place (place_at w u) refl h
+  pub of_no_condvar : (u k : ℕ) (at : CondvarPlace) → place_at w u ≡ Condvar k at → k ≡ l → ⊥
+  of_no_condvar u k at e same_lock =
+      let of_condvar : FitsItsLock w (Condvar k at) = subst (FitsItsLock w) e (steady.stands.calls u) in
+      let some : has_readers (rules_in w l).sort ≡ true = admits.0 in
+      let both : true ≡ false = sym some ∙ ap (λ j. has_readers (rules_in w j).sort) (sym same_lock) ∙ ap has_readers of_condvar.sort in cc
+
+  many : TakesOne w l → ⊥
+  many one = let none : has_readers (rules_in w l).sort ≡ false = ap has_readers one in let some : has_readers (rules_in w l).sort ≡ true = admits.0 in cc
+
+  asleep : (u : ℕ) → SleepsIfCalls w t l steady there own (rules_in w l) refl (call_move a c) same_row u
+  asleep u = record { apart = not_beside w (place_at w u) l (steady.stands.calls u) many; sleeper = λ h. by_place (place_at w u) refl h }
     where
       by_place : (q : Place) → place_at w u ≡ q → calls q l ≡ true → IsSleeper w t l steady there own (rules_in w l) refl (call_move a c) same_row u
       by_place Idle e g = absurd cc
-      by_place (Condvar k at) e g = absurd (subst (FitsItsLock w) e (steady.stands.calls u)).begun
+      by_place (Condvar k at) e g = absurd (of_no_condvar u k at e (eqb-true k l g))
       by_place (Once k at) e g = absurd (of_no_once u k at e (eqb-true k l g))
       by_place (Mutex k m) e g = absurd (of_no_mutex u k m e (eqb-true k l g))
       by_place (RwLock k b q) e g = record {
+        single = rw e tt;
         move = call_move b q;
         row = ap profile e;
         waits = fair_sleepers_move b q fits_u.1;
@@ -359,9 +370,6 @@ module _ (w : State) (t l : ℕ) (a : Admission) (c : RwLockCallPlace) (steady :
 
   calm_by : (ds : List Deed) {x : List Deed} → x ≡ ds → AreCalm ds → IsCalm (case_of ((call_profile a c).carries) x)
   calm_by ds e h = subst (λ (x : List Deed). IsCalm (case_of ((call_profile a c).carries) x)) (sym e) (calm_case ((call_profile a c).carries) ds h)
-
-  many : TakesOne w l → ⊥
-  many one = let none : has_readers (rules_in w l).sort ≡ false = ap has_readers one in let some : has_readers (rules_in w l).sort ≡ true = admits.0 in cc
 
   section_there : (m : Line) → key_of l m < length w.sections
   section_there Main = main_key_there w l shape lt

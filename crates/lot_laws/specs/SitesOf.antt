@@ -1,5 +1,5 @@
 -- The locks of a world, with what each thread does about each.
-use Rattle.std.specs.Prelude.{ℕ, Bool, true, false, Option, Some, ◌≡◌, ◌≢◌, ◌<◌, ◌≤◌, ◌-◌, ◌^◌, ◌↔◌, List, [], ◌∷◌, length}
+use Rattle.std.specs.Prelude.{ℕ, Bool, true, false, Option, Some, None, ◌≡◌, ◌≢◌, ◌<◌, ◌≤◌, ◌-◌, ◌^◌, ◌↔◌, List, [], ◌∷◌, length}
 use Rattle.lot_base.specs.declared.wants.Waiter.{Waiter}
 pub use Rattle.lot_base.specs.Keys.{key_of}
 use Rattle.lot_base.specs.Lines.{times}
@@ -14,6 +14,8 @@ use Rattle.lot_machine.specs.Machine.{State, held, place_at, word_at, shares_at,
 use Rattle.lot_machine.specs.Fits.{IsShaped}
 use Rattle.lot_laws.specs.Refinement.{RunsClosure, lock_state}
 use Rattle.abstract_locks.specs.Onces.{InProgress}
+use Rattle.abstract_locks.specs.Condvars.{CondvarSite, Inside, IsCondvar, Rests, Stage}
+use Rattle.lot_steps.specs.Steps.{profile_at}
 use Rattle.lot_calls.specs.declared.kinds.Kind.{Kind}
 use Rattle.lot_calls.specs.declared.kinds.Kind as kind
 use Rattle.lot_calls.specs.Kinds.{is_plain_mutex}
@@ -166,6 +168,30 @@ pub record IsCounted (w : State) (t : ℕ) (k : Counted) : Type 0 where
 -- a call that is to hand its lock over has counted those whom it has in hand
 abbrev pub AreCounted : State → Type 0
 AreCounted w = (t l : ℕ) (a : Admission) (c : RwLockCallPlace) (k : Counted) → place_at w t ≡ OfRwLock l a c → in_hand_of c ≡ Some k → IsCounted w t k
+
+-- ---------------------------------------------------------------- condition variables
+
+abbrev pub stage_or : Option Stage → Stage
+stage_or None = Rests
+stage_or (Some stage) = stage
+
+-- who is inside the section, and what for by its place
+abbrev pub inside_as : Option ℕ → (ℕ → Option Stage) → Option Inside
+inside_as None stage = None
+inside_as (Some t) stage = Some (record { thread = t; stage = stage_or (stage t) })
+
+-- a condition variable of the world: the mutex that it shows, its waiters, who is inside, and which mutex each wait names
+abbrev pub condvar_of : State → ℕ → CondvarSite
+condvar_of w l = record {
+  shown = (lock_state w l).shown;
+  waiters = (lock_state w l).queue;
+  inside = inside_as (section_at w (key_of l Main)) (λ t. (profile_at (place_at w t) l).stage);
+  waits_with = λ t. (profile_at (place_at w t) l).names;
+}
+
+-- outside of its section it shows a mutex exactly while somebody waits, and all wait with that one
+abbrev pub AreCondvars : State → Type 0
+AreCondvars w = (l : ℕ) → (rules_in w l).sort ≡ CondvarSort → IsCondvar (condvar_of w l)
 
 -- ---------------------------------------------------------------- who runs a closure
 
