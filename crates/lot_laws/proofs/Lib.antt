@@ -63,6 +63,7 @@ pub mod AtPlaces
 pub mod ExclusiveOwners
 pub mod LineActs
 pub mod OwnHand
+pub mod SingleCalls
 pub mod CallEvents
 pub mod MutexCalls
 pub mod LockEvents
