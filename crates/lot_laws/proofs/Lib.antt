@@ -13,7 +13,6 @@ pub mod MutexTable
 pub mod MutexSections
 pub mod StandsKept
 pub mod StandsMoved
-pub mod TwoMoved
 pub mod Following
 pub mod ActsAt
 pub mod ActsKept
