@@ -19,7 +19,7 @@ lets_nobody_go s t none = λ i. record s { taken = λ u. kept (s.taken u) (none 
         either true e = absurd (other h.want (let f : h.by ≡ t = eqb-true h.by t e in λ i. Some (record { by = f i; want = h.want })))
 
 module _ (r : Rules) (t : ℕ) where
-  kept : (ds : List Deed) (s : Site) → KeepLock ds → (after_all r ds s t).lock ≡ s.lock
+  pub kept : (ds : List Deed) (s : Site) → KeepLock ds → (after_all r ds s t).lock ≡ s.lock
   kept [] s k = refl
   kept (Begin claims ∷ ds) s k = kept ds (after_deed r (Begin claims) s t) k
   kept (End ∷ ds) s k = kept ds (after_deed r End s t) k

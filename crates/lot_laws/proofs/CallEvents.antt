@@ -1,7 +1,7 @@
 -- What a step of a thread is to the abstract locks, whatever lock it calls and wherever it stands: the event is the one case of its deeds, and
 -- its call comes to what its rows say.
 use Rattle.std.proofs.Common.{ℕ, Bool, true, false, Option, Some, None, if◌then◌else◌, ◌==◌, ◌≡◌, ◌≢◌, ◌⊎◌, ◌≤◌, List, [], ◌∷◌, ◌++◌, inl, inr, refl, sym, ◌∙◌, ap, subst, arith}
-use Rattle.abstract_locks.specs.Condvars.{moved_of}
+use Rattle.abstract_locks.specs.Condvars.{line_of, moved_of, taken_of}
 use Rattle.abstract_locks.specs.Runs.{Nothing, Moves, gives_up, joined_by}
 use Rattle.lot_laws.specs.Promises.{KnowsRights}
 use Rattle.abstract_locks.specs.Locks.{Once, OfOnce, Sort, CondvarCase, Look, Show, Hide}
@@ -27,18 +27,19 @@ use Rattle.lot_calls.specs.declared.outcomes.OnceState.{OnceState}
 use Rattle.abstract_locks.specs.Locks as locks
 use Rattle.abstract_locks.specs.Locks.{LockState, Rules, Rights, LockCase, HandOff, HasTakenNobody, Queued, Needs, left_behind, putting, rights_of, standing}
 use Rattle.abstract_locks.specs.Runs.{LocksState, IsTimely, rules_at as locks_rules, CallState, Event, AtLock, MayHappen, Agrees, AnswerHolds, GoesOn, locks_after, going_on, woken, unless_ended}
-use Rattle.abstract_locks.specs.Sites.{Site, Deed, Begin, after_deed}
-use Rattle.abstract_locks.specs.Deeds.{AreOneCase, case_of, event_by, event_of, EventNeeds, after_event}
+use Rattle.abstract_locks.specs.Sites.{Site, Deed, Begin, Bring, Send, after_deed}
+use Rattle.abstract_locks.specs.Deeds.{AreOneCase, KeepLock, case_of, event_by, event_of, EventNeeds, after_event}
 use Rattle.abstract_locks.specs.Deeds as deeds
-use Rattle.abstract_locks.proofs.Deeds.{deeds_lead, deeds_need}
+use Rattle.abstract_locks.proofs.Deeds.{deeds_lead, deeds_need, kept}
 use Rattle.abstract_locks.proofs.Rights.{others_keep}
 use Rattle.lot_machine.specs.Machine.{State, place_at, kind_at}
-use Rattle.lot_laws.specs.Refinement.{lock_state, call_at, call_on, call_state, locks_of}
+use Rattle.lot_laws.specs.Refinement.{lock_state, call_at, call_state, locks_of}
 use Rattle.lot_laws.specs.MutexDeeds.{Act, acts}
-use Rattle.lot_laws.specs.SitesOf.{IsSteady, Goes, ActsNeeded, rules_in, after_acts, site_of}
+use Rattle.lot_laws.specs.SitesOf.{FollowAll, IsSteady, Goes, ActsNeeded, rules_in, after_acts, site_of}
 use Rattle.lot_laws.proofs.ActsKept.{goes_steady}
 use Rattle.lot_laws.proofs.AtPlaces.{taken_nobody}
-use Rattle.lot_laws.proofs.Glue.{put_here, put_other}
+use Rattle.lot_laws.proofs.Glue.{IsSingle, put_here, put_other, singles}
+use Rattle.lot_laws.proofs.SingleCalls.{call_here}
 use Rattle.lot_laws.proofs.OwnHand.{own_hand}
 
 -- ---------------------------------------------------------------- functions with one value set
@@ -121,6 +122,10 @@ module _ (r : Rules) where
   deeds_then t [] claims s h = claims_keep claims s h
   deeds_then t (d ∷ ds) claims s h = deeds_then t ds claims (after_deed r d s t) h
 
+  deeds_by : (t : ℕ) (ds : List Deed) (s : Site) → (after_acts r (acts t ds) s).lock ≡ (deeds.after_all r ds s t).lock
+  deeds_by t [] s = refl
+  deeds_by t (d ∷ ds) s = deeds_by t ds (after_deed r d s t)
+
   pub needed_then : (t : ℕ) (ds : List Deed) (claims : List Act) (s : Site) → ActsNeeded r (acts t ds ++ claims) s → deeds.AllNeeded r ds s t
   needed_then t [] claims s n = tt
   needed_then t (d ∷ ds) claims s n = (n.0, needed_then t ds claims (after_deed r d s t) n.1)
@@ -131,6 +136,30 @@ happens w v t l hand ds claims steady goes begin one free = happens_at w v t l (
     (ap (λ (s : Site). s.lock) goes.follows.site ∙ deeds_then (rules_in w l) t ds claims (site_of w l) begin ∙ deeds_lead (rules_in w l) t l hand ds (site_of w l) free one)
     (λ k ne. ap (λ (s : Site). s.lock) (goes.follows.others k ne).0)
     (deeds_need (rules_in w l) t l hand ds (site_of w l) (needed_then (rules_in w l) t ds claims (site_of w l) goes.follows.needed) one)
+
+-- a step of several locks, of which this one goes through the event of its deeds
+pub happens_all : (w v : State) (t l : ℕ) (hand : Option Bool) (all : ℕ → List Act) (ds : List Deed) (claims : List Act) → IsSteady w → IsSteady v → FollowAll w v all
+    → all l ≡ acts t ds ++ claims → AreClaims claims → AreOneCase ds → ((k : ℕ) → k ≢ l → (other : List Deed) × (all k ≡ acts t other) × KeepLock other)
+    → (hand ≢ Some false → HasTakenNobody (lock_state w l) t) → Happens w v t (event_of l hand ds)
+happens_all w v t l hand all ds claims before after f is begin one others free = happens_at w v t l (case_of hand ds) before after f.kinds
+    (locks_led l ∙ ap (λ done. (after_acts (rules_in w l) done (site_of w l)).lock) is ∙ deeds_then (rules_in w l) t ds claims (site_of w l) begin ∙ deeds_lead (rules_in w l) t l hand ds (site_of w l) free one)
+    (λ k ne. let o = others k ne in locks_led k ∙ ap (λ done. (after_acts (rules_in w k) done (site_of w k)).lock) o.1 ∙ deeds_by (rules_in w k) t o.0 (site_of w k) ∙ kept (rules_in w k) t o.0 (site_of w k) o.2)
+    (deeds_need (rules_in w l) t l hand ds (site_of w l) (needed_then (rules_in w l) t ds claims (site_of w l) (subst (λ done. ActsNeeded (rules_in w l) done (site_of w l)) is (f.needed l))) one)
+  where
+    locks_led : (k : ℕ) → lock_state v k ≡ (after_acts (rules_in w k) (all k) (site_of w k)).lock
+    locks_led k = ap (λ (s : Site). s.lock) (f.site k)
+
+-- or of which waiters of one go to the other
+pub happens_sending : (w v : State) (t c m : ℕ) (all owned : Bool) (number : ℕ) (ds : ℕ → List Act) → IsSteady w → IsSteady v → FollowAll w v ds → c ≢ m
+    → ds c ≡ acts t (Send all ∷ []) → ds m ≡ acts t (Bring (taken_of owned (moved_of all (lock_state w c).queue)) (line_of owned (moved_of all (lock_state w c).queue)) ∷ [])
+    → ((k : ℕ) → k ≢ c → k ≢ m → ds k ≡ []) → Happens w v t (Moves c m all owned number)
+happens_sending w v t c m all owned number ds before after f apart sent brought others = happens_moving w v t c m all owned number before after f.kinds apart
+    (locks_led c ∙ ap (λ done. (after_acts (rules_in w c) done (site_of w c)).lock) sent)
+    (locks_led m ∙ ap (λ done. (after_acts (rules_in w m) done (site_of w m)).lock) brought)
+    (λ k nc nm. locks_led k ∙ ap (λ done. (after_acts (rules_in w k) done (site_of w k)).lock) (others k nc nm))
+  where
+    locks_led : (k : ℕ) → lock_state v k ≡ (after_acts (rules_in w k) (ds k) (site_of w k)).lock
+    locks_led k = ap (λ (s : Site). s.lock) (f.site k)
 
 -- ---------------------------------------------------------------- the calls
 
@@ -337,7 +366,7 @@ module _ (w v : State) (t l : ℕ) (c : Option LockCase) (h : Happens w v t (eve
     behind = after_event (rules_in w l) (event_by l c) (lock_state w l) t
 
     called_by : (r : ℕ → Rights) → call_state (place_at w t) r ≡ call_by l (profile p) r
-    called_by r = ap (λ q. call_state q r) is ∙ ap (λ o. call_on o (profile p) r) of
+    called_by r = ap (λ q. call_state q r) is ∙ call_here p l (subst IsSingle is (singles w h.before t)) of r
 
     may_happen : MayCome l (profile p) (event_by l c) → MayHappen (locks_of w) t (event_by l c)
     may_happen may = by_case c may needs_here
@@ -361,7 +390,7 @@ module _ (w v : State) (t l : ℕ) (c : Option LockCase) (h : Happens w v t (eve
 
         led : (n : Next Profile) → ComesTo (rules_in w l) l (profile p) (event_by l c) (lock_state w l) behind t n → LeadsTo v t l n o → CallLed w v t (event_by l c) call_then o
         led (next.At row) comes leads = inl (
-          ap (λ x. call_on x (profile (place_at v t)) (rights v t)) leads.0 ∙ ap (λ x. call_by l x (rights v t)) leads.1
+          call_here (place_at v t) l (singles v h.after t) leads.0 (rights v t) ∙ ap (λ x. call_by l x (rights v t)) leads.1
           ∙ ap (call_by l row) (λ i k. rights_led t k i) ∙ comes (rights w t) refl ∙ sym (unwoken c (going_on (event_by l c) call_then)),
           (l, leads.2),
         )

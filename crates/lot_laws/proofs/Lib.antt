@@ -24,6 +24,7 @@ pub mod WakesAt
 pub mod WakesKept
 pub mod TwoLocks
 pub mod CondvarSites
+pub mod CondvarHears
 pub mod TakesAt
 pub mod TakesKept
 pub mod PicksKept
@@ -60,6 +61,7 @@ pub mod AtPlaces
 pub mod ExclusiveOwners
 pub mod LineActs
 pub mod OwnHand
+pub mod SingleCalls
 pub mod CallEvents
 pub mod MutexCalls
 pub mod LockEvents

@@ -116,6 +116,7 @@ use Rattle.lot_mutex.specs.MutexSteps.{mutex_act, mutex_next}
 use Rattle.lot_acts.specs.declared.acts.Next.{Next}
 use Rattle.lot_acts.specs.declared.acts.Next.TheVariants as next
 use Rattle.lot_acts.specs.declared.acts.Whom.TheVariants as whoms
+use Rattle.lot_condvar.specs.declared.places.CondvarPlace.TheVariants as condvars
 use Rattle.lot_laws.proofs.Glue.{heir, is_owner, own_stance, thread_is, singles}
 use Rattle.lot_laws.proofs.MutexTable.{mutex}
 use Rattle.lot_laws.proofs.StandsMoved.{mutex_rules}
@@ -548,7 +549,9 @@ no_call_idle : (p : Place) (r : ℕ → Rights) → (call_state p r).purpose ≡
 no_call_idle Idle r h = refl
 no_call_idle (RwLock l a at) r h = absurd cc
 no_call_idle (Once l at) r h = absurd cc
-no_call_idle (Condvar l at) r h = absurd cc
+no_call_idle (Condvar l (condvars.Wait m timed at)) r h = absurd cc
+no_call_idle (Condvar l (condvars.Look all)) r h = absurd cc
+no_call_idle (Condvar l (condvars.Notify all m at)) r h = absurd cc
 no_call_idle (Mutex l (Lock entry retries a)) r h = absurd cc
 no_call_idle (Mutex l TryLock) r h = absurd cc
 no_call_idle (Mutex l (Unlock a)) r h = absurd cc

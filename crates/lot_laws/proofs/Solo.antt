@@ -432,7 +432,7 @@ module _ (w : State) (t : ℕ) (shape : IsShaped w) (steady : IsSteady w) (count
   -- outside its section it finds it free
   free : (l : ℕ) (p : Place) → place_at w t ≡ p → lock_of p ≡ Some l → (station p).inside ≡ None → (x : Option ℕ) → section_at w (2 * l) ≡ x → x ≡ None
   free l p is own outside None e = refl
-  free l p is own outside (Some u) e = let mine : u ≡ t = way l u Main (ap lock_of is ∙ own) tt e in
+  free l p is own outside (Some u) e = let mine : u ≡ t = way l u Main (inl (ap lock_of is ∙ own)) tt e in
       let within : (station_at (place_at w t) l).inside ≡ Some Main = (steady.stands.sections t l Main).1 (e ∙ ap Some mine) in
       let out : (station_at (place_at w t) l).inside ≡ None = nothing_at (place_at w t) l (singles w steady t) (λ y. y.inside) refl (ap (λ y. (station y).inside) is ∙ outside) in absurd cc
 
@@ -458,7 +458,7 @@ module _ (w : State) (t : ℕ) (shape : IsShaped w) (steady : IsSteady w) (count
   }
 
   steps_alone : (l : ℕ) (a : Admission) (c : RwLockCallPlace) → has_readers (rules_in w l).sort ≡ true → place_at w t ≡ RwLock l a c → l < length w.locks → StepsAlone w t l (RwLock l a c) (word_at w l) (λ m. queue_at w (key_of l m))
-  steps_alone l a c readers is lt = steps_alone_at l (RwLock l a c) (λ m u e. way l u m (ap lock_of is) (line m) e) is lt
+  steps_alone l a c readers is lt = steps_alone_at l (RwLock l a c) (λ m u e. way l u m (inl (ap lock_of is)) (line m) e) is lt
     where
       line : (m : Line) → HasLine (rules_of (kind_at w l)).sort m
       line Main = tt
@@ -472,7 +472,7 @@ module _ (w : State) (t : ℕ) (shape : IsShaped w) (steady : IsSteady w) (count
       sort = subst (FitsItsLock w) is (steady.stands.calls t)
 
       free_way : (m : Line) (u : ℕ) → section_at w (key_of l m) ≡ Some u → u ≡ t
-      free_way Main u e = way l u Main (ap lock_of is) tt e
+      free_way Main u e = way l u Main (inl (ap lock_of is)) tt e
       free_way Second u e = absurd (never_aside w l (place_at w u) (steady.stands.calls u) sort ((steady.stands.sections u l Second).1 e))
 
   mutex_place_rests : (l : ℕ) (c : MutexPlace) → place_at w t ≡ Mutex l c → PlaceFits (length w.locks) (Mutex l c) → Mutex l c ≢ Idle → act_of (Mutex l c) ≢ act.TheVariants.Sleep → Leads 12 w t (λ v x. Rests x)
