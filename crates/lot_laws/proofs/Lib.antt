@@ -102,3 +102,4 @@ pub mod Owing
 pub mod WorldRuns
 pub mod RowLaws
 pub mod RunsKept
+pub mod WaitersAside
