@@ -716,6 +716,17 @@ not_beside w p l fits many = by_mutex (beside_of p) refl
     by_mutex None e = refl
     by_mutex (Some m) e = differ m l (λ f. many (beside_takes_one w p l fits (e ∙ ap Some f)))
 
+-- where a call of a condition variable is beside another lock, it is in nobody's hand
+pub condvar_unheld : (k : ℕ) (at : CondvarPlace) (l : ℕ) → is_lock l (mutex_beside at) ≡ false → hand_at (Condvar k at) l ≡ None
+condvar_unheld k at l out = ap (λ d. (if k == l then station (Condvar k at) else if d then station_by (mutex_side at) else nowhere).hand) out ∙ either (k == l)
+  where
+    either : (c : Bool) → (if c then station (Condvar k at) else nowhere).hand ≡ None
+    either true = refl
+    either false = refl
+
+pub condvar_untaken : (k : ℕ) (at : CondvarPlace) (l : ℕ) → is_lock l (mutex_beside at) ≡ false → taken_at (Condvar k at) l ≡ None
+condvar_untaken k at l out = ap (λ d. if d && not (k == l) then taken_from (mutex_side at).hand (mutex_side at).wants true else None) out
+
 -- a thread that has somebody in hand at one lock at most
 abbrev pub CarriesAt : ℕ → Place → Type 0
 CarriesAt l p = (k : ℕ) → k ≢ l → carried_at p k ≡ None

@@ -13,7 +13,6 @@ pub mod MutexTable
 pub mod MutexSections
 pub mod StandsKept
 pub mod StandsMoved
-pub mod TwoMoved
 pub mod Following
 pub mod ActsAt
 pub mod ActsKept
@@ -26,6 +25,7 @@ pub mod WakesAt
 pub mod WakesKept
 pub mod TwoLocks
 pub mod CondvarSites
+pub mod CondvarHears
 pub mod TakesAt
 pub mod TakesKept
 pub mod PicksKept

@@ -18,7 +18,7 @@ use Rattle.lot_laws.specs.MutexDeeds.{mutex_doing, acts, queued}
 use Rattle.lot_laws.specs.Stations.{hand, doing_on}
 use Rattle.lot_laws.specs.SitesOf.{ActsNeeded}
 use Rattle.lot_laws.proofs.Glue.{Base, seen, same, Untaken, untaken, handed_is}
-use Rattle.lot_laws.proofs.Waiters.{CallsMutex, IsHeldAt}
+use Rattle.lot_laws.proofs.Waiters.{CallsMutex, IsHeldThere}
 use Rattle.lot_laws.proofs.MutexHands.{hands_acts, taken_there}
 use Rattle.lot_laws.specs.SitesOf.{hand_at, Hands}
 use Rattle.lot_laws.proofs.MutexTable.{mutex, own_doing}
@@ -54,7 +54,7 @@ module _ (l : ℕ) (n : Base) (w : ℕ) (o : Owners) (m s : List Waiter) (p : �
   d_is : doing_on (p t) l ≡ mutex_doing (HandOff bumps (hand_off.Store true none_left))
   d_is = own_doing l (p t) (HandOff bumps (hand_off.Store true none_left)) store
 
-  hand_is : IsHeldAt l t (p u)
+  hand_is : IsHeldThere l t (p u)
   hand_is = taken_there mutex l n w o m s p one hands single mutexes t u alone bumps none_left refl site.state store held
 
   -- only the one in hand is in hand

@@ -22,7 +22,7 @@ use Rattle.abstract_locks.specs.Sites.{Site, Deed, Main, Case, has_readers}
 use Rattle.abstract_locks.specs.Codes.{aside_in, code, count_in, fills, parked_in}
 use Rattle.abstract_locks.specs.Deeds as laws
 use Rattle.lot_steps.specs.declared.places.Place.{Place}
-use Rattle.lot_steps.specs.Steps.{next_place, profile, calls}
+use Rattle.lot_steps.specs.Steps.{next_place, profile}
 use Rattle.lot_once.specs.OnceMoves.{Closes, RestsBehind, TakesAll}
 use Rattle.lot_machine.specs.Machine.{State, filled_at, place_at, put, queue_at, queues_with_last, state_after_operation, state_after_park, state_after_take, word_at}
 use Rattle.lot_laws.specs.Refinement.{lock_state, taken_at}

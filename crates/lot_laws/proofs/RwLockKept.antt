@@ -74,7 +74,10 @@ use Rattle.lot_laws.specs.MutexDeeds.{acts}
 use Rattle.lot_laws.specs.Stations.{station, doing_on}
 use Rattle.lot_laws.specs.SitesOf.{IsSteady, Goes, FitsItsLock, TakesOne, HasRoom, carried_at, hand_at, is_mutex, rules_in, key_of}
 use Rattle.lot_condvar.specs.declared.places.CondvarPlace.{CondvarPlace}
-use Rattle.lot_laws.proofs.Glue.{not_beside, free_of, IsOf, next_of, parts_at, put_here, doing_here, station_here, of_single}
+use Rattle.lot_steps.specs.Steps.{is_lock}
+use Rattle.lot_acts.specs.Profiles.{Hand}
+use Rattle.lot_condvar.specs.CondvarSteps.{mutex_beside}
+use Rattle.lot_laws.proofs.Glue.{not_beside, condvar_unheld, free_of, IsOf, next_of, parts_at, put_here, doing_here, station_here, of_single}
 use Rattle.lot_laws.proofs.HandsMoved.{accepts, tells_handed, told_hears}
 use Rattle.lot_laws.proofs.WakesKept.{IsWoken}
 use Rattle.lot_laws.proofs.StandsMoved.{mutex_rules}
@@ -334,6 +337,10 @@ module _ (w : State) (t l : ℕ) (a : Admission) (c : RwLockCallPlace) (steady :
   many : TakesOne w l → ⊥
   many one = let none : has_readers (rules_in w l).sort ≡ false = ap has_readers one in let some : has_readers (rules_in w l).sort ≡ true = admits.0 in cc
 
+  -- and no condition variable is beside it
+  pub beside_no_call : (u k : ℕ) (at : CondvarPlace) → place_at w u ≡ Condvar k at → is_lock l (mutex_beside at) ≡ false
+  beside_no_call u k at e = not_beside w (Condvar k at) l (subst (FitsItsLock w) e (steady.stands.calls u)) many
+
   asleep : (u : ℕ) → SleepsIfCalls w t l steady there own (rules_in w l) refl (call_move a c) same_row u
   asleep u = record { apart = not_beside w (place_at w u) l (steady.stands.calls u) many; sleeper = λ h. by_place (place_at w u) refl h }
     where
@@ -459,7 +466,7 @@ module _ (w : State) (t l : ℕ) (a : Admission) (c : RwLockCallPlace) (steady :
     where
       by_place : (q : Place) → place_at w u ≡ q → hand_at q l ≡ hand t true → IsWoken w t l true HandOff q
       by_place Idle e h = absurd cc
-      by_place (Condvar k at) e h = absurd (subst (FitsItsLock w) e (steady.stands.calls u)).begun
+      by_place (Condvar k at) e h = absurd (let none : hand_at (Condvar k at) l ≡ None = condvar_unheld k at l (beside_no_call u k at e) in let both : ◌≡◌ {A = Option Hand} None (hand t true) = sym none ∙ h in cc)
       by_place (Once k at) e h = either (k == l) refl h
         where
           either : (b : Bool) → (k == l) ≡ b → (if b then station (Once k at) else nowhere).hand ≡ hand t true → IsWoken w t l true HandOff (Once k at)

@@ -108,10 +108,13 @@ module _ (w v : State) (steady : IsSteady w) (t : ℕ) (there : t < length w.pla
   }
 
   others : (k : ℕ) → k ≢ c → k ≢ m → (parts_at v k ≡ parts_at w k) × ((u : ℕ) → AlikeAt k (place_at w u) (putting (place_at w) t p2 u))
-  others k nc nm = (same_parts k, λ u. elim (cases_eq u t) [
-    | inl e ↦ rw (e, put_here (place_at w) t p2) ((alike k nc nm).taken, (alike k nc nm).doing)
-    | inr ne ↦ rw (put_other (place_at w) t p2 u ne) (refl, refl)
-  ])
+  others k nc nm = (
+    same_parts k,
+    λ u. elim (cases_eq u t) [
+      | inl e ↦ rw (e, put_here (place_at w) t p2) ((alike k nc nm).taken, (alike k nc nm).doing)
+      | inr ne ↦ rw (put_other (place_at w) t p2 u ne) (refl, refl)
+    ],
+  )
 
   pub two_follow : FollowAll w v (two_at c m (acts t ds_c) (acts t ds_m))
   two_follow = follow_two w v steady (putting (place_at w) t p2) places_put same_kinds (record { threads = ap (λ (xs : List Place). length xs) ep ∙ length-set w.places t p2; locks = λ i. length (el i); shares = λ i. length (eh i) })

@@ -8,16 +8,13 @@ use Rattle.lot_acts.specs.declared.acts.Reply.TheVariants.{Woken, TakenBy, Hande
 use Rattle.lot_acts.specs.Profiles.{taken_from, in_line}
 use Rattle.lot_steps.specs.declared.places.Place.{Place}
 use Rattle.lot_steps.specs.declared.places.Place.TheVariants.{Idle, Mutex, RwLock, Once, Condvar}
-use Rattle.lot_steps.specs.Steps.{is_lock, lock_of, next_place, or_else, wants}
+use Rattle.lot_steps.specs.Steps.{next_place, or_else, wants}
 use Rattle.lot_mutex.specs.declared.lock.Entry.{Entry}
 use Rattle.lot_mutex.specs.declared.lock.Entry.TheVariants as entries
 use Rattle.lot_mutex.specs.declared.lock.LockAt.{LockAt}
 use Rattle.lot_mutex.specs.declared.lock.LockAt.TheVariants as lock
 use Rattle.lot_mutex.specs.declared.places.MutexPlace.{MutexPlace}
-use Rattle.lot_mutex.specs.declared.places.MutexPlace.TheVariants.{Lock, Unlock, HandOff}
-use Rattle.lot_mutex.specs.declared.unlock.UnlockAt.TheVariants as unlock
-use Rattle.lot_mutex.specs.declared.hand_off.HandOffAt.TheVariants as hand_off
-use Rattle.lot_mutex.specs.MutexProfiles.{inside as mutex_inside}
+use Rattle.lot_mutex.specs.declared.places.MutexPlace.TheVariants.{Lock}
 use Rattle.lot_condvar.specs.declared.notify.NotifyAt.{NotifyAt}
 use Rattle.lot_condvar.specs.declared.notify.NotifyAt.TheVariants as notify
 use Rattle.lot_condvar.specs.declared.places.CondvarPlace.{CondvarPlace}
@@ -26,30 +23,26 @@ use Rattle.lot_condvar.specs.declared.wait.Stands.TheVariants as stands
 use Rattle.lot_condvar.specs.declared.wait.WaitAt.{WaitAt}
 use Rattle.lot_condvar.specs.declared.wait.WaitAt.TheVariants as wait
 use Rattle.lot_condvar.specs.CondvarSteps.{mutex_beside}
-use Rattle.lot_condvar.specs.CondvarProfiles.{condvar_profile, has_moved, mutex_side, notify_row}
+use Rattle.lot_condvar.specs.CondvarProfiles.{condvar_profile, mutex_side, notify_row}
 use Rattle.lot_condvar.specs.CondvarCalls.{IsReached, IsLockOf, IsRelock}
 use Rattle.abstract_locks.specs.Locks.{Rules, Taken}
 use Rattle.abstract_locks.specs.Locks as locks
 use Rattle.abstract_locks.specs.Sites.{Doing, Line, Main, Has, has_readers}
-use Rattle.lot_machine.specs.Machine.{State}
+use Rattle.lot_machine.specs.Machine.{State, place_at}
 use Rattle.lot_laws.specs.Refinement.{taken_at}
 use Rattle.lot_laws.specs.MutexDeeds.{mutex_row, mutex_station}
 use Rattle.lot_laws.specs.Stations.{Station, Hand, hand, nowhere, station, station_at, station_by, doing_on}
-use Rattle.lot_laws.specs.SitesOf.{FitsItsLock, Hands, hand_at, rules_in}
-use Rattle.lot_laws.proofs.Glue.{same, differ, mutex, taken_out, IsApart, CarriesAt, WantsAlone, in_hand_where, in_hand_here, IsLock, IsOf, IsSingle, of_lock, single_station}
-
--- a lock sees of a thread at a place what it saw
-pub record SameAt (k : ℕ) (p q : Place) : Type 0 where
-  pub station : station_at q k ≡ station_at p k
-  pub doing : doing_on q k ≡ doing_on p k
-  pub taken : taken_at q k ≡ taken_at p k
+use Rattle.lot_laws.specs.SitesOf.{FitsItsLock, IsSteady, Hands, hand_at, rules_in}
+use Rattle.lot_laws.proofs.StandsKept.{Alike, AlikeBeside}
+use Rattle.lot_laws.proofs.ToldAt.{HoldsHere}
+use Rattle.lot_laws.proofs.Glue.{aparts, held_tells, same, differ, mutex, taken_out, IsApart, CarriesAt, WantsAlone, in_hand_where, in_hand_here}
 
 -- told something by another thread, it goes to a place: what the lock l sees then
 pub record IsTold (l : ℕ) (p q : Place) (goes : Station → Station) (does : Doing → Doing) (held : Option Taken) : Type 0 where
   pub station : station_at q l ≡ goes (station_at p l)
   pub doing : doing_on q l ≡ does (doing_on p l)
   pub taken : taken_at q l ≡ held
-  pub others : (k : ℕ) → k ≢ l → SameAt k p q
+  pub others : AlikeBeside l p q
   pub fits : (w : State) → FitsItsLock w p → FitsItsLock w q
 
 -- it stands in the main line, asleep or releasing the mutex still, and may be taken
@@ -59,18 +52,14 @@ pub record SleepsAt (l : ℕ) (p : Place) : Type 0 where
   pub taken : (t : ℕ) → IsTold l p (next_place p (TakenBy t)) (λ s. record s { stands = None; waits = None; hand = hand t false }) (λ d. d) (Some (record { by = t; want = Exclusive }))
 
 -- taken by t, it is handed the mutex or woken
-pub record IsHeldAt (l t : ℕ) (p : Place) : Type 0 where
+pub record IsHeldThere (l t : ℕ) (p : Place) : Type 0 where
   pub was : taken_at p l ≡ Some (record { by = t; want = Exclusive })
-  pub stands : (station_at p l).stands ≡ None
-  pub waits : (station_at p l).waits ≡ None
   pub handed : (alone : Bool) → IsTold l p (next_place p (HandedBy t alone)) (λ s. record s { hand = hand t true }) (λ d. record d { claims = Some (Has Exclusive) }) None
   pub woken : IsTold l p (next_place p (Woken note.Normal)) (λ s. record s { hand = None }) (λ d. record d { retries = Some Exclusive }) None
 
 -- handed the mutex by t, it is told so
-pub record WasGivenAt (l t : ℕ) (p : Place) : Type 0 where
+pub record WasGivenThere (l t : ℕ) (p : Place) : Type 0 where
   pub was : taken_at p l ≡ None
-  pub stands : (station_at p l).stands ≡ None
-  pub waits : (station_at p l).waits ≡ None
   pub told : IsTold l p (next_place p (Woken note.HandOff)) (λ s. record s { hand = None }) (λ d. d) None
 
 -- who stands at the mutex l calls it, or waits with it
@@ -128,13 +117,13 @@ module _ (k l : ℕ) (apart : k ≢ l) where
 
   -- at any lock but the mutex it has the parts of its row at the condition variable, or none
   module _ (p p2 : CondvarPlace) (of : mutex_beside p ≡ Some l) (of2 : mutex_beside p2 ≡ Some l) (stood : station_by (condvar_profile p2) ≡ station_by (condvar_profile p)) (did : (condvar_profile p2).doing ≡ (condvar_profile p).doing) where
-    condvar_same : (j : ℕ) → j ≢ l → SameAt j (Condvar k p) (Condvar k p2)
+    condvar_same : (j : ℕ) → j ≢ l → Alike j (Condvar k p) (Condvar k p2)
     condvar_same j ne = either (k == j) refl
       where
         elsewhere : (l == j) ≡ false
         elsewhere = differ l j (λ e. ne (sym e))
 
-        either : (b : Bool) → (k == j) ≡ b → SameAt j (Condvar k p) (Condvar k p2)
+        either : (b : Bool) → (k == j) ≡ b → Alike j (Condvar k p) (Condvar k p2)
         either true e = record { station = rw e stood; doing = rw e did; taken = rw (e, of, of2, elsewhere) refl }
         either false e = record { station = rw (e, of, of2, elsewhere) refl; doing = rw (e, of, of2, elsewhere) refl; taken = rw (e, of, of2, elsewhere) refl }
 
@@ -166,20 +155,16 @@ module _ (k l : ℕ) (apart : k ≢ l) (m : ℕ) (timed : Bool) (of : mutex_besi
     taken = λ t. condvar_told k l apart (Wait m timed (wait.Release stands.Moved at)) (Wait m timed (wait.Release (stands.InHand t) at)) of of refl refl _ _ _ refl refl refl (λ h. h);
   }
 
-  release_held : (t : ℕ) (at : MutexPlace) → IsHeldAt l t (wait_at (wait.Release (stands.InHand t) at))
+  release_held : (t : ℕ) (at : MutexPlace) → IsHeldThere l t (wait_at (wait.Release (stands.InHand t) at))
   release_held t at = record {
     was = taken_beside k l apart (Wait m timed (wait.Release (stands.InHand t) at)) of;
-    stands = ap (λ (s : Station). s.stands) (station_beside k l apart (Wait m timed (wait.Release (stands.InHand t) at)) of);
-    waits = ap (λ (s : Station). s.waits) (station_beside k l apart (Wait m timed (wait.Release (stands.InHand t) at)) of);
     handed = λ alone. condvar_told k l apart (Wait m timed (wait.Release (stands.InHand t) at)) (Wait m timed (wait.Release (stands.Handed t) at)) of of refl refl _ _ _ refl refl refl (λ h. h);
     woken = condvar_told k l apart (Wait m timed (wait.Release (stands.InHand t) at)) (Wait m timed (wait.Release (stands.Noted note.Normal) at)) of of refl refl _ _ _ refl refl refl (λ h. h);
   }
 
-  release_given : (t : ℕ) (at : MutexPlace) → WasGivenAt l t (wait_at (wait.Release (stands.Handed t) at))
+  release_given : (t : ℕ) (at : MutexPlace) → WasGivenThere l t (wait_at (wait.Release (stands.Handed t) at))
   release_given t at = record {
     was = taken_beside k l apart (Wait m timed (wait.Release (stands.Handed t) at)) of;
-    stands = ap (λ (s : Station). s.stands) (station_beside k l apart (Wait m timed (wait.Release (stands.Handed t) at)) of);
-    waits = ap (λ (s : Station). s.waits) (station_beside k l apart (Wait m timed (wait.Release (stands.Handed t) at)) of);
     told = condvar_told k l apart (Wait m timed (wait.Release (stands.Handed t) at)) (Wait m timed (wait.Release (stands.Noted note.HandOff) at)) of of refl refl _ _ _ refl refl refl (λ h. h);
   }
 
@@ -191,20 +176,16 @@ module _ (k l : ℕ) (apart : k ≢ l) (m : ℕ) (timed : Bool) (of : mutex_besi
     taken = λ t. condvar_told k l apart (Wait m timed (wait.Asleep stands.Moved)) (Wait m timed (wait.Asleep (stands.InHand t))) of of refl refl _ _ _ refl refl refl (λ h. h);
   }
 
-  asleep_held : (t : ℕ) → IsHeldAt l t (wait_at (wait.Asleep (stands.InHand t)))
+  asleep_held : (t : ℕ) → IsHeldThere l t (wait_at (wait.Asleep (stands.InHand t)))
   asleep_held t = record {
     was = taken_beside k l apart (Wait m timed (wait.Asleep (stands.InHand t))) of;
-    stands = ap (λ (s : Station). s.stands) (station_beside k l apart (Wait m timed (wait.Asleep (stands.InHand t))) of);
-    waits = ap (λ (s : Station). s.waits) (station_beside k l apart (Wait m timed (wait.Asleep (stands.InHand t))) of);
     handed = λ alone. condvar_told k l apart (Wait m timed (wait.Asleep (stands.InHand t))) (Wait m timed (wait.Asleep (stands.Handed t))) of of refl refl _ _ _ refl refl refl (λ h. h);
     woken = condvar_told k l apart (Wait m timed (wait.Asleep (stands.InHand t))) (Wait m timed (wait.Lock false (Lock entries.Lock true lock.First))) of of refl refl _ _ _ refl refl refl (λ h. (λ f. absurd cc, tt));
   }
 
-  asleep_given : (t : ℕ) → WasGivenAt l t (wait_at (wait.Asleep (stands.Handed t)))
+  asleep_given : (t : ℕ) → WasGivenThere l t (wait_at (wait.Asleep (stands.Handed t)))
   asleep_given t = record {
     was = taken_beside k l apart (Wait m timed (wait.Asleep (stands.Handed t))) of;
-    stands = ap (λ (s : Station). s.stands) (station_beside k l apart (Wait m timed (wait.Asleep (stands.Handed t))) of);
-    waits = ap (λ (s : Station). s.waits) (station_beside k l apart (Wait m timed (wait.Asleep (stands.Handed t))) of);
     told = condvar_told k l apart (Wait m timed (wait.Asleep (stands.Handed t))) (Wait m timed (wait.Lock false (Lock entries.Lock false lock.Accept))) of of refl refl _ _ _ refl refl refl (λ h. (λ f. absurd cc, tt));
   }
 
@@ -220,20 +201,16 @@ module _ (k l : ℕ) (apart : k ≢ l) (m : ℕ) (timed : Bool) (of : mutex_besi
       taken = λ t. condvar_told k l apart (Wait m timed (lock_at r lock.Asleep)) (Wait m timed (lock_at r (lock.Taken t))) of of refl refl _ _ _ refl refl refl (λ h. (h.0, relocks e r r lock.Asleep (lock.Taken t) tt h.1));
     }
 
-    lock_held : (t : ℕ) → IsHeldAt l t (wait_at (lock_at r (lock.Taken t)))
+    lock_held : (t : ℕ) → IsHeldThere l t (wait_at (lock_at r (lock.Taken t)))
     lock_held t = record {
       was = taken_beside k l apart (Wait m timed (lock_at r (lock.Taken t))) of;
-      stands = ap (λ (s : Station). s.stands) (station_beside k l apart (Wait m timed (lock_at r (lock.Taken t))) of);
-      waits = ap (λ (s : Station). s.waits) (station_beside k l apart (Wait m timed (lock_at r (lock.Taken t))) of);
       handed = λ alone. condvar_told k l apart (Wait m timed (lock_at r (lock.Taken t))) (Wait m timed (lock_at false (lock.Handed t))) of of refl refl _ _ _ refl refl refl (λ h. (h.0, relocks e r false (lock.Taken t) (lock.Handed t) tt h.1));
       woken = condvar_told k l apart (Wait m timed (lock_at r (lock.Taken t))) (Wait m timed (lock_at true lock.Load)) of of refl refl _ _ _ refl refl refl (λ h. (h.0, relocks e r true (lock.Taken t) lock.Load tt h.1));
     }
 
-    lock_given : (t : ℕ) → WasGivenAt l t (wait_at (lock_at r (lock.Handed t)))
+    lock_given : (t : ℕ) → WasGivenThere l t (wait_at (lock_at r (lock.Handed t)))
     lock_given t = record {
       was = taken_beside k l apart (Wait m timed (lock_at r (lock.Handed t))) of;
-      stands = ap (λ (s : Station). s.stands) (station_beside k l apart (Wait m timed (lock_at r (lock.Handed t))) of);
-      waits = ap (λ (s : Station). s.waits) (station_beside k l apart (Wait m timed (lock_at r (lock.Handed t))) of);
       told = condvar_told k l apart (Wait m timed (lock_at r (lock.Handed t))) (Wait m timed (lock_at r lock.Accept)) of of refl refl _ _ _ refl refl refl (λ h. (h.0, relocks e r r (lock.Handed t) lock.Accept tt h.1));
     }
 
@@ -281,7 +258,7 @@ module _ (k l : ℕ) (apart : k ≢ l) (m : ℕ) (timed : Bool) (of : mutex_besi
   wait_stands (wait.Lock late (Lock e r lock.Remove)) h = inl refl
   wait_stands at h = absurd cc
 
-  wait_held : (t : ℕ) (at : WaitAt) → (side at).hand ≡ hand t false → IsHeldAt l t (Condvar k (Wait m timed at))
+  wait_held : (t : ℕ) (at : WaitAt) → (side at).hand ≡ hand t false → IsHeldThere l t (Condvar k (Wait m timed at))
   wait_held t (wait.Release (stands.InHand by) at) h = let who : by ≡ t = cc in rw who (release_held k l apart m timed of t at)
   wait_held t (wait.Release s at) h = absurd cc
   wait_held t (wait.Asleep (stands.InHand by)) h = let who : by ≡ t = cc in rw who (asleep_held k l apart m timed of t)
@@ -289,7 +266,7 @@ module _ (k l : ℕ) (apart : k ≢ l) (m : ℕ) (timed : Bool) (of : mutex_besi
   wait_held t (wait.Lock late (Lock e r (lock.Taken by))) h = let who : by ≡ t = cc in rw who (lock_held k l apart m timed of late e r t)
   wait_held t at h = absurd cc
 
-  wait_given : (t : ℕ) (at : WaitAt) → (side at).hand ≡ hand t true → WasGivenAt l t (Condvar k (Wait m timed at))
+  wait_given : (t : ℕ) (at : WaitAt) → (side at).hand ≡ hand t true → WasGivenThere l t (Condvar k (Wait m timed at))
   wait_given t (wait.Release (stands.Handed by) at) h = let who : by ≡ t = cc in rw who (release_given k l apart m timed of t at)
   wait_given t (wait.Release s at) h = absurd cc
   wait_given t (wait.Asleep (stands.Handed by)) h = let who : by ≡ t = cc in rw who (asleep_given k l apart m timed of t)
@@ -309,21 +286,17 @@ module _ (l : ℕ) where
   mutex_stands (Lock e r lock.Remove) h = inl refl
   mutex_stands at h = absurd cc
 
-  mutex_held : (t : ℕ) (at : MutexPlace) → (mutex_station at).hand ≡ hand t false → IsHeldAt l t (Mutex l at)
+  mutex_held : (t : ℕ) (at : MutexPlace) → (mutex_station at).hand ≡ hand t false → IsHeldThere l t (Mutex l at)
   mutex_held t (Lock e r (lock.Taken by)) h = let who : by ≡ t = cc in rw who (record {
     was = rw (same l) refl;
-    stands = ap (λ b. (if b then mutex_station (Lock e r (lock.Taken t)) else nowhere).stands) (same l);
-    waits = ap (λ b. (if b then mutex_station (Lock e r (lock.Taken t)) else nowhere).waits) (same l);
     handed = λ alone. mutex_told l (Lock e r (lock.Taken t)) (Lock e false (lock.Handed t)) _ _ _ refl refl refl;
     woken = mutex_told l (Lock e r (lock.Taken t)) (Lock e true lock.Load) _ _ _ refl refl refl;
   })
   mutex_held t at h = absurd cc
 
-  mutex_given : (t : ℕ) (at : MutexPlace) → (mutex_station at).hand ≡ hand t true → WasGivenAt l t (Mutex l at)
+  mutex_given : (t : ℕ) (at : MutexPlace) → (mutex_station at).hand ≡ hand t true → WasGivenThere l t (Mutex l at)
   mutex_given t (Lock e r (lock.Handed by)) h = let who : by ≡ t = cc in rw who (record {
     was = refl;
-    stands = ap (λ b. (if b then mutex_station (Lock e r (lock.Handed t)) else nowhere).stands) (same l);
-    waits = ap (λ b. (if b then mutex_station (Lock e r (lock.Handed t)) else nowhere).waits) (same l);
     told = mutex_told l (Lock e r (lock.Handed t)) (Lock e r lock.Accept) _ _ _ refl refl refl;
   })
   mutex_given t at h = absurd cc
@@ -366,12 +339,12 @@ stands_or_sleeps p l = by_row l (λ q. ((station_at q l).inside ≡ Some Main) �
     (λ k apart all m at of h. absurd (let f : ◌≡◌ {A = Option Line} None (Some Main) = sym (ap (λ b. in_line b Main) (notifier_stands all m at).0) ∙ h in cc)) p
 
 -- who is in a hand there was taken or handed the mutex
-pub held_there : (p : Place) (t l : ℕ) → CallsMutex l p → hand_at p l ≡ hand t false → IsHeldAt l t p
-held_there p t l = by_row l (IsHeldAt l t) (λ (s : Station). s.hand) (hand t false) (λ h. cc) (mutex_held l t) (λ k apart m timed at of h. wait_held k l apart m timed of t at h)
+pub held_there : (p : Place) (t l : ℕ) → CallsMutex l p → hand_at p l ≡ hand t false → IsHeldThere l t p
+held_there p t l = by_row l (IsHeldThere l t) (λ (s : Station). s.hand) (hand t false) (λ h. cc) (mutex_held l t) (λ k apart m timed at of h. wait_held k l apart m timed of t at h)
     (λ k apart all m at of h. absurd (let f : ◌≡◌ {A = Option Hand} None (hand t false) = sym (notifier_stands all m at).1 ∙ h in cc)) p
 
-pub given_there : (p : Place) (t l : ℕ) → CallsMutex l p → hand_at p l ≡ hand t true → WasGivenAt l t p
-given_there p t l = by_row l (WasGivenAt l t) (λ (s : Station). s.hand) (hand t true) (λ h. cc) (mutex_given l t) (λ k apart m timed at of h. wait_given k l apart m timed of t at h)
+pub given_there : (p : Place) (t l : ℕ) → CallsMutex l p → hand_at p l ≡ hand t true → WasGivenThere l t p
+given_there p t l = by_row l (WasGivenThere l t) (λ (s : Station). s.hand) (hand t true) (λ h. cc) (mutex_given l t) (λ k apart m timed at of h. wait_given k l apart m timed of t at h)
     (λ k apart all m at of h. absurd (let f : ◌≡◌ {A = Option Hand} None (hand t true) = sym (notifier_stands all m at).1 ∙ h in cc)) p
 
 -- whoever is in a hand there wants to own alone
@@ -387,6 +360,11 @@ wait_wanted m timed (wait.Asleep s) t b h = refl
 wait_wanted m timed (wait.Lock late (Lock e r at)) t b h = refl
 wait_wanted m timed at t b h = absurd cc
 
+pub side_wanted : (p : CondvarPlace) (t : ℕ) (b : Bool) → (mutex_side p).hand ≡ hand t b → (mutex_side p).wants ≡ Some Exclusive
+side_wanted (Wait m timed at) t b h = wait_wanted m timed at t b h
+side_wanted (Look all) t b h = absurd cc
+side_wanted (Notify all m at) t b h = absurd (let f : ◌≡◌ {A = Option Hand} None (hand t b) = sym (notifier_stands all m at).1 ∙ h in cc)
+
 pub held_wants : (p : Place) (t l : ℕ) (b : Bool) → CallsMutex l p → hand_at p l ≡ hand t b → wants p ≡ Some Exclusive
 held_wants p t l b = by_row l (λ q. wants q ≡ Some Exclusive) (λ (s : Station). s.hand) (hand t b) (λ h. cc) (λ at h. mutex_wanted at t b h)
     (λ k apart m timed at of h. ap (λ x. or_else x (condvar_profile (Wait m timed at)).wants) (wait_wanted m timed at t b h))
@@ -397,91 +375,10 @@ pub held_alone : {one : ℕ → Type 0} (p : ℕ → Place) → ((u : ℕ) → I
 held_alone p apart hands t l here mutexes u h = let x = in_hand_where (p u) t (apart u) h in
     held_wants (p u) t l x.handed (mutexes u) (subst (λ k. hand_at (p u) k ≡ hand t x.handed) (in_hand_here p hands t l u here x) x.hand)
 
--- who has somebody in hand at the mutex is inside its section
-mutex_carries : (at : MutexPlace) (b : Bool) → (mutex_station at).carries ≡ Some b → (mutex_station at).inside ≡ Some Main
-mutex_carries (Unlock (unlock.Clear any)) b h = refl
-mutex_carries (Unlock (unlock.Leave any)) b h = refl
-mutex_carries (HandOff bumps (hand_off.Store any none_left)) b h = refl
-mutex_carries (HandOff bumps (hand_off.Leave any)) b h = refl
-mutex_carries at b h = absurd cc
-
-wait_inside : (m : ℕ) (timed : Bool) (at : WaitAt) (b : Bool) → (station_by (mutex_side (Wait m timed at))).carries ≡ Some b → (station_by (mutex_side (Wait m timed at))).inside ≡ Some Main
-wait_inside m timed (wait.Release s at) b h = mutex_carries at b h
-wait_inside m timed (wait.Lock late at) b h = mutex_carries at b h
-wait_inside m timed at b h = absurd cc
-
-notifier_inside : (all : Bool) (m : ℕ) (at : NotifyAt) (b : Bool) → (station_by (mutex_side (Notify all m at))).carries ≡ Some b → (station_by (mutex_side (Notify all m at))).inside ≡ Some Main
-notifier_inside all m (notify.Clear any) b h = refl
-notifier_inside all m (notify.MarkMoved number) b h = refl
-notifier_inside all m (notify.Leave any number) b h = by_number (number == 0)
-  where
-    by_number : (c : Bool) → (if c then mutex_inside else has_moved any false).inside ≡ Some Main
-    by_number true = refl
-    by_number false = refl
-notifier_inside all m at b h = absurd cc
-
-pub carries_inside : (p : Place) (l : ℕ) (b : Bool) → CallsMutex l p → (station_at p l).carries ≡ Some b → (station_at p l).inside ≡ Some Main
-carries_inside p l b = by_row l (λ q. (station_at q l).inside ≡ Some Main) (λ (s : Station). s.carries) (Some b) (λ h. cc)
-    (λ at h. ap (λ c. (if c then mutex_station at else nowhere).inside) (same l) ∙ mutex_carries at b h)
-    (λ k apart m timed at of h. ap (λ (s : Station). s.inside) (station_beside k l apart (Wait m timed at) of) ∙ wait_inside m timed at b h)
-    (λ k apart all m at of h. ap (λ (s : Station). s.inside) (station_beside k l apart (Notify all m at) of) ∙ notifier_inside all m at b h) p
-
-pub bare_outside : (p : Place) (l : ℕ) → CallsMutex l p → (station_at p l).inside ≡ None → (station_at p l).carries ≡ None
-bare_outside p l of out = by_hand (station_at p l).carries refl
-  where
-    by_hand : (o : Option Bool) → (station_at p l).carries ≡ o → o ≡ None
-    by_hand None e = refl
-    by_hand (Some b) e = absurd (let within : (station_at p l).inside ≡ Some Main = carries_inside p l b of e in cc)
-
--- a mutex has one section
-mutex_inside_main : (at : MutexPlace) (m : Line) → (mutex_station at).inside ≡ Some m → m ≡ Main
-mutex_inside_main (Lock e r lock.Check) m h = cc
-mutex_inside_main (Unlock unlock.Take) m h = cc
-mutex_inside_main (HandOff bumps hand_off.Take) m h = cc
-mutex_inside_main at m h = cc
-
-wait_inside_main : (n : ℕ) (timed : Bool) (at : WaitAt) (m : Line) → (station_by (mutex_side (Wait n timed at))).inside ≡ Some m → m ≡ Main
-wait_inside_main n timed (wait.Release s at) m h = mutex_inside_main at m h
-wait_inside_main n timed (wait.Lock late at) m h = mutex_inside_main at m h
-wait_inside_main n timed at m h = cc
-
-notifier_inside_main : (all : Bool) (n : ℕ) (at : NotifyAt) (m : Line) → (station_by (mutex_side (Notify all n at))).inside ≡ Some m → m ≡ Main
-notifier_inside_main all n (notify.Leave any number) m h = by_number (number == 0) h
-  where
-    by_number : (c : Bool) → (if c then mutex_inside else has_moved any false).inside ≡ Some m → m ≡ Main
-    by_number true g = cc
-    by_number false g = cc
-notifier_inside_main all n at m h = cc
-
-inside_main : (p : Place) (l : ℕ) (m : Line) → CallsMutex l p → (station_at p l).inside ≡ Some m → m ≡ Main
-inside_main p l m = by_row l (λ q. m ≡ Main) (λ (s : Station). s.inside) (Some m) (λ h. cc) (λ at h. mutex_inside_main at m h)
-    (λ k apart n timed at of h. wait_inside_main n timed at m h) (λ k apart all n at of h. notifier_inside_main all n at m h) p
-
-pub outside : (p : Place) (l : ℕ) → CallsMutex l p → ((station_at p l).inside ≡ Some Main → ⊥) → (station_at p l).inside ≡ None
-outside p l of out = by_line (station_at p l).inside refl
-  where
-    by_line : (o : Option Line) → (station_at p l).inside ≡ o → o ≡ None
-    by_line None e = refl
-    by_line (Some m) e = absurd (out (e ∙ ap Some (inside_main p l m of e)))
-
--- so that outside the section it stands in the line there, or is in a hand, and that is all
-pub sleeps_station : (p : Place) (l : ℕ) → CallsMutex l p → SleepsAt l p → (station_at p l).inside ≡ None → (station_at p l).stands ≡ Some Main → station_at p l ≡ record nowhere { stands = Some Main; waits = (station_at p l).waits }
-sleeps_station p l of sleeps out stood = λ i. record (station_at p l) { inside = out i; stands = stood i; carries = bare_outside p l of out i; hand = sleeps.free i }
-
-pub held_station : (p : Place) (l t : ℕ) → CallsMutex l p → IsHeldAt l t p → hand_at p l ≡ hand t false → (station_at p l).inside ≡ None → station_at p l ≡ record nowhere { hand = hand t false }
-held_station p l t of held in_hand out = λ i. record (station_at p l) { inside = out i; stands = held.stands i; waits = held.waits i; carries = bare_outside p l of out i; hand = in_hand i }
-
-pub given_station : (p : Place) (l t : ℕ) → CallsMutex l p → WasGivenAt l t p → hand_at p l ≡ hand t true → (station_at p l).inside ≡ None → station_at p l ≡ record nowhere { hand = hand t true }
-given_station p l t of given in_hand out = λ i. record (station_at p l) { inside = out i; stands = given.stands i; waits = given.waits i; carries = bare_outside p l of out i; hand = in_hand i }
-
--- a call of one lock that is seen at a lock is of that lock
-pub of_part : {A : Type 0} (g : Station → Option A) (x : A) → g nowhere ≡ None → (p : Place) (l : ℕ) → IsSingle p → g (station_at p l) ≡ Some x → IsOf l p
-of_part {A = A} g x none p l single h = of_lock l p single (by_lock (lock_of p) (sym (ap g (single_station p l single)) ∙ h))
-  where
-    by_lock : (o : Option ℕ) → g (if is_lock l o then station p else nowhere) ≡ Some x → IsLock l o
-    by_lock None e = tt
-    by_lock (Some k) e = either (k == l) refl e
-      where
-        either : (b : Bool) → (k == l) ≡ b → g (if b then station p else nowhere) ≡ Some x → k ≡ l
-        either true f e = eqb-true k l f
-        either false f e = absurd (let a : ◌≡◌ {A = Option A} None (Some x) = sym none ∙ e in cc)
+-- whoever is in the hand of t is so by the taker, at the lock where it has somebody in hand
+pub holds_here : (w : State) (t l : ℕ) → IsSteady w → CarriesAt l (place_at w t) → HoldsHere w t l
+holds_here w t l steady here = record {
+  held = λ u h. let k = in_hand_where (place_at w u) t (aparts w steady u) h in record { lock = k.lock; handed = k.handed; hand = k.hand };
+  taker = λ u b h. held_tells (place_at w u) t l b h;
+  nobody = here;
+}
