@@ -103,3 +103,4 @@ pub mod WorldRuns
 pub mod RowLaws
 pub mod RunsKept
 pub mod WaitersAside
+pub mod CondvarRows
