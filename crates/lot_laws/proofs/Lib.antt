@@ -101,3 +101,5 @@ pub mod Owing
 pub mod WorldRuns
 pub mod RowLaws
 pub mod RunsKept
+pub mod WaitersAside
+pub mod CondvarRows
