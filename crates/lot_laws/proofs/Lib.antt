@@ -26,6 +26,7 @@ pub mod WakesKept
 pub mod TwoLocks
 pub mod CondvarSites
 pub mod CondvarHears
+pub mod CondvarParts
 pub mod TakesAt
 pub mod TakesKept
 pub mod PicksKept

@@ -61,7 +61,7 @@ use Rattle.lot_once.specs.declared.places.OncePlace.{OncePlace}
 use Rattle.lot_steps.specs.Steps.{next_place, profile, calls, rwlock_goes}
 use Rattle.abstract_locks.specs.Locks.{Rules, Sort, Normal as NormalSort, Recursive, Semaphore, count, keep_from, one_if_some, standing}
 use Rattle.abstract_locks.specs.Locks as locks
-use Rattle.abstract_locks.specs.Sites.{Site, IsSite, Deed, Line, Main, Second, Begin, Case, Clear, End, In, Mark, Out, has_readers, wakened}
+use Rattle.abstract_locks.specs.Sites.{Site, IsSite, Deed, Line, Main, Second, Begin, Case, Clear, End, In, Mark, Out, has_readers, wakened, LeaveLine}
 use Rattle.abstract_locks.specs.Codes.{HasLimit, bit, code, code_of, packed, writers}
 use Rattle.abstract_locks.specs.Deeds.{case_of}
 use Rattle.abstract_locks.specs.Deeds as laws
@@ -221,12 +221,14 @@ word_few r s readers site room limit = by_sort r.sort refl readers
 abbrev pub AreCalm : List Deed → Type 0
 AreCalm [] = Unit {0}
 AreCalm (Case case ∷ ds) = IsCalm (Some case)
+AreCalm (LeaveLine ∷ ds) = IsCalm (Some locks.Late)
 AreCalm (Out ∷ ds) = ⊥
 AreCalm (d ∷ ds) = AreCalm ds
 
 pub calm_case : (hand : Option Bool) (ds : List Deed) → AreCalm ds → IsCalm (case_of hand ds)
 calm_case hand [] h = tt
 calm_case hand (Case case ∷ ds) h = h
+calm_case hand (LeaveLine ∷ ds) h = h
 calm_case hand (Out ∷ ds) h = absurd h
 calm_case hand (LeaveLine ∷ ds) h = tt
 calm_case hand (d ∷ ds) h = calm_case hand ds h
