@@ -77,7 +77,6 @@ use Rattle.lot_condvar.specs.declared.places.CondvarPlace.{CondvarPlace}
 use Rattle.lot_steps.specs.Steps.{is_lock}
 use Rattle.lot_acts.specs.Profiles.{Hand}
 use Rattle.lot_condvar.specs.CondvarSteps.{mutex_beside}
-use Rattle.abstract_locks.specs.Sites.{LeaveLine}
 use Rattle.lot_laws.proofs.Glue.{not_beside, condvar_unheld, free_of, IsOf, next_of, parts_at, put_here, doing_here, station_here, of_single}
 use Rattle.lot_laws.proofs.HandsMoved.{accepts, tells_handed, told_hears}
 use Rattle.lot_laws.proofs.WakesAt.{IsWokenAt}
@@ -230,7 +229,6 @@ calm_case hand [] h = tt
 calm_case hand (Case case ∷ ds) h = h
 calm_case hand (LeaveLine ∷ ds) h = h
 calm_case hand (Out ∷ ds) h = absurd h
-calm_case hand (LeaveLine ∷ ds) h = tt
 calm_case hand (d ∷ ds) h = calm_case hand ds h
 
 pub word_calm : (ds : List Deed) → AreOfWord ds → AreCalm ds
