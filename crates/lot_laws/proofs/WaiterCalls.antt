@@ -25,8 +25,8 @@ use Rattle.lot_laws.specs.Refinement.{call_state, taken_at}
 use Rattle.abstract_locks.specs.Sites.{Line, Main}
 use Rattle.lot_laws.specs.Stations.{nowhere, station, station_at, station_by}
 use Rattle.lot_laws.specs.SitesOf.{hand_at}
-use Rattle.lot_laws.proofs.Glue.{differ}
-use Rattle.lot_laws.proofs.Waiters.{notifier_stands}
+use Rattle.lot_laws.proofs.Glue.{differ, same}
+use Rattle.lot_laws.proofs.Waiters.{notifier_stands, side_wanted}
 
 -- by whom one is taken that is in a hand, or in none
 taken_hand : (t : ℕ) (h : Option Hand) (x : Option Want) → is_taken_by t (taken_from h x true) ≡ true → h ≡ hand t false
@@ -60,6 +60,15 @@ taken_beside k (Wait m timed at) t l e = either (m == l) (not (k == l)) refl e
     }
     either true false same_one f = absurd cc
     either false c same_one f = absurd cc
+
+-- and who is in a hand there is taken
+pub waiter_taken_by : (k : ℕ) (at : CondvarPlace) (t l : ℕ) → hand_at (Condvar k at) l ≡ hand t false → is_taken_by t (taken_at (Condvar k at) l) ≡ true
+waiter_taken_by k at t l h = by_lock (k == l) (is_lock l (mutex_beside at)) h
+  where
+    by_lock : (c d : Bool) → (if c then station (Condvar k at) else if d then station_by (mutex_side at) else nowhere).hand ≡ hand t false → is_taken_by t (if d && not c then taken_from (mutex_side at).hand (mutex_side at).wants true else None) ≡ true
+    by_lock true d g = absurd cc
+    by_lock false true g = ap (is_taken_by t) (λ i. taken_from (g i) (side_wanted at t false g i) true) ∙ same t
+    by_lock false false g = absurd cc
 
 -- woken, it locks its mutex again
 wait_woken : (k l t : ℕ) (timed : Bool) (at : WaitAt) → (mutex_side (Wait l timed at)).hand ≡ hand t false → (r : ℕ → Rights)
