@@ -7,6 +7,7 @@ pub mod Runs
 pub mod Glue
 pub mod Beside
 pub mod Waiters
+pub mod WaiterCalls
 pub mod MutexHands
 pub mod OneStep
 pub mod MutexTable
