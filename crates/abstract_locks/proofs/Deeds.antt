@@ -2,7 +2,7 @@
 use Rattle.std.proofs.Common.{ℕ, Bool, true, false, Option, Some, None, if◌then◌else◌, ◌==◌, ◌≡◌, ◌≢◌, List, [], ◌∷◌, refl, ◌∙◌}
 use Rattle.std.proofs.lemmas.Bool.{eqb-true}
 use Rattle.abstract_locks.specs.Locks.{LockState, Taken, Rules, HasTakenNobody, keep_from, let_go}
-use Rattle.abstract_locks.specs.Sites.{Site, Main, Second, Deed, Begin, End, In, Out, Mark, Clear, FindNobody, MarkOwned, Bring, MarkBrought, Send, Case, after_deed}
+use Rattle.abstract_locks.specs.Sites.{Site, Main, Second, Deed, Begin, End, In, Out, Mark, Clear, FindNobody, MarkOwned, Bring, MarkBrought, Send, LeaveLine, Case, after_deed}
 use Rattle.abstract_locks.specs.Runs.{Nothing}
 use Rattle.abstract_locks.specs.Deeds.{after_all, AllNeeded, KeepLock, AreOneCase, event_of, EventNeeds, after_event}
 
@@ -35,6 +35,7 @@ module _ (r : Rules) (t : ℕ) where
   kept (Case case ∷ ds) s k = absurd k
   kept (Bring taken moved ∷ ds) s k = absurd k
   kept (Send all ∷ ds) s k = absurd k
+  kept (LeaveLine ∷ ds) s k = absurd k
 
   module _ (l : ℕ) (hand : Option Bool) where
     -- who wakes nobody has nobody in hand
@@ -56,6 +57,7 @@ module _ (r : Rules) (t : ℕ) where
     no_event hand (Case case ∷ ds) k = absurd k
     no_event hand (Bring taken moved ∷ ds) k = absurd k
     no_event hand (Send all ∷ ds) k = absurd k
+    no_event hand (LeaveLine ∷ ds) k = absurd k
 
     lets_go : (hand : Option Bool) (ds : List Deed) (s : Site) → (hand ≢ Some false → HasTakenNobody s.lock t) → KeepLock ds → (after_all r (Out ∷ ds) s t).lock ≡ after_event r (event_of l hand (Out ∷ ds)) s.lock t
     lets_go (Some false) ds s free k = kept ds (after_deed r Out s t) k
@@ -79,6 +81,7 @@ module _ (r : Rules) (t : ℕ) where
     deeds_lead (MarkBrought ∷ ds) s free one = deeds_lead ds (after_deed r MarkBrought s t) free one
     deeds_lead (Bring taken moved ∷ ds) s free one = absurd one
     deeds_lead (Send all ∷ ds) s free one = absurd one
+    deeds_lead (LeaveLine ∷ ds) s free one = kept ds (after_deed r LeaveLine s t) one
 
     -- what they need
     pub deeds_need : (ds : List Deed) (s : Site) → AllNeeded r ds s t → AreOneCase ds → EventNeeds r (event_of l hand ds) s.lock t
@@ -102,3 +105,4 @@ module _ (r : Rules) (t : ℕ) where
     deeds_need (MarkBrought ∷ ds) s needed one = deeds_need ds (after_deed r MarkBrought s t) needed.1 one
     deeds_need (Bring taken moved ∷ ds) s needed one = absurd one
     deeds_need (Send all ∷ ds) s needed one = absurd one
+    deeds_need (LeaveLine ∷ ds) s needed one = needed.0.1

@@ -181,6 +181,8 @@ pub data Deed : Type 0 where
   MarkBrought : Deed
   -- of the condition variable, which the first of its waiters leaves for the mutex, or all do
   Send : (all : Bool) → Deed
+  -- its time is up, and it leaves the list of a condition variable, whose word has no bit for it
+  LeaveLine : Deed
   -- a case of the lock
   Case : LockCase → Deed
 
@@ -321,6 +323,7 @@ after_deed r (Bring taken moved) s t = record s {
   doing = putting s.doing t (bringing taken moved (s.doing t));
 }
 after_deed r (Send all) s t = record s { lock = left_behind all s.lock }
+after_deed r LeaveLine s t = record s { lock = locks.after_case r Late s.lock t }
 after_deed r (Case case) s t = done r case s t (locks.after_case r case s.lock t)
 
 -- ---------------------------------------------------------------- what a deed needs
@@ -389,6 +392,7 @@ Needed r (Bring taken moved) s t =
     × ((s.doing t).wakes ≡ None) × ((s.doing t).retries ≡ None)
     × Apart s (taken ++ moved) × KnowsAll Mutex (taken ++ moved) × (taken ≡ [] → (s.doing t).brings ≡ true)
 Needed r (Send all) s t = (r.sort ≡ Condvar) × ((s.doing t).inside ≡ Some Main)
+Needed r LeaveLine s t = (r.sort ≡ Condvar) × Needs r Late s.lock t × CaseFits r s t Late (s.doing t)
 Needed r (Case case) s t = Needs r case s.lock t × CaseFits r s t case (s.doing t)
 
 -- ---------------------------------------------------------------- the law

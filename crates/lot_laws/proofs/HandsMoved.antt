@@ -32,7 +32,8 @@ use Rattle.lot_laws.proofs.HandsKept.{IsGiven, HandsLawful, claims_given, hand_o
 use Rattle.lot_laws.proofs.LawsKept.{after_same, lawful_goes, needed_same}
 use Rattle.lot_laws.proofs.MovesKept.{IsFollowed, goes_out_alone}
 use Rattle.lot_laws.proofs.OneStep.{steps_by}
-use Rattle.lot_laws.proofs.WakesKept.{IsWoken, wake_goes}
+use Rattle.lot_laws.proofs.WakesAt.{IsWokenAt}
+use Rattle.lot_laws.proofs.WakesKept.{wake_goes}
 
 -- who succeeds, and what it wants, are the heir
 abbrev pub thread_of : Option Successor → Option ℕ
@@ -125,7 +126,7 @@ module _ (w : State) (t l : ℕ) (steady : IsSteady w) (there : t < length w.pla
     told_hears = g.may r now t (free_of (place_at w t) l (of_single l (place_at w t) own) bare)
 
     -- out of the section, and whom it has handed its right hears of it
-    pub tells_handed : (p2 : Place) → key_of l Main < length w.sections → IsFollowed w t l steady there own r rules x same_row None Done p2 → ((u : ℕ) (b : Bool) → hand_at (place_at w u) l ≡ hand t b → IsWoken w t l b HandOffNote (place_at w u))
+    pub tells_handed : (p2 : Place) → key_of l Main < length w.sections → IsFollowed w t l steady there own r rules x same_row None Done p2 → ((u : ℕ) (b : Bool) → hand_at (place_at w u) l ≡ hand t b → IsWokenAt w t l HandOffNote (place_at w u))
         → Goes w (put (state_after_leave w t (One (key_of l Main)) wakes) t p2) l (acts t (x.deeds None Done))
     tells_handed p2 line f woken = subst (λ y. Goes w (put (state_after_leave w t (One (key_of l Main)) y) t p2) l (acts t (x.deeds None Done))) (sym g.notes) (either g.any refl)
       where

@@ -59,7 +59,7 @@ use Rattle.lot_laws.proofs.ActsKept.{lock_by}
 use Rattle.lot_acts.specs.Profiles.{Hand}
 use Rattle.lot_laws.proofs.Glue.{free_of, IsOf, doing_here, next_of, station_here, of_single, condvar_unheld}
 use Rattle.lot_laws.proofs.HandsCounted.{few_sharers, has_in_hand}
-use Rattle.lot_laws.proofs.HandsKept.{IsGiven, claims_given}
+use Rattle.lot_laws.proofs.HandsKept.{IsGiven, claims_given, given_of}
 use Rattle.lot_laws.proofs.HandsMoved.{hands_over as hands_all, looks_again, thread_of}
 use Rattle.lot_laws.proofs.MovesKept.{IsFollowed}
 use Rattle.lot_laws.proofs.RwLockKept.{beside_no_call, admits, at_now, call_told_other, call_told_value, fits_next, fits_now, followed_by, goes_row, of_no_mutex, own, same_row, word_few}
@@ -298,16 +298,10 @@ module _ (w : State) (t l : ℕ) (a : Admission) (c : RwLockCallPlace) (steady :
                 let in_it : (call_profile d q).hand ≡ hand t false = z ∙ ap (hand t) fresh in
                 let waits = (fair_sleepers_move d q fits_u.1).held t in_it in
                 let m = (handed_move d q fits_u.1).given t (unshared_then w t l) waits.want in_it (unclaimed u j d q f same_lock in_it) waits.wants in
-                record {
-                  fresh = fresh;
-                  want = waits.want;
-                  wants_it = waits.wants;
-                  was = waits.was ∙ ap (λ y. record nowhere { hand = hand t y }) (sym fresh);
-                  goes = ap station_by told_row ∙ m.goes;
-                  doing = doing_here l told (next_of l (RwLock j d q) (HandedBy t (unshared_then w t l)) same_lock) ∙ ap (λ (y : Profile). y.doing) told_row ∙ m.claims
-                      ∙ sym (ap (λ (y : Doing). record y { claims = Some (claim_handed (unshared_then w t l) waits.want) }) (doing_here l (RwLock j d q) same_lock));
-                  fits = fits_next w t l a c steady shape there lt is j d (call_next d q (HandedBy t (unshared_then w t l))) fits_u.0 (fair_calls_stand d q (HandedBy t (unshared_then w t l)) fits_u.1 (call_told_other d q (HandedBy t (unshared_then w t l)) tt));
-                }
+                given_of w t l b (unshared_then w t l) (RwLock j d q) waits.want same_lock fresh waits.wants (waits.was ∙ ap (λ y. record nowhere { hand = hand t y }) (sym fresh)) (ap station_by told_row ∙ m.goes)
+                (doing_here l told (next_of l (RwLock j d q) (HandedBy t (unshared_then w t l)) same_lock) ∙ ap (λ (y : Profile). y.doing) told_row ∙ m.claims
+                ∙ sym (ap (λ (y : Doing). record y { claims = Some (claim_handed (unshared_then w t l) waits.want) }) (doing_here l (RwLock j d q) same_lock)))
+                (fits_next w t l a c steady shape there lt is j d (call_next d q (HandedBy t (unshared_then w t l))) fits_u.0 (fair_calls_stand d q (HandedBy t (unshared_then w t l)) fits_u.1 (call_told_other d q (HandedBy t (unshared_then w t l)) tt)))
 
             either : (y : Bool) → (j == l) ≡ y → (if y then station (RwLock j d q) else nowhere).hand ≡ hand t b → IsGiven w t l b (unshared_then w t l) (RwLock j d q)
             either true same_lock z = at_lock (eqb-true j l same_lock) z

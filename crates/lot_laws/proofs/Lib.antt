@@ -18,7 +18,6 @@ pub mod ActsAt
 pub mod ActsKept
 pub mod LawsKept
 pub mod ToldAt
-pub mod ToldKept
 pub mod HandsKept
 pub mod HandRights
 pub mod WakesAt
@@ -26,6 +25,7 @@ pub mod WakesKept
 pub mod TwoLocks
 pub mod CondvarSites
 pub mod CondvarHears
+pub mod CondvarParts
 pub mod TakesAt
 pub mod TakesKept
 pub mod PicksKept

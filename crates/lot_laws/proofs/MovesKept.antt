@@ -45,7 +45,8 @@ use Rattle.lot_laws.proofs.TakesKept.{IsTakenFrom, member, member_times, at_most
 use Rattle.lot_laws.proofs.PicksKept.{AllUnder, under_of, picked_counts, left_tied, picked_goes, aside_goes}
 use Rattle.lot_laws.proofs.AnyPicked.{any_in, any_held, held_any}
 use Rattle.lot_laws.proofs.StandsKept.{in_main}
-use Rattle.lot_laws.proofs.WakesKept.{IsWoken, leaving_by, wake_goes}
+use Rattle.lot_laws.proofs.WakesAt.{IsWokenAt}
+use Rattle.lot_laws.proofs.WakesKept.{woken_of, leaving_by, wake_goes}
 
 -- ---------------------------------------------------------------- deeds of a step on the word
 
@@ -184,7 +185,7 @@ module _ (w : State) (t l : ℕ) (steady : IsSteady w) (there : t < length w.pla
 
     -- or whom it has is woken
     goes_out_waking : (p2 : Place) → key_of l m < length w.sections → (g : AreLeaving (x.deeds None Done)) → (station_of x).inside ≡ Some m → (station_of x).hand ≡ None → station_then x Done ≡ record (station_of x) { inside = None; carries = None } → IsFollowed None Done p2
-        → ((u : ℕ) (b : Bool) → hand_at (place_at w u) l ≡ hand t b → IsWoken w t l b Normal (place_at w u))
+        → ((u : ℕ) (b : Bool) → hand_at (place_at w u) l ≡ hand t b → IsWokenAt w t l Normal (place_at w u))
         → Goes w (put (state_after_telling (state_with_sections w (One (key_of l m)) None) t (Woken Normal)) t p2) l (acts t (x.deeds None Done))
     goes_out_waking p2 line leaving within free out f woken = wake_goes w t l steady own there p2 f.of f.fits Normal woken (ap (λ (y : Station). y.hand) station_is ∙ free)
         (ap (λ (y : Station). y.carries) (there_is None Done p2 f ∙ out)) (ap (λ (y : Station). y.hand) (there_is None Done p2 f ∙ out) ∙ free)
@@ -198,7 +199,7 @@ module _ (w : State) (t l : ℕ) (steady : IsSteady w) (there : t < length w.pla
 
     -- by whether it has anybody
     pub goes_out : (wakes : Wakes) (p2 : Place) → key_of l m < length w.sections → GoesOut x hears m wakes → (hears r here t None Done → IsFollowed None Done p2)
-        → ((u : ℕ) (b : Bool) → hand_at (place_at w u) l ≡ hand t b → IsWoken w t l b Normal (place_at w u))
+        → ((u : ℕ) (b : Bool) → hand_at (place_at w u) l ≡ hand t b → IsWokenAt w t l Normal (place_at w u))
         → Goes w (put (state_after_leave w t (One (key_of l m)) wakes) t p2) l (acts t (x.deeds None Done))
     goes_out wakes p2 line g followed woken = subst (λ y. Goes w (put (state_after_leave w t (One (key_of l m)) y) t p2) l (acts t (x.deeds None Done))) (sym g.notes) (either g.any g.carries)
       where
@@ -306,10 +307,10 @@ module _ (w : State) (t l : ℕ) (steady : IsSteady w) (there : t < length w.pla
 
   module _ (asleep : (u : ℕ) → SleepsIfCalls u) where
     -- whom t has in hand is woken, and tries again, where t has handed nothing over
-    pub wakes_one : (any : Bool) → (station_of x).carries ≡ in_hand any false → (u : ℕ) (b : Bool) → hand_at (place_at w u) l ≡ hand t b → IsWoken w t l b Normal (place_at w u)
+    pub wakes_one : (any : Bool) → (station_of x).carries ≡ in_hand any false → (u : ℕ) (b : Bool) → hand_at (place_at w u) l ≡ hand t b → IsWokenAt w t l Normal (place_at w u)
     wakes_one any carries u b held = let k = by_calls (place_at w u) (asleep u).apart (λ (y : Station). y.hand) (Of t b) refl held in by_sleeper (called (place_at w u) ((asleep u).sleeper k.0).single k.0) k.0 k.1 ((asleep u).sleeper k.0)
       where
-        by_sleeper : IsOf l (place_at w u) → calls (place_at w u) l ≡ true → (station (place_at w u)).hand ≡ hand t b → IsSleeper u → IsWoken w t l b Normal (place_at w u)
+        by_sleeper : IsOf l (place_at w u) → calls (place_at w u) l ≡ true → (station (place_at w u)).hand ≡ hand t b → IsSleeper u → IsWokenAt w t l Normal (place_at w u)
         by_sleeper of_u calls_l h z = by_held (fresh, z.waits.held t (sym (ap (λ (y : Profile). y.hand) z.row) ∙ h ∙ ap (hand t) fresh))
           where
             fresh : b ≡ false
@@ -328,17 +329,12 @@ module _ (w : State) (t l : ℕ) (steady : IsSteady w) (there : t < length w.pla
             of_2 : IsOf l p2
             of_2 = next_of l (place_at w u) (Woken Normal) of_u
 
-            by_held : (b ≡ false) × IsHeld z.move t → IsWoken w t l b Normal (place_at w u)
-            by_held k = record {
-              lets = record {
-                taken = free_of p2 l (of_single l p2 of_2) (ap (λ (y : Station). y.hand) free) ∙ sym (ap (keep_from t) taken_now ∙ ap (λ c. if c then None else Some (record { by = t; want = k.1.want })) (same t));
-                doing = doing_here l p2 of_2 ∙ ap (λ (y : Profile). y.doing) z.woken ∙ k.1.doing ∙ sym (ap (λ (d : Doing). record d { retries = Some k.1.want }) (doing_here l (place_at w u) of_u ∙ ap (λ (y : Profile). y.doing) z.row))
-                    ∙ sym (ap (λ o. wakened t o (doing_on (place_at w u) l)) taken_now ∙ ap (λ c. if c then record (doing_on (place_at w u) l) { retries = Some k.1.want } else doing_on (place_at w u) l) (same t));
-              };
-              was = ap station_by z.row ∙ k.1.was ∙ ap (λ c. record nowhere { hand = hand t c }) (sym k.0);
-              free = free;
-              fits = z.woken_fits;
-            }
+            by_held : (b ≡ false) × IsHeld z.move t → IsWokenAt w t l Normal (place_at w u)
+            by_held k = woken_of w t l Normal (place_at w u) b of_u (record {
+              taken = free_of p2 l (of_single l p2 of_2) (ap (λ (y : Station). y.hand) free) ∙ sym (ap (keep_from t) taken_now ∙ ap (λ c. if c then None else Some (record { by = t; want = k.1.want })) (same t));
+              doing = doing_here l p2 of_2 ∙ ap (λ (y : Profile). y.doing) z.woken ∙ k.1.doing ∙ sym (ap (λ (d : Doing). record d { retries = Some k.1.want }) (doing_here l (place_at w u) of_u ∙ ap (λ (y : Profile). y.doing) z.row))
+                  ∙ sym (ap (λ o. wakened t o (doing_on (place_at w u) l)) taken_now ∙ ap (λ c. if c then record (doing_on (place_at w u) l) { retries = Some k.1.want } else doing_on (place_at w u) l) (same t));
+            }) (ap station_by z.row ∙ k.1.was ∙ ap (λ c. record nowhere { hand = hand t c }) (sym k.0)) free z.woken_fits
               where
                 free : station p2 ≡ nowhere
                 free = ap station_by z.woken ∙ k.1.woken

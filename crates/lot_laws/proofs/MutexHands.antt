@@ -64,7 +64,7 @@ module _ (w : State) (t l : ℕ) (steady : IsSteady w) (there : t < length w.pla
   taken_state = put (state_after_reply (record w { queues = queues_without_first w.queues (2 * l) }) x.thread (TakenBy t)) t p2
 
   first_sleeps : IsTakenAt w t l Main (place_at w x.thread)
-  first_sleeps = let k = sleeps.taken t in record { stands = stood; unheld = sleeps.free; goes = k.station; alike = k.others; doing = k.doing; fits = k.fits w (steady.stands.calls x.thread) }
+  first_sleeps = let k = sleeps.taken t in record { stands = stood; unheld = sleeps.free; goes = k.station; alike = k.others; doing = k.doing; fits = k.fits tt w (steady.stands.calls x.thread) }
 
   splits : SplitsAt w t l Main (x ∷ []) rest
   splits = record {

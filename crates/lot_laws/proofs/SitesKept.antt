@@ -1,6 +1,6 @@
 -- Each act of a thread keeps every lock of the world a site, whose word says so.
 use Rattle.std.proofs.Math.Bool.{or-false}
-use Rattle.std.proofs.Common.{ℕ, Bool, true, false, Option, Some, None, if◌then◌else◌, ◌==◌, ◌&&◌, ◌||◌, ◌≡◌, ◌≢◌, ◌+◌, ◌*◌, ◌≤◌, ◌<◌, List, [], ◌∷◌, ◌++◌, length, replicate, get_or, set, map, drop, inl, inr, refl, sym, ◌∙◌, ap, subst, arith, length-set, get_or-set_same, get_or-set_other}
+use Rattle.std.proofs.Common.{ℕ, Bool, true, false, Option, Some, None, if◌then◌else◌, ◌==◌, ◌&&◌, ◌||◌, ◌≡◌, ◌≢◌, ◌+◌, ◌*◌, ◌≤◌, ◌<◌, ◌⊎◌, List, [], ◌∷◌, ◌++◌, length, replicate, get_or, set, map, drop, inl, inr, refl, sym, ◌∙◌, ap, subst, arith, length-set, get_or-set_same, get_or-set_other}
 use Rattle.lot_base.specs.declared.keys.Keys.TheVariants.{One}
 use Rattle.lot_base.specs.declared.notes.Note.{Note}
 use Rattle.lot_base.specs.declared.notes.Note.TheVariants as note
@@ -25,6 +25,8 @@ use Rattle.lot_mutex.specs.MutexSteps.{mutex_owners, hand_off_word, mutex_next}
 use Rattle.lot_acts.specs.Owners.{with_exclusive}
 use Rattle.lot_steps.specs.Steps.{next_place}
 use Rattle.abstract_locks.specs.Locks.{TakeFirst, putting, IsLockState}
+use Rattle.lot_base.specs.declared.wants.Want.TheVariants.{Exclusive}
+use Rattle.abstract_locks.specs.Sites.{Has}
 use Rattle.abstract_locks.specs.Sites.{Doing, Site, IsSite, Deed, Main, Second, In, Out, Case, idle, leaves, wakened, found, is_empty, has_readers}
 use Rattle.abstract_locks.specs.Codes.{code, fills}
 pub use Rattle.lot_laws.proofs.OneStep.{acts_keep}
@@ -217,11 +219,11 @@ module _ (w : State) (t l : ℕ) (at : MutexPlace) (steady : IsSteady w) (is : p
   -- whom it had taken tries again, and whom it handed the lock has it
   pub woken_taken : (u : ℕ) → hand_at (place_at w u) l ≡ hand t false → IsWokenAt w t l note.Normal (place_at w u)
   woken_taken u held = let k : IsHeldThere l t (place_at w u) = held_there (place_at w u) t l (mutexes_at w t l at steady is u) held in
-      record { lets = tries l t (place_at w u) k; goes = k.woken.station; alike = k.woken.others; fits = k.woken.fits w (steady.stands.calls u) }
+      record { lets = tries l t (place_at w u) k; goes = k.woken.station; alike = k.woken.others; fits = k.woken.fits tt w (steady.stands.calls u) }
 
   pub woken_handed : (u : ℕ) → hand_at (place_at w u) l ≡ hand t true → IsWokenAt w t l note.HandOff (place_at w u)
   woken_handed u held = let k : WasGivenThere l t (place_at w u) = given_there (place_at w u) t l (mutexes_at w t l at steady is u) held in
-      record { lets = accepts l t t (place_at w u) k; goes = k.told.station; alike = k.told.others; fits = k.told.fits w (steady.stands.calls u) }
+      record { lets = accepts l t t (place_at w u) k; goes = k.told.station; alike = k.told.others; fits = k.told.fits tt w (steady.stands.calls u) }
 
   -- who has taken somebody has handed nobody the lock, and the other way round
   not_both : (b c : Bool) → (mutex_station at).carries ≡ Some b → (u : ℕ) → hand_at (place_at w u) l ≡ hand t c → b ≡ c
@@ -310,10 +312,19 @@ module _ (w : State) (t l : ℕ) (steady : IsSteady w) (there : t < length w.pla
     fresh : (x : ℕ) (b : Bool) → hand_at (place_at w x) l ≡ hand t b → b ≡ false
     fresh x b h = let a : carried_at (place_at w t) l ≡ Some b = steady.stands.hands.taken t x l b h in let c : carried_at (place_at w t) l ≡ Some false = ap (λ (y : Station). y.carries) before_t in let e : Some b ≡ Some false = sym a ∙ c in cc
 
+    -- only its owner claims the mutex
+    unclaimed : (x : ℕ) → x ≢ t → (((doing_on (place_at w x) l).claims ≡ None) ⊎ ((doing_on (place_at w x) l).claims ≡ Some (Has Exclusive))) → (doing_on (place_at w x) l).claims ≡ None
+    unclaimed x ne (inl none) = none
+    unclaimed x ne (inr claims) = absurd (
+        let site = site_l w t l at steady is there in
+        let its : (owners_at w l).exclusive ≡ Some x = site.held x (Has Exclusive) claims in
+        let own : (owners_at w l).exclusive ≡ Some t = site.held t (Has Exclusive) (ap (λ (d : Doing). d.claims) (own_doing l (place_at w t) at is)) in
+        ne (let both : Some x ≡ Some t = sym its ∙ own in cc))
+
     all_told : (x : ℕ) (b : Bool) → hand_at (place_at w x) l ≡ hand t b → IsToldAt w t l b (hand t true) (hand_over_told w t l) (place_at w x)
     all_told x b h =
         let k : IsHeldThere l t (place_at w x) = held_there (place_at w x) t l (mutexes_at w t l at steady is x) (h ∙ ap (hand t) (fresh x b h)) in
-        let z = k.handed (unshared_then w t l) in record { goes = z.station; alike = z.others; fits = z.fits w (steady.stands.calls x) }
+        let z = k.handed (unshared_then w t l) in record { goes = z.station; alike = z.others; fits = z.fits (unclaimed x (not_own w t l at steady is there refl x b h) k.claims) w (steady.stands.calls x) }
 
     abbrev behind : ℕ → Place
     behind = told_at.places_then w t l steady p2 beside fits_2 holds (hand_over_told w t l) (hand t true) all_told

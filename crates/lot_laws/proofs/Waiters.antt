@@ -14,7 +14,8 @@ use Rattle.lot_mutex.specs.declared.lock.Entry.TheVariants as entries
 use Rattle.lot_mutex.specs.declared.lock.LockAt.{LockAt}
 use Rattle.lot_mutex.specs.declared.lock.LockAt.TheVariants as lock
 use Rattle.lot_mutex.specs.declared.places.MutexPlace.{MutexPlace}
-use Rattle.lot_mutex.specs.declared.places.MutexPlace.TheVariants.{Lock}
+use Rattle.lot_mutex.specs.declared.places.MutexPlace.TheVariants.{Lock, Unlock}
+use Rattle.lot_mutex.specs.declared.unlock.UnlockAt.TheVariants as unlock
 use Rattle.lot_condvar.specs.declared.notify.NotifyAt.{NotifyAt}
 use Rattle.lot_condvar.specs.declared.notify.NotifyAt.TheVariants as notify
 use Rattle.lot_condvar.specs.declared.places.CondvarPlace.{CondvarPlace}
@@ -24,12 +25,13 @@ use Rattle.lot_condvar.specs.declared.wait.WaitAt.{WaitAt}
 use Rattle.lot_condvar.specs.declared.wait.WaitAt.TheVariants as wait
 use Rattle.lot_condvar.specs.CondvarSteps.{mutex_beside}
 use Rattle.lot_condvar.specs.CondvarProfiles.{condvar_profile, mutex_side, notify_row}
-use Rattle.lot_condvar.specs.CondvarCalls.{IsReached, IsLockOf, IsRelock}
+use Rattle.lot_condvar.specs.CondvarCalls.{IsReached, IsRelease, IsLockOf, IsRelock}
 use Rattle.abstract_locks.specs.Locks.{Rules, Taken}
 use Rattle.abstract_locks.specs.Locks as locks
-use Rattle.abstract_locks.specs.Sites.{Doing, Line, Main, Has, has_readers}
+use Rattle.abstract_locks.specs.Sites.{Doing, Line, Main, Has, has_readers, idle}
 use Rattle.lot_machine.specs.Machine.{State, place_at}
 use Rattle.lot_laws.specs.Refinement.{taken_at}
+use Rattle.lot_mutex.specs.MutexProfiles.{mutex_profile}
 use Rattle.lot_laws.specs.MutexDeeds.{mutex_row, mutex_station}
 use Rattle.lot_laws.specs.Stations.{Station, Hand, hand, nowhere, station, station_at, station_by, doing_on}
 use Rattle.lot_laws.specs.SitesOf.{FitsItsLock, IsSteady, Hands, hand_at, rules_in}
@@ -37,30 +39,31 @@ use Rattle.lot_laws.proofs.StandsKept.{Alike, AlikeBeside}
 use Rattle.lot_laws.proofs.ToldAt.{HoldsHere}
 use Rattle.lot_laws.proofs.Glue.{aparts, held_tells, same, differ, mutex, taken_out, IsApart, CarriesAt, WantsAlone, in_hand_where, in_hand_here}
 
--- told something by another thread, it goes to a place: what the lock l sees then
-pub record IsTold (l : ℕ) (p q : Place) (goes : Station → Station) (does : Doing → Doing) (held : Option Taken) : Type 0 where
+-- told something by another thread, it goes to a place: what the lock l sees then, and where it may stand there
+pub record IsTold (l : ℕ) (p q : Place) (may : Type 0) (goes : Station → Station) (does : Doing → Doing) (held : Option Taken) : Type 0 where
   pub station : station_at q l ≡ goes (station_at p l)
   pub doing : doing_on q l ≡ does (doing_on p l)
   pub taken : taken_at q l ≡ held
   pub others : AlikeBeside l p q
-  pub fits : (w : State) → FitsItsLock w p → FitsItsLock w q
+  pub fits : may → (w : State) → FitsItsLock w p → FitsItsLock w q
 
 -- it stands in the main line, asleep or releasing the mutex still, and may be taken
 pub record SleepsAt (l : ℕ) (p : Place) : Type 0 where
   pub free : hand_at p l ≡ None
   pub untaken : taken_at p l ≡ None
-  pub taken : (t : ℕ) → IsTold l p (next_place p (TakenBy t)) (λ s. record s { stands = None; waits = None; hand = hand t false }) (λ d. d) (Some (record { by = t; want = Exclusive }))
+  pub taken : (t : ℕ) → IsTold l p (next_place p (TakenBy t)) (Unit {0}) (λ s. record s { stands = None; waits = None; hand = hand t false }) (λ d. d) (Some (record { by = t; want = Exclusive }))
 
--- taken by t, it is handed the mutex or woken
+-- taken by t, it is handed the mutex or woken: handed it only once it has released it
 pub record IsHeldThere (l t : ℕ) (p : Place) : Type 0 where
   pub was : taken_at p l ≡ Some (record { by = t; want = Exclusive })
-  pub handed : (alone : Bool) → IsTold l p (next_place p (HandedBy t alone)) (λ s. record s { hand = hand t true }) (λ d. record d { claims = Some (Has Exclusive) }) None
-  pub woken : IsTold l p (next_place p (Woken note.Normal)) (λ s. record s { hand = None }) (λ d. record d { retries = Some Exclusive }) None
+  pub claims : ((doing_on p l).claims ≡ None) ⊎ ((doing_on p l).claims ≡ Some (Has Exclusive))
+  pub handed : (alone : Bool) → IsTold l p (next_place p (HandedBy t alone)) ((doing_on p l).claims ≡ None) (λ s. record s { hand = hand t true }) (λ d. record d { claims = Some (Has Exclusive) }) None
+  pub woken : IsTold l p (next_place p (Woken note.Normal)) (Unit {0}) (λ s. record s { hand = None }) (λ d. record d { retries = Some Exclusive }) None
 
 -- handed the mutex by t, it is told so
 pub record WasGivenThere (l t : ℕ) (p : Place) : Type 0 where
   pub was : taken_at p l ≡ None
-  pub told : IsTold l p (next_place p (Woken note.HandOff)) (λ s. record s { hand = None }) (λ d. d) None
+  pub told : IsTold l p (next_place p (Woken note.HandOff)) (Unit {0}) (λ s. record s { hand = None }) (λ d. d) None
 
 -- who stands at the mutex l calls it, or waits with it
 abbrev pub CallsMutex : ℕ → Place → Type 0
@@ -84,9 +87,9 @@ calls_mutex_at w l Idle fits rules = tt
 
 -- ---------------------------------------------------------------- in a call of one lock
 
-module _ (l : ℕ) (at at2 : MutexPlace) (goes : Station → Station) (does : Doing → Doing) (held : Option Taken) where
+module _ (l : ℕ) (at at2 : MutexPlace) (may : Type 0) (goes : Station → Station) (does : Doing → Doing) (held : Option Taken) where
   -- by its rows
-  mutex_told : mutex_station at2 ≡ goes (mutex_station at) → (mutex_row at2).doing ≡ does (mutex_row at).doing → taken_from (mutex_row at2).hand (mutex_row at2).wants true ≡ held → IsTold l (Mutex l at) (Mutex l at2) goes does held
+  mutex_told : mutex_station at2 ≡ goes (mutex_station at) → (mutex_row at2).doing ≡ does (mutex_row at).doing → taken_from (mutex_row at2).hand (mutex_row at2).wants true ≡ held → IsTold l (Mutex l at) (Mutex l at2) may goes does held
   mutex_told s d h = record {
     station = rw (same l) s;
     doing = rw (same l) d;
@@ -96,7 +99,7 @@ module _ (l : ℕ) (at at2 : MutexPlace) (goes : Station → Station) (does : Do
       doing = rw other refl;
       taken = rw other (taken_out (mutex_row at2).hand (mutex_row at2).wants ∙ sym (taken_out (mutex_row at).hand (mutex_row at).wants));
     };
-    fits = λ w h. h;
+    fits = λ m w h. h;
   }
 
 -- ---------------------------------------------------------------- beside a condition variable
@@ -128,14 +131,14 @@ module _ (k l : ℕ) (apart : k ≢ l) where
         either false e = record { station = rw (e, of, of2, elsewhere) refl; doing = rw (e, of, of2, elsewhere) refl; taken = rw (e, of, of2, elsewhere) refl }
 
     -- by its rows
-    condvar_told : (goes : Station → Station) (does : Doing → Doing) (held : Option Taken) → station_by (mutex_side p2) ≡ goes (station_by (mutex_side p)) → (mutex_side p2).doing ≡ does (mutex_side p).doing
-        → taken_from (mutex_side p2).hand (mutex_side p2).wants true ≡ held → (IsReached p → IsReached p2) → IsTold l (Condvar k p) (Condvar k p2) goes does held
-    condvar_told goes does held s d h reached = record {
+    condvar_told : (may : Type 0) (goes : Station → Station) (does : Doing → Doing) (held : Option Taken) → station_by (mutex_side p2) ≡ goes (station_by (mutex_side p)) → (mutex_side p2).doing ≡ does (mutex_side p).doing
+        → taken_from (mutex_side p2).hand (mutex_side p2).wants true ≡ held → (may → IsReached p → IsReached p2) → IsTold l (Condvar k p) (Condvar k p2) may goes does held
+    condvar_told may goes does held s d h reached = record {
       station = station_beside p2 of2 ∙ s ∙ ap goes (sym (station_beside p of));
       doing = doing_beside p2 of2 ∙ d ∙ ap does (sym (doing_beside p of));
       taken = taken_beside p2 of2 ∙ h;
       others = condvar_same;
-      fits = λ w fits. record { sort = fits.sort; reached = reached fits.reached; mutex = λ m is. fits.mutex m (of ∙ sym of2 ∙ is); begun = fits.begun };
+      fits = λ m w fits. record { sort = fits.sort; reached = reached m fits.reached; mutex = λ m is. fits.mutex m (of ∙ sym of2 ∙ is); begun = fits.begun };
     }
 
 -- a wait locks its mutex again at its other places too
@@ -152,20 +155,32 @@ module _ (k l : ℕ) (apart : k ≢ l) (m : ℕ) (timed : Bool) (of : mutex_besi
   release_sleeps at = record {
     free = ap (λ (s : Station). s.hand) (station_beside k l apart (Wait m timed (wait.Release stands.Moved at)) of);
     untaken = taken_beside k l apart (Wait m timed (wait.Release stands.Moved at)) of;
-    taken = λ t. condvar_told k l apart (Wait m timed (wait.Release stands.Moved at)) (Wait m timed (wait.Release (stands.InHand t) at)) of of refl refl _ _ _ refl refl refl (λ h. h);
+    taken = λ t. condvar_told k l apart (Wait m timed (wait.Release stands.Moved at)) (Wait m timed (wait.Release (stands.InHand t) at)) of of refl refl _ _ _ _ refl refl refl (λ y h. h);
   }
 
-  release_held : (t : ℕ) (at : MutexPlace) → IsHeldThere l t (wait_at (wait.Release (stands.InHand t) at))
-  release_held t at = record {
+  release_claims : (at : MutexPlace) → IsRelease at → ((mutex_profile at).doing.claims ≡ None) ⊎ ((mutex_profile at).doing.claims ≡ Some (Has Exclusive))
+  release_claims (Unlock unlock.Subtract) h = inr refl
+  release_claims (Unlock at) h = inl refl
+  release_claims at h = absurd h
+
+  release_held : (t : ℕ) (at : MutexPlace) → IsRelease at → IsHeldThere l t (wait_at (wait.Release (stands.InHand t) at))
+  release_held t at release = record {
     was = taken_beside k l apart (Wait m timed (wait.Release (stands.InHand t) at)) of;
-    handed = λ alone. condvar_told k l apart (Wait m timed (wait.Release (stands.InHand t) at)) (Wait m timed (wait.Release (stands.Handed t) at)) of of refl refl _ _ _ refl refl refl (λ h. h);
-    woken = condvar_told k l apart (Wait m timed (wait.Release (stands.InHand t) at)) (Wait m timed (wait.Release (stands.Noted note.Normal) at)) of of refl refl _ _ _ refl refl refl (λ h. h);
+    claims = elim (release_claims at release) [
+      | inl none ↦ inl (own_claims ∙ none)
+      | inr owns ↦ inr (own_claims ∙ owns)
+    ];
+    handed = λ alone. condvar_told k l apart (Wait m timed (wait.Release (stands.InHand t) at)) (Wait m timed (wait.Release (stands.Handed t) at)) of of refl refl _ _ _ _ refl refl refl (λ y h. (h.0, λ f. sym own_claims ∙ y));
+    woken = condvar_told k l apart (Wait m timed (wait.Release (stands.InHand t) at)) (Wait m timed (wait.Release (stands.Noted note.Normal) at)) of of refl refl _ _ _ _ refl refl refl (λ y h. (h.0, λ f. absurd cc));
   }
+    where
+      own_claims : (doing_on (wait_at (wait.Release (stands.InHand t) at)) l).claims ≡ (mutex_profile at).doing.claims
+      own_claims = ap (λ (d : Doing). d.claims) (doing_beside k l apart (Wait m timed (wait.Release (stands.InHand t) at)) of)
 
   release_given : (t : ℕ) (at : MutexPlace) → WasGivenThere l t (wait_at (wait.Release (stands.Handed t) at))
   release_given t at = record {
     was = taken_beside k l apart (Wait m timed (wait.Release (stands.Handed t) at)) of;
-    told = condvar_told k l apart (Wait m timed (wait.Release (stands.Handed t) at)) (Wait m timed (wait.Release (stands.Noted note.HandOff) at)) of of refl refl _ _ _ refl refl refl (λ h. h);
+    told = condvar_told k l apart (Wait m timed (wait.Release (stands.Handed t) at)) (Wait m timed (wait.Release (stands.Noted note.HandOff) at)) of of refl refl _ _ _ _ refl refl refl (λ y h. h);
   }
 
   -- behind it
@@ -173,20 +188,21 @@ module _ (k l : ℕ) (apart : k ≢ l) (m : ℕ) (timed : Bool) (of : mutex_besi
   asleep_sleeps = record {
     free = ap (λ (s : Station). s.hand) (station_beside k l apart (Wait m timed (wait.Asleep stands.Moved)) of);
     untaken = taken_beside k l apart (Wait m timed (wait.Asleep stands.Moved)) of;
-    taken = λ t. condvar_told k l apart (Wait m timed (wait.Asleep stands.Moved)) (Wait m timed (wait.Asleep (stands.InHand t))) of of refl refl _ _ _ refl refl refl (λ h. h);
+    taken = λ t. condvar_told k l apart (Wait m timed (wait.Asleep stands.Moved)) (Wait m timed (wait.Asleep (stands.InHand t))) of of refl refl _ _ _ _ refl refl refl (λ y h. h);
   }
 
   asleep_held : (t : ℕ) → IsHeldThere l t (wait_at (wait.Asleep (stands.InHand t)))
   asleep_held t = record {
     was = taken_beside k l apart (Wait m timed (wait.Asleep (stands.InHand t))) of;
-    handed = λ alone. condvar_told k l apart (Wait m timed (wait.Asleep (stands.InHand t))) (Wait m timed (wait.Asleep (stands.Handed t))) of of refl refl _ _ _ refl refl refl (λ h. h);
-    woken = condvar_told k l apart (Wait m timed (wait.Asleep (stands.InHand t))) (Wait m timed (wait.Lock false (Lock entries.Lock true lock.First))) of of refl refl _ _ _ refl refl refl (λ h. (λ f. absurd cc, tt));
+    claims = inl (ap (λ (d : Doing). d.claims) (doing_beside k l apart (Wait m timed (wait.Asleep (stands.InHand t))) of));
+    handed = λ alone. condvar_told k l apart (Wait m timed (wait.Asleep (stands.InHand t))) (Wait m timed (wait.Asleep (stands.Handed t))) of of refl refl _ _ _ _ refl refl refl (λ y h. h);
+    woken = condvar_told k l apart (Wait m timed (wait.Asleep (stands.InHand t))) (Wait m timed (wait.Lock false (Lock entries.Lock true lock.First))) of of refl refl _ _ _ _ refl refl refl (λ y h. (λ f. absurd cc, tt));
   }
 
   asleep_given : (t : ℕ) → WasGivenThere l t (wait_at (wait.Asleep (stands.Handed t)))
   asleep_given t = record {
     was = taken_beside k l apart (Wait m timed (wait.Asleep (stands.Handed t))) of;
-    told = condvar_told k l apart (Wait m timed (wait.Asleep (stands.Handed t))) (Wait m timed (wait.Lock false (Lock entries.Lock false lock.Accept))) of of refl refl _ _ _ refl refl refl (λ h. (λ f. absurd cc, tt));
+    told = condvar_told k l apart (Wait m timed (wait.Asleep (stands.Handed t))) (Wait m timed (wait.Lock false (Lock entries.Lock false lock.Accept))) of of refl refl _ _ _ _ refl refl refl (λ y h. (λ f. absurd cc, tt));
   }
 
   -- while it locks its mutex again
@@ -198,20 +214,21 @@ module _ (k l : ℕ) (apart : k ≢ l) (m : ℕ) (timed : Bool) (of : mutex_besi
     lock_sleeps = record {
       free = ap (λ (s : Station). s.hand) (station_beside k l apart (Wait m timed (lock_at r lock.Asleep)) of);
       untaken = taken_beside k l apart (Wait m timed (lock_at r lock.Asleep)) of;
-      taken = λ t. condvar_told k l apart (Wait m timed (lock_at r lock.Asleep)) (Wait m timed (lock_at r (lock.Taken t))) of of refl refl _ _ _ refl refl refl (λ h. (h.0, relocks e r r lock.Asleep (lock.Taken t) tt h.1));
+      taken = λ t. condvar_told k l apart (Wait m timed (lock_at r lock.Asleep)) (Wait m timed (lock_at r (lock.Taken t))) of of refl refl _ _ _ _ refl refl refl (λ y h. (h.0, relocks e r r lock.Asleep (lock.Taken t) tt h.1));
     }
 
     lock_held : (t : ℕ) → IsHeldThere l t (wait_at (lock_at r (lock.Taken t)))
     lock_held t = record {
       was = taken_beside k l apart (Wait m timed (lock_at r (lock.Taken t))) of;
-      handed = λ alone. condvar_told k l apart (Wait m timed (lock_at r (lock.Taken t))) (Wait m timed (lock_at false (lock.Handed t))) of of refl refl _ _ _ refl refl refl (λ h. (h.0, relocks e r false (lock.Taken t) (lock.Handed t) tt h.1));
-      woken = condvar_told k l apart (Wait m timed (lock_at r (lock.Taken t))) (Wait m timed (lock_at true lock.Load)) of of refl refl _ _ _ refl refl refl (λ h. (h.0, relocks e r true (lock.Taken t) lock.Load tt h.1));
+      claims = inl (ap (λ (d : Doing). d.claims) (doing_beside k l apart (Wait m timed (lock_at r (lock.Taken t))) of));
+      handed = λ alone. condvar_told k l apart (Wait m timed (lock_at r (lock.Taken t))) (Wait m timed (lock_at false (lock.Handed t))) of of refl refl _ _ _ _ refl refl refl (λ y h. (h.0, relocks e r false (lock.Taken t) (lock.Handed t) tt h.1));
+      woken = condvar_told k l apart (Wait m timed (lock_at r (lock.Taken t))) (Wait m timed (lock_at true lock.Load)) of of refl refl _ _ _ _ refl refl refl (λ y h. (h.0, relocks e r true (lock.Taken t) lock.Load tt h.1));
     }
 
     lock_given : (t : ℕ) → WasGivenThere l t (wait_at (lock_at r (lock.Handed t)))
     lock_given t = record {
       was = taken_beside k l apart (Wait m timed (lock_at r (lock.Handed t))) of;
-      told = condvar_told k l apart (Wait m timed (lock_at r (lock.Handed t))) (Wait m timed (lock_at r lock.Accept)) of of refl refl _ _ _ refl refl refl (λ h. (h.0, relocks e r r (lock.Handed t) lock.Accept tt h.1));
+      told = condvar_told k l apart (Wait m timed (lock_at r (lock.Handed t))) (Wait m timed (lock_at r lock.Accept)) of of refl refl _ _ _ _ refl refl refl (λ y h. (h.0, relocks e r r (lock.Handed t) lock.Accept tt h.1));
     }
 
 -- ---------------------------------------------------------------- wherever it stands
@@ -258,13 +275,13 @@ module _ (k l : ℕ) (apart : k ≢ l) (m : ℕ) (timed : Bool) (of : mutex_besi
   wait_stands (wait.Lock late (Lock e r lock.Remove)) h = inl refl
   wait_stands at h = absurd cc
 
-  wait_held : (t : ℕ) (at : WaitAt) → (side at).hand ≡ hand t false → IsHeldThere l t (Condvar k (Wait m timed at))
-  wait_held t (wait.Release (stands.InHand by) at) h = let who : by ≡ t = cc in rw who (release_held k l apart m timed of t at)
-  wait_held t (wait.Release s at) h = absurd cc
-  wait_held t (wait.Asleep (stands.InHand by)) h = let who : by ≡ t = cc in rw who (asleep_held k l apart m timed of t)
-  wait_held t (wait.Asleep s) h = absurd cc
-  wait_held t (wait.Lock late (Lock e r (lock.Taken by))) h = let who : by ≡ t = cc in rw who (lock_held k l apart m timed of late e r t)
-  wait_held t at h = absurd cc
+  wait_held : (t : ℕ) (at : WaitAt) → IsReached (Wait m timed at) → (side at).hand ≡ hand t false → IsHeldThere l t (Condvar k (Wait m timed at))
+  wait_held t (wait.Release (stands.InHand by) at) reached h = let who : by ≡ t = cc in rw who (release_held k l apart m timed of t at reached.0)
+  wait_held t (wait.Release s at) reached h = absurd cc
+  wait_held t (wait.Asleep (stands.InHand by)) reached h = let who : by ≡ t = cc in rw who (asleep_held k l apart m timed of t)
+  wait_held t (wait.Asleep s) reached h = absurd cc
+  wait_held t (wait.Lock late (Lock e r (lock.Taken by))) reached h = let who : by ≡ t = cc in rw who (lock_held k l apart m timed of late e r t)
+  wait_held t at reached h = absurd cc
 
   wait_given : (t : ℕ) (at : WaitAt) → (side at).hand ≡ hand t true → WasGivenThere l t (Condvar k (Wait m timed at))
   wait_given t (wait.Release (stands.Handed by) at) h = let who : by ≡ t = cc in rw who (release_given k l apart m timed of t at)
@@ -281,7 +298,7 @@ module _ (l : ℕ) where
   mutex_stands (Lock e r lock.Asleep) h = inr (record {
     free = ap (λ b. (if b then mutex_station (Lock e r lock.Asleep) else nowhere).hand) (same l);
     untaken = refl;
-    taken = λ t. mutex_told l (Lock e r lock.Asleep) (Lock e r (lock.Taken t)) _ _ _ refl refl refl;
+    taken = λ t. mutex_told l (Lock e r lock.Asleep) (Lock e r (lock.Taken t)) _ _ _ _ refl refl refl;
   })
   mutex_stands (Lock e r lock.Remove) h = inl refl
   mutex_stands at h = absurd cc
@@ -289,22 +306,23 @@ module _ (l : ℕ) where
   mutex_held : (t : ℕ) (at : MutexPlace) → (mutex_station at).hand ≡ hand t false → IsHeldThere l t (Mutex l at)
   mutex_held t (Lock e r (lock.Taken by)) h = let who : by ≡ t = cc in rw who (record {
     was = rw (same l) refl;
-    handed = λ alone. mutex_told l (Lock e r (lock.Taken t)) (Lock e false (lock.Handed t)) _ _ _ refl refl refl;
-    woken = mutex_told l (Lock e r (lock.Taken t)) (Lock e true lock.Load) _ _ _ refl refl refl;
+    claims = inl (ap (λ b. (if b then (mutex_row (Lock e r (lock.Taken t))).doing else idle).claims) (same l));
+    handed = λ alone. mutex_told l (Lock e r (lock.Taken t)) (Lock e false (lock.Handed t)) _ _ _ _ refl refl refl;
+    woken = mutex_told l (Lock e r (lock.Taken t)) (Lock e true lock.Load) _ _ _ _ refl refl refl;
   })
   mutex_held t at h = absurd cc
 
   mutex_given : (t : ℕ) (at : MutexPlace) → (mutex_station at).hand ≡ hand t true → WasGivenThere l t (Mutex l at)
   mutex_given t (Lock e r (lock.Handed by)) h = let who : by ≡ t = cc in rw who (record {
     was = refl;
-    told = mutex_told l (Lock e r (lock.Handed t)) (Lock e r lock.Accept) _ _ _ refl refl refl;
+    told = mutex_told l (Lock e r (lock.Handed t)) (Lock e r lock.Accept) _ _ _ _ refl refl refl;
   })
   mutex_given t at h = absurd cc
 
 -- what a place has at the mutex it has by its row there
 module _ (l : ℕ) (T : Place → Type 0) {A : Type 0} (g : Station → A) (x : A) (none : g nowhere ≡ x → ⊥)
     (mutexes : (at : MutexPlace) → g (mutex_station at) ≡ x → T (Mutex l at))
-    (waits : (k : ℕ) → k ≢ l → (m : ℕ) (timed : Bool) (at : WaitAt) → mutex_beside (Wait m timed wait.Enter) ≡ Some l → g (station_by (mutex_side (Wait m timed at))) ≡ x → T (Condvar k (Wait m timed at)))
+    (waits : (k : ℕ) → k ≢ l → (m : ℕ) (timed : Bool) (at : WaitAt) → IsReached (Wait m timed at) → mutex_beside (Wait m timed wait.Enter) ≡ Some l → g (station_by (mutex_side (Wait m timed at))) ≡ x → T (Condvar k (Wait m timed at)))
     (notifies : (k : ℕ) → k ≢ l → (all : Bool) (m : ℕ) (at : NotifyAt) → mutex_beside (Notify all m notify.Enter) ≡ Some l → g (station_by (mutex_side (Notify all m at))) ≡ x → T (Condvar k (Notify all m at))) where
   by_row : (p : Place) → CallsMutex l p → g (station_at p l) ≡ x → T p
   by_row Idle of h = absurd (none h)
@@ -317,13 +335,13 @@ module _ (l : ℕ) (T : Place → Type 0) {A : Type 0} (g : Station → A) (x : 
   by_row (Once k at) of h = absurd (none (ap (λ b. g (if b then station (Once k at) else nowhere)) (sym (differ k l of)) ∙ h))
   by_row (Condvar k p) of h = elim (beside_or_out k l of.0 p) [
     | inl out ↦ absurd (none (ap g (sym out) ∙ h))
-    | inr named ↦ by_call p named (ap g (sym (station_beside k l of.0 p named)) ∙ h)
+    | inr named ↦ by_call p of.1 named (ap g (sym (station_beside k l of.0 p named)) ∙ h)
   ]
     where
-      by_call : (p : CondvarPlace) → mutex_beside p ≡ Some l → g (station_by (mutex_side p)) ≡ x → T (Condvar k p)
-      by_call (Wait m timed at) named f = waits k of.0 m timed at named f
-      by_call (Look all) named f = absurd cc
-      by_call (Notify all m at) named f = notifies k of.0 all m at named f
+      by_call : (p : CondvarPlace) → IsReached p → mutex_beside p ≡ Some l → g (station_by (mutex_side p)) ≡ x → T (Condvar k p)
+      by_call (Wait m timed at) reached named f = waits k of.0 m timed at reached named f
+      by_call (Look all) reached named f = absurd cc
+      by_call (Notify all m at) reached named f = notifies k of.0 all m at named f
 
 -- who stands in the line of the mutex is inside its section, or sleeps there
 pub stands_or_sleeps : (p : Place) (l : ℕ) → CallsMutex l p → (station_at p l).stands ≡ Some Main → ((station_at p l).inside ≡ Some Main) ⊎ SleepsAt l p
@@ -332,7 +350,7 @@ stands_or_sleeps p l = by_row l (λ q. ((station_at q l).inside ≡ Some Main) �
       | inl within ↦ inl (ap (λ b. (if b then mutex_station at else nowhere).inside) (same l) ∙ within)
       | inr sleeps ↦ inr sleeps
     ])
-    (λ k apart m timed at of h. elim (wait_stands k l apart m timed of at h) [
+    (λ k apart m timed at reached of h. elim (wait_stands k l apart m timed of at h) [
       | inl within ↦ inl (ap (λ (s : Station). s.inside) (station_beside k l apart (Wait m timed at) of) ∙ within)
       | inr sleeps ↦ inr sleeps
     ])
@@ -340,11 +358,11 @@ stands_or_sleeps p l = by_row l (λ q. ((station_at q l).inside ≡ Some Main) �
 
 -- who is in a hand there was taken or handed the mutex
 pub held_there : (p : Place) (t l : ℕ) → CallsMutex l p → hand_at p l ≡ hand t false → IsHeldThere l t p
-held_there p t l = by_row l (IsHeldThere l t) (λ (s : Station). s.hand) (hand t false) (λ h. cc) (mutex_held l t) (λ k apart m timed at of h. wait_held k l apart m timed of t at h)
+held_there p t l = by_row l (IsHeldThere l t) (λ (s : Station). s.hand) (hand t false) (λ h. cc) (mutex_held l t) (λ k apart m timed at reached of h. wait_held k l apart m timed of t at reached h)
     (λ k apart all m at of h. absurd (let f : ◌≡◌ {A = Option Hand} None (hand t false) = sym (notifier_stands all m at).1 ∙ h in cc)) p
 
 pub given_there : (p : Place) (t l : ℕ) → CallsMutex l p → hand_at p l ≡ hand t true → WasGivenThere l t p
-given_there p t l = by_row l (WasGivenThere l t) (λ (s : Station). s.hand) (hand t true) (λ h. cc) (mutex_given l t) (λ k apart m timed at of h. wait_given k l apart m timed of t at h)
+given_there p t l = by_row l (WasGivenThere l t) (λ (s : Station). s.hand) (hand t true) (λ h. cc) (mutex_given l t) (λ k apart m timed at reached of h. wait_given k l apart m timed of t at h)
     (λ k apart all m at of h. absurd (let f : ◌≡◌ {A = Option Hand} None (hand t true) = sym (notifier_stands all m at).1 ∙ h in cc)) p
 
 -- whoever is in a hand there wants to own alone
@@ -367,7 +385,7 @@ side_wanted (Notify all m at) t b h = absurd (let f : ◌≡◌ {A = Option Hand
 
 pub held_wants : (p : Place) (t l : ℕ) (b : Bool) → CallsMutex l p → hand_at p l ≡ hand t b → wants p ≡ Some Exclusive
 held_wants p t l b = by_row l (λ q. wants q ≡ Some Exclusive) (λ (s : Station). s.hand) (hand t b) (λ h. cc) (λ at h. mutex_wanted at t b h)
-    (λ k apart m timed at of h. ap (λ x. or_else x (condvar_profile (Wait m timed at)).wants) (wait_wanted m timed at t b h))
+    (λ k apart m timed at reached of h. ap (λ x. or_else x (condvar_profile (Wait m timed at)).wants) (wait_wanted m timed at t b h))
     (λ k apart all m at of h. absurd (let f : ◌≡◌ {A = Option Hand} None (hand t b) = sym (notifier_stands all m at).1 ∙ h in cc)) p
 
 -- so does each whom t has in hand, where it has nobody in hand elsewhere
