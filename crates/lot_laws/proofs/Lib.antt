@@ -106,3 +106,4 @@ pub mod RowLaws
 pub mod RunsKept
 pub mod WaitersAside
 pub mod CondvarRows
+pub mod CondvarsKept
