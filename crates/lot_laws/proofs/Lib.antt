@@ -30,6 +30,7 @@ pub mod CondvarHears
 pub mod CondvarParts
 pub mod CondvarThere
 pub mod TakesAt
+pub mod MovingKept
 pub mod TakesKept
 pub mod PicksKept
 pub mod AnyPicked

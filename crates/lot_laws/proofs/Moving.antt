@@ -90,7 +90,7 @@ module _ (w : State) (t c m : ℕ) (apart : m ≢ c) (steady : IsSteady w) (p2 :
   not_t : times t line ≡ 0
   not_t = steady.stands.lines t c Main ∙ ap (λ o. stood_in o Main) out
 
-  in_line : (u : ℕ) → (member u gone ≡ true) ⊎ (member u moved ≡ true) → 1 ≤ times u line
+  pub in_line : (u : ℕ) → (member u gone ≡ true) ⊎ (member u moved ≡ true) → 1 ≤ times u line
   in_line u (inl h) = let a = counts u in let b = member_times u gone h in omega arith
   in_line u (inr h) = let a = counts u in let b = member_times u moved h in omega arith
 
