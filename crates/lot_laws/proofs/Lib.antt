@@ -105,3 +105,4 @@ pub mod RunsKept
 pub mod WaitersAside
 pub mod CondvarRows
 pub mod CondvarsKept
+pub mod CondvarLed
