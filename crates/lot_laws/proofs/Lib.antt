@@ -106,3 +106,4 @@ pub mod WaitersAside
 pub mod CondvarRows
 pub mod CondvarsKept
 pub mod CondvarLed
+pub mod CondvarWent
