@@ -109,3 +109,5 @@ pub mod RunsKept
 pub mod WaitersAside
 pub mod CondvarRows
 pub mod CondvarsKept
+pub mod CondvarLed
+pub mod CondvarWent
