@@ -27,6 +27,7 @@ pub mod TwoLocks
 pub mod CondvarSites
 pub mod CondvarHears
 pub mod CondvarParts
+pub mod CondvarThere
 pub mod TakesAt
 pub mod TakesKept
 pub mod PicksKept
@@ -105,3 +106,4 @@ pub mod RowLaws
 pub mod RunsKept
 pub mod WaitersAside
 pub mod CondvarRows
+pub mod CondvarsKept
