@@ -17,7 +17,7 @@ use Rattle.lot_condvar.specs.declared.wait.Stands.TheVariants as stands
 use Rattle.lot_condvar.specs.declared.wait.WaitAt.{WaitAt}
 use Rattle.lot_condvar.specs.declared.wait.WaitAt.TheVariants as wait
 use Rattle.lot_condvar.specs.CondvarSteps.{mutex_beside}
-use Rattle.lot_condvar.specs.CondvarProfiles.{condvar_profile, mutex_side}
+use Rattle.lot_condvar.specs.CondvarProfiles.{condvar_profile, condvar_row, mutex_side}
 use Rattle.lot_condvar.proofs.WaitTells.{waiters_are_told}
 use Rattle.abstract_locks.specs.Locks.{Rights}
 use Rattle.lot_condvar.specs.CondvarCalls.{IsReached}
@@ -161,11 +161,15 @@ wait_taken k l u timed (wait.Lock late (Lock e again lock.Asleep)) h r = waiters
 wait_taken k l u timed (wait.Lock late (Lock e again lock.Remove)) h r = refl
 wait_taken k l u timed at h r = absurd cc
 
-pub waiter_taken : (k : ℕ) (at : CondvarPlace) (u l : ℕ) → k ≢ l → (station_at (Condvar k at) l).stands ≡ Some Main → (r : ℕ → Rights) → call_state (next_place (Condvar k at) (TakenBy u)) r ≡ call_state (Condvar k at) r
-waiter_taken k at u l apart h r = by_call at (by_lock (is_lock l (mutex_beside at)) (ap (λ c. (if c then station (Condvar k at) else if is_lock l (mutex_beside at) then station_by (mutex_side at) else nowhere).stands) (sym (differ k l apart)) ∙ h))
+stands_main : (b : Bool) (m : Line) → in_line b Main ≡ Some m → in_line b Main ≡ Some Main
+stands_main true m h = refl
+stands_main false m h = absurd cc
+
+pub waiter_taken : (k : ℕ) (at : CondvarPlace) (u l : ℕ) (m : Line) → k ≢ l → (station_at (Condvar k at) l).stands ≡ Some m → (r : ℕ → Rights) → call_state (next_place (Condvar k at) (TakenBy u)) r ≡ call_state (Condvar k at) r
+waiter_taken k at u l m apart h r = by_call at (by_lock (is_lock l (mutex_beside at)) (ap (λ c. (if c then station (Condvar k at) else if is_lock l (mutex_beside at) then station_by (mutex_side at) else nowhere).stands) (sym (differ k l apart)) ∙ h))
   where
-    by_lock : (d : Bool) → (if d then station_by (mutex_side at) else nowhere).stands ≡ Some Main → (mutex_side at).stands ≡ Some Main
-    by_lock true g = g
+    by_lock : (d : Bool) → (if d then station_by (mutex_side at) else nowhere).stands ≡ Some m → (mutex_side at).stands ≡ Some Main
+    by_lock true g = stands_main (condvar_row at).moved m g
     by_lock false g = absurd cc
 
     by_call : (q : CondvarPlace) → (mutex_side q).stands ≡ Some Main → call_state (next_place (Condvar k q) (TakenBy u)) r ≡ call_state (Condvar k q) r
