@@ -120,7 +120,7 @@ use Rattle.lot_condvar.specs.declared.places.CondvarPlace.TheVariants as condvar
 use Rattle.lot_laws.proofs.Glue.{heir, is_owner, own_stance, thread_is, singles}
 use Rattle.lot_laws.proofs.MutexTable.{mutex}
 use Rattle.lot_laws.proofs.StandsMoved.{mutex_rules}
-use Rattle.lot_laws.proofs.SitesKept.{go_by}
+use Rattle.lot_laws.proofs.SitesKept.{go_by, single_at}
 use Rattle.lot_laws.proofs.GoneKept.{gone_goes}
 use Rattle.lot_laws.proofs.TurnsKept.{idle_is}
 use Rattle.lot_laws.proofs.AtPlaces.{coded, in_no_hand, own_doing}
@@ -327,7 +327,7 @@ module _ (w : State) (t : ℕ) (shape : IsShaped w) (steady : IsSteady w) (there
         → GoesOn (locks_of w) t (outcome_of (next_act (Mutex l (Unlock a)) (reply_to w t (unlock_act l a)))) (locks_of (go_by w t (Mutex l (Unlock a)) (unlock_act l a)))
     unlock_goes unlock.Subtract is can = alone (Unlock unlock.Subtract) is can tt tt tt
     unlock_goes unlock.Enter is can = alone (Unlock unlock.Enter) is can tt tt tt
-    unlock_goes unlock.Take is can = calmly (Unlock unlock.Take) is can tt (calm_takes (whom (Unlock unlock.Take) is can tt)) (takes w t _ (singles w steady) (Mutex l (Unlock unlock.Take)) (2 * l) whoms.First)
+    unlock_goes unlock.Take is can = calmly (Unlock unlock.Take) is can tt (calm_takes (whom (Unlock unlock.Take) is can tt)) (takes w t _ steady l Main (λ e. let both : locks.Mutex ≡ locks.Condvar = sym (single_at w t l (Unlock unlock.Take) steady is) ∙ e in cc) (Mutex l (Unlock unlock.Take)) (2 * l) refl whoms.First)
     unlock_goes (unlock.Clear any) is can = alone (Unlock (unlock.Clear any)) is can tt tt tt
     unlock_goes (unlock.Leave false) is can = alone (Unlock (unlock.Leave false)) is can tt tt tt
     unlock_goes (unlock.Leave true) is can = goes_if (Unlock (unlock.Leave true)) is can tt (others_follow w (behind (Unlock (unlock.Leave true)) is can tt) t l (Some Wake) (happens_so (Unlock (unlock.Leave true)) is can tt) (λ x y e. cc)
@@ -340,7 +340,7 @@ module _ (w : State) (t : ℕ) (shape : IsShaped w) (steady : IsSteady w) (there
     hand_off_goes : (bumping : Bool) (a : HandOffAt) (is : place_at w t ≡ Mutex l (HandOff bumping a)) (can : can_do w (hand_off_act l a) ≡ true)
         → GoesOn (locks_of w) t (outcome_of (next_act (Mutex l (HandOff bumping a)) (reply_to w t (hand_off_act l a)))) (locks_of (go_by w t (Mutex l (HandOff bumping a)) (hand_off_act l a)))
     hand_off_goes bumping hand_off.Enter is can = alone (HandOff bumping hand_off.Enter) is can tt tt tt
-    hand_off_goes bumping hand_off.Take is can = calmly (HandOff bumping hand_off.Take) is can tt (calm_takes (whom (HandOff bumping hand_off.Take) is can tt)) (takes w t _ (singles w steady) (Mutex l (HandOff bumping hand_off.Take)) (2 * l) whoms.First)
+    hand_off_goes bumping hand_off.Take is can = calmly (HandOff bumping hand_off.Take) is can tt (calm_takes (whom (HandOff bumping hand_off.Take) is can tt)) (takes w t _ steady l Main (λ e. let both : locks.Mutex ≡ locks.Condvar = sym (single_at w t l (HandOff bumping hand_off.Take) steady is) ∙ e in cc) (Mutex l (HandOff bumping hand_off.Take)) (2 * l) refl whoms.First)
     hand_off_goes bumping (hand_off.Store false b) is can = gives (HandOff bumping (hand_off.Store false b)) is can tt (whom (HandOff bumping (hand_off.Store false b)) is can tt) (hands_case bumping false b (whom (HandOff bumping (hand_off.Store false b)) is can tt)) true
         (befalls_nobody w t l steady (rw is refl) _ (state_after_operation w t (Mutex l (HandOff bumping (hand_off.Store false b))) l (op.TheVariants.Store 0)) (HandedBy t true) refl (carries (HandOff bumping (hand_off.Store false b)) is can tt)) (ap (λ p. taken_at p l) is)
     hand_off_goes bumping (hand_off.Store true b) is can = gives (HandOff bumping (hand_off.Store true b)) is can tt (whom (HandOff bumping (hand_off.Store true b)) is can tt) (hands_case bumping true b (whom (HandOff bumping (hand_off.Store true b)) is can tt)) (unshared_then w t l)

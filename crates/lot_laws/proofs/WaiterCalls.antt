@@ -1,5 +1,5 @@
 -- What befalls a waiter of a condition variable at its mutex makes of its call what the event makes of it: it is taken there, woken, or handed the mutex.
-use Rattle.std.proofs.Common.{ℕ, Bool, true, false, Option, Some, None, if◌then◌else◌, ◌==◌, ◌&&◌, not, ◌≡◌, ◌≢◌, refl, sym, ◌∙◌, ap, subst}
+use Rattle.std.proofs.Common.{ℕ, Bool, true, false, Option, Some, None, if◌then◌else◌, ◌==◌, ◌&&◌, not, ◌≡◌, ◌≢◌, ◌⊎◌, inl, inr, refl, sym, ◌∙◌, ap, subst}
 use Rattle.std.proofs.lemmas.Bool.{eqb-true}
 use Rattle.lot_base.specs.declared.notes.Note.TheVariants as note
 use Rattle.lot_base.specs.declared.wants.Want.{Want}
@@ -9,7 +9,7 @@ use Rattle.lot_acts.specs.Profiles.{Hand, Of, hand, in_line, taken_from}
 use Rattle.lot_steps.specs.declared.places.Place.TheVariants.{Condvar}
 use Rattle.lot_steps.specs.Steps.{is_lock, next_place}
 use Rattle.lot_mutex.specs.declared.lock.LockAt.TheVariants as lock
-use Rattle.lot_mutex.specs.declared.places.MutexPlace.TheVariants.{Lock}
+use Rattle.lot_mutex.specs.declared.places.MutexPlace.TheVariants.{Lock, Unlock}
 use Rattle.lot_condvar.specs.declared.notify.NotifyAt.{NotifyAt}
 use Rattle.lot_condvar.specs.declared.places.CondvarPlace.{CondvarPlace}
 use Rattle.lot_condvar.specs.declared.places.CondvarPlace.TheVariants.{Wait, Look, Notify}
@@ -17,13 +17,15 @@ use Rattle.lot_condvar.specs.declared.wait.Stands.TheVariants as stands
 use Rattle.lot_condvar.specs.declared.wait.WaitAt.{WaitAt}
 use Rattle.lot_condvar.specs.declared.wait.WaitAt.TheVariants as wait
 use Rattle.lot_condvar.specs.CondvarSteps.{mutex_beside}
-use Rattle.lot_condvar.specs.CondvarProfiles.{mutex_side, wait_row}
+use Rattle.lot_condvar.specs.CondvarProfiles.{condvar_profile, condvar_row, mutex_side}
 use Rattle.lot_condvar.proofs.WaitTells.{waiters_are_told}
 use Rattle.abstract_locks.specs.Locks.{Rights}
+use Rattle.lot_condvar.specs.CondvarCalls.{IsReached}
+use Rattle.lot_mutex.specs.declared.unlock.UnlockAt.TheVariants as unlock
 use Rattle.abstract_locks.specs.Runs.{behind_wake, is_taken_by, one_more_at}
 use Rattle.lot_laws.specs.Refinement.{call_state, taken_at}
-use Rattle.abstract_locks.specs.Sites.{Line, Main}
-use Rattle.lot_laws.specs.Stations.{nowhere, station, station_at, station_by}
+use Rattle.abstract_locks.specs.Sites.{Has, Line, Main, idle}
+use Rattle.lot_laws.specs.Stations.{doing_on, nowhere, station, station_at, station_by}
 use Rattle.lot_laws.specs.SitesOf.{hand_at}
 use Rattle.lot_laws.proofs.Glue.{differ, same}
 use Rattle.lot_laws.proofs.Waiters.{notifier_stands, side_wanted}
@@ -95,6 +97,30 @@ wait_handed k l t alone timed (wait.Asleep s) h free r = absurd cc
 wait_handed k l t alone timed (wait.Lock late (Lock e again (lock.Taken by))) h free r = waiters_are_told k l timed (wait.Lock late (Lock e again (lock.Taken by))) (HandedBy t alone) tt free r
 wait_handed k l t alone timed at h free r = absurd cc
 
+-- it claims nothing where it has released its mutex, or owns that
+wait_claims : (l t : ℕ) (timed : Bool) (at : WaitAt) → IsReached (Wait l timed at) → (mutex_side (Wait l timed at)).hand ≡ hand t false → ((mutex_side (Wait l timed at)).doing.claims ≡ None) ⊎ ((mutex_side (Wait l timed at)).doing.claims ≡ Some (Has Exclusive))
+wait_claims l t timed (wait.Release (stands.InHand by) (Unlock unlock.Subtract)) reached h = inr refl
+wait_claims l t timed (wait.Release (stands.InHand by) (Unlock at)) reached h = inl refl
+wait_claims l t timed (wait.Release (stands.InHand by) at) reached h = absurd reached.0
+wait_claims l t timed (wait.Release s at) reached h = absurd cc
+wait_claims l t timed (wait.Asleep (stands.InHand by)) reached h = inl refl
+wait_claims l t timed (wait.Asleep s) reached h = absurd cc
+wait_claims l t timed (wait.Lock late (Lock e again (lock.Taken by))) reached h = inl refl
+wait_claims l t timed at reached h = absurd cc
+
+pub waiter_claims : (k : ℕ) (at : CondvarPlace) (t l : ℕ) → IsReached at → is_taken_by t (taken_at (Condvar k at) l) ≡ true → ((mutex_side at).doing.claims ≡ None) ⊎ ((mutex_side at).doing.claims ≡ Some (Has Exclusive))
+waiter_claims k at t l reached e = let b = taken_beside k at t l e in
+    subst (λ q. ((mutex_side q).doing.claims ≡ None) ⊎ ((mutex_side q).doing.claims ≡ Some (Has Exclusive))) (sym b.is) (wait_claims l t b.timed b.place (subst IsReached b.is reached) b.hand)
+
+-- and that is what it does about the mutex
+pub waiter_does : (k : ℕ) (at : CondvarPlace) (t l : ℕ) → is_taken_by t (taken_at (Condvar k at) l) ≡ true → doing_on (Condvar k at) l ≡ (mutex_side at).doing
+waiter_does k at t l e = by_lock (k == l) (is_lock l (mutex_beside at)) e
+  where
+    by_lock : (c d : Bool) → is_taken_by t (if d && not c then taken_from (mutex_side at).hand (mutex_side at).wants true else None) ≡ true → (if c then (condvar_profile at).doing else if d then (mutex_side at).doing else idle) ≡ (mutex_side at).doing
+    by_lock false true f = refl
+    by_lock true true f = absurd cc
+    by_lock c false f = absurd cc
+
 pub waiter_handed : (k : ℕ) (at : CondvarPlace) (t l : ℕ) (alone : Bool) → is_taken_by t (taken_at (Condvar k at) l) ≡ true → (mutex_side at).doing.claims ≡ None → (r : ℕ → Rights)
     → call_state (next_place (Condvar k at) (HandedBy t alone)) (one_more_at l Exclusive r) ≡ record (call_state (Condvar k at) r) { retries = None; recalls = behind_wake (call_state (Condvar k at) r).recalls }
 waiter_handed k at t l alone e free r = let b = taken_beside k at t l e in
@@ -135,11 +161,15 @@ wait_taken k l u timed (wait.Lock late (Lock e again lock.Asleep)) h r = waiters
 wait_taken k l u timed (wait.Lock late (Lock e again lock.Remove)) h r = refl
 wait_taken k l u timed at h r = absurd cc
 
-pub waiter_taken : (k : ℕ) (at : CondvarPlace) (u l : ℕ) → k ≢ l → (station_at (Condvar k at) l).stands ≡ Some Main → (r : ℕ → Rights) → call_state (next_place (Condvar k at) (TakenBy u)) r ≡ call_state (Condvar k at) r
-waiter_taken k at u l apart h r = by_call at (by_lock (is_lock l (mutex_beside at)) (ap (λ c. (if c then station (Condvar k at) else if is_lock l (mutex_beside at) then station_by (mutex_side at) else nowhere).stands) (sym (differ k l apart)) ∙ h))
+stands_main : (b : Bool) (m : Line) → in_line b Main ≡ Some m → in_line b Main ≡ Some Main
+stands_main true m h = refl
+stands_main false m h = absurd cc
+
+pub waiter_taken : (k : ℕ) (at : CondvarPlace) (u l : ℕ) (m : Line) → k ≢ l → (station_at (Condvar k at) l).stands ≡ Some m → (r : ℕ → Rights) → call_state (next_place (Condvar k at) (TakenBy u)) r ≡ call_state (Condvar k at) r
+waiter_taken k at u l m apart h r = by_call at (by_lock (is_lock l (mutex_beside at)) (ap (λ c. (if c then station (Condvar k at) else if is_lock l (mutex_beside at) then station_by (mutex_side at) else nowhere).stands) (sym (differ k l apart)) ∙ h))
   where
-    by_lock : (d : Bool) → (if d then station_by (mutex_side at) else nowhere).stands ≡ Some Main → (mutex_side at).stands ≡ Some Main
-    by_lock true g = g
+    by_lock : (d : Bool) → (if d then station_by (mutex_side at) else nowhere).stands ≡ Some m → (mutex_side at).stands ≡ Some Main
+    by_lock true g = stands_main (condvar_row at).moved m g
     by_lock false g = absurd cc
 
     by_call : (q : CondvarPlace) → (mutex_side q).stands ≡ Some Main → call_state (next_place (Condvar k q) (TakenBy u)) r ≡ call_state (Condvar k q) r
