@@ -32,21 +32,8 @@ use Rattle.abstract_locks.specs.Locks as locks
 use Rattle.abstract_locks.specs.Codes.{fills}
 use Rattle.abstract_locks.specs.Purposes.{rules_of}
 use Rattle.std.proofs.Math.Bool.{or-false}
+pub use Rattle.lot_machine.proofs.KindsStay.{set_field, operated_kinds, given_kinds, performed_kinds}
 use Rattle.lot_laws.specs.SitesOf.{is_mutex}
-
--- what is read of each lock, where that of one is set
-set_field : {A B : Type 0} (f : A → B) (xs : List A) (i : ℕ) (y d : A) → f y ≡ f (get_or xs i d) → (j : ℕ) → f (get_or (set xs i y) j d) ≡ f (get_or xs j d)
-set_field f [] i y d e j = refl
-set_field f (x ∷ xs) zero y d e zero = e
-set_field f (x ∷ xs) zero y d e (suc j) = refl
-set_field f (x ∷ xs) (suc i) y d e zero = refl
-set_field f (x ∷ xs) (suc i) y d e (suc j) = set_field f xs i y d e j
-
-pub operated_kinds : (w : State) (t : ℕ) (p : Place) (l : ℕ) (f : Op) (k : ℕ) → kind_at (state_after_operation w t p l f) k ≡ kind_at w k
-operated_kinds w t p l f k = set_field (λ x. x.kind) w.locks l _ (unlocked kind.TheVariants.Mutex) refl k
-
-pub given_kinds : (w : State) (t : ℕ) (p : Place) (l : ℕ) (f : Op) (k : ℕ) → kind_at (state_after_hand_over w t p l f) k ≡ kind_at w k
-given_kinds w t p l f k = set_field (λ x. x.kind) w.locks l _ (unlocked kind.TheVariants.Mutex) refl k
 
 -- who shares what, where none of it changes
 pub shares_kept : (w : State) (n : ℕ) → n ≡ length w.places → (k : ℕ) → get_or w.shares k (replicate n 0) ≡ shares_at w k
@@ -62,39 +49,6 @@ given_filled w t p l f rules k = set_field (λ x. x.filled) w.locks l _ (unlocke
 -- nobody gets a share where none is given
 pub given_shares : (w : State) (t l : ℕ) → shares_handed_over w t l ≡ shares_at w l → (k : ℕ) → get_or (set w.shares l (shares_handed_over w t l)) k (replicate (length w.places) 0) ≡ shares_at w k
 given_shares w t l none k = set_field (λ x. x) w.shares l (shares_handed_over w t l) (replicate (length w.places) 0) none k
-
-filled_kinds : (w : State) (keys : Keys) (who : Option ℕ) (k : ℕ) → kind_at (state_with_sections w keys who) k ≡ kind_at w k
-filled_kinds w (One key) who k = refl
-filled_kinds w (Two first second) who k = refl
-
-taken_kinds : (w : State) (t : ℕ) (o : Option ℕ) (k : ℕ) → kind_at (state_after_taking w t o) k ≡ kind_at w k
-taken_kinds w t None k = refl
-taken_kinds w t (Some u) k = refl
-
-awakened_kinds : (w : State) (t : ℕ) (x : Wakes) (k : ℕ) → kind_at (state_after_wake w t x) k ≡ kind_at w k
-awakened_kinds w t wakes.TheVariants.Nobody k = refl
-awakened_kinds w t (wakes.TheVariants.All note) k = refl
-
-parked_kinds : (w : State) (t l key : ℕ) (check : Check) (wanted : Want) (k : ℕ) → kind_at (state_after_park w t l key check wanted) k ≡ kind_at w k
-parked_kinds w t l key check wanted k = either (holds check (word_at w l))
-  where
-    either : (b : Bool) → kind_at (if b then record w { queues = queues_with_last w.queues key t wanted } else w) k ≡ kind_at w k
-    either true = refl
-    either false = refl
-
-performed_kinds : (w : State) (t : ℕ) (p : Place) (act : Act) (k : ℕ) → kind_at (state_after_act w t p act) k ≡ kind_at w k
-performed_kinds w t p (Word l f) k = operated_kinds w t p l f k
-performed_kinds w t p (HandOver l f) k = either (takes_effect f (word_at w l))
-  where
-    either : (b : Bool) → kind_at (state_after_hand_over_by b w t p l f) k ≡ kind_at w k
-    either true = given_kinds w t p l f k
-    either false = operated_kinds w t p l f k
-performed_kinds w t p (Enter keys) k = filled_kinds w keys (Some t) k
-performed_kinds w t p (Park l key check wanted) k = parked_kinds w t l key check wanted k
-performed_kinds w t p (Take key whom.TheVariants.First) k = taken_kinds (record w { queues = queues_without_first w.queues key }) t (first_of (queue_at w key)) k
-performed_kinds w t p (Remove key) k = refl
-performed_kinds w t p (Leave keys x) k = awakened_kinds (state_with_sections w keys None) t x k ∙ filled_kinds w keys None k
-performed_kinds w t p act k = refl
 
 late_kinds : (w : State) (t : ℕ) (o : Option ℕ) (k : ℕ) → kind_at (state_after_late_on w t o) k ≡ kind_at w k
 late_kinds w t None k = refl
