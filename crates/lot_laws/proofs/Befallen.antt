@@ -1,30 +1,15 @@
 -- What a thread keeps, whatever befalls it: as long as its own turn doesn't come, it keeps all that no wake, take or hand-over changes.
-use Rattle.std.proofs.Common.{ℕ, Bool, true, false, Option, Some, None, if◌then◌else◌, ◌≡◌, ◌≢◌, inl, inr, List, [], ◌∷◌, length, set, get_or, map, refl, sym, subst, ◌∙◌, ap, get_or-set_other, get_or-set_same}
-use Rattle.std.proofs.Math.ListN.{get_or-map}
-use Rattle.std.proofs.lemmas.Bool.{cases_eq, cases_lt}
-use Rattle.std.proofs.lemmas.List.{set_past}
-use Rattle.lot_base.specs.declared.keys.Keys.{Keys}
-use Rattle.lot_base.specs.declared.keys.Keys.TheVariants.{One, Two}
-use Rattle.lot_base.specs.Lines.{first_of, threads_of}
-use Rattle.lot_base.specs.Picks.{lock_picked}
-use Rattle.lot_base.specs.Requeues.{taken_by}
+use Rattle.std.proofs.Common.{ℕ, Bool, true, false, Option, Some, None, if◌then◌else◌, ◌≡◌, ◌≢◌, refl, ◌∙◌, ap, get_or-set_other}
+use Rattle.lot_base.specs.declared.keys.Keys.TheVariants.{One}
 use Rattle.lot_calls.specs.declared.calls.Turn.{Turn}
 use Rattle.lot_calls.specs.declared.calls.Turn as turn
 use Rattle.lot_calls.specs.declared.calls.Step.{Step}
 use Rattle.lot_acts.specs.declared.acts.Act.{Act}
-use Rattle.lot_acts.specs.declared.acts.Act.TheVariants.{Word, HandOver, Enter, Park, Take}
-use Rattle.lot_acts.specs.declared.acts.Act.TheVariants as act
-use Rattle.lot_acts.specs.declared.acts.Wakes.{Wakes}
-use Rattle.lot_acts.specs.declared.acts.Wakes as wakes
-use Rattle.lot_acts.specs.declared.acts.Whom as whom
 use Rattle.lot_acts.specs.declared.acts.Reply.{Reply}
-use Rattle.lot_acts.specs.declared.acts.Reply.TheVariants.{TakenBy, MovedTo, Woken}
-use Rattle.lot_acts.specs.Acts.{takes_effect, holds}
-use Rattle.lot_acts.specs.Owners.{is_thread}
 use Rattle.lot_steps.specs.declared.places.Place.{Place}
 use Rattle.lot_steps.specs.declared.places.Place.TheVariants.{Idle}
-use Rattle.lot_steps.specs.Steps.{act_of, late_key, looking, next_place, taker}
-use Rattle.lot_machine.specs.Machine.{State, after, closed_place, hand_over_told, is_possible, listed, moved_threads, place_after_telling, place_at, places_told, put, queue_at, queues_without_first, state_after_act, state_after_go, state_after_going, state_after_hand_over_by, state_after_late_on, state_after_look, state_after_taking, state_after_turn, state_with_sections, word_at}
+use Rattle.lot_steps.specs.Steps.{act_of, late_key, looking, next_place}
+use Rattle.lot_machine.specs.Machine.{State, after, closed_place, is_possible, place_at, put, state_after_act, state_after_go, state_after_going, state_after_late_on, state_after_look, state_after_turn, state_with_sections}
 use Rattle.lot_machine.proofs.Acted.{acted_keeps}
 use Rattle.lot_laws.proofs.RowPromises.{Befalls}
 
