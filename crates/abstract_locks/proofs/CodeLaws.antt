@@ -5,7 +5,7 @@ use Rattle.std.proofs.lemmas.Bool.Decides.{nat_tests}
 use Rattle.std.proofs.lemmas.List.Sums.{sum_by-set}
 use Rattle.lot_base.specs.declared.wants.Want.{Want}
 use Rattle.lot_base.specs.declared.wants.Want.TheVariants.{Exclusive, Upgradable, Shared}
-use Rattle.abstract_locks.specs.Locks.{Sort, Mutex, Normal, Recursive, Semaphore, Once, Rules, LockCase, OfOnce, Enter, Pend, Settle, Leave, Convert, Wake, HandOff, Rollback, Knows, NoWriter, IsFreeAt, is_recursive, count, readers, one_if_some, OfCondvar, SeeOwner, Look, Show, Hide, Condvar}
+use Rattle.abstract_locks.specs.Locks.{Sort, Mutex, Normal, Recursive, Semaphore, Once, Rules, LockCase, OfOnce, Enter, Pend, Settle, Leave, Convert, Wake, HandOff, Rollback, Knows, NoWriter, IsFreeAt, is_recursive, count, readers, one_if_some, OfCondvar, Condvar}
 use Rattle.abstract_locks.specs.Sites.{Site, IsSite, Case, Needed, after_deed, has_readers}
 use Rattle.abstract_locks.specs.Codes.{bit, writers, code_of, rw_code, count_in, has_writer, has_upgradable, has_aside, has_parked, is_blocked, lost, rolled, IsHandOff, WordFollows, WordsTellTrue}
 use Rattle.abstract_locks.proofs.Seen.{packed_count, packed_writer, packed_upgradable, packed_aside, packed_parked}

@@ -2,7 +2,7 @@
 use Rattle.std.proofs.Common.{ℕ, Bool, true, false, Option, Some, None, if◌then◌else◌, ◌==◌, ◌≡◌, ◌≢◌, List, [], ◌∷◌, refl, ◌∙◌}
 use Rattle.std.proofs.lemmas.Bool.{eqb-true}
 use Rattle.abstract_locks.specs.Locks.{LockState, Taken, Rules, HasTakenNobody, keep_from, let_go}
-use Rattle.abstract_locks.specs.Sites.{Site, Main, Second, Deed, Begin, End, In, Out, Mark, Clear, FindNobody, MarkOwned, Bring, MarkBrought, Case, after_deed}
+use Rattle.abstract_locks.specs.Sites.{Site, Main, Second, Deed, Begin, End, In, Out, Mark, Clear, FindNobody, MarkOwned, Bring, MarkBrought, Send, LeaveLine, Case, after_deed}
 use Rattle.abstract_locks.specs.Runs.{Nothing}
 use Rattle.abstract_locks.specs.Deeds.{after_all, AllNeeded, KeepLock, AreOneCase, event_of, EventNeeds, after_event}
 
@@ -19,7 +19,7 @@ lets_nobody_go s t none = λ i. record s { taken = λ u. kept (s.taken u) (none 
         either true e = absurd (other h.want (let f : h.by ≡ t = eqb-true h.by t e in λ i. Some (record { by = f i; want = h.want })))
 
 module _ (r : Rules) (t : ℕ) where
-  kept : (ds : List Deed) (s : Site) → KeepLock ds → (after_all r ds s t).lock ≡ s.lock
+  pub kept : (ds : List Deed) (s : Site) → KeepLock ds → (after_all r ds s t).lock ≡ s.lock
   kept [] s k = refl
   kept (Begin claims ∷ ds) s k = kept ds (after_deed r (Begin claims) s t) k
   kept (End ∷ ds) s k = kept ds (after_deed r End s t) k
@@ -34,6 +34,8 @@ module _ (r : Rules) (t : ℕ) where
   kept (Out ∷ ds) s k = absurd k
   kept (Case case ∷ ds) s k = absurd k
   kept (Bring taken moved ∷ ds) s k = absurd k
+  kept (Send all ∷ ds) s k = absurd k
+  kept (LeaveLine ∷ ds) s k = absurd k
 
   module _ (l : ℕ) (hand : Option Bool) where
     -- who wakes nobody has nobody in hand
@@ -54,6 +56,8 @@ module _ (r : Rules) (t : ℕ) where
     no_event hand (Out ∷ ds) k = absurd k
     no_event hand (Case case ∷ ds) k = absurd k
     no_event hand (Bring taken moved ∷ ds) k = absurd k
+    no_event hand (Send all ∷ ds) k = absurd k
+    no_event hand (LeaveLine ∷ ds) k = absurd k
 
     lets_go : (hand : Option Bool) (ds : List Deed) (s : Site) → (hand ≢ Some false → HasTakenNobody s.lock t) → KeepLock ds → (after_all r (Out ∷ ds) s t).lock ≡ after_event r (event_of l hand (Out ∷ ds)) s.lock t
     lets_go (Some false) ds s free k = kept ds (after_deed r Out s t) k
@@ -76,6 +80,8 @@ module _ (r : Rules) (t : ℕ) where
     deeds_lead (MarkOwned ∷ ds) s free one = deeds_lead ds (after_deed r MarkOwned s t) free one
     deeds_lead (MarkBrought ∷ ds) s free one = deeds_lead ds (after_deed r MarkBrought s t) free one
     deeds_lead (Bring taken moved ∷ ds) s free one = absurd one
+    deeds_lead (Send all ∷ ds) s free one = absurd one
+    deeds_lead (LeaveLine ∷ ds) s free one = kept ds (after_deed r LeaveLine s t) one
 
     -- what they need
     pub deeds_need : (ds : List Deed) (s : Site) → AllNeeded r ds s t → AreOneCase ds → EventNeeds r (event_of l hand ds) s.lock t
@@ -98,3 +104,5 @@ module _ (r : Rules) (t : ℕ) where
     deeds_need (MarkOwned ∷ ds) s needed one = deeds_need ds (after_deed r MarkOwned s t) needed.1 one
     deeds_need (MarkBrought ∷ ds) s needed one = deeds_need ds (after_deed r MarkBrought s t) needed.1 one
     deeds_need (Bring taken moved ∷ ds) s needed one = absurd one
+    deeds_need (Send all ∷ ds) s needed one = absurd one
+    deeds_need (LeaveLine ∷ ds) s needed one = needed.0.1

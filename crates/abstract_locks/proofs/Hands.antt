@@ -6,7 +6,7 @@ use Rattle.std.proofs.lemmas.List.{take-append-drop}
 use Rattle.std.proofs.Math.Seq.{take-nil, drop-nil}
 use Rattle.lot_base.specs.declared.wants.Want.{Want}
 use Rattle.lot_base.specs.declared.wants.Want.TheVariants.{Exclusive, Upgradable, Shared}
-use Rattle.abstract_locks.specs.Locks.{LockState, sharing_handed, sharing_from, shares_handed, without_owner, Queued, Taken, Sort, Mutex, Normal, Recursive, Semaphore, Once, Rules, Knows, IsLockState, times, taking, picked, unpicked, front_of, keeps_more, sharers, stop_of, wants_shared, one_if_some, putting, without, keep_from, let_go, with_owner, pending_for, succeeding, with_successor, handed, readers, Condvar, is_recursive}
+use Rattle.abstract_locks.specs.Locks.{LockState, sharing_handed, sharing_from, shares_handed, without_owner, Queued, Taken, Sort, Mutex, Normal, Recursive, Semaphore, Once, Rules, Knows, IsLockState, times, taking, picked, unpicked, front_of, keeps_more, sharers, stop_of, wants_shared, one_if_some, putting, without, keep_from, let_go, with_owner, pending_for, succeeding, with_successor, handed, readers, Condvar}
 use Rattle.abstract_locks.specs.Sites.{IsOpen, counts, counts_taken}
 use Rattle.abstract_locks.proofs.LockKeeps.{times_append, times_filter}
 

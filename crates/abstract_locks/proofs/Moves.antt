@@ -1,37 +1,14 @@
 -- A notification's move keeps what holds of the condition variable and of the mutex.
-use Rattle.std.proofs.Common.{ℕ, Bool, true, false, Option, Some, None, ◌≡◌, ◌≤◌, ◌+◌, List, [], ◌∷◌, ◌++◌, map, drop, refl, sym, ap, ◌∙◌, arith, if◌then◌else◌}
+use Rattle.std.proofs.Common.{ℕ, Bool, true, ◌≡◌, ◌≤◌, ◌+◌, List, sym, ap, ◌∙◌, arith}
 use Rattle.std.proofs.lemmas.Bool.Decides.{nat_tests}
-use Rattle.abstract_locks.specs.Condvars.{in_line, line_of, moved_of, taken_of}
-use Rattle.abstract_locks.specs.Locks.{LockState, Queued, Rules, Mutex, Condvar, IsLockState, KnowsAll, Knows, standing, taking, times}
-use Rattle.abstract_locks.specs.Runs.{LocksState, AreLockStates, MayMove, is_among, joined_by, left_behind, rules_at}
+use Rattle.abstract_locks.specs.Condvars.{line_of, moved_of, taken_of}
+use Rattle.abstract_locks.specs.Locks.{LockState, Queued, Rules, Mutex, IsLockState, KnowsAll, left_behind, standing, times}
+use Rattle.abstract_locks.specs.Runs.{LocksState, AreLockStates, MayMove, is_among, joined_by, rules_at}
 use Rattle.abstract_locks.proofs.CondvarKeeps.{all_known, moved_fewer, parts, times_in_line}
+use Rattle.abstract_locks.proofs.Left.{left_keeps}
 use Rattle.abstract_locks.proofs.LockKeeps.{known_append, known_taking, times_append, times_taking}
 
--- fewer wait
-pub left_keeps : (r : Rules) (all : Bool) (s : LockState) → IsLockState r s → IsLockState r (left_behind all s)
-left_keeps r all s c = record {
-  exclusive_alone = c.exclusive_alone;
-  pending_alone = c.pending_alone;
-  aside_pending = c.aside_pending;
-  once = λ u. let a = c.once u in let b = fewer all u s.queue in omega arith;
-  known_queue = known all s.queue c.known_queue;
-  known_taken = c.known_taken;
-  unshared = c.unshared;
-  unpending = c.unpending;
-  unwritten = c.unwritten;
-}
-  where
-    fewer : (all : Bool) (u : ℕ) (q : List Queued) → times u (if all then [] else drop 1 q) ≤ times u q
-    fewer true u q = omega arith
-    fewer false u [] = grind arith
-    fewer false u (x ∷ q) = grind arith
-
-    known : (all : Bool) (q : List Queued) → KnowsAll r.sort q → KnowsAll r.sort (if all then [] else drop 1 q)
-    known true q k = tt
-    known false [] k = tt
-    known false (x ∷ q) k = k.1
-
--- and more, who stood nowhere
+-- more wait, who stood nowhere
 pub joined_keeps : (r : Rules) (owned : Bool) (t : ℕ) (moved : List Queued) (s : LockState) → r.sort ≡ Mutex → IsLockState r s
     → ((u : ℕ) → times u moved ≤ 1) → ((u : ℕ) → 1 ≤ times u moved → standing u s ≡ 0) → IsLockState r (joined_by owned t moved s)
 joined_keeps r owned t moved s mutex c one nowhere = record {

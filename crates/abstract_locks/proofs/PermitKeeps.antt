@@ -7,7 +7,7 @@ use Rattle.std.proofs.lemmas.List.Sums.{sum_by-set}
 use Rattle.lot_base.specs.declared.wants.Want.{Want}
 use Rattle.lot_base.specs.declared.wants.Want.TheVariants.{Exclusive, Upgradable, Shared}
 use Rattle.abstract_locks.specs.Locks.{LockState, Queued, Taken, Sort, Mutex, Normal, Recursive, Semaphore, Once, Rules, LockCase, OfOnce, Enter, Pend, Settle, Leave, Convert, Park, Aside, TakeFirst, TakeAside, TakePicked, Wake, HandOff, Late, Rollback, Knows, IsLockState, IsBlocked, readers, standing, times, is_thread, one_if_some, putting, let_go, OfCondvar, SeeOwner, Look, Show, Hide, Condvar}
-use Rattle.abstract_locks.specs.Sites.{Line, Main, Second, Doing, Site, IsSite, Begin, End, In, Out, Mark, Clear, FindNobody, MarkOwned, MarkBrought, Bring, Case, Needed, after_deed, done, case_doing, idle, leaves, wakened, counts_taken}
+use Rattle.abstract_locks.specs.Sites.{Line, Main, Second, Doing, Site, IsSite, Begin, End, In, Out, Mark, Clear, FindNobody, MarkOwned, MarkBrought, Send, LeaveLine, Bring, Case, Needed, after_deed, done, case_doing, idle, leaves, wakened, counts_taken}
 use Rattle.abstract_locks.specs.Codes.{bit}
 use Rattle.abstract_locks.specs.Permits.{total, debt, debts, HasPermits, EachDeedKeepsPermits, PermitsAreLookedAfter}
 use Rattle.abstract_locks.specs.Locks as locks
@@ -248,6 +248,8 @@ permits_kept r (Clear Second) s t sort lt h p n = does r s t sort lt h p _ s.par
 permits_kept r (FindNobody m) s t sort lt h p n = finds r s t sort lt h p m n
 permits_kept r MarkOwned s t sort lt h p n = does r s t sort lt h p _ true s.aside_parked (λ left. omega arith) (p.unset t)
 permits_kept r (Bring taken moved) s t sort lt h p n = absurd (let a = n.0 in cc)
+permits_kept r (Send all) s t sort lt h p n = absurd (let a = n.0 in cc)
+permits_kept r LeaveLine s t sort lt h p n = absurd (let a = n.0 in cc)
 permits_kept r Out s t sort lt h p n = outs r s t sort lt h p
 permits_kept r (Case c) s t sort lt h p n = cases_keep r s t sort lt h p c n
 

@@ -5,10 +5,10 @@ use Rattle.lot_calls.specs.declared.calls.Turn.{Turn}
 use Rattle.lot_calls.specs.declared.calls.Turn as turn
 use Rattle.lot_calls.specs.declared.calls.Step.{Step}
 use Rattle.lot_calls.specs.declared.outcomes.Outcome.{Outcome}
-use Rattle.abstract_locks.specs.Locks.{LockState, LockCase, Needs, IsLockState, putting}
+use Rattle.abstract_locks.specs.Locks.{LockState, LockCase, Needs, IsLockState, left_behind, putting}
 use Rattle.abstract_locks.specs.Locks as locks
 use Rattle.abstract_locks.specs.Purposes.{Purpose}
-use Rattle.abstract_locks.specs.Runs.{LocksState, Event, Nothing, AtLock, Moves, joined_by, left_behind, CallState, AreLockStates, GoesOn, Stays, Does, MayDo, MayHappen, Turned, IsStep, IsRun, rules_at, locks_after}
+use Rattle.abstract_locks.specs.Runs.{LocksState, Event, Nothing, AtLock, Moves, joined_by, CallState, AreLockStates, GoesOn, Stays, Does, MayDo, MayHappen, Turned, IsStep, IsRun, rules_at, locks_after}
 use Rattle.abstract_locks.specs.Condvars.{moved_of}
 use Rattle.abstract_locks.proofs.LockKeeps.{case_keeps}
 use Rattle.abstract_locks.proofs.Moves.{condvar_keeps, mutex_keeps}

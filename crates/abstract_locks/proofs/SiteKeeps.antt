@@ -8,12 +8,13 @@ use Rattle.std.proofs.lemmas.List.Sums.{sum_by-set}
 use Rattle.std.proofs.lemmas.Bool.Decides.{nat_tests}
 use Rattle.lot_base.specs.declared.wants.Want.{Want}
 use Rattle.lot_base.specs.declared.wants.Want.TheVariants.{Exclusive, Upgradable, Shared}
-use Rattle.abstract_locks.specs.Locks.{LockState, Pending, Queued, Taken, Sort, Rules, LockCase, Enter, Pend, Settle, Leave, Convert, Park, Aside, TakeFirst, TakeAside, TakePicked, Wake, HandOff, Late, Rollback, OfOnce, once_after, TakesFirst, has_caller, without, Needs, IsLockState, HasTakenNobody, IsTaken, Knows, KnowsAll, Mutex, Normal, Recursive, Semaphore, Once, keeps_more, Owns, IsSuccessor, picked, unpicked, times, taking, standing, is_thread, one_if_some, readers, putting, OfCondvar, SeeOwner, Look, Show, Hide, Condvar}
-use Rattle.abstract_locks.specs.Sites.{Line, Main, Second, Claim, Doing, Site, IsSite, Begin, End, In, Out, Mark, Clear, FindNobody, MarkOwned, MarkBrought, Bring, Case, Needed, after_deed, with_doing, done, case_doing, taking_main, IsEmpty, IsOpen, IsDebtor, bringing, late_found, gives_way, shares_less, KeepsOwned, Has, Pends, Runs, Ran, Holds, counts, counts_taken, is_full, EachDeedKeeps}
+use Rattle.abstract_locks.specs.Locks.{LockState, Pending, Queued, Taken, Sort, Rules, LockCase, Enter, Pend, Settle, Leave, Convert, Park, Aside, TakeFirst, TakeAside, TakePicked, Wake, HandOff, Late, Rollback, OfOnce, once_after, TakesFirst, has_caller, without, Needs, IsLockState, HasTakenNobody, IsTaken, Knows, KnowsAll, Mutex, Normal, Recursive, Semaphore, Once, keeps_more, Owns, IsSuccessor, picked, unpicked, times, taking, standing, is_thread, one_if_some, readers, putting, OfCondvar, SeeOwner, Look, Show, Hide, Condvar, left_behind}
+use Rattle.abstract_locks.specs.Sites.{Line, Main, Second, Claim, Doing, Site, IsSite, Begin, End, In, Out, Mark, Clear, FindNobody, MarkOwned, MarkBrought, Bring, Send, LeaveLine, Case, Needed, after_deed, with_doing, done, case_doing, taking_main, IsEmpty, IsOpen, IsDebtor, bringing, late_found, gives_way, shares_less, KeepsOwned, Has, Pends, Runs, Ran, Holds, counts, counts_taken, is_full, EachDeedKeeps}
 use Rattle.abstract_locks.specs.Onces.{OnceCase, Start, Finish, Fail, Rest, TakeAll}
 use Rattle.abstract_locks.specs.Locks as locks
 use Rattle.abstract_locks.proofs.LockKeeps.{case_keeps, no_aside, times_taking, times_append, known_append, known_taking}
 use Rattle.abstract_locks.proofs.Hands.{taking_others, taking_by, times_picked, passes_on, without_fewer, is_handed, shares_on, counts_more, bars, kept_few, kept_counts, kept_by}
+use Rattle.abstract_locks.proofs.Left.{left_fewer, left_keeps, left_none}
 use Rattle.abstract_locks.proofs.Wakes.{out_keeps}
 use Rattle.abstract_locks.proofs.Turns.{Local, Changed, turn_keeps}
 
@@ -739,6 +740,101 @@ module _ (r : Rules) (s : Site) (t : ℕ) (h : IsSite r s) where
     bring_keeps : IsSite r (after_deed r (Bring gone moved) s t)
     bring_keeps = turn_keeps r s (after_deed r (Bring gone moved) s t) t (s.doing t) _ h refl (put_changed s.doing t _) brings_local
 
+  -- those whom a notification moves leave the condition variable, where no way is barred
+  send_keeps : (all : Bool) → Needed r (Send all) s t → IsSite r (after_deed r (Send all) s t)
+  send_keeps all n = turn_keeps r s (after_deed r (Send all) s t) t (s.doing t) (s.doing t) h refl (record { here = refl; other = λ j ne. refl }) (record {
+    state = left_keeps r all s.lock h.state;
+    parked = λ e. still_parked (λ none. e (still_empty Main none));
+    bit_stays = λ e. inl e;
+    aside_parked = h.aside_parked;
+    full = h.full;
+    filled = λ e. e;
+    inside = λ m e. inl e;
+    fills = λ m e. inl (still_empty m e);
+    emptied = λ m e. let k = h.emptied t m e in (k.0, still_empty m k.1);
+    covered = λ c. let k = h.covered t c in (k.0, k.1, λ some. k.2 (λ none. some (still_empty Main none)));
+    brought = h.brought t;
+    setting = h.setting t;
+    held = λ c e. still_held t c (h.held t c e);
+    unwoken = λ e. h.unwoken t (stood t e);
+    others_stand = λ u ne e. inl (stood u e);
+    others_hold = λ u c ne e. still_held u c e;
+    others_carry = λ x u ne e. e;
+    taken_by = λ x a e. grind (arith, h.carried x);
+    main = λ e free room. absurd (let none : IsOpen Condvar (left_behind all s.lock) = rw n.0 at free in none);
+    main_brought = λ e apart free room. absurd (let none : IsOpen Condvar (left_behind all s.lock) = rw n.0 at free in none);
+    second = λ e none. grind arith;
+  })
+    where
+      still_empty : (m : Line) → IsEmpty s.lock m → IsEmpty (left_behind all s.lock) m
+      still_empty Main e = left_none all s.lock.queue e
+      still_empty Second e = e
+
+      still_parked : s.lock.queue ≢ [] → (s.parked ≡ true) ⊎ (((s.doing t).sets ≡ true) ⊎ ((s.lock.queue ≢ []) × (s.parked ≡ false) × ((s.doing t).sets ≡ false)))
+      still_parked some = grind arith
+
+      stood : (u : ℕ) → 1 ≤ standing u (left_behind all s.lock) → 1 ≤ standing u s.lock
+      stood u e = let a = left_fewer all u s.lock.queue in omega arith
+
+      still_held : (u : ℕ) (c : Claim) → Holds s.lock u c → Holds (left_behind all s.lock) u c
+      still_held u (Has Exclusive) e = e
+      still_held u (Has Upgradable) e = e
+      still_held u (Has Shared) e = e
+      still_held u (Has x) e = absurd e
+      still_held u (Pends falls_back) e = e
+      still_held u Runs e = e
+      still_held u Ran e = e
+
+  -- and who leaves it because its time is up
+  leave_keeps : Needed r LeaveLine s t → IsSite r (after_deed r LeaveLine s t)
+  leave_keeps n = turn_keeps r s (after_deed r LeaveLine s t) t (s.doing t) (s.doing t) h refl (record { here = refl; other = λ j ne. refl }) (record {
+    state = case_keeps r Late s.lock t h.state n.1;
+    parked = λ e. still_parked (λ none. e (still_empty Main none));
+    bit_stays = λ e. inl e;
+    aside_parked = λ e. h.aside_parked (λ k. e (rw k refl));
+    full = h.full;
+    filled = λ e. e;
+    inside = λ m e. inl e;
+    fills = λ m e. inl (still_empty m e);
+    emptied = λ m e. let k = h.emptied t m e in (k.0, still_empty m k.1);
+    covered = λ e. absurd (let k = (h.covered t e).1 in let i = n.2.1 in cc);
+    brought = h.brought t;
+    setting = h.setting t;
+    held = λ c e. still_held t c (h.held t c e);
+    unwoken = λ e. h.unwoken t (stood t e);
+    others_stand = λ u ne e. inl (stood u e);
+    others_hold = λ u c ne e. still_held u c e;
+    others_carry = λ x u ne e. e;
+    taken_by = λ x a e. grind (arith, h.carried x);
+    main = λ e free room. absurd (let none : IsOpen Condvar late_lock = rw n.0 at free in none);
+    main_brought = λ e apart free room. absurd (let none : IsOpen Condvar late_lock = rw n.0 at free in none);
+    second = λ e none. still_second (s.doing t).wakes (λ k. e (rw k refl)) none;
+  })
+    where
+      still_empty : (m : Line) → IsEmpty s.lock m → IsEmpty late_lock m
+      still_empty Main e = rw e refl
+      still_empty Second e = rw e refl
+
+      still_parked : s.lock.queue ≢ [] → (s.parked ≡ true) ⊎ (((s.doing t).sets ≡ true) ⊎ ((s.lock.queue ≢ []) × (s.parked ≡ false) × ((s.doing t).sets ≡ false)))
+      still_parked some = grind arith
+
+      stood : (u : ℕ) → 1 ≤ standing u late_lock → 1 ≤ standing u s.lock
+      stood u e = let a = without_fewer u t s.lock.queue in grind (arith, nat_tests)
+
+      still_held : (u : ℕ) (c : Claim) → Holds s.lock u c → Holds late_lock u c
+      still_held u (Has Exclusive) e = e
+      still_held u (Has Upgradable) e = e
+      still_held u (Has Shared) e = e
+      still_held u (Has x) e = absurd e
+      still_held u (Pends falls_back) e = e
+      still_held u Runs e = e
+      still_held u Ran e = e
+
+      still_second : (o : Option Line) → s.lock.aside ≢ None → readers s.lock ≡ 0 → (o ≡ Some Second) ⊎ ((s.lock.aside ≢ None) × (readers s.lock ≡ 0) × (o ≢ Some Second))
+      still_second None e none = inr (e, none, λ k. cc)
+      still_second (Some Main) e none = inr (e, none, λ k. cc)
+      still_second (Some Second) e none = inl refl
+
 pub deed_keeps : EachDeedKeeps
 deed_keeps r (Begin c) s t h n = begin_keeps r s t h c n
 deed_keeps r End s t h n = end_keeps r s t h n
@@ -750,4 +846,6 @@ deed_keeps r (FindNobody m) s t h n = find_keeps r s t h m n
 deed_keeps r MarkOwned s t h n = owned_keeps r s t h n
 deed_keeps r MarkBrought s t h n = brought_keeps r s t h
 deed_keeps r (Bring taken moved) s t h n = bring_keeps r s t h taken moved n
+deed_keeps r (Send all) s t h n = send_keeps r s t h all n
+deed_keeps r LeaveLine s t h n = leave_keeps r s t h n
 deed_keeps r (Case c) s t h n = act_keeps r s t h c n

@@ -11,11 +11,11 @@ use Rattle.lot_calls.specs.declared.calls.Turn.{Turn}
 use Rattle.lot_calls.specs.declared.calls.Turn as turn
 use Rattle.lot_calls.specs.declared.calls.Step.{Step}
 use Rattle.lot_calls.specs.declared.outcomes.Outcome.{Outcome}
-use Rattle.abstract_locks.specs.Locks.{LockState, LockCase, MayConvert, Enter, Pend, Settle, Leave, Convert, Park, Aside, TakeFirst, TakeAside, TakePicked, Wake, HandOff, Late, Rollback, OfOnce, once_after, Needs, IsLockState, Rules, Normal, Recursive, Queued, Pending, Rights, rights_of, Owns, readers, sharers, times, after_case, wants_shared, OfCondvar, SeeOwner, Look, Show, Hide, putting}
+use Rattle.abstract_locks.specs.Locks.{LockState, LockCase, MayConvert, Enter, Pend, Settle, Leave, Convert, Park, Aside, TakeFirst, TakeAside, TakePicked, Wake, HandOff, Late, Rollback, OfOnce, once_after, Needs, IsLockState, Rules, Normal, Recursive, Queued, Pending, Rights, rights_of, Owns, readers, sharers, times, after_case, wants_shared, OfCondvar, SeeOwner, Look, Show, Hide, putting, left_behind}
 use Rattle.abstract_locks.specs.Onces.{OnceCase, Start, Finish, Fail, Rest, TakeAll}
 use Rattle.abstract_locks.specs.Locks as locks
 use Rattle.abstract_locks.specs.Purposes.{Purpose, Converts, ConvertsBy, Patience}
-use Rattle.abstract_locks.specs.Runs.{LocksState, Event, Nothing, AtLock, Moves, joined_by, left_behind, AreLockStates, GoesOn, Does, MayDo, MayHappen, Turned, IsStep, rules_at, locks_after}
+use Rattle.abstract_locks.specs.Runs.{LocksState, Event, Nothing, AtLock, Moves, joined_by, AreLockStates, GoesOn, Does, MayDo, MayHappen, Turned, IsStep, rules_at, locks_after}
 use Rattle.abstract_locks.specs.UserLaws.{ReadersStayOut, RereadersPass, UpgradesLetNobodyWrite, DowngradesOwn, OfEachStep, IsFirstWriter, waits_to_share}
 use Rattle.abstract_locks.specs.Condvars.{moved_of}
 use Rattle.abstract_locks.specs.Sites.{has_readers}

@@ -1,7 +1,7 @@
 -- Deeds of one thread, one after another, and the one case of the abstract lock that they are.
 use Rattle.std.specs.Prelude.{ℕ, Bool, false, Option, Some, None, List, [], ◌∷◌}
-use Rattle.abstract_locks.specs.Locks.{LockState, LockCase, Rules, Wake, Needs, after_case}
-use Rattle.abstract_locks.specs.Sites.{Site, Deed, Out, Bring, Case, Needed, after_deed}
+use Rattle.abstract_locks.specs.Locks.{LockState, LockCase, Late, Rules, Wake, Needs, after_case}
+use Rattle.abstract_locks.specs.Sites.{Site, Deed, Out, Bring, Send, LeaveLine, Case, Needed, after_deed}
 use Rattle.abstract_locks.specs.Runs.{Event, Nothing, AtLock, Moves}
 
 -- the site behind them
@@ -20,6 +20,8 @@ KeepLock [] = Unit {0}
 KeepLock (Case case ∷ ds) = ⊥
 KeepLock (Out ∷ ds) = ⊥
 KeepLock (Bring taken moved ∷ ds) = ⊥
+KeepLock (Send all ∷ ds) = ⊥
+KeepLock (LeaveLine ∷ ds) = ⊥
 KeepLock (d ∷ ds) = KeepLock ds
 
 -- one case at most, or out of a section
@@ -28,12 +30,15 @@ AreOneCase [] = Unit {0}
 AreOneCase (Case case ∷ ds) = KeepLock ds
 AreOneCase (Out ∷ ds) = KeepLock ds
 AreOneCase (Bring taken moved ∷ ds) = ⊥
+AreOneCase (Send all ∷ ds) = ⊥
+AreOneCase (LeaveLine ∷ ds) = KeepLock ds
 AreOneCase (d ∷ ds) = AreOneCase ds
 
 -- That case. Who leaves a section wakes whom it has in hand, if anybody, where it hasn't handed the lock over: hand says.
 abbrev pub case_of : Option Bool → List Deed → Option LockCase
 case_of hand [] = None
 case_of hand (Case case ∷ ds) = Some case
+case_of hand (LeaveLine ∷ ds) = Some Late
 case_of (Some false) (Out ∷ ds) = Some Wake
 case_of hand (d ∷ ds) = case_of hand ds
 

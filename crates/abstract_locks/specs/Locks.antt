@@ -422,6 +422,10 @@ condvar_after (Look seen) s = s
 condvar_after (Show m) s = record s { shown = Some m }
 condvar_after Hide s = record s { shown = None }
 
+-- those whom a notification moves, the first or all, leave the list of the condition variable
+abbrev pub left_behind : Bool → LockState → LockState
+left_behind all s = record s { queue = if all then [] else drop 1 s.queue }
+
 abbrev pub IsSomePending : Option Pending → ℕ → Type 0
 IsSomePending None t = ⊥
 IsSomePending (Some p) t = p.thread ≡ t

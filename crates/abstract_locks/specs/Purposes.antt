@@ -19,7 +19,7 @@ use Rattle.lot_calls.specs.declared.calls.RwLockCall.TheVariants as rwlock_call
 use Rattle.lot_calls.specs.declared.calls.OnceCall.{OnceCall}
 use Rattle.lot_calls.specs.declared.calls.OnceCall.TheVariants as once_call
 use Rattle.abstract_locks.specs.Onces.{Start, Rest}
-use Rattle.abstract_locks.specs.Locks.{Rules, Mutex, Normal, Recursive, Once, Condvar, LockCase, Enter, Pend, Settle, Leave, Convert, Park, Aside, TakeFirst, TakeAside, TakePicked, Wake, HandOff, Late, Rollback, OfOnce, CondvarCase, Look, Show, Hide, OfCondvar, SeeOwner}
+use Rattle.abstract_locks.specs.Locks.{Rules, Mutex, Normal, Recursive, Once, Condvar, LockCase, Enter, Pend, Settle, Leave, Convert, Park, Aside, TakeFirst, TakeAside, TakePicked, Wake, HandOff, Late, Rollback, OfOnce, Look, Show, Hide, OfCondvar, SeeOwner}
 
 -- what a call of a lock is for
 pub data Purpose : Type 0 where

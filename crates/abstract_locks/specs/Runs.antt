@@ -1,6 +1,6 @@
 -- A run of the abstract locks: each step is one case of one lock, or changes nothing, each answer is true, and a step is refused
 -- exactly where it isn't possible.
-use Rattle.std.specs.Prelude.{ℕ, Option, Some, None, ◌<◌, ◌≤◌, ◌≡◌, ◌≢◌, ◌⊎◌, List, [], ◌∷◌, ◌++◌, drop, length, nat_le, Bool, true, false, if◌then◌else◌, ◌==◌, ◌*◌, ◌+◌, ◌↔◌}
+use Rattle.std.specs.Prelude.{ℕ, Option, Some, None, ◌<◌, ◌≤◌, ◌≡◌, ◌≢◌, ◌⊎◌, List, [], ◌∷◌, ◌++◌, length, nat_le, Bool, true, false, if◌then◌else◌, ◌==◌, ◌*◌, ◌+◌, ◌↔◌}
 use Rattle.lot_base.specs.declared.keys.Keys.{Keys}
 use Rattle.lot_base.specs.declared.keys.Keys as keys
 use Rattle.lot_base.specs.declared.wants.Want.{Want}
@@ -20,7 +20,7 @@ use Rattle.lot_calls.specs.Calls.{lock_in}
 use Rattle.lot_calls.specs.Kinds.{is_plain_mutex}
 use Rattle.abstract_locks.specs.Onces.{Phase, New, Poisoned, InProgress, Done, OnceCase, Start, Finish, Fail, Rest}
 use Rattle.abstract_locks.specs.Condvars.{moved_of, taken_of, line_of}
-use Rattle.abstract_locks.specs.Locks.{LockState, Queued, taking, Taken, LockCase, Enter, Pend, Settle, Leave, Park, Aside, Wake, HandOff, Late, OfOnce, CondvarCase, Look, OfCondvar, SeeOwner, Condvar, Rules, Rights, Mutex, Needs, after_case, rights_of, with_right, without_right, Owns, IsFree, IsBlocked, count, readers, putting, standing, HasTakenNobody, IsLockState, opening_lock, times}
+use Rattle.abstract_locks.specs.Locks.{LockState, Queued, taking, Taken, LockCase, Enter, Pend, Settle, Leave, Park, Aside, Wake, HandOff, Late, OfOnce, Look, OfCondvar, SeeOwner, Condvar, Rules, Rights, Mutex, Needs, after_case, rights_of, with_right, without_right, Owns, IsFree, IsBlocked, count, readers, putting, standing, HasTakenNobody, IsLockState, left_behind, opening_lock, times}
 use Rattle.abstract_locks.specs.Purposes.{Purpose, Enters, Releases, Converts, Bumps, CallsOnce, Awaits, Waits, Notifies, Recall, Blank, Saw, SawOwner, HasMoved, WasMoved, WasNotified, Patience, Patient, Timed, Try, lock_for, purpose_of, rules_of, IsMadeOf}
 
 -- what is remembered of a call: what its answer needs of earlier steps, and whether it tries again
@@ -105,11 +105,7 @@ pub data Event : Type 0 where
   AtLock : (lock : ℕ) → LockCase → Event
   Moves : (condvar mutex : ℕ) → (all owned : Bool) → (number : ℕ) → Event
 
--- those whom it moves leave the list of the condition variable
-abbrev pub left_behind : Bool → LockState → LockState
-left_behind all s = record s { queue = if all then [] else drop 1 s.queue }
-
--- and stand behind the last who waits for the mutex; of a free one the first of them is in its hand
+-- those whom it moves stand behind the last who waits for the mutex; of a free one the first of them is in its hand
 abbrev pub joined_by : Bool → ℕ → List Queued → LockState → LockState
 joined_by owned t moved s = record s { queue = s.queue ++ line_of owned moved; taken = taking t (taken_of owned moved) s.taken }
 
@@ -167,14 +163,14 @@ woken w t (AtLock l (HandOff x successor)) u c =
 woken w t (Moves l m all owned number) u c = befallen u (moved_of all (w.locks l).queue) c
 woken w t event u c = c
 
--- a call that ends is forgotten
+-- a call that ends is forgotten; a wait's own release of its mutex may wake it
 abbrev pub unless_ended : Outcome → CallState → CallState
 unless_ended (outcome.TheVariants.End a) c = no_call
 unless_ended o c = c
 
 abbrev pub calls_after : LocksState → ℕ → Event → Outcome → ℕ → CallState
 calls_after w t event o u =
-    if u == t then unless_ended o (going_on event (w.calls t))
+    if u == t then unless_ended o (woken w t event t (going_on event (w.calls t)))
     else woken w t event u (w.calls u)
 
 -- nobody leaves a queue but whose time is up

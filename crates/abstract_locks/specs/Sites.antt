@@ -4,7 +4,7 @@ pub use Rattle.lot_base.specs.declared.keys.Line.{Line}
 pub use Rattle.lot_base.specs.declared.keys.Line.TheVariants.{Main, Second}
 use Rattle.lot_base.specs.declared.wants.Want.{Want}
 use Rattle.lot_base.specs.declared.wants.Want.TheVariants.{Exclusive, Upgradable, Shared}
-use Rattle.abstract_locks.specs.Locks.{LockState, Taken, Queued, Pending, Sort, Mutex, Normal, Recursive, Semaphore, Once, Condvar, Rules, LockCase, Enter, Pend, Settle, Leave, Convert, Park, Aside, TakeFirst, TakeAside, TakePicked, Wake, HandOff, Late, Rollback, OfOnce, OfCondvar, SeeOwner, Needs, Owns, Knows, NoWriter, IsLockState, KnowsAll, IsTaken, putting, taking, readers, count, times, standing, is_thread, is_writer, has_caller, keeps_more, unpicked, wants_shared, let_go, opening_lock}
+use Rattle.abstract_locks.specs.Locks.{LockState, Taken, Queued, Pending, Sort, Mutex, Normal, Recursive, Semaphore, Once, Condvar, Rules, LockCase, Enter, Pend, Settle, Leave, Convert, Park, Aside, TakeFirst, TakeAside, TakePicked, Wake, HandOff, Late, Rollback, OfOnce, OfCondvar, SeeOwner, Needs, Owns, Knows, NoWriter, IsLockState, KnowsAll, IsTaken, putting, taking, readers, count, times, standing, is_thread, is_writer, has_caller, keeps_more, unpicked, wants_shared, left_behind, let_go, opening_lock}
 use Rattle.abstract_locks.specs.Onces.{InProgress, Done, IsRunning, OnceCase, Start, Finish, Fail, Rest, TakeAll}
 use Rattle.abstract_locks.specs.Locks as locks
 
@@ -179,6 +179,10 @@ pub data Deed : Type 0 where
   Bring : (taken moved : List Queued) → Deed
   -- and sets the bit for those whom it has brought to one that nobody owned
   MarkBrought : Deed
+  -- of the condition variable, which the first of its waiters leaves for the mutex, or all do
+  Send : (all : Bool) → Deed
+  -- its time is up, and it leaves the list of a condition variable, whose word has no bit for it
+  LeaveLine : Deed
   -- a case of the lock
   Case : LockCase → Deed
 
@@ -318,6 +322,8 @@ after_deed r (Bring taken moved) s t = record s {
   lock = record s.lock { queue = s.lock.queue ++ moved; taken = taking t taken s.lock.taken };
   doing = putting s.doing t (bringing taken moved (s.doing t));
 }
+after_deed r (Send all) s t = record s { lock = left_behind all s.lock }
+after_deed r LeaveLine s t = record s { lock = locks.after_case r Late s.lock t }
 after_deed r (Case case) s t = done r case s t (locks.after_case r case s.lock t)
 
 -- ---------------------------------------------------------------- what a deed needs
@@ -385,6 +391,8 @@ Needed r (Bring taken moved) s t =
     (r.sort ≡ Mutex) × ((s.doing t).inside ≡ Some Main) × ((s.doing t).carries ≡ false)
     × ((s.doing t).wakes ≡ None) × ((s.doing t).retries ≡ None)
     × Apart s (taken ++ moved) × KnowsAll Mutex (taken ++ moved) × (taken ≡ [] → (s.doing t).brings ≡ true)
+Needed r (Send all) s t = (r.sort ≡ Condvar) × ((s.doing t).inside ≡ Some Main)
+Needed r LeaveLine s t = (r.sort ≡ Condvar) × Needs r Late s.lock t × CaseFits r s t Late (s.doing t)
 Needed r (Case case) s t = Needs r case s.lock t × CaseFits r s t case (s.doing t)
 
 -- ---------------------------------------------------------------- the law

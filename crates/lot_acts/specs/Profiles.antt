@@ -2,6 +2,7 @@
 use Rattle.std.specs.Prelude.{ℕ, Bool, false, Option, Some, None, if◌then◌else◌}
 use Rattle.lot_base.specs.declared.wants.Want.{Want}
 use Rattle.lot_base.specs.declared.wants.Want.TheVariants.{Exclusive}
+use Rattle.abstract_locks.specs.Condvars.{Stage}
 use Rattle.abstract_locks.specs.Locks.{Rights, Taken}
 use Rattle.abstract_locks.specs.Purposes.{Purpose, Enters, Try, Recall, Blank}
 use Rattle.abstract_locks.specs.Sites.{Doing, Line, idle}
@@ -48,6 +49,9 @@ pub record Profile : Type 0 where
   pub failed : Bool
   -- what a call of a condition variable has seen and moved, and what befell it
   pub recalls : Recall
+  -- what it is about to do inside the section of a condition variable, and the mutex that its wait names
+  pub stage : Option Stage
+  pub names : Option ℕ
   -- what its call is for, by the lock, and whether it has given its right up
   pub purpose : ℕ → Purpose
   pub released : Bool
@@ -70,6 +74,8 @@ blank = record {
   gave_up = false;
   failed = false;
   recalls = Blank;
+  stage = None;
+  names = None;
   purpose = λ l. Enters l Exclusive Try;
   released = false;
   former = λ l rights. rights;

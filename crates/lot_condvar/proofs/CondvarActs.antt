@@ -235,7 +235,7 @@ module _ (c m : ℕ) (timed : Bool) where
   waits_so wait.Leave reached = inl (refl, record { inside = refl; deeds = tt; goes = refl }, record { deeds = tt; goes = refl })
   waits_so wait.Refuse reached = inl (refl, record { inside = refl; deeds = tt; goes = refl }, record { deeds = tt; goes = refl })
   waits_so (wait.Release st (mutex.Unlock at)) reached = releases st at
-  waits_so (wait.Release st at) reached = absurd reached
+  waits_so (wait.Release st at) reached = absurd reached.0
   waits_so (wait.Asleep st) reached = tt
   waits_so wait.Remove reached = removes
   waits_so wait.Hide reached = (inl refl, λ seen. (record { deeds = tt; goes = refl }, record { deeds = tt; goes = refl }))
@@ -417,7 +417,7 @@ module _ (m : ℕ) (timed : Bool) where
   sleepers (wait.Release (stands.InHand by) (mutex.Unlock at)) reached = in_hand_of _ by false refl refl refl (λ u e. record { was = (e, refl, refl); handed = λ alone. (refl, refl); woken = (refl, refl) })
   sleepers (wait.Release (stands.Handed by) (mutex.Unlock at)) reached = in_hand_of _ by true refl refl refl (λ u e. record { was = (e, refl, refl); told = (refl, refl) })
   sleepers (wait.Release (stands.Noted note) (mutex.Unlock at)) reached = awake _ refl refl refl
-  sleepers (wait.Release st at) reached = absurd reached
+  sleepers (wait.Release st at) reached = absurd reached.0
   sleepers (wait.Asleep stands.Listed) reached = listed _ (inr (record { was = (refl, refl, refl); taken = λ u. (refl, refl); moved = λ key. (refl, refl) })) refl refl
   sleepers (wait.Asleep stands.Moved) reached = moved _ (inr (record { was = (refl, refl); taken = λ u. (refl, refl) })) refl refl
   sleepers (wait.Asleep (stands.InHand by)) reached = in_hand_of _ by false refl refl refl (λ u e. record { was = (e, refl, refl); handed = λ alone. (refl, refl); woken = (refl, refl) })

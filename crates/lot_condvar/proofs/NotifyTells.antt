@@ -16,12 +16,14 @@ use Rattle.abstract_locks.specs.Locks.{LockState, Mutex, OfCondvar, Rights, Rule
 use Rattle.abstract_locks.specs.Purposes.{Blank, HasMoved, Notifies, Saw}
 use Rattle.abstract_locks.specs.Runs.{AnswerHolds, AtLock, CallState, Keeps, LocksState, MovedNobody, Moves, Nothing, going_on}
 use Rattle.abstract_locks.specs.Sites.{MarkOwned, Site}
+use Rattle.lot_mutex.specs.declared.unlock.UnlockAt.TheVariants as unlock
+use Rattle.lot_mutex.specs.MutexProfiles.{mutex_profile}
 use Rattle.lot_mutex.specs.declared.lock.Entry.TheVariants as entry
 use Rattle.lot_mutex.specs.declared.lock.LockAt.{LockAt}
 use Rattle.lot_mutex.specs.declared.lock.LockAt.TheVariants as lock
 use Rattle.lot_mutex.specs.declared.places.MutexPlace.TheVariants as mutex
 use Rattle.lot_mutex.specs.declared.unlock.UnlockAt.{UnlockAt}
-use Rattle.lot_mutex.specs.MutexSteps.{entered, in_lock, in_unlock, is_locked, next_lock, next_unlock, still_retries}
+use Rattle.lot_mutex.specs.MutexSteps.{entered, in_lock, in_unlock, is_locked, is_parked, next_lock, next_unlock, still_retries}
 use Rattle.lot_condvar.specs.declared.notify.NotifyAt.{NotifyAt}
 use Rattle.lot_condvar.specs.declared.notify.NotifyAt.TheVariants as notify
 use Rattle.lot_condvar.specs.declared.places.CondvarPlace.{CondvarPlace}
@@ -31,7 +33,7 @@ use Rattle.lot_condvar.specs.declared.wait.Stands.TheVariants as stands
 use Rattle.lot_condvar.specs.declared.wait.WaitAt.TheVariants as wait
 use Rattle.lot_base.specs.declared.notes.Note.TheVariants as note
 use Rattle.lot_condvar.specs.CondvarSteps.{behind, befallen, befalls, condvar_next, in_notify, in_wait, is_shown, marks, moved_one, mutex_shown, notified, released, relocked}
-use Rattle.lot_condvar.specs.CondvarProfiles.{may_give_up}
+use Rattle.lot_condvar.specs.CondvarProfiles.{has_mutex, may_give_up}
 use Rattle.lot_condvar.specs.CondvarDeeds.{IsAt, MayHear, condvar_deeds, word_of}
 use Rattle.lot_condvar.specs.CondvarDeeds as deeds
 use Rattle.lot_condvar.specs.CondvarMutex.{MayHearBeside, beside_deeds}
@@ -168,10 +170,31 @@ goes_behind m timed (stands.Handed by) = tt
 goes_behind m timed (stands.Noted note.Normal) = ((λ e. cc), tt)
 goes_behind m timed (stands.Noted note.HandOff) = ((λ e. cc), tt)
 
-releases : (m : ℕ) (timed : Bool) (st st2 : Stands) (at : UnlockAt) (b : Bool) (n : Next UnlockAt) → IsReached (Wait m timed (if b then wait.Release st2 (mutex.Unlock at) else released st (in_unlock n)))
-releases m timed st st2 at true n = tt
-releases m timed st st2 at false (At q) = tt
-releases m timed st st2 at false (Over answer) = goes_behind m timed st
+-- behind its first step it owns the mutex no more
+abbrev OwnsNot : Stands → Next UnlockAt → Type 0
+OwnsNot st (At q) = has_mutex st ≡ true → (mutex_profile (mutex.Unlock q)).doing.claims ≡ None
+OwnsNot st (Over answer) = Unit {0}
+
+owns_not : (st : Stands) (at : UnlockAt) (told : Reply) → OwnsNot st (At at) → OwnsNot st (next_unlock at told)
+owns_not st unlock.Subtract (Value seen) h = by (is_parked seen)
+  where
+    by : (b : Bool) → OwnsNot st (if b then At unlock.Enter else Over answer.Ok)
+    by true = λ e. refl
+    by false = tt
+owns_not st unlock.Enter Done h = λ e. refl
+owns_not st unlock.Take (Took any none_left) h = by none_left
+  where
+    by : (b : Bool) → OwnsNot st (if b then At (unlock.Clear any) else At (unlock.Leave any))
+    by true = λ e. refl
+    by false = λ e. refl
+owns_not st (unlock.Clear any) (Value seen) h = λ e. refl
+owns_not st (unlock.Leave any) Done h = tt
+owns_not st at told h = h
+
+releases : (m : ℕ) (timed : Bool) (st st2 : Stands) (at : UnlockAt) (b : Bool) (n : Next UnlockAt) → b ≡ false → OwnsNot st n → IsReached (Wait m timed (if b then wait.Release st2 (mutex.Unlock at) else released st (in_unlock n)))
+releases m timed st st2 at true n e h = absurd cc
+releases m timed st st2 at false (At q) e h = (tt, h)
+releases m timed st st2 at false (Over answer) e h = goes_behind m timed st
 
 abbrev AreLocks : Next LockAt → Type 0
 AreLocks (At at) = IsLockOf at
@@ -211,9 +234,9 @@ relocks : (m : ℕ) (timed timed_out retries : Bool) (n : Next LockAt) → AreLo
 relocks m timed timed_out retries (At q) is late = (late, is)
 relocks m timed timed_out retries (Over answer) is late = tt
 
-marks_reached : (all : Bool) (m seen : ℕ) (b : Bool) → IsReached (Notify all m (if b then notify.Set seen else notify.Move false))
-marks_reached all m seen true = tt
-marks_reached all m seen false = tt
+marks_reached : (all : Bool) (m seen : ℕ) (b : Bool) → is_locked seen ≡ b → IsReached (Notify all m (if b then notify.Set seen else notify.Move false))
+marks_reached all m seen true e = e
+marks_reached all m seen false e = tt
 
 module _ (c : CondvarSite) (t : ℕ) (site : IsCondvar c) where
   moved_reached : (m number : ℕ) (any b : Bool) → number ≢ 0 → IsReached (Notify true m (if b then notify.MarkMoved number else notify.Leave any number))
@@ -225,7 +248,7 @@ module _ (c : CondvarSite) (t : ℕ) (site : IsCondvar c) where
   one_reached all any false m = ((λ e z. cc), λ e. omega arith)
 
   again_reached : (all b : Bool) (m : ℕ) → IsReached (Notify all m (if not b then notify.Leave false 0 else if all then notify.Hide else notify.Mark))
-  again_reached true true m = tt
+  again_reached true true m = refl
   again_reached false true m = tt
   again_reached all false m = ((λ e. cc), λ e. omega arith)
 
@@ -237,10 +260,10 @@ module _ (c : CondvarSite) (t : ℕ) (site : IsCondvar c) where
       shows true = tt
       shows false = tt
   reaches (Wait m timed wait.Stand) Done reached h a late = tt
-  reaches (Wait m timed wait.Leave) Done reached h a late = tt
+  reaches (Wait m timed wait.Leave) Done reached h a late = (tt, λ e. absurd cc)
   reaches (Wait m timed wait.Refuse) Done reached h a late = tt
-  reaches (Wait m timed (wait.Release st (mutex.Unlock at))) told reached h a late = releases m timed st (befallen st told) at (befalls told) (next_unlock at told)
-  reaches (Wait m timed (wait.Release st at)) told reached h a late = absurd reached
+  reaches (Wait m timed (wait.Release st (mutex.Unlock at))) told reached h a late = releases m timed st (befallen st told) at (befalls told) (next_unlock at told) h (owns_not st at told reached.1)
+  reaches (Wait m timed (wait.Release st at)) told reached h a late = absurd reached.0
   reaches (Wait m timed (wait.Asleep stands.Listed)) Late reached h a late = late refl
   reaches (Wait m timed (wait.Asleep stands.Moved)) Late reached h a late = late refl
   reaches (Wait m timed wait.Remove) (Removed none_left) reached h a late = unlisted none_left
@@ -262,12 +285,12 @@ module _ (c : CondvarSite) (t : ℕ) (site : IsCondvar c) where
   reaches (Notify all m notify.Enter) Done reached h a late = tt
   reaches (Notify all m notify.Again) (Value seen) reached h a late = again_reached all (is_shown seen m) m
   reaches (Notify all m notify.Hide) (Value seen) reached h a late = tt
-  reaches (Notify all m notify.Mark) (Value seen) reached h a late = marks_reached all m seen (is_locked seen)
+  reaches (Notify all m notify.Mark) (Value seen) reached h a late = marks_reached all m seen (is_locked seen) refl
   reaches (Notify all m (notify.Set expected)) (Value seen) reached h a late = sets (seen == expected)
     where
       sets : (b : Bool) → IsReachedNext (in_notify all m (if b then At (notify.Move true) else At (marks seen)))
       sets true = tt
-      sets false = marks_reached all m seen (is_locked seen)
+      sets false = marks_reached all m seen (is_locked seen) refl
   reaches (Notify false m (notify.Move locked)) (Took any none_left) reached h a late = one_reached false any none_left m
   reaches (Notify false m (notify.Move locked)) (Requeued number none_left) reached h a late = one_reached false false none_left m
   reaches (Notify true m (notify.Move locked)) (Requeued number none_left) reached h a late =

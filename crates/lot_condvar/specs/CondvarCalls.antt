@@ -22,6 +22,7 @@ use Rattle.lot_mutex.specs.declared.lock.LockAt.{LockAt}
 use Rattle.lot_mutex.specs.declared.lock.LockAt.TheVariants as lock
 use Rattle.lot_mutex.specs.declared.places.MutexPlace.{MutexPlace}
 use Rattle.lot_mutex.specs.declared.places.MutexPlace.TheVariants as mutex
+use Rattle.lot_mutex.specs.MutexProfiles.{mutex_profile}
 use Rattle.lot_mutex.specs.MutexSteps.{is_locked}
 use Rattle.lot_condvar.specs.declared.notify.NotifyAt.{NotifyAt}
 use Rattle.lot_condvar.specs.declared.notify.NotifyAt.TheVariants as notify
@@ -31,7 +32,7 @@ use Rattle.lot_condvar.specs.declared.wait.Stands.TheVariants as stands
 use Rattle.lot_condvar.specs.declared.wait.WaitAt.{WaitAt}
 use Rattle.lot_condvar.specs.declared.wait.WaitAt.TheVariants as wait
 use Rattle.lot_condvar.specs.CondvarSteps.{condvar_next, mutex_shown, next_wait}
-use Rattle.lot_condvar.specs.CondvarProfiles.{condvar_profile, may_give_up, mutex_side, notify_row, wait_carries, wait_row}
+use Rattle.lot_condvar.specs.CondvarProfiles.{condvar_profile, has_mutex, may_give_up, mutex_side, notify_row, wait_carries, wait_row}
 use Rattle.lot_condvar.specs.CondvarDeeds as deeds
 use Rattle.lot_condvar.specs.CondvarDeeds.{IsAt, MayHear, condvar_deeds, wait_deeds}
 use Rattle.lot_condvar.specs.CondvarMutex.{MayHearBeside, beside_deeds}
@@ -124,14 +125,17 @@ abbrev pub IsRelock : MutexPlace → Type 0
 IsRelock (mutex.Lock entry.Lock retries at) = IsLockOf at
 IsRelock at = ⊥
 
--- only a timed wait is ever late, and who is to wake somebody has moved some: the first alone where it isn't to move all
+-- only a timed wait is ever late, and who was handed its mutex has released it; a notification hides what it shows only to move all, and sets the bit
+-- of a mutex that it saw locked; who is to wake somebody has moved some: the first alone where it isn't to move all
 abbrev pub IsReached : CondvarPlace → Type 0
-IsReached (Wait m timed (wait.Release s at)) = IsRelease at
+IsReached (Wait m timed (wait.Release s at)) = IsRelease at × (has_mutex s ≡ true → (mutex_profile at).doing.claims ≡ None)
 IsReached (Wait m timed wait.Remove) = timed ≡ true
 IsReached (Wait m timed wait.Hide) = timed ≡ true
 IsReached (Wait m timed wait.GiveUp) = timed ≡ true
 IsReached (Wait m timed wait.RemoveMoved) = timed ≡ true
 IsReached (Wait m timed (wait.Lock timed_out at)) = (timed_out ≡ true → timed ≡ true) × IsRelock at
+IsReached (Notify all m notify.Hide) = all ≡ true
+IsReached (Notify all m (notify.Set expected)) = is_locked expected ≡ true
 IsReached (Notify all m (notify.MarkMoved number)) = (all ≡ true) × (number ≢ 0)
 IsReached (Notify all m (notify.Leave any number)) = (any ≡ true → number ≢ 0) × (all ≡ false → number ≤ 1)
 IsReached p = Unit {0}

@@ -332,6 +332,8 @@ condvar_profile p = record profiles.blank {
   late = is_late p;
   gave_up = has_given_up p;
   recalls = condvar_recalls p;
+  stage = (condvar_row p).stage;
+  names = (condvar_row p).waits_with;
   purpose = condvar_purpose p;
   released = condvar_released p;
 }

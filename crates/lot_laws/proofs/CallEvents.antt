@@ -1,7 +1,8 @@
 -- What a step of a thread is to the abstract locks, whatever lock it calls and wherever it stands: the event is the one case of its deeds, and
 -- its call comes to what its rows say.
 use Rattle.std.proofs.Common.{ℕ, Bool, true, false, Option, Some, None, if◌then◌else◌, ◌==◌, ◌≡◌, ◌≢◌, ◌⊎◌, ◌≤◌, List, [], ◌∷◌, ◌++◌, inl, inr, refl, sym, ◌∙◌, ap, subst, arith}
-use Rattle.abstract_locks.specs.Runs.{Nothing, gives_up}
+use Rattle.abstract_locks.specs.Condvars.{line_of, moved_of, taken_of}
+use Rattle.abstract_locks.specs.Runs.{Nothing, Moves, gives_up, joined_by}
 use Rattle.lot_laws.specs.Promises.{KnowsRights}
 use Rattle.abstract_locks.specs.Locks.{Once, OfOnce, Sort, CondvarCase, Look, Show, Hide}
 use Rattle.abstract_locks.specs.Purposes.{Enters, Releases, Converts, Bumps, CallsOnce, Awaits, lock_for, Recall, Blank, Saw, SawOwner, HasMoved, WasMoved, WasNotified, Waits, Notifies}
@@ -10,6 +11,7 @@ use Rattle.abstract_locks.specs.Runs.{Begins}
 use Rattle.std.proofs.lemmas.Bool.{cases_eq, eqb-true}
 use Rattle.std.proofs.lemmas.Bool.Decides.{nat_tests}
 use Rattle.lot_base.specs.declared.wants.Want.{Want}
+use Rattle.lot_calls.specs.declared.outcomes.Answer.{Answer}
 use Rattle.lot_calls.specs.declared.outcomes.Outcome.{Outcome}
 use Rattle.lot_calls.specs.declared.outcomes.Outcome as outcome
 use Rattle.lot_acts.specs.declared.acts.Next.{Next}
@@ -23,19 +25,22 @@ use Rattle.abstract_locks.specs.Purposes.{Purpose, IsMadeOf, rules_of}
 use Rattle.abstract_locks.specs.Onces.{InProgress, OnceCase, Start, Finish, Fail, Rest, TakeAll}
 use Rattle.lot_calls.specs.declared.outcomes.OnceState.{OnceState}
 use Rattle.abstract_locks.specs.Locks as locks
-use Rattle.abstract_locks.specs.Locks.{LockState, Rules, Rights, LockCase, HandOff, HasTakenNobody, Queued, Needs, putting, rights_of, standing}
+use Rattle.abstract_locks.specs.Locks.{LockState, Rules, Rights, LockCase, HandOff, HasTakenNobody, Queued, Needs, left_behind, putting, rights_of, standing}
 use Rattle.abstract_locks.specs.Runs.{LocksState, IsTimely, rules_at as locks_rules, CallState, Event, AtLock, MayHappen, Agrees, AnswerHolds, GoesOn, locks_after, going_on, woken, unless_ended}
-use Rattle.abstract_locks.specs.Sites.{Site, Deed, Begin, after_deed}
-use Rattle.abstract_locks.specs.Deeds.{AreOneCase, event_by, event_of, EventNeeds, after_event}
+use Rattle.abstract_locks.specs.Sites.{Site, Deed, Begin, Bring, Send, after_deed}
+use Rattle.abstract_locks.specs.Deeds.{AreOneCase, KeepLock, case_of, event_by, event_of, EventNeeds, after_event}
 use Rattle.abstract_locks.specs.Deeds as deeds
-use Rattle.abstract_locks.proofs.Deeds.{deeds_lead, deeds_need}
+use Rattle.abstract_locks.proofs.Deeds.{deeds_lead, deeds_need, kept}
 use Rattle.abstract_locks.proofs.Rights.{others_keep}
 use Rattle.lot_machine.specs.Machine.{State, place_at, kind_at}
-use Rattle.lot_laws.specs.Refinement.{lock_state, call_on, call_state, locks_of}
+use Rattle.lot_laws.specs.Refinement.{lock_state, call_at, call_state, locks_of}
 use Rattle.lot_laws.specs.MutexDeeds.{Act, acts}
-use Rattle.lot_laws.specs.SitesOf.{IsSteady, Goes, ActsNeeded, rules_in, after_acts, site_of}
+use Rattle.lot_laws.specs.SitesOf.{FollowAll, IsSteady, Goes, ActsNeeded, rules_in, after_acts, site_of}
 use Rattle.lot_laws.proofs.ActsKept.{goes_steady}
 use Rattle.lot_laws.proofs.AtPlaces.{taken_nobody}
+use Rattle.lot_laws.proofs.Glue.{IsSingle, put_here, put_other, singles}
+use Rattle.lot_laws.proofs.SingleCalls.{call_here}
+use Rattle.lot_laws.proofs.OwnHand.{own_hand}
 
 -- ---------------------------------------------------------------- functions with one value set
 
@@ -59,14 +64,41 @@ rights w t l = rights_of (lock_state w l) t
 
 -- ---------------------------------------------------------------- what happens to the locks
 
--- one lock goes through an event of t that it allows, and the others are as they were
-pub record Happens (w v : State) (t l : ℕ) (e : Event) : Type 0 where
-  pub led : lock_state v l ≡ after_event (rules_in w l) e (lock_state w l) t
-  pub needs : EventNeeds (rules_in w l) e (lock_state w l) t
-  pub elsewhere : (k : ℕ) → k ≢ l → lock_state v k ≡ lock_state w k
+-- what an event needs of its lock; of a notification's move the call says it
+abbrev pub Allows : State → ℕ → Event → Type 0
+Allows w t Nothing = Unit {0}
+Allows w t (AtLock l case) = Needs (rules_in w l) case (lock_state w l) t
+Allows w t (Moves c m all owned number) = Unit {0}
+
+-- the locks go through an event of t that they allow
+pub record Happens (w v : State) (t : ℕ) (e : Event) : Type 0 where
+  pub led : (k : ℕ) → lock_state v k ≡ locks_after (locks_of w) t e k
+  pub needs : Allows w t e
   pub kinds : (k : ℕ) → kind_at v k ≡ kind_at w k
   pub before : IsSteady w
   pub after : IsSteady v
+
+-- one lock alone goes through it
+pub happens_at : (w v : State) (t l : ℕ) (c : Option LockCase) → IsSteady w → IsSteady v → ((k : ℕ) → kind_at v k ≡ kind_at w k)
+    → lock_state v l ≡ after_event (rules_in w l) (event_by l c) (lock_state w l) t → ((k : ℕ) → k ≢ l → lock_state v k ≡ lock_state w k)
+    → EventNeeds (rules_in w l) (event_by l c) (lock_state w l) t → Happens w v t (event_by l c)
+happens_at w v t l None before after kinds here other needs =
+    record { led = λ k. elim (cases_eq k l) [ inl e ↦ rw e here | inr ne ↦ other k ne ]; needs = tt; kinds = kinds; before = before; after = after }
+happens_at w v t l (Some case) before after kinds here other needs =
+    record { led = λ k. put_is (lock_state w) l _ k (lock_state v k) (λ e. rw e here) (λ ne. other k ne); needs = needs; kinds = kinds; before = before; after = after }
+
+-- or waiters move from one to another
+pub happens_moving : (w v : State) (t c m : ℕ) (all owned : Bool) (number : ℕ) → IsSteady w → IsSteady v → ((k : ℕ) → kind_at v k ≡ kind_at w k)
+    → c ≢ m → lock_state v c ≡ left_behind all (lock_state w c)
+    → lock_state v m ≡ joined_by owned t (moved_of all (lock_state w c).queue) (lock_state w m)
+    → ((k : ℕ) → k ≢ c → k ≢ m → lock_state v k ≡ lock_state w k) → Happens w v t (Moves c m all owned number)
+happens_moving w v t c m all owned number before after kinds apart left joined other = record {
+  led = λ k. put_is (putting (lock_state w) c (left_behind all (lock_state w c))) m _ k (lock_state v k) (λ e. rw e joined) (λ nm. put_is (lock_state w) c _ k (lock_state v k) (λ e. rw e left) (λ nc. other k nc nm));
+  needs = tt;
+  kinds = kinds;
+  before = before;
+  after = after;
+}
 
 -- whoever is handed the lock claims it
 abbrev pub IsClaim : Deed → Type 0
@@ -90,20 +122,44 @@ module _ (r : Rules) where
   deeds_then t [] claims s h = claims_keep claims s h
   deeds_then t (d ∷ ds) claims s h = deeds_then t ds claims (after_deed r d s t) h
 
+  deeds_by : (t : ℕ) (ds : List Deed) (s : Site) → (after_acts r (acts t ds) s).lock ≡ (deeds.after_all r ds s t).lock
+  deeds_by t [] s = refl
+  deeds_by t (d ∷ ds) s = deeds_by t ds (after_deed r d s t)
+
   pub needed_then : (t : ℕ) (ds : List Deed) (claims : List Act) (s : Site) → ActsNeeded r (acts t ds ++ claims) s → deeds.AllNeeded r ds s t
   needed_then t [] claims s n = tt
   needed_then t (d ∷ ds) claims s n = (n.0, needed_then t ds claims (after_deed r d s t) n.1)
 
 -- the event of deeds that a lock has been through
-pub happens : (w v : State) (t l : ℕ) (hand : Option Bool) (ds : List Deed) (claims : List Act) → IsSteady w → Goes w v l (acts t ds ++ claims) → AreClaims claims → AreOneCase ds → (hand ≢ Some false → HasTakenNobody (lock_state w l) t) → Happens w v t l (event_of l hand ds)
-happens w v t l hand ds claims steady goes begin one free = record {
-  led = ap (λ (s : Site). s.lock) goes.follows.site ∙ deeds_then (rules_in w l) t ds claims (site_of w l) begin ∙ deeds_lead (rules_in w l) t l hand ds (site_of w l) free one;
-  needs = deeds_need (rules_in w l) t l hand ds (site_of w l) (needed_then (rules_in w l) t ds claims (site_of w l) goes.follows.needed) one;
-  elsewhere = λ k ne. ap (λ (s : Site). s.lock) (goes.follows.others k ne).0;
-  kinds = goes.follows.kinds;
-  before = steady;
-  after = goes_steady w v l (acts t ds ++ claims) steady goes;
-}
+pub happens : (w v : State) (t l : ℕ) (hand : Option Bool) (ds : List Deed) (claims : List Act) → IsSteady w → Goes w v l (acts t ds ++ claims) → AreClaims claims → AreOneCase ds → (hand ≢ Some false → HasTakenNobody (lock_state w l) t) → Happens w v t (event_of l hand ds)
+happens w v t l hand ds claims steady goes begin one free = happens_at w v t l (case_of hand ds) steady (goes_steady w v l (acts t ds ++ claims) steady goes) goes.follows.kinds
+    (ap (λ (s : Site). s.lock) goes.follows.site ∙ deeds_then (rules_in w l) t ds claims (site_of w l) begin ∙ deeds_lead (rules_in w l) t l hand ds (site_of w l) free one)
+    (λ k ne. ap (λ (s : Site). s.lock) (goes.follows.others k ne).0)
+    (deeds_need (rules_in w l) t l hand ds (site_of w l) (needed_then (rules_in w l) t ds claims (site_of w l) goes.follows.needed) one)
+
+-- a step of several locks, of which this one goes through the event of its deeds
+pub happens_all : (w v : State) (t l : ℕ) (hand : Option Bool) (all : ℕ → List Act) (ds : List Deed) (claims : List Act) → IsSteady w → IsSteady v → FollowAll w v all
+    → all l ≡ acts t ds ++ claims → AreClaims claims → AreOneCase ds → ((k : ℕ) → k ≢ l → (other : List Deed) × (all k ≡ acts t other) × KeepLock other)
+    → (hand ≢ Some false → HasTakenNobody (lock_state w l) t) → Happens w v t (event_of l hand ds)
+happens_all w v t l hand all ds claims before after f is begin one others free = happens_at w v t l (case_of hand ds) before after f.kinds
+    (locks_led l ∙ ap (λ done. (after_acts (rules_in w l) done (site_of w l)).lock) is ∙ deeds_then (rules_in w l) t ds claims (site_of w l) begin ∙ deeds_lead (rules_in w l) t l hand ds (site_of w l) free one)
+    (λ k ne. let o = others k ne in locks_led k ∙ ap (λ done. (after_acts (rules_in w k) done (site_of w k)).lock) o.1 ∙ deeds_by (rules_in w k) t o.0 (site_of w k) ∙ kept (rules_in w k) t o.0 (site_of w k) o.2)
+    (deeds_need (rules_in w l) t l hand ds (site_of w l) (needed_then (rules_in w l) t ds claims (site_of w l) (subst (λ done. ActsNeeded (rules_in w l) done (site_of w l)) is (f.needed l))) one)
+  where
+    locks_led : (k : ℕ) → lock_state v k ≡ (after_acts (rules_in w k) (all k) (site_of w k)).lock
+    locks_led k = ap (λ (s : Site). s.lock) (f.site k)
+
+-- or of which waiters of one go to the other
+pub happens_sending : (w v : State) (t c m : ℕ) (all owned : Bool) (number : ℕ) (ds : ℕ → List Act) → IsSteady w → IsSteady v → FollowAll w v ds → c ≢ m
+    → ds c ≡ acts t (Send all ∷ []) → ds m ≡ acts t (Bring (taken_of owned (moved_of all (lock_state w c).queue)) (line_of owned (moved_of all (lock_state w c).queue)) ∷ [])
+    → ((k : ℕ) → k ≢ c → k ≢ m → ds k ≡ []) → Happens w v t (Moves c m all owned number)
+happens_sending w v t c m all owned number ds before after f apart sent brought others = happens_moving w v t c m all owned number before after f.kinds apart
+    (locks_led c ∙ ap (λ done. (after_acts (rules_in w c) done (site_of w c)).lock) sent)
+    (locks_led m ∙ ap (λ done. (after_acts (rules_in w m) done (site_of w m)).lock) brought)
+    (λ k nc nm. locks_led k ∙ ap (λ done. (after_acts (rules_in w k) done (site_of w k)).lock) (others k nc nm))
+  where
+    locks_led : (k : ℕ) → lock_state v k ≡ (after_acts (rules_in w k) (ds k) (site_of w k)).lock
+    locks_led k = ap (λ (s : Site). s.lock) (f.site k)
 
 -- ---------------------------------------------------------------- the calls
 
@@ -129,9 +185,10 @@ abbrev pub Others : State → State → ℕ → Event → Type 0
 Others w v t e = (u : ℕ) → u ≢ t → (r : ℕ → Rights) → call_state (place_at v u) r ≡ woken (locks_of w) t e u (call_state (place_at w u) r)
 
 -- an event leaves what a call is for
-same_purpose : (l : ℕ) (c : Option LockCase) (x : CallState) → (going_on (event_by l c) x).purpose ≡ x.purpose
-same_purpose l None x = refl
-same_purpose l (Some case) x = by_case case
+same_purpose : (e : Event) (x : CallState) → (going_on e x).purpose ≡ x.purpose
+same_purpose Nothing x = refl
+same_purpose (Moves c m all owned number) x = refl
+same_purpose (AtLock l case) x = by_case case
   where
     by_case : (case : LockCase) → (going_on (AtLock l case) x).purpose ≡ x.purpose
     by_case locks.Late = late_purpose x.recalls
@@ -208,10 +265,79 @@ begins_nothing w l row (Some case) o runs may told = by_case case o may told
     by_case case (outcome.TheVariants.Closure state) m h = absurd cc
     by_case case o m h = tt
 
-module _ (w v : State) (t l : ℕ) (c : Option LockCase) (h : Happens w v t l (event_by l c)) where
+-- ---------------------------------------------------------------- a step is one event
+
+-- its call has come to what the event made of it, and it is told so; or it has ended, with a true answer
+abbrev pub CallLed : State → State → ℕ → Event → CallState → Outcome → Type 0
+CallLed w v t e call o =
+    ((call_state (place_at v t) (rights v t) ≡ woken (locks_of w) t e t (going_on e call)) × ((l : ℕ) × GoesAs v t l o))
+    ⊎ ((a : Answer) × (o ≡ outcome.TheVariants.End a) × (place_at v t ≡ Idle) × AnswerHolds call.purpose (locks_of v) t (going_on e call) a)
+
+module _ (w v : State) (t : ℕ) (e : Event) (h : Happens w v t e) (call : CallState) (is : call_at w t ≡ call) (o : Outcome) where
+  own_call : CallLed w v t e call o → call_state (place_at v t) (rights v t) ≡ unless_ended o (woken (locks_of w) t e t (going_on e call))
+  own_call (inl on) = on.0 ∙ goes_on on.1.1
+    where
+      goes_on : GoesAs v t on.1.0 o → woken (locks_of w) t e t (going_on e call) ≡ unless_ended o (woken (locks_of w) t e t (going_on e call))
+      goes_on (inl k) = rw k refl
+      goes_on (inr (inl k)) = rw k.0 refl
+      goes_on (inr (inr k)) = rw k.1 refl
+  own_call (inr over) = rw (over.1, over.2) refl
+
+  told_so : CallLed w v t e call o → Agrees t (going_on e call) o (locks_of v)
+  told_so (inl on) = elim on.1.1 [
+    | inl k ↦ rw k tt
+    | inr k ↦ elim k [
+      | inl k ↦ rw k.0 (on.1.0, k.1)
+      | inr k ↦ rw k.1 (on.1.0, k.2)
+    ]
+  ]
+  told_so (inr over) = rw over.1 (
+    subst (λ x. AnswerHolds x (locks_of v) t (going_on e call) over.0) (sym (same_purpose e call)) over.3,
+    λ k. taken_nobody v h.after t k (rw over.2 refl),
+  )
+
+  pub goes_with : MayHappen (locks_of w) t e → call.purpose ≢ None → CallLed w v t e call o → OthersFollow w v t e → Begins (locks_of w) e o → GoesOn (locks_of w) t o (locks_of v)
+  goes_with may called led others begins = record {
+    called = rw is called;
+    event = e;
+    may = may;
+    locks = h.led;
+    calls = λ u. either_is (u == t) (call_state (place_at v u) (rights v u)) _ _ (λ k. let same : u ≡ t = eqb-true u t k in rw (same, is) (own_call led)) (λ k. others u (unequal u t k));
+    agrees = rw is (told_so led);
+    begins = begins;
+  }
+
+  pub goes_with_event : (may : MayHappen (locks_of w) t e) (called : call.purpose ≢ None) (led : CallLed w v t e call o) (others : OthersFollow w v t e) (begins : Begins (locks_of w) e o) → (goes_with may called led others begins).event ≡ e
+  unfolding goes_with
+  goes_with_event may called led others begins = refl
+
+-- ---------------------------------------------------------------- of one lock
+
+module _ (w v : State) (t l : ℕ) (c : Option LockCase) (h : Happens w v t (event_by l c)) where
+  pub led_here : lock_state v l ≡ after_event (rules_in w l) (event_by l c) (lock_state w l) t
+  led_here = by_case c h
+    where
+      by_case : (c : Option LockCase) → Happens w v t (event_by l c) → lock_state v l ≡ after_event (rules_in w l) (event_by l c) (lock_state w l) t
+      by_case None h = h.led l
+      by_case (Some case) h = h.led l ∙ put_here (lock_state w) l (after_event (rules_in w l) (AtLock l case) (lock_state w l) t)
+
+  pub led_elsewhere : (k : ℕ) → k ≢ l → lock_state v k ≡ lock_state w k
+  led_elsewhere k ne = by_case c h
+    where
+      by_case : (c : Option LockCase) → Happens w v t (event_by l c) → lock_state v k ≡ lock_state w k
+      by_case None h = h.led k
+      by_case (Some case) h = h.led k ∙ put_other (lock_state w) l (after_event (rules_in w l) (AtLock l case) (lock_state w l) t) k ne
+
+  needs_here : EventNeeds (rules_in w l) (event_by l c) (lock_state w l) t
+  needs_here = by_case c h
+    where
+      by_case : (c : Option LockCase) → Happens w v t (event_by l c) → EventNeeds (rules_in w l) (event_by l c) (lock_state w l) t
+      by_case None h = tt
+      by_case (Some case) h = h.needs
+
   -- what a thread owns then
   pub rights_led : (u k : ℕ) → rights v u k ≡ rights_where l (after_event (rules_in w l) (event_by l c) (lock_state w l) t) u (rights w u) k
-  rights_led u k = put_is (rights w u) l _ k (rights v u k) (λ e. rw e (ap (λ s. rights_of s u) h.led)) (λ ne. ap (λ s. rights_of s u) (h.elsewhere k ne))
+  rights_led u k = put_is (rights w u) l _ k (rights v u k) (λ e. rw e (ap (λ s. rights_of s u) led_here)) (λ ne. ap (λ s. rights_of s u) (led_elsewhere k ne))
 
   abbrev pub IsNoHandOff : Option LockCase → Type 0
   IsNoHandOff None = Unit {0}
@@ -220,8 +346,8 @@ module _ (w v : State) (t l : ℕ) (c : Option LockCase) (h : Happens w v t l (e
   -- nobody else's rights change, but by a hand-over
   pub rights_stay : IsNoHandOff c → (u : ℕ) → u ≢ t → (k : ℕ) → rights v u k ≡ rights w u k
   rights_stay plain u ne k = elim (cases_eq k l) [
-    | inl e ↦ rw e (ap (λ s. rights_of s u) h.led ∙ stays c plain h.needs)
-    | inr nk ↦ ap (λ s. rights_of s u) (h.elsewhere k nk)
+    | inl e ↦ rw e (ap (λ s. rights_of s u) led_here ∙ stays c plain needs_here)
+    | inr nk ↦ ap (λ s. rights_of s u) (led_elsewhere k nk)
   ]
     where
       stays : (c : Option LockCase) → IsNoHandOff c → EventNeeds (rules_in w l) (event_by l c) (lock_state w l) t → rights_of (after_event (rules_in w l) (event_by l c) (lock_state w l) t) u ≡ rights w u l
@@ -230,13 +356,6 @@ module _ (w v : State) (t l : ℕ) (c : Option LockCase) (h : Happens w v t l (e
 
   pub others_follow : IsNoHandOff c → Others w v t (event_by l c) → OthersFollow w v t (event_by l c)
   others_follow plain others u ne = ap (call_state (place_at v u)) (λ i k. rights_stay plain u ne k i) ∙ others u ne (rights w u)
-
-  led : (k : ℕ) → lock_state v k ≡ locks_after (locks_of w) t (event_by l c) k
-  led k = by_case c h
-    where
-      by_case : (c : Option LockCase) → Happens w v t l (event_by l c) → lock_state v k ≡ locks_after (locks_of w) t (event_by l c) k
-      by_case None h = elim (cases_eq k l) [ inl e ↦ rw e h.led | inr ne ↦ h.elsewhere k ne ]
-      by_case (Some case) h = put_is (lock_state w) l _ k (lock_state v k) (λ e. rw e h.led) (λ ne. h.elsewhere k ne)
 
   -- a thread at a place of a call of the lock
   module _ (p : Place) (is : place_at w t ≡ p) (of : lock_of p ≡ Some l) where
@@ -247,10 +366,10 @@ module _ (w v : State) (t l : ℕ) (c : Option LockCase) (h : Happens w v t l (e
     behind = after_event (rules_in w l) (event_by l c) (lock_state w l) t
 
     called_by : (r : ℕ → Rights) → call_state (place_at w t) r ≡ call_by l (profile p) r
-    called_by r = ap (λ q. call_state q r) is ∙ ap (λ o. call_on o (profile p) r) of
+    called_by r = ap (λ q. call_state q r) is ∙ call_here p l (subst IsSingle is (singles w h.before t)) of r
 
     may_happen : MayCome l (profile p) (event_by l c) → MayHappen (locks_of w) t (event_by l c)
-    may_happen may = by_case c may h.needs
+    may_happen may = by_case c may needs_here
       where
         by_case : (c : Option LockCase) → MayCome l (profile p) (event_by l c) → EventNeeds (rules_in w l) (event_by l c) (lock_state w l) t → MayHappen (locks_of w) t (event_by l c)
         by_case None may needs = tt
@@ -260,47 +379,25 @@ module _ (w v : State) (t l : ℕ) (c : Option LockCase) (h : Happens w v t l (e
     pub goes_by : MayCome l (profile p) (event_by l c) → (n : Next Profile) (o : Outcome)
         → ComesTo (rules_in w l) l (profile p) (event_by l c) (lock_state w l) (after_event (rules_in w l) (event_by l c) (lock_state w l) t) t n
         → LeadsTo v t l n o → OthersFollow w v t (event_by l c) → Begins (locks_of w) (event_by l c) o → GoesOn (locks_of w) t o (locks_of v)
-    goes_by may n o comes leads others begins = record {
-      called = rw (called_by (rights w t)) (λ e. cc);
-      event = event_by l c;
-      may = may_happen may;
-      locks = led;
-      calls = λ u. either_is (u == t) (call_state (place_at v u) (rights v u)) _ _
-          (λ h. let same : u ≡ t = eqb-true u t h in rw (same, called_by (rights w t)) (own n comes leads))
-          (λ h. others u (unequal u t h));
-      agrees = rw (called_by (rights w t)) (agrees n comes leads);
-      begins = begins;
-    }
+    goes_by may n o comes leads others begins = goes_with w v t (event_by l c) h call_then (called_by (rights w t)) o (may_happen may) (λ e. cc) (led n comes leads) others begins
       where
-        rules_then : rules_in v l ≡ rules_in w l
-        rules_then = ap rules_of (h.kinds l)
+        -- it is in no hand of its own
+        unwoken : (c : Option LockCase) (x : CallState) → woken (locks_of w) t (event_by l c) t x ≡ x
+        unwoken (Some locks.Wake) x = rw (own_hand w h.before t l) refl
+        unwoken (Some (HandOff y z)) x = rw (own_hand w h.before t l) refl
+        unwoken None x = refl
+        unwoken (Some case) x = refl
 
-        own : (n : Next Profile) → ComesTo (rules_in w l) l (profile p) (event_by l c) (lock_state w l) behind t n → LeadsTo v t l n o
-            → call_state (place_at v t) (rights v t) ≡ unless_ended o (going_on (event_by l c) call_then)
-        own (next.At row) comes leads = ap (λ x. call_on x (profile (place_at v t)) (rights v t)) leads.0 ∙ ap (λ x. call_by l x (rights v t)) leads.1
-            ∙ ap (call_by l row) (λ i k. rights_led t k i) ∙ comes (rights w t) refl ∙ goes_on leads.2
-          where
-            goes_on : GoesAs v t l o → going_on (event_by l c) call_then ≡ unless_ended o (going_on (event_by l c) call_then)
-            goes_on (inl e) = rw e refl
-            goes_on (inr (inl e)) = rw e.0 refl
-            goes_on (inr (inr e)) = rw e.1 refl
-        own (next.End a) comes leads = rw (leads.0, leads.1) refl
-
-        agrees : (n : Next Profile) → ComesTo (rules_in w l) l (profile p) (event_by l c) (lock_state w l) behind t n → LeadsTo v t l n o → Agrees t (going_on (event_by l c) call_then) o (locks_of v)
-        agrees (next.At row) comes leads = elim leads.2 [
-          | inl e ↦ rw e tt
-          | inr h ↦ elim h [
-            | inl e ↦ rw e.0 (l, e.1)
-            | inr e ↦ rw e.1 (l, e.2)
-          ]
-        ]
-        agrees (next.End a) comes leads = rw leads.1 (
-          subst (λ x. AnswerHolds x (locks_of v) t (going_on (event_by l c) call_then) a) (sym (same_purpose l c call_then)) (comes (locks_of v) (rights w t) rules_then h.led refl (rights_led t)),
-          λ k. taken_nobody v h.after t k (rw leads.0 refl),
+        led : (n : Next Profile) → ComesTo (rules_in w l) l (profile p) (event_by l c) (lock_state w l) behind t n → LeadsTo v t l n o → CallLed w v t (event_by l c) call_then o
+        led (next.At row) comes leads = inl (
+          call_here (place_at v t) l (singles v h.after t) leads.0 (rights v t) ∙ ap (λ x. call_by l x (rights v t)) leads.1
+          ∙ ap (call_by l row) (λ i k. rights_led t k i) ∙ comes (rights w t) refl ∙ sym (unwoken c (going_on (event_by l c) call_then)),
+          (l, leads.2),
         )
+        led (next.End a) comes leads = inr (a, leads.1, leads.0, comes (locks_of v) (rights w t) (ap rules_of (h.kinds l)) led_here refl (rights_led t))
 
     pub goes_event : (may : MayCome l (profile p) (event_by l c)) (n : Next Profile) (o : Outcome)
         (comes : ComesTo (rules_in w l) l (profile p) (event_by l c) (lock_state w l) (after_event (rules_in w l) (event_by l c) (lock_state w l) t) t n)
         (leads : LeadsTo v t l n o) (others : OthersFollow w v t (event_by l c)) (begins : Begins (locks_of w) (event_by l c) o) → (goes_by may n o comes leads others begins).event ≡ event_by l c
     unfolding goes_by
-    goes_event may n o comes leads others begins = refl
+    goes_event may n o comes leads others begins = goes_with_event w v t (event_by l c) h call_then (called_by (rights w t)) o (may_happen may) _ _ others begins

@@ -55,10 +55,10 @@ use Rattle.lot_laws.proofs.CountsPut.{looking_counted}
 use Rattle.lot_rwlock.specs.declared.places.Admission.{Admission}
 use Rattle.lot_rwlock_fair.specs.declared.places.RwLockCallPlace.{RwLockCallPlace}
 use Rattle.lot_laws.proofs.ExclusiveOwners.{owner_after, exclusive-owners, by_code}
-use Rattle.lot_laws.proofs.Glue.{IsTakenAt, is_taken, own_stance, successor_one, singles, IsSingle}
+use Rattle.lot_laws.proofs.Glue.{IsSingle, singles, own_stance, successor_one, aparts, of_carries}
+use Rattle.lot_laws.proofs.Waiters.{held_there}
 use Rattle.lot_laws.proofs.AtPlaces.{coded as words_coded, in_no_hand}
 use Rattle.lot_laws.proofs.TurnsKept.{after_steady}
-use Rattle.lot_laws.proofs.Glue.{same}
 use Rattle.lot_laws.proofs.MutexTable.{mutex}
 use Rattle.lot_laws.proofs.StandsMoved.{mutex_rules}
 use Rattle.lot_laws.proofs.KindsKept.{after_kinds}
@@ -273,12 +273,9 @@ module _ (w : State) (t l : ℕ) (shape : IsShaped w) (steady : IsSteady w) (own
     ))
     hand_off_gives bumps (hand_off.Store true none_left) is = let one = steady.stands.hands.carried t l false (ap (λ x. x.carries) (own_stance l (place_at w t) _ is)) in inr (inl (
       one.0,
-      by_taken one.0 (is_taken (place_at w one.0) t l (mutexes_at w t l (HandOff bumps (hand_off.Store true none_left)) steady is one.0) one.1),
-      ap (λ x. x.owners.exclusive) (get_or-set_same w.locks l _ (unlocked kind.TheVariants.Mutex) lt) ∙ ap (λ (o : Owners). o.exclusive) (successor_one w t l one.0 false (singles w steady) steady.stands.hands (single_at w t l (HandOff bumps (hand_off.Store true none_left)) steady is) (rw is refl) one.1 (alone_at w t l (HandOff bumps (hand_off.Store true none_left)) steady is) (unshared_at w t l (HandOff bumps (hand_off.Store true none_left)) steady is) (with_exclusive (owners_at w l) None)),
+      (held_there (place_at w one.0) t l (mutexes_at w t l (HandOff bumps (hand_off.Store true none_left)) steady is one.0) one.1).was,
+      ap (λ x. x.owners.exclusive) (get_or-set_same w.locks l _ (unlocked kind.TheVariants.Mutex) lt) ∙ ap (λ (o : Owners). o.exclusive) (successor_one w t l one.0 false (aparts w steady) steady.stands.hands (single_at w t l (HandOff bumps (hand_off.Store true none_left)) steady is) (of_carries l (place_at w t) (rw is refl)) one.1 (alone_at w t l (HandOff bumps (hand_off.Store true none_left)) steady is) (unshared_at w t l (HandOff bumps (hand_off.Store true none_left)) steady is) (with_exclusive (owners_at w l) None)),
     ))
-      where
-        by_taken : (u : ℕ) → IsTakenAt (place_at w u) t l → IsTaken (lock_state w l) t u Exclusive
-        by_taken u k = rw (k.is, same l) refl
     hand_off_gives bumps (hand_off.Leave false) is = inl own
     hand_off_gives bumps (hand_off.Leave true) is = inl own
 

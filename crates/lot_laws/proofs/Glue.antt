@@ -1,26 +1,30 @@
 -- The state of a world by its parts, as total functions, and what each act does to a lock and to what the threads do about it.
-use Rattle.std.proofs.Common.{ℕ, zero, suc, Bool, true, false, Option, Some, None, if◌then◌else◌, ◌==◌, ◌||◌, ◌≡◌, ◌≢◌, ◌+◌, ◌*◌, ◌≤◌, List, [], ◌∷◌, map, length, get_or, set, inl, inr, refl, sym, ◌∙◌, ap, subst, arith, length-set, get_or-set_same, get_or-set_other, not}
+use Rattle.std.proofs.Common.{ℕ, zero, suc, Bool, true, false, Option, Some, None, if◌then◌else◌, ◌==◌, ◌||◌, ◌≡◌, ◌≢◌, ◌+◌, ◌*◌, ◌≤◌, ◌⊎◌, List, [], ◌∷◌, map, length, get_or, set, inl, inr, refl, sym, ◌∙◌, ap, subst, arith, length-set, get_or-set_same, get_or-set_other, not}
 use Rattle.abstract_locks.proofs.LockKeeps.{sharing_same}
 use Rattle.abstract_locks.specs.Locks.{IsLockState, wants_shared}
 use Rattle.std.proofs.lemmas.Bool.{cases_eq, cases_lt, eqb-true}
 use Rattle.std.proofs.lemmas.Bool.Decides.{nat_tests}
 use Rattle.lot_base.specs.declared.wants.Waiter.{Waiter}
 use Rattle.lot_base.specs.declared.wants.Want.TheVariants.{Exclusive}
-use Rattle.lot_base.specs.declared.notes.Note.TheVariants as note
 use Rattle.lot_acts.specs.declared.owners.Owners.{Owners}
 use Rattle.lot_once.specs.declared.places.OncePlace.{OncePlace}
 use Rattle.lot_once.specs.OnceSteps.{once_next}
+use Rattle.lot_condvar.specs.declared.places.CondvarPlace.{CondvarPlace}
+use Rattle.lot_condvar.specs.declared.places.CondvarPlace.TheVariants.{Wait, Look, Notify}
+use Rattle.lot_condvar.specs.CondvarSteps.{mutex_beside}
+use Rattle.lot_condvar.specs.CondvarProfiles.{mutex_side}
+use Rattle.lot_calls.specs.declared.kinds.Kind.{Kind}
+use Rattle.lot_calls.specs.declared.kinds.Kind as kind
+use Rattle.lot_calls.specs.Kinds.{is_plain_mutex}
+use Rattle.abstract_locks.specs.Purposes.{rules_of}
 use Rattle.lot_steps.specs.declared.places.Place.{Place}
 use Rattle.lot_steps.specs.declared.places.Place.TheVariants.{Idle, Mutex, RwLock, Once, Condvar}
 use Rattle.lot_mutex.specs.declared.lock.Entry.{Entry}
 use Rattle.lot_mutex.specs.declared.places.MutexPlace.{MutexPlace}
-use Rattle.lot_mutex.specs.declared.places.MutexPlace.TheVariants.{Lock, HandOff}
+use Rattle.lot_mutex.specs.declared.places.MutexPlace.TheVariants.{Lock}
 use Rattle.lot_mutex.specs.declared.lock.LockAt.TheVariants as lock
-use Rattle.lot_mutex.specs.declared.hand_off.HandOffAt.TheVariants as hand_off
 use Rattle.lot_acts.specs.declared.acts.Reply.{Reply}
-use Rattle.lot_acts.specs.declared.acts.Reply.TheVariants.{Woken, TakenBy, HandedBy}
 use Rattle.abstract_locks.specs.Codes.{parked_in, aside_in}
-use Rattle.std.proofs.Math.Bool.{or-false}
 use Rattle.lot_mutex.specs.MutexSteps.{is_parked}
 use Rattle.lot_acts.specs.declared.acts.Next.{Next}
 use Rattle.lot_rwlock_fair.specs.declared.places.RwLockCallPlace.{RwLockCallPlace}
@@ -34,13 +38,13 @@ use Rattle.abstract_locks.specs.Locks.{LockState, Taken, Queued, Rules, TakeFirs
 use Rattle.std.specs.Prelude.{sum, ◌&&◌, ◌||◌}
 use Rattle.lot_acts.specs.Owners.{is_thread, with_exclusive}
 use Rattle.abstract_locks.specs.Locks as locks
-use Rattle.abstract_locks.specs.Sites.{Doing, Has, Site, Main, Begin, Out, Mark, Clear, Case, idle, leaves, wakened, taking_main, is_full, after_deed, has_readers}
-use Rattle.lot_machine.specs.Machine.{State, place_at, word_at, owners_at, shares_at, filled_at, queue_at, place_after_telling, state_after_telling, held, shares_in_hand, with_share, shares_given, wants_more_in_hand, successor_or, successor_from, pending_for, owners_of_successor, shares_handed_over, owners_handed_over, state_after_reply, put, held_by}
+use Rattle.abstract_locks.specs.Sites.{Doing, Site, Out, idle, leaves, wakened, after_deed, has_readers}
+use Rattle.lot_machine.specs.Machine.{State, place_at, kind_at, word_at, owners_at, shares_at, filled_at, queue_at, place_after_telling, state_after_telling, held, shares_in_hand, with_share, shares_given, wants_more_in_hand, successor_or, successor_from, pending_for, owners_of_successor, shares_handed_over, owners_handed_over, state_after_reply, put, held_by}
 use Rattle.lot_machine.specs.declared.hands.Successor.{Successor}
 use Rattle.lot_laws.specs.Refinement.{lock_seen, taken_at}
-use Rattle.lot_laws.specs.MutexDeeds.{Act, mutex_station, queued}
+use Rattle.lot_laws.specs.MutexDeeds.{mutex_station, queued}
 use Rattle.lot_laws.specs.Stations.{Station, hand, station, station_at, nowhere, doing_on, station_by}
-use Rattle.lot_laws.specs.SitesOf.{site_of, rules_in, after_acts, carried_at, hand_at, Hands, FitsItsLock, IsSteady}
+use Rattle.lot_laws.specs.SitesOf.{site_of, rules_in, carried_at, hand_at, Hands, FitsItsLock, IsSteady, TakesOne}
 
 -- ---------------------------------------------------------------- lists with one element set, as functions
 
@@ -164,14 +168,6 @@ pub record LetGo (t l : ℕ) (p p2 : Place) : Type 0 where
 pub stays : (t l : ℕ) (p : Place) → Untaken t (taken_at p l) → LetGo t l p p
 stays t l p e = record { taken = sym e; doing = sym (not_wakened t (taken_at p l) (doing_on p l) e) }
 
--- who was taken is woken and tries again
-pub tries : (t l : ℕ) (e : Entry) (retries : Bool) → LetGo t l (Mutex l (Lock e retries (lock.Taken t))) (next_place (Mutex l (Lock e retries (lock.Taken t))) (Woken note.Normal))
-tries t l e retries = record { taken = rw (same l, same t) refl; doing = rw (same l, same t) refl }
-
--- who was handed the lock has it
-pub accepts : (t l by : ℕ) (e : Entry) (retries : Bool) → LetGo t l (Mutex l (Lock e retries (lock.Handed by))) (next_place (Mutex l (Lock e retries (lock.Handed by))) (Woken note.HandOff))
-accepts t l by e retries = record { taken = refl; doing = refl }
-
 module _ (r : Rules) (l : ℕ) (n : Base) (word : ℕ) (o : Owners) (m s : List Waiter) (p q : ℕ → Place) (t : ℕ) where
   -- leaving a section, whoever is woken by it
   pub leaving : taken_at (p t) l ≡ None → taken_at (q t) l ≡ None → doing_on (q t) l ≡ leaves (doing_on (p t) l) → ((u : ℕ) → u ≢ t → LetGo t l (p u) (q u))
@@ -212,7 +208,7 @@ fits_single w Idle fits = tt
 fits_single w (Mutex k at) fits = tt
 fits_single w (RwLock k a at) fits = tt
 fits_single w (Once k at) fits = tt
-fits_single w (Condvar k at) fits = absurd fits
+fits_single w (Condvar k at) fits = absurd fits.begun
 
 pub singles : (w : State) → IsSteady w → (t : ℕ) → IsSingle (place_at w t)
 singles w steady t = fits_single w (place_at w t) (steady.stands.calls t)
@@ -282,7 +278,7 @@ mutex_calls w l (RwLock k a c) calls rules = λ here.
     let none : has_readers (rules_in w k).sort ≡ false = ap (λ n. has_readers (rules_in w n).sort) here ∙ ap (λ (r : Rules). has_readers r.sort) rules in cc
 mutex_calls w l (Once k at) calls rules = λ here.
     let both : locks.Once ≡ locks.Mutex = sym calls ∙ ap (λ n. (rules_in w n).sort) here ∙ ap (λ (r : Rules). r.sort) rules in cc
-mutex_calls w l (Condvar k at) calls rules = absurd calls
+mutex_calls w l (Condvar k at) calls rules = absurd calls.begun
 mutex_calls w l (Mutex k at) calls rules = tt
 mutex_calls w l Idle calls rules = tt
 
@@ -622,39 +618,140 @@ held_where p t single h = by_hand (profile p).hand (lock_of p) refl refl (sym (a
       of = of_own k p single f;
     }
 
--- of those who call one lock, one at most is in the hand of t
-only_held : {one : ℕ → Type 0} (p : ℕ → Place) → ((u : ℕ) → IsSingle (p u)) → Hands one p → (t l u : ℕ) (b : Bool) → one l → IsOf l (p t) → hand_at (p u) l ≡ hand t b → (x : ℕ) → x ≢ u → is_thread t (taker (p x)) ≡ false
-only_held p calls_one hands t l u b single of held x ne = either (is_thread t (taker (p x))) refl
+-- the mutex beside a lock that is called is another lock
+abbrev pub IsApart : Place → Type 0
+IsApart p = (m : ℕ) → beside_of p ≡ Some m → calls p m ≡ false
+
+pub plain_rules : (k : Kind) → is_plain_mutex k ≡ true → rules_of k ≡ mutex
+plain_rules kind.TheVariants.Mutex h = refl
+plain_rules k h = absurd cc
+
+pub condvar_apart : (w : State) (k : ℕ) (at : CondvarPlace) → FitsItsLock w (Condvar k at) → (m : ℕ) → mutex_beside at ≡ Some m → k ≢ m
+condvar_apart w k at fits m e here = let both : locks.Condvar ≡ locks.Mutex = sym fits.sort ∙ ap (λ n. (rules_in w n).sort) here ∙ ap (λ (r : Rules). r.sort) (plain_rules (kind_at w m) (fits.mutex m e)) in cc
+
+pub fits_apart : (w : State) (p : Place) → FitsItsLock w p → IsApart p
+fits_apart w Idle fits m e = refl
+fits_apart w (Mutex k at) fits m e = absurd cc
+fits_apart w (RwLock k a c) fits m e = absurd cc
+fits_apart w (Once k at) fits m e = absurd cc
+fits_apart w (Condvar k at) fits m e = differ k m (condvar_apart w k at fits m e)
+
+pub aparts : (w : State) → IsSteady w → (t : ℕ) → IsApart (place_at w t)
+aparts w steady t = fits_apart w (place_at w t) (steady.stands.calls t)
+
+-- nobody is in a hand at a condition variable: who is in one by the place, at either of its locks, is so by the taker
+pub held_tells : (p : Place) (t l : ℕ) (b : Bool) → hand_at p l ≡ hand t b → is_thread t (taker p) ≡ true
+held_tells (Condvar k at) t l b h = either (k == l) (is_lock l (mutex_beside at)) h
   where
-    second : IsHeldBy (p x) t → ⊥
-    second h = elim (cases_eq h.lock l) [
-      | inl e ↦ ne (hands.alone t l u x b h.handed single held (subst (λ k. hand_at (p x) k ≡ hand t h.handed) e h.hand))
-      | inr nl ↦ let a : carried_at (p t) h.lock ≡ Some h.handed = hands.taken t x h.lock h.handed h.hand in let c : carried_at (p t) h.lock ≡ None = ap (λ (y : Station). y.carries) (station_elsewhere l h.lock (p t) of nl) in cc
-    ]
+    either : (c d : Bool) → (if c then station (Condvar k at) else if d then station_by (mutex_side at) else nowhere).hand ≡ hand t b → is_thread t (taker (Condvar k at)) ≡ true
+    either true d g = absurd cc
+    either false true g = ap (λ x. is_thread t (hand_owner (or_else x None))) g ∙ same t
+    either false false g = absurd cc
+held_tells Idle t l b h = held_taker Idle t l b tt h
+held_tells (Mutex k at) t l b h = held_taker (Mutex k at) t l b tt h
+held_tells (RwLock k a at) t l b h = held_taker (RwLock k a at) t l b tt h
+held_tells (Once k at) t l b h = held_taker (Once k at) t l b tt h
+
+-- in a hand at the lock that it calls, or at the mutex beside it
+pub record IsInHandOf (p : Place) (t : ℕ) : Type 0 where
+  pub lock : ℕ
+  pub handed : Bool
+  pub hand : hand_at p lock ≡ hand t handed
+  pub at : (IsOf lock p) ⊎ (beside_of p ≡ Some lock)
+
+in_hand_own : (p : Place) (t : ℕ) → IsSingle p → is_thread t (taker p) ≡ true → IsInHandOf p t
+in_hand_own p t single h = let k = held_where p t single h in record { lock = k.lock; handed = k.handed; hand = k.hand; at = inl k.of }
+
+in_hand_beside : (k : ℕ) (at : CondvarPlace) (t : ℕ) → IsApart (Condvar k at) → is_thread t (taker (Condvar k at)) ≡ true → IsInHandOf (Condvar k at) t
+in_hand_beside k at t apart h = by_mutex (mutex_beside at) refl
+  where
+    by_hand : (m : ℕ) → mutex_beside at ≡ Some m → (x : Option Hand) → (mutex_side at).hand ≡ x → is_thread t (hand_owner (or_else x None)) ≡ true → IsInHandOf (Condvar k at) t
+    by_hand m e None f g = absurd cc
+    by_hand m e (Some (Of u b)) f g = record {
+      lock = m;
+      handed = b;
+      hand = ap (λ c. (if c then station (Condvar k at) else if is_lock m (mutex_beside at) then station_by (mutex_side at) else nowhere).hand) (apart m e)
+          ∙ ap (λ o. (if is_lock m o then station_by (mutex_side at) else nowhere).hand) e ∙ ap (λ c. (if c then station_by (mutex_side at) else nowhere).hand) (same m)
+          ∙ f ∙ ap (λ x. hand x b) (eqb-true u t g);
+      at = inr e;
+    }
+
+    by_mutex : (o : Option ℕ) → mutex_beside at ≡ o → IsInHandOf (Condvar k at) t
+    by_mutex (Some m) e = by_hand m e (mutex_side at).hand refl h
+    by_mutex None e = absurd (nobody at e h)
+      where
+        nobody : (at : CondvarPlace) → mutex_beside at ≡ None → is_thread t (hand_owner (or_else (mutex_side at).hand None)) ≡ true → ⊥
+        nobody (Wait m timed at) e g = cc
+        nobody (Look all) e g = cc
+        nobody (Notify all m at) e g = cc
+
+pub in_hand_where : (p : Place) (t : ℕ) → IsApart p → is_thread t (taker p) ≡ true → IsInHandOf p t
+in_hand_where Idle t apart h = in_hand_own Idle t tt h
+in_hand_where (Mutex k at) t apart h = in_hand_own (Mutex k at) t tt h
+in_hand_where (RwLock k a at) t apart h = in_hand_own (RwLock k a at) t tt h
+in_hand_where (Once k at) t apart h = in_hand_own (Once k at) t tt h
+in_hand_where (Condvar k at) t apart h = in_hand_beside k at t apart h
+
+-- beside a condition variable is a mutex, whose waiters are taken one at a time
+pub beside_takes_one : (w : State) (p : Place) (l : ℕ) → FitsItsLock w p → beside_of p ≡ Some l → TakesOne w l
+beside_takes_one w Idle l fits e = absurd cc
+beside_takes_one w (Mutex k at) l fits e = absurd cc
+beside_takes_one w (RwLock k a c) l fits e = absurd cc
+beside_takes_one w (Once k at) l fits e = absurd cc
+beside_takes_one w (Condvar k at) l fits e = ap (λ (r : Rules). r.sort) (plain_rules (kind_at w l) (fits.mutex l e))
+
+-- so a lock that lets many go at once is beside no call
+pub not_beside : (w : State) (p : Place) (l : ℕ) → FitsItsLock w p → (TakesOne w l → ⊥) → is_lock l (beside_of p) ≡ false
+not_beside w p l fits many = by_mutex (beside_of p) refl
+  where
+    by_mutex : (o : Option ℕ) → beside_of p ≡ o → is_lock l o ≡ false
+    by_mutex None e = refl
+    by_mutex (Some m) e = differ m l (λ f. many (beside_takes_one w p l fits (e ∙ ap Some f)))
+
+-- where a call of a condition variable is beside another lock, it is in nobody's hand
+pub condvar_unheld : (k : ℕ) (at : CondvarPlace) (l : ℕ) → is_lock l (mutex_beside at) ≡ false → hand_at (Condvar k at) l ≡ None
+condvar_unheld k at l out = ap (λ d. (if k == l then station (Condvar k at) else if d then station_by (mutex_side at) else nowhere).hand) out ∙ either (k == l)
+  where
+    either : (c : Bool) → (if c then station (Condvar k at) else nowhere).hand ≡ None
+    either true = refl
+    either false = refl
+
+pub condvar_untaken : (k : ℕ) (at : CondvarPlace) (l : ℕ) → is_lock l (mutex_beside at) ≡ false → taken_at (Condvar k at) l ≡ None
+condvar_untaken k at l out = ap (λ d. if d && not (k == l) then taken_from (mutex_side at).hand (mutex_side at).wants true else None) out
+
+-- a thread that has somebody in hand at one lock at most
+abbrev pub CarriesAt : ℕ → Place → Type 0
+CarriesAt l p = (k : ℕ) → k ≢ l → carried_at p k ≡ None
+
+pub of_carries : (l : ℕ) (p : Place) → IsOf l p → CarriesAt l p
+of_carries l p of k ne = ap (λ (y : Station). y.carries) (station_elsewhere l k p of ne)
+
+-- whoever is in the hand of t is so there
+pub in_hand_here : {one : ℕ → Type 0} (p : ℕ → Place) → Hands one p → (t l u : ℕ) → CarriesAt l (p t) → (x : IsInHandOf (p u) t) → x.lock ≡ l
+in_hand_here p hands t l u here x = elim (cases_eq x.lock l) [
+  | inl e ↦ e
+  | inr ne ↦ absurd (let a : carried_at (p t) x.lock ≡ Some x.handed = hands.taken t u x.lock x.handed x.hand in let c : carried_at (p t) x.lock ≡ None = here x.lock ne in cc)
+]
+
+-- of those who wait at one lock, one at most is in the hand of t
+pub only_held : {one : ℕ → Type 0} (p : ℕ → Place) → ((u : ℕ) → IsApart (p u)) → Hands one p → (t l u : ℕ) (b : Bool) → one l → CarriesAt l (p t) → hand_at (p u) l ≡ hand t b → (x : ℕ) → x ≢ u → is_thread t (taker (p x)) ≡ false
+only_held p apart hands t l u b single here held x ne = either (is_thread t (taker (p x))) refl
+  where
+    second : IsInHandOf (p x) t → ⊥
+    second h = ne (hands.alone t l u x b h.handed single held (subst (λ k. hand_at (p x) k ≡ hand t h.handed) (in_hand_here p hands t l x here h) h.hand))
 
     either : (c : Bool) → is_thread t (taker (p x)) ≡ c → c ≡ false
     either false e = refl
-    either true e = absurd (second (held_where (p x) t (calls_one x) e))
-
--- of those who call a mutex, each in the hand of t wants to own alone
-pub held_alone : {one : ℕ → Type 0} (p : ℕ → Place) → ((u : ℕ) → IsSingle (p u)) → Hands one p → (t l : ℕ) → IsOf l (p t) → ((u : ℕ) → IsMutexCall l (p u)) → (u : ℕ) → WantsAlone t (p u)
-held_alone p calls_one hands t l of mutexes u h = let x = held_where (p u) t (calls_one u) h in elim (cases_eq x.lock l) [
-  | inl e ↦ by_hand x.handed (in_hand (p u) t l x.handed (mutexes u) (subst (λ k. hand_at (p u) k ≡ hand t x.handed) e x.hand))
-  | inr ne ↦ absurd (let a : carried_at (p t) x.lock ≡ Some x.handed = hands.taken t u x.lock x.handed x.hand in let c : carried_at (p t) x.lock ≡ None = ap (λ (y : Station). y.carries) (station_elsewhere l x.lock (p t) of ne) in cc)
-]
-  where
-    by_hand : (b : Bool) → IsInHand (p u) t b l → wants (p u) ≡ Some Exclusive
-    by_hand true k = ap wants k.is
-    by_hand false k = ap wants k.is
+    either true e = absurd (second (in_hand_where (p x) t (apart x) e))
 
 -- so all whom t has in hand are that one
-pub told_one : {one : ℕ → Type 0} (w : State) (t l u : ℕ) (b : Bool) (reply : Reply) → ((u : ℕ) → IsSingle (place_at w u)) → Hands one (place_at w) → one l → IsOf l (place_at w t) → hand_at (place_at w u) l ≡ hand t b → state_after_telling w t reply ≡ state_after_reply w u reply
-told_one w t l u b reply calls_one hands single of held = λ i. record w { places = told_in t reply w.places u (held_taker (place_at w u) t l b (calls_one u) held) (only_held (place_at w) calls_one hands t l u b single of held) i }
+pub told_one : {one : ℕ → Type 0} (w : State) (t l u : ℕ) (b : Bool) (reply : Reply) → ((u : ℕ) → IsApart (place_at w u)) → Hands one (place_at w) → one l → CarriesAt l (place_at w t) → hand_at (place_at w u) l ≡ hand t b → state_after_telling w t reply ≡ state_after_reply w u reply
+told_one w t l u b reply apart hands single here held = λ i. record w { places = told_in t reply w.places u (held_tells (place_at w u) t l b held) (only_held (place_at w) apart hands t l u b single here held) i }
 
 -- and it owns when t hands the lock over
-pub successor_one : {one : ℕ → Type 0} (w : State) (t l u : ℕ) (b : Bool) → ((u : ℕ) → IsSingle (place_at w u)) → Hands one (place_at w) → one l → IsOf l (place_at w t) → hand_at (place_at w u) l ≡ hand t b → ((x : ℕ) → WantsAlone t (place_at w x)) → sum (shares_at w l) ≡ 0 → (o : Owners) → owners_handed_over w t l o ≡ with_exclusive o (Some u)
-successor_one w t l u b calls_one hands single of held_at alone unshared o =
-    ap (λ s. owners_of_successor (sum (shares_handed_over w t l)) s o) (successor_in t 0 w.places u (alone u) (held_taker (place_at w u) t l b (calls_one u) held_at) (only_held (place_at w) calls_one hands t l u b single of held_at) ∙ ap (λ n. Some (successor_is n)) (let e : 0 + u ≡ u = omega arith in e))
+pub successor_one : {one : ℕ → Type 0} (w : State) (t l u : ℕ) (b : Bool) → ((u : ℕ) → IsApart (place_at w u)) → Hands one (place_at w) → one l → CarriesAt l (place_at w t) → hand_at (place_at w u) l ≡ hand t b → ((x : ℕ) → WantsAlone t (place_at w x)) → sum (shares_at w l) ≡ 0 → (o : Owners) → owners_handed_over w t l o ≡ with_exclusive o (Some u)
+successor_one w t l u b apart hands single here held_at alone unshared o =
+    ap (λ s. owners_of_successor (sum (shares_handed_over w t l)) s o) (successor_in t 0 w.places u (alone u) (held_tells (place_at w u) t l b held_at) (only_held (place_at w) apart hands t l u b single here held_at) ∙ ap (λ n. Some (successor_is n)) (let e : 0 + u ≡ u = omega arith in e))
     ∙ ap (λ (n : ℕ). if n == 0 then with_exclusive o (Some u) else pending_for u o) (ap sum (none_given t w.places (shares_at w l) alone) ∙ unshared)
 
 -- ---------------------------------------------------------------- a release wakes whom it has taken
@@ -662,38 +759,6 @@ successor_one w t l u b calls_one hands single of held_at alone unshared o =
 -- who has nobody in hand leaves alone
 pub lets_nobody : {one : ℕ → Type 0} (places : ℕ → Place) (hands : Hands one places) (t l : ℕ) (p2 : Place) → carried_at (places t) l ≡ None → (u : ℕ) → u ≢ t → LetGo t l (places u) (putting places t p2 u)
 lets_nobody places hands t l p2 none u ne = rw (put_other places t p2 u ne) (stays t l (places u) (untaken (places u) t l (λ h. let a : carried_at (places t) l ≡ Some false = hands.taken t u l false h in absurd cc)))
-
--- ---------------------------------------------------------------- the first of a line is taken
-
-module _ (r : Rules) (l : ℕ) (n : Base) (word : ℕ) (o : Owners) (s rest : List Waiter) (x : Waiter) (p : ℕ → Place) (t : ℕ) (entry : Entry) (retries : Bool) (sort : r.sort ≡ locks.Mutex)
-    (first : p x.thread ≡ Mutex l (Lock entry retries lock.Asleep)) (wants : x.want ≡ Exclusive) (apart : x.thread ≢ t) where
-  abbrev before : Site
-  before = seen l n word o (x ∷ rest) s p
-
-  abbrev taken_then : ℕ → Option Taken
-  taken_then = putting (λ u. taken_at (p u) l) x.thread (Some (record { by = t; want = Exclusive }))
-
-  pub taking : (p2 : Place) → taken_at (p t) l ≡ None → taken_at p2 l ≡ None → doing_on p2 l ≡ taking_main true (lock_seen n.shared o rest s taken_then) (doing_on (p t) l)
-      → seen l n word o rest s (putting (putting p x.thread (next_place (p x.thread) (TakenBy t))) t p2) ≡ after_deed r (Case (TakeFirst (queued x.thread))) before t
-  taking p2 none none2 own = λ i. record before { lock = lock_seen n.shared o rest s (λ u. taken_now u i); filled = unfilled i; doing = λ u. doing_now u i }
-    where
-      unfilled : n.filled ≡ (n.filled || is_full r (locks.after_case r (TakeFirst (queued x.thread)) before.lock t))
-      unfilled = rw sort (sym (or-false n.filled))
-
-      hand_now : taken_at (next_place (p x.thread) (TakenBy t)) l ≡ Some (record { by = t; want = Exclusive })
-      hand_now = rw (first, same l) refl
-
-      taken_now : (u : ℕ) → taken_at (putting (putting p x.thread (next_place (p x.thread) (TakenBy t))) t p2 u) l ≡ taken_then u
-      taken_now u = elim (cases_eq u t) [
-        | inl e ↦ rw (e, put_here (putting p x.thread (next_place (p x.thread) (TakenBy t))) t p2) (none2 ∙ sym none ∙ sym (put_other (λ k. taken_at (p k) l) x.thread (Some (record { by = t; want = Exclusive })) t (λ f. apart (sym f))))
-        | inr ne ↦ rw (put_other (putting p x.thread (next_place (p x.thread) (TakenBy t))) t p2 u ne) (put_of (λ k. taken_at k l) p x.thread (next_place (p x.thread) (TakenBy t)) u ∙ ap (λ h. putting (λ k. taken_at (p k) l) x.thread h u) hand_now)
-      ]
-
-      doing_now : (u : ℕ) → doing_on (putting (putting p x.thread (next_place (p x.thread) (TakenBy t))) t p2 u) l ≡ putting (λ k. doing_on (p k) l) t (taking_main true (lock_seen n.shared o rest s taken_then) (doing_on (p t) l)) u
-      doing_now u = put_is (λ k. doing_on (p k) l) (λ k. doing_on (putting (putting p x.thread (next_place (p x.thread) (TakenBy t))) t p2 k) l) t (taking_main true (lock_seen n.shared o rest s taken_then) (doing_on (p t) l))
-          (rw (put_here (putting p x.thread (next_place (p x.thread) (TakenBy t))) t p2) own)
-          (λ k ne. rw (put_other (putting p x.thread (next_place (p x.thread) (TakenBy t))) t p2 k ne) (put_of (λ y. doing_on y l) p x.thread (next_place (p x.thread) (TakenBy t)) k ∙ put_same (λ y. doing_on (p y) l) x.thread (doing_on (next_place (p x.thread) (TakenBy t)) l) (rw (first, same l) refl) k))
-          u
 
 -- ---------------------------------------------------------------- a lock is handed over
 
@@ -710,75 +775,3 @@ handed_is t n o m s p l to state = (λ i. locks.with_successor (heir to) (record
     by_heir : (to : Option ℕ) → locks.with_successor (heir to) (lock_seen n.shared (with_exclusive o None) m s (let_go t (λ u. taken_at (p u) l))) ≡ lock_seen n.shared (with_exclusive o to) m s (let_go t (λ u. taken_at (p u) l))
     by_heir None = refl
     by_heir (Some u) = ap (λ (k : ℕ). if k == 0 then lock_seen n.shared (with_exclusive o (Some u)) m s (let_go t (λ x. taken_at (p x) l)) else locks.pending_for u false (lock_seen n.shared (with_exclusive o None) m s (let_go t (λ x. taken_at (p x) l)))) (state.unshared (λ h. h))
-
-module _ (r : Rules) (l : ℕ) (n : Base) (word : ℕ) (o : Owners) (m s : List Waiter) (p : ℕ → Place) (one : ℕ → Type 0) (hands : Hands one p) (single : one l) (mutexes : (x : ℕ) → IsMutexCall l (p x)) (t u : ℕ) (alone bumps none_left : Bool) (sort : r.sort ≡ locks.Mutex) (state : IsLockState mutex (lock_seen n.shared o m s (λ x. taken_at (p x) l)))
-    (store : p t ≡ Mutex l (HandOff bumps (hand_off.Store true none_left))) (held : hand_at (p u) l ≡ hand t false) where
-  abbrev at_store : Site
-  at_store = seen l n word o m s p
-
-  abbrev pub handed_places : ℕ → Place
-  handed_places = putting (putting p u (next_place (p u) (HandedBy t alone))) t (Mutex l (HandOff bumps (hand_off.Leave true)))
-
-  pub taken_there : IsTakenAt (p u) t l
-  taken_there = is_taken (p u) t l (mutexes u) held
-
-  apart : u ≢ t
-  apart e = let a : Mutex l (HandOff bumps (hand_off.Store true none_left)) ≡ Mutex l (Lock taken_there.entry taken_there.retries (lock.Taken t)) = sym store ∙ ap p (sym e) ∙ taken_there.is in cc
-
-  let_go_now : (x : ℕ) → taken_at (handed_places x) l ≡ keep_from t (taken_at (p x) l)
-  let_go_now x = elim (cases_eq x t) [
-    | inl e ↦ rw (e, put_here (putting p u (next_place (p u) (HandedBy t alone))) t (Mutex l (HandOff bumps (hand_off.Leave true))), store) refl
-    | inr nt ↦ rw (put_other (putting p u (next_place (p u) (HandedBy t alone))) t (Mutex l (HandOff bumps (hand_off.Leave true))) x nt) (elim (cases_eq x u) [
-      | inl e ↦ rw (e, put_here p u (next_place (p u) (HandedBy t alone)), taken_there.is, same l, same t) refl
-      | inr nu ↦ rw (put_other p u (next_place (p u) (HandedBy t alone)) x nu) (sym (untaken (p x) t l (λ h. nu (hands.alone t l u x false false single held h))))
-    ])
-  ]
-
-  abbrev pub hands_acts : Bool → List Act
-  hands_acts b = record { by = t; deed = Case (locks.HandOff Exclusive (Some (queued u))) } ∷ record { by = t; deed = if b then Clear Main else Mark Main } ∷ record { by = u; deed = Begin (Some (Has Exclusive)) } ∷ []
-
-  doing_then : (b : Bool) → none_left ≡ b → (x : ℕ)
-      → doing_on (handed_places x) l ≡ (after_acts r (hands_acts b) at_store).doing x
-  doing_then true f x = elim (cases_eq x t) [
-    | inl e ↦ rw (e, put_here (putting p u (next_place (p u) (HandedBy t alone))) t (Mutex l (HandOff bumps (hand_off.Leave true))), differ t u (λ g. apart (sym g)), same t, store, same l) refl
-    | inr nt ↦ rw (put_other (putting p u (next_place (p u) (HandedBy t alone))) t (Mutex l (HandOff bumps (hand_off.Leave true))) x nt) (elim (cases_eq x u) [
-      | inl e ↦ rw (e, put_here p u (next_place (p u) (HandedBy t alone)), same u, differ u t apart, taken_there.is, same l) refl
-      | inr nu ↦ rw (put_other p u (next_place (p u) (HandedBy t alone)) x nu, differ x u nu, differ x t nt) refl
-    ])
-  ]
-  doing_then false f x = elim (cases_eq x t) [
-    | inl e ↦ rw (e, put_here (putting p u (next_place (p u) (HandedBy t alone))) t (Mutex l (HandOff bumps (hand_off.Leave true))), differ t u (λ g. apart (sym g)), same t, store, same l, f) refl
-    | inr nt ↦ rw (put_other (putting p u (next_place (p u) (HandedBy t alone))) t (Mutex l (HandOff bumps (hand_off.Leave true))) x nt) (elim (cases_eq x u) [
-      | inl e ↦ rw (e, put_here p u (next_place (p u) (HandedBy t alone)), same u, differ u t apart, taken_there.is, same l) refl
-      | inr nu ↦ rw (put_other p u (next_place (p u) (HandedBy t alone)) x nu, differ x u nu, differ x t nt) refl
-    ])
-  ]
-
-  -- the store does what its deeds do
-  pub handing : (b : Bool) → none_left ≡ b → seen l n (if b then 1 else 3) (with_exclusive o (Some u)) m s handed_places ≡ after_acts r (hands_acts b) at_store
-  handing b f = λ i. record at_store {
-    lock = (let_go_lock ∙ sym (handed_is t n o m s p l (Some u) state) ∙ same_lock b) i;
-    parked = bit b i;
-    aside_parked = no_aside b i;
-    filled = unfilled b i;
-    doing = λ x. doing_then b f x i;
-  }
-    where
-      let_go_lock : lock_seen n.shared (with_exclusive o (Some u)) m s (λ x. taken_at (handed_places x) l) ≡ lock_seen n.shared (with_exclusive o (Some u)) m s (let_go t (λ x. taken_at (p x) l))
-      let_go_lock = λ i. lock_seen n.shared (with_exclusive o (Some u)) m s (λ x. let_go_now x i)
-
-      same_lock : (b : Bool) → locks.handed t Exclusive (heir (Some u)) (lock_seen n.shared o m s (λ x. taken_at (p x) l)) ≡ (after_acts r (hands_acts b) at_store).lock
-      same_lock true = refl
-      same_lock false = refl
-
-      bit : (b : Bool) → is_parked (if b then 1 else 3) ≡ (after_acts r (hands_acts b) at_store).parked
-      bit true = refl
-      bit false = refl
-
-      no_aside : (b : Bool) → false ≡ (after_acts r (hands_acts b) at_store).aside_parked
-      no_aside true = refl
-      no_aside false = refl
-
-      unfilled : (b : Bool) → n.filled ≡ (after_acts r (hands_acts b) at_store).filled
-      unfilled true = rw sort (sym (or-false n.filled))
-      unfilled false = rw sort (sym (or-false n.filled))

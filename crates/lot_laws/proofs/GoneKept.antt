@@ -1,7 +1,6 @@
 -- A thread goes on: every lock is a site again. Here a call of a mutex.
 use Rattle.std.proofs.Common.{ℕ, Bool, true, false, Option, Some, None, if◌then◌else◌, ◌==◌, ◌&&◌, not, ◌≡◌, ◌≢◌, ◌+◌, ◌*◌, ◌<◌, ◌⊎◌, List, [], ◌∷◌, length, map, drop, is_none, inl, inr, refl, sym, ◌∙◌, ap, subst, arith}
 use Rattle.lot_laws.proofs.OnceKept.{goes_once}
-use Rattle.abstract_locks.specs.Locks as locks
 use Rattle.std.proofs.lemmas.Bool.{eqb-true}
 use Rattle.lot_base.specs.declared.keys.Keys.TheVariants.{One}
 use Rattle.lot_base.specs.declared.ops.Op.{Op}
@@ -32,19 +31,20 @@ use Rattle.lot_mutex.specs.MutexSteps.{is_locked, is_parked, lock_act, unlock_ac
 use Rattle.lot_steps.specs.Steps.{next_place, act_of}
 use Rattle.abstract_locks.specs.Locks.{one_if_some, TakeFirst}
 use Rattle.abstract_locks.specs.Codes.{bit}
-use Rattle.abstract_locks.specs.Sites.{Main, Second, End, has_readers, is_empty, found, leaves, In, Out, Case, FindNobody}
+use Rattle.abstract_locks.specs.Sites.{Main, Second, End, is_empty, found, leaves, In, Out, Case, FindNobody}
 use Rattle.lot_machine.specs.Machine.{State, place_at, word_at, owners_at, queue_at, section_at, can_do, put, state_with_sections, queues_with_last, queues_without, queues_without_first, state_after_reply, state_after_taking, is_there, reply_to}
 use Rattle.lot_machine.specs.Fits.{IsShaped, PlaceFits}
 use Rattle.lot_laws.specs.Refinement.{taken_at}
 use Rattle.abstract_locks.specs.Picks.{queued_of}
 use Rattle.lot_laws.specs.MutexDeeds.{mutex_doing, mutex_station, acts, deeds, mutex_deeds, queued}
 use Rattle.lot_laws.specs.Stations.{Station, nowhere, station, station_at}
-use Rattle.lot_laws.specs.SitesOf.{AreCounted, FitsItsLock, IsSteady, Goes, rules_in, stood_in}
+use Rattle.lot_laws.specs.SitesOf.{AreCounted, IsSteady, Goes, stood_in}
 use Rattle.lot_machine.proofs.Shape.{main_line_there, main_key_there}
 use Rattle.lot_laws.proofs.Glue.{base_at, same, own_stance, inside_is, doing_of, doing_here, IsMutexOf, own_of, IsSingle, singles}
-use Rattle.lot_laws.proofs.MutexTable.{mutex, Fits, own_doing, ends, looks, at_first, at_load, at_decide_free, at_decide_one, at_clear, at_release_clear, at_try, at_subtract, at_unlock_fair, at_bump, at_store_none}
+use Rattle.lot_laws.proofs.MutexTable.{Fits, own_doing, ends, looks, at_first, at_load, at_decide_free, at_decide_one, at_clear, at_release_clear, at_try, at_subtract, at_unlock_fair, at_bump, at_store_none}
 use Rattle.lot_laws.proofs.OneStep.{empty_line}
-use Rattle.lot_laws.proofs.SitesKept.{go_by, goes_steady, rules, site_l, word_l, word_keeps, place_keeps, enter_keeps, leave_keeps, one_held, release_wakes, tells, hands_over, take_keeps}
+use Rattle.lot_laws.proofs.SitesKept.{go_by, goes_steady, site_l, word_l, word_keeps, place_keeps, enter_keeps, leave_keeps, one_held, release_wakes, tells, hands_over, take_keeps, mutexes_at}
+use Rattle.lot_laws.proofs.Waiters.{stands_or_sleeps}
 use Rattle.lot_laws.proofs.StandsKept.{in_main}
 use Rattle.lot_laws.proofs.RwLockGoes.{rwlock_goes_on}
 use Rattle.lot_laws.proofs.SectionsKept.{park_keeps, remove_keeps, nobody_keeps}
@@ -56,37 +56,6 @@ none_is (Some y) h = absurd cc
 owned_3 : (e : Option ℕ) → 3 ≡ one_if_some e + 2 * 1 → e ≢ None
 owned_3 None h e = omega arith
 owned_3 (Some x) h e = cc
-
--- a thread that stands in a line, by its place: asleep, or inside the section
-pub record IsAsleep (p : Place) (l : ℕ) : Type 0 where
-  pub entry : Entry
-  pub retries : Bool
-  pub is : p ≡ Mutex l (Lock entry retries lock.Asleep)
-
-asleep_at : (k l : ℕ) (at : MutexPlace) → k ≡ l → (mutex_station at).stands ≡ Some Main → ((mutex_station at).inside ≡ Some Main) ⊎ IsAsleep (Mutex k at) l
-asleep_at k l (Lock e b (lock.Leave true)) f g = inl refl
-asleep_at k l (Lock e b lock.Asleep) f g = inr (record { entry = e; retries = b; is = rw f refl })
-asleep_at k l (Lock e b lock.Remove) f g = inl refl
-asleep_at k l at f g = absurd cc
-
-pub asleep : (w : State) (p : Place) (l : ℕ) → rules_in w l ≡ mutex → FitsItsLock w p → (station_at p l).stands ≡ Some Main → ((station_at p l).inside ≡ Some Main) ⊎ IsAsleep p l
-asleep w Idle l r c h = absurd cc
-asleep w (Condvar k at) l r c h = absurd c
-asleep w (Once k at) l r c h = either (k == l) refl h
-  where
-    either : (b : Bool) → (k == l) ≡ b → (if b then station (Once k at) else nowhere).stands ≡ Some Main → ((if b then station (Once k at) else nowhere).inside ≡ Some Main) ⊎ IsAsleep (Once k at) l
-    either true e g = absurd (let own : k ≡ l = eqb-true k l e in let both : locks.Once ≡ locks.Mutex = sym c ∙ ap (λ n. (rules_in w n).sort) own ∙ ap (λ (x : locks.Rules). x.sort) r in cc)
-    either false e g = absurd cc
-asleep w (RwLock k a at) l r c h = either (k == l) refl h
-  where
-    either : (b : Bool) → (k == l) ≡ b → (if b then station (RwLock k a at) else nowhere).stands ≡ Some Main → ((if b then station (RwLock k a at) else nowhere).inside ≡ Some Main) ⊎ IsAsleep (RwLock k a at) l
-    either true e g = absurd (let own : k ≡ l = eqb-true k l e in let shared : has_readers (rules_in w k).sort ≡ true = c.0.0 in let f : has_readers mutex.sort ≡ true = rw (own, r) at shared in cc)
-    either false e g = absurd cc
-asleep w (Mutex k at) l r c h = either (k == l) refl h
-  where
-    either : (b : Bool) → (k == l) ≡ b → (if b then mutex_station at else nowhere).stands ≡ Some Main → ((if b then mutex_station at else nowhere).inside ≡ Some Main) ⊎ IsAsleep (Mutex k at) l
-    either true e g = asleep_at k l at (eqb-true k l e) g
-    either false e g = absurd cc
 
 module _ (w : State) (t : ℕ) (steady : IsSteady w) (shape : IsShaped w) (there : t < length w.places) where
   -- the thread does at the lock l what its act does
@@ -191,9 +160,9 @@ module _ (w : State) (t : ℕ) (steady : IsSteady w) (shape : IsShaped w) (there
   takes l at is lt none s c v empty to = by_line (queue_at w (2 * l)) refl
     where
       some : (x : Waiter) (rest : List Waiter) → queue_at w (2 * l) ≡ x ∷ rest → Goes w (put (state_after_reply (record w { queues = queues_without_first w.queues (2 * l) }) x.thread (TakenBy t)) t (next_place (Mutex l at) (Took true (length rest == 0)))) l (deeds t at (Some x.thread) (Took true (length rest == 0)))
-      some x rest e = elim (asleep w (place_at w x.thread) l (rules w t l at steady is there) (steady.stands.calls x.thread) stands_there) [
+      some x rest e = elim (stands_or_sleeps (place_at w x.thread) l (mutexes_at w t l at steady is x.thread) stands_there) [
         | inl within ↦ absurd (apart ((site_l w t l at steady is there).alone x.thread t Main (inside_is (place_at w x.thread) l ∙ within) (inside_is (place_at w t) l ∙ ap (λ (y : Station). y.inside) here)))
-        | inr a ↦ rw ((to x.thread (length rest == 0)).does) (take_keeps w t l at steady is there (line l lt) x rest e a.entry a.retries a.is apart (next_place (Mutex l at) (Took true (length rest == 0))) (to x.thread (length rest == 0)).of none (to x.thread (length rest == 0)).none
+        | inr a ↦ rw ((to x.thread (length rest == 0)).does) (take_keeps w t l at steady is there (line l lt) x rest e a stands_there apart (next_place (Mutex l at) (Took true (length rest == 0))) (to x.thread (length rest == 0)).of none (to x.thread (length rest == 0)).none
             (ap (λ (y : Station). y.carries) s) (ap (λ (y : Station). y.hand) s) (ap (λ (y : Station). y.inside) s) c v
             (doing_here l (next_place (Mutex l at) (Took true (length rest == 0))) (own_of l (next_place (Mutex l at) (Took true (length rest == 0))) (to x.thread (length rest == 0)).of) ∙ (to x.thread (length rest == 0)).doing ∙ ap (λ b. record (mutex_doing at) { wakes = None; carries = true; covers = true; empty = found Main b }) (sym (empty_line rest)))
             (to x.thread (length rest == 0)).stands)

@@ -1,7 +1,7 @@
 -- What a place says of those whom its thread has in hand, counted anew from where all threads stand: that is what the lock hands over.
-use Rattle.std.proofs.Common.{ℕ, zero, suc, Bool, true, false, Option, Some, None, if◌then◌else◌, ◌==◌, ◌&&◌, not, ◌≡◌, ◌≢◌, ◌+◌, ◌<◌, ◌≤◌, List, [], ◌∷◌, length, get_or, cond, inl, inr, refl, sym, ◌∙◌, ap, subst, arith}
+use Rattle.std.proofs.Common.{ℕ, zero, suc, Bool, true, false, Option, Some, None, if◌then◌else◌, ◌==◌, ◌&&◌, not, ◌≡◌, ◌≢◌, ◌+◌, ◌<◌, ◌≤◌, List, [], ◌∷◌, length, get_or, cond, refl, sym, ◌∙◌, ap, subst, arith}
 use Rattle.std.specs.List.{filter}
-use Rattle.std.proofs.lemmas.Bool.{cases_eq, eqb-true}
+use Rattle.std.proofs.lemmas.Bool.{eqb-true}
 use Rattle.lot_base.specs.declared.wants.Want.{Want}
 use Rattle.lot_base.specs.declared.wants.Want.TheVariants.{Exclusive, Upgradable, Shared, Wait, CallOnce}
 use Rattle.lot_acts.specs.Moves.{heir_of}
@@ -10,15 +10,19 @@ use Rattle.lot_acts.specs.Profiles.{Hand, Of, hand, hand_owner, in_hand, taken_f
 use Rattle.lot_rwlock_fair.specs.declared.hand_over.Taken.{Taken as Counted}
 use Rattle.lot_rwlock_fair.specs.FairCalls.{HasInHand, IsNamed}
 use Rattle.lot_steps.specs.declared.places.Place.{Place}
-use Rattle.lot_steps.specs.declared.places.Place.TheVariants.{Idle}
-use Rattle.lot_steps.specs.Steps.{calls, is_lock, lock_of, profile, taker}
+use Rattle.lot_steps.specs.declared.places.Place.TheVariants.{Idle, Mutex, RwLock, Once, Condvar}
+use Rattle.lot_steps.specs.Steps.{calls, is_lock, or_else, profile, taker}
 use Rattle.abstract_locks.specs.Locks.{IsSuccessor, Queued, Taken, readers, shares_handed, sharing_handed, wants_shared}
 use Rattle.lot_machine.specs.declared.hands.Successor.{Successor}
 use Rattle.lot_machine.specs.Machine.{State, held, held_by, place_at, shares_at, shares_in_hand, sharers, successor_from, successor_or, want_of_successor, wants_more_in_hand}
 use Rattle.lot_laws.specs.Refinement.{lock_state, taken_at}
-use Rattle.lot_laws.specs.Stations.{Station, nowhere, station}
+use Rattle.lot_laws.specs.Stations.{Station, nowhere, station, station_by}
 use Rattle.lot_laws.specs.SitesOf.{IsCounted, IsSteady, carried_at, hand_at}
-use Rattle.lot_laws.proofs.Glue.{IsOf, calls_none, held_where, same, station_elsewhere, singles, IsSingle, single_held, single_station, single_taken}
+use Rattle.lot_laws.proofs.Glue.{IsOf, same, IsSingle, single_held, single_station, single_taken, single_taker, taken_out, IsInHandOf, in_hand_where, in_hand_here, aparts, of_carries}
+use Rattle.lot_laws.proofs.Waiters.{side_wanted}
+use Rattle.lot_condvar.specs.declared.places.CondvarPlace.{CondvarPlace}
+use Rattle.lot_condvar.specs.CondvarSteps.{mutex_beside}
+use Rattle.lot_condvar.specs.CondvarProfiles.{condvar_profile, mutex_side}
 use Rattle.lot_laws.proofs.HandsMoved.{thread_of}
 use Rattle.lot_laws.proofs.InHand.{counted, heir_wants, is_wanted, shared_by, sharers_from, sharers_same, wanted_is, wanted_of, wants_heir}
 
@@ -42,41 +46,65 @@ by_row t (Some (Of v false)) (Some y) false f = either (v == t) refl
     either false e = refl
 
 module _ (w : State) (t l : ℕ) (steady : IsSteady w) (own : IsOf l (place_at w t)) (any : Bool) (carries : carried_at (place_at w t) l ≡ in_hand any false) where
+  by_any : (c g : Bool) → in_hand c false ≡ Some g → g ≡ false
+  by_any true g e = let f : false ≡ g = cc in sym f
+  by_any false g e = absurd cc
+
   -- who is in its hand is so at its lock, and was handed nothing
-  fresh_here : (u : ℕ) (g : Bool) → (profile (place_at w u)).hand ≡ hand t g → (g ≡ false) × (calls (place_at w u) l ≡ true)
-  fresh_here u g h = by_lock (lock_of (place_at w u)) refl
-    where
-      by_any : (c : Bool) → in_hand c false ≡ Some g → g ≡ false
-      by_any true e = let f : false ≡ g = cc in sym f
-      by_any false e = absurd cc
-
-      by_lock : (o : Option ℕ) → lock_of (place_at w u) ≡ o → (g ≡ false) × (calls (place_at w u) l ≡ true)
-      by_lock None e = absurd (let none : ◌≡◌ {A = Option Hand} None (hand t g) = sym (ap (λ p. (profile p).hand) (calls_none (place_at w u) e)) ∙ h in cc)
-      by_lock (Some k) e = elim (cases_eq k l) [
-        | inl f ↦ (by_any any (sym carries ∙ subst (λ j. carried_at (place_at w t) j ≡ Some g) f carried), ap (is_lock l) e ∙ ap (λ j. j == l) f ∙ same l)
-        | inr ne ↦ absurd (let none : carried_at (place_at w t) k ≡ None = ap (λ (y : Station). y.carries) (station_elsewhere l k (place_at w t) own ne) in let f : ◌≡◌ {A = Option Bool} None (Some g) = sym none ∙ carried in cc)
-      ]
-        where
-          there : hand_at (place_at w u) k ≡ hand t g
-          there = ap (λ (y : Station). y.hand) (single_station (place_at w u) k (singles w steady u)) ∙ ap (λ o. (if is_lock k o then station (place_at w u) else nowhere).hand) e ∙ ap (λ b. (if b then station (place_at w u) else nowhere).hand) (same k) ∙ h
-
-          carried : carried_at (place_at w t) k ≡ Some g
-          carried = steady.stands.hands.taken t u k g there
-
   pub hand_there : (u : ℕ) → is_thread t (taker (place_at w u)) ≡ true → hand_at (place_at w u) l ≡ hand t false
-  hand_there u h = let k = held_where (place_at w u) t (singles w steady u) h in elim (cases_eq k.lock l) [
-    | inl e ↦ subst (λ j. hand_at (place_at w u) j ≡ hand t false) e (k.hand ∙ ap (hand t) (by_any any k.handed (sym carries ∙ subst (λ j. carried_at (place_at w t) j ≡ Some k.handed) e (steady.stands.hands.taken t u k.lock k.handed k.hand))))
-    | inr ne ↦ absurd (let a : carried_at (place_at w t) k.lock ≡ Some k.handed = steady.stands.hands.taken t u k.lock k.handed k.hand in
-        let b : carried_at (place_at w t) k.lock ≡ None = ap (λ (y : Station). y.carries) (station_elsewhere l k.lock (place_at w t) own ne) in let c : ◌≡◌ {A = Option Bool} None (Some k.handed) = sym b ∙ a in cc)
-  ]
+  hand_there u h =
+      let k : IsInHandOf (place_at w u) t = in_hand_where (place_at w u) t (aparts w steady u) h in
+      let here : k.lock ≡ l = in_hand_here (place_at w) steady.stands.hands t l u (of_carries l (place_at w t) own) k in
+      let held_here : hand_at (place_at w u) l ≡ hand t k.handed = subst (λ j. hand_at (place_at w u) j ≡ hand t k.handed) here k.hand in
+      held_here ∙ ap (hand t) (by_any any k.handed (sym carries ∙ steady.stands.hands.taken t u l k.handed held_here))
+
+  -- in a call of one lock
+  fresh_here : (u : ℕ) → IsSingle (place_at w u) → (g : Bool) → (profile (place_at w u)).hand ≡ hand t g → (g ≡ false) × (calls (place_at w u) l ≡ true)
+  fresh_here u single g h = by_call (calls (place_at w u) l) (sym (ap (λ (y : Station). y.hand) (single_station (place_at w u) l single)) ∙ hand_there u (ap (is_thread t) (single_taker (place_at w u) single ∙ ap hand_owner h) ∙ same t))
     where
-      by_any : (c g : Bool) → in_hand c false ≡ Some g → g ≡ false
-      by_any true g e = let f : false ≡ g = cc in sym f
-      by_any false g e = absurd cc
+      by_call : (c : Bool) → (if c then station (place_at w u) else nowhere).hand ≡ hand t false → (g ≡ false) × (c ≡ true)
+      by_call true e = (let both : hand t g ≡ hand t false = sym h ∙ e in cc, refl)
+      by_call false e = absurd cc
+
+  hand_of_one : (u : ℕ) → IsSingle (place_at w u) → wanted_of t (held (place_at w u)) ≡ wanted_of t (taken_at (place_at w u) l)
+  hand_of_one u single = ap (wanted_of t) (single_held (place_at w u) single) ∙ by_row t (profile (place_at w u)).hand (profile (place_at w u)).wants (calls (place_at w u) l) (fresh_here u single)
+      ∙ ap (wanted_of t) (sym (single_taken (place_at w u) l single))
+
+  -- beside a condition variable
+  module _ (u k : ℕ) (at : CondvarPlace) (is : place_at w u ≡ Condvar k at) where
+    abbrev is_beside : Bool
+    is_beside = is_lock l (mutex_beside at) && not (k == l)
+
+    hand_beside : (x : Option Hand) → (mutex_side at).hand ≡ x → wanted_of t (held_by (hand_owner (or_else x None)) (or_else (mutex_side at).wants (condvar_profile at).wants)) ≡ wanted_of t (held_by (hand_owner x) (mutex_side at).wants)
+    hand_beside None e = refl
+    hand_beside (Some (Of v b)) e = rw (side_wanted at v b e) refl
+
+    fresh_beside : (g : Bool) → (mutex_side at).hand ≡ hand t g → (g ≡ false) × (is_beside ≡ true)
+    fresh_beside g h = by_call (k == l) (is_lock l (mutex_beside at)) (subst (λ q. hand_at q l ≡ hand t false) is
+        (hand_there u (ap (λ q. is_thread t (taker q)) is ∙ ap (λ x. is_thread t (hand_owner (or_else x None))) h ∙ same t)))
+      where
+        by_call : (c d : Bool) → (if c then station (Condvar k at) else if d then station_by (mutex_side at) else nowhere).hand ≡ hand t false → (g ≡ false) × ((d && not c) ≡ true)
+        by_call true d e = absurd cc
+        by_call false true e = (let both : hand t g ≡ hand t false = sym h ∙ e in cc, refl)
+        by_call false false e = absurd cc
+
+    taken_beside : (b : Bool) → taken_from (mutex_side at).hand (mutex_side at).wants b ≡ (if b then taken_from (mutex_side at).hand (mutex_side at).wants true else None)
+    taken_beside true = refl
+    taken_beside false = taken_out (mutex_side at).hand (mutex_side at).wants
+
+    hand_of_two : wanted_of t (held (place_at w u)) ≡ wanted_of t (taken_at (place_at w u) l)
+    hand_of_two = ap (λ q. wanted_of t (held q)) is ∙ hand_beside (mutex_side at).hand refl ∙ by_row t (mutex_side at).hand (mutex_side at).wants is_beside fresh_beside
+        ∙ ap (wanted_of t) (taken_beside is_beside) ∙ ap (λ q. wanted_of t (taken_at q l)) (sym is)
 
   pub same_hand : (u : ℕ) → wanted_of t (held (place_at w u)) ≡ wanted_of t (taken_at (place_at w u) l)
-  same_hand u = ap (wanted_of t) (single_held (place_at w u) (singles w steady u)) ∙ by_row t (profile (place_at w u)).hand (profile (place_at w u)).wants (calls (place_at w u) l) (fresh_here u)
-      ∙ ap (wanted_of t) (sym (single_taken (place_at w u) l (singles w steady u)))
+  same_hand u = by_place (place_at w u) refl
+    where
+      by_place : (q : Place) → place_at w u ≡ q → wanted_of t (held (place_at w u)) ≡ wanted_of t (taken_at (place_at w u) l)
+      by_place (Condvar k at) e = hand_of_two u k at e
+      by_place Idle e = hand_of_one u (rw e tt)
+      by_place (Mutex k at) e = hand_of_one u (rw e tt)
+      by_place (RwLock k a c) e = hand_of_one u (rw e tt)
+      by_place (Once k at) e = hand_of_one u (rw e tt)
 
 -- ---------------------------------------------------------------- counts
 

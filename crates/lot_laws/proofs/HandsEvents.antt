@@ -44,7 +44,7 @@ claims_are t alone taken (suc n) = both_claim (claim_of t alone n (taken n)) (cl
 abbrev pub IsHandedCall : ℕ → ℕ → Bool → Want → Place → Type 0
 IsHandedCall l t alone x p = (r : ℕ → Rights) → call_state (next_place p (HandedBy t alone)) (putting r l (given_right alone x (r l))) ≡ record (call_state p r) { retries = None }
 
-module _ (w v : State) (t l : ℕ) (right : Want) (successor : Option Queued) (h : Happens w v t l (AtLock l (HandOff right successor))) (alone : Bool)
+module _ (w v : State) (t l : ℕ) (right : Want) (successor : Option Queued) (h : Happens w v t (AtLock l (HandOff right successor))) (alone : Bool)
     (unshared : alone ≡ (readers (given (rules_in w l) (lock_state w l) t right successor (h.before.sites.site l).state h.needs) == 0)) where
   led_to : (u : ℕ) (x : Rights) → rights_of (handed t right successor (lock_state w l)) u ≡ x → (k : ℕ) → rights v u k ≡ putting (rights w u) l x k
   led_to u x e k = rights_led w v t l (Some (HandOff right successor)) h u k ∙ ap (λ y. putting (rights w u) l y k) e

@@ -36,14 +36,17 @@ use Rattle.lot_laws.specs.MutexDeeds.{acts}
 use Rattle.lot_laws.specs.MutexDeeds as deeds
 use Rattle.lot_laws.specs.Stations.{Station, station, station_at, nowhere, doing_on}
 use Rattle.lot_laws.specs.SitesOf.{stations_of, ActsNeeded, HasRoom, IsSteady, Goes, Hands, TakesOne, FitsItsLock, after_acts, rules_in, carried_at, hand_at}
-use Rattle.lot_laws.proofs.Glue.{free_of, held_calls, Parts, parts_at, lock_in, seen_in, same, put_here, put_other, put_same, IsOf, station_here, untaken, held_taker, thread_is, past_all, singles, IsSingle, of_single, single_taken, single_wants, next_of}
+use Rattle.lot_laws.proofs.Glue.{free_of, held_calls, Parts, parts_at, lock_in, seen_in, same, put_here, put_other, put_same, IsOf, station_here, untaken, held_tells, thread_is, past_all, IsSingle, of_single, single_taken, single_wants, next_of}
 use Rattle.lot_laws.proofs.KindsKept.{given_kinds}
 use Rattle.lot_laws.proofs.OneStep.{AreQuiet, AreSingle, acts_keep, full_then, fills_by, others_same}
 use Rattle.lot_laws.proofs.ActsKept.{Moves, lock_by, site_by, follows_by}
 use Rattle.lot_laws.proofs.LawsKept.{after_same, needed_same, parked_read, aside_read}
 use Rattle.lot_laws.proofs.StandsKept.{sections_same, lines_same, waits_same, hands_given, calls_in}
 use Rattle.lot_laws.proofs.StandsMoved.{stands_by}
-use Rattle.lot_laws.proofs.ToldKept.{IsTold, HeldHere, has, told, places_then, held_here, told_on, told_off, not_held, in_hand, carries, alike, calls_then, all_parts, places_are}
+use Rattle.lot_laws.proofs.ToldAt.{HoldsHere, IsToldAt, SameHands, HeldHere, same_hands, has, told, places_then, held_here, told_on, told_off, not_held, in_hand, carries, alike, calls_then, all_parts, places_are}
+use Rattle.lot_laws.proofs.Waiters.{holds_here}
+use Rattle.lot_laws.proofs.StandsKept.{AlikeBeside, own_alike}
+use Rattle.lot_laws.proofs.Glue.{of_carries}
 
 -- ---------------------------------------------------------------- deeds of many threads
 
@@ -228,10 +231,33 @@ pub record IsGiven (w : State) (t l : ℕ) (handed alone : Bool) (p : Place) : T
   pub fresh : handed ≡ false
   pub want : Want
   pub wants_it : wants p ≡ Some want
-  pub was : station p ≡ record nowhere { hand = hand t handed }
-  pub goes : station (next_place p (HandedBy t alone)) ≡ record nowhere { hand = hand t true }
+  pub taken : taken_at p l ≡ Some (record { by = t; want = want })
+  pub free : taken_at (next_place p (HandedBy t alone)) l ≡ None
+  pub goes : station_at (next_place p (HandedBy t alone)) l ≡ record (station_at p l) { hand = hand t true }
+  pub alike : AlikeBeside l p (next_place p (HandedBy t alone))
   pub doing : doing_on (next_place p (HandedBy t alone)) l ≡ record (doing_on p l) { claims = Some (claim_handed alone want) }
   pub fits : FitsItsLock w (next_place p (HandedBy t alone))
+
+-- who calls the lock
+pub given_of : (w : State) (t l : ℕ) (handed alone : Bool) (p : Place) (want : Want) → IsOf l p → handed ≡ false → wants p ≡ Some want → station p ≡ record nowhere { hand = hand t handed } → station (next_place p (HandedBy t alone)) ≡ record nowhere { hand = hand t true }
+    → doing_on (next_place p (HandedBy t alone)) l ≡ record (doing_on p l) { claims = Some (claim_handed alone want) } → FitsItsLock w (next_place p (HandedBy t alone)) → IsGiven w t l handed alone p
+given_of w t l handed alone p want of fresh wants_it was goes doing fits = record {
+  fresh = fresh;
+  want = want;
+  wants_it = wants_it;
+  taken = taken_by p l want of (ap (λ (y : Station). y.hand) was ∙ ap (hand t) fresh) wants_it;
+  free = given_free p2 l t (of_single l p2 of_2) (ap (λ (y : Station). y.hand) goes);
+  goes = station_here l p2 of_2 ∙ goes ∙ sym (ap (λ (y : Station). record y { hand = hand t true }) (station_here l p of ∙ was));
+  alike = own_alike l p p2 of of_2;
+  doing = doing;
+  fits = fits;
+}
+  where
+    p2 : Place
+    p2 = next_place p (HandedBy t alone)
+
+    of_2 : IsOf l p2
+    of_2 = next_of l p (HandedBy t alone) of
 
 module _ (w : State) (t l : ℕ) (steady : IsSteady w) (own : IsOf l (place_at w t)) (there : t < length w.places) (lt : l < length w.locks) (p p2 : Place) (of : IsOf l p2) (fits : FitsItsLock w p2) (op : Op) (r : Rules) (rules : rules_in w l ≡ r) (sharers : has_readers r.sort ≡ true)
     (all : (u : ℕ) (b : Bool) → hand_at (place_at w u) l ≡ hand t b → IsGiven w t l b (unshared_then w t l) (place_at w u)) (free : (station (place_at w t)).hand ≡ None) where
@@ -247,37 +273,58 @@ module _ (w : State) (t l : ℕ) (steady : IsSteady w) (own : IsOf l (place_at w
   site : IsSite r here
   site = site_by w t l steady own there r rules p2 of fits
 
-  pub all_told : (u : ℕ) (b : Bool) → hand_at (place_at w u) l ≡ hand t b → IsTold w t b (hand t true) (hand_over_told w t l) (place_at w u)
-  all_told u b h = let k = all u b h in record { was = k.was; goes = k.goes; fits = k.fits }
+  -- they stand as the machine tells them
+  pub beside : AlikeBeside l (place_at w t) p2
+  beside = own_alike l (place_at w t) p2 own of
+
+  abbrev same_there : SameHands l (place_at w t) p2
+  same_there = same_hands l (place_at w t) p2 beside
+
+  abbrev in_hands : HoldsHere w t l
+  in_hands = holds_here w t l steady (of_carries l (place_at w t) own)
+
+  pub all_told : (u : ℕ) (b : Bool) → hand_at (place_at w u) l ≡ hand t b → IsToldAt w t l b (hand t true) (hand_over_told w t l) (place_at w u)
+  all_told u b h = let k = all u b h in record { goes = k.goes; alike = k.alike; fits = k.fits }
+
+  was_here : station_at (place_at w t) l ≡ station (place_at w t)
+  was_here = station_here l (place_at w t) own
+
+  is_here : station_at p2 l ≡ station p2
+  is_here = station_here l p2 of
 
   abbrev is_told : ℕ → Bool
-  is_told = has w t l steady own there p2 of fits (hand_over_told w t l) (hand t true) all_told free
+  is_told = has w t l steady p2 same_there fits in_hands (hand_over_told w t l) (hand t true) all_told
 
   abbrev pub places_behind : ℕ → Place
-  places_behind = places_then w t l steady own there p2 of fits (hand_over_told w t l) (hand t true) all_told free
+  places_behind = places_then w t l steady p2 same_there fits in_hands (hand_over_told w t l) (hand t true) all_told
 
   abbrev told_now : ℕ → Place
-  told_now = told w t l steady own there p2 of fits (hand_over_told w t l) (hand t true) all_told free
+  told_now = told w t l steady p2 same_there fits in_hands (hand_over_told w t l) (hand t true) all_told
 
   -- whom t has in hand
   module _ (u : ℕ) (h : is_told u ≡ true) where
-    at_hand : HeldHere w t l steady own there p2 of fits (hand_over_told w t l) (hand t true) all_told free u
-    at_hand = held_here w t l steady own there p2 of fits (hand_over_told w t l) (hand t true) all_told free u h
+    at_hand : HeldHere w t l steady p2 same_there fits in_hands (hand_over_told w t l) (hand t true) all_told u
+    at_hand = held_here w t l steady p2 same_there fits in_hands (hand_over_told w t l) (hand t true) all_told u h
 
     given : IsGiven w t l at_hand.handed alone (place_at w u)
     given = all u at_hand.handed at_hand.hand
 
-    of_u : IsOf l (place_at w u)
-    of_u = at_hand.calls
-
     taken_is : taken u ≡ Some (record { by = t; want = given.want })
-    taken_is = taken_by (place_at w u) l given.want of_u (ap (λ (y : Station). y.hand) given.was ∙ ap (hand t) given.fresh) given.wants_it
+    taken_is = given.taken
 
     free_then : taken_at (next_place (place_at w u) (hand_over_told w t l)) l ≡ None
-    free_then = given_free (next_place (place_at w u) (hand_over_told w t l)) l t (of_single l (next_place (place_at w u) (hand_over_told w t l)) (next_of l (place_at w u) (hand_over_told w t l) of_u)) (ap (λ (y : Station). y.hand) given.goes)
+    free_then = given.free
+
+  -- t is in nobody's hand itself
+  not_told : is_told t ≡ false
+  not_told = by_test (is_told t) refl
+    where
+      by_test : (b : Bool) → is_told t ≡ b → b ≡ false
+      by_test false h = refl
+      by_test true h = absurd (let held_so : hand_at (place_at w t) l ≡ hand t (at_hand t h).handed = (at_hand t h).hand in let none : hand_at (place_at w t) l ≡ None = ap (λ (y : Station). y.hand) was_here ∙ free in let both : ◌≡◌ {A = Option Hand} None (hand t (at_hand t h).handed) = sym none ∙ held_so in cc)
 
   not_taken : (u : ℕ) → is_told u ≡ false → keep_from t (taken u) ≡ taken u
-  not_taken u h = untaken (place_at w u) t l (not_held w t l steady own there p2 of fits (hand_over_told w t l) (hand t true) all_told free u h false)
+  not_taken u h = untaken (place_at w u) t l (not_held w t l steady p2 same_there fits in_hands (hand_over_told w t l) (hand t true) all_told u h false)
 
   -- who gets a share
   share_is : (u : ℕ) → shares_handed t (taken u) ≡ (if shares_in_hand t (held (place_at w u)) then 1 else 0)
@@ -368,14 +415,14 @@ module _ (w : State) (t l : ℕ) (steady : IsSteady w) (own : IsOf l (place_at w
       -- who is in hand still
       taken_then : (u : ℕ) → taken_at (places_behind u) l ≡ let_go t taken u
       taken_then u = elim (cases_eq u t) [
-        | inl e ↦ rw e (ap (λ q. taken_at q l) (put_here told_now t p2) ∙ free_of p2 l (of_single l p2 of) unheld ∙ sym (ap (keep_from t) (free_of (place_at w t) l (singles w steady t) free)))
+        | inl e ↦ rw e (ap (λ q. taken_at q l) (put_here told_now t p2) ∙ free_of p2 l (of_single l p2 of) unheld ∙ sym (ap (keep_from t) (free_of (place_at w t) l (of_single l (place_at w t) own) free)))
         | inr ne ↦ ap (λ q. taken_at q l) (put_other told_now t p2 u ne) ∙ either (is_told u) refl
       ]
         where
           either : (b : Bool) → is_told u ≡ b → taken_at (told_now u) l ≡ keep_from t (taken u)
-          either true h = ap (λ q. taken_at q l) (told_on w t l steady own there p2 of fits (hand_over_told w t l) (hand t true) all_told free u h) ∙ free_then u h
+          either true h = ap (λ q. taken_at q l) (told_on w t l steady p2 same_there fits in_hands (hand_over_told w t l) (hand t true) all_told u h) ∙ free_then u h
               ∙ sym (ap (keep_from t) (taken_is u h) ∙ ap (λ b. if b then None else Some (record { by = t; want = (given u h).want })) (same t))
-          either false h = ap (λ q. taken_at q l) (told_off w t l steady own there p2 of fits (hand_over_told w t l) (hand t true) all_told free u h) ∙ sym (not_taken u h)
+          either false h = ap (λ q. taken_at q l) (told_off w t l steady p2 same_there fits in_hands (hand_over_told w t l) (hand t true) all_told u h) ∙ sym (not_taken u h)
 
       lock_then : lock_in parts_then (λ u. taken_at (places_behind u) l) ≡ between.lock
       lock_then = (λ i. lock_in parts_then (λ u. taken_then u i))
@@ -437,14 +484,14 @@ module _ (w : State) (t l : ℕ) (steady : IsSteady w) (own : IsOf l (place_at w
 
       doing_then : (u : ℕ) → doing_on (places_behind u) l ≡ with_claim t alone (taken u) (between.doing u)
       doing_then u = elim (cases_eq u t) [
-        | inl e ↦ rw e (ap (λ q. doing_on q l) (put_here told_now t p2) ∙ sym law.doing ∙ sym (ap (λ o. with_claim t alone o (between.doing t)) (free_of (place_at w t) l (singles w steady t) free)))
+        | inl e ↦ rw e (ap (λ q. doing_on q l) (put_here told_now t p2) ∙ sym law.doing ∙ sym (ap (λ o. with_claim t alone o (between.doing t)) (free_of (place_at w t) l (of_single l (place_at w t) own) free)))
         | inr ne ↦ ap (λ q. doing_on q l) (put_other told_now t p2 u ne) ∙ either (is_told u) refl ∙ sym (ap (with_claim t alone (taken u)) (ap (λ (s : Site). s.doing u) (sym (after_same r own_deeds here t)) ∙ others_same r own_deeds here t u (single_bit none_left) ne))
       ]
         where
           either : (b : Bool) → is_told u ≡ b → doing_on (told_now u) l ≡ with_claim t alone (taken u) (doing_on (place_at w u) l)
-          either true h = ap (λ q. doing_on q l) (told_on w t l steady own there p2 of fits (hand_over_told w t l) (hand t true) all_told free u h) ∙ (given u h).doing
+          either true h = ap (λ q. doing_on q l) (told_on w t l steady p2 same_there fits in_hands (hand_over_told w t l) (hand t true) all_told u h) ∙ (given u h).doing
               ∙ sym (ap (λ o. with_claim t alone o (doing_on (place_at w u) l)) (taken_is u h) ∙ ap (λ b. if b then record (doing_on (place_at w u) l) { claims = Some (claim_handed alone (given u h).want) } else doing_on (place_at w u) l) (same t))
-          either false h = ap (λ q. doing_on q l) (told_off w t l steady own there p2 of fits (hand_over_told w t l) (hand t true) all_told free u h) ∙ sym (unclaimed t alone (taken u) (doing_on (place_at w u) l) (not_taken u h))
+          either false h = ap (λ q. doing_on q l) (told_off w t l steady p2 same_there fits in_hands (hand_over_told w t l) (hand t true) all_told u h) ∙ sym (unclaimed t alone (taken u) (doing_on (place_at w u) l) (not_taken u h))
 
       led : seen_in r l parts_then places_behind ≡ behind
       led = (λ i. record {
@@ -459,7 +506,7 @@ module _ (w : State) (t l : ℕ) (steady : IsSteady w) (own : IsOf l (place_at w
       module _ (any : Bool) (inside : (station p2).inside ≡ (station (place_at w t)).inside) (stands : (station p2).stands ≡ (station (place_at w t)).stands) (waits : (station p2).waits ≡ (station (place_at w t)).waits)
           (carried : (station (place_at w t)).carries ≡ in_hand_if any false) (carries_now : (station p2).carries ≡ in_hand_if any true) where
         places : place_at v ≡ places_behind
-        places = places_are w t l steady own there p2 of fits (hand_over_told w t l) (hand t true) all_told free (state_after_hand_over w t p l op) refl
+        places = places_are w t l steady p2 same_there fits in_hands (hand_over_told w t l) (hand t true) all_told (state_after_hand_over w t p l op) refl there
 
         threads : length v.places ≡ length w.places
         threads = length-set (map (place_after_telling t (hand_over_told w t l)) w.places) t p2 ∙ length-map w.places (place_after_telling t (hand_over_told w t l))
@@ -487,7 +534,7 @@ module _ (w : State) (t l : ℕ) (steady : IsSteady w) (own : IsOf l (place_at w
           };
           places = places;
           kinds = given_kinds w t p l op;
-          alike = alike w t l steady own there p2 of fits (hand_over_told w t l) (hand t true) all_told free;
+          alike = λ k ne. alike w t l steady p2 same_there fits in_hands (hand_over_told w t l) (hand t true) all_told k ne ((beside k ne).taken, (beside k ne).doing);
           numbers = record { threads = threads; locks = length-set w.locks l _; shares = length-set w.shares l (shares_handed_over w t l) };
           sharers = given_count t w.places (shares_at w l);
         }
@@ -497,7 +544,7 @@ module _ (w : State) (t l : ℕ) (steady : IsSteady w) (own : IsOf l (place_at w
 
         within : HasLimit r behind.lock
         within = subst (λ s. HasLimit r s) (sym (ap (λ (s : Site). s.lock) behind_is ∙ lock_between))
-            (handed_limit r right heir here.lock t site.state law.needed.0.0 (subst (λ n. t < n) (sym (steady.numbers.threads l)) there) (free_of (place_at w t) l (singles w steady t) free) (subst (λ n. n ≤ r.limit) (sym (steady.numbers.threads l)) room.1))
+            (handed_limit r right heir here.lock t site.state law.needed.0.0 (subst (λ n. t < n) (sym (steady.numbers.threads l)) there) (free_of (place_at w t) l (of_single l (place_at w t) own) free) (subst (λ n. n ≤ r.limit) (sym (steady.numbers.threads l)) room.1))
 
         held_before : carried_at (place_at w t) l ≡ in_hand_if any false
         held_before = ap (λ (y : Station). y.carries) (station_here l (place_at w t) own) ∙ carried
@@ -507,7 +554,7 @@ module _ (w : State) (t l : ℕ) (steady : IsSteady w) (own : IsOf l (place_at w
         some_held b e = by_any any refl (sym carries_now ∙ e)
           where
             by_any : (a : Bool) → any ≡ a → in_hand_if a true ≡ Some b → (b ≡ true) × ((u : ℕ) × (is_told u ≡ true))
-            by_any true f g = (let h : true ≡ b = cc in sym h, let u = steady.stands.hands.carried t l false (held_before ∙ ap (λ a. in_hand_if a false) f) in (u.0, held_taker (place_at w u.0) t l false (singles w steady u.0) u.1))
+            by_any true f g = (let h : true ≡ b = cc in sym h, let u = steady.stands.hands.carried t l false (held_before ∙ ap (λ a. in_hand_if a false) f) in (u.0, held_tells (place_at w u.0) t l false u.1))
             by_any false f g = absurd cc
 
         full_hand : (u : ℕ) → is_told u ≡ true → (station p2).carries ≡ Some true
@@ -522,22 +569,25 @@ module _ (w : State) (t l : ℕ) (steady : IsSteady w) (own : IsOf l (place_at w
 
         hands_now : Hands (TakesOne w) places_behind
         hands_now = hands_given (TakesOne w) (stations_of (place_at w)) (stations_of places_behind) steady.stands.hands t l is_told (station p2).carries
-            (in_hand w t l steady own there p2 of fits (hand_over_told w t l) (hand t true) all_told free unheld)
-            (carries w t l steady own there p2 of fits (hand_over_told w t l) (hand t true) all_told free)
-            (λ u h. ((at_hand u h).handed, (at_hand u h).hand)) (λ u b h. held_taker (place_at w u) t l b (singles w steady u) h) some_held full_hand
+            (in_hand w t l steady p2 same_there fits in_hands (hand_over_told w t l) (hand t true) all_told (ap (λ (y : Station). y.hand) is_here ∙ unheld ∙ sym (ap (λ c. if c then hand t true else (station_at (place_at w t) l).hand) not_told ∙ ap (λ (y : Station). y.hand) was_here ∙ free)))
+            (λ i k. carries w t l steady p2 same_there fits in_hands (hand_over_told w t l) (hand t true) all_told i k ∙ ap (λ c. if (i == t) && (k == l) then c else carried_at (place_at w i) k) (ap (λ (y : Station). y.carries) is_here))
+            (λ u h. ((at_hand u h).handed, (at_hand u h).hand)) (λ u b h. held_tells (place_at w u) t l b h) some_held full_hand
 
-        part_kept : {A : Type 0} (g : Station → A) → ((h : Option Hand) → g (record nowhere { hand = h }) ≡ g nowhere) → g (station p2) ≡ g (station (place_at w t)) → (u k : ℕ) → g (station_at (places_behind u) k) ≡ g (station_at (place_at w u) k)
-        part_kept = all_parts w t l steady own there p2 of fits (hand_over_told w t l) (hand t true) all_told free
+        part_kept : {A : Type 0} (g : Station → A) → ((y : Station) (h : Option Hand) → g (record y { hand = h }) ≡ g y) → g (station p2) ≡ g (station (place_at w t)) → (u k : ℕ) → g (station_at (places_behind u) k) ≡ g (station_at (place_at w u) k)
+        part_kept g part e = all_parts w t l steady p2 same_there fits in_hands (hand_over_told w t l) (hand t true) all_told g part (λ k. elim (cases_eq k l) [
+          | inl f ↦ rw f (ap g is_here ∙ e ∙ sym (ap g was_here))
+          | inr ne ↦ ap g (beside k ne).station
+        ])
 
         pub hand_over_goes : Goes w v l (acts t own_deeds ++ claims)
         hand_over_goes = record {
           follows = follows_by w v l parts_then places_behind moves r rules (acts t own_deeds ++ claims) (λ h. within) led all_needed coded;
           stands = stands_by w v places_behind places moves.kinds
               (record {
-                sections = sections_same (stations_of (place_at w)) (stations_of places_behind) (section_at w) steady.stands.sections (part_kept (λ y. y.inside) (λ h. refl) inside);
-                lines = lines_same (stations_of (place_at w)) (stations_of places_behind) (queue_at w) (queue_at v) steady.stands.lines (part_kept (λ y. y.stands) (λ h. refl) stands) (λ key. refl);
-                waits = waits_same (stations_of (place_at w)) (stations_of places_behind) (queue_at w) (queue_at v) steady.stands.waits (part_kept (λ y. y.waits) (λ h. refl) waits) (λ key. refl);
+                sections = sections_same (stations_of (place_at w)) (stations_of places_behind) (section_at w) steady.stands.sections (part_kept (λ y. y.inside) (λ y h. refl) inside);
+                lines = lines_same (stations_of (place_at w)) (stations_of places_behind) (queue_at w) (queue_at v) steady.stands.lines (part_kept (λ y. y.stands) (λ y h. refl) stands) (λ key. refl);
+                waits = waits_same (stations_of (place_at w)) (stations_of places_behind) (queue_at w) (queue_at v) steady.stands.waits (part_kept (λ y. y.waits) (λ y h. refl) waits) (λ key. refl);
                 hands = hands_now;
               })
-              (λ u. calls_in w v (places_behind u) moves.kinds (calls_then w t l steady own there p2 of fits (hand_over_told w t l) (hand t true) all_told free u));
+              (λ u. calls_in w v (places_behind u) moves.kinds (calls_then w t l steady p2 same_there fits in_hands (hand_over_told w t l) (hand t true) all_told u));
         }

@@ -27,12 +27,13 @@ use Rattle.lot_laws.specs.MutexDeeds as deeds
 use Rattle.lot_laws.specs.Stations.{doing_on, hand, station}
 use Rattle.lot_laws.specs.SitesOf.{ActsNeeded, IsSteady, Goes, after_acts, key_of, rules_in, hand_at}
 use Rattle.lot_laws.proofs.ActsKept.{lock_by, operated, place_goes}
-use Rattle.lot_laws.proofs.Glue.{free_of, IsOf, doing_here, lock_in, parts_at, singles, of_single}
+use Rattle.lot_laws.proofs.Glue.{free_of, IsOf, doing_here, lock_in, parts_at, of_single}
 use Rattle.lot_laws.proofs.HandsKept.{IsGiven, HandsLawful, claims_given, hand_over_goes, heir_in}
 use Rattle.lot_laws.proofs.LawsKept.{after_same, lawful_goes, needed_same}
 use Rattle.lot_laws.proofs.MovesKept.{IsFollowed, goes_out_alone}
 use Rattle.lot_laws.proofs.OneStep.{steps_by}
-use Rattle.lot_laws.proofs.WakesKept.{IsWoken, wake_goes}
+use Rattle.lot_laws.proofs.WakesAt.{IsWokenAt}
+use Rattle.lot_laws.proofs.WakesKept.{wake_goes}
 
 -- who succeeds, and what it wants, are the heir
 abbrev pub thread_of : Option Successor → Option ℕ
@@ -106,7 +107,7 @@ module _ (w : State) (t l : ℕ) (steady : IsSteady w) (there : t < length w.pla
         (subst (λ b. Goes w (put (state_after_hand_over_by b w t p l op) t p2) l []) (sym fails)
         (lawful_goes w t l steady own there r rules p2 f.of f.fits readers p op []
         (record { needed = tt; doing = ap (λ ds. (laws.after_all r ds here t).doing t) (sym nothing) ∙ f.doing ∙ sym (doing_here l p2 f.of ∙ ap (λ (y : Profile). y.doing) f.row); owners = owners; word = word })
-        tt tt lt tt (free_of (place_at w t) l (singles w steady t) free ∙ sym (free_of p2 l (of_single l p2 f.of) (ap (λ (y : Station). y.hand) same_station ∙ free))) same_station))
+        tt tt lt tt (free_of (place_at w t) l (of_single l (place_at w t) own) free ∙ sym (free_of p2 l (of_single l p2 f.of) (ap (λ (y : Station). y.hand) same_station ∙ free))) same_station))
 
 -- ---------------------------------------------------------------- they are told so
 
@@ -122,10 +123,10 @@ module _ (w : State) (t l : ℕ) (steady : IsSteady w) (there : t < length w.pla
     bare = ap (λ (y : Station). y.hand) stands_so
 
     pub told_hears : hears r now t None Done
-    told_hears = g.may r now t (free_of (place_at w t) l (singles w steady t) bare)
+    told_hears = g.may r now t (free_of (place_at w t) l (of_single l (place_at w t) own) bare)
 
     -- out of the section, and whom it has handed its right hears of it
-    pub tells_handed : (p2 : Place) → key_of l Main < length w.sections → IsFollowed w t l steady there own r rules x same_row None Done p2 → ((u : ℕ) (b : Bool) → hand_at (place_at w u) l ≡ hand t b → IsWoken w t l b HandOffNote (place_at w u))
+    pub tells_handed : (p2 : Place) → key_of l Main < length w.sections → IsFollowed w t l steady there own r rules x same_row None Done p2 → ((u : ℕ) (b : Bool) → hand_at (place_at w u) l ≡ hand t b → IsWokenAt w t l HandOffNote (place_at w u))
         → Goes w (put (state_after_leave w t (One (key_of l Main)) wakes) t p2) l (acts t (x.deeds None Done))
     tells_handed p2 line f woken = subst (λ y. Goes w (put (state_after_leave w t (One (key_of l Main)) y) t p2) l (acts t (x.deeds None Done))) (sym g.notes) (either g.any refl)
       where
@@ -140,14 +141,14 @@ module _ (w : State) (t l : ℕ) (steady : IsSteady w) (there : t < length w.pla
             (g.goes ∙ sym (ap (λ (y : Station). record y { inside = None; carries = None }) g.was)) f
         either true e = wake_goes w t l steady own there p2 f.of f.fits HandOffNote woken bare (ap (λ (y : Station). y.carries) goes_nowhere) (ap (λ (y : Station). y.hand) goes_nowhere)
             Main line (ap (λ (y : Station). y.inside) stands_so) (ap (λ (y : Station). y.stands) goes_nowhere ∙ sym (ap (λ (y : Station). y.stands) stands_so)) (ap (λ (y : Station). y.waits) goes_nowhere ∙ sym (ap (λ (y : Station). y.waits) stands_so)) (ap (λ (y : Station). y.inside) goes_nowhere)
-            r rules (free_of (place_at w t) l (singles w steady t) bare) (free_of p2 l (of_single l p2 f.of) (ap (λ (y : Station). y.hand) goes_nowhere)) (x.deeds None Done) g.deeds (needed_same r (x.deeds None Done) now t f.needed) own_then
+            r rules (free_of (place_at w t) l (of_single l (place_at w t) own) bare) (free_of p2 l (of_single l p2 f.of) (ap (λ (y : Station). y.hand) goes_nowhere)) (x.deeds None Done) g.deeds (needed_same r (x.deeds None Done) now t f.needed) own_then
 
   -- who was told so ends its call
   pub accepts : (g : Accepts x hears) (p2 : Place) → (hears r now t None Done → IsFollowed w t l steady there own r rules x same_row None Done p2) → Goes w (put w t p2) l (acts t (x.deeds None Done))
   accepts g p2 followed = subst (λ ds. Goes w (put w t p2) l (acts t ds)) (sym g.deeds)
       (place_goes w t l steady own there r rules p2 f.of f.fits (End ∷ []) (λ h. tt)
       (steps_by r l (parts_at w l) (parts_at w l) (place_at w) t p2 (End ∷ []) (subst (λ ds. ActsNeeded r (acts t ds) now) g.deeds (needed_same r (x.deeds None Done) now t f.needed)) (tt, tt)
-      (free_of (place_at w t) l (singles w steady t) (ap (λ (y : Station). y.hand) stood) ∙ sym (free_of p2 l (of_single l p2 f.of) (ap (λ (y : Station). y.hand) goes_nowhere))) refl refl refl refl
+      (free_of (place_at w t) l (of_single l (place_at w t) own) (ap (λ (y : Station). y.hand) stood) ∙ sym (free_of p2 l (of_single l p2 f.of) (ap (λ (y : Station). y.hand) goes_nowhere))) refl refl refl refl
       (doing_here l p2 f.of ∙ ap (λ (y : Profile). y.doing) f.row ∙ sym f.doing ∙ ap (λ ds. (laws.after_all r ds now t).doing t) g.deeds))
       (goes_nowhere ∙ sym stood))
     where

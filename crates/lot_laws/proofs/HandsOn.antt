@@ -1,6 +1,6 @@
 -- A thread in a call of a reader-writer lock hands its right over: where its operation takes effect, all whom it has in hand own.
 use Rattle.std.proofs.Common.{◌+◌, ◌*◌, ◌-◌, ℕ, Bool, true, false, Option, Some, None, if◌then◌else◌, ◌==◌, ◌≡◌, ◌≢◌, ◌^◌, ◌<◌, ◌≤◌, ◌⊎◌, inl, inr, List, [], ◌∷◌, ◌++◌, length, refl, sym, ◌∙◌, ap, subst, arith}
-use Rattle.lot_laws.proofs.RwLockKept.{of_no_once}
+use Rattle.lot_laws.proofs.RwLockKept.{beside_no_call, of_no_once}
 use Rattle.std.proofs.lemmas.Bool.{eqb-true}
 use Rattle.lot_base.specs.declared.ops.Op.{Op}
 use Rattle.lot_base.specs.declared.ops.Op.TheVariants as operation
@@ -56,12 +56,13 @@ use Rattle.lot_laws.specs.MutexDeeds.{acts}
 use Rattle.lot_laws.specs.SitesOf.{FitsItsLock, Goes, HasRoom, IsCounted, IsSteady, carried_at, hand_at, rules_in}
 use Rattle.lot_laws.specs.Stations.{doing_on, station}
 use Rattle.lot_laws.proofs.ActsKept.{lock_by}
-use Rattle.lot_laws.proofs.Glue.{free_of, IsOf, doing_here, next_of, station_here, singles}
+use Rattle.lot_acts.specs.Profiles.{Hand}
+use Rattle.lot_laws.proofs.Glue.{free_of, IsOf, doing_here, next_of, station_here, of_single, condvar_unheld}
 use Rattle.lot_laws.proofs.HandsCounted.{few_sharers, has_in_hand}
-use Rattle.lot_laws.proofs.HandsKept.{IsGiven, claims_given}
+use Rattle.lot_laws.proofs.HandsKept.{IsGiven, claims_given, given_of}
 use Rattle.lot_laws.proofs.HandsMoved.{hands_over as hands_all, looks_again, thread_of}
 use Rattle.lot_laws.proofs.MovesKept.{IsFollowed}
-use Rattle.lot_laws.proofs.RwLockKept.{admits, at_now, call_told_other, call_told_value, fits_next, fits_now, followed_by, goes_row, of_no_mutex, own, same_row, word_few}
+use Rattle.lot_laws.proofs.RwLockKept.{beside_no_call, admits, at_now, call_told_other, call_told_value, fits_next, fits_now, followed_by, goes_row, of_no_mutex, own, same_row, word_few}
 
 -- ---------------------------------------------------------------- the place
 
@@ -186,7 +187,7 @@ module _ (w : State) (t l : ℕ) (a : Admission) (c : RwLockCallPlace) (steady :
   abbrev hands : Hands (rules_in w l) a here t c whom
   hands = record {
     call = at_now w t l a c steady shape there lt is;
-    free = free_of (place_at w t) l (singles w steady t) bare;
+    free = free_of (place_at w t) l (of_single l (place_at w t) of) bare;
     taken = k;
     is = is_k;
     in_hand = has_in_hand w t l steady of g.any carries k count;
@@ -202,7 +203,7 @@ module _ (w : State) (t l : ℕ) (a : Admission) (c : RwLockCallPlace) (steady :
   few = word_few (rules_in w l) here fits.0.0 (steady.sites.site l) limits.0.1 limits.1
 
   fewer : k.sharers < a.limit
-  fewer = let x : sharers t w.places < length w.places = few_sharers w t there (singles w steady t) bare in
+  fewer = let x : sharers t w.places < length w.places = few_sharers w t there (of_single l (place_at w t) of) bare in
       let y : length w.places ≤ (rules_in w l).limit = limits.0.2 in
       let z : (rules_in w l).limit ≡ a.limit = fits.0.2 in
       let n : sharers t w.places ≡ k.sharers = count.number in omega arith
@@ -270,7 +271,7 @@ module _ (w : State) (t l : ℕ) (a : Admission) (c : RwLockCallPlace) (steady :
 
         by_place : (q : Place) → place_at w u ≡ q → hand_at q l ≡ hand t b → IsGiven w t l b (unshared_then w t l) q
         by_place Idle f h = absurd cc
-        by_place (Condvar j at) f h = absurd (subst (FitsItsLock w) f (steady.stands.calls u))
+        by_place (Condvar j at) f h = absurd (let none : hand_at (Condvar j at) l ≡ None = condvar_unheld j at l (beside_no_call w t l a c steady shape there lt is u j at f) in let both : ◌≡◌ {A = Option Hand} None (hand t b) = sym none ∙ h in cc)
         by_place (Once j at) f h = either (j == l) refl h
           where
             either : (y : Bool) → (j == l) ≡ y → (if y then station (Once j at) else nowhere).hand ≡ hand t b → IsGiven w t l b (unshared_then w t l) (Once j at)
@@ -297,16 +298,10 @@ module _ (w : State) (t l : ℕ) (a : Admission) (c : RwLockCallPlace) (steady :
                 let in_it : (call_profile d q).hand ≡ hand t false = z ∙ ap (hand t) fresh in
                 let waits = (fair_sleepers_move d q fits_u.1).held t in_it in
                 let m = (handed_move d q fits_u.1).given t (unshared_then w t l) waits.want in_it (unclaimed u j d q f same_lock in_it) waits.wants in
-                record {
-                  fresh = fresh;
-                  want = waits.want;
-                  wants_it = waits.wants;
-                  was = waits.was ∙ ap (λ y. record nowhere { hand = hand t y }) (sym fresh);
-                  goes = ap station_by told_row ∙ m.goes;
-                  doing = doing_here l told (next_of l (RwLock j d q) (HandedBy t (unshared_then w t l)) same_lock) ∙ ap (λ (y : Profile). y.doing) told_row ∙ m.claims
-                      ∙ sym (ap (λ (y : Doing). record y { claims = Some (claim_handed (unshared_then w t l) waits.want) }) (doing_here l (RwLock j d q) same_lock));
-                  fits = fits_next w t l a c steady shape there lt is j d (call_next d q (HandedBy t (unshared_then w t l))) fits_u.0 (fair_calls_stand d q (HandedBy t (unshared_then w t l)) fits_u.1 (call_told_other d q (HandedBy t (unshared_then w t l)) tt));
-                }
+                given_of w t l b (unshared_then w t l) (RwLock j d q) waits.want same_lock fresh waits.wants (waits.was ∙ ap (λ y. record nowhere { hand = hand t y }) (sym fresh)) (ap station_by told_row ∙ m.goes)
+                (doing_here l told (next_of l (RwLock j d q) (HandedBy t (unshared_then w t l)) same_lock) ∙ ap (λ (y : Profile). y.doing) told_row ∙ m.claims
+                ∙ sym (ap (λ (y : Doing). record y { claims = Some (claim_handed (unshared_then w t l) waits.want) }) (doing_here l (RwLock j d q) same_lock)))
+                (fits_next w t l a c steady shape there lt is j d (call_next d q (HandedBy t (unshared_then w t l))) fits_u.0 (fair_calls_stand d q (HandedBy t (unshared_then w t l)) fits_u.1 (call_told_other d q (HandedBy t (unshared_then w t l)) tt)))
 
             either : (y : Bool) → (j == l) ≡ y → (if y then station (RwLock j d q) else nowhere).hand ≡ hand t b → IsGiven w t l b (unshared_then w t l) (RwLock j d q)
             either true same_lock z = at_lock (eqb-true j l same_lock) z

@@ -1,6 +1,6 @@
 -- A hand-over of a reader-writer lock is one case of the abstract lock, and the calls of all who were handed it go on with what they wanted.
 use Rattle.std.proofs.Common.{ℕ, Bool, true, false, Option, Some, None, if◌then◌else◌, ◌==◌, ◌≡◌, ◌<◌, List, ◌++◌, length, get_or, get_or-set_other, refl, sym, ◌∙◌, ap, subst}
-use Rattle.lot_laws.proofs.RwLockKept.{of_no_once}
+use Rattle.lot_laws.proofs.RwLockKept.{beside_no_call, of_no_once}
 use Rattle.std.proofs.lemmas.Bool.{eqb-true}
 use Rattle.std.proofs.Math.ListN.{get_or-map}
 use Rattle.lot_base.specs.declared.ops.Op.{Op}
@@ -41,7 +41,7 @@ use Rattle.lot_laws.specs.Refinement.{call_state, lock_state, taken_at}
 use Rattle.lot_laws.specs.SitesOf.{FitsItsLock, Goes, IsCounted, IsSteady, carried_at, rules_in}
 use Rattle.lot_laws.proofs.AtPlaces.{in_no_hand, unless_held}
 use Rattle.lot_laws.proofs.CallEvents.{Happens, OthersFollow, happens}
-use Rattle.lot_laws.proofs.Glue.{held_taker, station_here, singles}
+use Rattle.lot_laws.proofs.Glue.{held_tells, station_here, condvar_untaken}
 use Rattle.lot_laws.proofs.HandRights.{given_right}
 use Rattle.lot_laws.proofs.HandsCounted.{hand_there}
 use Rattle.lot_laws.proofs.HandsEvents.{IsHandedCall, claims_are, hands_many}
@@ -49,7 +49,7 @@ use Rattle.lot_laws.proofs.HandsKept.{alone_is, claims_given}
 use Rattle.lot_laws.proofs.HandsOn.{bare, carries, g, given, hands_goes, hands_tell, more_right, of, row, unclaimed, whom}
 use Rattle.lot_laws.proofs.LockEvents.{Befalls}
 use Rattle.lot_laws.proofs.OtherCalls.{taken_by_hand}
-use Rattle.lot_laws.proofs.RwLockKept.{admits, of_no_mutex}
+use Rattle.lot_laws.proofs.RwLockKept.{beside_no_call, admits, of_no_mutex}
 
 -- what a thread has once it was handed what it wanted
 gains : (alone : Bool) (x : Want) (l : ℕ) (r : ℕ → Rights) → putting r l (given_right alone x (r l)) ≡ with_claim (claim_handed alone x) l r
@@ -99,7 +99,7 @@ module _ (w : State) (t l : ℕ) (a : Admission) (c : RwLockCallPlace) (steady :
   one_case : event ≡ AtLock l (HandOff right successor)
   one_case = ap (λ ds. event_by l (case_of (call_profile a c).carries ds)) ((g w t l a c steady shape there lt is k is_k count op e).deeds heir (word_at w l) takes)
 
-  pub hands_happen : Happens w behind t l event
+  pub hands_happen : Happens w behind t event
   hands_happen = happens w behind t l (call_profile a c).carries done claims steady went (claims_are t alone (λ u. taken_at (place_at w u) l) (length w.places)) (hands_tell w t l a c steady shape there lt is k is_k count op e).one
       (λ none. in_no_hand w steady t l (λ h. none (sym carried_now ∙ h)))
 
@@ -113,7 +113,7 @@ module _ (w : State) (t l : ℕ) (a : Admission) (c : RwLockCallPlace) (steady :
       same_test : (b : Bool) → is_thread t (taker (place_at w u)) ≡ b → is_thread t (taker (place_at w u)) ≡ is_taken_by t (taken_at (place_at w u) l)
       same_test true f = f ∙ sym (taken_by_hand w (place_at w u) t l (steady.stands.calls u)
           (hand_there w t l steady (of w t l a c steady shape there lt is k is_k count op e) (g w t l a c steady shape there lt is k is_k count op e).any (carries w t l a c steady shape there lt is k is_k count op e) u f))
-      same_test false f = f ∙ sym (unless_held w steady t l u (λ h. let z : is_thread t (taker (place_at w u)) ≡ true = held_taker (place_at w u) t l false (singles w steady u) h in cc))
+      same_test false f = f ∙ sym (unless_held w steady t l u (λ h. let z : is_thread t (taker (place_at w u)) ≡ true = held_tells (place_at w u) t l false h in cc))
 
   -- and their calls go on with it
   handed_calls : (u : ℕ) (x : Want) → IsTaken (lock_state w l) t u x → IsHandedCall l t alone x (place_at w u)
@@ -121,7 +121,7 @@ module _ (w : State) (t l : ℕ) (a : Admission) (c : RwLockCallPlace) (steady :
     where
       by_place : (q : Place) → place_at w u ≡ q → taken_at q l ≡ Some (record { by = t; want = x }) → IsHandedCall l t alone x q
       by_place Idle f h = absurd cc
-      by_place (Condvar j at) f h = absurd (subst (FitsItsLock w) f (steady.stands.calls u))
+      by_place (Condvar j at) f h = absurd (let none : taken_at (Condvar j at) l ≡ None = condvar_untaken j at l (beside_no_call w t l a c steady shape there lt is u j at f) in let both : ◌≡◌ {A = Option Taken} None (Some (record { by = t; want = x })) = sym none ∙ h in cc)
       by_place (Once j at) f h = either (j == l) refl h
         where
           either : (y : Bool) → (j == l) ≡ y → taken_from (profile (Once j at)).hand (profile (Once j at)).wants y ≡ Some (record { by = t; want = x }) → IsHandedCall l t alone x (Once j at)
@@ -172,7 +172,7 @@ module _ (w : State) (t l : ℕ) (a : Admission) (c : RwLockCallPlace) (steady :
           by_row (Some (Of v false)) (Some s) false p1 p2 p3 z = absurd cc
 
   pub hands_others : OthersFollow w behind t event
-  hands_others = subst (OthersFollow w behind t) (sym one_case) (hands_many w behind t l right successor (subst (Happens w behind t l) one_case hands_happen) alone
+  hands_others = subst (OthersFollow w behind t) (sym one_case) (hands_many w behind t l right successor (subst (Happens w behind t) one_case hands_happen) alone
       (alone_is w t l steady (of w t l a c steady shape there lt is k is_k count op e) there lt (RwLock l a c) (place_at w t) (of w t l a c steady shape there lt is k is_k count op e) (steady.stands.calls t) op (rules_in w l) refl (admits w t l a c steady shape there lt is).0
       (given w t l a c steady shape there lt is k is_k count op e takes) (bare w t l a c steady shape there lt is k is_k count op e) right (more_right w t l a c steady shape there lt is k is_k count op e takes))
       befalls handed_calls)

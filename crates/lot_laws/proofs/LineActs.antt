@@ -190,7 +190,7 @@ pub line_act : (w : State) (p : Place) (l : ℕ) → FitsItsLock w p → lock_of
 line_act w Idle l fits h = absurd cc
 line_act w (RwLock k a c) l fits h = let e : k ≡ l = cc in subst (λ j. IsLineAct j (station (RwLock k a c)) (act_of (RwLock k a c))) e (call_lines k a c)
 line_act w (Once k at) l fits h = let e : k ≡ l = cc in subst (λ j. IsLineAct j (station (Once k at)) (act_of (Once k at))) e (once_lines k at)
-line_act w (Condvar k at) l fits h = absurd fits
+line_act w (Condvar k at) l fits h = absurd fits.begun
 line_act w (Mutex k at) l fits h = let e : k ≡ l = cc in subst (λ j. IsLineAct j (mutex_station at) (mutex_act k at)) e (mutex_lines k at)
 
 -- a thread that may be late sleeps in a line of its lock

@@ -48,7 +48,7 @@ use Rattle.lot_laws.specs.SitesOf.{rules_in}
 use Rattle.lot_laws.proofs.PlainCalls.{plain_goes}
 use Rattle.lot_laws.proofs.Glue.{IsTakenAt, heir, put_same, same, IsMutexCall, mutex_calls, taken_elsewhere, IsSingle, single_taken, singles}
 use Rattle.lot_laws.proofs.MutexTable.{mutex}
-use Rattle.lot_laws.proofs.CallEvents.{put_is, rights, rights_led, Happens, Others, OthersFollow}
+use Rattle.lot_laws.proofs.CallEvents.{put_is, rights, rights_led, led_here, led_elsewhere, Happens, Others, OthersFollow}
 
 -- ---------------------------------------------------------------- rights
 
@@ -238,7 +238,7 @@ module _ (w v : State) (t l : ℕ) where
 
 -- ---------------------------------------------------------------- it hands its right over
 
-module _ (w v : State) (t l : ℕ) (to : Option ℕ) (h : Happens w v t l (AtLock l (HandsOff Exclusive (heir to)))) (rules : rules_in w l ≡ mutex) (awake : taken_at (place_at w t) l ≡ None) where
+module _ (w v : State) (t l : ℕ) (to : Option ℕ) (h : Happens w v t (AtLock l (HandsOff Exclusive (heir to)))) (rules : rules_in w l ≡ mutex) (awake : taken_at (place_at w t) l ≡ None) where
   state : IsLockState mutex (lock_state w l)
   state = let s : IsLockState (rules_in w l) (lock_state w l) = (h.before.sites.site l).state in rw rules at s
 
@@ -270,8 +270,8 @@ module _ (w v : State) (t l : ℕ) (to : Option ℕ) (h : Happens w v t l (AtLoc
 
     had : (k : ℕ) → one_less_at l Exclusive (rights v u) k ≡ rights w u k
     had k = sym (put_is (rights v u) l (without_right Exclusive (rights v u l)) k (rights w u k)
-        (λ f. rw f (sym (ap (without_right Exclusive) (ap (λ s. rights_of s u) h.led ∙ got (lock_state w l) t state to h.needs.0 apart u e) ∙ one_less)))
-        (λ ne. sym (ap (λ s. rights_of s u) (h.elsewhere k ne))))
+        (λ f. rw f (sym (ap (without_right Exclusive) (ap (λ s. rights_of s u) (led_here w v t l (Some (HandsOff Exclusive (heir to))) h) ∙ got (lock_state w l) t state to h.needs.0 apart u e) ∙ one_less)))
+        (λ ne. sym (ap (λ s. rights_of s u) (led_elsewhere w v t l (Some (HandsOff Exclusive (heir to))) h k ne))))
       where
         one_less : without_right Exclusive (with_right Exclusive (rights w u l)) ≡ rights w u l
         one_less = λ i. record (rights w u l) { exclusive = (let n : (is_thread u (owner_at w l) + 1) - 1 ≡ is_thread u (owner_at w l) = omega arith in n) i }

@@ -116,6 +116,7 @@ use Rattle.lot_mutex.specs.MutexSteps.{mutex_act, mutex_next}
 use Rattle.lot_acts.specs.declared.acts.Next.{Next}
 use Rattle.lot_acts.specs.declared.acts.Next.TheVariants as next
 use Rattle.lot_acts.specs.declared.acts.Whom.TheVariants as whoms
+use Rattle.lot_condvar.specs.declared.places.CondvarPlace.TheVariants as condvars
 use Rattle.lot_laws.proofs.Glue.{heir, is_owner, own_stance, thread_is, singles}
 use Rattle.lot_laws.proofs.MutexTable.{mutex}
 use Rattle.lot_laws.proofs.StandsMoved.{mutex_rules}
@@ -228,7 +229,7 @@ module _ (w : State) (t : ℕ) (shape : IsShaped w) (steady : IsSteady w) (there
       abbrev happened : Option LockCase
       happened = case_of (mutex_row at).carries (mutex_deeds at whom told)
 
-      happens_so : Happens w behind t l (event_by l happened)
+      happens_so : Happens w behind t (event_by l happened)
       happens_so = happens w behind t l (mutex_row at).carries (mutex_deeds at whom told) (claims_at at whom told) steady goes (are_claims at whom told) tells.follows.one (λ none. in_no_hand w steady t l (λ h. none (sym carries ∙ h)))
 
       -- where it is then
@@ -271,7 +272,7 @@ module _ (w : State) (t : ℕ) (shape : IsShaped w) (steady : IsSteady w) (there
 
       -- it hands the lock over
       gives : (to : Option ℕ) → happened ≡ Some (HandsOff Exclusive (heir to)) → (left_alone : Bool) → Befalls w behind t l (HandedBy t left_alone) → taken_at (place_at w t) l ≡ None → GoesOn (locks_of w) t (outcome_of (next_act (Mutex l at) told)) (locks_of behind)
-      gives to case left_alone befalls awake = goes_if (subst (λ c. OthersFollow w behind t (event_by l c)) (sym case) (hands_others w behind t l to (subst (λ c. Happens w behind t l (event_by l c)) case happens_so) rules awake left_alone befalls))
+      gives to case left_alone befalls awake = goes_if (subst (λ c. OthersFollow w behind t (event_by l c)) (sym case) (hands_others w behind t l to (subst (λ c. Happens w behind t (event_by l c)) case happens_so) rules awake left_alone befalls))
 
     -- whichever way it decides, the case is one that leaves the others in peace
     if_calm : (hand : Option Bool) (b : Bool) (xs ys : List Deed) → IsCalm (case_of hand xs) → IsCalm (case_of hand ys) → IsCalm (case_of hand (if b then xs else ys))
@@ -376,10 +377,7 @@ module _ (w : State) (t : ℕ) (shape : IsShaped w) (steady : IsSteady w) (there
         decided = behind (Lock e again Load) is refl tt
 
         locks_stay : (k : ℕ) → lock_state decided k ≡ lock_state w k
-        locks_stay k = let h : Happens w decided t l Nothing = happens_so (Lock e again Load) is refl tt in elim (cases_eq k l) [
-          | inl e ↦ rw e h.led
-          | inr ne ↦ h.elsewhere k ne
-        ]
+        locks_stay k = let h : Happens w decided t Nothing = happens_so (Lock e again Load) is refl tt in h.led k
 
         rights_stay : (u : ℕ) → rights decided u ≡ rights w u
         rights_stay u = λ i k. rights_of (locks_stay k i) u
@@ -389,7 +387,7 @@ module _ (w : State) (t : ℕ) (shape : IsShaped w) (steady : IsSteady w) (there
 
   go_goes : AreCounted w → (p : Place) → place_at w t ≡ p → PlaceFits (length w.locks) p → FitsItsLock w p → can_do w (act_of p) ≡ true → GoesOn (locks_of w) t (outcome_of (next_act p (reply_to w t (act_of p)))) (locks_of (go_by w t p (act_of p)))
   go_goes counted Idle is fits of can = absurd cc
-  go_goes counted (Condvar l at) is fits of can = absurd of
+  go_goes counted (Condvar l at) is fits of can = absurd of.begun
   go_goes counted (Once l at) is fits of can = once_step w t l at steady shape there fits is can
   go_goes counted (RwLock l a c) is fits of can = rwlock_step w t l a c steady shape there fits is counted can
   go_goes counted (Mutex l at) is fits of can = mutex_goes_on l fits.0 (mutex_rules (kind_at w l) of) at is can fits.1
@@ -423,7 +421,7 @@ module _ (w : State) (t : ℕ) (shape : IsShaped w) (steady : IsSteady w) (there
   late_goes : (p : Place) → place_at w t ≡ p → is_free_under w (late_key p) ≡ true
       → Stays (locks_of w) t (record (call_state p (rights w t)) { late = true }) outcome.TheVariants.Step (locks_of (state_after_late_on w t (late_key p)))
   late_goes Idle is can = absurd cc
-  late_goes (Condvar l at) is can = absurd (subst (FitsItsLock w) is (steady.stands.calls t))
+  late_goes (Condvar l at) is can = absurd (subst (FitsItsLock w) is (steady.stands.calls t)).begun
   late_goes (Once l at) is can = by_line (once_profile at).late_line refl can
     where
       by_line : (m : Option Line) → (once_profile at).late_line ≡ m → is_free_under w (key_in (Some l) m) ≡ true
@@ -503,7 +501,7 @@ module _ (w : State) (t : ℕ) (shape : IsShaped w) (steady : IsSteady w) (there
 
   look_stays : (p : Place) → place_at w t ≡ p → IsOfMutex (locks_of w) (call_state p (rights w t)).purpose → Stays (locks_of w) t ((locks_of w).calls t) (go_outcome moved t) (locks_of (state_after_go moved t))
   look_stays Idle e of = absurd of
-  look_stays (Condvar l at) e of = absurd (subst (FitsItsLock w) e (steady.stands.calls t))
+  look_stays (Condvar l at) e of = absurd (subst (FitsItsLock w) e (steady.stands.calls t)).begun
   look_stays (Once l at) e of = absurd (let calls : FitsItsLock w (Once l at) = subst (FitsItsLock w) e (steady.stands.calls t) in once_no_mutex w l at calls (rights w t) of)
   look_stays (RwLock l a c) e of = absurd (let calls : FitsItsLock w (RwLock l a c) = subst (FitsItsLock w) e (steady.stands.calls t) in not_mutex w l a c calls.0 (rights w t) of)
   look_stays (Mutex l at) e of = let loads = mutex_looks l at q (ap looking (sym e) ∙ is) in
@@ -551,7 +549,9 @@ no_call_idle : (p : Place) (r : ℕ → Rights) → (call_state p r).purpose ≡
 no_call_idle Idle r h = refl
 no_call_idle (RwLock l a at) r h = absurd cc
 no_call_idle (Once l at) r h = absurd cc
-no_call_idle (Condvar l at) r h = absurd cc
+no_call_idle (Condvar l (condvars.Wait m timed at)) r h = absurd cc
+no_call_idle (Condvar l (condvars.Look all)) r h = absurd cc
+no_call_idle (Condvar l (condvars.Notify all m at)) r h = absurd cc
 no_call_idle (Mutex l (Lock entry retries a)) r h = absurd cc
 no_call_idle (Mutex l TryLock) r h = absurd cc
 no_call_idle (Mutex l (Unlock a)) r h = absurd cc

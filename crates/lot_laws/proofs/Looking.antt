@@ -30,7 +30,7 @@ use Rattle.lot_machine.proofs.Looks.{IsLook, look}
 use Rattle.abstract_locks.specs.Locks.{Rights, rights_of}
 use Rattle.abstract_locks.specs.Runs.{LocksState, GoesOn, Stays}
 use Rattle.abstract_locks.specs.Sites.{idle}
-use Rattle.lot_laws.specs.Refinement.{lock_state, locks_of, call_on, stance_of}
+use Rattle.lot_laws.specs.Refinement.{lock_state, locks_of, call_on_both, stance_of}
 use Rattle.lot_laws.specs.Stations.{station_by}
 use Rattle.lot_laws.specs.WorldRuns.{IsUntouched}
 use Rattle.lot_laws.specs.SitesOf.{IsSteady, FitsItsLock, rules_in}
@@ -58,7 +58,7 @@ of_lock l o e = rw e refl
 -- it is in the same call, of a lock of its sort
 calls_on : (w : State) (p q : Place) → looking p ≡ Some q → FitsItsLock w p → FitsItsLock w q
 calls_on w Idle q is calls = absurd cc
-calls_on w (Condvar l at) q is calls = absurd calls
+calls_on w (Condvar l at) q is calls = absurd calls.begun
 calls_on w (Once l at) q is calls = by_place (once_looking at) is
   where
     by_place : (o : Option OncePlace) → in_once l o ≡ Some q → FitsItsLock w q
@@ -126,7 +126,7 @@ module _ (w : State) (t : ℕ) (there : t < length w.places) (q : Place) (it : I
   rights_same u = λ i k. rights_of (alike_locks k i) u
 
   pub alike_calls : (u : ℕ) → (locks_of moved).calls u ≡ (locks_of w).calls u
-  alike_calls u = λ i. call_on (lock_same u i) (row_same u i) (rights_same u i)
+  alike_calls u = let b = beside_same u in λ i. call_on_both (b.0 i) (lock_same u i) (row_same u i) (b.1 i) (rights_same u i)
 
   -- so the abstract locks see nothing of it, but for how the thread stands
   sees : ◌≡◌ {A = LocksState} (record (locks_of w) { stances = λ u. stance_of (place_at moved u) }) (locks_of moved)

@@ -21,7 +21,7 @@ use Rattle.lot_acts.specs.Profiles.{Profile, Of, hand, in_hand, taken_from}
 use Rattle.lot_rwlock_fair.specs.FairMoves.{CallWaits}
 use Rattle.lot_acts.specs.Stations.{Station, station_by, nowhere, waits_for}
 use Rattle.lot_steps.specs.declared.places.Place.{Place}
-use Rattle.lot_steps.specs.Steps.{next_place, profile, wants, taker, lock_of, is_lock, calls}
+use Rattle.lot_steps.specs.Steps.{next_place, profile, profile_beside, wants, taker, lock_of, is_lock, calls, beside_of}
 use Rattle.lot_steps.specs.declared.places.Place.TheVariants.{Idle}
 use Rattle.lot_base.specs.Picks.{lock_picker, lock_picked, without_lock_picked}
 use Rattle.lot_acts.specs.Owners.{is_thread}
@@ -37,7 +37,7 @@ use Rattle.lot_laws.specs.MutexDeeds.{acts}
 use Rattle.lot_laws.specs.Stations.{station, station_at, doing_on}
 use Rattle.lot_laws.specs.SitesOf.{stations_of, ActsNeeded, AreWaiting, IsSteady, Goes, FitsItsLock, TakesOne, after_acts, rules_in, key_of, stood_in, carried_at, hand_at}
 use Rattle.lot_laws.proofs.Counts.{without_absent, first_times, none_first}
-use Rattle.lot_laws.proofs.Glue.{free_of, held_calls, IsOf, IsLock, IsHeldBy, held_where, held_taker, nothing_at, next_of, inside_is, parts_at, lock_in, same, put_here, doing_here, station_here, lets_nobody, singles, of_single, IsSingle, single_station, single_taken, single_wants, of_lock}
+use Rattle.lot_laws.proofs.Glue.{free_of, held_calls, IsOf, IsLock, IsInHandOf, in_hand_where, held_tells, aparts, nothing_at, next_of, inside_is, parts_at, lock_in, same, put_here, doing_here, station_here, lets_nobody, of_single, IsSingle, single_taken, single_wants, of_lock}
 use Rattle.lot_laws.proofs.OneStep.{AreSingle, HasOneCase, steps_by, empty_line, queued_times, queued_without}
 use Rattle.lot_laws.proofs.ActsKept.{NoHandOff, lock_by, operated, site_by, with_line, place_goes, enter_goes, leave_goes, nobody_inside, park_goes, parks, asides, lates, remove_goes, nobody_goes, finds_none}
 use Rattle.lot_laws.proofs.LawsKept.{after_same, needed_same, lawful_goes}
@@ -45,7 +45,8 @@ use Rattle.lot_laws.proofs.TakesKept.{IsTakenFrom, member, member_times, at_most
 use Rattle.lot_laws.proofs.PicksKept.{AllUnder, under_of, picked_counts, left_tied, picked_goes, aside_goes}
 use Rattle.lot_laws.proofs.AnyPicked.{any_in, any_held, held_any}
 use Rattle.lot_laws.proofs.StandsKept.{in_main}
-use Rattle.lot_laws.proofs.WakesKept.{IsWoken, leaving_by, wake_goes}
+use Rattle.lot_laws.proofs.WakesAt.{IsWokenAt}
+use Rattle.lot_laws.proofs.WakesKept.{woken_of, leaving_by, wake_goes}
 
 -- ---------------------------------------------------------------- deeds of a step on the word
 
@@ -142,7 +143,7 @@ module _ (w : State) (t l : ℕ) (steady : IsSteady w) (there : t < length w.pla
   stays readers p p2 op lt g f owners word = lawful_goes w t l steady own there r rules p2 f.of f.fits readers p op (x.deeds None (Value (word_at w l)))
       (record { needed = f.needed; doing = sym (own_then None (Value (word_at w l)) p2 f); owners = owners; word = word })
       (single_of (x.deeds None (Value (word_at w l))) (g.deeds (word_at w l))) (one_of (x.deeds None (Value (word_at w l))) (g.deeds (word_at w l))) lt (plain_of (x.deeds None (Value (word_at w l))) (g.deeds (word_at w l)))
-      (free_of (place_at w t) l (singles w steady t) (ap (λ (y : Station). y.hand) station_is ∙ g.free) ∙ sym (free_of p2 l (of_single l p2 f.of) (ap (λ (y : Station). y.hand) (there_is None (Value (word_at w l)) p2 f ∙ g.goes (word_at w l)) ∙ g.free)))
+      (free_of (place_at w t) l (of_single l (place_at w t) own) (ap (λ (y : Station). y.hand) station_is ∙ g.free) ∙ sym (free_of p2 l (of_single l p2 f.of) (ap (λ (y : Station). y.hand) (there_is None (Value (word_at w l)) p2 f ∙ g.goes (word_at w l)) ∙ g.free)))
       (there_is None (Value (word_at w l)) p2 f ∙ g.goes (word_at w l) ∙ sym station_is)
 
   -- ---------------------------------------------------------------- sections
@@ -156,7 +157,7 @@ module _ (w : State) (t l : ℕ) (steady : IsSteady w) (there : t < length w.pla
     goes_in_by told p2 line free g f = subst (λ ds. Goes w (put (state_with_sections w (One (key_of l m)) (Some t)) t p2) l (acts t ds)) (sym g.deeds)
         (enter_goes w t l steady own there r rules p2 f.of f.fits m line free (ap (λ (y : Station). y.inside) station_is ∙ g.out)
         (steps_by r l (parts_at w l) (parts_at w l) (place_at w) t p2 (In m ∷ []) (needed_by None told p2 f (In m ∷ []) g.deeds) (tt, tt)
-        (free_of (place_at w t) l (singles w steady t) (ap (λ (y : Station). y.hand) station_is ∙ g.free) ∙ sym (free_of p2 l (of_single l p2 f.of) (ap (λ (y : Station). y.hand) (there_is None told p2 f ∙ g.goes) ∙ g.free)))
+        (free_of (place_at w t) l (of_single l (place_at w t) own) (ap (λ (y : Station). y.hand) station_is ∙ g.free) ∙ sym (free_of p2 l (of_single l p2 f.of) (ap (λ (y : Station). y.hand) (there_is None told p2 f ∙ g.goes) ∙ g.free)))
         refl refl refl refl (own_by None told p2 f (In m ∷ []) g.deeds))
         (there_is None told p2 f ∙ g.goes ∙ sym (ap (λ (y : Station). record y { inside = Some m }) station_is)))
 
@@ -174,7 +175,7 @@ module _ (w : State) (t l : ℕ) (steady : IsSteady w) (there : t < length w.pla
         → Goes w (put (state_with_sections w (One (key_of l m)) None) t p2) l (acts t (x.deeds None Done))
     goes_out_alone p2 line leaving within bare free out f = leave_goes w t l steady own there r rules p2 f.of f.fits m line (ap (λ (y : Station). y.inside) station_is ∙ within) (x.deeds None Done) (λ h. leaving_plain (x.deeds None Done) leaving)
         (record {
-          site = leaving_by r l (parts_at w l) (place_at w) (putting (place_at w) t p2) t (free_of (place_at w t) l (singles w steady t) (ap (λ (y : Station). y.hand) station_is ∙ free))
+          site = leaving_by r l (parts_at w l) (place_at w) (putting (place_at w) t p2) t (free_of (place_at w t) l (of_single l (place_at w t) own) (ap (λ (y : Station). y.hand) station_is ∙ free))
               (ap (λ y. taken_at y l) (put_here (place_at w) t p2) ∙ free_of p2 l (of_single l p2 f.of) (ap (λ (y : Station). y.hand) (there_is None Done p2 f ∙ out) ∙ free))
               (lets_nobody (place_at w) steady.stands.hands t l p2 (ap (λ (y : Station). y.carries) (station_here l (place_at w t) own ∙ station_is) ∙ bare))
               (x.deeds None Done) leaving (ap (λ y. doing_on y l) (put_here (place_at w) t p2) ∙ own_by None Done p2 f (x.deeds None Done) refl);
@@ -184,21 +185,21 @@ module _ (w : State) (t l : ℕ) (steady : IsSteady w) (there : t < length w.pla
 
     -- or whom it has is woken
     goes_out_waking : (p2 : Place) → key_of l m < length w.sections → (g : AreLeaving (x.deeds None Done)) → (station_of x).inside ≡ Some m → (station_of x).hand ≡ None → station_then x Done ≡ record (station_of x) { inside = None; carries = None } → IsFollowed None Done p2
-        → ((u : ℕ) (b : Bool) → hand_at (place_at w u) l ≡ hand t b → IsWoken w t l b Normal (place_at w u))
+        → ((u : ℕ) (b : Bool) → hand_at (place_at w u) l ≡ hand t b → IsWokenAt w t l Normal (place_at w u))
         → Goes w (put (state_after_telling (state_with_sections w (One (key_of l m)) None) t (Woken Normal)) t p2) l (acts t (x.deeds None Done))
     goes_out_waking p2 line leaving within free out f woken = wake_goes w t l steady own there p2 f.of f.fits Normal woken (ap (λ (y : Station). y.hand) station_is ∙ free)
         (ap (λ (y : Station). y.carries) (there_is None Done p2 f ∙ out)) (ap (λ (y : Station). y.hand) (there_is None Done p2 f ∙ out) ∙ free)
         m line (ap (λ (y : Station). y.inside) station_is ∙ within)
         (ap (λ (y : Station). y.stands) (there_is None Done p2 f ∙ out) ∙ sym (ap (λ (y : Station). y.stands) station_is)) (ap (λ (y : Station). y.waits) (there_is None Done p2 f ∙ out) ∙ sym (ap (λ (y : Station). y.waits) station_is)) (ap (λ (y : Station). y.inside) (there_is None Done p2 f ∙ out))
-        r rules (free_of (place_at w t) l (singles w steady t) (ap (λ (y : Station). y.hand) station_is ∙ free)) (free_of p2 l (of_single l p2 f.of) (ap (λ (y : Station). y.hand) (there_is None Done p2 f ∙ out) ∙ free))
+        r rules (free_of (place_at w t) l (of_single l (place_at w t) own) (ap (λ (y : Station). y.hand) station_is ∙ free)) (free_of p2 l (of_single l p2 f.of) (ap (λ (y : Station). y.hand) (there_is None Done p2 f ∙ out) ∙ free))
         (x.deeds None Done) leaving (needed_by None Done p2 f (x.deeds None Done) refl) (own_by None Done p2 f (x.deeds None Done) refl)
 
     pub left_hears : (wakes : Wakes) → GoesOut x hears m wakes → hears r here t None Done
-    left_hears wakes g = g.may r here t (free_of (place_at w t) l (singles w steady t) (ap (λ (y : Station). y.hand) station_is ∙ g.free))
+    left_hears wakes g = g.may r here t (free_of (place_at w t) l (of_single l (place_at w t) own) (ap (λ (y : Station). y.hand) station_is ∙ g.free))
 
     -- by whether it has anybody
     pub goes_out : (wakes : Wakes) (p2 : Place) → key_of l m < length w.sections → GoesOut x hears m wakes → (hears r here t None Done → IsFollowed None Done p2)
-        → ((u : ℕ) (b : Bool) → hand_at (place_at w u) l ≡ hand t b → IsWoken w t l b Normal (place_at w u))
+        → ((u : ℕ) (b : Bool) → hand_at (place_at w u) l ≡ hand t b → IsWokenAt w t l Normal (place_at w u))
         → Goes w (put (state_after_leave w t (One (key_of l m)) wakes) t p2) l (acts t (x.deeds None Done))
     goes_out wakes p2 line g followed woken = subst (λ y. Goes w (put (state_after_leave w t (One (key_of l m)) y) t p2) l (acts t (x.deeds None Done))) (sym g.notes) (either g.any g.carries)
       where
@@ -220,7 +221,7 @@ module _ (w : State) (t l : ℕ) (steady : IsSteady w) (there : t < length w.pla
   nowhere_here out free =
       let main : locks.times t (map queued_of (queue_at w (2 * l))) ≡ 0 = queued_times t (queue_at w (2 * l)) ∙ none Main in
       let aside : locks.is_thread t (first_of (queue_at w (2 * l + 1))) ≡ 0 = first_out (queue_at w (2 * l + 1)) (none Second) in
-      let taken : one_if_some (taken_at (place_at w t) l) ≡ 0 = ap one_if_some (free_of (place_at w t) l (singles w steady t) (ap (λ (y : Station). y.hand) station_is ∙ free)) in
+      let taken : one_if_some (taken_at (place_at w t) l) ≡ 0 = ap one_if_some (free_of (place_at w t) l (of_single l (place_at w t) own) (ap (λ (y : Station). y.hand) station_is ∙ free)) in
       omega arith
     where
       none : (n : Line) → times t (queue_at w (key_of l n)) ≡ 0
@@ -236,10 +237,10 @@ module _ (w : State) (t l : ℕ) (steady : IsSteady w) (there : t < length w.pla
         (there_is None (Parked true) p2 f ∙ parked ∙ sym (ap (λ (y : Station). record y { stands = Some Main; waits = Some want }) (station_is ∙ was))))
       where
         hands : (p2 : Place) → station_of x ≡ inside_of Main → station_then x (Parked true) ≡ record (inside_of Main) { stands = Some Main; waits = Some want } → IsFollowed None (Parked true) p2 → taken_at (place_at w t) l ≡ taken_at p2 l
-        hands p2 was parked f = free_of (place_at w t) l (singles w steady t) (ap (λ (y : Station). y.hand) (station_is ∙ was)) ∙ sym (free_of p2 l (of_single l p2 f.of) (ap (λ (y : Station). y.hand) (there_is None (Parked true) p2 f ∙ parked)))
+        hands p2 was parked f = free_of (place_at w t) l (of_single l (place_at w t) own) (ap (λ (y : Station). y.hand) (station_is ∙ was)) ∙ sym (free_of p2 l (of_single l p2 f.of) (ap (λ (y : Station). y.hand) (there_is None (Parked true) p2 f ∙ parked)))
     parks_by Second e want p2 line was does parked f = subst (λ ds. Goes w (put (record w { queues = queues_with_last w.queues (2 * l + 1) t want }) t p2) l (acts t ds)) (sym does)
         (park_goes w t l steady own there r rules p2 f.of f.fits Second want (Case Aside ∷ []) (λ h. ((λ k. k), tt)) line (ap (λ (y : Station). y.stands) (station_is ∙ was))
-        (asides r l (parts_at w l) (place_at w) t p2 site (free_of (place_at w t) l (singles w steady t) (ap (λ (y : Station). y.hand) (station_is ∙ was)) ∙ sym (free_of p2 l (of_single l p2 f.of) (ap (λ (y : Station). y.hand) (there_is None (Parked true) p2 f ∙ parked)))) (2 * l + 1) want (none_first (queue_at w (2 * l + 1)) (nobody_aside (needed_by None (Parked true) p2 f (Case Aside ∷ []) does)))
+        (asides r l (parts_at w l) (place_at w) t p2 site (free_of (place_at w t) l (of_single l (place_at w t) own) (ap (λ (y : Station). y.hand) (station_is ∙ was)) ∙ sym (free_of p2 l (of_single l p2 f.of) (ap (λ (y : Station). y.hand) (there_is None (Parked true) p2 f ∙ parked)))) (2 * l + 1) want (none_first (queue_at w (2 * l + 1)) (nobody_aside (needed_by None (Parked true) p2 f (Case Aside ∷ []) does)))
         (needed_by None (Parked true) p2 f (Case Aside ∷ []) does) (own_by None (Parked true) p2 f (Case Aside ∷ []) does ∙ put_here (λ u. doing_on (place_at w u) l) t _))
         (there_is None (Parked true) p2 f ∙ parked ∙ sym (ap (λ (y : Station). record y { stands = Some Second; waits = Some want }) (station_is ∙ was))))
       where
@@ -267,7 +268,7 @@ module _ (w : State) (t l : ℕ) (steady : IsSteady w) (there : t < length w.pla
         either false e = subst (λ ds. Goes w (put w t (next_place (place_at w t) (Parked false))) l (acts t ds)) (sym g.turns)
             (place_goes w t l steady own there r rules (next_place (place_at w t) (Parked false)) (f false e).of (f false e).fits [] (λ h. tt)
             (steps_by r l (parts_at w l) (parts_at w l) (place_at w) t (next_place (place_at w t) (Parked false)) [] tt tt
-            (free_of (place_at w t) l (singles w steady t) (ap (λ (y : Station). y.hand) (station_is ∙ g.was)) ∙ sym (free_of (next_place (place_at w t) (Parked false)) l (of_single l (next_place (place_at w t) (Parked false)) (f false e).of) (ap (λ (y : Station). y.hand) (there_is None (Parked false) (next_place (place_at w t) (Parked false)) (f false e) ∙ g.turned))))
+            (free_of (place_at w t) l (of_single l (place_at w t) own) (ap (λ (y : Station). y.hand) (station_is ∙ g.was)) ∙ sym (free_of (next_place (place_at w t) (Parked false)) l (of_single l (next_place (place_at w t) (Parked false)) (f false e).of) (ap (λ (y : Station). y.hand) (there_is None (Parked false) (next_place (place_at w t) (Parked false)) (f false e) ∙ g.turned))))
             refl refl refl refl (own_by None (Parked false) (next_place (place_at w t) (Parked false)) (f false e) [] g.turns))
             (there_is None (Parked false) (next_place (place_at w t) (Parked false)) (f false e) ∙ g.turned ∙ sym (station_is ∙ g.was)))
 
@@ -275,6 +276,7 @@ module _ (w : State) (t l : ℕ) (steady : IsSteady w) (there : t < length w.pla
 
   -- another thread that calls the lock, and what befalls it
   pub record IsSleeper (u : ℕ) : Type 0 where
+    pub single : IsSingle (place_at w u)
     pub move : Move
     pub row : profile (place_at w u) ≡ move.row
     pub waits : CallWaits move
@@ -283,9 +285,14 @@ module _ (w : State) (t l : ℕ) (steady : IsSteady w) (there : t < length w.pla
     pub taken_fits : FitsItsLock w (next_place (place_at w u) (TakenBy t))
     pub woken_fits : FitsItsLock w (next_place (place_at w u) (Woken Normal))
 
-  -- who has a part in the lock calls it
-  by_calls : {A : Type 0} (p : Place) → IsSingle p → (g : Station → Option A) (y : A) → g nowhere ≡ None → g (station_at p l) ≡ Some y → (calls p l ≡ true) × (g (station p) ≡ Some y)
-  by_calls p single g y none h = either (calls p l) (sym (ap g (single_station p l single)) ∙ h)
+  -- beside it the lock is named by no call of another
+  pub record SleepsIfCalls (u : ℕ) : Type 0 where
+    pub apart : is_lock l (beside_of (place_at w u)) ≡ false
+    pub sleeper : calls (place_at w u) l ≡ true → IsSleeper u
+
+  -- so who has a part in the lock calls it
+  by_calls : {A : Type 0} (p : Place) → is_lock l (beside_of p) ≡ false → (g : Station → Option A) (y : A) → g nowhere ≡ None → g (station_at p l) ≡ Some y → (calls p l ≡ true) × (g (station p) ≡ Some y)
+  by_calls p apart g y none h = either (calls p l) (ap (λ c. g (if calls p l then station p else if c then station_by (profile_beside p) else nowhere)) (sym apart) ∙ h)
     where
       either : (b : Bool) → g (if b then station p else nowhere) ≡ Some y → (b ≡ true) × (g (station p) ≡ Some y)
       either true e = (refl, e)
@@ -298,12 +305,12 @@ module _ (w : State) (t l : ℕ) (steady : IsSteady w) (there : t < length w.pla
       by_lock None e = tt
       by_lock (Some k) e = eqb-true k l e
 
-  module _ (asleep : (u : ℕ) → calls (place_at w u) l ≡ true → IsSleeper u) where
+  module _ (asleep : (u : ℕ) → SleepsIfCalls u) where
     -- whom t has in hand is woken, and tries again, where t has handed nothing over
-    pub wakes_one : (any : Bool) → (station_of x).carries ≡ in_hand any false → (u : ℕ) (b : Bool) → hand_at (place_at w u) l ≡ hand t b → IsWoken w t l b Normal (place_at w u)
-    wakes_one any carries u b held = let k = by_calls (place_at w u) (singles w steady u) (λ (y : Station). y.hand) (Of t b) refl held in by_sleeper (called (place_at w u) (singles w steady u) k.0) k.0 k.1 (asleep u k.0)
+    pub wakes_one : (any : Bool) → (station_of x).carries ≡ in_hand any false → (u : ℕ) (b : Bool) → hand_at (place_at w u) l ≡ hand t b → IsWokenAt w t l Normal (place_at w u)
+    wakes_one any carries u b held = let k = by_calls (place_at w u) (asleep u).apart (λ (y : Station). y.hand) (Of t b) refl held in by_sleeper (called (place_at w u) ((asleep u).sleeper k.0).single k.0) k.0 k.1 ((asleep u).sleeper k.0)
       where
-        by_sleeper : IsOf l (place_at w u) → calls (place_at w u) l ≡ true → (station (place_at w u)).hand ≡ hand t b → IsSleeper u → IsWoken w t l b Normal (place_at w u)
+        by_sleeper : IsOf l (place_at w u) → calls (place_at w u) l ≡ true → (station (place_at w u)).hand ≡ hand t b → IsSleeper u → IsWokenAt w t l Normal (place_at w u)
         by_sleeper of_u calls_l h z = by_held (fresh, z.waits.held t (sym (ap (λ (y : Profile). y.hand) z.row) ∙ h ∙ ap (hand t) fresh))
           where
             fresh : b ≡ false
@@ -322,23 +329,18 @@ module _ (w : State) (t l : ℕ) (steady : IsSteady w) (there : t < length w.pla
             of_2 : IsOf l p2
             of_2 = next_of l (place_at w u) (Woken Normal) of_u
 
-            by_held : (b ≡ false) × IsHeld z.move t → IsWoken w t l b Normal (place_at w u)
-            by_held k = record {
-              lets = record {
-                taken = free_of p2 l (of_single l p2 of_2) (ap (λ (y : Station). y.hand) free) ∙ sym (ap (keep_from t) taken_now ∙ ap (λ c. if c then None else Some (record { by = t; want = k.1.want })) (same t));
-                doing = doing_here l p2 of_2 ∙ ap (λ (y : Profile). y.doing) z.woken ∙ k.1.doing ∙ sym (ap (λ (d : Doing). record d { retries = Some k.1.want }) (doing_here l (place_at w u) of_u ∙ ap (λ (y : Profile). y.doing) z.row))
-                    ∙ sym (ap (λ o. wakened t o (doing_on (place_at w u) l)) taken_now ∙ ap (λ c. if c then record (doing_on (place_at w u) l) { retries = Some k.1.want } else doing_on (place_at w u) l) (same t));
-              };
-              was = ap station_by z.row ∙ k.1.was ∙ ap (λ c. record nowhere { hand = hand t c }) (sym k.0);
-              free = free;
-              fits = z.woken_fits;
-            }
+            by_held : (b ≡ false) × IsHeld z.move t → IsWokenAt w t l Normal (place_at w u)
+            by_held k = woken_of w t l Normal (place_at w u) b of_u (record {
+              taken = free_of p2 l (of_single l p2 of_2) (ap (λ (y : Station). y.hand) free) ∙ sym (ap (keep_from t) taken_now ∙ ap (λ c. if c then None else Some (record { by = t; want = k.1.want })) (same t));
+              doing = doing_here l p2 of_2 ∙ ap (λ (y : Profile). y.doing) z.woken ∙ k.1.doing ∙ sym (ap (λ (d : Doing). record d { retries = Some k.1.want }) (doing_here l (place_at w u) of_u ∙ ap (λ (y : Profile). y.doing) z.row))
+                  ∙ sym (ap (λ o. wakened t o (doing_on (place_at w u) l)) taken_now ∙ ap (λ c. if c then record (doing_on (place_at w u) l) { retries = Some k.1.want } else doing_on (place_at w u) l) (same t));
+            }) (ap station_by z.row ∙ k.1.was ∙ ap (λ c. record nowhere { hand = hand t c }) (sym k.0)) free z.woken_fits
               where
                 free : station p2 ≡ nowhere
                 free = ap station_by z.woken ∙ k.1.woken
 
                 taken_now : taken_at (place_at w u) l ≡ Some (record { by = t; want = k.1.want })
-                taken_now = single_taken (place_at w u) l (singles w steady u) ∙ (λ i. taken_from ((h ∙ ap (hand t) k.0) i) ((ap (λ (y : Profile). y.wants) z.row ∙ k.1.wants) i) (calls_l i))
+                taken_now = single_taken (place_at w u) l z.single ∙ (λ i. taken_from ((h ∙ ap (hand t) k.0) i) ((ap (λ (y : Profile). y.wants) z.row ∙ k.1.wants) i) (calls_l i))
 
     -- who sleeps in a line is taken from there
     taken_from_line : (m : Line) (u : ℕ) → calls (place_at w u) l ≡ true → (z : IsSleeper u) → Sleeps z.move m → IsTakenFrom w t l m (place_at w u)
@@ -357,7 +359,7 @@ module _ (w : State) (t l : ℕ) (steady : IsSteady w) (there : t < length w.pla
         p2 = next_place (place_at w u) (TakenBy t)
 
         of_u : IsOf l (place_at w u)
-        of_u = called (place_at w u) (singles w steady u) calls_l
+        of_u = called (place_at w u) z.single calls_l
 
         of_2 : IsOf l p2
         of_2 = next_of l (place_at w u) (TakenBy t) of_u
@@ -372,11 +374,11 @@ module _ (w : State) (t l : ℕ) (steady : IsSteady w) (there : t < length w.pla
 
     -- and whoever stands in a line sleeps there, where t is inside its section and stands in none
     asleep_in : (m : Line) (u : ℕ) → station_of x ≡ inside_of m → (station_at (place_at w u) l).stands ≡ Some m → IsAsleepIn m u
-    asleep_in m u inside stands = let k = by_calls (place_at w u) (singles w steady u) (λ (y : Station). y.stands) m refl stands in by_sleeper k.0 k.1 (asleep u k.0)
+    asleep_in m u inside stands = let k = by_calls (place_at w u) (asleep u).apart (λ (y : Station). y.stands) m refl stands in by_sleeper k.0 k.1 ((asleep u).sleeper k.0)
       where
         by_sleeper : calls (place_at w u) l ≡ true → (station (place_at w u)).stands ≡ Some m → (z : IsSleeper u) → IsAsleepIn m u
         by_sleeper calls_l h z = elim (z.waits.stands m (sym (ap (λ (y : Profile). y.stands) z.row) ∙ h)) [
-          | inl within ↦ absurd (let it : u ≡ t = site.alone u t m (inside_is (place_at w u) l ∙ ap (λ (y : Station). y.inside) (station_here l (place_at w u) (called (place_at w u) (singles w steady u) calls_l) ∙ ap station_by z.row) ∙ within) (inside_is (place_at w t) l ∙ ap (λ (y : Station). y.inside) (station_here l (place_at w t) own ∙ station_is ∙ inside)) in
+          | inl within ↦ absurd (let it : u ≡ t = site.alone u t m (inside_is (place_at w u) l ∙ ap (λ (y : Station). y.inside) (station_here l (place_at w u) (called (place_at w u) z.single calls_l) ∙ ap station_by z.row) ∙ within) (inside_is (place_at w t) l ∙ ap (λ (y : Station). y.inside) (station_here l (place_at w t) own ∙ station_is ∙ inside)) in
               let out : (station_at (place_at w t) l).stands ≡ None = ap (λ (y : Station). y.stands) (station_here l (place_at w t) own ∙ station_is ∙ inside) in
               let in_line : (station_at (place_at w t) l).stands ≡ Some m = subst (λ j. (station_at (place_at w j) l).stands ≡ Some m) it stands in
               let both : ◌≡◌ {A = Option Line} None (Some m) = sym out ∙ in_line in cc)
@@ -398,11 +400,11 @@ module _ (w : State) (t l : ℕ) (steady : IsSteady w) (there : t < length w.pla
 
     -- who stands there is the pending owner, and wants to write
     pending_aside : (u : ℕ) → 1 ≤ times u (queue_at w (2 * l + 1)) → IsSomePending here.lock.pending u
-    pending_aside u h = let k = by_calls (place_at w u) (singles w steady u) (λ (y : Station). y.stands) Second refl (stands_aside u h) in by_sleeper k.0 k.1 (asleep u k.0)
+    pending_aside u h = let k = by_calls (place_at w u) (asleep u).apart (λ (y : Station). y.stands) Second refl (stands_aside u h) in by_sleeper k.0 k.1 ((asleep u).sleeper k.0)
       where
         by_sleeper : calls (place_at w u) l ≡ true → (station (place_at w u)).stands ≡ Some Second → (z : IsSleeper u) → IsSomePending here.lock.pending u
         by_sleeper calls_l e z = let a = z.waits.aside (sym (ap (λ (y : Profile). y.stands) z.row) ∙ e) in
-            let pends : here.lock.pending ≡ Some (record { thread = u; falls_back = a.1.0 }) = site.held u (Pends a.1.0) (ap (λ (d : Doing). d.claims) (doing_here l (place_at w u) (called (place_at w u) (singles w steady u) calls_l) ∙ ap (λ (y : Profile). y.doing) z.row) ∙ a.1.1) in
+            let pends : here.lock.pending ≡ Some (record { thread = u; falls_back = a.1.0 }) = site.held u (Pends a.1.0) (ap (λ (d : Doing). d.claims) (doing_here l (place_at w u) (called (place_at w u) z.single calls_l) ∙ ap (λ (y : Profile). y.doing) z.row) ∙ a.1.1) in
             subst (λ o. IsSomePending o u) (sym pends) refl
 
     -- so it stands there alone
@@ -425,7 +427,7 @@ module _ (w : State) (t l : ℕ) (steady : IsSteady w) (there : t < length w.pla
 
     writes_aside : (y : Waiter) (rest : List Waiter) → queue_at w (2 * l + 1) ≡ y ∷ rest → y.want ≡ Exclusive
     writes_aside y rest e = let first : 1 ≤ times y.thread (queue_at w (2 * l + 1)) = rw e (let c : ◌≡◌ {A = ℕ} (if y.thread == y.thread then 1 else 0) 1 = ap (λ (b : Bool). if b then 1 else 0) (same y.thread) in omega arith) in
-        let k = by_calls (place_at w y.thread) (singles w steady y.thread) (λ (y : Station). y.stands) Second refl (stands_aside y.thread first) in by_sleeper k.0 k.1 (asleep y.thread k.0)
+        let k = by_calls (place_at w y.thread) (asleep y.thread).apart (λ (y : Station). y.stands) Second refl (stands_aside y.thread first) in by_sleeper k.0 k.1 ((asleep y.thread).sleeper k.0)
       where
         waits_there : (station_at (place_at w y.thread) l).waits ≡ Some y.want
         waits_there = (subst (AreWaiting (stations_of (place_at w)) l Second) e (steady.stands.waits l Second)).0.1
@@ -433,7 +435,7 @@ module _ (w : State) (t l : ℕ) (steady : IsSteady w) (there : t < length w.pla
         by_sleeper : calls (place_at w y.thread) l ≡ true → (station (place_at w y.thread)).stands ≡ Some Second → (z : IsSleeper y.thread) → y.want ≡ Exclusive
         by_sleeper calls_l h z = let a = z.waits.aside (sym (ap (λ (y : Profile). y.stands) z.row) ∙ h) in
             let waits_all : (station (place_at w y.thread)).waits ≡ Some Exclusive = (λ i. waits_for (h i) ((ap (λ (y : Profile). y.wants) z.row ∙ a.0) i)) in
-            let both : Some y.want ≡ Some Exclusive = sym waits_there ∙ ap (λ (y : Station). y.waits) (station_here l (place_at w y.thread) (called (place_at w y.thread) (singles w steady y.thread) calls_l)) ∙ waits_all in cc
+            let both : Some y.want ≡ Some Exclusive = sym waits_there ∙ ap (λ (y : Station). y.waits) (station_here l (place_at w y.thread) (called (place_at w y.thread) z.single calls_l)) ∙ waits_all in cc
 
     -- ---------------------------------------------------------------- out of a line
 
@@ -468,7 +470,7 @@ module _ (w : State) (t l : ℕ) (steady : IsSteady w) (there : t < length w.pla
           → IsFollowed None (Removed b) p2 → Goes w (put (record w { queues = queues_without w.queues t }) t p2) l (acts t (x.deeds None (Removed b)))
       leaves_by m b p2 g mains seconds f = subst (λ ds. Goes w (put (record w { queues = queues_without w.queues t }) t p2) l (acts t ds)) (sym (g.deeds b))
           (remove_goes w t l steady own there r rules p2 f.of f.fits m (Case locks.Late ∷ []) (λ h. ((λ k. k), tt)) (ap (λ (y : Station). y.stands) (station_is ∙ g.was))
-          (lates r l (parts_at w l) (place_at w) t p2 site (free_of (place_at w t) l (singles w steady t) (ap (λ (y : Station). y.hand) (station_is ∙ g.was)) ∙ sym (free_of p2 l (of_single l p2 f.of) (ap (λ (y : Station). y.hand) (there_is None (Removed b) p2 f ∙ g.goes b))))
+          (lates r l (parts_at w l) (place_at w) t p2 site (free_of (place_at w t) l (of_single l (place_at w t) own) (ap (λ (y : Station). y.hand) (station_is ∙ g.was)) ∙ sym (free_of p2 l (of_single l p2 f.of) (ap (λ (y : Station). y.hand) (there_is None (Removed b) p2 f ∙ g.goes b))))
           m (without t (queue_at w (key_of l m))) mains seconds (needed_by None (Removed b) p2 f (Case locks.Late ∷ []) (g.deeds b)) (own_by None (Removed b) p2 f (Case locks.Late ∷ []) (g.deeds b)))
           (there_is None (Removed b) p2 f ∙ g.goes b ∙ sym (ap (λ (y : Station). record y { stands = None; waits = None }) (station_is ∙ g.was))))
 
@@ -512,7 +514,7 @@ module _ (w : State) (t l : ℕ) (steady : IsSteady w) (there : t < length w.pla
         hand_then o any none_left e = free_of (next_place (place_at w t) (Took any none_left)) l (of_single l (next_place (place_at w t) (Took any none_left)) (followed_by o any none_left e).of) (ap (λ (y : Station). y.hand) (there_is o (Took any none_left) (next_place (place_at w t) (Took any none_left)) (followed_by o any none_left e) ∙ g.goes any none_left))
 
         hand_now : taken_at (place_at w t) l ≡ None
-        hand_now = free_of (place_at w t) l (singles w steady t) (ap (λ (y : Station). y.hand) (station_is ∙ g.was))
+        hand_now = free_of (place_at w t) l (of_single l (place_at w t) own) (ap (λ (y : Station). y.hand) (station_is ∙ g.was))
 
         -- nobody is there
         finds_nobody : queue_at w (2 * l + 1) ≡ [] → Goes w (put (record w { queues = queues_without_first w.queues (2 * l + 1) }) t (next_place (place_at w t) (Took false true))) l (acts t (x.deeds None (Took false true)))
@@ -591,9 +593,9 @@ module _ (w : State) (t l : ℕ) (steady : IsSteady w) (there : t < length w.pla
 
         -- t had nobody in hand
         had_nobody : (u : ℕ) → is_thread t (taker (place_at w u)) ≡ true → ⊥
-        had_nobody u h = let k : IsHeldBy (place_at w u) t = held_where (place_at w u) t (singles w steady u) h in
+        had_nobody u h = let k : IsInHandOf (place_at w u) t = in_hand_where (place_at w u) t (aparts w steady u) h in
             let a : carried_at (place_at w t) k.lock ≡ Some k.handed = steady.stands.hands.taken t u k.lock k.handed k.hand in
-            let b : carried_at (place_at w t) k.lock ≡ None = nothing_at (place_at w t) k.lock (singles w steady t) (λ y. y.carries) refl (ap (λ (y : Station). y.carries) (station_is ∙ g.was)) in
+            let b : carried_at (place_at w t) k.lock ≡ None = nothing_at (place_at w t) k.lock (of_single l (place_at w t) own) (λ y. y.carries) refl (ap (λ (y : Station). y.carries) (station_is ∙ g.was)) in
             let both : ◌≡◌ {A = Option Bool} None (Some k.handed) = sym b ∙ a in cc
 
         picked_some : any ≡ true → (u : ℕ) × (member u chosen ≡ true)
@@ -605,7 +607,7 @@ module _ (w : State) (t l : ℕ) (steady : IsSteady w) (there : t < length w.pla
 
         some_picked : (u : ℕ) → member u chosen ≡ true → any ≡ true
         some_picked u h = held_any t 0 taken_state.places u z.sleeps.want
-            (ap (λ q. is_thread t (taker q)) at_u ∙ held_taker p2 t l false (of_single l p2 (sleeps_chosen u h).calls_then) (ap (λ (y : Station). y.hand) (station_here l p2 (sleeps_chosen u h).calls_then ∙ (sleeps_chosen u h).free)))
+            (ap (λ q. is_thread t (taker q)) at_u ∙ held_tells p2 t l false (ap (λ (y : Station). y.hand) (station_here l p2 (sleeps_chosen u h).calls_then ∙ (sleeps_chosen u h).free)))
             (ap wants at_u ∙ single_wants p2 (of_single l p2 (sleeps_chosen u h).calls_then) ∙ ap (λ (y : Profile). y.wants) z.sleeper.taken ∙ z.sleeps.wants t)
           where
             z : IsAsleepIn Main u
@@ -639,7 +641,7 @@ module _ (w : State) (t l : ℕ) (steady : IsSteady w) (there : t < length w.pla
         pub takes_chosen : Goes w (put taken_state t then_at) l (acts t (x.deeds None told_picked))
         takes_chosen = subst (λ ds. Goes w (put taken_state t then_at) l (acts t ds)) (sym picked_deeds)
             (picked_goes w t l steady own there then_at picks_follow.of picks_follow.fits many (ap (λ (y : Station). y.stands) (station_is ∙ g.was)) (ap (λ (y : Station). y.hand) (station_is ∙ g.was)) (ap (λ (y : Station). y.carries) (station_is ∙ g.was)) r rules
-            (free_of (place_at w t) l (singles w steady t) (ap (λ (y : Station). y.hand) (station_is ∙ g.was))) (free_of then_at l (of_single l then_at picks_follow.of) (ap (λ (y : Station). y.hand) goes_then))
+            (free_of (place_at w t) l (of_single l (place_at w t) own) (ap (λ (y : Station). y.hand) (station_is ∙ g.was))) (free_of then_at l (of_single l then_at picks_follow.of) (ap (λ (y : Station). y.hand) goes_then))
             (ap (λ (y : Station). y.inside) goes_then ∙ sym (ap (λ (y : Station). y.inside) (station_is ∙ g.was))) (ap (λ (y : Station). y.stands) goes_then) (ap (λ (y : Station). y.hand) goes_then)
             start line sleeps_chosen carries_then (λ u h. ap (λ (y : Station). y.carries) goes_then ∙ ap (λ b. in_hand b false) (some_picked u h))
             (needed_by None told_picked then_at picks_follow (Case (TakePicked start) ∷ []) picked_deeds) (own_by None told_picked then_at picks_follow (Case (TakePicked start) ∷ []) picked_deeds))

@@ -15,7 +15,7 @@ use Rattle.abstract_locks.specs.Locks as locks
 use Rattle.abstract_locks.specs.Locks.{Knows, Sort}
 use Rattle.abstract_locks.specs.Codes.{parked_in, aside_in, word_by}
 use Rattle.abstract_locks.specs.Sites.{Line, Main, Second, has_readers}
-use Rattle.abstract_locks.specs.Purposes.{Purpose, Enters, Releases, Converts, Bumps, CallsOnce, Awaits, Waits, Notifies}
+use Rattle.abstract_locks.specs.Purposes.{Recall, Purpose, Enters, Releases, Converts, Bumps, CallsOnce, Awaits, Waits, Notifies}
 use Rattle.lot_machine.specs.Machine.{State, place_at, word_at, kind_at}
 use Rattle.lot_laws.specs.Refinement.{owner_at, lock_state, call_at, call_state}
 use Rattle.lot_laws.specs.SitesOf.{is_mutex, rules_in}
@@ -33,23 +33,23 @@ only_exclusive Exclusive h = refl
 only_exclusive x h = absurd h
 
 -- whoever wakes the waiters of a mutex releases it
-releases : (sort : ℕ → Sort) (q : Option Purpose) (g : Option ℕ) (l : ℕ) → sort l ≡ locks.Mutex → CallsOneLock q → KnowsRights sort q → WakesWaiters locks.Mutex q g l → q ≡ Some (Releases l Exclusive false)
-releases sort None g l e one knows h = absurd h
-releases sort (Some (Enters k x how)) g l e one knows h = absurd (let f : false ≡ true = h.2 in cc)
-releases sort (Some (Releases k x fair)) g l e one knows h = by_right x fair (only_exclusive x (subst (λ s. Knows s x) (ap sort h.0 ∙ e) knows)) h.1
+releases : (sort : ℕ → Sort) (q : Option Purpose) (g : Option ℕ) (r : Recall) (l : ℕ) → sort l ≡ locks.Mutex → CallsOneLock q → KnowsRights sort q → WakesWaiters locks.Mutex q g r l → q ≡ Some (Releases l Exclusive false)
+releases sort None g r l e one knows h = absurd h
+releases sort (Some (Enters k x how)) g r l e one knows h = absurd (let f : false ≡ true = h.2 in cc)
+releases sort (Some (Releases k x fair)) g r l e one knows h = by_right x fair (only_exclusive x (subst (λ s. Knows s x) (ap sort h.0 ∙ e) knows)) h.1
   where
     by_right : (x : Want) (fair : Bool) → x ≡ Exclusive → (fair ≡ false) ⊎ (x ≡ Upgradable) → ◌≡◌ {A = Option Purpose} (Some (Releases k x fair)) (Some (Releases l Exclusive false))
     by_right x fair is (inl unfair) = λ i. Some (Releases (h.0 i) (is i) (unfair i))
     by_right x fair is (inr greater) = absurd (let f : Exclusive ≡ Upgradable = sym is ∙ greater in cc)
-releases sort (Some (Converts k x y how)) g l e one knows h = absurd (elim h.1 [
+releases sort (Some (Converts k x y how)) g r l e one knows h = absurd (elim h.1 [
   | inl less ↦ less (only_exclusive y (subst (λ s. Knows s y) (ap sort h.0 ∙ e) knows.1))
   | inr gave_up ↦ let f : false ≡ true = gave_up.1 in cc
 ])
-releases sort (Some (CallsOnce k forced)) g l e one knows h = absurd (let f : locks.Once ≡ locks.Mutex = sym knows ∙ (ap sort h ∙ e) in cc)
-releases sort (Some (Awaits k forced)) g l e one knows h = absurd h
-releases sort (Some (Waits k m timed)) g l e one knows h = absurd one
-releases sort (Some (Notifies k all)) g l e one knows h = absurd one
-releases sort (Some (Bumps k x)) g l e one knows h = absurd (h.1 (only_exclusive x (subst (λ s. Knows s x) (ap sort h.0 ∙ e) knows)))
+releases sort (Some (CallsOnce k forced)) g r l e one knows h = absurd (let f : locks.Once ≡ locks.Mutex = sym knows ∙ (ap sort h ∙ e) in cc)
+releases sort (Some (Awaits k forced)) g r l e one knows h = absurd h
+releases sort (Some (Waits k m timed)) g r l e one knows h = absurd one
+releases sort (Some (Notifies k all)) g r l e one knows h = absurd one
+releases sort (Some (Bumps k x)) g r l e one knows h = absurd (h.1 (only_exclusive x (subst (λ s. Knows s x) (ap sort h.0 ∙ e) knows)))
 
 -- the line that a call of a mutex lets in is its queue
 lets_in_main : (q : Option Purpose) → line_let_in locks.Mutex q ≡ Main
@@ -86,7 +86,7 @@ module _ (w : State) (l : ℕ) (kept : IsKept w) (of_mutex : is_mutex (kind_at w
   looked_after k = record {
     debtor = k.debtor;
     debt = elim k.debt [
-      | inl owes ↦ inl (owes.0, releases (sort_at w) (call_at w k.debtor).purpose (call_at w k.debtor).gave_up l (sort w l of_mutex) (kept.calls_one k.debtor) (kept.known k.debtor) (subst (λ s. WakesWaiters s (call_at w k.debtor).purpose (call_at w k.debtor).gave_up l) (sort w l of_mutex) owes.1))
+      | inl owes ↦ inl (owes.0, releases (sort_at w) (call_at w k.debtor).purpose (call_at w k.debtor).gave_up (call_at w k.debtor).recalls l (sort w l of_mutex) (kept.calls_one k.debtor) (kept.known k.debtor) (subst (λ s. WakesWaiters s (call_at w k.debtor).purpose (call_at w k.debtor).gave_up (call_at w k.debtor).recalls l) (sort w l of_mutex) owes.1))
       | inr again ↦ inr again.0
     ];
     awake = k.awake;

@@ -17,7 +17,9 @@ use Rattle.abstract_locks.specs.Picks.{queued_of}
 use Rattle.lot_laws.specs.MutexDeeds.{mutex_doing, acts, queued}
 use Rattle.lot_laws.specs.Stations.{hand, doing_on}
 use Rattle.lot_laws.specs.SitesOf.{ActsNeeded}
-use Rattle.lot_laws.proofs.Glue.{Base, seen, same, IsTakenAt, Untaken, untaken, hands_acts, handed_is, taken_there, IsMutexCall}
+use Rattle.lot_laws.proofs.Glue.{Base, seen, same, Untaken, untaken, handed_is}
+use Rattle.lot_laws.proofs.Waiters.{CallsMutex, IsHeldThere}
+use Rattle.lot_laws.proofs.MutexHands.{hands_acts, taken_there}
 use Rattle.lot_laws.specs.SitesOf.{hand_at, Hands}
 use Rattle.lot_laws.proofs.MutexTable.{mutex, own_doing}
 
@@ -48,11 +50,11 @@ abbrev want_of : Option Queued → Want
 want_of None = Exclusive
 want_of (Some q) = q.want
 
-module _ (l : ℕ) (n : Base) (w : ℕ) (o : Owners) (m s : List Waiter) (p : ℕ → Place) (one : ℕ → Type 0) (hands : Hands one p) (single : one l) (mutexes : (x : ℕ) → IsMutexCall l (p x)) (t u : ℕ) (alone bumps none_left : Bool) (store : p t ≡ Mutex l (HandOff bumps (hand_off.Store true none_left))) (held : hand_at (p u) l ≡ hand t false) (site : IsSite mutex (seen l n w o m s p)) where
+module _ (l : ℕ) (n : Base) (w : ℕ) (o : Owners) (m s : List Waiter) (p : ℕ → Place) (one : ℕ → Type 0) (hands : Hands one p) (single : one l) (mutexes : (x : ℕ) → CallsMutex l (p x)) (t u : ℕ) (alone bumps none_left : Bool) (store : p t ≡ Mutex l (HandOff bumps (hand_off.Store true none_left))) (held : hand_at (p u) l ≡ hand t false) (site : IsSite mutex (seen l n w o m s p)) where
   d_is : doing_on (p t) l ≡ mutex_doing (HandOff bumps (hand_off.Store true none_left))
   d_is = own_doing l (p t) (HandOff bumps (hand_off.Store true none_left)) store
 
-  hand_is : IsTakenAt (p u) t l
+  hand_is : IsHeldThere l t (p u)
   hand_is = taken_there mutex l n w o m s p one hands single mutexes t u alone bumps none_left refl site.state store held
 
   -- only the one in hand is in hand
@@ -69,7 +71,7 @@ module _ (l : ℕ) (n : Base) (w : ℕ) (o : Owners) (m s : List Waiter) (p : �
 
   successor : (y : ℕ) (x : Want) → (◌≡◌ {A = Option Queued} (Some (queued u)) (Some (record { thread = y; want = x }))) ↔ (IsTaken (seen l n w o m s p).lock t y x × (x ≢ Shared))
   successor y x = (
-    λ e. let a : u ≡ y = ap (λ (q : Option Queued). thread_of q) e in let b : Exclusive ≡ x = ap (λ (q : Option Queued). want_of q) e in rw (← a, ← b, hand_is.is, same l) (refl, λ h. cc),
+    λ e. let a : u ≡ y = ap (λ (q : Option Queued). thread_of q) e in let b : Exclusive ≡ x = ap (λ (q : Option Queued). want_of q) e in rw (← a, ← b) (hand_is.was, λ h. cc),
     λ h. let a = only_one y x h.0 in λ j. Some (record { thread = sym a.0 j; want = sym a.1 j }),
   )
 

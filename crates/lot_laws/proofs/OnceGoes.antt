@@ -127,7 +127,7 @@ module _ (w : State) (t l : ℕ) (at : OncePlace) (steady : IsSteady w) (shape :
   abbrev case : Option LockCase
   case = case_of (once_profile at).carries (once_deeds at told)
 
-  happened : Happens w behind t l (event_by l case)
+  happened : Happens w behind t (event_by l case)
   happened = happens w behind t l (once_profile at).carries (once_deeds at told) [] steady (subst (Goes w behind l) (sym (append-nil (acts t (once_deeds at told)))) kept.goes) tt kept.tells.one
       (λ none. in_no_hand w steady t l (λ h. none (sym carries ∙ h)))
 

@@ -58,8 +58,9 @@ use Rattle.lot_laws.specs.Stations.{doing_on, station}
 use Rattle.lot_laws.specs.SitesOf.{FitsItsLock, Goes, IsSteady, TakesOne, is_mutex, key_of, rules_in}
 use Rattle.lot_laws.proofs.ActsKept.{lock_by, place_goes}
 use Rattle.lot_laws.proofs.OneStep.{steps_by}
-use Rattle.lot_laws.proofs.Glue.{IsOf, doing_here, free_of, next_of, parts_at}
-use Rattle.lot_laws.proofs.MovesKept.{IsFollowed, IsSleeper, entered_hears, goes_in, goes_out, left_hears, wakes_one}
+use Rattle.lot_condvar.specs.declared.places.CondvarPlace.{CondvarPlace}
+use Rattle.lot_laws.proofs.Glue.{not_beside, IsOf, doing_here, free_of, next_of, parts_at}
+use Rattle.lot_laws.proofs.MovesKept.{IsFollowed, SleepsIfCalls, IsSleeper, entered_hears, goes_in, goes_out, left_hears, wakes_one}
 use Rattle.lot_laws.proofs.OnceMovesKept.{all_hears, closes_so, rests_or_turns, stays_unshared, takes_all, told_so}
 use Rattle.lot_laws.proofs.OtherCalls.{IsCalm, WakesOwn}
 use Rattle.lot_laws.proofs.RwLockKept.{left_calm, left_wakes, word_calm, calm_case, AreCalm}
@@ -205,9 +206,17 @@ module _ (w : State) (t l : ℕ) (at : OncePlace) (steady : IsSteady w) (shape :
 
   -- ---------------------------------------------------------------- who else calls the `Once`
 
-  asleep : (u : ℕ) → calls (place_at w u) l ≡ true → IsSleeper w t l steady there own (rules_in w l) refl (once_move at) same_row u
-  asleep u h = by_place (place_at w u) refl h
+  many : TakesOne w l → ⊥
+  many one = let both : locks.Mutex ≡ locks.Once = sym one ∙ sort_is in cc
+
+  asleep : (u : ℕ) → SleepsIfCalls w t l steady there own (rules_in w l) refl (once_move at) same_row u
+  asleep u = record { apart = not_beside w (place_at w u) l (steady.stands.calls u) many; sleeper = λ h. by_place (place_at w u) refl h }
     where
+      of_condvar : (k : ℕ) (c : CondvarPlace) → place_at w u ≡ Condvar k c → k ≡ l → ⊥
+      of_condvar k c e same_lock =
+          let fits : FitsItsLock w (Condvar k c) = subst (FitsItsLock w) e (steady.stands.calls u) in
+          let both : locks.Condvar ≡ locks.Once = sym fits.sort ∙ ap (λ j. (rules_in w j).sort) same_lock ∙ sort_is in cc
+
       of_mutex : (k : ℕ) (m : MutexPlace) → place_at w u ≡ Mutex k m → k ≡ l → ⊥
       of_mutex k m e same_lock =
           let fits : is_mutex (kind_at w k) ≡ true = subst (FitsItsLock w) e (steady.stands.calls u) in
@@ -221,10 +230,11 @@ module _ (w : State) (t l : ℕ) (at : OncePlace) (steady : IsSteady w) (shape :
 
       by_place : (q : Place) → place_at w u ≡ q → calls q l ≡ true → IsSleeper w t l steady there own (rules_in w l) refl (once_move at) same_row u
       by_place Idle e g = absurd cc
-      by_place (Condvar k at) e g = absurd (subst (FitsItsLock w) e (steady.stands.calls u))
+      by_place (Condvar k c) e g = absurd (of_condvar k c e (eqb-true k l g))
       by_place (Mutex k m) e g = absurd (of_mutex k m e (eqb-true k l g))
       by_place (RwLock k a c) e g = absurd (of_rwlock k a c e (eqb-true k l g))
       by_place (Once k p) e g = record {
+        single = rw e tt;
         move = once_move p;
         row = ap profile e;
         waits = record { aside = z.aside; stands = z.stands; held = λ v h. (z.held v false h).1 };
@@ -253,9 +263,6 @@ module _ (w : State) (t l : ℕ) (at : OncePlace) (steady : IsSteady w) (shape :
 
   calm_by : (ds : List Deed) {x : List Deed} → x ≡ ds → AreCalm ds → IsCalm (case_of ((once_profile at).carries) x)
   calm_by ds e h = subst (λ (x : List Deed). IsCalm (case_of ((once_profile at).carries) x)) (sym e) (calm_case ((once_profile at).carries) ds h)
-
-  many : TakesOne w l → ⊥
-  many one = let both : locks.Mutex ≡ locks.Once = sym one ∙ sort_is in cc
 
   section_there : (m : Line) → key_of l m < length w.sections
   section_there Main = main_key_there w l shape lt

@@ -22,7 +22,7 @@ use Rattle.abstract_locks.specs.Sites.{Site, Deed, Main, Case, has_readers}
 use Rattle.abstract_locks.specs.Codes.{aside_in, code, count_in, fills, parked_in}
 use Rattle.abstract_locks.specs.Deeds as laws
 use Rattle.lot_steps.specs.declared.places.Place.{Place}
-use Rattle.lot_steps.specs.Steps.{next_place, profile, calls}
+use Rattle.lot_steps.specs.Steps.{next_place, profile}
 use Rattle.lot_once.specs.OnceMoves.{Closes, RestsBehind, TakesAll}
 use Rattle.lot_machine.specs.Machine.{State, filled_at, place_at, put, queue_at, queues_with_last, state_after_operation, state_after_park, state_after_take, word_at}
 use Rattle.lot_laws.specs.Refinement.{lock_state, taken_at}
@@ -31,9 +31,9 @@ use Rattle.lot_laws.specs.Stations.{station, station_at}
 use Rattle.lot_laws.specs.SitesOf.{Goes, IsSteady, TakesOne, after_acts, carried_at, rules_in, stood_in}
 use Rattle.lot_laws.proofs.ActsKept.{lock_by, operated, park_goes, place_goes, with_line, word_goes}
 use Rattle.lot_laws.proofs.AtPlaces.{in_no_hand}
-use Rattle.lot_laws.proofs.Glue.{IsOf, differ, free_of, lock_in, nothing_at, parts_at, same, singles, of_single}
+use Rattle.lot_laws.proofs.Glue.{IsOf, differ, free_of, lock_in, nothing_at, parts_at, same, of_single}
 use Rattle.lot_laws.proofs.LawsKept.{after_same}
-use Rattle.lot_laws.proofs.MovesKept.{IsFollowed, IsSleeper, needed_by, nowhere_here, own_by, single_of, site, sleeps_in, station_is, there_is, word_is}
+use Rattle.lot_laws.proofs.MovesKept.{IsFollowed, SleepsIfCalls, needed_by, nowhere_here, own_by, single_of, site, sleeps_in, station_is, there_is, word_is}
 use Rattle.lot_laws.proofs.OneStep.{Steps, noted, queued_behind, same_filled, steps_by}
 use Rattle.lot_laws.proofs.PicksKept.{all_goes}
 use Rattle.lot_laws.proofs.StandsKept.{in_main}
@@ -72,7 +72,7 @@ module _ (w : State) (t l : ℕ) (steady : IsSteady w) (there : t < length w.pla
     behind = laws.after_all r does now t
 
     hand : taken_at (place_at w t) l ≡ taken_at p2 l
-    hand = free_of (place_at w t) l (singles w steady t) (ap (λ (y : Station). y.hand) is_now ∙ g.free)
+    hand = free_of (place_at w t) l (of_single l (place_at w t) own) (ap (λ (y : Station). y.hand) is_now ∙ g.free)
         ∙ sym (free_of p2 l (of_single l p2 f.of) (ap (λ (y : Station). y.hand) (there_is w t l steady there own r rules x same_row None (Value (word_at w l)) p2 f ∙ g.goes (word_at w l)) ∙ g.free))
 
     full : (operated w t p l op).base.filled ≡ (after_acts r (acts t does) now).filled
@@ -102,7 +102,7 @@ module _ (w : State) (t l : ℕ) (steady : IsSteady w) (there : t < length w.pla
   rests_there told p2 s was free does is_then f = subst (λ ds. Goes w (put w t p2) l (acts t ds)) (sym does)
       (place_goes w t l steady own there r rules p2 f.of f.fits [] (λ h. tt)
       (steps_by r l (parts_at w l) (parts_at w l) (place_at w) t p2 [] tt tt
-      (free_of (place_at w t) l (singles w steady t) (ap (λ (y : Station). y.hand) was ∙ free) ∙ sym (free_of p2 l (of_single l p2 f.of) (ap (λ (y : Station). y.hand) is_then ∙ free)))
+      (free_of (place_at w t) l (of_single l (place_at w t) own) (ap (λ (y : Station). y.hand) was ∙ free) ∙ sym (free_of p2 l (of_single l p2 f.of) (ap (λ (y : Station). y.hand) is_then ∙ free)))
       refl refl refl refl (own_by w t l steady there own r rules x same_row None told p2 f [] does))
       (is_then ∙ sym was))
 
@@ -125,7 +125,7 @@ module _ (w : State) (t l : ℕ) (steady : IsSteady w) (there : t < length w.pla
         (there_is w t l steady there own r rules x same_row None (Parked true) p2 f ∙ g.rested ∙ sym (ap (λ (y : Station). record y { stands = Some Main; waits = Some want }) (is_now ∙ g.was))))
       where
         hand : taken_at (place_at w t) l ≡ taken_at p2 l
-        hand = free_of (place_at w t) l (singles w steady t) (ap (λ (y : Station). y.hand) (is_now ∙ g.was))
+        hand = free_of (place_at w t) l (of_single l (place_at w t) own) (ap (λ (y : Station). y.hand) (is_now ∙ g.was))
             ∙ sym (free_of p2 l (of_single l p2 f.of) (ap (λ (y : Station). y.hand) (there_is w t l steady there own r rules x same_row None (Parked true) p2 f ∙ g.rested)))
 
     pub rests_or_turns : Goes w (put (state_after_park w t l (2 * l) check want) t (next_place (place_at w t) (Parked (holds check (word_at w l))))) l (acts t (x.deeds None (Parked (holds check (word_at w l)))))
@@ -137,7 +137,7 @@ module _ (w : State) (t l : ℕ) (steady : IsSteady w) (there : t < length w.pla
             rests_there (Parked false) (next_place (place_at w t) (Parked false)) (inside_of Main) (is_now ∙ g.was) refl g.turns (there_is w t l steady there own r rules x same_row None (Parked false) (next_place (place_at w t) (Parked false)) f ∙ g.turned) f
 
   -- with all who wait in its hand
-  module _ (asleep : (u : ℕ) → calls (place_at w u) l ≡ true → IsSleeper w t l steady there own r rules x same_row u) (hears : Hears) (many : TakesOne w l → ⊥) (line : 2 * l < length w.queues) (g : TakesAll x hears)
+  module _ (asleep : (u : ℕ) → SleepsIfCalls w t l steady there own r rules x same_row u) (hears : Hears) (many : TakesOne w l → ⊥) (line : 2 * l < length w.queues) (g : TakesAll x hears)
       (followed : (any none_left : Bool) → hears r now t None (Took any none_left) → Followed (Took any none_left) (next_place (place_at w t) (Took any none_left))) where
     abbrev any : Bool
     any = not (length (queue_at w (2 * l)) == 0)
@@ -146,7 +146,7 @@ module _ (w : State) (t l : ℕ) (steady : IsSteady w) (there : t < length w.pla
     then_at = next_place (place_at w t) (Took any true)
 
     bare : carried_at (place_at w t) l ≡ None
-    bare = nothing_at (place_at w t) l (singles w steady t) (λ y. y.carries) refl (ap (λ (y : Station). y.carries) (is_now ∙ g.was))
+    bare = nothing_at (place_at w t) l (of_single l (place_at w t) own) (λ y. y.carries) refl (ap (λ (y : Station). y.carries) (is_now ∙ g.was))
 
     nobody : HasTakenNobody (lock_state w l) t
     nobody = in_no_hand w steady t l (λ h. let e : ◌≡◌ {A = Option Bool} None (Some false) = sym bare ∙ h in cc)
@@ -167,7 +167,7 @@ module _ (w : State) (t l : ℕ) (steady : IsSteady w) (there : t < length w.pla
     pub takes_all : Goes w (put (state_after_take w t (2 * l) whom.All) t then_at) l (acts t (x.deeds None (Took any true)))
     takes_all = subst (λ ds. Goes w (put (state_after_take w t (2 * l) whom.All) t then_at) l (acts t ds)) (sym (g.deeds any true))
         (all_goes w t l steady own there then_at follows.of follows.fits many (ap (λ (y : Station). y.stands) (is_now ∙ g.was)) (ap (λ (y : Station). y.hand) (is_now ∙ g.was)) (ap (λ (y : Station). y.carries) (is_now ∙ g.was)) r rules
-        (free_of (place_at w t) l (singles w steady t) (ap (λ (y : Station). y.hand) (is_now ∙ g.was))) (free_of then_at l (of_single l then_at follows.of) (ap (λ (y : Station). y.hand) goes_then))
+        (free_of (place_at w t) l (of_single l (place_at w t) own) (ap (λ (y : Station). y.hand) (is_now ∙ g.was))) (free_of then_at l (of_single l then_at follows.of) (ap (λ (y : Station). y.hand) goes_then))
         (ap (λ (y : Station). y.inside) goes_then ∙ sym (ap (λ (y : Station). y.inside) (is_now ∙ g.was))) (ap (λ (y : Station). y.stands) goes_then) (ap (λ (y : Station). y.hand) goes_then)
         line sleeps (λ b h. some_in b (queue_at w (2 * l)) (sym (ap (λ (y : Station). y.carries) goes_then) ∙ h)) (λ u h. ap (λ (y : Station). y.carries) goes_then ∙ all_in (queue_at w (2 * l)) u h)
         (needed_by w t l steady there own r rules x same_row None (Took any true) then_at follows (Case (OfOnce TakeAll) ∷ []) (g.deeds any true))

@@ -12,7 +12,7 @@ use Rattle.abstract_locks.specs.Onces.{OnceCase, Start, Finish, Fail, Rest, Take
 use Rattle.abstract_locks.specs.Locks.{LockState, LockCase, Pending, Rules, Sort, Mutex, Normal, Recursive, Semaphore, Once, OfOnce, once_after, putting, readers, CondvarCase, Look, Show, Hide}
 use Rattle.abstract_locks.specs.Locks as locks
 use Rattle.abstract_locks.specs.Picks.{queued_of}
-use Rattle.abstract_locks.specs.Sites.{Site, IsSite, Deed, Main, Begin, End, In, Out, Mark, Clear, FindNobody, MarkOwned, Bring, MarkBrought, Case, has_readers, is_empty, is_full, after_deed, Needed}
+use Rattle.abstract_locks.specs.Sites.{Site, IsSite, Deed, Main, Begin, End, In, Out, Mark, Clear, FindNobody, MarkOwned, Bring, MarkBrought, Send, LeaveLine, Case, has_readers, is_empty, is_full, after_deed, Needed}
 use Rattle.abstract_locks.specs.Codes.{bit, packed, code, word_by, parked_in, aside_in, fills, HasLimit, IsHandOff, shown_code}
 use Rattle.abstract_locks.proofs.CodeLaws.{words_tell_true}
 use Rattle.abstract_locks.proofs.Limits.{limit_kept}
@@ -47,6 +47,8 @@ others_same_by r (FindNobody m) s t u h ne = put_other s.doing t _ u ne
 others_same_by r MarkOwned s t u h ne = put_other s.doing t _ u ne
 others_same_by r (Bring taken moved) s t u h ne = put_other s.doing t _ u ne
 others_same_by r MarkBrought s t u h ne = put_other s.doing t _ u ne
+others_same_by r (Send all) s t u h ne = refl
+others_same_by r LeaveLine s t u h ne = refl
 others_same_by r (Case case) s t u h ne = put_other s.doing t _ u ne
 
 pub others_same : (r : Rules) (ds : List Deed) (s : Site) (t u : ℕ) → AreSingle ds → u ≢ t → (after_acts r (acts t ds) s).doing u ≡ s.doing u

@@ -72,7 +72,7 @@ WakesOwn hand (act.Requeue from to how) c = ⊥
 WakesOwn hand (act.HandOver lock op) c = ⊥
 WakesOwn hand a c = IsCalm c
 
-module _ (w v : State) (t l : ℕ) (c : Option LockCase) (h : Happens w v t l (event_by l c)) where
+module _ (w v : State) (t l : ℕ) (c : Option LockCase) (h : Happens w v t (event_by l c)) where
   pub no_hand_off : (d : Option LockCase) → IsCalm d → IsNoHandOff w v t l c h d
   no_hand_off None still = tt
   no_hand_off (Some (HandOff x successor)) still = absurd still
@@ -185,7 +185,7 @@ module _ (w : State) (t : ℕ) (p2 : Place) where
 
 -- so it is taken there by the one in whose hand it is
 pub taken_by_hand : (w : State) (p : Place) (t l : ℕ) → FitsItsLock w p → hand_at p l ≡ hand t false → is_taken_by t (taken_at p l) ≡ true
-taken_by_hand w (Condvar k at) t l calls h = absurd calls
+taken_by_hand w (Condvar k at) t l calls h = absurd calls.begun
 taken_by_hand w (Once k at) t l calls h = either (k == l) h
   where
     either : (b : Bool) → (if b then station (Once k at) else nowhere).hand ≡ hand t false → is_taken_by t (taken_from (once_profile at).hand (once_profile at).wants b) ≡ true
@@ -205,7 +205,7 @@ taken_by_hand w (RwLock k a c) t l calls h = either (k == l) h
 -- who was handed the lock goes on as it was
 handed_goes : (w : State) (p : Place) (t l : ℕ) → FitsItsLock w p → hand_at p l ≡ hand t true → (r : ℕ → Rights) → call_state (next_place p (Woken note.HandOff)) r ≡ call_state p r
 handed_goes w Idle t l fits h r = refl
-handed_goes w (Condvar k at) t l fits h r = absurd fits
+handed_goes w (Condvar k at) t l fits h r = absurd fits.begun
 handed_goes w (Once k at) t l fits h r = either (k == l) h
   where
     either : (b : Bool) → (if b then station (Once k at) else nowhere).hand ≡ hand t true → call_state (next_place (Once k at) (Woken note.HandOff)) r ≡ call_state (Once k at) r

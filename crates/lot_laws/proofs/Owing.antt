@@ -24,7 +24,6 @@ use Rattle.lot_calls.specs.Calls.{lock_in}
 use Rattle.lot_steps.specs.Steps.{act_of, next_place, first_place, is_idle, looking, late_key, lock_of, line_owed, profile, next_act}
 use Rattle.lot_machine.specs.Machine.{State, place_at, word_at, state_after_go, go_reply, go_outcome, is_free_under, is_open_to, can_begin, state_after_begin, can_turn, turn_outcome, kind_at, put, state_after_look, look_outcome, state_after_late_on, state_after_turn, is_possible, after, step_outcome}
 use Rattle.lot_laws.proofs.Befallen.{others_keep_it}
-use Rattle.lot_laws.specs.Refinement.{call_on}
 use Rattle.abstract_locks.specs.Locks.{Rights}
 use Rattle.lot_laws.specs.Owing.{Owes, IsInside, SeesWaiters, OwesSince, OnlyLooks, LooksFirst, LetsOthersIn, line_let_in, sort_at, tells_by}
 use Rattle.lot_machine.specs.Fits.{IsShaped}
@@ -32,6 +31,7 @@ use Rattle.abstract_locks.specs.Sites.{Line}
 use Rattle.lot_laws.specs.SitesOf.{AreCounted, IsSteady, key_of}
 use Rattle.lot_machine.proofs.Shape.{both}
 use Rattle.lot_laws.proofs.TurnsKept.{idle_is, after_steady}
+use Rattle.lot_laws.proofs.SingleCalls.{call_none}
 use Rattle.lot_laws.proofs.Glue.{IsLock, next_of, calls_none, singles, of_lock_of, of_own}
 use Rattle.lot_laws.proofs.Looking.{looking_steady, calls_same}
 use Rattle.lot_laws.proofs.CallEvents.{rights as rights_at}
@@ -60,7 +60,7 @@ SeesBy w t l m o v c =
 
 -- a thread that is in no call lets nobody in
 idle_shut : (w : State) (t l : ℕ) → lock_of (place_at w t) ≡ None → LetsOthersIn w t l → ⊥
-idle_shut w t l none h = by_call (subst (LetsBy w t l) (ap (λ o. call_on o (profile (place_at w t)) (rights_at w t)) none) h)
+idle_shut w t l none h = by_call (subst (LetsBy w t l) (call_none (place_at w t) none (rights_at w t)) h)
   where
     by_call : LetsBy w t l no_call → ⊥
     by_call (inl releases) = releases

@@ -22,6 +22,7 @@ use Rattle.lot_laws.specs.SitesOf.{IsSteady, FitsItsLock, key_of, stood_in, rule
 use Rattle.lot_laws.specs.Owing.{Owes, IsInside, LetsOthersIn, IsDowngrade, sort_at}
 use Rattle.lot_laws.specs.Promises.{CallsOneLock, GoesToWake, WakesAside}
 use Rattle.lot_laws.proofs.Counts.{none_first}
+use Rattle.lot_laws.proofs.SingleCalls.{call_here, call_none}
 use Rattle.lot_laws.proofs.Glue.{same, differ, taken_out, calls_none, inside_is, IsSingle, single_station, single_doing, single_taken, single_owes, singles}
 use Rattle.lot_laws.proofs.MutexTable.{queued_times}
 use Rattle.lot_laws.proofs.StandsMoved.{mutex_rules}
@@ -109,7 +110,7 @@ module _ (w : State) (t : ℕ) (steady : IsSteady w) where
     where
       by_place : (p : Place) → place_at w t ≡ p → lock_of p ≡ Some l → RowPromises (sort_at w l) l (profile p) (act_of p)
       by_place Idle is own = absurd cc
-      by_place (Condvar k at) is own = absurd (subst (FitsItsLock w) is (steady.stands.calls t))
+      by_place (Condvar k at) is own = absurd (subst (FitsItsLock w) is (steady.stands.calls t)).begun
       by_place (Once k at) is own =
           let here : k ≡ l = cc in
           let admitted : (rules_in w k).sort ≡ locks.Once = subst (FitsItsLock w) is (steady.stands.calls t) in
@@ -131,7 +132,7 @@ module _ (w : State) (t : ℕ) (steady : IsSteady w) where
     where
       by_place : (p : Place) → place_at w t ≡ p → lock_of p ≡ Some l → ⊥
       by_place Idle is own = cc
-      by_place (Condvar k at) is own = subst (FitsItsLock w) is (steady.stands.calls t)
+      by_place (Condvar k at) is own = (subst (FitsItsLock w) is (steady.stands.calls t)).begun
       by_place (Once k at) is own =
           let here : k ≡ l = cc in
           let sort : sort_at w k ≡ locks.Once = subst (FitsItsLock w) is (steady.stands.calls t) in
@@ -153,8 +154,8 @@ module _ (w : State) (t : ℕ) (steady : IsSteady w) where
   calls_one_lock = by_lock (lock_of (place_at w t)) refl
     where
       by_lock : (o : Option ℕ) → lock_of (place_at w t) ≡ o → CallsOneLock (call_at w t).purpose
-      by_lock None e = subst (λ (c : CallState). CallsOneLock c.purpose) (sym (ap (λ o. call_on o (profile (place_at w t)) (rights w t)) e)) tt
-      by_lock (Some l) e = subst (λ (c : CallState). CallsOneLock c.purpose) (sym (ap (λ o. call_on o (profile (place_at w t)) (rights w t)) e)) (row_calls_one l e)
+      by_lock None e = subst (λ (c : CallState). CallsOneLock c.purpose) (sym (call_none (place_at w t) e (rights w t))) tt
+      by_lock (Some l) e = subst (λ (c : CallState). CallsOneLock c.purpose) (sym (call_here (place_at w t) l (singles w steady t) e (rights w t))) (row_calls_one l e)
 
   -- ---------------------------------------------------------------- where it stands
 
@@ -247,7 +248,7 @@ module _ (w : State) (t : ℕ) (steady : IsSteady w) where
   module _ (l : ℕ) (own : lock_of (place_at w t) ≡ Some l) where
     -- the call is told by the row
     pub call_own : call_at w t ≡ call_on (Some l) (profile (place_at w t)) (rights w t)
-    call_own = ap (λ o. call_on o (profile (place_at w t)) (rights w t)) own
+    call_own = call_here (place_at w t) l (singles w steady t) own (rights w t)
 
     pub inside_own : (m : Line) → (profile (place_at w t)).doing.inside ≡ Some m ↔ IsInside w t l m
     inside_own m = (

@@ -128,7 +128,7 @@ owes_next w t l steady own = by_place (place_at w t) refl own
         let here : k ≡ l = cc in
         let admitted : (rules_in w k).sort ≡ locks.Once = subst (FitsItsLock w) is (steady.stands.calls t) in
         subst (λ j. OwesAt w t (sort_at w j) j (Once k at)) here (subst (λ s. OwesAt w t s k (Once k at)) (sym admitted) (once_owes_next w t k at))
-    by_place (Condvar k at) is own = absurd (subst (FitsItsLock w) is (steady.stands.calls t))
+    by_place (Condvar k at) is own = absurd (subst (FitsItsLock w) is (steady.stands.calls t)).begun
     by_place (Mutex k at) is own =
         let here : k ≡ l = cc in
         let admitted : FitsItsLock w (Mutex k at) = rw is at (steady.stands.calls t) in

@@ -40,14 +40,15 @@ use Rattle.lot_acts.specs.declared.acts.Whom.{Whom}
 use Rattle.lot_acts.specs.declared.acts.Whom as whom
 use Rattle.lot_acts.specs.Acts.{takes_effect, outcome_of, holds}
 use Rattle.lot_mutex.specs.MutexSteps.{mutex_act, mutex_first, mutex_next}
-use Rattle.lot_steps.specs.Steps.{act_of, lock_of, next_place, next_act, mutex_goes, mutex_does, late_key, first_place, looking, key_in, profile, rwlock_does, rwlock_goes, once_does, once_goes, condvar_goes, condvar_does}
+use Rattle.lot_steps.specs.Steps.{act_of, beside_of, lock_of, profile_beside, next_place, next_act, mutex_goes, mutex_does, late_key, first_place, looking, key_in, profile, rwlock_does, rwlock_goes, once_does, once_goes, condvar_goes, condvar_does}
 use Rattle.lot_base.specs.declared.ops.Op.{Op}
 use Rattle.lot_machine.specs.Machine.{state_after_hand_over_by, State, state_after_take, place_at, queue_at, section_at, can_do, can_go, is_free_under, word_at, state_with_sections, queues_without_first, state_after_taking, state_after_wake, state_after_act, state_after_go, state_after_late_on}
 use Rattle.lot_machine.specs.Fits.{IsShaped, PlaceFits}
 use Rattle.abstract_locks.specs.Sites.{Main, Line, Second}
 use Rattle.lot_laws.specs.Stations.{station, station_at, Station}
 use Rattle.lot_laws.specs.SitesOf.{IsSteady, stood_in, key_of}
-use Rattle.lot_laws.specs.Refinement.{lock_state, locks_of, call_state, sleeps, runs_closure, keys_entered, call_on}
+use Rattle.lot_laws.specs.Refinement.{lock_state, locks_of, call_state, sleeps, runs_closure, keys_entered, call_on_both}
+use Rattle.lot_laws.proofs.SingleCalls.{call_none}
 use Rattle.lot_laws.proofs.Glue.{IsSingle, calls_none, singles, single_late}
 use Rattle.lot_laws.proofs.LineActs.{IsOfLine, IsLineAct, line_act, holds_line, key_there, late_line, calls_there}
 use Rattle.lot_laws.proofs.GoneKept.{none_is}
@@ -104,18 +105,19 @@ module _ (w : State) where
 
 -- who can do something is in a call, and whoever is in a call has something to do
 called_of : (w : State) (p : Place) (r : ℕ → Rights) → can_do w (act_of p) ≡ true → (call_state p r).purpose ≢ None
-called_of w p r can = by_lock (lock_of p) refl
+called_of w p r can = by_lock (beside_of p) (lock_of p) refl
   where
-    by_lock : (o : Option ℕ) → lock_of p ≡ o → (call_on o (profile p) r).purpose ≢ None
-    by_lock (Some l) e = λ h. cc
-    by_lock None e = absurd (let f : can_do w Rest ≡ true = ap (λ q. can_do w (act_of q)) (sym (calls_none p e)) ∙ can in cc)
+    by_lock : (m o : Option ℕ) → lock_of p ≡ o → (call_on_both m o (profile p) (profile_beside p) r).purpose ≢ None
+    by_lock None (Some l) e = λ h. cc
+    by_lock (Some m) (Some l) e = λ h. cc
+    by_lock m None e = absurd (let f : can_do w Rest ≡ true = ap (λ q. can_do w (act_of q)) (sym (calls_none p e)) ∙ can in cc)
 
 acting_of : (w : State) (t : ℕ) → IsSteady w → (call_state (place_at w t) (rights w t)).purpose ≢ None → is_acting (act_of (place_at w t)) ≡ true
-acting_of w t steady called = by_lock (lock_of (place_at w t)) refl called
+acting_of w t steady called = by_lock (lock_of (place_at w t)) refl
   where
-    by_lock : (o : Option ℕ) → lock_of (place_at w t) ≡ o → (call_on o (profile (place_at w t)) (rights w t)).purpose ≢ None → is_acting (act_of (place_at w t)) ≡ true
-    by_lock (Some l) e called = (row_promises w t steady l e).acts
-    by_lock None e called = absurd (called refl)
+    by_lock : (o : Option ℕ) → lock_of (place_at w t) ≡ o → is_acting (act_of (place_at w t)) ≡ true
+    by_lock (Some l) e = (row_promises w t steady l e).acts
+    by_lock None e = absurd (called (ap (λ (c : CallState). c.purpose) (call_none (place_at w t) e (rights w t))))
 
 pub may_go : (w : State) (t : ℕ) → can_go w t ≡ true → MayGo (locks_of w) t
 may_go w t can = let is = can_is w (act_of (place_at w t)) can in

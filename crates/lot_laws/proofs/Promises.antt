@@ -9,7 +9,7 @@ use Rattle.lot_calls.specs.declared.kinds.Kind as kinds
 use Rattle.lot_calls.specs.declared.calls.Step.{Step}
 use Rattle.lot_steps.specs.declared.places.Place.{Place}
 use Rattle.lot_steps.specs.declared.places.Place.TheVariants.{Idle, Mutex, RwLock, Once, Condvar}
-use Rattle.lot_steps.specs.Steps.{act_of, is_lock, lock_of, profile, retries_on}
+use Rattle.lot_steps.specs.Steps.{act_of, calls, is_lock, lock_of, profile, retries_on}
 use Rattle.lot_machine.specs.Machine.{State, opening, place_at, after, kind_at, filled_at}
 use Rattle.lot_machine.specs.Fits.{IsShaped}
 use Rattle.lot_laws.specs.Stations.{Station, station_at, doing_on}
@@ -29,6 +29,7 @@ use Rattle.lot_laws.proofs.TurnsKept.{after_steady}
 use Rattle.lot_laws.proofs.SitesPromise.{not_empty}
 use Rattle.lot_laws.proofs.RowPromises.{IsDebtorIn, HasClaimed, HasDebt, WasHanded, RowLooksAfter}
 use Rattle.lot_laws.proofs.PlacePromises.{row_promises, station_own, doing_own, owed_own, owes_own, calls_one_lock, doing_calls, station_calls, stands_waiting, waiting_stands, call_own, inside_own, owing_is}
+use Rattle.lot_laws.proofs.SingleCalls.{call_none, single_call}
 use Rattle.lot_laws.proofs.Glue.{same, calls_none, single_retries, singles, single_taker, IsSingle}
 use Rattle.lot_machine.proofs.Opening.{idle_at, none_at, empty_at, nobody_owns, opening_shares}
 use Rattle.std.proofs.lemmas.Bool.{cases_lt, eqb-true}
@@ -108,11 +109,12 @@ module _ (w : State) (steady : IsSteady w) where
   known t = by_lock (lock_of (place_at w t)) refl
     where
       by_lock : (o : Option ℕ) → lock_of (place_at w t) ≡ o → KnowsRights (sort_at w) (call_at w t).purpose
-      by_lock None e = subst (λ (c : CallState). KnowsRights (sort_at w) c.purpose) (sym (ap (λ o. call_on o (profile (place_at w t)) (λ k. rights_of (lock_state w k) t)) e)) tt
+      by_lock None e = subst (λ (c : CallState). KnowsRights (sort_at w) c.purpose) (sym (call_none (place_at w t) e (λ k. rights_of (lock_state w k) t))) tt
       by_lock (Some l) e = subst (λ (c : CallState). KnowsRights (sort_at w) c.purpose) (sym (call_own w t steady l e)) ((row_promises w t steady l e).known (sort_at w) refl)
 
   retrying : (t l : ℕ) → (retries_on (place_at w t) l ≡ true) ↔ ((call_at w t).retries ≡ Some l)
-  retrying t l = subst (λ b. (b ≡ true) ↔ ((call_at w t).retries ≡ Some l)) (sym (single_retries (place_at w t) l (singles w steady t))) (retry_shown (lock_of (place_at w t)) (profile (place_at w t)) (λ k. rights_of (lock_state w k) t) l)
+  retrying t l = subst (λ b. (b ≡ true) ↔ ((call_at w t).retries ≡ Some l)) (sym (single_retries (place_at w t) l (singles w steady t)))
+      (subst (λ (c : CallState). ((profile (place_at w t)).retries && calls (place_at w t) l ≡ true) ↔ (c.retries ≡ Some l)) (sym (single_call (place_at w t) (singles w steady t) (λ k. rights_of (lock_state w k) t))) (retry_shown (lock_of (place_at w t)) (profile (place_at w t)) (λ k. rights_of (lock_state w k) t) l))
 
   second_line : (t l : ℕ) → Owes w t l Second → has_readers (sort_at w l) ≡ true
   second_line t l h =
@@ -134,7 +136,7 @@ module _ (w : State) (steady : IsSteady w) where
         (λ claims. unowned ((steady.sites.site l).held t (Has Exclusive) (ap (λ (d : Doing). d.claims) (doing_own (place_at w t) l own) ∙ claims)))
 
     debt_of : (n : Line) → HasDebt (sort_at w l) l (profile (place_at w t)) n → IsDebtorOf w t l n
-    debt_of Main (inl wakes) = inl (owed_own (place_at w t) l own (singles w steady t) ∙ wakes.0, subst (λ (c : CallState). WakesWaiters (sort_at w l) c.purpose c.gave_up l) (sym (call_own w t steady l own)) wakes.1)
+    debt_of Main (inl wakes) = inl (owed_own (place_at w t) l own (singles w steady t) ∙ wakes.0, subst (λ (c : CallState). WakesWaiters (sort_at w l) c.purpose c.gave_up c.recalls l) (sym (call_own w t steady l own)) wakes.1)
     debt_of Main (inr again) = inr (ap (λ (c : CallState). c.retries) (call_own w t steady l own) ∙ ap (λ b. if b then Some l else None) again.0, ap (λ (c : CallState). counts_some (sort_at w l) (want_of c.purpose)) (call_own w t steady l own) ∙ again.1)
     debt_of Second owes = owed_own (place_at w t) l own (singles w steady t) ∙ owes
 

@@ -102,7 +102,7 @@ IsDebtorIn sort d Second = d.wakes ≡ Some Second
 
 abbrev pub HasDebt : Sort → ℕ → Profile → Line → Type 0
 HasDebt sort l row Main =
-    ((row.owes ≡ Some Main) × WakesWaiters sort (Some (row.purpose l)) (if row.gave_up then Some l else None) l)
+    ((row.owes ≡ Some Main) × WakesWaiters sort (Some (row.purpose l)) (if row.gave_up then Some l else None) row.recalls l)
     ⊎ ((row.retries ≡ true) × (counts_some sort (want_of (Some (row.purpose l))) ≡ true))
 HasDebt sort l row Second = row.owes ≡ Some Second
 

@@ -12,11 +12,11 @@ use Rattle.lot_acts.specs.declared.acts.Next.{Next}
 use Rattle.lot_acts.specs.declared.acts.Next.TheVariants as next
 use Rattle.lot_acts.specs.declared.acts.Reply.{Reply}
 use Rattle.lot_acts.specs.declared.acts.Reply.TheVariants.{TakenBy, MovedTo, HandedBy, Woken}
-use Rattle.abstract_locks.specs.Locks.{LockCase, LockState, OfOnce, Rules, after_case, once_after, rights_of}
+use Rattle.abstract_locks.specs.Locks.{LockCase, LockState, OfOnce, Rules, left_behind, after_case, once_after, rights_of}
 use Rattle.abstract_locks.proofs.OnceLaws.{phase_by}
 use Rattle.abstract_locks.specs.Onces.{Phase, OnceCase, New, InProgress, Start, Finish, Fail, Rest, TakeAll}
 use Rattle.abstract_locks.specs.Purposes.{Purpose, Enters, Releases, Converts, Bumps, CallsOnce, Awaits, Waits, Notifies}
-use Rattle.abstract_locks.specs.Runs.{AtLock, Begins, CallState, Closes, Does, Event, GoesOn, IsStep, LocksState, MayDo, MayHappen, MayTurn, Nothing, calls_after, is_closure, locks_after, rules_at, state_told, Moves, joined_by, left_behind}
+use Rattle.abstract_locks.specs.Runs.{AtLock, Begins, CallState, Closes, Does, Event, GoesOn, IsStep, LocksState, MayDo, MayHappen, MayTurn, Nothing, calls_after, is_closure, locks_after, rules_at, state_told, Moves, joined_by}
 use Rattle.lot_calls.specs.declared.calls.OnceCall.{OnceCall}
 use Rattle.lot_mutex.specs.declared.places.MutexPlace.{MutexPlace}
 use Rattle.lot_mutex.specs.MutexSteps.{mutex_next}

@@ -84,7 +84,7 @@ module _ (w : State) (t l : ℕ) (a : Admission) (c : RwLockCallPlace) where
   pub record GoesOnBy (y : Act) : Type 0 where
     pub whom : Option ℕ
     pub tells : CallTells (rules_in w l) a (lock_by w l (rules_in w l)) t l c whom (reply_to w t y)
-    pub happened : Happens w (then_by y) t l (event_by l (case_by whom y))
+    pub happened : Happens w (then_by y) t (event_by l (case_by whom y))
     pub others : OthersFollow w (then_by y) t (event_by l (case_by whom y))
 
 module _ (w : State) (t l : ℕ) (a : Admission) (c : RwLockCallPlace) (steady : IsSteady w) (shape : IsShaped w) (there : t < length w.places) (lt : l < length w.locks) (is : place_at w t ≡ RwLock l a c) where
@@ -102,7 +102,7 @@ module _ (w : State) (t l : ℕ) (a : Admission) (c : RwLockCallPlace) (steady :
   tells whom y = CallTells (rules_in w l) a (lock_by w l (rules_in w l)) t l c whom (reply_to w t y)
 
   -- nobody else claims anything
-  happens_by : (y : Act) (whom : Option ℕ) → goes whom y → tells whom y → Happens w (then_by w t l a c y) t l (event_by l (case_by w t l a c whom y))
+  happens_by : (y : Act) (whom : Option ℕ) → goes whom y → tells whom y → Happens w (then_by w t l a c y) t (event_by l (case_by w t l a c whom y))
   happens_by y whom went told = happens w (then_by w t l a c y) t l (call_profile a c).carries (deeds_by w t l a c whom y) [] steady (subst (Goes w (then_by w t l a c y) l) (sym (append-nil (acts t (deeds_by w t l a c whom y)))) went) tt told.one
       (λ none. in_no_hand w steady t l (λ h. none (sym carries ∙ h)))
 
@@ -111,7 +111,7 @@ module _ (w : State) (t l : ℕ) (a : Admission) (c : RwLockCallPlace) (steady :
     abbrev own_case : Option LockCase
     own_case = case_by w t l a c from.whom y
 
-    own_happened : Happens w (then_by w t l a c y) t l (event_by l own_case)
+    own_happened : Happens w (then_by w t l a c y) t (event_by l own_case)
     own_happened = happens_by y from.whom from.goes from.tells
 
     -- those in its hand are woken, and nobody else's call changes
@@ -146,7 +146,7 @@ module _ (w : State) (t l : ℕ) (a : Admission) (c : RwLockCallPlace) (steady :
       abbrev case : Option LockCase
       case = case_by w t l a c heir (act.HandOver l op)
 
-      happened : Happens w behind t l (event_by l case)
+      happened : Happens w behind t (event_by l case)
       happened = happens_by (act.HandOver l op) heir (subst (λ q. Goes w (put (state_after_hand_over_by (takes_effect op (word_at w l)) w t (RwLock l a c) l op) t (next_place q (Value (word_at w l)))) l (acts t (deeds_by w t l a c heir (act.HandOver l op)))) is
           (hands_fails w t l a c steady shape there lt is k is_k (counted t l a c k is is_k) op e fails)) told_so
 

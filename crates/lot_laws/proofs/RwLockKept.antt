@@ -61,7 +61,7 @@ use Rattle.lot_once.specs.declared.places.OncePlace.{OncePlace}
 use Rattle.lot_steps.specs.Steps.{next_place, profile, calls, rwlock_goes}
 use Rattle.abstract_locks.specs.Locks.{Rules, Sort, Normal as NormalSort, Recursive, Semaphore, count, keep_from, one_if_some, standing}
 use Rattle.abstract_locks.specs.Locks as locks
-use Rattle.abstract_locks.specs.Sites.{Site, IsSite, Deed, Line, Main, Second, Begin, Case, Clear, End, In, Mark, Out, has_readers, wakened}
+use Rattle.abstract_locks.specs.Sites.{Site, IsSite, Deed, Line, Main, Second, Begin, Case, Clear, End, In, Mark, Out, has_readers, wakened, LeaveLine}
 use Rattle.abstract_locks.specs.Codes.{HasLimit, bit, code, code_of, packed, writers}
 use Rattle.abstract_locks.specs.Deeds.{case_of}
 use Rattle.abstract_locks.specs.Deeds as laws
@@ -73,14 +73,19 @@ use Rattle.lot_laws.specs.Refinement.{taken_at}
 use Rattle.lot_laws.specs.MutexDeeds.{acts}
 use Rattle.lot_laws.specs.Stations.{station, doing_on}
 use Rattle.lot_laws.specs.SitesOf.{IsSteady, Goes, FitsItsLock, TakesOne, HasRoom, carried_at, hand_at, is_mutex, rules_in, key_of}
-use Rattle.lot_laws.proofs.Glue.{free_of, IsOf, next_of, parts_at, put_here, doing_here, station_here, of_single}
+use Rattle.lot_condvar.specs.declared.places.CondvarPlace.{CondvarPlace}
+use Rattle.lot_steps.specs.Steps.{is_lock}
+use Rattle.lot_acts.specs.Profiles.{Hand}
+use Rattle.lot_condvar.specs.CondvarSteps.{mutex_beside}
+use Rattle.lot_laws.proofs.Glue.{not_beside, condvar_unheld, free_of, IsOf, next_of, parts_at, put_here, doing_here, station_here, of_single}
 use Rattle.lot_laws.proofs.HandsMoved.{accepts, tells_handed, told_hears}
-use Rattle.lot_laws.proofs.WakesKept.{IsWoken}
+use Rattle.lot_laws.proofs.WakesAt.{IsWokenAt}
+use Rattle.lot_laws.proofs.WakesKept.{woken_of}
 use Rattle.lot_laws.proofs.StandsMoved.{mutex_rules}
 use Rattle.lot_laws.proofs.ActsKept.{lock_by, place_goes}
 use Rattle.lot_laws.proofs.OneStep.{steps_by}
 use Rattle.lot_laws.proofs.OtherCalls.{IsCalm, WakesOwn}
-use Rattle.lot_laws.proofs.MovesKept.{entered_hears, left_hears, parked_hears, removed_hears, picked_hears, picked_deeds, IsFollowed, IsSleeper, stays, goes_in, goes_out, parks_or_turns, leaves_line, takes_whom_aside, takes_chosen, wakes_one, nowhere_here}
+use Rattle.lot_laws.proofs.MovesKept.{entered_hears, left_hears, parked_hears, removed_hears, picked_hears, picked_deeds, IsFollowed, SleepsIfCalls, IsSleeper, stays, goes_in, goes_out, parks_or_turns, leaves_line, takes_whom_aside, takes_chosen, wakes_one, nowhere_here}
 
 -- ---------------------------------------------------------------- rows
 
@@ -215,12 +220,14 @@ word_few r s readers site room limit = by_sort r.sort refl readers
 abbrev pub AreCalm : List Deed → Type 0
 AreCalm [] = Unit {0}
 AreCalm (Case case ∷ ds) = IsCalm (Some case)
+AreCalm (LeaveLine ∷ ds) = IsCalm (Some locks.Late)
 AreCalm (Out ∷ ds) = ⊥
 AreCalm (d ∷ ds) = AreCalm ds
 
 pub calm_case : (hand : Option Bool) (ds : List Deed) → AreCalm ds → IsCalm (case_of hand ds)
 calm_case hand [] h = tt
 calm_case hand (Case case ∷ ds) h = h
+calm_case hand (LeaveLine ∷ ds) h = h
 calm_case hand (Out ∷ ds) h = absurd h
 calm_case hand (d ∷ ds) h = calm_case hand ds h
 
@@ -324,15 +331,29 @@ module _ (w : State) (t l : ℕ) (a : Admission) (c : RwLockCallPlace) (steady :
       let some : has_readers (rules_in w l).sort ≡ true = admits.0 in
       let both : true ≡ false = sym some ∙ ap (λ j. has_readers (rules_in w j).sort) (sym same_lock) ∙ ap has_readers of_once in cc
 
-  asleep : (u : ℕ) → calls (place_at w u) l ≡ true → IsSleeper w t l steady there own (rules_in w l) refl (call_move a c) same_row u
-  asleep u h = by_place (place_at w u) refl h
+  pub of_no_condvar : (u k : ℕ) (at : CondvarPlace) → place_at w u ≡ Condvar k at → k ≡ l → ⊥
+  of_no_condvar u k at e same_lock =
+      let of_condvar : FitsItsLock w (Condvar k at) = subst (FitsItsLock w) e (steady.stands.calls u) in
+      let some : has_readers (rules_in w l).sort ≡ true = admits.0 in
+      let both : true ≡ false = sym some ∙ ap (λ j. has_readers (rules_in w j).sort) (sym same_lock) ∙ ap has_readers of_condvar.sort in cc
+
+  many : TakesOne w l → ⊥
+  many one = let none : has_readers (rules_in w l).sort ≡ false = ap has_readers one in let some : has_readers (rules_in w l).sort ≡ true = admits.0 in cc
+
+  -- and no condition variable is beside it
+  pub beside_no_call : (u k : ℕ) (at : CondvarPlace) → place_at w u ≡ Condvar k at → is_lock l (mutex_beside at) ≡ false
+  beside_no_call u k at e = not_beside w (Condvar k at) l (subst (FitsItsLock w) e (steady.stands.calls u)) many
+
+  asleep : (u : ℕ) → SleepsIfCalls w t l steady there own (rules_in w l) refl (call_move a c) same_row u
+  asleep u = record { apart = not_beside w (place_at w u) l (steady.stands.calls u) many; sleeper = λ h. by_place (place_at w u) refl h }
     where
       by_place : (q : Place) → place_at w u ≡ q → calls q l ≡ true → IsSleeper w t l steady there own (rules_in w l) refl (call_move a c) same_row u
       by_place Idle e g = absurd cc
-      by_place (Condvar k at) e g = absurd (subst (FitsItsLock w) e (steady.stands.calls u))
+      by_place (Condvar k at) e g = absurd (of_no_condvar u k at e (eqb-true k l g))
       by_place (Once k at) e g = absurd (of_no_once u k at e (eqb-true k l g))
       by_place (Mutex k m) e g = absurd (of_no_mutex u k m e (eqb-true k l g))
       by_place (RwLock k b q) e g = record {
+        single = rw e tt;
         move = call_move b q;
         row = ap profile e;
         waits = fair_sleepers_move b q fits_u.1;
@@ -359,9 +380,6 @@ module _ (w : State) (t l : ℕ) (a : Admission) (c : RwLockCallPlace) (steady :
 
   calm_by : (ds : List Deed) {x : List Deed} → x ≡ ds → AreCalm ds → IsCalm (case_of ((call_profile a c).carries) x)
   calm_by ds e h = subst (λ (x : List Deed). IsCalm (case_of ((call_profile a c).carries) x)) (sym e) (calm_case ((call_profile a c).carries) ds h)
-
-  many : TakesOne w l → ⊥
-  many one = let none : has_readers (rules_in w l).sort ≡ false = ap has_readers one in let some : has_readers (rules_in w l).sort ≡ true = admits.0 in cc
 
   section_there : (m : Line) → key_of l m < length w.sections
   section_there Main = main_key_there w l shape lt
@@ -446,20 +464,20 @@ module _ (w : State) (t l : ℕ) (a : Admission) (c : RwLockCallPlace) (steady :
       parks_calm false = calm_by [] g.turns tt
 
   -- whom it has handed the lock goes on where its wake leads it
-  hears_so : (u : ℕ) → hand_at (place_at w u) l ≡ hand t true → IsWoken w t l true HandOff (place_at w u)
+  hears_so : (u : ℕ) → hand_at (place_at w u) l ≡ hand t true → IsWokenAt w t l HandOff (place_at w u)
   hears_so u held = by_place (place_at w u) refl held
     where
-      by_place : (q : Place) → place_at w u ≡ q → hand_at q l ≡ hand t true → IsWoken w t l true HandOff q
+      by_place : (q : Place) → place_at w u ≡ q → hand_at q l ≡ hand t true → IsWokenAt w t l HandOff q
       by_place Idle e h = absurd cc
-      by_place (Condvar k at) e h = absurd (subst (FitsItsLock w) e (steady.stands.calls u))
+      by_place (Condvar k at) e h = absurd (let none : hand_at (Condvar k at) l ≡ None = condvar_unheld k at l (beside_no_call u k at e) in let both : ◌≡◌ {A = Option Hand} None (hand t true) = sym none ∙ h in cc)
       by_place (Once k at) e h = either (k == l) refl h
         where
-          either : (b : Bool) → (k == l) ≡ b → (if b then station (Once k at) else nowhere).hand ≡ hand t true → IsWoken w t l true HandOff (Once k at)
+          either : (b : Bool) → (k == l) ≡ b → (if b then station (Once k at) else nowhere).hand ≡ hand t true → IsWokenAt w t l HandOff (Once k at)
           either true same_lock g = absurd (of_no_once u k at e (eqb-true k l same_lock))
           either false same_lock g = absurd cc
       by_place (Mutex k m) e h = either (k == l) refl h
         where
-          either : (b : Bool) → (k == l) ≡ b → (if b then station (Mutex k m) else nowhere).hand ≡ hand t true → IsWoken w t l true HandOff (Mutex k m)
+          either : (b : Bool) → (k == l) ≡ b → (if b then station (Mutex k m) else nowhere).hand ≡ hand t true → IsWokenAt w t l HandOff (Mutex k m)
           either true same_lock g = absurd (of_no_mutex u k m e (eqb-true k l same_lock))
           either false same_lock g = absurd cc
       by_place (RwLock k b q) e h = either (k == l) refl h
@@ -473,21 +491,17 @@ module _ (w : State) (t l : ℕ) (a : Admission) (c : RwLockCallPlace) (steady :
           then_row : profile then_u ≡ row_of (next_rows b (call_next b q (Woken HandOff)))
           then_row = goes_row k b (call_next b q (Woken HandOff))
 
-          at_lock : k ≡ l → (call_profile b q).hand ≡ hand t true → IsWoken w t l true HandOff (RwLock k b q)
-          at_lock same_lock g = let z = (handed_move b q fits_u.1).was_given t g in record {
-            lets = record {
+          at_lock : k ≡ l → (call_profile b q).hand ≡ hand t true → IsWokenAt w t l HandOff (RwLock k b q)
+          at_lock same_lock g = let z = (handed_move b q fits_u.1).was_given t g in woken_of w t l HandOff (RwLock k b q) true same_lock (record {
               taken = free_of then_u l (of_single l then_u (next_of l (RwLock k b q) (Woken HandOff) same_lock)) (ap (λ (y : Station). y.hand) (ap station_by then_row ∙ z.goes)) ∙ sym (ap (keep_from t) untaken);
               doing = doing_here l then_u (next_of l (RwLock k b q) (Woken HandOff) same_lock) ∙ ap (λ (y : Profile). y.doing) then_row ∙ z.doing ∙ sym (ap (λ o. wakened t o (doing_on (RwLock k b q) l)) untaken ∙ doing_here l (RwLock k b q) same_lock);
-            };
-            was = z.was;
-            free = ap station_by then_row ∙ z.goes;
-            fits = fits_next k b (call_next b q (Woken HandOff)) fits_u.0 (fair_calls_stand b q (Woken HandOff) fits_u.1 (call_told_other b q (Woken HandOff) tt));
-          }
+            }) z.was (ap station_by then_row ∙ z.goes)
+            (fits_next k b (call_next b q (Woken HandOff)) fits_u.0 (fair_calls_stand b q (Woken HandOff) fits_u.1 (call_told_other b q (Woken HandOff) tt)))
             where
               untaken : taken_at (RwLock k b q) l ≡ None
               untaken = ap (λ o. taken_from o (call_profile b q).wants (calls (RwLock k b q) l)) g
 
-          either : (d : Bool) → (k == l) ≡ d → (if d then station (RwLock k b q) else nowhere).hand ≡ hand t true → IsWoken w t l true HandOff (RwLock k b q)
+          either : (d : Bool) → (k == l) ≡ d → (if d then station (RwLock k b q) else nowhere).hand ≡ hand t true → IsWokenAt w t l HandOff (RwLock k b q)
           either true same_lock g = at_lock (eqb-true k l same_lock) g
           either false same_lock g = absurd cc
 
@@ -504,13 +518,13 @@ module _ (w : State) (t l : ℕ) (a : Admission) (c : RwLockCallPlace) (steady :
       hears_done = told_hears w t l steady there own (rules_in w l) refl admits.0 (call_move a c) same_row (call_hears a c) wakes g
 
       -- they were handed it
-      told_so : (u : ℕ) (b : Bool) → hand_at (place_at w u) l ≡ hand t b → IsWoken w t l b HandOff (place_at w u)
+      told_so : (u : ℕ) (b : Bool) → hand_at (place_at w u) l ≡ hand t b → IsWokenAt w t l HandOff (place_at w u)
       told_so u b held = by_handed b held (sym (carried_now ∙ ap (λ (y : Station). y.carries) g.was) ∙ steady.stands.hands.taken t u l b held) g.any
         where
           carried_now : carried_at (place_at w t) l ≡ (call_profile a c).carries
           carried_now = ap (λ (y : Station). y.carries) (station_here l (place_at w t) own) ∙ ap (λ (y : Profile). y.carries) same_row
 
-          by_handed : (b : Bool) → hand_at (place_at w u) l ≡ hand t b → in_hand g.any true ≡ Some b → (any : Bool) → IsWoken w t l b HandOff (place_at w u)
+          by_handed : (b : Bool) → hand_at (place_at w u) l ≡ hand t b → in_hand g.any true ≡ Some b → (any : Bool) → IsWokenAt w t l HandOff (place_at w u)
           by_handed true h f any = hears_so u h
           by_handed false h f any = absurd (never g.any f)
             where

@@ -44,7 +44,8 @@ use Rattle.lot_laws.proofs.AtPlaces.{in_no_hand}
 use Rattle.lot_laws.proofs.Glue.{free_of, singles}
 use Rattle.lot_laws.proofs.HandsCounted.{has_in_hand}
 use Rattle.lot_laws.proofs.HandsMoved.{thread_of}
-use Rattle.lot_laws.proofs.RwLockGoes.{GoesOnBy, by_effect, carries, deeds_by, effect_whom, gives_counted, rwlock_goes_on, then_by}
+use Rattle.lot_laws.proofs.CallEvents.{led_here}
+use Rattle.lot_laws.proofs.RwLockGoes.{case_by, GoesOnBy, by_effect, carries, deeds_by, effect_whom, gives_counted, rwlock_goes_on, then_by}
 use Rattle.lot_laws.proofs.RwLockKept.{at_now, own, stands}
 
 -- ---------------------------------------------------------------- acts that change no owner
@@ -156,7 +157,7 @@ module _ (w : State) (t l : ℕ) (a : Admission) (c : RwLockCallPlace) (shape : 
 
   -- where its deeds lead, it has come to
   led : (y : Act) (g : GoesOnBy w t l a c y) → lock_state (then_by w t l a c y) l ≡ (after_all r (deeds_by w t l a c g.whom y) here t).lock
-  led y g = g.happened.led ∙ sym (deeds_lead r t l (call_profile a c).carries (deeds_by w t l a c g.whom y) here (λ none. in_no_hand w steady t l (λ h. none (sym (carries w t l a c steady shape there lt is) ∙ h))) g.tells.one)
+  led y g = led_here w (then_by w t l a c y) t l (case_by w t l a c g.whom y) g.happened ∙ sym (deeds_lead r t l (call_profile a c).carries (deeds_by w t l a c g.whom y) here (λ none. in_no_hand w steady t l (λ h. none (sym (carries w t l a c steady shape there lt is) ∙ h))) g.tells.one)
 
   -- an operation of its own on the word
   by_word : (y : Act) (op : Op) → (call_act l a c ≡ act.Word l op) ⊎ (call_act l a c ≡ act.HandOver l op) → reply_to w t y ≡ Value (word_at w l)

@@ -100,7 +100,7 @@ no_once w (Once k at) l rules fits = λ here.
     let both : locks.Once ≡ locks.Mutex = sym fits ∙ ap (λ n. (rules_in w n).sort) here ∙ ap (λ (r : locks.Rules). r.sort) rules in cc
 no_once w (Mutex k at) l rules fits = tt
 no_once w (RwLock k a c) l rules fits = tt
-no_once w (Condvar k at) l rules fits = absurd fits
+no_once w (Condvar k at) l rules fits = absurd fits.begun
 no_once w Idle l rules fits = tt
 
 pub first_out : (t : ℕ) (q : List Waiter) → Lines.times t q ≡ 0 → locks.is_thread t (Lines.first_of q) ≡ 0

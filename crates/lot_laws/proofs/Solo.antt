@@ -65,7 +65,7 @@ use Rattle.lot_laws.proofs.MutexEvents.{free_word, owned_word}
 use Rattle.lot_laws.proofs.MutexCalls.{decides}
 use Rattle.lot_laws.proofs.LockSteps.{purpose_is}
 use Rattle.lot_laws.proofs.Counts.{first_times}
-use Rattle.lot_laws.proofs.Glue.{IsSingle, nothing_at, IsTakenAt, put_here, station_here, own_stance, successor_one, same, mutex_calls, singles, differ}
+use Rattle.lot_laws.proofs.Glue.{IsSingle, nothing_at, IsTakenAt, put_here, station_here, own_stance, successor_one, same, mutex_calls, singles, differ, aparts, of_carries}
 use Rattle.lot_laws.proofs.SitesPromise.{parked_at}
 use Rattle.lot_mutex.specs.declared.places.MutexPlace.{MutexPlace}
 use Rattle.lot_acts.specs.declared.acts.Whom as whoms
@@ -331,7 +331,7 @@ module _ (t l : ℕ) where
         taken_place (place_at taken_then x.thread) t l (mutex_calls taken_then l (place_at taken_then x.thread) (goes.stands.calls x.thread) (ap rules_of (goes.follows.kinds l) ∙ mutex_rules (kind_at w l) (let c : FitsItsLock w (Mutex l taking) = rw f.place at (f.steady.stands.calls t) in c))) (rw (← same_one, hand) (same t))
 
     heir_first : (o : Owners) → owners_handed_over (after w (go_of t)) t l o ≡ with_exclusive o (Some x.thread)
-    heir_first = successor_one (after w (go_of t)) t l x.thread false (singles (after w (go_of t)) steady_then) steady_then.stands.hands (single_at (after w (go_of t)) t l (HandOff bumps (hand_off.Store true (length rest == 0))) steady_then here.place) (rw here.place refl) (subst (λ (z : State). hand_at (place_at z x.thread) l ≡ hand t false) (sym led) held) (alone_at (after w (go_of t)) t l (HandOff bumps (hand_off.Store true (length rest == 0))) steady_then here.place) (unshared_at (after w (go_of t)) t l (HandOff bumps (hand_off.Store true (length rest == 0))) steady_then here.place)
+    heir_first = successor_one (after w (go_of t)) t l x.thread false (aparts (after w (go_of t)) steady_then) steady_then.stands.hands (single_at (after w (go_of t)) t l (HandOff bumps (hand_off.Store true (length rest == 0))) steady_then here.place) (of_carries l (place_at (after w (go_of t)) t) (rw here.place refl)) (subst (λ (z : State). hand_at (place_at z x.thread) l ≡ hand t false) (sym led) held) (alone_at (after w (go_of t)) t l (HandOff bumps (hand_off.Store true (length rest == 0))) steady_then here.place) (unshared_at (after w (go_of t)) t l (HandOff bumps (hand_off.Store true (length rest == 0))) steady_then here.place)
       where
         led : after w (go_of t) ≡ taken_then
         led = act_led w t l (Mutex l taking) v o s (x ∷ rest) f refl
@@ -394,7 +394,7 @@ module _ (t l : ℕ) where
   hand_off_rests bumps (hand_off.Store false none_left) v o s q w f way = fair_rests 8 bumps None q w (omega arith) (store_leads bumps none_left None q v o s w f (λ u e. absurd cc))
   hand_off_rests bumps (hand_off.Store true none_left) v o s q w f way =
       let one : (u : ℕ) × (hand_at (place_at w u) l ≡ hand t false) = f.steady.stands.hands.carried t l false (ap (λ (x : Station). x.carries) (own_stance l (place_at w t) (HandOff bumps (hand_off.Store true none_left)) f.place)) in
-      fair_rests 8 bumps (Some one.0) q w (omega arith) (store_leads bumps none_left (Some one.0) q v o s w f (λ u e o2. successor_one w t l one.0 false (singles w f.steady) f.steady.stands.hands (single_at w t l (HandOff bumps (hand_off.Store true none_left)) f.steady f.place) (rw f.place refl) one.1 (alone_at w t l (HandOff bumps (hand_off.Store true none_left)) f.steady f.place) (unshared_at w t l (HandOff bumps (hand_off.Store true none_left)) f.steady f.place) o2 ∙ ap (λ (z : Option ℕ). with_exclusive o2 z) e))
+      fair_rests 8 bumps (Some one.0) q w (omega arith) (store_leads bumps none_left (Some one.0) q v o s w f (λ u e o2. successor_one w t l one.0 false (aparts w f.steady) f.steady.stands.hands (single_at w t l (HandOff bumps (hand_off.Store true none_left)) f.steady f.place) (of_carries l (place_at w t) (rw f.place refl)) one.1 (alone_at w t l (HandOff bumps (hand_off.Store true none_left)) f.steady f.place) (unshared_at w t l (HandOff bumps (hand_off.Store true none_left)) f.steady f.place) o2 ∙ ap (λ (z : Option ℕ). with_exclusive o2 z) e))
   hand_off_rests bumps (hand_off.Leave any) v o s q w f way = fair_rests 7 bumps o q w (omega arith) (told_leads bumps any q v o s w f)
 
 -- ---------------------------------------------------------------- the laws
@@ -418,7 +418,7 @@ never_aside w l (RwLock k a c) fits sort e = either (k == l) refl
     either true h = let own : (rules_in w k).sort ≡ locks.Once = subst (λ n. (rules_in w n).sort ≡ locks.Once) (sym (eqb-true k l h)) sort in
         let other : true ≡ false = sym (fits.0.0) ∙ ap has_readers own in cc
     either false h = let none : None ≡ Some Second = sym (ap (λ b. (if b then station (RwLock k a c) else nowhere).inside) h) ∙ e in cc
-never_aside w l (Condvar k at) fits sort e = absurd fits
+never_aside w l (Condvar k at) fits sort e = absurd fits.begun
 never_aside w l (Once k at) fits sort e = either (k == l) refl
   where
     either : (b : Bool) → (k == l) ≡ b → ⊥
@@ -432,7 +432,7 @@ module _ (w : State) (t : ℕ) (shape : IsShaped w) (steady : IsSteady w) (count
   -- outside its section it finds it free
   free : (l : ℕ) (p : Place) → place_at w t ≡ p → lock_of p ≡ Some l → (station p).inside ≡ None → (x : Option ℕ) → section_at w (2 * l) ≡ x → x ≡ None
   free l p is own outside None e = refl
-  free l p is own outside (Some u) e = let mine : u ≡ t = way l u Main (ap lock_of is ∙ own) tt e in
+  free l p is own outside (Some u) e = let mine : u ≡ t = way l u Main (inl (ap lock_of is ∙ own)) tt e in
       let within : (station_at (place_at w t) l).inside ≡ Some Main = (steady.stands.sections t l Main).1 (e ∙ ap Some mine) in
       let out : (station_at (place_at w t) l).inside ≡ None = nothing_at (place_at w t) l (singles w steady t) (λ y. y.inside) refl (ap (λ y. (station y).inside) is ∙ outside) in absurd cc
 
@@ -458,7 +458,7 @@ module _ (w : State) (t : ℕ) (shape : IsShaped w) (steady : IsSteady w) (count
   }
 
   steps_alone : (l : ℕ) (a : Admission) (c : RwLockCallPlace) → has_readers (rules_in w l).sort ≡ true → place_at w t ≡ RwLock l a c → l < length w.locks → StepsAlone w t l (RwLock l a c) (word_at w l) (λ m. queue_at w (key_of l m))
-  steps_alone l a c readers is lt = steps_alone_at l (RwLock l a c) (λ m u e. way l u m (ap lock_of is) (line m) e) is lt
+  steps_alone l a c readers is lt = steps_alone_at l (RwLock l a c) (λ m u e. way l u m (inl (ap lock_of is)) (line m) e) is lt
     where
       line : (m : Line) → HasLine (rules_of (kind_at w l)).sort m
       line Main = tt
@@ -472,7 +472,7 @@ module _ (w : State) (t : ℕ) (shape : IsShaped w) (steady : IsSteady w) (count
       sort = subst (FitsItsLock w) is (steady.stands.calls t)
 
       free_way : (m : Line) (u : ℕ) → section_at w (key_of l m) ≡ Some u → u ≡ t
-      free_way Main u e = way l u Main (ap lock_of is) tt e
+      free_way Main u e = way l u Main (inl (ap lock_of is)) tt e
       free_way Second u e = absurd (never_aside w l (place_at w u) (steady.stands.calls u) sort ((steady.stands.sections u l Second).1 e))
 
   mutex_place_rests : (l : ℕ) (c : MutexPlace) → place_at w t ≡ Mutex l c → PlaceFits (length w.locks) (Mutex l c) → Mutex l c ≢ Idle → act_of (Mutex l c) ≢ act.TheVariants.Sleep → Leads 12 w t (λ v x. Rests x)
@@ -642,7 +642,7 @@ module _ (w : State) (t : ℕ) (shape : IsShaped w) (steady : IsSteady w) (count
 
   pub ends_alone : (c : Call) → place_at w t ≡ first_place (kind_at w (lock_in c)) c → HasItsWay w t
       → EndsAlone w t (purpose_at (locks_of w) c) (solo 64 w t outcome.TheVariants.NotNow).outcome (solo 64 w t outcome.TheVariants.NotNow).state
-  ends_alone (call.TheVariants.Condvar l c) is way = absurd (subst (FitsItsLock w) is (steady.stands.calls t))
+  ends_alone (call.TheVariants.Condvar l c) is way = absurd (subst (FitsItsLock w) is (steady.stands.calls t)).begun
   ends_alone (call.TheVariants.Once l c) is way = once_ends w t shape steady counted running (stands_there w.places t (first_busy (kind_at w l) (call.TheVariants.Once l c) (place_at w t) is)) way l c is
   ends_alone (call.TheVariants.Mutex l c) is way = mutex_ends w t shape steady counted running (stands_there w.places t (first_busy (kind_at w l) (call.TheVariants.Mutex l c) (place_at w t) is)) way l c is 64 outcome.TheVariants.NotNow (omega arith)
   ends_alone (call.TheVariants.RwLock l c) is way = rwlock_ends w t shape steady counted running (stands_there w.places t (first_busy (kind_at w l) (call.TheVariants.RwLock l c) (place_at w t) is)) way l c is

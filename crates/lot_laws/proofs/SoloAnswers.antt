@@ -1,13 +1,14 @@
 -- What the answer says of a call whose thread has stepped alone to its end.
-use Rattle.std.proofs.Common.{Some, None, ℕ, zero, suc, Bool, Option, if◌then◌else◌, ◌≡◌, ◌≢◌, inl, inr, List, [], ◌∷◌, length, replicate, refl, sym, ◌∙◌, ap, subst}
+use Rattle.std.proofs.Common.{Some, None, ℕ, zero, suc, Bool, true, false, Option, if◌then◌else◌, ◌≡◌, ◌≢◌, inl, inr, List, [], ◌∷◌, length, replicate, refl, sym, ◌∙◌, ap, subst}
 use Rattle.lot_calls.specs.declared.outcomes.Answer.{Answer}
 use Rattle.lot_calls.specs.declared.outcomes.Outcome.{Outcome}
 use Rattle.lot_calls.specs.declared.outcomes.Outcome.TheVariants as outcome
-use Rattle.abstract_locks.specs.Locks.{Rights, Enter, Pend, Settle, Leave, Park, Aside, HandOff, Late, OfOnce}
+use Rattle.abstract_locks.specs.Locks.{Rights, Enter, Pend, Settle, Leave, Park, Aside, Wake, HandOff, Late, OfOnce}
 use Rattle.abstract_locks.specs.Onces.{OnceCase, Start, Finish, Fail, Rest, TakeAll}
 use Rattle.abstract_locks.specs.Locks as locks
 use Rattle.abstract_locks.specs.Purposes.{Purpose, Recall, WasMoved}
-use Rattle.abstract_locks.specs.Runs.{LocksState, CallState, Event, Nothing, AtLock, IsStep, IsRun, GoesOn, AnswerHolds, going_on, woken, Moves, gives_up}
+use Rattle.abstract_locks.specs.Condvars.{moved_of}
+use Rattle.abstract_locks.specs.Runs.{LocksState, CallState, Event, Nothing, AtLock, IsStep, IsRun, GoesOn, AnswerHolds, behind_wake, going_on, is_among, is_taken_by, woken, Moves, gives_up}
 use Rattle.lot_machine.specs.Machine.{go_of}
 use Rattle.lot_laws.specs.Solo.{GoesOnUntil, last_told}
 use Rattle.lot_laws.proofs.Glue.{same}
@@ -71,6 +72,45 @@ former_stays (AtLock l (HandOff x h)) c = refl
 former_stays (AtLock l (OfOnce case)) c = once_keeps_former case l c
 former_stays (AtLock l case) c = refl
 
+-- and so does a wake of its own
+woken_purpose : (w : LocksState) (t : ℕ) (e : Event) (c : CallState) → (woken w t e t c).purpose ≡ c.purpose
+woken_purpose w t (AtLock l Wake) c = either (is_taken_by t ((w.locks l).taken t))
+  where
+    either : (b : Bool) → (if b then record c { retries = Some l; recalls = behind_wake c.recalls } else c).purpose ≡ c.purpose
+    either true = refl
+    either false = refl
+woken_purpose w t (AtLock l (HandOff x h)) c = either (is_taken_by t ((w.locks l).taken t))
+  where
+    either : (b : Bool) → (if b then record c { retries = None; recalls = behind_wake c.recalls } else c).purpose ≡ c.purpose
+    either true = refl
+    either false = refl
+woken_purpose w t (Moves l m all owned number) c = either (is_among t (moved_of all (w.locks l).queue))
+  where
+    either : (b : Bool) → (if b then record c { recalls = WasMoved } else c).purpose ≡ c.purpose
+    either true = refl
+    either false = refl
+woken_purpose w t Nothing c = refl
+woken_purpose w t (AtLock l case) c = refl
+
+woken_former : (w : LocksState) (t : ℕ) (e : Event) (c : CallState) → (woken w t e t c).former ≡ c.former
+woken_former w t (AtLock l Wake) c = either (is_taken_by t ((w.locks l).taken t))
+  where
+    either : (b : Bool) → (if b then record c { retries = Some l; recalls = behind_wake c.recalls } else c).former ≡ c.former
+    either true = refl
+    either false = refl
+woken_former w t (AtLock l (HandOff x h)) c = either (is_taken_by t ((w.locks l).taken t))
+  where
+    either : (b : Bool) → (if b then record c { retries = None; recalls = behind_wake c.recalls } else c).former ≡ c.former
+    either true = refl
+    either false = refl
+woken_former w t (Moves l m all owned number) c = either (is_among t (moved_of all (w.locks l).queue))
+  where
+    either : (b : Bool) → (if b then record c { recalls = WasMoved } else c).former ≡ c.former
+    either true = refl
+    either false = refl
+woken_former w t Nothing c = refl
+woken_former w t (AtLock l case) c = refl
+
 -- a call for this has ended with this answer, of a thread that owned so much as it began
 pub record HasAnswered (t : ℕ) (purpose : Option Purpose) (former : ℕ → Rights) (a : Answer) (v : LocksState) : Type 0 where
   pub call : CallState
@@ -85,8 +125,14 @@ gone w v t o possible step = elim step.1 [
   | inr refused ↦ absurd (possible refused.1.0)
 ]
 
-call_then : (w v : LocksState) (t : ℕ) (g : GoesOn w t outcome.Step v) → v.calls t ≡ going_on g.event (w.calls t)
-call_then w v t g = g.calls t ∙ ap (λ (b : Bool). if b then going_on g.event (w.calls t) else woken w t g.event t (w.calls t)) (same t)
+call_then : (w v : LocksState) (t : ℕ) (g : GoesOn w t outcome.Step v) → v.calls t ≡ woken w t g.event t (going_on g.event (w.calls t))
+call_then w v t g = g.calls t ∙ ap (λ (b : Bool). if b then woken w t g.event t (going_on g.event (w.calls t)) else woken w t g.event t (w.calls t)) (same t)
+
+purpose_then : (w v : LocksState) (t : ℕ) → GoesOn w t outcome.Step v → (v.calls t).purpose ≡ (w.calls t).purpose
+purpose_then w v t g = ap (λ (x : CallState). x.purpose) (call_then w v t g) ∙ woken_purpose w t g.event (going_on g.event (w.calls t)) ∙ purpose_stays g.event (w.calls t)
+
+former_then : (w v : LocksState) (t : ℕ) → GoesOn w t outcome.Step v → (v.calls t).former ≡ (w.calls t).former
+former_then w v t g = ap (λ (x : CallState). x.former) (call_then w v t g) ∙ woken_former w t g.event (going_on g.event (w.calls t)) ∙ former_stays g.event (w.calls t)
 
 pub answered : (told : List Outcome) (w v : LocksState) (t : ℕ) (a : Answer) → IsRun w (replicate (length told) (go_of t)) told v → GoesOnUntil told → last_told told ≡ outcome.End a → HasAnswered t (w.calls t).purpose (w.calls t).former a v
 answered [] w v t a run goes is = absurd cc
@@ -103,10 +149,9 @@ answered (o ∷ []) w v t a run goes is =
     }
 answered (o ∷ o2 ∷ os) w v t a run goes is =
     let g : GoesOn w t outcome.Step run.0 = subst (λ x. GoesOn w t x run.0) goes.0 (gone w run.0 t o (λ e. let f : outcome.NotNow ≡ outcome.Step = sym e ∙ goes.0 in cc) run.1) in
-    let c = call_then w run.0 t g in
     let ih = answered (o2 ∷ os) run.0 v t a run.2 goes.1 is in
-    let p : (run.0.calls t).purpose ≡ (w.calls t).purpose = ap (λ (x : CallState). x.purpose) c ∙ purpose_stays g.event (w.calls t) in
-    let f : (run.0.calls t).former ≡ (w.calls t).former = ap (λ (x : CallState). x.former) c ∙ former_stays g.event (w.calls t) in
+    let p : (run.0.calls t).purpose ≡ (w.calls t).purpose = purpose_then w run.0 t g in
+    let f : (run.0.calls t).former ≡ (w.calls t).former = former_then w run.0 t g in
     record {
       call = ih.call;
       purpose_is = ih.purpose_is ∙ p;
@@ -119,4 +164,4 @@ pub former_kept : (n : ℕ) (w v : LocksState) (t : ℕ) → IsRun w (replicate 
 former_kept zero w v t run = ap (λ (x : LocksState). (x.calls t).former) run
 former_kept (suc n) w v t run =
     let g : GoesOn w t outcome.Step run.0 = gone w run.0 t outcome.Step (λ e. cc) run.1 in
-    former_kept n run.0 v t run.2 ∙ ap (λ (x : CallState). x.former) (call_then w run.0 t g) ∙ former_stays g.event (w.calls t)
+    former_kept n run.0 v t run.2 ∙ former_then w run.0 t g

@@ -3,6 +3,7 @@ use Rattle.std.proofs.Common.{ℕ, Bool, true, false, Option, Some, None, if◌t
 use Rattle.std.proofs.lemmas.Bool.{cases_eq, eqb-true}
 use Rattle.lot_base.specs.declared.wants.Waiter.{Waiter}
 use Rattle.lot_base.specs.Lines.{times, without}
+use Rattle.lot_calls.specs.Kinds.{is_plain_mutex}
 use Rattle.lot_steps.specs.declared.places.Place.{Place}
 use Rattle.lot_steps.specs.declared.places.Place.TheVariants.{Idle, Mutex, RwLock, Once, Condvar}
 use Rattle.abstract_locks.specs.Locks.{putting}
@@ -370,6 +371,6 @@ calls_of w l (Condvar k at) h m = absurd h
 pub calls_in : (w v : State) (p : Place) → ((k : ℕ) → kind_at v k ≡ kind_at w k) → FitsItsLock w p → FitsItsLock v p
 calls_in w v Idle e h = tt
 calls_in w v (Once l at) e h = ap (λ k. (rules_of k).sort) (e l) ∙ h
-calls_in w v (Condvar l at) e h = absurd h
+calls_in w v (Condvar l at) e h = record { sort = ap (λ k. (rules_of k).sort) (e l) ∙ h.sort; reached = h.reached; mutex = λ m is. ap is_plain_mutex (e m) ∙ h.mutex m is; begun = h.begun }
 calls_in w v (Mutex l at) e h = ap is_mutex (e l) ∙ h
 calls_in w v (RwLock l a c) e h = (subst (λ k. Admits (rules_of k) a) (sym (e l)) h.0, h.1)

@@ -30,13 +30,20 @@ pub record IsHeldAt (p : Place) (t : ℕ) : Type 0 where
   pub handed : Bool
   pub hand : hand_at p lock ≡ hand t handed
 
+-- at each other lock a thread has nobody more or less in hand, and is in no other hand
+abbrev pub SameHands : ℕ → Place → Place → Type 0
+SameHands l p p2 = (k : ℕ) → k ≢ l → (hand_at p2 k ≡ hand_at p k) × (carried_at p2 k ≡ carried_at p k)
+
+pub same_hands : (l : ℕ) (p p2 : Place) → AlikeBeside l p p2 → SameHands l p p2
+same_hands l p p2 beside k ne = let e = (beside k ne).station in (ap (λ (y : Station). y.hand) e, ap (λ (y : Station). y.carries) e)
+
 -- whoever is in a hand is so at some lock, and t has nobody in hand at another lock than this one
 pub record HoldsHere (w : State) (t l : ℕ) : Type 0 where
   pub held : (u : ℕ) → is_thread t (taker (place_at w u)) ≡ true → IsHeldAt (place_at w u) t
   pub taker : (u : ℕ) (b : Bool) → hand_at (place_at w u) l ≡ hand t b → is_thread t (taker (place_at w u)) ≡ true
   pub nobody : (k : ℕ) → k ≢ l → carried_at (place_at w t) k ≡ None
 
-module _ (w : State) (t l : ℕ) (steady : IsSteady w) (p2 : Place) (beside : AlikeBeside l (place_at w t) p2) (fits : FitsItsLock w p2) (holds : HoldsHere w t l) (reply : Reply) (after : Option Hand)
+module _ (w : State) (t l : ℕ) (steady : IsSteady w) (p2 : Place) (beside : SameHands l (place_at w t) p2) (fits : FitsItsLock w p2) (holds : HoldsHere w t l) (reply : Reply) (after : Option Hand)
     (all : (u : ℕ) (b : Bool) → hand_at (place_at w u) l ≡ hand t b → IsToldAt w t l b after reply (place_at w u)) where
   -- who is told
   abbrev pub has : ℕ → Bool
@@ -92,9 +99,9 @@ module _ (w : State) (t l : ℕ) (steady : IsSteady w) (p2 : Place) (beside : Al
       (λ h. refl)
 
   -- another lock sees nothing of it
-  pub alike : (k : ℕ) → k ≢ l → (u : ℕ) → AlikeAt k (place_at w u) (places_then u)
-  alike k ne u = elim (cases_eq u t) [
-    | inl e ↦ rw (e, put_here told t p2) ((beside k ne).taken, (beside k ne).doing)
+  pub alike : (k : ℕ) → k ≢ l → AlikeAt k (place_at w t) p2 → (u : ℕ) → AlikeAt k (place_at w u) (places_then u)
+  alike k ne own u = elim (cases_eq u t) [
+    | inl e ↦ rw (e, put_here told t p2) own
     | inr nu ↦ subst (λ (y : Place). AlikeAt k (place_at w u) y) (sym (put_other told t p2 u nu)) (by_told (λ q. AlikeAt k (place_at w u) q) u
         (λ held. let z = all u held.handed held.hand in ((z.alike k ne).taken, (z.alike k ne).doing))
         (λ h. (refl, refl)))
@@ -119,7 +126,7 @@ module _ (w : State) (t l : ℕ) (steady : IsSteady w) (p2 : Place) (beside : Al
       where
         at_key : (c : Bool) → (k == l) ≡ c → hand_at p2 k ≡ (if has t && c then after else hand_at (place_at w t) k)
         at_key true e = ap (hand_at p2) (eqb-true k l e) ∙ own ∙ sym ((λ i. if and-true (has t) i then after else hand_at (place_at w t) (eqb-true k l e i)))
-        at_key false e = ap (λ (y : Station). y.hand) (beside k (not_here k e)).station ∙ sym (ap (λ b. if b then after else hand_at (place_at w t) k) (and-false (has t)))
+        at_key false e = (beside k (not_here k e)).0 ∙ sym (ap (λ b. if b then after else hand_at (place_at w t) k) (and-false (has t)))
 
         at_told : HeldHere u → has u ≡ true → (c : Bool) → (k == l) ≡ c → hand_at (told u) k ≡ (if c then after else hand_at (place_at w u) k)
         at_told held h true e = ap (λ y. hand_at y k) (told_on u h) ∙ ap (λ j. hand_at (next_place (place_at w u) reply) j) (eqb-true k l e) ∙ ap (λ (y : Station). y.hand) (all u held.handed held.hand).goes
@@ -137,22 +144,16 @@ module _ (w : State) (t l : ℕ) (steady : IsSteady w) (p2 : Place) (beside : Al
     where
       either : (c : Bool) → (k == l) ≡ c → carried_at p2 k ≡ (if c then (station_at p2 l).carries else carried_at (place_at w t) k)
       either true e = ap (carried_at p2) (eqb-true k l e)
-      either false e = ap (λ (y : Station). y.carries) (beside k (not_here k e)).station
+      either false e = (beside k (not_here k e)).1
 
-  -- the parts that a hand is no part of
-  pub same_parts : {A : Type 0} (g : Station → A) → ((x : Station) (h : Option Hand) → g (record x { hand = h }) ≡ g x) → (u k : ℕ) → (u ≡ t → k ≡ l → ⊥) → g (station_at (places_then u) k) ≡ g (station_at (place_at w u) k)
-  same_parts g part u k ne = elim (cases_eq u t) [
-    | inl e ↦ rw (e, put_here told t p2) (ap g (beside k (ne e)).station)
-    | inr nu ↦ ap (λ y. g (station_at y k)) (put_other told t p2 u nu) ∙ part_told g part u k
-  ]
+  -- the parts that a hand is no part of, but for those of t
+  pub other_parts : {A : Type 0} (g : Station → A) → ((x : Station) (h : Option Hand) → g (record x { hand = h }) ≡ g x) → (u k : ℕ) → u ≢ t → g (station_at (places_then u) k) ≡ g (station_at (place_at w u) k)
+  other_parts g part u k ne = ap (λ y. g (station_at y k)) (put_other told t p2 u ne) ∙ part_told g part u k
 
-  pub all_parts : {A : Type 0} (g : Station → A) → ((x : Station) (h : Option Hand) → g (record x { hand = h }) ≡ g x) → g (station_at p2 l) ≡ g (station_at (place_at w t) l) → (u k : ℕ) → g (station_at (places_then u) k) ≡ g (station_at (place_at w u) k)
+  pub all_parts : {A : Type 0} (g : Station → A) → ((x : Station) (h : Option Hand) → g (record x { hand = h }) ≡ g x) → ((k : ℕ) → g (station_at p2 k) ≡ g (station_at (place_at w t) k)) → (u k : ℕ) → g (station_at (places_then u) k) ≡ g (station_at (place_at w u) k)
   all_parts g part e u k = elim (cases_eq u t) [
-    | inl f ↦ elim (cases_eq k l) [
-      | inl h ↦ rw (f, h, put_here told t p2) e
-      | inr ne ↦ same_parts g part u k (λ i h. ne h)
-    ]
-    | inr nu ↦ same_parts g part u k (λ i h. nu i)
+    | inl f ↦ rw (f, put_here told t p2) (e k)
+    | inr nu ↦ other_parts g part u k nu
   ]
 
   -- a state in which they stand so

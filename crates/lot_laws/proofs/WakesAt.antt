@@ -19,7 +19,7 @@ use Rattle.lot_laws.proofs.Glue.{Parts, parts_at, lock_in, seen_in, put_here, pu
 use Rattle.lot_laws.proofs.ActsAt.{word_by_lines}
 use Rattle.lot_laws.proofs.Following.{limited, follows_by, lock_by}
 use Rattle.lot_laws.proofs.OneStep.{AreOrdinary}
-use Rattle.lot_laws.proofs.ToldAt.{IsToldAt, HoldsHere, has, told, places_then, held_here, told_on, told_off, not_held, in_hand, carries, alike, calls_then, same_parts, all_parts, places_are}
+use Rattle.lot_laws.proofs.ToldAt.{IsToldAt, HoldsHere, SameHands, has, told, places_then, held_here, told_on, told_off, not_held, in_hand, carries, alike, calls_then, other_parts, all_parts, places_are}
 use Rattle.lot_laws.proofs.StandsKept.{AlikeBeside, left, lines_same, waits_same, hands_freed, calls_in}
 use Rattle.lot_laws.proofs.StandsMoved.{AreThere, stands_by}
 
@@ -64,7 +64,7 @@ pub record IsWokenAt (w : State) (t l : ℕ) (x : Note) (p : Place) : Type 0 whe
   pub alike : AlikeBeside l p (next_place p (Woken x))
   pub fits : FitsItsLock w (next_place p (Woken x))
 
-module _ (w : State) (t l : ℕ) (steady : IsSteady w) (there : t < length w.places) (p2 : Place) (beside : AlikeBeside l (place_at w t) p2) (fits : FitsItsLock w p2) (holds : HoldsHere w t l) (x : Note)
+module _ (w : State) (t l : ℕ) (steady : IsSteady w) (there : t < length w.places) (p2 : Place) (beside : SameHands l (place_at w t) p2) (fits : FitsItsLock w p2) (holds : HoldsHere w t l) (x : Note)
     (woken : (u : ℕ) (b : Bool) → hand_at (place_at w u) l ≡ hand t b → IsWokenAt w t l x (place_at w u)) where
   pub all_told : (u : ℕ) (b : Bool) → hand_at (place_at w u) l ≡ hand t b → IsToldAt w t l b None (Woken x) (place_at w u)
   all_told u b held = let k = woken u b held in record { goes = k.goes; alike = k.alike; fits = k.fits }
@@ -100,7 +100,7 @@ module _ (w : State) (t l : ℕ) (steady : IsSteady w) (there : t < length w.pla
         (λ u h. let held = held_here w t l steady p2 beside fits holds (Woken x) None all_told u h in (held.handed, held.hand)) (λ u b h. holds.taker u b h)
 
     -- how the threads stand, by the sections behind it
-    pub there_then : (after : ℕ → Option ℕ) → Sections (stations_of behind) after → is.stands ≡ was.stands → is.waits ≡ was.waits → AreThere (TakesOne w) (stations_of behind) after (queue_at w)
+    pub there_then : (after : ℕ → Option ℕ) → Sections (stations_of behind) after → ((k : ℕ) → (station_at p2 k).stands ≡ (station_at (place_at w t) k).stands) → ((k : ℕ) → (station_at p2 k).waits ≡ (station_at (place_at w t) k).waits) → AreThere (TakesOne w) (stations_of behind) after (queue_at w)
     there_then after sections stood waited = record {
       sections = sections;
       lines = lines_same (stations_of (place_at w)) (stations_of behind) (queue_at w) (queue_at w) steady.stands.lines (all_parts w t l steady p2 beside fits holds (Woken x) None all_told (λ y. y.stands) (λ y h. refl) stood) (λ key. refl);
@@ -108,13 +108,30 @@ module _ (w : State) (t l : ℕ) (steady : IsSteady w) (there : t < length w.pla
       hands = hands_then;
     }
 
+    -- nobody else comes into a section, or goes out of one
+    pub others_inside : (u k : ℕ) → u ≢ t → (station_at (behind u) k).inside ≡ (station_at (place_at w u) k).inside
+    others_inside = other_parts w t l steady p2 beside fits holds (Woken x) None all_told (λ y. y.inside) (λ y h. refl)
+
     -- out of a section of the lock
-    module _ (m : Line) (line : key_of l m < length w.sections) (within : was.inside ≡ Some m) (stood : is.stands ≡ was.stands) (waited : is.waits ≡ was.waits) (out : is.inside ≡ None) where
+    module _ (alike_there : AlikeBeside l (place_at w t) p2) (m : Line) (line : key_of l m < length w.sections) (within : was.inside ≡ Some m) (stood : is.stands ≡ was.stands) (waited : is.waits ≡ was.waits) (out : is.inside ≡ None) where
       abbrev pub v : State
       v = put (state_after_telling (state_with_sections w (One (key_of l m)) None) t (Woken x)) t p2
 
       places : place_at v ≡ behind
       places = places_are w t l steady p2 beside fits holds (Woken x) None all_told (state_with_sections w (One (key_of l m)) None) refl there
+
+      -- a part of the station of t
+      by_lock : {A : Type 0} (g : Station → A) → g is ≡ g was → (k : ℕ) → g (station_at p2 k) ≡ g (station_at (place_at w t) k)
+      by_lock g e k = elim (cases_eq k l) [
+        | inl f ↦ rw f e
+        | inr ne ↦ ap g (alike_there k ne).station
+      ]
+
+      inside_else : (u k : ℕ) → (u ≡ t → k ≡ l → ⊥) → (station_at (behind u) k).inside ≡ (station_at (place_at w u) k).inside
+      inside_else u k ne = elim (cases_eq u t) [
+        | inl e ↦ rw (e, put_here told_now t p2) (ap (λ (y : Station). y.inside) (alike_there k (ne e)).station)
+        | inr nu ↦ others_inside u k nu
+      ]
 
       pub wake_goes : (r : Rules) → rules_in w l ≡ r → taken_at p2 l ≡ keep_from t (taken_at (place_at w t) l) → (ds : List Deed) → AreLeaving ds → ActsNeeded r (acts t ds) (lock_by w l r) → doing_on p2 l ≡ (after_acts r (acts t ds) (lock_by w l r)).doing t → Goes w v l (acts t ds)
       wake_goes r rules own_taken ds leaving needed e = record {
@@ -123,17 +140,17 @@ module _ (w : State) (t l : ℕ) (steady : IsSteady w) (there : t < length w.pla
           others = λ k ne i. record (parts_at w k) { base = record { shared = get_or w.shares k (replicate (threads i) 0); filled = filled_at w k } };
           places = places;
           kinds = λ k. refl;
-          alike = alike w t l steady p2 beside fits holds (Woken x) None all_told;
+          alike = λ k ne. alike w t l steady p2 beside fits holds (Woken x) None all_told k ne ((alike_there k ne).taken, (alike_there k ne).doing);
           numbers = record { threads = threads; locks = refl; shares = refl };
           sharers = refl;
         }) r rules (acts t ds) (limited w l steady r rules (acts t ds) (λ h. leaving_ordinary (length w.places) t ds leaving) needed)
             (leaving_by r l (parts_at w l) (place_at w) behind t (ap (λ y. taken_at y l) (put_here told_now t p2) ∙ own_taken) lets ds leaving (ap (λ y. doing_on y l) (put_here told_now t p2) ∙ e))
-            needed (word_by_lines w t l steady there r rules p2 beside fits (queue_at w (2 * l)) (queue_at w (2 * l + 1)) behind);
+            needed (word_by_lines w t l steady there r rules p2 alike_there fits (queue_at w (2 * l)) (queue_at w (2 * l + 1)) behind);
         stands = stands_by w v behind places (λ k. refl)
             (there_then (section_at v)
-            (left (stations_of (place_at w)) (stations_of behind) (section_at w) (section_at v) steady.stands.sections t l m (same_parts w t l steady p2 beside fits holds (Woken x) None all_told (λ y. y.inside) (λ y h. refl)) (λ key ne. get_or-set_other w.sections (key_of l m) key None None ne)
+            (left (stations_of (place_at w)) (stations_of behind) (section_at w) (section_at v) steady.stands.sections t l m inside_else (λ key ne. get_or-set_other w.sections (key_of l m) key None None ne)
             within (ap (λ y. (station_at y l).inside) (put_here told_now t p2) ∙ out) (get_or-set_same w.sections (key_of l m) None None line))
-            stood waited)
+            (by_lock (λ y. y.stands) stood) (by_lock (λ y. y.waits) waited))
             (λ u. calls_in w v (behind u) (λ k. refl) (calls_then w t l steady p2 beside fits holds (Woken x) None all_told u));
       }
         where

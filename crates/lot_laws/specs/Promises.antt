@@ -17,7 +17,7 @@ use Rattle.abstract_locks.specs.Onces.{InProgress, IsRunning}
 use Rattle.abstract_locks.specs.Codes.{word_by, parked_in, aside_in}
 use Rattle.abstract_locks.specs.Runs.{AreLockStates}
 use Rattle.abstract_locks.specs.Sites.{Line, Main, Second, IsOpen, counts_some, has_readers}
-use Rattle.abstract_locks.specs.Purposes.{Purpose, Enters, Releases, Converts, Bumps, CallsOnce, Awaits, MayWait, Waits, Notifies}
+use Rattle.abstract_locks.specs.Purposes.{Purpose, Enters, Releases, Converts, Bumps, CallsOnce, Awaits, MayWait, Waits, Notifies, Recall, Saw, SawOwner, HasMoved}
 use Rattle.lot_laws.specs.Refinement.{RunsClosure, lock_state, locks_of, call_at}
 use Rattle.lot_laws.specs.Stations.{doing_on}
 use Rattle.lot_laws.specs.SitesOf.{rules_in, key_of}
@@ -58,18 +58,27 @@ abbrev pub GoesToWake : State → ℕ → ℕ → Line → Type 0
 GoesToWake w t l m =
     (act_of (place_at w t) ≡ Enter (One (key_of l m))) × (LetsOthersIn w t l ⊎ WakesAside (call_at w t).purpose l m)
 
+-- the mutex that a notification has seen
+abbrev pub mutex_seen : Recall → Option ℕ
+mutex_seen (Saw m) = Some m
+mutex_seen (SawOwner m owned) = Some m
+mutex_seen (HasMoved m number) = Some m
+mutex_seen recalls = None
+
 -- a call that wakes whom it takes of the main line: a release that hands nothing over, a conversion that lets others in, or a writer
--- beside readers that has given up; or a call that runs the closure of a `Once`; a wait, of its mutex, and a notification
-abbrev pub WakesWaiters : Sort → Option Purpose → Option ℕ → ℕ → Type 0
-WakesWaiters sort (Some (Releases k x fair)) gave_up l = (k ≡ l) × ((fair ≡ false) ⊎ (x ≡ Upgradable))
-WakesWaiters sort (Some (Converts k x y how)) gave_up l = (k ≡ l) × ((y ≢ Exclusive) ⊎ ((gave_up ≡ Some l) × (has_readers sort ≡ true)))
-WakesWaiters sort (Some (Enters k x how)) gave_up l = (k ≡ l) × (gave_up ≡ Some l) × (has_readers sort ≡ true)
-WakesWaiters sort (Some (Bumps k x)) gave_up l = (k ≡ l) × (x ≢ Exclusive)
-WakesWaiters sort (Some (CallsOnce k forced)) gave_up l = k ≡ l
-WakesWaiters sort (Some (Awaits k forced)) gave_up l = ⊥
-WakesWaiters sort (Some (Waits k m timed)) gave_up l = m ≡ l
-WakesWaiters sort (Some (Notifies k all)) gave_up l = Unit {0}
-WakesWaiters sort None gave_up l = ⊥
+-- beside readers that has given up; or a call that runs the closure of a `Once`; a wait, of its mutex, and a notification, of the
+-- mutex that it has seen
+abbrev pub WakesWaiters : Sort → Option Purpose → Option ℕ → Recall → ℕ → Type 0
+WakesWaiters sort (Some (Releases k x fair)) gave_up recalls l = (k ≡ l) × ((fair ≡ false) ⊎ (x ≡ Upgradable))
+WakesWaiters sort (Some (Converts k x y how)) gave_up recalls l =
+    (k ≡ l) × ((y ≢ Exclusive) ⊎ ((gave_up ≡ Some l) × (has_readers sort ≡ true)))
+WakesWaiters sort (Some (Enters k x how)) gave_up recalls l = (k ≡ l) × (gave_up ≡ Some l) × (has_readers sort ≡ true)
+WakesWaiters sort (Some (Bumps k x)) gave_up recalls l = (k ≡ l) × (x ≢ Exclusive)
+WakesWaiters sort (Some (CallsOnce k forced)) gave_up recalls l = k ≡ l
+WakesWaiters sort (Some (Awaits k forced)) gave_up recalls l = ⊥
+WakesWaiters sort (Some (Waits k m timed)) gave_up recalls l = m ≡ l
+WakesWaiters sort (Some (Notifies k all)) gave_up recalls l = mutex_seen recalls ≡ Some l
+WakesWaiters sort None gave_up recalls l = ⊥
 
 -- a call is for rights that its lock knows
 abbrev pub KnowsRights : (ℕ → Sort) → Option Purpose → Type 0
@@ -83,18 +92,19 @@ KnowsRights sort (Some (Waits l m timed)) = (sort l ≡ locks.Condvar) × (sort 
 KnowsRights sort (Some (Notifies l all)) = sort l ≡ locks.Condvar
 KnowsRights sort None = Unit {0}
 
--- what a call is to own in the end
+-- what a call is to own in the end; a wait, its mutex again
 abbrev pub want_of : Option Purpose → Option Want
 want_of (Some (Enters l x how)) = Some x
 want_of (Some (Converts l x y how)) = Some y
 want_of (Some (Bumps l x)) = Some x
+want_of (Some (Waits l m timed)) = Some Exclusive
 want_of purpose = None
 
 -- it owes a wake on the main line, and its call wakes whom it takes; or it was woken, is about to try again, and wants what passes the
 -- turn on (of a mutex anything, of a reader-writer lock more than to share)
 abbrev pub IsDebtorOf : State → ℕ → ℕ → Line → Type 0
 IsDebtorOf w t l Main =
-    (Owes w t l Main × WakesWaiters (sort_at w l) (call_at w t).purpose (call_at w t).gave_up l)
+    (Owes w t l Main × WakesWaiters (sort_at w l) (call_at w t).purpose (call_at w t).gave_up (call_at w t).recalls l)
     ⊎ (((call_at w t).retries ≡ Some l) × (counts_some (sort_at w l) (want_of (call_at w t).purpose) ≡ true))
 IsDebtorOf w t l Second = Owes w t l Second
 

@@ -2,7 +2,7 @@
 use Rattle.std.specs.Prelude.{ℕ, Bool, true, false, Option, Some, None, if◌then◌else◌, ◌&&◌, not, ◌+◌, ◌*◌, ◌≡◌, ◌≢◌, ◌⊎◌, length, is_some}
 use Rattle.lot_steps.specs.declared.places.Place.{Place}
 use Rattle.lot_acts.specs.Profiles.{Profile, bringing_nobody, taken_from}
-pub use Rattle.lot_acts.specs.Calls.{call_by}
+pub use Rattle.lot_acts.specs.Calls.{call_by, call_of_two}
 pub use Rattle.lot_acts.specs.Owners.{lock_seen}
 use Rattle.lot_mutex.specs.declared.places.MutexPlace.{MutexPlace}
 use Rattle.lot_acts.specs.declared.acts.Act.{Act}
@@ -60,8 +60,14 @@ abbrev pub call_on : Option ℕ → Profile → (ℕ → Rights) → CallState
 call_on None row rights = no_call
 call_on (Some l) row rights = call_by l row rights
 
+-- and of a call of two locks, by its place at both
+abbrev pub call_on_both : Option ℕ → Option ℕ → Profile → Profile → (ℕ → Rights) → CallState
+call_on_both None lock row beside rights = call_on lock row rights
+call_on_both (Some m) None row beside rights = no_call
+call_on_both (Some m) (Some l) row beside rights = call_of_two l m row beside rights
+
 abbrev pub call_state : Place → (ℕ → Rights) → CallState
-call_state p rights = call_on (lock_of p) (profile p) rights
+call_state p rights = call_on_both (beside_of p) (lock_of p) (profile p) (profile_beside p) rights
 
 -- ---------------------------------------------------------------- the world
 

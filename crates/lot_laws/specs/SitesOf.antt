@@ -1,12 +1,12 @@
 -- The locks of a world, with what each thread does about each.
-use Rattle.std.specs.Prelude.{ℕ, Bool, true, false, Option, Some, ◌≡◌, ◌≢◌, ◌<◌, ◌≤◌, ◌-◌, ◌^◌, ◌↔◌, List, [], ◌∷◌, length}
+use Rattle.std.specs.Prelude.{ℕ, Bool, true, false, Option, Some, None, ◌≡◌, ◌≢◌, ◌<◌, ◌≤◌, ◌-◌, ◌^◌, ◌↔◌, List, [], ◌∷◌, length}
 use Rattle.lot_base.specs.declared.wants.Waiter.{Waiter}
 pub use Rattle.lot_base.specs.Keys.{key_of}
 use Rattle.lot_base.specs.Lines.{times}
 use Rattle.lot_steps.specs.declared.places.Place.{Place}
 use Rattle.lot_steps.specs.declared.places.Place.TheVariants.{Idle, Mutex as OfMutex, RwLock as OfRwLock, Once as OfOnce, Condvar as OfCondvar}
 use Rattle.lot_base.specs.declared.wants.Want.{Want}
-use Rattle.abstract_locks.specs.Locks.{Rules, Mutex as OneOwner, Once as OnceSort}
+use Rattle.abstract_locks.specs.Locks.{Rules, Mutex as OneOwner, Once as OnceSort, Condvar as CondvarSort}
 use Rattle.abstract_locks.specs.Sites.{Line, Main, Second, Site, IsSite, has_readers, after_deed, Needed}
 use Rattle.abstract_locks.specs.Codes.{code, parked_in, aside_in, HasLimit}
 use Rattle.abstract_locks.specs.Purposes.{rules_of}
@@ -14,13 +14,19 @@ use Rattle.lot_machine.specs.Machine.{State, held, place_at, word_at, shares_at,
 use Rattle.lot_machine.specs.Fits.{IsShaped}
 use Rattle.lot_laws.specs.Refinement.{RunsClosure, lock_state}
 use Rattle.abstract_locks.specs.Onces.{InProgress}
+use Rattle.abstract_locks.specs.Condvars.{CondvarSite, Inside, IsCondvar, Rests, Stage}
+use Rattle.lot_steps.specs.Steps.{profile_at}
 use Rattle.lot_calls.specs.declared.kinds.Kind.{Kind}
 use Rattle.lot_calls.specs.declared.kinds.Kind as kind
+use Rattle.lot_calls.specs.Kinds.{is_plain_mutex}
 use Rattle.lot_rwlock.specs.declared.places.Admission.{Admission}
 use Rattle.lot_rwlock.specs.RwLockDeeds.{Admits}
 use Rattle.lot_rwlock_fair.specs.declared.places.RwLockCallPlace.{RwLockCallPlace}
 use Rattle.lot_rwlock_fair.specs.declared.hand_over.Taken.{Taken as Counted}
 use Rattle.lot_rwlock_fair.specs.FairCalls.{CallStands, in_hand_of}
+use Rattle.lot_condvar.specs.declared.places.CondvarPlace.{CondvarPlace}
+use Rattle.lot_condvar.specs.CondvarSteps.{mutex_beside}
+use Rattle.lot_condvar.specs.CondvarCalls.{IsReached}
 use Rattle.lot_laws.specs.MutexDeeds.{Act}
 use Rattle.lot_laws.specs.Stations.{Hand, Station, hand, station_at, doing_on}
 
@@ -114,13 +120,24 @@ is_mutex kind.TheVariants.Mutex = true
 is_mutex kind.TheVariants.Fair = true
 is_mutex k = false
 
--- a call is of a lock of its sort, and stands where it may; none of a condition variable begins here
+-- calls of condition variables begin: not yet
+abbrev pub CondvarsBegin : Type 0
+CondvarsBegin = ⊥
+
+-- a call of a condition variable has come to its place, and the mutex that it names is a plain one
+pub record FitsCondvar (w : State) (l : ℕ) (at : CondvarPlace) : Type 0 where
+  pub sort : (rules_in w l).sort ≡ CondvarSort
+  pub reached : IsReached at
+  pub mutex : (m : ℕ) → mutex_beside at ≡ Some m → is_plain_mutex (kind_at w m) ≡ true
+  pub begun : CondvarsBegin
+
+-- a call is of a lock of its sort, and stands where it may
 abbrev pub FitsItsLock : State → Place → Type 0
 FitsItsLock w Idle = Unit {0}
 FitsItsLock w (OfMutex l at) = is_mutex (kind_at w l) ≡ true
 FitsItsLock w (OfRwLock l a c) = Admits (rules_in w l) a × CallStands a c
 FitsItsLock w (OfOnce l at) = (rules_in w l).sort ≡ OnceSort
-FitsItsLock w (OfCondvar l at) = ⊥
+FitsItsLock w (OfCondvar l at) = FitsCondvar w l at
 
 pub record Stands (w : State) : Type 0 where
   pub sections : Sections (stations_of (place_at w)) (section_at w)
@@ -151,6 +168,30 @@ pub record IsCounted (w : State) (t : ℕ) (k : Counted) : Type 0 where
 -- a call that is to hand its lock over has counted those whom it has in hand
 abbrev pub AreCounted : State → Type 0
 AreCounted w = (t l : ℕ) (a : Admission) (c : RwLockCallPlace) (k : Counted) → place_at w t ≡ OfRwLock l a c → in_hand_of c ≡ Some k → IsCounted w t k
+
+-- ---------------------------------------------------------------- condition variables
+
+abbrev pub stage_or : Option Stage → Stage
+stage_or None = Rests
+stage_or (Some stage) = stage
+
+-- who is inside the section, and what for by its place
+abbrev pub inside_as : Option ℕ → (ℕ → Option Stage) → Option Inside
+inside_as None stage = None
+inside_as (Some t) stage = Some (record { thread = t; stage = stage_or (stage t) })
+
+-- a condition variable of the world: the mutex that it shows, its waiters, who is inside, and which mutex each wait names
+abbrev pub condvar_of : State → ℕ → CondvarSite
+condvar_of w l = record {
+  shown = (lock_state w l).shown;
+  waiters = (lock_state w l).queue;
+  inside = inside_as (section_at w (key_of l Main)) (λ t. (profile_at (place_at w t) l).stage);
+  waits_with = λ t. (profile_at (place_at w t) l).names;
+}
+
+-- outside of its section it shows a mutex exactly while somebody waits, and all wait with that one
+abbrev pub AreCondvars : State → Type 0
+AreCondvars w = (l : ℕ) → (rules_in w l).sort ≡ CondvarSort → IsCondvar (condvar_of w l)
 
 -- ---------------------------------------------------------------- who runs a closure
 
@@ -195,4 +236,9 @@ pub record Follows (w v : State) (l : ℕ) (ds : List Act) : Type 0 where
 -- and each thread stands where its place says
 pub record Goes (w v : State) (l : ℕ) (ds : List Act) : Type 0 where
   pub follows : Follows w v l ds
+  pub stands : Stands v
+
+-- of any number of locks
+pub record GoesAll (w v : State) (ds : ℕ → List Act) : Type 0 where
+  pub follows : FollowAll w v ds
   pub stands : Stands v

@@ -1,5 +1,5 @@
 -- What comes of a call whose thread steps alone.
-use Rattle.std.specs.Prelude.{ℕ, Bool, true, false, if◌then◌else◌, List, Option, Some, None, ◌≡◌, ◌≢◌, ◌≤◌, ◌++◌, ◌∷◌, [], length, replicate}
+use Rattle.std.specs.Prelude.{ℕ, Bool, true, false, if◌then◌else◌, List, Option, Some, None, ◌≡◌, ◌≢◌, ◌≤◌, ◌⊎◌, ◌++◌, ◌∷◌, [], length, replicate}
 use Rattle.lot_base.specs.declared.wants.Want.{Want}
 use Rattle.lot_base.specs.declared.wants.Want.TheVariants.{Exclusive, Shared, CallOnce, Wait}
 use Rattle.lot_acts.specs.declared.acts.Act.TheVariants.{Sleep}
@@ -9,8 +9,10 @@ use Rattle.lot_calls.specs.declared.outcomes.Outcome.{Outcome}
 use Rattle.lot_calls.specs.declared.outcomes.Outcome as outcome
 use Rattle.lot_calls.specs.declared.outcomes.OnceState.{OnceState}
 use Rattle.lot_calls.specs.declared.outcomes.OnceState as once_state
-use Rattle.lot_steps.specs.declared.places.Place.TheVariants.{Idle}
-use Rattle.lot_steps.specs.Steps.{act_of, lock_of}
+use Rattle.lot_condvar.specs.declared.places.CondvarPlace.TheVariants.{Look}
+use Rattle.lot_steps.specs.declared.places.Place.{Place}
+use Rattle.lot_steps.specs.declared.places.Place.TheVariants.{Idle, Condvar}
+use Rattle.lot_steps.specs.Steps.{act_of, beside_of, lock_of}
 use Rattle.lot_machine.specs.Machine.{State, place_at, word_at, kind_at, section_at, go_of, runs_closure}
 use Rattle.abstract_locks.specs.Locks.{Sort, Mutex, Recursive, Rules, LockState, first_thread, Queued, MayEnter, IsBlocked, Owns, count, readers, with_right}
 use Rattle.abstract_locks.specs.Sites.{Line, Main, Second, has_readers}
@@ -19,7 +21,7 @@ use Rattle.abstract_locks.specs.Codes.{has_parked}
 use Rattle.abstract_locks.specs.Onces.{Phase, New, Poisoned, InProgress, Done}
 use Rattle.abstract_locks.specs.Runs.{LocksState, IsFull, IsRun, rules_at, rights_in, ShowsOther}
 use Rattle.lot_laws.specs.SitesOf.{key_of}
-use Rattle.lot_laws.specs.Refinement.{locks_of}
+use Rattle.lot_laws.specs.Refinement.{lock_state, locks_of}
 use Rattle.lot_laws.specs.WorldRuns.{IsWorldRun}
 
 -- the thread is in a call, isn't asleep, and isn't in its closure
@@ -32,9 +34,20 @@ abbrev pub HasLine : Sort → Line → Type 0
 HasLine sort Main = Unit {0}
 HasLine sort Second = has_readers sort ≡ true
 
+-- a notification that hasn't looked yet comes to the mutex that is shown
+abbrev pub mutex_to_come : State → Place → Option ℕ
+mutex_to_come w (Condvar c (Look all)) = (lock_state w c).shown
+mutex_to_come w p = None
+
+-- a lock whose sections a call may enter: its own, or the mutex beside
+abbrev pub MayEnterOf : State → Place → ℕ → Type 0
+MayEnterOf w p l = (lock_of p ≡ Some l) ⊎ ((beside_of p ≡ Some l) ⊎ (mutex_to_come w p ≡ Some l))
+
 -- nobody else is inside a section that its call may enter
 abbrev pub HasItsWay : State → ℕ → Type 0
-HasItsWay w t = (l u : ℕ) (m : Line) → lock_of (place_at w t) ≡ Some l → HasLine (rules_of (kind_at w l)).sort m → section_at w (key_of l m) ≡ Some u → u ≡ t
+HasItsWay w t =
+    (l u : ℕ) (m : Line) → MayEnterOf w (place_at w t) l → HasLine (rules_of (kind_at w l)).sort m
+    → section_at w (key_of l m) ≡ Some u → u ≡ t
 
 -- the call has ended, sleeps or is in its closure
 abbrev pub Rests : Outcome → Type 0

@@ -1,0 +1,90 @@
+-- What each lock sees of a place in a call of a condition variable, and of the next one: by the row there, by the row beside, and nothing elsewhere.
+use Rattle.std.proofs.Common.{ℕ, Bool, true, false, Option, Some, None, if◌then◌else◌, ◌==◌, ◌≡◌, ◌≢◌, ◌⊎◌, List, [], ◌∷◌, refl, sym, ◌∙◌, ap, subst, inl, inr}
+use Rattle.std.proofs.lemmas.Bool.{cases_eq}
+use Rattle.lot_base.specs.declared.wants.Want.{Want}
+use Rattle.lot_acts.specs.declared.acts.Next.{Next}
+use Rattle.lot_acts.specs.declared.acts.Next.TheVariants.{At, End as Over}
+use Rattle.lot_acts.specs.declared.acts.Reply.{Reply}
+use Rattle.lot_acts.specs.Profiles.{Hand, Profile, blank, taken_from}
+use Rattle.lot_acts.specs.Stations.{Station, nowhere, station_by}
+use Rattle.lot_steps.specs.declared.places.Place.{Place}
+use Rattle.lot_steps.specs.declared.places.Place.TheVariants.{Condvar, Idle}
+use Rattle.lot_steps.specs.Steps.{condvar_goes}
+use Rattle.lot_condvar.specs.declared.places.CondvarPlace.{CondvarPlace}
+use Rattle.lot_condvar.specs.CondvarSteps.{condvar_next, mutex_beside}
+use Rattle.lot_condvar.specs.CondvarProfiles.{condvar_profile, mutex_side}
+use Rattle.lot_condvar.specs.CondvarMoves.{row_beside, row_there, there, there_then}
+use Rattle.abstract_locks.specs.Locks.{Taken}
+use Rattle.abstract_locks.specs.Sites.{Doing, Line, idle}
+use Rattle.lot_laws.specs.Refinement.{taken_at}
+use Rattle.lot_laws.specs.Stations.{doing_on, station_at}
+use Rattle.lot_laws.proofs.Glue.{differ, same}
+use Rattle.lot_laws.proofs.StandsKept.{Alike}
+
+-- a place in a call of the condition variable l with the mutex m, or of none
+abbrev pub Beside : ℕ → Next CondvarPlace → Type 0
+Beside m (At p) = mutex_beside p ≡ Some m
+Beside m (Over answer) = Unit {0}
+
+module _ (l m : ℕ) (apart : m ≢ l) where
+  there_differ : (l == m) ≡ false
+  there_differ = differ l m (λ e. apart (sym e))
+
+  module _ (n : Next CondvarPlace) (beside : Beside m n) where
+    abbrev pub place : Place
+    place = condvar_goes l n
+
+    pub station_there : station_at place l ≡ station_by (row_there n)
+    station_there = by_next n
+      where
+        by_next : (n : Next CondvarPlace) → station_at (condvar_goes l n) l ≡ station_by (row_there n)
+        by_next (At p) = rw (same l) refl
+        by_next (Over answer) = refl
+
+    pub doing_there : doing_on place l ≡ (row_there n).doing
+    doing_there = by_next n
+      where
+        by_next : (n : Next CondvarPlace) → doing_on (condvar_goes l n) l ≡ (row_there n).doing
+        by_next (At p) = rw (same l) refl
+        by_next (Over answer) = refl
+
+    pub taken_there : taken_at place l ≡ None
+    taken_there = by_next n beside
+      where
+        by_next : (n : Next CondvarPlace) → Beside m n → taken_at (condvar_goes l n) l ≡ None
+        by_next (At p) e = rw (same l, e, differ m l apart) refl
+        by_next (Over answer) e = refl
+
+    pub station_beside : station_at place m ≡ station_by (row_beside n)
+    station_beside = by_next n beside
+      where
+        by_next : (n : Next CondvarPlace) → Beside m n → station_at (condvar_goes l n) m ≡ station_by (row_beside n)
+        by_next (At p) e = rw (there_differ, e, same m) refl
+        by_next (Over answer) e = refl
+
+    pub doing_beside : doing_on place m ≡ (row_beside n).doing
+    doing_beside = by_next n beside
+      where
+        by_next : (n : Next CondvarPlace) → Beside m n → doing_on (condvar_goes l n) m ≡ (row_beside n).doing
+        by_next (At p) e = rw (there_differ, e, same m) refl
+        by_next (Over answer) e = refl
+
+    pub taken_beside : taken_at place m ≡ taken_from (row_beside n).hand (row_beside n).wants true
+    taken_beside = by_next n beside
+      where
+        by_next : (n : Next CondvarPlace) → Beside m n → taken_at (condvar_goes l n) m ≡ taken_from (row_beside n).hand (row_beside n).wants true
+        by_next (At p) e = rw (there_differ, e, same m) refl
+        by_next (Over answer) e = refl
+
+  -- another lock sees nothing of it
+  pub nothing_else : (n n2 : Next CondvarPlace) → Beside m n → Beside m n2 → (k : ℕ) → k ≢ l → k ≢ m → Alike k (condvar_goes l n) (condvar_goes l n2)
+  nothing_else n n2 h h2 k nl nm = let a = nothing n h in let b = nothing n2 h2 in record { station = b.0 ∙ sym a.0; doing = b.1 ∙ sym a.1; taken = b.2 ∙ sym a.2 }
+    where
+      nothing : (n : Next CondvarPlace) → Beside m n → (station_at (condvar_goes l n) k ≡ nowhere) × (doing_on (condvar_goes l n) k ≡ idle) × (taken_at (condvar_goes l n) k ≡ None)
+      nothing (At p) e = (rw (differ l k (λ f. nl (sym f)), e, differ m k (λ f. nm (sym f))) refl, rw (differ l k (λ f. nl (sym f)), e, differ m k (λ f. nm (sym f))) refl, rw (differ l k (λ f. nl (sym f)), e, differ m k (λ f. nm (sym f))) refl)
+      nothing (Over answer) e = (refl, refl, refl)
+
+-- what a row there says of the thread's doing is where it is inside
+pub doing_of_row : (n : Next CondvarPlace) → (row_there n).doing ≡ record idle { inside = (station_by (row_there n)).inside }
+doing_of_row (At p) = refl
+doing_of_row (Over answer) = refl
