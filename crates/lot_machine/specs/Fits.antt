@@ -45,10 +45,12 @@ GivesUpTimed at = Implies (mutex_profile at).late (mutex_profile at).timed
 abbrev pub IsTimely : CondvarPlace → Type 0
 IsTimely at = Implies (is_late at) (has_deadline at)
 
+-- a lock that is named is there
 abbrev pub IsThere : ℕ → Option ℕ → Type 0
 IsThere locks None = Unit {0}
 IsThere locks (Some m) = m < locks
 
+-- a call is of a lock that is there, and the mutex beside a condition variable is there too
 abbrev pub PlaceFits : ℕ → Place → Type 0
 PlaceFits locks Idle = Unit {0}
 PlaceFits locks (Mutex lock at) = (lock < locks) × GivesUpTimed at
@@ -56,11 +58,13 @@ PlaceFits locks (RwLock lock a at) = lock < locks
 PlaceFits locks (Once lock at) = lock < locks
 PlaceFits locks (Condvar lock at) = (lock < locks) × IsThere locks (mutex_beside at) × IsTimely at
 
+-- whether it is a reader-writer lock
 abbrev pub is_rwlock : Kind → Bool
 is_rwlock (kind.RwLock limit) = true
 is_rwlock (kind.Recursive limit) = true
 is_rwlock k = false
 
+-- whether it is a `Once`
 abbrev pub is_once : Kind → Bool
 is_once kind.Once = true
 is_once k = false
