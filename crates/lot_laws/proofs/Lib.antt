@@ -7,6 +7,7 @@ pub mod Runs
 pub mod Glue
 pub mod Beside
 pub mod Waiters
+pub mod WaiterCalls
 pub mod MutexHands
 pub mod OneStep
 pub mod MutexTable
@@ -26,6 +27,7 @@ pub mod TwoLocks
 pub mod CondvarSites
 pub mod CondvarHears
 pub mod CondvarParts
+pub mod CondvarThere
 pub mod TakesAt
 pub mod TakesKept
 pub mod PicksKept
@@ -104,3 +106,4 @@ pub mod RowLaws
 pub mod RunsKept
 pub mod WaitersAside
 pub mod CondvarRows
+pub mod CondvarsKept

@@ -46,6 +46,7 @@ use Rattle.lot_laws.specs.Refinement.{owner_at, lock_state, taken_at, is_bump, b
 use Rattle.lot_laws.specs.MutexDeeds.{queued}
 use Rattle.lot_laws.specs.SitesOf.{rules_in}
 use Rattle.lot_laws.proofs.PlainCalls.{plain_goes}
+use Rattle.lot_laws.proofs.WaiterCalls.{waiter_woken}
 use Rattle.lot_laws.proofs.Glue.{IsTakenAt, heir, put_same, same, IsMutexCall, mutex_calls, taken_elsewhere, IsSingle, single_taken, singles}
 use Rattle.lot_laws.proofs.MutexTable.{mutex}
 use Rattle.lot_laws.proofs.CallEvents.{put_is, rights, rights_led, led_here, led_elsewhere, Happens, Others, OthersFollow}
@@ -228,12 +229,20 @@ unmoved q c e = λ i. record c { retries = q; recalls = stays i }
     stays : c.recalls ≡ behind_wake c.recalls
     stays = e ∙ (λ i. behind_wake (sym e i))
 
+-- a waiter of a condition variable knows then that it was notified
+woken_goes_on : (p : Place) (t l : ℕ) → is_taken_by t (taken_at p l) ≡ true → (r : ℕ → Rights) → call_state (next_place p (Woken Normal)) r ≡ record (call_state p r) { retries = Some l; recalls = behind_wake (call_state p r).recalls }
+woken_goes_on Idle t l h r = absurd cc
+woken_goes_on (Condvar k at) t l h r = waiter_woken k at t l h r
+woken_goes_on (Mutex k at) t l h r = woken_call (Mutex k at) t l tt h r ∙ unmoved (Some l) (call_state (Mutex k at) r) (recalls_nothing (Mutex k at) tt r)
+woken_goes_on (RwLock k a at) t l h r = woken_call (RwLock k a at) t l tt h r ∙ unmoved (Some l) (call_state (RwLock k a at) r) (recalls_nothing (RwLock k a at) tt r)
+woken_goes_on (Once k at) t l h r = woken_call (Once k at) t l tt h r ∙ unmoved (Some l) (call_state (Once k at) r) (recalls_nothing (Once k at) tt r)
+
 module _ (w v : State) (t l : ℕ) where
-  pub wakes_others : ((u : ℕ) → IsSingle (place_at w u)) → Befalls w v t l (Woken Normal) → Others w v t (AtLock l Wake)
-  wakes_others single befalls u ne r = ap (λ p. call_state p r) (befalls u ne) ∙ either (is_taken_by t (taken_at (place_at w u) l)) refl
+  pub wakes_others : Befalls w v t l (Woken Normal) → Others w v t (AtLock l Wake)
+  wakes_others befalls u ne r = ap (λ p. call_state p r) (befalls u ne) ∙ either (is_taken_by t (taken_at (place_at w u) l)) refl
     where
       either : (b : Bool) → is_taken_by t (taken_at (place_at w u) l) ≡ b → call_state (if b then next_place (place_at w u) (Woken Normal) else place_at w u) r ≡ (if b then record (call_state (place_at w u) r) { retries = Some l; recalls = behind_wake (call_state (place_at w u) r).recalls } else call_state (place_at w u) r)
-      either true e = woken_call (place_at w u) t l (single u) e r ∙ unmoved (Some l) (call_state (place_at w u) r) (recalls_nothing (place_at w u) (single u) r)
+      either true e = woken_goes_on (place_at w u) t l e r
       either false e = refl
 
 -- ---------------------------------------------------------------- it hands its right over

@@ -331,7 +331,7 @@ module _ (w : State) (t : ℕ) (shape : IsShaped w) (steady : IsSteady w) (there
     unlock_goes (unlock.Clear any) is can = alone (Unlock (unlock.Clear any)) is can tt tt tt
     unlock_goes (unlock.Leave false) is can = alone (Unlock (unlock.Leave false)) is can tt tt tt
     unlock_goes (unlock.Leave true) is can = goes_if (Unlock (unlock.Leave true)) is can tt (others_follow w (behind (Unlock (unlock.Leave true)) is can tt) t l (Some Wake) (happens_so (Unlock (unlock.Leave true)) is can tt) (λ x y e. cc)
-        (wakes_others w (behind (Unlock (unlock.Leave true)) is can tt) t l (singles w steady) (befalls w t l steady (rw is refl) Idle (state_with_sections w (One (2 * l)) None) (Woken note.Normal) refl (carries (Unlock (unlock.Leave true)) is can tt))))
+        (wakes_others w (behind (Unlock (unlock.Leave true)) is can tt) t l (befalls w t l steady (rw is refl) Idle (state_with_sections w (One (2 * l)) None) (Woken note.Normal) refl (carries (Unlock (unlock.Leave true)) is can tt))))
 
     hands_case : (bumping any b : Bool) (o : Option ℕ) → case_of (mutex_row (HandOff bumping (hand_off.Store any b))).carries (hands_over o b) ≡ Some (HandsOff Exclusive (heir o))
     hands_case bumping any b None = refl

@@ -45,7 +45,9 @@ use Rattle.lot_laws.specs.Refinement.{call_state, taken_at}
 use Rattle.lot_laws.specs.Stations.{Station, hand, station, nowhere}
 use Rattle.lot_laws.specs.SitesOf.{IsSteady, carried_at, hand_at, FitsItsLock}
 use Rattle.lot_laws.proofs.AtPlaces.{unless_held}
-use Rattle.lot_laws.proofs.Glue.{IsOf, IsTakenAt, IsHandedAt, is_taken, is_handed, held_where, held_taker, station_elsewhere, same, put_of, put_same, set_puts, past_all, singles, of_own, IsSingle}
+use Rattle.lot_laws.proofs.WaiterCalls.{waiter_taken_by, waiter_told}
+use Rattle.lot_laws.proofs.Glue.{IsInHandOf, aparts, held_tells, in_hand_where, of_carries, in_hand_here as in_hand_at}
+use Rattle.lot_laws.proofs.Glue.{IsOf, IsTakenAt, IsHandedAt, is_taken, is_handed, station_elsewhere, same, put_of, put_same, set_puts, past_all, singles, of_own, IsSingle}
 use Rattle.lot_laws.proofs.CallEvents.{Happens, IsNoHandOff, Others}
 use Rattle.lot_laws.proofs.LockEvents.{Befalls, taken_call, wakes_others}
 
@@ -185,7 +187,7 @@ module _ (w : State) (t : ℕ) (p2 : Place) where
 
 -- so it is taken there by the one in whose hand it is
 pub taken_by_hand : (w : State) (p : Place) (t l : ℕ) → FitsItsLock w p → hand_at p l ≡ hand t false → is_taken_by t (taken_at p l) ≡ true
-taken_by_hand w (Condvar k at) t l calls h = absurd calls.begun
+taken_by_hand w (Condvar k at) t l calls h = waiter_taken_by k at t l h
 taken_by_hand w (Once k at) t l calls h = either (k == l) h
   where
     either : (b : Bool) → (if b then station (Once k at) else nowhere).hand ≡ hand t false → is_taken_by t (taken_from (once_profile at).hand (once_profile at).wants b) ≡ true
@@ -205,7 +207,7 @@ taken_by_hand w (RwLock k a c) t l calls h = either (k == l) h
 -- who was handed the lock goes on as it was
 handed_goes : (w : State) (p : Place) (t l : ℕ) → FitsItsLock w p → hand_at p l ≡ hand t true → (r : ℕ → Rights) → call_state (next_place p (Woken note.HandOff)) r ≡ call_state p r
 handed_goes w Idle t l fits h r = refl
-handed_goes w (Condvar k at) t l fits h r = absurd fits.begun
+handed_goes w (Condvar k at) t l fits h r = waiter_told k at t l h r
 handed_goes w (Once k at) t l fits h r = either (k == l) h
   where
     either : (b : Bool) → (if b then station (Once k at) else nowhere).hand ≡ hand t true → call_state (next_place (Once k at) (Woken note.HandOff)) r ≡ call_state (Once k at) r
@@ -235,11 +237,11 @@ module _ (w : State) (t l : ℕ) (steady : IsSteady w) (own : lock_of (place_at 
 
   -- who is in its hand is so at its lock, and was handed that or not as its place says
   in_hand_here : (h : Bool) → carried_at (place_at w t) l ≡ Some h → (u : ℕ) → is_thread t (taker (place_at w u)) ≡ true → hand_at (place_at w u) l ≡ hand t h
-  in_hand_here h carries u e = let x = held_where (place_at w u) t (singles w steady u) e in let there = steady.stands.hands.taken t u x.lock x.handed x.hand in
-      elim (cases_eq x.lock l) [
-        | inl f ↦ let here : carried_at (place_at w t) l ≡ Some x.handed = subst (λ k. carried_at (place_at w t) k ≡ Some x.handed) f there in let g : x.handed ≡ h = cc in subst (λ b. hand_at (place_at w u) l ≡ hand t b) g (subst (λ k. hand_at (place_at w u) k ≡ hand t x.handed) f x.hand)
-        | inr ne ↦ absurd (let none : carried_at (place_at w t) x.lock ≡ None = ap (λ (y : Station). y.carries) (station_elsewhere l x.lock (place_at w t) is_of ne) in cc)
-      ]
+  in_hand_here h carries u e =
+      let x : IsInHandOf (place_at w u) t = in_hand_where (place_at w u) t (aparts w steady u) e in
+      let here = subst (λ k. hand_at (place_at w u) k ≡ hand t x.handed) (in_hand_at (place_at w) steady.stands.hands t l u (of_carries l (place_at w t) is_of) x) x.hand in
+      let there : carried_at (place_at w t) l ≡ Some x.handed = steady.stands.hands.taken t u l x.handed here in
+      here ∙ ap (hand t) (let g : Some x.handed ≡ Some h = sym there ∙ carries in let f : x.handed ≡ h = cc in f)
 
   told_at : (b : State) (reply : Reply) → b.places ≡ w.places → (u : ℕ) → u ≢ t → place_at (put (state_after_telling b t reply) t p2) u ≡ (if is_thread t (taker (place_at w u)) then next_place (place_at w u) reply else place_at w u)
   told_at b reply places u ne = get_or-set_other _ t u p2 Idle ne ∙ get_or-map (place_after_telling t reply) b.places u Idle ∙ ap (λ (xs : List Place). place_after_telling t reply (get_or xs u Idle)) places
@@ -250,7 +252,7 @@ module _ (w : State) (t l : ℕ) (steady : IsSteady w) (own : lock_of (place_at 
     where
       same_test : (c : Bool) → is_thread t (taker (place_at w u)) ≡ c → is_thread t (taker (place_at w u)) ≡ is_taken_by t (taken_at (place_at w u) l)
       same_test true e = e ∙ sym (taken_by_hand w (place_at w u) t l (steady.stands.calls u) (in_hand_here false carries u e))
-      same_test false e = e ∙ sym (unless_held w steady t l u (λ h. let f : is_thread t (taker (place_at w u)) ≡ true = held_taker (place_at w u) t l false (singles w steady u) h in cc))
+      same_test false e = e ∙ sym (unless_held w steady t l u (λ h. let f : is_thread t (taker (place_at w u)) ≡ true = held_tells (place_at w u) t l false h in cc))
 
   -- nobody has been
   pub befalls_nobody : (b : State) (reply : Reply) → b.places ≡ w.places → carried_at (place_at w t) l ≡ None → Befalls w (put b t p2) t l reply
@@ -268,7 +270,7 @@ module _ (w : State) (t l : ℕ) (steady : IsSteady w) (own : lock_of (place_at 
   -- so the calls of the others are what its case makes of them
   pub wakes_own : (p : Place) (a : Act) (c : Option LockCase) → WakesOwn (carried_at (place_at w t) l) a c → Others w (put (state_after_act w t p a) t p2) t (event_by l c)
   wakes_own p (act.Leave keys (wakes.All x)) c (inl h) = subst (λ y. Others w (put (state_after_telling (state_with_sections w keys None) t (Woken x)) t p2) t (event_by l y)) (sym h.1.1)
-      (wakes_others w (put (state_after_telling (state_with_sections w keys None) t (Woken x)) t p2) t l (singles w steady) (subst (λ y. Befalls w (put (state_after_telling (state_with_sections w keys None) t (Woken y)) t p2) t l (Woken note.Normal)) (sym h.1.0) (befalls (state_with_sections w keys None) (Woken note.Normal) (sections_stay w keys None) h.0)))
+      (wakes_others w (put (state_after_telling (state_with_sections w keys None) t (Woken x)) t p2) t l (subst (λ y. Befalls w (put (state_after_telling (state_with_sections w keys None) t (Woken y)) t p2) t l (Woken note.Normal)) (sym h.1.0) (befalls (state_with_sections w keys None) (Woken note.Normal) (sections_stay w keys None) h.0)))
   wakes_own p (act.Leave keys (wakes.All x)) c (inr h) = calm w t p2 (put (state_after_telling (state_with_sections w keys None) t (Woken x)) t p2) l c h.1.1
       (λ u ne r. subst (λ y. call_state (place_at (put (state_after_telling (state_with_sections w keys None) t (Woken y)) t p2) u) r ≡ call_state (place_at w u) r) (sym h.1.0) (tells_handed (state_with_sections w keys None) (sections_stay w keys None) h.0 u ne r))
   wakes_own p (act.Requeue from to how) c h = absurd h

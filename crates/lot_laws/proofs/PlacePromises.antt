@@ -127,7 +127,7 @@ module _ (w : State) (t : ℕ) (steady : IsSteady w) where
           let admitted : FitsItsLock w (RwLock k a c) = rw is at (steady.stands.calls t) in
           subst (λ j. RowPromises (sort_at w j) j (call_profile a c) (call_act k a c)) here (call_promises (rules_in w k) a k c admitted.0 admitted.1)
 
-  not_condvar : (l : ℕ) → lock_of (place_at w t) ≡ Some l → sort_at w l ≢ locks.Condvar
+  pub not_condvar : (l : ℕ) → lock_of (place_at w t) ≡ Some l → sort_at w l ≢ locks.Condvar
   not_condvar l own is_condvar = by_place (place_at w t) refl own
     where
       by_place : (p : Place) → place_at w t ≡ p → lock_of p ≡ Some l → ⊥

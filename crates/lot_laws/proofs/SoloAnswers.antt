@@ -36,7 +36,7 @@ late_keeps_former l WasMoved c = refl
 late_keeps_former l recalls c = refl
 
 -- an event leaves what the call is for, and what its thread owned as it began
-purpose_stays : (e : Event) (c : CallState) → (going_on e c).purpose ≡ c.purpose
+pub purpose_stays : (e : Event) (c : CallState) → (going_on e c).purpose ≡ c.purpose
 purpose_stays Nothing c = refl
 purpose_stays (AtLock l Late) c = late_keeps_purpose l c.recalls c
 purpose_stays (AtLock l (locks.OfCondvar (locks.Look None))) c = refl
@@ -73,7 +73,7 @@ former_stays (AtLock l (OfOnce case)) c = once_keeps_former case l c
 former_stays (AtLock l case) c = refl
 
 -- and so does a wake of its own
-woken_purpose : (w : LocksState) (t : ℕ) (e : Event) (c : CallState) → (woken w t e t c).purpose ≡ c.purpose
+pub woken_purpose : (w : LocksState) (t : ℕ) (e : Event) (c : CallState) → (woken w t e t c).purpose ≡ c.purpose
 woken_purpose w t (AtLock l Wake) c = either (is_taken_by t ((w.locks l).taken t))
   where
     either : (b : Bool) → (if b then record c { retries = Some l; recalls = behind_wake c.recalls } else c).purpose ≡ c.purpose
