@@ -113,3 +113,4 @@ pub mod CondvarsKept
 pub mod CondvarLed
 pub mod CondvarWent
 pub mod WaitsThere
+pub mod WaitsBeside
