@@ -114,3 +114,4 @@ pub mod CondvarLed
 pub mod CondvarWent
 pub mod WaitsThere
 pub mod WaitsBeside
+pub mod WaitsInside
