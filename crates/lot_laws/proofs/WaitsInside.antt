@@ -23,7 +23,7 @@ use Rattle.lot_mutex.specs.declared.lock.LockAt.TheVariants as lock
 use Rattle.lot_mutex.specs.declared.places.MutexPlace.TheVariants as mutex
 use Rattle.lot_mutex.specs.declared.unlock.UnlockAt.{UnlockAt}
 use Rattle.lot_mutex.specs.declared.unlock.UnlockAt.TheVariants as unlock
-use Rattle.lot_mutex.specs.MutexSteps.{in_lock}
+use Rattle.lot_mutex.specs.MutexSteps.{in_lock, still_retries}
 use Rattle.lot_condvar.specs.declared.places.CondvarPlace.{CondvarPlace}
 use Rattle.lot_condvar.specs.declared.places.CondvarPlace.TheVariants.{Wait}
 use Rattle.lot_condvar.specs.declared.wait.Stands.{Stands}
@@ -36,16 +36,23 @@ use Rattle.abstract_locks.specs.Deeds as laws
 use Rattle.abstract_locks.specs.Locks as locks
 use Rattle.abstract_locks.specs.Locks.{Park, Rules, keep_from}
 use Rattle.abstract_locks.specs.Sites.{Case, Deed, Doing, End, In, Main, Out, Site, wakened}
-use Rattle.lot_machine.specs.Machine.{State, can_do, place_at, put, queue_at, reply_to, section_at, state_after_act, word_at}
+use Rattle.lot_machine.specs.Machine.{State, can_do, place_at, put, queue_at, reply_to, section_at, state_after_act, word_at, queues_with_last}
 use Rattle.lot_laws.specs.MutexDeeds.{acts}
 use Rattle.lot_laws.specs.Refinement.{taken_at}
 use Rattle.lot_laws.specs.Stations.{doing_on, station_at}
 use Rattle.lot_laws.specs.SitesOf.{FitsItsLock, Goes, IsSteady, key_of, rules_in, site_of}
 use Rattle.lot_laws.proofs.StandsKept.{AlikeBeside}
+use Rattle.lot_laws.proofs.CondvarHears as hears
 use Rattle.lot_laws.proofs.CondvarHears.{taken_by_wait, waiter_hears}
 use Rattle.lot_laws.proofs.WaitsBeside as beside
 use Rattle.lot_laws.proofs.WaitsBeside.{StaysThere}
 use Rattle.lot_laws.proofs.MutexActs.{accepts_at, goes_in_at, goes_out_at, leaves_line_at, stands_at}
+use Rattle.lot_acts.specs.declared.acts.Check.TheVariants.{WordIs}
+use Rattle.lot_acts.specs.Acts.{holds}
+use Rattle.lot_laws.proofs.ActsAt.{place_goes}
+use Rattle.lot_laws.proofs.OneStep.{steps_by}
+use Rattle.lot_laws.proofs.Glue.{parts_at}
+use Rattle.lot_laws.proofs.CondvarParts.{nothing_there, station_there}
 
 module _ (w : State) (t l m : ℕ) (timed : Bool) (steady : IsSteady w) (is_there : t < length w.places) (apart : m ≢ l) (sort : (rules_in w m).sort ≡ locks.Mutex) (section : key_of m Main < length w.sections) (line : key_of m Main < length w.queues) where
   abbrev waits : WaitAt → CondvarPlace
@@ -207,3 +214,73 @@ module _ (w : State) (t l m : ℕ) (timed : Bool) (steady : IsSteady w) (is_ther
     where
       at : WaitAt
       at = relocks late retries lock.Accept
+
+  -- ---------------------------------------------------------------- the line
+
+  -- it stands in no other line
+  stands_out : (at : WaitAt) → place_at w t ≡ Condvar l (waits at) → (there (waits at)).stands ≡ None → (k : ℕ) → k ≢ m → (station_at (place_at w t) k).stands ≡ None
+  stands_out at is out k ne = ap (λ q. (station_at q k).stands) is ∙ elim (cases_eq k l) [
+    | inl e ↦ subst (λ j. (station_at (Condvar l (waits at)) j).stands ≡ None) (sym e) (ap (λ (y : Station). y.stands) (station_there l m apart (At (waits at)) refl) ∙ out)
+    | inr nl ↦ ap (λ (y : Station). y.stands) (nothing_there l m apart (At (waits at)) refl k nl ne)
+  ]
+
+  -- its time is up, and it leaves the line to which it was moved
+  pub leaves_line : place_at w t ≡ Condvar l (waits wait.RemoveMoved) → FitsNext wait.RemoveMoved (act.Remove (2 * m)) → Kept wait.RemoveMoved (act.Remove (2 * m))
+  leaves_line is fits = leaves_line_at w t m steady is_there sort (condvar_goes l (condvar_next (waits at) told_it)) (alike at is remove refl refl refl gives_up refl (refl, refl)) fits line (stands_out at is refl)
+      (ap (λ (y : Station). y.stands) (station_was at is remove refl refl refl gives_up refl (refl, refl))) (needed at is remove refl refl refl gives_up refl)
+      (behind at is remove refl refl refl gives_up refl ∙ sym (does_next at is remove refl refl refl gives_up refl (refl, refl)))
+      (station_then at is remove refl refl refl gives_up refl (refl, refl) ∙ sym (ap (λ (y : Station). record y { stands = None; waits = None }) (station_was at is remove refl refl refl gives_up refl (refl, refl))))
+      (same_taken at is remove refl refl refl gives_up refl (refl, refl) refl)
+    where
+      at : WaitAt
+      at = wait.RemoveMoved
+
+      remove : Act
+      remove = act.Remove (2 * m)
+
+      gives_up : List Deed
+      gives_up = Case locks.Late ∷ []
+
+      told_it : Reply
+      told_it = reply_to w t remove
+
+  -- behind the last of its line, where the bit still stands
+  module _ (late retries : Bool) (is : place_at w t ≡ Condvar l (waits (relocks late retries lock.Check))) where
+    abbrev check : WaitAt
+    check = relocks late retries lock.Check
+
+    abbrev park : Act
+    park = act.Park m (2 * m) (WordIs 3) Exclusive
+
+    abbrev checks : Bool → Next CondvarPlace
+    checks b = in_wait m timed (relocked timed late (in_lock entry.Lock (still_retries retries (Parked b)) (At (lock.Leave b))))
+
+    abbrev ParkedSo : Bool → Type 0
+    ParkedSo b = holds (WordIs 3) (word_at w m) ≡ b
+
+    park_follows : (b : Bool) → ParkedSo b → WaiterFollows r here t m timed check None (Parked b)
+    park_follows b e = subst (λ b. WaiterFollows r here t m timed check None (Parked b)) e
+        (beside.follows w t l m timed steady is_there apart sort check is None (Parked (holds (WordIs 3) (word_at w m))) (waiter_hears w t l m timed check steady is refl))
+
+    stands_last : ParkedSo true → FitsItsLock w (condvar_goes l (checks true)) → Goes w (put (record w { queues = queues_with_last w.queues (2 * m) t Exclusive }) t (condvar_goes l (checks true))) m (acts t (Case (Park Exclusive) ∷ []))
+    stands_last e fits = stands_at w t m steady is_there sort (condvar_goes l (checks true)) (beside.alike w t l m timed steady is_there apart sort check is (checks true) (refl, refl)) fits line (stands_out check is refl)
+        (ap (λ (y : Station). y.stands) (beside.station_was w t l m timed steady is_there apart sort check is (checks true) (refl, refl))) (park_follows true e).needed
+        (beside.does_next w t l m timed steady is_there apart sort (relocked timed late (in_lock entry.Lock (still_retries retries (Parked true)) (At (lock.Leave true)))) refl
+        ∙ sym (ap (λ (d : Doing). record d { retries = None; empty = None }) (hears.doing_beside w t l (waits check) steady is m refl)))
+        (beside.station_then w t l m timed steady is_there apart sort check is (checks true) (refl, refl) ∙ sym (ap (λ (y : Station). record y { stands = Some Main; waits = Some Exclusive }) (beside.station_was w t l m timed steady is_there apart sort check is (checks true) (refl, refl))))
+        (beside.taken_was w t l m timed steady is_there apart sort check is (checks true) (refl, refl) ∙ sym (beside.taken_then w t l m timed steady is_there apart sort check is (checks true) (refl, refl)))
+
+    turns : ParkedSo false → FitsItsLock w (condvar_goes l (checks false)) → Goes w (put w t (condvar_goes l (checks false))) m (acts t [])
+    turns e fits = place_goes w t m steady is_there r refl (condvar_goes l (checks false)) (beside.alike w t l m timed steady is_there apart sort check is (checks false) (refl, refl)) fits [] (λ h. tt)
+        (steps_by r m (parts_at w m) (parts_at w m) (place_at w) t (condvar_goes l (checks false)) [] tt tt
+        (beside.taken_was w t l m timed steady is_there apart sort check is (checks false) (refl, refl) ∙ sym (beside.taken_then w t l m timed steady is_there apart sort check is (checks false) (refl, refl)))
+        refl refl refl refl
+        (beside.does_next w t l m timed steady is_there apart sort (relocked timed late (in_lock entry.Lock (still_retries retries (Parked false)) (At (lock.Leave false)))) refl ∙ sym (park_follows false e).doing))
+        (beside.station_then w t l m timed steady is_there apart sort check is (checks false) (refl, refl) ∙ sym (beside.station_was w t l m timed steady is_there apart sort check is (checks false) (refl, refl)))
+
+    pub parks : FitsNext check park → Kept check park
+    parks fits = either (holds (WordIs 3) (word_at w m)) refl fits
+      where
+        either : (b : Bool) → ParkedSo b → FitsItsLock w (condvar_goes l (checks b)) → Goes w (put (if b then record w { queues = queues_with_last w.queues (2 * m) t Exclusive } else w) t (condvar_goes l (checks b))) m (acts t (waiter_deeds check None (Parked b)))
+        either true e fits = stands_last e fits
+        either false e fits = turns e fits
