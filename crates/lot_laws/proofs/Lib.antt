@@ -115,3 +115,4 @@ pub mod CondvarWent
 pub mod WaitsThere
 pub mod WaitsBeside
 pub mod WaitsInside
+pub mod WaitsWaking
