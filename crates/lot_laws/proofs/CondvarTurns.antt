@@ -11,7 +11,7 @@ use Rattle.lot_acts.specs.declared.acts.Reply.TheVariants.{Late}
 use Rattle.lot_acts.specs.Stations.{Station, nowhere}
 use Rattle.lot_steps.specs.declared.places.Place.{Place}
 use Rattle.lot_steps.specs.declared.places.Place.TheVariants.{Condvar, Idle}
-use Rattle.lot_steps.specs.Steps.{late_key}
+use Rattle.lot_steps.specs.Steps.{late_key, next_place}
 use Rattle.lot_condvar.specs.declared.places.CondvarPlace.{CondvarPlace}
 use Rattle.lot_condvar.specs.declared.places.CondvarPlace.TheVariants.{Wait, Look, Notify}
 use Rattle.lot_condvar.specs.declared.wait.Stands.TheVariants as stands
@@ -22,7 +22,7 @@ use Rattle.lot_condvar.specs.CondvarSteps.{mutex_beside}
 use Rattle.abstract_locks.specs.Locks as locks
 use Rattle.abstract_locks.specs.Sites.{Begin, Doing, Has, In, Line, Main, Second, idle}
 use Rattle.lot_machine.specs.Machine.{State, is_free_under, kind_at, owners_at, place_at, put, section_at, state_after_late_on, state_with_sections}
-use Rattle.lot_machine.specs.Fits.{IsShaped}
+use Rattle.lot_machine.specs.Fits.{IsShaped, PlaceFits}
 use Rattle.lot_laws.specs.Refinement.{taken_at}
 use Rattle.lot_laws.specs.MutexDeeds.{acts}
 use Rattle.lot_laws.specs.Stations.{doing_on, station_at}
@@ -35,10 +35,15 @@ use Rattle.lot_laws.proofs.GoneKept.{none_is}
 use Rattle.lot_laws.proofs.LineActs.{key_there}
 use Rattle.lot_laws.proofs.CondvarParts.{doing_beside, doing_there, nothing_else, station_beside, station_there, taken_beside, taken_there}
 use Rattle.lot_laws.proofs.CondvarThere.{enters_there}
+use Rattle.lot_laws.proofs.WaitersAside.{plain_sort}
 
 -- it has come on in the same call, beside the same mutex
 pub fits_on : (w : State) (l : ℕ) (at at2 : CondvarPlace) → FitsCondvar w l at → IsReached at2 → mutex_beside at2 ≡ mutex_beside at → FitsCondvar w l at2
 fits_on w l at at2 f reached beside = record { sort = f.sort; reached = reached; mutex = λ m is. f.mutex m (sym beside ∙ is); begun = f.begun }
+
+-- the mutex beside a condition variable is another lock
+pub apart_of : (w : State) (l m : ℕ) (at : CondvarPlace) → FitsCondvar w l at → mutex_beside at ≡ Some m → m ≢ l
+apart_of w l m at f names e = let both : locks.Mutex ≡ locks.Condvar = sym (plain_sort (kind_at w m) (f.mutex m names)) ∙ ap (λ j. (rules_in w j).sort) e ∙ f.sort in cc
 
 -- ---------------------------------------------------------------- a call begins
 
@@ -80,9 +85,9 @@ module _ (w : State) (t l m : ℕ) (timed : Bool) (steady : IsSteady w) (there :
 
 -- ---------------------------------------------------------------- its time is up
 
-module _ (w : State) (t l m : ℕ) (steady : IsSteady w) (there : t < length w.places) (apart : m ≢ l) (sort : (rules_in w l).sort ≡ locks.Condvar) where
+module _ (w : State) (t l m : ℕ) (steady : IsSteady w) (there : t < length w.places) (apart : m ≢ l) where
   -- it leaves the queue of the condition variable
-  module _ (is : place_at w t ≡ Condvar l (Wait m true (wait.Asleep stands.Listed))) (fits : FitsItsLock w (Condvar l (Wait m true wait.Remove))) where
+  module _ (sort : (rules_in w l).sort ≡ locks.Condvar) (is : place_at w t ≡ Condvar l (Wait m true (wait.Asleep stands.Listed))) (fits : FitsItsLock w (Condvar l (Wait m true wait.Remove))) where
     same_beside : Alike m (place_at w t) (Condvar l (Wait m true wait.Remove))
     same_beside = subst (λ q. Alike m q (Condvar l (Wait m true wait.Remove))) (sym is) (record {
       station = station_beside l m apart (At (Wait m true wait.Remove)) refl ∙ sym (station_beside l m apart (At (Wait m true (wait.Asleep stands.Listed))) refl);
@@ -129,3 +134,32 @@ module _ (w : State) (t l m : ℕ) (steady : IsSteady w) (there : t < length w.p
         ((acting.nobody_inside w t m steady there (rules_in w m) refl (Condvar l removing) alike fits Main free, ap (λ (d : Doing). d.inside) did, ap (λ (d : Doing). d.empty) did), tt)
         (doing_beside l m apart (At removing) refl ∙ sym (ap (λ (d : Doing). record d { inside = Some Main }) did)))
         (station_beside l m apart (At removing) refl ∙ sym (ap (λ (y : Station). record y { inside = Some Main }) was))
+
+-- wherever it sleeps with a deadline
+module _ (w : State) (t l : ℕ) (shape : IsShaped w) (steady : IsSteady w) (there : t < length w.places) where
+  abbrev LateGoes : CondvarPlace → Type 0
+  LateGoes at = (k : ℕ) × Goes w (state_after_late_on w t (late_key (Condvar l at))) k (acts t (In Main ∷ []))
+
+  late_goes : (at : CondvarPlace) → place_at w t ≡ Condvar l at → FitsCondvar w l at → PlaceFits (length w.locks) (Condvar l at) → is_free_under w (late_key (Condvar l at)) ≡ true → LateGoes at
+  late_goes (Wait m true (wait.Asleep stands.Listed)) is fits held can = (
+    l,
+    subst (λ q. Goes w (put (state_with_sections w (One (key_of l Main)) (Some t)) t (next_place q Late)) l (acts t (In Main ∷ []))) (sym is)
+        (listed_late w t l m steady there (apart_of w l m (Wait m true (wait.Asleep stands.Listed)) fits refl) fits.sort is
+        (fits_on w l (Wait m true (wait.Asleep stands.Listed)) (Wait m true wait.Remove) fits refl refl)
+        (key_there w l Main shape held.0) (none_is (section_at w (key_of l Main)) can)),
+  )
+  late_goes (Wait m true (wait.Asleep stands.Moved)) is fits held can = (
+    m,
+    subst (λ q. Goes w (put (state_with_sections w (One (key_of m Main)) (Some t)) t (next_place q Late)) m (acts t (In Main ∷ []))) (sym is)
+        (moved_late w t l m steady there (apart_of w l m (Wait m true (wait.Asleep stands.Moved)) fits refl) is
+        (fits_on w l (Wait m true (wait.Asleep stands.Moved)) (Wait m true wait.RemoveMoved) fits refl refl)
+        (key_there w m Main shape held.1) (none_is (section_at w (key_of m Main)) can)),
+  )
+  late_goes (Wait m true (wait.Asleep st)) is fits held can = absurd cc
+  late_goes (Wait m false (wait.Asleep st)) is fits held can = absurd cc
+  late_goes (Wait m timed at) is fits held can = absurd cc
+  late_goes (Look all) is fits held can = absurd cc
+  late_goes (Notify all m at) is fits held can = absurd cc
+
+  pub condvar_goes_late : (at : CondvarPlace) → place_at w t ≡ Condvar l at → is_free_under w (late_key (Condvar l at)) ≡ true → LateGoes at
+  condvar_goes_late at is can = late_goes at is (subst (FitsItsLock w) is (steady.stands.calls t)) (subst (PlaceFits (length w.locks)) is (shape.places t)) can
