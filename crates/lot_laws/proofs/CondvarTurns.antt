@@ -1,10 +1,15 @@
 -- Where a call of a condition variable begins, and where its time is up: every lock is a site again.
-use Rattle.std.proofs.Common.{ℕ, Bool, true, false, Option, Some, None, if◌then◌else◌, ◌==◌, ◌≡◌, ◌≢◌, ◌<◌, ◌⊎◌, inl, inr, List, [], ◌∷◌, length, refl, sym, ◌∙◌, ap, subst}
+use Rattle.std.proofs.Common.{ℕ, Bool, true, false, Option, Some, None, if◌then◌else◌, ◌==◌, ◌&&◌, nat_lt, ◌≡◌, ◌≢◌, ◌<◌, ◌⊎◌, inl, inr, List, [], ◌∷◌, length, refl, sym, ◌∙◌, ap, subst}
 use Rattle.std.proofs.lemmas.Bool.{cases_eq}
 use Rattle.lot_base.specs.declared.keys.Keys.TheVariants.{One}
 use Rattle.lot_base.specs.declared.notes.Note.TheVariants as note
 use Rattle.lot_base.specs.declared.wants.Want.TheVariants.{Exclusive}
-use Rattle.lot_calls.specs.Kinds.{is_plain_mutex}
+use Rattle.lot_calls.specs.Kinds.{has_call, is_condvar, is_plain_mutex}
+use Rattle.lot_calls.specs.declared.calls.Call.TheVariants as call
+use Rattle.lot_calls.specs.declared.calls.CondvarCall.{CondvarCall}
+use Rattle.lot_calls.specs.declared.calls.CondvarCall.TheVariants as condvar_call
+use Rattle.lot_calls.specs.declared.kinds.Kind.{Kind}
+use Rattle.lot_calls.specs.declared.kinds.Kind.TheVariants as kind
 use Rattle.lot_calls.specs.declared.outcomes.Answer.TheVariants as answer
 use Rattle.lot_acts.specs.declared.acts.Next.TheVariants.{At, End as Over}
 use Rattle.lot_acts.specs.declared.acts.Reply.TheVariants.{Late}
@@ -20,14 +25,16 @@ use Rattle.lot_condvar.specs.declared.wait.WaitAt.TheVariants as wait
 use Rattle.lot_condvar.specs.CondvarCalls.{IsReached}
 use Rattle.lot_condvar.specs.CondvarSteps.{mutex_beside}
 use Rattle.abstract_locks.specs.Locks as locks
-use Rattle.abstract_locks.specs.Sites.{Begin, Doing, Has, In, Line, Main, Second, idle}
-use Rattle.lot_machine.specs.Machine.{State, is_free_under, kind_at, owners_at, place_at, put, section_at, state_after_late_on, state_with_sections}
+use Rattle.abstract_locks.specs.Purposes.{rules_of}
+use Rattle.abstract_locks.specs.Sites.{Begin, Deed, Doing, Has, In, Line, Main, Second, idle}
+use Rattle.lot_machine.specs.Machine.{State, has_mutex, holds_right, is_free_under, is_open_to, kind_at, owners_at, place_at, put, section_at, state_after_begin, state_after_late_on, state_with_sections}
+use Rattle.lot_machine.proofs.Suits.{Suits, both, call_suits}
 use Rattle.lot_machine.specs.Fits.{IsShaped, PlaceFits}
 use Rattle.lot_laws.specs.Refinement.{taken_at}
 use Rattle.lot_laws.specs.MutexDeeds.{acts}
 use Rattle.lot_laws.specs.Stations.{doing_on, station_at}
 use Rattle.lot_laws.specs.SitesOf.{CondvarsBegin, FitsCondvar, FitsItsLock, Goes, IsSteady, key_of, rules_in}
-use Rattle.lot_laws.proofs.Glue.{differ, parts_at, put_here, same}
+use Rattle.lot_laws.proofs.Glue.{differ, parts_at, put_here, same, thread_is}
 use Rattle.lot_laws.proofs.OneStep.{steps_by}
 use Rattle.lot_laws.proofs.StandsKept.{Alike, AlikeBeside}
 use Rattle.lot_laws.proofs.ActsAt as acting
@@ -82,6 +89,39 @@ module _ (w : State) (t l m : ℕ) (timed : Bool) (steady : IsSteady w) (there :
       (ap (λ q. taken_at q m) is ∙ sym (taken_beside l m apart (At (Wait m timed wait.Enter)) refl)) refl refl refl refl
       (doing_beside l m apart (At (Wait m timed wait.Enter)) refl ∙ sym (put_here (λ u. doing_on (place_at w u) m) t _ ∙ ap (λ q. record (doing_on q m) { claims = Some (Has Exclusive) }) is)))
       (station_beside l m apart (At (Wait m timed wait.Enter)) refl ∙ sym (ap (λ q. station_at q m) is))
+
+-- the lock at which a call begins, and what it does there
+abbrev pub begins_at : ℕ → CondvarCall → ℕ
+begins_at l (condvar_call.Wait m timed) = m
+begins_at l (condvar_call.Notify all) = l
+
+abbrev pub begins_by : CondvarCall → List Deed
+begins_by (condvar_call.Wait m timed) = Begin (Some (Has Exclusive)) ∷ []
+begins_by (condvar_call.Notify all) = []
+
+condvar_sort : (k : Kind) → is_condvar k ≡ true → (rules_of k).sort ≡ locks.Condvar
+condvar_sort kind.Condvar h = refl
+condvar_sort k h = absurd cc
+
+-- it may begin where it names a plain mutex that its thread owns
+module _ (w : State) (t l : ℕ) (steady : IsSteady w) (there : t < length w.places) (is : place_at w t ≡ Idle) (begun : CondvarsBegin) where
+  pub condvar_begins : (c : CondvarCall) → is_open_to w t (call.Condvar l c) ≡ true → Goes w (state_after_begin w t (call.Condvar l c)) (begins_at l c) (acts t (begins_by c))
+  condvar_begins (condvar_call.Notify all) may = notification_begins w t l all steady there is (record { sort = condvar_sort (kind_at w l) suits.1.0; reached = tt; mutex = λ m none. absurd cc; begun = begun })
+    where
+      suits : Suits (length w.locks) (kind_at w) (Condvar l (Look all))
+      suits = call_suits w t (call.Condvar l (condvar_call.Notify all)) may
+  condvar_begins (condvar_call.Wait m timed) may = wait_begins w t l m timed steady there is (apart_of w l m (Wait m timed wait.Enter) fits refl) fits (thread_is t (owners_at w m).exclusive right)
+    where
+      suits : Suits (length w.locks) (kind_at w) (Condvar l (Wait m timed wait.Enter))
+      suits = call_suits w t (call.Condvar l (condvar_call.Wait m timed)) may
+
+      fits : FitsCondvar w l (Wait m timed wait.Enter)
+      fits = record { sort = condvar_sort (kind_at w l) suits.1.0; reached = tt; mutex = λ k names. let same_mutex : m ≡ k = cc in subst (λ j. is_plain_mutex (kind_at w j) ≡ true) same_mutex suits.1.1; begun = begun }
+
+      right : holds_right w t (call.Condvar l (condvar_call.Wait m timed)) ≡ true
+      right = let named = call.Condvar l (condvar_call.Wait m timed) in
+          (both (has_mutex w (Some m)) (holds_right w t named) (both (has_call (kind_at w l) named) (has_mutex w (Some m) && holds_right w t named)
+          (both (nat_lt l (length w.locks)) (has_call (kind_at w l) named && (has_mutex w (Some m) && holds_right w t named)) may).1).1).1
 
 -- ---------------------------------------------------------------- its time is up
 
