@@ -39,14 +39,11 @@ use Rattle.lot_laws.proofs.OneStep.{steps_by}
 use Rattle.lot_laws.proofs.StandsKept.{Alike, AlikeBeside}
 use Rattle.lot_laws.proofs.ActsAt as acting
 use Rattle.lot_laws.proofs.GoneKept.{none_is}
+use Rattle.lot_laws.proofs.Looking.{fits_on}
 use Rattle.lot_laws.proofs.LineActs.{key_there}
 use Rattle.lot_laws.proofs.CondvarParts.{doing_beside, doing_there, nothing_else, station_beside, station_there, taken_beside, taken_there}
 use Rattle.lot_laws.proofs.CondvarThere.{enters_there}
 use Rattle.lot_laws.proofs.WaitersAside.{plain_sort}
-
--- it has come on in the same call, beside the same mutex
-pub fits_on : (w : State) (l : ℕ) (at at2 : CondvarPlace) → FitsCondvar w l at → IsReached at2 → mutex_beside at2 ≡ mutex_beside at → FitsCondvar w l at2
-fits_on w l at at2 f reached beside = record { sort = f.sort; reached = reached; mutex = λ m is. f.mutex m (sym beside ∙ is); begun = f.begun }
 
 -- the mutex beside a condition variable is another lock
 pub apart_of : (w : State) (l m : ℕ) (at : CondvarPlace) → FitsCondvar w l at → mutex_beside at ≡ Some m → m ≢ l
