@@ -1,8 +1,7 @@
 -- Where a call of a condition variable begins, and where its time is up: every lock is a site again.
-use Rattle.std.proofs.Common.{ℕ, Bool, true, false, Option, Some, None, if◌then◌else◌, ◌==◌, ◌&&◌, nat_lt, ◌≡◌, ◌≢◌, ◌<◌, ◌⊎◌, inl, inr, List, [], ◌∷◌, length, refl, sym, ◌∙◌, ap, subst}
+use Rattle.std.proofs.Common.{ℕ, Bool, true, false, Some, None, ◌&&◌, nat_lt, ◌≡◌, ◌≢◌, ◌<◌, inl, inr, List, [], ◌∷◌, length, refl, sym, ◌∙◌, ap, subst}
 use Rattle.std.proofs.lemmas.Bool.{cases_eq}
 use Rattle.lot_base.specs.declared.keys.Keys.TheVariants.{One}
-use Rattle.lot_base.specs.declared.notes.Note.TheVariants as note
 use Rattle.lot_base.specs.declared.wants.Want.TheVariants.{Exclusive}
 use Rattle.lot_calls.specs.Kinds.{has_call, is_condvar, is_plain_mutex}
 use Rattle.lot_calls.specs.declared.calls.Call.TheVariants as call
@@ -20,13 +19,11 @@ use Rattle.lot_steps.specs.Steps.{late_key, next_place}
 use Rattle.lot_condvar.specs.declared.places.CondvarPlace.{CondvarPlace}
 use Rattle.lot_condvar.specs.declared.places.CondvarPlace.TheVariants.{Wait, Look, Notify}
 use Rattle.lot_condvar.specs.declared.wait.Stands.TheVariants as stands
-use Rattle.lot_condvar.specs.declared.wait.WaitAt.{WaitAt}
 use Rattle.lot_condvar.specs.declared.wait.WaitAt.TheVariants as wait
-use Rattle.lot_condvar.specs.CondvarCalls.{IsReached}
 use Rattle.lot_condvar.specs.CondvarSteps.{mutex_beside}
 use Rattle.abstract_locks.specs.Locks as locks
 use Rattle.abstract_locks.specs.Purposes.{rules_of}
-use Rattle.abstract_locks.specs.Sites.{Begin, Deed, Doing, Has, In, Line, Main, Second, idle}
+use Rattle.abstract_locks.specs.Sites.{Begin, Deed, Doing, Has, In, Main, idle}
 use Rattle.lot_machine.specs.Machine.{State, has_mutex, holds_right, is_free_under, is_open_to, kind_at, owners_at, place_at, put, section_at, state_after_begin, state_after_late_on, state_with_sections}
 use Rattle.lot_machine.proofs.Suits.{Suits, both, call_suits}
 use Rattle.lot_machine.specs.Fits.{IsShaped, PlaceFits}

@@ -38,7 +38,7 @@ use Rattle.lot_laws.specs.Stations.{nowhere, station}
 use Rattle.lot_laws.specs.SitesOf.{AreCounted, IsSteady, Goes}
 use Rattle.lot_machine.proofs.Shape.{both, looking_shaped}
 use Rattle.lot_laws.proofs.KindsKept.{calls_mutex, calls_readers, no_condvar_call}
-use Rattle.lot_laws.proofs.Glue.{parts_at, same, thread_is, IsSingle, singles}
+use Rattle.lot_laws.proofs.Glue.{parts_at, same, thread_is}
 use Rattle.lot_laws.proofs.MutexTable.{mutex, own_doing, meets, others_same}
 use Rattle.lot_laws.proofs.StandsMoved.{mutex_rules}
 use Rattle.lot_laws.proofs.SitesKept.{mutex_at, goes_steady, place_goes}
