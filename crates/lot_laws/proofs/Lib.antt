@@ -113,3 +113,5 @@ pub mod CondvarRows
 pub mod CondvarsKept
 pub mod CondvarLed
 pub mod CondvarWent
+pub mod WaitsThere
+pub mod WaitsBeside
