@@ -117,3 +117,4 @@ pub mod WaitsThere
 pub mod WaitsBeside
 pub mod WaitsInside
 pub mod WaitsWaking
+pub mod WaitsTaking
