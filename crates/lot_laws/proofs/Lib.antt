@@ -118,3 +118,4 @@ pub mod WaitsBeside
 pub mod WaitsInside
 pub mod WaitsWaking
 pub mod WaitsTaking
+pub mod WaitsRefused
