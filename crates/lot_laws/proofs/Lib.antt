@@ -119,3 +119,4 @@ pub mod WaitsInside
 pub mod WaitsWaking
 pub mod WaitsTaking
 pub mod WaitsRefused
+pub mod NotifiesWords
