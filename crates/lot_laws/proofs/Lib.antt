@@ -120,3 +120,4 @@ pub mod WaitsWaking
 pub mod WaitsTaking
 pub mod WaitsRefused
 pub mod NotifiesWords
+pub mod NotifiesBoth
