@@ -26,8 +26,8 @@ use Rattle.lot_machine.specs.Machine.{State, can_do, place_at, put, queue_at, se
 use Rattle.lot_laws.specs.MutexDeeds.{acts}
 use Rattle.lot_laws.specs.Refinement.{taken_at}
 use Rattle.lot_laws.specs.Stations.{doing_on, station_at}
-use Rattle.lot_laws.specs.SitesOf.{FitsItsLock, GoesAll, IsSteady, condvar_of, key_of, rules_in, site_of, stations_of}
-use Rattle.lot_laws.proofs.Glue.{parts_at, put_here, put_other}
+use Rattle.lot_laws.specs.SitesOf.{FitsItsLock, GoesAll, IsSteady, condvar_of, key_of, rules_in, site_of, stations_of, carried_at, hand_at}
+use Rattle.lot_laws.proofs.Glue.{parts_at, put_here, put_other, LetGo, stays, untaken}
 use Rattle.lot_laws.proofs.OneStep.{Steps, steps_by}
 use Rattle.lot_laws.proofs.StandsKept.{Alike, other_key}
 use Rattle.lot_laws.proofs.StandsMoved.{AreThere, stands_put, there_in}
@@ -36,6 +36,11 @@ use Rattle.lot_laws.proofs.CondvarParts.{Beside, doing_beside, nothing_else, sta
 use Rattle.lot_laws.proofs.CondvarHears as hears
 use Rattle.lot_laws.proofs.CondvarHears.{notifier_hears}
 use Rattle.lot_laws.proofs.CondvarThere.{in_steps, out_steps, then_is, was}
+use Rattle.lot_condvar.specs.CondvarProfiles.{has_moved, notify_row}
+use Rattle.lot_mutex.specs.MutexProfiles.{inside}
+use Rattle.lot_laws.proofs.LawsKept.{after_same, needed_same}
+use Rattle.lot_laws.proofs.WakesAt.{leaving_by}
+use Rattle.lot_acts.specs.Profiles.{hand}
 
 none_so : (o : Option ℕ) → is_none o ≡ true → o ≡ None
 none_so None h = refl
@@ -132,3 +137,54 @@ module _ (w : State) (t l m : ℕ) (all : Bool) (steady : IsSteady w) (is_there 
 
         v : State
         v = put (with_both (Some t)) t there_then
+
+  -- ---------------------------------------------------------------- and out of them
+
+  -- it is inside the section of the mutex, whomever it has moved
+  inside_leave : (any : Bool) (number : ℕ) → (notify_row all m (notify.Leave any number)).doing.inside ≡ Some Main
+  inside_leave any number = by_number (number == 0)
+    where
+      by_number : (b : Bool) → (if b then inside else has_moved any false).inside ≡ Some Main
+      by_number true = refl
+      by_number false = refl
+
+  module _ (number : ℕ) (is : place_at w t ≡ Condvar l (notifies (notify.Leave false number))) where
+    abbrev leaves_at : NotifyAt
+    leaves_at = notify.Leave false number
+
+    abbrev over : Next CondvarPlace
+    over = Over (notified all number)
+
+    out_follows : FollowsBeside (rules_in w m) (site_of w m) (condvar_of w l) t m all leaves_at Done
+    out_follows = notifiers_follow (rules_in w m) (site_of w m) (condvar_of w l) t m all leaves_at Done sort_m (hears.doing_beside w t l (notifies leaves_at) steady is m refl) (notifier_hears w t l m all leaves_at steady kept aside is refl)
+
+    out_l : Steps (rules_in w l) l (parts_at w l) (parts_at w l) (place_at w) t Idle (Out ∷ [])
+    out_l = out_steps w t l m (notifies leaves_at) steady is_there apart sort_l is refl Done tt refl refl
+
+    untaken_m : taken_at (place_at w t) m ≡ None
+    untaken_m = taken_m leaves_at is over tt ∙ taken_beside l m apart (At (notifies leaves_at)) refl
+
+    nobody : (u : ℕ) → hand_at (place_at w u) m ≡ hand t false → ⊥
+    nobody u h = let a : carried_at (place_at w t) m ≡ Some false = steady.stands.hands.taken t u m false h in let b : carried_at (place_at w t) m ≡ None = ap (λ (y : Station). y.carries) (station_m leaves_at is over tt) in
+        let c : ◌≡◌ {A = Option Bool} None (Some false) = sym b ∙ a in cc
+
+    out_m : Steps (rules_in w m) m (parts_at w m) (parts_at w m) (place_at w) t Idle (Out ∷ End ∷ [])
+    out_m = record {
+      site = leaving_by (rules_in w m) m (parts_at w m) (place_at w) (putting (place_at w) t Idle) t (ap (λ q. taken_at q m) (put_here (place_at w) t Idle) ∙ sym (ap (keep_from t) untaken_m))
+          (λ u ne. subst (λ q. LetGo t m (place_at w u) q) (sym (put_other (place_at w) t Idle u ne)) (stays t m (place_at w u) (untaken (place_at w u) t m (nobody u))))
+          (Out ∷ End ∷ []) tt (ap (λ q. doing_on q m) (put_here (place_at w) t Idle) ∙ sym out_follows.doing ∙ sym (ap (λ (y : Site). y.doing t) (after_same (rules_in w m) (Out ∷ End ∷ []) (site_of w m) t)));
+      needed = needed_same (rules_in w m) (Out ∷ End ∷ []) (site_of w m) t out_follows.needed;
+    }
+
+    pub goes_out_of_both : GoesAll w (put (with_both None) t Idle) (two_at l m (acts t (Out ∷ [])) (acts t (Out ∷ End ∷ [])))
+    goes_out_of_both = record {
+      follows = two_follow w v steady t is_there Idle l m apart (else_alike leaves_at is over tt) refl refl refl refl unshared_l unshared_m (Out ∷ []) (Out ∷ End ∷ []) out_l out_m;
+      stands = stands_put w v steady.stands (λ k. refl) t Idle tt (places_put w v steady t is_there Idle l m apart (else_alike leaves_at is over tt) refl refl refl refl unshared_l unshared_m (Out ∷ []) (Out ∷ End ∷ []) out_l out_m)
+          (goes_out_two (stations_of (place_at w)) (stations_of (putting (place_at w) t Idle)) (section_at w) (queue_at w) (there_in w steady.stands) t l m apart (still leaves_at is over tt) (section_at v) (elsewhere None) (held_l None) (held_m None)
+          (ap (λ (y : Station). y.inside) (was w t l m (notifies leaves_at) steady is_there apart sort_l is refl Done tt)) (ap (λ (y : Station). y.inside) (station_m leaves_at is over tt) ∙ inside_leave false number)
+          (ap (λ q. station_at q l) (put_here (place_at w) t Idle) ∙ then_is w t l m (notifies leaves_at) steady is_there apart sort_l is refl Done tt ∙ sym (ap (λ (y : Station). record y { inside = None }) (was w t l m (notifies leaves_at) steady is_there apart sort_l is refl Done tt)))
+          (ap (λ q. station_at q m) (put_here (place_at w) t Idle) ∙ then_m leaves_at is over tt ∙ sym (ap (λ (y : Station). record y { inside = None }) (station_m leaves_at is over tt))));
+    }
+      where
+        v : State
+        v = put (with_both None) t Idle
