@@ -107,3 +107,4 @@ pub mod CondvarRows
 pub mod CondvarsKept
 pub mod CondvarLed
 pub mod CondvarWent
+pub mod CondvarOwn
