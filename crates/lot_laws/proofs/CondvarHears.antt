@@ -118,7 +118,7 @@ module _ (w : State) (t l : ℕ) (at : CondvarPlace) (steady : IsSteady w) (is :
       shows None = refl
       shows (Some m) = refl
 
-  free_inside : is_free w (2 * l) ≡ true → here.inside ≡ None
+  pub free_inside : is_free w (2 * l) ≡ true → here.inside ≡ None
   free_inside free = ap (λ o. inside_as o (λ u. (profile_at (place_at w u) l).stage)) (none_so (section_at w (2 * l)) free)
 
   left_waiters : (length (without t (queue_at w (2 * l))) == 0) ≡ is_empty (locks.without t here.waiters)

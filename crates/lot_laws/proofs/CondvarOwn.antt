@@ -98,7 +98,7 @@ module _ (l : ℕ) where
 
 -- ---------------------------------------------------------------- its next row
 
-alike_same : (n : Next CondvarPlace) → Alike n n
+pub alike_same : (n : Next CondvarPlace) → Alike n n
 alike_same (next.At q) = (refl, refl)
 alike_same (next.End answer) = tt
 

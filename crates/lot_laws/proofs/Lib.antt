@@ -108,3 +108,4 @@ pub mod CondvarsKept
 pub mod CondvarLed
 pub mod CondvarWent
 pub mod CondvarOwn
+pub mod CondvarSteps
