@@ -391,7 +391,7 @@ module _ (w v : State) (t l : ℕ) (c : Option LockCase) (h : Happens w v t (eve
         led : (n : Next Profile) → ComesTo (rules_in w l) l (profile p) (event_by l c) (lock_state w l) behind t n → LeadsTo v t l n o → CallLed w v t (event_by l c) call_then o
         led (next.At row) comes leads = inl (
           call_here (place_at v t) l (singles v h.after t) leads.0 (rights v t) ∙ ap (λ x. call_by l x (rights v t)) leads.1
-          ∙ ap (call_by l row) (λ i k. rights_led t k i) ∙ comes (rights w t) refl ∙ sym (unwoken c (going_on (event_by l c) call_then)),
+              ∙ ap (call_by l row) (λ i k. rights_led t k i) ∙ comes (rights w t) refl ∙ sym (unwoken c (going_on (event_by l c) call_then)),
           (l, leads.2),
         )
         led (next.End a) comes leads = inr (a, leads.1, leads.0, comes (locks_of v) (rights w t) (ap rules_of (h.kinds l)) led_here refl (rights_led t))

@@ -76,6 +76,11 @@ module _ (l m : ℕ) (apart : m ≢ l) where
         by_next (At p) e = rw (there_differ, e, same m) refl
         by_next (Over answer) e = refl
 
+  -- elsewhere it stands nowhere
+  pub nothing_there : (n : Next CondvarPlace) → Beside m n → (k : ℕ) → k ≢ l → k ≢ m → station_at (condvar_goes l n) k ≡ nowhere
+  nothing_there (At p) e k nl nm = rw (differ l k (λ f. nl (sym f)), e, differ m k (λ f. nm (sym f))) refl
+  nothing_there (Over answer) e k nl nm = refl
+
   -- another lock sees nothing of it
   pub nothing_else : (n n2 : Next CondvarPlace) → Beside m n → Beside m n2 → (k : ℕ) → k ≢ l → k ≢ m → Alike k (condvar_goes l n) (condvar_goes l n2)
   nothing_else n n2 h h2 k nl nm = let a = nothing n h in let b = nothing n2 h2 in record { station = b.0 ∙ sym a.0; doing = b.1 ∙ sym a.1; taken = b.2 ∙ sym a.2 }

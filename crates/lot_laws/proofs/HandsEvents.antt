@@ -14,7 +14,7 @@ use Rattle.lot_machine.specs.Machine.{State, place_at}
 use Rattle.lot_laws.specs.Refinement.{call_state, lock_state, taken_at}
 use Rattle.lot_laws.specs.MutexDeeds.{Act}
 use Rattle.lot_laws.specs.SitesOf.{rules_in}
-use Rattle.lot_laws.proofs.Glue.{past_all, put_same, same, singles}
+use Rattle.lot_laws.proofs.Glue.{past_all, put_same, same, IsSingle}
 use Rattle.lot_laws.proofs.CallEvents.{AreClaims, Happens, OthersFollow, rights, rights_led}
 use Rattle.lot_laws.proofs.HandRights.{given, given_right, handed_have, others_have}
 use Rattle.lot_laws.proofs.HandsKept.{claim_of, claims_given}
@@ -57,8 +57,8 @@ module _ (w v : State) (t l : ℕ) (right : Want) (successor : Option Queued) (h
         let f : ◌≡◌ {A = Option Taken} None (Some (record { by = t; want = x })) = sym none ∙ is in cc)
   ]
 
-  pub hands_many : Befalls w v t l (HandedBy t alone) → ((u : ℕ) (x : Want) → IsTaken (lock_state w l) t u x → IsHandedCall l t alone x (place_at w u)) → OthersFollow w v t (AtLock l (HandOff right successor))
-  hands_many befalls calls u ne = ap (λ p. call_state p (rights v u)) (befalls u ne) ∙ by_hand (taken_at (place_at w u) l) refl
+  pub hands_many : Befalls w v t l (HandedBy t alone) → ((u : ℕ) (x : Want) → IsTaken (lock_state w l) t u x → IsHandedCall l t alone x (place_at w u)) → ((u : ℕ) (x : Want) → IsTaken (lock_state w l) t u x → IsSingle (place_at w u)) → OthersFollow w v t (AtLock l (HandOff right successor))
+  hands_many befalls calls of_one u ne = ap (λ p. call_state p (rights v u)) (befalls u ne) ∙ by_hand (taken_at (place_at w u) l) refl
     where
       handed_call : (x : Want) → IsTaken (lock_state w l) t u x → call_state (next_place (place_at w u) (HandedBy t alone)) (rights v u) ≡ record (call_state (place_at w u) (rights w u)) { retries = None }
       handed_call x is = ap (call_state (next_place (place_at w u) (HandedBy t alone)))
@@ -75,7 +75,7 @@ module _ (w v : State) (t l : ℕ) (right : Want) (successor : Option Queued) (h
       by_hand (Some g) e = either (g.by == t) refl
         where
           either : (b : Bool) → (g.by == t) ≡ b → call_state (if b then next_place (place_at w u) (HandedBy t alone) else place_at w u) (rights v u) ≡ (if b then record (call_state (place_at w u) (rights w u)) { retries = None; recalls = behind_wake (call_state (place_at w u) (rights w u)).recalls } else call_state (place_at w u) (rights w u))
-          either true f = handed_call g.want (e ∙ (let mine : g.by ≡ t = eqb-true g.by t f in λ i. Some (record { by = mine i; want = g.want })))
-              ∙ unmoved None (call_state (place_at w u) (rights w u)) (recalls_nothing (place_at w u) (singles w h.before u) (rights w u))
+          either true f = let mine : IsTaken (lock_state w l) t u g.want = e ∙ (let own : g.by ≡ t = eqb-true g.by t f in λ i. Some (record { by = own i; want = g.want })) in
+              handed_call g.want mine ∙ unmoved None (call_state (place_at w u) (rights w u)) (recalls_nothing (place_at w u) (of_one u g.want mine) (rights w u))
           either false f = other_call (λ x is. let both : Some g ≡ Some (record { by = t; want = x }) = sym e ∙ is in let mine : g ≡ record { by = t; want = x } = cc in
               let yes : (g.by == t) ≡ true = ap (λ (y : Taken). y.by == t) mine ∙ same t in let no_more : true ≡ false = sym yes ∙ f in cc)

@@ -41,7 +41,7 @@ use Rattle.lot_laws.specs.Refinement.{call_state, lock_state, taken_at}
 use Rattle.lot_laws.specs.SitesOf.{FitsItsLock, Goes, IsCounted, IsSteady, carried_at, rules_in}
 use Rattle.lot_laws.proofs.AtPlaces.{in_no_hand, unless_held}
 use Rattle.lot_laws.proofs.CallEvents.{Happens, OthersFollow, happens}
-use Rattle.lot_laws.proofs.Glue.{held_tells, station_here, condvar_untaken}
+use Rattle.lot_laws.proofs.Glue.{IsSingle, held_tells, station_here, condvar_untaken}
 use Rattle.lot_laws.proofs.HandRights.{given_right}
 use Rattle.lot_laws.proofs.HandsCounted.{hand_there}
 use Rattle.lot_laws.proofs.HandsEvents.{IsHandedCall, claims_are, hands_many}
@@ -115,6 +115,17 @@ module _ (w : State) (t l : ℕ) (a : Admission) (c : RwLockCallPlace) (steady :
           (hand_there w t l steady (of w t l a c steady shape there lt is k is_k count op e) (g w t l a c steady shape there lt is k is_k count op e).any (carries w t l a c steady shape there lt is k is_k count op e) u f))
       same_test false f = f ∙ sym (unless_held w steady t l u (λ h. let z : is_thread t (taker (place_at w u)) ≡ true = held_tells (place_at w u) t l false h in cc))
 
+  -- who waits for a lock that is no mutex is in a call of it alone
+  handed_single : (u : ℕ) (x : Want) → IsTaken (lock_state w l) t u x → IsSingle (place_at w u)
+  handed_single u x taken = by_place (place_at w u) refl taken
+    where
+      by_place : (q : Place) → place_at w u ≡ q → taken_at q l ≡ Some (record { by = t; want = x }) → IsSingle q
+      by_place (Condvar j at) f h = let none : taken_at (Condvar j at) l ≡ None = condvar_untaken j at l (beside_no_call w t l a c steady shape there lt is u j at f) in let both : ◌≡◌ {A = Option Taken} None (Some (record { by = t; want = x })) = sym none ∙ h in cc
+      by_place Idle f h = tt
+      by_place (Mutex j m) f h = tt
+      by_place (RwLock j d q) f h = tt
+      by_place (Once j at) f h = tt
+
   -- and their calls go on with it
   handed_calls : (u : ℕ) (x : Want) → IsTaken (lock_state w l) t u x → IsHandedCall l t alone x (place_at w u)
   handed_calls u x taken = by_place (place_at w u) refl taken
@@ -175,4 +186,4 @@ module _ (w : State) (t l : ℕ) (a : Admission) (c : RwLockCallPlace) (steady :
   hands_others = subst (OthersFollow w behind t) (sym one_case) (hands_many w behind t l right successor (subst (Happens w behind t) one_case hands_happen) alone
       (alone_is w t l steady (of w t l a c steady shape there lt is k is_k count op e) there lt (RwLock l a c) (place_at w t) (of w t l a c steady shape there lt is k is_k count op e) (steady.stands.calls t) op (rules_in w l) refl (admits w t l a c steady shape there lt is).0
       (given w t l a c steady shape there lt is k is_k count op e takes) (bare w t l a c steady shape there lt is k is_k count op e) right (more_right w t l a c steady shape there lt is k is_k count op e takes))
-      befalls handed_calls)
+      befalls handed_calls handed_single)

@@ -7,6 +7,7 @@ pub mod Runs
 pub mod Glue
 pub mod Beside
 pub mod Waiters
+pub mod WaiterCalls
 pub mod MutexHands
 pub mod OneStep
 pub mod MutexTable
@@ -23,10 +24,13 @@ pub mod HandRights
 pub mod WakesAt
 pub mod WakesKept
 pub mod TwoLocks
+pub mod Moving
 pub mod CondvarSites
 pub mod CondvarHears
 pub mod CondvarParts
+pub mod CondvarThere
 pub mod TakesAt
+pub mod MovingKept
 pub mod TakesKept
 pub mod PicksKept
 pub mod AnyPicked

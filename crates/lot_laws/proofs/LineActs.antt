@@ -80,6 +80,15 @@ IsLineAct l s (act.Remove key) = IsWithinLine l s key × StandsThere s
 IsLineAct l s (act.Requeue from to how) = ⊥
 IsLineAct l s a = Unit {0}
 
+-- whom it takes it takes of a line of the lock
+abbrev pub TakesHere : ℕ → Act → Type 0
+TakesHere l (act.Take key x) = IsOfLine l key
+TakesHere l a = Unit {0}
+
+pub takes_here : (l : ℕ) (s : Station) (a : Act) → IsLineAct l s a → TakesHere l a
+takes_here l s (act.Take key x) h = (h.0, h.2)
+takes_here l s a h = tt
+
 -- ---------------------------------------------------------------- each place
 
 decides : (l x : ℕ) (s : Station) (a b : Bool) → IsLineAct l s (if not a then act.Word l (op.TheVariants.Exchange x (x + 1)) else if b then act.Word l (op.TheVariants.Exchange 1 3) else act.Enter (One (2 * l)))
@@ -160,7 +169,7 @@ hand_over_lines l a x b (handing.Exchange k seen) = either (has_room a.limit k s
     either true = tt
     either false = tt
 
-call_lines : (l : ℕ) (a : Admission) (c : RwLockCallPlace) → IsLineAct l (station_by (call_profile a c)) (call_act l a c)
+pub call_lines : (l : ℕ) (a : Admission) (c : RwLockCallPlace) → IsLineAct l (station_by (call_profile a c)) (call_act l a c)
 call_lines l a (places.Plain p) = rwlock_lines l a p p.at refl
 call_lines l a (places.Bump p) = rwlock_lines l a p p.at refl
 call_lines l a (places.Glance x) = tt
@@ -170,7 +179,7 @@ call_lines l a (places.Handed access.Exclusive how b handed.Accept) = tt
 call_lines l a (places.Handed access.Shared how b handed.Accept) = tt
 call_lines l a (places.Handed access.Upgradable how b handed.Accept) = tt
 
-once_lines : (l : ℕ) (at : OncePlace) → IsLineAct l (station_by (once_profile at)) (once_act l at)
+pub once_lines : (l : ℕ) (at : OncePlace) → IsLineAct l (station_by (once_profile at)) (once_act l at)
 once_lines l (Look c again (look_at.Decide seen)) = by_course (course_of c seen)
   where
     by_course : (course : Course) → IsLineAct l (station_by (once_profile (Look c again (look_at.Decide seen)))) (course_act l seen course)
@@ -208,7 +217,7 @@ pub calls_there : (n : ℕ) (p : Place) (l : ℕ) → lock_of p ≡ Some l → P
 calls_there n Idle l e fits = absurd cc
 calls_there n (RwLock k a p) l e fits = let f : k ≡ l = cc in subst (λ j. j < n) f fits
 calls_there n (Once k p) l e fits = let f : k ≡ l = cc in subst (λ j. j < n) f fits
-calls_there n (Condvar k at) l e fits = absurd fits
+calls_there n (Condvar k at) l e fits = let f : k ≡ l = cc in subst (λ j. j < n) f fits.0
 calls_there n (Mutex k at) l e fits = let f : k ≡ l = cc in subst (λ j. j < n) f fits.0
 
 -- ---------------------------------------------------------------- the sections and queues that it touches

@@ -46,7 +46,15 @@ use Rattle.lot_laws.specs.Refinement.{owner_at, lock_state, taken_at, is_bump, b
 use Rattle.lot_laws.specs.MutexDeeds.{queued}
 use Rattle.lot_laws.specs.SitesOf.{rules_in}
 use Rattle.lot_laws.proofs.PlainCalls.{plain_goes}
-use Rattle.lot_laws.proofs.Glue.{IsTakenAt, heir, put_same, same, IsMutexCall, mutex_calls, taken_elsewhere, IsSingle, single_taken, singles}
+use Rattle.lot_laws.specs.SitesOf.{FitsItsLock}
+use Rattle.std.proofs.Common.{subst}
+use Rattle.abstract_locks.specs.Sites.{Doing, Has}
+use Rattle.lot_laws.specs.Stations.{doing_on}
+use Rattle.lot_laws.proofs.WaiterCalls.{waiter_claims, waiter_does, waiter_handed, waiter_woken}
+use Rattle.lot_laws.proofs.Waiters.{calls_mutex_at}
+use Rattle.lot_condvar.specs.declared.places.CondvarPlace.{CondvarPlace}
+use Rattle.lot_condvar.specs.CondvarProfiles.{mutex_side}
+use Rattle.lot_laws.proofs.Glue.{IsTakenAt, heir, put_same, same, IsMutexCall, taken_elsewhere, IsSingle, single_taken}
 use Rattle.lot_laws.proofs.MutexTable.{mutex}
 use Rattle.lot_laws.proofs.CallEvents.{put_is, rights, rights_led, led_here, led_elsewhere, Happens, Others, OthersFollow}
 
@@ -228,12 +236,20 @@ unmoved q c e = λ i. record c { retries = q; recalls = stays i }
     stays : c.recalls ≡ behind_wake c.recalls
     stays = e ∙ (λ i. behind_wake (sym e i))
 
+-- a waiter of a condition variable knows then that it was notified
+woken_goes_on : (p : Place) (t l : ℕ) → is_taken_by t (taken_at p l) ≡ true → (r : ℕ → Rights) → call_state (next_place p (Woken Normal)) r ≡ record (call_state p r) { retries = Some l; recalls = behind_wake (call_state p r).recalls }
+woken_goes_on Idle t l h r = absurd cc
+woken_goes_on (Condvar k at) t l h r = waiter_woken k at t l h r
+woken_goes_on (Mutex k at) t l h r = woken_call (Mutex k at) t l tt h r ∙ unmoved (Some l) (call_state (Mutex k at) r) (recalls_nothing (Mutex k at) tt r)
+woken_goes_on (RwLock k a at) t l h r = woken_call (RwLock k a at) t l tt h r ∙ unmoved (Some l) (call_state (RwLock k a at) r) (recalls_nothing (RwLock k a at) tt r)
+woken_goes_on (Once k at) t l h r = woken_call (Once k at) t l tt h r ∙ unmoved (Some l) (call_state (Once k at) r) (recalls_nothing (Once k at) tt r)
+
 module _ (w v : State) (t l : ℕ) where
-  pub wakes_others : ((u : ℕ) → IsSingle (place_at w u)) → Befalls w v t l (Woken Normal) → Others w v t (AtLock l Wake)
-  wakes_others single befalls u ne r = ap (λ p. call_state p r) (befalls u ne) ∙ either (is_taken_by t (taken_at (place_at w u) l)) refl
+  pub wakes_others : Befalls w v t l (Woken Normal) → Others w v t (AtLock l Wake)
+  wakes_others befalls u ne r = ap (λ p. call_state p r) (befalls u ne) ∙ either (is_taken_by t (taken_at (place_at w u) l)) refl
     where
       either : (b : Bool) → is_taken_by t (taken_at (place_at w u) l) ≡ b → call_state (if b then next_place (place_at w u) (Woken Normal) else place_at w u) r ≡ (if b then record (call_state (place_at w u) r) { retries = Some l; recalls = behind_wake (call_state (place_at w u) r).recalls } else call_state (place_at w u) r)
-      either true e = woken_call (place_at w u) t l (single u) e r ∙ unmoved (Some l) (call_state (place_at w u) r) (recalls_nothing (place_at w u) (single u) r)
+      either true e = woken_goes_on (place_at w u) t l e r
       either false e = refl
 
 -- ---------------------------------------------------------------- it hands its right over
@@ -283,6 +299,40 @@ module _ (w v : State) (t l : ℕ) (to : Option ℕ) (h : Happens w v t (AtLock 
     handed_call : (p : Place) (alone : Bool) → IsTakenAt p t l → call_state (next_place p (HandedBy t alone)) (rights v u) ≡ record (call_state p (rights w u)) { retries = None }
     handed_call p alone k = rw k.is (λ i. record (mutex_call_state l (Lock k.entry k.retries (Taken t)) (rights w u)) { former = former_same (is_bump k.entry) i; retries = None })
 
+  -- a waiter of a condition variable has released the mutex: else it would own it
+  module _ (u : ℕ) (e : to ≡ Some u) (ne : u ≢ t) (alone : Bool) (taken : is_taken_by t (taken_at (place_at w u) l) ≡ true) where
+    handed_waiter : (k : ℕ) (at : CondvarPlace) → place_at w u ≡ Condvar k at → call_state (next_place (Condvar k at) (HandedBy t alone)) (rights v u) ≡ record (call_state (Condvar k at) (rights w u)) { retries = None; recalls = behind_wake (call_state (Condvar k at) (rights w u)).recalls }
+    handed_waiter k at is = ap (call_state (next_place (Condvar k at) (HandedBy t alone))) (λ i j. has u e j i) ∙ waiter_handed k at t l alone taken_so released (rights w u)
+      where
+        taken_so : is_taken_by t (taken_at (Condvar k at) l) ≡ true
+        taken_so = ap (λ p. is_taken_by t (taken_at p l)) (sym is) ∙ taken
+
+        fits : FitsItsLock w (Condvar k at)
+        fits = subst (FitsItsLock w) is (h.before.stands.calls u)
+
+        released : (mutex_side at).doing.claims ≡ None
+        released = elim (waiter_claims k at t l fits.reached taken_so) [
+          | inl none ↦ none
+          | inr owns ↦ absurd (
+              let its : (lock_state w l).exclusive ≡ Some u = (h.before.sites.site l).held u (Has Exclusive) (ap (λ p. (doing_on p l).claims) is ∙ ap (λ (d : Doing). d.claims) (waiter_does k at t l taken_so) ∙ owns) in
+              let own : (lock_state w l).exclusive ≡ Some t = h.needs.0 in
+              ne (let both : Some u ≡ Some t = sym its ∙ own in cc))
+        ]
+
+    handed_goes_on : call_state (next_place (place_at w u) (HandedBy t alone)) (rights v u) ≡ record (call_state (place_at w u) (rights w u)) { retries = None; recalls = behind_wake (call_state (place_at w u) (rights w u)).recalls }
+    handed_goes_on = by_place (place_at w u) refl
+      where
+        of_one : (p : Place) → place_at w u ≡ p → IsSingle p → IsMutexCall l p → call_state (next_place (place_at w u) (HandedBy t alone)) (rights v u) ≡ record (call_state (place_at w u) (rights w u)) { retries = None; recalls = behind_wake (call_state (place_at w u) (rights w u)).recalls }
+        of_one p is single other = handed_call u e (place_at w u) alone (taken_place (place_at w u) t l (subst (IsMutexCall l) (sym is) other) taken)
+            ∙ unmoved None (call_state (place_at w u) (rights w u)) (recalls_nothing (place_at w u) (subst IsSingle (sym is) single) (rights w u))
+
+        by_place : (p : Place) → place_at w u ≡ p → call_state (next_place (place_at w u) (HandedBy t alone)) (rights v u) ≡ record (call_state (place_at w u) (rights w u)) { retries = None; recalls = behind_wake (call_state (place_at w u) (rights w u)).recalls }
+        by_place (Condvar k at) is = ap (λ p. call_state (next_place p (HandedBy t alone)) (rights v u)) is ∙ handed_waiter k at is ∙ sym (ap (λ p. record (call_state p (rights w u)) { retries = None; recalls = behind_wake (call_state p (rights w u)).recalls }) is)
+        by_place Idle is = of_one Idle is tt tt
+        by_place (Mutex k at) is = of_one (Mutex k at) is tt tt
+        by_place (RwLock k a c) is = of_one (RwLock k a c) is tt (calls_mutex_at w l (RwLock k a c) (subst (FitsItsLock w) is (h.before.stands.calls u)) rules)
+        by_place (Once k at) is = of_one (Once k at) is tt (calls_mutex_at w l (Once k at) (subst (FitsItsLock w) is (h.before.stands.calls u)) rules)
+
   pub hands_others : (alone : Bool) → Befalls w v t l (HandedBy t alone) → OthersFollow w v t (AtLock l (HandsOff Exclusive (heir to)))
   hands_others alone befalls u ne = ap (λ p. call_state p (rights v u)) (befalls u ne) ∙ either (cases_to to)
     where
@@ -292,8 +342,7 @@ module _ (w v : State) (t l : ℕ) (to : Option ℕ) (h : Happens w v t (AtLock 
 
       either : ((to ≡ Some u) ⊎ (to ≢ Some u)) → call_state (if is_taken_by t (taken_at (place_at w u) l) then next_place (place_at w u) (HandedBy t alone) else place_at w u) (rights v u)
           ≡ (if is_taken_by t (taken_at (place_at w u) l) then record (call_state (place_at w u) (rights w u)) { retries = None; recalls = behind_wake (call_state (place_at w u) (rights w u)).recalls } else call_state (place_at w u) (rights w u))
-      either (inl e) = let taken : is_taken_by t (taken_at (place_at w u) l) ≡ true = rw (heir_of u e) (same t) in rw taken (handed_call u e (place_at w u) alone (taken_place (place_at w u) t l (mutex_calls w l (place_at w u) (h.before.stands.calls u) rules) taken)
-          ∙ unmoved None (call_state (place_at w u) (rights w u)) (recalls_nothing (place_at w u) (singles w h.before u) (rights w u)))
+      either (inl e) = let taken : is_taken_by t (taken_at (place_at w u) l) ≡ true = rw (heir_of u e) (same t) in rw taken (handed_goes_on u e ne alone taken)
       either (inr other) = rw (no_heir u other) (ap (call_state (place_at w u)) (λ i k. (led_to u (rights w u l) (neither (lock_state w l) t state to h.needs.0 apart u ne other) k ∙ put_same (rights w u) l (rights w u l) refl k) i))
 
 -- who has an heir that isn't itself gives its right up

@@ -45,7 +45,21 @@ use Rattle.lot_laws.specs.Refinement.{call_state, taken_at}
 use Rattle.lot_laws.specs.Stations.{Station, hand, station, nowhere}
 use Rattle.lot_laws.specs.SitesOf.{IsSteady, carried_at, hand_at, FitsItsLock}
 use Rattle.lot_laws.proofs.AtPlaces.{unless_held}
-use Rattle.lot_laws.proofs.Glue.{IsOf, IsTakenAt, IsHandedAt, is_taken, is_handed, held_where, held_taker, station_elsewhere, same, put_of, put_same, set_puts, past_all, singles, of_own, IsSingle}
+use Rattle.std.proofs.Common.{◌+◌, ◌≤◌, arith}
+use Rattle.lot_base.specs.Lines as Lines
+use Rattle.lot_base.specs.Picks.{lock_picker, without_lock_picked}
+use Rattle.abstract_locks.specs.Locks as locks
+use Rattle.abstract_locks.specs.Locks.{Rules}
+use Rattle.abstract_locks.specs.Sites.{Line, Main, Second}
+use Rattle.lot_machine.specs.Machine.{queues_without_first, state_after_take}
+use Rattle.lot_laws.specs.Stations.{station_at}
+use Rattle.lot_laws.specs.SitesOf.{key_of, rules_in, stations_of, stood_in}
+use Rattle.lot_laws.proofs.LineActs.{TakesHere}
+use Rattle.lot_laws.proofs.PicksKept.{picked_counts, under_of}
+use Rattle.lot_laws.proofs.TakesAt.{at_most_one, member, member_times, told_once, told_places}
+use Rattle.lot_laws.proofs.WaiterCalls.{waiter_taken, waiter_taken_by, waiter_told}
+use Rattle.lot_laws.proofs.Glue.{IsInHandOf, aparts, held_tells, in_hand_where, of_carries, in_hand_here as in_hand_at}
+use Rattle.lot_laws.proofs.Glue.{IsOf, IsTakenAt, IsHandedAt, is_taken, is_handed, station_elsewhere, same, put_of, put_same, set_puts, past_all, singles, of_own, IsSingle}
 use Rattle.lot_laws.proofs.CallEvents.{Happens, IsNoHandOff, Others}
 use Rattle.lot_laws.proofs.LockEvents.{Befalls, taken_call, wakes_others}
 
@@ -106,47 +120,41 @@ lonely_stay w t p (act.Requeue from to how) h = absurd h
 lonely_stay w t p (act.HandOver l op) h = absurd h
 lonely_stay w t p a h = refl
 
--- ---------------------------------------------------------------- many are told one after another
+-- ---------------------------------------------------------------- whoever is taken of a line
 
--- a call of one lock stays one
-next_single : (p : Place) (r : Reply) → IsSingle p → IsSingle (next_place p r)
-next_single Idle r single = tt
-next_single (Mutex l at) r single = by_next (mutex_next at r)
-  where
-    by_next : (n : Next MutexPlace) → IsSingle (mutex_goes l n)
-    by_next (next.At q) = tt
-    by_next (next.End answer) = tt
-next_single (RwLock l a c) r single = by_next (call_next a c r)
-  where
-    by_next : (n : Next RwLockCallPlace) → IsSingle (rwlock_goes l a n)
-    by_next (next.At q) = tt
-    by_next (next.End answer) = tt
-next_single (Once l at) r single = by_next (once_next at r)
-  where
-    by_next : (n : Next OncePlace) → IsSingle (once_goes l n)
-    by_next (next.At q) = tt
-    by_next (next.End answer) = tt
-next_single (Condvar l at) r single = absurd single
+-- goes on in its call as it was; one that waits to be notified would know that it was moved
+taken_goes_on : (w : State) (p : Place) (t l : ℕ) (m : Line) → FitsItsLock w p → ((rules_in w l).sort ≢ locks.Condvar) → (station_at p l).stands ≡ Some m → (r : ℕ → Rights) → call_state (next_place p (TakenBy t)) r ≡ call_state p r
+taken_goes_on w (Condvar k at) t l m fits plain h r = waiter_taken k at t l m (λ e. plain (ap (λ j. (rules_in w j).sort) (sym e) ∙ fits.sort)) h r
+taken_goes_on w Idle t l m fits plain h r = refl
+taken_goes_on w (Mutex k at) t l m fits plain h r = taken_call (Mutex k at) t tt r
+taken_goes_on w (RwLock k a c) t l m fits plain h r = taken_call (RwLock k a c) t tt r
+taken_goes_on w (Once k at) t l m fits plain h r = taken_call (Once k at) t tt r
 
--- what leaves the call of each leaves all
-told_same : (reply : Reply) → ((p : Place) → IsSingle p → (r : ℕ → Rights) → call_state (next_place p reply) r ≡ call_state p r) → (us : List ℕ) (ps : List Place) → ((u : ℕ) → IsSingle (get_or ps u Idle)) → (u : ℕ) (r : ℕ → Rights) → call_state (get_or (places_told reply us ps) u Idle) r ≡ call_state (get_or ps u Idle) r
-told_same reply keeps [] ps single u r = refl
-told_same reply keeps (x ∷ us) ps single u r = told_same reply keeps us _ single_then u r ∙ one
-  where
-    told_then : (v : ℕ) → get_or (set ps x (next_place (get_or ps x Idle) reply)) v Idle ≡ putting (λ k. get_or ps k Idle) x (next_place (get_or ps x Idle) reply) v
-    told_then v = set_puts ps x (next_place (get_or ps x Idle) reply) Idle (λ h. ap (λ p. next_place p reply) (past_all ps x Idle h)) v
+stands_in : (o : Option Line) (m : Line) → 1 ≤ stood_in o m → o ≡ Some m
+stands_in (Some Main) Main h = refl
+stands_in (Some Second) Second h = refl
+stands_in (Some Main) Second h = absurd (omega arith)
+stands_in (Some Second) Main h = absurd (omega arith)
+stands_in None m h = absurd (omega arith)
 
-    single_then : (v : ℕ) → IsSingle (get_or (set ps x (next_place (get_or ps x Idle) reply)) v Idle)
-    single_then v = subst IsSingle (sym (told_then v)) (either (v == x))
-      where
-        either : (b : Bool) → IsSingle (if b then next_place (get_or ps x Idle) reply else get_or ps v Idle)
-        either true = next_single (get_or ps x Idle) reply (single x)
-        either false = single v
+module _ (w : State) (t l : ℕ) (m : Line) (steady : IsSteady w) (plain : (rules_in w l).sort ≢ locks.Condvar) where
+  -- these are of the line
+  record OfLine (xs : List Waiter) : Type 0 where
+    pub times : (u : ℕ) → Lines.times u xs ≤ Lines.times u (queue_at w (key_of l m))
 
-    one : call_state (get_or (set ps x (next_place (get_or ps x Idle) reply)) u Idle) r ≡ call_state (get_or ps u Idle) r
-    one = ap (λ p. call_state p r) (told_then u)
-        ∙ put_of (λ p. call_state p r) (λ k. get_or ps k Idle) x (next_place (get_or ps x Idle) reply) u
-        ∙ put_same (λ k. call_state (get_or ps k Idle) r) x (call_state (next_place (get_or ps x Idle) reply) r) (sym (keeps (get_or ps x Idle) (single x) r)) u
+  told_calls : (xs : List Waiter) → OfLine xs → (u : ℕ) (r : ℕ → Rights) → call_state (get_or (places_told (TakenBy t) (threads_of xs) w.places) u Idle) r ≡ call_state (place_at w u) r
+  told_calls xs of u r = ap (λ (f : ℕ → Place). call_state (f u) r) (told_places (TakenBy t) xs w.places) ∙ ap (λ p. call_state p r) (told_once (TakenBy t) xs (place_at w) u once) ∙ either (member u xs) refl
+    where
+      stood : Lines.times u (queue_at w (key_of l m)) ≡ stood_in (station_at (place_at w u) l).stands m
+      stood = steady.stands.lines u l m
+
+      once : Lines.times u xs ≤ 1
+      once = let a : Lines.times u xs ≤ Lines.times u (queue_at w (key_of l m)) = of.times u in let b : Lines.times u (queue_at w (key_of l m)) ≡ stood_in (station_at (place_at w u) l).stands m = stood in let c : stood_in (station_at (place_at w u) l).stands m ≤ 1 = at_most_one (station_at (place_at w u) l).stands m in omega arith
+
+      either : (b : Bool) → member u xs ≡ b → call_state (if b then next_place (place_at w u) (TakenBy t) else place_at w u) r ≡ call_state (place_at w u) r
+      either false e = refl
+      either true e = taken_goes_on w (place_at w u) t l m (steady.stands.calls u) plain (stands_in (station_at (place_at w u) l).stands m
+          (let a : 1 ≤ Lines.times u xs = member_times u xs e in let b : Lines.times u xs ≤ Lines.times u (queue_at w (key_of l m)) = of.times u in let c : Lines.times u (queue_at w (key_of l m)) ≡ stood_in (station_at (place_at w u) l).stands m = stood in omega arith)) r
 
 -- ---------------------------------------------------------------- a thread goes elsewhere by its act
 
@@ -162,14 +170,24 @@ module _ (w : State) (t : ℕ) (p2 : Place) where
   lonely p a h u ne r = ap (λ q. call_state q r) (stay_in (state_after_act w t p a) (lonely_stay w t p a h) u ne)
 
   -- whoever is taken goes on in its call
-  taken_first : ((u : ℕ) → IsSingle (place_at w u)) → (queues : List (List Waiter)) (o : Option ℕ) → Stay (put (state_after_taking (record w { queues = queues }) t o) t p2)
-  taken_first single queues None u ne r = ap (λ q. call_state q r) (stay_in (record w { queues = queues }) refl u ne)
-  taken_first single queues (Some x) u ne r = ap (λ q. call_state q r) (get_or-set_other _ t u p2 Idle ne) ∙ told_same (TakenBy t) (λ p. taken_call p t) (x ∷ []) w.places single u r
+  pub takes : (steady : IsSteady w) (l : ℕ) (m : Line) (plain : (rules_in w l).sort ≢ locks.Condvar) (p : Place) (key : ℕ) → key ≡ key_of l m → (x : Whom) → Stay (put (state_after_act w t p (act.Take key x)) t p2)
+  takes steady l m plain p key is x = subst (λ k. Stay (put (state_after_act w t p (act.Take k x)) t p2)) (sym is) (by_whom x)
+    where
+      took : (b : State) (xs : List Waiter) → b.places ≡ places_told (TakenBy t) (threads_of xs) w.places → OfLine w t l m steady plain xs → Stay (put b t p2)
+      took b xs places of u ne r = ap (λ q. call_state q r) (get_or-set_other b.places t u p2 Idle ne ∙ ap (λ (ps : List Place). get_or ps u Idle) places) ∙ told_calls w t l m steady plain xs of u r
 
-  pub takes : ((u : ℕ) → IsSingle (place_at w u)) → (p : Place) (key : ℕ) (x : Whom) → Stay (put (state_after_act w t p (act.Take key x)) t p2)
-  takes single p key whom.First u ne r = taken_first single _ _ u ne r
-  takes single p key (whom.Picked start recursive) u ne r = ap (λ q. call_state q r) (get_or-set_other _ t u p2 Idle ne) ∙ told_same (TakenBy t) (λ p. taken_call p t) (threads_of (lock_picked start recursive (queue_at w key))) w.places single u r
-  takes single p key whom.All u ne r = ap (λ q. call_state q r) (get_or-set_other _ t u p2 Idle ne) ∙ told_same (TakenBy t) (λ p. taken_call p t) (threads_of (queue_at w key)) w.places single u r
+      first : (q : List Waiter) → queue_at w (key_of l m) ≡ q → Stay (put (state_after_taking (record w { queues = queues_without_first w.queues (key_of l m) }) t (Lines.first_of q)) t p2)
+      first [] e = λ u ne r. ap (λ q. call_state q r) (stay_in (record w { queues = queues_without_first w.queues (key_of l m) }) refl u ne)
+      first (y ∷ rest) e = took (state_after_taking (record w { queues = queues_without_first w.queues (key_of l m) }) t (Some y.thread)) (y ∷ []) refl
+          (record { times = λ u. let a : Lines.times u (queue_at w (key_of l m)) ≡ Lines.times u (y ∷ rest) = ap (Lines.times u) e in omega arith })
+
+      by_whom : (x : Whom) → Stay (put (state_after_act w t p (act.Take (key_of l m) x)) t p2)
+      by_whom whom.First = first (queue_at w (key_of l m)) refl
+      by_whom (whom.Picked start recursive) = took (state_after_take w t (key_of l m) (whom.Picked start recursive)) (lock_picked start recursive (queue_at w (key_of l m))) refl (record {
+        times = λ u.
+            let a : Lines.times u (lock_picked start recursive (queue_at w (key_of l m))) + Lines.times u (without_lock_picked start recursive (key_of l m) (queue_at w (key_of l m))) ≡ Lines.times u (queue_at w (key_of l m)) = picked_counts u (key_of l m) (lock_picker start recursive) (queue_at w (key_of l m)) (under_of (stations_of (place_at w)) l m (queue_at w (key_of l m)) (steady.stands.waits l m)) in omega arith;
+      })
+      by_whom whom.All = took (state_after_take w t (key_of l m) whom.All) (queue_at w (key_of l m)) refl (record { times = λ u. omega arith })
 
   -- so they are behind any case that wakes nobody and hands nothing over
   pub calm : (v : State) (l : ℕ) (c : Option LockCase) → IsCalm c → Stay v → Others w v t (event_by l c)
@@ -185,7 +203,7 @@ module _ (w : State) (t : ℕ) (p2 : Place) where
 
 -- so it is taken there by the one in whose hand it is
 pub taken_by_hand : (w : State) (p : Place) (t l : ℕ) → FitsItsLock w p → hand_at p l ≡ hand t false → is_taken_by t (taken_at p l) ≡ true
-taken_by_hand w (Condvar k at) t l calls h = absurd calls.begun
+taken_by_hand w (Condvar k at) t l calls h = waiter_taken_by k at t l h
 taken_by_hand w (Once k at) t l calls h = either (k == l) h
   where
     either : (b : Bool) → (if b then station (Once k at) else nowhere).hand ≡ hand t false → is_taken_by t (taken_from (once_profile at).hand (once_profile at).wants b) ≡ true
@@ -205,7 +223,7 @@ taken_by_hand w (RwLock k a c) t l calls h = either (k == l) h
 -- who was handed the lock goes on as it was
 handed_goes : (w : State) (p : Place) (t l : ℕ) → FitsItsLock w p → hand_at p l ≡ hand t true → (r : ℕ → Rights) → call_state (next_place p (Woken note.HandOff)) r ≡ call_state p r
 handed_goes w Idle t l fits h r = refl
-handed_goes w (Condvar k at) t l fits h r = absurd fits.begun
+handed_goes w (Condvar k at) t l fits h r = waiter_told k at t l h r
 handed_goes w (Once k at) t l fits h r = either (k == l) h
   where
     either : (b : Bool) → (if b then station (Once k at) else nowhere).hand ≡ hand t true → call_state (next_place (Once k at) (Woken note.HandOff)) r ≡ call_state (Once k at) r
@@ -235,11 +253,11 @@ module _ (w : State) (t l : ℕ) (steady : IsSteady w) (own : lock_of (place_at 
 
   -- who is in its hand is so at its lock, and was handed that or not as its place says
   in_hand_here : (h : Bool) → carried_at (place_at w t) l ≡ Some h → (u : ℕ) → is_thread t (taker (place_at w u)) ≡ true → hand_at (place_at w u) l ≡ hand t h
-  in_hand_here h carries u e = let x = held_where (place_at w u) t (singles w steady u) e in let there = steady.stands.hands.taken t u x.lock x.handed x.hand in
-      elim (cases_eq x.lock l) [
-        | inl f ↦ let here : carried_at (place_at w t) l ≡ Some x.handed = subst (λ k. carried_at (place_at w t) k ≡ Some x.handed) f there in let g : x.handed ≡ h = cc in subst (λ b. hand_at (place_at w u) l ≡ hand t b) g (subst (λ k. hand_at (place_at w u) k ≡ hand t x.handed) f x.hand)
-        | inr ne ↦ absurd (let none : carried_at (place_at w t) x.lock ≡ None = ap (λ (y : Station). y.carries) (station_elsewhere l x.lock (place_at w t) is_of ne) in cc)
-      ]
+  in_hand_here h carries u e =
+      let x : IsInHandOf (place_at w u) t = in_hand_where (place_at w u) t (aparts w steady u) e in
+      let here = subst (λ k. hand_at (place_at w u) k ≡ hand t x.handed) (in_hand_at (place_at w) steady.stands.hands t l u (of_carries l (place_at w t) is_of) x) x.hand in
+      let there : carried_at (place_at w t) l ≡ Some x.handed = steady.stands.hands.taken t u l x.handed here in
+      here ∙ ap (hand t) (let g : Some x.handed ≡ Some h = sym there ∙ carries in let f : x.handed ≡ h = cc in f)
 
   told_at : (b : State) (reply : Reply) → b.places ≡ w.places → (u : ℕ) → u ≢ t → place_at (put (state_after_telling b t reply) t p2) u ≡ (if is_thread t (taker (place_at w u)) then next_place (place_at w u) reply else place_at w u)
   told_at b reply places u ne = get_or-set_other _ t u p2 Idle ne ∙ get_or-map (place_after_telling t reply) b.places u Idle ∙ ap (λ (xs : List Place). place_after_telling t reply (get_or xs u Idle)) places
@@ -250,7 +268,7 @@ module _ (w : State) (t l : ℕ) (steady : IsSteady w) (own : lock_of (place_at 
     where
       same_test : (c : Bool) → is_thread t (taker (place_at w u)) ≡ c → is_thread t (taker (place_at w u)) ≡ is_taken_by t (taken_at (place_at w u) l)
       same_test true e = e ∙ sym (taken_by_hand w (place_at w u) t l (steady.stands.calls u) (in_hand_here false carries u e))
-      same_test false e = e ∙ sym (unless_held w steady t l u (λ h. let f : is_thread t (taker (place_at w u)) ≡ true = held_taker (place_at w u) t l false (singles w steady u) h in cc))
+      same_test false e = e ∙ sym (unless_held w steady t l u (λ h. let f : is_thread t (taker (place_at w u)) ≡ true = held_tells (place_at w u) t l false h in cc))
 
   -- nobody has been
   pub befalls_nobody : (b : State) (reply : Reply) → b.places ≡ w.places → carried_at (place_at w t) l ≡ None → Befalls w (put b t p2) t l reply
@@ -266,12 +284,12 @@ module _ (w : State) (t l : ℕ) (steady : IsSteady w) (own : lock_of (place_at 
       either false e = refl
 
   -- so the calls of the others are what its case makes of them
-  pub wakes_own : (p : Place) (a : Act) (c : Option LockCase) → WakesOwn (carried_at (place_at w t) l) a c → Others w (put (state_after_act w t p a) t p2) t (event_by l c)
-  wakes_own p (act.Leave keys (wakes.All x)) c (inl h) = subst (λ y. Others w (put (state_after_telling (state_with_sections w keys None) t (Woken x)) t p2) t (event_by l y)) (sym h.1.1)
-      (wakes_others w (put (state_after_telling (state_with_sections w keys None) t (Woken x)) t p2) t l (singles w steady) (subst (λ y. Befalls w (put (state_after_telling (state_with_sections w keys None) t (Woken y)) t p2) t l (Woken note.Normal)) (sym h.1.0) (befalls (state_with_sections w keys None) (Woken note.Normal) (sections_stay w keys None) h.0)))
-  wakes_own p (act.Leave keys (wakes.All x)) c (inr h) = calm w t p2 (put (state_after_telling (state_with_sections w keys None) t (Woken x)) t p2) l c h.1.1
+  pub wakes_own : ((rules_in w l).sort ≢ locks.Condvar) → (p : Place) (a : Act) → TakesHere l a → (c : Option LockCase) → WakesOwn (carried_at (place_at w t) l) a c → Others w (put (state_after_act w t p a) t p2) t (event_by l c)
+  wakes_own plain p (act.Leave keys (wakes.All x)) here c (inl h) = subst (λ y. Others w (put (state_after_telling (state_with_sections w keys None) t (Woken x)) t p2) t (event_by l y)) (sym h.1.1)
+      (wakes_others w (put (state_after_telling (state_with_sections w keys None) t (Woken x)) t p2) t l (subst (λ y. Befalls w (put (state_after_telling (state_with_sections w keys None) t (Woken y)) t p2) t l (Woken note.Normal)) (sym h.1.0) (befalls (state_with_sections w keys None) (Woken note.Normal) (sections_stay w keys None) h.0)))
+  wakes_own plain p (act.Leave keys (wakes.All x)) here c (inr h) = calm w t p2 (put (state_after_telling (state_with_sections w keys None) t (Woken x)) t p2) l c h.1.1
       (λ u ne r. subst (λ y. call_state (place_at (put (state_after_telling (state_with_sections w keys None) t (Woken y)) t p2) u) r ≡ call_state (place_at w u) r) (sym h.1.0) (tells_handed (state_with_sections w keys None) (sections_stay w keys None) h.0 u ne r))
-  wakes_own p (act.Requeue from to how) c h = absurd h
-  wakes_own p (act.HandOver lock op) c h = absurd h
-  wakes_own p (act.Take key x) c h = calm w t p2 (put (state_after_act w t p (act.Take key x)) t p2) l c h (takes w t p2 (singles w steady) p key x)
-  wakes_own p a c h = calm w t p2 (put (state_after_act w t p a) t p2) l c h (lonely w t p2 p a tt)
+  wakes_own plain p (act.Requeue from to how) here c h = absurd h
+  wakes_own plain p (act.HandOver lock op) here c h = absurd h
+  wakes_own plain p (act.Take key x) here c h = calm w t p2 (put (state_after_act w t p (act.Take key x)) t p2) l c h (takes w t p2 steady l here.0 plain p key here.1 x)
+  wakes_own plain p a here c h = calm w t p2 (put (state_after_act w t p a) t p2) l c h (lonely w t p2 p a tt)

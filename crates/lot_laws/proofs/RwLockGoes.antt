@@ -41,6 +41,9 @@ use Rattle.lot_laws.proofs.AtPlaces.{in_no_hand}
 use Rattle.lot_laws.proofs.CallEvents.{Happens, OthersFollow, happens, others_follow}
 use Rattle.lot_laws.proofs.HandsOn.{g, hands_fails, hands_tell, whom}
 use Rattle.lot_laws.proofs.HandsOnEvents.{hands_happen, hands_others}
+use Rattle.abstract_locks.specs.Sites.{has_readers}
+use Rattle.lot_laws.proofs.RwLockKept.{admits}
+use Rattle.lot_laws.proofs.LineActs.{TakesHere, call_lines, takes_here}
 use Rattle.lot_laws.proofs.OtherCalls.{Stay, IsCalm, WakesOwn, calm, hands_nothing, lonely, no_hand_off, wakes_own}
 use Rattle.lot_laws.proofs.PlacePromises.{station_own}
 use Rattle.lot_laws.proofs.RwLockKept.{GoesFrom, goes_unhanded, stands}
@@ -107,7 +110,7 @@ module _ (w : State) (t l : ℕ) (a : Admission) (c : RwLockCallPlace) (steady :
       (λ none. in_no_hand w steady t l (λ h. none (sym carries ∙ h)))
 
   -- for itself alone
-  module _ (y : Act) (from : GoesFrom w t l a c steady shape there lt is (RwLock l a c) y) where
+  module _ (y : Act) (here : TakesHere l y) (from : GoesFrom w t l a c steady shape there lt is (RwLock l a c) y) where
     abbrev own_case : Option LockCase
     own_case = case_by w t l a c from.whom y
 
@@ -117,7 +120,7 @@ module _ (w : State) (t l : ℕ) (a : Admission) (c : RwLockCallPlace) (steady :
     -- those in its hand are woken, and nobody else's call changes
     own_others : OthersFollow w (then_by w t l a c y) t (event_by l own_case)
     own_others = others_follow w (then_by w t l a c y) t l own_case own_happened (hands_nothing w (then_by w t l a c y) t l own_case own_happened (call_profile a c).carries y own_case from.others)
-        (wakes_own w t l steady of (next_place (RwLock l a c) (reply_to w t y)) (RwLock l a c) y own_case (subst (λ h. WakesOwn h y own_case) (sym carries) from.others))
+        (wakes_own w t l steady of (next_place (RwLock l a c) (reply_to w t y)) (λ e. let some : has_readers (rules_in w l).sort ≡ true = (admits w t l a c steady shape there lt is).0 in let none : has_readers (rules_in w l).sort ≡ false = ap has_readers e in cc) (RwLock l a c) y here own_case (subst (λ h. WakesOwn h y own_case) (sym carries) from.others))
 
     by_own : GoesOnBy w t l a c y
     by_own = record { whom = from.whom; tells = from.tells; happened = own_happened; others = own_others }
@@ -180,7 +183,7 @@ module _ (w : State) (t l : ℕ) (a : Admission) (c : RwLockCallPlace) (steady :
       may = stands w t l a c steady shape there lt is
 
       alone : ((k : ℕ) (op : Op) → call_act l a c ≢ act.HandOver k op) → GoesOnBy w t l a c (call_act l a c)
-      alone plain = by_own (call_act l a c) (goes_unhanded w t l a c steady shape there lt is plain can)
+      alone plain = by_own (call_act l a c) (takes_here l (station (RwLock l a c)) (call_act l a c) (call_lines l a c)) (goes_unhanded w t l a c steady shape there lt is plain can)
 
       by_act : (y : Act) → call_act l a c ≡ y → GoesOnBy w t l a c (call_act l a c)
       by_act (act.HandOver k op) e =

@@ -493,10 +493,10 @@ module _ (w : State) (t l : ℕ) (a : Admission) (c : RwLockCallPlace) (steady :
 
           at_lock : k ≡ l → (call_profile b q).hand ≡ hand t true → IsWokenAt w t l HandOff (RwLock k b q)
           at_lock same_lock g = let z = (handed_move b q fits_u.1).was_given t g in woken_of w t l HandOff (RwLock k b q) true same_lock (record {
-              taken = free_of then_u l (of_single l then_u (next_of l (RwLock k b q) (Woken HandOff) same_lock)) (ap (λ (y : Station). y.hand) (ap station_by then_row ∙ z.goes)) ∙ sym (ap (keep_from t) untaken);
-              doing = doing_here l then_u (next_of l (RwLock k b q) (Woken HandOff) same_lock) ∙ ap (λ (y : Profile). y.doing) then_row ∙ z.doing ∙ sym (ap (λ o. wakened t o (doing_on (RwLock k b q) l)) untaken ∙ doing_here l (RwLock k b q) same_lock);
-            }) z.was (ap station_by then_row ∙ z.goes)
-            (fits_next k b (call_next b q (Woken HandOff)) fits_u.0 (fair_calls_stand b q (Woken HandOff) fits_u.1 (call_told_other b q (Woken HandOff) tt)))
+            taken = free_of then_u l (of_single l then_u (next_of l (RwLock k b q) (Woken HandOff) same_lock)) (ap (λ (y : Station). y.hand) (ap station_by then_row ∙ z.goes)) ∙ sym (ap (keep_from t) untaken);
+            doing = doing_here l then_u (next_of l (RwLock k b q) (Woken HandOff) same_lock) ∙ ap (λ (y : Profile). y.doing) then_row ∙ z.doing ∙ sym (ap (λ o. wakened t o (doing_on (RwLock k b q) l)) untaken ∙ doing_here l (RwLock k b q) same_lock);
+          }) z.was (ap station_by then_row ∙ z.goes)
+              (fits_next k b (call_next b q (Woken HandOff)) fits_u.0 (fair_calls_stand b q (Woken HandOff) fits_u.1 (call_told_other b q (Woken HandOff) tt)))
             where
               untaken : taken_at (RwLock k b q) l ≡ None
               untaken = ap (λ o. taken_from o (call_profile b q).wants (calls (RwLock k b q) l)) g

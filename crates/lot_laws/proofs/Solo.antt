@@ -65,7 +65,7 @@ use Rattle.lot_laws.proofs.MutexEvents.{free_word, owned_word}
 use Rattle.lot_laws.proofs.MutexCalls.{decides}
 use Rattle.lot_laws.proofs.LockSteps.{purpose_is}
 use Rattle.lot_laws.proofs.Counts.{first_times}
-use Rattle.lot_laws.proofs.Glue.{nothing_at, IsTakenAt, put_here, station_here, own_stance, successor_one, same, mutex_calls, singles, differ, aparts, of_carries}
+use Rattle.lot_laws.proofs.Glue.{IsSingle, nothing_at, IsTakenAt, put_here, station_here, own_stance, successor_one, same, mutex_calls, singles, differ, aparts, of_carries}
 use Rattle.lot_laws.proofs.SitesPromise.{parked_at}
 use Rattle.lot_mutex.specs.declared.places.MutexPlace.{MutexPlace}
 use Rattle.lot_acts.specs.declared.acts.Whom as whoms
@@ -488,7 +488,7 @@ module _ (w : State) (t : ℕ) (shape : IsShaped w) (steady : IsSteady w) (count
 
   place_rests : (p : Place) → place_at w t ≡ p → PlaceFits (length w.locks) p → p ≢ Idle → act_of p ≢ act.TheVariants.Sleep → runs_closure (act_of p) ≡ false → Leads 18 w t (λ v x. Rests x)
   place_rests Idle is fits busy up outside = absurd (busy refl)
-  place_rests (Condvar l at) is fits busy up outside = absurd fits
+  place_rests (Condvar l at) is fits busy up outside = absurd (subst IsSingle is (singles w steady t))
   place_rests (Once l at) is fits busy up outside =
       leads_more 8 18 w t (λ v x. Rests x) (omega arith) (once_rests t l at (word_at w l) w (λ m. queue_at w (key_of l m)) up outside (once_steps_alone l at is fits))
   place_rests (RwLock l a c) is fits busy up outside =

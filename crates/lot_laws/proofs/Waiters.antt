@@ -234,7 +234,7 @@ module _ (k l : ℕ) (apart : k ≢ l) (m : ℕ) (timed : Bool) (of : mutex_besi
 -- ---------------------------------------------------------------- wherever it stands
 
 -- a notification stands in no line, and is in nobody's hand
-notifier_stands : (all : Bool) (m : ℕ) (at : NotifyAt) → ((notify_row all m at).moved ≡ false) × ((notify_row all m at).hand ≡ None)
+pub notifier_stands : (all : Bool) (m : ℕ) (at : NotifyAt) → ((notify_row all m at).moved ≡ false) × ((notify_row all m at).hand ≡ None)
 notifier_stands all m notify.Enter = (refl, refl)
 notifier_stands all m notify.Again = (refl, refl)
 notifier_stands all m notify.Hide = (refl, refl)
