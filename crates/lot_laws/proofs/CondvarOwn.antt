@@ -30,7 +30,7 @@ use Rattle.lot_steps.specs.declared.places.Place.{Place}
 use Rattle.lot_steps.specs.declared.places.Place.TheVariants.{Idle, Condvar}
 use Rattle.lot_steps.specs.Steps.{condvar_goes, next_place}
 use Rattle.lot_machine.specs.Machine.{State, place_at, reply_to, state_after_act, state_after_going}
-use Rattle.lot_laws.proofs.Befallen.{acted_keeps, tells}
+use Rattle.lot_machine.proofs.Acted.{acted_keeps, tells}
 use Rattle.lot_laws.proofs.CondvarLed.{Alike}
 use Rattle.lot_laws.proofs.CondvarRows.{befalling}
 use Rattle.lot_laws.proofs.RowPromises.{Befalls}

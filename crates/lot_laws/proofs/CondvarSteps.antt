@@ -2,6 +2,8 @@
 use Rattle.std.proofs.Common.{ℕ, Bool, true, false, Option, Some, None, if◌then◌else◌, ◌==◌, ◌&&◌, ◌≡◌, ◌≢◌, ◌*◌, ◌<◌, length, nat_lt, is_none, inl, inr, refl, sym, ◌∙◌, ap, subst, length-set, get_or-set_other, get_or-set_same}
 use Rattle.std.proofs.lemmas.Bool.{cases_eq, ltb-true}
 use Rattle.lot_base.specs.declared.keys.Keys.TheVariants.{One}
+use Rattle.lot_calls.specs.declared.calls.CondvarCall.{CondvarCall}
+use Rattle.lot_calls.specs.declared.calls.CondvarCall.TheVariants as calls
 use Rattle.lot_calls.specs.declared.calls.Step.{Step}
 use Rattle.lot_calls.specs.declared.calls.Turn.{Turn}
 use Rattle.lot_calls.specs.declared.calls.Turn as turn
@@ -18,18 +20,21 @@ use Rattle.lot_condvar.specs.declared.wait.WaitAt.{WaitAt}
 use Rattle.lot_condvar.specs.declared.wait.WaitAt.TheVariants as wait
 use Rattle.lot_condvar.specs.CondvarCalls.{IsReached}
 use Rattle.lot_condvar.specs.CondvarDeeds.{MayHear, after_all, condvar_deeds}
-use Rattle.lot_condvar.specs.CondvarSteps.{condvar_act, condvar_looking, condvar_next, in_lock}
+use Rattle.lot_condvar.specs.CondvarSteps.{condvar_act, condvar_first, condvar_looking, condvar_next, in_lock}
 use Rattle.lot_steps.specs.declared.places.Place.{Place}
 use Rattle.lot_steps.specs.declared.places.Place.TheVariants.{Idle, Condvar}
-use Rattle.lot_steps.specs.Steps.{act_of, condvar_goes, in_condvar, is_idle, late_key, looking, next_place}
-use Rattle.abstract_locks.specs.Condvars.{IsCondvar}
+use Rattle.lot_steps.specs.Steps.{act_of, condvar_goes, in_condvar, is_idle, late_key, looking, next_place, profile_at}
+use Rattle.abstract_locks.specs.Condvars.{BeginsWait, IsCondvar, IsInsideNot, condvar_leads}
+use Rattle.abstract_locks.specs.Locks.{putting, times}
+use Rattle.abstract_locks.proofs.CondvarKeeps.{condvar_deed_keeps}
 use Rattle.abstract_locks.specs.Runs.{IsStep, SectionChanges}
-use Rattle.abstract_locks.specs.Sites.{Main}
+use Rattle.abstract_locks.specs.Sites.{Line, Main}
 use Rattle.lot_machine.specs.Fits.{IsShaped, PlaceFits}
-use Rattle.lot_machine.specs.Machine.{State, after, can_begin, can_close, can_do, can_turn, closed_place, is_free_under, is_open_to, is_possible, place_at, put, reply_to, runs_closure, section_at, state_after_go, state_after_going, state_after_late_on, state_after_look, state_after_turn, state_with_sections, step_outcome}
+use Rattle.lot_machine.specs.Machine.{State, after, can_begin, can_close, can_do, can_turn, closed_place, is_free_under, is_open_to, is_possible, place_at, put, queue_at, reply_to, runs_closure, section_at, state_after_go, state_after_going, state_after_late_on, state_after_look, state_after_turn, state_with_sections, step_outcome}
 use Rattle.lot_machine.proofs.Shape.{both, looking_shaped}
 use Rattle.lot_laws.specs.Refinement.{lock_state, locks_of}
-use Rattle.lot_laws.specs.SitesOf.{AreCondvars, AreCounted, FitsCondvar, FitsItsLock, IsSteady, Stands, condvar_of, inside_as, key_of}
+use Rattle.lot_laws.specs.Stations.{station_at}
+use Rattle.lot_laws.specs.SitesOf.{AreCondvars, AreCounted, FitsCondvar, FitsItsLock, IsSteady, Stands, condvar_of, inside_as, key_of, stood_in}
 use Rattle.lot_laws.proofs.Befallen.{others_keep_it}
 use Rattle.lot_laws.proofs.Closures.{condvar_runs_none}
 use Rattle.lot_laws.proofs.CondvarHears.{free_inside, may_hear}
@@ -38,8 +43,10 @@ use Rattle.lot_laws.proofs.CondvarOwn.{alike_same, went, went_alike, went_place}
 use Rattle.lot_laws.proofs.CondvarRows.{names_of, names_unmoved, stage_of, stage_unmoved}
 use Rattle.lot_laws.proofs.CondvarsKept.{same_condvar}
 use Rattle.lot_laws.proofs.CondvarWent.{goes_led}
+use Rattle.lot_laws.proofs.Glue.{put_other, same}
 use Rattle.lot_laws.proofs.LockSteps.{after_step}
 use Rattle.lot_laws.proofs.Looking.{looking_steady}
+use Rattle.lot_laws.proofs.OneStep.{queued_times}
 use Rattle.lot_laws.proofs.TurnsKept.{after_steady}
 
 -- the other threads' places say of a condition variable what they said
@@ -91,9 +98,6 @@ record LooksFrom (l : ℕ) (at : CondvarPlace) (q : Place) : Type 0 where
 looks_from : (l : ℕ) (at : CondvarPlace) (q : Place) → looking (Condvar l at) ≡ Some q → LooksFrom l at q
 looks_from l (Wait m timed (wait.Lock late (mutex.Lock e again (lock.Decide seen)))) q is = by_word (seen == 1) is
   where
-    from : CondvarPlace
-    from = Wait m timed (wait.Lock late (mutex.Lock e again lock.Load))
-
     by_word : (b : Bool) → in_condvar l (in_lock m timed late (if b then Some (mutex.Lock e again lock.Load) else None)) ≡ Some q → LooksFrom l (Wait m timed (wait.Lock late (mutex.Lock e again (lock.Decide seen)))) q
     by_word true f = let there : Condvar l (Wait m timed (wait.Lock late (mutex.Lock e again lock.Load))) ≡ q = cc in
         subst (LooksFrom l (Wait m timed (wait.Lock late (mutex.Lock e again (lock.Decide seen))))) there (record { place = Wait m timed (wait.Lock late (mutex.Lock e again lock.Load)); is = refl; stage = refl; names = refl; acts = λ w. refl })
@@ -163,3 +167,55 @@ module _ (w : State) (s : Step) (shape : IsShaped w) (steady : IsSteady w) (coun
       either true can = let parts = both (nat_lt t (length w.places)) (can_turn w t s.turn) can in
           turned (ltb-true t (length w.places) parts.0) s.turn parts.1 (ap (λ (b : Bool). if b then state_after_turn w t s.turn else w) can)
       either false cannot = subst (λ (x : State). IsCondvar (condvar_of x l)) (sym (ap (λ (b : Bool). if b then state_after_turn w t s.turn else w) cannot)) condvar
+
+-- ---------------------------------------------------------------- a call begins
+
+module _ (w : State) (t l : ℕ) (steady : IsSteady w) (idle : place_at w t ≡ Idle) (there : t < length w.places) (condvar : IsCondvar (condvar_of w l)) where
+  unlisted : times t (condvar_of w l).waiters ≡ 0
+  unlisted = queued_times t (queue_at w (2 * l)) ∙ steady.stands.lines t l Main ∙ ap (λ p. stood_in (station_at p l).stands Main) idle
+
+  not_inside_yet : IsInsideNot (condvar_of w l).inside t
+  not_inside_yet = by_section (section_at w (key_of l Main)) refl
+    where
+      by_section : (o : Option ℕ) → section_at w (key_of l Main) ≡ o → IsInsideNot (inside_as o (λ u. (profile_at (place_at w u) l).stage)) t
+      by_section None e = tt
+      by_section (Some u) e = λ own.
+          let in_it : (station_at (place_at w t) l).inside ≡ Some Main = (steady.stands.sections t l Main).1 (e ∙ ap Some own) in
+          let out : (station_at (place_at w t) l).inside ≡ None = ap (λ p. (station_at p l).inside) idle in
+          let never : ◌≡◌ {A = Option Line} None (Some Main) = sym out ∙ in_it in cc
+
+  begun : (c : CondvarCall) → IsCondvar (condvar_of (put w t (Condvar l (condvar_first c))) l)
+  begun (calls.Notify all) = subst IsCondvar (sym (same_condvar w (put w t (Condvar l (Look all))) l (refl, refl) refl says)) condvar
+    where
+      here : place_at (put w t (Condvar l (Look all))) t ≡ Condvar l (Look all)
+      here = get_or-set_same w.places t (Condvar l (Look all)) Idle there
+
+      says : (u : ℕ) → (stage_of (place_at (put w t (Condvar l (Look all))) u) l ≡ stage_of (place_at w u) l) × (names_of (place_at (put w t (Condvar l (Look all))) u) l ≡ names_of (place_at w u) l)
+      says u = elim (cases_eq u t) [
+        | inl e ↦ rw (e, here, idle, same l) (refl, refl)
+        | inr ne ↦ let stays = get_or-set_other w.places t u (Condvar l (Look all)) Idle ne in (ap (λ p. stage_of p l) stays, ap (λ p. names_of p l) stays)
+      ]
+  begun (calls.Wait m timed) = subst IsCondvar (sym led) (condvar_deed_keeps (BeginsWait m) (condvar_of w l) t condvar (unlisted, not_inside_yet))
+    where
+      here : place_at (put w t (Condvar l (Wait m timed wait.Enter))) t ≡ Condvar l (Wait m timed wait.Enter)
+      here = get_or-set_same w.places t (Condvar l (Wait m timed wait.Enter)) Idle there
+
+      stages : (u : ℕ) → (profile_at (place_at (put w t (Condvar l (Wait m timed wait.Enter))) u) l).stage ≡ (profile_at (place_at w u) l).stage
+      stages u = elim (cases_eq u t) [
+        | inl e ↦ rw (e, here, idle, same l) refl
+        | inr ne ↦ ap (λ p. (profile_at p l).stage) (get_or-set_other w.places t u (Condvar l (Wait m timed wait.Enter)) Idle ne)
+      ]
+
+      names : (u : ℕ) → (profile_at (place_at (put w t (Condvar l (Wait m timed wait.Enter))) u) l).names ≡ putting (λ k. (profile_at (place_at w k) l).names) t (Some m) u
+      names u = elim (cases_eq u t) [
+        | inl e ↦ rw (e, here, same l, same t) refl
+        | inr ne ↦ ap (λ p. (profile_at p l).names) (get_or-set_other w.places t u (Condvar l (Wait m timed wait.Enter)) Idle ne) ∙ sym (put_other (λ k. (profile_at (place_at w k) l).names) t (Some m) u ne)
+      ]
+
+      led : condvar_of (put w t (Condvar l (Wait m timed wait.Enter))) l ≡ condvar_leads (BeginsWait m) (condvar_of w l) t
+      led = λ i. record {
+        shown = (condvar_of w l).shown;
+        waiters = (condvar_of w l).waiters;
+        inside = inside_as (section_at w (key_of l Main)) (λ u. stages u i);
+        waits_with = λ u. names u i;
+      }
