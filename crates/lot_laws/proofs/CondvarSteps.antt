@@ -1,9 +1,12 @@
 -- Each step of a thread in a call of a condition variable keeps what holds of it.
-use Rattle.std.proofs.Common.{ℕ, Bool, true, false, Option, Some, None, if◌then◌else◌, ◌==◌, ◌&&◌, ◌≡◌, ◌≢◌, ◌*◌, ◌<◌, length, nat_lt, is_none, inl, inr, refl, sym, ◌∙◌, ap, subst, length-set, get_or-set_other, get_or-set_same}
+use Rattle.std.proofs.Common.{ℕ, Bool, true, false, Option, Some, None, if◌then◌else◌, ◌==◌, ◌&&◌, ◌≡◌, ◌≢◌, ◌⊎◌, ◌*◌, ◌<◌, length, nat_lt, is_none, is_some, inl, inr, refl, sym, ◌∙◌, ap, subst, length-set, get_or-set_other, get_or-set_same}
 use Rattle.std.proofs.lemmas.Bool.{cases_eq, ltb-true}
 use Rattle.lot_base.specs.declared.keys.Keys.TheVariants.{One}
 use Rattle.lot_calls.specs.declared.calls.CondvarCall.{CondvarCall}
 use Rattle.lot_calls.specs.declared.calls.CondvarCall.TheVariants as calls
+use Rattle.lot_calls.specs.Calls.{lock_in}
+use Rattle.lot_calls.specs.declared.calls.Call.{Call}
+use Rattle.lot_calls.specs.declared.calls.Call.TheVariants as call
 use Rattle.lot_calls.specs.declared.calls.Step.{Step}
 use Rattle.lot_calls.specs.declared.calls.Turn.{Turn}
 use Rattle.lot_calls.specs.declared.calls.Turn as turn
@@ -22,31 +25,35 @@ use Rattle.lot_condvar.specs.CondvarCalls.{IsReached}
 use Rattle.lot_condvar.specs.CondvarDeeds.{MayHear, after_all, condvar_deeds}
 use Rattle.lot_condvar.specs.CondvarSteps.{condvar_act, condvar_first, condvar_looking, condvar_next, in_lock}
 use Rattle.lot_steps.specs.declared.places.Place.{Place}
-use Rattle.lot_steps.specs.declared.places.Place.TheVariants.{Idle, Condvar}
-use Rattle.lot_steps.specs.Steps.{act_of, condvar_goes, in_condvar, is_idle, late_key, looking, next_place, profile_at}
+use Rattle.lot_steps.specs.declared.places.Place.TheVariants.{Idle, Mutex, RwLock, Once, Condvar}
+use Rattle.lot_steps.specs.Steps.{act_of, condvar_goes, first_place, in_condvar, is_idle, late_key, lock_of, looking, next_place, profile_at}
 use Rattle.abstract_locks.specs.Condvars.{BeginsWait, IsCondvar, IsInsideNot, condvar_leads}
-use Rattle.abstract_locks.specs.Locks.{putting, times}
+use Rattle.abstract_locks.specs.Locks as locks
+use Rattle.abstract_locks.specs.Locks.{Rules, putting, times}
+use Rattle.abstract_locks.specs.Purposes.{rules_of}
 use Rattle.abstract_locks.proofs.CondvarKeeps.{condvar_deed_keeps}
 use Rattle.abstract_locks.specs.Runs.{IsStep, SectionChanges}
-use Rattle.abstract_locks.specs.Sites.{Line, Main}
+use Rattle.abstract_locks.specs.Sites.{Line, Main, has_readers}
 use Rattle.lot_machine.specs.Fits.{IsShaped, PlaceFits}
-use Rattle.lot_machine.specs.Machine.{State, after, can_begin, can_close, can_do, can_turn, closed_place, is_free_under, is_open_to, is_possible, place_at, put, queue_at, reply_to, runs_closure, section_at, state_after_go, state_after_going, state_after_late_on, state_after_look, state_after_turn, state_with_sections, step_outcome}
+use Rattle.lot_machine.specs.Machine.{State, after, can_begin, can_close, can_do, can_turn, closed_place, is_free_under, is_open_to, is_possible, kind_at, place_at, put, queue_at, reply_to, runs_closure, section_at, state_after_go, state_after_going, state_after_late_on, state_after_look, state_after_turn, state_with_sections, step_outcome}
 use Rattle.lot_machine.proofs.Shape.{both, looking_shaped}
 use Rattle.lot_laws.specs.Refinement.{lock_state, locks_of}
 use Rattle.lot_laws.specs.Stations.{station_at}
-use Rattle.lot_laws.specs.SitesOf.{AreCondvars, AreCounted, FitsCondvar, FitsItsLock, IsSteady, Stands, condvar_of, inside_as, key_of, stood_in}
+use Rattle.lot_laws.specs.SitesOf.{AreCondvars, AreCounted, FitsCondvar, FitsItsLock, IsSteady, Stands, condvar_of, inside_as, key_of, rules_in, stood_in}
 use Rattle.lot_laws.proofs.Befallen.{others_keep_it}
 use Rattle.lot_laws.proofs.Closures.{condvar_runs_none}
 use Rattle.lot_laws.proofs.CondvarHears.{free_inside, may_hear}
 use Rattle.lot_laws.proofs.CondvarLed.{condvar_stays}
 use Rattle.lot_laws.proofs.CondvarOwn.{alike_same, went, went_alike, went_place}
 use Rattle.lot_laws.proofs.CondvarRows.{names_of, names_unmoved, stage_of, stage_unmoved}
-use Rattle.lot_laws.proofs.CondvarsKept.{same_condvar}
+use Rattle.lot_laws.proofs.CondvarsKept.{condvar_kept, moved_on, same_condvar}
 use Rattle.lot_laws.proofs.CondvarWent.{goes_led}
-use Rattle.lot_laws.proofs.Glue.{put_other, same}
+use Rattle.lot_laws.proofs.Glue.{calls_none, put_other, same}
+use Rattle.lot_laws.proofs.KindsKept.{after_kinds}
 use Rattle.lot_laws.proofs.LockSteps.{after_step}
 use Rattle.lot_laws.proofs.Looking.{looking_steady}
 use Rattle.lot_laws.proofs.OneStep.{queued_times}
+use Rattle.lot_laws.proofs.StandsMoved.{mutex_rules}
 use Rattle.lot_laws.proofs.TurnsKept.{after_steady}
 
 -- the other threads' places say of a condition variable what they said
@@ -219,3 +226,67 @@ module _ (w : State) (t l : ℕ) (steady : IsSteady w) (idle : place_at w t ≡ 
         inside = inside_as (section_at w (key_of l Main)) (λ u. stages u i);
         waits_with = λ u. names u i;
       }
+
+-- ---------------------------------------------------------------- every step
+
+is_or_not : (o : Option ℕ) (k : ℕ) → (o ≡ Some k) ⊎ (o ≢ Some k)
+is_or_not None k = inr (λ e. cc)
+is_or_not (Some j) k = elim (cases_eq j k) [ inl e ↦ inl (ap Some e) | inr ne ↦ inr (λ e. ne cc) ]
+
+-- who calls a condition variable is at a place of its calls
+condvar_place : (w : State) → IsSteady w → (t l : ℕ) → (rules_in w l).sort ≡ locks.Condvar → lock_of (place_at w t) ≡ Some l → (at : CondvarPlace) × (place_at w t ≡ Condvar l at)
+condvar_place w steady t l sort own = by_place (place_at w t) refl (steady.stands.calls t) own
+  where
+    by_place : (p : Place) → place_at w t ≡ p → FitsItsLock w p → lock_of p ≡ Some l → (at : CondvarPlace) × (place_at w t ≡ Condvar l at)
+    by_place Idle is fits own = absurd cc
+    by_place (Mutex k at) is fits own = absurd (let here : k ≡ l = cc in let both : locks.Mutex ≡ locks.Condvar = sym (ap (λ (r : Rules). r.sort) (mutex_rules (kind_at w k) fits)) ∙ ap (λ j. (rules_in w j).sort) here ∙ sort in cc)
+    by_place (RwLock k a c) is fits own = absurd (let here : k ≡ l = cc in let both : false ≡ true = sym (ap has_readers (ap (λ j. (rules_in w j).sort) here ∙ sort)) ∙ fits.0.0 in cc)
+    by_place (Once k at) is fits own = absurd (let here : k ≡ l = cc in let both : locks.Once ≡ locks.Condvar = sym fits ∙ ap (λ j. (rules_in w j).sort) here ∙ sort in cc)
+    by_place (Condvar k at) is fits own = (at, is ∙ ap (λ j. Condvar j at) (let here : k ≡ l = cc in here))
+
+pub after_condvars : (w : State) (s : Step) → IsShaped w → IsSteady w → AreCounted w → AreCondvars w → AreCondvars (after w s)
+after_condvars w s shape steady counted condvars l sort_then = by_lock (is_or_not (lock_of (place_at w s.thread)) l) (is_or_not (lock_of (place_at (after w s) s.thread)) l)
+  where
+    sort : (rules_in w l).sort ≡ locks.Condvar
+    sort = sym (ap (λ x. (rules_of x).sort) (after_kinds w s l)) ∙ sort_then
+
+    -- the thread has begun a call of it
+    begins : (at : CondvarPlace) → place_at (after w s) s.thread ≡ Condvar l at → lock_of (place_at w s.thread) ≡ None → IsCondvar (condvar_of (after w s) l)
+    begins at there_then none = either (is_possible w s) refl
+      where
+        idle : place_at w s.thread ≡ Idle
+        idle = calls_none (place_at w s.thread) none
+
+        by_call : s.thread < length w.places → (c : Call) → after w s ≡ put w s.thread (first_place (kind_at w (lock_in c)) c) → IsCondvar (condvar_of (after w s) l)
+        by_call there c led = by_first c (sym (get_or-set_same w.places s.thread (first_place (kind_at w (lock_in c)) c) Idle there) ∙ sym (ap (λ (x : State). place_at x s.thread) led) ∙ there_then) led
+          where
+            by_first : (c : Call) → first_place (kind_at w (lock_in c)) c ≡ Condvar l at → after w s ≡ put w s.thread (first_place (kind_at w (lock_in c)) c) → IsCondvar (condvar_of (after w s) l)
+            by_first (call.Mutex k x) e led = absurd cc
+            by_first (call.RwLock k x) e led = absurd cc
+            by_first (call.Once k x) e led = absurd cc
+            by_first (call.Condvar k x) e led = let here : k ≡ l = cc in
+                subst (λ (z : State). IsCondvar (condvar_of z l)) (sym (led ∙ ap (λ j. put w s.thread (Condvar j (condvar_first x))) here)) (begun w s.thread l steady idle there (condvars l sort) x)
+
+        turned_idle : s.thread < length w.places → (x : Turn) → can_turn w s.thread x ≡ true → after w s ≡ state_after_turn w s.thread x → IsCondvar (condvar_of (after w s) l)
+        turned_idle there (turn.TheVariants.Begin c) can led = by_call there c led
+        turned_idle there turn.TheVariants.Go can led = absurd (let no : can_do w (act_of (place_at w s.thread)) ≡ false = ap (λ p. can_do w (act_of p)) idle in cc)
+        turned_idle there turn.TheVariants.Late can led = absurd (let no : is_free_under w (late_key (place_at w s.thread)) ≡ false = ap (λ p. is_free_under w (late_key p)) idle in cc)
+        turned_idle there turn.TheVariants.Spin can led = absurd (let no : is_some (looking (place_at w s.thread)) ≡ false = ap (λ p. is_some (looking p)) idle in cc)
+        turned_idle there turn.TheVariants.Ok can led = absurd (let runs = (both (runs_closure (act_of (place_at w s.thread))) _ can).0 in let none : runs_closure (act_of (place_at w s.thread)) ≡ false = ap (λ p. runs_closure (act_of p)) idle in cc)
+        turned_idle there turn.TheVariants.Err can led = absurd (let runs = (both (runs_closure (act_of (place_at w s.thread))) _ can).0 in let none : runs_closure (act_of (place_at w s.thread)) ≡ false = ap (λ p. runs_closure (act_of p)) idle in cc)
+
+        either : (b : Bool) → is_possible w s ≡ b → IsCondvar (condvar_of (after w s) l)
+        either true can = let parts = both (nat_lt s.thread (length w.places)) (can_turn w s.thread s.turn) can in
+            turned_idle (ltb-true s.thread (length w.places) parts.0) s.turn parts.1 (ap (λ (b : Bool). if b then state_after_turn w s.thread s.turn else w) can)
+        either false cannot = subst (λ (x : State). IsCondvar (condvar_of x l)) (sym (ap (λ (b : Bool). if b then state_after_turn w s.thread s.turn else w) cannot)) (condvars l sort)
+
+    by_lock : (lock_of (place_at w s.thread) ≡ Some l) ⊎ (lock_of (place_at w s.thread) ≢ Some l) → (lock_of (place_at (after w s) s.thread) ≡ Some l) ⊎ (lock_of (place_at (after w s) s.thread) ≢ Some l) → IsCondvar (condvar_of (after w s) l)
+    by_lock (inl own) behind =
+        let at = condvar_place w steady s.thread l sort own in
+        let fits : PlaceFits (length w.locks) (Condvar l at.0) = subst (PlaceFits (length w.locks)) at.1 (shape.places s.thread) in
+        own_condvar w s shape steady counted l at.0 at.1 fits.0 (condvars l sort)
+    by_lock (inr other) (inl own) = elim (moved_on w s shape steady counted) [
+      | inl stays ↦ absurd (elim stays [ inl same_lock ↦ other (sym same_lock ∙ own) | inr ended ↦ let never : ◌≡◌ {A = Option ℕ} None (Some l) = sym ended ∙ own in cc ])
+      | inr none ↦ let at = condvar_place (after w s) (after_steady w s shape steady counted) s.thread l sort_then own in begins at.0 at.1 none
+    ]
+    by_lock (inr other) (inr other_then) = subst IsCondvar (sym (condvar_kept w s shape steady counted l sort other other_then)) (condvars l sort)
