@@ -114,3 +114,4 @@ pub mod CondvarLed
 pub mod CondvarWent
 pub mod CondvarOwn
 pub mod CondvarSteps
+pub mod CondvarGoes
