@@ -241,7 +241,7 @@ runs_nothing sorts l (CallsOnce k forced) own knows other = other (subst (λ j. 
 runs_nothing sorts l (Awaits k forced) own knows other = other (subst (λ j. sorts j ≡ Once) own knows)
 runs_nothing sorts l p own knows other = tt
 
-never_starts : (p : Purpose) (g : Option ℕ) (r : Bool) (q : Recall) (l : ℕ) (forced : Bool) → RunsNothing p → IsMadeOf p g r q l (OfOnce (Start forced)) → ⊥
+pub never_starts : (p : Purpose) (g : Option ℕ) (r : Bool) (q : Recall) (l : ℕ) (forced : Bool) → RunsNothing p → IsMadeOf p g r q l (OfOnce (Start forced)) → ⊥
 never_starts (Enters k x how) g r q l forced h m = m.1
 never_starts (Releases k x fair) g r q l forced h m = m.1
 never_starts (Converts k x y how) g r q l forced h m = m.1

@@ -115,3 +115,4 @@ pub mod CondvarWent
 pub mod CondvarOwn
 pub mod CondvarSteps
 pub mod CondvarGoes
+pub mod WaitGoes
