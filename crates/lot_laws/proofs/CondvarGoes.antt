@@ -15,26 +15,29 @@ use Rattle.lot_condvar.specs.CondvarCalls as calls
 use Rattle.lot_condvar.specs.CondvarCalls.{CallFollows, MayComeOfTwo, case_there, heard, or_else, wait_event}
 use Rattle.lot_condvar.specs.CondvarDeeds.{wait_deeds}
 use Rattle.lot_condvar.specs.CondvarProfiles.{condvar_profile, mutex_side, wait_carries}
-use Rattle.lot_condvar.specs.CondvarSteps.{condvar_next, mutex_beside}
+use Rattle.lot_condvar.specs.CondvarSteps.{condvar_act, condvar_next, mutex_beside}
 use Rattle.lot_condvar.specs.CondvarWaits.{waiter_deeds}
 use Rattle.lot_steps.specs.declared.places.Place.{Place}
 use Rattle.lot_steps.specs.declared.places.Place.TheVariants.{Idle, Condvar}
 use Rattle.lot_steps.specs.Steps.{condvar_does, condvar_goes}
 use Rattle.lot_acts.specs.Calls.{MayCome, call_of_two, rights_where}
 use Rattle.lot_acts.specs.Acts.{outcome_of}
-use Rattle.abstract_locks.specs.Condvars.{CondvarDeed}
+use Rattle.abstract_locks.specs.Condvars.{CondvarDeed, moved_of}
 use Rattle.abstract_locks.specs.Condvars as condvars
 use Rattle.abstract_locks.specs.Deeds.{AreOneCase, EventNeeds, after_event, case_of, event_by, event_of}
 use Rattle.abstract_locks.specs.Deeds as deeds
-use Rattle.abstract_locks.specs.Locks.{HasTakenNobody, LockCase, LockState, Rights, Rules, rights_of}
-use Rattle.abstract_locks.specs.Runs.{AnswerHolds, AtLock, Begins, CallState, Event, GoesOn, MayHappen, MayMove, Moves, Nothing, going_on, rules_at, woken}
+use Rattle.abstract_locks.specs.Onces.{Start}
+use Rattle.abstract_locks.specs.Purposes.{WasMoved}
+use Rattle.abstract_locks.specs.Locks.{HandOff, OfOnce, Wake, HasTakenNobody, LockCase, LockState, Rights, Rules, rights_of}
+use Rattle.abstract_locks.specs.Runs.{AnswerHolds, AtLock, Begins, LocksState, is_among, is_closure, is_taken_by, CallState, Event, GoesOn, MayHappen, MayMove, Moves, Nothing, going_on, rules_at, woken}
 use Rattle.abstract_locks.specs.Sites.{Deed, Site}
 use Rattle.abstract_locks.proofs.Deeds.{deeds_lead, deeds_need}
 use Rattle.lot_machine.specs.Machine.{State, kind_at, place_at}
 use Rattle.lot_laws.specs.MutexDeeds.{Act, acts}
-use Rattle.lot_laws.specs.Refinement.{call_at, call_on_both, call_state, lock_state, locks_of}
+use Rattle.lot_laws.specs.Refinement.{call_at, call_on_both, call_state, lock_state, locks_of, taken_at}
 use Rattle.lot_laws.specs.SitesOf.{ActsNeeded, FollowAll, IsSteady, after_acts, rules_in, site_of}
-use Rattle.lot_laws.proofs.CallEvents.{CallLed, GoesAs, Happens, OthersFollow, deeds_by, goes_with, happens_at, may_do, needed_then, rights}
+use Rattle.lot_laws.proofs.CallEvents.{CallLed, GoesAs, Happens, RunsNothing, never_starts, OthersFollow, deeds_by, goes_with, happens_at, may_do, needed_then, rights}
+use Rattle.lot_laws.proofs.Closures.{closure_told, condvar_runs_none}
 use Rattle.lot_laws.proofs.CondvarThere.{there_deeds}
 use Rattle.lot_laws.proofs.Glue.{put_here, put_other}
 use Rattle.lot_laws.proofs.TwoLocks.{two_at}
@@ -71,10 +74,10 @@ there_case (d ∷ ds) = refl
 -- ---------------------------------------------------------------- a step of both locks
 
 module _ (w v : State) (t c m : ℕ) (apart : m ≢ c) (before : IsSteady w) (after : IsSteady v) (all : ℕ → List Act) (f : FollowAll w v all) (elsewhere : (k : ℕ) → k ≢ c → k ≢ m → all k ≡ []) where
-  locks_led : (k : ℕ) (ds : List Act) → all k ≡ ds → lock_state v k ≡ (after_acts (rules_in w k) ds (site_of w k)).lock
+  pub locks_led : (k : ℕ) (ds : List Act) → all k ≡ ds → lock_state v k ≡ (after_acts (rules_in w k) ds (site_of w k)).lock
   locks_led k ds is = ap (λ (s : Site). s.lock) (f.site k) ∙ ap (λ done. (after_acts (rules_in w k) done (site_of w k)).lock) is
 
-  others : (k : ℕ) → k ≢ c → k ≢ m → lock_state v k ≡ lock_state w k
+  pub others : (k : ℕ) → k ≢ c → k ≢ m → lock_state v k ≡ lock_state w k
   others k nc nm = locks_led k [] (elsewhere k nc nm)
 
   led_by : (l : ℕ) (hand : Option Bool) (ds : List Deed) → all l ≡ acts t ds → AreOneCase ds → (hand ≢ Some false → HasTakenNobody (lock_state w l) t) → Led w v t c m apart before after f.kinds others l (case_of hand ds)
@@ -139,3 +142,32 @@ module _ (w v : State) (t l m : ℕ) (p : CondvarPlace) (is : place_at w t ≡ C
   -- so the step is that event
   pub condvar_goes_on : (n : Next CondvarPlace) (o : Outcome) → MayHappen (locks_of w) t e → CallLed w v t e call o → OthersFollow w v t e → Begins (locks_of w) e o → GoesOn (locks_of w) t o (locks_of v)
   condvar_goes_on n o may led others begins = goes_with w v t e h call call_is o may (λ f. cc) led others begins
+
+-- ---------------------------------------------------------------- what a thread in such a call is never told, nor does to itself
+
+runs_nothing_here : (l : ℕ) (p : CondvarPlace) → RunsNothing ((condvar_profile p).purpose l)
+runs_nothing_here l (Wait m timed at) = tt
+runs_nothing_here l (Look all) = tt
+runs_nothing_here l (Notify all m at) = tt
+
+-- it runs no closure
+pub begins_two : (w : LocksState) (l : ℕ) (p : CondvarPlace) (e : Event) (o : Outcome) → MayComeOfTwo l (condvar_profile p) e → is_closure o ≡ false → Begins w e o
+begins_two w l p Nothing (outcome.TheVariants.Closure state) may told = absurd cc
+begins_two w l p Nothing o may told = tt
+begins_two w l p (Moves c m all owned number) (outcome.TheVariants.Closure state) may told = absurd cc
+begins_two w l p (Moves c m all owned number) o may told = tt
+begins_two w l p (AtLock k (OfOnce (Start forced))) o may told = absurd (never_starts ((condvar_profile p).purpose l) _ _ _ k forced (runs_nothing_here l p) may.0)
+begins_two w l p (AtLock k case) (outcome.TheVariants.Closure state) may told = absurd cc
+begins_two w l p (AtLock k case) o may told = tt
+
+pub no_closure : (l : ℕ) (n : Next CondvarPlace) → is_closure (outcome_of (condvar_does l n)) ≡ false
+no_closure l (next.At q) = closure_told (condvar_act l q) ∙ condvar_runs_none l q
+no_closure l (next.End answer) = refl
+
+-- where it isn't in its own hand, nor among those whom it moves, it is neither woken nor moved by itself
+pub unwoken : (w : State) (t : ℕ) (e : Event) (x : CallState) → ((k : ℕ) → is_taken_by t (taken_at (place_at w t) k) ≡ false) → ((c m n : ℕ) (all owned : Bool) → e ≡ Moves c m all owned n → is_among t (moved_of all (lock_state w c).queue) ≡ false) → woken (locks_of w) t e t x ≡ x
+unwoken w t Nothing x free apart = refl
+unwoken w t (AtLock k Wake) x free apart = rw (free k) refl
+unwoken w t (AtLock k (HandOff y z)) x free apart = rw (free k) refl
+unwoken w t (AtLock k case) x free apart = refl
+unwoken w t (Moves c m all owned n) x free apart = ap (λ (b : Bool). if b then record x { recalls = WasMoved } else x) (apart c m n all owned refl)
