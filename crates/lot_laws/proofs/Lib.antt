@@ -116,3 +116,5 @@ pub mod CondvarOwn
 pub mod CondvarSteps
 pub mod CondvarGoes
 pub mod WaitGoes
+pub mod WaitsThere
+pub mod WaitsBeside
