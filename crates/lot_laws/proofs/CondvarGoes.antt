@@ -80,7 +80,7 @@ module _ (w v : State) (t c m : ℕ) (apart : m ≢ c) (before : IsSteady w) (af
   pub others : (k : ℕ) → k ≢ c → k ≢ m → lock_state v k ≡ lock_state w k
   others k nc nm = locks_led k [] (elsewhere k nc nm)
 
-  led_by : (l : ℕ) (hand : Option Bool) (ds : List Deed) → all l ≡ acts t ds → AreOneCase ds → (hand ≢ Some false → HasTakenNobody (lock_state w l) t) → Led w v t c m apart before after f.kinds others l (case_of hand ds)
+  pub led_by : (l : ℕ) (hand : Option Bool) (ds : List Deed) → all l ≡ acts t ds → AreOneCase ds → (hand ≢ Some false → HasTakenNobody (lock_state w l) t) → Led w v t c m apart before after f.kinds others l (case_of hand ds)
   led_by l hand ds is one free = (
     locks_led l (acts t ds) is ∙ deeds_by (rules_in w l) t ds (site_of w l) ∙ deeds_lead (rules_in w l) t l hand ds (site_of w l) free one,
     deeds_need (rules_in w l) t l hand ds (site_of w l) (needed_then (rules_in w l) t ds [] (site_of w l) (subst (λ done. ActsNeeded (rules_in w l) done (site_of w l)) (is ∙ sym (append-nil (acts t ds))) (f.needed l))) one,

@@ -116,5 +116,6 @@ pub mod CondvarOwn
 pub mod CondvarSteps
 pub mod CondvarGoes
 pub mod WaitGoes
+pub mod NotifyGoes
 pub mod WaitsThere
 pub mod WaitsBeside
