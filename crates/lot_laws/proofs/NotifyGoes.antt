@@ -9,7 +9,7 @@ use Rattle.lot_calls.specs.declared.outcomes.Outcome as outcome
 use Rattle.lot_acts.specs.Acts.{outcome_of}
 use Rattle.lot_acts.specs.Calls.{rights_where}
 use Rattle.lot_acts.specs.Stations.{Station}
-use Rattle.lot_acts.specs.Profiles.{in_hand}
+use Rattle.lot_acts.specs.Profiles.{blank, in_hand}
 use Rattle.lot_acts.specs.declared.acts.Next.{Next}
 use Rattle.lot_acts.specs.declared.acts.Next.TheVariants as next
 use Rattle.lot_acts.specs.declared.acts.Reply.{Reply}
@@ -23,31 +23,35 @@ use Rattle.lot_condvar.specs.CondvarCalls.{CallFollows, IsReached, marked_event,
 use Rattle.lot_condvar.specs.CondvarDeeds.{condvar_deeds, notify_deeds}
 use Rattle.lot_condvar.specs.CondvarDeeds as condvar
 use Rattle.lot_condvar.specs.CondvarMutex.{beside_deeds, brings}
-use Rattle.lot_condvar.specs.CondvarProfiles.{mutex_side, notify_carries}
+use Rattle.lot_condvar.specs.CondvarProfiles.{condvar_profile, condvar_row, mutex_side, notify_carries, notify_recalls}
 use Rattle.lot_condvar.specs.CondvarSteps.{condvar_act, condvar_next, in_notify, is_shown, move_act, next_notify, notify_act}
 use Rattle.lot_condvar.proofs.NotifyTells.{notifies_tell}
+use Rattle.lot_steps.specs.declared.places.Place.{Place}
 use Rattle.lot_steps.specs.declared.places.Place.TheVariants.{Condvar}
-use Rattle.lot_steps.specs.Steps.{condvar_does, condvar_goes}
-use Rattle.abstract_locks.specs.Condvars.{CondvarDeed, IsCondvar, MissIt, SeeAgain, moved_of}
+use Rattle.lot_steps.specs.Steps.{condvar_does, condvar_goes, is_lock, profile_at}
+use Rattle.abstract_locks.specs.Condvars.{CondvarDeed, IsCondvar, MissIt, MoveFits, SeeAgain, WaitsAside, moved_of}
+use Rattle.abstract_locks.specs.Purposes.{Waits}
+use Rattle.abstract_locks.proofs.CondvarKeeps.{moved_fewer}
 use Rattle.abstract_locks.specs.Deeds.{AreOneCase, KeepLock, after_all, case_of, event_by}
 use Rattle.abstract_locks.specs.Locks as locks
 use Rattle.abstract_locks.specs.Locks.{HasTakenNobody, LockCase, LockState, OfCondvar, Rules, SeeOwner, Wake, left_behind, rights_of}
-use Rattle.abstract_locks.specs.Runs.{AtLock, CallState, Event, GoesOn, MayMove, Moves, Nothing, is_taken_by}
+use Rattle.abstract_locks.specs.Runs.{is_among, AtLock, CallState, Event, GoesOn, MayMove, Moves, Nothing, is_taken_by}
 use Rattle.abstract_locks.specs.Sites.{Case, Deed, End, In, Main, MarkBrought, MarkOwned, Out, Site}
 use Rattle.abstract_locks.proofs.Deeds.{kept}
 use Rattle.lot_machine.specs.Machine.{State, can_do, kind_at, place_at, reply_to, word_at}
 use Rattle.lot_laws.specs.MutexPromises.{IsMutexWord}
 use Rattle.lot_laws.specs.MutexDeeds.{acts}
 use Rattle.lot_laws.specs.MutexDeeds as deeds
-use Rattle.lot_laws.specs.Refinement.{lock_state, locks_of, taken_at}
+use Rattle.lot_laws.specs.Refinement.{call_at, call_state, lock_state, locks_of, taken_at}
 use Rattle.lot_laws.specs.SitesOf.{FollowAll, IsSteady, condvar_of, rules_in, site_of}
 use Rattle.lot_laws.proofs.AtPlaces.{coded, in_no_hand, taken_nobody}
 use Rattle.lot_laws.proofs.CallEvents.{Happens, happens_sending, OthersFollow, deeds_by, put_is, rights}
 use Rattle.lot_laws.proofs.CondvarGoes.{Led, NamesStill, ToldSo, begins_two, call_led, condvar_goes_on, happens_two, led_by, locks_led, may_go, no_closure, others, unwoken}
-use Rattle.lot_laws.proofs.CondvarHears.{apart, at_it, doing_beside, fits_here, may_hear, notifier_hears, rules_beside, station_beside}
+use Rattle.lot_laws.proofs.CondvarHears.{apart, at_it, doing_beside, fits_here, fits_move, number_of, may_hear, notifier_hears, rules_beside, station_beside}
 use Rattle.lot_laws.proofs.CondvarThere.{there_deeds}
 use Rattle.lot_laws.proofs.Glue.{plain_rules, same}
-use Rattle.lot_laws.proofs.WaitGoes.{unheard}
+use Rattle.lot_laws.proofs.WaitersAside.{WaitsThere, unlisted, waits_there}
+use Rattle.lot_laws.proofs.WaitGoes.{there_rights, unheard}
 
 names_notify : (all : Bool) (m : ℕ) (n : Next NotifyAt) → NamesStill m (in_notify all m n)
 names_notify all m (next.At at) = refl
@@ -162,3 +166,67 @@ module _ (w v : State) (t l m : ℕ) (all : Bool) (p : NotifyAt) (steady : IsSte
   by_place (notify.Clear any) e at_l at_m reached = hides at_l (stays m [] at_m tt)
   by_place (notify.MarkMoved number) e at_l at_m reached = nothing (stays m (MarkBrought ∷ []) at_m tt) (stays l [] at_l tt)
   by_place (notify.Leave any number) e at_l at_m reached = wakes any (ap notify_carries e) at_l at_m
+
+-- ---------------------------------------------------------------- a move
+
+IsNoMove : Event → Type 0
+IsNoMove e = (c k n : ℕ) (every owned : Bool) → e ≡ Moves c k every owned n → ⊥
+
+at_lock_only : (l : ℕ) (case : LockCase) → IsNoMove (AtLock l case)
+unfolding IsNoMove
+at_lock_only l case c k n every owned e = cc
+
+nothing_only : IsNoMove Nothing
+unfolding IsNoMove
+nothing_only c k n every owned e = cc
+
+either_only : (b : Bool) (x y : Event) → IsNoMove x → IsNoMove y → IsNoMove (if b then x else y)
+either_only true x y a b = a
+either_only false x y a b = b
+
+marked_only : (m seen : ℕ) → IsNoMove (marked_event m seen)
+marked_only m seen = either_only (is_locked seen) Nothing (AtLock m (SeeOwner false)) nothing_only (at_lock_only m (SeeOwner false))
+
+one_first : (q : List locks.Queued) → moved_of false q ≢ [] → 1 ≡ length (moved_of false q)
+one_first [] some = absurd (some refl)
+one_first (x ∷ q) some = refl
+
+not_among : (u : ℕ) (all : Bool) (q : List locks.Queued) → locks.times u q ≡ 0 → is_among u (moved_of all q) ≡ false
+not_among u all q none = let few = moved_fewer all u q in grind (arith, nat_tests)
+
+module _ (w : State) (t l m : ℕ) (all : Bool) (p : NotifyAt) (steady : IsSteady w) (condvar_holds : IsCondvar (condvar_of w l)) (aside : WaitsAside (condvar_of w l) (site_of w m) m) (is : place_at w t ≡ Condvar l (Notify all m p)) where
+  -- it moves waiters of this mutex, who stand nowhere there
+  may_move : (owned : Bool) → p ≡ notify.Move owned → (n : ℕ) → n ≢ 0 → n ≡ length (moved_of all (lock_state w l).queue) → MayMove (locks_of w) t l m all owned n
+  may_move owned e n some number = record {
+    notifies = ap (λ q. (call_state q (rights w t)).purpose) is;
+    sorts = ((fits_here w t l (Notify all m p) steady is).sort, rules_beside w t l (Notify all m p) steady is m refl);
+    saw = ap (λ q. (call_state q (rights w t)).recalls) is ∙ ap (notify_recalls m) e;
+    some = some;
+    number = number;
+    wait = λ u among. by_waiter u (waits_there w steady l (fits_here w t l (Notify all m p) steady is).sort u (listed u among)) (names u among) (aside u (listed u among) (names u among)).0;
+    free = in_no_hand w steady t m (λ h. let none : ◌≡◌ {A = Option Bool} None (Some false) = sym (ap (λ (y : Station). y.carries) (station_beside w t l (Notify all m p) steady is m refl) ∙ ap notify_carries e) ∙ h in cc);
+  }
+    where
+      fit : MoveFits (rules_in w m) all owned (condvar_of w l) (site_of w m) t m
+      fit = fits_move w t l m all p steady condvar_holds aside is owned e
+
+      among_times : (u : ℕ) → is_among u (moved_of all (lock_state w l).queue) ≡ true → 1 ≤ locks.times u (moved_of all (lock_state w l).queue)
+      among_times u among = grind (arith, nat_tests)
+
+      listed : (u : ℕ) → is_among u (moved_of all (lock_state w l).queue) ≡ true → 1 ≤ locks.times u (lock_state w l).queue
+      listed u among = let few = moved_fewer all u (lock_state w l).queue in let some_times = among_times u among in omega arith
+
+      names : (u : ℕ) → is_among u (moved_of all (lock_state w l).queue) ≡ true → (condvar_of w l).waits_with u ≡ Some m
+      names u among = fit.of u (among_times u among)
+
+      by_waiter : (u : ℕ) → WaitsThere w u l → (condvar_of w l).waits_with u ≡ Some m → locks.standing u (lock_state w m) ≡ 0 → ((timed : Bool) × ((call_at w u).purpose ≡ Some (Waits l m timed))) × (locks.standing u (lock_state w m) ≡ 0)
+      by_waiter u x named nowhere = (by_at x.at x.is x.listed, nowhere)
+        where
+          by_at : (at : CondvarPlace) → place_at w u ≡ Condvar l at → (condvar_row at).listed ≡ true → (timed : Bool) × ((call_at w u).purpose ≡ Some (Waits l m timed))
+          by_at (Look every) there h = absurd cc
+          by_at (Notify every k at) there h = absurd (let none : false ≡ true = sym (unlisted every k at) ∙ h in cc)
+          by_at (Wait k timed at) there h =
+              let own : (profile_at (place_at w u) l).names ≡ Some k = ap (λ (q : Place). (profile_at q l).names) there ∙ ap (λ (b : Bool). (if b then condvar_profile (Wait k timed at) else if is_lock l (Some k) then mutex_side (Wait k timed at) else blank).names) (same l) in
+              let both : Some k ≡ Some m = sym own ∙ named in
+              let same_mutex : k ≡ m = cc in
+              (timed, ap (λ q. (call_state q (rights w u)).purpose) there ∙ ap (λ j. Some (Waits l j timed)) same_mutex)
