@@ -19,8 +19,8 @@ use Rattle.lot_condvar.specs.declared.notify.NotifyAt.{NotifyAt}
 use Rattle.lot_condvar.specs.declared.notify.NotifyAt.TheVariants as notify
 use Rattle.lot_condvar.specs.declared.places.CondvarPlace.{CondvarPlace}
 use Rattle.lot_condvar.specs.declared.places.CondvarPlace.TheVariants.{Wait, Look, Notify}
-use Rattle.lot_condvar.specs.CondvarCalls.{CallFollows, IsReached, marked_event, notify_event, or_else}
-use Rattle.lot_condvar.specs.CondvarDeeds.{condvar_deeds, notify_deeds}
+use Rattle.lot_condvar.specs.CondvarCalls.{CallFollows, IsReached, MayComeOfTwo, marked_event, notify_event, or_else}
+use Rattle.lot_condvar.specs.CondvarDeeds.{IsListed, condvar_deeds, notify_deeds}
 use Rattle.lot_condvar.specs.CondvarDeeds as condvar
 use Rattle.lot_condvar.specs.CondvarMutex.{beside_deeds, brings}
 use Rattle.lot_condvar.specs.CondvarProfiles.{condvar_profile, condvar_row, mutex_side, notify_carries, notify_recalls}
@@ -35,10 +35,10 @@ use Rattle.abstract_locks.proofs.CondvarKeeps.{moved_fewer}
 use Rattle.abstract_locks.specs.Deeds.{AreOneCase, KeepLock, after_all, case_of, event_by}
 use Rattle.abstract_locks.specs.Locks as locks
 use Rattle.abstract_locks.specs.Locks.{HasTakenNobody, LockCase, LockState, OfCondvar, Rules, SeeOwner, Wake, left_behind, rights_of}
-use Rattle.abstract_locks.specs.Runs.{is_among, AtLock, CallState, Event, GoesOn, MayMove, Moves, Nothing, is_taken_by}
+use Rattle.abstract_locks.specs.Runs.{MayHappen, is_among, AtLock, CallState, Event, GoesOn, MayMove, Moves, Nothing, is_taken_by}
 use Rattle.abstract_locks.specs.Sites.{Case, Deed, End, In, Main, MarkBrought, MarkOwned, Out, Site}
 use Rattle.abstract_locks.proofs.Deeds.{kept}
-use Rattle.lot_machine.specs.Machine.{State, can_do, kind_at, place_at, reply_to, word_at}
+use Rattle.lot_machine.specs.Machine.{State, can_do, kind_at, place_at, queue_at, reply_to, word_at}
 use Rattle.lot_laws.specs.MutexPromises.{IsMutexWord}
 use Rattle.lot_laws.specs.MutexDeeds.{acts}
 use Rattle.lot_laws.specs.MutexDeeds as deeds
@@ -169,15 +169,13 @@ module _ (w v : State) (t l m : ℕ) (all : Bool) (p : NotifyAt) (steady : IsSte
 
 -- ---------------------------------------------------------------- a move
 
-IsNoMove : Event → Type 0
+abbrev IsNoMove : Event → Type 0
 IsNoMove e = (c k n : ℕ) (every owned : Bool) → e ≡ Moves c k every owned n → ⊥
 
 at_lock_only : (l : ℕ) (case : LockCase) → IsNoMove (AtLock l case)
-unfolding IsNoMove
 at_lock_only l case c k n every owned e = cc
 
 nothing_only : IsNoMove Nothing
-unfolding IsNoMove
 nothing_only c k n every owned e = cc
 
 either_only : (b : Bool) (x y : Event) → IsNoMove x → IsNoMove y → IsNoMove (if b then x else y)
@@ -230,3 +228,108 @@ module _ (w : State) (t l m : ℕ) (all : Bool) (p : NotifyAt) (steady : IsStead
               let both : Some k ≡ Some m = sym own ∙ named in
               let same_mutex : k ≡ m = cc in
               (timed, ap (λ q. (call_state q (rights w u)).purpose) there ∙ ap (λ j. Some (Waits l j timed)) same_mutex)
+
+-- from which it moves them
+abbrev moved_from : Event → Option ℕ
+moved_from (Moves c k all owned n) = Some c
+moved_from e = None
+
+module _ (w v : State) (t l m : ℕ) (all : Bool) (p : NotifyAt) (steady : IsSteady w) (after : IsSteady v) (condvar_holds : IsCondvar (condvar_of w l)) (aside : WaitsAside (condvar_of w l) (site_of w m) m) (is : place_at w t ≡ Condvar l (Notify all m p))
+    (can : can_do w (notify_act all l m p) ≡ true) (done : ℕ → List deeds.Act) (f : FollowAll w v done) (elsewhere : (k : ℕ) → k ≢ l → k ≢ m → done k ≡ []) (at_l : done l ≡ acts t (there_deeds (notify_deeds all m p (reply_to w t (notify_act all l m p)))))
+    (at_m : done m ≡ acts t (beside_deeds all (condvar_of w l).waiters p (reply_to w t (notify_act all l m p)))) where
+  abbrev told : Reply
+  told = reply_to w t (notify_act all l m p)
+
+  abbrev event : Event
+  event = notify_event l all m p told
+
+  reached : IsReached (Notify all m p)
+  reached = (fits_here w t l (Notify all m p) steady is).reached
+
+  apart_here : m ≢ l
+  apart_here = apart w t l (Notify all m p) steady is m refl
+
+  pub notify_happened : Happens w v t event
+  notify_happened = by_place w v t l m all p steady after is done f elsewhere p refl at_l at_m reached
+
+  -- the mutex behind it
+  abbrev behind : LockState
+  behind = (after_all (rules_in w m) (beside_deeds all (condvar_of w l).waiters p told) (site_of w m) t).lock
+
+  led_beside : lock_state v m ≡ behind
+  led_beside = locks_led w v t l m apart_here steady after done f elsewhere m _ at_m ∙ deeds_by (rules_in w m) t (beside_deeds all (condvar_of w l).waiters p told) (site_of w m)
+
+  led_there : lock_state v l ≡ (after_all (rules_in w l) (there_deeds (notify_deeds all m p told)) (site_of w l) t).lock
+  led_there = locks_led w v t l m apart_here steady after done f elsewhere l _ at_l ∙ deeds_by (rules_in w l) t (there_deeds (notify_deeds all m p told)) (site_of w l)
+
+  rights_led : (k : ℕ) → rights v t k ≡ rights_where m behind t (rights w t) k
+  rights_led k = put_is (rights w t) m (rights_of behind t) k (rights v t k) (λ e. rw e (ap (λ s. rights_of s t) led_beside)) (λ nm. elim (cases_eq k l) [
+    | inl e ↦ rw e (ap (λ s. rights_of s t) led_there ∙ there_rights (notify_deeds all m p told) (rules_in w l) (site_of w l) t)
+    | inr nl ↦ ap (λ s. rights_of s t) (others w v t l m apart_here steady after done f elsewhere k nl nm)
+  ])
+
+  abbrev shown_then : Option ℕ
+  shown_then = (condvar.after_all (condvar_deeds (Notify all m p) told) (condvar_of w l) t).shown
+
+  follows : CallFollows l m (Notify all m p) told event shown_then (lock_state w m) behind t (condvar_next (Notify all m p) told)
+  follows = notifies_tell (condvar_of w l) (rules_in w m) (site_of w m) t l m all p told (rules_beside w t l (Notify all m p) steady is m refl) condvar_holds (at_it w t l (Notify all m p) steady is)
+      (doing_beside w t l (Notify all m p) steady is m refl) (may_hear w t l (Notify all m p) steady is can) (notifier_hears w t l m all p steady condvar_holds aside is can) reached
+
+  -- a move is one that it may do
+  move_may : (b owned : Bool) → all ≡ b → p ≡ notify.Move owned → MayComeOfTwo l (condvar_profile (Notify b m (notify.Move owned))) (notify_event l b m (notify.Move owned) (reply_to w t (move_act b owned l m)))
+      → MayHappen (locks_of w) t (notify_event l b m (notify.Move owned) (reply_to w t (move_act b owned l m)))
+  move_may true true e g may = may_move w t l m true p steady condvar_holds aside (is ∙ ap (λ x. Condvar l (Notify x m p)) e) true g _ may.3 (number_of true (queue_at w (2 * l)))
+  move_may true false e g may = may_move w t l m true p steady condvar_holds aside (is ∙ ap (λ x. Condvar l (Notify x m p)) e) false g _ may.3 (number_of false (queue_at w (2 * l)))
+  move_may false true e g may = may_move w t l m false p steady condvar_holds aside (is ∙ ap (λ x. Condvar l (Notify x m p)) e) true g 1 may.3
+      (one_first (lock_state w l).queue (fits_move w t l m false p steady condvar_holds aside (is ∙ ap (λ x. Condvar l (Notify x m p)) e) true g).some)
+  move_may false false e g may = may_move w t l m false p steady condvar_holds aside (is ∙ ap (λ x. Condvar l (Notify x m p)) e) false g 1 may.3
+      (one_first (lock_state w l).queue (fits_move w t l m false p steady condvar_holds aside (is ∙ ap (λ x. Condvar l (Notify x m p)) e) false g).some)
+
+  -- nothing else is a move, and it moves from its own
+  only_moves : (q : NotifyAt) → ((owned : Bool) → q ≡ notify.Move owned → ⊥) → IsNoMove (notify_event l all m q (reply_to w t (notify_act all l m q)))
+  only_moves notify.Enter other = nothing_only
+  only_moves notify.Again other = nothing_only
+  only_moves notify.Hide other = at_lock_only l (OfCondvar locks.Hide)
+  only_moves notify.Mark other = marked_only m (word_at w m)
+  only_moves (notify.Set expected) other = either_only (word_at w m == expected) (AtLock m (SeeOwner true)) (marked_event m (word_at w m)) (at_lock_only m (SeeOwner true)) (marked_only m (word_at w m))
+  only_moves (notify.Move owned) other = absurd (other owned refl)
+  only_moves (notify.Clear any) other = at_lock_only l (OfCondvar locks.Hide)
+  only_moves (notify.MarkMoved number) other = nothing_only
+  only_moves (notify.Leave any number) other = either_only any (AtLock m Wake) Nothing (at_lock_only m Wake) nothing_only
+
+  from_own : (b owned : Bool) (c k n : ℕ) (every o : Bool) → notify_event l b m (notify.Move owned) (reply_to w t (move_act b owned l m)) ≡ Moves c k every o n → l ≡ c
+  from_own true true c k n every o e = let both : Some l ≡ Some c = ap moved_from e in cc
+  from_own true false c k n every o e = let both : Some l ≡ Some c = ap moved_from e in cc
+  from_own false true c k n every o e = let both : Some l ≡ Some c = ap moved_from e in cc
+  from_own false false c k n every o e = let both : Some l ≡ Some c = ap moved_from e in cc
+
+  is_move : (q : NotifyAt) → ((owned : Bool) × (q ≡ notify.Move owned)) ⊎ ((owned : Bool) → q ≡ notify.Move owned → ⊥)
+  is_move (notify.Move owned) = inl (owned, refl)
+  is_move notify.Enter = inr (λ owned e. cc)
+  is_move q = inr (λ owned e. cc)
+
+  moving : (c k n : ℕ) (every o : Bool) → event ≡ Moves c k every o n → MayMove (locks_of w) t c k every o n × (l ≡ c)
+  moving c k n every o e = elim (is_move p) [
+    | inl move ↦ by_move move.0 move.1
+    | inr other ↦ absurd (only_moves p other c k n every o e)
+  ]
+    where
+      by_move : (owned : Bool) → p ≡ notify.Move owned → MayMove (locks_of w) t c k every o n × (l ≡ c)
+      by_move owned g =
+          let same_event : notify_event l all m p told ≡ notify_event l all m (notify.Move owned) (reply_to w t (move_act all owned l m)) = ap (λ q. notify_event l all m q (reply_to w t (notify_act all l m q))) g in
+          let may : MayComeOfTwo l (condvar_profile (Notify all m (notify.Move owned))) (notify_event l all m (notify.Move owned) (reply_to w t (move_act all owned l m))) =
+          subst (λ q. MayComeOfTwo l (condvar_profile (Notify all m q)) (notify_event l all m q (reply_to w t (notify_act all l m q)))) g follows.may in
+          (subst (MayHappen (locks_of w) t) (sym same_event ∙ e) (move_may all owned refl g may), from_own all owned c k n every o (sym same_event ∙ e))
+
+  unlisted_here : locks.times t (lock_state w l).queue ≡ 0
+  unlisted_here = subst (IsListed (condvar_of w l) t) (unlisted all m p) (at_it w t l (Notify all m p) steady is).listed
+
+  -- the step goes on by that event, where it stands then as its reply says, is in no hand of its own, and the others' calls follow
+  pub notify_goes : place_at v t ≡ condvar_goes l (condvar_next (Notify all m p) told) → ((k : ℕ) → is_taken_by t (taken_at (place_at w t) k) ≡ false) → (lock_state v l).shown ≡ shown_then → OthersFollow w v t event
+      → GoesOn (locks_of w) t (outcome_of (condvar_does l (condvar_next (Notify all m p) told))) (locks_of v)
+  notify_goes there free shown others_follow = condvar_goes_on w v t l m (Notify all m p) is refl told event notify_happened shown_then behind (condvar_next (Notify all m p) told) _
+      (may_go w v t l m (Notify all m p) is refl told event notify_happened shown_then behind follows.may (λ c k every o n e. (moving c k n every o e).0))
+      (call_led w v t l m (Notify all m p) is refl told event notify_happened shown_then behind (condvar_next (Notify all m p) told) _ (unheard w t (notify_act all l m p) _)
+      (unwoken w t event _ free (λ c k n every o e. subst (λ j. is_among t (moved_of every (lock_state w j).queue) ≡ false) (moving c k n every o e).1 (not_among t every (lock_state w l).queue unlisted_here)))
+      follows.becomes there (names_notify all m (next_notify all m p told)) shown rights_led (told_so v t l m all (next_notify all m p told)))
+      others_follow (begins_two (locks_of w) l (Notify all m p) event _ follows.may (no_closure l (condvar_next (Notify all m p) told)))
