@@ -107,13 +107,13 @@ abbrev pub ToldSo : State → ℕ → Next CondvarPlace → Outcome → Type 0
 ToldSo v t (next.At q) o = (l : ℕ) × GoesAs v t l o
 ToldSo v t (next.End answer) o = o ≡ outcome.TheVariants.End answer
 
-module _ (w v : State) (t l m : ℕ) (p : CondvarPlace) (is : place_at w t ≡ Condvar l p) (names : mutex_beside p ≡ Some m) (told : Reply) (e : Event) (h : Happens w v t e) (shown : Option ℕ) (s2 : LockState) where
+-- its call is that of its place at both locks
+pub call_named : (w : State) (t l m : ℕ) (p : CondvarPlace) → place_at w t ≡ Condvar l p → mutex_beside p ≡ Some m → call_at w t ≡ calls.call_at l m p (rights w t)
+call_named w t l m p is names = ap (λ q. call_state q (rights w t)) is ∙ ap (λ o. call_on_both o (Some l) (condvar_profile p) (mutex_side p) (rights w t)) names
+
+module _ (w v : State) (t l m : ℕ) (p : CondvarPlace) (call_is : call_at w t ≡ calls.call_at l m p (rights w t)) (told : Reply) (e : Event) (h : Happens w v t e) (shown : Option ℕ) (s2 : LockState) where
   abbrev call : CallState
   call = calls.call_at l m p (rights w t)
-
-  -- its call is that of its place at both locks
-  call_is : call_at w t ≡ call
-  call_is = ap (λ q. call_state q (rights w t)) is ∙ ap (λ o. call_on_both o (Some l) (condvar_profile p) (mutex_side p) (rights w t)) names
 
   call_then : (q : CondvarPlace) → place_at v t ≡ Condvar l q → mutex_beside q ≡ Some m → call_state (place_at v t) (rights v t) ≡ calls.call_at l m q (rights v t)
   call_then q there named = ap (λ x. call_state x (rights v t)) there ∙ ap (λ o. call_on_both o (Some l) (condvar_profile q) (mutex_side q) (rights v t)) named

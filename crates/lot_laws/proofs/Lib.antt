@@ -117,5 +117,6 @@ pub mod CondvarSteps
 pub mod CondvarGoes
 pub mod WaitGoes
 pub mod NotifyGoes
+pub mod LookGoes
 pub mod WaitsThere
 pub mod WaitsBeside

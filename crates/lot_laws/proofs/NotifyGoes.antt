@@ -46,7 +46,7 @@ use Rattle.lot_laws.specs.Refinement.{call_at, call_state, lock_state, locks_of,
 use Rattle.lot_laws.specs.SitesOf.{FollowAll, IsSteady, condvar_of, rules_in, site_of}
 use Rattle.lot_laws.proofs.AtPlaces.{coded, in_no_hand, taken_nobody}
 use Rattle.lot_laws.proofs.CallEvents.{Happens, happens_sending, OthersFollow, deeds_by, put_is, rights}
-use Rattle.lot_laws.proofs.CondvarGoes.{Led, NamesStill, ToldSo, begins_two, call_led, condvar_goes_on, happens_two, led_by, locks_led, may_go, no_closure, others, unwoken}
+use Rattle.lot_laws.proofs.CondvarGoes.{call_named, Led, NamesStill, ToldSo, begins_two, call_led, condvar_goes_on, happens_two, led_by, locks_led, may_go, no_closure, others, unwoken}
 use Rattle.lot_laws.proofs.CondvarHears.{apart, at_it, doing_beside, fits_here, fits_move, number_of, may_hear, notifier_hears, rules_beside, station_beside}
 use Rattle.lot_laws.proofs.CondvarThere.{there_deeds}
 use Rattle.lot_laws.proofs.Glue.{plain_rules, same}
@@ -327,9 +327,9 @@ module _ (w v : State) (t l m : ℕ) (all : Bool) (p : NotifyAt) (steady : IsSte
   -- the step goes on by that event, where it stands then as its reply says, is in no hand of its own, and the others' calls follow
   pub notify_goes : place_at v t ≡ condvar_goes l (condvar_next (Notify all m p) told) → ((k : ℕ) → is_taken_by t (taken_at (place_at w t) k) ≡ false) → (lock_state v l).shown ≡ shown_then → OthersFollow w v t event
       → GoesOn (locks_of w) t (outcome_of (condvar_does l (condvar_next (Notify all m p) told))) (locks_of v)
-  notify_goes there free shown others_follow = condvar_goes_on w v t l m (Notify all m p) is refl told event notify_happened shown_then behind (condvar_next (Notify all m p) told) _
-      (may_go w v t l m (Notify all m p) is refl told event notify_happened shown_then behind follows.may (λ c k every o n e. (moving c k n every o e).0))
-      (call_led w v t l m (Notify all m p) is refl told event notify_happened shown_then behind (condvar_next (Notify all m p) told) _ (unheard w t (notify_act all l m p) _)
+  notify_goes there free shown others_follow = condvar_goes_on w v t l m (Notify all m p) (call_named w t l m (Notify all m p) is refl) told event notify_happened shown_then behind (condvar_next (Notify all m p) told) _
+      (may_go w v t l m (Notify all m p) (call_named w t l m (Notify all m p) is refl) told event notify_happened shown_then behind follows.may (λ c k every o n e. (moving c k n every o e).0))
+      (call_led w v t l m (Notify all m p) (call_named w t l m (Notify all m p) is refl) told event notify_happened shown_then behind (condvar_next (Notify all m p) told) _ (unheard w t (notify_act all l m p) _)
       (unwoken w t event _ free (λ c k n every o e. subst (λ j. is_among t (moved_of every (lock_state w j).queue) ≡ false) (moving c k n every o e).1 (not_among t every (lock_state w l).queue unlisted_here)))
       follows.becomes there (names_notify all m (next_notify all m p told)) shown rights_led (told_so v t l m all (next_notify all m p told)))
       others_follow (begins_two (locks_of w) l (Notify all m p) event _ follows.may (no_closure l (condvar_next (Notify all m p) told)))

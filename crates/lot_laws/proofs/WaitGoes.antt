@@ -49,7 +49,7 @@ use Rattle.lot_laws.specs.Refinement.{lock_state, locks_of, taken_at}
 use Rattle.lot_laws.specs.SitesOf.{FollowAll, IsSteady, condvar_of, rules_in, site_of}
 use Rattle.lot_laws.proofs.AtPlaces.{in_no_hand, taken_nobody}
 use Rattle.lot_laws.proofs.CallEvents.{Happens, OthersFollow, deeds_by, put_is, rights}
-use Rattle.lot_laws.proofs.CondvarGoes.{NamesStill, ToldSo, begins_two, call_led, condvar_goes_on, locks_led, may_go, no_closure, others, unwoken, wait_happens}
+use Rattle.lot_laws.proofs.CondvarGoes.{call_named, NamesStill, ToldSo, begins_two, call_led, condvar_goes_on, locks_led, may_go, no_closure, others, unwoken, wait_happens}
 use Rattle.lot_laws.proofs.CondvarHears.{apart, at_it, doing_beside, fits_here, may_hear, rules_beside, station_beside, taken_by_wait, waiter_hears}
 use Rattle.lot_laws.proofs.Glue.{same}
 use Rattle.lot_laws.proofs.CondvarThere.{there_deeds}
@@ -218,9 +218,9 @@ module _ (w v : State) (t l m : ℕ) (timed : Bool) (p : WaitAt) (steady : IsSte
   pub wait_goes : place_at v t ≡ condvar_goes l (condvar_next (Wait m timed p) told) → ((k : ℕ) → is_taken_by t (taken_at (place_at w t) k) ≡ false) → (lock_state v l).shown ≡ shown_then
       → ToldSo v t (condvar_next (Wait m timed p) told) (outcome_of (condvar_does l (condvar_next (Wait m timed p) told))) → OthersFollow w v t event
       → GoesOn (locks_of w) t (outcome_of (condvar_does l (condvar_next (Wait m timed p) told))) (locks_of v)
-  wait_goes there free shown rests others_follow = condvar_goes_on w v t l m (Wait m timed p) is refl told event wait_happened shown_then behind (condvar_next (Wait m timed p) told) _
-      (may_go w v t l m (Wait m timed p) is refl told event wait_happened shown_then behind follows.may (λ c k every owned n e. absurd (never_moves m l _ _ c k n every owned e)))
-      (call_led w v t l m (Wait m timed p) is refl told event wait_happened shown_then behind (condvar_next (Wait m timed p) told) _ (unheard w t (wait_act l m p) _)
+  wait_goes there free shown rests others_follow = condvar_goes_on w v t l m (Wait m timed p) (call_named w t l m (Wait m timed p) is refl) told event wait_happened shown_then behind (condvar_next (Wait m timed p) told) _
+      (may_go w v t l m (Wait m timed p) (call_named w t l m (Wait m timed p) is refl) told event wait_happened shown_then behind follows.may (λ c k every owned n e. absurd (never_moves m l _ _ c k n every owned e)))
+      (call_led w v t l m (Wait m timed p) (call_named w t l m (Wait m timed p) is refl) told event wait_happened shown_then behind (condvar_next (Wait m timed p) told) _ (unheard w t (wait_act l m p) _)
       (unwoken w t event _ free (λ c k n every owned e. absurd (never_moves m l _ _ c k n every owned e)))
       follows.becomes there (names_wait m timed (next_wait m timed p told)) shown rights_led rests)
       others_follow (begins_two (locks_of w) l (Wait m timed p) event _ follows.may (no_closure l (condvar_next (Wait m timed p) told)))
