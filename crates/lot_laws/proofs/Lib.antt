@@ -30,6 +30,7 @@ pub mod CondvarSites
 pub mod CondvarHears
 pub mod CondvarParts
 pub mod CondvarThere
+pub mod CondvarTurns
 pub mod TakesAt
 pub mod MovingKept
 pub mod TakesKept
@@ -120,3 +121,5 @@ pub mod NotifyGoes
 pub mod LookGoes
 pub mod WaitsThere
 pub mod WaitsBeside
+pub mod WaitsInside
+pub mod WaitsWaking

@@ -237,3 +237,26 @@ module _ (w : State) (t l m : ℕ) (timed : Bool) (steady : IsSteady w) (is_ther
 
       pub loads : place_at w t ≡ Condvar l (waits (relocks late retries lock.Load)) → FitsNext (relocks late retries lock.Load) (act.Word m op.Load) → Kept (relocks late retries lock.Load) (act.Word m op.Load)
       loads is fits = works (relocks late retries lock.Load) is op.Load refl refl lt refl (refl, refl) (refl, refl) fits tt refl
+
+      -- it has seen the word before: its exchange finds it so, or not
+      abbrev decided_next : Bool → Bool → Next CondvarPlace
+      decided_next same locked = in_wait m timed (relocked timed late (in_lock entry.Lock retries (if not same then At (lock.Decide seen) else if locked then At (lock.Decide 3) else Over answer.Ok)))
+
+      decided_there : (x : ℕ) (same locked : Bool) → StaysThere (relocks late retries (lock.Decide x)) (decided_next same locked)
+      decided_there x false locked = (refl, refl)
+      decided_there x true true = (refl, refl)
+      decided_there x true false = (tt, refl)
+
+      decided_beside : (x : ℕ) (same locked : Bool) → StaysBeside (relocks late retries (lock.Decide x)) (decided_next same locked)
+      decided_beside x false locked = (refl, refl)
+      decided_beside x true true = (refl, refl)
+      decided_beside x true false = (refl, refl)
+
+      decides_word : (same locked : Bool) → IsOfWord (if not same then [] else if locked then Mark Main ∷ [] else enters)
+      decides_word false locked = tt
+      decides_word true true = tt
+      decides_word true false = tt
+
+      pub decides : (x : ℕ) (f : Op) → place_at w t ≡ Condvar l (waits (relocks late retries (lock.Decide x))) → wait_act l m (relocks late retries (lock.Decide x)) ≡ act.Word m f → FitsNext (relocks late retries (lock.Decide x)) (act.Word m f) → Kept (relocks late retries (lock.Decide x)) (act.Word m f)
+      decides x f is acts_so fits = works (relocks late retries (lock.Decide x)) is f acts_so (subst (λ a. can_do w a ≡ true) (sym acts_so) refl) lt refl (decided_there x (seen == x) (is_locked seen)) (decided_beside x (seen == x) (is_locked seen)) fits
+          (decides_word (seen == x) (is_locked seen)) (one_owner (owners_at w m) (Some t) ((seen == x) && not (is_locked seen)))
