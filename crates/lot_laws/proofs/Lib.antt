@@ -119,6 +119,7 @@ pub mod CondvarGoes
 pub mod WaitGoes
 pub mod NotifyGoes
 pub mod LookGoes
+pub mod WaitRests
 pub mod WaitsThere
 pub mod WaitsBeside
 pub mod WaitsInside
