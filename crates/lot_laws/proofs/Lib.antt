@@ -120,6 +120,7 @@ pub mod WaitGoes
 pub mod NotifyGoes
 pub mod LookGoes
 pub mod WaitRests
+pub mod WaitSettles
 pub mod WaitsThere
 pub mod WaitsBeside
 pub mod WaitsInside
