@@ -144,3 +144,14 @@ module _ (w : State) (t l : ℕ) (at : CondvarPlace) (is : place_at w t ≡ Cond
   pub went_alike : Alike (condvar_next at (reply_to w t (condvar_act l at))) went
   unfolding went
   went_alike = still_alike at own_place.0 (reply_to w t (condvar_act l at)) own_place.2
+
+-- who notifies, or looks, goes on from where it stood
+pub notify_place : (w : State) (t l m : ℕ) (all : Bool) (p : NotifyAt) (is : place_at w t ≡ Condvar l (Notify all m p)) (reached : IsReached (Notify all m p)) (there : t < length w.places)
+    → place_at (state_after_going w t (Condvar l (Notify all m p))) t ≡ condvar_goes l (condvar_next (Notify all m p) (reply_to w t (condvar_act l (Notify all m p))))
+unfolding went
+notify_place w t l m all p is reached there = went_place w t l (Notify all m p) is reached there ∙ ap (λ q. condvar_goes l (condvar_next q (reply_to w t (condvar_act l (Notify all m p))))) (own_place w t l (Notify all m p) is reached there).2
+
+pub look_place : (w : State) (t l : ℕ) (all : Bool) (is : place_at w t ≡ Condvar l (Look all)) (there : t < length w.places)
+    → place_at (state_after_going w t (Condvar l (Look all))) t ≡ condvar_goes l (condvar_next (Look all) (reply_to w t (condvar_act l (Look all))))
+unfolding went
+look_place w t l all is there = went_place w t l (Look all) is tt there ∙ ap (λ q. condvar_goes l (condvar_next q (reply_to w t (condvar_act l (Look all))))) (own_place w t l (Look all) is tt there).2

@@ -121,6 +121,7 @@ pub mod NotifyGoes
 pub mod LookGoes
 pub mod WaitRests
 pub mod WaitSettles
+pub mod CondvarStep
 pub mod WaitsThere
 pub mod WaitsBeside
 pub mod WaitsInside
