@@ -126,3 +126,5 @@ pub mod WaitsThere
 pub mod WaitsBeside
 pub mod WaitsInside
 pub mod WaitsWaking
+pub mod WaitsTaking
+pub mod WaitsRefused
