@@ -80,3 +80,22 @@ module _ (w v : State) (t l : ℕ) (shape : IsShaped w) (steady : IsSteady w) (c
           either : (b : Bool) → is_taken_by t (if b then taken_from (mutex_side (Notify all m p)).hand (mutex_side (Notify all m p)).wants true else taken_from None (condvar_profile (Notify all m p)).wants (l == k)) ≡ false
           either true = ap (λ (h : Option Hand). is_taken_by t (taken_from h (mutex_side (Notify all m p)).wants true)) (no_hand all m p)
           either false = refl
+
+  -- its first step, which looks
+  pub look_step : (all : Bool) → place_at w t ≡ Condvar l (Look all) → v ≡ state_after_going w t (Condvar l (Look all)) → ((k : ℕ) → all_deeds k ≡ []) → OthersFollow w v t (look_event l (word_at w l))
+      → GoesOn (locks_of w) t (outcome_of (condvar_does l (condvar_next (Look all) (reply_to w t (condvar_act l (Look all)))))) (locks_of v)
+  look_step all is led nothing others = subst (λ n. GoesOn (locks_of w) t (outcome_of (condvar_does l (condvar_next (Look all) (Value n)))) (locks_of v)) (sym shows)
+      (look_goes w v t l all steady after is all_deeds goes.follows nothing stands_so free (subst (λ n. OthersFollow w v t (look_event l n)) shows others))
+    where
+      shows : word_at w l ≡ word_of (lock_state w l).shown
+      shows = word_is w t l (Look all) steady is
+
+      stands_so : place_at v t ≡ condvar_goes l (condvar_next (Look all) (Value (word_of (lock_state w l).shown)))
+      stands_so = ap (λ (x : State). place_at x t) led ∙ look_place w t l all is there ∙ ap (λ n. condvar_goes l (condvar_next (Look all) (Value n))) shows
+
+      either : (b : Bool) → is_taken_by t (taken_from None (condvar_profile (Look all)).wants b) ≡ false
+      either true = refl
+      either false = refl
+
+      free : (k : ℕ) → is_taken_by t (taken_at (place_at w t) k) ≡ false
+      free k = ap (λ q. is_taken_by t (taken_at q k)) is ∙ either (l == k)
