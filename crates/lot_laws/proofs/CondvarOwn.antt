@@ -155,3 +155,19 @@ pub look_place : (w : State) (t l : ℕ) (all : Bool) (is : place_at w t ≡ Con
     → place_at (state_after_going w t (Condvar l (Look all))) t ≡ condvar_goes l (condvar_next (Look all) (reply_to w t (condvar_act l (Look all))))
 unfolding went
 look_place w t l all is there = went_place w t l (Look all) is tt there ∙ ap (λ q. condvar_goes l (condvar_next q (reply_to w t (condvar_act l (Look all))))) (own_place w t l (Look all) is tt there).2
+
+-- a wait inside the release of its mutex may befall its own thread
+abbrev pub is_release : WaitAt → Bool
+is_release (wait.Release s a) = true
+is_release p = false
+
+-- any other goes on from where it stood
+calm_still : (m : ℕ) (timed : Bool) (p : WaitAt) (q : CondvarPlace) → is_release p ≡ false → IsStill (Wait m timed p) q → q ≡ Wait m timed p
+calm_still m timed (wait.Release s a) q calm still = absurd cc
+calm_still m timed p q calm still = still
+
+pub wait_place : (w : State) (t l m : ℕ) (timed : Bool) (p : WaitAt) (is : place_at w t ≡ Condvar l (Wait m timed p)) (reached : IsReached (Wait m timed p)) (there : t < length w.places) → is_release p ≡ false
+    → place_at (state_after_going w t (Condvar l (Wait m timed p))) t ≡ condvar_goes l (condvar_next (Wait m timed p) (reply_to w t (condvar_act l (Wait m timed p))))
+unfolding went
+wait_place w t l m timed p is reached there calm = went_place w t l (Wait m timed p) is reached there
+    ∙ ap (λ q. condvar_goes l (condvar_next q (reply_to w t (condvar_act l (Wait m timed p))))) (calm_still m timed p _ calm (own_place w t l (Wait m timed p) is reached there).2)

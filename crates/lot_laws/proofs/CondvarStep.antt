@@ -4,11 +4,14 @@ use Rattle.std.proofs.Common.{ℕ, Bool, true, false, Option, Some, None, if◌t
 use Rattle.lot_acts.specs.Acts.{outcome_of}
 use Rattle.lot_acts.specs.Profiles.{Hand, taken_from}
 use Rattle.lot_acts.specs.declared.acts.Reply.TheVariants.{Value}
+use Rattle.lot_mutex.specs.declared.places.MutexPlace.TheVariants as mutex
+use Rattle.lot_mutex.specs.declared.lock.LockAt.TheVariants as lock
 use Rattle.lot_condvar.specs.declared.notify.NotifyAt.{NotifyAt}
 use Rattle.lot_condvar.specs.declared.notify.NotifyAt.TheVariants as notify
 use Rattle.lot_condvar.specs.declared.places.CondvarPlace.TheVariants.{Wait, Look, Notify}
 use Rattle.lot_condvar.specs.declared.wait.WaitAt.{WaitAt}
-use Rattle.lot_condvar.specs.CondvarCalls.{look_event, notify_event, wait_event}
+use Rattle.lot_condvar.specs.declared.wait.WaitAt.TheVariants as wait
+use Rattle.lot_condvar.specs.CondvarCalls.{IsReached, look_event, notify_event, wait_event}
 use Rattle.lot_condvar.specs.CondvarDeeds.{notify_deeds, wait_deeds, word_of}
 use Rattle.lot_condvar.specs.CondvarMutex.{beside_deeds}
 use Rattle.lot_condvar.specs.CondvarProfiles.{condvar_profile, mutex_side, notify_row}
@@ -27,7 +30,7 @@ use Rattle.lot_laws.specs.Refinement.{lock_state, locks_of, taken_at}
 use Rattle.lot_laws.specs.SitesOf.{GoesAll, IsSteady, condvar_of}
 use Rattle.lot_laws.proofs.CallEvents.{OthersFollow}
 use Rattle.lot_laws.proofs.CondvarHears.{fits_here, taken_by_wait, word_is}
-use Rattle.lot_laws.proofs.CondvarOwn.{look_place, notify_place}
+use Rattle.lot_laws.proofs.CondvarOwn.{is_release, look_place, notify_place, wait_place}
 use Rattle.lot_laws.proofs.CondvarThere.{there_deeds}
 use Rattle.lot_laws.proofs.CondvarWent.{goes_led}
 use Rattle.lot_laws.proofs.Following.{goes_all_steady}
@@ -99,3 +102,33 @@ module _ (w v : State) (t l : ℕ) (shape : IsShaped w) (steady : IsSteady w) (c
 
       free : (k : ℕ) → is_taken_by t (taken_at (place_at w t) k) ≡ false
       free k = ap (λ q. is_taken_by t (taken_at q k)) is ∙ either (l == k)
+
+  -- a wait outside the release of its mutex is in nobody's hand where it acts
+  wait_free : (m : ℕ) (timed : Bool) (p : WaitAt) → IsReached (Wait m timed p) → can_do w (wait_act l m p) ≡ true → is_release p ≡ false
+      → (b : Bool) → is_taken_by t (taken_from (mutex_side (Wait m timed p)).hand (mutex_side (Wait m timed p)).wants b) ≡ false
+  wait_free m timed (wait.Release s a) reached can calm b = absurd cc
+  wait_free m timed (wait.Asleep s) reached can calm b = absurd cc
+  wait_free m timed (wait.Lock late (mutex.Lock e again (lock.Taken by))) reached can calm b = absurd cc
+  wait_free m timed (wait.Lock late (mutex.Lock e again a)) reached can calm b = refl
+  wait_free m timed (wait.Lock late a) reached can calm b = absurd reached.1
+  wait_free m timed p reached can calm b = refl
+
+  -- so there its place is known, and the hands
+  pub calm_wait_step : (m : ℕ) (timed : Bool) (p : WaitAt) → place_at w t ≡ Condvar l (Wait m timed p) → v ≡ state_after_going w t (Condvar l (Wait m timed p)) → (can : can_do w (wait_act l m p) ≡ true) → is_release p ≡ false
+      → ((k : ℕ) → k ≢ l → k ≢ m → all_deeds k ≡ []) → all_deeds l ≡ acts t (there_deeds (wait_deeds m p (reply_to w t (wait_act l m p)))) → all_deeds m ≡ acts t (waiter_deeds p (taken_by_wait w m p) (reply_to w t (wait_act l m p)))
+      → OthersFollow w v t (wait_event l m p (taken_by_wait w m p) (reply_to w t (wait_act l m p)))
+      → GoesOn (locks_of w) t (outcome_of (condvar_does l (condvar_next (Wait m timed p) (reply_to w t (wait_act l m p))))) (locks_of v)
+  calm_wait_step m timed p is led can calm elsewhere at_l at_m = wait_step m timed p is led can elsewhere at_l at_m (ap (λ (x : State). place_at x t) led ∙ wait_place w t l m timed p is reached there calm) free
+    where
+      reached : IsReached (Wait m timed p)
+      reached = (fits_here w t l (Wait m timed p) steady is).reached
+
+      own : (b : Bool) → is_taken_by t (taken_from (condvar_profile (Wait m timed p)).hand (condvar_profile (Wait m timed p)).wants b) ≡ false
+      own b = refl
+
+      either : (here b : Bool) → is_taken_by t (if b then taken_from (mutex_side (Wait m timed p)).hand (mutex_side (Wait m timed p)).wants true else taken_from (condvar_profile (Wait m timed p)).hand (condvar_profile (Wait m timed p)).wants here) ≡ false
+      either here true = wait_free m timed p reached can calm true
+      either here false = own here
+
+      free : (k : ℕ) → is_taken_by t (taken_at (place_at w t) k) ≡ false
+      free k = ap (λ q. is_taken_by t (taken_at q k)) is ∙ either (l == k) (is_lock k (Some m) && not (l == k))
