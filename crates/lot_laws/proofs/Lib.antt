@@ -113,6 +113,15 @@ pub mod CondvarRows
 pub mod CondvarsKept
 pub mod CondvarLed
 pub mod CondvarWent
+pub mod CondvarOwn
+pub mod CondvarSteps
+pub mod CondvarGoes
+pub mod WaitGoes
+pub mod NotifyGoes
+pub mod LookGoes
+pub mod WaitRests
+pub mod WaitSettles
+pub mod CondvarStep
 pub mod WaitsThere
 pub mod WaitsBeside
 pub mod WaitsInside
