@@ -130,3 +130,4 @@ pub mod WaitsTaking
 pub mod WaitsRefused
 pub mod NotifiesWords
 pub mod NotifiesBoth
+pub mod NotifiesWaking

@@ -65,16 +65,16 @@ module _ (w : State) (t l m : ℕ) (all : Bool) (steady : IsSteady w) (is_there 
   keys = other_key l m Main Main apart
 
   module _ (who : Option ℕ) where
-    abbrev with_both : State
+    abbrev pub with_both : State
     with_both = state_with_sections w (Two (2 * l) (2 * m)) who
 
-    held_l : section_at with_both (key_of l Main) ≡ who
+    pub held_l : section_at with_both (key_of l Main) ≡ who
     held_l = get_or-set_other (set w.sections (2 * l) who) (2 * m) (2 * l) who None (λ e. keys (sym e)) ∙ get_or-set_same w.sections (2 * l) who None section_l
 
-    held_m : section_at with_both (key_of m Main) ≡ who
+    pub held_m : section_at with_both (key_of m Main) ≡ who
     held_m = get_or-set_same (set w.sections (2 * l) who) (2 * m) who None (rw (length-set w.sections (2 * l) who) section_m)
 
-    elsewhere : (key : ℕ) → key ≢ key_of l Main → key ≢ key_of m Main → section_at with_both key ≡ section_at w key
+    pub elsewhere : (key : ℕ) → key ≢ key_of l Main → key ≢ key_of m Main → section_at with_both key ≡ section_at w key
     elsewhere key nl nm = get_or-set_other (set w.sections (2 * l) who) (2 * m) key who None nm ∙ get_or-set_other w.sections (2 * l) key who None nl
 
   -- from a place to the next one, of which no other lock sees anything
@@ -141,7 +141,7 @@ module _ (w : State) (t l m : ℕ) (all : Bool) (steady : IsSteady w) (is_there 
   -- ---------------------------------------------------------------- and out of them
 
   -- it is inside the section of the mutex, whomever it has moved
-  inside_leave : (any : Bool) (number : ℕ) → (notify_row all m (notify.Leave any number)).doing.inside ≡ Some Main
+  pub inside_leave : (any : Bool) (number : ℕ) → (notify_row all m (notify.Leave any number)).doing.inside ≡ Some Main
   inside_leave any number = by_number (number == 0)
     where
       by_number : (b : Bool) → (if b then inside else has_moved any false).inside ≡ Some Main
