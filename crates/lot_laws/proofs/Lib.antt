@@ -131,3 +131,4 @@ pub mod WaitsRefused
 pub mod NotifiesWords
 pub mod NotifiesBoth
 pub mod NotifiesWaking
+pub mod LooksThere
