@@ -65,11 +65,14 @@ use Rattle.lot_laws.proofs.MutexEvents.{free_word, owned_word}
 use Rattle.lot_laws.proofs.MutexCalls.{decides}
 use Rattle.lot_laws.proofs.LockSteps.{purpose_is}
 use Rattle.lot_laws.proofs.Counts.{first_times}
-use Rattle.lot_laws.proofs.Glue.{nothing_at, IsTakenAt, put_here, station_here, own_stance, successor_one, same, mutex_calls, singles, differ, aparts, of_carries}
+use Rattle.lot_steps.specs.Steps.{is_lock}
+use Rattle.lot_laws.specs.Stations.{station_by}
+use Rattle.lot_condvar.specs.CondvarSteps.{mutex_beside}
+use Rattle.lot_condvar.specs.CondvarProfiles.{mutex_side}
+use Rattle.lot_laws.proofs.Glue.{nothing_at, not_beside, taken_held, put_here, own_stance, successor_one, singles, differ, aparts, of_carries}
 use Rattle.lot_laws.proofs.SitesPromise.{parked_at}
 use Rattle.lot_mutex.specs.declared.places.MutexPlace.{MutexPlace}
 use Rattle.lot_acts.specs.declared.acts.Whom as whoms
-use Rattle.lot_laws.proofs.LockEvents.{taken_place}
 use Rattle.lot_laws.proofs.SitesKept.{go_by, mutex_unshared, unshared_at, single_at, alone_at}
 use Rattle.lot_acts.specs.declared.owners.Owners.{Owners}
 use Rattle.lot_acts.specs.Owners.{with_exclusive}
@@ -320,15 +323,15 @@ module _ (t l : ℕ) where
     abbrev taken_then : State
     taken_then = go_by w t (Mutex l taking) (act.TheVariants.Take (2 * l) whoms.TheVariants.First)
 
-    first_held : (whom : Option ℕ) → Goes w taken_then l (acts t (takes whom)) → IsTakenAt (place_at taken_then x.thread) t l
+    first_held : (whom : Option ℕ) → Goes w taken_then l (acts t (takes whom)) → hand_at (place_at taken_then x.thread) l ≡ hand t false
     first_held None goes = absurd (let none : map queued_of (queue_at w (2 * l)) ≡ [] = goes.follows.needed.0.2 in let some : map queued_of (queue_at w (2 * l)) ≡ queued_of x ∷ map queued_of rest = ap (map queued_of) f.queue in cc)
     first_held (Some u) goes =
         let line : map queued_of (queue_at w (2 * l)) ≡ queued u ∷ goes.follows.needed.0.0.0.0 = goes.follows.needed.0.0.0.1 in
         let first : queued u ∷ goes.follows.needed.0.0.0.0 ≡ queued_of x ∷ map queued_of rest = sym line ∙ ap (map queued_of) f.queue in
         let who : Some u ≡ Some x.thread = ap first_thread first in
         let same_one : u ≡ x.thread = cc in
-        let hand : taken_at (place_at taken_then u) l ≡ Some (record { by = t; want = Exclusive }) = ap (λ (z : Site). z.lock.taken u) goes.follows.site ∙ put_here (λ k. taken_at (place_at w k) l) u (Some (record { by = t; want = Exclusive })) in
-        taken_place (place_at taken_then x.thread) t l (mutex_calls taken_then l (place_at taken_then x.thread) (goes.stands.calls x.thread) (ap rules_of (goes.follows.kinds l) ∙ mutex_rules (kind_at w l) (let c : FitsItsLock w (Mutex l taking) = rw f.place at (f.steady.stands.calls t) in c))) (rw (← same_one, hand) (same t))
+        let taken : taken_at (place_at taken_then u) l ≡ Some (record { by = t; want = Exclusive }) = ap (λ (z : Site). z.lock.taken u) goes.follows.site ∙ put_here (λ k. taken_at (place_at w k) l) u (Some (record { by = t; want = Exclusive })) in
+        taken_held (place_at taken_then x.thread) t l Exclusive (ap (λ j. taken_at (place_at taken_then j) l) (sym same_one) ∙ taken)
 
     heir_first : (o : Owners) → owners_handed_over (after w (go_of t)) t l o ≡ with_exclusive o (Some x.thread)
     heir_first = successor_one (after w (go_of t)) t l x.thread false (aparts (after w (go_of t)) steady_then) steady_then.stands.hands (single_at (after w (go_of t)) t l (HandOff bumps (hand_off.Store true (length rest == 0))) steady_then here.place) (of_carries l (place_at (after w (go_of t)) t) (rw here.place refl)) (subst (λ (z : State). hand_at (place_at z x.thread) l ≡ hand t false) (sym led) held) (alone_at (after w (go_of t)) t l (HandOff bumps (hand_off.Store true (length rest == 0))) steady_then here.place) (unshared_at (after w (go_of t)) t l (HandOff bumps (hand_off.Store true (length rest == 0))) steady_then here.place)
@@ -345,11 +348,8 @@ module _ (t l : ℕ) where
         goes : (whom : Option ℕ) × Goes w taken_then l (acts t (takes whom))
         goes = gone_goes w t f.steady f.shape f.thread l taking f.place f.lock refl
 
-        k : IsTakenAt (place_at taken_then x.thread) t l
-        k = first_held goes.0 goes.1
-
         held : hand_at (place_at taken_then x.thread) l ≡ hand t false
-        held = ap (λ p. hand_at p l) k.is ∙ ap (λ (y : Station). y.hand) (station_here l (Mutex l (Lock k.entry k.retries (Taken t))) refl)
+        held = first_held goes.0 goes.1
 
   fair_take_leads : (bumps : Bool) (q : List Waiter) (v : ℕ) (o s : Option ℕ) (w : State) → Facing w t l (Mutex l (HandOff bumps hand_off.Take)) v o s q → Leads 9 w t (FairEnds bumps t l (first_of q) (drop 1 q))
   fair_take_leads bumps [] v o s w f = let h = take_faces w t l (Mutex l (HandOff bumps hand_off.Take)) v o s [] f refl in
@@ -418,7 +418,18 @@ never_aside w l (RwLock k a c) fits sort e = either (k == l) refl
     either true h = let own : (rules_in w k).sort ≡ locks.Once = subst (λ n. (rules_in w n).sort ≡ locks.Once) (sym (eqb-true k l h)) sort in
         let other : true ≡ false = sym (fits.0.0) ∙ ap has_readers own in cc
     either false h = let none : None ≡ Some Second = sym (ap (λ b. (if b then station (RwLock k a c) else nowhere).inside) h) ∙ e in cc
-never_aside w l (Condvar k at) fits sort e = absurd fits.begun
+never_aside w l (Condvar k at) fits sort e = either (k == l) refl
+  where
+    beside : is_lock l (mutex_beside at) ≡ false
+    beside = not_beside w (Condvar k at) l fits (λ one. let both : locks.Mutex ≡ locks.Once = sym one ∙ sort in cc)
+
+    out : (b : Bool) → b ≡ false → (k == l) ≡ false → (if k == l then station (Condvar k at) else if b then station_by (mutex_side at) else nowhere).inside ≡ None
+    out true f h = absurd cc
+    out false f h = ap (λ c. (if c then station (Condvar k at) else nowhere).inside) h
+
+    either : (b : Bool) → (k == l) ≡ b → ⊥
+    either true h = let both : locks.Condvar ≡ locks.Once = sym fits.sort ∙ ap (λ n. (rules_in w n).sort) (eqb-true k l h) ∙ sort in cc
+    either false h = let none : None ≡ Some Second = sym (out (is_lock l (mutex_beside at)) beside h) ∙ e in cc
 never_aside w l (Once k at) fits sort e = either (k == l) refl
   where
     either : (b : Bool) → (k == l) ≡ b → ⊥
