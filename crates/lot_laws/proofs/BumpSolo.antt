@@ -62,6 +62,8 @@ use Rattle.lot_laws.proofs.LineSolo.{StepsAlone}
 use Rattle.lot_laws.proofs.CallSolo.{Ends, Resting, Shares, shares_on, accepts_rest, gives_rest, glance_rests, hands_over_rest, wakes_rest}
 use Rattle.lot_laws.proofs.CountsKept.{counted_after}
 use Rattle.lot_laws.proofs.Counting.{nothing}
+use Rattle.lot_laws.proofs.CondvarRows.{names_of, stage_of}
+use Rattle.lot_laws.proofs.CondvarsKept.{put_condvars}
 use Rattle.lot_laws.proofs.CountsPut.{put_counted}
 use Rattle.lot_laws.proofs.TurnsKept.{after_steady}
 
@@ -446,6 +448,7 @@ module _ (t l : ℕ) (a : Admission) where
     shape = put_shaped w t (RwLock l a (Plain p)) f.shape f.lock;
     steady = plain_steady w p f.steady f.thread f.place shares may;
     counted = put_counted w t (RwLock l a (Plain p)) f.thread (sym (ap held f.place)) (λ k. nothing (l == k)) f.counted;
+    condvars = put_condvars w t (RwLock l a (Plain p)) f.thread (λ k. (sym (ap (λ q. stage_of q k) f.place), sym (ap (λ q. names_of q k) f.place))) f.condvars;
     running = put_running w t (RwLock l a (Plain p)) (ap (λ q. runs_closure (act_of q)) f.place ∙ call_runs_none l a (Bump p)) f.running;
     thread = rw (length-set w.places t (RwLock l a (Plain p))) f.thread;
     lock = f.lock;

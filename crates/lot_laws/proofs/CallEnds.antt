@@ -247,8 +247,8 @@ module _ (w : State) (t l : ℕ) (a : Admission) (x : Access) (holds : IsWorld w
           (same_ends.1 l ∙ ap (λ (r : Ran). lock_state r.state l) from_there ∙ ap (λ (z : State). lock_state z l) e.state)
           (same_ends.0 ∙ ap (λ (r : Ran). r.outcome) from_there ∙ e.outcome_is) x
           (enters_alone plain_w t l a x Patient e.room outcome.NotNow e.enough plain.steady e.shares plain.place
-          (record { shape = plain.shape; steady = plain.steady; counted = plain.counted; running = plain.running; thread = plain.thread; lock = plain.lock; place = plain.place; word = refl; queue = λ m. refl; way = plain.way })
-          (runs_alone e.room plain_w t (record { shaped = plain.shape; steady = plain.steady; counted = plain.counted; running = plain.running })));
+          (record { shape = plain.shape; steady = plain.steady; counted = plain.counted; condvars = plain.condvars; running = plain.running; thread = plain.thread; lock = plain.lock; place = plain.place; word = refl; queue = λ m. refl; way = plain.way })
+          (runs_alone e.room plain_w t (record { shaped = plain.shape; steady = plain.steady; counted = plain.counted; condvars = plain.condvars; running = plain.running })));
     }
 
   pub bumps_shared : ((u : ℕ) → section_at w (key_of l Main) ≡ Some u → u ≡ t) → Ends t l a (gives_way a x word) x w v2 o → BumpsShared (has_parked word ≡ false) (locks_of w) t l (wanted x) o (locks_of v2)
@@ -284,5 +284,5 @@ rwlock_alone w t l a c n last le steady admits is f run = by_call c is f
     by_call (call.ReleaseFair access.Exclusive) is f = exclusive_released w t l a steady admits v2 x run is ((hands_over_rest t l a access.Exclusive false (handing.Free 8) refl (word_at w l) w (λ m. queue_at w (key_of l m)) admits f n last (omega arith)).1 refl)
     by_call (call.Bump y) is f = (
       (λ mutex. no_mutex w t l a steady admits v2 x run mutex),
-      λ readers. bumps_shared w t l a y (record { shaped = f.shape; steady = f.steady; counted = f.counted; running = f.running }) admits is v2 x run (f.way Main) (glance_rests t l a y (word_at w l) w (λ m. queue_at w (key_of l m)) admits f n last (omega arith)),
+      λ readers. bumps_shared w t l a y (record { shaped = f.shape; steady = f.steady; counted = f.counted; condvars = f.condvars; running = f.running }) admits is v2 x run (f.way Main) (glance_rests t l a y (word_at w l) w (λ m. queue_at w (key_of l m)) admits f n last (omega arith)),
     )

@@ -1,5 +1,5 @@
 -- Each step keeps what holds of condition variables: those that its call is not of are as they were.
-use Rattle.std.proofs.Common.{ℕ, Bool, true, false, Option, Some, None, if◌then◌else◌, ◌==◌, ◌≡◌, ◌≢◌, ◌⊎◌, ◌*◌, inl, inr, refl, sym, ◌∙◌, ap, subst}
+use Rattle.std.proofs.Common.{ℕ, Bool, true, false, Option, Some, None, if◌then◌else◌, ◌==◌, ◌≡◌, ◌≢◌, ◌⊎◌, ◌*◌, ◌<◌, length, inl, inr, refl, sym, ◌∙◌, ap, subst, get_or-set_same, get_or-set_other}
 use Rattle.std.proofs.lemmas.Bool.{cases_eq, eqb-true}
 use Rattle.lot_calls.specs.declared.calls.Step.{Step}
 use Rattle.lot_calls.specs.declared.calls.Turn.{Turn}
@@ -22,7 +22,7 @@ use Rattle.abstract_locks.specs.Purposes.{Purpose, Enters, Releases, Converts, B
 use Rattle.abstract_locks.specs.Runs.{AtLock, CallState, Event, GoesOn, IsStep, LocksState, MayDo, MayHappen, MayTurn, Does, Moves, Nothing, SectionChanges, going_on, joined_by, locks_after, no_call, rules_at, unless_ended, woken}
 use Rattle.abstract_locks.specs.Sites.{Line, Main}
 use Rattle.lot_machine.specs.Fits.{IsShaped}
-use Rattle.lot_machine.specs.Machine.{State, after, kind_at, place_at, section_at, step_outcome}
+use Rattle.lot_machine.specs.Machine.{State, after, kind_at, place_at, put, section_at, step_outcome}
 use Rattle.lot_laws.specs.Promises.{KnowsRights}
 use Rattle.lot_laws.specs.Refinement.{call_at, call_state, lock_state, locks_of}
 use Rattle.lot_laws.specs.Stations.{station_at}
@@ -295,6 +295,16 @@ module _ (w : State) (s : Step) (shape : IsShaped w) (steady : IsSteady w) (coun
               rw e (behind.0 ∙ sym before.0, behind.1 ∙ sym before.1)
           | inr ne ↦ says_kept u ne
         ]
+
+-- who stands elsewhere, where its place says the same of it, leaves each as it was
+pub put_condvars : (w : State) (t : ℕ) (q : Place) → t < length w.places → ((k : ℕ) → (stage_of q k ≡ stage_of (place_at w t) k) × (names_of q k ≡ names_of (place_at w t) k)) → AreCondvars w → AreCondvars (put w t q)
+put_condvars w t q there says condvars k sort = subst IsCondvar (sym (same_condvar w (put w t q) k (refl, refl) refl says_now)) (condvars k sort)
+  where
+    says_now : (u : ℕ) → (stage_of (place_at (put w t q) u) k ≡ stage_of (place_at w u) k) × (names_of (place_at (put w t q) u) k ≡ names_of (place_at w u) k)
+    says_now u = elim (cases_eq u t) [
+      | inl e ↦ rw (e, get_or-set_same w.places t q Idle there) (says k)
+      | inr ne ↦ let stays = get_or-set_other w.places t u q Idle ne in (ap (λ p. stage_of p k) stays, ap (λ p. names_of p k) stays)
+    ]
 
 is_or_not : (o : Option ℕ) (k : ℕ) → (o ≡ Some k) ⊎ (o ≢ Some k)
 is_or_not None k = inr (λ e. cc)

@@ -24,11 +24,13 @@ pub mod HandRights
 pub mod WakesAt
 pub mod WakesKept
 pub mod TwoLocks
+pub mod Moving
 pub mod CondvarSites
 pub mod CondvarHears
 pub mod CondvarParts
 pub mod CondvarThere
 pub mod TakesAt
+pub mod MovingKept
 pub mod TakesKept
 pub mod PicksKept
 pub mod AnyPicked
@@ -107,3 +109,5 @@ pub mod RunsKept
 pub mod WaitersAside
 pub mod CondvarRows
 pub mod CondvarsKept
+pub mod CondvarLed
+pub mod CondvarWent

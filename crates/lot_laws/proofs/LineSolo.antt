@@ -28,11 +28,12 @@ use Rattle.lot_machine.specs.Machine.{State, unlocked, place_at, word_at, sectio
 use Rattle.lot_machine.specs.Fits.{IsShaped, SameSize}
 use Rattle.lot_machine.proofs.Shape.{after_shaped, after_size, main_key_there, performed_counts}
 use Rattle.lot_laws.proofs.OwnPlace.{goes_from_there, told_from_there}
-use Rattle.lot_laws.specs.SitesOf.{AreCounted, IsSteady, RunsInClosures, key_of, stood_in}
+use Rattle.lot_laws.specs.SitesOf.{AreCondvars, AreCounted, IsSteady, RunsInClosures, key_of, stood_in}
 use Rattle.lot_laws.proofs.RunsKept.{running_after}
 use Rattle.lot_laws.specs.Stations.{station, station_at}
 use Rattle.lot_laws.proofs.Glue.{nothing_at, singles, IsSingle}
 use Rattle.lot_laws.proofs.Counts.{without_absent}
+use Rattle.lot_laws.proofs.CondvarsKept.{after_condvars}
 use Rattle.lot_laws.proofs.CountsKept.{counted_after}
 use Rattle.lot_laws.proofs.TurnsKept.{after_steady}
 
@@ -41,6 +42,7 @@ pub record StepsAlone (w : State) (t l : ℕ) (p : Place) (v : ℕ) (q : Line �
   pub shape : IsShaped w
   pub steady : IsSteady w
   pub counted : AreCounted w
+  pub condvars : AreCondvars w
   pub running : RunsInClosures w
   pub thread : t < length w.places
   pub lock : l < length w.locks
@@ -79,6 +81,7 @@ module _ (w : State) (t l : ℕ) (p : Place) (v : ℕ) (q : Line → List Waiter
       shape = after_shaped w (go_of t) f.shape;
       steady = after_steady w (go_of t) f.shape f.steady f.counted;
       counted = counted_after w (go_of t) f.shape f.steady f.counted;
+      condvars = after_condvars w (go_of t) f.shape f.steady f.counted f.condvars;
       running = running_after w (go_of t) f.shape f.steady f.counted f.running;
       thread = let size : SameSize w (after w (go_of t)) = after_size w (go_of t) in rw size.threads f.thread;
       lock = let size : SameSize w (after w (go_of t)) = after_size w (go_of t) in rw size.locks f.lock;

@@ -10,11 +10,14 @@ use Rattle.lot_steps.specs.declared.places.Place.TheVariants.{Idle}
 use Rattle.abstract_locks.specs.Locks.{Rules, Sort, opening_lock}
 use Rattle.abstract_locks.specs.Codes.{code, parked_in, aside_in, HasLimit}
 use Rattle.abstract_locks.specs.Purposes.{rules_of}
-use Rattle.abstract_locks.specs.Sites.{Site, IsSite, opening_site, is_full, has_readers}
+use Rattle.abstract_locks.specs.Sites.{Main, Site, IsSite, opening_site, is_full, has_readers}
 use Rattle.abstract_locks.proofs.LockKeeps.{opening_is_state}
 use Rattle.lot_machine.specs.Machine.{State, opening, unlocked, place_at, kind_at}
 use Rattle.lot_laws.specs.Stations.{nowhere, station_at}
-use Rattle.lot_laws.specs.SitesOf.{IsSteady, HasRoom, site_of, rules_in, key_of, carried_at, hand_at}
+use Rattle.abstract_locks.specs.Condvars.{IsCondvar, opening_condvar}
+use Rattle.abstract_locks.specs.Picks.{queued_of}
+use Rattle.lot_steps.specs.Steps.{profile_at}
+use Rattle.lot_laws.specs.SitesOf.{AreCondvars, condvar_of, inside_as, IsSteady, HasRoom, site_of, rules_in, key_of, carried_at, hand_at}
 use Rattle.lot_laws.proofs.Glue.{past_all, seen_by}
 use Rattle.lot_machine.proofs.Opening.{idle_at, none_at, empty_at, nobody_owns, no_readers, opening_shares}
 use Rattle.lot_machine.proofs.Shape.{both}
@@ -122,6 +125,18 @@ module _ (kinds : List Kind) (threads : ℕ) where
 
   size : length first.places ≡ threads
   size = length-replicate threads Idle
+
+  -- nobody waits, and nothing is shown
+  pub opening_condvars : AreCondvars first
+  opening_condvars l sort = subst IsCondvar (sym seen) (record { once = λ t. omega arith; inside = refl })
+    where
+      seen : condvar_of first l ≡ opening_condvar
+      seen = λ i. record {
+        shown = (nobody_owns kinds l i).shown;
+        waiters = map queued_of (empty_at (2 * length kinds) (2 * l) i);
+        inside = inside_as (none_at (2 * length kinds) (key_of l Main) i) (λ t. (profile_at (idle_at threads t i) l).stage);
+        waits_with = λ t. (profile_at (idle_at threads t i) l).names;
+      }
 
   pub opening_steady : 1 ≤ threads → All (λ k. fits k threads ≡ true) kinds → IsSteady first
   opening_steady some fit = record {

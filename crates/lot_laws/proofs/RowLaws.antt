@@ -9,7 +9,7 @@ use Rattle.lot_machine.proofs.Shape.{opening_shaped}
 use Rattle.std.proofs.lemmas.List.Elements.{All-cons, All-nil}
 use Rattle.lot_calls.specs.Kinds.{fits}
 use Rattle.lot_laws.specs.SitesOf.{IsWorld}
-use Rattle.lot_laws.proofs.OpeningSites.{opening_steady}
+use Rattle.lot_laws.proofs.OpeningSites.{opening_condvars, opening_steady}
 use Rattle.lot_laws.proofs.CountsPut.{opening_counted}
 use Rattle.lot_laws.proofs.RunsKept.{opening_running}
 use Rattle.lot_laws.proofs.WorldRuns.{world_run, run_refines}
@@ -19,6 +19,7 @@ three_hold = record {
   shaped = opening_shaped (kind.Mutex ∷ []) 3 (omega arith);
   steady = opening_steady (kind.Mutex ∷ []) 3 (omega arith) (All-cons (λ k. fits k 3 ≡ true) kind.Mutex [] refl (All-nil (λ k. fits k 3 ≡ true)));
   counted = opening_counted (kind.Mutex ∷ []) 3;
+  condvars = opening_condvars (kind.Mutex ∷ []) 3;
   running = opening_running (kind.Mutex ∷ []) 3;
 }
 

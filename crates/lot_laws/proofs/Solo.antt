@@ -50,7 +50,7 @@ use Rattle.lot_laws.specs.MutexPromises.{IsMutexWord}
 use Rattle.abstract_locks.specs.Sites.{Line, Main, Second, Site, has_readers}
 use Rattle.lot_laws.specs.MutexDeeds.{acts, takes, queued}
 use Rattle.lot_laws.specs.Stations.{nowhere, station, station_at, Station, hand}
-use Rattle.lot_laws.specs.SitesOf.{AreCounted, IsSteady, RunsInClosures, key_of, FitsItsLock, is_mutex, Goes, hand_at, rules_in}
+use Rattle.lot_laws.specs.SitesOf.{AreCondvars, AreCounted, IsSteady, RunsInClosures, key_of, FitsItsLock, is_mutex, Goes, hand_at, rules_in}
 use Rattle.lot_laws.proofs.ExclusiveOwners.{by_code, owner_after}
 use Rattle.abstract_locks.specs.Locks.{readers, Rules, MayEnter, IsBlocked, first_thread}
 use Rattle.abstract_locks.specs.Locks as locks
@@ -436,7 +436,7 @@ never_aside w l (Once k at) fits sort e = either (k == l) refl
     either true h = main_only at (sym (ap (λ b. (if b then station (Once k at) else nowhere).inside) h) ∙ e)
     either false h = let none : None ≡ Some Second = sym (ap (λ b. (if b then station (Once k at) else nowhere).inside) h) ∙ e in cc
 
-module _ (w : State) (t : ℕ) (shape : IsShaped w) (steady : IsSteady w) (counted : AreCounted w) (running : RunsInClosures w) (there : t < length w.places) (way : HasItsWay w t) where
+module _ (w : State) (t : ℕ) (shape : IsShaped w) (steady : IsSteady w) (counted : AreCounted w) (condvars : AreCondvars w) (running : RunsInClosures w) (there : t < length w.places) (way : HasItsWay w t) where
   facing : (l : ℕ) (p : Place) → place_at w t ≡ p → l < length w.locks → Facing w t l p (word_at w l) (owner_at w l) (section_at w (2 * l)) (queue_at w (2 * l))
   facing l p is lt = record { shape = shape; steady = steady; counted = counted; thread = there; lock = lt; place = is; word = refl; owner = refl; section = refl; queue = refl }
 
@@ -459,6 +459,7 @@ module _ (w : State) (t : ℕ) (shape : IsShaped w) (steady : IsSteady w) (count
     shape = shape;
     steady = steady;
     counted = counted;
+    condvars = condvars;
     running = running;
     thread = there;
     lock = lt;
@@ -614,7 +615,7 @@ module _ (w : State) (t : ℕ) (shape : IsShaped w) (steady : IsSteady w) (count
       fits = subst (PlaceFits (length w.locks)) is (shape.places t)
 
       ends : has_readers (rules_in w l).sort ≡ true → EndsAlone w t (Some (rwlock_purpose l c)) (solo 64 w t outcome.TheVariants.NotNow).outcome (solo 64 w t outcome.TheVariants.NotNow).state
-      ends readers = rwlock_alone w t l (admission_of (kind_at w l)) c 64 outcome.TheVariants.NotNow (omega arith) steady (admits_by (kind_at w l) readers) is (steps_alone l (admission_of (kind_at w l)) (call_first c) readers is fits) (runs_alone 64 w t (record { shaped = shape; steady = steady; counted = counted; running = running }))
+      ends readers = rwlock_alone w t l (admission_of (kind_at w l)) c 64 outcome.TheVariants.NotNow (omega arith) steady (admits_by (kind_at w l) readers) is (steps_alone l (admission_of (kind_at w l)) (call_first c) readers is fits) (runs_alone 64 w t (record { shaped = shape; steady = steady; counted = counted; condvars = condvars; running = running }))
 
       by_kind : (k : Kind) → kind_at w l ≡ k → EndsAlone w t (purpose_of k (call.TheVariants.RwLock l c)) (solo 64 w t outcome.TheVariants.NotNow).outcome (solo 64 w t outcome.TheVariants.NotNow).state
       by_kind kinds.Mutex e = tt
@@ -647,13 +648,13 @@ first_busy k (call.TheVariants.RwLock l c) p is idle = let e : RwLock l (admissi
 first_busy k (call.TheVariants.Once l c) p is idle = let e : Once l (once_first c) ≡ Idle = sym is ∙ idle in cc
 first_busy k (call.TheVariants.Condvar l c) p is idle = let e : Condvar l (condvar_first c) ≡ Idle = sym is ∙ idle in cc
 
-module _ (w : State) (t : ℕ) (shape : IsShaped w) (steady : IsSteady w) (counted : AreCounted w) (running : RunsInClosures w) where
+module _ (w : State) (t : ℕ) (shape : IsShaped w) (steady : IsSteady w) (counted : AreCounted w) (condvars : AreCondvars w) (running : RunsInClosures w) where
   pub rests_alone : IsUnderWay w t → HasItsWay w t → Rests (solo 64 w t outcome.TheVariants.NotNow).outcome
-  rests_alone up way = solo_rests w t shape steady counted running (stands_there w.places t up.0) way up 64 outcome.TheVariants.NotNow (omega arith)
+  rests_alone up way = solo_rests w t shape steady counted condvars running (stands_there w.places t up.0) way up 64 outcome.TheVariants.NotNow (omega arith)
 
   pub ends_alone : (c : Call) → place_at w t ≡ first_place (kind_at w (lock_in c)) c → HasItsWay w t
       → EndsAlone w t (purpose_at (locks_of w) c) (solo 64 w t outcome.TheVariants.NotNow).outcome (solo 64 w t outcome.TheVariants.NotNow).state
   ends_alone (call.TheVariants.Condvar l c) is way = absurd (subst (FitsItsLock w) is (steady.stands.calls t)).begun
-  ends_alone (call.TheVariants.Once l c) is way = once_ends w t shape steady counted running (stands_there w.places t (first_busy (kind_at w l) (call.TheVariants.Once l c) (place_at w t) is)) way l c is
-  ends_alone (call.TheVariants.Mutex l c) is way = mutex_ends w t shape steady counted running (stands_there w.places t (first_busy (kind_at w l) (call.TheVariants.Mutex l c) (place_at w t) is)) way l c is 64 outcome.TheVariants.NotNow (omega arith)
-  ends_alone (call.TheVariants.RwLock l c) is way = rwlock_ends w t shape steady counted running (stands_there w.places t (first_busy (kind_at w l) (call.TheVariants.RwLock l c) (place_at w t) is)) way l c is
+  ends_alone (call.TheVariants.Once l c) is way = once_ends w t shape steady counted condvars running (stands_there w.places t (first_busy (kind_at w l) (call.TheVariants.Once l c) (place_at w t) is)) way l c is
+  ends_alone (call.TheVariants.Mutex l c) is way = mutex_ends w t shape steady counted condvars running (stands_there w.places t (first_busy (kind_at w l) (call.TheVariants.Mutex l c) (place_at w t) is)) way l c is 64 outcome.TheVariants.NotNow (omega arith)
+  ends_alone (call.TheVariants.RwLock l c) is way = rwlock_ends w t shape steady counted condvars running (stands_there w.places t (first_busy (kind_at w l) (call.TheVariants.RwLock l c) (place_at w t) is)) way l c is

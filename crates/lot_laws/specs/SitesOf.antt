@@ -204,6 +204,7 @@ pub record IsWorld (w : State) : Type 0 where
   pub shaped : IsShaped w
   pub steady : IsSteady w
   pub counted : AreCounted w
+  pub condvars : AreCondvars w
   pub running : RunsInClosures w
 
 -- a step changes no number of threads or locks

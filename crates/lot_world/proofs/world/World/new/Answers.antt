@@ -1,6 +1,6 @@
 use Rattle.lot_machine.proofs.Shape.{opening_shaped}
 use Rattle.lot_laws.proofs.CountsPut.{opening_counted}
-use Rattle.lot_laws.proofs.OpeningSites.{opening_steady}
+use Rattle.lot_laws.proofs.OpeningSites.{opening_condvars, opening_steady}
 use Rattle.lot_laws.proofs.Promises.{kept, opening_is}
 use Rattle.lot_laws.proofs.RunsKept.{opening_running}
 use Rattle.lot_world.proofs.world.World.new.Goals as goal
@@ -10,6 +10,7 @@ invariant_of-result g c = rw c.in_ok-new.ensures.ok (record {
   shaped = opening_shaped c.args.kinds.now c.args.threads c.requires.few_locks;
   steady = opening_steady c.args.kinds.now c.args.threads c.requires.some c.requires.fit;
   counted = opening_counted c.args.kinds.now c.args.threads;
+  condvars = opening_condvars c.args.kinds.now c.args.threads;
   running = opening_running c.args.kinds.now c.args.threads;
 })
 

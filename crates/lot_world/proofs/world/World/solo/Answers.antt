@@ -11,9 +11,9 @@ returns-clause-run g c =
 pub returns-clause-rests : goal.returns-clause-rests
 returns-clause-rests g c =
     let before : IsWorld c.self.inside.machine = c.self.invariant in
-    rw (c.step_alone.ensures.outcome, ← c.self.view_is) (rests_alone c.self.inside.machine c.args.thread before.shaped before.steady before.counted before.running)
+    rw (c.step_alone.ensures.outcome, ← c.self.view_is) (rests_alone c.self.inside.machine c.args.thread before.shaped before.steady before.counted before.condvars before.running)
 
 pub returns-clause-ends : goal.returns-clause-ends
 returns-clause-ends g c =
     let before : IsWorld c.self.inside.machine = c.self.invariant in
-    rw (c.step_alone.ensures.outcome, c.step_alone.ensures.state, ← c.self.view_is) (ends_alone c.self.inside.machine c.args.thread before.shaped before.steady before.counted before.running)
+    rw (c.step_alone.ensures.outcome, c.step_alone.ensures.state, ← c.self.view_is) (ends_alone c.self.inside.machine c.args.thread before.shaped before.steady before.counted before.condvars before.running)
