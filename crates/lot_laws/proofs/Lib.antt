@@ -74,6 +74,7 @@ pub mod HandsEvents
 pub mod OtherCalls
 pub mod MutexEvents
 pub mod MutexOwing
+pub mod CondvarOwing
 pub mod OnceOwing
 pub mod OnceRows
 pub mod OnceNext

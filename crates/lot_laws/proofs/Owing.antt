@@ -42,13 +42,12 @@ use Rattle.abstract_locks.specs.Purposes.{lock_for}
 use Rattle.lot_laws.proofs.RowPromises.{RowFinds, RowLooks, releases_for, downgrades_for}
 use Rattle.lot_laws.proofs.PlacePromises.{LetsBy, row_promises, row_calls_one, owing_is, owes_own, owed_own, inside_own, call_own, lets_in, lets_out}
 use Rattle.lot_laws.proofs.LineActs.{late_line}
-use Rattle.lot_laws.proofs.PlaceSteps.{owed_by, owed_is, owes_befallen, owes_next, first_owes, late_next}
+use Rattle.lot_laws.proofs.PlaceSteps.{owes_befallen, owes_next, first_owes, late_next}
 
 -- ---------------------------------------------------------------- the other threads
 
-others_owe : (w : State) (s : Step) → IsSteady w → IsSteady (after w s) → (u k : ℕ) → u ≢ s.thread → line_owed (place_at (after w s) u) k ≡ line_owed (place_at w u) k
-others_owe w s steady behind u k ne = owed_is (place_at (after w s) u) k (singles (after w s) behind u)
-    ∙ others_keep_it (λ p. owed_by p k) (λ p r b. owes_befallen p r b k) w s u ne ∙ sym (owed_is (place_at w u) k (singles w steady u))
+others_owe : (w : State) (s : Step) (u k : ℕ) → u ≢ s.thread → line_owed (place_at (after w s) u) k ≡ line_owed (place_at w u) k
+others_owe w s u k ne = others_keep_it (λ p. line_owed p k) (λ p r b. owes_befallen p r b k) w s u ne
 
 -- ---------------------------------------------------------------- the thread of the step
 
@@ -215,7 +214,7 @@ module _ (w : State) (t : ℕ) (shape : IsShaped w) (steady : IsSteady w) (there
 pub owes_since : (w : State) (s : Step) → IsShaped w → IsSteady w → AreCounted w → OwesSince w s.thread (step_outcome w s) (after w s)
 owes_since w s shape steady counted = record {
   own = own (is_possible w s) refl (after_steady w s shape steady counted);
-  others = λ u l ne. others_owe w s steady (after_steady w s shape steady counted) u l ne;
+  others = λ u l ne. others_owe w s u l ne;
 }
   where
     own : (b : Bool) → is_possible w s ≡ b → IsSteady (if b then state_after_turn w s.thread s.turn else w) → (l : ℕ) (m : Line) → (if b then turn_outcome w s.thread s.turn else outcome.TheVariants.NotNow) ≢ outcome.TheVariants.NotNow
