@@ -41,8 +41,8 @@ use Rattle.abstract_locks.specs.Codes.{has_aside}
 use Rattle.lot_steps.specs.declared.places.Place.{Place}
 use Rattle.lot_steps.specs.declared.places.Place.TheVariants.{Idle, RwLock}
 use Rattle.lot_steps.specs.Steps.{act_of, next_act, next_place, rwlock_does, rwlock_goes, shares_after}
-use Rattle.lot_machine.specs.Machine.{Alone as Ran, State, state_after_operation, after, alone_after, can_do, can_go, go_of, go_outcome, held, is_possible, owners_at, place_at, put, queue_at, queues_with_last, reply_to, runs_closure, solo, state_after_act, state_after_go, step_outcome, word_at, going_outcome, state_after_going}
-use Rattle.lot_machine.specs.Fits.{IsShaped, SameSize}
+use Rattle.lot_machine.specs.Machine.{Alone as Ran, State, state_after_operation, after, alone_after, can_do, can_go, go_of, go_outcome, held, is_possible, owners_at, place_at, put, queue_at, queues_with_last, reply_to, runs_closure, solo, state_after_act, state_after_go, step_outcome, word_at, going_outcome, state_after_going, kind_at}
+use Rattle.lot_machine.specs.Fits.{IsShaped, SameSize, IsOfItsKind}
 use Rattle.lot_machine.proofs.Shape.{after_shaped, after_size, performed_counts, put_shaped}
 use Rattle.lot_laws.proofs.OwnPlace.{goes_from_there, told_from_there}
 use Rattle.lot_laws.specs.SitesOf.{AreCounted, IsSteady, rules_in}
@@ -445,7 +445,7 @@ module _ (t l : ℕ) (a : Admission) where
   -- as a call that only enters it steps alone too
   pub plain_alone : (w : State) (p : RwLockPlace) (v : ℕ) (q : Line → List Waiter) → Shares t l a w → MayStand a p → StepsAlone w t l (RwLock l a (Bump p)) v q → StepsAlone (as_plain w t l a p) t l (RwLock l a (Plain p)) v q
   plain_alone w p v q shares may f = record {
-    shape = put_shaped w t (RwLock l a (Plain p)) f.shape f.lock;
+    shape = put_shaped w t (RwLock l a (Plain p)) f.shape (f.lock, subst (IsOfItsKind (kind_at w)) f.place (f.shape.kinds t));
     steady = plain_steady w p f.steady f.thread f.place shares may;
     counted = put_counted w t (RwLock l a (Plain p)) f.thread (sym (ap held f.place)) (λ k. nothing (l == k)) f.counted;
     condvars = put_condvars w t (RwLock l a (Plain p)) f.thread (λ k. (sym (ap (λ q. stage_of q k) f.place), sym (ap (λ q. names_of q k) f.place))) f.condvars;

@@ -24,7 +24,7 @@ use Rattle.lot_rwlock_fair.specs.declared.hand_over.HandOverAt.TheVariants as ha
 use Rattle.lot_rwlock_fair.specs.FairBegins.{call_first}
 use Rattle.lot_rwlock_fair.specs.FairDeeds.{call_doing}
 use Rattle.lot_rwlock_fair.specs.FairSteps.{enters_again, gives_way}
-use Rattle.abstract_locks.specs.Locks.{LockState, Rights, Sort, Mutex as Mutual, Normal, Recursive, Semaphore, Once, Rules, IsBlocked, IsFree, MayEnter, Owns, count, is_recursive, one_if_some, readers, rights_of, with_right, Condvar}
+use Rattle.abstract_locks.specs.Locks.{IsLockState, LockState, Rights, Sort, Mutex as Mutual, Normal, Recursive, Semaphore, Once, Rules, IsBlocked, IsFree, MayEnter, Owns, count, is_recursive, one_if_some, readers, rights_of, with_right, Condvar}
 use Rattle.abstract_locks.specs.Codes.{TellsTrue, bit, code, count_in, has_parked, has_writer, writers}
 use Rattle.abstract_locks.specs.Purposes.{Bumps, rwlock_purpose}
 use Rattle.abstract_locks.specs.Runs.{LocksState, IsRun, one_more_at, rules_at}
@@ -92,6 +92,16 @@ module _ (before : Type 0) (w w2 v v2 : LocksState) (t l : ℕ) (o o2 : Outcome)
 
 -- ---------------------------------------------------------------- a bump
 
+-- a writer owns alone
+few_writers_of : (r : Rules) (s : LockState) → IsLockState r s → writers s ≤ 1
+few_writers_of r s state = grind (arith, state.exclusive_alone)
+
+pending_is_writer : (s : LockState) → writers s ≤ 1 → s.pending ≢ None → (writers s == 1) ≡ true
+pending_is_writer s most some = grind (arith, nat_tests)
+
+writer_beside_readers : (r : Rules) (s : LockState) → IsLockState r s → 1 ≤ readers s → (writers s == 1) ≡ true → s.pending ≢ None
+writer_beside_readers r s state shared h none = grind (arith, nat_tests, state.exclusive_alone)
+
 module _ (w : State) (t l : ℕ) (a : Admission) (x : Access) (holds : IsWorld w) (admits : Admits (rules_in w l) a) (is : place_at w t ≡ RwLock l a (Glance x)) (v2 : State) (o : Outcome) (run : RunsAlone w t o v2) where
   abbrev s : LockState
   s = lock_state w l
@@ -143,7 +153,7 @@ module _ (w : State) (t l : ℕ) (a : Admission) (x : Access) (holds : IsWorld w
   ]
 
   few_writers : writers s ≤ 1
-  few_writers = grind (arith, site.state.exclusive_alone)
+  few_writers = few_writers_of (rules_in w l) s site.state
 
   few : (b : Bool) → bit b ≤ 1
   few true = omega arith
@@ -176,10 +186,10 @@ module _ (w : State) (t l : ℕ) (a : Admission) (x : Access) (holds : IsWorld w
   reads_last h e = sym counted ∙ eqb-true (count_in word) 1 (ap (λ (b : Bool). not b || (count_in word == 1)) (ap is_recursive (sym e) ∙ admits.1) ∙ h)
 
   pending_writes : s.pending ≢ None → (writers s == 1) ≡ true
-  pending_writes some = let most = few_writers in grind (arith, nat_tests)
+  pending_writes some = pending_is_writer s few_writers some
 
   writes_pending : 1 ≤ readers s → (writers s == 1) ≡ true → s.pending ≢ None
-  writes_pending shared h none = grind (arith, nat_tests, site.state.exclusive_alone)
+  writes_pending shared h = writer_beside_readers (rules_in w l) s site.state shared h
 
   gives_so : (x2 : Access) → x2 ≡ x → ((u : ℕ) → section_at w (key_of l Main) ≡ Some u → u ≡ t) → GivesWay (rules_in w l) s (wanted x2) → gives_way a x2 word ≡ true
   gives_so access.Shared e way g = ap (λ b. b && (not a.recursive || (count_in word == 1))) (writer_is ∙ pending_writes g.0) ∙ last_reader g.1

@@ -190,7 +190,7 @@ module _ (w : State) (t l : ℕ) (at : CondvarPlace) (shape : IsShaped w) (stead
     wait_led wait.Stand e reached can = (
       refl,
       ap (map queued_of) (get_or-set_same (map (without t) w.queues) (2 * l) _ [] (rw (length-map w.queues (without t)) line) ∙ ap (λ q. q ++ waiter (2 * l) t WaitHere ∷ []) (gone (unlisted at refl (ap (λ q. (condvar_row q).listed) e))))
-      ∙ queued_behind (2 * l) t WaitHere (queue_at w (2 * l)),
+          ∙ queued_behind (2 * l) t WaitHere (queue_at w (2 * l)),
     )
     wait_led wait.Leave e reached can = (refl, refl)
     wait_led wait.Refuse e reached can = (refl, refl)

@@ -55,7 +55,7 @@ use Rattle.lot_laws.proofs.CountsPut.{looking_counted}
 use Rattle.lot_rwlock.specs.declared.places.Admission.{Admission}
 use Rattle.lot_rwlock_fair.specs.declared.places.RwLockCallPlace.{RwLockCallPlace}
 use Rattle.lot_laws.proofs.ExclusiveOwners.{owner_after, exclusive-owners, by_code}
-use Rattle.lot_laws.proofs.Glue.{own_stance, successor_one, aparts, of_carries}
+use Rattle.lot_laws.proofs.Glue.{IsSingle, singles, own_stance, successor_one, aparts, of_carries}
 use Rattle.lot_laws.proofs.Waiters.{held_there}
 use Rattle.lot_laws.proofs.AtPlaces.{coded as words_coded, in_no_hand}
 use Rattle.lot_laws.proofs.TurnsKept.{after_steady}
@@ -288,7 +288,7 @@ module _ (w : State) (t l : ℕ) (shape : IsShaped w) (steady : IsSteady w) (own
   go_gives (Once k (Look (once_call.CallOnce forced) again at)) is fits h = absurd h
   go_gives (Once k (Look (once_call.Wait forced) again at)) is fits h = absurd h
   go_gives (Once k (Run forced at)) is fits h = absurd h
-  go_gives (Condvar k at) is fits h = absurd fits
+  go_gives (Condvar k at) is fits h = absurd (subst IsSingle is (singles w steady t))
   go_gives (RwLock k a c) is fits h = absurd (
       let admitted : FitsItsLock w (RwLock k a c) = subst (FitsItsLock w) is (steady.stands.calls t) in
       let here : k ≡ l = sym (call_promises (rules_in w k) a k c admitted.0 admitted.1).own ∙ released_lock ((call_profile a c).purpose k) l h in
@@ -361,7 +361,7 @@ module _ (w : State) (t l : ℕ) (shape : IsShaped w) (steady : IsSteady w) (cou
       by_place (Once k (Look (once_call.CallOnce forced) again at)) is fits can gives = absurd gives.1
       by_place (Once k (Look (once_call.Wait forced) again at)) is fits can gives = absurd gives.1
       by_place (Once k (Run forced at)) is fits can gives = absurd gives.1
-      by_place (Condvar k at) is fits can gives = absurd fits
+      by_place (Condvar k at) is fits can gives = absurd (subst IsSingle is (singles w steady t))
       by_place (Mutex k at) is fits can gives = absurd (
           let fits_k : is_mutex (kind_at w k) ≡ true = subst (FitsItsLock w) is (steady.stands.calls t) in
           let here : k ≡ l = sym (subst (λ p. lock_for ((profile p).purpose k) ≡ k) is (row_promises w t steady k (ap lock_of is)).own) ∙ gives.0 in

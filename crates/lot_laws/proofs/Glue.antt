@@ -44,7 +44,6 @@ use Rattle.lot_machine.specs.declared.hands.Successor.{Successor}
 use Rattle.lot_laws.specs.Refinement.{lock_seen, taken_at}
 use Rattle.lot_laws.specs.MutexDeeds.{mutex_station, queued}
 use Rattle.lot_laws.specs.Stations.{Station, hand, station, station_at, nowhere, doing_on, station_by}
-use Rattle.lot_machine.specs.Fits.{PlaceFits}
 use Rattle.lot_laws.specs.SitesOf.{site_of, rules_in, carried_at, hand_at, Hands, FitsItsLock, IsSteady, TakesOne}
 
 -- ---------------------------------------------------------------- lists with one element set, as functions
@@ -210,13 +209,6 @@ fits_single w (Mutex k at) fits = tt
 fits_single w (RwLock k a at) fits = tt
 fits_single w (Once k at) fits = tt
 fits_single w (Condvar k at) fits = absurd fits.begun
-
-pub fits_one : (locks : ℕ) (p : Place) → PlaceFits locks p → IsSingle p
-fits_one locks Idle fits = tt
-fits_one locks (Mutex k at) fits = tt
-fits_one locks (RwLock k a at) fits = tt
-fits_one locks (Once k at) fits = tt
-fits_one locks (Condvar k at) fits = absurd fits
 
 pub singles : (w : State) → IsSteady w → (t : ℕ) → IsSingle (place_at w t)
 singles w steady t = fits_single w (place_at w t) (steady.stands.calls t)

@@ -1,17 +1,8 @@
 -- Locks stay of their kinds.
-use Rattle.std.proofs.Common.{ℕ, zero, suc, Bool, true, false, Option, Some, None, if◌then◌else◌, ◌||◌, ◌≡◌, List, [], ◌∷◌, length, replicate, get_or, set, refl, ap, ◌∙◌}
-use Rattle.lot_base.specs.declared.keys.Keys.{Keys}
-use Rattle.lot_base.specs.declared.keys.Keys.TheVariants.{One, Two}
+use Rattle.std.proofs.Common.{ℕ, Bool, true, false, Option, Some, None, if◌then◌else◌, ◌||◌, ◌≡◌, length, replicate, get_or, set, refl, ap, ◌∙◌}
 use Rattle.lot_base.specs.declared.ops.Op.{Op}
-use Rattle.lot_base.specs.declared.wants.Want.{Want}
-use Rattle.lot_base.specs.Lines.{first_of}
 use Rattle.lot_calls.specs.declared.kinds.Kind.{Kind}
 use Rattle.lot_calls.specs.declared.kinds.Kind as kind
-use Rattle.lot_acts.specs.declared.acts.Act.{Act}
-use Rattle.lot_acts.specs.declared.acts.Act.TheVariants.{Word, HandOver, Enter, Park, Take, Remove, Leave}
-use Rattle.lot_acts.specs.declared.acts.Check.{Check}
-use Rattle.lot_acts.specs.declared.acts.Wakes.{Wakes}
-use Rattle.lot_acts.specs.declared.acts.Wakes as wakes
 use Rattle.lot_calls.specs.declared.calls.Call as call
 use Rattle.abstract_locks.specs.Sites.{has_readers}
 use Rattle.abstract_locks.specs.Purposes.{rules_of}
@@ -20,33 +11,19 @@ use Rattle.lot_calls.specs.declared.calls.RwLockCall.{RwLockCall}
 use Rattle.lot_calls.specs.declared.calls.Turn.{Turn}
 use Rattle.lot_calls.specs.declared.calls.Turn as turn
 use Rattle.lot_calls.specs.declared.calls.Step.{Step}
+use Rattle.lot_calls.specs.declared.calls.CondvarCall.{CondvarCall}
 use Rattle.lot_calls.specs.declared.calls.OnceCall.{OnceCall}
 use Rattle.lot_steps.specs.declared.places.Place.{Place}
-use Rattle.lot_acts.specs.declared.acts.Whom as whom
-use Rattle.lot_acts.specs.Acts.{takes_effect, holds}
 use Rattle.lot_calls.specs.Kinds.{has_call}
 use Rattle.lot_steps.specs.Steps.{act_of, looking, late_key}
-use Rattle.lot_machine.specs.Machine.{state_after_hand_over_by, State, shares_handed_over, unlocked, place_at, word_at, shares_at, filled_at, kind_at, queue_at, state_after_operation, state_after_hand_over, state_with_sections, queues_with_last, queues_without_first, state_after_park, state_after_taking, state_after_wake, state_after_act, state_after_look, put, state_after_late_on, state_after_turn, closed_place, is_possible, after}
+use Rattle.lot_machine.specs.Machine.{State, shares_handed_over, unlocked, place_at, word_at, shares_at, filled_at, kind_at, state_after_operation, state_after_hand_over, state_after_look, put, state_after_late_on, state_after_turn, closed_place, is_possible, after}
 use Rattle.lot_base.specs.Words.{apply}
 use Rattle.abstract_locks.specs.Locks as locks
 use Rattle.abstract_locks.specs.Codes.{fills}
 use Rattle.abstract_locks.specs.Purposes.{rules_of}
 use Rattle.std.proofs.Math.Bool.{or-false}
+pub use Rattle.lot_machine.proofs.KindsStay.{set_field, operated_kinds, given_kinds, performed_kinds}
 use Rattle.lot_laws.specs.SitesOf.{is_mutex}
-
--- what is read of each lock, where that of one is set
-set_field : {A B : Type 0} (f : A → B) (xs : List A) (i : ℕ) (y d : A) → f y ≡ f (get_or xs i d) → (j : ℕ) → f (get_or (set xs i y) j d) ≡ f (get_or xs j d)
-set_field f [] i y d e j = refl
-set_field f (x ∷ xs) zero y d e zero = e
-set_field f (x ∷ xs) zero y d e (suc j) = refl
-set_field f (x ∷ xs) (suc i) y d e zero = refl
-set_field f (x ∷ xs) (suc i) y d e (suc j) = set_field f xs i y d e j
-
-pub operated_kinds : (w : State) (t : ℕ) (p : Place) (l : ℕ) (f : Op) (k : ℕ) → kind_at (state_after_operation w t p l f) k ≡ kind_at w k
-operated_kinds w t p l f k = set_field (λ x. x.kind) w.locks l _ (unlocked kind.TheVariants.Mutex) refl k
-
-pub given_kinds : (w : State) (t : ℕ) (p : Place) (l : ℕ) (f : Op) (k : ℕ) → kind_at (state_after_hand_over w t p l f) k ≡ kind_at w k
-given_kinds w t p l f k = set_field (λ x. x.kind) w.locks l _ (unlocked kind.TheVariants.Mutex) refl k
 
 -- who shares what, where none of it changes
 pub shares_kept : (w : State) (n : ℕ) → n ≡ length w.places → (k : ℕ) → get_or w.shares k (replicate n 0) ≡ shares_at w k
@@ -62,39 +39,6 @@ given_filled w t p l f rules k = set_field (λ x. x.filled) w.locks l _ (unlocke
 -- nobody gets a share where none is given
 pub given_shares : (w : State) (t l : ℕ) → shares_handed_over w t l ≡ shares_at w l → (k : ℕ) → get_or (set w.shares l (shares_handed_over w t l)) k (replicate (length w.places) 0) ≡ shares_at w k
 given_shares w t l none k = set_field (λ x. x) w.shares l (shares_handed_over w t l) (replicate (length w.places) 0) none k
-
-filled_kinds : (w : State) (keys : Keys) (who : Option ℕ) (k : ℕ) → kind_at (state_with_sections w keys who) k ≡ kind_at w k
-filled_kinds w (One key) who k = refl
-filled_kinds w (Two first second) who k = refl
-
-taken_kinds : (w : State) (t : ℕ) (o : Option ℕ) (k : ℕ) → kind_at (state_after_taking w t o) k ≡ kind_at w k
-taken_kinds w t None k = refl
-taken_kinds w t (Some u) k = refl
-
-awakened_kinds : (w : State) (t : ℕ) (x : Wakes) (k : ℕ) → kind_at (state_after_wake w t x) k ≡ kind_at w k
-awakened_kinds w t wakes.TheVariants.Nobody k = refl
-awakened_kinds w t (wakes.TheVariants.All note) k = refl
-
-parked_kinds : (w : State) (t l key : ℕ) (check : Check) (wanted : Want) (k : ℕ) → kind_at (state_after_park w t l key check wanted) k ≡ kind_at w k
-parked_kinds w t l key check wanted k = either (holds check (word_at w l))
-  where
-    either : (b : Bool) → kind_at (if b then record w { queues = queues_with_last w.queues key t wanted } else w) k ≡ kind_at w k
-    either true = refl
-    either false = refl
-
-performed_kinds : (w : State) (t : ℕ) (p : Place) (act : Act) (k : ℕ) → kind_at (state_after_act w t p act) k ≡ kind_at w k
-performed_kinds w t p (Word l f) k = operated_kinds w t p l f k
-performed_kinds w t p (HandOver l f) k = either (takes_effect f (word_at w l))
-  where
-    either : (b : Bool) → kind_at (state_after_hand_over_by b w t p l f) k ≡ kind_at w k
-    either true = given_kinds w t p l f k
-    either false = operated_kinds w t p l f k
-performed_kinds w t p (Enter keys) k = filled_kinds w keys (Some t) k
-performed_kinds w t p (Park l key check wanted) k = parked_kinds w t l key check wanted k
-performed_kinds w t p (Take key whom.TheVariants.First) k = taken_kinds (record w { queues = queues_without_first w.queues key }) t (first_of (queue_at w key)) k
-performed_kinds w t p (Remove key) k = refl
-performed_kinds w t p (Leave keys x) k = awakened_kinds (state_with_sections w keys None) t x k ∙ filled_kinds w keys None k
-performed_kinds w t p act k = refl
 
 late_kinds : (w : State) (t : ℕ) (o : Option ℕ) (k : ℕ) → kind_at (state_after_late_on w t o) k ≡ kind_at w k
 late_kinds w t None k = refl
@@ -133,3 +77,12 @@ calls_readers k l c h = absurd cc
 pub calls_once : (k : Kind) (l : ℕ) (c : OnceCall) → has_call k (call.TheVariants.Once l c) ≡ true → (rules_of k).sort ≡ locks.Once
 calls_once kind.TheVariants.Once l c h = refl
 calls_once k l c h = absurd cc
+
+-- no kind has a call of a condition variable yet
+pub no_condvar_call : (k : Kind) (l : ℕ) (c : CondvarCall) → has_call k (call.TheVariants.Condvar l c) ≡ true → ⊥
+no_condvar_call kind.TheVariants.Mutex l c h = cc
+no_condvar_call kind.TheVariants.Fair l c h = cc
+no_condvar_call (kind.TheVariants.RwLock limit) l c h = cc
+no_condvar_call (kind.TheVariants.Recursive limit) l c h = cc
+no_condvar_call kind.TheVariants.Condvar l c h = cc
+no_condvar_call kind.TheVariants.Once l c h = cc

@@ -217,7 +217,7 @@ pub calls_there : (n : ℕ) (p : Place) (l : ℕ) → lock_of p ≡ Some l → P
 calls_there n Idle l e fits = absurd cc
 calls_there n (RwLock k a p) l e fits = let f : k ≡ l = cc in subst (λ j. j < n) f fits
 calls_there n (Once k p) l e fits = let f : k ≡ l = cc in subst (λ j. j < n) f fits
-calls_there n (Condvar k at) l e fits = absurd fits
+calls_there n (Condvar k at) l e fits = let f : k ≡ l = cc in subst (λ j. j < n) f fits.0
 calls_there n (Mutex k at) l e fits = let f : k ≡ l = cc in subst (λ j. j < n) f fits.0
 
 -- ---------------------------------------------------------------- the sections and queues that it touches

@@ -82,7 +82,7 @@ use Rattle.lot_mutex.specs.MutexSteps.{mutex_first, mutex_right, is_locked, is_p
 use Rattle.lot_steps.specs.Steps.{act_of, next_place, next_act, mutex_goes, mutex_does, looking, late_key, is_idle, has_right, first_place, rwlock_goes, key_in, calls}
 use Rattle.lot_machine.specs.Machine.{unshared_then, hand_over_told, State, place_at, word_at, owners_at, kind_at, section_at, put, state_after_act, go_reply, state_after_operation, state_after_hand_over, state_with_sections, reply_to, can_do, state_after_look, look_outcome, state_after_go, state_after_going, go_outcome, going_outcome, state_after_late_on, is_free_under, state_after_begin, can_begin, is_open_to, can_turn, state_after_turn, turn_outcome, is_possible, after, step_outcome, share_at}
 use Rattle.lot_machine.specs.Fits.{IsShaped, SameSize, PlaceFits, GivesUpTimed}
-use Rattle.lot_machine.proofs.Shape.{looking_shaped, after_size, both, no_condvar_call, performed_counts}
+use Rattle.lot_machine.proofs.Shape.{looking_shaped, after_size, both, performed_counts}
 use Rattle.lot_laws.proofs.Possible.{may_go, go_possible, may_be_late, late_possible, told_gone, told_step, begins_awake, turner_there, gone_sections, late_sections, late_awake}
 use Rattle.lot_machine.proofs.Looks.{mutex_looks}
 use Rattle.lot_laws.proofs.CountsPut.{looking_counted}
@@ -99,7 +99,7 @@ use Rattle.lot_acts.specs.Calls.{ComesTo}
 use Rattle.abstract_locks.specs.Deeds.{AllNeeded, case_of, event_by, after_event}
 use Rattle.lot_laws.specs.Stations.{hand}
 use Rattle.lot_laws.specs.Refinement.{owner_at, lock_state, taken_at, call_state, locks_of, sleeps}
-use Rattle.lot_laws.proofs.KindsKept.{after_kinds, calls_mutex, calls_readers, calls_once}
+use Rattle.lot_laws.proofs.KindsKept.{after_kinds, calls_mutex, calls_readers, calls_once, no_condvar_call}
 use Rattle.lot_laws.proofs.RwLockEvents.{rwlock_begins_with, rwlock_purpose_is, rwlock_right_held, rwlock_right_needed, rwlock_step, rwlock_untaken_first}
 use Rattle.lot_rwlock.specs.RwLockBegins.{admission_of}
 use Rattle.lot_rwlock_fair.specs.declared.places.RwLockCallPlace.{RwLockCallPlace}
@@ -387,7 +387,7 @@ module _ (w : State) (t : ℕ) (shape : IsShaped w) (steady : IsSteady w) (there
 
   go_goes : AreCounted w → (p : Place) → place_at w t ≡ p → PlaceFits (length w.locks) p → FitsItsLock w p → can_do w (act_of p) ≡ true → GoesOn (locks_of w) t (outcome_of (next_act p (reply_to w t (act_of p)))) (locks_of (go_by w t p (act_of p)))
   go_goes counted Idle is fits of can = absurd cc
-  go_goes counted (Condvar l at) is fits of can = absurd fits
+  go_goes counted (Condvar l at) is fits of can = absurd of.begun
   go_goes counted (Once l at) is fits of can = once_step w t l at steady shape there fits is can
   go_goes counted (RwLock l a c) is fits of can = rwlock_step w t l a c steady shape there fits is counted can
   go_goes counted (Mutex l at) is fits of can = mutex_goes_on l fits.0 (mutex_rules (kind_at w l) of) at is can fits.1
@@ -783,7 +783,7 @@ module _ (w : State) (t : ℕ) (shape : IsShaped w) (steady : IsSteady w) (there
       by_look : (o : Option Place) → looking (place_at w t) ≡ o → SectionChanges (section_at w key) t (section_at (state_after_look w t o) key)
       by_look None is = inl refl
       by_look (Some q) is = gone_sections (put w t q) t (shaped_moved w t shape steady there q is) (steady_moved w t shape steady there q is) (looks_now w t there q is) key
-  turned_sections turn.TheVariants.Late can key = late_sections w t shape (place_at w t) (shape.places t) can key
+  turned_sections turn.TheVariants.Late can key = late_sections w t shape steady (place_at w t) refl (shape.places t) can key
   turned_sections turn.TheVariants.Ok can key = closed_sections true can key
   turned_sections turn.TheVariants.Err can key = closed_sections false can key
 

@@ -176,8 +176,10 @@ module _ (w : State) (t : ℕ) (p2 : Place) where
 
       by_whom : (x : Whom) → Stay (put (state_after_act w t p (act.Take (key_of l m) x)) t p2)
       by_whom whom.First = first (queue_at w (key_of l m)) refl
-      by_whom (whom.Picked start recursive) = took (state_after_take w t (key_of l m) (whom.Picked start recursive)) (lock_picked start recursive (queue_at w (key_of l m))) refl (record { times = λ u.
-          let a : Lines.times u (lock_picked start recursive (queue_at w (key_of l m))) + Lines.times u (without_lock_picked start recursive (key_of l m) (queue_at w (key_of l m))) ≡ Lines.times u (queue_at w (key_of l m)) = picked_counts u (key_of l m) (lock_picker start recursive) (queue_at w (key_of l m)) (under_of (stations_of (place_at w)) l m (queue_at w (key_of l m)) (steady.stands.waits l m)) in omega arith })
+      by_whom (whom.Picked start recursive) = took (state_after_take w t (key_of l m) (whom.Picked start recursive)) (lock_picked start recursive (queue_at w (key_of l m))) refl (record {
+        times = λ u.
+            let a : Lines.times u (lock_picked start recursive (queue_at w (key_of l m))) + Lines.times u (without_lock_picked start recursive (key_of l m) (queue_at w (key_of l m))) ≡ Lines.times u (queue_at w (key_of l m)) = picked_counts u (key_of l m) (lock_picker start recursive) (queue_at w (key_of l m)) (under_of (stations_of (place_at w)) l m (queue_at w (key_of l m)) (steady.stands.waits l m)) in omega arith;
+      })
       by_whom whom.All = took (state_after_take w t (key_of l m) whom.All) (queue_at w (key_of l m)) refl (record { times = λ u. omega arith })
 
   -- so they are behind any case that wakes nobody and hands nothing over

@@ -54,8 +54,7 @@ use Rattle.lot_steps.specs.declared.places.Place.{Place}
 use Rattle.lot_steps.specs.declared.places.Place.TheVariants.{Idle, Mutex, RwLock, Once, Condvar}
 use Rattle.lot_steps.specs.Steps.{act_of, mutex_goes, next_act, next_place, once_goes, rwlock_goes}
 use Rattle.lot_machine.specs.Machine.{State, go_outcome, go_reply, going_outcome, place_at, put, reply_to, state_after_act, state_after_go, state_after_going}
-use Rattle.lot_laws.proofs.RowPromises.{Befalls}
-use Rattle.lot_laws.proofs.Befallen.{acted_keeps, tells}
+use Rattle.lot_machine.proofs.Acted.{Befalls, acted_keeps, tells}
 use Rattle.lot_laws.proofs.Glue.{IsSingle, singles}
 use Rattle.lot_laws.specs.SitesOf.{IsSteady}
 use Rattle.lot_machine.proofs.Shape.{performed_counts}

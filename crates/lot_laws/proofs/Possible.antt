@@ -49,7 +49,7 @@ use Rattle.lot_laws.specs.Stations.{station, station_at, Station}
 use Rattle.lot_laws.specs.SitesOf.{IsSteady, stood_in, key_of}
 use Rattle.lot_laws.specs.Refinement.{lock_state, locks_of, call_state, sleeps, runs_closure, keys_entered, call_on_both}
 use Rattle.lot_laws.proofs.SingleCalls.{call_none}
-use Rattle.lot_laws.proofs.Glue.{calls_none, singles, single_late, fits_one}
+use Rattle.lot_laws.proofs.Glue.{IsSingle, calls_none, singles, single_late}
 use Rattle.lot_laws.proofs.LineActs.{IsOfLine, IsLineAct, line_act, holds_line, key_there, late_line, calls_there}
 use Rattle.lot_laws.proofs.GoneKept.{none_is}
 use Rattle.lot_machine.specs.Machine.{runs_closure}
@@ -378,10 +378,10 @@ module _ (w : State) (t : ℕ) (there : t < length w.places) where
 
 module _ (w : State) (t : ℕ) (shape : IsShaped w) where
   -- who is late enters the section of the line in which it sleeps
-  pub late_sections : (p : Place) → PlaceFits (length w.locks) p → is_free_under w (late_key p) ≡ true → (key : ℕ) → SectionChanges (section_at w key) t (section_at (state_after_late_on w t (late_key p)) key)
-  late_sections p fits can = by_key (late_key p) refl can
+  pub late_sections : IsSteady w → (p : Place) → place_at w t ≡ p → PlaceFits (length w.locks) p → is_free_under w (late_key p) ≡ true → (key : ℕ) → SectionChanges (section_at w key) t (section_at (state_after_late_on w t (late_key p)) key)
+  late_sections steady p is fits can = by_key (late_key p) refl can
     where
       by_key : (o : Option ℕ) → late_key p ≡ o → is_free_under w o ≡ true → (key : ℕ) → SectionChanges (section_at w key) t (section_at (state_after_late_on w t o) key)
       by_key None e can key = absurd cc
-      by_key (Some k) e can key = let of = late_line p k (fits_one (length w.locks) p fits) e in
+      by_key (Some k) e can key = let of = late_line p k (subst IsSingle is (singles w steady t)) e in
           filled_changes w t k (Some t) (subst (λ j. j < length w.sections) (sym of.2.2) (key_there w of.0 of.2.0 shape (calls_there (length w.locks) p of.0 of.1 fits))) (inr (inl (none_is (section_at w k) can, refl))) key

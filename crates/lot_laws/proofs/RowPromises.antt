@@ -10,8 +10,6 @@ use Rattle.lot_calls.specs.declared.outcomes.Outcome.TheVariants as told
 use Rattle.lot_acts.specs.declared.acts.Act.{Act}
 use Rattle.lot_acts.specs.declared.acts.Act.TheVariants.{Rest, Enter, Leave, Sleep, End}
 use Rattle.lot_acts.specs.declared.acts.Wakes as wakes
-use Rattle.lot_acts.specs.declared.acts.Reply.{Reply}
-use Rattle.lot_acts.specs.declared.acts.Reply.TheVariants.{TakenBy, MovedTo, HandedBy, Woken}
 use Rattle.lot_acts.specs.Profiles.{Profile, hand, taken_from}
 use Rattle.lot_steps.specs.declared.places.Place.{Place}
 use Rattle.lot_steps.specs.Steps.{act_of, profile}
@@ -21,6 +19,7 @@ use Rattle.abstract_locks.specs.Locks as sorts
 use Rattle.abstract_locks.specs.Purposes.{Purpose, Enters, Releases, Converts, Bumps, CallsOnce, Awaits, MayWait, IsReleasing, lock_for, Waits, Notifies}
 use Rattle.abstract_locks.specs.Runs.{IsTimed}
 use Rattle.abstract_locks.specs.Sites.{Claim, Doing, Line, Main, Second, Has, Pends, IsDebtor, counts_some, has_readers}
+pub use Rattle.lot_machine.proofs.Acted.{Befalls}
 use Rattle.lot_laws.specs.SitesOf.{key_of}
 use Rattle.lot_laws.specs.Owing.{IsDowngrade, LooksFirst, line_let_in, tells_by, tells_of}
 use Rattle.lot_laws.specs.Promises.{CallsOneLock, KnowsRights, WakesAside, WakesWaiters, want_of}
@@ -212,11 +211,3 @@ pub record IsLateNext (q : Place) (m : Line) : Type 0 where
   pub inside : (profile q).doing.inside ≡ Some m
   pub owes : (profile q).owes ≡ Some m
   pub awake : act_of q ≢ Sleep
-
--- what befalls a thread in a step of another
-abbrev pub Befalls : Reply → Type 0
-Befalls (TakenBy t) = Unit {0}
-Befalls (MovedTo key) = Unit {0}
-Befalls (HandedBy t alone) = Unit {0}
-Befalls (Woken n) = Unit {0}
-Befalls r = ⊥

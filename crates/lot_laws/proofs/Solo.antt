@@ -69,7 +69,7 @@ use Rattle.lot_steps.specs.Steps.{is_lock}
 use Rattle.lot_laws.specs.Stations.{station_by}
 use Rattle.lot_condvar.specs.CondvarSteps.{mutex_beside}
 use Rattle.lot_condvar.specs.CondvarProfiles.{mutex_side}
-use Rattle.lot_laws.proofs.Glue.{nothing_at, not_beside, taken_held, put_here, own_stance, successor_one, singles, differ, aparts, of_carries}
+use Rattle.lot_laws.proofs.Glue.{IsSingle, nothing_at, not_beside, taken_held, put_here, own_stance, successor_one, singles, differ, aparts, of_carries}
 use Rattle.lot_laws.proofs.SitesPromise.{parked_at}
 use Rattle.lot_mutex.specs.declared.places.MutexPlace.{MutexPlace}
 use Rattle.lot_acts.specs.declared.acts.Whom as whoms
@@ -499,7 +499,7 @@ module _ (w : State) (t : ℕ) (shape : IsShaped w) (steady : IsSteady w) (count
 
   place_rests : (p : Place) → place_at w t ≡ p → PlaceFits (length w.locks) p → p ≢ Idle → act_of p ≢ act.TheVariants.Sleep → runs_closure (act_of p) ≡ false → Leads 18 w t (λ v x. Rests x)
   place_rests Idle is fits busy up outside = absurd (busy refl)
-  place_rests (Condvar l at) is fits busy up outside = absurd fits
+  place_rests (Condvar l at) is fits busy up outside = absurd (subst IsSingle is (singles w steady t))
   place_rests (Once l at) is fits busy up outside =
       leads_more 8 18 w t (λ v x. Rests x) (omega arith) (once_rests t l at (word_at w l) w (λ m. queue_at w (key_of l m)) up outside (once_steps_alone l at is fits))
   place_rests (RwLock l a c) is fits busy up outside =

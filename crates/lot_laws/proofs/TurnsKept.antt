@@ -36,9 +36,9 @@ use Rattle.lot_laws.specs.SitesOf.{is_mutex}
 use Rattle.lot_laws.specs.MutexDeeds.{mutex_doing, mutex_station, acts, begins}
 use Rattle.lot_laws.specs.Stations.{nowhere, station}
 use Rattle.lot_laws.specs.SitesOf.{AreCounted, IsSteady, Goes}
-use Rattle.lot_machine.proofs.Shape.{both, looking_shaped, no_condvar_call}
-use Rattle.lot_laws.proofs.KindsKept.{calls_mutex, calls_readers}
-use Rattle.lot_laws.proofs.Glue.{parts_at, same, thread_is}
+use Rattle.lot_machine.proofs.Shape.{both, looking_shaped}
+use Rattle.lot_laws.proofs.KindsKept.{calls_mutex, calls_readers, no_condvar_call}
+use Rattle.lot_laws.proofs.Glue.{parts_at, same, thread_is, IsSingle, singles}
 use Rattle.lot_laws.proofs.MutexTable.{mutex, own_doing, meets, others_same}
 use Rattle.lot_laws.proofs.StandsMoved.{mutex_rules}
 use Rattle.lot_laws.proofs.SitesKept.{mutex_at, goes_steady, place_goes}
@@ -136,7 +136,7 @@ module _ (w : State) (t : ℕ) (steady : IsSteady w) (shape : IsShaped w) (there
   late_kept (RwLock l a (BumpCall p)) is fits can = rwlock_late l a (BumpCall p) is fits (call_late_line (BumpCall p)) refl can
   late_kept (RwLock l a c) is fits can = absurd cc
   late_kept Idle is fits can = absurd cc
-  late_kept (Condvar l at) is fits can = absurd fits
+  late_kept (Condvar l at) is fits can = absurd (subst IsSingle is (singles w steady t))
   late_kept (Once l at) is fits can = once_late (once_profile at).late_line refl can
     where
       once_late : (m : Option Line) → (once_profile at).late_line ≡ m → is_free_under w (key_in (Some l) m) ≡ true → IsSteady (state_after_late_on w t (key_in (Some l) m))

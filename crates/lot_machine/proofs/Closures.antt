@@ -1,7 +1,8 @@
--- Only a call of a `Once` runs a closure, while its run is on.
+-- A thread works on the word of the lock that it calls, and only a call of a `Once` runs a closure, while its run is on.
 use Rattle.std.proofs.Common.{ℕ, Bool, true, false, if◌then◌else◌, ◌==◌, not, ◌≡◌, ◌+◌, ◌*◌, refl, sym, ap, ◌∙◌}
 use Rattle.lot_base.specs.declared.keys.Keys.TheVariants.{One}
 use Rattle.lot_base.specs.declared.ops.Op as op
+use Rattle.lot_acts.specs.declared.acts.Act.{Act}
 use Rattle.lot_acts.specs.declared.acts.Act.TheVariants.{Word, HandOver, Enter}
 use Rattle.lot_mutex.specs.declared.places.MutexPlace.TheVariants.{Lock, TryLock, Unlock, UnlockFair, Bump, HandOff}
 use Rattle.lot_mutex.specs.declared.lock.LockAt.TheVariants as lock
@@ -50,75 +51,114 @@ use Rattle.lot_once.specs.declared.places.OncePlace.TheVariants.{Look, Run}
 use Rattle.lot_once.specs.OnceSteps.{course_act, course_of}
 use Rattle.lot_mutex.specs.declared.places.MutexPlace.{MutexPlace}
 
-decides_plainly : (l s : ℕ) (a b : Bool) → runs_closure (if not a then Word l (op.TheVariants.Exchange s (s + 1)) else if b then Word l (op.TheVariants.Exchange 1 3) else Enter (One (2 * l))) ≡ false
-decides_plainly l s false b = refl
-decides_plainly l s true true = refl
-decides_plainly l s true false = refl
+-- an act on a word is on that of this lock, and no other runs a closure
+abbrev pub IsOwn : ℕ → Act → Type 0
+IsOwn l (Word k f) = k ≡ l
+IsOwn l (HandOver k f) = k ≡ l
+IsOwn l a = runs_closure a ≡ false
 
-rwlock_decides_plainly : (l : ℕ) (q : RwLockPurpose) (s : ℕ) (d : Decision) → runs_closure (decided_act l q s d) ≡ false
-rwlock_decides_plainly l q s decisions.Take = refl
-rwlock_decides_plainly l q s decisions.Mark = refl
-rwlock_decides_plainly l q s decisions.Park = refl
-rwlock_decides_plainly l q s (decisions.Refuse answer) = refl
+runs_none : (l : ℕ) (a : Act) → IsOwn l a → runs_closure a ≡ false
+runs_none l (Word k f) h = refl
+runs_none l (HandOver k f) h = refl
+runs_none l a h = h
 
-counts_plainly : (l s : ℕ) (b : Bool) → runs_closure (if b then Enter (One (2 * l + 1)) else Word l (op.TheVariants.Exchange s (plus s 2))) ≡ false
-counts_plainly l s true = refl
-counts_plainly l s false = refl
+decides_own : (l s : ℕ) (a b : Bool) → IsOwn l (if not a then Word l (op.TheVariants.Exchange s (s + 1)) else if b then Word l (op.TheVariants.Exchange 1 3) else Enter (One (2 * l)))
+decides_own l s false b = refl
+decides_own l s true true = refl
+decides_own l s true false = refl
 
-parks_plainly : (l : ℕ) (a : Admission) (x : Want) (m : Line) (to : ParkAt) → runs_closure (park_act l a x m to) ≡ false
-parks_plainly l a x m parking.Check = refl
-parks_plainly l a x m (parking.Leave b) = refl
-parks_plainly l a x m parking.Asleep = refl
-parks_plainly l a x m (parking.Taken by) = refl
-parks_plainly l a x m parking.Remove = refl
-parks_plainly l a x m parking.Clear = refl
-parks_plainly l a x m parking.GiveUp = refl
+rwlock_decides_own : (l : ℕ) (q : RwLockPurpose) (s : ℕ) (d : Decision) → IsOwn l (decided_act l q s d)
+rwlock_decides_own l q s decisions.Take = refl
+rwlock_decides_own l q s decisions.Mark = refl
+rwlock_decides_own l q s decisions.Park = refl
+rwlock_decides_own l q s (decisions.Refuse answer) = refl
 
-wakes_plainly : (l : ℕ) (a : Admission) (q : RwLockPurpose) (m : Line) (to : WakeAt) → runs_closure (wake_act l a q m to) ≡ false
-wakes_plainly l a q m waking.Enter = refl
-wakes_plainly l a q m waking.Take = refl
-wakes_plainly l a q m (waking.Clear any) = refl
-wakes_plainly l a q m (waking.Leave any) = refl
+counts_own : (l s : ℕ) (b : Bool) → IsOwn l (if b then Enter (One (2 * l + 1)) else Word l (op.TheVariants.Exchange s (plus s 2)))
+counts_own l s true = refl
+counts_own l s false = refl
 
-rwlock_runs_none : (l : ℕ) (a : Admission) (p : RwLockPlace) (to : RwLockAt) → runs_closure (act_at l a p to) ≡ false
-rwlock_runs_none l a p at.First = refl
-rwlock_runs_none l a p at.Load = refl
-rwlock_runs_none l a p (at.Decide s) = rwlock_decides_plainly l p.purpose s (decided a p s)
-rwlock_runs_none l a p (at.Park to) = parks_plainly l a (want_at p) Main to
-rwlock_runs_none l a p at.Look = refl
-rwlock_runs_none l a p (at.Count s) = counts_plainly l s (has_aside s)
-rwlock_runs_none l a p at.Marked = refl
-rwlock_runs_none l a p (at.Aside to) = parks_plainly l a (want_at p) Second to
-rwlock_runs_none l a p at.RollBack = refl
-rwlock_runs_none l a p at.GiveWay = refl
-rwlock_runs_none l a p (at.Wake m to) = wakes_plainly l a p.purpose m to
+parks_own : (l : ℕ) (a : Admission) (x : Want) (m : Line) (to : ParkAt) → IsOwn l (park_act l a x m to)
+parks_own l a x m parking.Check = refl
+parks_own l a x m (parking.Leave b) = refl
+parks_own l a x m parking.Asleep = refl
+parks_own l a x m (parking.Taken by) = refl
+parks_own l a x m parking.Remove = refl
+parks_own l a x m parking.Clear = refl
+parks_own l a x m parking.GiveUp = refl
 
-exchanges_plainly : (l limit : ℕ) (x : Access) (k : Taken) (s : ℕ) (b : Bool) → runs_closure (if b then HandOver l (op.TheVariants.Exchange s (with_taken x k s)) else Word l (op.TheVariants.Exchange s (parked_as k.none_left (without x s)))) ≡ false
-exchanges_plainly l limit x k s true = refl
-exchanges_plainly l limit x k s false = refl
+wakes_own : (l : ℕ) (a : Admission) (q : RwLockPurpose) (m : Line) (to : WakeAt) → IsOwn l (wake_act l a q m to)
+wakes_own l a q m waking.Enter = refl
+wakes_own l a q m waking.Take = refl
+wakes_own l a q m (waking.Clear any) = refl
+wakes_own l a q m (waking.Leave any) = refl
 
-hands_over_plainly : (l : ℕ) (a : Admission) (x : Access) (to : HandOverAt) → runs_closure (hand_over_act l a x to) ≡ false
-hands_over_plainly l a x handing.Load = refl
-hands_over_plainly l a x (handing.Free s) = refl
-hands_over_plainly l a x handing.Enter = refl
-hands_over_plainly l a x handing.Take = refl
-hands_over_plainly l a x (handing.Store k) = refl
-hands_over_plainly l a x (handing.Look k) = refl
-hands_over_plainly l a x (handing.Exchange k s) = exchanges_plainly l a.limit x k s (has_room a.limit k s)
-hands_over_plainly l a x (handing.Leave any given) = refl
+rwlock_own : (l : ℕ) (a : Admission) (p : RwLockPlace) (to : RwLockAt) → IsOwn l (act_at l a p to)
+rwlock_own l a p at.First = refl
+rwlock_own l a p at.Load = refl
+rwlock_own l a p (at.Decide s) = rwlock_decides_own l p.purpose s (decided a p s)
+rwlock_own l a p (at.Park to) = parks_own l a (want_at p) Main to
+rwlock_own l a p at.Look = refl
+rwlock_own l a p (at.Count s) = counts_own l s (has_aside s)
+rwlock_own l a p at.Marked = refl
+rwlock_own l a p (at.Aside to) = parks_own l a (want_at p) Second to
+rwlock_own l a p at.RollBack = refl
+rwlock_own l a p at.GiveWay = refl
+rwlock_own l a p (at.Wake m to) = wakes_own l a p.purpose m to
 
-accepts_plainly : (l : ℕ) (x : Access) → runs_closure (accept_act l x) ≡ false
-accepts_plainly l access.Exclusive = refl
-accepts_plainly l access.Shared = refl
-accepts_plainly l access.Upgradable = refl
+exchanges_own : (l limit : ℕ) (x : Access) (k : Taken) (s : ℕ) (b : Bool) → IsOwn l (if b then HandOver l (op.TheVariants.Exchange s (with_taken x k s)) else Word l (op.TheVariants.Exchange s (parked_as k.none_left (without x s))))
+exchanges_own l limit x k s true = refl
+exchanges_own l limit x k s false = refl
+
+hands_over_own : (l : ℕ) (a : Admission) (x : Access) (to : HandOverAt) → IsOwn l (hand_over_act l a x to)
+hands_over_own l a x handing.Load = refl
+hands_over_own l a x (handing.Free s) = refl
+hands_over_own l a x handing.Enter = refl
+hands_over_own l a x handing.Take = refl
+hands_over_own l a x (handing.Store k) = refl
+hands_over_own l a x (handing.Look k) = refl
+hands_over_own l a x (handing.Exchange k s) = exchanges_own l a.limit x k s (has_room a.limit k s)
+hands_over_own l a x (handing.Leave any given) = refl
+
+accepts_own : (l : ℕ) (x : Access) → IsOwn l (accept_act l x)
+accepts_own l access.Exclusive = refl
+accepts_own l access.Shared = refl
+accepts_own l access.Upgradable = refl
+
+pub call_own : (l : ℕ) (a : Admission) (c : RwLockCallPlace) → IsOwn l (call_act l a c)
+call_own l a (places.Plain p) = rwlock_own l a p p.at
+call_own l a (places.Bump p) = rwlock_own l a p p.at
+call_own l a (places.Glance x) = refl
+call_own l a (places.HandOver x b to) = hands_over_own l a x to
+call_own l a (places.Handed x how b (handed.Asleep u alone)) = refl
+call_own l a (places.Handed x how b handed.Accept) = accepts_own l x
+
+pub course_own : (l v : ℕ) (k : Course) → IsOwn l (course_act l v k)
+course_own l v (Ends answer) = refl
+course_own l v Runs = refl
+course_own l v Marks = refl
+course_own l v Parks = refl
+
+pub mutex_own : (l : ℕ) (m : MutexPlace) → IsOwn l (act_of (Mutex l m))
+mutex_own l (Lock e r lock.First) = refl
+mutex_own l (Lock e r (lock.Decide s)) = decides_own l s (is_locked s) (s == 1)
+mutex_own l (Lock e r a) = refl
+mutex_own l TryLock = refl
+mutex_own l (Unlock unlock.Subtract) = refl
+mutex_own l (Unlock a) = refl
+mutex_own l UnlockFair = refl
+mutex_own l Bump = refl
+mutex_own l (HandOff b (hand_off.Store false n)) = refl
+mutex_own l (HandOff b (hand_off.Store true n)) = refl
+mutex_own l (HandOff b a) = refl
 
 pub call_runs_none : (l : ℕ) (a : Admission) (c : RwLockCallPlace) → runs_closure (call_act l a c) ≡ false
-call_runs_none l a (places.Plain p) = rwlock_runs_none l a p p.at
-call_runs_none l a (places.Bump p) = rwlock_runs_none l a p p.at
-call_runs_none l a (places.Glance x) = refl
-call_runs_none l a (places.HandOver x b to) = hands_over_plainly l a x to
-call_runs_none l a (places.Handed x how b (handed.Asleep u alone)) = refl
-call_runs_none l a (places.Handed x how b handed.Accept) = accepts_plainly l x
+call_runs_none l a c = runs_none l (call_act l a c) (call_own l a c)
+
+pub course_runs_none : (l v : ℕ) (k : Course) → runs_closure (course_act l v k) ≡ false
+course_runs_none l v k = runs_none l (course_act l v k) (course_own l v k)
+
+pub mutex_runs_none : (l : ℕ) (m : MutexPlace) → runs_closure (act_of (Mutex l m)) ≡ false
+mutex_runs_none l m = runs_none l (act_of (Mutex l m)) (mutex_own l m)
 
 -- a thread that runs a closure
 pub record RunsOne (p : Place) : Type 0 where
@@ -126,25 +166,6 @@ pub record RunsOne (p : Place) : Type 0 where
   pub forced : Bool
   pub poisoned : Bool
   pub is : p ≡ Once lock (Run forced (run.Closure poisoned))
-
-pub course_runs_none : (l v : ℕ) (k : Course) → runs_closure (course_act l v k) ≡ false
-course_runs_none l v (Ends answer) = refl
-course_runs_none l v Runs = refl
-course_runs_none l v Marks = refl
-course_runs_none l v Parks = refl
-
-pub mutex_runs_none : (l : ℕ) (m : MutexPlace) → runs_closure (act_of (Mutex l m)) ≡ false
-mutex_runs_none l (Lock e r lock.First) = refl
-mutex_runs_none l (Lock e r (lock.Decide s)) = decides_plainly l s (is_locked s) (s == 1)
-mutex_runs_none l (Lock e r a) = refl
-mutex_runs_none l TryLock = refl
-mutex_runs_none l (Unlock unlock.Subtract) = refl
-mutex_runs_none l (Unlock a) = refl
-mutex_runs_none l UnlockFair = refl
-mutex_runs_none l Bump = refl
-mutex_runs_none l (HandOff b (hand_off.Store false n)) = refl
-mutex_runs_none l (HandOff b (hand_off.Store true n)) = refl
-mutex_runs_none l (HandOff b a) = refl
 
 pub condvar_runs_none : (l : ℕ) (at : CondvarPlace) → runs_closure (act_of (Condvar l at)) ≡ false
 condvar_runs_none l (Wait m timed (wait.Release s at)) = mutex_runs_none m at

@@ -2,5 +2,9 @@ pub mod QueueLemmas
 pub mod ShareLemmas
 pub mod Opening
 pub mod Looks
-pub mod Shape
 pub mod Closures
+pub mod Acted
+pub mod KindsStay
+pub mod Suits
+pub mod Shown
+pub mod Shape

@@ -29,7 +29,8 @@ use Rattle.lot_condvar.specs.CondvarSteps.{condvar_looking, in_lock}
 use Rattle.lot_steps.specs.declared.places.Place.{Place}
 use Rattle.lot_steps.specs.declared.places.Place.TheVariants.{Idle, Mutex, RwLock, Once, Condvar}
 use Rattle.lot_steps.specs.Steps.{act_of, lock_of, looking, in_mutex, in_rwlock, in_once, in_condvar, profile}
-use Rattle.lot_machine.specs.Fits.{PlaceFits}
+use Rattle.lot_calls.specs.declared.kinds.Kind.{Kind}
+use Rattle.lot_machine.specs.Fits.{IsOfItsKind, PlaceFits}
 
 pub record IsLook (p q : Place) : Type 0 where
   pub lock : ℕ
@@ -39,6 +40,7 @@ pub record IsLook (p q : Place) : Type 0 where
   pub loads : act_of q ≡ Word loaded Load
   pub row : profile q ≡ profile p
   pub fits : (locks : ℕ) → PlaceFits locks p → PlaceFits locks q
+  pub kind : (kinds : ℕ → Kind) → IsOfItsKind kinds p → IsOfItsKind kinds q
   pub there : (locks : ℕ) → PlaceFits locks p → loaded < locks
 
 some_is : (p q : Place) → Some p ≡ Some q → p ≡ q
@@ -78,7 +80,7 @@ rwlock_look l a c q is = by_place (call_looking a c) refl is
     by_place : (o : Option RwLockCallPlace) → call_looking a c ≡ o → in_rwlock l a o ≡ Some q → IsLook (RwLock l a c) q
     by_place None e is = absurd cc
     by_place (Some d) e is = subst (IsLook (RwLock l a c)) (some_is (RwLock l a d) q is)
-        (record { lock = l; before = refl; now = refl; loaded = l; loads = call_loads l a c d e; row = (fair_looks_stand a c d e).0; fits = λ locks h. h; there = λ locks h. h })
+        (record { lock = l; before = refl; now = refl; loaded = l; loads = call_loads l a c d e; row = (fair_looks_stand a c d e).0; fits = λ locks h. h; kind = λ kinds h. h; there = λ locks h. h })
 
 pub look : (p q : Place) → looking p ≡ Some q → IsLook p q
 look Idle q is = absurd cc
@@ -91,7 +93,7 @@ look (Mutex l at) q is = mutex_look at is
 
     mutex_look : (at : MutexPlace) → in_mutex l (mutex_looking at) ≡ Some q → IsLook (Mutex l at) q
     mutex_look (Lock e again (lock.Decide seen)) is =
-        by_mark _ (Lock e again (lock.Decide seen)) (Lock e again lock.Load) (record { lock = l; before = refl; now = refl; loaded = l; loads = refl; row = refl; fits = λ locks h. (h.0, tt); there = λ locks h. h.0 }) is
+        by_mark _ (Lock e again (lock.Decide seen)) (Lock e again lock.Load) (record { lock = l; before = refl; now = refl; loaded = l; loads = refl; row = refl; fits = λ locks h. (h.0, tt); kind = λ kinds h. h; there = λ locks h. h.0 }) is
     mutex_look (Lock e again to) is = absurd cc
     mutex_look at is = absurd cc
 look (Once l at) q is = once_look at is
@@ -102,7 +104,7 @@ look (Once l at) q is = once_look at is
 
     once_look : (at : OncePlace) → in_once l (once_looking at) ≡ Some q → IsLook (Once l at) q
     once_look (Look c again (look_at.Decide seen)) is =
-        by_mark _ (Look c again (look_at.Decide seen)) (Look c again look_at.Load) (record { lock = l; before = refl; now = refl; loaded = l; loads = refl; row = refl; fits = λ locks h. h; there = λ locks h. h }) is
+        by_mark _ (Look c again (look_at.Decide seen)) (Look c again look_at.Load) (record { lock = l; before = refl; now = refl; loaded = l; loads = refl; row = refl; fits = λ locks h. h; kind = λ kinds h. h; there = λ locks h. h }) is
     once_look (Look c again to) is = absurd cc
     once_look (Run forced to) is = absurd cc
 look (Condvar l at) q is = condvar_look at is
@@ -114,7 +116,7 @@ look (Condvar l at) q is = condvar_look at is
 
     locks : (m : ℕ) (timed late : Bool) (at : MutexPlace) → in_condvar l (in_lock m timed late (mutex_looking at)) ≡ Some q → IsLook (Condvar l (Wait m timed (wait.Lock late at))) q
     locks m timed late (Lock e again (lock.Decide seen)) is =
-        by_mark _ m timed late (Lock e again (lock.Decide seen)) (Lock e again lock.Load) (record { lock = l; before = refl; now = refl; loaded = m; loads = refl; row = refl; fits = λ locks h. h; there = λ locks h. absurd h }) is
+        by_mark _ m timed late (Lock e again (lock.Decide seen)) (Lock e again lock.Load) (record { lock = l; before = refl; now = refl; loaded = m; loads = refl; row = refl; fits = λ locks h. h; kind = λ kinds h. h; there = λ locks h. h.1 }) is
     locks m timed late (Lock e again to) is = absurd cc
     locks m timed late at is = absurd cc
 

@@ -1,5 +1,5 @@
 -- Each step keeps the shape of a state: its numbers go on naming threads, locks and keys that are there.
-use Rattle.std.proofs.Common.{ℕ, zero, suc, Bool, true, false, cond, Option, Some, None, if◌then◌else◌, ◌==◌, ◌&&◌, not, nat_lt, ◌≡◌, ◌*◌, ◌≤◌, ◌<◌, List, [], ◌∷◌, ◌++◌, length, get_or, set, map, drop, refl, ◌∙◌, length-set, get_or-set_same, replicate, sym, ap, subst, arith}
+use Rattle.std.proofs.Common.{inl, ◌^◌, ℕ, zero, suc, Bool, true, false, cond, Option, Some, None, if◌then◌else◌, ◌==◌, not, nat_lt, ◌≡◌, ◌*◌, ◌≤◌, ◌<◌, List, [], ◌∷◌, ◌++◌, length, get_or, set, map, drop, refl, ◌∙◌, length-set, get_or-set_same, replicate, sym, ap, subst, arith}
 use Rattle.std.specs.Prelude.{is_some}
 use Rattle.std.proofs.lemmas.List.{length-replicate}
 use Rattle.std.proofs.lemmas.Bool.{ltb-true}
@@ -18,25 +18,19 @@ use Rattle.lot_acts.specs.declared.acts.Check.{Check}
 use Rattle.lot_acts.specs.declared.acts.Wakes.{Wakes}
 use Rattle.lot_acts.specs.declared.acts.Wakes as wakes
 use Rattle.lot_acts.specs.declared.acts.Reply.{Reply}
-use Rattle.lot_acts.specs.declared.acts.Reply.TheVariants.{Done, Value, Parked, Removed, Took, TakenBy, MovedTo, HandedBy, Late, Woken, Closed}
+use Rattle.lot_acts.specs.declared.acts.Reply.TheVariants.{Value, TakenBy, MovedTo, HandedBy, Late, Woken, Closed}
 use Rattle.lot_acts.specs.declared.acts.Next.{Next}
 use Rattle.lot_acts.specs.declared.acts.Next as next
-use Rattle.lot_calls.specs.declared.outcomes.Answer as answer
 use Rattle.lot_calls.specs.declared.calls.Call.{Call}
-use Rattle.lot_calls.specs.declared.calls.Call as call
-use Rattle.lot_calls.specs.declared.calls.CondvarCall.{CondvarCall}
 use Rattle.lot_calls.specs.declared.kinds.Kind.{Kind}
-use Rattle.lot_calls.specs.declared.kinds.Kind.TheVariants as kinds
+use Rattle.lot_calls.specs.declared.kinds.Kind.TheVariants as kind
 use Rattle.lot_calls.specs.declared.calls.Turn.{Turn}
 use Rattle.lot_calls.specs.declared.calls.Turn as turn
 use Rattle.lot_calls.specs.declared.calls.Step.{Step}
 use Rattle.lot_steps.specs.declared.places.Place.{Place}
 use Rattle.lot_steps.specs.declared.places.Place.TheVariants.{Idle, Mutex, RwLock, Once, Condvar}
-use Rattle.lot_calls.specs.declared.calls.MutexCall.{MutexCall}
-use Rattle.lot_calls.specs.declared.calls.MutexCall as mutex_call
 use Rattle.lot_base.specs.declared.keys.Line.{Line}
 use Rattle.lot_base.specs.Keys.{key_of}
-use Rattle.lot_rwlock.specs.declared.places.Admission.{Admission}
 use Rattle.lot_rwlock_fair.specs.declared.places.RwLockCallPlace.{RwLockCallPlace}
 use Rattle.lot_rwlock_fair.specs.FairSteps.{call_next}
 use Rattle.lot_rwlock_fair.specs.FairProfiles.{call_profile}
@@ -47,10 +41,6 @@ use Rattle.lot_mutex.specs.declared.lock.Entry.{Entry}
 use Rattle.lot_mutex.specs.declared.places.MutexPlace.{MutexPlace}
 use Rattle.lot_mutex.specs.declared.places.MutexPlace.TheVariants.{Lock, TryLock, Unlock, UnlockFair, Bump, HandOff}
 use Rattle.lot_mutex.specs.declared.lock.LockAt.{LockAt}
-use Rattle.lot_mutex.specs.declared.unlock.UnlockAt.{UnlockAt}
-use Rattle.lot_mutex.specs.declared.unlock.UnlockAt as unlock
-use Rattle.lot_mutex.specs.declared.hand_off.HandOffAt.{HandOffAt}
-use Rattle.lot_mutex.specs.declared.hand_off.HandOffAt.TheVariants as hand_off
 use Rattle.lot_acts.specs.Acts.{takes_effect, holds, outcome_of}
 use Rattle.lot_calls.specs.declared.outcomes.Outcome.{Outcome}
 use Rattle.lot_calls.specs.declared.outcomes.Outcome as outcome
@@ -64,28 +54,31 @@ use Rattle.lot_base.specs.Lines.{threads_of}
 use Rattle.lot_base.specs.Picks.{without_picked, without_lock_picked, lock_picked, lock_answer, next_picker, lock_picker}
 use Rattle.lot_base.specs.Requeues.{taken_by, moved_by}
 use Rattle.lot_machine.proofs.QueueLemmas.{told_count}
-use Rattle.lot_calls.specs.Kinds.{has_call, is_fair}
-use Rattle.lot_mutex.specs.MutexSteps.{is_locked, is_parked, is_timed, entered, mutex_next, mutex_first, next_unlock, next_hand_off, looked, unlock_fair_next, bump_next, try_next, in_lock, in_unlock, in_hand_off}
-use Rattle.lot_acts.specs.Owners.{is_thread}
+use Rattle.lot_mutex.specs.MutexSteps.{is_timed, mutex_next}
 use Rattle.lot_calls.specs.Calls.{lock_in}
 use Rattle.lot_acts.specs.Profiles.{in_line}
 use Rattle.abstract_locks.specs.Sites.{Main}
-use Rattle.lot_steps.specs.Steps.{is_idle, first_place, taker, act_of, next_place, mutex_goes, rwlock_goes, once_goes, looking, late_key, key_in}
+use Rattle.lot_steps.specs.Steps.{is_idle, first_place, act_of, next_place, mutex_goes, rwlock_goes, once_goes, looking, late_key, key_in}
 use Rattle.lot_machine.specs.Machine.{state_after_hand_over_by, hand_over_told, State, unlocked, opening, kind_at, word_at, place_at, queue_at, put, state_after_operation, state_with_sections, queues_with_last, queues_without_first, queues_without, state_after_park, state_after_reply, place_after_telling, state_after_telling, state_after_hand_over, state_after_taking, state_after_wake, state_after_act, state_after_takes, state_after_take_first, state_after_requeue, queues_requeued, left_behind, moved_under, moved_threads, listed, places_told, state_after_going, going_outcome, closed_place, state_after_close, close_outcome, can_close, runs_closure, can_do, state_after_go, reply_to, state_after_begin, can_begin, is_open_to, state_after_spin, state_after_late, state_after_late_on, state_after_turn, can_turn, is_possible, after, state_after_look, look_outcome, spin_outcome, can_spin, can_go, go_outcome}
-use Rattle.lot_base.specs.declared.notes.Note as note
 use Rattle.lot_mutex.specs.declared.lock.LockAt as lock
 use Rattle.lot_acts.specs.declared.acts.Whom as whom
-use Rattle.lot_machine.specs.Fits.{ActFits, GivesUpTimed, PlaceFits, AllBelow, IsShaped, SameSize}
+use Rattle.lot_machine.specs.Fits.{ActFits, AllBelow, IsOfItsKind, IsShaped, PlaceFits, SameSize, Shows}
+use Rattle.lot_condvar.specs.declared.notify.NotifyAt.{NotifyAt}
+use Rattle.lot_condvar.specs.declared.places.CondvarPlace.{CondvarPlace}
+use Rattle.lot_condvar.specs.declared.places.CondvarPlace.TheVariants.{Wait, Look, Notify}
+use Rattle.lot_condvar.specs.declared.wait.WaitAt.{WaitAt}
+use Rattle.lot_condvar.specs.declared.wait.WaitAt.TheVariants as wait
+use Rattle.lot_condvar.specs.CondvarSteps.{in_notify, in_wait, next_notify, next_wait}
+use Rattle.lot_steps.specs.Steps.{HasKeys, condvar_goes}
+use Rattle.lot_machine.proofs.Acted.{Befalls, acted_keeps}
+use Rattle.lot_machine.proofs.Shown.{AreShown, Writes, performed_shown, writes}
+use Rattle.lot_machine.proofs.Suits.{ReplyFits, SeesFit, call_suits, next_suits}
+use Rattle.lot_machine.proofs.Opening.{idle_at}
 use Rattle.lot_machine.proofs.Looks.{look}
+use Rattle.lot_machine.proofs.KindsStay.{performed_kinds}
+pub use Rattle.lot_machine.proofs.KindsStay.{set_all}
+pub use Rattle.lot_machine.proofs.Suits.{Suits, both}
 use Rattle.lot_machine.proofs.Closures.{closes_freely}
-
--- what holds of all elements holds of them after one is set
-pub set_all : {A : Type 0} (P : A → Type 0) (xs : List A) (i : ℕ) (y d : A) → P y → ((j : ℕ) → P (get_or xs j d)) → (j : ℕ) → P (get_or (set xs i y) j d)
-set_all P [] i y d p h j = h j
-set_all P (x ∷ xs) zero y d p h zero = p
-set_all P (x ∷ xs) zero y d p h (suc j) = h (suc j)
-set_all P (x ∷ xs) (suc i) y d p h zero = h zero
-set_all P (x ∷ xs) (suc i) y d p h (suc j) = set_all P xs i y d p (λ k. h (suc k)) j
 
 -- a lock's main key has its section and its queue
 pub main_key_there : (w : State) (l : ℕ) → IsShaped w → l < length w.locks → 2 * l < length w.sections
@@ -150,299 +143,124 @@ below_behind_requeue n requeue.TheVariants.One xs h = below_rest n xs h
 below_behind_requeue n requeue.TheVariants.All xs h = tt
 below_behind_requeue n requeue.TheVariants.TakeOneMoveRest xs h = tt
 
--- ---------------------------------------------------------------- places
+-- ---------------------------------------------------------------- lines and sections
 
--- the call of a thread at this place has a deadline
-abbrev pub MayBeLate : Place → Type 0
-MayBeLate (Mutex l (Lock entry retries at)) = is_timed entry ≡ true
-MayBeLate p = Unit {0}
+-- what the shape says of them
+record IsLined (w : State) : Type 0 where
+  few : length w.locks ≤ 256
+  sections : length w.sections ≡ 2 * length w.locks
+  queues : length w.queues ≡ length w.sections
+  waiting : (key : ℕ) → AllBelow (length w.places) (queue_at w key)
 
--- only a timed call is told that it is late
-abbrev pub ReplyFits : Place → Reply → Type 0
-ReplyFits p Late = MayBeLate p
-ReplyFits p reply = Unit {0}
+lined : (w : State) → IsShaped w → IsLined w
+lined w s = record { few = s.few; sections = s.sections; queues = s.queues; waiting = s.waiting }
 
-abbrev pub NextFits : Next MutexPlace → Type 0
-NextFits (next.TheVariants.At at) = GivesUpTimed at
-NextFits (next.TheVariants.End answer) = Unit {0}
+put_lined : (w : State) (t : ℕ) (p : Place) → IsLined w → IsLined (put w t p)
+put_lined w t p s = record { few = s.few; sections = s.sections; queues = s.queues; waiting = λ key. rw (length-set w.places t p) (s.waiting key) }
 
-lock_fits : (l : ℕ) (entry : Entry) (retries : Bool) (at : LockAt) (reply : Reply) → GivesUpTimed (Lock entry retries at) → ReplyFits (Mutex l (Lock entry retries at)) reply → NextFits (mutex_next (Lock entry retries at) reply)
-lock_fits l entry retries lock.TheVariants.First (Value seen) h late = either (seen == 0)
-  where
-    either : (b : Bool) → NextFits (in_lock entry retries (if b then next.TheVariants.End (entered entry) else next.TheVariants.At lock.TheVariants.Load))
-    either true = tt
-    either false = tt
-lock_fits l entry retries (lock.TheVariants.Decide s) (Value seen) h late = either (not (seen == s)) (is_locked seen)
-  where
-    either : (a b : Bool) → NextFits (in_lock entry retries (if a then next.TheVariants.At (lock.TheVariants.Decide seen) else if b then next.TheVariants.At (lock.TheVariants.Decide 3) else next.TheVariants.End (entered entry)))
-    either true b = tt
-    either false true = tt
-    either false false = tt
-lock_fits l entry retries lock.TheVariants.Load (Value seen) h late = tt
-lock_fits l entry retries lock.TheVariants.Check (Parked state_after_park) h late = tt
-lock_fits l entry retries (lock.TheVariants.Leave true) Done h late = tt
-lock_fits l entry retries (lock.TheVariants.Leave false) Done h late = tt
-lock_fits l entry retries lock.TheVariants.Asleep Late h late = late
-lock_fits l entry retries lock.TheVariants.Asleep (Woken note.TheVariants.Normal) h late = tt
-lock_fits l entry retries lock.TheVariants.Asleep (Woken note.TheVariants.HandOff) h late = tt
-lock_fits l entry retries lock.TheVariants.Remove (Removed true) h late = h
-lock_fits l entry retries lock.TheVariants.Remove (Removed false) h late = h
-lock_fits l entry retries lock.TheVariants.Clear (Value seen) h late = h
-lock_fits l entry retries (lock.TheVariants.Taken by) (Woken note.TheVariants.Normal) h late = tt
-lock_fits l entry retries (lock.TheVariants.Taken by) (HandedBy t alone) h late = tt
-lock_fits l entry retries (lock.TheVariants.Handed by) (Woken note.TheVariants.HandOff) h late = tt
-lock_fits l entry retries lock.TheVariants.Accept Done h late = tt
-lock_fits l entry retries lock.TheVariants.GiveUp Done h late = tt
-lock_fits l entry retries at reply h late = h
-
-try_fits : (reply : Reply) → NextFits (try_next reply)
-try_fits (Value seen) = either (is_locked seen)
-  where
-    either : (b : Bool) → NextFits (if b then next.TheVariants.End answer.TheVariants.No else next.TheVariants.End answer.TheVariants.Yes)
-    either true = tt
-    either false = tt
-try_fits reply = tt
-
-unlock_fits : (l : ℕ) (at : UnlockAt) (reply : Reply) → ReplyFits (Mutex l (Unlock at)) reply → NextFits (in_unlock (next_unlock at reply))
-unlock_fits l unlock.TheVariants.Subtract (Value seen) r = either (is_parked seen)
-  where
-    either : (b : Bool) → NextFits (in_unlock (if b then next.TheVariants.At unlock.TheVariants.Enter else next.TheVariants.End answer.TheVariants.Ok))
-    either true = tt
-    either false = tt
-unlock_fits l unlock.TheVariants.Take (Took any none_left) r = either none_left
-  where
-    either : (b : Bool) → NextFits (in_unlock (if b then next.TheVariants.At (unlock.TheVariants.Clear any) else next.TheVariants.At (unlock.TheVariants.Leave any)))
-    either true = tt
-    either false = tt
-unlock_fits l unlock.TheVariants.Enter Done r = tt
-unlock_fits l (unlock.TheVariants.Clear taken) (Value seen) r = tt
-unlock_fits l (unlock.TheVariants.Leave taken) Done r = tt
-unlock_fits l at reply r = tt
-
-looked_fits : (bumps saw_waiters : Bool) → NextFits (looked bumps saw_waiters)
-looked_fits bumps true = tt
-looked_fits bumps false = tt
-
-unlock_fair_fits : (reply : Reply) → NextFits (unlock_fair_next reply)
-unlock_fair_fits (Value seen) = looked_fits false (not (seen == 1))
-unlock_fair_fits reply = tt
-
-bump_fits : (reply : Reply) → NextFits (bump_next reply)
-bump_fits (Value seen) = looked_fits true (is_parked seen)
-bump_fits reply = tt
-
-hand_off_fits : (l : ℕ) (bumps : Bool) (at : HandOffAt) (reply : Reply) → ReplyFits (Mutex l (HandOff bumps at)) reply → NextFits (in_hand_off bumps (next_hand_off at reply))
-hand_off_fits l bumps hand_off.Take (Took any none_left) r = tt
-hand_off_fits l bumps hand_off.Enter Done r = tt
-hand_off_fits l bumps (hand_off.Store taken none_left) (Value seen) r = tt
-hand_off_fits l true (hand_off.Leave taken) Done r = tt
-hand_off_fits l false (hand_off.Leave taken) Done r = tt
-hand_off_fits l bumps at reply r = tt
-
-goes_fits : (locks l : ℕ) (n : Next MutexPlace) → l < locks → NextFits n → PlaceFits locks (mutex_goes l n)
-goes_fits locks l (next.TheVariants.At at) lt h = (lt, h)
-goes_fits locks l (next.TheVariants.End answer) lt h = tt
-
-rwlock_fits : (locks l : ℕ) (a : Admission) (n : Next RwLockCallPlace) → l < locks → PlaceFits locks (rwlock_goes l a n)
-rwlock_fits locks l a (next.TheVariants.At at) lt = lt
-rwlock_fits locks l a (next.TheVariants.End answer) lt = tt
-
-once_fits : (locks l : ℕ) (n : Next OncePlace) → l < locks → PlaceFits locks (once_goes l n)
-once_fits locks l (next.TheVariants.At at) lt = lt
-once_fits locks l (next.TheVariants.End answer) lt = tt
-
-pub next_fits : (locks : ℕ) (p : Place) (reply : Reply) → PlaceFits locks p → ReplyFits p reply → PlaceFits locks (next_place p reply)
-next_fits locks Idle reply h r = tt
-next_fits locks (Mutex l (Lock entry retries at)) reply h r = goes_fits locks l (mutex_next (Lock entry retries at) reply) h.0 (lock_fits l entry retries at reply h.1 r)
-next_fits locks (Mutex l TryLock) reply h r = goes_fits locks l (mutex_next TryLock reply) h.0 (try_fits reply)
-next_fits locks (Mutex l (Unlock at)) reply h r = goes_fits locks l (mutex_next (Unlock at) reply) h.0 (unlock_fits l at reply r)
-next_fits locks (Mutex l UnlockFair) reply h r = goes_fits locks l (mutex_next UnlockFair reply) h.0 (unlock_fair_fits reply)
-next_fits locks (Mutex l Bump) reply h r = goes_fits locks l (mutex_next Bump reply) h.0 (bump_fits reply)
-next_fits locks (Mutex l (HandOff bumps at)) reply h r = goes_fits locks l (mutex_next (HandOff bumps at) reply) h.0 (hand_off_fits l bumps at reply r)
-next_fits locks (RwLock l a at) reply h r = rwlock_fits locks l a (call_next a at reply) h
-next_fits locks (Once l at) reply h r = once_fits locks l (once_next at reply) h
-next_fits locks (Condvar l at) reply h r = absurd h
-
-first_fits : (locks l : ℕ) (fair : Bool) (c : MutexCall) → l < locks → PlaceFits locks (Mutex l (mutex_first fair c))
-first_fits locks l fair mutex_call.TheVariants.Lock h = (h, tt)
-first_fits locks l fair mutex_call.TheVariants.LockTimed h = (h, tt)
-first_fits locks l fair mutex_call.TheVariants.TryLock h = (h, tt)
-first_fits locks l true mutex_call.TheVariants.Unlock h = (h, tt)
-first_fits locks l false mutex_call.TheVariants.Unlock h = (h, tt)
-first_fits locks l fair mutex_call.TheVariants.UnlockFair h = (h, tt)
-first_fits locks l fair mutex_call.TheVariants.Bump h = (h, tt)
-
--- no kind has a call of a condition variable yet
-pub no_condvar_call : (kind : Kind) (l : ℕ) (c : CondvarCall) → has_call kind (call.TheVariants.Condvar l c) ≡ true → ⊥
-no_condvar_call kinds.Mutex l c has = cc
-no_condvar_call kinds.Fair l c has = cc
-no_condvar_call (kinds.RwLock limit) l c has = cc
-no_condvar_call (kinds.Recursive limit) l c has = cc
-no_condvar_call kinds.Condvar l c has = cc
-no_condvar_call kinds.Once l c has = cc
-
-call_fits : (locks : ℕ) (kind : Kind) (c : Call) → has_call kind c ≡ true → lock_in c < locks → PlaceFits locks (first_place kind c)
-call_fits locks kind (call.TheVariants.Mutex l c) has h = first_fits locks l (is_fair kind) c h
-call_fits locks kind (call.TheVariants.RwLock l c) has h = h
-call_fits locks kind (call.TheVariants.Once l c) has h = h
-call_fits locks kind (call.TheVariants.Condvar l c) has h = absurd (no_condvar_call kind l c has)
-
--- ---------------------------------------------------------------- states
-
-pub put_shaped : (w : State) (t : ℕ) (p : Place) → IsShaped w → PlaceFits (length w.locks) p → IsShaped (put w t p)
-put_shaped w t p s h = record {
-  few = s.few;
-  sections = s.sections;
-  queues = s.queues;
-  places = λ u. set_all (PlaceFits (length w.locks)) w.places t p Idle h s.places u;
-  waiting = λ key. rw (length-set w.places t p) (s.waiting key);
-}
-
-befallen_shaped : (w : State) (t : ℕ) (reply : Reply) → IsShaped w → ReplyFits (place_at w t) reply → IsShaped (state_after_reply w t reply)
-befallen_shaped w t reply s r = put_shaped w t (next_place (place_at w t) reply) s (next_fits (length w.locks) (place_at w t) reply (s.places t) r)
-
-filled_shaped : (w : State) (keys : Keys) (who : Option ℕ) → IsShaped w → IsShaped (state_with_sections w keys who)
-filled_shaped w (One key) who s = record {
+filled_lined : (w : State) (keys : Keys) (who : Option ℕ) → IsLined w → IsLined (state_with_sections w keys who)
+filled_lined w (One key) who s = record {
   few = s.few;
   sections = rw (length-set w.sections key who) s.sections;
   queues = rw (length-set w.sections key who) s.queues;
-  places = s.places;
   waiting = s.waiting;
 }
-filled_shaped w (Two first second) who s = record {
+filled_lined w (Two first second) who s = record {
   few = s.few;
   sections = rw (length-set (set w.sections first who) second who, length-set w.sections first who) s.sections;
   queues = rw (length-set (set w.sections first who) second who, length-set w.sections first who) s.queues;
-  places = s.places;
   waiting = s.waiting;
 }
 
-operated_shaped : (w : State) (t : ℕ) (p : Place) (l : ℕ) (f : Op) → IsShaped w → IsShaped (state_after_operation w t p l f)
-operated_shaped w t p l f s = record {
+operated_lined : (w : State) (t : ℕ) (p : Place) (l : ℕ) (f : Op) → IsLined w → IsLined (state_after_operation w t p l f)
+operated_lined w t p l f s = record {
   few = rw (length-set w.locks l _) s.few;
   sections = rw (length-set w.locks l _) s.sections;
   queues = s.queues;
-  places = λ u. rw (length-set w.locks l _) (s.places u);
   waiting = s.waiting;
 }
 
-queues_shaped : (w : State) (queues : List (List Waiter)) → IsShaped w → length queues ≡ length w.queues → ((key : ℕ) → AllBelow (length w.places) (get_or queues key [])) → IsShaped (record w { queues = queues })
-queues_shaped w queues s e h = record { few = s.few; sections = s.sections; queues = e ∙ s.queues; places = s.places; waiting = h }
+queues_lined : (w : State) (queues : List (List Waiter)) → IsLined w → length queues ≡ length w.queues → ((key : ℕ) → AllBelow (length w.places) (get_or queues key [])) → IsLined (record w { queues = queues })
+queues_lined w queues s e h = record { few = s.few; sections = s.sections; queues = e ∙ s.queues; waiting = h }
 
-stood_shaped : (w : State) (t key : ℕ) (wanted : Want) → IsShaped w → t < length w.places → IsShaped (record w { queues = queues_with_last w.queues key t wanted })
-stood_shaped w t key wanted s lt = queues_shaped w (queues_with_last w.queues key t wanted) s (length-set (map (without t) w.queues) key _ ∙ length-map w.queues (without t))
+stood_lined : (w : State) (t key : ℕ) (wanted : Want) → IsLined w → t < length w.places → IsLined (record w { queues = queues_with_last w.queues key t wanted })
+stood_lined w t key wanted s lt = queues_lined w (queues_with_last w.queues key t wanted) s (length-set (map (without t) w.queues) key _ ∙ length-map w.queues (without t))
     (set_all (AllBelow (length w.places)) (map (without t) w.queues) key _ [] (below_behind (length w.places) key t wanted _ lt (others key)) others)
   where
     others : (k : ℕ) → AllBelow (length w.places) (get_or (map (without t) w.queues) k [])
     others k = rw (get_or-map (without t) w.queues k []) (below_without (length w.places) t (queue_at w k) (s.waiting k))
 
-parked_shaped : (w : State) (t l key : ℕ) (check : Check) (wanted : Want) → IsShaped w → t < length w.places → IsShaped (state_after_park w t l key check wanted)
-parked_shaped w t l key check wanted s lt = either (holds check (word_at w l))
+parked_lined : (w : State) (t l key : ℕ) (check : Check) (wanted : Want) → IsLined w → t < length w.places → IsLined (state_after_park w t l key check wanted)
+parked_lined w t l key check wanted s lt = either (holds check (word_at w l))
   where
-    either : (b : Bool) → IsShaped (if b then record w { queues = queues_with_last w.queues key t wanted } else w)
+    either : (b : Bool) → IsLined (if b then record w { queues = queues_with_last w.queues key t wanted } else w)
     either false = s
-    either true = stood_shaped w t key wanted s lt
+    either true = stood_lined w t key wanted s lt
 
-took_shaped : (w : State) (t key : ℕ) → IsShaped w → IsShaped (state_after_take_first w t key)
-took_shaped w t key s = by_first (first_of (queue_at w key))
+took_lined : (w : State) (t key : ℕ) → IsLined w → IsLined (state_after_take_first w t key)
+took_lined w t key s = by_first (first_of (queue_at w key))
   where
-    rest : IsShaped (record w { queues = queues_without_first w.queues key })
-    rest = queues_shaped w (queues_without_first w.queues key) s (length-set w.queues key _)
+    rest : IsLined (record w { queues = queues_without_first w.queues key })
+    rest = queues_lined w (queues_without_first w.queues key) s (length-set w.queues key _)
         (set_all (AllBelow (length w.places)) w.queues key _ [] (below_rest (length w.places) (queue_at w key) (s.waiting key)) s.waiting)
 
-    by_first : (o : Option ℕ) → IsShaped (state_after_taking (record w { queues = queues_without_first w.queues key }) t o)
+    by_first : (o : Option ℕ) → IsLined (state_after_taking (record w { queues = queues_without_first w.queues key }) t o)
     by_first None = rest
-    by_first (Some u) = befallen_shaped (record w { queues = queues_without_first w.queues key }) u (TakenBy t) rest tt
-
--- wherever threads are told to go fits
-told_fit : (locks : ℕ) (reply : Reply) → ((p : Place) → ReplyFits p reply) → (us : List ℕ) (ps : List Place) → ((u : ℕ) → PlaceFits locks (get_or ps u Idle)) → (u : ℕ) → PlaceFits locks (get_or (places_told reply us ps) u Idle)
-told_fit locks reply timely [] ps h = h
-told_fit locks reply timely (x ∷ us) ps h = told_fit locks reply timely us (set ps x (next_place (get_or ps x Idle) reply))
-    (set_all (PlaceFits locks) ps x (next_place (get_or ps x Idle) reply) Idle (next_fits locks (get_or ps x Idle) reply (h x) (timely (get_or ps x Idle))) h)
+    by_first (Some u) = put_lined (record w { queues = queues_without_first w.queues key }) u _ rest
 
 -- threads are told something, and lines change
-led_shaped : (w : State) (queues : List (List Waiter)) (places : List Place) → IsShaped w → length places ≡ length w.places → length queues ≡ length w.queues → ((u : ℕ) → PlaceFits (length w.locks) (get_or places u Idle))
-    → ((key : ℕ) → AllBelow (length w.places) (get_or queues key [])) → IsShaped (record w { queues = queues; places = places })
-led_shaped w queues places s threads lines fit below = record {
-  few = s.few;
-  sections = s.sections;
-  queues = lines ∙ s.queues;
-  places = fit;
-  waiting = λ key. rw threads (below key);
-}
+led_lined : (w : State) (queues : List (List Waiter)) (places : List Place) → IsLined w → length places ≡ length w.places → length queues ≡ length w.queues
+    → ((key : ℕ) → AllBelow (length w.places) (get_or queues key [])) → IsLined (record w { queues = queues; places = places })
+led_lined w queues places s threads lines below = record { few = s.few; sections = s.sections; queues = lines ∙ s.queues; waiting = λ key. rw threads (below key) }
 
-takes_shaped : (w : State) (t key : ℕ) (taken : List ℕ) (left : List Waiter) → IsShaped w → AllBelow (length w.places) left → IsShaped (state_after_takes w t key taken left)
-takes_shaped w t key taken left s below = led_shaped w (set w.queues key left) (places_told (TakenBy t) taken w.places) s (told_count (TakenBy t) taken w.places) (length-set w.queues key left)
-    (told_fit (length w.locks) (TakenBy t) (λ p. tt) taken w.places s.places)
+takes_lined : (w : State) (t key : ℕ) (taken : List ℕ) (left : List Waiter) → IsLined w → AllBelow (length w.places) left → IsLined (state_after_takes w t key taken left)
+takes_lined w t key taken left s below = led_lined w (set w.queues key left) (places_told (TakenBy t) taken w.places) s (told_count (TakenBy t) taken w.places) (length-set w.queues key left)
     (set_all (AllBelow (length w.places)) w.queues key left [] below s.waiting)
 
-requeued_shaped : (w : State) (t from to : ℕ) (how : Requeue) → IsShaped w → IsShaped (state_after_requeue w t from to how)
-requeued_shaped w t from to how s = led_shaped w (queues_requeued w.queues from to how) (places_told (MovedTo to) (moved_threads how (threads_of (queue_at w from))) (places_told (TakenBy t) (listed (taken_by how (queue_at w from))) w.places)) s
+requeued_lined : (w : State) (t from to : ℕ) (how : Requeue) → IsLined w → IsLined (state_after_requeue w t from to how)
+requeued_lined w t from to how s = led_lined w (queues_requeued w.queues from to how) (places_told (MovedTo to) (moved_threads how (threads_of (queue_at w from))) (places_told (TakenBy t) (listed (taken_by how (queue_at w from))) w.places)) s
     (told_count (MovedTo to) (moved_threads how (threads_of (queue_at w from))) (places_told (TakenBy t) (listed (taken_by how (queue_at w from))) w.places) ∙ told_count (TakenBy t) (listed (taken_by how (queue_at w from))) w.places)
     (length-set (set w.queues from (left_behind how (queue_at w from))) to _ ∙ length-set w.queues from _)
-    (told_fit (length w.locks) (MovedTo to) (λ p. tt) (moved_threads how (threads_of (queue_at w from))) (places_told (TakenBy t) (listed (taken_by how (queue_at w from))) w.places) (told_fit (length w.locks) (TakenBy t) (λ p. tt) (listed (taken_by how (queue_at w from))) w.places s.places))
     (set_all (AllBelow (length w.places)) (set w.queues from (left_behind how (queue_at w from))) to _ [] (below_both (length w.places) _ _ (stays to) (below_requeued (length w.places) to how (queue_at w from) (s.waiting from))) stays)
   where
     stays : (key : ℕ) → AllBelow (length w.places) (get_or (set w.queues from (left_behind how (queue_at w from))) key [])
     stays = set_all (AllBelow (length w.places)) w.queues from (left_behind how (queue_at w from)) [] (below_behind_requeue (length w.places) how (queue_at w from) (s.waiting from)) s.waiting
 
-removed_shaped : (w : State) (t : ℕ) → IsShaped w → IsShaped (record w { queues = queues_without w.queues t })
-removed_shaped w t s = queues_shaped w (queues_without w.queues t) s (length-map w.queues (without t)) (λ k. rw (get_or-map (without t) w.queues k []) (below_without (length w.places) t (queue_at w k) (s.waiting k)))
+removed_lined : (w : State) (t : ℕ) → IsLined w → IsLined (record w { queues = queues_without w.queues t })
+removed_lined w t s = queues_lined w (queues_without w.queues t) s (length-map w.queues (without t)) (λ k. rw (get_or-map (without t) w.queues k []) (below_without (length w.places) t (queue_at w k) (s.waiting k)))
 
-given_shaped : (w : State) (t : ℕ) (p : Place) (l : ℕ) (f : Op) → IsShaped w → IsShaped (state_after_hand_over w t p l f)
-given_shaped w t p l f s = record {
+given_lined : (w : State) (t : ℕ) (p : Place) (l : ℕ) (f : Op) → IsLined w → IsLined (state_after_hand_over w t p l f)
+given_lined w t p l f s = record {
   few = rw (length-set w.locks l _) s.few;
   sections = rw (length-set w.locks l _) s.sections;
   queues = s.queues;
-  places = λ u. rw (length-set w.locks l _) (s.places u);
   waiting = s.waiting;
 }
 
--- what is told to all who are in a hand makes nobody late
-abbrev pub IsTimely : Reply → Type 0
-IsTimely Late = ⊥
-IsTimely reply = Unit {0}
+told_lined : (w : State) (t : ℕ) (reply : Reply) → IsLined w → IsLined (state_after_telling w t reply)
+told_lined w t reply s = record { few = s.few; sections = s.sections; queues = s.queues; waiting = λ key. rw (length-map w.places (place_after_telling t reply)) (s.waiting key) }
 
-timely_fits : (p : Place) (reply : Reply) → IsTimely reply → ReplyFits p reply
-timely_fits p (HandedBy t alone) h = tt
-timely_fits p (Woken x) h = tt
-timely_fits p Late h = absurd h
-timely_fits p reply h = tt
+awakened_lined : (w : State) (t : ℕ) (x : Wakes) → IsLined w → IsLined (state_after_wake w t x)
+awakened_lined w t wakes.TheVariants.Nobody s = s
+awakened_lined w t (wakes.TheVariants.All note) s = told_lined w t (Woken note) s
 
-told_shaped : (w : State) (t : ℕ) (reply : Reply) → IsTimely reply → IsShaped w → IsShaped (state_after_telling w t reply)
-told_shaped w t reply timely s = record {
-  few = s.few;
-  sections = s.sections;
-  queues = s.queues;
-  places = λ u. rw (get_or-map (place_after_telling t reply) w.places u Idle) (by_hand (place_at w u) (s.places u) (is_thread t (taker (place_at w u))));
-  waiting = λ key. rw (length-map w.places (place_after_telling t reply)) (s.waiting key);
-}
+performed_lined : (w : State) (t : ℕ) (p : Place) (act : Act) → IsLined w → t < length w.places → IsLined (state_after_act w t p act)
+performed_lined w t p (Word l f) s lt = operated_lined w t p l f s
+performed_lined w t p (HandOver l f) s lt = either (takes_effect f (word_at w l))
   where
-    by_hand : (p : Place) → PlaceFits (length w.locks) p → (b : Bool) → PlaceFits (length w.locks) (if b then next_place p reply else p)
-    by_hand p h true = next_fits (length w.locks) p reply h (timely_fits p reply timely)
-    by_hand p h false = h
-
-awakened_shaped : (w : State) (t : ℕ) (x : Wakes) → IsShaped w → IsShaped (state_after_wake w t x)
-awakened_shaped w t wakes.TheVariants.Nobody s = s
-awakened_shaped w t (wakes.TheVariants.All note) s = told_shaped w t (Woken note) tt s
-
-performed_shaped : (w : State) (t : ℕ) (p : Place) (act : Act) → IsShaped w → t < length w.places → IsShaped (state_after_act w t p act)
-performed_shaped w t p (Word l f) s lt = operated_shaped w t p l f s
-performed_shaped w t p (HandOver l f) s lt = either (takes_effect f (word_at w l))
-  where
-    either : (b : Bool) → IsShaped (state_after_hand_over_by b w t p l f)
-    either true = told_shaped (state_after_hand_over w t p l f) t (hand_over_told w t l) tt (given_shaped w t p l f s)
-    either false = operated_shaped w t p l f s
-performed_shaped w t p (Enter keys) s lt = filled_shaped w keys (Some t) s
-performed_shaped w t p (Park l key check wanted) s lt = parked_shaped w t l key check wanted s lt
-performed_shaped w t p (Stand key wanted) s lt = stood_shaped w t key wanted s lt
-performed_shaped w t p (Take key whom.TheVariants.First) s lt = took_shaped w t key s
-performed_shaped w t p (Take key (whom.TheVariants.Picked start recursive)) s lt = takes_shaped w t key (threads_of (lock_picked start recursive (queue_at w key))) (without_lock_picked start recursive key (queue_at w key)) s (below_unpicked (length w.places) (lock_picker start recursive) key (queue_at w key) (s.waiting key))
-performed_shaped w t p (Take key whom.TheVariants.All) s lt = takes_shaped w t key (threads_of (queue_at w key)) [] s tt
-performed_shaped w t p (act.Requeue from to how) s lt = requeued_shaped w t from to how s
-performed_shaped w t p (Remove key) s lt = removed_shaped w t s
-performed_shaped w t p (Leave keys x) s lt = awakened_shaped (state_with_sections w keys None) t x (filled_shaped w keys None s)
-performed_shaped w t p act s lt = s
+    either : (b : Bool) → IsLined (state_after_hand_over_by b w t p l f)
+    either true = told_lined (state_after_hand_over w t p l f) t (hand_over_told w t l) (given_lined w t p l f s)
+    either false = operated_lined w t p l f s
+performed_lined w t p (Enter keys) s lt = filled_lined w keys (Some t) s
+performed_lined w t p (Park l key check wanted) s lt = parked_lined w t l key check wanted s lt
+performed_lined w t p (Stand key wanted) s lt = stood_lined w t key wanted s lt
+performed_lined w t p (Take key whom.TheVariants.First) s lt = took_lined w t key s
+performed_lined w t p (Take key (whom.TheVariants.Picked start recursive)) s lt = takes_lined w t key (threads_of (lock_picked start recursive (queue_at w key))) (without_lock_picked start recursive key (queue_at w key)) s (below_unpicked (length w.places) (lock_picker start recursive) key (queue_at w key) (s.waiting key))
+performed_lined w t p (Take key whom.TheVariants.All) s lt = takes_lined w t key (threads_of (queue_at w key)) [] s tt
+performed_lined w t p (act.Requeue from to how) s lt = requeued_lined w t from to how s
+performed_lined w t p (Remove key) s lt = removed_lined w t s
+performed_lined w t p (Leave keys x) s lt = awakened_lined (state_with_sections w keys None) t x (filled_lined w keys None s)
+performed_lined w t p act s lt = s
 
 -- an act changes neither the number of threads nor that of locks
 filled_counts : (w : State) (keys : Keys) (who : Option ℕ) → (length (state_with_sections w keys who).places ≡ length w.places) × (length (state_with_sections w keys who).locks ≡ length w.locks)
@@ -478,6 +296,53 @@ performed_counts w t p (Leave keys wakes.TheVariants.Nobody) = filled_counts w k
 performed_counts w t p (Leave keys (wakes.TheVariants.All note)) = (length-map (state_with_sections w keys None).places (place_after_telling t (Woken note)) ∙ (filled_counts w keys None).0, (filled_counts w keys None).1)
 performed_counts w t p act = (refl, refl)
 
+-- ---------------------------------------------------------------- states
+
+pub suits : (w : State) → IsShaped w → (t : ℕ) → Suits (length w.locks) (kind_at w) (place_at w t)
+suits w s t = (s.places t, s.kinds t)
+
+shaped : (w : State) → IsLined w → ((t : ℕ) → Suits (length w.locks) (kind_at w) (place_at w t)) → AreShown w → IsShaped w
+shaped w s suit shown = record { few = s.few; sections = s.sections; queues = s.queues; places = λ t. (suit t).0; kinds = λ t. (suit t).1; shown = shown; waiting = s.waiting }
+
+pub put_shaped : (w : State) (t : ℕ) (p : Place) → IsShaped w → Suits (length w.locks) (kind_at w) p → IsShaped (put w t p)
+put_shaped w t p s h = shaped (put w t p) (put_lined w t p (lined w s)) (set_all (Suits (length w.locks) (kind_at w)) w.places t p Idle h (suits w s)) s.shown
+
+befallen_shaped : (w : State) (t : ℕ) (reply : Reply) → IsShaped w → ReplyFits (length w.locks) (kind_at w) (place_at w t) reply → IsShaped (state_after_reply w t reply)
+befallen_shaped w t reply s r = put_shaped w t (next_place (place_at w t) reply) s (next_suits (length w.locks) (kind_at w) (place_at w t) reply (suits w s t) r)
+
+filled_shaped : (w : State) (keys : Keys) (who : Option ℕ) → IsShaped w → IsShaped (state_with_sections w keys who)
+filled_shaped w (One key) who s = shaped (state_with_sections w (One key) who) (filled_lined w (One key) who (lined w s)) (suits w s) s.shown
+filled_shaped w (Two first second) who s = shaped (state_with_sections w (Two first second) who) (filled_lined w (Two first second) who (lined w s)) (suits w s) s.shown
+
+-- whatever befalls a thread suits it
+befallen_fits : (locks : ℕ) (kinds : ℕ → Kind) (p : Place) (reply : Reply) → Befalls reply → ReplyFits locks kinds p reply
+befallen_fits locks kinds p (TakenBy u) h = tt
+befallen_fits locks kinds p (MovedTo key) h = tt
+befallen_fits locks kinds p (HandedBy u alone) h = tt
+befallen_fits locks kinds p (Woken n) h = tt
+befallen_fits locks kinds p reply h = absurd h
+
+module _ (w : State) (t : ℕ) (p : Place) (a : Act) where
+  abbrev done : State
+  done = state_after_act w t p a
+
+  same_kinds : kind_at done ≡ kind_at w
+  same_kinds i k = performed_kinds w t p a k i
+
+  -- the locks are as many, and of the same kinds
+  suits_then : (q : Place) → Suits (length w.locks) (kind_at w) q → Suits (length done.locks) (kind_at done) q
+  suits_then q h = subst (λ n. Suits n (kind_at done) q) (sym (performed_counts w t p a).1) (subst (λ f. Suits (length w.locks) f q) (sym same_kinds) h)
+
+  shows_then : (v : ℕ) → Shows (length w.locks) (kind_at w) v → Shows (length done.locks) (kind_at done) v
+  shows_then v h = subst (λ n. Shows n (kind_at done) v) (sym (performed_counts w t p a).1) (subst (λ f. Shows (length w.locks) f v) (sym same_kinds) h)
+
+  performed_suits : IsShaped w → (u : ℕ) → Suits (length w.locks) (kind_at w) (place_at done u)
+  performed_suits s u = acted_keeps (Suits (length w.locks) (kind_at w)) w u t p a (λ loud r b q h. next_suits (length w.locks) (kind_at w) q r h (befallen_fits (length w.locks) (kind_at w) q r b)) (suits w s u)
+
+  performed_shaped : IsShaped w → t < length w.places → Writes w a → IsShaped done
+  performed_shaped s lt writes = shaped done (performed_lined w t p a (lined w s) lt) (λ u. suits_then (place_at done u) (performed_suits s u))
+      (λ l of. shows_then (word_at done l) (performed_shown w t p a s.shown writes l of))
+
 -- so who was there is there behind it
 pub acted_there : (w v : State) (t u : ℕ) (p : Place) (act : Act) (b : Bool) → v ≡ (if b then state_after_act w u p act else w) → t < length w.places → t < length v.places
 acted_there w v t u p act b e lt = rw e (either b)
@@ -499,44 +364,124 @@ pub went_told : (w v : State) (t : ℕ) (p : Place) (a : Act) (r : Reply) (b : B
 went_told w v t p a r true ea eb er ev o eo = rw (← ea, eb) (let same : r ≡ reply_to w t a = cc in rw (eo, ev, same, ea) refl)
 went_told w v t p a r false ea eb er ev o eo = absurd cc
 
-reply_fits : (w : State) (t : ℕ) (p : Place) (act : Act) → IsShaped w → ReplyFits p (reply_to w t act)
-reply_fits w t p (Take key whom.TheVariants.First) s = tt
-reply_fits w t p (Take key (whom.TheVariants.Picked start recursive)) s = tt
-reply_fits w t p (Take key whom.TheVariants.All) s = tt
-reply_fits w t p act s = tt
+abbrev pub IsTimelyReply : Reply → Type 0
+IsTimelyReply Late = ⊥
+IsTimelyReply reply = Unit {0}
 
-went_shaped : (w : State) (t : ℕ) (p : Place) → IsShaped w → t < length w.places → IsShaped (state_after_going w t p)
-went_shaped w t p s lt =
-    let shape = performed_shaped w t p (act_of p) s lt in
-    befallen_shaped (state_after_act w t p (act_of p)) t (reply_to w t (act_of p)) shape
-    (reply_fits w t (place_at (state_after_act w t p (act_of p)) t) (act_of p) s)
+-- no reply to an act says that a thread is late
+replies_timely : (w : State) (t : ℕ) (a : Act) → IsTimelyReply (reply_to w t a)
+replies_timely w t (Take key whom.TheVariants.First) = tt
+replies_timely w t (Take key (whom.TheVariants.Picked start recursive)) = tt
+replies_timely w t (Take key whom.TheVariants.All) = tt
+replies_timely w t a = tt
+
+-- only a notification's first step depends on what it sees
+abbrev pub LooksNot : Place → Type 0
+LooksNot (Condvar l (Look all)) = ⊥
+LooksNot p = Unit {0}
+
+looks_not_next : (p : Place) (reply : Reply) → LooksNot p → LooksNot (next_place p reply)
+looks_not_next Idle reply h = tt
+looks_not_next (Mutex l at) reply h = by_next (mutex_next at reply)
+  where
+    by_next : (n : Next MutexPlace) → LooksNot (mutex_goes l n)
+    by_next (next.TheVariants.At at2) = tt
+    by_next (next.TheVariants.End answer) = tt
+looks_not_next (RwLock l a at) reply h = by_next (call_next a at reply)
+  where
+    by_next : (n : Next RwLockCallPlace) → LooksNot (rwlock_goes l a n)
+    by_next (next.TheVariants.At at2) = tt
+    by_next (next.TheVariants.End answer) = tt
+looks_not_next (Once l at) reply h = by_next (once_next at reply)
+  where
+    by_next : (n : Next OncePlace) → LooksNot (once_goes l n)
+    by_next (next.TheVariants.At at2) = tt
+    by_next (next.TheVariants.End answer) = tt
+looks_not_next (Condvar l (Wait m timed at)) reply h = by_next (next_wait m timed at reply)
+  where
+    by_next : (n : Next WaitAt) → LooksNot (condvar_goes l (in_wait m timed n))
+    by_next (next.TheVariants.At at2) = tt
+    by_next (next.TheVariants.End answer) = tt
+looks_not_next (Condvar l (Notify all m at)) reply h = by_next (next_notify all m at reply)
+  where
+    by_next : (n : Next NotifyAt) → LooksNot (condvar_goes l (in_notify all m n))
+    by_next (next.TheVariants.At at2) = tt
+    by_next (next.TheVariants.End answer) = tt
+looks_not_next (Condvar l (Look all)) reply h = absurd h
+
+others_see : (locks : ℕ) (kinds : ℕ → Kind) (p : Place) (seen : ℕ) → LooksNot p → SeesFit locks kinds p seen
+others_see locks kinds Idle seen h = tt
+others_see locks kinds (Mutex l at) seen h = tt
+others_see locks kinds (RwLock l a at) seen h = tt
+others_see locks kinds (Once l at) seen h = tt
+others_see locks kinds (Condvar l (Wait m timed at)) seen h = tt
+others_see locks kinds (Condvar l (Notify all m at)) seen h = tt
+others_see locks kinds (Condvar l (Look all)) seen h = absurd h
+
+others_hear : (locks : ℕ) (kinds : ℕ → Kind) (p : Place) (reply : Reply) → LooksNot p → IsTimelyReply reply → ReplyFits locks kinds p reply
+others_hear locks kinds p (Value seen) h timely = others_see locks kinds p seen h
+others_hear locks kinds p Late h timely = absurd timely
+others_hear locks kinds p reply h timely = tt
+
+seeing_fits : (w : State) (t : ℕ) (p : Place) → place_at w t ≡ p → LooksNot p
+    → ReplyFits (length w.locks) (kind_at w) (place_at (state_after_act w t p (act_of p)) t) (reply_to w t (act_of p))
+seeing_fits w t p is not_looking = others_hear (length w.locks) (kind_at w) (place_at (state_after_act w t p (act_of p)) t) (reply_to w t (act_of p))
+    (acted_keeps LooksNot w t t p (act_of p) (λ loud r b q h. looks_not_next q r h) (subst LooksNot (sym is) not_looking)) (replies_timely w t (act_of p))
+
+-- a notification that looks sees a mutex that is there, and any other reply suits any place behind the act
+reply_fits : (w : State) (t : ℕ) (p : Place) → IsShaped w → place_at w t ≡ p
+    → ReplyFits (length w.locks) (kind_at w) (place_at (state_after_act w t p (act_of p)) t) (reply_to w t (act_of p))
+reply_fits w t (Condvar l (Look all)) s is =
+    let kind : IsOfItsKind (kind_at w) (Condvar l (Look all)) = subst (IsOfItsKind (kind_at w)) is (s.kinds t) in
+    subst (λ q. SeesFit (length w.locks) (kind_at w) q (word_at w l)) (sym is) (s.shown l kind.0)
+reply_fits w t Idle s is = seeing_fits w t Idle is tt
+reply_fits w t (Mutex l at) s is = seeing_fits w t (Mutex l at) is tt
+reply_fits w t (RwLock l a at) s is = seeing_fits w t (RwLock l a at) is tt
+reply_fits w t (Once l at) s is = seeing_fits w t (Once l at) is tt
+reply_fits w t (Condvar l (Wait m timed at)) s is = seeing_fits w t (Condvar l (Wait m timed at)) is tt
+reply_fits w t (Condvar l (Notify all m at)) s is = seeing_fits w t (Condvar l (Notify all m at)) is tt
+
+went_shaped : (w : State) (t : ℕ) (p : Place) → IsShaped w → place_at w t ≡ p → t < length w.places → IsShaped (state_after_going w t p)
+went_shaped w t p s is lt =
+    let v = state_after_act w t p (act_of p) in
+    put_shaped v t (next_place (place_at v t) (reply_to w t (act_of p))) (performed_shaped w t p (act_of p) s lt (writes w p s (subst (Suits (length w.locks) (kind_at w)) is (suits w s t))))
+    (suits_then w t p (act_of p) (next_place (place_at v t) (reply_to w t (act_of p)))
+    (next_suits (length w.locks) (kind_at w) (place_at v t) (reply_to w t (act_of p)) (performed_suits w t p (act_of p) s t) (reply_fits w t p s is)))
 
 gone_shaped : (w : State) (t : ℕ) → IsShaped w → t < length w.places → IsShaped (state_after_go w t)
-gone_shaped w t s lt = went_shaped w t (place_at w t) s lt
+gone_shaped w t s lt = went_shaped w t (place_at w t) s refl lt
 
 -- where a closure's answer leads
-pub closed_fits : (w : State) (t : ℕ) (succeeded : Bool) → IsShaped w → PlaceFits (length w.locks) (closed_place w t succeeded)
-closed_fits w t succeeded s = next_fits (length w.locks) (place_at w t) (Closed succeeded) (s.places t) tt
-
-pub both : (a b : Bool) → (a && b) ≡ true → (a ≡ true) × (b ≡ true)
-both true b h = (refl, h)
-both false b h = cc
+pub closed_fits : (w : State) (t : ℕ) (succeeded : Bool) → IsShaped w → Suits (length w.locks) (kind_at w) (closed_place w t succeeded)
+closed_fits w t succeeded s = next_suits (length w.locks) (kind_at w) (place_at w t) (Closed succeeded) (suits w s t) tt
 
 begun_shaped : (w : State) (t : ℕ) (c : Call) → IsShaped w → can_begin w t c ≡ true → IsShaped (state_after_begin w t c)
-begun_shaped w t c s can =
-    let open_to = both (is_idle (place_at w t)) (is_open_to w t c) can in
-    let there = both (nat_lt (lock_in c) (length w.locks)) _ open_to.1 in
-    let has = both (has_call (kind_at w (lock_in c)) c) _ there.1 in
-    put_shaped w t (first_place (kind_at w (lock_in c)) c) s (call_fits (length w.locks) (kind_at w (lock_in c)) c has.0 (ltb-true (lock_in c) (length w.locks) there.0))
+begun_shaped w t c s can = put_shaped w t (first_place (kind_at w (lock_in c)) c) s (call_suits w t c (both (is_idle (place_at w t)) (is_open_to w t c) can).1)
 
 -- a thread stands where it looks
 pub looking_shaped : (w : State) (t : ℕ) (q : Place) → IsShaped w → looking (place_at w t) ≡ Some q → IsShaped (put w t q)
-looking_shaped w t q s is = put_shaped w t q s ((look (place_at w t) q is).fits (length w.locks) (s.places t))
+looking_shaped w t q s is = let k = look (place_at w t) q is in put_shaped w t q s (k.fits (length w.locks) (s.places t), k.kind (kind_at w) (s.kinds t))
 
 -- and loads the word of a lock that is there
 pub looks_fit : (w : State) (t : ℕ) (q : Place) → IsShaped w → t < length w.places → looking (place_at w t) ≡ Some q → ActFits (put w t q) (act_of (place_at (put w t q) t))
 looks_fit w t q s lt is = let k = look (place_at w t) q is in
     subst (λ p. ActFits (put w t q) (act_of p)) (sym (get_or-set_same w.places t q Idle lt)) (subst (ActFits (put w t q)) (sym k.loads) (k.there (length w.locks) (s.places t)))
+
+below : (locks l : ℕ) → locks ≤ 256 → l < locks → l < 2 ^ 63
+below locks l few lt = omega arith
+
+-- the keys of a place are numbers
+has_keys : (locks : ℕ) (p : Place) → locks ≤ 256 → PlaceFits locks p → HasKeys p
+has_keys locks Idle few h = tt
+has_keys locks (Mutex l at) few h = below locks l few h.0
+has_keys locks (RwLock l a at) few h = below locks l few h
+has_keys locks (Once l at) few h = below locks l few h
+has_keys locks (Condvar l (Wait m timed at)) few h = (below locks l few h.0, below locks m few h.1)
+has_keys locks (Condvar l (Look all)) few h = (below locks l few h.0, tt)
+has_keys locks (Condvar l (Notify all m at)) few h = (below locks l few h.0, below locks m few h.1)
+
+pub looks_keyed : (w : State) (t : ℕ) (q : Place) → IsShaped w → looking (place_at w t) ≡ Some q → HasKeys (place_at (put w t q) t)
+looks_keyed w t q s is = has_keys (length w.locks) (place_at (put w t q) t) s.few ((looking_shaped w t q s is).places t)
 
 looks_go : (w : State) (t : ℕ) (q : Place) → t < length w.places → looking (place_at w t) ≡ Some q → can_go (put w t q) t ≡ true
 looks_go w t q lt is = ap (λ p. can_do (put w t q) (act_of p)) (get_or-set_same w.places t q Idle lt) ∙ ap (can_do (put w t q)) (look (place_at w t) q is).loads
@@ -567,6 +512,17 @@ lated_shaped w t s = by_place (place_at w t) refl
     locks l entry retries lock.TheVariants.Asleep e = asleep l entry retries e (is_timed entry) refl
     locks l entry retries at e = s
 
+    waits : (l : ℕ) (at : CondvarPlace) → place_at w t ≡ Condvar l at → IsShaped (state_after_late_on w t (late_key (Condvar l at)))
+    waits l (Wait m true (wait.Asleep st)) e = by_key (late_key (Condvar l (Wait m true (wait.Asleep st))))
+      where
+        by_key : (o : Option ℕ) → IsShaped (state_after_late_on w t o)
+        by_key None = s
+        by_key (Some key) = befallen_shaped (state_with_sections w (One key) (Some t)) t Late (filled_shaped w (One key) (Some t) s) (rw e refl)
+    waits l (Wait m false (wait.Asleep st)) e = s
+    waits l (Wait m timed at) e = s
+    waits l (Look all) e = s
+    waits l (Notify all m at) e = s
+
     by_place : (p : Place) → place_at w t ≡ p → IsShaped (state_after_late_on w t (late_key p))
     by_place Idle e = s
     by_place (Mutex l (Lock entry retries at)) e = locks l entry retries at e
@@ -585,7 +541,7 @@ lated_shaped w t s = by_place (place_at w t) refl
         by_line : (m : Option Line) → IsShaped (state_after_late_on w t (key_in (Some l) m))
         by_line None = s
         by_line (Some m) = befallen_shaped (state_with_sections w (One (key_of l m)) (Some t)) t Late (filled_shaped w (One (key_of l m)) (Some t) s) (rw e tt)
-    by_place (Condvar l at) e = absurd (subst (PlaceFits (length w.locks)) e (s.places t))
+    by_place (Condvar l at) e = waits l at e
 
 -- the thread stands behind its closure, and goes on from there
 closing_can : (w : State) (t : ℕ) (succeeded : Bool) → runs_closure (act_of (place_at w t)) ≡ true → can_close w t succeeded ≡ true
@@ -632,14 +588,16 @@ opening_shaped kinds threads few = record {
   few = rw (length-map kinds unlocked) few;
   sections = rw (length-replicate {A = Option ℕ} (2 * length kinds) None, length-map kinds unlocked) refl;
   queues = rw (length-replicate {A = List Waiter} (2 * length kinds) [], length-replicate {A = Option ℕ} (2 * length kinds) None) refl;
-  places = λ t. idle_fits threads t;
+  places = λ t. rw (idle_at threads t) tt;
+  kinds = λ t. rw (idle_at threads t) tt;
+  shown = λ l of. inl (unlocked_word kinds l);
   waiting = λ key. nobody_below (2 * length kinds) key;
 }
   where
-    idle_fits : (n t : ℕ) → PlaceFits (length (map unlocked kinds)) (get_or (replicate n Idle) t Idle)
-    idle_fits zero t = tt
-    idle_fits (suc n) zero = tt
-    idle_fits (suc n) (suc t) = idle_fits n t
+    unlocked_word : (ks : List Kind) (l : ℕ) → (get_or (map unlocked ks) l (unlocked kind.Mutex)).word ≡ 0
+    unlocked_word [] l = refl
+    unlocked_word (k ∷ ks) zero = refl
+    unlocked_word (k ∷ ks) (suc l) = unlocked_word ks l
 
     nobody_below : (n key : ℕ) → AllBelow (length (replicate threads Idle)) (get_or (replicate n []) key [])
     nobody_below zero key = tt

@@ -1,15 +1,21 @@
 -- What a state is made of: the numbers in it name threads, locks and keys that are there.
-use Rattle.std.specs.Prelude.{ℕ, Bool, true, false, ◌≡◌, ◌≢◌, ◌<◌, ◌≤◌, ◌*◌, List, [], ◌∷◌, length}
+use Rattle.std.specs.Prelude.{ℕ, Bool, true, false, Option, Some, None, ◌||◌, ◌≡◌, ◌≢◌, ◌<◌, ◌≤◌, ◌*◌, ◌⊎◌, List, [], ◌∷◌, length}
 use Rattle.lot_base.specs.declared.keys.Keys.{Keys}
 use Rattle.lot_base.specs.declared.keys.Keys.TheVariants.{One, Two}
 use Rattle.lot_base.specs.declared.wants.Waiter.{Waiter}
+use Rattle.lot_calls.specs.declared.kinds.Kind.{Kind}
+use Rattle.lot_calls.specs.declared.kinds.Kind.TheVariants as kind
+use Rattle.lot_calls.specs.Kinds.{is_condvar, is_fair, is_plain_mutex}
 use Rattle.lot_acts.specs.declared.acts.Act.{Act}
 use Rattle.lot_acts.specs.declared.acts.Act.TheVariants.{Word, HandOver, Enter, Park, Stand, Take, Requeue, Remove, Leave}
 use Rattle.lot_steps.specs.declared.places.Place.{Place}
 use Rattle.lot_steps.specs.declared.places.Place.TheVariants.{Idle, Mutex, RwLock, Once, Condvar}
 use Rattle.lot_mutex.specs.declared.places.MutexPlace.{MutexPlace}
 use Rattle.lot_mutex.specs.MutexProfiles.{mutex_profile}
-use Rattle.lot_machine.specs.Machine.{State, place_at, queue_at}
+use Rattle.lot_condvar.specs.declared.places.CondvarPlace.{CondvarPlace}
+use Rattle.lot_condvar.specs.CondvarProfiles.{has_deadline, is_late}
+use Rattle.lot_condvar.specs.CondvarSteps.{mutex_beside, mutex_shown}
+use Rattle.lot_machine.specs.Machine.{State, kind_at, place_at, queue_at, word_at}
 
 abbrev pub KeysFit : ℕ → Keys → Type 0
 KeysFit n (One key) = key < n
@@ -35,13 +41,51 @@ Implies false b = Unit {0}
 abbrev pub GivesUpTimed : MutexPlace → Type 0
 GivesUpTimed at = Implies (mutex_profile at).late (mutex_profile at).timed
 
--- no call of a condition variable begins here
+-- only a timed wait gives up, or tells that its time was up
+abbrev pub IsTimely : CondvarPlace → Type 0
+IsTimely at = Implies (is_late at) (has_deadline at)
+
+-- a lock that is named is there
+abbrev pub IsThere : ℕ → Option ℕ → Type 0
+IsThere locks None = Unit {0}
+IsThere locks (Some m) = m < locks
+
+-- a call is of a lock that is there, and the mutex beside a condition variable is there too
 abbrev pub PlaceFits : ℕ → Place → Type 0
 PlaceFits locks Idle = Unit {0}
 PlaceFits locks (Mutex lock at) = (lock < locks) × GivesUpTimed at
 PlaceFits locks (RwLock lock a at) = lock < locks
 PlaceFits locks (Once lock at) = lock < locks
-PlaceFits locks (Condvar lock at) = ⊥
+PlaceFits locks (Condvar lock at) = (lock < locks) × IsThere locks (mutex_beside at) × IsTimely at
+
+-- whether it is a reader-writer lock
+abbrev pub is_rwlock : Kind → Bool
+is_rwlock (kind.RwLock limit) = true
+is_rwlock (kind.Recursive limit) = true
+is_rwlock k = false
+
+-- whether it is a `Once`
+abbrev pub is_once : Kind → Bool
+is_once kind.Once = true
+is_once k = false
+
+-- a condition variable works with plain mutexes
+abbrev pub IsPlain : (ℕ → Kind) → Option ℕ → Type 0
+IsPlain kinds None = Unit {0}
+IsPlain kinds (Some m) = is_plain_mutex (kinds m) ≡ true
+
+-- a call is of a lock of its own kind
+abbrev pub IsOfItsKind : (ℕ → Kind) → Place → Type 0
+IsOfItsKind kinds Idle = Unit {0}
+IsOfItsKind kinds (Mutex lock at) = (is_plain_mutex (kinds lock) || is_fair (kinds lock)) ≡ true
+IsOfItsKind kinds (RwLock lock a at) = is_rwlock (kinds lock) ≡ true
+IsOfItsKind kinds (Once lock at) = is_once (kinds lock) ≡ true
+IsOfItsKind kinds (Condvar lock at) = (is_condvar (kinds lock) ≡ true) × IsPlain kinds (mutex_beside at)
+
+-- the word of a condition variable is 0, or shows a plain mutex that is there
+abbrev pub Shows : ℕ → (ℕ → Kind) → ℕ → Type 0
+Shows locks kinds word =
+    (word ≡ 0) ⊎ ((mutex_shown word < locks) × (is_plain_mutex (kinds (mutex_shown word)) ≡ true))
 
 -- each waiter is a thread that is there
 abbrev pub AllBelow : ℕ → List Waiter → Type 0
@@ -53,6 +97,8 @@ pub record IsShaped (w : State) : Type 0 where
   pub sections : length w.sections ≡ 2 * length w.locks
   pub queues : length w.queues ≡ length w.sections
   pub places : (t : ℕ) → PlaceFits (length w.locks) (place_at w t)
+  pub kinds : (t : ℕ) → IsOfItsKind (kind_at w) (place_at w t)
+  pub shown : (l : ℕ) → is_condvar (kind_at w l) ≡ true → Shows (length w.locks) (kind_at w) (word_at w l)
   pub waiting : (key : ℕ) → AllBelow (length w.places) (queue_at w key)
 
 -- the same numbers of threads and of locks

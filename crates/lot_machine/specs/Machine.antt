@@ -390,7 +390,8 @@ go_reply w t = reply_to w t (act_of (place_at w t))
 
 -- the act of a thread that is at a place may befall the thread too, and it goes on from where that has left it
 abbrev pub state_after_going : State → ℕ → Place → State
-state_after_going w t p = let v = state_after_act w t p (act_of p) in put v t (next_place (place_at v t) (reply_to w t (act_of p)))
+state_after_going w t p =
+    let v = state_after_act w t p (act_of p) in put v t (next_place (place_at v t) (reply_to w t (act_of p)))
 
 abbrev pub going_outcome : State → ℕ → Place → Outcome
 going_outcome w t p = outcome_of (next_act (place_at (state_after_act w t p (act_of p)) t) (reply_to w t (act_of p)))
