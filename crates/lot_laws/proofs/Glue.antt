@@ -203,6 +203,19 @@ abbrev pub IsSingle : Place → Type 0
 IsSingle (Condvar k at) = ⊥
 IsSingle p = Unit {0}
 
+-- or of two
+pub record IsOfTwo (p : Place) : Type 0 where
+  pub lock : ℕ
+  pub at : CondvarPlace
+  pub is : p ≡ Condvar lock at
+
+pub single_or_two : (p : Place) → IsSingle p ⊎ IsOfTwo p
+single_or_two Idle = inl tt
+single_or_two (Mutex k at) = inl tt
+single_or_two (RwLock k a at) = inl tt
+single_or_two (Once k at) = inl tt
+single_or_two (Condvar k at) = inr (record { lock = k; at = at; is = refl })
+
 pub fits_single : (w : State) (p : Place) → FitsItsLock w p → IsSingle p
 fits_single w Idle fits = tt
 fits_single w (Mutex k at) fits = tt

@@ -108,6 +108,7 @@ pub mod WorldRuns
 pub mod RowLaws
 pub mod RunsKept
 pub mod WaitersAside
+pub mod CondvarPromises
 pub mod CondvarRows
 pub mod CondvarsKept
 pub mod CondvarLed

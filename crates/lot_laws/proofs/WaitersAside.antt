@@ -43,7 +43,7 @@ pub record IsAside (m : ℕ) (at : WaitAt) : Type 0 where
   pub retries : (wait_row m at).doing.retries ≡ None
 
 -- who stands in the queue of the condition variable has nothing at the mutex yet
-aside : (m : ℕ) (timed : Bool) (at : WaitAt) → IsReached (Wait m timed at) → (wait_row m at).listed ≡ true → IsAside m at
+pub aside : (m : ℕ) (timed : Bool) (at : WaitAt) → IsReached (Wait m timed at) → (wait_row m at).listed ≡ true → IsAside m at
 aside m timed wait.Leave reached listed = record { moved = refl; hand = refl; retries = refl }
 aside m timed wait.Remove reached listed = record { moved = refl; hand = refl; retries = refl }
 aside m timed (wait.Asleep stands.Listed) reached listed = record { moved = refl; hand = refl; retries = refl }
@@ -58,7 +58,7 @@ aside m timed (wait.Release s at) reached listed = absurd cc
 aside m timed at reached listed = absurd cc
 
 -- who notifies stands nowhere
-unlisted : (all : Bool) (m : ℕ) (at : NotifyAt) → (notify_row all m at).listed ≡ false
+pub unlisted : (all : Bool) (m : ℕ) (at : NotifyAt) → (notify_row all m at).listed ≡ false
 unlisted all m notify.Enter = refl
 unlisted all m notify.Again = refl
 unlisted all m notify.Hide = refl
