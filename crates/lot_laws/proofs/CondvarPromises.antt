@@ -1,7 +1,7 @@
 -- What is promised of a thread in a call of a condition variable, by its rows at both its locks.
-use Rattle.std.proofs.Common.{ℕ, Bool, true, false, Option, Some, None, if◌then◌else◌, ◌==◌, ◌&&◌, ◌||◌, not, ◌≡◌, ◌≢◌, ◌⊎◌, ◌↔◌, inl, inr, refl, sym, ◌∙◌, ap, subst}
-use Rattle.std.proofs.lemmas.Bool.{cases_eq, eqb-true}
-use Rattle.lot_acts.specs.Profiles.{Profile, Hand, in_line, taken_from}
+use Rattle.std.proofs.Common.{ℕ, Bool, true, false, Some, None, if◌then◌else◌, ◌==◌, ◌&&◌, ◌||◌, not, ◌≡◌, ◌≢◌, ◌⊎◌, ◌↔◌, inl, inr, refl, sym, ◌∙◌, ap, subst}
+use Rattle.std.proofs.lemmas.Bool.{eqb-true}
+use Rattle.lot_acts.specs.Profiles.{in_line, taken_from}
 use Rattle.lot_steps.specs.declared.places.Place.{Place}
 use Rattle.lot_steps.specs.declared.places.Place.TheVariants.{Condvar}
 use Rattle.lot_steps.specs.Steps.{is_lock, line_owed, or_else, retries_on}
@@ -10,20 +10,60 @@ use Rattle.lot_condvar.specs.declared.places.CondvarPlace.{CondvarPlace}
 use Rattle.lot_condvar.specs.declared.places.CondvarPlace.TheVariants.{Wait, Look, Notify}
 use Rattle.lot_condvar.specs.declared.wait.WaitAt.{WaitAt}
 use Rattle.lot_condvar.specs.CondvarSteps.{mutex_beside}
-use Rattle.lot_condvar.specs.CondvarProfiles.{condvar_profile, condvar_row, condvar_purpose, mutex_side, notify_row, wait_row}
-use Rattle.abstract_locks.specs.Locks.{Rights, Rules, Taken}
-use Rattle.abstract_locks.specs.Locks as locks
+use Rattle.lot_condvar.specs.CondvarCalls.{IsReached}
+use Rattle.lot_condvar.specs.declared.notify.NotifyAt.TheVariants as notify
+use Rattle.lot_condvar.specs.declared.wait.Stands.TheVariants as stands
+use Rattle.lot_condvar.specs.declared.wait.WaitAt.TheVariants as wait
+use Rattle.lot_mutex.specs.declared.places.MutexPlace.TheVariants as mutex
+use Rattle.lot_mutex.specs.declared.unlock.UnlockAt.TheVariants as unlock
+use Rattle.lot_condvar.specs.CondvarProfiles.{condvar_row, condvar_purpose, mutex_side, notify_row, wait_row}
+use Rattle.abstract_locks.specs.Locks.{Rights, Rules}
 use Rattle.abstract_locks.specs.Purposes.{MayWait}
-use Rattle.abstract_locks.specs.Sites.{Line, Main, Second}
+use Rattle.abstract_locks.specs.Sites.{Main, Second}
 use Rattle.lot_machine.specs.Machine.{State, kind_at}
 use Rattle.lot_laws.specs.Refinement.{call_state, taken_at}
-use Rattle.lot_laws.specs.Stations.{Station, nowhere, station, station_at, station_by}
+use Rattle.lot_laws.specs.Stations.{nowhere, station, station_at, station_by}
 use Rattle.lot_laws.specs.SitesOf.{FitsItsLock}
 use Rattle.lot_laws.specs.Owing.{sort_at}
 use Rattle.lot_laws.specs.Promises.{KnowsRights}
 use Rattle.lot_laws.proofs.Glue.{condvar_apart, differ, plain_rules, same}
 use Rattle.lot_laws.proofs.Waiters.{notifier_stands}
-use Rattle.lot_laws.proofs.WaitersAside.{IsAside, aside, unlisted}
+
+-- ---------------------------------------------------------------- rows
+
+pub record IsAside (m : ℕ) (at : WaitAt) : Type 0 where
+  pub moved : (wait_row m at).moved ≡ false
+  pub hand : (wait_row m at).hand ≡ None
+  pub retries : (wait_row m at).doing.retries ≡ None
+
+-- who stands in the queue of the condition variable has nothing at the mutex yet
+pub aside : (m : ℕ) (timed : Bool) (at : WaitAt) → IsReached (Wait m timed at) → (wait_row m at).listed ≡ true → IsAside m at
+aside m timed wait.Leave reached listed = record { moved = refl; hand = refl; retries = refl }
+aside m timed wait.Remove reached listed = record { moved = refl; hand = refl; retries = refl }
+aside m timed (wait.Asleep stands.Listed) reached listed = record { moved = refl; hand = refl; retries = refl }
+aside m timed (wait.Asleep s) reached listed = absurd cc
+aside m timed (wait.Release stands.Listed (mutex.Unlock unlock.Subtract)) reached listed = record { moved = refl; hand = refl; retries = refl }
+aside m timed (wait.Release stands.Listed (mutex.Unlock unlock.Enter)) reached listed = record { moved = refl; hand = refl; retries = refl }
+aside m timed (wait.Release stands.Listed (mutex.Unlock unlock.Take)) reached listed = record { moved = refl; hand = refl; retries = refl }
+aside m timed (wait.Release stands.Listed (mutex.Unlock (unlock.Clear any))) reached listed = record { moved = refl; hand = refl; retries = refl }
+aside m timed (wait.Release stands.Listed (mutex.Unlock (unlock.Leave any))) reached listed = record { moved = refl; hand = refl; retries = refl }
+aside m timed (wait.Release stands.Listed at) reached listed = absurd reached.0
+aside m timed (wait.Release s at) reached listed = absurd cc
+aside m timed at reached listed = absurd cc
+
+-- who notifies stands nowhere
+pub unlisted : (all : Bool) (m : ℕ) (at : NotifyAt) → (notify_row all m at).listed ≡ false
+unlisted all m notify.Enter = refl
+unlisted all m notify.Again = refl
+unlisted all m notify.Hide = refl
+unlisted all m notify.Mark = refl
+unlisted all m (notify.Set seen) = refl
+unlisted all m (notify.Move locked) = refl
+unlisted all m (notify.Clear any) = refl
+unlisted all m (notify.MarkMoved number) = refl
+unlisted all m (notify.Leave any number) = refl
+
+-- ---------------------------------------------------------------- at each of its locks
 
 -- it stands in a line of the lock, or was taken from one
 abbrev pub StandsAt : Place → ℕ → Type 0
@@ -120,6 +160,12 @@ module _ (k : ℕ) where
       by_lock true = refl
       by_lock false = refl
   two_wait (Look all) l (inr taken) = absurd (taken refl)
+
+-- what its call is for
+pub two_purpose : (k : ℕ) (at : CondvarPlace) (r : ℕ → Rights) → (call_state (Condvar k at) r).purpose ≡ Some (condvar_purpose at k)
+two_purpose k (Wait m timed at) r = refl
+two_purpose k (Notify all m at) r = refl
+two_purpose k (Look all) r = refl
 
 -- and its call is for rights that both locks know
 pub two_know : (w : State) (k : ℕ) (at : CondvarPlace) → FitsItsLock w (Condvar k at) → KnowsRights (sort_at w) (Some (condvar_purpose at k))

@@ -364,11 +364,11 @@ module _ (w : State) (t l : ℕ) (shape : IsShaped w) (steady : IsSteady w) (cou
       by_place (Condvar k at) is fits can gives = absurd (subst IsSingle is (singles w steady t))
       by_place (Mutex k at) is fits can gives = absurd (
           let fits_k : is_mutex (kind_at w k) ≡ true = subst (FitsItsLock w) is (steady.stands.calls t) in
-          let here : k ≡ l = sym (subst (λ p. lock_for ((profile p).purpose k) ≡ k) is (row_promises w t steady k (ap lock_of is)).own) ∙ gives.0 in
+          let here : k ≡ l = sym (subst (λ p. lock_for ((profile p).purpose k) ≡ k) is (row_promises w t steady k (singles w steady t) (ap lock_of is)).own) ∙ gives.0 in
           let none : has_readers (rules_in w l).sort ≡ false = ap (λ (r : Rules). has_readers r.sort) (subst (λ j. rules_of (kind_at w j) ≡ mutex) here (mutex_rules (kind_at w k) fits_k)) in
           let f : false ≡ true = sym none ∙ readers in cc)
       by_place (RwLock k a c) is fits can gives =
-          let here : k ≡ l = sym (subst (λ p. lock_for ((profile p).purpose k) ≡ k) is (row_promises w t steady k (ap lock_of is)).own) ∙ gives.0 in
+          let here : k ≡ l = sym (subst (λ p. lock_for ((profile p).purpose k) ≡ k) is (row_promises w t steady k (singles w steady t) (ap lock_of is)).own) ∙ gives.0 in
           at_lock k here a c is fits can gives.1
         where
           at_lock : (k : ℕ) → k ≡ l → (a : Admission) (c : RwLockCallPlace) → place_at w t ≡ RwLock k a c → k < length w.locks → can_do w (call_act k a c) ≡ true → IsToGive ((call_profile a c).purpose k) (call_profile a c).released x
@@ -438,7 +438,7 @@ is_fair w s shape steady counted = record {
     step = after_step w s shape steady counted
 
     one : CallsOneLock (call_at w s.thread).purpose
-    one = calls_one_lock w s.thread steady
+    one = calls_one_lock w s.thread steady (singles w steady s.thread)
 
     coded : (t l : ℕ) → ReleasesFairly w t l → IsMutexWord (word_at (after w s) l) (owner_at (after w s) l)
     coded t l h = words_coded (after w s) (after_steady w s shape steady counted) l

@@ -61,6 +61,7 @@ pub mod RowPromises
 pub mod MutexRows
 pub mod RwLockRows
 pub mod CallRows
+pub mod CondvarPromises
 pub mod PlacePromises
 pub mod AtPlaces
 pub mod ExclusiveOwners
@@ -108,7 +109,6 @@ pub mod WorldRuns
 pub mod RowLaws
 pub mod RunsKept
 pub mod WaitersAside
-pub mod CondvarPromises
 pub mod CondvarRows
 pub mod CondvarsKept
 pub mod CondvarLed

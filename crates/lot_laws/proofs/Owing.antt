@@ -79,23 +79,23 @@ lets_own w t l steady lets = by_lock (lock_of (place_at w t)) refl
 
     by_lock : (o : Option ℕ) → lock_of (place_at w t) ≡ o → o ≡ Some l
     by_lock None e = absurd (idle_shut w t l e lets)
-    by_lock (Some k) e = ap Some (by_row k (profile (place_at w t)) (rights_at w t) (row_promises w t steady k e).own (row_calls_one w t steady k e) (subst (LetsBy w t l) (call_own w t steady k e) lets))
+    by_lock (Some k) e = ap Some (by_row k (profile (place_at w t)) (rights_at w t) (row_promises w t steady k (singles w steady t) e).own (row_calls_one w t steady k (singles w steady t) e) (subst (LetsBy w t l) (call_own w t steady k (singles w steady t) e) lets))
 
 module _ (w v : State) (t : ℕ) (steady : IsSteady w) (behind : IsSteady v) where
   -- what it sees, by its row
   sees_row : (l : ℕ) (m : Line) (o : Outcome) (own : lock_of (place_at w t) ≡ Some l) → SeesWaiters w t l m o v → RowFinds (sort_at w l) l (word_at w l) (profile (place_at w t)) m
   sees_row l m o own s = (
-    lets_in w t steady l own s.0,
-    ap (λ (c : CallState). line_let_in (sort_at w l) c.purpose) (sym (call_own w t steady l own)) ∙ s.1,
-    ap (λ (c : CallState). tells_by (sort_at w l) c.purpose m (word_at w l)) (sym (call_own w t steady l own)) ∙ s.2,
+    lets_in w t steady l (singles w steady t) own s.0,
+    ap (λ (c : CallState). line_let_in (sort_at w l) c.purpose) (sym (call_own w t steady l (singles w steady t) own)) ∙ s.1,
+    ap (λ (c : CallState). tells_by (sort_at w l) c.purpose m (word_at w l)) (sym (call_own w t steady l (singles w steady t) own)) ∙ s.2,
   )
 
   row_sees : (l : ℕ) (m : Line) (o : Outcome) (own : lock_of (place_at w t) ≡ Some l) → RowFinds (sort_at w l) l (word_at w l) (profile (place_at w t)) m → o ≡ outcome.TheVariants.Step
       → act_of (place_at v t) ≡ Enter (One (key_of l m)) → SeesWaiters w t l m o v
   row_sees l m o own s step enters = (
-    lets_out w t steady l own s.0,
-    ap (λ (c : CallState). line_let_in (sort_at w l) c.purpose) (call_own w t steady l own) ∙ s.1,
-    ap (λ (c : CallState). tells_by (sort_at w l) c.purpose m (word_at w l)) (call_own w t steady l own) ∙ s.2,
+    lets_out w t steady l (singles w steady t) own s.0,
+    ap (λ (c : CallState). line_let_in (sort_at w l) c.purpose) (call_own w t steady l (singles w steady t) own) ∙ s.1,
+    ap (λ (c : CallState). tells_by (sort_at w l) c.purpose m (word_at w l)) (call_own w t steady l (singles w steady t) own) ∙ s.2,
     step,
     λ looks. enters,
   )
@@ -106,7 +106,7 @@ module _ (w v : State) (t : ℕ) (steady : IsSteady w) (behind : IsSteady v) whe
     inside_then i = (owing_is v t behind l m).1 (inl i)
 
     within_then : Owes v t l m → (profile q).doing.inside ≡ Some m → IsInside v t l m
-    within_then h i = let own = owes_own (place_at v t) l m (singles v behind t) h in (inside_own v t behind l own m).0 (ap (λ p. (profile p).doing.inside) at_q ∙ i)
+    within_then h i = let own = owes_own (place_at v t) l m (singles v behind t) h in (inside_own v t behind l (singles v behind t) own m).0 (ap (λ p. (profile p).doing.inside) at_q ∙ i)
 
     row_then : Owes v t l m → (profile q).owes ≡ Some m
     row_then h = ap (λ p. (profile p).owes) (sym at_q) ∙ sym (owed_own (place_at v t) l (owes_own (place_at v t) l m (singles v behind t) h) (singles v behind t)) ∙ h
@@ -154,7 +154,7 @@ module _ (w v : State) (t : ℕ) (steady : IsSteady w) (behind : IsSteady v) whe
           looks_then own None e looks = absurd (subst (λ p. RowLooks l (profile p)) (calls_none q e) looks).0
           looks_then own (Some j) e looks =
               let own_then : lock_of (place_at v t) ≡ Some l = ap lock_of at_q ∙ e ∙ ap Some (same_lock j e own) in
-              subst (λ (c : CallState). LooksFirst c.purpose l × (c.released ≡ false)) (sym (call_own v t behind l own_then)) (subst (λ p. RowLooks l (profile p)) (sym at_q) looks)
+              subst (λ (c : CallState). LooksFirst c.purpose l × (c.released ≡ false)) (sym (call_own v t behind l (singles v behind t) own_then)) (subst (λ p. RowLooks l (profile p)) (sym at_q) looks)
 
   -- it owes nothing but what it is inside, and lets nobody in
   quiet_owes : (q : Place) → place_at v t ≡ q → ((m : Line) → (profile q).owes ≡ Some m → (profile q).doing.inside ≡ Some m) → ((l : ℕ) → LetsOthersIn w t l → ⊥)
@@ -184,7 +184,7 @@ module _ (w : State) (t : ℕ) (shape : IsShaped w) (steady : IsSteady w) (there
       let after = late_next (place_at w t) n (singles w steady t) of.2.1 in
       quiet_owes w (state_after_late_on w t (Some key)) t steady behind (next_place (place_at w t) Late) (get_or-set_same w.places t (next_place (place_at w t) Late) Idle there)
       (λ m h. after.inside ∙ sym after.owes ∙ h)
-      (λ l lets. let own = lets_own w t l steady lets in ((row_promises w t steady l own).late n of.2.1).shut (lets_in w t steady l own lets))
+      (λ l lets. let own = lets_own w t l steady lets in ((row_promises w t steady l (singles w steady t) own).late n of.2.1).shut (lets_in w t steady l (singles w steady t) own lets))
 
   -- it looks at the word once more, and is in its call as before
   spun_owing : (o : Option Place) → looking (place_at w t) ≡ o → is_some o ≡ true → IsSteady (state_after_look w t o) → (l : ℕ) (m : Line)

@@ -116,7 +116,7 @@ acting_of : (w : State) (t : ℕ) → IsSteady w → (call_state (place_at w t) 
 acting_of w t steady called = by_lock (lock_of (place_at w t)) refl
   where
     by_lock : (o : Option ℕ) → lock_of (place_at w t) ≡ o → is_acting (act_of (place_at w t)) ≡ true
-    by_lock (Some l) e = (row_promises w t steady l e).acts
+    by_lock (Some l) e = (row_promises w t steady l (singles w steady t) e).acts
     by_lock None e = absurd (called (ap (λ (c : CallState). c.purpose) (call_none (place_at w t) e (rights w t))))
 
 pub may_go : (w : State) (t : ℕ) → can_go w t ≡ true → MayGo (locks_of w) t
@@ -151,10 +151,10 @@ module _ (w : State) (t : ℕ) (steady : IsSteady w) where
   late_there None e can = absurd cc
   late_there (Some key) e can =
       let of = late_line (place_at w t) key (singles w steady t) e in
-      let row = (row_promises w t steady of.0 of.1).late of.2.0 of.2.1 in
+      let row = (row_promises w t steady of.0 (singles w steady t) of.1).late of.2.0 of.2.1 in
       record {
         lock = of.0;
-        timed = subst (λ (c : CallState). IsTimed c.purpose c.recalls of.0) (sym (call_own w t steady of.0 of.1)) row.timed;
+        timed = subst (λ (c : CallState). IsTimed c.purpose c.recalls of.0) (sym (call_own w t steady of.0 (singles w steady t) of.1)) row.timed;
         asleep = ap sleeps row.asleep;
         stands = stands_freely of.0 of.2.0 (ap (λ (x : Station). x.stands) (station_own (place_at w t) of.0 of.1) ∙ row.stands) (none_is (section_at w (key_of of.0 of.2.0)) (subst (λ k. is_none (section_at w k) ≡ true) of.2.2 can));
       }
@@ -167,8 +167,8 @@ module _ (w : State) (t : ℕ) (steady : IsSteady w) where
       let stood = stands_free may.lock may.stands in
       let own = station_calls (place_at w t) may.lock (singles w steady t) (λ out. let e : ◌≡◌ {A = Option Line} None (Some stood.0) = sym (ap (λ (x : Station). x.stands) out) ∙ stood.1 in cc) in
       let stands : (profile (place_at w t)).stands ≡ Some stood.0 = sym (ap (λ (x : Station). x.stands) (station_own (place_at w t) may.lock own)) ∙ stood.1 in
-      let timed : IsTimed (Some ((profile (place_at w t)).purpose may.lock)) (profile (place_at w t)).recalls may.lock = subst (λ (c : CallState). IsTimed c.purpose c.recalls may.lock) (call_own w t steady may.lock own) may.timed in
-      let row : (profile (place_at w t)).late_line ≡ Some stood.0 = (row_promises w t steady may.lock own).may_be_late stood.0 stands (sleeps_is (act_of (place_at w t)) may.asleep) timed in
+      let timed : IsTimed (Some ((profile (place_at w t)).purpose may.lock)) (profile (place_at w t)).recalls may.lock = subst (λ (c : CallState). IsTimed c.purpose c.recalls may.lock) (call_own w t steady may.lock (singles w steady t) own) may.timed in
+      let row : (profile (place_at w t)).late_line ≡ Some stood.0 = (row_promises w t steady may.lock (singles w steady t) own).may_be_late stood.0 stands (sleeps_is (act_of (place_at w t)) may.asleep) timed in
       ap (is_free_under w) (single_late (place_at w t) (singles w steady t) ∙ (λ i. key_in (own i) (row i))) ∙ stood.2
 
 -- ---------------------------------------------------------------- what a thread is told

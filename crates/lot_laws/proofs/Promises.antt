@@ -30,6 +30,13 @@ use Rattle.lot_laws.proofs.SitesPromise.{not_empty}
 use Rattle.lot_laws.proofs.RowPromises.{IsDebtorIn, HasClaimed, HasDebt, WasHanded, RowLooksAfter}
 use Rattle.lot_laws.proofs.PlacePromises.{row_promises, station_own, doing_own, owed_own, owes_own, calls_one_lock, doing_calls, station_calls, stands_waiting, waiting_stands, call_own, inside_own, owing_is}
 use Rattle.lot_laws.proofs.SingleCalls.{call_none, single_call}
+use Rattle.lot_condvar.specs.declared.places.CondvarPlace.{CondvarPlace}
+use Rattle.lot_steps.specs.Steps.{line_owed}
+use Rattle.lot_laws.specs.Refinement.{call_state}
+use Rattle.lot_laws.specs.SitesOf.{FitsItsLock}
+use Rattle.lot_laws.proofs.CondvarPromises.{StandsAt, two_know, two_one, two_owe_main, two_purpose, two_retry, two_wait}
+use Rattle.lot_laws.proofs.Glue.{single_or_two}
+use Rattle.lot_laws.proofs.PlacePromises.{stands_there}
 use Rattle.lot_laws.proofs.Glue.{same, calls_none, single_retries, singles, single_taker, IsSingle}
 use Rattle.lot_machine.proofs.Opening.{idle_at, none_at, empty_at, nobody_owns, opening_shares}
 use Rattle.std.proofs.lemmas.Bool.{cases_lt, eqb-true}
@@ -100,26 +107,48 @@ within r s shared h = by_sort r.sort refl shared
     by_sort sort e f = absurd (grind arith)
 
 module _ (w : State) (steady : IsSteady w) where
+  -- in a call of one lock, or of two
+  by_call : (t : ℕ) (T : Place → Type 0) → (IsSingle (place_at w t) → T (place_at w t)) → ((k : ℕ) (at : CondvarPlace) → place_at w t ≡ Condvar k at → FitsItsLock w (Condvar k at) → T (Condvar k at)) → T (place_at w t)
+  by_call t T one both = elim (single_or_two (place_at w t)) [
+    | inl single ↦ one single
+    | inr two ↦ subst T (sym two.is) (both two.lock two.at two.is (subst (FitsItsLock w) two.is (steady.stands.calls t)))
+  ]
+
+  abbrev rights_now : ℕ → ℕ → Rights
+  rights_now t k = rights_of (lock_state w k) t
+
   waits : (t l : ℕ) → 1 ≤ standing t (lock_state w l) → MayWait (call_at w t).purpose l
-  waits t l h =
-      let at_lock = stands_waiting w t steady l h in
-      subst (λ (c : CallState). MayWait c.purpose l) (sym (call_own w t steady l at_lock.0)) ((row_promises w t steady l at_lock.0).waits at_lock.1)
+  waits t l h = by_call t (λ p. MayWait (call_state p (rights_now t)).purpose l)
+      (λ single. let at_lock = stands_waiting w t steady l single h in
+      subst (λ (c : CallState). MayWait c.purpose l) (sym (call_own w t steady l single at_lock.0)) ((row_promises w t steady l single at_lock.0).waits at_lock.1))
+      (λ k at is fits. subst (λ q. MayWait q l) (sym (two_purpose k at (rights_now t))) (two_wait k at l (subst (λ p. StandsAt p l) is (stands_there w t steady l h))))
 
   known : (t : ℕ) → KnowsRights (sort_at w) (call_at w t).purpose
-  known t = by_lock (lock_of (place_at w t)) refl
+  known t = by_call t (λ p. KnowsRights (sort_at w) (call_state p (rights_now t)).purpose)
+      (λ single. by_lock single (lock_of (place_at w t)) refl)
+      (λ k at is fits. subst (KnowsRights (sort_at w)) (sym (two_purpose k at (rights_now t))) (two_know w k at fits))
     where
-      by_lock : (o : Option ℕ) → lock_of (place_at w t) ≡ o → KnowsRights (sort_at w) (call_at w t).purpose
-      by_lock None e = subst (λ (c : CallState). KnowsRights (sort_at w) c.purpose) (sym (call_none (place_at w t) e (λ k. rights_of (lock_state w k) t))) tt
-      by_lock (Some l) e = subst (λ (c : CallState). KnowsRights (sort_at w) c.purpose) (sym (call_own w t steady l e)) ((row_promises w t steady l e).known (sort_at w) refl)
+      by_lock : IsSingle (place_at w t) → (o : Option ℕ) → lock_of (place_at w t) ≡ o → KnowsRights (sort_at w) (call_at w t).purpose
+      by_lock single None e = subst (λ (c : CallState). KnowsRights (sort_at w) c.purpose) (sym (call_none (place_at w t) e (λ k. rights_of (lock_state w k) t))) tt
+      by_lock single (Some l) e = subst (λ (c : CallState). KnowsRights (sort_at w) c.purpose) (sym (call_own w t steady l single e)) ((row_promises w t steady l single e).known (sort_at w) refl)
 
   retrying : (t l : ℕ) → (retries_on (place_at w t) l ≡ true) ↔ ((call_at w t).retries ≡ Some l)
-  retrying t l = subst (λ b. (b ≡ true) ↔ ((call_at w t).retries ≡ Some l)) (sym (single_retries (place_at w t) l (singles w steady t)))
-      (subst (λ (c : CallState). ((profile (place_at w t)).retries && calls (place_at w t) l ≡ true) ↔ (c.retries ≡ Some l)) (sym (single_call (place_at w t) (singles w steady t) (λ k. rights_of (lock_state w k) t))) (retry_shown (lock_of (place_at w t)) (profile (place_at w t)) (λ k. rights_of (lock_state w k) t) l))
+  retrying t l = by_call t (λ p. (retries_on p l ≡ true) ↔ ((call_state p (rights_now t)).retries ≡ Some l))
+      (λ single. subst (λ b. (b ≡ true) ↔ ((call_at w t).retries ≡ Some l)) (sym (single_retries (place_at w t) l single))
+      (subst (λ (c : CallState). ((profile (place_at w t)).retries && calls (place_at w t) l ≡ true) ↔ (c.retries ≡ Some l)) (sym (single_call (place_at w t) single (λ k. rights_of (lock_state w k) t))) (retry_shown (lock_of (place_at w t)) (profile (place_at w t)) (λ k. rights_of (lock_state w k) t) l)))
+      (λ k at is fits. two_retry k at l (rights_now t))
 
   second_line : (t l : ℕ) → Owes w t l Second → has_readers (sort_at w l) ≡ true
-  second_line t l h =
-      let own = owes_own (place_at w t) l Second (singles w steady t) h in
-      (row_promises w t steady l own).owing.second (sym (owed_own (place_at w t) l own (singles w steady t)) ∙ h)
+  second_line t l = by_call t (λ p. line_owed p l ≡ Some Second → has_readers (sort_at w l) ≡ true)
+      (λ single h. let own = owes_own (place_at w t) l Second single h in
+      (row_promises w t steady l single own).owing.second (sym (owed_own (place_at w t) l own single) ∙ h))
+      (λ k at is fits h. absurd (two_owe_main k at l h))
+
+  one_place : (t l k : ℕ) → 1 ≤ standing t (lock_state w l) → 1 ≤ standing t (lock_state w k) → l ≡ k
+  one_place t l k h g = by_call t (λ p. StandsAt p l → StandsAt p k → l ≡ k)
+      (λ single s z. one_purpose (call_at w t).purpose l k (calls_one_lock w t steady single) (waits t l h) (waits t k g))
+      (λ j at is fits. two_one w j at fits l k)
+      (stands_there w t steady l h) (stands_there w t steady k g)
 
   limited : (l : ℕ) → has_readers (sort_at w l) ≡ true → IsWithinLimit (rules_in w l) (lock_state w l)
   limited l shared = within (rules_in w l) (lock_state w l) shared (steady.sites.limits l shared).1
@@ -132,18 +161,18 @@ module _ (w : State) (steady : IsSteady w) where
     own = doing_calls (place_at w t) l (singles w steady t) (λ idles. idle_owes (sort_at w l) m (subst (λ d. IsDebtorIn (sort_at w l) d m) idles debtor))
 
     row : RowLooksAfter (sort_at w l) l (profile (place_at w t)) (act_of (place_at w t)) m
-    row = (row_promises w t steady l own).debtor m (subst (λ d. IsDebtorIn (sort_at w l) d m) (doing_own (place_at w t) l own) debtor)
+    row = (row_promises w t steady l (singles w steady t) own).debtor m (subst (λ d. IsDebtorIn (sort_at w l) d m) (doing_own (place_at w t) l own) debtor)
         (λ claims. unowned ((steady.sites.site l).held t (Has Exclusive) (ap (λ (d : Doing). d.claims) (doing_own (place_at w t) l own) ∙ claims)))
 
     debt_of : (n : Line) → HasDebt (sort_at w l) l (profile (place_at w t)) n → IsDebtorOf w t l n
-    debt_of Main (inl wakes) = inl (owed_own (place_at w t) l own (singles w steady t) ∙ wakes.0, subst (λ (c : CallState). WakesWaiters (sort_at w l) c.purpose c.gave_up c.recalls l) (sym (call_own w t steady l own)) wakes.1)
-    debt_of Main (inr again) = inr (ap (λ (c : CallState). c.retries) (call_own w t steady l own) ∙ ap (λ b. if b then Some l else None) again.0, ap (λ (c : CallState). counts_some (sort_at w l) (want_of c.purpose)) (call_own w t steady l own) ∙ again.1)
+    debt_of Main (inl wakes) = inl (owed_own (place_at w t) l own (singles w steady t) ∙ wakes.0, subst (λ (c : CallState). WakesWaiters (sort_at w l) c.purpose c.gave_up c.recalls l) (sym (call_own w t steady l (singles w steady t) own)) wakes.1)
+    debt_of Main (inr again) = inr (ap (λ (c : CallState). c.retries) (call_own w t steady l (singles w steady t) own) ∙ ap (λ b. if b then Some l else None) again.0, ap (λ (c : CallState). counts_some (sort_at w l) (want_of c.purpose)) (call_own w t steady l (singles w steady t) own) ∙ again.1)
     debt_of Second owes = owed_own (place_at w t) l own (singles w steady t) ∙ owes
 
     stands_nowhere : (k : ℕ) → standing t (lock_state w k) ≡ 0
     stands_nowhere k = elim (cases_lt (standing t (lock_state w k)) 1) [
       | inl none ↦ omega arith
-      | inr some ↦ absurd (elim (stands_waiting w t steady k some).1 [ inl in_line ↦ in_line row.stands | inr taken ↦ taken row.taken ])
+      | inr some ↦ absurd (elim (stands_waiting w t steady k (singles w steady t) some).1 [ inl in_line ↦ in_line row.stands | inr taken ↦ taken row.taken ])
     ]
 
     looks_after : IsLookedAfter w l m
@@ -223,14 +252,14 @@ module _ (w : State) (steady : IsSteady w) where
         let in_hand : (station_at (place_at w t) l).hand ≡ hand handed.by true = ap (λ (x : Station). x.hand) (station_own (place_at w t) l own) ∙ handed.in_hand in
         let carries = steady.stands.hands.taken handed.by t l true in_hand in
         let by_own = station_calls (place_at w handed.by) l (singles w steady handed.by) (λ out. let e : ◌≡◌ {A = Option Bool} None (Some true) = sym (ap (λ (x : Station). x.carries) out) ∙ carries in cc) in
-        let told = (row_promises w handed.by steady l by_own).tells (sym (ap (λ (x : Station). x.carries) (station_own (place_at w handed.by) l by_own)) ∙ carries) in
+        let told = (row_promises w handed.by steady l (singles w steady handed.by) by_own).tells (sym (ap (λ (x : Station). x.carries) (station_own (place_at w handed.by) l by_own)) ∙ carries) in
         record {
           lock = l;
           by = handed.by;
           want = handed.want;
-          waited = subst (λ (c : CallState). MayWait c.purpose l × (want_of c.purpose ≡ Some handed.want)) (sym (call_own w t steady l own)) (handed.waited, handed.wants);
+          waited = subst (λ (c : CallState). MayWait c.purpose l × (want_of c.purpose ≡ Some handed.want)) (sym (call_own w t steady l (singles w steady t) own)) (handed.waited, handed.wants);
           owner = claimed_at l own handed.want handed.has;
-          inside = (inside_own w handed.by steady l by_own Main).0 told.1;
+          inside = (inside_own w handed.by steady l (singles w steady handed.by) by_own Main).0 told.1;
           in_hand = single_taker (place_at w t) (singles w steady t) ∙ ap hand_owner handed.in_hand;
           wakes = told.0;
         }
@@ -240,7 +269,7 @@ module _ (w : State) (steady : IsSteady w) where
       where
         by_lock : (o : Option ℕ) → lock_of (place_at w t) ≡ o → IsHandedOver w t
         by_lock None e = absurd (let f : Rest ≡ Sleep = sym (ap act_of (calls_none (place_at w t) e)) ∙ asleep in cc)
-        by_lock (Some l) e = elim ((row_promises w t steady l e).asleep asleep) [
+        by_lock (Some l) e = elim ((row_promises w t steady l (singles w steady t) e).asleep asleep) [
           | inl waiting ↦ absurd (let some = waiting_stands w t steady l e waiting in let none = nowhere l in omega arith)
           | inr handed ↦ handed_at l e handed
         ]
@@ -249,8 +278,8 @@ module _ (w : State) (steady : IsSteady w) where
   kept running = record {
     of_one = λ t. one_of (place_at w t) (singles w steady t);
     state = λ l. (steady.sites.site l).state;
-    calls_one = λ t. calls_one_lock w t steady;
-    one_place = λ t l k h g. one_purpose (call_at w t).purpose l k (calls_one_lock w t steady) (waits t l h) (waits t k g);
+    calls_one = λ t. calls_one_lock w t steady (singles w steady t);
+    one_place = one_place;
     waiting = waits;
     known = known;
     coded = λ l. steady.sites.word l;
