@@ -24,6 +24,7 @@ pub mod HandRights
 pub mod WakesAt
 pub mod WakesKept
 pub mod TwoLocks
+pub mod MutexActs
 pub mod Moving
 pub mod CondvarSites
 pub mod CondvarHears
