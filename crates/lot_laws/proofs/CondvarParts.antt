@@ -93,3 +93,26 @@ module _ (l m : ℕ) (apart : m ≢ l) where
 pub doing_of_row : (n : Next CondvarPlace) → (row_there n).doing ≡ record idle { inside = (station_by (row_there n)).inside }
 doing_of_row (At p) = refl
 doing_of_row (Over answer) = refl
+
+-- ---------------------------------------------------------------- what a step leaves as it was
+
+-- one row and the next say the same of the thread at the mutex
+abbrev pub SameBeside : Next CondvarPlace → Next CondvarPlace → Type 0
+SameBeside n n2 =
+    (station_by (row_beside n2) ≡ station_by (row_beside n)) × ((row_beside n2).doing ≡ (row_beside n).doing)
+    × (taken_from (row_beside n2).hand (row_beside n2).wants true ≡ taken_from (row_beside n).hand (row_beside n).wants true)
+
+module _ (l m : ℕ) (apart : m ≢ l) (n n2 : Next CondvarPlace) (beside : Beside m n) (beside2 : Beside m n2) where
+  pub alike_beside : SameBeside n n2 → Alike m (condvar_goes l n) (condvar_goes l n2)
+  alike_beside e = record {
+    station = station_beside l m apart n2 beside2 ∙ e.0 ∙ sym (station_beside l m apart n beside);
+    doing = doing_beside l m apart n2 beside2 ∙ e.1 ∙ sym (doing_beside l m apart n beside);
+    taken = taken_beside l m apart n2 beside2 ∙ e.2 ∙ sym (taken_beside l m apart n beside);
+  }
+
+  pub alike_there : station_by (row_there n2) ≡ station_by (row_there n) → Alike l (condvar_goes l n) (condvar_goes l n2)
+  alike_there e = record {
+    station = station_there l m apart n2 beside2 ∙ e ∙ sym (station_there l m apart n beside);
+    doing = doing_there l m apart n2 beside2 ∙ doing_of_row n2 ∙ ap (λ (y : Station). record idle { inside = y.inside }) e ∙ sym (doing_of_row n) ∙ sym (doing_there l m apart n beside);
+    taken = taken_there l m apart n2 beside2 ∙ sym (taken_there l m apart n beside);
+  }

@@ -20,7 +20,7 @@ use Rattle.lot_laws.specs.Refinement.{lock_state, taken_at}
 use Rattle.lot_laws.specs.MutexDeeds.{acts}
 use Rattle.lot_laws.specs.MutexDeeds as deeds
 use Rattle.lot_laws.specs.Stations.{doing_on}
-use Rattle.lot_laws.specs.SitesOf.{ActsNeeded, HasRoom, SameNumbers, IsSteady, Follows, Goes, after_acts, site_of, rules_in, stood_in, Stands, FollowAll}
+use Rattle.lot_laws.specs.SitesOf.{ActsNeeded, HasRoom, SameNumbers, IsSteady, Follows, Goes, after_acts, site_of, rules_in, stood_in, Stands, FollowAll, GoesAll}
 use Rattle.lot_laws.proofs.Glue.{Parts, parts_at, lock_in, seen_in, same, put_here, put_other}
 use Rattle.lot_laws.proofs.OneStep.{AreOrdinary, Steps, steps_by, noted, acts_keep, acts_limited, same_filled, queued_behind}
 use Rattle.lot_laws.proofs.StandsKept.{AlikeBeside}
@@ -145,6 +145,10 @@ follows_all w v l ds steady f = record {
       there.1 ∙ steady.sites.word k ∙ (λ i. code (rules_in w k) (sym there.0 i)),
       λ h. subst (λ (s : Site). HasLimit (rules_in w k) s.lock) (sym there.0) (steady.sites.limits k h).1,
     )
+
+-- as a step of all of them
+pub goes_all : (w v : State) (l : ℕ) (ds : List deeds.Act) → IsSteady w → Goes w v l ds → GoesAll w v (only_at l ds)
+goes_all w v l ds steady g = record { follows = follows_all w v l ds steady g.follows; stands = g.stands }
 
 -- and keeps all
 pub goes_steady : (w v : State) (l : ℕ) (ds : List deeds.Act) → IsSteady w → Goes w v l ds → IsSteady v

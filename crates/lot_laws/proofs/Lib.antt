@@ -115,3 +115,6 @@ pub mod CondvarRows
 pub mod CondvarsKept
 pub mod CondvarLed
 pub mod CondvarWent
+pub mod WaitsThere
+pub mod WaitsBeside
+pub mod WaitsInside

@@ -18,23 +18,25 @@ use Rattle.abstract_locks.specs.Codes as codes
 use Rattle.abstract_locks.specs.Deeds as laws
 use Rattle.abstract_locks.specs.Locks.{Enter, Leave, LockState, Rules, one_if_some, putting, Park, keep_from}
 use Rattle.abstract_locks.specs.Locks as locks
-use Rattle.abstract_locks.specs.Sites.{Case, Clear, Deed, Doing, End, In, Line, Main, Mark, MarkBrought, MarkOwned, Out, Site, has_readers, FindNobody}
+use Rattle.abstract_locks.specs.Sites.{Case, Clear, Deed, Doing, End, In, Line, Main, Mark, MarkBrought, MarkOwned, Out, Site, has_readers, FindNobody, Second}
 use Rattle.lot_machine.specs.Machine.{State, filled_at, owners_at, place_at, put, queue_at, section_at, share_at, shares_at, state_after_operation, state_with_sections, word_at, state_after_telling, queues_with_last, queues_without_first, queues_without}
 use Rattle.lot_laws.specs.Refinement.{lock_seen, taken_at}
 use Rattle.lot_laws.specs.MutexDeeds.{acts}
 use Rattle.lot_laws.specs.Stations.{doing_on, station_at, hand}
-use Rattle.lot_laws.specs.SitesOf.{ActsNeeded, FitsItsLock, Goes, IsSteady, after_acts, key_of, rules_in, hand_at, carried_at}
+use Rattle.lot_laws.specs.SitesOf.{ActsNeeded, FitsItsLock, Goes, IsSteady, after_acts, key_of, rules_in, hand_at, carried_at, stood_in}
 use Rattle.lot_laws.proofs.Glue.{lock_in, parts_at, seen_in, LetGo, stays, untaken, put_here, put_other}
-use Rattle.lot_laws.proofs.OneStep.{AreSingle, Steps, same_filled, steps_by}
+use Rattle.lot_laws.proofs.OneStep.{AreSingle, Steps, same_filled, steps_by, queued_without}
 use Rattle.lot_laws.proofs.LawsKept.{after_same, needed_same}
 use Rattle.lot_laws.proofs.StandsKept.{AlikeBeside}
-use Rattle.lot_laws.proofs.Following.{NoHandOff, lock_by, operated, parks, with_line}
+use Rattle.lot_laws.proofs.Following.{NoHandOff, lock_by, operated, parks, with_line, lates}
 use Rattle.lot_acts.specs.Moves.{AreLeaving}
 use Rattle.lot_base.specs.declared.notes.Note.TheVariants.{Normal}
 use Rattle.lot_acts.specs.declared.acts.Reply.TheVariants.{Woken}
 use Rattle.lot_laws.proofs.ToldAt.{HoldsHere, same_hands}
 use Rattle.lot_laws.proofs.WakesAt.{IsWokenAt, leaving_by, wake_goes}
 use Rattle.lot_laws.proofs.ActsAt as acting
+use Rattle.lot_base.specs.Lines.{first_of, times, without}
+use Rattle.abstract_locks.specs.Picks.{queued_of}
 
 -- a step on the word of a mutex: it is owned, or not, or its bit is set, or cleared
 abbrev pub IsOfWord : List Deed → Type 0
@@ -172,3 +174,29 @@ module _ (w : State) (t m : ℕ) (steady : IsSteady w) (is_there : t < length w.
         → Goes w (put (record w { queues = queues_with_last w.queues (key_of m Main) t Exclusive }) t p2) m (acts t (Case (Park Exclusive) ∷ []))
     stands_at out nowhere_else needed doing goes same_hand = acting.park_goes w t m steady is_there r refl p2 alike fits out Main Exclusive (Case (Park Exclusive) ∷ []) (λ h. ((λ k. k), tt)) line nowhere_else
         (parks r m (parts_at w m) (place_at w) t p2 (steady.sites.site m) same_hand (key_of m Main) Exclusive (needed.0, tt) doing) goes
+
+    -- its time is up, and it leaves the line
+    pub leaves_line_at : acting.IsOut w t m steady is_there r refl p2 alike fits → (station_at (place_at w t) m).stands ≡ Some Main → laws.AllNeeded r (Case locks.Late ∷ []) here t → (laws.after_all r (Case locks.Late ∷ []) here t).doing t ≡ doing_on p2 m
+        → station_at p2 m ≡ record (station_at (place_at w t) m) { stands = None; waits = None } → taken_at (place_at w t) m ≡ taken_at p2 m → Goes w (put (record w { queues = queues_without w.queues t }) t p2) m (acts t (Case locks.Late ∷ []))
+    leaves_line_at out stands needed doing goes same_hand = acting.remove_goes w t m steady is_there r refl p2 alike fits out Main (Case locks.Late ∷ []) (λ h. ((λ k. k), tt)) stands
+        (lates r m (parts_at w m) (place_at w) t p2 (steady.sites.site m) same_hand Main (without t (queue_at w (key_of m Main))) (queued_without t (queue_at w (key_of m Main))) (sym (kept_aside (first_of (queue_at w (key_of m Second))) (first_out (queue_at w (key_of m Second)) not_aside))) (needed.0, tt) (sym doing)) goes
+      where
+        not_aside : times t (queue_at w (key_of m Second)) ≡ 0
+        not_aside = steady.stands.lines t m Second ∙ ap (λ o. stood_in o Second) stands
+
+        first_out : (q : List Waiter) → times t q ≡ 0 → locks.is_thread t (first_of q) ≡ 0
+        first_out [] h = refl
+        first_out (y ∷ q) h = omega arith
+
+        kept_aside : (o : Option ℕ) → locks.is_thread t o ≡ 0 → locks.aside_without t o ≡ o
+        kept_aside None h = refl
+        kept_aside (Some u) h = either (u == t) h
+          where
+            either : (b : Bool) → ◌≡◌ {A = ℕ} (if b then 1 else 0) 0 → (if b then None else Some u) ≡ Some u
+            either false e = refl
+            either true e = absurd (omega arith)
+
+  -- it was handed the mutex, and its call goes on
+  pub accepts_at : laws.AllNeeded r (End ∷ []) here t → (laws.after_all r (End ∷ []) here t).doing t ≡ doing_on p2 m → station_at p2 m ≡ station_at (place_at w t) m → taken_at (place_at w t) m ≡ taken_at p2 m → Goes w (put w t p2) m (acts t (End ∷ []))
+  accepts_at needed doing same_station same_hand = acting.place_goes w t m steady is_there r refl p2 alike fits (End ∷ []) (λ h. tt)
+      (steps_by r m (parts_at w m) (parts_at w m) (place_at w) t p2 (End ∷ []) (needed.0, tt) (tt, tt) same_hand refl refl refl refl (sym doing)) same_station
