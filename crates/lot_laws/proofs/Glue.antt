@@ -226,6 +226,10 @@ fits_single w (Condvar k at) fits = absurd fits.begun
 pub singles : (w : State) → IsSteady w → (t : ℕ) → IsSingle (place_at w t)
 singles w steady t = fits_single w (place_at w t) (steady.stands.calls t)
 
+-- a call of two locks fits them
+pub fits_two : (w : State) (t : ℕ) → IsSteady w → (two : IsOfTwo (place_at w t)) → FitsItsLock w (Condvar two.lock two.at)
+fits_two w t steady two = subst (FitsItsLock w) two.is (steady.stands.calls t)
+
 -- has no other beside it
 pub none_beside : (p : Place) → IsSingle p → beside_of p ≡ None
 none_beside Idle single = refl

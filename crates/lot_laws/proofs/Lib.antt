@@ -62,6 +62,7 @@ pub mod RowPromises
 pub mod MutexRows
 pub mod RwLockRows
 pub mod CallRows
+pub mod CondvarAsleep
 pub mod CondvarLate
 pub mod CondvarPromises
 pub mod PlacePromises

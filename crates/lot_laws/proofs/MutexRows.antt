@@ -200,7 +200,7 @@ debtor l at Second d free = absurd (wakes_main at d)
 
 -- ---------------------------------------------------------------- sleep
 
-unlock_awake : (l : ℕ) (a : UnlockAt) → unlock_act l a ≢ Sleep
+pub unlock_awake : (l : ℕ) (a : UnlockAt) → unlock_act l a ≢ Sleep
 unlock_awake l unlock.Subtract e = cc
 unlock_awake l unlock.Enter e = cc
 unlock_awake l unlock.Take e = cc

@@ -219,6 +219,26 @@ module _ (w : State) (t : ℕ) (steady : IsSteady w) where
         by_row None e (Some x) f = inr (λ none. let g : ◌≡◌ {A = Option Taken} None (Some x) = sym none ∙ f in cc)
         by_row None e None f = absurd (let n : standing t (lock_state w l) ≡ 0 = standing_by ∙ (λ i. stood_in (e i) Main + stood_in (e i) Second + one_if_some (f i)) in omega arith)
 
+    -- and whoever stands in a line of it, or is taken there, stands about it
+    pub there_stands : StandsAt (place_at w t) l → 1 ≤ standing t (lock_state w l)
+    there_stands (inl in_line) = by_line (station_at (place_at w t) l).stands refl
+      where
+        by_line : (o : Option Line) → (station_at (place_at w t) l).stands ≡ o → 1 ≤ standing t (lock_state w l)
+        by_line None e = absurd (in_line e)
+        by_line (Some Main) e =
+            let a : stood_in (station_at (place_at w t) l).stands Main ≡ 1 = ap (λ x. stood_in x Main) e in
+            let n = standing_by in omega arith
+        by_line (Some Second) e =
+            let a : stood_in (station_at (place_at w t) l).stands Second ≡ 1 = ap (λ x. stood_in x Second) e in
+            let n = standing_by in omega arith
+    there_stands (inr taken) = by_taken (taken_at (place_at w t) l) refl
+      where
+        by_taken : (o : Option Taken) → taken_at (place_at w t) l ≡ o → 1 ≤ standing t (lock_state w l)
+        by_taken None e = absurd (taken e)
+        by_taken (Some x) e =
+            let a : one_if_some (taken_at (place_at w t) l) ≡ 1 = ap one_if_some e in
+            let n = standing_by in omega arith
+
     -- in a call of one lock it calls that one, and waits
     pub stands_waiting : IsSingle (place_at w t) → 1 ≤ standing t (lock_state w l) → (lock_of (place_at w t) ≡ Some l) × IsWaiting (profile (place_at w t))
     stands_waiting single some = elim (calls_one (place_at w t) l) [

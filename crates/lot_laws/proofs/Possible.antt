@@ -49,7 +49,7 @@ use Rattle.lot_laws.specs.Stations.{station, station_at, Station}
 use Rattle.lot_laws.specs.SitesOf.{FitsItsLock, IsSteady, stood_in, key_of}
 use Rattle.lot_laws.specs.Refinement.{lock_state, locks_of, call_state, sleeps, runs_closure, keys_entered, call_on_both}
 use Rattle.lot_laws.proofs.SingleCalls.{call_none}
-use Rattle.lot_laws.proofs.Glue.{IsOfTwo, IsSingle, calls_none, condvar_apart, single_late, single_or_two}
+use Rattle.lot_laws.proofs.Glue.{IsOfTwo, IsSingle, fits_two, calls_none, condvar_apart, single_late, single_or_two}
 use Rattle.lot_laws.proofs.CondvarLate.{IsLate, condvar_acts, two_late, two_may_late}
 use Rattle.lot_laws.proofs.LineActs.{IsOfLine, IsLineAct, line_act, holds_line, key_there, late_line, calls_there}
 use Rattle.lot_laws.proofs.GoneKept.{none_is}
@@ -122,10 +122,6 @@ acting_of w t steady called = elim (single_or_two (place_at w t)) [
     by_lock : IsSingle (place_at w t) → (o : Option ℕ) → lock_of (place_at w t) ≡ o → is_acting (act_of (place_at w t)) ≡ true
     by_lock single (Some l) e = (row_promises w t steady l single e).acts
     by_lock single None e = absurd (called (ap (λ (c : CallState). c.purpose) (call_none (place_at w t) e (rights w t))))
-
--- a call of a condition variable isn't of its own mutex
-pub fits_two : (w : State) (t : ℕ) → IsSteady w → (two : IsOfTwo (place_at w t)) → FitsItsLock w (Condvar two.lock two.at)
-fits_two w t steady two = subst (FitsItsLock w) two.is (steady.stands.calls t)
 
 late_two : (w : State) (t : ℕ) → IsSteady w → (two : IsOfTwo (place_at w t)) → (key : ℕ) → late_key (place_at w t) ≡ Some key → IsLate two.lock two.at key
 late_two w t steady two key e = two_late two.lock two.at (condvar_apart w two.lock two.at (fits_two w t steady two)) key (sym (ap late_key two.is) ∙ e)

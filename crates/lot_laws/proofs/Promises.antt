@@ -2,15 +2,15 @@
 use Rattle.std.proofs.Common.{ℕ, Bool, true, false, Option, Some, None, if◌then◌else◌, ◌==◌, ◌&&◌, ◌≡◌, ◌≢◌, ◌+◌, ◌*◌, ◌≤◌, ◌<◌, ◌⊎◌, inl, inr, List, [], ◌∷◌, length, refl, ◌∙◌, ap, subst, arith, ◌↔◌, sym}
 use Rattle.lot_base.specs.declared.wants.Want.{Want}
 use Rattle.lot_base.specs.declared.wants.Want.TheVariants.{Exclusive}
-use Rattle.lot_acts.specs.declared.acts.Act.TheVariants.{Rest, Sleep}
+use Rattle.lot_acts.specs.declared.acts.Act.TheVariants.{Leave, Rest, Sleep}
 use Rattle.lot_acts.specs.Profiles.{Profile, hand, hand_owner}
 use Rattle.lot_calls.specs.declared.kinds.Kind.{Kind}
 use Rattle.lot_calls.specs.declared.kinds.Kind as kinds
 use Rattle.lot_calls.specs.declared.calls.Step.{Step}
 use Rattle.lot_steps.specs.declared.places.Place.{Place}
 use Rattle.lot_steps.specs.declared.places.Place.TheVariants.{Idle, Mutex, RwLock, Once, Condvar}
-use Rattle.lot_steps.specs.Steps.{act_of, calls, is_lock, lock_of, profile, retries_on}
-use Rattle.lot_machine.specs.Machine.{State, opening, place_at, after, kind_at, filled_at}
+use Rattle.lot_steps.specs.Steps.{act_of, calls, is_lock, lock_of, or_else, profile, retries_on, taker}
+use Rattle.lot_machine.specs.Machine.{State, opening, place_at, after, kind_at, filled_at, section_at}
 use Rattle.lot_machine.specs.Fits.{IsShaped}
 use Rattle.lot_laws.specs.Stations.{Station, station_at, doing_on}
 use Rattle.lot_laws.specs.SitesOf.{AreCounted, IsSteady, RunsInClosures, rules_in}
@@ -35,8 +35,14 @@ use Rattle.lot_steps.specs.Steps.{line_owed}
 use Rattle.lot_laws.specs.Refinement.{call_state}
 use Rattle.lot_laws.specs.SitesOf.{FitsItsLock}
 use Rattle.lot_laws.proofs.CondvarPromises.{StandsAt, two_know, two_one, two_owe_main, two_purpose, two_retry, two_wait}
-use Rattle.lot_laws.proofs.Glue.{single_or_two}
-use Rattle.lot_laws.proofs.PlacePromises.{stands_there}
+use Rattle.lot_laws.proofs.Glue.{IsOfTwo, condvar_apart, fits_two, single_or_two}
+use Rattle.lot_laws.proofs.PlacePromises.{stands_there, there_stands}
+use Rattle.lot_laws.proofs.CondvarAsleep.{WasHandedBeside, two_asleep, two_hand_none}
+use Rattle.lot_laws.proofs.Waiters.{doing_beside, station_beside}
+use Rattle.lot_base.specs.declared.keys.Keys.TheVariants.{One}
+use Rattle.lot_base.specs.declared.notes.Note as note
+use Rattle.lot_acts.specs.declared.acts.Wakes as wakes
+use Rattle.lot_condvar.specs.CondvarProfiles.{condvar_profile}
 use Rattle.lot_laws.proofs.Glue.{same, calls_none, single_retries, singles, single_taker, IsSingle}
 use Rattle.lot_machine.proofs.Opening.{idle_at, none_at, empty_at, nobody_owns, opening_shares}
 use Rattle.std.proofs.lemmas.Bool.{cases_lt, eqb-true}
@@ -247,31 +253,62 @@ module _ (w : State) (steady : IsSteady w) where
         claims : (doing_on (place_at w t) l).claims ≡ (profile (place_at w t)).doing.claims
         claims = ap (λ (d : Doing). d.claims) (doing_own (place_at w t) l own)
 
-    handed_at : (l : ℕ) → lock_of (place_at w t) ≡ Some l → WasHanded (sort_at w l) l (profile (place_at w t)) → IsHandedOver w t
-    handed_at l own handed =
+    -- whoever hands over is inside, and wakes all whom it has in hand as it leaves
+    tells_inside : (by l : ℕ) → (station_at (place_at w by) l).carries ≡ Some true → (section_at w (2 * l) ≡ Some by) × (act_of (place_at w by) ≡ Leave (One (2 * l)) (wakes.TheVariants.All note.TheVariants.HandOff))
+    tells_inside by l carries = elim (single_or_two (place_at w by)) [
+      | inl single ↦ (let own = station_calls (place_at w by) l single (λ out. let e : ◌≡◌ {A = Option Bool} None (Some true) = sym (ap (λ (x : Station). x.carries) out) ∙ carries in cc) in
+          let told = (row_promises w by steady l single own).tells (sym (ap (λ (x : Station). x.carries) (station_own (place_at w by) l own)) ∙ carries) in
+          ((inside_own w by steady l single own Main).0 told.1, told.0))
+      | inr two ↦ absurd (two_hand_none two.lock two.at (fits_two w by steady two).reached l (sym (ap (λ p. (station_at p l).carries) two.is) ∙ carries))
+    ]
+
+    handed_beside : (two : IsOfTwo (place_at w t)) → WasHandedBeside two.lock two.at → IsHandedOver w t
+    handed_beside two handed =
+        let apart = condvar_apart w two.lock two.at (fits_two w t steady two) handed.mutex handed.beside in
+        let in_hand : (station_at (place_at w t) handed.mutex).hand ≡ hand handed.by true = ap (λ p. (station_at p handed.mutex).hand) two.is ∙ ap (λ (x : Station). x.hand) (station_beside two.lock handed.mutex apart two.at handed.beside) ∙ handed.in_hand in
+        let claims : (doing_on (place_at w t) handed.mutex).claims ≡ Some (Has Exclusive) = ap (λ p. (doing_on p handed.mutex).claims) two.is ∙ ap (λ (d : Doing). d.claims) (doing_beside two.lock handed.mutex apart two.at handed.beside) ∙ handed.claims in
+        let told = tells_inside handed.by handed.mutex (steady.stands.hands.taken handed.by t handed.mutex true in_hand) in
+        record {
+          lock = handed.mutex;
+          by = handed.by;
+          want = Exclusive;
+          waited = subst (λ p. MayWait (call_state p (rights_now t)).purpose handed.mutex × (want_of (call_state p (rights_now t)).purpose ≡ Some Exclusive)) (sym two.is) (subst (λ q. MayWait q handed.mutex × (want_of q ≡ Some Exclusive)) (sym (two_purpose two.lock two.at (rights_now t))) handed.waited);
+          owner = inl ((steady.sites.site handed.mutex).held t (Has Exclusive) claims);
+          inside = told.0;
+          in_hand = ap taker two.is ∙ ap (λ h. hand_owner (or_else h (condvar_profile two.at).hand)) handed.in_hand;
+          wakes = told.1;
+        }
+
+    handed_at : (l : ℕ) → IsSingle (place_at w t) → lock_of (place_at w t) ≡ Some l → WasHanded (sort_at w l) l (profile (place_at w t)) → IsHandedOver w t
+    handed_at l single own handed =
         let in_hand : (station_at (place_at w t) l).hand ≡ hand handed.by true = ap (λ (x : Station). x.hand) (station_own (place_at w t) l own) ∙ handed.in_hand in
         let carries = steady.stands.hands.taken handed.by t l true in_hand in
-        let by_own = station_calls (place_at w handed.by) l (singles w steady handed.by) (λ out. let e : ◌≡◌ {A = Option Bool} None (Some true) = sym (ap (λ (x : Station). x.carries) out) ∙ carries in cc) in
-        let told = (row_promises w handed.by steady l (singles w steady handed.by) by_own).tells (sym (ap (λ (x : Station). x.carries) (station_own (place_at w handed.by) l by_own)) ∙ carries) in
+        let told = tells_inside handed.by l carries in
         record {
           lock = l;
           by = handed.by;
           want = handed.want;
-          waited = subst (λ (c : CallState). MayWait c.purpose l × (want_of c.purpose ≡ Some handed.want)) (sym (call_own w t steady l (singles w steady t) own)) (handed.waited, handed.wants);
+          waited = subst (λ (c : CallState). MayWait c.purpose l × (want_of c.purpose ≡ Some handed.want)) (sym (call_own w t steady l single own)) (handed.waited, handed.wants);
           owner = claimed_at l own handed.want handed.has;
-          inside = (inside_own w handed.by steady l (singles w steady handed.by) by_own Main).0 told.1;
-          in_hand = single_taker (place_at w t) (singles w steady t) ∙ ap hand_owner handed.in_hand;
-          wakes = told.0;
+          inside = told.0;
+          in_hand = single_taker (place_at w t) single ∙ ap hand_owner handed.in_hand;
+          wakes = told.1;
         }
 
     handed_over : IsHandedOver w t
-    handed_over = by_lock (lock_of (place_at w t)) refl
+    handed_over = elim (single_or_two (place_at w t)) [ inl single ↦ by_lock single (lock_of (place_at w t)) refl | inr two ↦ by_two two ]
       where
-        by_lock : (o : Option ℕ) → lock_of (place_at w t) ≡ o → IsHandedOver w t
-        by_lock None e = absurd (let f : Rest ≡ Sleep = sym (ap act_of (calls_none (place_at w t) e)) ∙ asleep in cc)
-        by_lock (Some l) e = elim ((row_promises w t steady l (singles w steady t) e).asleep asleep) [
+        by_two : IsOfTwo (place_at w t) → IsHandedOver w t
+        by_two two = let fits = fits_two w t steady two in elim (two_asleep two.lock two.at (condvar_apart w two.lock two.at fits) fits.reached (sym (ap act_of two.is) ∙ asleep)) [
+          | inl some ↦ absurd (let stood = there_stands w t steady some.0 (subst (λ p. StandsAt p some.0) (sym two.is) some.1) in let none = nowhere some.0 in omega arith)
+          | inr other ↦ elim other [ inl handed ↦ handed_beside two handed | inr noted ↦ absurd fits.begun ]
+        ]
+
+        by_lock : IsSingle (place_at w t) → (o : Option ℕ) → lock_of (place_at w t) ≡ o → IsHandedOver w t
+        by_lock single None e = absurd (let f : Rest ≡ Sleep = sym (ap act_of (calls_none (place_at w t) e)) ∙ asleep in cc)
+        by_lock single (Some l) e = elim ((row_promises w t steady l single e).asleep asleep) [
           | inl waiting ↦ absurd (let some = waiting_stands w t steady l e waiting in let none = nowhere l in omega arith)
-          | inr handed ↦ handed_at l e handed
+          | inr handed ↦ handed_at l single e handed
         ]
 
   pub kept : RunsInClosures w → IsKept w
