@@ -30,6 +30,7 @@ pub mod CondvarSites
 pub mod CondvarHears
 pub mod CondvarParts
 pub mod CondvarThere
+pub mod CondvarTurns
 pub mod TakesAt
 pub mod MovingKept
 pub mod TakesKept
@@ -119,3 +120,4 @@ pub mod CondvarWent
 pub mod WaitsThere
 pub mod WaitsBeside
 pub mod WaitsInside
+pub mod WaitsWaking

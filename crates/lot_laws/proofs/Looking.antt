@@ -1,7 +1,17 @@
 -- A thread that looks at the word once more goes on from another place of its call. Standing there changes nothing that locks and calls see.
-use Rattle.std.proofs.Common.{◌&&◌, not, ℕ, zero, suc, List, set, true, Option, Some, None, if◌then◌else◌, ◌≡◌, ◌<◌, inl, inr, [], ◌∷◌, length, replicate, refl, sym, ◌∙◌, ap, subst, get_or-set_other, get_or-set_same, length-set, get_or}
+use Rattle.std.proofs.Common.{false, ◌==◌, ◌&&◌, not, ℕ, zero, suc, List, set, true, Option, Some, None, if◌then◌else◌, ◌≡◌, ◌<◌, inl, inr, [], ◌∷◌, length, replicate, refl, sym, ◌∙◌, ap, subst, get_or-set_other, get_or-set_same, length-set, get_or}
 use Rattle.abstract_locks.specs.Runs.{Event, Stance, MayHappen, Nothing, AtLock, Moves}
 use Rattle.std.proofs.Common.{Bool}
+use Rattle.lot_condvar.specs.declared.places.CondvarPlace.{CondvarPlace}
+use Rattle.lot_condvar.specs.declared.places.CondvarPlace.TheVariants.{Wait}
+use Rattle.lot_condvar.specs.declared.wait.WaitAt.TheVariants as wait
+use Rattle.lot_condvar.specs.CondvarCalls.{IsReached, IsRelock}
+use Rattle.lot_condvar.specs.CondvarSteps.{condvar_looking, in_lock, mutex_beside}
+use Rattle.lot_mutex.specs.declared.lock.Entry.{Entry}
+use Rattle.lot_mutex.specs.declared.lock.Entry.TheVariants as entry
+use Rattle.lot_mutex.specs.declared.lock.LockAt.TheVariants as lock
+use Rattle.lot_mutex.specs.declared.places.MutexPlace.TheVariants as mutex
+use Rattle.lot_steps.specs.Steps.{in_condvar}
 use Rattle.lot_laws.proofs.Closures.{RunsOne}
 use Rattle.lot_machine.specs.Machine.{closed_place}
 use Rattle.lot_steps.specs.Steps.{next_place, beside_of, profile_beside, is_lock}
@@ -31,13 +41,15 @@ use Rattle.abstract_locks.specs.Locks.{Rights, rights_of}
 use Rattle.abstract_locks.specs.Runs.{LocksState, GoesOn, Stays}
 use Rattle.abstract_locks.specs.Sites.{idle}
 use Rattle.lot_laws.specs.Refinement.{lock_state, locks_of, call_on_both, stance_of}
-use Rattle.lot_laws.specs.Stations.{station_by}
+use Rattle.lot_laws.specs.Stations.{nowhere, station_by}
 use Rattle.lot_laws.specs.WorldRuns.{IsUntouched}
-use Rattle.lot_laws.specs.SitesOf.{IsSteady, FitsItsLock, rules_in}
+use Rattle.lot_laws.specs.SitesOf.{FitsCondvar, FitsItsLock, Goes, IsSteady, rules_in}
 use Rattle.lot_laws.proofs.Beside.{looks_beside}
-use Rattle.lot_laws.proofs.Glue.{IsLock, parts_at, of_own, singles, fits_single, single_taken, single_doing}
+use Rattle.lot_laws.proofs.Glue.{IsLock, parts_at}
 use Rattle.lot_laws.proofs.OneStep.{steps_by}
-use Rattle.lot_laws.proofs.ActsKept.{goes_steady, place_goes}
+use Rattle.lot_laws.proofs.ActsAt.{place_goes}
+use Rattle.lot_laws.proofs.Following.{goes_steady}
+use Rattle.lot_laws.proofs.StandsKept.{Alike}
 
 -- who is set as it was is seen as it was
 pub set_keeps : {A B : Type 0} (f : A → B) (xs : List A) (i k : ℕ) (y d : A) → f y ≡ f (get_or xs i d) → f (get_or (set xs i y) k d) ≡ f (get_or xs k d)
@@ -55,10 +67,33 @@ load_untouched w t l p a loads = subst (λ x. IsUntouched w (state_after_act w t
 of_lock : (l : ℕ) (o : Option ℕ) → o ≡ Some l → IsLock l o
 of_lock l o e = rw e refl
 
+-- it has come on in the same call, beside the same mutex
+pub fits_on : (w : State) (l : ℕ) (at at2 : CondvarPlace) → FitsCondvar w l at → IsReached at2 → mutex_beside at2 ≡ mutex_beside at → FitsCondvar w l at2
+fits_on w l at at2 f reached beside = record { sort = f.sort; reached = reached; mutex = λ m is. f.mutex m (sym beside ∙ is); begun = f.begun }
+
+-- as a wait does that looks at its mutex once more
+looks_on : (at at2 : CondvarPlace) → condvar_looking at ≡ Some at2 → IsReached at → IsReached at2 × (mutex_beside at2 ≡ mutex_beside at)
+looks_on (Wait m timed (wait.Lock late (mutex.Lock e again (lock.Decide seen)))) at2 is reached = by_mark e (seen == 1) reached.1 is
+  where
+    by_mark : (e : Entry) (b : Bool) → IsRelock (mutex.Lock e again (lock.Decide seen)) → in_lock m timed late (if b then Some (mutex.Lock e again lock.Load) else None) ≡ Some at2
+        → IsReached at2 × (mutex_beside at2 ≡ Some m)
+    by_mark entry.Lock true relocks is = let there : Wait m timed (wait.Lock late (mutex.Lock entry.Lock again lock.Load)) ≡ at2 = cc in
+        subst (λ p. IsReached p × (mutex_beside p ≡ Some m)) there ((reached.0, tt), refl)
+    by_mark entry.Lock false relocks is = absurd cc
+    by_mark e b relocks is = absurd relocks
+looks_on (Wait m timed (wait.Lock late (mutex.Lock e again to))) at2 is reached = absurd cc
+looks_on (Wait m timed (wait.Lock late to)) at2 is reached = absurd cc
+looks_on at at2 is reached = absurd cc
+
 -- it is in the same call, of a lock of its sort
 calls_on : (w : State) (p q : Place) → looking p ≡ Some q → FitsItsLock w p → FitsItsLock w q
 calls_on w Idle q is calls = absurd cc
-calls_on w (Condvar l at) q is calls = absurd calls.begun
+calls_on w (Condvar l at) q is calls = by_place (condvar_looking at) refl is
+  where
+    by_place : (o : Option CondvarPlace) → condvar_looking at ≡ o → in_condvar l o ≡ Some q → FitsItsLock w q
+    by_place None e is = absurd cc
+    by_place (Some at2) e is = let there : Condvar l at2 ≡ q = cc in let on = looks_on at at2 e calls.reached in
+        subst (FitsItsLock w) there (fits_on w l at at2 calls on.0 on.1)
 calls_on w (Once l at) q is calls = by_place (once_looking at) is
   where
     by_place : (o : Option OncePlace) → in_once l o ≡ Some q → FitsItsLock w q
@@ -159,15 +194,25 @@ module _ (w : State) (t : ℕ) (there : t < length w.places) (q : Place) (it : I
   alike_stays o v s = let h = subst (λ x. Stays x t (x.calls t) o v) (sym sees) s in
       record { told = h.told; locks = h.locks; calls = h.calls }
 
+  lock_stays : lock_of q ≡ lock_of (place_at w t)
+  lock_stays = it.now ∙ sym it.before
+
+  -- each lock sees of it what it saw
+  alike_at : (k : ℕ) → Alike k (place_at w t) q
+  alike_at k = record {
+    station = λ i. if is_lock k (lock_stays i) then station_by (it.row i) else if is_lock k (it.beside i) then station_by (it.row_beside i) else nowhere;
+    doing = λ i. if is_lock k (lock_stays i) then (it.row i).doing else if is_lock k (it.beside i) then (it.row_beside i).doing else idle;
+    taken = λ i. if is_lock k (it.beside i) && not (is_lock k (lock_stays i)) then taken_from (it.row_beside i).hand (it.row_beside i).wants true
+        else taken_from (it.row i).hand (it.row i).wants (is_lock k (lock_stays i));
+  }
+
+  pub alike_keeps : FitsItsLock w q → IsSteady w → Goes w moved it.lock []
+  alike_keeps fits steady = place_goes w t it.lock steady there (rules_in w it.lock) refl q (λ k ne. alike_at k) fits [] (λ h. tt)
+      (steps_by (rules_in w it.lock) it.lock (parts_at w it.lock) (parts_at w it.lock) (place_at w) t q [] tt tt (sym (alike_at it.lock).taken) refl refl refl refl (alike_at it.lock).doing)
+      (alike_at it.lock).station
+
   pub alike_steady : FitsItsLock w q → IsSteady w → IsSteady moved
-  alike_steady fits steady = goes_steady w moved it.lock [] steady
-      (place_goes w t it.lock steady (of_own it.lock (place_at w t) (singles w steady t) it.before) there (rules_in w it.lock) refl q (of_own it.lock q (fits_single w q fits) it.now) fits [] (λ h. tt)
-      (steps_by (rules_in w it.lock) it.lock (parts_at w it.lock) (parts_at w it.lock) (place_at w) t q [] tt tt
-      (single_taken (place_at w t) it.lock (singles w steady t) ∙ (λ i. taken_from (sym it.row i).hand (sym it.row i).wants (is_lock it.lock (sym lock_stays i))) ∙ sym (single_taken q it.lock (fits_single w q fits))) refl refl refl refl (single_doing q it.lock (fits_single w q fits) ∙ (λ i. if is_lock it.lock (lock_stays i) then (it.row i).doing else idle) ∙ sym (single_doing (place_at w t) it.lock (singles w steady t))))
-      (λ i. station_by (it.row i)))
-    where
-      lock_stays : lock_of q ≡ lock_of (place_at w t)
-      lock_stays = it.now ∙ sym it.before
+  alike_steady fits steady = goes_steady w moved it.lock [] steady (alike_keeps fits steady)
 
 -- ---------------------------------------------------------------- a look
 

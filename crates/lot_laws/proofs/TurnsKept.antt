@@ -38,13 +38,14 @@ use Rattle.lot_laws.specs.Stations.{nowhere, station}
 use Rattle.lot_laws.specs.SitesOf.{AreCounted, IsSteady, Goes}
 use Rattle.lot_machine.proofs.Shape.{both, looking_shaped}
 use Rattle.lot_laws.proofs.KindsKept.{calls_mutex, calls_readers, no_condvar_call}
-use Rattle.lot_laws.proofs.Glue.{parts_at, same, thread_is, IsSingle, singles}
+use Rattle.lot_laws.proofs.Glue.{parts_at, same, thread_is}
 use Rattle.lot_laws.proofs.MutexTable.{mutex, own_doing, meets, others_same}
 use Rattle.lot_laws.proofs.StandsMoved.{mutex_rules}
 use Rattle.lot_laws.proofs.SitesKept.{mutex_at, goes_steady, place_goes}
 use Rattle.lot_laws.proofs.Looking.{looking_steady, looks_now}
 use Rattle.lot_laws.proofs.CountsPut.{looking_counted}
 use Rattle.lot_laws.proofs.GoneKept.{enters, gone_kept}
+use Rattle.lot_laws.proofs.CondvarTurns.{begins_at, condvar_begins, condvar_goes_late}
 use Rattle.lot_laws.proofs.OwnPlace.{gone}
 use Rattle.lot_laws.proofs.RwLockKept.{rwlock_begins, rwlock_goes_late}
 use Rattle.lot_rwlock.specs.declared.places.Admission.{Admission}
@@ -98,7 +99,8 @@ module _ (w : State) (t : ℕ) (steady : IsSteady w) (shape : IsShaped w) (there
   begun_kept (calling.TheVariants.Condvar l c) can =
       let parts = both (is_idle (place_at w t)) (is_open_to w t (calling.TheVariants.Condvar l c)) can in
       let open_to = both (nat_lt l (length w.locks)) _ parts.1 in
-      let has = both (has_call (kind_at w l) (calling.TheVariants.Condvar l c)) _ open_to.1 in absurd (no_condvar_call (kind_at w l) l c has.0)
+      let has = both (has_call (kind_at w l) (calling.TheVariants.Condvar l c)) _ open_to.1 in
+      goes_steady w _ (begins_at l c) _ steady (condvar_begins w t l steady there (idle_is (place_at w t) parts.0) (no_condvar_call (kind_at w l) l c has.0) c parts.1)
   begun_kept (calling.TheVariants.RwLock l c) can =
       let parts = both (is_idle (place_at w t)) (is_open_to w t (calling.TheVariants.RwLock l c)) can in
       let open_to = both (nat_lt l (length w.locks)) _ parts.1 in
@@ -136,7 +138,7 @@ module _ (w : State) (t : ℕ) (steady : IsSteady w) (shape : IsShaped w) (there
   late_kept (RwLock l a (BumpCall p)) is fits can = rwlock_late l a (BumpCall p) is fits (call_late_line (BumpCall p)) refl can
   late_kept (RwLock l a c) is fits can = absurd cc
   late_kept Idle is fits can = absurd cc
-  late_kept (Condvar l at) is fits can = absurd (subst IsSingle is (singles w steady t))
+  late_kept (Condvar l at) is fits can = let goes = condvar_goes_late w t l shape steady there at is can in goes_steady w _ goes.0 _ steady goes.1
   late_kept (Once l at) is fits can = once_late (once_profile at).late_line refl can
     where
       once_late : (m : Option Line) → (once_profile at).late_line ≡ m → is_free_under w (key_in (Some l) m) ≡ true → IsSteady (state_after_late_on w t (key_in (Some l) m))

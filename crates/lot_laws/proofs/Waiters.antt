@@ -151,7 +151,7 @@ module _ (k l : ℕ) (apart : k ≢ l) (m : ℕ) (timed : Bool) (of : mutex_besi
   wait_at at = Condvar k (Wait m timed at)
 
   -- while it releases its mutex
-  release_sleeps : (at : MutexPlace) → SleepsAt l (wait_at (wait.Release stands.Moved at))
+  pub release_sleeps : (at : MutexPlace) → SleepsAt l (wait_at (wait.Release stands.Moved at))
   release_sleeps at = record {
     free = ap (λ (s : Station). s.hand) (station_beside k l apart (Wait m timed (wait.Release stands.Moved at)) of);
     untaken = taken_beside k l apart (Wait m timed (wait.Release stands.Moved at)) of;
