@@ -54,7 +54,7 @@ module _ (w : State) (steady : IsSteady w) (t : ℕ) where
   call_lock = by_place (place_at w t) refl
     where
       here : (l : ℕ) (p : Place) → place_at w t ≡ p → IsSingle p → lock_of p ≡ Some l → of_purpose (call_at w t).purpose ≡ Some l
-      here l p is single own = ap (λ (c : CallState). of_purpose c.purpose) (call_here (place_at w t) l (subst IsSingle (sym is) single) (ap lock_of is ∙ own) (rights w t)) ∙ ap Some (row_promises w t steady l (singles w steady t) (ap lock_of is ∙ own)).own
+      here l p is single own = ap (λ (c : CallState). of_purpose c.purpose) (call_here (place_at w t) l (subst IsSingle (sym is) single) (ap lock_of is ∙ own) (rights w t)) ∙ ap Some (row_promises w t steady l (subst IsSingle (sym is) single) (ap lock_of is ∙ own)).own
 
       by_place : (p : Place) → place_at w t ≡ p → of_purpose (call_at w t).purpose ≡ lock_of p
       by_place Idle is = ap (λ q. of_purpose (call_state q (rights w t)).purpose) is
@@ -73,7 +73,7 @@ module _ (w : State) (steady : IsSteady w) (t : ℕ) where
       Knowing c = KnowsRights (λ l. (rules_in w l).sort) c.purpose
 
       here : (l : ℕ) (p : Place) → place_at w t ≡ p → IsSingle p → lock_of p ≡ Some l → Knowing (call_at w t)
-      here l p is single own = subst Knowing (sym (call_here (place_at w t) l (subst IsSingle (sym is) single) (ap lock_of is ∙ own) (rights w t))) ((row_promises w t steady l (singles w steady t) (ap lock_of is ∙ own)).known (λ l. (rules_in w l).sort) refl)
+      here l p is single own = subst Knowing (sym (call_here (place_at w t) l (subst IsSingle (sym is) single) (ap lock_of is ∙ own) (rights w t))) ((row_promises w t steady l (subst IsSingle (sym is) single) (ap lock_of is ∙ own)).known (λ l. (rules_in w l).sort) refl)
 
       by_place : (p : Place) → place_at w t ≡ p → Knowing (call_at w t)
       by_place Idle is = subst (λ q. Knowing (call_state q (rights w t))) (sym is) tt
