@@ -459,6 +459,14 @@ next_of l (Once k at) reply h = by_next (once_next at reply)
     by_next (next.TheVariants.End answer) = tt
 next_of l (Condvar k at) reply h = absurd h
 
+-- a call of one lock stays one
+pub next_single : (p : Place) (reply : Reply) → IsSingle p → IsSingle (next_place p reply)
+next_single Idle reply h = tt
+next_single (Mutex k at) reply h = of_single k (next_place (Mutex k at) reply) (next_of k (Mutex k at) reply refl)
+next_single (RwLock k a at) reply h = of_single k (next_place (RwLock k a at) reply) (next_of k (RwLock k a at) reply refl)
+next_single (Once k at) reply h = of_single k (next_place (Once k at) reply) (next_of k (Once k at) reply refl)
+next_single (Condvar k at) reply h = absurd h
+
 -- a place of a call of the mutex l, or of none
 abbrev pub IsMutexOf : ℕ → Place → Type 0
 IsMutexOf l Idle = Unit {0}

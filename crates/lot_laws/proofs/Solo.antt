@@ -437,25 +437,26 @@ never_aside w l (Once k at) fits sort e = either (k == l) refl
     either false h = let none : None ≡ Some Second = sym (ap (λ b. (if b then station (Once k at) else nowhere).inside) h) ∙ e in cc
 
 module _ (w : State) (t : ℕ) (shape : IsShaped w) (steady : IsSteady w) (counted : AreCounted w) (condvars : AreCondvars w) (running : RunsInClosures w) (there : t < length w.places) (way : HasItsWay w t) where
-  facing : (l : ℕ) (p : Place) → place_at w t ≡ p → l < length w.locks → Facing w t l p (word_at w l) (owner_at w l) (section_at w (2 * l)) (queue_at w (2 * l))
-  facing l p is lt = record { shape = shape; steady = steady; counted = counted; thread = there; lock = lt; place = is; word = refl; owner = refl; section = refl; queue = refl }
+  facing : (l : ℕ) (p : Place) → IsSingle p → place_at w t ≡ p → l < length w.locks → Facing w t l p (word_at w l) (owner_at w l) (section_at w (2 * l)) (queue_at w (2 * l))
+  facing l p single is lt = record { single = single; shape = shape; steady = steady; counted = counted; thread = there; lock = lt; place = is; word = refl; owner = refl; section = refl; queue = refl }
 
   -- outside its section it finds it free
-  free : (l : ℕ) (p : Place) → place_at w t ≡ p → lock_of p ≡ Some l → (station p).inside ≡ None → (x : Option ℕ) → section_at w (2 * l) ≡ x → x ≡ None
-  free l p is own outside None e = refl
-  free l p is own outside (Some u) e = let mine : u ≡ t = way l u Main (inl (ap lock_of is ∙ own)) tt e in
+  free : (l : ℕ) (p : Place) → IsSingle p → place_at w t ≡ p → lock_of p ≡ Some l → (station p).inside ≡ None → (x : Option ℕ) → section_at w (2 * l) ≡ x → x ≡ None
+  free l p single is own outside None e = refl
+  free l p single is own outside (Some u) e = let mine : u ≡ t = way l u Main (inl (ap lock_of is ∙ own)) tt e in
       let within : (station_at (place_at w t) l).inside ≡ Some Main = (steady.stands.sections t l Main).1 (e ∙ ap Some mine) in
-      let out : (station_at (place_at w t) l).inside ≡ None = nothing_at (place_at w t) l (singles w steady t) (λ y. y.inside) refl (ap (λ y. (station y).inside) is ∙ outside) in absurd cc
+      let out : (station_at (place_at w t) l).inside ≡ None = nothing_at (place_at w t) l (subst IsSingle (sym is) single) (λ y. y.inside) refl (ap (λ y. (station y).inside) is ∙ outside) in absurd cc
 
-  at_first : (l : ℕ) (p : Place) → place_at w t ≡ p → lock_of p ≡ Some l → (station p).inside ≡ None → l < length w.locks → Facing w t l p (word_at w l) (owner_at w l) None (queue_at w (2 * l))
-  at_first l p is own outside lt = subst (λ s. Facing w t l p (word_at w l) (owner_at w l) s (queue_at w (2 * l))) (free l p is own outside (section_at w (2 * l)) refl) (facing l p is lt)
+  at_first : (l : ℕ) (p : Place) → IsSingle p → place_at w t ≡ p → lock_of p ≡ Some l → (station p).inside ≡ None → l < length w.locks → Facing w t l p (word_at w l) (owner_at w l) None (queue_at w (2 * l))
+  at_first l p single is own outside lt = subst (λ s. Facing w t l p (word_at w l) (owner_at w l) s (queue_at w (2 * l))) (free l p single is own outside (section_at w (2 * l)) refl) (facing l p single is lt)
 
   -- at a place of a reader-writer lock
   admitted : (l : ℕ) (a : Admission) (c : RwLockCallPlace) → place_at w t ≡ RwLock l a c → FitsItsLock w (RwLock l a c)
   admitted l a c is = subst (FitsItsLock w) is (steady.stands.calls t)
 
-  steps_alone_at : (l : ℕ) (p : Place) → ((m : Line) (u : ℕ) → section_at w (key_of l m) ≡ Some u → u ≡ t) → place_at w t ≡ p → l < length w.locks → StepsAlone w t l p (word_at w l) (λ m. queue_at w (key_of l m))
-  steps_alone_at l p free_way is lt = record {
+  steps_alone_at : (l : ℕ) (p : Place) → IsSingle p → ((m : Line) (u : ℕ) → section_at w (key_of l m) ≡ Some u → u ≡ t) → place_at w t ≡ p → l < length w.locks → StepsAlone w t l p (word_at w l) (λ m. queue_at w (key_of l m))
+  steps_alone_at l p single free_way is lt = record {
+    single = single;
     shape = shape;
     steady = steady;
     counted = counted;
@@ -470,7 +471,7 @@ module _ (w : State) (t : ℕ) (shape : IsShaped w) (steady : IsSteady w) (count
   }
 
   steps_alone : (l : ℕ) (a : Admission) (c : RwLockCallPlace) → has_readers (rules_in w l).sort ≡ true → place_at w t ≡ RwLock l a c → l < length w.locks → StepsAlone w t l (RwLock l a c) (word_at w l) (λ m. queue_at w (key_of l m))
-  steps_alone l a c readers is lt = steps_alone_at l (RwLock l a c) (λ m u e. way l u m (inl (ap lock_of is)) (line m) e) is lt
+  steps_alone l a c readers is lt = steps_alone_at l (RwLock l a c) tt (λ m u e. way l u m (inl (ap lock_of is)) (line m) e) is lt
     where
       line : (m : Line) → HasLine (rules_of (kind_at w l)).sort m
       line Main = tt
@@ -478,7 +479,7 @@ module _ (w : State) (t : ℕ) (shape : IsShaped w) (steady : IsSteady w) (count
 
   -- at a place of a `Once`, which has no second line
   once_steps_alone : (l : ℕ) (at : OncePlace) → place_at w t ≡ Once l at → l < length w.locks → StepsAlone w t l (Once l at) (word_at w l) (λ m. queue_at w (key_of l m))
-  once_steps_alone l at is lt = steps_alone_at l (Once l at) free_way is lt
+  once_steps_alone l at is lt = steps_alone_at l (Once l at) tt free_way is lt
     where
       sort : (rules_in w l).sort ≡ locks.Once
       sort = subst (FitsItsLock w) is (steady.stands.calls t)
@@ -488,14 +489,14 @@ module _ (w : State) (t : ℕ) (shape : IsShaped w) (steady : IsSteady w) (count
       free_way Second u e = absurd (never_aside w l (place_at w u) (steady.stands.calls u) sort ((steady.stands.sections u l Second).1 e))
 
   mutex_place_rests : (l : ℕ) (c : MutexPlace) → place_at w t ≡ Mutex l c → PlaceFits (length w.locks) (Mutex l c) → Mutex l c ≢ Idle → act_of (Mutex l c) ≢ act.TheVariants.Sleep → Leads 12 w t (λ v x. Rests x)
-  mutex_place_rests l (Lock entry retries a) is fits busy up = leads_more 8 12 w t (λ v x. Rests x) (omega arith) (lock_rests t l entry retries a (word_at w l) (owner_at w l) (section_at w (2 * l)) (queue_at w (2 * l)) w (facing l (Mutex l (Lock entry retries a)) is fits.0) (λ outside. free l (Mutex l (Lock entry retries a)) is refl outside (section_at w (2 * l)) refl) up)
+  mutex_place_rests l (Lock entry retries a) is fits busy up = leads_more 8 12 w t (λ v x. Rests x) (omega arith) (lock_rests t l entry retries a (word_at w l) (owner_at w l) (section_at w (2 * l)) (queue_at w (2 * l)) w (facing l (Mutex l (Lock entry retries a)) tt is fits.0) (λ outside. free l (Mutex l (Lock entry retries a)) tt is refl outside (section_at w (2 * l)) refl) up)
   mutex_place_rests l TryLock is fits busy up = leads_more 1 12 w t (λ v x. Rests x) (omega arith)
       (leads_so 1 w t (λ v x. (x ≡ (if is_locked (word_at w l) then outcome.TheVariants.End answer.TheVariants.No else outcome.TheVariants.End answer.TheVariants.Yes)) × (owner_at v l ≡ (if is_locked (word_at w l) then owner_at w l else Some t))) (λ v x. Rests x)
-      (λ v x h. try_so (is_locked (word_at w l)) x h.0) (try_leads t l (queue_at w (2 * l)) (section_at w (2 * l)) (word_at w l) (owner_at w l) w (facing l (Mutex l TryLock) is fits.0)))
-  mutex_place_rests l (Unlock a) is fits busy up = leads_more 8 12 w t (λ v x. Rests x) (omega arith) (unlock_rests t l a (word_at w l) (owner_at w l) (section_at w (2 * l)) (queue_at w (2 * l)) w (facing l (Mutex l (Unlock a)) is fits.0) (λ outside. free l (Mutex l (Unlock a)) is refl outside (section_at w (2 * l)) refl))
-  mutex_place_rests l UnlockFair is fits busy up = fair_rests t l 11 false (first_of (queue_at w (2 * l))) (drop 1 (queue_at w (2 * l))) w (omega arith) (unlock_fair_leads t l (queue_at w (2 * l)) (word_at w l) (owner_at w l) w (at_first l (Mutex l UnlockFair) is refl refl fits.0))
-  mutex_place_rests l Bump is fits busy up = fair_rests t l 11 true (first_of (queue_at w (2 * l))) (drop 1 (queue_at w (2 * l))) w (omega arith) (bump_leads t l (queue_at w (2 * l)) (word_at w l) (owner_at w l) w (at_first l (Mutex l Bump) is refl refl fits.0))
-  mutex_place_rests l (HandOff bumps a) is fits busy up = hand_off_rests t l bumps a (word_at w l) (owner_at w l) (section_at w (2 * l)) (queue_at w (2 * l)) w (facing l (Mutex l (HandOff bumps a)) is fits.0) (λ outside. free l (Mutex l (HandOff bumps a)) is refl outside (section_at w (2 * l)) refl)
+      (λ v x h. try_so (is_locked (word_at w l)) x h.0) (try_leads t l (queue_at w (2 * l)) (section_at w (2 * l)) (word_at w l) (owner_at w l) w (facing l (Mutex l TryLock) tt is fits.0)))
+  mutex_place_rests l (Unlock a) is fits busy up = leads_more 8 12 w t (λ v x. Rests x) (omega arith) (unlock_rests t l a (word_at w l) (owner_at w l) (section_at w (2 * l)) (queue_at w (2 * l)) w (facing l (Mutex l (Unlock a)) tt is fits.0) (λ outside. free l (Mutex l (Unlock a)) tt is refl outside (section_at w (2 * l)) refl))
+  mutex_place_rests l UnlockFair is fits busy up = fair_rests t l 11 false (first_of (queue_at w (2 * l))) (drop 1 (queue_at w (2 * l))) w (omega arith) (unlock_fair_leads t l (queue_at w (2 * l)) (word_at w l) (owner_at w l) w (at_first l (Mutex l UnlockFair) tt is refl refl fits.0))
+  mutex_place_rests l Bump is fits busy up = fair_rests t l 11 true (first_of (queue_at w (2 * l))) (drop 1 (queue_at w (2 * l))) w (omega arith) (bump_leads t l (queue_at w (2 * l)) (word_at w l) (owner_at w l) w (at_first l (Mutex l Bump) tt is refl refl fits.0))
+  mutex_place_rests l (HandOff bumps a) is fits busy up = hand_off_rests t l bumps a (word_at w l) (owner_at w l) (section_at w (2 * l)) (queue_at w (2 * l)) w (facing l (Mutex l (HandOff bumps a)) tt is fits.0) (λ outside. free l (Mutex l (HandOff bumps a)) tt is refl outside (section_at w (2 * l)) refl)
 
   place_rests : (p : Place) → place_at w t ≡ p → PlaceFits (length w.locks) p → p ≢ Idle → act_of p ≢ act.TheVariants.Sleep → runs_closure (act_of p) ≡ false → Leads 18 w t (λ v x. Rests x)
   place_rests Idle is fits busy up outside = absurd (busy refl)
@@ -558,12 +559,12 @@ module _ (w : State) (t : ℕ) (shape : IsShaped w) (steady : IsSteady w) (count
     succeeds [] = refl
     succeeds (y ∷ q) = refl
 
-    unlock_fair_alone : (station (place_at w t)).stands ≡ None → UnlockEnds l (first_of (queue_at w (2 * l))) v x → EndsAlone w t (Some (Releases l Exclusive true)) x v
-    unlock_fair_alone awake h = (h.0, other, λ mutex. h.1 ∙ succeeds (queue_at w (2 * l)))
+    unlock_fair_alone : IsSingle (place_at w t) → (station (place_at w t)).stands ≡ None → UnlockEnds l (first_of (queue_at w (2 * l))) v x → EndsAlone w t (Some (Releases l Exclusive true)) x v
+    unlock_fair_alone single awake h = (h.0, other, λ mutex. h.1 ∙ succeeds (queue_at w (2 * l)))
       where
         other : owner_at v l ≡ Some t → ⊥
         other own = let first : first_of (queue_at w (2 * l)) ≡ Some t = sym h.1 ∙ own in
-            let stood : 1 ≤ times t (queue_at w (2 * l)) = first_times t (queue_at w (2 * l)) first in let none : times t (queue_at w (2 * l)) ≡ 0 = absent w steady t awake l in omega arith
+            let stood : 1 ≤ times t (queue_at w (2 * l)) = first_times t (queue_at w (2 * l)) first in let none : times t (queue_at w (2 * l)) ≡ 0 = absent w steady t single awake l in omega arith
 
     bump_alone : LockEnds t l entries.Bump (first_of (queue_at w (2 * l))) (drop 1 (queue_at w (2 * l))) v x → EndsAlone w t (Some (Bumps l Exclusive)) x v
     bump_alone h = (
@@ -577,23 +578,23 @@ module _ (w : State) (t : ℕ) (shape : IsShaped w) (steady : IsSteady w) (count
 
   fairly : (l : ℕ) → place_at w t ≡ Mutex l UnlockFair → l < length w.locks → is_mutex (kind_at w l) ≡ true → (n : ℕ) (last : Outcome) → 12 ≤ n
       → EndsAlone w t (Some (Releases l Exclusive true)) (solo n w t last).outcome (solo n w t last).state
-  fairly l is lt kind n last le = unlock_fair_alone l kind (solo n w t last).state (solo n w t last).outcome (ap (λ p. (station p).stands) is)
-      (unlock_fair_leads t l (queue_at w (2 * l)) (word_at w l) (owner_at w l) w (at_first l _ is refl refl lt) n last (omega arith))
+  fairly l is lt kind n last le = unlock_fair_alone l kind (solo n w t last).state (solo n w t last).outcome (subst IsSingle (sym is) tt) (ap (λ p. (station p).stands) is)
+      (unlock_fair_leads t l (queue_at w (2 * l)) (word_at w l) (owner_at w l) w (at_first l _ tt is refl refl lt) n last (omega arith))
 
   call_alone : (l : ℕ) (fair : Bool) (c : MutexCall) → place_at w t ≡ Mutex l (mutex_first fair c) → l < length w.locks → is_mutex (kind_at w l) ≡ true → (n : ℕ) (last : Outcome) → 12 ≤ n
       → EndsAlone w t (Some (mutex_purpose fair l c)) (solo n w t last).outcome (solo n w t last).state
   call_alone l fair mutex_call.TheVariants.Lock is lt kind n last le = lock_alone l kind (solo n w t last).state (solo n w t last).outcome entries.Lock (owner_at w l) refl
-      (first_leads t l entries.Lock (queue_at w (2 * l)) false (word_at w l) (owner_at w l) (coded_for w steady t l _ is) w (at_first l _ is refl refl lt) n last (omega arith))
+      (first_leads t l entries.Lock (queue_at w (2 * l)) false (word_at w l) (owner_at w l) (coded_for w steady t l _ is) w (at_first l _ tt is refl refl lt) n last (omega arith))
   call_alone l fair mutex_call.TheVariants.LockTimed is lt kind n last le = lock_alone l kind (solo n w t last).state (solo n w t last).outcome entries.LockTimed (owner_at w l) refl
-      (first_leads t l entries.LockTimed (queue_at w (2 * l)) false (word_at w l) (owner_at w l) (coded_for w steady t l _ is) w (at_first l _ is refl refl lt) n last (omega arith))
+      (first_leads t l entries.LockTimed (queue_at w (2 * l)) false (word_at w l) (owner_at w l) (coded_for w steady t l _ is) w (at_first l _ tt is refl refl lt) n last (omega arith))
   call_alone l fair mutex_call.TheVariants.TryLock is lt kind n last le = try_alone l kind (solo n w t last).state (solo n w t last).outcome (is_locked (word_at w l)) refl
-      (try_leads t l (queue_at w (2 * l)) None (word_at w l) (owner_at w l) w (at_first l _ is refl refl lt) n last (omega arith))
+      (try_leads t l (queue_at w (2 * l)) None (word_at w l) (owner_at w l) w (at_first l _ tt is refl refl lt) n last (omega arith))
   call_alone l false mutex_call.TheVariants.Unlock is lt kind n last le = unlock_alone l kind (solo n w t last).state (solo n w t last).outcome
-      (subtract_leads t l (queue_at w (2 * l)) (word_at w l) (owner_at w l) w (at_first l _ is refl refl lt) n last (omega arith))
+      (subtract_leads t l (queue_at w (2 * l)) (word_at w l) (owner_at w l) w (at_first l _ tt is refl refl lt) n last (omega arith))
   call_alone l true mutex_call.TheVariants.Unlock is lt kind n last le = fairly l is lt kind n last le
   call_alone l fair mutex_call.TheVariants.UnlockFair is lt kind n last le = fairly l is lt kind n last le
   call_alone l fair mutex_call.TheVariants.Bump is lt kind n last le = bump_alone l kind (solo n w t last).state (solo n w t last).outcome
-      (bump_leads t l (queue_at w (2 * l)) (word_at w l) (owner_at w l) w (at_first l _ is refl refl lt) n last (omega arith))
+      (bump_leads t l (queue_at w (2 * l)) (word_at w l) (owner_at w l) w (at_first l _ tt is refl refl lt) n last (omega arith))
 
   -- a call that begins, stepped alone
   pub mutex_ends : (l : ℕ) (c : MutexCall) → place_at w t ≡ Mutex l (mutex_first (is_fair (kind_at w l)) c) → (n : ℕ) (last : Outcome) → 12 ≤ n
