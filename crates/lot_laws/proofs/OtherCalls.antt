@@ -52,7 +52,7 @@ use Rattle.lot_laws.proofs.PicksKept.{picked_counts, under_of}
 use Rattle.lot_laws.proofs.TakesAt.{at_most_one, member, member_times, told_once, told_places}
 use Rattle.lot_laws.proofs.WaiterCalls.{waiter_taken, waiter_taken_by, waiter_told}
 use Rattle.lot_laws.proofs.Glue.{IsInHandOf, aparts, held_tells, in_hand_where, of_carries, in_hand_here as in_hand_at}
-use Rattle.lot_laws.proofs.Glue.{IsOf, IsTakenAt, IsHandedAt, is_taken, is_handed, same, singles, of_own}
+use Rattle.lot_laws.proofs.Glue.{IsOf, IsTakenAt, IsHandedAt, is_taken, is_handed, same}
 use Rattle.lot_laws.proofs.CallEvents.{Happens, IsNoHandOff, Others}
 use Rattle.lot_laws.proofs.LockEvents.{Befalls, taken_call, wakes_others}
 
@@ -240,10 +240,7 @@ handed_goes w (RwLock k a c) t l fits h r = either (k == l) h
     either true g = by_call c fits.1 g
     either false g = absurd cc
 
-module _ (w : State) (t l : ℕ) (steady : IsSteady w) (own : lock_of (place_at w t) ≡ Some l) (p2 : Place) where
-  is_of : IsOf l (place_at w t)
-  is_of = of_own l (place_at w t) (singles w steady t) own
-
+module _ (w : State) (t l : ℕ) (steady : IsSteady w) (is_of : IsOf l (place_at w t)) (p2 : Place) where
   -- who is in its hand is so at its lock, and was handed that or not as its place says
   in_hand_here : (h : Bool) → carried_at (place_at w t) l ≡ Some h → (u : ℕ) → is_thread t (taker (place_at w u)) ≡ true → hand_at (place_at w u) l ≡ hand t h
   in_hand_here h carries u e =

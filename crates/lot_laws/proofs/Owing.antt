@@ -103,7 +103,7 @@ module _ (w v : State) (t : ℕ) (steady : IsSteady w) (behind : IsSteady v) whe
   -- where it goes on to a place of its lock, or ends
   module _ (q : Place) (at_q : place_at v t ≡ q) (l : ℕ) (m : Line) (o : Outcome) where
     inside_then : IsInside v t l m → Owes v t l m
-    inside_then i = (owing_is v t behind l m).1 (inl i)
+    inside_then i = (owing_is v t behind (singles v behind t) l m).1 (inl i)
 
     within_then : Owes v t l m → (profile q).doing.inside ≡ Some m → IsInside v t l m
     within_then h i = let own = owes_own (place_at v t) l m (singles v behind t) h in (inside_own v t behind l (singles v behind t) own m).0 (ap (λ p. (profile p).doing.inside) at_q ∙ i)
@@ -129,7 +129,7 @@ module _ (w v : State) (t : ℕ) (steady : IsSteady w) (behind : IsSteady v) whe
       since : Owes v t l m → IsInside v t l m ⊎ SeesWaiters w t l m o v
       since h =
           let own = own_before (ap lock_of (sym at_q) ∙ owes_own (place_at v t) l m (singles v behind t) h) (lock_of (place_at w t)) refl in
-          elim ((owing_is v t behind l m).0 h) [
+          elim ((owing_is v t behind (singles v behind t) l m).0 h) [
             | inl i ↦ inl i
             | inr g ↦ elim ((owes_next w t l steady own).since m (row_then q at_q l m o h)) [
               | inl i ↦ inl (within_then q at_q l m o h i)

@@ -25,7 +25,7 @@ use Rattle.lot_laws.proofs.Counts.{none_first}
 use Rattle.lot_laws.proofs.SingleCalls.{call_here, call_none}
 use Rattle.lot_laws.proofs.CondvarPromises.{StandsAt, two_stand_main}
 use Rattle.lot_laws.proofs.Glue.{single_or_two}
-use Rattle.lot_laws.proofs.Glue.{same, differ, taken_out, calls_none, inside_is, IsSingle, single_station, single_doing, single_taken, single_owes, singles}
+use Rattle.lot_laws.proofs.Glue.{same, differ, taken_out, calls_none, inside_is, IsSingle, single_station, single_doing, single_taken, single_owes}
 use Rattle.lot_laws.proofs.MutexTable.{queued_times}
 use Rattle.lot_laws.proofs.StandsMoved.{mutex_rules}
 use Rattle.lot_laws.proofs.LineActs.{IsOfLine, IsLineAct, line_act}
@@ -325,23 +325,23 @@ module _ (w : State) (t : ℕ) (steady : IsSteady w) where
     lets_out_at m h = elim h [ inl lets ↦ inl (lets_out lets) | inr wakes ↦ inr (subst (λ (c : CallState). WakesAside c.purpose l m) (sym call_own) wakes) ]
 
   -- who owes a wake on a line is inside its section, or lets others in and is on its way into it
-  pub owing_is : (l : ℕ) (m : Line) → Owes w t l m ↔ (IsInside w t l m ⊎ GoesToWake w t l m)
-  owing_is l m = (
-    (λ h. let own = owes_own (place_at w t) l m (singles w steady t) h in
-        let row = (row_promises l (singles w steady t) own).owing.owes m (sym (owed_own (place_at w t) l own (singles w steady t)) ∙ h) in
-        elim row [ inl i ↦ inl ((inside_own l (singles w steady t) own m).0 i) | inr g ↦ inr (g.0, lets_out_at l (singles w steady t) own m g.1) ]),
+  pub owing_is : IsSingle (place_at w t) → (l : ℕ) (m : Line) → Owes w t l m ↔ (IsInside w t l m ⊎ GoesToWake w t l m)
+  owing_is single l m = (
+    (λ h. let own = owes_own (place_at w t) l m single h in
+        let row = (row_promises l single own).owing.owes m (sym (owed_own (place_at w t) l own single) ∙ h) in
+        elim row [ inl i ↦ inl ((inside_own l single own m).0 i) | inr g ↦ inr (g.0, lets_out_at l single own m g.1) ]),
     λ h. elim h [
-      | inl i ↦ (let own = inside_calls (lock_of (place_at w t)) refl i in owed_own (place_at w t) l own (singles w steady t) ∙ (row_promises l (singles w steady t) own).owing.inside m ((inside_own l (singles w steady t) own m).1 i))
-      | inr g ↦ (let own = entering_calls (lock_of (place_at w t)) refl g.0 in owed_own (place_at w t) l own (singles w steady t) ∙ (row_promises l (singles w steady t) own).owing.entering m g.0 (lets_in_at l (singles w steady t) own m g.1))
+      | inl i ↦ (let own = inside_calls (lock_of (place_at w t)) refl i in owed_own (place_at w t) l own single ∙ (row_promises l single own).owing.inside m ((inside_own l single own m).1 i))
+      | inr g ↦ (let own = entering_calls (lock_of (place_at w t)) refl g.0 in owed_own (place_at w t) l own single ∙ (row_promises l single own).owing.entering m g.0 (lets_in_at l single own m g.1))
     ],
   )
     where
       inside_calls : (o : Option ℕ) → lock_of (place_at w t) ≡ o → IsInside w t l m → lock_of (place_at w t) ≡ Some l
-      inside_calls o e i = doing_calls (place_at w t) l (singles w steady t) (λ idles. let f : (station_at (place_at w t) l).inside ≡ Some m = (steady.stands.sections t l m).1 i in
+      inside_calls o e i = doing_calls (place_at w t) l single (λ idles. let f : (station_at (place_at w t) l).inside ≡ Some m = (steady.stands.sections t l m).1 i in
           let g : ◌≡◌ {A = Option Line} None (Some m) = sym (ap (λ (d : Doing). d.inside) idles) ∙ inside_is (place_at w t) l ∙ f in cc)
 
       entering_calls : (o : Option ℕ) → lock_of (place_at w t) ≡ o → act_of (place_at w t) ≡ Enter (One (key_of l m)) → lock_of (place_at w t) ≡ Some l
       entering_calls None e a = absurd (let f : Rest ≡ Enter (One (key_of l m)) = sym (ap act_of (calls_none (place_at w t) e)) ∙ a in cc)
       entering_calls (Some k) e a =
-          let of : IsOfLine k (key_of l m) = subst (IsLineAct k (station (place_at w t))) a (line_act w (place_at w t) k (steady.stands.calls t) e) in
+          let of : IsOfLine k (key_of l m) = subst (IsLineAct k (station (place_at w t))) a (line_act (place_at w t) k single e) in
           e ∙ ap Some (sym (key_one l k m of.0 of.1))

@@ -49,7 +49,7 @@ use Rattle.lot_laws.specs.Stations.{station, station_at, Station}
 use Rattle.lot_laws.specs.SitesOf.{FitsItsLock, IsSteady, stood_in, key_of}
 use Rattle.lot_laws.specs.Refinement.{lock_state, locks_of, call_state, sleeps, runs_closure, keys_entered, call_on_both}
 use Rattle.lot_laws.proofs.SingleCalls.{call_none}
-use Rattle.lot_laws.proofs.Glue.{IsOfTwo, IsSingle, fits_two, calls_none, condvar_apart, single_late, single_or_two}
+use Rattle.lot_laws.proofs.Glue.{IsOf, of_own, IsOfTwo, IsSingle, fits_two, calls_none, condvar_apart, single_late, single_or_two}
 use Rattle.lot_laws.proofs.CondvarLate.{IsLate, condvar_acts, two_late, two_may_late}
 use Rattle.lot_laws.proofs.LineActs.{IsOfLine, IsLineAct, line_act, holds_line, key_there, late_line, calls_there}
 use Rattle.lot_laws.proofs.GoneKept.{none_is}
@@ -376,7 +376,7 @@ module _ (w : State) (t : ℕ) where
   took_all key (whom.TheVariants.Picked start recursive) k = refl
   took_all key whom.TheVariants.All k = refl
 
-  module _ (shape : IsShaped w) (steady : IsSteady w) (l : ℕ) (own : lock_of (place_at w t) ≡ Some l) (lt : l < length w.locks) where
+  module _ (shape : IsShaped w) (steady : IsSteady w) (l : ℕ) (is_of : IsOf l (place_at w t)) (lt : l < length w.locks) where
     there_is : (key : ℕ) → IsOfLine l key → key < length w.sections
     there_is key h = subst (λ k. k < length w.sections) (sym h.1) (key_there w l h.0 shape lt)
 
@@ -384,7 +384,7 @@ module _ (w : State) (t : ℕ) where
     act_sections : (p : Place) (a : Act) → can_do w a ≡ true → IsLineAct l (station (place_at w t)) a → (key : ℕ) → SectionChanges (section_at w key) t (section_at (state_after_act w t p a) key)
     act_sections p (Enter (One k)) can h key = filled_changes k (Some t) (there_is k h) (inr (inl (none_is (section_at w k) can, refl))) key
     act_sections p (Enter (Two first second)) can h key = absurd h
-    act_sections p (act.Leave (One k) x) can h key = rw (left_sections (One k) x key) (filled_changes k None (there_is k (h.0, h.2)) (inr (inr (holds_line w t l steady own k h, refl))) key)
+    act_sections p (act.Leave (One k) x) can h key = rw (left_sections (One k) x key) (filled_changes k None (there_is k (h.0, h.2)) (inr (inr (holds_line w t l steady is_of k h, refl))) key)
     act_sections p (act.Leave (Two first second) x) can h key = absurd h
     act_sections p (Park k key_there check x) can h key = inl (parked_sections (holds check (word_at w k)) _ key)
     act_sections p (Take k x) can h key = inl (took_all k x key)
@@ -394,11 +394,11 @@ module _ (w : State) (t : ℕ) where
     act_sections p a can h key = inl refl
 
 pub gone_sections : (w : State) (t : ℕ) → IsShaped w → IsSteady w → can_go w t ≡ true → (key : ℕ) → SectionChanges (section_at w key) t (section_at (state_after_go w t) key)
-gone_sections w t shape steady can = by_lock (lock_of (place_at w t)) refl
+gone_sections w t shape steady can = elim (single_or_two (place_at w t)) [ inl single ↦ by_lock single (lock_of (place_at w t)) refl | inr two ↦ absurd (fits_two w t steady two).begun ]
   where
-    by_lock : (o : Option ℕ) → lock_of (place_at w t) ≡ o → (key : ℕ) → SectionChanges (section_at w key) t (section_at (state_after_act w t (place_at w t) (act_of (place_at w t))) key)
-    by_lock (Some l) own key = act_sections w t shape steady l own (calls_there (length w.locks) (place_at w t) l own (shape.places t)) (place_at w t) (act_of (place_at w t)) can (line_act w (place_at w t) l (steady.stands.calls t) own) key
-    by_lock None none key = absurd (let e : can_do w (act_of (place_at w t)) ≡ false = ap (λ p. can_do w (act_of p)) (calls_none (place_at w t) none) in cc)
+    by_lock : IsSingle (place_at w t) → (o : Option ℕ) → lock_of (place_at w t) ≡ o → (key : ℕ) → SectionChanges (section_at w key) t (section_at (state_after_act w t (place_at w t) (act_of (place_at w t))) key)
+    by_lock single (Some l) own key = act_sections w t shape steady l (of_own l (place_at w t) single own) (calls_there (length w.locks) (place_at w t) l own (shape.places t)) (place_at w t) (act_of (place_at w t)) can (line_act (place_at w t) l single own) key
+    by_lock single None none key = absurd (let e : can_do w (act_of (place_at w t)) ≡ false = ap (λ p. can_do w (act_of p)) (calls_none (place_at w t) none) in cc)
 
 -- ---------------------------------------------------------------- the other turns
 

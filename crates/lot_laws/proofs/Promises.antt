@@ -324,7 +324,7 @@ module _ (w : State) (steady : IsSteady w) where
     nobody_forgotten = record { main = main; second = second };
     callers = callers;
     runs = λ t l. (running t l, closures t l);
-    owing = λ t l m. owing_is w t steady l m;
+    owing = λ t l m. owing_is w t steady (singles w steady t) l m;
     second_line = second_line;
     retrying = retrying;
     handing = λ t h. handed_over t h.0 h.1;
