@@ -162,23 +162,23 @@ module _ (w : State) (steady : IsSteady w) where
   -- ---------------------------------------------------------------- nobody is forgotten
 
   -- who is to look after the waiters of a line does so
-  module _ (t l : ℕ) (m : Line) (debtor : IsDebtorIn (sort_at w l) (doing_on (place_at w t) l) m) (unowned : (lock_state w l).exclusive ≢ Some t) where
+  module _ (t l : ℕ) (m : Line) (single : IsSingle (place_at w t)) (debtor : IsDebtorIn (sort_at w l) (doing_on (place_at w t) l) m) (unowned : (lock_state w l).exclusive ≢ Some t) where
     own : lock_of (place_at w t) ≡ Some l
-    own = doing_calls (place_at w t) l (singles w steady t) (λ idles. idle_owes (sort_at w l) m (subst (λ d. IsDebtorIn (sort_at w l) d m) idles debtor))
+    own = doing_calls (place_at w t) l single (λ idles. idle_owes (sort_at w l) m (subst (λ d. IsDebtorIn (sort_at w l) d m) idles debtor))
 
     row : RowLooksAfter (sort_at w l) l (profile (place_at w t)) (act_of (place_at w t)) m
-    row = (row_promises w t steady l (singles w steady t) own).debtor m (subst (λ d. IsDebtorIn (sort_at w l) d m) (doing_own (place_at w t) l own) debtor)
+    row = (row_promises w t steady l single own).debtor m (subst (λ d. IsDebtorIn (sort_at w l) d m) (doing_own (place_at w t) l own) debtor)
         (λ claims. unowned ((steady.sites.site l).held t (Has Exclusive) (ap (λ (d : Doing). d.claims) (doing_own (place_at w t) l own) ∙ claims)))
 
     debt_of : (n : Line) → HasDebt (sort_at w l) l (profile (place_at w t)) n → IsDebtorOf w t l n
-    debt_of Main (inl wakes) = inl (owed_own (place_at w t) l own (singles w steady t) ∙ wakes.0, subst (λ (c : CallState). WakesWaiters (sort_at w l) c.purpose c.gave_up c.recalls l) (sym (call_own w t steady l (singles w steady t) own)) wakes.1)
-    debt_of Main (inr again) = inr (ap (λ (c : CallState). c.retries) (call_own w t steady l (singles w steady t) own) ∙ ap (λ b. if b then Some l else None) again.0, ap (λ (c : CallState). counts_some (sort_at w l) (want_of c.purpose)) (call_own w t steady l (singles w steady t) own) ∙ again.1)
-    debt_of Second owes = owed_own (place_at w t) l own (singles w steady t) ∙ owes
+    debt_of Main (inl wakes) = inl (owed_own (place_at w t) l own single ∙ wakes.0, subst (λ (c : CallState). WakesWaiters (sort_at w l) c.purpose c.gave_up c.recalls l) (sym (call_own w t steady l single own)) wakes.1)
+    debt_of Main (inr again) = inr (ap (λ (c : CallState). c.retries) (call_own w t steady l single own) ∙ ap (λ b. if b then Some l else None) again.0, ap (λ (c : CallState). counts_some (sort_at w l) (want_of c.purpose)) (call_own w t steady l single own) ∙ again.1)
+    debt_of Second owes = owed_own (place_at w t) l own single ∙ owes
 
     stands_nowhere : (k : ℕ) → standing t (lock_state w k) ≡ 0
     stands_nowhere k = elim (cases_lt (standing t (lock_state w k)) 1) [
       | inl none ↦ omega arith
-      | inr some ↦ absurd (elim (stands_waiting w t steady k (singles w steady t) some).1 [ inl in_line ↦ in_line row.stands | inr taken ↦ taken row.taken ])
+      | inr some ↦ absurd (elim (stands_waiting w t steady k single some).1 [ inl in_line ↦ in_line row.stands | inr taken ↦ taken row.taken ])
     ]
 
     looks_after : IsLookedAfter w l m
@@ -196,7 +196,7 @@ module _ (w : State) (steady : IsSteady w) where
   in_line l some now empty =
       let free = open_unowned (sort_at w l) (lock_state w l) (steady.sites.site l).state.unwritten now in
       let d = (steady.sites.site l).main (inl some) now empty in
-      looks_after d.0 l Main d.1 (λ own. let e : ◌≡◌ {A = Option ℕ} None (Some d.0) = sym free ∙ own in cc)
+      looks_after d.0 l Main (singles w steady d.0) d.1 (λ own. let e : ◌≡◌ {A = Option ℕ} None (Some d.0) = sym free ∙ own in cc)
 
   main : (t l : ℕ) → WaitsFor w t l → IsOpenNow (rules_in w l) (lock_state w l) → WasNeverFull w l → IsLookedAfter w l Main
   main t l waiting open_now full =
@@ -230,7 +230,7 @@ module _ (w : State) (steady : IsSteady w) where
   second : (l : ℕ) → (lock_state w l).aside ≢ None → readers (lock_state w l) ≡ 0 → IsLookedAfter w l Second
   second l aside none =
       let d = (steady.sites.site l).second aside none in
-      looks_after d.0 l Second d.1 (λ own. pending_alone d.0 own (lock_state w l).aside refl aside)
+      looks_after d.0 l Second (singles w steady d.0) d.1 (λ own. pending_alone d.0 own (lock_state w l).aside refl aside)
     where
       -- beside an owner that has the lock alone nobody is pending
       pending_alone : (t : ℕ) → (lock_state w l).exclusive ≡ Some t → (o : Option ℕ) → (lock_state w l).aside ≡ o → o ≢ None → ⊥
