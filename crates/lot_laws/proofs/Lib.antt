@@ -121,3 +121,6 @@ pub mod WaitsThere
 pub mod WaitsBeside
 pub mod WaitsInside
 pub mod WaitsWaking
+pub mod WaitsTaking
+pub mod WaitsRefused
+pub mod NotifiesWords
