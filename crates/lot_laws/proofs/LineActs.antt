@@ -30,7 +30,7 @@ use Rattle.lot_machine.specs.Machine.{State, place_at, section_at, queue_at}
 use Rattle.lot_machine.specs.Fits.{IsShaped, PlaceFits}
 use Rattle.lot_laws.specs.MutexDeeds.{mutex_station}
 use Rattle.lot_laws.specs.Stations.{Station, station, station_at, station_by}
-use Rattle.lot_laws.specs.SitesOf.{FitsItsLock, IsSteady, key_of, stood_in}
+use Rattle.lot_laws.specs.SitesOf.{IsSteady, key_of, stood_in}
 use Rattle.lot_laws.proofs.Counts.{without_absent}
 use Rattle.lot_laws.proofs.Glue.{IsOf, station_here, station_elsewhere, IsSingle, single_late}
 use Rattle.lot_rwlock.specs.declared.places.Admission.{Admission}

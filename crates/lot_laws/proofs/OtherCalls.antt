@@ -19,7 +19,7 @@ use Rattle.lot_acts.specs.declared.acts.Reply.{Reply}
 use Rattle.lot_acts.specs.declared.acts.Reply.TheVariants.{TakenBy, Woken}
 use Rattle.lot_acts.specs.Owners.{is_thread}
 use Rattle.lot_acts.specs.Profiles.{hand}
-use Rattle.lot_steps.specs.Steps.{lock_of, next_place, taker}
+use Rattle.lot_steps.specs.Steps.{next_place, taker}
 use Rattle.lot_steps.specs.declared.places.Place.{Place}
 use Rattle.lot_steps.specs.declared.places.Place.TheVariants.{Idle, RwLock, Mutex, Once, Condvar}
 use Rattle.lot_rwlock_fair.specs.declared.places.RwLockCallPlace.{RwLockCallPlace}
