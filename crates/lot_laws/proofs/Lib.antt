@@ -117,6 +117,15 @@ pub mod CondvarRows
 pub mod CondvarsKept
 pub mod CondvarLed
 pub mod CondvarWent
+pub mod CondvarOwn
+pub mod CondvarSteps
+pub mod CondvarGoes
+pub mod WaitGoes
+pub mod NotifyGoes
+pub mod LookGoes
+pub mod WaitRests
+pub mod WaitSettles
+pub mod CondvarStep
 pub mod WaitsThere
 pub mod WaitsBeside
 pub mod WaitsInside
@@ -124,3 +133,4 @@ pub mod WaitsWaking
 pub mod WaitsTaking
 pub mod WaitsRefused
 pub mod NotifiesWords
+pub mod NotifiesBoth
