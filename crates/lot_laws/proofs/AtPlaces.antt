@@ -19,7 +19,7 @@ use Rattle.lot_laws.specs.MutexDeeds.{mutex_doing}
 use Rattle.lot_laws.specs.Stations.{hand, station, station_at, doing_on}
 use Rattle.lot_laws.specs.SitesOf.{IsSteady, FitsItsLock, rules_in, carried_at, hand_at, stood_in}
 use Rattle.lot_laws.proofs.Counts.{without_absent}
-use Rattle.lot_laws.proofs.Glue.{same, doing_here, nothing_at, untaken, singles}
+use Rattle.lot_laws.proofs.Glue.{IsSingle, same, doing_here, nothing_at, untaken}
 use Rattle.lot_laws.proofs.MutexTable.{mutex, queued_times}
 use Rattle.lot_laws.proofs.StandsMoved.{mutex_rules}
 use Rattle.lot_laws.proofs.SitesPromise.{coded_at}
@@ -69,10 +69,10 @@ module _ (w : State) (steady : IsSteady w) where
     pub queued_by : locks.times t (lock_state w l).queue ≡ stood_in (station_at (place_at w t) l).stands Main
     queued_by = queued_times t (queue_at w (2 * l)) ∙ steady.stands.lines t l Main
 
-  -- who stands in no line leaves none
-  module _ (t : ℕ) (nowhere_now : (station (place_at w t)).stands ≡ None) where
+  -- who stands in no line leaves none, in a call of one lock
+  module _ (t : ℕ) (single : IsSingle (place_at w t)) (nowhere_now : (station (place_at w t)).stands ≡ None) where
     pub absent : (l : ℕ) → times t (queue_at w (2 * l)) ≡ 0
-    absent l = steady.stands.lines t l Main ∙ ap (λ x. stood_in x Main) (nothing_at (place_at w t) l (singles w steady t) (λ x. x.stands) refl nowhere_now)
+    absent l = steady.stands.lines t l Main ∙ ap (λ x. stood_in x Main) (nothing_at (place_at w t) l single (λ x. x.stands) refl nowhere_now)
 
     pub same_without : (l : ℕ) → get_or (map (without t) w.queues) (2 * l) [] ≡ queue_at w (2 * l)
     same_without l = get_or-map (without t) w.queues (2 * l) [] ∙ without_absent t (queue_at w (2 * l)) (absent l)

@@ -453,6 +453,7 @@ module _ (t l : ℕ) (a : Admission) where
     thread = rw (length-set w.places t (RwLock l a (Plain p))) f.thread;
     lock = f.lock;
     place = get_or-set_same w.places t (RwLock l a (Plain p)) Idle f.thread;
+    single = tt;
     word = f.word;
     queue = f.queue;
     way = f.way;

@@ -257,7 +257,7 @@ module _ (w : State) (t l : ℕ) (a : Admission) (x : Access) (holds : IsWorld w
           (same_ends.1 l ∙ ap (λ (r : Ran). lock_state r.state l) from_there ∙ ap (λ (z : State). lock_state z l) e.state)
           (same_ends.0 ∙ ap (λ (r : Ran). r.outcome) from_there ∙ e.outcome_is) x
           (enters_alone plain_w t l a x Patient e.room outcome.NotNow e.enough plain.steady e.shares plain.place
-          (record { shape = plain.shape; steady = plain.steady; counted = plain.counted; condvars = plain.condvars; running = plain.running; thread = plain.thread; lock = plain.lock; place = plain.place; word = refl; queue = λ m. refl; way = plain.way })
+          (record { shape = plain.shape; steady = plain.steady; counted = plain.counted; condvars = plain.condvars; running = plain.running; thread = plain.thread; lock = plain.lock; place = plain.place; single = plain.single; word = refl; queue = λ m. refl; way = plain.way })
           (runs_alone e.room plain_w t (record { shaped = plain.shape; steady = plain.steady; counted = plain.counted; condvars = plain.condvars; running = plain.running })));
     }
 

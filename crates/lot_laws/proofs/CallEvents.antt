@@ -38,7 +38,7 @@ use Rattle.lot_laws.specs.MutexDeeds.{Act, acts}
 use Rattle.lot_laws.specs.SitesOf.{FollowAll, IsSteady, Goes, ActsNeeded, rules_in, after_acts, site_of}
 use Rattle.lot_laws.proofs.ActsKept.{goes_steady}
 use Rattle.lot_laws.proofs.AtPlaces.{taken_nobody}
-use Rattle.lot_laws.proofs.Glue.{IsSingle, put_here, put_other, singles}
+use Rattle.lot_laws.proofs.Glue.{IsSingle, put_here, put_other}
 use Rattle.lot_laws.proofs.SingleCalls.{call_here}
 use Rattle.lot_laws.proofs.OwnHand.{own_hand}
 
@@ -173,7 +173,7 @@ GoesAs v t l o =
 -- the call of a thread goes on by an event as its rows say, or it has ended
 abbrev pub LeadsTo : State → ℕ → ℕ → Next Profile → Outcome → Type 0
 LeadsTo v t l (next.At row) o = (lock_of (place_at v t) ≡ Some l) × (profile (place_at v t) ≡ row)
-    × GoesAs v t l o
+    × GoesAs v t l o × IsSingle (place_at v t)
 LeadsTo v t l (next.End a) o = (place_at v t ≡ Idle) × (o ≡ outcome.TheVariants.End a)
 
 -- the calls of the other threads become what an event makes of them
@@ -357,8 +357,8 @@ module _ (w v : State) (t l : ℕ) (c : Option LockCase) (h : Happens w v t (eve
   pub others_follow : IsNoHandOff c → Others w v t (event_by l c) → OthersFollow w v t (event_by l c)
   others_follow plain others u ne = ap (call_state (place_at v u)) (λ i k. rights_stay plain u ne k i) ∙ others u ne (rights w u)
 
-  -- a thread at a place of a call of the lock
-  module _ (p : Place) (is : place_at w t ≡ p) (of : lock_of p ≡ Some l) where
+  -- a thread at a place of a call of this lock alone
+  module _ (p : Place) (is : place_at w t ≡ p) (of : lock_of p ≡ Some l) (single : IsSingle p) where
     abbrev call_then : CallState
     call_then = call_by l (profile p) (rights w t)
 
@@ -366,7 +366,7 @@ module _ (w v : State) (t l : ℕ) (c : Option LockCase) (h : Happens w v t (eve
     behind = after_event (rules_in w l) (event_by l c) (lock_state w l) t
 
     called_by : (r : ℕ → Rights) → call_state (place_at w t) r ≡ call_by l (profile p) r
-    called_by r = ap (λ q. call_state q r) is ∙ call_here p l (subst IsSingle is (singles w h.before t)) of r
+    called_by r = ap (λ q. call_state q r) is ∙ call_here p l single of r
 
     may_happen : MayCome l (profile p) (event_by l c) → MayHappen (locks_of w) t (event_by l c)
     may_happen may = by_case c may needs_here
@@ -383,14 +383,14 @@ module _ (w v : State) (t l : ℕ) (c : Option LockCase) (h : Happens w v t (eve
       where
         -- it is in no hand of its own
         unwoken : (c : Option LockCase) (x : CallState) → woken (locks_of w) t (event_by l c) t x ≡ x
-        unwoken (Some locks.Wake) x = rw (own_hand w h.before t l) refl
-        unwoken (Some (HandOff y z)) x = rw (own_hand w h.before t l) refl
+        unwoken (Some locks.Wake) x = rw (own_hand w h.before t l (subst IsSingle (sym is) single)) refl
+        unwoken (Some (HandOff y z)) x = rw (own_hand w h.before t l (subst IsSingle (sym is) single)) refl
         unwoken None x = refl
         unwoken (Some case) x = refl
 
         led : (n : Next Profile) → ComesTo (rules_in w l) l (profile p) (event_by l c) (lock_state w l) behind t n → LeadsTo v t l n o → CallLed w v t (event_by l c) call_then o
         led (next.At row) comes leads = inl (
-          call_here (place_at v t) l (singles v h.after t) leads.0 (rights v t) ∙ ap (λ x. call_by l x (rights v t)) leads.1
+          call_here (place_at v t) l leads.3 leads.0 (rights v t) ∙ ap (λ x. call_by l x (rights v t)) leads.1
               ∙ ap (call_by l row) (λ i k. rights_led t k i) ∙ comes (rights w t) refl ∙ sym (unwoken c (going_on (event_by l c) call_then)),
           (l, leads.2),
         )

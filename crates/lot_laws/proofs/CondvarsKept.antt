@@ -1,12 +1,11 @@
 -- Each step keeps what holds of condition variables: those that its call is not of are as they were.
-use Rattle.std.proofs.Common.{ℕ, Bool, true, false, Option, Some, None, if◌then◌else◌, ◌==◌, ◌≡◌, ◌≢◌, ◌⊎◌, ◌*◌, ◌<◌, length, inl, inr, refl, sym, ◌∙◌, ap, subst, get_or-set_same, get_or-set_other}
+use Rattle.std.proofs.Common.{ℕ, Bool, true, false, Option, Some, None, if◌then◌else◌, ◌==◌, ◌≡◌, ◌≢◌, ◌⊎◌, ◌<◌, length, inl, inr, refl, sym, ◌∙◌, ap, subst, get_or-set_same, get_or-set_other}
 use Rattle.std.proofs.lemmas.Bool.{cases_eq, eqb-true}
 use Rattle.lot_calls.specs.declared.calls.Step.{Step}
 use Rattle.lot_calls.specs.declared.calls.Turn.{Turn}
 use Rattle.lot_calls.specs.declared.calls.Turn as turn
 use Rattle.lot_calls.specs.declared.outcomes.Outcome.{Outcome}
 use Rattle.lot_calls.specs.declared.outcomes.Outcome as outcome
-use Rattle.lot_acts.specs.Profiles.{Profile}
 use Rattle.lot_acts.specs.Stations.{Station, nowhere, station_by}
 use Rattle.lot_condvar.specs.declared.places.CondvarPlace.{CondvarPlace}
 use Rattle.lot_condvar.specs.declared.places.CondvarPlace.TheVariants.{Wait, Look, Notify}
@@ -15,18 +14,19 @@ use Rattle.lot_condvar.specs.CondvarSteps.{mutex_beside}
 use Rattle.lot_steps.specs.declared.places.Place.{Place}
 use Rattle.lot_steps.specs.declared.places.Place.TheVariants.{Idle, Mutex, RwLock, Once, Condvar}
 use Rattle.lot_steps.specs.Steps.{is_lock, lock_of, profile, profile_at}
-use Rattle.abstract_locks.specs.Condvars.{CondvarSite, IsCondvar, moved_of}
+use Rattle.abstract_locks.specs.Condvars.{IsCondvar, moved_of}
 use Rattle.abstract_locks.specs.Locks as locks
 use Rattle.abstract_locks.specs.Locks.{LockCase, LockState, Rules, SeeOwner, Wake, after_case, left_behind, putting}
 use Rattle.abstract_locks.specs.Purposes.{Purpose, Enters, Releases, Converts, Bumps, CallsOnce, Awaits, Waits, Notifies, IsMadeOf, NotifiesBeside, Recall, lock_for, rules_of}
-use Rattle.abstract_locks.specs.Runs.{AtLock, CallState, Event, GoesOn, IsStep, LocksState, MayDo, MayHappen, MayTurn, Does, Moves, Nothing, SectionChanges, going_on, joined_by, locks_after, no_call, rules_at, unless_ended, woken}
-use Rattle.abstract_locks.specs.Sites.{Line, Main}
+use Rattle.abstract_locks.specs.Runs.{AtLock, CallState, Event, GoesOn, IsStep, LocksState, MayDo, MayHappen, MayTurn, Does, Moves, Nothing, SectionChanges, going_on, joined_by, locks_after, rules_at, unless_ended, woken}
+use Rattle.abstract_locks.specs.Sites.{Main}
 use Rattle.lot_machine.specs.Fits.{IsShaped}
 use Rattle.lot_machine.specs.Machine.{State, after, kind_at, place_at, put, section_at, step_outcome}
 use Rattle.lot_laws.specs.Promises.{KnowsRights}
 use Rattle.lot_laws.specs.Refinement.{call_at, call_state, lock_state, locks_of}
 use Rattle.lot_laws.specs.Stations.{station_at}
 use Rattle.lot_laws.specs.SitesOf.{AreCondvars, AreCounted, FitsCondvar, FitsItsLock, IsSteady, condvar_of, inside_as, key_of, rules_in}
+use Rattle.lot_laws.proofs.Glue.{singles}
 use Rattle.lot_laws.proofs.Befallen.{others_keep_it}
 use Rattle.lot_laws.proofs.CallEvents.{rights}
 use Rattle.lot_laws.proofs.CondvarRows.{names_of, names_unmoved, row_says, stage_of, stage_unmoved}
@@ -54,7 +54,7 @@ module _ (w : State) (steady : IsSteady w) (t : ℕ) where
   call_lock = by_place (place_at w t) refl
     where
       here : (l : ℕ) (p : Place) → place_at w t ≡ p → IsSingle p → lock_of p ≡ Some l → of_purpose (call_at w t).purpose ≡ Some l
-      here l p is single own = ap (λ (c : CallState). of_purpose c.purpose) (call_here (place_at w t) l (subst IsSingle (sym is) single) (ap lock_of is ∙ own) (rights w t)) ∙ ap Some (row_promises w t steady l (ap lock_of is ∙ own)).own
+      here l p is single own = ap (λ (c : CallState). of_purpose c.purpose) (call_here (place_at w t) l (subst IsSingle (sym is) single) (ap lock_of is ∙ own) (rights w t)) ∙ ap Some (row_promises w t steady l (subst IsSingle (sym is) single) (ap lock_of is ∙ own)).own
 
       by_place : (p : Place) → place_at w t ≡ p → of_purpose (call_at w t).purpose ≡ lock_of p
       by_place Idle is = ap (λ q. of_purpose (call_state q (rights w t)).purpose) is
@@ -73,7 +73,7 @@ module _ (w : State) (steady : IsSteady w) (t : ℕ) where
       Knowing c = KnowsRights (λ l. (rules_in w l).sort) c.purpose
 
       here : (l : ℕ) (p : Place) → place_at w t ≡ p → IsSingle p → lock_of p ≡ Some l → Knowing (call_at w t)
-      here l p is single own = subst Knowing (sym (call_here (place_at w t) l (subst IsSingle (sym is) single) (ap lock_of is ∙ own) (rights w t))) ((row_promises w t steady l (ap lock_of is ∙ own)).known (λ l. (rules_in w l).sort) refl)
+      here l p is single own = subst Knowing (sym (call_here (place_at w t) l (subst IsSingle (sym is) single) (ap lock_of is ∙ own) (rights w t))) ((row_promises w t steady l (subst IsSingle (sym is) single) (ap lock_of is ∙ own)).known (λ l. (rules_in w l).sort) refl)
 
       by_place : (p : Place) → place_at w t ≡ p → Knowing (call_at w t)
       by_place Idle is = subst (λ q. Knowing (call_state q (rights w t))) (sym is) tt

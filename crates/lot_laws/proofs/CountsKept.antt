@@ -2,6 +2,7 @@
 -- thread brings anybody into its hand or lets anybody go.
 use Rattle.std.proofs.Common.{ℕ, Bool, true, false, Option, Some, None, if◌then◌else◌, ◌==◌, ◌≡◌, ◌≢◌, ◌<◌, inl, inr, length, nat_lt, refl, sym, ◌∙◌, ap, subst, get_or, get_or-set_same, length-set, set}
 use Rattle.lot_steps.specs.declared.places.Place.TheVariants.{Once}
+use Rattle.lot_laws.proofs.Glue.{singles}
 use Rattle.lot_laws.proofs.PlacePromises.{calls_one_lock}
 use Rattle.lot_laws.proofs.Counting.{once_counted, condvar_counted}
 use Rattle.lot_once.specs.OnceSteps.{once_next}
@@ -74,7 +75,7 @@ module _ (w v : State) (a : ℕ) (steady : IsSteady w) (behind : IsSteady v) (co
     -- whom it has in hand, the abstract lock says, and no case of another changes that
     same_wanted : t ≢ a → (x : Turn) (o : Outcome) → Turned (locks_of w) a x o (locks_of v) → (u : ℕ) → wanted_of t (held (place_at v u)) ≡ wanted_of t (held (place_at w u))
     same_wanted ne x o turned u = same_hand v t l behind then_so.of then_so.any then_so.carries u
-        ∙ turned_so (λ (s z : LockState). wanted_of t (z.taken u) ≡ wanted_of t (s.taken u)) (locks_of w) (locks_of v) a l (calls_one_lock w a steady) refl
+        ∙ turned_so (λ (s z : LockState). wanted_of t (z.taken u) ≡ wanted_of t (s.taken u)) (locks_of w) (locks_of v) a l (calls_one_lock w a steady (singles w steady a)) refl
         (λ c needs. others_hold (rules_in w l) (lock_state w l) t a u (steady.sites.site l).state ne c needs) x o turned
         ∙ sym (same_hand w t l steady before.of before.any before.carries u)
 

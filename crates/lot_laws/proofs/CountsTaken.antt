@@ -28,6 +28,7 @@ use Rattle.abstract_locks.specs.Runs.{Turned}
 use Rattle.abstract_locks.specs.Sites.{Main, has_readers}
 use Rattle.lot_machine.specs.Machine.{State, held, place_at, places_told, put, queue_at, sharers, state_after_take, successor_from, want_of_successor, wants_more_in_hand}
 use Rattle.lot_machine.proofs.QueueLemmas.{told_count}
+use Rattle.lot_laws.proofs.Glue.{singles}
 use Rattle.lot_laws.proofs.PlacePromises.{calls_one_lock}
 use Rattle.lot_laws.specs.Refinement.{lock_state, locks_of}
 use Rattle.lot_laws.specs.SitesOf.{stations_of, FitsItsLock, IsCounted, IsSteady, carried_at, rules_in}
@@ -59,7 +60,7 @@ module _ (w : State) (t l : ℕ) (steady : IsSteady w) where
 
   -- behind a step of a thread that had nobody in hand
   one_more_then : (v : State) (x : Turn) (o : Outcome) → (rules_in w l).sort ≢ Once → Turned (locks_of w) t x o (locks_of v) → HasTakenNobody (lock_state w l) t → OneMore (lock_state v l).taken t
-  one_more_then v x o lock turned none = turned_so (λ (s z : LockState). OneMore z.taken t) (locks_of w) (locks_of v) t l (calls_one_lock w t steady) (nobody_more t (lock_state w l).taken none)
+  one_more_then v x o lock turned none = turned_so (λ (s z : LockState). OneMore z.taken t) (locks_of w) (locks_of v) t l (calls_one_lock w t steady (singles w steady t)) (nobody_more t (lock_state w l).taken none)
       (λ c needs. takes_one_more (lock_state w l) t none (rules_in w l) lock few_picked c needs) x o turned
 
 -- by where it stands then

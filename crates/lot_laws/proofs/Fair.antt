@@ -29,6 +29,7 @@ use Rattle.lot_mutex.specs.declared.hand_off.HandOffAt.{HandOffAt}
 use Rattle.lot_mutex.specs.declared.hand_off.HandOffAt.TheVariants as hand_off
 use Rattle.lot_steps.specs.declared.places.Place.{Place}
 use Rattle.lot_steps.specs.declared.places.Place.TheVariants.{Idle, Mutex, RwLock, Once, Condvar}
+use Rattle.lot_condvar.specs.declared.places.CondvarPlace.TheVariants as condvar_place
 use Rattle.lot_mutex.specs.MutexSteps.{is_locked, is_parked, lock_act, hand_off_act}
 use Rattle.lot_steps.specs.Steps.{act_of, looking, late_key, next_place, lock_of, profile}
 use Rattle.lot_machine.specs.Machine.{State, unlocked, place_at, word_at, owners_at, kind_at, queue_at, state_after_operation, queues_with_last, queues_without_first, state_after_act, state_after_taking, state_after_look, state_after_go, put, state_after_late_on, state_after_turn, can_turn, is_possible, after, step_outcome, can_do, reply_to}
@@ -288,7 +289,9 @@ module _ (w : State) (t l : ℕ) (shape : IsShaped w) (steady : IsSteady w) (own
   go_gives (Once k (Look (once_call.CallOnce forced) again at)) is fits h = absurd h
   go_gives (Once k (Look (once_call.Wait forced) again at)) is fits h = absurd h
   go_gives (Once k (Run forced at)) is fits h = absurd h
-  go_gives (Condvar k at) is fits h = absurd (subst IsSingle is (singles w steady t))
+  go_gives (Condvar k (condvar_place.Wait m timed at)) is fits h = absurd h
+  go_gives (Condvar k (condvar_place.Notify all m at)) is fits h = absurd h
+  go_gives (Condvar k (condvar_place.Look all)) is fits h = absurd h
   go_gives (RwLock k a c) is fits h = absurd (
       let admitted : FitsItsLock w (RwLock k a c) = subst (FitsItsLock w) is (steady.stands.calls t) in
       let here : k ≡ l = sym (call_promises (rules_in w k) a k c admitted.0 admitted.1).own ∙ released_lock ((call_profile a c).purpose k) l h in
@@ -361,14 +364,16 @@ module _ (w : State) (t l : ℕ) (shape : IsShaped w) (steady : IsSteady w) (cou
       by_place (Once k (Look (once_call.CallOnce forced) again at)) is fits can gives = absurd gives.1
       by_place (Once k (Look (once_call.Wait forced) again at)) is fits can gives = absurd gives.1
       by_place (Once k (Run forced at)) is fits can gives = absurd gives.1
-      by_place (Condvar k at) is fits can gives = absurd (subst IsSingle is (singles w steady t))
+      by_place (Condvar k (condvar_place.Wait m timed at)) is fits can gives = absurd gives.1
+      by_place (Condvar k (condvar_place.Notify all m at)) is fits can gives = absurd gives.1
+      by_place (Condvar k (condvar_place.Look all)) is fits can gives = absurd gives.1
       by_place (Mutex k at) is fits can gives = absurd (
           let fits_k : is_mutex (kind_at w k) ≡ true = subst (FitsItsLock w) is (steady.stands.calls t) in
-          let here : k ≡ l = sym (subst (λ p. lock_for ((profile p).purpose k) ≡ k) is (row_promises w t steady k (ap lock_of is)).own) ∙ gives.0 in
+          let here : k ≡ l = sym (subst (λ p. lock_for ((profile p).purpose k) ≡ k) is (row_promises w t steady k (subst IsSingle (sym is) tt) (ap lock_of is)).own) ∙ gives.0 in
           let none : has_readers (rules_in w l).sort ≡ false = ap (λ (r : Rules). has_readers r.sort) (subst (λ j. rules_of (kind_at w j) ≡ mutex) here (mutex_rules (kind_at w k) fits_k)) in
           let f : false ≡ true = sym none ∙ readers in cc)
       by_place (RwLock k a c) is fits can gives =
-          let here : k ≡ l = sym (subst (λ p. lock_for ((profile p).purpose k) ≡ k) is (row_promises w t steady k (ap lock_of is)).own) ∙ gives.0 in
+          let here : k ≡ l = sym (subst (λ p. lock_for ((profile p).purpose k) ≡ k) is (row_promises w t steady k (subst IsSingle (sym is) tt) (ap lock_of is)).own) ∙ gives.0 in
           at_lock k here a c is fits can gives.1
         where
           at_lock : (k : ℕ) → k ≡ l → (a : Admission) (c : RwLockCallPlace) → place_at w t ≡ RwLock k a c → k < length w.locks → can_do w (call_act k a c) ≡ true → IsToGive ((call_profile a c).purpose k) (call_profile a c).released x
@@ -438,7 +443,7 @@ is_fair w s shape steady counted = record {
     step = after_step w s shape steady counted
 
     one : CallsOneLock (call_at w s.thread).purpose
-    one = calls_one_lock w s.thread steady
+    one = calls_one_lock w s.thread steady (singles w steady s.thread)
 
     coded : (t l : ℕ) → ReleasesFairly w t l → IsMutexWord (word_at (after w s) l) (owner_at (after w s) l)
     coded t l h = words_coded (after w s) (after_steady w s shape steady counted) l

@@ -38,7 +38,7 @@ use Rattle.abstract_locks.specs.Locks.{LockState, Taken, Queued, Rules, TakeFirs
 use Rattle.std.specs.Prelude.{sum, ◌&&◌, ◌||◌}
 use Rattle.lot_acts.specs.Owners.{is_thread, with_exclusive}
 use Rattle.abstract_locks.specs.Locks as locks
-use Rattle.abstract_locks.specs.Sites.{Doing, Site, Out, idle, leaves, wakened, after_deed, has_readers}
+use Rattle.abstract_locks.specs.Sites.{Doing, Site, Out, idle, leaves, wakened, after_deed}
 use Rattle.lot_machine.specs.Machine.{State, place_at, kind_at, word_at, owners_at, shares_at, filled_at, queue_at, place_after_telling, state_after_telling, held, shares_in_hand, with_share, shares_given, wants_more_in_hand, successor_or, successor_from, pending_for, owners_of_successor, shares_handed_over, owners_handed_over, state_after_reply, put, held_by}
 use Rattle.lot_machine.specs.declared.hands.Successor.{Successor}
 use Rattle.lot_laws.specs.Refinement.{lock_seen, taken_at}
@@ -203,6 +203,19 @@ abbrev pub IsSingle : Place → Type 0
 IsSingle (Condvar k at) = ⊥
 IsSingle p = Unit {0}
 
+-- or of two
+pub record IsOfTwo (p : Place) : Type 0 where
+  pub lock : ℕ
+  pub at : CondvarPlace
+  pub is : p ≡ Condvar lock at
+
+pub single_or_two : (p : Place) → IsSingle p ⊎ IsOfTwo p
+single_or_two Idle = inl tt
+single_or_two (Mutex k at) = inl tt
+single_or_two (RwLock k a at) = inl tt
+single_or_two (Once k at) = inl tt
+single_or_two (Condvar k at) = inr (record { lock = k; at = at; is = refl })
+
 pub fits_single : (w : State) (p : Place) → FitsItsLock w p → IsSingle p
 fits_single w Idle fits = tt
 fits_single w (Mutex k at) fits = tt
@@ -212,6 +225,10 @@ fits_single w (Condvar k at) fits = absurd fits.begun
 
 pub singles : (w : State) → IsSteady w → (t : ℕ) → IsSingle (place_at w t)
 singles w steady t = fits_single w (place_at w t) (steady.stands.calls t)
+
+-- a call of two locks fits them
+pub fits_two : (w : State) (t : ℕ) → IsSteady w → (two : IsOfTwo (place_at w t)) → FitsItsLock w (Condvar two.lock two.at)
+fits_two w t steady two = subst (FitsItsLock w) two.is (steady.stands.calls t)
 
 -- has no other beside it
 pub none_beside : (p : Place) → IsSingle p → beside_of p ≡ None
@@ -272,16 +289,6 @@ IsMutexCall l (Once k at) = k ≢ l
 IsMutexCall l (Condvar k at) = ⊥
 IsMutexCall l p = Unit {0}
 
-pub mutex_calls : (w : State) (l : ℕ) (p : Place) → FitsItsLock w p → rules_in w l ≡ mutex → IsMutexCall l p
-mutex_calls w l (RwLock k a c) calls rules = λ here.
-    let readers : has_readers (rules_in w k).sort ≡ true = calls.0.0 in
-    let none : has_readers (rules_in w k).sort ≡ false = ap (λ n. has_readers (rules_in w n).sort) here ∙ ap (λ (r : Rules). has_readers r.sort) rules in cc
-mutex_calls w l (Once k at) calls rules = λ here.
-    let both : locks.Once ≡ locks.Mutex = sym calls ∙ ap (λ n. (rules_in w n).sort) here ∙ ap (λ (r : Rules). r.sort) rules in cc
-mutex_calls w l (Condvar k at) calls rules = absurd calls.begun
-mutex_calls w l (Mutex k at) calls rules = tt
-mutex_calls w l Idle calls rules = tt
-
 pub in_hand : (p : Place) (t l : ℕ) (b : Bool) → IsMutexCall l p → hand_at p l ≡ hand t b → IsInHand p t b l
 in_hand (RwLock k a at) t l b other h = absurd (let none : hand_at (RwLock k a at) l ≡ None = ap (λ c. (if c then station (RwLock k a at) else nowhere).hand) (differ k l other) in cc)
 in_hand (Once k at) t l b other h = absurd (let none : hand_at (Once k at) l ≡ None = ap (λ c. (if c then station (Once k at) else nowhere).hand) (differ k l other) in cc)
@@ -325,6 +332,27 @@ untaken_by t (Some (Of u false)) (Some x) none = either (u == t) refl
     either : (b : Bool) → (u == t) ≡ b → (if b then None else Some held_so) ≡ Some held_so
     either false e = refl
     either true e = absurd (none (ap (λ y. hand y false) (eqb-true u t e)))
+
+abbrev taken_by : Option Taken → ℕ
+taken_by None = 0
+taken_by (Some h) = h.by
+
+held_from : (t : ℕ) (h : Option Hand) (x : Option Want) (want : Want) → taken_from h x true ≡ Some (record { by = t; want = want }) → h ≡ hand t false
+held_from t None x want e = absurd cc
+held_from t (Some (Of u true)) x want e = absurd cc
+held_from t (Some (Of u false)) None want e = absurd cc
+held_from t (Some (Of u false)) (Some x) want e = ap (λ o. hand (taken_by o) false) e
+
+-- who is taken there is in that hand
+pub taken_held : (p : Place) (t l : ℕ) (want : Want) → taken_at p l ≡ Some (record { by = t; want = want }) → hand_at p l ≡ hand t false
+taken_held p t l want = which (calls p l) (is_lock l (beside_of p))
+  where
+    which : (b c : Bool) → (if c && not b then taken_from (profile_beside p).hand (profile_beside p).wants true else taken_from (profile p).hand (profile p).wants b) ≡ Some (record { by = t; want = want })
+        → (if b then station p else if c then station_by (profile_beside p) else nowhere).hand ≡ hand t false
+    which true true e = held_from t (profile p).hand (profile p).wants want e
+    which true false e = held_from t (profile p).hand (profile p).wants want e
+    which false true e = held_from t (profile_beside p).hand (profile_beside p).wants want e
+    which false false e = absurd (let none : ◌≡◌ {A = Option Taken} None (Some (record { by = t; want = want })) = sym (taken_out (profile p).hand (profile p).wants) ∙ e in cc)
 
 -- who isn't in the hand of t
 pub untaken : (p : Place) (t l : ℕ) → (hand_at p l ≡ hand t false → ⊥) → Untaken t (taken_at p l)
@@ -430,6 +458,14 @@ next_of l (Once k at) reply h = by_next (once_next at reply)
     by_next (next.TheVariants.At at) = h
     by_next (next.TheVariants.End answer) = tt
 next_of l (Condvar k at) reply h = absurd h
+
+-- a call of one lock stays one
+pub next_single : (p : Place) (reply : Reply) → IsSingle p → IsSingle (next_place p reply)
+next_single Idle reply h = tt
+next_single (Mutex k at) reply h = of_single k (next_place (Mutex k at) reply) (next_of k (Mutex k at) reply refl)
+next_single (RwLock k a at) reply h = of_single k (next_place (RwLock k a at) reply) (next_of k (RwLock k a at) reply refl)
+next_single (Once k at) reply h = of_single k (next_place (Once k at) reply) (next_of k (Once k at) reply refl)
+next_single (Condvar k at) reply h = absurd h
 
 -- a place of a call of the mutex l, or of none
 abbrev pub IsMutexOf : ℕ → Place → Type 0

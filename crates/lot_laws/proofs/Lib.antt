@@ -63,6 +63,9 @@ pub mod RowPromises
 pub mod MutexRows
 pub mod RwLockRows
 pub mod CallRows
+pub mod CondvarAsleep
+pub mod CondvarLate
+pub mod CondvarPromises
 pub mod PlacePromises
 pub mod AtPlaces
 pub mod ExclusiveOwners
@@ -76,6 +79,7 @@ pub mod HandsEvents
 pub mod OtherCalls
 pub mod MutexEvents
 pub mod MutexOwing
+pub mod CondvarOwing
 pub mod OnceOwing
 pub mod OnceRows
 pub mod OnceNext

@@ -30,9 +30,9 @@ use Rattle.lot_machine.specs.Machine.{State, place_at, section_at, queue_at}
 use Rattle.lot_machine.specs.Fits.{IsShaped, PlaceFits}
 use Rattle.lot_laws.specs.MutexDeeds.{mutex_station}
 use Rattle.lot_laws.specs.Stations.{Station, station, station_at, station_by}
-use Rattle.lot_laws.specs.SitesOf.{FitsItsLock, IsSteady, key_of, stood_in}
+use Rattle.lot_laws.specs.SitesOf.{IsSteady, key_of, stood_in}
 use Rattle.lot_laws.proofs.Counts.{without_absent}
-use Rattle.lot_laws.proofs.Glue.{IsOf, station_here, station_elsewhere, IsSingle, single_late, of_own, singles}
+use Rattle.lot_laws.proofs.Glue.{IsOf, station_here, station_elsewhere, IsSingle, single_late}
 use Rattle.lot_rwlock.specs.declared.places.Admission.{Admission}
 use Rattle.lot_rwlock.specs.declared.places.RwLockPlace.{RwLockPlace}
 use Rattle.lot_rwlock.specs.declared.places.RwLockAt.{RwLockAt}
@@ -195,12 +195,13 @@ once_lines l (Run forced (run_at.Take succeeded)) = (Main, refl, refl)
 once_lines l (Run forced (run_at.Leave succeeded any)) = (Main, refl, refl)
 once_lines l (Run forced at) = tt
 
-pub line_act : (w : State) (p : Place) (l : ℕ) → FitsItsLock w p → lock_of p ≡ Some l → IsLineAct l (station p) (act_of p)
-line_act w Idle l fits h = absurd cc
-line_act w (RwLock k a c) l fits h = let e : k ≡ l = cc in subst (λ j. IsLineAct j (station (RwLock k a c)) (act_of (RwLock k a c))) e (call_lines k a c)
-line_act w (Once k at) l fits h = let e : k ≡ l = cc in subst (λ j. IsLineAct j (station (Once k at)) (act_of (Once k at))) e (once_lines k at)
-line_act w (Condvar k at) l fits h = absurd fits.begun
-line_act w (Mutex k at) l fits h = let e : k ≡ l = cc in subst (λ j. IsLineAct j (mutex_station at) (mutex_act k at)) e (mutex_lines k at)
+-- an act in a call of one lock is on a line of that
+pub line_act : (p : Place) (l : ℕ) → IsSingle p → lock_of p ≡ Some l → IsLineAct l (station p) (act_of p)
+line_act Idle l single h = absurd cc
+line_act (RwLock k a c) l single h = let e : k ≡ l = cc in subst (λ j. IsLineAct j (station (RwLock k a c)) (act_of (RwLock k a c))) e (call_lines k a c)
+line_act (Once k at) l single h = let e : k ≡ l = cc in subst (λ j. IsLineAct j (station (Once k at)) (act_of (Once k at))) e (once_lines k at)
+line_act (Condvar k at) l single h = absurd single
+line_act (Mutex k at) l single h = let e : k ≡ l = cc in subst (λ j. IsLineAct j (mutex_station at) (mutex_act k at)) e (mutex_lines k at)
 
 -- a thread that may be late sleeps in a line of its lock
 pub late_line : (p : Place) (key : ℕ) → IsSingle p → late_key p ≡ Some key → (l : ℕ) × (lock_of p ≡ Some l) × ((m : Line) × ((profile p).late_line ≡ Some m) × (key ≡ key_of l m))
@@ -240,10 +241,7 @@ pub key_there : (w : State) (l : ℕ) (m : Line) → IsShaped w → l < length w
 key_there w l Main shape lt = let n : length w.sections ≡ 2 * length w.locks = shape.sections in omega arith
 key_there w l Second shape lt = let n : length w.sections ≡ 2 * length w.locks = shape.sections in omega arith
 
-module _ (w : State) (t l : ℕ) (steady : IsSteady w) (own : lock_of (place_at w t) ≡ Some l) where
-  is_of : IsOf l (place_at w t)
-  is_of = of_own l (place_at w t) (singles w steady t) own
-
+module _ (w : State) (t l : ℕ) (steady : IsSteady w) (is_of : IsOf l (place_at w t)) where
   -- it holds the section of the line
   pub holds_line : (key : ℕ) → IsWithinLine l (station (place_at w t)) key → section_at w key ≡ Some t
   holds_line key h = ap (section_at w) h.2 ∙ (steady.stands.sections t l h.0).0 (ap (λ (x : Station). x.inside) (station_here l (place_at w t) is_of) ∙ h.1)

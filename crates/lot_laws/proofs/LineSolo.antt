@@ -31,7 +31,7 @@ use Rattle.lot_laws.proofs.OwnPlace.{goes_from_there, told_from_there}
 use Rattle.lot_laws.specs.SitesOf.{AreCondvars, AreCounted, IsSteady, RunsInClosures, key_of, stood_in}
 use Rattle.lot_laws.proofs.RunsKept.{running_after}
 use Rattle.lot_laws.specs.Stations.{station, station_at}
-use Rattle.lot_laws.proofs.Glue.{nothing_at, singles, IsSingle}
+use Rattle.lot_laws.proofs.Glue.{nothing_at, next_single, IsSingle}
 use Rattle.lot_laws.proofs.Counts.{without_absent}
 use Rattle.lot_laws.proofs.CondvarSteps.{after_condvars}
 use Rattle.lot_laws.proofs.CountsKept.{counted_after}
@@ -47,6 +47,7 @@ pub record StepsAlone (w : State) (t l : ℕ) (p : Place) (v : ℕ) (q : Line �
   pub thread : t < length w.places
   pub lock : l < length w.locks
   pub place : place_at w t ≡ p
+  pub single : IsSingle p
   pub word : word_at w l ≡ v
   pub queue : (m : Line) → queue_at w (key_of l m) ≡ q m
   pub way : (m : Line) (u : ℕ) → section_at w (key_of l m) ≡ Some u → u ≡ t
@@ -63,14 +64,11 @@ module _ (w : State) (t l : ℕ) (p : Place) (v : ℕ) (q : Line → List Waiter
   possible : can_do w (act_of p) ≡ true → is_possible w (go_of t) ≡ true
   possible can = rw (lt-ltb t (length w.places) f.thread, f.place) can
 
-  single : IsSingle p
-  single = subst IsSingle f.place (singles w f.steady t)
-
   goes : can_do w (act_of p) ≡ true → after w (go_of t) ≡ put (state_after_act w t p (act_of p)) t (next_place p (reply_to w t (act_of p)))
-  goes can = ap (λ b. if b then state_after_go w t else w) (possible can) ∙ ap (state_after_going w t) f.place ∙ goes_from_there w t p f.place single
+  goes can = ap (λ b. if b then state_after_go w t else w) (possible can) ∙ ap (state_after_going w t) f.place ∙ goes_from_there w t p f.place f.single
 
   told : can_do w (act_of p) ≡ true → step_outcome w (go_of t) ≡ outcome_of (next_act p (reply_to w t (act_of p)))
-  told can = ap (λ b. if b then go_outcome w t else outcome.NotNow) (possible can) ∙ ap (going_outcome w t) f.place ∙ told_from_there w t p f.place single
+  told can = ap (λ b. if b then go_outcome w t else outcome.NotNow) (possible can) ∙ ap (going_outcome w t) f.place ∙ told_from_there w t p f.place f.single
 
   -- where the act leads to b, and its reply is this
   comes : (b : State) (reply : Reply) (v2 : ℕ) (q2 : Line → List Waiter) → can_do w (act_of p) ≡ true → state_after_act w t p (act_of p) ≡ b → reply_to w t (act_of p) ≡ reply → word_at b l ≡ v2 → ((m : Line) → queue_at b (key_of l m) ≡ q2 m)
@@ -85,6 +83,7 @@ module _ (w : State) (t l : ℕ) (p : Place) (v : ℕ) (q : Line → List Waiter
       running = running_after w (go_of t) f.shape f.steady f.counted f.running;
       thread = let size : SameSize w (after w (go_of t)) = after_size w (go_of t) in rw size.threads f.thread;
       lock = let size : SameSize w (after w (go_of t)) = after_size w (go_of t) in rw size.locks f.lock;
+      single = next_single p reply f.single;
       place = ap (λ (x : State). place_at x t) led ∙ get_or-set_same b.places t (next_place p reply) Idle (rw places f.thread);
       word = ap (λ (x : State). word_at x l) led ∙ word;
       queue = λ m. ap (λ (x : State). queue_at x (key_of l m)) led ∙ queue m;
@@ -174,7 +173,7 @@ module _ (w : State) (t l : ℕ) (p : Place) (v : ℕ) (q : Line → List Waiter
   unmoved nowhere m = get_or-map (without t) w.queues (key_of l m) [] ∙ without_absent t (queue_at w (key_of l m)) absent ∙ f.queue m
     where
       absent : times t (queue_at w (key_of l m)) ≡ 0
-      absent = f.steady.stands.lines t l m ∙ ap (λ x. stood_in x m) (nothing_at (place_at w t) l (singles w f.steady t) (λ x. x.stands) refl (ap (λ x. (station x).stands) f.place ∙ nowhere))
+      absent = f.steady.stands.lines t l m ∙ ap (λ x. stood_in x m) (nothing_at (place_at w t) l (subst IsSingle (sym f.place) f.single) (λ x. x.stands) refl (ap (λ x. (station x).stands) f.place ∙ nowhere))
 
   pub parks_last : (station p).stands ≡ None → (m : Line) (x : Want) → queue_at (record w { queues = queues_with_last w.queues (key_of l m) t x }) (key_of l m) ≡ q m ++ waiter (key_of l m) t x ∷ []
   parks_last nowhere m x = get_or-set_same (map (without t) w.queues) (key_of l m) _ [] (rw (length-map w.queues (without t)) (line_there m))
@@ -188,4 +187,4 @@ module _ (w : State) (t l : ℕ) (p : Place) (v : ℕ) (q : Line → List Waiter
       by_who None e = e
       by_who (Some u) e = absurd (let mine : u ≡ t = f.way m u e in
           let within : (station_at (place_at w t) l).inside ≡ Some m = (f.steady.stands.sections t l m).1 (e ∙ ap Some mine) in
-          let out : (station_at (place_at w t) l).inside ≡ None = nothing_at (place_at w t) l (singles w f.steady t) (λ x. x.inside) refl (ap (λ x. (station x).inside) f.place ∙ outside) in cc)
+          let out : (station_at (place_at w t) l).inside ≡ None = nothing_at (place_at w t) l (subst IsSingle (sym f.place) f.single) (λ x. x.inside) refl (ap (λ x. (station x).inside) f.place ∙ outside) in cc)

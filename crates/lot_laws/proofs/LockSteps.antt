@@ -117,7 +117,7 @@ use Rattle.lot_acts.specs.declared.acts.Next.{Next}
 use Rattle.lot_acts.specs.declared.acts.Next.TheVariants as next
 use Rattle.lot_acts.specs.declared.acts.Whom.TheVariants as whoms
 use Rattle.lot_condvar.specs.declared.places.CondvarPlace.TheVariants as condvars
-use Rattle.lot_laws.proofs.Glue.{heir, is_owner, own_stance, thread_is, singles}
+use Rattle.lot_laws.proofs.Glue.{IsSingle, heir, is_owner, own_stance, thread_is}
 use Rattle.lot_laws.proofs.MutexTable.{mutex}
 use Rattle.lot_laws.proofs.StandsMoved.{mutex_rules}
 use Rattle.lot_laws.proofs.SitesKept.{go_by, single_at}
@@ -244,6 +244,7 @@ module _ (w : State) (t : ℕ) (shape : IsShaped w) (steady : IsSteady w) (there
               | inl step ↦ inl step
               | inr sleeps ↦ inr (inl (sleeps.0, standing_then at2 e sleeps.1))
             ],
+            subst IsSingle (sym e) tt,
           )
             where
               standing_then : (at2 : MutexPlace) → place_at behind t ≡ Mutex l at2 → (mutex_station at2).stands ≡ Some Main → 1 ≤ standing t (lock_state behind l)
@@ -251,7 +252,7 @@ module _ (w : State) (t : ℕ) (shape : IsShaped w) (steady : IsSteady w) (there
           by_next (next.End a) e rests = (e, refl)
 
       goes_if : OthersFollow w behind t (event_by l happened) → GoesOn (locks_of w) t (outcome_of (next_act (Mutex l at) told)) (locks_of behind)
-      goes_if others = goes_by w behind t l happened happens_so (Mutex l at) is refl tells.follows.may (row_of (mutex_next at told)) _
+      goes_if others = goes_by w behind t l happened happens_so (Mutex l at) is refl tt tells.follows.may (row_of (mutex_next at told)) _
           (subst (λ r. ComesTo r l (mutex_row at) (event_by l happened) (lock_state w l) (after_event r (event_by l happened) (lock_state w l) t) t (row_of (mutex_next at told))) (sym rules) tells.follows.comes)
           leads others (begins_nothing (locks_of w) l (mutex_row at) happened _ runs tells.follows.may (tells_none (mutex_next at told)))
         where

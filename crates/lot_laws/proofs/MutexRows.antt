@@ -49,7 +49,7 @@ decides_acts l s false b = refl
 decides_acts l s true true = refl
 decides_acts l s true false = refl
 
-mutex_acts : (l : ℕ) (at : MutexPlace) → is_acting (mutex_act l at) ≡ true
+pub mutex_acts : (l : ℕ) (at : MutexPlace) → is_acting (mutex_act l at) ≡ true
 mutex_acts l (Lock e r lock.First) = refl
 mutex_acts l (Lock e r (lock.Decide s)) = decides_acts l s (is_locked s) (s == 1)
 mutex_acts l (Lock e r a) = refl
@@ -200,7 +200,7 @@ debtor l at Second d free = absurd (wakes_main at d)
 
 -- ---------------------------------------------------------------- sleep
 
-unlock_awake : (l : ℕ) (a : UnlockAt) → unlock_act l a ≢ Sleep
+pub unlock_awake : (l : ℕ) (a : UnlockAt) → unlock_act l a ≢ Sleep
 unlock_awake l unlock.Subtract e = cc
 unlock_awake l unlock.Enter e = cc
 unlock_awake l unlock.Take e = cc

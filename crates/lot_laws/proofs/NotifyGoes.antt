@@ -50,7 +50,8 @@ use Rattle.lot_laws.proofs.CondvarGoes.{call_named, Led, NamesStill, ToldSo, beg
 use Rattle.lot_laws.proofs.CondvarHears.{apart, at_it, doing_beside, fits_here, fits_move, number_of, may_hear, notifier_hears, rules_beside, station_beside}
 use Rattle.lot_laws.proofs.CondvarThere.{there_deeds}
 use Rattle.lot_laws.proofs.Glue.{plain_rules, same}
-use Rattle.lot_laws.proofs.WaitersAside.{WaitsThere, unlisted, waits_there}
+use Rattle.lot_laws.proofs.CondvarPromises.{unlisted}
+use Rattle.lot_laws.proofs.WaitersAside.{WaitsThere, waits_there}
 use Rattle.lot_laws.proofs.WaitGoes.{there_rights, unheard}
 
 names_notify : (all : Bool) (m : ℕ) (n : Next NotifyAt) → NamesStill m (in_notify all m n)

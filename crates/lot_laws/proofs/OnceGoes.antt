@@ -12,7 +12,7 @@ use Rattle.abstract_locks.specs.Codes.{is_marked}
 use Rattle.lot_machine.specs.Machine.{word_at}
 use Rattle.lot_laws.specs.SitesOf.{rules_in, site_of}
 use Rattle.lot_laws.proofs.OnceKept.{sort_is}
-use Rattle.lot_laws.proofs.Glue.{same}
+use Rattle.lot_laws.proofs.Glue.{IsSingle, same}
 use Rattle.lot_acts.specs.Acts.{outcome_of}
 use Rattle.lot_acts.specs.Profiles.{Profile}
 use Rattle.lot_acts.specs.Stations.{Station}
@@ -134,7 +134,7 @@ module _ (w : State) (t l : ℕ) (at : OncePlace) (steady : IsSteady w) (shape :
 
   others : OthersFollow w behind t (event_by l case)
   others = others_follow w behind t l case happened (hands_nothing w behind t l case happened (once_profile at).carries (once_act l at) case kept.others)
-      (wakes_own w t l steady of (next_place (Once l at) told) (λ e. let both : locks.Condvar ≡ locks.Once = sym e ∙ sort_is w t l at steady shape there lt is in cc) (Once l at) (once_act l at) (takes_here l (station (Once l at)) (once_act l at) (once_lines l at)) case (subst (λ h. WakesOwn h (once_act l at) case) (sym carries) kept.others))
+      (wakes_own w t l steady (rw is refl) (next_place (Once l at) told) (λ e. let both : locks.Condvar ≡ locks.Once = sym e ∙ sort_is w t l at steady shape there lt is in cc) (Once l at) (once_act l at) (takes_here l (station (Once l at)) (once_act l at) (once_lines l at)) case (subst (λ h. WakesOwn h (once_act l at) case) (sym carries) kept.others))
 
   -- where it is then
   waits : (q : OncePlace) → place_at behind t ≡ Once l q → IsWaiting (once_profile q) → 1 ≤ standing t (lock_state behind l)
@@ -162,7 +162,7 @@ module _ (w : State) (t l : ℕ) (at : OncePlace) (steady : IsSteady w) (shape :
   leads = by_next (once_next at told) (get_or-set_same (state_after_act w t (Once l at) (once_act l at)).places t _ Idle (rw (performed_counts w t (Once l at) (once_act l at)).0 there))
     where
       by_next : (n : Next OncePlace) → place_at behind t ≡ once_goes l n → LeadsTo behind t l (next_row n) (outcome_of (once_does l n))
-      by_next (next.At q) e = (ap lock_of e, ap profile e, rests q e)
+      by_next (next.At q) e = (ap lock_of e, ap profile e, rests q e, subst IsSingle (sym e) tt)
       by_next (next.End answer) e = (e, refl)
 
   -- it is told of its closure exactly where its run begins
@@ -199,11 +199,11 @@ module _ (w : State) (t l : ℕ) (at : OncePlace) (steady : IsSteady w) (shape :
       by_place (Run forced (run.Leave succeeded false)) h = tt
 
   pub once_step : GoesOn (locks_of w) t (outcome_of (next_act (Once l at) told)) (locks_of behind)
-  once_step = goes_by w behind t l case happened (Once l at) is refl kept.tells.may (next_row (once_next at told)) _ kept.tells.comes leads others begins
+  once_step = goes_by w behind t l case happened (Once l at) is refl tt kept.tells.may (next_row (once_next at told)) _ kept.tells.comes leads others begins
 
   pub step_event : once_step.event ≡ event_by l case
   unfolding once_step
-  step_event = goes_event w behind t l case happened (Once l at) is refl kept.tells.may (next_row (once_next at told)) _ kept.tells.comes leads others begins
+  step_event = goes_event w behind t l case happened (Once l at) is refl tt kept.tells.may (next_row (once_next at told)) _ kept.tells.comes leads others begins
 
 -- a run that ends is told of as such
 pub closes_event : (l : ℕ) (succeeded b : Bool) → event_by l (case_of None (closes succeeded b)) ≡ AtLock l (OfOnce (end_of succeeded))

@@ -30,7 +30,7 @@ use Rattle.lot_machine.proofs.Shape.{both}
 use Rattle.std.specs.Prelude.{nat_lt, length}
 use Rattle.lot_laws.specs.Stations.{station}
 use Rattle.lot_laws.specs.SitesOf.{IsSteady}
-use Rattle.lot_laws.proofs.Glue.{calls_none}
+use Rattle.lot_laws.proofs.Glue.{IsOf, IsSingle, calls_none, fits_two, of_own, single_or_two}
 use Rattle.lot_laws.proofs.LineActs.{IsLineAct, line_act, holds_line, removed_at}
 use Rattle.lot_base.specs.declared.wants.Want.{Want}
 use Rattle.lot_base.specs.declared.wants.Waiter.{Waiter}
@@ -110,16 +110,16 @@ module _ (w : State) (t : ℕ) (steady : IsSteady w) (there : t < length w.place
   take_one key held whom.All = inr ((λ k. refl), set_at key w.queues [] held (λ k. inl refl))
 
   -- whatever its act is, by the line that it touches
-  module _ (l : ℕ) (own : lock_of (place_at w t) ≡ Some l) where
+  module _ (l : ℕ) (is_of : IsOf l (place_at w t)) where
     act_one : (p : Place) (a : Act) → IsLineAct l (station (place_at w t)) a → ChangesOneThing w t (state_after_act w t p a)
     act_one p (act.TheVariants.Word k f) h = word_one p k f
     act_one p (act.TheVariants.HandOver k f) h = given_one p k f (takes_effect f (word_at w k))
     act_one p (act.TheVariants.Enter keys) h = filled_one keys (Some t)
-    act_one p (act.TheVariants.Park k key check x) h = park_one key x (holds_line w t l steady own key h.0) (removed_at w t l steady own h.0.0 h.0.1 h.1) (holds check (word_at w k))
-    act_one p (act.TheVariants.Stand key x) h = park_one key x (holds_line w t l steady own key h.0) (removed_at w t l steady own h.0.0 h.0.1 h.1) true
-    act_one p (act.TheVariants.Take key x) h = take_one key (holds_line w t l steady own key h) x
+    act_one p (act.TheVariants.Park k key check x) h = park_one key x (holds_line w t l steady is_of key h.0) (removed_at w t l steady is_of h.0.0 h.0.1 h.1) (holds check (word_at w k))
+    act_one p (act.TheVariants.Stand key x) h = park_one key x (holds_line w t l steady is_of key h.0) (removed_at w t l steady is_of h.0.0 h.0.1 h.1) true
+    act_one p (act.TheVariants.Take key x) h = take_one key (holds_line w t l steady is_of key h) x
     act_one p (act.TheVariants.Requeue from to how) h = absurd h
-    act_one p (act.TheVariants.Remove key) h = inr ((λ k. refl), removed_at w t l steady own h.0.0 h.0.1 h.1)
+    act_one p (act.TheVariants.Remove key) h = inr ((λ k. refl), removed_at w t l steady is_of h.0.0 h.0.1 h.1)
     act_one p (act.TheVariants.Leave keys x) h = left_one keys x
     act_one p act.TheVariants.Rest h = stays
     act_one p act.TheVariants.Sleep h = stays
@@ -127,9 +127,12 @@ module _ (w : State) (t : ℕ) (steady : IsSteady w) (there : t < length w.place
     act_one p (act.TheVariants.Closure state) h = stays
     act_one p (act.TheVariants.End answer) h = stays
 
+  one_gone : IsSingle (place_at w t) → (o : Option ℕ) → lock_of (place_at w t) ≡ o → ChangesOneThing w t (state_after_act w t (place_at w t) (act_of (place_at w t)))
+  one_gone single (Some l) own = act_one l (of_own l (place_at w t) single own) (place_at w t) (act_of (place_at w t)) (line_act (place_at w t) l single own)
+  one_gone single None none = subst (λ p. ChangesOneThing w t (state_after_act w t p (act_of p))) (sym (calls_none (place_at w t) none)) stays
+
   gone_one : (o : Option ℕ) → lock_of (place_at w t) ≡ o → ChangesOneThing w t (state_after_act w t (place_at w t) (act_of (place_at w t)))
-  gone_one (Some l) own = act_one l own (place_at w t) (act_of (place_at w t)) (line_act w (place_at w t) l (steady.stands.calls t) own)
-  gone_one None none = subst (λ p. ChangesOneThing w t (state_after_act w t p (act_of p))) (sym (calls_none (place_at w t) none)) stays
+  gone_one o e = elim (single_or_two (place_at w t)) [ inl single ↦ one_gone single o e | inr two ↦ absurd (fits_two w t steady two).begun ]
 
   spin_one : (o : Option Place) → looking (place_at w t) ≡ o → ChangesOneThing w t (state_after_look w t o)
   spin_one o is = same_one w (state_after_look w t o) t (spun_touches w t there o is)

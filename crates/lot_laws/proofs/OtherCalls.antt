@@ -1,10 +1,9 @@
 -- What an act of one thread makes of the calls of the others: nothing, but where it wakes those in its hand or hands them the lock.
-use Rattle.std.proofs.Common.{ℕ, Bool, true, false, Option, Some, None, if◌then◌else◌, ◌≡◌, ◌≢◌, ◌⊎◌, inl, inr, List, [], ◌∷◌, get_or, set, refl, sym, ◌∙◌, ap, subst, get_or-set_other, ◌==◌}
+use Rattle.std.proofs.Common.{ℕ, Bool, true, false, Option, Some, None, if◌then◌else◌, ◌≡◌, ◌≢◌, ◌⊎◌, inl, inr, List, [], ◌∷◌, get_or, refl, sym, ◌∙◌, ap, subst, get_or-set_other, ◌==◌}
 use Rattle.lot_once.proofs.OnceActs.{once_sleepers_move}
 use Rattle.lot_once.specs.OnceProfiles.{once_profile}
 use Rattle.lot_acts.specs.Profiles.{taken_from}
 use Rattle.std.proofs.Math.ListN.{get_or-map}
-use Rattle.std.proofs.lemmas.Bool.{cases_eq}
 use Rattle.lot_base.specs.declared.keys.Keys.{Keys}
 use Rattle.lot_base.specs.declared.keys.Keys.TheVariants.{One, Two}
 use Rattle.lot_base.specs.declared.notes.Note.TheVariants as note
@@ -18,15 +17,9 @@ use Rattle.lot_acts.specs.declared.acts.Whom.TheVariants as whom
 use Rattle.lot_acts.specs.declared.acts.Wakes.TheVariants as wakes
 use Rattle.lot_acts.specs.declared.acts.Reply.{Reply}
 use Rattle.lot_acts.specs.declared.acts.Reply.TheVariants.{TakenBy, Woken}
-use Rattle.lot_acts.specs.declared.acts.Next.{Next}
-use Rattle.lot_acts.specs.declared.acts.Next.TheVariants as next
 use Rattle.lot_acts.specs.Owners.{is_thread}
 use Rattle.lot_acts.specs.Profiles.{hand}
-use Rattle.lot_mutex.specs.MutexSteps.{mutex_next}
-use Rattle.lot_mutex.specs.declared.places.MutexPlace.{MutexPlace}
-use Rattle.lot_once.specs.OnceSteps.{once_next}
-use Rattle.lot_once.specs.declared.places.OncePlace.{OncePlace}
-use Rattle.lot_steps.specs.Steps.{lock_of, mutex_goes, next_place, once_goes, rwlock_goes, taker}
+use Rattle.lot_steps.specs.Steps.{next_place, taker}
 use Rattle.lot_steps.specs.declared.places.Place.{Place}
 use Rattle.lot_steps.specs.declared.places.Place.TheVariants.{Idle, RwLock, Mutex, Once, Condvar}
 use Rattle.lot_rwlock_fair.specs.declared.places.RwLockCallPlace.{RwLockCallPlace}
@@ -34,7 +27,7 @@ use Rattle.lot_rwlock_fair.specs.declared.places.RwLockCallPlace.TheVariants.{Pl
 use Rattle.lot_rwlock_fair.specs.declared.handed.HandedAt.TheVariants as handed
 use Rattle.lot_rwlock_fair.specs.FairCalls.{CallStands}
 use Rattle.lot_rwlock_fair.specs.FairProfiles.{call_profile}
-use Rattle.lot_rwlock_fair.specs.FairSteps.{call_next, handed_woken}
+use Rattle.lot_rwlock_fair.specs.FairSteps.{handed_woken}
 use Rattle.lot_rwlock_fair.proofs.FairActs.{fair_sleepers_move}
 use Rattle.lot_rwlock_fair.proofs.FairSleepers.{fair_sleepers_hear, never_given}
 use Rattle.abstract_locks.specs.Locks.{Rights, LockCase, Wake, HandOff, putting}
@@ -42,7 +35,7 @@ use Rattle.abstract_locks.specs.Runs.{AtLock, is_taken_by}
 use Rattle.abstract_locks.specs.Deeds.{event_by}
 use Rattle.lot_machine.specs.Machine.{State, queue_at, place_at, put, state_after_act, state_after_telling, state_after_taking, state_with_sections, places_told, place_after_telling}
 use Rattle.lot_laws.specs.Refinement.{call_state, taken_at}
-use Rattle.lot_laws.specs.Stations.{Station, hand, station, nowhere}
+use Rattle.lot_laws.specs.Stations.{hand, station, nowhere}
 use Rattle.lot_laws.specs.SitesOf.{IsSteady, carried_at, hand_at, FitsItsLock}
 use Rattle.lot_laws.proofs.AtPlaces.{unless_held}
 use Rattle.std.proofs.Common.{◌+◌, ◌≤◌, arith}
@@ -59,7 +52,7 @@ use Rattle.lot_laws.proofs.PicksKept.{picked_counts, under_of}
 use Rattle.lot_laws.proofs.TakesAt.{at_most_one, member, member_times, told_once, told_places}
 use Rattle.lot_laws.proofs.WaiterCalls.{waiter_taken, waiter_taken_by, waiter_told}
 use Rattle.lot_laws.proofs.Glue.{IsInHandOf, aparts, held_tells, in_hand_where, of_carries, in_hand_here as in_hand_at}
-use Rattle.lot_laws.proofs.Glue.{IsOf, IsTakenAt, IsHandedAt, is_taken, is_handed, station_elsewhere, same, put_of, put_same, set_puts, past_all, singles, of_own, IsSingle}
+use Rattle.lot_laws.proofs.Glue.{IsOf, IsTakenAt, IsHandedAt, is_taken, is_handed, same}
 use Rattle.lot_laws.proofs.CallEvents.{Happens, IsNoHandOff, Others}
 use Rattle.lot_laws.proofs.LockEvents.{Befalls, taken_call, wakes_others}
 
@@ -247,10 +240,7 @@ handed_goes w (RwLock k a c) t l fits h r = either (k == l) h
     either true g = by_call c fits.1 g
     either false g = absurd cc
 
-module _ (w : State) (t l : ℕ) (steady : IsSteady w) (own : lock_of (place_at w t) ≡ Some l) (p2 : Place) where
-  is_of : IsOf l (place_at w t)
-  is_of = of_own l (place_at w t) (singles w steady t) own
-
+module _ (w : State) (t l : ℕ) (steady : IsSteady w) (is_of : IsOf l (place_at w t)) (p2 : Place) where
   -- who is in its hand is so at its lock, and was handed that or not as its place says
   in_hand_here : (h : Bool) → carried_at (place_at w t) l ≡ Some h → (u : ℕ) → is_thread t (taker (place_at w u)) ≡ true → hand_at (place_at w u) l ≡ hand t h
   in_hand_here h carries u e =

@@ -32,7 +32,7 @@ use Rattle.lot_laws.specs.SitesOf.{AreCounted, IsSteady, key_of}
 use Rattle.lot_machine.proofs.Shape.{both}
 use Rattle.lot_laws.proofs.TurnsKept.{idle_is, after_steady}
 use Rattle.lot_laws.proofs.SingleCalls.{call_none}
-use Rattle.lot_laws.proofs.Glue.{IsLock, next_of, calls_none, singles, of_lock_of, of_own}
+use Rattle.lot_laws.proofs.Glue.{IsLock, IsSingle, next_of, calls_none, singles, of_lock_of, of_own}
 use Rattle.lot_laws.proofs.Looking.{looking_steady, calls_same}
 use Rattle.lot_laws.proofs.CallEvents.{rights as rights_at}
 use Rattle.lot_acts.specs.Profiles.{Profile}
@@ -42,13 +42,12 @@ use Rattle.abstract_locks.specs.Purposes.{lock_for}
 use Rattle.lot_laws.proofs.RowPromises.{RowFinds, RowLooks, releases_for, downgrades_for}
 use Rattle.lot_laws.proofs.PlacePromises.{LetsBy, row_promises, row_calls_one, owing_is, owes_own, owed_own, inside_own, call_own, lets_in, lets_out}
 use Rattle.lot_laws.proofs.LineActs.{late_line}
-use Rattle.lot_laws.proofs.PlaceSteps.{owed_by, owed_is, owes_befallen, owes_next, first_owes, late_next}
+use Rattle.lot_laws.proofs.PlaceSteps.{owes_befallen, owes_next, first_owes, late_next}
 
 -- ---------------------------------------------------------------- the other threads
 
-others_owe : (w : State) (s : Step) → IsSteady w → IsSteady (after w s) → (u k : ℕ) → u ≢ s.thread → line_owed (place_at (after w s) u) k ≡ line_owed (place_at w u) k
-others_owe w s steady behind u k ne = owed_is (place_at (after w s) u) k (singles (after w s) behind u)
-    ∙ others_keep_it (λ p. owed_by p k) (λ p r b. owes_befallen p r b k) w s u ne ∙ sym (owed_is (place_at w u) k (singles w steady u))
+others_owe : (w : State) (s : Step) (u k : ℕ) → u ≢ s.thread → line_owed (place_at (after w s) u) k ≡ line_owed (place_at w u) k
+others_owe w s u k ne = others_keep_it (λ p. line_owed p k) (λ p r b. owes_befallen p r b k) w s u ne
 
 -- ---------------------------------------------------------------- the thread of the step
 
@@ -67,8 +66,8 @@ idle_shut w t l none h = by_call (subst (LetsBy w t l) (call_none (place_at w t)
     by_call (inr shared) = elim shared.1 [ inl less ↦ less | inr left ↦ let e : ◌≡◌ {A = Option ℕ} None (Some l) = left.0 in cc ]
 
 -- who lets others in calls that lock
-lets_own : (w : State) (t l : ℕ) → IsSteady w → LetsOthersIn w t l → lock_of (place_at w t) ≡ Some l
-lets_own w t l steady lets = by_lock (lock_of (place_at w t)) refl
+lets_own : (w : State) (t l : ℕ) → IsSteady w → IsSingle (place_at w t) → LetsOthersIn w t l → lock_of (place_at w t) ≡ Some l
+lets_own w t l steady single lets = by_lock (lock_of (place_at w t)) refl
   where
     by_row : (k : ℕ) (row : Profile) (r : ℕ → Rights) → lock_for (row.purpose k) ≡ k → CallsOneLock (Some (row.purpose k)) → LetsBy w t l (call_by k row r) → k ≡ l
     by_row k row r of one (inl releases) = sym of ∙ releases_for (row.purpose k) row.released l one releases
@@ -80,23 +79,23 @@ lets_own w t l steady lets = by_lock (lock_of (place_at w t)) refl
 
     by_lock : (o : Option ℕ) → lock_of (place_at w t) ≡ o → o ≡ Some l
     by_lock None e = absurd (idle_shut w t l e lets)
-    by_lock (Some k) e = ap Some (by_row k (profile (place_at w t)) (rights_at w t) (row_promises w t steady k e).own (row_calls_one w t steady k e) (subst (LetsBy w t l) (call_own w t steady k e) lets))
+    by_lock (Some k) e = ap Some (by_row k (profile (place_at w t)) (rights_at w t) (row_promises w t steady k single e).own (row_calls_one w t steady k single e) (subst (LetsBy w t l) (call_own w t steady k single e) lets))
 
-module _ (w v : State) (t : ℕ) (steady : IsSteady w) (behind : IsSteady v) where
+module _ (w v : State) (t : ℕ) (steady : IsSteady w) (behind : IsSteady v) (single : IsSingle (place_at w t)) (single_then : IsSingle (place_at v t)) where
   -- what it sees, by its row
   sees_row : (l : ℕ) (m : Line) (o : Outcome) (own : lock_of (place_at w t) ≡ Some l) → SeesWaiters w t l m o v → RowFinds (sort_at w l) l (word_at w l) (profile (place_at w t)) m
   sees_row l m o own s = (
-    lets_in w t steady l own s.0,
-    ap (λ (c : CallState). line_let_in (sort_at w l) c.purpose) (sym (call_own w t steady l own)) ∙ s.1,
-    ap (λ (c : CallState). tells_by (sort_at w l) c.purpose m (word_at w l)) (sym (call_own w t steady l own)) ∙ s.2,
+    lets_in w t steady l single own s.0,
+    ap (λ (c : CallState). line_let_in (sort_at w l) c.purpose) (sym (call_own w t steady l single own)) ∙ s.1,
+    ap (λ (c : CallState). tells_by (sort_at w l) c.purpose m (word_at w l)) (sym (call_own w t steady l single own)) ∙ s.2,
   )
 
   row_sees : (l : ℕ) (m : Line) (o : Outcome) (own : lock_of (place_at w t) ≡ Some l) → RowFinds (sort_at w l) l (word_at w l) (profile (place_at w t)) m → o ≡ outcome.TheVariants.Step
       → act_of (place_at v t) ≡ Enter (One (key_of l m)) → SeesWaiters w t l m o v
   row_sees l m o own s step enters = (
-    lets_out w t steady l own s.0,
-    ap (λ (c : CallState). line_let_in (sort_at w l) c.purpose) (call_own w t steady l own) ∙ s.1,
-    ap (λ (c : CallState). tells_by (sort_at w l) c.purpose m (word_at w l)) (call_own w t steady l own) ∙ s.2,
+    lets_out w t steady l single own s.0,
+    ap (λ (c : CallState). line_let_in (sort_at w l) c.purpose) (call_own w t steady l single own) ∙ s.1,
+    ap (λ (c : CallState). tells_by (sort_at w l) c.purpose m (word_at w l)) (call_own w t steady l single own) ∙ s.2,
     step,
     λ looks. enters,
   )
@@ -104,13 +103,13 @@ module _ (w v : State) (t : ℕ) (steady : IsSteady w) (behind : IsSteady v) whe
   -- where it goes on to a place of its lock, or ends
   module _ (q : Place) (at_q : place_at v t ≡ q) (l : ℕ) (m : Line) (o : Outcome) where
     inside_then : IsInside v t l m → Owes v t l m
-    inside_then i = (owing_is v t behind l m).1 (inl i)
+    inside_then i = (owing_is v t behind single_then l m).1 (inl i)
 
     within_then : Owes v t l m → (profile q).doing.inside ≡ Some m → IsInside v t l m
-    within_then h i = let own = owes_own (place_at v t) l m (singles v behind t) h in (inside_own v t behind l own m).0 (ap (λ p. (profile p).doing.inside) at_q ∙ i)
+    within_then h i = let own = owes_own (place_at v t) l m single_then h in (inside_own v t behind l single_then own m).0 (ap (λ p. (profile p).doing.inside) at_q ∙ i)
 
     row_then : Owes v t l m → (profile q).owes ≡ Some m
-    row_then h = ap (λ p. (profile p).owes) (sym at_q) ∙ sym (owed_own (place_at v t) l (owes_own (place_at v t) l m (singles v behind t) h) (singles v behind t)) ∙ h
+    row_then h = ap (λ p. (profile p).owes) (sym at_q) ∙ sym (owed_own (place_at v t) l (owes_own (place_at v t) l m single_then h) single_then) ∙ h
 
   -- it goes on by the reply to its act
   go_owes : place_at v t ≡ next_place (place_at w t) (go_reply w t) → (l : ℕ) (m : Line) → Owes v t l m ↔ (IsInside v t l m ⊎ SeesWaiters w t l m (outcome_of (next_act (place_at w t) (go_reply w t))) v)
@@ -124,13 +123,13 @@ module _ (w v : State) (t : ℕ) (steady : IsSteady w) (behind : IsSteady v) whe
 
       own_before : lock_of q ≡ Some l → (x : Option ℕ) → lock_of (place_at w t) ≡ x → x ≡ Some l
       own_before own None e = absurd (let f : lock_of q ≡ None = ap (λ p. lock_of (next_place p (go_reply w t))) (calls_none (place_at w t) e) in let g : ◌≡◌ {A = Option ℕ} None (Some l) = sym f ∙ own in cc)
-      own_before own (Some k) e = ap Some (sym (subst (IsLock k) own (of_lock_of k q (next_of k (place_at w t) (go_reply w t) (of_own k (place_at w t) (singles w steady t) e)))))
+      own_before own (Some k) e = ap Some (sym (subst (IsLock k) own (of_lock_of k q (next_of k (place_at w t) (go_reply w t) (of_own k (place_at w t) single e)))))
 
       -- who owes a wake that is outside goes in
       since : Owes v t l m → IsInside v t l m ⊎ SeesWaiters w t l m o v
       since h =
-          let own = own_before (ap lock_of (sym at_q) ∙ owes_own (place_at v t) l m (singles v behind t) h) (lock_of (place_at w t)) refl in
-          elim ((owing_is v t behind l m).0 h) [
+          let own = own_before (ap lock_of (sym at_q) ∙ owes_own (place_at v t) l m single_then h) (lock_of (place_at w t)) refl in
+          elim ((owing_is v t behind single_then l m).0 h) [
             | inl i ↦ inl i
             | inr g ↦ elim ((owes_next w t l steady own).since m (row_then q at_q l m o h)) [
               | inl i ↦ inl (within_then q at_q l m o h i)
@@ -140,12 +139,12 @@ module _ (w v : State) (t : ℕ) (steady : IsSteady w) (behind : IsSteady v) whe
 
       saw : SeesWaiters w t l m o v → Owes v t l m
       saw s =
-          let own = lets_own w t l steady s.0 in
+          let own = lets_own w t l steady single s.0 in
           let owes = (owes_next w t l steady own).sees m (sees_row l m o own s) s.3 (λ looks. ap act_of (sym at_q) ∙ s.4 (looks_then own (lock_of q) refl looks)) in
-          owed_own (place_at v t) l (ap lock_of at_q ∙ still (lock_of q) refl owes own) (singles v behind t) ∙ ap (λ p. (profile p).owes) at_q ∙ owes
+          owed_own (place_at v t) l (ap lock_of at_q ∙ still (lock_of q) refl owes own) single_then ∙ ap (λ p. (profile p).owes) at_q ∙ owes
         where
           same_lock : (j : ℕ) → lock_of q ≡ Some j → lock_of (place_at w t) ≡ Some l → j ≡ l
-          same_lock j e own = subst (IsLock l) e (of_lock_of l q (next_of l (place_at w t) (go_reply w t) (of_own l (place_at w t) (singles w steady t) own)))
+          same_lock j e own = subst (IsLock l) e (of_lock_of l q (next_of l (place_at w t) (go_reply w t) (of_own l (place_at w t) single own)))
 
           still : (x : Option ℕ) → lock_of q ≡ x → (profile q).owes ≡ Some m → lock_of (place_at w t) ≡ Some l → x ≡ Some l
           still None e owes own = absurd (let f : ◌≡◌ {A = Option Line} None (Some m) = sym (ap (λ p. (profile p).owes) (calls_none q e)) ∙ owes in cc)
@@ -155,7 +154,7 @@ module _ (w v : State) (t : ℕ) (steady : IsSteady w) (behind : IsSteady v) whe
           looks_then own None e looks = absurd (subst (λ p. RowLooks l (profile p)) (calls_none q e) looks).0
           looks_then own (Some j) e looks =
               let own_then : lock_of (place_at v t) ≡ Some l = ap lock_of at_q ∙ e ∙ ap Some (same_lock j e own) in
-              subst (λ (c : CallState). LooksFirst c.purpose l × (c.released ≡ false)) (sym (call_own v t behind l own_then)) (subst (λ p. RowLooks l (profile p)) (sym at_q) looks)
+              subst (λ (c : CallState). LooksFirst c.purpose l × (c.released ≡ false)) (sym (call_own v t behind l single_then own_then)) (subst (λ p. RowLooks l (profile p)) (sym at_q) looks)
 
   -- it owes nothing but what it is inside, and lets nobody in
   quiet_owes : (q : Place) → place_at v t ≡ q → ((m : Line) → (profile q).owes ≡ Some m → (profile q).doing.inside ≡ Some m) → ((l : ℕ) → LetsOthersIn w t l → ⊥)
@@ -168,11 +167,11 @@ module _ (w v : State) (t : ℕ) (steady : IsSteady w) (behind : IsSteady v) whe
 gone_owes : (w : State) (t : ℕ) (steady : IsSteady w) (there : t < length w.places) → IsSteady (state_after_go w t) → (l : ℕ) (m : Line)
     → Owes (state_after_go w t) t l m ↔ (IsInside (state_after_go w t) t l m ⊎ SeesWaiters w t l m (go_outcome w t) (state_after_go w t))
 gone_owes w t steady there behind l m = let v = state_after_go w t in
-    subst (λ o. Owes v t l m ↔ (IsInside v t l m ⊎ SeesWaiters w t l m o v)) (sym (gone_told w t steady)) (go_owes w v t steady behind (gone_place w t steady there) l m)
+    subst (λ o. Owes v t l m ↔ (IsInside v t l m ⊎ SeesWaiters w t l m o v)) (sym (gone_told w t steady)) (go_owes w v t steady behind (singles w steady t) (singles v behind t) (gone_place w t steady there) l m)
 
 module _ (w : State) (t : ℕ) (shape : IsShaped w) (steady : IsSteady w) (there : t < length w.places) where
   begun_owing : (c : Call) → can_begin w t c ≡ true → IsSteady (state_after_begin w t c) → (l : ℕ) (m : Line) (o : Outcome) → Owes (state_after_begin w t c) t l m ↔ (IsInside (state_after_begin w t c) t l m ⊎ SeesWaiters w t l m o (state_after_begin w t c))
-  begun_owing c can behind = quiet_owes w (state_after_begin w t c) t steady behind (first_place (kind_at w (lock_in c)) c) (get_or-set_same w.places t (first_place (kind_at w (lock_in c)) c) Idle there)
+  begun_owing c can behind = quiet_owes w (state_after_begin w t c) t steady behind (singles w steady t) (singles (state_after_begin w t c) behind t) (first_place (kind_at w (lock_in c)) c) (get_or-set_same w.places t (first_place (kind_at w (lock_in c)) c) Idle there)
       (λ m h. absurd (let e : ◌≡◌ {A = Option Line} None (Some m) = sym (first_owes (kind_at w (lock_in c)) c) ∙ h in cc))
       (λ l lets. idle_shut w t l (ap lock_of (idle_is (place_at w t) (both (is_idle (place_at w t)) (is_open_to w t c) can).0)) lets)
 
@@ -180,12 +179,13 @@ module _ (w : State) (t : ℕ) (shape : IsShaped w) (steady : IsSteady w) (there
   late_owing : (o : Option ℕ) → late_key (place_at w t) ≡ o → is_free_under w o ≡ true → IsSteady (state_after_late_on w t o) → (l : ℕ) (m : Line) (told : Outcome) → Owes (state_after_late_on w t o) t l m ↔ (IsInside (state_after_late_on w t o) t l m ⊎ SeesWaiters w t l m told (state_after_late_on w t o))
   late_owing None e can behind = absurd cc
   late_owing (Some key) e can behind =
-      let of = late_line (place_at w t) key (singles w steady t) e in
+      let single = singles w steady t in
+      let of = late_line (place_at w t) key single e in
       let n : Line = of.2.0 in
-      let after = late_next (place_at w t) n (singles w steady t) of.2.1 in
-      quiet_owes w (state_after_late_on w t (Some key)) t steady behind (next_place (place_at w t) Late) (get_or-set_same w.places t (next_place (place_at w t) Late) Idle there)
+      let after = late_next (place_at w t) n single of.2.1 in
+      quiet_owes w (state_after_late_on w t (Some key)) t steady behind single (singles (state_after_late_on w t (Some key)) behind t) (next_place (place_at w t) Late) (get_or-set_same w.places t (next_place (place_at w t) Late) Idle there)
       (λ m h. after.inside ∙ sym after.owes ∙ h)
-      (λ l lets. let own = lets_own w t l steady lets in ((row_promises w t steady l own).late n of.2.1).shut (lets_in w t steady l own lets))
+      (λ l lets. let own = lets_own w t l steady single lets in ((row_promises w t steady l single own).late n of.2.1).shut (lets_in w t steady l single own lets))
 
   -- it looks at the word once more, and is in its call as before
   spun_owing : (o : Option Place) → looking (place_at w t) ≡ o → is_some o ≡ true → IsSteady (state_after_look w t o) → (l : ℕ) (m : Line)
@@ -215,7 +215,7 @@ module _ (w : State) (t : ℕ) (shape : IsShaped w) (steady : IsSteady w) (there
 pub owes_since : (w : State) (s : Step) → IsShaped w → IsSteady w → AreCounted w → OwesSince w s.thread (step_outcome w s) (after w s)
 owes_since w s shape steady counted = record {
   own = own (is_possible w s) refl (after_steady w s shape steady counted);
-  others = λ u l ne. others_owe w s steady (after_steady w s shape steady counted) u l ne;
+  others = λ u l ne. others_owe w s u l ne;
 }
   where
     own : (b : Bool) → is_possible w s ≡ b → IsSteady (if b then state_after_turn w s.thread s.turn else w) → (l : ℕ) (m : Line) → (if b then turn_outcome w s.thread s.turn else outcome.TheVariants.NotNow) ≢ outcome.TheVariants.NotNow

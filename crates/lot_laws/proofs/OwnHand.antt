@@ -1,5 +1,5 @@
 -- A thread that calls one lock is in no hand of its own: who is in a hand has nobody in hand.
-use Rattle.std.proofs.Common.{ℕ, Bool, true, false, Option, Some, None, if◌then◌else◌, ◌≡◌, ◌⊎◌, inl, inr, refl, sym, ◌∙◌, ap}
+use Rattle.std.proofs.Common.{ℕ, Bool, true, false, Some, None, if◌then◌else◌, ◌≡◌, ◌⊎◌, inl, inr, refl, ◌∙◌, ap}
 use Rattle.lot_mutex.specs.declared.places.MutexPlace.TheVariants.{Lock, TryLock, Unlock, UnlockFair, Bump, HandOff}
 use Rattle.lot_rwlock.specs.declared.places.RwLockAt.{RwLockAt}
 use Rattle.lot_rwlock.specs.declared.places.RwLockAt.TheVariants as at
@@ -17,7 +17,7 @@ use Rattle.lot_laws.specs.Refinement.{taken_at}
 use Rattle.lot_laws.specs.Stations.{Station, nowhere, station}
 use Rattle.lot_laws.specs.SitesOf.{IsSteady, carried_at}
 use Rattle.lot_laws.proofs.AtPlaces.{unless_held}
-use Rattle.lot_laws.proofs.Glue.{IsSingle, free_of, single_station, singles}
+use Rattle.lot_laws.proofs.Glue.{IsSingle, free_of, single_station}
 
 abbrev IsBare : Place → Type 0
 IsBare p = ((profile p).hand ≡ None) ⊎ ((profile p).carries ≡ None)
@@ -52,16 +52,16 @@ bare (Once l (Run forced (run.Take succeeded))) single = inl refl
 bare (Once l (Run forced (run.Leave succeeded any))) single = inl refl
 bare (Condvar l at) single = absurd single
 
-module _ (w : State) (steady : IsSteady w) (t l : ℕ) where
+module _ (w : State) (steady : IsSteady w) (t l : ℕ) (single : IsSingle (place_at w t)) where
   nobody : (profile (place_at w t)).carries ≡ None → carried_at (place_at w t) l ≡ None
-  nobody none = ap (λ (x : Station). x.carries) (single_station (place_at w t) l (singles w steady t)) ∙ either (calls (place_at w t) l)
+  nobody none = ap (λ (x : Station). x.carries) (single_station (place_at w t) l single) ∙ either (calls (place_at w t) l)
     where
       either : (b : Bool) → (if b then station (place_at w t) else nowhere).carries ≡ None
       either true = none
       either false = refl
 
   pub own_hand : is_taken_by t (taken_at (place_at w t) l) ≡ false
-  own_hand = elim (bare (place_at w t) (singles w steady t)) [
-    | inl free ↦ ap (is_taken_by t) (free_of (place_at w t) l (singles w steady t) free)
+  own_hand = elim (bare (place_at w t) single) [
+    | inl free ↦ ap (is_taken_by t) (free_of (place_at w t) l single free)
     | inr none ↦ unless_held w steady t l t (λ h. let some : carried_at (place_at w t) l ≡ Some false = steady.stands.hands.taken t t l false h in let empty : carried_at (place_at w t) l ≡ None = nobody none in cc)
   ]

@@ -23,7 +23,9 @@ use Rattle.lot_laws.specs.Owing.{Owes, IsInside, LetsOthersIn, IsDowngrade, sort
 use Rattle.lot_laws.specs.Promises.{CallsOneLock, GoesToWake, WakesAside}
 use Rattle.lot_laws.proofs.Counts.{none_first}
 use Rattle.lot_laws.proofs.SingleCalls.{call_here, call_none}
-use Rattle.lot_laws.proofs.Glue.{same, differ, taken_out, calls_none, inside_is, IsSingle, single_station, single_doing, single_taken, single_owes, singles}
+use Rattle.lot_laws.proofs.CondvarPromises.{StandsAt, two_stand_main}
+use Rattle.lot_laws.proofs.Glue.{single_or_two}
+use Rattle.lot_laws.proofs.Glue.{same, differ, taken_out, calls_none, inside_is, IsSingle, single_station, single_doing, single_taken, single_owes}
 use Rattle.lot_laws.proofs.MutexTable.{queued_times}
 use Rattle.lot_laws.proofs.StandsMoved.{mutex_rules}
 use Rattle.lot_laws.proofs.LineActs.{IsOfLine, IsLineAct, line_act}
@@ -105,12 +107,13 @@ LetsBy w t l c =
 -- ---------------------------------------------------------------- each place
 
 module _ (w : State) (t : ℕ) (steady : IsSteady w) where
-  pub row_promises : (l : ℕ) → lock_of (place_at w t) ≡ Some l → RowPromises (sort_at w l) l (profile (place_at w t)) (act_of (place_at w t))
-  row_promises l own = by_place (place_at w t) refl own
+  -- in a call of one lock
+  pub row_promises : (l : ℕ) → IsSingle (place_at w t) → lock_of (place_at w t) ≡ Some l → RowPromises (sort_at w l) l (profile (place_at w t)) (act_of (place_at w t))
+  row_promises l single own = by_place (place_at w t) refl own
     where
       by_place : (p : Place) → place_at w t ≡ p → lock_of p ≡ Some l → RowPromises (sort_at w l) l (profile p) (act_of p)
       by_place Idle is own = absurd cc
-      by_place (Condvar k at) is own = absurd (subst (FitsItsLock w) is (steady.stands.calls t)).begun
+      by_place (Condvar k at) is own = absurd (subst IsSingle is single)
       by_place (Once k at) is own =
           let here : k ≡ l = cc in
           let admitted : (rules_in w k).sort ≡ locks.Once = subst (FitsItsLock w) is (steady.stands.calls t) in
@@ -127,12 +130,12 @@ module _ (w : State) (t : ℕ) (steady : IsSteady w) where
           let admitted : FitsItsLock w (RwLock k a c) = rw is at (steady.stands.calls t) in
           subst (λ j. RowPromises (sort_at w j) j (call_profile a c) (call_act k a c)) here (call_promises (rules_in w k) a k c admitted.0 admitted.1)
 
-  pub not_condvar : (l : ℕ) → lock_of (place_at w t) ≡ Some l → sort_at w l ≢ locks.Condvar
-  not_condvar l own is_condvar = by_place (place_at w t) refl own
+  pub not_condvar : (l : ℕ) → IsSingle (place_at w t) → lock_of (place_at w t) ≡ Some l → sort_at w l ≢ locks.Condvar
+  not_condvar l single own is_condvar = by_place (place_at w t) refl own
     where
       by_place : (p : Place) → place_at w t ≡ p → lock_of p ≡ Some l → ⊥
       by_place Idle is own = cc
-      by_place (Condvar k at) is own = (subst (FitsItsLock w) is (steady.stands.calls t)).begun
+      by_place (Condvar k at) is own = subst IsSingle is single
       by_place (Once k at) is own =
           let here : k ≡ l = cc in
           let sort : sort_at w k ≡ locks.Once = subst (FitsItsLock w) is (steady.stands.calls t) in
@@ -147,15 +150,15 @@ module _ (w : State) (t : ℕ) (steady : IsSteady w) where
           let admitted : FitsItsLock w (RwLock k a c) = rw is at (steady.stands.calls t) in
           let other : false ≡ true = sym (ap has_readers (ap (sort_at w) here ∙ is_condvar)) ∙ admitted.0.0 in cc
 
-  pub row_calls_one : (l : ℕ) → lock_of (place_at w t) ≡ Some l → CallsOneLock (Some ((profile (place_at w t)).purpose l))
-  row_calls_one l own = purpose_of_one (sort_at w l) ((profile (place_at w t)).purpose l) ((row_promises l own).known (λ k. sort_at w l) refl) (not_condvar l own)
+  pub row_calls_one : (l : ℕ) → IsSingle (place_at w t) → lock_of (place_at w t) ≡ Some l → CallsOneLock (Some ((profile (place_at w t)).purpose l))
+  row_calls_one l single own = purpose_of_one (sort_at w l) ((profile (place_at w t)).purpose l) ((row_promises l single own).known (λ k. sort_at w l) refl) (not_condvar l single own)
 
-  pub calls_one_lock : CallsOneLock (call_at w t).purpose
-  calls_one_lock = by_lock (lock_of (place_at w t)) refl
+  pub calls_one_lock : IsSingle (place_at w t) → CallsOneLock (call_at w t).purpose
+  calls_one_lock single = by_lock (lock_of (place_at w t)) refl
     where
       by_lock : (o : Option ℕ) → lock_of (place_at w t) ≡ o → CallsOneLock (call_at w t).purpose
       by_lock None e = subst (λ (c : CallState). CallsOneLock c.purpose) (sym (call_none (place_at w t) e (rights w t))) tt
-      by_lock (Some l) e = subst (λ (c : CallState). CallsOneLock c.purpose) (sym (call_here (place_at w t) l (singles w steady t) e (rights w t))) (row_calls_one l e)
+      by_lock (Some l) e = subst (λ (c : CallState). CallsOneLock c.purpose) (sym (call_here (place_at w t) l single e (rights w t))) (row_calls_one l single e)
 
   -- ---------------------------------------------------------------- where it stands
 
@@ -164,12 +167,19 @@ module _ (w : State) (t : ℕ) (steady : IsSteady w) where
     pub in_second : (station_at (place_at w t) l).stands ≡ Some Second → (lock_state w l).aside ≡ Some t
     in_second stands = by_first (first_of (queue_at w (2 * l + 1))) refl
       where
+        -- who waits for a mutex, or with one, stands in no second line
+        single : IsSingle (place_at w t)
+        single = elim (single_or_two (place_at w t)) [
+          | inl one ↦ one
+          | inr two ↦ absurd (two_stand_main two.lock two.at l (subst (λ p. (station_at p l).stands ≡ Some Second) two.is stands))
+        ]
+
         own : lock_of (place_at w t) ≡ Some l
-        own = station_calls (place_at w t) l (singles w steady t) (λ out. let e : ◌≡◌ {A = Option Line} None (Some Second) = sym (ap (λ (x : Station). x.stands) out) ∙ stands in cc)
+        own = station_calls (place_at w t) l single (λ out. let e : ◌≡◌ {A = Option Line} None (Some Second) = sym (ap (λ (x : Station). x.stands) out) ∙ stands in cc)
 
         pending : (b : Bool) × ((lock_state w l).pending ≡ Some (record { thread = t; falls_back = b }))
         pending =
-            let c = (row_promises l own).aside (sym (ap (λ (x : Station). x.stands) (station_own (place_at w t) l own)) ∙ stands) in
+            let c = (row_promises l single own).aside (sym (ap (λ (x : Station). x.stands) (station_own (place_at w t) l own)) ∙ stands) in
             (c.0, (steady.sites.site l).held t (Pends c.0) (ap (λ (d : Doing). d.claims) (doing_own (place_at w t) l own) ∙ c.1))
 
         by_first : (o : Option ℕ) → first_of (queue_at w (2 * l + 1)) ≡ o → o ≡ Some t
@@ -200,26 +210,47 @@ module _ (w : State) (t : ℕ) (steady : IsSteady w) where
         let b = aside_by in
         omega arith
 
-    -- whoever stands about a lock calls it, and waits
-    pub stands_waiting : 1 ≤ standing t (lock_state w l) → (lock_of (place_at w t) ≡ Some l) × IsWaiting (profile (place_at w t))
-    stands_waiting some = elim (calls_one (place_at w t) l) [
-      | inl own ↦ (own, by_row own (profile (place_at w t)).stands refl (taken_of (profile (place_at w t))) refl)
-      | inr other ↦ absurd (
-          let a : (station_at (place_at w t) l).stands ≡ None = ap (λ (x : Station). x.stands) (station_other (place_at w t) l (singles w steady t) other) in
-          let b : taken_at (place_at w t) l ≡ None = taken_other (place_at w t) l (singles w steady t) other in
-          let n : standing t (lock_state w l) ≡ 0 = standing_by ∙ (λ i. stood_in (a i) Main + stood_in (a i) Second + one_if_some (b i)) in
-          omega arith)
-    ]
+    -- whoever stands about a lock stands in a line of it, or is taken there
+    pub stands_there : 1 ≤ standing t (lock_state w l) → StandsAt (place_at w t) l
+    stands_there some = by_row (station_at (place_at w t) l).stands refl (taken_at (place_at w t) l) refl
       where
-        by_row : lock_of (place_at w t) ≡ Some l → (o : Option Line) → (profile (place_at w t)).stands ≡ o → (h : Option Taken) → taken_of (profile (place_at w t)) ≡ h → IsWaiting (profile (place_at w t))
-        by_row own (Some m) e h f = inl (λ none. let g : ◌≡◌ {A = Option Line} None (Some m) = sym none ∙ e in cc)
-        by_row own None e (Some x) f = inr (λ none. let g : ◌≡◌ {A = Option Taken} None (Some x) = sym none ∙ f in cc)
-        by_row own None e None f = absurd (
-            let a : (station_at (place_at w t) l).stands ≡ None = ap (λ (x : Station). x.stands) (station_own (place_at w t) l own) ∙ e in
-            let b : taken_at (place_at w t) l ≡ None = taken_own (place_at w t) l own ∙ f in
-            let n : standing t (lock_state w l) ≡ 0 = standing_by ∙ (λ i. stood_in (a i) Main + stood_in (a i) Second + one_if_some (b i)) in
-            omega arith
-            )
+        by_row : (o : Option Line) → (station_at (place_at w t) l).stands ≡ o → (h : Option Taken) → taken_at (place_at w t) l ≡ h → StandsAt (place_at w t) l
+        by_row (Some m) e h f = inl (λ none. let g : ◌≡◌ {A = Option Line} None (Some m) = sym none ∙ e in cc)
+        by_row None e (Some x) f = inr (λ none. let g : ◌≡◌ {A = Option Taken} None (Some x) = sym none ∙ f in cc)
+        by_row None e None f = absurd (let n : standing t (lock_state w l) ≡ 0 = standing_by ∙ (λ i. stood_in (e i) Main + stood_in (e i) Second + one_if_some (f i)) in omega arith)
+
+    -- and whoever stands in a line of it, or is taken there, stands about it
+    pub there_stands : StandsAt (place_at w t) l → 1 ≤ standing t (lock_state w l)
+    there_stands (inl in_line) = by_line (station_at (place_at w t) l).stands refl
+      where
+        by_line : (o : Option Line) → (station_at (place_at w t) l).stands ≡ o → 1 ≤ standing t (lock_state w l)
+        by_line None e = absurd (in_line e)
+        by_line (Some Main) e =
+            let a : stood_in (station_at (place_at w t) l).stands Main ≡ 1 = ap (λ x. stood_in x Main) e in
+            let n = standing_by in omega arith
+        by_line (Some Second) e =
+            let a : stood_in (station_at (place_at w t) l).stands Second ≡ 1 = ap (λ x. stood_in x Second) e in
+            let n = standing_by in omega arith
+    there_stands (inr taken) = by_taken (taken_at (place_at w t) l) refl
+      where
+        by_taken : (o : Option Taken) → taken_at (place_at w t) l ≡ o → 1 ≤ standing t (lock_state w l)
+        by_taken None e = absurd (taken e)
+        by_taken (Some x) e =
+            let a : one_if_some (taken_at (place_at w t) l) ≡ 1 = ap one_if_some e in
+            let n = standing_by in omega arith
+
+    -- in a call of one lock it calls that one, and waits
+    pub stands_waiting : IsSingle (place_at w t) → 1 ≤ standing t (lock_state w l) → (lock_of (place_at w t) ≡ Some l) × IsWaiting (profile (place_at w t))
+    stands_waiting single some = elim (calls_one (place_at w t) l) [
+      | inl own ↦ (own, elim (stands_there some) [
+        | inl in_line ↦ inl (λ none. in_line (ap (λ (x : Station). x.stands) (station_own (place_at w t) l own) ∙ none))
+        | inr taken ↦ inr (λ none. taken (taken_own (place_at w t) l own ∙ none))
+      ])
+      | inr other ↦ absurd (elim (stands_there some) [
+        | inl in_line ↦ in_line (ap (λ (x : Station). x.stands) (station_other (place_at w t) l single other))
+        | inr taken ↦ taken (taken_other (place_at w t) l single other)
+      ])
+    ]
 
     -- and whoever waits stands about the lock that it calls
     pub waiting_stands : lock_of (place_at w t) ≡ Some l → IsWaiting (profile (place_at w t)) → 1 ≤ standing t (lock_state w l)
@@ -245,10 +276,10 @@ module _ (w : State) (t : ℕ) (steady : IsSteady w) where
 
   -- ---------------------------------------------------------------- its call
 
-  module _ (l : ℕ) (own : lock_of (place_at w t) ≡ Some l) where
+  module _ (l : ℕ) (single : IsSingle (place_at w t)) (own : lock_of (place_at w t) ≡ Some l) where
     -- the call is told by the row
     pub call_own : call_at w t ≡ call_on (Some l) (profile (place_at w t)) (rights w t)
-    call_own = call_here (place_at w t) l (singles w steady t) own (rights w t)
+    call_own = call_here (place_at w t) l single own (rights w t)
 
     pub inside_own : (m : Line) → (profile (place_at w t)).doing.inside ≡ Some m ↔ IsInside w t l m
     inside_own m = (
@@ -294,23 +325,23 @@ module _ (w : State) (t : ℕ) (steady : IsSteady w) where
     lets_out_at m h = elim h [ inl lets ↦ inl (lets_out lets) | inr wakes ↦ inr (subst (λ (c : CallState). WakesAside c.purpose l m) (sym call_own) wakes) ]
 
   -- who owes a wake on a line is inside its section, or lets others in and is on its way into it
-  pub owing_is : (l : ℕ) (m : Line) → Owes w t l m ↔ (IsInside w t l m ⊎ GoesToWake w t l m)
-  owing_is l m = (
-    (λ h. let own = owes_own (place_at w t) l m (singles w steady t) h in
-        let row = (row_promises l own).owing.owes m (sym (owed_own (place_at w t) l own (singles w steady t)) ∙ h) in
-        elim row [ inl i ↦ inl ((inside_own l own m).0 i) | inr g ↦ inr (g.0, lets_out_at l own m g.1) ]),
+  pub owing_is : IsSingle (place_at w t) → (l : ℕ) (m : Line) → Owes w t l m ↔ (IsInside w t l m ⊎ GoesToWake w t l m)
+  owing_is single l m = (
+    (λ h. let own = owes_own (place_at w t) l m single h in
+        let row = (row_promises l single own).owing.owes m (sym (owed_own (place_at w t) l own single) ∙ h) in
+        elim row [ inl i ↦ inl ((inside_own l single own m).0 i) | inr g ↦ inr (g.0, lets_out_at l single own m g.1) ]),
     λ h. elim h [
-      | inl i ↦ (let own = inside_calls (lock_of (place_at w t)) refl i in owed_own (place_at w t) l own (singles w steady t) ∙ (row_promises l own).owing.inside m ((inside_own l own m).1 i))
-      | inr g ↦ (let own = entering_calls (lock_of (place_at w t)) refl g.0 in owed_own (place_at w t) l own (singles w steady t) ∙ (row_promises l own).owing.entering m g.0 (lets_in_at l own m g.1))
+      | inl i ↦ (let own = inside_calls (lock_of (place_at w t)) refl i in owed_own (place_at w t) l own single ∙ (row_promises l single own).owing.inside m ((inside_own l single own m).1 i))
+      | inr g ↦ (let own = entering_calls (lock_of (place_at w t)) refl g.0 in owed_own (place_at w t) l own single ∙ (row_promises l single own).owing.entering m g.0 (lets_in_at l single own m g.1))
     ],
   )
     where
       inside_calls : (o : Option ℕ) → lock_of (place_at w t) ≡ o → IsInside w t l m → lock_of (place_at w t) ≡ Some l
-      inside_calls o e i = doing_calls (place_at w t) l (singles w steady t) (λ idles. let f : (station_at (place_at w t) l).inside ≡ Some m = (steady.stands.sections t l m).1 i in
+      inside_calls o e i = doing_calls (place_at w t) l single (λ idles. let f : (station_at (place_at w t) l).inside ≡ Some m = (steady.stands.sections t l m).1 i in
           let g : ◌≡◌ {A = Option Line} None (Some m) = sym (ap (λ (d : Doing). d.inside) idles) ∙ inside_is (place_at w t) l ∙ f in cc)
 
       entering_calls : (o : Option ℕ) → lock_of (place_at w t) ≡ o → act_of (place_at w t) ≡ Enter (One (key_of l m)) → lock_of (place_at w t) ≡ Some l
       entering_calls None e a = absurd (let f : Rest ≡ Enter (One (key_of l m)) = sym (ap act_of (calls_none (place_at w t) e)) ∙ a in cc)
       entering_calls (Some k) e a =
-          let of : IsOfLine k (key_of l m) = subst (IsLineAct k (station (place_at w t))) a (line_act w (place_at w t) k (steady.stands.calls t) e) in
+          let of : IsOfLine k (key_of l m) = subst (IsLineAct k (station (place_at w t))) a (line_act (place_at w t) k single e) in
           e ∙ ap Some (sym (key_one l k m of.0 of.1))

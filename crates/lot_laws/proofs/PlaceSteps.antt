@@ -1,24 +1,19 @@
 -- What a step makes of what a thread owes, at each place.
 use Rattle.lot_calls.specs.declared.calls.CondvarCall.TheVariants as condvar
-use Rattle.std.proofs.Common.{Bool, ℕ, true, false, Option, Some, None, if◌then◌else◌, ◌≡◌, refl, sym, ◌∙◌, ap, subst}
+use Rattle.std.proofs.Common.{Bool, ℕ, true, false, Some, None, if◌then◌else◌, ◌≡◌, refl, sym, ◌∙◌, ap, subst}
+use Rattle.lot_laws.proofs.CondvarOwing.{condvar_befallen}
 use Rattle.lot_laws.proofs.OnceNext.{once_owes_next}
 use Rattle.lot_calls.specs.declared.calls.Call.{Call}
 use Rattle.lot_calls.specs.declared.calls.Call as call
 use Rattle.lot_acts.specs.declared.acts.Reply.{Reply}
 use Rattle.lot_acts.specs.declared.acts.Reply.TheVariants.{Late}
 use Rattle.lot_laws.proofs.OnceOwing.{once_befallen, once_never_late}
-use Rattle.lot_condvar.specs.declared.places.CondvarPlace.{CondvarPlace}
-use Rattle.lot_condvar.specs.CondvarSteps.{condvar_next}
-use Rattle.lot_mutex.specs.MutexSteps.{mutex_next}
-use Rattle.lot_mutex.specs.declared.places.MutexPlace.{MutexPlace}
-use Rattle.lot_once.specs.declared.places.OncePlace.{OncePlace}
-use Rattle.lot_once.specs.OnceSteps.{once_next}
 use Rattle.lot_steps.specs.declared.places.Place.{Place}
 use Rattle.lot_steps.specs.declared.places.Place.TheVariants.{Idle, Mutex, RwLock, Once, Condvar}
 use Rattle.lot_acts.specs.Acts.{outcome_of}
 use Rattle.lot_calls.specs.declared.kinds.Kind.{Kind}
 use Rattle.lot_calls.specs.Kinds.{is_fair}
-use Rattle.lot_steps.specs.Steps.{act_of, next_act, next_place, first_place, lock_of, line_owed, profile, rwlock_does, rwlock_goes, condvar_goes, mutex_goes, once_goes}
+use Rattle.lot_steps.specs.Steps.{act_of, next_act, next_place, first_place, lock_of, line_owed, profile, rwlock_does, rwlock_goes}
 use Rattle.lot_machine.specs.Machine.{State, place_at, word_at, kind_at, reply_to}
 use Rattle.abstract_locks.specs.Locks as locks
 use Rattle.lot_laws.specs.Owing.{sort_at}
@@ -51,41 +46,13 @@ use Rattle.lot_laws.proofs.PlainCalls.{never_given, plain_acts, plain_leads}
 
 -- ---------------------------------------------------------------- each place
 
--- on which line a thread in a call of one lock owes a wake
-abbrev pub owed_by : Place → ℕ → Option Line
-owed_by (Condvar l at) k = None
-owed_by p k = line_owed p k
-
-pub owed_is : (p : Place) (k : ℕ) → IsSingle p → line_owed p k ≡ owed_by p k
-owed_is Idle k single = refl
-owed_is (Mutex l at) k single = refl
-owed_is (RwLock l a c) k single = refl
-owed_is (Once l at) k single = refl
-owed_is (Condvar l at) k single = absurd single
-
-mutex_owed : (l k : ℕ) (n : Next MutexPlace) → owed_by (mutex_goes l n) k ≡ line_owed (mutex_goes l n) k
-mutex_owed l k (next.At at) = refl
-mutex_owed l k (next.End answer) = refl
-
-call_owed : (l k : ℕ) (a : Admission) (n : Next RwLockCallPlace) → owed_by (rwlock_goes l a n) k ≡ line_owed (rwlock_goes l a n) k
-call_owed l k a (next.At at) = refl
-call_owed l k a (next.End answer) = refl
-
-once_owed : (l k : ℕ) (n : Next OncePlace) → owed_by (once_goes l n) k ≡ line_owed (once_goes l n) k
-once_owed l k (next.At at) = refl
-once_owed l k (next.End answer) = refl
-
 -- whatever befalls a thread, it owes what it owed
-pub owes_befallen : (p : Place) (r : Reply) → Befalls r → (k : ℕ) → owed_by (next_place p r) k ≡ owed_by p k
+pub owes_befallen : (p : Place) (r : Reply) → Befalls r → (k : ℕ) → line_owed (next_place p r) k ≡ line_owed p k
 owes_befallen Idle r b k = refl
-owes_befallen (Mutex l at) r b k = mutex_owed l k (mutex_next at r) ∙ mutex_befallen l at r b k
-owes_befallen (RwLock l a c) r b k = call_owed l k a (call_next a c r) ∙ rwlock_befallen l a r k c b
-owes_befallen (Once l at) r b k = once_owed l k (once_next at r) ∙ once_befallen l at r b k
-owes_befallen (Condvar l at) r b k = by_next (condvar_next at r)
-  where
-    by_next : (n : Next CondvarPlace) → owed_by (condvar_goes l n) k ≡ None
-    by_next (next.At q) = refl
-    by_next (next.End answer) = refl
+owes_befallen (Mutex l at) r b k = mutex_befallen l at r b k
+owes_befallen (RwLock l a c) r b k = rwlock_befallen l a r k c b
+owes_befallen (Once l at) r b k = once_befallen l at r b k
+owes_befallen (Condvar l at) r b k = condvar_befallen l at r b k
 
 -- at a lock by its number and rules
 abbrev OwesAt : State → ℕ → locks.Sort → ℕ → Place → Type 0

@@ -46,10 +46,11 @@ use Rattle.lot_machine.specs.Machine.{state_after_hand_over_by, State, state_aft
 use Rattle.lot_machine.specs.Fits.{IsShaped, PlaceFits}
 use Rattle.abstract_locks.specs.Sites.{Main, Line, Second}
 use Rattle.lot_laws.specs.Stations.{station, station_at, Station}
-use Rattle.lot_laws.specs.SitesOf.{IsSteady, stood_in, key_of}
+use Rattle.lot_laws.specs.SitesOf.{FitsItsLock, IsSteady, stood_in, key_of}
 use Rattle.lot_laws.specs.Refinement.{lock_state, locks_of, call_state, sleeps, runs_closure, keys_entered, call_on_both}
 use Rattle.lot_laws.proofs.SingleCalls.{call_none}
-use Rattle.lot_laws.proofs.Glue.{IsSingle, calls_none, singles, single_late}
+use Rattle.lot_laws.proofs.Glue.{IsOf, of_own, IsOfTwo, IsSingle, fits_two, calls_none, condvar_apart, single_late, single_or_two}
+use Rattle.lot_laws.proofs.CondvarLate.{IsLate, condvar_acts, two_late, two_may_late}
 use Rattle.lot_laws.proofs.LineActs.{IsOfLine, IsLineAct, line_act, holds_line, key_there, late_line, calls_there}
 use Rattle.lot_laws.proofs.GoneKept.{none_is}
 use Rattle.lot_machine.specs.Machine.{runs_closure}
@@ -113,11 +114,17 @@ called_of w p r can = by_lock (beside_of p) (lock_of p) refl
     by_lock m None e = absurd (let f : can_do w Rest ≡ true = ap (λ q. can_do w (act_of q)) (sym (calls_none p e)) ∙ can in cc)
 
 acting_of : (w : State) (t : ℕ) → IsSteady w → (call_state (place_at w t) (rights w t)).purpose ≢ None → is_acting (act_of (place_at w t)) ≡ true
-acting_of w t steady called = by_lock (lock_of (place_at w t)) refl
+acting_of w t steady called = elim (single_or_two (place_at w t)) [
+  | inl single ↦ by_lock single (lock_of (place_at w t)) refl
+  | inr two ↦ ap (λ p. is_acting (act_of p)) two.is ∙ condvar_acts two.lock two.at
+]
   where
-    by_lock : (o : Option ℕ) → lock_of (place_at w t) ≡ o → is_acting (act_of (place_at w t)) ≡ true
-    by_lock (Some l) e = (row_promises w t steady l e).acts
-    by_lock None e = absurd (called (ap (λ (c : CallState). c.purpose) (call_none (place_at w t) e (rights w t))))
+    by_lock : IsSingle (place_at w t) → (o : Option ℕ) → lock_of (place_at w t) ≡ o → is_acting (act_of (place_at w t)) ≡ true
+    by_lock single (Some l) e = (row_promises w t steady l single e).acts
+    by_lock single None e = absurd (called (ap (λ (c : CallState). c.purpose) (call_none (place_at w t) e (rights w t))))
+
+late_two : (w : State) (t : ℕ) → IsSteady w → (two : IsOfTwo (place_at w t)) → (key : ℕ) → late_key (place_at w t) ≡ Some key → IsLate two.lock two.at key
+late_two w t steady two key e = two_late two.lock two.at (condvar_apart w two.lock two.at (fits_two w t steady two)) key (sym (ap late_key two.is) ∙ e)
 
 pub may_go : (w : State) (t : ℕ) → can_go w t ≡ true → MayGo (locks_of w) t
 may_go w t can = let is = can_is w (act_of (place_at w t)) can in
@@ -149,27 +156,53 @@ module _ (w : State) (t : ℕ) (steady : IsSteady w) where
 
   late_there : (o : Option ℕ) → late_key (place_at w t) ≡ o → is_free_under w o ≡ true → MayBeLate (locks_of w) t
   late_there None e can = absurd cc
-  late_there (Some key) e can =
-      let of = late_line (place_at w t) key (singles w steady t) e in
-      let row = (row_promises w t steady of.0 of.1).late of.2.0 of.2.1 in
-      record {
-        lock = of.0;
-        timed = subst (λ (c : CallState). IsTimed c.purpose c.recalls of.0) (sym (call_own w t steady of.0 of.1)) row.timed;
-        asleep = ap sleeps row.asleep;
-        stands = stands_freely of.0 of.2.0 (ap (λ (x : Station). x.stands) (station_own (place_at w t) of.0 of.1) ∙ row.stands) (none_is (section_at w (key_of of.0 of.2.0)) (subst (λ k. is_none (section_at w k) ≡ true) of.2.2 can));
-      }
+  late_there (Some key) e can = elim (single_or_two (place_at w t)) [ inl single ↦ by_one single | inr two ↦ by_two two ]
+    where
+      by_one : IsSingle (place_at w t) → MayBeLate (locks_of w) t
+      by_one single =
+          let of = late_line (place_at w t) key single e in
+          let row = (row_promises w t steady of.0 single of.1).late of.2.0 of.2.1 in
+          record {
+            lock = of.0;
+            timed = subst (λ (c : CallState). IsTimed c.purpose c.recalls of.0) (sym (call_own w t steady of.0 single of.1)) row.timed;
+            asleep = ap sleeps row.asleep;
+            stands = stands_freely of.0 of.2.0 (ap (λ (x : Station). x.stands) (station_own (place_at w t) of.0 of.1) ∙ row.stands) (none_is (section_at w (key_of of.0 of.2.0)) (subst (λ k. is_none (section_at w k) ≡ true) of.2.2 can));
+          }
+
+      by_two : IsOfTwo (place_at w t) → MayBeLate (locks_of w) t
+      by_two two =
+          let is_late = late_two w t steady two key e in
+          record {
+            lock = is_late.lock;
+            timed = subst (λ p. IsTimed (call_state p (rights w t)).purpose (call_state p (rights w t)).recalls is_late.lock) (sym two.is) (is_late.timed (rights w t));
+            asleep = ap (λ p. sleeps (act_of p)) two.is ∙ ap sleeps is_late.asleep;
+            stands = stands_freely is_late.lock Main (ap (λ p. (station_at p is_late.lock).stands) two.is ∙ is_late.stands) (none_is (section_at w (2 * is_late.lock)) (subst (λ k. is_none (section_at w k) ≡ true) is_late.under can));
+          }
 
   pub may_be_late : is_free_under w (late_key (place_at w t)) ≡ true → MayBeLate (locks_of w) t
   may_be_late can = late_there (late_key (place_at w t)) refl can
 
+  module _ (may : MayBeLate (locks_of w) t) (n : Line) (stood : (station_at (place_at w t) may.lock).stands ≡ Some n) (free : is_none (section_at w (key_of may.lock n)) ≡ true) where
+    late_one : IsSingle (place_at w t) → is_free_under w (late_key (place_at w t)) ≡ true
+    late_one single =
+        let own = station_calls (place_at w t) may.lock single (λ out. let e : ◌≡◌ {A = Option Line} None (Some n) = sym (ap (λ (x : Station). x.stands) out) ∙ stood in cc) in
+        let stands : (profile (place_at w t)).stands ≡ Some n = sym (ap (λ (x : Station). x.stands) (station_own (place_at w t) may.lock own)) ∙ stood in
+        let timed : IsTimed (Some ((profile (place_at w t)).purpose may.lock)) (profile (place_at w t)).recalls may.lock = subst (λ (c : CallState). IsTimed c.purpose c.recalls may.lock) (call_own w t steady may.lock single own) may.timed in
+        let row : (profile (place_at w t)).late_line ≡ Some n = (row_promises w t steady may.lock single own).may_be_late n stands (sleeps_is (act_of (place_at w t)) may.asleep) timed in
+        ap (is_free_under w) (single_late (place_at w t) single ∙ (λ i. key_in (own i) (row i))) ∙ free
+
+    late_of_two : IsOfTwo (place_at w t) → is_free_under w (late_key (place_at w t)) ≡ true
+    late_of_two two =
+        let fits = fits_two w t steady two in
+        let asleep : condvar_act two.lock two.at ≡ Sleep = sym (ap act_of two.is) ∙ sleeps_is (act_of (place_at w t)) may.asleep in
+        let timed = subst (λ p. IsTimed (call_state p (rights w t)).purpose (call_state p (rights w t)).recalls may.lock) two.is may.timed in
+        let key = two_may_late two.lock two.at fits.reached asleep may.lock (rights w t) timed n (sym (ap (λ p. (station_at p may.lock).stands) two.is) ∙ stood) in
+        ap (is_free_under w) (ap late_key two.is ∙ key) ∙ free
+
   pub late_possible : MayBeLate (locks_of w) t → is_free_under w (late_key (place_at w t)) ≡ true
   late_possible may =
       let stood = stands_free may.lock may.stands in
-      let own = station_calls (place_at w t) may.lock (singles w steady t) (λ out. let e : ◌≡◌ {A = Option Line} None (Some stood.0) = sym (ap (λ (x : Station). x.stands) out) ∙ stood.1 in cc) in
-      let stands : (profile (place_at w t)).stands ≡ Some stood.0 = sym (ap (λ (x : Station). x.stands) (station_own (place_at w t) may.lock own)) ∙ stood.1 in
-      let timed : IsTimed (Some ((profile (place_at w t)).purpose may.lock)) (profile (place_at w t)).recalls may.lock = subst (λ (c : CallState). IsTimed c.purpose c.recalls may.lock) (call_own w t steady may.lock own) may.timed in
-      let row : (profile (place_at w t)).late_line ≡ Some stood.0 = (row_promises w t steady may.lock own).may_be_late stood.0 stands (sleeps_is (act_of (place_at w t)) may.asleep) timed in
-      ap (is_free_under w) (single_late (place_at w t) (singles w steady t) ∙ (λ i. key_in (own i) (row i))) ∙ stood.2
+      elim (single_or_two (place_at w t)) [ inl single ↦ late_one may stood.0 stood.1 stood.2 single | inr two ↦ late_of_two may stood.0 stood.1 stood.2 two ]
 
 -- ---------------------------------------------------------------- what a thread is told
 
@@ -343,7 +376,7 @@ module _ (w : State) (t : ℕ) where
   took_all key (whom.TheVariants.Picked start recursive) k = refl
   took_all key whom.TheVariants.All k = refl
 
-  module _ (shape : IsShaped w) (steady : IsSteady w) (l : ℕ) (own : lock_of (place_at w t) ≡ Some l) (lt : l < length w.locks) where
+  module _ (shape : IsShaped w) (steady : IsSteady w) (l : ℕ) (is_of : IsOf l (place_at w t)) (lt : l < length w.locks) where
     there_is : (key : ℕ) → IsOfLine l key → key < length w.sections
     there_is key h = subst (λ k. k < length w.sections) (sym h.1) (key_there w l h.0 shape lt)
 
@@ -351,7 +384,7 @@ module _ (w : State) (t : ℕ) where
     act_sections : (p : Place) (a : Act) → can_do w a ≡ true → IsLineAct l (station (place_at w t)) a → (key : ℕ) → SectionChanges (section_at w key) t (section_at (state_after_act w t p a) key)
     act_sections p (Enter (One k)) can h key = filled_changes k (Some t) (there_is k h) (inr (inl (none_is (section_at w k) can, refl))) key
     act_sections p (Enter (Two first second)) can h key = absurd h
-    act_sections p (act.Leave (One k) x) can h key = rw (left_sections (One k) x key) (filled_changes k None (there_is k (h.0, h.2)) (inr (inr (holds_line w t l steady own k h, refl))) key)
+    act_sections p (act.Leave (One k) x) can h key = rw (left_sections (One k) x key) (filled_changes k None (there_is k (h.0, h.2)) (inr (inr (holds_line w t l steady is_of k h, refl))) key)
     act_sections p (act.Leave (Two first second) x) can h key = absurd h
     act_sections p (Park k key_there check x) can h key = inl (parked_sections (holds check (word_at w k)) _ key)
     act_sections p (Take k x) can h key = inl (took_all k x key)
@@ -361,11 +394,11 @@ module _ (w : State) (t : ℕ) where
     act_sections p a can h key = inl refl
 
 pub gone_sections : (w : State) (t : ℕ) → IsShaped w → IsSteady w → can_go w t ≡ true → (key : ℕ) → SectionChanges (section_at w key) t (section_at (state_after_go w t) key)
-gone_sections w t shape steady can = by_lock (lock_of (place_at w t)) refl
+gone_sections w t shape steady can = elim (single_or_two (place_at w t)) [ inl single ↦ by_lock single (lock_of (place_at w t)) refl | inr two ↦ absurd (fits_two w t steady two).begun ]
   where
-    by_lock : (o : Option ℕ) → lock_of (place_at w t) ≡ o → (key : ℕ) → SectionChanges (section_at w key) t (section_at (state_after_act w t (place_at w t) (act_of (place_at w t))) key)
-    by_lock (Some l) own key = act_sections w t shape steady l own (calls_there (length w.locks) (place_at w t) l own (shape.places t)) (place_at w t) (act_of (place_at w t)) can (line_act w (place_at w t) l (steady.stands.calls t) own) key
-    by_lock None none key = absurd (let e : can_do w (act_of (place_at w t)) ≡ false = ap (λ p. can_do w (act_of p)) (calls_none (place_at w t) none) in cc)
+    by_lock : IsSingle (place_at w t) → (o : Option ℕ) → lock_of (place_at w t) ≡ o → (key : ℕ) → SectionChanges (section_at w key) t (section_at (state_after_act w t (place_at w t) (act_of (place_at w t))) key)
+    by_lock single (Some l) own key = act_sections w t shape steady l (of_own l (place_at w t) single own) (calls_there (length w.locks) (place_at w t) l own (shape.places t)) (place_at w t) (act_of (place_at w t)) can (line_act (place_at w t) l single own) key
+    by_lock single None none key = absurd (let e : can_do w (act_of (place_at w t)) ≡ false = ap (λ p. can_do w (act_of p)) (calls_none (place_at w t) none) in cc)
 
 -- ---------------------------------------------------------------- the other turns
 
@@ -373,8 +406,10 @@ module _ (w : State) (t : ℕ) (there : t < length w.places) where
   pub late_awake : IsSteady w → (o : Option ℕ) → late_key (place_at w t) ≡ o → is_free_under w o ≡ true → sleeps (act_of (place_at (state_after_late_on w t o) t)) ≡ false
   late_awake steady None e can = absurd cc
   late_awake steady (Some key) e can =
-      let of = late_line (place_at w t) key (singles w steady t) e in
-      ap (λ p. sleeps (act_of p)) (get_or-set_same w.places t (next_place (place_at w t) Late) Idle there) ∙ awake_is (act_of (next_place (place_at w t) Late)) (late_next (place_at w t) of.2.0 (singles w steady t) of.2.1).awake
+      ap (λ p. sleeps (act_of p)) (get_or-set_same w.places t (next_place (place_at w t) Late) Idle there) ∙ awake_is (act_of (next_place (place_at w t) Late)) (elim (single_or_two (place_at w t)) [
+        | inl single ↦ (let of = late_line (place_at w t) key single e in (late_next (place_at w t) of.2.0 single of.2.1).awake)
+        | inr two ↦ subst (λ p. act_of (next_place p Late) ≢ Sleep) (sym two.is) (late_two w t steady two key e).awake
+      ])
 
 module _ (w : State) (t : ℕ) (shape : IsShaped w) where
   -- who is late enters the section of the line in which it sleeps
@@ -383,5 +418,8 @@ module _ (w : State) (t : ℕ) (shape : IsShaped w) where
     where
       by_key : (o : Option ℕ) → late_key p ≡ o → is_free_under w o ≡ true → (key : ℕ) → SectionChanges (section_at w key) t (section_at (state_after_late_on w t o) key)
       by_key None e can key = absurd cc
-      by_key (Some k) e can key = let of = late_line p k (subst IsSingle is (singles w steady t)) e in
-          filled_changes w t k (Some t) (subst (λ j. j < length w.sections) (sym of.2.2) (key_there w of.0 of.2.0 shape (calls_there (length w.locks) p of.0 of.1 fits))) (inr (inl (none_is (section_at w k) can, refl))) key
+      by_key (Some k) e can key = filled_changes w t k (Some t) (elim (single_or_two p) [
+        | inl single ↦ (let of = late_line p k single e in subst (λ j. j < length w.sections) (sym of.2.2) (key_there w of.0 of.2.0 shape (calls_there (length w.locks) p of.0 of.1 fits)))
+        | inr two ↦ (let is_late = two_late two.lock two.at (condvar_apart w two.lock two.at (subst (FitsItsLock w) (is ∙ two.is) (steady.stands.calls t))) k (sym (ap late_key two.is) ∙ e) in
+            subst (λ j. j < length w.sections) (sym is_late.under) (key_there w is_late.lock Main shape (is_late.there (length w.locks) (subst (PlaceFits (length w.locks)) two.is fits))))
+      ]) (inr (inl (none_is (section_at w k) can, refl))) key

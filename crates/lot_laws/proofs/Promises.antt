@@ -2,15 +2,15 @@
 use Rattle.std.proofs.Common.{ℕ, Bool, true, false, Option, Some, None, if◌then◌else◌, ◌==◌, ◌&&◌, ◌≡◌, ◌≢◌, ◌+◌, ◌*◌, ◌≤◌, ◌<◌, ◌⊎◌, inl, inr, List, [], ◌∷◌, length, refl, ◌∙◌, ap, subst, arith, ◌↔◌, sym}
 use Rattle.lot_base.specs.declared.wants.Want.{Want}
 use Rattle.lot_base.specs.declared.wants.Want.TheVariants.{Exclusive}
-use Rattle.lot_acts.specs.declared.acts.Act.TheVariants.{Rest, Sleep}
+use Rattle.lot_acts.specs.declared.acts.Act.TheVariants.{Leave, Rest, Sleep}
 use Rattle.lot_acts.specs.Profiles.{Profile, hand, hand_owner}
 use Rattle.lot_calls.specs.declared.kinds.Kind.{Kind}
 use Rattle.lot_calls.specs.declared.kinds.Kind as kinds
 use Rattle.lot_calls.specs.declared.calls.Step.{Step}
 use Rattle.lot_steps.specs.declared.places.Place.{Place}
 use Rattle.lot_steps.specs.declared.places.Place.TheVariants.{Idle, Mutex, RwLock, Once, Condvar}
-use Rattle.lot_steps.specs.Steps.{act_of, calls, is_lock, lock_of, profile, retries_on}
-use Rattle.lot_machine.specs.Machine.{State, opening, place_at, after, kind_at, filled_at}
+use Rattle.lot_steps.specs.Steps.{act_of, calls, is_lock, lock_of, or_else, profile, retries_on, taker}
+use Rattle.lot_machine.specs.Machine.{State, opening, place_at, after, kind_at, filled_at, section_at}
 use Rattle.lot_machine.specs.Fits.{IsShaped}
 use Rattle.lot_laws.specs.Stations.{Station, station_at, doing_on}
 use Rattle.lot_laws.specs.SitesOf.{AreCounted, IsSteady, RunsInClosures, rules_in}
@@ -30,6 +30,19 @@ use Rattle.lot_laws.proofs.SitesPromise.{not_empty}
 use Rattle.lot_laws.proofs.RowPromises.{IsDebtorIn, HasClaimed, HasDebt, WasHanded, RowLooksAfter}
 use Rattle.lot_laws.proofs.PlacePromises.{row_promises, station_own, doing_own, owed_own, owes_own, calls_one_lock, doing_calls, station_calls, stands_waiting, waiting_stands, call_own, inside_own, owing_is}
 use Rattle.lot_laws.proofs.SingleCalls.{call_none, single_call}
+use Rattle.lot_condvar.specs.declared.places.CondvarPlace.{CondvarPlace}
+use Rattle.lot_steps.specs.Steps.{line_owed}
+use Rattle.lot_laws.specs.Refinement.{call_state}
+use Rattle.lot_laws.specs.SitesOf.{FitsItsLock}
+use Rattle.lot_laws.proofs.CondvarPromises.{StandsAt, two_know, two_one, two_owe_main, two_purpose, two_retry, two_wait}
+use Rattle.lot_laws.proofs.Glue.{IsOfTwo, condvar_apart, fits_two, single_or_two}
+use Rattle.lot_laws.proofs.PlacePromises.{stands_there, there_stands}
+use Rattle.lot_laws.proofs.CondvarAsleep.{WasHandedBeside, two_asleep, two_hand_none}
+use Rattle.lot_laws.proofs.Waiters.{doing_beside, station_beside}
+use Rattle.lot_base.specs.declared.keys.Keys.TheVariants.{One}
+use Rattle.lot_base.specs.declared.notes.Note as note
+use Rattle.lot_acts.specs.declared.acts.Wakes as wakes
+use Rattle.lot_condvar.specs.CondvarProfiles.{condvar_profile}
 use Rattle.lot_laws.proofs.Glue.{same, calls_none, single_retries, singles, single_taker, IsSingle}
 use Rattle.lot_machine.proofs.Opening.{idle_at, none_at, empty_at, nobody_owns, opening_shares}
 use Rattle.std.proofs.lemmas.Bool.{cases_lt, eqb-true}
@@ -100,26 +113,48 @@ within r s shared h = by_sort r.sort refl shared
     by_sort sort e f = absurd (grind arith)
 
 module _ (w : State) (steady : IsSteady w) where
+  -- in a call of one lock, or of two
+  by_call : (t : ℕ) (T : Place → Type 0) → (IsSingle (place_at w t) → T (place_at w t)) → ((k : ℕ) (at : CondvarPlace) → place_at w t ≡ Condvar k at → FitsItsLock w (Condvar k at) → T (Condvar k at)) → T (place_at w t)
+  by_call t T one both = elim (single_or_two (place_at w t)) [
+    | inl single ↦ one single
+    | inr two ↦ subst T (sym two.is) (both two.lock two.at two.is (subst (FitsItsLock w) two.is (steady.stands.calls t)))
+  ]
+
+  abbrev rights_now : ℕ → ℕ → Rights
+  rights_now t k = rights_of (lock_state w k) t
+
   waits : (t l : ℕ) → 1 ≤ standing t (lock_state w l) → MayWait (call_at w t).purpose l
-  waits t l h =
-      let at_lock = stands_waiting w t steady l h in
-      subst (λ (c : CallState). MayWait c.purpose l) (sym (call_own w t steady l at_lock.0)) ((row_promises w t steady l at_lock.0).waits at_lock.1)
+  waits t l h = by_call t (λ p. MayWait (call_state p (rights_now t)).purpose l)
+      (λ single. let at_lock = stands_waiting w t steady l single h in
+      subst (λ (c : CallState). MayWait c.purpose l) (sym (call_own w t steady l single at_lock.0)) ((row_promises w t steady l single at_lock.0).waits at_lock.1))
+      (λ k at is fits. subst (λ q. MayWait q l) (sym (two_purpose k at (rights_now t))) (two_wait k at l (subst (λ p. StandsAt p l) is (stands_there w t steady l h))))
 
   known : (t : ℕ) → KnowsRights (sort_at w) (call_at w t).purpose
-  known t = by_lock (lock_of (place_at w t)) refl
+  known t = by_call t (λ p. KnowsRights (sort_at w) (call_state p (rights_now t)).purpose)
+      (λ single. by_lock single (lock_of (place_at w t)) refl)
+      (λ k at is fits. subst (KnowsRights (sort_at w)) (sym (two_purpose k at (rights_now t))) (two_know w k at fits))
     where
-      by_lock : (o : Option ℕ) → lock_of (place_at w t) ≡ o → KnowsRights (sort_at w) (call_at w t).purpose
-      by_lock None e = subst (λ (c : CallState). KnowsRights (sort_at w) c.purpose) (sym (call_none (place_at w t) e (λ k. rights_of (lock_state w k) t))) tt
-      by_lock (Some l) e = subst (λ (c : CallState). KnowsRights (sort_at w) c.purpose) (sym (call_own w t steady l e)) ((row_promises w t steady l e).known (sort_at w) refl)
+      by_lock : IsSingle (place_at w t) → (o : Option ℕ) → lock_of (place_at w t) ≡ o → KnowsRights (sort_at w) (call_at w t).purpose
+      by_lock single None e = subst (λ (c : CallState). KnowsRights (sort_at w) c.purpose) (sym (call_none (place_at w t) e (λ k. rights_of (lock_state w k) t))) tt
+      by_lock single (Some l) e = subst (λ (c : CallState). KnowsRights (sort_at w) c.purpose) (sym (call_own w t steady l single e)) ((row_promises w t steady l single e).known (sort_at w) refl)
 
   retrying : (t l : ℕ) → (retries_on (place_at w t) l ≡ true) ↔ ((call_at w t).retries ≡ Some l)
-  retrying t l = subst (λ b. (b ≡ true) ↔ ((call_at w t).retries ≡ Some l)) (sym (single_retries (place_at w t) l (singles w steady t)))
-      (subst (λ (c : CallState). ((profile (place_at w t)).retries && calls (place_at w t) l ≡ true) ↔ (c.retries ≡ Some l)) (sym (single_call (place_at w t) (singles w steady t) (λ k. rights_of (lock_state w k) t))) (retry_shown (lock_of (place_at w t)) (profile (place_at w t)) (λ k. rights_of (lock_state w k) t) l))
+  retrying t l = by_call t (λ p. (retries_on p l ≡ true) ↔ ((call_state p (rights_now t)).retries ≡ Some l))
+      (λ single. subst (λ b. (b ≡ true) ↔ ((call_at w t).retries ≡ Some l)) (sym (single_retries (place_at w t) l single))
+      (subst (λ (c : CallState). ((profile (place_at w t)).retries && calls (place_at w t) l ≡ true) ↔ (c.retries ≡ Some l)) (sym (single_call (place_at w t) single (λ k. rights_of (lock_state w k) t))) (retry_shown (lock_of (place_at w t)) (profile (place_at w t)) (λ k. rights_of (lock_state w k) t) l)))
+      (λ k at is fits. two_retry k at l (rights_now t))
 
   second_line : (t l : ℕ) → Owes w t l Second → has_readers (sort_at w l) ≡ true
-  second_line t l h =
-      let own = owes_own (place_at w t) l Second (singles w steady t) h in
-      (row_promises w t steady l own).owing.second (sym (owed_own (place_at w t) l own (singles w steady t)) ∙ h)
+  second_line t l = by_call t (λ p. line_owed p l ≡ Some Second → has_readers (sort_at w l) ≡ true)
+      (λ single h. let own = owes_own (place_at w t) l Second single h in
+      (row_promises w t steady l single own).owing.second (sym (owed_own (place_at w t) l own single) ∙ h))
+      (λ k at is fits h. absurd (two_owe_main k at l h))
+
+  one_place : (t l k : ℕ) → 1 ≤ standing t (lock_state w l) → 1 ≤ standing t (lock_state w k) → l ≡ k
+  one_place t l k h g = by_call t (λ p. StandsAt p l → StandsAt p k → l ≡ k)
+      (λ single s z. one_purpose (call_at w t).purpose l k (calls_one_lock w t steady single) (waits t l h) (waits t k g))
+      (λ j at is fits. two_one w j at fits l k)
+      (stands_there w t steady l h) (stands_there w t steady k g)
 
   limited : (l : ℕ) → has_readers (sort_at w l) ≡ true → IsWithinLimit (rules_in w l) (lock_state w l)
   limited l shared = within (rules_in w l) (lock_state w l) shared (steady.sites.limits l shared).1
@@ -127,23 +162,23 @@ module _ (w : State) (steady : IsSteady w) where
   -- ---------------------------------------------------------------- nobody is forgotten
 
   -- who is to look after the waiters of a line does so
-  module _ (t l : ℕ) (m : Line) (debtor : IsDebtorIn (sort_at w l) (doing_on (place_at w t) l) m) (unowned : (lock_state w l).exclusive ≢ Some t) where
+  module _ (t l : ℕ) (m : Line) (single : IsSingle (place_at w t)) (debtor : IsDebtorIn (sort_at w l) (doing_on (place_at w t) l) m) (unowned : (lock_state w l).exclusive ≢ Some t) where
     own : lock_of (place_at w t) ≡ Some l
-    own = doing_calls (place_at w t) l (singles w steady t) (λ idles. idle_owes (sort_at w l) m (subst (λ d. IsDebtorIn (sort_at w l) d m) idles debtor))
+    own = doing_calls (place_at w t) l single (λ idles. idle_owes (sort_at w l) m (subst (λ d. IsDebtorIn (sort_at w l) d m) idles debtor))
 
     row : RowLooksAfter (sort_at w l) l (profile (place_at w t)) (act_of (place_at w t)) m
-    row = (row_promises w t steady l own).debtor m (subst (λ d. IsDebtorIn (sort_at w l) d m) (doing_own (place_at w t) l own) debtor)
+    row = (row_promises w t steady l single own).debtor m (subst (λ d. IsDebtorIn (sort_at w l) d m) (doing_own (place_at w t) l own) debtor)
         (λ claims. unowned ((steady.sites.site l).held t (Has Exclusive) (ap (λ (d : Doing). d.claims) (doing_own (place_at w t) l own) ∙ claims)))
 
     debt_of : (n : Line) → HasDebt (sort_at w l) l (profile (place_at w t)) n → IsDebtorOf w t l n
-    debt_of Main (inl wakes) = inl (owed_own (place_at w t) l own (singles w steady t) ∙ wakes.0, subst (λ (c : CallState). WakesWaiters (sort_at w l) c.purpose c.gave_up c.recalls l) (sym (call_own w t steady l own)) wakes.1)
-    debt_of Main (inr again) = inr (ap (λ (c : CallState). c.retries) (call_own w t steady l own) ∙ ap (λ b. if b then Some l else None) again.0, ap (λ (c : CallState). counts_some (sort_at w l) (want_of c.purpose)) (call_own w t steady l own) ∙ again.1)
-    debt_of Second owes = owed_own (place_at w t) l own (singles w steady t) ∙ owes
+    debt_of Main (inl wakes) = inl (owed_own (place_at w t) l own single ∙ wakes.0, subst (λ (c : CallState). WakesWaiters (sort_at w l) c.purpose c.gave_up c.recalls l) (sym (call_own w t steady l single own)) wakes.1)
+    debt_of Main (inr again) = inr (ap (λ (c : CallState). c.retries) (call_own w t steady l single own) ∙ ap (λ b. if b then Some l else None) again.0, ap (λ (c : CallState). counts_some (sort_at w l) (want_of c.purpose)) (call_own w t steady l single own) ∙ again.1)
+    debt_of Second owes = owed_own (place_at w t) l own single ∙ owes
 
     stands_nowhere : (k : ℕ) → standing t (lock_state w k) ≡ 0
     stands_nowhere k = elim (cases_lt (standing t (lock_state w k)) 1) [
       | inl none ↦ omega arith
-      | inr some ↦ absurd (elim (stands_waiting w t steady k some).1 [ inl in_line ↦ in_line row.stands | inr taken ↦ taken row.taken ])
+      | inr some ↦ absurd (elim (stands_waiting w t steady k single some).1 [ inl in_line ↦ in_line row.stands | inr taken ↦ taken row.taken ])
     ]
 
     looks_after : IsLookedAfter w l m
@@ -161,7 +196,7 @@ module _ (w : State) (steady : IsSteady w) where
   in_line l some now empty =
       let free = open_unowned (sort_at w l) (lock_state w l) (steady.sites.site l).state.unwritten now in
       let d = (steady.sites.site l).main (inl some) now empty in
-      looks_after d.0 l Main d.1 (λ own. let e : ◌≡◌ {A = Option ℕ} None (Some d.0) = sym free ∙ own in cc)
+      looks_after d.0 l Main (singles w steady d.0) d.1 (λ own. let e : ◌≡◌ {A = Option ℕ} None (Some d.0) = sym free ∙ own in cc)
 
   main : (t l : ℕ) → WaitsFor w t l → IsOpenNow (rules_in w l) (lock_state w l) → WasNeverFull w l → IsLookedAfter w l Main
   main t l waiting open_now full =
@@ -195,7 +230,7 @@ module _ (w : State) (steady : IsSteady w) where
   second : (l : ℕ) → (lock_state w l).aside ≢ None → readers (lock_state w l) ≡ 0 → IsLookedAfter w l Second
   second l aside none =
       let d = (steady.sites.site l).second aside none in
-      looks_after d.0 l Second d.1 (λ own. pending_alone d.0 own (lock_state w l).aside refl aside)
+      looks_after d.0 l Second (singles w steady d.0) d.1 (λ own. pending_alone d.0 own (lock_state w l).aside refl aside)
     where
       -- beside an owner that has the lock alone nobody is pending
       pending_alone : (t : ℕ) → (lock_state w l).exclusive ≡ Some t → (o : Option ℕ) → (lock_state w l).aside ≡ o → o ≢ None → ⊥
@@ -218,39 +253,70 @@ module _ (w : State) (steady : IsSteady w) where
         claims : (doing_on (place_at w t) l).claims ≡ (profile (place_at w t)).doing.claims
         claims = ap (λ (d : Doing). d.claims) (doing_own (place_at w t) l own)
 
-    handed_at : (l : ℕ) → lock_of (place_at w t) ≡ Some l → WasHanded (sort_at w l) l (profile (place_at w t)) → IsHandedOver w t
-    handed_at l own handed =
+    -- whoever hands over is inside, and wakes all whom it has in hand as it leaves
+    tells_inside : (by l : ℕ) → (station_at (place_at w by) l).carries ≡ Some true → (section_at w (2 * l) ≡ Some by) × (act_of (place_at w by) ≡ Leave (One (2 * l)) (wakes.TheVariants.All note.TheVariants.HandOff))
+    tells_inside by l carries = elim (single_or_two (place_at w by)) [
+      | inl single ↦ (let own = station_calls (place_at w by) l single (λ out. let e : ◌≡◌ {A = Option Bool} None (Some true) = sym (ap (λ (x : Station). x.carries) out) ∙ carries in cc) in
+          let told = (row_promises w by steady l single own).tells (sym (ap (λ (x : Station). x.carries) (station_own (place_at w by) l own)) ∙ carries) in
+          ((inside_own w by steady l single own Main).0 told.1, told.0))
+      | inr two ↦ absurd (two_hand_none two.lock two.at (fits_two w by steady two).reached l (sym (ap (λ p. (station_at p l).carries) two.is) ∙ carries))
+    ]
+
+    handed_beside : (two : IsOfTwo (place_at w t)) → WasHandedBeside two.lock two.at → IsHandedOver w t
+    handed_beside two handed =
+        let apart = condvar_apart w two.lock two.at (fits_two w t steady two) handed.mutex handed.beside in
+        let in_hand : (station_at (place_at w t) handed.mutex).hand ≡ hand handed.by true = ap (λ p. (station_at p handed.mutex).hand) two.is ∙ ap (λ (x : Station). x.hand) (station_beside two.lock handed.mutex apart two.at handed.beside) ∙ handed.in_hand in
+        let claims : (doing_on (place_at w t) handed.mutex).claims ≡ Some (Has Exclusive) = ap (λ p. (doing_on p handed.mutex).claims) two.is ∙ ap (λ (d : Doing). d.claims) (doing_beside two.lock handed.mutex apart two.at handed.beside) ∙ handed.claims in
+        let told = tells_inside handed.by handed.mutex (steady.stands.hands.taken handed.by t handed.mutex true in_hand) in
+        record {
+          lock = handed.mutex;
+          by = handed.by;
+          want = Exclusive;
+          waited = subst (λ p. MayWait (call_state p (rights_now t)).purpose handed.mutex × (want_of (call_state p (rights_now t)).purpose ≡ Some Exclusive)) (sym two.is) (subst (λ q. MayWait q handed.mutex × (want_of q ≡ Some Exclusive)) (sym (two_purpose two.lock two.at (rights_now t))) handed.waited);
+          owner = inl ((steady.sites.site handed.mutex).held t (Has Exclusive) claims);
+          inside = told.0;
+          in_hand = ap taker two.is ∙ ap (λ h. hand_owner (or_else h (condvar_profile two.at).hand)) handed.in_hand;
+          wakes = told.1;
+        }
+
+    handed_at : (l : ℕ) → IsSingle (place_at w t) → lock_of (place_at w t) ≡ Some l → WasHanded (sort_at w l) l (profile (place_at w t)) → IsHandedOver w t
+    handed_at l single own handed =
         let in_hand : (station_at (place_at w t) l).hand ≡ hand handed.by true = ap (λ (x : Station). x.hand) (station_own (place_at w t) l own) ∙ handed.in_hand in
         let carries = steady.stands.hands.taken handed.by t l true in_hand in
-        let by_own = station_calls (place_at w handed.by) l (singles w steady handed.by) (λ out. let e : ◌≡◌ {A = Option Bool} None (Some true) = sym (ap (λ (x : Station). x.carries) out) ∙ carries in cc) in
-        let told = (row_promises w handed.by steady l by_own).tells (sym (ap (λ (x : Station). x.carries) (station_own (place_at w handed.by) l by_own)) ∙ carries) in
+        let told = tells_inside handed.by l carries in
         record {
           lock = l;
           by = handed.by;
           want = handed.want;
-          waited = subst (λ (c : CallState). MayWait c.purpose l × (want_of c.purpose ≡ Some handed.want)) (sym (call_own w t steady l own)) (handed.waited, handed.wants);
+          waited = subst (λ (c : CallState). MayWait c.purpose l × (want_of c.purpose ≡ Some handed.want)) (sym (call_own w t steady l single own)) (handed.waited, handed.wants);
           owner = claimed_at l own handed.want handed.has;
-          inside = (inside_own w handed.by steady l by_own Main).0 told.1;
-          in_hand = single_taker (place_at w t) (singles w steady t) ∙ ap hand_owner handed.in_hand;
-          wakes = told.0;
+          inside = told.0;
+          in_hand = single_taker (place_at w t) single ∙ ap hand_owner handed.in_hand;
+          wakes = told.1;
         }
 
     handed_over : IsHandedOver w t
-    handed_over = by_lock (lock_of (place_at w t)) refl
+    handed_over = elim (single_or_two (place_at w t)) [ inl single ↦ by_lock single (lock_of (place_at w t)) refl | inr two ↦ by_two two ]
       where
-        by_lock : (o : Option ℕ) → lock_of (place_at w t) ≡ o → IsHandedOver w t
-        by_lock None e = absurd (let f : Rest ≡ Sleep = sym (ap act_of (calls_none (place_at w t) e)) ∙ asleep in cc)
-        by_lock (Some l) e = elim ((row_promises w t steady l e).asleep asleep) [
+        by_two : IsOfTwo (place_at w t) → IsHandedOver w t
+        by_two two = let fits = fits_two w t steady two in elim (two_asleep two.lock two.at (condvar_apart w two.lock two.at fits) fits.reached (sym (ap act_of two.is) ∙ asleep)) [
+          | inl some ↦ absurd (let stood = there_stands w t steady some.0 (subst (λ p. StandsAt p some.0) (sym two.is) some.1) in let none = nowhere some.0 in omega arith)
+          | inr other ↦ elim other [ inl handed ↦ handed_beside two handed | inr noted ↦ absurd fits.begun ]
+        ]
+
+        by_lock : IsSingle (place_at w t) → (o : Option ℕ) → lock_of (place_at w t) ≡ o → IsHandedOver w t
+        by_lock single None e = absurd (let f : Rest ≡ Sleep = sym (ap act_of (calls_none (place_at w t) e)) ∙ asleep in cc)
+        by_lock single (Some l) e = elim ((row_promises w t steady l single e).asleep asleep) [
           | inl waiting ↦ absurd (let some = waiting_stands w t steady l e waiting in let none = nowhere l in omega arith)
-          | inr handed ↦ handed_at l e handed
+          | inr handed ↦ handed_at l single e handed
         ]
 
   pub kept : RunsInClosures w → IsKept w
   kept running = record {
     of_one = λ t. one_of (place_at w t) (singles w steady t);
     state = λ l. (steady.sites.site l).state;
-    calls_one = λ t. calls_one_lock w t steady;
-    one_place = λ t l k h g. one_purpose (call_at w t).purpose l k (calls_one_lock w t steady) (waits t l h) (waits t k g);
+    calls_one = λ t. calls_one_lock w t steady (singles w steady t);
+    one_place = one_place;
     waiting = waits;
     known = known;
     coded = λ l. steady.sites.word l;
@@ -258,7 +324,7 @@ module _ (w : State) (steady : IsSteady w) where
     nobody_forgotten = record { main = main; second = second };
     callers = callers;
     runs = λ t l. (running t l, closures t l);
-    owing = λ t l m. owing_is w t steady l m;
+    owing = λ t l m. owing_is w t steady (singles w steady t) l m;
     second_line = second_line;
     retrying = retrying;
     handing = λ t h. handed_over t h.0 h.1;

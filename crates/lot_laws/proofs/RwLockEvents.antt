@@ -56,7 +56,7 @@ use Rattle.lot_machine.proofs.Shape.{performed_counts}
 use Rattle.lot_laws.specs.Refinement.{call_state, lock_state, locks_of, taken_at}
 use Rattle.lot_laws.specs.SitesOf.{AreCounted, FitsItsLock, IsSteady, rules_in}
 use Rattle.lot_laws.proofs.CallEvents.{LeadsTo, goes_by}
-use Rattle.lot_laws.proofs.Glue.{is_owner, thread_is}
+use Rattle.lot_laws.proofs.Glue.{IsSingle, is_owner, thread_is}
 use Rattle.lot_laws.proofs.PlacePromises.{waiting_stands}
 use Rattle.lot_laws.proofs.RowPromises.{IsWaiting, RowPromises, WasHanded, is_acting}
 use Rattle.lot_laws.proofs.RwLockGoes.{GoesOnBy, case_by, rwlock_goes_on}
@@ -213,11 +213,12 @@ module _ (w : State) (t l : ℕ) (a : Admission) (c : RwLockCallPlace) (steady :
           | inl step ↦ inl step
           | inr sleeps ↦ inr (inl sleeps)
         ],
+        subst IsSingle (sym e) tt,
       )
       by_next (next.End answer) e awake = (e, refl)
 
   pub rwlock_step : GoesOn (locks_of w) t (outcome_of (next_act (RwLock l a c) told)) (locks_of behind)
-  rwlock_step = goes_by w behind t l happened kept.happened (RwLock l a c) is refl kept.tells.may (next_rows a (call_next a c told)) _ kept.tells.comes leads kept.others
+  rwlock_step = goes_by w behind t l happened kept.happened (RwLock l a c) is refl tt kept.tells.may (next_rows a (call_next a c told)) _ kept.tells.comes leads kept.others
       (begins_nothing (locks_of w) l (call_profile a c) happened _ runs kept.tells.may (tells_none (call_next a c told)))
     where
       promises : RowPromises (rules_in w l).sort l (call_profile a c) (call_act l a c)

@@ -120,7 +120,7 @@ module _ (w : State) (t l : ℕ) (a : Admission) (c : RwLockCallPlace) (steady :
     -- those in its hand are woken, and nobody else's call changes
     own_others : OthersFollow w (then_by w t l a c y) t (event_by l own_case)
     own_others = others_follow w (then_by w t l a c y) t l own_case own_happened (hands_nothing w (then_by w t l a c y) t l own_case own_happened (call_profile a c).carries y own_case from.others)
-        (wakes_own w t l steady of (next_place (RwLock l a c) (reply_to w t y)) (λ e. let some : has_readers (rules_in w l).sort ≡ true = (admits w t l a c steady shape there lt is).0 in let none : has_readers (rules_in w l).sort ≡ false = ap has_readers e in cc) (RwLock l a c) y here own_case (subst (λ h. WakesOwn h y own_case) (sym carries) from.others))
+        (wakes_own w t l steady (rw is refl) (next_place (RwLock l a c) (reply_to w t y)) (λ e. let some : has_readers (rules_in w l).sort ≡ true = (admits w t l a c steady shape there lt is).0 in let none : has_readers (rules_in w l).sort ≡ false = ap has_readers e in cc) (RwLock l a c) y here own_case (subst (λ h. WakesOwn h y own_case) (sym carries) from.others))
 
     by_own : GoesOnBy w t l a c y
     by_own = record { whom = from.whom; tells = from.tells; happened = own_happened; others = own_others }

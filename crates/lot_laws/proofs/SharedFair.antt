@@ -41,7 +41,7 @@ use Rattle.lot_laws.specs.Refinement.{lock_state}
 use Rattle.lot_laws.specs.SitesOf.{AreCounted, IsSteady, rules_in}
 use Rattle.lot_laws.proofs.ActsKept.{lock_by}
 use Rattle.lot_laws.proofs.AtPlaces.{in_no_hand}
-use Rattle.lot_laws.proofs.Glue.{free_of, singles}
+use Rattle.lot_laws.proofs.Glue.{IsSingle, free_of}
 use Rattle.lot_laws.proofs.HandsCounted.{has_in_hand}
 use Rattle.lot_laws.proofs.HandsMoved.{thread_of}
 use Rattle.lot_laws.proofs.CallEvents.{led_here}
@@ -153,7 +153,7 @@ module _ (w : State) (t l : ℕ) (a : Admission) (c : RwLockCallPlace) (shape : 
       (carries w t l a c steady shape there lt is ∙ carried c k e) k (counted t l a c k is e)
 
   free : here.lock.taken t ≡ None
-  free = free_of (place_at w t) l (singles w steady t) (ap (λ p. (profile p).hand) is ∙ bare c may gives)
+  free = free_of (place_at w t) l (subst IsSingle (sym is) tt) (ap (λ p. (profile p).hand) is ∙ bare c may gives)
 
   -- where its deeds lead, it has come to
   led : (y : Act) (g : GoesOnBy w t l a c y) → lock_state (then_by w t l a c y) l ≡ (after_all r (deeds_by w t l a c g.whom y) here t).lock

@@ -65,11 +65,14 @@ use Rattle.lot_laws.proofs.MutexEvents.{free_word, owned_word}
 use Rattle.lot_laws.proofs.MutexCalls.{decides}
 use Rattle.lot_laws.proofs.LockSteps.{purpose_is}
 use Rattle.lot_laws.proofs.Counts.{first_times}
-use Rattle.lot_laws.proofs.Glue.{IsSingle, nothing_at, IsTakenAt, put_here, station_here, own_stance, successor_one, same, mutex_calls, singles, differ, aparts, of_carries}
+use Rattle.lot_steps.specs.Steps.{is_lock}
+use Rattle.lot_laws.specs.Stations.{station_by}
+use Rattle.lot_condvar.specs.CondvarSteps.{mutex_beside}
+use Rattle.lot_condvar.specs.CondvarProfiles.{mutex_side}
+use Rattle.lot_laws.proofs.Glue.{IsSingle, nothing_at, not_beside, taken_held, put_here, own_stance, successor_one, singles, differ, aparts, of_carries}
 use Rattle.lot_laws.proofs.SitesPromise.{parked_at}
 use Rattle.lot_mutex.specs.declared.places.MutexPlace.{MutexPlace}
 use Rattle.lot_acts.specs.declared.acts.Whom as whoms
-use Rattle.lot_laws.proofs.LockEvents.{taken_place}
 use Rattle.lot_laws.proofs.SitesKept.{go_by, mutex_unshared, unshared_at, single_at, alone_at}
 use Rattle.lot_acts.specs.declared.owners.Owners.{Owners}
 use Rattle.lot_acts.specs.Owners.{with_exclusive}
@@ -320,15 +323,15 @@ module _ (t l : ℕ) where
     abbrev taken_then : State
     taken_then = go_by w t (Mutex l taking) (act.TheVariants.Take (2 * l) whoms.TheVariants.First)
 
-    first_held : (whom : Option ℕ) → Goes w taken_then l (acts t (takes whom)) → IsTakenAt (place_at taken_then x.thread) t l
+    first_held : (whom : Option ℕ) → Goes w taken_then l (acts t (takes whom)) → hand_at (place_at taken_then x.thread) l ≡ hand t false
     first_held None goes = absurd (let none : map queued_of (queue_at w (2 * l)) ≡ [] = goes.follows.needed.0.2 in let some : map queued_of (queue_at w (2 * l)) ≡ queued_of x ∷ map queued_of rest = ap (map queued_of) f.queue in cc)
     first_held (Some u) goes =
         let line : map queued_of (queue_at w (2 * l)) ≡ queued u ∷ goes.follows.needed.0.0.0.0 = goes.follows.needed.0.0.0.1 in
         let first : queued u ∷ goes.follows.needed.0.0.0.0 ≡ queued_of x ∷ map queued_of rest = sym line ∙ ap (map queued_of) f.queue in
         let who : Some u ≡ Some x.thread = ap first_thread first in
         let same_one : u ≡ x.thread = cc in
-        let hand : taken_at (place_at taken_then u) l ≡ Some (record { by = t; want = Exclusive }) = ap (λ (z : Site). z.lock.taken u) goes.follows.site ∙ put_here (λ k. taken_at (place_at w k) l) u (Some (record { by = t; want = Exclusive })) in
-        taken_place (place_at taken_then x.thread) t l (mutex_calls taken_then l (place_at taken_then x.thread) (goes.stands.calls x.thread) (ap rules_of (goes.follows.kinds l) ∙ mutex_rules (kind_at w l) (let c : FitsItsLock w (Mutex l taking) = rw f.place at (f.steady.stands.calls t) in c))) (rw (← same_one, hand) (same t))
+        let taken : taken_at (place_at taken_then u) l ≡ Some (record { by = t; want = Exclusive }) = ap (λ (z : Site). z.lock.taken u) goes.follows.site ∙ put_here (λ k. taken_at (place_at w k) l) u (Some (record { by = t; want = Exclusive })) in
+        taken_held (place_at taken_then x.thread) t l Exclusive (ap (λ j. taken_at (place_at taken_then j) l) (sym same_one) ∙ taken)
 
     heir_first : (o : Owners) → owners_handed_over (after w (go_of t)) t l o ≡ with_exclusive o (Some x.thread)
     heir_first = successor_one (after w (go_of t)) t l x.thread false (aparts (after w (go_of t)) steady_then) steady_then.stands.hands (single_at (after w (go_of t)) t l (HandOff bumps (hand_off.Store true (length rest == 0))) steady_then here.place) (of_carries l (place_at (after w (go_of t)) t) (rw here.place refl)) (subst (λ (z : State). hand_at (place_at z x.thread) l ≡ hand t false) (sym led) held) (alone_at (after w (go_of t)) t l (HandOff bumps (hand_off.Store true (length rest == 0))) steady_then here.place) (unshared_at (after w (go_of t)) t l (HandOff bumps (hand_off.Store true (length rest == 0))) steady_then here.place)
@@ -345,11 +348,8 @@ module _ (t l : ℕ) where
         goes : (whom : Option ℕ) × Goes w taken_then l (acts t (takes whom))
         goes = gone_goes w t f.steady f.shape f.thread l taking f.place f.lock refl
 
-        k : IsTakenAt (place_at taken_then x.thread) t l
-        k = first_held goes.0 goes.1
-
         held : hand_at (place_at taken_then x.thread) l ≡ hand t false
-        held = ap (λ p. hand_at p l) k.is ∙ ap (λ (y : Station). y.hand) (station_here l (Mutex l (Lock k.entry k.retries (Taken t))) refl)
+        held = first_held goes.0 goes.1
 
   fair_take_leads : (bumps : Bool) (q : List Waiter) (v : ℕ) (o s : Option ℕ) (w : State) → Facing w t l (Mutex l (HandOff bumps hand_off.Take)) v o s q → Leads 9 w t (FairEnds bumps t l (first_of q) (drop 1 q))
   fair_take_leads bumps [] v o s w f = let h = take_faces w t l (Mutex l (HandOff bumps hand_off.Take)) v o s [] f refl in
@@ -418,7 +418,18 @@ never_aside w l (RwLock k a c) fits sort e = either (k == l) refl
     either true h = let own : (rules_in w k).sort ≡ locks.Once = subst (λ n. (rules_in w n).sort ≡ locks.Once) (sym (eqb-true k l h)) sort in
         let other : true ≡ false = sym (fits.0.0) ∙ ap has_readers own in cc
     either false h = let none : None ≡ Some Second = sym (ap (λ b. (if b then station (RwLock k a c) else nowhere).inside) h) ∙ e in cc
-never_aside w l (Condvar k at) fits sort e = absurd fits.begun
+never_aside w l (Condvar k at) fits sort e = either (k == l) refl
+  where
+    beside : is_lock l (mutex_beside at) ≡ false
+    beside = not_beside w (Condvar k at) l fits (λ one. let both : locks.Mutex ≡ locks.Once = sym one ∙ sort in cc)
+
+    out : (b : Bool) → b ≡ false → (k == l) ≡ false → (if k == l then station (Condvar k at) else if b then station_by (mutex_side at) else nowhere).inside ≡ None
+    out true f h = absurd cc
+    out false f h = ap (λ c. (if c then station (Condvar k at) else nowhere).inside) h
+
+    either : (b : Bool) → (k == l) ≡ b → ⊥
+    either true h = let both : locks.Condvar ≡ locks.Once = sym fits.sort ∙ ap (λ n. (rules_in w n).sort) (eqb-true k l h) ∙ sort in cc
+    either false h = let none : None ≡ Some Second = sym (out (is_lock l (mutex_beside at)) beside h) ∙ e in cc
 never_aside w l (Once k at) fits sort e = either (k == l) refl
   where
     either : (b : Bool) → (k == l) ≡ b → ⊥
@@ -426,25 +437,26 @@ never_aside w l (Once k at) fits sort e = either (k == l) refl
     either false h = let none : None ≡ Some Second = sym (ap (λ b. (if b then station (Once k at) else nowhere).inside) h) ∙ e in cc
 
 module _ (w : State) (t : ℕ) (shape : IsShaped w) (steady : IsSteady w) (counted : AreCounted w) (condvars : AreCondvars w) (running : RunsInClosures w) (there : t < length w.places) (way : HasItsWay w t) where
-  facing : (l : ℕ) (p : Place) → place_at w t ≡ p → l < length w.locks → Facing w t l p (word_at w l) (owner_at w l) (section_at w (2 * l)) (queue_at w (2 * l))
-  facing l p is lt = record { shape = shape; steady = steady; counted = counted; thread = there; lock = lt; place = is; word = refl; owner = refl; section = refl; queue = refl }
+  facing : (l : ℕ) (p : Place) → IsSingle p → place_at w t ≡ p → l < length w.locks → Facing w t l p (word_at w l) (owner_at w l) (section_at w (2 * l)) (queue_at w (2 * l))
+  facing l p single is lt = record { single = single; shape = shape; steady = steady; counted = counted; thread = there; lock = lt; place = is; word = refl; owner = refl; section = refl; queue = refl }
 
   -- outside its section it finds it free
-  free : (l : ℕ) (p : Place) → place_at w t ≡ p → lock_of p ≡ Some l → (station p).inside ≡ None → (x : Option ℕ) → section_at w (2 * l) ≡ x → x ≡ None
-  free l p is own outside None e = refl
-  free l p is own outside (Some u) e = let mine : u ≡ t = way l u Main (inl (ap lock_of is ∙ own)) tt e in
+  free : (l : ℕ) (p : Place) → IsSingle p → place_at w t ≡ p → lock_of p ≡ Some l → (station p).inside ≡ None → (x : Option ℕ) → section_at w (2 * l) ≡ x → x ≡ None
+  free l p single is own outside None e = refl
+  free l p single is own outside (Some u) e = let mine : u ≡ t = way l u Main (inl (ap lock_of is ∙ own)) tt e in
       let within : (station_at (place_at w t) l).inside ≡ Some Main = (steady.stands.sections t l Main).1 (e ∙ ap Some mine) in
-      let out : (station_at (place_at w t) l).inside ≡ None = nothing_at (place_at w t) l (singles w steady t) (λ y. y.inside) refl (ap (λ y. (station y).inside) is ∙ outside) in absurd cc
+      let out : (station_at (place_at w t) l).inside ≡ None = nothing_at (place_at w t) l (subst IsSingle (sym is) single) (λ y. y.inside) refl (ap (λ y. (station y).inside) is ∙ outside) in absurd cc
 
-  at_first : (l : ℕ) (p : Place) → place_at w t ≡ p → lock_of p ≡ Some l → (station p).inside ≡ None → l < length w.locks → Facing w t l p (word_at w l) (owner_at w l) None (queue_at w (2 * l))
-  at_first l p is own outside lt = subst (λ s. Facing w t l p (word_at w l) (owner_at w l) s (queue_at w (2 * l))) (free l p is own outside (section_at w (2 * l)) refl) (facing l p is lt)
+  at_first : (l : ℕ) (p : Place) → IsSingle p → place_at w t ≡ p → lock_of p ≡ Some l → (station p).inside ≡ None → l < length w.locks → Facing w t l p (word_at w l) (owner_at w l) None (queue_at w (2 * l))
+  at_first l p single is own outside lt = subst (λ s. Facing w t l p (word_at w l) (owner_at w l) s (queue_at w (2 * l))) (free l p single is own outside (section_at w (2 * l)) refl) (facing l p single is lt)
 
   -- at a place of a reader-writer lock
   admitted : (l : ℕ) (a : Admission) (c : RwLockCallPlace) → place_at w t ≡ RwLock l a c → FitsItsLock w (RwLock l a c)
   admitted l a c is = subst (FitsItsLock w) is (steady.stands.calls t)
 
-  steps_alone_at : (l : ℕ) (p : Place) → ((m : Line) (u : ℕ) → section_at w (key_of l m) ≡ Some u → u ≡ t) → place_at w t ≡ p → l < length w.locks → StepsAlone w t l p (word_at w l) (λ m. queue_at w (key_of l m))
-  steps_alone_at l p free_way is lt = record {
+  steps_alone_at : (l : ℕ) (p : Place) → IsSingle p → ((m : Line) (u : ℕ) → section_at w (key_of l m) ≡ Some u → u ≡ t) → place_at w t ≡ p → l < length w.locks → StepsAlone w t l p (word_at w l) (λ m. queue_at w (key_of l m))
+  steps_alone_at l p single free_way is lt = record {
+    single = single;
     shape = shape;
     steady = steady;
     counted = counted;
@@ -459,7 +471,7 @@ module _ (w : State) (t : ℕ) (shape : IsShaped w) (steady : IsSteady w) (count
   }
 
   steps_alone : (l : ℕ) (a : Admission) (c : RwLockCallPlace) → has_readers (rules_in w l).sort ≡ true → place_at w t ≡ RwLock l a c → l < length w.locks → StepsAlone w t l (RwLock l a c) (word_at w l) (λ m. queue_at w (key_of l m))
-  steps_alone l a c readers is lt = steps_alone_at l (RwLock l a c) (λ m u e. way l u m (inl (ap lock_of is)) (line m) e) is lt
+  steps_alone l a c readers is lt = steps_alone_at l (RwLock l a c) tt (λ m u e. way l u m (inl (ap lock_of is)) (line m) e) is lt
     where
       line : (m : Line) → HasLine (rules_of (kind_at w l)).sort m
       line Main = tt
@@ -467,7 +479,7 @@ module _ (w : State) (t : ℕ) (shape : IsShaped w) (steady : IsSteady w) (count
 
   -- at a place of a `Once`, which has no second line
   once_steps_alone : (l : ℕ) (at : OncePlace) → place_at w t ≡ Once l at → l < length w.locks → StepsAlone w t l (Once l at) (word_at w l) (λ m. queue_at w (key_of l m))
-  once_steps_alone l at is lt = steps_alone_at l (Once l at) free_way is lt
+  once_steps_alone l at is lt = steps_alone_at l (Once l at) tt free_way is lt
     where
       sort : (rules_in w l).sort ≡ locks.Once
       sort = subst (FitsItsLock w) is (steady.stands.calls t)
@@ -477,14 +489,14 @@ module _ (w : State) (t : ℕ) (shape : IsShaped w) (steady : IsSteady w) (count
       free_way Second u e = absurd (never_aside w l (place_at w u) (steady.stands.calls u) sort ((steady.stands.sections u l Second).1 e))
 
   mutex_place_rests : (l : ℕ) (c : MutexPlace) → place_at w t ≡ Mutex l c → PlaceFits (length w.locks) (Mutex l c) → Mutex l c ≢ Idle → act_of (Mutex l c) ≢ act.TheVariants.Sleep → Leads 12 w t (λ v x. Rests x)
-  mutex_place_rests l (Lock entry retries a) is fits busy up = leads_more 8 12 w t (λ v x. Rests x) (omega arith) (lock_rests t l entry retries a (word_at w l) (owner_at w l) (section_at w (2 * l)) (queue_at w (2 * l)) w (facing l (Mutex l (Lock entry retries a)) is fits.0) (λ outside. free l (Mutex l (Lock entry retries a)) is refl outside (section_at w (2 * l)) refl) up)
+  mutex_place_rests l (Lock entry retries a) is fits busy up = leads_more 8 12 w t (λ v x. Rests x) (omega arith) (lock_rests t l entry retries a (word_at w l) (owner_at w l) (section_at w (2 * l)) (queue_at w (2 * l)) w (facing l (Mutex l (Lock entry retries a)) tt is fits.0) (λ outside. free l (Mutex l (Lock entry retries a)) tt is refl outside (section_at w (2 * l)) refl) up)
   mutex_place_rests l TryLock is fits busy up = leads_more 1 12 w t (λ v x. Rests x) (omega arith)
       (leads_so 1 w t (λ v x. (x ≡ (if is_locked (word_at w l) then outcome.TheVariants.End answer.TheVariants.No else outcome.TheVariants.End answer.TheVariants.Yes)) × (owner_at v l ≡ (if is_locked (word_at w l) then owner_at w l else Some t))) (λ v x. Rests x)
-      (λ v x h. try_so (is_locked (word_at w l)) x h.0) (try_leads t l (queue_at w (2 * l)) (section_at w (2 * l)) (word_at w l) (owner_at w l) w (facing l (Mutex l TryLock) is fits.0)))
-  mutex_place_rests l (Unlock a) is fits busy up = leads_more 8 12 w t (λ v x. Rests x) (omega arith) (unlock_rests t l a (word_at w l) (owner_at w l) (section_at w (2 * l)) (queue_at w (2 * l)) w (facing l (Mutex l (Unlock a)) is fits.0) (λ outside. free l (Mutex l (Unlock a)) is refl outside (section_at w (2 * l)) refl))
-  mutex_place_rests l UnlockFair is fits busy up = fair_rests t l 11 false (first_of (queue_at w (2 * l))) (drop 1 (queue_at w (2 * l))) w (omega arith) (unlock_fair_leads t l (queue_at w (2 * l)) (word_at w l) (owner_at w l) w (at_first l (Mutex l UnlockFair) is refl refl fits.0))
-  mutex_place_rests l Bump is fits busy up = fair_rests t l 11 true (first_of (queue_at w (2 * l))) (drop 1 (queue_at w (2 * l))) w (omega arith) (bump_leads t l (queue_at w (2 * l)) (word_at w l) (owner_at w l) w (at_first l (Mutex l Bump) is refl refl fits.0))
-  mutex_place_rests l (HandOff bumps a) is fits busy up = hand_off_rests t l bumps a (word_at w l) (owner_at w l) (section_at w (2 * l)) (queue_at w (2 * l)) w (facing l (Mutex l (HandOff bumps a)) is fits.0) (λ outside. free l (Mutex l (HandOff bumps a)) is refl outside (section_at w (2 * l)) refl)
+      (λ v x h. try_so (is_locked (word_at w l)) x h.0) (try_leads t l (queue_at w (2 * l)) (section_at w (2 * l)) (word_at w l) (owner_at w l) w (facing l (Mutex l TryLock) tt is fits.0)))
+  mutex_place_rests l (Unlock a) is fits busy up = leads_more 8 12 w t (λ v x. Rests x) (omega arith) (unlock_rests t l a (word_at w l) (owner_at w l) (section_at w (2 * l)) (queue_at w (2 * l)) w (facing l (Mutex l (Unlock a)) tt is fits.0) (λ outside. free l (Mutex l (Unlock a)) tt is refl outside (section_at w (2 * l)) refl))
+  mutex_place_rests l UnlockFair is fits busy up = fair_rests t l 11 false (first_of (queue_at w (2 * l))) (drop 1 (queue_at w (2 * l))) w (omega arith) (unlock_fair_leads t l (queue_at w (2 * l)) (word_at w l) (owner_at w l) w (at_first l (Mutex l UnlockFair) tt is refl refl fits.0))
+  mutex_place_rests l Bump is fits busy up = fair_rests t l 11 true (first_of (queue_at w (2 * l))) (drop 1 (queue_at w (2 * l))) w (omega arith) (bump_leads t l (queue_at w (2 * l)) (word_at w l) (owner_at w l) w (at_first l (Mutex l Bump) tt is refl refl fits.0))
+  mutex_place_rests l (HandOff bumps a) is fits busy up = hand_off_rests t l bumps a (word_at w l) (owner_at w l) (section_at w (2 * l)) (queue_at w (2 * l)) w (facing l (Mutex l (HandOff bumps a)) tt is fits.0) (λ outside. free l (Mutex l (HandOff bumps a)) tt is refl outside (section_at w (2 * l)) refl)
 
   place_rests : (p : Place) → place_at w t ≡ p → PlaceFits (length w.locks) p → p ≢ Idle → act_of p ≢ act.TheVariants.Sleep → runs_closure (act_of p) ≡ false → Leads 18 w t (λ v x. Rests x)
   place_rests Idle is fits busy up outside = absurd (busy refl)
@@ -547,12 +559,12 @@ module _ (w : State) (t : ℕ) (shape : IsShaped w) (steady : IsSteady w) (count
     succeeds [] = refl
     succeeds (y ∷ q) = refl
 
-    unlock_fair_alone : (station (place_at w t)).stands ≡ None → UnlockEnds l (first_of (queue_at w (2 * l))) v x → EndsAlone w t (Some (Releases l Exclusive true)) x v
-    unlock_fair_alone awake h = (h.0, other, λ mutex. h.1 ∙ succeeds (queue_at w (2 * l)))
+    unlock_fair_alone : IsSingle (place_at w t) → (station (place_at w t)).stands ≡ None → UnlockEnds l (first_of (queue_at w (2 * l))) v x → EndsAlone w t (Some (Releases l Exclusive true)) x v
+    unlock_fair_alone single awake h = (h.0, other, λ mutex. h.1 ∙ succeeds (queue_at w (2 * l)))
       where
         other : owner_at v l ≡ Some t → ⊥
         other own = let first : first_of (queue_at w (2 * l)) ≡ Some t = sym h.1 ∙ own in
-            let stood : 1 ≤ times t (queue_at w (2 * l)) = first_times t (queue_at w (2 * l)) first in let none : times t (queue_at w (2 * l)) ≡ 0 = absent w steady t awake l in omega arith
+            let stood : 1 ≤ times t (queue_at w (2 * l)) = first_times t (queue_at w (2 * l)) first in let none : times t (queue_at w (2 * l)) ≡ 0 = absent w steady t single awake l in omega arith
 
     bump_alone : LockEnds t l entries.Bump (first_of (queue_at w (2 * l))) (drop 1 (queue_at w (2 * l))) v x → EndsAlone w t (Some (Bumps l Exclusive)) x v
     bump_alone h = (
@@ -566,23 +578,23 @@ module _ (w : State) (t : ℕ) (shape : IsShaped w) (steady : IsSteady w) (count
 
   fairly : (l : ℕ) → place_at w t ≡ Mutex l UnlockFair → l < length w.locks → is_mutex (kind_at w l) ≡ true → (n : ℕ) (last : Outcome) → 12 ≤ n
       → EndsAlone w t (Some (Releases l Exclusive true)) (solo n w t last).outcome (solo n w t last).state
-  fairly l is lt kind n last le = unlock_fair_alone l kind (solo n w t last).state (solo n w t last).outcome (ap (λ p. (station p).stands) is)
-      (unlock_fair_leads t l (queue_at w (2 * l)) (word_at w l) (owner_at w l) w (at_first l _ is refl refl lt) n last (omega arith))
+  fairly l is lt kind n last le = unlock_fair_alone l kind (solo n w t last).state (solo n w t last).outcome (subst IsSingle (sym is) tt) (ap (λ p. (station p).stands) is)
+      (unlock_fair_leads t l (queue_at w (2 * l)) (word_at w l) (owner_at w l) w (at_first l _ tt is refl refl lt) n last (omega arith))
 
   call_alone : (l : ℕ) (fair : Bool) (c : MutexCall) → place_at w t ≡ Mutex l (mutex_first fair c) → l < length w.locks → is_mutex (kind_at w l) ≡ true → (n : ℕ) (last : Outcome) → 12 ≤ n
       → EndsAlone w t (Some (mutex_purpose fair l c)) (solo n w t last).outcome (solo n w t last).state
   call_alone l fair mutex_call.TheVariants.Lock is lt kind n last le = lock_alone l kind (solo n w t last).state (solo n w t last).outcome entries.Lock (owner_at w l) refl
-      (first_leads t l entries.Lock (queue_at w (2 * l)) false (word_at w l) (owner_at w l) (coded_for w steady t l _ is) w (at_first l _ is refl refl lt) n last (omega arith))
+      (first_leads t l entries.Lock (queue_at w (2 * l)) false (word_at w l) (owner_at w l) (coded_for w steady t l _ is) w (at_first l _ tt is refl refl lt) n last (omega arith))
   call_alone l fair mutex_call.TheVariants.LockTimed is lt kind n last le = lock_alone l kind (solo n w t last).state (solo n w t last).outcome entries.LockTimed (owner_at w l) refl
-      (first_leads t l entries.LockTimed (queue_at w (2 * l)) false (word_at w l) (owner_at w l) (coded_for w steady t l _ is) w (at_first l _ is refl refl lt) n last (omega arith))
+      (first_leads t l entries.LockTimed (queue_at w (2 * l)) false (word_at w l) (owner_at w l) (coded_for w steady t l _ is) w (at_first l _ tt is refl refl lt) n last (omega arith))
   call_alone l fair mutex_call.TheVariants.TryLock is lt kind n last le = try_alone l kind (solo n w t last).state (solo n w t last).outcome (is_locked (word_at w l)) refl
-      (try_leads t l (queue_at w (2 * l)) None (word_at w l) (owner_at w l) w (at_first l _ is refl refl lt) n last (omega arith))
+      (try_leads t l (queue_at w (2 * l)) None (word_at w l) (owner_at w l) w (at_first l _ tt is refl refl lt) n last (omega arith))
   call_alone l false mutex_call.TheVariants.Unlock is lt kind n last le = unlock_alone l kind (solo n w t last).state (solo n w t last).outcome
-      (subtract_leads t l (queue_at w (2 * l)) (word_at w l) (owner_at w l) w (at_first l _ is refl refl lt) n last (omega arith))
+      (subtract_leads t l (queue_at w (2 * l)) (word_at w l) (owner_at w l) w (at_first l _ tt is refl refl lt) n last (omega arith))
   call_alone l true mutex_call.TheVariants.Unlock is lt kind n last le = fairly l is lt kind n last le
   call_alone l fair mutex_call.TheVariants.UnlockFair is lt kind n last le = fairly l is lt kind n last le
   call_alone l fair mutex_call.TheVariants.Bump is lt kind n last le = bump_alone l kind (solo n w t last).state (solo n w t last).outcome
-      (bump_leads t l (queue_at w (2 * l)) (word_at w l) (owner_at w l) w (at_first l _ is refl refl lt) n last (omega arith))
+      (bump_leads t l (queue_at w (2 * l)) (word_at w l) (owner_at w l) w (at_first l _ tt is refl refl lt) n last (omega arith))
 
   -- a call that begins, stepped alone
   pub mutex_ends : (l : ℕ) (c : MutexCall) → place_at w t ≡ Mutex l (mutex_first (is_fair (kind_at w l)) c) → (n : ℕ) (last : Outcome) → 12 ≤ n

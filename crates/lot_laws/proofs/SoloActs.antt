@@ -1,5 +1,5 @@
 -- A thread that steps alone: what each of its acts leads to, of the lock that it calls.
-use Rattle.std.proofs.Common.{subst, ℕ, zero, suc, true, false, Option, Some, None, if◌then◌else◌, ◌==◌, ◌≡◌, ◌+◌, ◌*◌, ◌≤◌, ◌<◌, List, [], ◌∷◌, ◌++◌, length, get_or, map, drop, is_none, refl, ◌∙◌, ap, arith, get_or-set_same, length-set}
+use Rattle.std.proofs.Common.{subst, ℕ, zero, suc, true, false, Option, Some, None, if◌then◌else◌, ◌==◌, ◌≡◌, ◌+◌, ◌*◌, ◌≤◌, ◌<◌, List, [], ◌∷◌, ◌++◌, length, get_or, map, drop, is_none, refl, sym, ◌∙◌, ap, arith, get_or-set_same, length-set}
 use Rattle.std.proofs.lemmas.Bool.{lt-ltb}
 use Rattle.std.proofs.lemmas.List.{length-map}
 use Rattle.std.proofs.Math.ListN.{get_or-map}
@@ -26,7 +26,7 @@ use Rattle.lot_acts.specs.Acts.{takes_effect, outcome_of}
 use Rattle.lot_steps.specs.Steps.{act_of, next_place, next_act}
 use Rattle.lot_machine.specs.Machine.{state_after_hand_over_by, hand_over_told, State, unlocked, place_at, word_at, owners_at, section_at, queue_at, put, state_after_operation, state_with_sections, queues_with_last, queues_without, queues_without_first, state_after_taking, state_after_reply, state_after_act, reply_to, can_do, state_after_go, go_of, is_possible, after, step_outcome, go_outcome, solo, place_after_telling, state_after_telling, state_after_hand_over, owners_handed_over, is_there, going_outcome, state_after_going}
 use Rattle.lot_machine.specs.Fits.{IsShaped, SameSize}
-use Rattle.lot_laws.proofs.Glue.{IsSingle, singles}
+use Rattle.lot_laws.proofs.Glue.{IsSingle, next_single}
 use Rattle.lot_laws.proofs.OwnPlace.{goes_from_there, told_from_there}
 use Rattle.lot_laws.specs.Refinement.{owner_at}
 use Rattle.lot_laws.specs.Stations.{station}
@@ -75,6 +75,7 @@ pub record Facing (w : State) (t l : ℕ) (p : Place) (v : ℕ) (o : Option ℕ)
   pub thread : t < length w.places
   pub lock : l < length w.locks
   pub place : place_at w t ≡ p
+  pub single : IsSingle p
   pub word : word_at w l ≡ v
   pub owner : owner_at w l ≡ o
   pub section : section_at w (2 * l) ≡ s
@@ -88,17 +89,14 @@ module _ (w : State) (t l : ℕ) (p : Place) (v : ℕ) (o s : Option ℕ) (q : L
   possible : can_do w (act_of p) ≡ true → is_possible w (go_of t) ≡ true
   possible can = rw (lt-ltb t (length w.places) f.thread, f.place) can
 
-  single : IsSingle p
-  single = subst IsSingle f.place (singles w f.steady t)
-
   goes : can_do w (act_of p) ≡ true → after w (go_of t) ≡ state_after_go w t
   goes can = ap (λ b. if b then state_after_go w t else w) (possible can)
 
   told : can_do w (act_of p) ≡ true → step_outcome w (go_of t) ≡ outcome_of (next_act p (reply_to w t (act_of p)))
-  told can = ap (λ b. if b then go_outcome w t else outcome.TheVariants.NotNow) (possible can) ∙ ap (going_outcome w t) f.place ∙ told_from_there w t p f.place single
+  told can = ap (λ b. if b then go_outcome w t else outcome.TheVariants.NotNow) (possible can) ∙ ap (going_outcome w t) f.place ∙ told_from_there w t p f.place f.single
 
   pub act_led : can_do w (act_of p) ≡ true → after w (go_of t) ≡ put (state_after_act w t p (act_of p)) t (next_place p (reply_to w t (act_of p)))
-  act_led can = goes can ∙ ap (state_after_going w t) f.place ∙ goes_from_there w t p f.place single
+  act_led can = goes can ∙ ap (state_after_going w t) f.place ∙ goes_from_there w t p f.place f.single
 
   -- what it leads to, where the act leads to b
   faces : (b : State) (p2 : Place) (v2 : ℕ) (o2 s2 : Option ℕ) (q2 : List Waiter) → can_do w (act_of p) ≡ true → state_after_act w t p (act_of p) ≡ b → length b.places ≡ length w.places
@@ -109,6 +107,7 @@ module _ (w : State) (t l : ℕ) (p : Place) (v : ℕ) (o s : Option ℕ) (q : L
     counted = counted_after w (go_of t) f.shape f.steady f.counted;
     thread = let size : SameSize w (after w (go_of t)) = after_size w (go_of t) in rw size.threads f.thread;
     lock = let size : SameSize w (after w (go_of t)) = after_size w (go_of t) in rw size.locks f.lock;
+    single = subst IsSingle to (next_single p (reply_to w t (act_of p)) f.single);
     place = ap (λ (x : State). place_at x t) led ∙ get_or-set_same b.places t p2 Idle (rw places f.thread);
     word = ap (λ (x : State). word_at x l) led ∙ word;
     owner = ap (λ (x : State). owner_at x l) led ∙ owner;
@@ -218,7 +217,7 @@ module _ (w : State) (t l : ℕ) (p : Place) (v : ℕ) (o s : Option ℕ) (q : L
 
       queue : get_or (queues_with_last w.queues (2 * l) t Exclusive) (2 * l) [] ≡ q ++ waiter (2 * l) t Exclusive ∷ []
       queue = get_or-set_same (map (without t) w.queues) (2 * l) _ [] (rw (length-map w.queues (without t)) (main_line_there w l f.shape f.lock))
-          ∙ ap (λ x. x ++ waiter (2 * l) t Exclusive ∷ []) (same_without w f.steady t (ap (λ x. (station x).stands) f.place ∙ nowhere) l ∙ f.queue)
+          ∙ ap (λ x. x ++ waiter (2 * l) t Exclusive ∷ []) (same_without w f.steady t (subst IsSingle (sym f.place) f.single) (ap (λ x. (station x).stands) f.place ∙ nowhere) l ∙ f.queue)
 
   -- the word was another
   pub unparked_faces : act_of p ≡ act.TheVariants.Park l (2 * l) (WordIs 3) Exclusive → (v == 3) ≡ false → Faces w t l (next_place p (Parked false)) (outcome_of (next_act p (Parked false))) v o s q

@@ -109,10 +109,10 @@ module _ (k l : ℕ) (apart : k ≢ l) where
   other = differ k l apart
 
   module _ (p : CondvarPlace) (of : mutex_beside p ≡ Some l) where
-    station_beside : station_at (Condvar k p) l ≡ station_by (mutex_side p)
+    pub station_beside : station_at (Condvar k p) l ≡ station_by (mutex_side p)
     station_beside = rw (other, of, same l) refl
 
-    doing_beside : doing_on (Condvar k p) l ≡ (mutex_side p).doing
+    pub doing_beside : doing_on (Condvar k p) l ≡ (mutex_side p).doing
     doing_beside = rw (other, of, same l) refl
 
     taken_beside : taken_at (Condvar k p) l ≡ taken_from (mutex_side p).hand (mutex_side p).wants true

@@ -6,17 +6,9 @@ use Rattle.lot_calls.specs.declared.kinds.Kind.TheVariants as kind
 use Rattle.lot_calls.specs.Kinds.{is_plain_mutex}
 use Rattle.lot_acts.specs.Profiles.{Hand, Profile, taken_from}
 use Rattle.lot_acts.specs.Stations.{Station, nowhere, station_by}
-use Rattle.lot_mutex.specs.declared.places.MutexPlace.TheVariants as mutex
-use Rattle.lot_mutex.specs.declared.unlock.UnlockAt.TheVariants as unlock
 use Rattle.lot_condvar.specs.declared.places.CondvarPlace.{CondvarPlace}
 use Rattle.lot_condvar.specs.declared.places.CondvarPlace.TheVariants.{Wait, Look, Notify}
-use Rattle.lot_condvar.specs.declared.notify.NotifyAt.{NotifyAt}
-use Rattle.lot_condvar.specs.declared.notify.NotifyAt.TheVariants as notify
-use Rattle.lot_condvar.specs.declared.wait.Stands.TheVariants as stands
-use Rattle.lot_condvar.specs.declared.wait.WaitAt.{WaitAt}
-use Rattle.lot_condvar.specs.declared.wait.WaitAt.TheVariants as wait
-use Rattle.lot_condvar.specs.CondvarCalls.{IsReached}
-use Rattle.lot_condvar.specs.CondvarProfiles.{condvar_profile, condvar_row, mutex_side, notify_row, wait_row}
+use Rattle.lot_condvar.specs.CondvarProfiles.{condvar_profile, condvar_row, mutex_side}
 use Rattle.lot_condvar.specs.CondvarSteps.{mutex_beside}
 use Rattle.lot_steps.specs.declared.places.Place.{Place}
 use Rattle.lot_steps.specs.declared.places.Place.TheVariants.{Idle, Mutex, RwLock, Once, Condvar}
@@ -25,49 +17,16 @@ use Rattle.abstract_locks.specs.Condvars.{WaitsAside}
 use Rattle.abstract_locks.specs.Locks as locks
 use Rattle.abstract_locks.specs.Locks.{Rules, Sort, one_if_some, standing}
 use Rattle.abstract_locks.specs.Purposes.{rules_of}
-use Rattle.abstract_locks.specs.Sites.{Line, Main, Second, has_readers}
+use Rattle.abstract_locks.specs.Sites.{Main, Second, has_readers}
 use Rattle.lot_machine.specs.Machine.{State, kind_at, place_at, queue_at}
 use Rattle.lot_laws.specs.Refinement.{lock_state, taken_at}
 use Rattle.lot_laws.specs.Stations.{doing_on, station, station_at}
 use Rattle.lot_laws.specs.SitesOf.{FitsCondvar, FitsItsLock, IsSteady, condvar_of, rules_in, site_of, stood_in}
 use Rattle.lot_laws.proofs.Glue.{differ, same}
 use Rattle.lot_laws.proofs.OneStep.{queued_times}
+use Rattle.lot_laws.proofs.CondvarPromises.{IsAside, aside, unlisted}
 use Rattle.lot_laws.proofs.PlacePromises.{standing_by}
 use Rattle.lot_laws.proofs.StandsMoved.{mutex_rules}
-
--- ---------------------------------------------------------------- rows
-
-pub record IsAside (m : ℕ) (at : WaitAt) : Type 0 where
-  pub moved : (wait_row m at).moved ≡ false
-  pub hand : (wait_row m at).hand ≡ None
-  pub retries : (wait_row m at).doing.retries ≡ None
-
--- who stands in the queue of the condition variable has nothing at the mutex yet
-aside : (m : ℕ) (timed : Bool) (at : WaitAt) → IsReached (Wait m timed at) → (wait_row m at).listed ≡ true → IsAside m at
-aside m timed wait.Leave reached listed = record { moved = refl; hand = refl; retries = refl }
-aside m timed wait.Remove reached listed = record { moved = refl; hand = refl; retries = refl }
-aside m timed (wait.Asleep stands.Listed) reached listed = record { moved = refl; hand = refl; retries = refl }
-aside m timed (wait.Asleep s) reached listed = absurd cc
-aside m timed (wait.Release stands.Listed (mutex.Unlock unlock.Subtract)) reached listed = record { moved = refl; hand = refl; retries = refl }
-aside m timed (wait.Release stands.Listed (mutex.Unlock unlock.Enter)) reached listed = record { moved = refl; hand = refl; retries = refl }
-aside m timed (wait.Release stands.Listed (mutex.Unlock unlock.Take)) reached listed = record { moved = refl; hand = refl; retries = refl }
-aside m timed (wait.Release stands.Listed (mutex.Unlock (unlock.Clear any))) reached listed = record { moved = refl; hand = refl; retries = refl }
-aside m timed (wait.Release stands.Listed (mutex.Unlock (unlock.Leave any))) reached listed = record { moved = refl; hand = refl; retries = refl }
-aside m timed (wait.Release stands.Listed at) reached listed = absurd reached.0
-aside m timed (wait.Release s at) reached listed = absurd cc
-aside m timed at reached listed = absurd cc
-
--- who notifies stands nowhere
-pub unlisted : (all : Bool) (m : ℕ) (at : NotifyAt) → (notify_row all m at).listed ≡ false
-unlisted all m notify.Enter = refl
-unlisted all m notify.Again = refl
-unlisted all m notify.Hide = refl
-unlisted all m notify.Mark = refl
-unlisted all m (notify.Set seen) = refl
-unlisted all m (notify.Move locked) = refl
-unlisted all m (notify.Clear any) = refl
-unlisted all m (notify.MarkMoved number) = refl
-unlisted all m (notify.Leave any number) = refl
 
 pub plain_sort : (k : Kind) → is_plain_mutex k ≡ true → (rules_of k).sort ≡ locks.Mutex
 plain_sort kind.Mutex plain = refl

@@ -1,6 +1,5 @@
 -- A thread in a call of one lock leaves its section and lets go whomever it has in hand, one or many, each in a call of that lock.
-use Rattle.std.proofs.Common.{Option, ℕ, Bool, true, false, Some, None, if◌then◌else◌, ◌≡◌, ◌≢◌, ◌<◌, List, length, inl, inr, sym, ◌∙◌, ap, subst}
-use Rattle.std.proofs.lemmas.Bool.{cases_eq}
+use Rattle.std.proofs.Common.{ℕ, Bool, true, false, Some, None, if◌then◌else◌, ◌≡◌, ◌≢◌, ◌<◌, List, length, sym, ◌∙◌, ap}
 use Rattle.lot_base.specs.declared.keys.Keys.TheVariants.{One}
 use Rattle.lot_base.specs.declared.notes.Note.{Note}
 use Rattle.lot_steps.specs.declared.places.Place.{Place}
@@ -11,7 +10,7 @@ use Rattle.abstract_locks.specs.Sites.{Deed, Line}
 use Rattle.lot_machine.specs.Machine.{State, place_at, put, state_with_sections, state_after_telling}
 use Rattle.lot_laws.specs.Refinement.{taken_at}
 use Rattle.lot_laws.specs.MutexDeeds.{acts}
-use Rattle.lot_laws.specs.Stations.{Hand, Station, hand, station, station_at, nowhere, doing_on}
+use Rattle.lot_laws.specs.Stations.{Station, hand, station, station_at, nowhere, doing_on}
 use Rattle.lot_laws.specs.SitesOf.{ActsNeeded, IsSteady, Goes, FitsItsLock, after_acts, rules_in, key_of, hand_at}
 use Rattle.lot_laws.proofs.Glue.{Parts, seen_in, IsOf, LetGo, next_of, of_carries, station_here}
 use Rattle.lot_laws.proofs.Waiters.{holds_here}
