@@ -122,7 +122,7 @@ module _ (r : Rules) where
   deeds_then t [] claims s h = claims_keep claims s h
   deeds_then t (d ∷ ds) claims s h = deeds_then t ds claims (after_deed r d s t) h
 
-  deeds_by : (t : ℕ) (ds : List Deed) (s : Site) → (after_acts r (acts t ds) s).lock ≡ (deeds.after_all r ds s t).lock
+  pub deeds_by : (t : ℕ) (ds : List Deed) (s : Site) → (after_acts r (acts t ds) s).lock ≡ (deeds.after_all r ds s t).lock
   deeds_by t [] s = refl
   deeds_by t (d ∷ ds) s = deeds_by t ds (after_deed r d s t)
 
@@ -226,7 +226,7 @@ same_purpose (AtLock l case) x = by_case case
     by_case case = refl
 
 -- a case may happen where the call is made of it and what it needs is there
-may_do : (w : LocksState) (t l : ℕ) (case : LockCase) (purpose : Purpose) (c : CallState) → w.calls t ≡ c → c.purpose ≡ Some purpose → IsMadeOf purpose c.gave_up c.released c.recalls l case
+pub may_do : (w : LocksState) (t l : ℕ) (case : LockCase) (purpose : Purpose) (c : CallState) → w.calls t ≡ c → c.purpose ≡ Some purpose → IsMadeOf purpose c.gave_up c.released c.recalls l case
     → Needs (locks_rules w l) case (w.locks l) t → IsTimely c.late case → MayHappen w t (AtLock l case)
 may_do w t l case purpose c is e made needs timely = rw (is, e) (rw is made, needs, rw is timely)
 
@@ -241,7 +241,7 @@ runs_nothing sorts l (CallsOnce k forced) own knows other = other (subst (λ j. 
 runs_nothing sorts l (Awaits k forced) own knows other = other (subst (λ j. sorts j ≡ Once) own knows)
 runs_nothing sorts l p own knows other = tt
 
-never_starts : (p : Purpose) (g : Option ℕ) (r : Bool) (q : Recall) (l : ℕ) (forced : Bool) → RunsNothing p → IsMadeOf p g r q l (OfOnce (Start forced)) → ⊥
+pub never_starts : (p : Purpose) (g : Option ℕ) (r : Bool) (q : Recall) (l : ℕ) (forced : Bool) → RunsNothing p → IsMadeOf p g r q l (OfOnce (Start forced)) → ⊥
 never_starts (Enters k x how) g r q l forced h m = m.1
 never_starts (Releases k x fair) g r q l forced h m = m.1
 never_starts (Converts k x y how) g r q l forced h m = m.1

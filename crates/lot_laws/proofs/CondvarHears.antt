@@ -83,7 +83,7 @@ length_queued [] = refl
 length_queued (x ∷ q) = ap suc (length_queued q)
 
 -- whom a requeue takes and moves are all that stood there
-number_of : (locked : Bool) (q : List Waiter) → length (listed (taken_by (if locked then requeue.All else requeue.TakeOneMoveRest) q)) + length (moved_by (if locked then requeue.All else requeue.TakeOneMoveRest) q) ≡ length (map queued_of q)
+pub number_of : (locked : Bool) (q : List Waiter) → length (listed (taken_by (if locked then requeue.All else requeue.TakeOneMoveRest) q)) + length (moved_by (if locked then requeue.All else requeue.TakeOneMoveRest) q) ≡ length (map queued_of q)
 number_of true q = let a : 0 + length q ≡ length q = omega arith in a ∙ length_queued q
 number_of false [] = refl
 number_of false (x ∷ q) = let e : length q ≡ length (map queued_of q) = length_queued q in let a : 1 + length q ≡ suc (length q) = omega arith in a ∙ ap suc e
@@ -118,7 +118,7 @@ module _ (w : State) (t l : ℕ) (at : CondvarPlace) (steady : IsSteady w) (is :
       shows None = refl
       shows (Some m) = refl
 
-  free_inside : is_free w (2 * l) ≡ true → here.inside ≡ None
+  pub free_inside : is_free w (2 * l) ≡ true → here.inside ≡ None
   free_inside free = ap (λ o. inside_as o (λ u. (profile_at (place_at w u) l).stage)) (none_so (section_at w (2 * l)) free)
 
   left_waiters : (length (without t (queue_at w (2 * l))) == 0) ≡ is_empty (locks.without t here.waiters)
@@ -335,7 +335,7 @@ module _ (w : State) (t l m : ℕ) (all : Bool) (at : NotifyAt) (steady : IsStea
   notify_reached : IsReached this
   notify_reached = (fits_here w t l this steady is).reached
 
-  fits_move : (locked : Bool) → at ≡ notify.Move locked → MoveFits (rules_in w m) all locked (condvar_of w l) beside_site t m
+  pub fits_move : (locked : Bool) → at ≡ notify.Move locked → MoveFits (rules_in w m) all locked (condvar_of w l) beside_site t m
   fits_move locked e = condvar_moves_fit (rules_in w m) all locked (condvar_of w l) beside_site t m (rules_beside w t l this steady is m refl) condvars aside
       (subst (λ q. IsAt (condvar_of w l) t (Notify all m q)) e (at_it w t l this steady is)) (doing_beside w t l this steady is m refl ∙ ap (λ q. (notify_row all m q).doing) e)
 

@@ -96,8 +96,14 @@ module _ (t : ℕ) where
 
 -- ---------------------------------------------------------------- a step
 
+-- a place that says the same of its thread there
+abbrev pub Alike : Next CondvarPlace → Next CondvarPlace → Type 0
+Alike (next.At q) (next.At q2) = ((condvar_row q2).stage ≡ (condvar_row q).stage) × ((condvar_row q2).waits_with ≡ (condvar_row q).waits_with)
+Alike (next.End answer) (next.End answer2) = Unit {0}
+Alike n n2 = ⊥
+
 module _ (w v : State) (t l : ℕ) (at : CondvarPlace) (told : Reply) (stands : Stands w) (stands_then : Stands v) (is : place_at w t ≡ Condvar l at)
-    (goes : place_at v t ≡ condvar_goes l (condvar_next at told)) (condvar : IsCondvar (condvar_of w l)) (hears : MayHear (condvar_of w l) t at told)
+    (n : Next CondvarPlace) (goes : place_at v t ≡ condvar_goes l n) (alike : Alike (condvar_next at told) n) (condvar : IsCondvar (condvar_of w l)) (hears : MayHear (condvar_of w l) t at told)
     (says : (u : ℕ) → u ≢ t → (stage_of (place_at v u) l ≡ stage_of (place_at w u) l) × (names_of (place_at v u) l ≡ names_of (place_at w u) l))
     (section : SectionChanges (section_at w (key_of l Main)) t (section_at v (key_of l Main))) where
   abbrev led : CondvarSite
@@ -150,7 +156,7 @@ module _ (w v : State) (t l : ℕ) (at : CondvarPlace) (told : Reply) (stands : 
           let both : ◌≡◌ {A = Option Line} None (Some Main) = sym nowhere_now ∙ there in cc
 
   inside_led : (condvar_of v l).inside ≡ led.inside
-  inside_led = by_next (condvar_next at told) goes follows.next
+  inside_led = by_next (condvar_next at told) n goes alike follows.next
     where
       others : IsInsideNot (condvar_of v l).inside t → IsInsideNot led.inside t → (condvar_of v l).inside ≡ led.inside
       others a b = same_inside t (condvar_of w l).inside (condvar_of v l).inside led.inside others_inside (deeds_others t (condvar_deeds at told) (condvar_of w l) follows.needed) a b
@@ -159,19 +165,21 @@ module _ (w v : State) (t l : ℕ) (at : CondvarPlace) (told : Reply) (stands : 
       by_stage None a b = others a b
       by_stage (Some stage) a b = a ∙ sym b
 
-      by_next : (n : Next CondvarPlace) → place_at v t ≡ condvar_goes l n → IsAtNext led t n → (condvar_of v l).inside ≡ led.inside
-      by_next (next.At q) there at_next = by_stage (condvar_row q).stage (at_place v stands_then t l q there).stage at_next.stage
-      by_next (next.End answer) there away = others (over there) away.outside
+      by_next : (x n : Next CondvarPlace) → place_at v t ≡ condvar_goes l n → Alike x n → IsAtNext led t x → (condvar_of v l).inside ≡ led.inside
+      by_next (next.At q) (next.At q2) there same_row at_next = by_stage (condvar_row q).stage (subst (IsAtStage (condvar_of v l) t) same_row.0 (at_place v stands_then t l q2 there).stage) at_next.stage
+      by_next (next.End answer) (next.End answer2) there same_row away = others (over there) away.outside
+      by_next x n there same_row at_next = absurd same_row
 
   names_led : (u : ℕ) → (condvar_of v l).waits_with u ≡ led.waits_with u
   names_led u = elim (cases_eq u t) [
-    | inl own ↦ subst (λ k. (condvar_of v l).waits_with k ≡ led.waits_with k) (sym own) (by_next (condvar_next at told) goes follows.next)
+    | inl own ↦ subst (λ k. (condvar_of v l).waits_with k ≡ led.waits_with k) (sym own) (by_next (condvar_next at told) n goes alike follows.next)
     | inr other ↦ names_then u other ∙ sym (deeds_names t (condvar_deeds at told) (condvar_of w l) u other)
   ]
     where
-      by_next : (n : Next CondvarPlace) → place_at v t ≡ condvar_goes l n → IsAtNext led t n → (condvar_of v l).waits_with t ≡ led.waits_with t
-      by_next (next.At q) there at_next = (at_place v stands_then t l q there).names ∙ sym at_next.names
-      by_next (next.End answer) there away = ap (λ p. (profile_at p l).names) there ∙ sym away.names
+      by_next : (x n : Next CondvarPlace) → place_at v t ≡ condvar_goes l n → Alike x n → IsAtNext led t x → (condvar_of v l).waits_with t ≡ led.waits_with t
+      by_next (next.At q) (next.At q2) there same_row at_next = (at_place v stands_then t l q2 there).names ∙ same_row.1 ∙ sym at_next.names
+      by_next (next.End answer) (next.End answer2) there same_row away = ap (λ p. (profile_at p l).names) there ∙ sym away.names
+      by_next x n there same_row at_next = absurd same_row
 
   pub condvar_led : (lock_state v l).shown ≡ led.shown → (lock_state v l).queue ≡ led.waiters → condvar_of v l ≡ led
   condvar_led shown waiters = λ i. record { shown = shown i; waiters = waiters i; inside = inside_led i; waits_with = λ u. names_led u i }

@@ -102,7 +102,7 @@ row_says (Condvar c at) k = either (c == k) (is_lock k (mutex_beside at))
 -- ---------------------------------------------------------------- whatever befalls its thread
 
 -- by the four replies that tell what another thread has done
-befalling : (P : Reply → Type 0) → ((t : ℕ) → P (TakenBy t)) → ((key : ℕ) → P (MovedTo key)) → ((t : ℕ) (alone : Bool) → P (HandedBy t alone)) → ((n : Note) → P (Woken n)) → (r : Reply) → Befalls r → P r
+pub befalling : (P : Reply → Type 0) → ((t : ℕ) → P (TakenBy t)) → ((key : ℕ) → P (MovedTo key)) → ((t : ℕ) (alone : Bool) → P (HandedBy t alone)) → ((n : Note) → P (Woken n)) → (r : Reply) → Befalls r → P r
 befalling P taken moved handed woken (TakenBy t) h = taken t
 befalling P taken moved handed woken (MovedTo key) h = moved key
 befalling P taken moved handed woken (HandedBy t alone) h = handed t alone

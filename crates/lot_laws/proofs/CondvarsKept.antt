@@ -33,7 +33,7 @@ use Rattle.lot_laws.proofs.CondvarRows.{names_of, names_unmoved, row_says, stage
 use Rattle.lot_laws.proofs.Glue.{IsSingle, put_here, same, single_station}
 use Rattle.lot_laws.proofs.KindsKept.{after_kinds}
 use Rattle.lot_laws.proofs.LockSteps.{after_step}
-use Rattle.lot_laws.proofs.PlacePromises.{not_condvar, row_promises}
+use Rattle.lot_laws.proofs.PlacePromises.{row_promises}
 use Rattle.lot_laws.proofs.SingleCalls.{call_here}
 use Rattle.lot_laws.proofs.SoloAnswers.{purpose_stays, woken_purpose}
 use Rattle.lot_laws.proofs.TurnsKept.{after_steady}
@@ -219,7 +219,7 @@ module _ (w : State) (s : Step) (shape : IsShaped w) (steady : IsSteady w) (coun
   step = after_step w s shape steady counted
 
   -- its call is of the lock that it was of, or it has ended
-  abbrev StaysOf : Type 0
+  abbrev pub StaysOf : Type 0
   StaysOf = (lock_of (place_at v t) ≡ lock_of (place_at w t)) ⊎ (lock_of (place_at v t) ≡ None)
 
   same_purpose : (call_at v t).purpose ≡ (call_at w t).purpose → StaysOf
@@ -236,7 +236,7 @@ module _ (w : State) (s : Step) (shape : IsShaped w) (steady : IsSteady w) (coun
       by_outcome o e = same_purpose (ap (λ (c : CallState). c.purpose) e ∙ woken_purpose (locks_of w) t g.event (going_on g.event (call_at w t)) ∙ purpose_stays g.event (call_at w t))
 
   -- or begun
-  moved_on : StaysOf ⊎ (lock_of (place_at w t) ≡ None)
+  pub moved_on : StaysOf ⊎ (lock_of (place_at w t) ≡ None)
   moved_on = elim step.1 [
     | inl now ↦ by_turn s.turn now.0 now.1
     | inr refused ↦ inl (same_purpose (ap (λ (x : LocksState). (x.calls t).purpose) refused.1.1))
@@ -305,19 +305,3 @@ put_condvars w t q there says condvars k sort = subst IsCondvar (sym (same_condv
       | inl e ↦ rw (e, get_or-set_same w.places t q Idle there) (says k)
       | inr ne ↦ let stays = get_or-set_other w.places t u q Idle ne in (ap (λ p. stage_of p k) stays, ap (λ p. names_of p k) stays)
     ]
-
-is_or_not : (o : Option ℕ) (k : ℕ) → (o ≡ Some k) ⊎ (o ≢ Some k)
-is_or_not None k = inr (λ e. cc)
-is_or_not (Some j) k = elim (cases_eq j k) [ inl e ↦ inl (ap Some e) | inr ne ↦ inr (λ e. ne cc) ]
-
--- no call of a condition variable begins yet
-pub after_condvars : (w : State) (s : Step) → IsShaped w → IsSteady w → AreCounted w → AreCondvars w → AreCondvars (after w s)
-after_condvars w s shape steady counted condvars l sort_then = by_lock (is_or_not (lock_of (place_at w s.thread)) l) (is_or_not (lock_of (place_at (after w s) s.thread)) l)
-  where
-    sort : (rules_in w l).sort ≡ locks.Condvar
-    sort = sym (ap (λ x. (rules_of x).sort) (after_kinds w s l)) ∙ sort_then
-
-    by_lock : (lock_of (place_at w s.thread) ≡ Some l) ⊎ (lock_of (place_at w s.thread) ≢ Some l) → (lock_of (place_at (after w s) s.thread) ≡ Some l) ⊎ (lock_of (place_at (after w s) s.thread) ≢ Some l) → IsCondvar (condvar_of (after w s) l)
-    by_lock (inl own) behind = absurd (not_condvar w s.thread steady l own sort)
-    by_lock (inr other) (inl own) = absurd (not_condvar (after w s) s.thread (after_steady w s shape steady counted) l own sort_then)
-    by_lock (inr other) (inr other_then) = subst IsCondvar (sym (condvar_kept w s shape steady counted l sort other other_then)) (condvars l sort)

@@ -33,7 +33,7 @@ use Rattle.lot_laws.proofs.RunsKept.{running_after}
 use Rattle.lot_laws.specs.Stations.{station, station_at}
 use Rattle.lot_laws.proofs.Glue.{nothing_at, singles, IsSingle}
 use Rattle.lot_laws.proofs.Counts.{without_absent}
-use Rattle.lot_laws.proofs.CondvarsKept.{after_condvars}
+use Rattle.lot_laws.proofs.CondvarSteps.{after_condvars}
 use Rattle.lot_laws.proofs.CountsKept.{counted_after}
 use Rattle.lot_laws.proofs.TurnsKept.{after_steady}
 

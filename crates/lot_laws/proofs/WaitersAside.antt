@@ -58,7 +58,7 @@ aside m timed (wait.Release s at) reached listed = absurd cc
 aside m timed at reached listed = absurd cc
 
 -- who notifies stands nowhere
-unlisted : (all : Bool) (m : ℕ) (at : NotifyAt) → (notify_row all m at).listed ≡ false
+pub unlisted : (all : Bool) (m : ℕ) (at : NotifyAt) → (notify_row all m at).listed ≡ false
 unlisted all m notify.Enter = refl
 unlisted all m notify.Again = refl
 unlisted all m notify.Hide = refl

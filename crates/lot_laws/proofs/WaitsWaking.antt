@@ -200,3 +200,49 @@ module _ (w : State) (t l m : ℕ) (timed : Bool) (steady : IsSteady w) (is_ther
         (goes_out_waking w t m steady is_there sort then_at (alike true s is) (subst (FitsItsLock w) told_place fits) section (holds_here w t m steady (carries_here true s is)) woken
         (ap (λ (y : Station). y.inside) (station_was true s is)) (ap (λ (y : Station). y.inside) (side true s is)) (ap (λ (y : Station). y.carries) (side true s is)) (ap (λ (y : Station). y.stands) (side true s is)) (ap (λ (y : Station). y.waits) (side true s is))
         own_hand (taken_then true s is) (Out ∷ []) tt (follows true s is).needed (doing true s is))
+
+  -- ---------------------------------------------------------------- it has nobody in hand
+
+  module _ (s : Stands) (is : place_at w t ≡ Condvar l (waits (leaving false s))) where
+    abbrev out_at : Place
+    out_at = Condvar l (waits (behind s))
+
+    out_there : (s : Stands) → station_by (row_there (At (waits (behind s)))) ≡ there (waits (leaving false s))
+    out_there stands.Listed = refl
+    out_there stands.Moved = refl
+    out_there (stands.InHand by) = refl
+    out_there (stands.Handed by) = refl
+    out_there (stands.Noted note.Normal) = refl
+    out_there (stands.Noted note.HandOff) = refl
+
+    out_beside : (s : Stands) → beside_of (behind s) ≡ record (beside_of (leaving false s)) { inside = None }
+    out_beside stands.Listed = refl
+    out_beside stands.Moved = refl
+    out_beside (stands.InHand by) = refl
+    out_beside (stands.Handed by) = refl
+    out_beside (stands.Noted note.Normal) = refl
+    out_beside (stands.Noted note.HandOff) = refl
+
+    out_taken : (s : Stands) → taken_of (behind s) ≡ taken_of (leaving false s)
+    out_taken stands.Listed = refl
+    out_taken stands.Moved = refl
+    out_taken (stands.InHand by) = refl
+    out_taken (stands.Handed by) = refl
+    out_taken (stands.Noted note.Normal) = refl
+    out_taken (stands.Noted note.HandOff) = refl
+
+    abbrev out_stays : StaysThere w t l m timed steady is_there apart sort (leaving false s) (At (waits (behind s)))
+    out_stays = (refl, out_there s)
+
+    -- nor is it in its own
+    unheld : keep_from t (taken_at (place_at w t) m) ≡ taken_at (place_at w t) m
+    unheld = untaken (place_at w t) t m (λ h. let a : carried_at (place_at w t) m ≡ Some false = steady.stands.hands.taken t t m false h in
+        let b : carried_at (place_at w t) m ≡ None = ap (λ (y : Station). y.carries) (station_was false s is) in let c : ◌≡◌ {A = Option Bool} None (Some false) = sym b ∙ a in cc)
+
+    pub leaves_nobody : FitsNext false s → Kept false s
+    leaves_nobody fits = subst (λ p. FitsItsLock w (next_place p Done) → Goes w (put (state_with_sections w (One (2 * m)) None) t (next_place p Done)) m (acts t (Out ∷ []))) (sym is)
+        (λ fits. goes_out_at w t m steady is_there sort out_at (beside.alike w t l m timed steady is_there apart sort (leaving false s) is (At (waits (behind s))) out_stays) fits section
+        (ap (λ (y : Station). y.inside) (station_was false s is)) (ap (λ (y : Station). y.carries) (station_was false s is)) (Out ∷ []) tt (follows false s is).needed
+        ((follows false s is).doing ∙ unwoken t (taken_at (place_at w t) m) (wait_row m (behind s)).doing unheld ∙ sym (beside.does_next w t l m timed steady is_there apart sort (At (behind s)) refl))
+        (station_beside l m apart (At (waits (behind s))) refl ∙ out_beside s ∙ sym (ap (λ (y : Station). record y { inside = None }) (station_was false s is)))
+        (taken_was false s is ∙ sym (out_taken s) ∙ sym (taken_beside l m apart (At (waits (behind s))) refl)) unheld) fits

@@ -9,7 +9,7 @@ use Rattle.lot_machine.specs.Machine.{State, after, step_outcome, after_steps, s
 use Rattle.lot_laws.specs.Refinement.{locks_of}
 use Rattle.lot_laws.specs.WorldRuns.{IsWorldStep, IsWorldRun, Tells}
 use Rattle.lot_laws.specs.Solo.{IsSoloRun, GoesOnUntil, last_told}
-use Rattle.lot_laws.proofs.CondvarsKept.{after_condvars}
+use Rattle.lot_laws.proofs.CondvarSteps.{after_condvars}
 use Rattle.lot_laws.proofs.CountsKept.{counted_after}
 use Rattle.lot_laws.proofs.Owing.{owes_since}
 use Rattle.lot_laws.proofs.Fair.{is_fair}
