@@ -13,7 +13,7 @@ use Rattle.lot_steps.specs.Steps.{condvar_goes}
 use Rattle.lot_condvar.specs.declared.notify.NotifyAt.TheVariants as notify
 use Rattle.lot_condvar.specs.declared.places.CondvarPlace.TheVariants.{Look, Notify}
 use Rattle.lot_condvar.specs.CondvarSteps.{condvar_next, look_next, mutex_shown}
-use Rattle.abstract_locks.specs.Codes.{count_in}
+use Rattle.abstract_locks.specs.Codes.{count_in, code}
 use Rattle.abstract_locks.specs.Locks as locks
 use Rattle.abstract_locks.specs.Sites.{has_readers, idle}
 use Rattle.lot_machine.specs.Machine.{State, filled_at, place_at, put, state_after_act, word_at}
@@ -21,11 +21,12 @@ use Rattle.lot_laws.specs.MutexDeeds.{acts}
 use Rattle.lot_laws.specs.Refinement.{taken_at}
 use Rattle.lot_laws.specs.Stations.{doing_on, station_at}
 use Rattle.lot_laws.specs.SitesOf.{FitsItsLock, Goes, IsSteady, rules_in}
-use Rattle.lot_laws.proofs.Glue.{differ, parts_at, same}
-use Rattle.lot_laws.proofs.OneStep.{Steps, steps_by}
+use Rattle.lot_laws.proofs.Glue.{differ, parts_at, same, seen_in}
+use Rattle.lot_laws.proofs.OneStep.{Steps, steps_by, same_word}
 use Rattle.lot_laws.proofs.StandsKept.{Alike}
 use Rattle.lot_laws.proofs.Following.{lock_by, operated}
 use Rattle.lot_laws.proofs.ActsAt as acting
+use Rattle.abstract_locks.specs.Locks.{putting}
 
 -- a place at which its thread stands nowhere
 abbrev IsOut : Place → ℕ → Type 0
@@ -60,3 +61,15 @@ module _ (w : State) (t l : ℕ) (all : Bool) (steady : IsSteady w) (is_there : 
 
   alike : (k : ℕ) → Alike k (place_at w t) p2
   alike k = subst (λ q. Alike k q p2) (sym is) (let a = looks_out l all k in let b = next_out l all (word_at w l) k (word_at w l == 0) refl in record { station = b.0 ∙ sym a.0; doing = b.1 ∙ sym a.1; taken = b.2 ∙ sym a.2 })
+
+  -- it sees what is shown, and goes on
+  pub looks : FitsItsLock w p2 → Goes w (put (state_after_act w t (Condvar l (Look all)) (act.Word l op.Load)) t p2) l (acts t [])
+  looks fits = acting.word_goes w t l steady is_there (rules_in w l) refl p2 (λ k ne. alike k) fits (Condvar l (Look all)) lock (rw steady.numbers.locks lock) op.Load [] (λ h. tt)
+      (steps_by (rules_in w l) l (parts_at w l) (operated w t (Condvar l (Look all)) l op.Load) (place_at w) t p2 [] tt tt (sym (alike l).taken) refl refl refl filled_then (alike l).doing)
+      (steady.sites.word l ∙ sym (code_same)) (alike l).station
+    where
+      filled_then : (operated w t (Condvar l (Look all)) l op.Load).base.filled ≡ filled_at w l
+      filled_then = ap (λ b. filled_at w l || (b && nat_le (rules_in w l).limit (count_in (word_at w l)))) (ap has_readers sort) ∙ or-false (filled_at w l)
+
+      code_same : code (rules_in w l) (seen_in (rules_in w l) l (operated w t (Condvar l (Look all)) l op.Load) (putting (place_at w) t p2)) ≡ code (rules_in w l) (lock_by w l (rules_in w l))
+      code_same = same_word (rules_in w l).sort (rules_in w l).limit _ _ _ _ refl refl refl refl refl refl
