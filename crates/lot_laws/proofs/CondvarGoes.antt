@@ -1,8 +1,7 @@
 -- What a step in a call of a condition variable is to the abstract locks: one event of one of its two locks, or a move of waiters between them; its
 -- call is made of it, and comes to what the next place says.
-use Rattle.std.proofs.Common.{ℕ, Bool, true, false, Option, Some, None, if◌then◌else◌, ◌==◌, ◌≡◌, ◌≢◌, ◌⊎◌, ◌≤◌, List, [], ◌∷◌, ◌++◌, append-nil, inl, inr, refl, sym, ◌∙◌, ap, subst}
-use Rattle.std.proofs.lemmas.Bool.{cases_eq, eqb-true}
-use Rattle.lot_calls.specs.declared.outcomes.Answer.{Answer}
+use Rattle.std.proofs.Common.{ℕ, Bool, false, Option, Some, None, if◌then◌else◌, ◌≡◌, ◌≢◌, ◌⊎◌, List, [], ◌∷◌, append-nil, inl, inr, refl, sym, ◌∙◌, ap, subst}
+use Rattle.std.proofs.lemmas.Bool.{cases_eq}
 use Rattle.lot_calls.specs.declared.outcomes.Outcome.{Outcome}
 use Rattle.lot_calls.specs.declared.outcomes.Outcome as outcome
 use Rattle.lot_acts.specs.declared.acts.Next.{Next}
@@ -15,21 +14,19 @@ use Rattle.lot_condvar.specs.CondvarCalls as calls
 use Rattle.lot_condvar.specs.CondvarCalls.{CallFollows, MayComeOfTwo, case_there, heard, or_else, wait_event}
 use Rattle.lot_condvar.specs.CondvarDeeds.{wait_deeds}
 use Rattle.lot_condvar.specs.CondvarProfiles.{condvar_profile, mutex_side, wait_carries}
-use Rattle.lot_condvar.specs.CondvarSteps.{condvar_act, condvar_next, mutex_beside}
+use Rattle.lot_condvar.specs.CondvarSteps.{condvar_act, mutex_beside}
 use Rattle.lot_condvar.specs.CondvarWaits.{waiter_deeds}
-use Rattle.lot_steps.specs.declared.places.Place.{Place}
-use Rattle.lot_steps.specs.declared.places.Place.TheVariants.{Idle, Condvar}
+use Rattle.lot_steps.specs.declared.places.Place.TheVariants.{Condvar}
 use Rattle.lot_steps.specs.Steps.{condvar_does, condvar_goes}
-use Rattle.lot_acts.specs.Calls.{MayCome, call_of_two, rights_where}
+use Rattle.lot_acts.specs.Calls.{rights_where}
 use Rattle.lot_acts.specs.Acts.{outcome_of}
 use Rattle.abstract_locks.specs.Condvars.{CondvarDeed, moved_of}
 use Rattle.abstract_locks.specs.Condvars as condvars
-use Rattle.abstract_locks.specs.Deeds.{AreOneCase, EventNeeds, after_event, case_of, event_by, event_of}
-use Rattle.abstract_locks.specs.Deeds as deeds
+use Rattle.abstract_locks.specs.Deeds.{AreOneCase, EventNeeds, after_event, case_of, event_by}
 use Rattle.abstract_locks.specs.Onces.{Start}
 use Rattle.abstract_locks.specs.Purposes.{WasMoved}
-use Rattle.abstract_locks.specs.Locks.{HandOff, OfOnce, Wake, HasTakenNobody, LockCase, LockState, Rights, Rules, rights_of}
-use Rattle.abstract_locks.specs.Runs.{AnswerHolds, AtLock, Begins, LocksState, is_among, is_closure, is_taken_by, CallState, Event, GoesOn, MayHappen, MayMove, Moves, Nothing, going_on, rules_at, woken}
+use Rattle.abstract_locks.specs.Locks.{HandOff, OfOnce, Wake, HasTakenNobody, LockCase, LockState}
+use Rattle.abstract_locks.specs.Runs.{AnswerHolds, AtLock, Begins, LocksState, is_among, is_closure, is_taken_by, CallState, Event, GoesOn, MayHappen, MayMove, Moves, Nothing, going_on, woken}
 use Rattle.abstract_locks.specs.Sites.{Deed, Site}
 use Rattle.abstract_locks.proofs.Deeds.{deeds_lead, deeds_need}
 use Rattle.lot_machine.specs.Machine.{State, kind_at, place_at}
@@ -39,8 +36,6 @@ use Rattle.lot_laws.specs.SitesOf.{ActsNeeded, FollowAll, IsSteady, after_acts, 
 use Rattle.lot_laws.proofs.CallEvents.{CallLed, GoesAs, Happens, RunsNothing, never_starts, OthersFollow, deeds_by, goes_with, happens_at, may_do, needed_then, rights}
 use Rattle.lot_laws.proofs.Closures.{closure_told, condvar_runs_none}
 use Rattle.lot_laws.proofs.CondvarThere.{there_deeds}
-use Rattle.lot_laws.proofs.Glue.{put_here, put_other}
-use Rattle.lot_laws.proofs.TwoLocks.{two_at}
 
 -- ---------------------------------------------------------------- an event of one of two locks
 
@@ -135,7 +130,9 @@ module _ (w v : State) (t l m : ℕ) (p : CondvarPlace) (call_is : call_at w t �
     so,
   )
   call_led (next.End a) o unheard unwoken becomes there named shown_is led so = inr (
-    a, so, there,
+    a,
+    so,
+    there,
     subst (λ x. AnswerHolds (Some ((condvar_profile p).purpose l)) (locks_of v) t (going_on e x) a) unheard (becomes (locks_of v) (rights w t) shown_is refl led),
   )
 

@@ -1,20 +1,15 @@
 -- What a thread is told that goes on in a call of a condition variable, as the laws of its places take it: at the condition variable, and at the mutex
 -- beside it.
-use Rattle.std.proofs.Common.{ℕ, suc, Bool, true, false, Option, Some, None, if◌then◌else◌, ◌==◌, ◌&&◌, ◌≡◌, ◌≢◌, ◌+◌, ◌*◌, ◌≤◌, ◌<◌, List, [], ◌∷◌, map, drop, take, length, not, refl, sym, ◌∙◌, ap, subst, arith, inl, inr}
-use Rattle.std.proofs.lemmas.Bool.{cases_eq}
+use Rattle.std.proofs.Common.{ℕ, suc, Bool, true, false, Option, Some, None, if◌then◌else◌, ◌==◌, ◌&&◌, ◌≡◌, ◌≢◌, ◌+◌, ◌*◌, ◌≤◌, List, [], ◌∷◌, map, drop, length, not, refl, sym, ◌∙◌, ap, subst, arith}
 use Rattle.std.specs.Prelude.{is_none}
-use Rattle.lot_base.specs.declared.keys.Keys.TheVariants.{One, Two}
+use Rattle.lot_base.specs.declared.keys.Keys.TheVariants.{One}
 use Rattle.lot_base.specs.declared.requeues.Requeue.TheVariants as requeue
 use Rattle.lot_base.specs.declared.wants.Waiter.{Waiter}
-use Rattle.lot_base.specs.declared.wants.Want.TheVariants.{Exclusive}
 use Rattle.lot_base.specs.Lines.{first_of, times, without}
 use Rattle.lot_base.specs.Requeues.{moved_by, taken_by}
 use Rattle.lot_acts.specs.declared.acts.Act.{Act}
 use Rattle.lot_acts.specs.declared.acts.Act.TheVariants as act
-use Rattle.lot_acts.specs.declared.acts.Reply.{Reply}
-use Rattle.lot_acts.specs.declared.acts.Reply.TheVariants.{Done, Value, Took, Requeued, Removed, Parked}
-use Rattle.lot_acts.specs.declared.acts.Whom.TheVariants as whoms
-use Rattle.lot_acts.specs.Profiles.{Profile, taken_from}
+use Rattle.lot_acts.specs.Profiles.{taken_from}
 use Rattle.lot_acts.specs.Stations.{Station, station_by}
 use Rattle.lot_mutex.specs.declared.lock.LockAt.{LockAt}
 use Rattle.lot_mutex.specs.declared.lock.LockAt.TheVariants as lock
@@ -23,9 +18,8 @@ use Rattle.lot_mutex.specs.declared.places.MutexPlace.TheVariants as mutex
 use Rattle.lot_mutex.specs.declared.unlock.UnlockAt.{UnlockAt}
 use Rattle.lot_mutex.specs.declared.unlock.UnlockAt.TheVariants as unlock
 use Rattle.lot_mutex.specs.MutexProfiles.{mutex_profile}
-use Rattle.lot_mutex.specs.MutexSteps.{is_locked, lock_act, mutex_act, unlock_act}
+use Rattle.lot_mutex.specs.MutexSteps.{is_locked, lock_act, unlock_act}
 use Rattle.lot_base.specs.declared.ops.Op.TheVariants as op
-use Rattle.lot_steps.specs.declared.places.Place.{Place}
 use Rattle.lot_steps.specs.declared.places.Place.TheVariants.{Condvar}
 use Rattle.lot_steps.specs.Steps.{profile_at}
 use Rattle.lot_condvar.specs.declared.notify.NotifyAt.{NotifyAt}
@@ -36,23 +30,23 @@ use Rattle.lot_condvar.specs.declared.wait.Stands.{Stands}
 use Rattle.lot_condvar.specs.declared.wait.WaitAt.{WaitAt}
 use Rattle.lot_condvar.specs.declared.wait.WaitAt.TheVariants as wait
 use Rattle.lot_condvar.specs.CondvarSteps.{befalls, condvar_act, move_act, mutex_beside, notify_act, wait_act}
-use Rattle.lot_condvar.specs.CondvarProfiles.{condvar_row, has_mutex, mutex_side, notify_row, wait_row}
+use Rattle.lot_condvar.specs.CondvarProfiles.{condvar_row, has_mutex, mutex_side, notify_row}
 use Rattle.lot_condvar.specs.CondvarCalls.{IsLockOf, IsReached}
 use Rattle.lot_condvar.specs.CondvarDeeds.{IsAt, MayHear, MayHearNotifying, MayHearWaiting, word_of}
 use Rattle.lot_condvar.specs.CondvarMutex.{MayHearBeside}
 use Rattle.lot_condvar.specs.CondvarWaits.{MayHearLocking, MayHearReleasing, MayHearWaiter, TakesFirst}
 use Rattle.lot_condvar.proofs.CondvarFit.{condvar_moves_fit}
 use Rattle.abstract_locks.specs.Codes.{code, shown_code, word_by}
-use Rattle.abstract_locks.specs.Condvars.{CondvarSite, Inside, IsCondvar, MoveFits, Stage, WaitsAside, moved_of}
+use Rattle.abstract_locks.specs.Condvars.{CondvarSite, IsCondvar, MoveFits, WaitsAside, moved_of}
 use Rattle.abstract_locks.specs.Locks as locks
 use Rattle.abstract_locks.specs.Locks.{HasTakenNobody, one_if_some, Taken, keep_from, LockState, Queued, Rules, first_thread, standing}
 use Rattle.abstract_locks.specs.Picks.{queued_of}
-use Rattle.abstract_locks.specs.Sites.{Doing, Line, Main, Second, Site, is_empty}
+use Rattle.abstract_locks.specs.Sites.{Line, Main, Second, Site, is_empty}
 use Rattle.lot_acts.specs.Moves.{IsFree}
-use Rattle.lot_machine.specs.Machine.{State, is_there, kind_at, listed, are_free, can_do, is_free, place_at, queue_at, reply_to, section_at, word_at}
+use Rattle.lot_machine.specs.Machine.{State, is_there, kind_at, listed, can_do, is_free, place_at, queue_at, reply_to, section_at, word_at}
 use Rattle.lot_laws.specs.Refinement.{lock_state, taken_at}
-use Rattle.lot_laws.specs.Stations.{doing_on, station_at}
-use Rattle.lot_laws.specs.SitesOf.{carried_at, AreCondvars, FitsCondvar, FitsItsLock, IsSteady, condvar_of, inside_as, key_of, rules_in, site_of, stood_in}
+use Rattle.lot_laws.specs.Stations.{station_at}
+use Rattle.lot_laws.specs.SitesOf.{carried_at, FitsCondvar, FitsItsLock, IsSteady, condvar_of, inside_as, key_of, rules_in, site_of, stood_in}
 use Rattle.lot_laws.proofs.Glue.{differ, inside_is, plain_rules, same, untaken}
 use Rattle.lot_laws.proofs.OneStep.{empty_line, queued_times, queued_without}
 use Rattle.lot_laws.proofs.CondvarSites.{at_place}

@@ -1,20 +1,17 @@
 -- A thread that goes on in a call of a condition variable leads it where its deeds do.
-use Rattle.std.proofs.Common.{ℕ, Bool, true, false, Option, Some, None, if◌then◌else◌, ◌==◌, ◌≡◌, ◌≢◌, ◌⊎◌, ◌↔◌, List, [], ◌∷◌, inl, inr, refl, sym, ◌∙◌, ap, subst}
+use Rattle.std.proofs.Common.{ℕ, Option, Some, None, ◌≡◌, ◌≢◌, ◌↔◌, List, [], ◌∷◌, inl, inr, refl, sym, ◌∙◌, ap, subst}
 use Rattle.std.proofs.lemmas.Bool.{cases_eq}
 use Rattle.lot_acts.specs.declared.acts.Next.{Next}
 use Rattle.lot_acts.specs.declared.acts.Next.TheVariants as next
 use Rattle.lot_acts.specs.declared.acts.Reply.{Reply}
-use Rattle.lot_acts.specs.Profiles.{Profile}
 use Rattle.lot_condvar.specs.declared.places.CondvarPlace.{CondvarPlace}
 use Rattle.lot_condvar.specs.CondvarProfiles.{condvar_row}
 use Rattle.lot_condvar.specs.CondvarSteps.{condvar_next}
-use Rattle.lot_condvar.specs.CondvarDeeds.{AllNeeded, Follows, IsAtNext, IsAtStage, IsAt, IsAway, MayHear, after_all, condvar_deeds}
+use Rattle.lot_condvar.specs.CondvarDeeds.{AllNeeded, Follows, IsAtNext, IsAtStage, MayHear, after_all, condvar_deeds}
 use Rattle.lot_condvar.proofs.CondvarFit.{condvar_steps_follow}
-use Rattle.lot_steps.specs.declared.places.Place.{Place}
 use Rattle.lot_steps.specs.declared.places.Place.TheVariants.{Idle, Condvar}
 use Rattle.lot_steps.specs.Steps.{condvar_goes, profile_at}
-use Rattle.abstract_locks.specs.Condvars.{CondvarDeed, BeginsWait, EndsWait, GoesIn, GoesOut, Show, SeeOther, StandLast, SeeAgain, MissIt, Hide, MoveFirst, MoveAll, LeaveList, Clear, CondvarNeeded, CondvarSite, Inside, IsCondvar, IsInsideAt, IsInsideNot, MayGoOut, Stage, condvar_leads}
-use Rattle.abstract_locks.specs.Locks.{LockState, putting}
+use Rattle.abstract_locks.specs.Condvars.{CondvarDeed, BeginsWait, EndsWait, GoesIn, GoesOut, Show, SeeOther, StandLast, SeeAgain, MissIt, Hide, MoveFirst, MoveAll, LeaveList, Clear, CondvarNeeded, CondvarSite, Inside, IsCondvar, IsInsideNot, MayGoOut, Stage, condvar_leads}
 use Rattle.abstract_locks.specs.Runs.{SectionChanges}
 use Rattle.abstract_locks.specs.Sites.{Line, Main}
 use Rattle.abstract_locks.proofs.CondvarKeeps.{condvar_deed_keeps}
@@ -24,7 +21,7 @@ use Rattle.lot_laws.specs.Stations.{station_at}
 use Rattle.lot_laws.specs.SitesOf.{Stands, condvar_of, inside_as, key_of, stage_or}
 use Rattle.lot_laws.proofs.CondvarRows.{names_of, row_says, stage_of}
 use Rattle.lot_laws.proofs.CondvarSites.{at_place}
-use Rattle.lot_laws.proofs.Glue.{put_other, same}
+use Rattle.lot_laws.proofs.Glue.{put_other}
 
 -- ---------------------------------------------------------------- deeds of one thread
 

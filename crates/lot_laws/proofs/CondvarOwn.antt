@@ -1,7 +1,6 @@
 -- Where a thread in a call of a condition variable stands once it has acted: where it stood, or where its own release of its mutex has left it.
-use Rattle.std.proofs.Common.{ℕ, Bool, true, false, Option, Some, None, if◌then◌else◌, ◌==◌, ◌≡◌, ◌*◌, ◌+◌, ◌<◌, length, not, refl, sym, ◌∙◌, ap, subst, get_or-set_same}
+use Rattle.std.proofs.Common.{ℕ, Bool, true, false, None, if◌then◌else◌, ◌==◌, ◌≡◌, ◌*◌, ◌+◌, ◌<◌, length, not, refl, sym, ◌∙◌, ap, subst, get_or-set_same}
 use Rattle.lot_base.specs.declared.keys.Keys.TheVariants.{One}
-use Rattle.lot_base.specs.declared.notes.Note.{Note}
 use Rattle.lot_base.specs.declared.notes.Note.TheVariants as note
 use Rattle.lot_base.specs.declared.ops.Op as op
 use Rattle.lot_acts.specs.declared.acts.Act.TheVariants as act
@@ -25,14 +24,13 @@ use Rattle.lot_condvar.specs.declared.wait.WaitAt.{WaitAt}
 use Rattle.lot_condvar.specs.declared.wait.WaitAt.TheVariants as wait
 use Rattle.lot_condvar.specs.CondvarCalls.{IsLockOf, IsReached}
 use Rattle.lot_condvar.specs.CondvarProfiles.{wait_row}
-use Rattle.lot_condvar.specs.CondvarSteps.{befallen, befalls, behind, condvar_act, condvar_next, notify_act, release_next, released, wait_act}
+use Rattle.lot_condvar.specs.CondvarSteps.{befallen, befalls, behind, condvar_act, condvar_next, release_next, released}
 use Rattle.lot_steps.specs.declared.places.Place.{Place}
 use Rattle.lot_steps.specs.declared.places.Place.TheVariants.{Idle, Condvar}
 use Rattle.lot_steps.specs.Steps.{condvar_goes, next_place}
 use Rattle.lot_machine.specs.Machine.{State, place_at, reply_to, state_after_act, state_after_going}
 use Rattle.lot_machine.proofs.Acted.{acted_keeps, tells}
 use Rattle.lot_laws.proofs.CondvarLed.{Alike}
-use Rattle.lot_laws.proofs.CondvarRows.{befalling}
 use Rattle.lot_laws.proofs.RowPromises.{Befalls}
 use Rattle.lot_machine.proofs.Shape.{performed_counts}
 

@@ -1,21 +1,15 @@
 -- What each lock sees of a place in a call of a condition variable, and of the next one: by the row there, by the row beside, and nothing elsewhere.
-use Rattle.std.proofs.Common.{ℕ, Bool, true, false, Option, Some, None, if◌then◌else◌, ◌==◌, ◌≡◌, ◌≢◌, ◌⊎◌, List, [], ◌∷◌, refl, sym, ◌∙◌, ap, subst, inl, inr}
-use Rattle.std.proofs.lemmas.Bool.{cases_eq}
-use Rattle.lot_base.specs.declared.wants.Want.{Want}
+use Rattle.std.proofs.Common.{ℕ, true, false, Some, None, ◌==◌, ◌≡◌, ◌≢◌, refl, sym, ◌∙◌, ap}
 use Rattle.lot_acts.specs.declared.acts.Next.{Next}
 use Rattle.lot_acts.specs.declared.acts.Next.TheVariants.{At, End as Over}
-use Rattle.lot_acts.specs.declared.acts.Reply.{Reply}
-use Rattle.lot_acts.specs.Profiles.{Hand, Profile, blank, taken_from}
+use Rattle.lot_acts.specs.Profiles.{taken_from}
 use Rattle.lot_acts.specs.Stations.{Station, nowhere, station_by}
 use Rattle.lot_steps.specs.declared.places.Place.{Place}
-use Rattle.lot_steps.specs.declared.places.Place.TheVariants.{Condvar, Idle}
 use Rattle.lot_steps.specs.Steps.{condvar_goes}
 use Rattle.lot_condvar.specs.declared.places.CondvarPlace.{CondvarPlace}
-use Rattle.lot_condvar.specs.CondvarSteps.{condvar_next, mutex_beside}
-use Rattle.lot_condvar.specs.CondvarProfiles.{condvar_profile, mutex_side}
-use Rattle.lot_condvar.specs.CondvarMoves.{row_beside, row_there, there, there_then}
-use Rattle.abstract_locks.specs.Locks.{Taken}
-use Rattle.abstract_locks.specs.Sites.{Doing, Line, idle}
+use Rattle.lot_condvar.specs.CondvarSteps.{mutex_beside}
+use Rattle.lot_condvar.specs.CondvarMoves.{row_beside, row_there}
+use Rattle.abstract_locks.specs.Sites.{idle}
 use Rattle.lot_laws.specs.Refinement.{taken_at}
 use Rattle.lot_laws.specs.Stations.{doing_on, station_at}
 use Rattle.lot_laws.proofs.Glue.{differ, same}

@@ -1,6 +1,6 @@
 -- What a place says of its thread at a condition variable: what it is about to do inside, and which mutex its wait names. Nothing that befalls the
 -- thread changes either.
-use Rattle.std.proofs.Common.{ℕ, Bool, true, false, Option, Some, None, if◌then◌else◌, ◌==◌, ◌≡◌, refl, sym, ◌∙◌, ap}
+use Rattle.std.proofs.Common.{ℕ, Bool, true, false, Option, None, if◌then◌else◌, ◌==◌, ◌≡◌, refl, ◌∙◌, ap}
 use Rattle.lot_base.specs.declared.notes.Note.{Note}
 use Rattle.lot_base.specs.declared.notes.Note.TheVariants as note
 use Rattle.lot_acts.specs.declared.acts.Next.{Next}
@@ -10,7 +10,6 @@ use Rattle.lot_acts.specs.declared.acts.Reply.TheVariants.{TakenBy, MovedTo, Han
 use Rattle.lot_acts.specs.Profiles.{Profile, blank, bringing_nobody}
 use Rattle.lot_mutex.specs.declared.places.MutexPlace.{MutexPlace}
 use Rattle.lot_mutex.specs.declared.places.MutexPlace.TheVariants as mutex
-use Rattle.lot_mutex.specs.declared.lock.Entry.{Entry}
 use Rattle.lot_mutex.specs.declared.lock.LockAt.{LockAt}
 use Rattle.lot_mutex.specs.declared.lock.LockAt.TheVariants as lock
 use Rattle.lot_mutex.specs.declared.unlock.UnlockAt.{UnlockAt}
@@ -34,11 +33,10 @@ use Rattle.lot_condvar.specs.declared.notify.NotifyAt.{NotifyAt}
 use Rattle.lot_condvar.specs.declared.notify.NotifyAt.TheVariants as notify
 use Rattle.lot_condvar.specs.declared.places.CondvarPlace.{CondvarPlace}
 use Rattle.lot_condvar.specs.declared.places.CondvarPlace.TheVariants.{Wait, Look, Notify}
-use Rattle.lot_condvar.specs.declared.wait.Stands.{Stands}
 use Rattle.lot_condvar.specs.declared.wait.WaitAt.{WaitAt}
 use Rattle.lot_condvar.specs.declared.wait.WaitAt.TheVariants as wait
 use Rattle.lot_condvar.specs.CondvarProfiles.{condvar_profile, condvar_row, mutex_side}
-use Rattle.lot_condvar.specs.CondvarSteps.{condvar_next, in_notify, in_wait, mutex_beside, next_notify, next_wait, relocked}
+use Rattle.lot_condvar.specs.CondvarSteps.{condvar_next, in_wait, mutex_beside, relocked}
 use Rattle.lot_steps.specs.declared.places.Place.{Place}
 use Rattle.lot_steps.specs.declared.places.Place.TheVariants.{Idle, Mutex, RwLock, Once, Condvar}
 use Rattle.lot_steps.specs.Steps.{condvar_goes, is_lock, mutex_goes, next_place, once_goes, profile_at, rwlock_goes}

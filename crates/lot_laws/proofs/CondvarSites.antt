@@ -1,19 +1,13 @@
 -- Condition variables of a world: each thread in a call of one is where the row of its place says, and who waits stands nowhere at its mutex.
-use Rattle.std.proofs.Common.{ℕ, Bool, true, false, Option, Some, None, if◌then◌else◌, ◌==◌, ◌≡◌, ◌≢◌, ◌+◌, ◌*◌, ◌≤◌, List, [], ◌∷◌, map, refl, sym, ◌∙◌, ap, subst, arith, inl, inr}
-use Rattle.std.proofs.lemmas.Bool.{cases_eq}
-use Rattle.lot_base.specs.declared.wants.Waiter.{Waiter}
-use Rattle.lot_base.specs.Lines.{times}
+use Rattle.std.proofs.Common.{ℕ, Bool, true, false, Option, Some, None, if◌then◌else◌, ◌≡◌, ◌*◌, refl, sym, ◌∙◌, ap}
 use Rattle.lot_acts.specs.Profiles.{Profile}
-use Rattle.lot_acts.specs.Stations.{Station, nowhere, station_by}
-use Rattle.lot_steps.specs.declared.places.Place.{Place}
+use Rattle.lot_acts.specs.Stations.{Station, station_by}
 use Rattle.lot_steps.specs.declared.places.Place.TheVariants.{Condvar}
 use Rattle.lot_steps.specs.Steps.{profile_at}
 use Rattle.lot_condvar.specs.declared.places.CondvarPlace.{CondvarPlace}
 use Rattle.lot_condvar.specs.CondvarProfiles.{condvar_profile, condvar_row, section_in}
 use Rattle.lot_condvar.specs.CondvarDeeds.{IsAt, IsAtStage, IsListed}
-use Rattle.abstract_locks.specs.Locks as locks
-use Rattle.abstract_locks.specs.Picks.{queued_of}
-use Rattle.abstract_locks.specs.Condvars.{Inside, IsInsideNot, Stage}
+use Rattle.abstract_locks.specs.Condvars.{IsInsideNot, Stage}
 use Rattle.abstract_locks.specs.Sites.{Line, Main}
 use Rattle.lot_machine.specs.Machine.{State, place_at, queue_at, section_at}
 use Rattle.lot_laws.specs.Stations.{station_at}

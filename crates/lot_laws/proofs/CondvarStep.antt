@@ -20,7 +20,6 @@ use Rattle.lot_condvar.specs.CondvarWaits.{waiter_deeds}
 use Rattle.lot_steps.specs.declared.places.Place.TheVariants.{Condvar}
 use Rattle.lot_steps.specs.Steps.{condvar_does, condvar_goes, is_lock}
 use Rattle.abstract_locks.specs.Condvars.{IsCondvar}
-use Rattle.abstract_locks.specs.Locks as locks
 use Rattle.abstract_locks.specs.Runs.{GoesOn, is_taken_by}
 use Rattle.lot_machine.specs.Fits.{IsShaped}
 use Rattle.lot_machine.specs.Machine.{State, can_do, place_at, reply_to, state_after_going, word_at}

@@ -1,40 +1,39 @@
 -- What a thread does at its condition variable, where at the mutex beside it all is as it was: every lock is a site again.
-use Rattle.std.proofs.Common.{ℕ, Bool, true, false, Option, Some, None, if◌then◌else◌, ◌==◌, ◌||◌, ◌≡◌, ◌≢◌, ◌+◌, ◌*◌, ◌≤◌, ◌<◌, ◌⊎◌, List, [], ◌∷◌, ◌++◌, length, map, get_or, refl, sym, ◌∙◌, ap, subst, arith, inl, inr}
+use Rattle.std.proofs.Common.{ℕ, Bool, true, false, Option, Some, None, if◌then◌else◌, ◌==◌, ◌||◌, ◌≡◌, ◌≢◌, ◌+◌, ◌*◌, ◌≤◌, ◌<◌, List, [], ◌∷◌, length, map, refl, sym, ◌∙◌, ap, subst, arith, inl, inr}
 use Rattle.std.proofs.lemmas.Bool.{cases_eq}
 use Rattle.std.proofs.Math.Bool.{or-false}
 use Rattle.lot_base.specs.declared.keys.Keys.TheVariants.{One}
 use Rattle.lot_base.specs.declared.ops.Op.{Op}
 use Rattle.lot_base.specs.declared.wants.Waiter.{Waiter}
 use Rattle.lot_base.specs.declared.wants.Want.TheVariants.{Wait as WaitHere}
-use Rattle.lot_base.specs.Lines.{first_of, times, waiter, without}
+use Rattle.lot_base.specs.Lines.{first_of, times, without}
 use Rattle.lot_base.specs.Words.{apply}
 use Rattle.lot_acts.specs.declared.acts.Act.TheVariants as act
 use Rattle.lot_acts.specs.declared.acts.Next.TheVariants as next
 use Rattle.lot_acts.specs.declared.acts.Reply.{Reply}
-use Rattle.lot_acts.specs.declared.acts.Reply.TheVariants.{Done, Value, Removed}
+use Rattle.lot_acts.specs.declared.acts.Reply.TheVariants.{Value}
 use Rattle.lot_acts.specs.declared.owners.Owners.{Owners}
-use Rattle.lot_acts.specs.Stations.{Station, nowhere, station_by}
+use Rattle.lot_acts.specs.Stations.{Station}
 use Rattle.lot_acts.specs.Moves.{inside_of}
 use Rattle.lot_steps.specs.declared.places.Place.{Place}
 use Rattle.lot_steps.specs.declared.places.Place.TheVariants.{Condvar}
-use Rattle.lot_steps.specs.Steps.{condvar_goes, owners_after}
+use Rattle.lot_steps.specs.Steps.{condvar_goes}
 use Rattle.lot_condvar.specs.declared.places.CondvarPlace.{CondvarPlace}
 use Rattle.lot_condvar.specs.CondvarSteps.{condvar_act, condvar_next, condvar_owners, mutex_beside}
-use Rattle.lot_condvar.specs.CondvarProfiles.{condvar_profile}
 use Rattle.lot_condvar.specs.CondvarDeeds.{Follows, condvar_deeds, word_of}
 use Rattle.lot_condvar.specs.CondvarDeeds as condvar
-use Rattle.lot_condvar.specs.CondvarMoves.{row_there, there, there_then}
-use Rattle.abstract_locks.specs.Codes.{HasLimit, code, shown_code, word_by, parked_in, aside_in, fills, count_in}
+use Rattle.lot_condvar.specs.CondvarMoves.{there, there_then}
+use Rattle.abstract_locks.specs.Codes.{shown_code, word_by, parked_in, aside_in, count_in}
 use Rattle.abstract_locks.specs.Condvars.{CondvarDeed, CondvarSite, CondvarNeeded}
 use Rattle.abstract_locks.specs.Condvars as condvars
 use Rattle.abstract_locks.specs.Locks.{LockState, OfCondvar, Rules, Park, putting, standing, keep_from, IsBlocked, IsFreeAt, one_if_some, Knows}
 use Rattle.abstract_locks.specs.Locks as locks
 use Rattle.abstract_locks.specs.Sites.{Case, Deed, Doing, In, LeaveLine, Line, Main, Out, Second, Send, Site, IsSite, has_readers, idle, wakened, leaves, StandsIn}
 use Rattle.lot_machine.specs.Machine.{State, owners_at, place_at, put, queue_at, section_at, shares_at, state_after_operation, state_with_sections, queues_with_last, queues_without, word_at, filled_at}
-use Rattle.lot_laws.specs.Refinement.{lock_state, taken_at, lock_seen}
+use Rattle.lot_laws.specs.Refinement.{taken_at, lock_seen}
 use Rattle.lot_laws.specs.MutexDeeds.{acts}
 use Rattle.lot_laws.specs.Stations.{doing_on, station_at, hand}
-use Rattle.lot_laws.specs.SitesOf.{ActsNeeded, FitsItsLock, Goes, IsSteady, after_acts, condvar_of, key_of, rules_in, site_of, hand_at, carried_at, stood_in}
+use Rattle.lot_laws.specs.SitesOf.{ActsNeeded, FitsItsLock, Goes, IsSteady, after_acts, condvar_of, key_of, rules_in, hand_at, carried_at, stood_in}
 use Rattle.lot_laws.proofs.Glue.{Parts, lock_in, parts_at, seen_in, LetGo, stays, put_here, put_other, same, inside_is}
 use Rattle.lot_laws.proofs.OneStep.{Steps, steps_by, queued_times, queued_without, AreSingle, same_filled}
 use Rattle.lot_laws.proofs.StandsKept.{Alike, AlikeBeside}

@@ -20,10 +20,8 @@ use Rattle.lot_acts.specs.declared.acts.Check.{Check}
 use Rattle.lot_acts.specs.declared.acts.Check.TheVariants as checks
 use Rattle.lot_acts.specs.declared.acts.Wakes.{Wakes}
 use Rattle.lot_acts.specs.declared.acts.Wakes.TheVariants as wakes
-use Rattle.lot_acts.specs.declared.acts.Whom.TheVariants as whoms
 use Rattle.lot_acts.specs.declared.acts.Next.{Next}
 use Rattle.lot_acts.specs.declared.acts.Next.TheVariants as next
-use Rattle.lot_acts.specs.declared.acts.Reply.{Reply}
 use Rattle.lot_acts.specs.declared.acts.Reply.TheVariants.{Value}
 use Rattle.lot_acts.specs.Acts.{holds, wakes_taken}
 use Rattle.lot_acts.specs.declared.owners.Owners.{Owners}
@@ -34,7 +32,7 @@ use Rattle.lot_mutex.specs.declared.lock.Entry.TheVariants as entry
 use Rattle.lot_mutex.specs.declared.lock.LockAt.{LockAt}
 use Rattle.lot_mutex.specs.declared.lock.LockAt.TheVariants as lock
 use Rattle.lot_mutex.specs.declared.unlock.UnlockAt.TheVariants as unlock
-use Rattle.lot_mutex.specs.MutexSteps.{is_locked, lock_act, mutex_act, mutex_next}
+use Rattle.lot_mutex.specs.MutexSteps.{is_locked, lock_act, mutex_next}
 use Rattle.lot_condvar.specs.declared.notify.NotifyAt.{NotifyAt}
 use Rattle.lot_condvar.specs.declared.notify.NotifyAt.TheVariants as notify
 use Rattle.lot_condvar.specs.declared.places.CondvarPlace.{CondvarPlace}
@@ -42,19 +40,19 @@ use Rattle.lot_condvar.specs.declared.places.CondvarPlace.TheVariants.{Wait, Loo
 use Rattle.lot_condvar.specs.declared.wait.WaitAt.{WaitAt}
 use Rattle.lot_condvar.specs.declared.wait.WaitAt.TheVariants as wait
 use Rattle.lot_condvar.specs.CondvarCalls.{IsLockOf, IsReached}
-use Rattle.lot_condvar.specs.CondvarDeeds.{IsListed, after_all, condvar_deeds, relocked_deeds, word_of}
+use Rattle.lot_condvar.specs.CondvarDeeds.{IsListed, after_all, condvar_deeds, relocked_deeds}
 use Rattle.lot_condvar.specs.CondvarProfiles.{condvar_row}
 use Rattle.lot_condvar.specs.CondvarSteps.{condvar_act, condvar_owners, is_shown, move_act, mutex_beside, notify_act, wait_act}
 use Rattle.lot_condvar.proofs.CondvarFit.{condvar_owners_follow}
 use Rattle.lot_steps.specs.declared.places.Place.{Place}
 use Rattle.lot_steps.specs.declared.places.Place.TheVariants.{Condvar}
-use Rattle.abstract_locks.specs.Condvars.{CondvarDeed, CondvarSite, MoveAll, MoveFirst, SeeAgain, SeeOther, MissIt, Show}
+use Rattle.abstract_locks.specs.Condvars.{CondvarSite, SeeAgain, SeeOther, MissIt, Show}
 use Rattle.abstract_locks.specs.Locks as locks
 use Rattle.abstract_locks.specs.Picks.{queued_of}
 use Rattle.lot_machine.specs.declared.locks.Lock.{Lock}
 use Rattle.lot_machine.proofs.Shape.{main_line_there}
 use Rattle.lot_machine.specs.Fits.{IsShaped}
-use Rattle.lot_machine.specs.Machine.{State, can_do, kind_at, left_behind, owners_at, place_at, put, queue_at, queues_with_last, queues_without, queues_without_first, reply_to, state_after_act, state_after_operation, state_after_park, state_after_requeue, state_after_take_first, state_after_taking, state_after_wake, state_with_sections, unlocked, word_at}
+use Rattle.lot_machine.specs.Machine.{State, can_do, kind_at, left_behind, owners_at, place_at, queue_at, queues_with_last, queues_without, queues_without_first, reply_to, state_after_act, state_after_operation, state_after_park, state_after_requeue, state_after_take_first, state_after_taking, state_after_wake, state_with_sections, unlocked, word_at}
 use Rattle.lot_laws.specs.SitesOf.{FitsCondvar, IsSteady, condvar_of, rules_in}
 use Rattle.lot_laws.proofs.CondvarHears.{at_it, fits_here, word_is}
 use Rattle.lot_laws.proofs.Counts.{without_absent}

@@ -26,7 +26,6 @@ use Rattle.lot_laws.specs.Promises.{KnowsRights}
 use Rattle.lot_laws.specs.Refinement.{call_at, call_state, lock_state, locks_of}
 use Rattle.lot_laws.specs.Stations.{station_at}
 use Rattle.lot_laws.specs.SitesOf.{AreCondvars, AreCounted, FitsCondvar, FitsItsLock, IsSteady, condvar_of, inside_as, key_of, rules_in}
-use Rattle.lot_laws.proofs.Glue.{singles}
 use Rattle.lot_laws.proofs.Befallen.{others_keep_it}
 use Rattle.lot_laws.proofs.CallEvents.{rights}
 use Rattle.lot_laws.proofs.CondvarRows.{names_of, names_unmoved, row_says, stage_of, stage_unmoved}

@@ -1,17 +1,16 @@
 -- The first step of a notification, which looks at the mutex that is shown, changes no lock, and its call goes on by what it sees.
-use Rattle.std.proofs.Common.{ℕ, Bool, true, false, Option, Some, None, if◌then◌else◌, ◌==◌, ◌≡◌, ◌≢◌, ◌+◌, ◌-◌, List, [], inl, refl, sym, ◌∙◌, ap, subst, arith}
+use Rattle.std.proofs.Common.{ℕ, Bool, true, false, Option, Some, None, if◌then◌else◌, ◌==◌, ◌≡◌, ◌+◌, ◌-◌, List, [], inl, refl, sym, ◌∙◌, ap, subst, arith}
 use Rattle.std.proofs.lemmas.Bool.Decides.{nat_tests}
 use Rattle.lot_acts.specs.Acts.{outcome_of}
 use Rattle.lot_acts.specs.Calls.{rights_where}
 use Rattle.lot_acts.specs.declared.acts.Next.TheVariants as next
-use Rattle.lot_acts.specs.declared.acts.Reply.{Reply}
 use Rattle.lot_acts.specs.declared.acts.Reply.TheVariants.{Value}
 use Rattle.lot_condvar.specs.declared.notify.NotifyAt.TheVariants as notify
 use Rattle.lot_condvar.specs.declared.places.CondvarPlace.TheVariants as places
 use Rattle.lot_condvar.specs.CondvarCalls as calls
 use Rattle.lot_condvar.specs.CondvarCalls.{CallFollows, look_event}
 use Rattle.lot_condvar.specs.CondvarDeeds.{word_of}
-use Rattle.lot_condvar.specs.CondvarSteps.{condvar_next, look_next, mutex_shown, notified}
+use Rattle.lot_condvar.specs.CondvarSteps.{condvar_next, mutex_shown, notified}
 use Rattle.lot_condvar.proofs.NotifyTells.{looks_tell}
 use Rattle.lot_steps.specs.declared.places.Place.TheVariants.{Condvar}
 use Rattle.lot_steps.specs.Steps.{condvar_does, condvar_goes}

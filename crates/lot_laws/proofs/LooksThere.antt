@@ -1,5 +1,5 @@
 -- A notification's first look at its condition variable: it stands nowhere, and no lock sees anything of it.
-use Rattle.std.proofs.Common.{ℕ, Bool, true, false, Option, Some, None, if◌then◌else◌, ◌==◌, ◌||◌, ◌≡◌, ◌≢◌, ◌⊎◌, ◌<◌, List, [], ◌∷◌, length, refl, sym, ◌∙◌, ap, subst, inl, inr}
+use Rattle.std.proofs.Common.{ℕ, Bool, true, false, None, ◌==◌, ◌||◌, ◌≡◌, ◌<◌, [], length, refl, sym, ◌∙◌, ap, subst, inl, inr}
 use Rattle.std.proofs.lemmas.Bool.{cases_eq}
 use Rattle.std.proofs.Math.Bool.{or-false}
 use Rattle.std.specs.Prelude.{nat_le, ◌&&◌}
@@ -8,7 +8,7 @@ use Rattle.lot_acts.specs.declared.acts.Act.TheVariants as act
 use Rattle.lot_acts.specs.declared.acts.Reply.TheVariants.{Value}
 use Rattle.lot_acts.specs.Stations.{nowhere}
 use Rattle.lot_steps.specs.declared.places.Place.{Place}
-use Rattle.lot_steps.specs.declared.places.Place.TheVariants.{Condvar, Idle}
+use Rattle.lot_steps.specs.declared.places.Place.TheVariants.{Condvar}
 use Rattle.lot_steps.specs.Steps.{condvar_goes}
 use Rattle.lot_condvar.specs.declared.notify.NotifyAt.TheVariants as notify
 use Rattle.lot_condvar.specs.declared.places.CondvarPlace.TheVariants.{Look, Notify}
@@ -22,7 +22,7 @@ use Rattle.lot_laws.specs.Refinement.{taken_at}
 use Rattle.lot_laws.specs.Stations.{doing_on, station_at}
 use Rattle.lot_laws.specs.SitesOf.{FitsItsLock, Goes, IsSteady, rules_in}
 use Rattle.lot_laws.proofs.Glue.{differ, parts_at, same, seen_in}
-use Rattle.lot_laws.proofs.OneStep.{Steps, steps_by, same_word}
+use Rattle.lot_laws.proofs.OneStep.{steps_by, same_word}
 use Rattle.lot_laws.proofs.StandsKept.{Alike}
 use Rattle.lot_laws.proofs.Following.{lock_by, operated}
 use Rattle.lot_laws.proofs.ActsAt as acting

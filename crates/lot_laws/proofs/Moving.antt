@@ -1,12 +1,11 @@
 -- A notification moves waiters of a condition variable to its mutex: some it takes, and the others stand there behind the last. Where the threads
 -- stand then, in sections, lines and hands.
-use Rattle.std.proofs.Common.{ℕ, Bool, true, false, Option, Some, None, if◌then◌else◌, ◌==◌, ◌&&◌, ◌||◌, ◌≡◌, ◌≢◌, ◌+◌, ◌*◌, ◌≤◌, ◌<◌, ◌⊎◌, List, [], ◌∷◌, ◌++◌, map, inl, inr, refl, sym, ◌∙◌, ap, subst, arith}
+use Rattle.std.proofs.Common.{ℕ, Bool, true, false, Option, Some, None, if◌then◌else◌, ◌==◌, ◌&&◌, ◌||◌, ◌≡◌, ◌≢◌, ◌+◌, ◌≤◌, ◌⊎◌, List, [], ◌∷◌, ◌++◌, inl, inr, refl, sym, ◌∙◌, ap, subst, arith}
 use Rattle.std.proofs.lemmas.Bool.{cases_eq}
-use Rattle.std.proofs.lemmas.Bool.Decides.{nat_tests}
 use Rattle.std.proofs.Math.Bool.{and-true, and-false}
 use Rattle.lot_base.specs.declared.wants.Waiter.{Waiter}
 use Rattle.lot_base.specs.declared.wants.Want.TheVariants.{Exclusive}
-use Rattle.lot_base.specs.Lines.{times, waiter}
+use Rattle.lot_base.specs.Lines.{times}
 use Rattle.lot_acts.specs.declared.acts.Reply.TheVariants.{MovedTo, TakenBy}
 use Rattle.lot_steps.specs.declared.places.Place.{Place}
 use Rattle.lot_steps.specs.Steps.{next_place}
@@ -17,7 +16,7 @@ use Rattle.lot_laws.specs.Refinement.{taken_at}
 use Rattle.lot_laws.specs.Stations.{Hand, Station, hand, doing_on, station_at}
 use Rattle.lot_laws.specs.SitesOf.{AreWaiting, FitsItsLock, Hands, IsSteady, Lines, Sections, TakesOne, Waits, carried_at, hand_at, key_of, stations_of, stood_in}
 use Rattle.lot_laws.proofs.Glue.{differ, put_here, put_other, same}
-use Rattle.lot_laws.proofs.StandsKept.{Alike, hands_taken, other_key, other_line, same_line, sections_same, waiting_same}
+use Rattle.lot_laws.proofs.StandsKept.{Alike, hands_taken, other_key, other_line, sections_same, waiting_same}
 use Rattle.lot_laws.proofs.StandsMoved.{AreThere}
 use Rattle.lot_laws.proofs.TakesAt.{at_most_one, member, member_times, stranger_times}
 

@@ -1,6 +1,5 @@
 -- A notification moves waiters of a condition variable to its mutex: both are sites again, and every other lock is as it was.
-use Rattle.std.proofs.Common.{◌||◌, ℕ, Bool, true, false, Option, Some, None, if◌then◌else◌, ◌==◌, ◌≡◌, ◌≢◌, ◌+◌, ◌*◌, ◌≤◌, ◌<◌, ◌⊎◌, List, [], ◌∷◌, ◌++◌, length, map, replicate, get_or, drop, inl, inr, refl, sym, ◌∙◌, ap, subst, arith}
-use Rattle.std.proofs.lemmas.Bool.{cases_eq}
+use Rattle.std.proofs.Common.{◌||◌, ℕ, Bool, true, false, Option, Some, None, if◌then◌else◌, ◌==◌, ◌≡◌, ◌≢◌, ◌+◌, ◌≤◌, ◌⊎◌, List, [], ◌∷◌, ◌++◌, length, map, replicate, get_or, drop, inl, inr, refl, sym, ◌∙◌, ap, subst, arith}
 use Rattle.lot_base.specs.declared.wants.Waiter.{Waiter}
 use Rattle.lot_base.specs.declared.wants.Want.TheVariants.{Exclusive}
 use Rattle.lot_base.specs.Lines.{times}
@@ -10,18 +9,18 @@ use Rattle.abstract_locks.specs.Condvars.{line_of, moved_of, taken_of}
 use Rattle.abstract_locks.specs.Locks.{Queued, Rules, left_behind, putting}
 use Rattle.abstract_locks.specs.Locks as locks
 use Rattle.abstract_locks.specs.Picks.{queued_of}
-use Rattle.abstract_locks.specs.Sites.{Bring, Deed, Line, Main, Second, Send, Site, has_readers, bringing}
+use Rattle.abstract_locks.specs.Sites.{Bring, Deed, Main, Second, Send, Site, has_readers, bringing}
 use Rattle.abstract_locks.specs.Codes.{code}
-use Rattle.lot_machine.specs.Machine.{State, kind_at, moved_under, place_at, queue_at, section_at, shares_at, unlocked}
-use Rattle.lot_laws.specs.Refinement.{lock_state, taken_at}
+use Rattle.lot_machine.specs.Machine.{State, kind_at, moved_under, place_at, queue_at, unlocked}
+use Rattle.lot_laws.specs.Refinement.{taken_at}
 use Rattle.lot_laws.specs.MutexDeeds.{acts}
-use Rattle.lot_laws.specs.Stations.{Station, doing_on, station_at}
-use Rattle.lot_laws.specs.SitesOf.{TakesOne, stood_in, ActsNeeded, AreWaiting, FitsItsLock, GoesAll, IsSteady, SameNumbers, after_acts, key_of, rules_in, stations_of}
-use Rattle.lot_laws.proofs.Glue.{Parts, lock_in, parts_at, put_here, put_other, put_is, seen_in}
+use Rattle.lot_laws.specs.Stations.{doing_on, station_at}
+use Rattle.lot_laws.specs.SitesOf.{TakesOne, stood_in, ActsNeeded, AreWaiting, FitsItsLock, GoesAll, IsSteady, after_acts, key_of, rules_in, stations_of}
+use Rattle.lot_laws.proofs.Glue.{parts_at, put_here, put_other, seen_in}
 use Rattle.lot_laws.proofs.OneStep.{same_word}
 use Rattle.lot_laws.proofs.StandsKept.{Alike, calls_in, other_key, other_line}
 use Rattle.lot_laws.proofs.StandsMoved.{AreThere, stands_by}
-use Rattle.lot_laws.proofs.Following.{AlikeAt, lock_by, with_line}
+use Rattle.lot_laws.proofs.Following.{AlikeAt, lock_by}
 use Rattle.lot_laws.proofs.TwoLocks.{BehindIt, follow_two, two_at}
 use Rattle.lot_laws.proofs.TakesAt.{AllAre, member, taking_is}
 use Rattle.lot_laws.proofs.Moving.{WaitsAcross, alike_across, by_thread, in_line, fits_across, places_across, there_across}

@@ -1,16 +1,13 @@
 -- What a thread does at a mutex, by its rows there and whatever its call: every lock is a site again. Elsewhere it is as it was.
-use Rattle.std.proofs.Common.{ℕ, Bool, true, false, Option, Some, None, if◌then◌else◌, ◌==◌, ◌||◌, ◌≡◌, ◌≢◌, ◌+◌, ◌*◌, ◌≤◌, ◌<◌, ◌⊎◌, List, [], ◌∷◌, ◌++◌, length, map, drop, get_or, refl, sym, ◌∙◌, ap, subst, arith, inl, inr}
+use Rattle.std.proofs.Common.{ℕ, Bool, true, false, Option, Some, None, if◌then◌else◌, ◌==◌, ◌||◌, ◌≡◌, ◌+◌, ◌*◌, ◌<◌, List, [], ◌∷◌, length, refl, sym, ◌∙◌, ap, subst, arith}
 use Rattle.std.specs.Prelude.{nat_le, ◌&&◌}
-use Rattle.std.proofs.lemmas.Bool.{cases_eq}
 use Rattle.std.proofs.Math.Bool.{or-false}
 use Rattle.lot_base.specs.declared.keys.Keys.TheVariants.{One}
 use Rattle.lot_base.specs.declared.ops.Op.{Op}
 use Rattle.lot_base.specs.declared.wants.Waiter.{Waiter}
 use Rattle.lot_base.specs.declared.wants.Want.TheVariants.{Exclusive}
 use Rattle.lot_base.specs.Words.{apply}
-use Rattle.lot_acts.specs.declared.owners.Owners.{Owners}
 use Rattle.lot_acts.specs.Owners.{shares_then, with_exclusive, is_thread}
-use Rattle.lot_acts.specs.Stations.{Station}
 use Rattle.lot_steps.specs.declared.places.Place.{Place}
 use Rattle.lot_steps.specs.Steps.{owners_after, shares_after, taker}
 use Rattle.abstract_locks.specs.Codes.{aside_in, code, count_in, parked_in, word_by}
@@ -18,17 +15,17 @@ use Rattle.abstract_locks.specs.Codes as codes
 use Rattle.abstract_locks.specs.Deeds as laws
 use Rattle.abstract_locks.specs.Locks.{Enter, Leave, LockState, Rules, one_if_some, putting, Park, keep_from}
 use Rattle.abstract_locks.specs.Locks as locks
-use Rattle.abstract_locks.specs.Sites.{Case, Clear, Deed, Doing, End, In, Line, Main, Mark, MarkBrought, MarkOwned, Out, Site, has_readers, FindNobody, Second}
+use Rattle.abstract_locks.specs.Sites.{Case, Clear, Deed, End, In, Main, Mark, MarkBrought, MarkOwned, Site, has_readers, FindNobody, Second}
 use Rattle.lot_machine.specs.Machine.{State, filled_at, owners_at, place_at, put, queue_at, section_at, share_at, shares_at, state_after_operation, state_with_sections, word_at, state_after_telling, queues_with_last, queues_without_first, queues_without}
 use Rattle.lot_laws.specs.Refinement.{lock_seen, taken_at}
 use Rattle.lot_laws.specs.MutexDeeds.{acts}
 use Rattle.lot_laws.specs.Stations.{doing_on, station_at, hand}
-use Rattle.lot_laws.specs.SitesOf.{ActsNeeded, FitsItsLock, Goes, IsSteady, after_acts, key_of, rules_in, hand_at, carried_at, stood_in}
-use Rattle.lot_laws.proofs.Glue.{lock_in, parts_at, seen_in, LetGo, stays, untaken, put_here, put_other}
+use Rattle.lot_laws.specs.SitesOf.{FitsItsLock, Goes, IsSteady, after_acts, key_of, rules_in, hand_at, carried_at, stood_in}
+use Rattle.lot_laws.proofs.Glue.{lock_in, parts_at, LetGo, stays, untaken, put_here, put_other}
 use Rattle.lot_laws.proofs.OneStep.{AreSingle, Steps, same_filled, steps_by, queued_without}
 use Rattle.lot_laws.proofs.LawsKept.{after_same, needed_same}
 use Rattle.lot_laws.proofs.StandsKept.{AlikeBeside}
-use Rattle.lot_laws.proofs.Following.{NoHandOff, lock_by, operated, parks, with_line, lates}
+use Rattle.lot_laws.proofs.Following.{NoHandOff, lock_by, operated, parks, lates}
 use Rattle.lot_acts.specs.Moves.{AreLeaving}
 use Rattle.lot_base.specs.declared.notes.Note.TheVariants.{Normal}
 use Rattle.lot_acts.specs.declared.acts.Reply.TheVariants.{Woken}
@@ -36,7 +33,6 @@ use Rattle.lot_laws.proofs.ToldAt.{HoldsHere, same_hands}
 use Rattle.lot_laws.proofs.WakesAt.{IsWokenAt, leaving_by, wake_goes}
 use Rattle.lot_laws.proofs.ActsAt as acting
 use Rattle.lot_base.specs.Lines.{first_of, times, without}
-use Rattle.abstract_locks.specs.Picks.{queued_of}
 
 -- a step on the word of a mutex: it is owned, or not, or its bit is set, or cleared
 abbrev pub IsOfWord : List Deed → Type 0

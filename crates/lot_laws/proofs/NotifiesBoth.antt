@@ -1,12 +1,11 @@
 -- A notification goes into both its sections, or out of them where it has nobody in hand: both locks are sites again.
-use Rattle.std.proofs.Common.{ℕ, Bool, true, false, Option, Some, None, if◌then◌else◌, ◌==◌, ◌&&◌, ◌≡◌, ◌≢◌, ◌*◌, ◌<◌, ◌⊎◌, List, [], ◌∷◌, length, set, refl, sym, ◌∙◌, ap, subst, is_none, inl, inr, arith, length-set, get_or-set_same, get_or-set_other}
+use Rattle.std.proofs.Common.{ℕ, Bool, true, false, Option, Some, None, if◌then◌else◌, ◌==◌, ◌&&◌, ◌≡◌, ◌≢◌, ◌*◌, ◌<◌, [], ◌∷◌, length, set, refl, sym, ◌∙◌, ap, subst, is_none, inl, inr, length-set, get_or-set_same, get_or-set_other}
 use Rattle.std.proofs.lemmas.Bool.{cases_eq}
-use Rattle.lot_base.specs.declared.keys.Keys.TheVariants.{One, Two}
+use Rattle.lot_base.specs.declared.keys.Keys.TheVariants.{Two}
 use Rattle.lot_acts.specs.declared.acts.Next.{Next}
 use Rattle.lot_acts.specs.declared.acts.Next.TheVariants.{At, End as Over}
 use Rattle.lot_acts.specs.declared.acts.Reply.TheVariants.{Done}
-use Rattle.lot_acts.specs.Moves.{inside_of}
-use Rattle.lot_acts.specs.Stations.{Station, nowhere, station_by}
+use Rattle.lot_acts.specs.Stations.{Station, station_by}
 use Rattle.lot_steps.specs.declared.places.Place.{Place}
 use Rattle.lot_steps.specs.declared.places.Place.TheVariants.{Condvar, Idle}
 use Rattle.lot_steps.specs.Steps.{condvar_goes}
@@ -14,9 +13,9 @@ use Rattle.lot_condvar.specs.declared.notify.NotifyAt.{NotifyAt}
 use Rattle.lot_condvar.specs.declared.notify.NotifyAt.TheVariants as notify
 use Rattle.lot_condvar.specs.declared.places.CondvarPlace.{CondvarPlace}
 use Rattle.lot_condvar.specs.declared.places.CondvarPlace.TheVariants.{Notify}
-use Rattle.lot_condvar.specs.CondvarMoves.{row_beside, row_there, there}
+use Rattle.lot_condvar.specs.CondvarMoves.{row_beside}
 use Rattle.lot_condvar.specs.CondvarMutex.{FollowsBeside}
-use Rattle.lot_condvar.specs.CondvarSteps.{condvar_next, notified, notify_act}
+use Rattle.lot_condvar.specs.CondvarSteps.{notified, notify_act}
 use Rattle.lot_condvar.proofs.NotifierFit.{notifiers_follow}
 use Rattle.abstract_locks.specs.Condvars.{IsCondvar, WaitsAside}
 use Rattle.abstract_locks.specs.Locks as locks
@@ -30,7 +29,7 @@ use Rattle.lot_laws.specs.SitesOf.{FitsItsLock, GoesAll, IsSteady, condvar_of, k
 use Rattle.lot_laws.proofs.Glue.{parts_at, put_here, put_other, LetGo, stays, untaken}
 use Rattle.lot_laws.proofs.OneStep.{Steps, steps_by}
 use Rattle.lot_laws.proofs.StandsKept.{Alike, other_key}
-use Rattle.lot_laws.proofs.StandsMoved.{AreThere, stands_put, there_in}
+use Rattle.lot_laws.proofs.StandsMoved.{stands_put, there_in}
 use Rattle.lot_laws.proofs.TwoLocks.{goes_in_two, goes_out_two, places_put, two_at, two_follow}
 use Rattle.lot_laws.proofs.CondvarParts.{Beside, doing_beside, nothing_else, station_beside, taken_beside}
 use Rattle.lot_laws.proofs.CondvarHears as hears

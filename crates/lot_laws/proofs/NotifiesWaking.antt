@@ -1,8 +1,7 @@
 -- A notification goes out of both its sections and wakes whom it took: both locks are sites again.
-use Rattle.std.proofs.Common.{ℕ, Bool, true, false, Option, Some, None, if◌then◌else◌, ◌==◌, ◌≡◌, ◌≢◌, ◌*◌, ◌<◌, ◌⊎◌, List, [], ◌∷◌, length, map, get_or, replicate, set, refl, sym, ◌∙◌, ap, subst, inl, inr, arith, length-set}
+use Rattle.std.proofs.Common.{ℕ, Bool, true, false, Option, Some, None, if◌then◌else◌, ◌==◌, ◌≡◌, ◌≢◌, ◌<◌, [], ◌∷◌, length, map, get_or, replicate, refl, sym, ◌∙◌, ap, subst, inl, inr, length-set}
 use Rattle.std.proofs.lemmas.Bool.{cases_eq}
 use Rattle.std.proofs.lemmas.List.{length-map}
-use Rattle.std.proofs.Math.ListN.{get_or-map}
 use Rattle.lot_base.specs.declared.notes.Note.TheVariants.{Normal}
 use Rattle.lot_acts.specs.declared.acts.Next.TheVariants.{At, End as Over}
 use Rattle.lot_acts.specs.declared.acts.Reply.TheVariants.{Done, Woken}
@@ -11,7 +10,7 @@ use Rattle.lot_acts.specs.Profiles.{hand, Hand}
 use Rattle.lot_acts.specs.Stations.{Station, nowhere, station_by}
 use Rattle.lot_steps.specs.declared.places.Place.{Place}
 use Rattle.lot_steps.specs.declared.places.Place.TheVariants.{Condvar, Idle}
-use Rattle.lot_steps.specs.Steps.{next_place, taker}
+use Rattle.lot_steps.specs.Steps.{taker}
 use Rattle.lot_condvar.specs.declared.notify.NotifyAt.{NotifyAt}
 use Rattle.lot_condvar.specs.declared.notify.NotifyAt.TheVariants as notify
 use Rattle.lot_condvar.specs.declared.places.CondvarPlace.{CondvarPlace}
@@ -21,25 +20,24 @@ use Rattle.lot_condvar.specs.CondvarProfiles.{condvar_profile, mutex_side}
 use Rattle.lot_condvar.proofs.NotifierFit.{notifiers_follow}
 use Rattle.abstract_locks.specs.Codes.{code}
 use Rattle.abstract_locks.specs.Condvars.{IsCondvar, WaitsAside}
-use Rattle.abstract_locks.specs.Deeds as laws
 use Rattle.abstract_locks.specs.Locks as locks
 use Rattle.abstract_locks.specs.Locks.{keep_from, putting}
-use Rattle.abstract_locks.specs.Sites.{Deed, End, Main, Out, Site, has_readers}
+use Rattle.abstract_locks.specs.Sites.{End, Main, Out, Site, has_readers}
 use Rattle.lot_machine.specs.Machine.{State, place_after_telling, place_at, put, queue_at, section_at, state_after_telling}
 use Rattle.lot_laws.specs.MutexDeeds.{acts}
 use Rattle.lot_laws.specs.Refinement.{taken_at}
 use Rattle.lot_laws.specs.Stations.{doing_on, station_at}
-use Rattle.lot_laws.specs.SitesOf.{ActsNeeded, GoesAll, IsSteady, Sections, after_acts, carried_at, condvar_of, hand_at, key_of, rules_in, site_of, stations_of}
+use Rattle.lot_laws.specs.SitesOf.{GoesAll, IsSteady, Sections, carried_at, condvar_of, hand_at, key_of, rules_in, site_of, stations_of}
 use Rattle.lot_laws.proofs.Glue as glue
 use Rattle.lot_laws.proofs.Glue.{CarriesAt, LetGo, parts_at, put_here, put_other, stays, untaken}
 use Rattle.lot_laws.proofs.OneStep.{same_word}
-use Rattle.lot_laws.proofs.Following.{AlikeAt, lock_by}
+use Rattle.lot_laws.proofs.Following.{AlikeAt}
 use Rattle.lot_laws.proofs.LawsKept.{after_same, needed_same}
 use Rattle.lot_laws.proofs.StandsKept.{Alike, calls_in, sections_same}
 use Rattle.lot_laws.proofs.StandsMoved.{stands_by, there_in}
 use Rattle.lot_laws.proofs.ToldAt.{HoldsHere, SameHands, by_told, calls_then, other_parts, places_are}
 use Rattle.lot_laws.proofs.ToldAt as told
-use Rattle.lot_laws.proofs.TwoLocks.{BehindIt, follow_two, goes_out_two, two_at, with_station}
+use Rattle.lot_laws.proofs.TwoLocks.{BehindIt, follow_two, goes_out_two, two_at}
 use Rattle.lot_laws.proofs.CondvarParts.{nothing_there, station_beside, station_there, taken_beside, nothing_else}
 use Rattle.lot_laws.proofs.CondvarHears as hears
 use Rattle.lot_laws.proofs.CondvarHears.{notifier_hears}

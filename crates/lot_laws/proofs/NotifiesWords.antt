@@ -1,5 +1,5 @@
 -- Each step of a notification on a word, of its condition variable or of the mutex beside it: every lock is a site again.
-use Rattle.std.proofs.Common.{ℕ, Bool, true, false, Option, Some, None, if◌then◌else◌, ◌==◌, ◌≡◌, ◌≢◌, ◌⊎◌, ◌*◌, ◌<◌, List, [], ◌∷◌, length, not, refl, sym, ◌∙◌, ap, subst, inl, inr}
+use Rattle.std.proofs.Common.{ℕ, Bool, true, false, None, if◌then◌else◌, ◌==◌, ◌≡◌, ◌≢◌, ◌<◌, List, [], ◌∷◌, length, not, refl, sym, ◌∙◌, ap, subst, inl, inr}
 use Rattle.std.proofs.lemmas.Bool.{cases_eq}
 use Rattle.lot_base.specs.declared.ops.Op.{Op}
 use Rattle.lot_base.specs.declared.ops.Op.TheVariants as op
@@ -7,13 +7,12 @@ use Rattle.lot_base.specs.Words.{apply}
 use Rattle.lot_acts.specs.declared.acts.Act.{Act}
 use Rattle.lot_acts.specs.declared.acts.Act.TheVariants as act
 use Rattle.lot_acts.specs.declared.acts.Next.{Next}
-use Rattle.lot_acts.specs.declared.acts.Next.TheVariants.{At, End as Over}
-use Rattle.lot_acts.specs.declared.acts.Reply.{Reply}
-use Rattle.lot_acts.specs.declared.acts.Reply.TheVariants.{Done, Value}
+use Rattle.lot_acts.specs.declared.acts.Next.TheVariants.{At}
+use Rattle.lot_acts.specs.declared.acts.Reply.TheVariants.{Value}
 use Rattle.lot_acts.specs.Owners.{with_exclusive}
 use Rattle.lot_acts.specs.Moves.{inside_of}
 use Rattle.lot_acts.specs.Profiles.{taken_from}
-use Rattle.lot_acts.specs.Stations.{Station, station_by}
+use Rattle.lot_acts.specs.Stations.{station_by}
 use Rattle.lot_steps.specs.declared.places.Place.{Place}
 use Rattle.lot_steps.specs.declared.places.Place.TheVariants.{Condvar}
 use Rattle.lot_steps.specs.Steps.{condvar_goes}
@@ -34,11 +33,11 @@ use Rattle.abstract_locks.specs.Condvars.{IsCondvar, WaitsAside}
 use Rattle.abstract_locks.specs.Deeds as laws
 use Rattle.abstract_locks.specs.Locks as locks
 use Rattle.abstract_locks.specs.Locks.{Rules}
-use Rattle.abstract_locks.specs.Sites.{Deed, Main, MarkBrought, MarkOwned, Site}
+use Rattle.abstract_locks.specs.Sites.{Deed, Main, MarkOwned, Site}
 use Rattle.lot_machine.specs.Machine.{State, can_do, owners_at, place_at, put, reply_to, state_after_act, word_at}
 use Rattle.lot_laws.specs.MutexDeeds.{acts}
 use Rattle.lot_laws.specs.Refinement.{taken_at}
-use Rattle.lot_laws.specs.Stations.{doing_on, station_at}
+use Rattle.lot_laws.specs.Stations.{station_at}
 use Rattle.lot_laws.specs.SitesOf.{FitsItsLock, Goes, IsSteady, condvar_of, rules_in, site_of}
 use Rattle.lot_laws.proofs.Glue.{differ}
 use Rattle.lot_laws.proofs.StandsKept.{Alike, AlikeBeside}

@@ -1,7 +1,7 @@
 -- A step of a notification is one event of its condition variable or of the mutex that it saw, or a move of waiters from the one to the other; and its
 -- call goes on by it.
-use Rattle.std.proofs.Common.{ℕ, Bool, true, false, Option, Some, None, if◌then◌else◌, ◌==◌, ◌≡◌, ◌≢◌, ◌⊎◌, ◌*◌, ◌≤◌, List, [], ◌∷◌, length, not, inl, inr, refl, sym, ◌∙◌, ap, subst, arith}
-use Rattle.std.specs.Prelude.{is_some, take}
+use Rattle.std.proofs.Common.{ℕ, Bool, true, false, Option, Some, None, if◌then◌else◌, ◌==◌, ◌≡◌, ◌≢◌, ◌⊎◌, ◌*◌, ◌≤◌, List, [], ◌∷◌, length, inl, inr, refl, sym, ◌∙◌, ap, subst, arith}
+use Rattle.std.specs.Prelude.{is_some}
 use Rattle.std.proofs.lemmas.Bool.{cases_eq, eqb-true}
 use Rattle.std.proofs.lemmas.Bool.Decides.{nat_tests}
 use Rattle.lot_calls.specs.declared.outcomes.Outcome.{Outcome}
@@ -13,7 +13,6 @@ use Rattle.lot_acts.specs.Profiles.{blank, in_hand}
 use Rattle.lot_acts.specs.declared.acts.Next.{Next}
 use Rattle.lot_acts.specs.declared.acts.Next.TheVariants as next
 use Rattle.lot_acts.specs.declared.acts.Reply.{Reply}
-use Rattle.lot_acts.specs.declared.acts.Reply.TheVariants.{Done, Value, Took, Requeued}
 use Rattle.lot_mutex.specs.MutexSteps.{is_locked}
 use Rattle.lot_condvar.specs.declared.notify.NotifyAt.{NotifyAt}
 use Rattle.lot_condvar.specs.declared.notify.NotifyAt.TheVariants as notify
@@ -22,21 +21,21 @@ use Rattle.lot_condvar.specs.declared.places.CondvarPlace.TheVariants.{Wait, Loo
 use Rattle.lot_condvar.specs.CondvarCalls.{CallFollows, IsReached, MayComeOfTwo, marked_event, notify_event, or_else}
 use Rattle.lot_condvar.specs.CondvarDeeds.{IsListed, condvar_deeds, notify_deeds}
 use Rattle.lot_condvar.specs.CondvarDeeds as condvar
-use Rattle.lot_condvar.specs.CondvarMutex.{beside_deeds, brings}
+use Rattle.lot_condvar.specs.CondvarMutex.{beside_deeds}
 use Rattle.lot_condvar.specs.CondvarProfiles.{condvar_profile, condvar_row, mutex_side, notify_carries, notify_recalls}
-use Rattle.lot_condvar.specs.CondvarSteps.{condvar_act, condvar_next, in_notify, is_shown, move_act, next_notify, notify_act}
+use Rattle.lot_condvar.specs.CondvarSteps.{condvar_next, in_notify, is_shown, move_act, next_notify, notify_act}
 use Rattle.lot_condvar.proofs.NotifyTells.{notifies_tell}
 use Rattle.lot_steps.specs.declared.places.Place.{Place}
 use Rattle.lot_steps.specs.declared.places.Place.TheVariants.{Condvar}
 use Rattle.lot_steps.specs.Steps.{condvar_does, condvar_goes, is_lock, profile_at}
-use Rattle.abstract_locks.specs.Condvars.{CondvarDeed, IsCondvar, MissIt, MoveFits, SeeAgain, WaitsAside, moved_of}
+use Rattle.abstract_locks.specs.Condvars.{IsCondvar, MissIt, MoveFits, SeeAgain, WaitsAside, moved_of}
 use Rattle.abstract_locks.specs.Purposes.{Waits}
 use Rattle.abstract_locks.proofs.CondvarKeeps.{moved_fewer}
-use Rattle.abstract_locks.specs.Deeds.{AreOneCase, KeepLock, after_all, case_of, event_by}
+use Rattle.abstract_locks.specs.Deeds.{KeepLock, after_all, event_by}
 use Rattle.abstract_locks.specs.Locks as locks
 use Rattle.abstract_locks.specs.Locks.{HasTakenNobody, LockCase, LockState, OfCondvar, Rules, SeeOwner, Wake, left_behind, rights_of}
-use Rattle.abstract_locks.specs.Runs.{MayHappen, is_among, AtLock, CallState, Event, GoesOn, MayMove, Moves, Nothing, is_taken_by}
-use Rattle.abstract_locks.specs.Sites.{Case, Deed, End, In, Main, MarkBrought, MarkOwned, Out, Site}
+use Rattle.abstract_locks.specs.Runs.{MayHappen, is_among, AtLock, Event, GoesOn, MayMove, Moves, Nothing, is_taken_by}
+use Rattle.abstract_locks.specs.Sites.{Case, Deed, End, In, Main, MarkBrought, MarkOwned, Out}
 use Rattle.abstract_locks.proofs.Deeds.{kept}
 use Rattle.lot_machine.specs.Machine.{State, can_do, kind_at, place_at, queue_at, reply_to, word_at}
 use Rattle.lot_laws.specs.MutexPromises.{IsMutexWord}

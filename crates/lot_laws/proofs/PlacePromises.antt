@@ -242,10 +242,13 @@ module _ (w : State) (t : ℕ) (steady : IsSteady w) where
     -- in a call of one lock it calls that one, and waits
     pub stands_waiting : IsSingle (place_at w t) → 1 ≤ standing t (lock_state w l) → (lock_of (place_at w t) ≡ Some l) × IsWaiting (profile (place_at w t))
     stands_waiting single some = elim (calls_one (place_at w t) l) [
-      | inl own ↦ (own, elim (stands_there some) [
-        | inl in_line ↦ inl (λ none. in_line (ap (λ (x : Station). x.stands) (station_own (place_at w t) l own) ∙ none))
-        | inr taken ↦ inr (λ none. taken (taken_own (place_at w t) l own ∙ none))
-      ])
+      | inl own ↦ (
+        own,
+        elim (stands_there some) [
+          | inl in_line ↦ inl (λ none. in_line (ap (λ (x : Station). x.stands) (station_own (place_at w t) l own) ∙ none))
+          | inr taken ↦ inr (λ none. taken (taken_own (place_at w t) l own ∙ none))
+        ],
+      )
       | inr other ↦ absurd (elim (stands_there some) [
         | inl in_line ↦ in_line (ap (λ (x : Station). x.stands) (station_other (place_at w t) l single other))
         | inr taken ↦ taken (taken_other (place_at w t) l single other)

@@ -1,5 +1,5 @@
 -- The call of a place of one lock, by that lock and the row there alone.
-use Rattle.std.proofs.Common.{ℕ, Option, Some, None, ◌≡◌, ◌∙◌, ap}
+use Rattle.std.proofs.Common.{ℕ, Some, None, ◌≡◌, ◌∙◌, ap}
 use Rattle.abstract_locks.specs.Locks.{Rights}
 use Rattle.abstract_locks.specs.Runs.{no_call}
 use Rattle.lot_steps.specs.declared.places.Place.{Place}

@@ -1,22 +1,21 @@
 -- A step of one thread at two locks that nobody shares: both are sites again, and every other lock is as it was.
-use Rattle.std.proofs.Common.{ℕ, Bool, true, false, Option, Some, None, if◌then◌else◌, ◌==◌, ◌&&◌, ◌≡◌, ◌≢◌, ◌+◌, ◌*◌, ◌<◌, ◌⊎◌, List, [], ◌∷◌, length, replicate, get_or, set, inl, inr, refl, sym, ◌∙◌, ap, subst, arith, length-set, get_or-set_same, get_or-set_other}
-use Rattle.std.proofs.lemmas.Bool.{cases_eq, eqb-true}
-use Rattle.lot_base.specs.declared.keys.Keys.TheVariants.{One, Two}
+use Rattle.std.proofs.Common.{ℕ, Bool, true, false, Option, Some, None, if◌then◌else◌, ◌==◌, ◌&&◌, ◌≡◌, ◌≢◌, ◌+◌, ◌*◌, ◌<◌, List, [], length, replicate, get_or, set, inl, inr, refl, sym, ◌∙◌, ap, subst, arith, length-set}
+use Rattle.std.proofs.lemmas.Bool.{cases_eq}
 use Rattle.lot_base.specs.declared.wants.Waiter.{Waiter}
 use Rattle.lot_calls.specs.declared.kinds.Kind as kind
 use Rattle.lot_steps.specs.declared.places.Place.{Place}
 use Rattle.lot_steps.specs.declared.places.Place.TheVariants.{Idle}
-use Rattle.abstract_locks.specs.Locks.{Rules, putting}
+use Rattle.abstract_locks.specs.Locks.{putting}
 use Rattle.abstract_locks.specs.Purposes.{rules_of}
-use Rattle.abstract_locks.specs.Sites.{Deed, Line, Main, Site, has_readers}
+use Rattle.abstract_locks.specs.Sites.{Deed, Main, Site, has_readers}
 use Rattle.abstract_locks.specs.Codes.{code, HasLimit}
-use Rattle.lot_machine.specs.Machine.{State, place_at, kind_at, shares_at, section_at, queue_at, unlocked, word_at}
+use Rattle.lot_machine.specs.Machine.{State, place_at, kind_at, shares_at, unlocked, word_at}
 use Rattle.lot_laws.specs.Refinement.{lock_state}
 use Rattle.lot_laws.specs.MutexDeeds.{acts}
 use Rattle.lot_laws.specs.MutexDeeds as deeds
-use Rattle.lot_laws.specs.Stations.{Station, station_at}
-use Rattle.lot_laws.specs.SitesOf.{ActsNeeded, FollowAll, IsSteady, SameNumbers, TakesOne, after_acts, key_of, rules_in, site_of, stations_of}
-use Rattle.lot_laws.proofs.Glue.{Parts, base_at, parts_at, put_here, put_other, put_places, same, differ, seen_in}
+use Rattle.lot_laws.specs.Stations.{Station}
+use Rattle.lot_laws.specs.SitesOf.{ActsNeeded, FollowAll, IsSteady, SameNumbers, after_acts, key_of, rules_in, site_of}
+use Rattle.lot_laws.proofs.Glue.{Parts, parts_at, put_here, put_other, put_places, same, differ, seen_in}
 use Rattle.lot_laws.proofs.OneStep.{Steps, same_word}
 use Rattle.lot_laws.proofs.StandsKept.{Alike, other_key}
 use Rattle.lot_laws.proofs.StandsMoved.{AreThere, goes_in, goes_out}

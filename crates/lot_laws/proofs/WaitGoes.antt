@@ -1,17 +1,15 @@
 -- A step of a wait is one event of its condition variable or of its mutex, and its call goes on by it.
-use Rattle.std.proofs.Common.{ℕ, Bool, true, false, Option, Some, None, if◌then◌else◌, ◌==◌, ◌||◌, ◌≡◌, ◌≢◌, ◌⊎◌, ◌*◌, ◌+◌, ◌<◌, List, [], ◌∷◌, length, not, inl, inr, refl, sym, ◌∙◌, ap, subst}
+use Rattle.std.proofs.Common.{ℕ, Bool, true, false, Option, Some, None, if◌then◌else◌, ◌==◌, ◌||◌, ◌≡◌, ◌≢◌, ◌⊎◌, ◌*◌, ◌+◌, List, [], ◌∷◌, not, inl, inr, refl, sym, ◌∙◌, ap}
 use Rattle.std.proofs.lemmas.Bool.{cases_eq}
 use Rattle.lot_base.specs.declared.keys.Keys.TheVariants.{One}
 use Rattle.lot_base.specs.declared.ops.Op as op
-use Rattle.lot_calls.specs.declared.outcomes.Outcome.{Outcome}
-use Rattle.lot_calls.specs.declared.outcomes.Outcome as outcome
 use Rattle.lot_acts.specs.Acts.{outcome_of}
 use Rattle.lot_acts.specs.declared.acts.Act.{Act}
 use Rattle.lot_acts.specs.declared.acts.Act.TheVariants as act
 use Rattle.lot_acts.specs.declared.acts.Next.{Next}
 use Rattle.lot_acts.specs.declared.acts.Next.TheVariants as next
 use Rattle.lot_acts.specs.declared.acts.Reply.{Reply}
-use Rattle.lot_acts.specs.declared.acts.Reply.TheVariants.{Done, Value, Removed, Parked}
+use Rattle.lot_acts.specs.declared.acts.Reply.TheVariants.{Done, Value, Parked}
 use Rattle.lot_acts.specs.declared.acts.Whom.TheVariants as whoms
 use Rattle.lot_mutex.specs.declared.places.MutexPlace.{MutexPlace}
 use Rattle.lot_mutex.specs.declared.places.MutexPlace.TheVariants as mutex
@@ -21,9 +19,7 @@ use Rattle.lot_mutex.specs.declared.lock.LockAt.TheVariants as lock
 use Rattle.lot_mutex.specs.declared.unlock.UnlockAt.TheVariants as unlock
 use Rattle.lot_mutex.specs.MutexDeeds.{enters, takes}
 use Rattle.lot_mutex.specs.MutexSteps.{is_locked, is_parked, lock_act, mutex_next}
-use Rattle.lot_condvar.specs.declared.places.CondvarPlace.{CondvarPlace}
-use Rattle.lot_condvar.specs.declared.places.CondvarPlace.TheVariants.{Wait, Look, Notify}
-use Rattle.lot_condvar.specs.declared.wait.Stands.TheVariants as stands
+use Rattle.lot_condvar.specs.declared.places.CondvarPlace.TheVariants.{Wait}
 use Rattle.lot_condvar.specs.declared.wait.WaitAt.{WaitAt}
 use Rattle.lot_condvar.specs.declared.wait.WaitAt.TheVariants as wait
 use Rattle.lot_condvar.specs.CondvarCalls.{CallFollows, IsLockOf, IsReached, case_there, heard, or_else, wait_event}
@@ -37,7 +33,7 @@ use Rattle.abstract_locks.specs.Condvars.{CondvarDeed, IsCondvar, SeeOther, Show
 use Rattle.abstract_locks.specs.Deeds.{AreOneCase, KeepLock, after_all, case_of, event_by}
 use Rattle.abstract_locks.specs.Locks.{HasTakenNobody, LockCase, LockState, Rules, rights_of}
 use Rattle.abstract_locks.specs.Runs.{CallState, Event, GoesOn, Moves, is_taken_by}
-use Rattle.abstract_locks.specs.Sites.{Case, Deed, End, Main, Mark, Site}
+use Rattle.abstract_locks.specs.Sites.{End, Main, Mark, Site}
 use Rattle.lot_machine.specs.Machine.{State, can_do, place_at, reply_to, word_at}
 use Rattle.lot_acts.specs.Calls.{rights_where}
 use Rattle.lot_acts.specs.Stations.{Station}

@@ -1,17 +1,15 @@
 -- A wait's own step never leads it to sleep where it was handed its mutex: whoever hands it over is inside the section of the mutex till it has told so.
-use Rattle.std.proofs.Common.{ℕ, Bool, true, false, Option, Some, None, if◌then◌else◌, ◌==◌, ◌||◌, ◌≡◌, ◌≢◌, ◌+◌, ◌*◌, length, drop, not, refl, sym, ◌∙◌, ap, subst}
+use Rattle.std.proofs.Common.{ℕ, Bool, true, false, Some, if◌then◌else◌, ◌==◌, ◌≡◌, ◌≢◌, ◌+◌, ◌*◌, not, refl, sym, ◌∙◌, ap}
 use Rattle.std.proofs.lemmas.Bool.{eqb-true}
 use Rattle.lot_base.specs.declared.keys.Keys.TheVariants.{One}
 use Rattle.lot_base.specs.declared.notes.Note.TheVariants as note
 use Rattle.lot_base.specs.declared.ops.Op as op
-use Rattle.lot_acts.specs.Profiles.{Hand, hand, in_hand}
+use Rattle.lot_acts.specs.Profiles.{hand}
 use Rattle.lot_acts.specs.Stations.{Station, nowhere, station_by}
 use Rattle.lot_acts.specs.declared.acts.Act.TheVariants as act
 use Rattle.lot_calls.specs.declared.outcomes.Answer.TheVariants as answer
 use Rattle.lot_acts.specs.declared.acts.Next.{Next}
 use Rattle.lot_acts.specs.declared.acts.Next.TheVariants as next
-use Rattle.lot_acts.specs.declared.acts.Reply.{Reply}
-use Rattle.lot_acts.specs.declared.acts.Reply.TheVariants.{Done, Value, Parked}
 use Rattle.lot_mutex.specs.declared.places.MutexPlace.{MutexPlace}
 use Rattle.lot_mutex.specs.declared.places.MutexPlace.TheVariants as mutex
 use Rattle.lot_mutex.specs.declared.hand_off.HandOffAt.TheVariants as hand_off
@@ -21,7 +19,6 @@ use Rattle.lot_mutex.specs.declared.lock.LockAt.TheVariants as lock
 use Rattle.lot_mutex.specs.declared.unlock.UnlockAt.TheVariants as unlock
 use Rattle.lot_mutex.specs.MutexProfiles.{mutex_profile}
 use Rattle.lot_mutex.specs.MutexSteps.{entered, in_lock, in_unlock, is_locked, is_parked, lock_act, mutex_next}
-use Rattle.lot_condvar.specs.declared.notify.NotifyAt.{NotifyAt}
 use Rattle.lot_condvar.specs.declared.notify.NotifyAt.TheVariants as notify
 use Rattle.lot_condvar.specs.declared.places.CondvarPlace.{CondvarPlace}
 use Rattle.lot_condvar.specs.declared.places.CondvarPlace.TheVariants.{Wait, Look, Notify}
@@ -30,17 +27,17 @@ use Rattle.lot_condvar.specs.declared.wait.Stands.TheVariants as stands
 use Rattle.lot_condvar.specs.declared.wait.WaitAt.{WaitAt}
 use Rattle.lot_condvar.specs.declared.wait.WaitAt.TheVariants as wait
 use Rattle.lot_condvar.specs.CondvarCalls.{IsLockOf, IsReached}
-use Rattle.lot_condvar.specs.CondvarProfiles.{has_mutex, carries_beside, condvar_profile, mutex_side, wait_row}
+use Rattle.lot_condvar.specs.CondvarProfiles.{has_mutex, carries_beside, condvar_profile, mutex_side}
 use Rattle.lot_condvar.specs.CondvarSteps.{behind, mutex_beside, next_wait, released, relocked, wait_act}
 use Rattle.lot_steps.specs.declared.places.Place.{Place}
 use Rattle.lot_steps.specs.declared.places.Place.TheVariants.{Idle, Mutex, RwLock, Once, Condvar}
 use Rattle.lot_steps.specs.Steps.{is_lock}
 use Rattle.abstract_locks.specs.Locks as locks
-use Rattle.abstract_locks.specs.Sites.{Line, Main, has_readers}
+use Rattle.abstract_locks.specs.Sites.{Main, has_readers}
 use Rattle.lot_machine.specs.Machine.{State, can_do, place_at, reply_to, section_at, word_at}
 use Rattle.lot_laws.specs.Stations.{station, station_at}
 use Rattle.lot_laws.specs.SitesOf.{FitsItsLock, IsSteady, carried_at, key_of, rules_in}
-use Rattle.lot_laws.proofs.CondvarHears.{fits_here, rules_beside, station_beside}
+use Rattle.lot_laws.proofs.CondvarHears.{rules_beside, station_beside}
 use Rattle.lot_laws.proofs.Glue.{same}
 use Rattle.lot_laws.proofs.WaitRests.{IsSettled, IsSettledNext}
 

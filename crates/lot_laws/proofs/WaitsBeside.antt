@@ -1,5 +1,5 @@
 -- Each step of a wait on the word of its mutex, as it releases it and locks it again: every lock is a site again.
-use Rattle.std.proofs.Common.{ℕ, Bool, true, false, Option, Some, None, if◌then◌else◌, ◌==◌, ◌&&◌, ◌||◌, ◌≡◌, ◌≢◌, ◌⊎◌, ◌+◌, ◌*◌, ◌<◌, List, [], ◌∷◌, length, not, refl, sym, ◌∙◌, ap, subst, inl, inr}
+use Rattle.std.proofs.Common.{ℕ, Bool, true, false, Option, Some, None, if◌then◌else◌, ◌==◌, ◌&&◌, ◌≡◌, ◌≢◌, ◌<◌, List, [], ◌∷◌, length, not, refl, sym, ◌∙◌, ap, subst, inl, inr}
 use Rattle.std.proofs.lemmas.Bool.{cases_eq}
 use Rattle.lot_base.specs.declared.ops.Op.{Op}
 use Rattle.lot_base.specs.declared.ops.Op.TheVariants as op
@@ -10,23 +10,21 @@ use Rattle.lot_acts.specs.declared.acts.Act.TheVariants as act
 use Rattle.lot_acts.specs.declared.acts.Next.{Next}
 use Rattle.lot_acts.specs.declared.acts.Next.TheVariants.{At, End as Over}
 use Rattle.lot_acts.specs.declared.acts.Reply.{Reply}
-use Rattle.lot_acts.specs.declared.acts.Reply.TheVariants.{Done, Value}
+use Rattle.lot_acts.specs.declared.acts.Reply.TheVariants.{Value}
 use Rattle.lot_acts.specs.declared.owners.Owners.{Owners}
 use Rattle.lot_acts.specs.Owners.{with_exclusive}
-use Rattle.lot_acts.specs.Profiles.{Profile, taken_from}
-use Rattle.lot_acts.specs.Stations.{Station, nowhere, station_by}
-use Rattle.lot_steps.specs.declared.places.Place.{Place}
+use Rattle.lot_acts.specs.Profiles.{taken_from}
+use Rattle.lot_acts.specs.Stations.{nowhere, station_by}
 use Rattle.lot_steps.specs.declared.places.Place.TheVariants.{Condvar}
 use Rattle.lot_steps.specs.Steps.{condvar_goes}
 use Rattle.lot_mutex.specs.declared.lock.Entry.TheVariants as entry
 use Rattle.lot_mutex.specs.declared.lock.LockAt.{LockAt}
 use Rattle.lot_mutex.specs.declared.lock.LockAt.TheVariants as lock
-use Rattle.lot_mutex.specs.declared.places.MutexPlace.{MutexPlace}
 use Rattle.lot_mutex.specs.declared.places.MutexPlace.TheVariants as mutex
 use Rattle.lot_mutex.specs.declared.unlock.UnlockAt.{UnlockAt}
 use Rattle.lot_mutex.specs.declared.unlock.UnlockAt.TheVariants as unlock
 use Rattle.lot_mutex.specs.MutexDeeds.{enters}
-use Rattle.lot_mutex.specs.MutexSteps.{is_locked, is_parked, mutex_next, in_lock, in_unlock, unlock_act}
+use Rattle.lot_mutex.specs.MutexSteps.{is_locked, is_parked, in_lock, in_unlock, unlock_act}
 use Rattle.lot_condvar.specs.declared.places.CondvarPlace.{CondvarPlace}
 use Rattle.lot_condvar.specs.declared.places.CondvarPlace.TheVariants.{Wait}
 use Rattle.lot_condvar.specs.declared.wait.Stands.{Stands}
@@ -35,7 +33,6 @@ use Rattle.lot_condvar.specs.declared.wait.WaitAt.{WaitAt}
 use Rattle.lot_condvar.specs.declared.wait.WaitAt.TheVariants as wait
 use Rattle.lot_condvar.specs.CondvarSteps.{condvar_next, condvar_owners, in_wait, next_wait, relocked, released, wait_act, behind}
 use Rattle.lot_condvar.specs.CondvarMoves.{row_beside, row_there, there}
-use Rattle.lot_condvar.specs.CondvarProfiles.{wait_row}
 use Rattle.lot_condvar.specs.CondvarWaits.{LeavesMutex, MayHearWaiter, WaiterFollows, itself_woken, unended, waiter_deeds, waiter_next}
 use Rattle.lot_condvar.proofs.WaiterFit.{waiters_code, waiters_follow}
 use Rattle.lot_calls.specs.declared.outcomes.Answer.TheVariants as answer
@@ -48,7 +45,7 @@ use Rattle.lot_machine.specs.Machine.{State, can_do, owners_at, place_at, put, r
 use Rattle.lot_laws.specs.MutexDeeds.{acts}
 use Rattle.lot_laws.specs.Refinement.{taken_at}
 use Rattle.lot_laws.specs.Stations.{doing_on, station_at}
-use Rattle.lot_laws.specs.SitesOf.{FitsItsLock, Goes, IsSteady, key_of, rules_in, site_of}
+use Rattle.lot_laws.specs.SitesOf.{FitsItsLock, Goes, IsSteady, rules_in, site_of}
 use Rattle.lot_laws.proofs.StandsKept.{Alike, AlikeBeside}
 use Rattle.lot_laws.proofs.CondvarParts.{Beside, alike_there, doing_beside, nothing_else, station_beside, taken_beside}
 use Rattle.lot_laws.proofs.CondvarHears as hears

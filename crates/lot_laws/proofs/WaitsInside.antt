@@ -1,22 +1,20 @@
 -- Each step of a wait in the section and the line of its mutex, as it releases it and locks it again: every lock is a site again.
-use Rattle.std.proofs.Common.{ℕ, Bool, true, false, Option, Some, None, if◌then◌else◌, ◌==◌, ◌≡◌, ◌≢◌, ◌⊎◌, ◌+◌, ◌*◌, ◌<◌, List, [], ◌∷◌, length, refl, sym, ◌∙◌, ap, subst, is_none, inl, inr}
+use Rattle.std.proofs.Common.{ℕ, Bool, true, false, Option, Some, None, if◌then◌else◌, ◌≡◌, ◌≢◌, ◌*◌, ◌<◌, List, [], ◌∷◌, length, refl, sym, ◌∙◌, ap, subst, is_none, inl, inr}
 use Rattle.std.proofs.lemmas.Bool.{cases_eq}
 use Rattle.lot_base.specs.declared.keys.Keys.TheVariants.{One}
 use Rattle.lot_base.specs.declared.wants.Want.TheVariants.{Exclusive}
-use Rattle.lot_base.specs.Lines.{without}
 use Rattle.lot_acts.specs.declared.acts.Act.{Act}
 use Rattle.lot_acts.specs.declared.acts.Act.TheVariants as act
 use Rattle.lot_acts.specs.declared.acts.Next.{Next}
-use Rattle.lot_acts.specs.declared.acts.Next.TheVariants.{At, End as Over}
+use Rattle.lot_acts.specs.declared.acts.Next.TheVariants.{At}
 use Rattle.lot_acts.specs.declared.acts.Reply.{Reply}
-use Rattle.lot_acts.specs.declared.acts.Reply.TheVariants.{Done, Parked, Removed}
+use Rattle.lot_acts.specs.declared.acts.Reply.TheVariants.{Done, Parked}
 use Rattle.lot_acts.specs.declared.acts.Wakes.TheVariants.{Nobody}
 use Rattle.lot_acts.specs.Profiles.{taken_from}
-use Rattle.lot_acts.specs.Stations.{Station, nowhere, station_by}
+use Rattle.lot_acts.specs.Stations.{Station, station_by}
 use Rattle.lot_steps.specs.declared.places.Place.{Place}
 use Rattle.lot_steps.specs.declared.places.Place.TheVariants.{Condvar}
 use Rattle.lot_steps.specs.Steps.{condvar_goes}
-use Rattle.lot_calls.specs.declared.outcomes.Answer.TheVariants as answer
 use Rattle.lot_mutex.specs.declared.lock.Entry.TheVariants as entry
 use Rattle.lot_mutex.specs.declared.lock.LockAt.{LockAt}
 use Rattle.lot_mutex.specs.declared.lock.LockAt.TheVariants as lock
@@ -30,13 +28,13 @@ use Rattle.lot_condvar.specs.declared.wait.Stands.{Stands}
 use Rattle.lot_condvar.specs.declared.wait.WaitAt.{WaitAt}
 use Rattle.lot_condvar.specs.declared.wait.WaitAt.TheVariants as wait
 use Rattle.lot_condvar.specs.CondvarSteps.{condvar_next, in_wait, next_wait, relocked, wait_act}
-use Rattle.lot_condvar.specs.CondvarMoves.{row_beside, row_there, there}
+use Rattle.lot_condvar.specs.CondvarMoves.{row_beside, there}
 use Rattle.lot_condvar.specs.CondvarWaits.{MayHearWaiter, WaiterFollows, itself_woken, waiter_deeds, waiter_next}
 use Rattle.abstract_locks.specs.Deeds as laws
 use Rattle.abstract_locks.specs.Locks as locks
 use Rattle.abstract_locks.specs.Locks.{Park, Rules, keep_from}
 use Rattle.abstract_locks.specs.Sites.{Case, Deed, Doing, End, In, Main, Out, Site, wakened}
-use Rattle.lot_machine.specs.Machine.{State, can_do, place_at, put, queue_at, reply_to, section_at, state_after_act, word_at, queues_with_last}
+use Rattle.lot_machine.specs.Machine.{State, can_do, place_at, put, reply_to, section_at, state_after_act, word_at, queues_with_last}
 use Rattle.lot_laws.specs.MutexDeeds.{acts}
 use Rattle.lot_laws.specs.Refinement.{taken_at}
 use Rattle.lot_laws.specs.Stations.{doing_on, station_at}

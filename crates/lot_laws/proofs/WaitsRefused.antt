@@ -1,32 +1,30 @@
 -- A wait with another mutex than the one that is shown goes out of the section of its condition variable, and is over: both locks are sites again.
-use Rattle.std.proofs.Common.{ℕ, Bool, true, false, Option, Some, None, if◌then◌else◌, ◌==◌, ◌≡◌, ◌≢◌, ◌*◌, ◌<◌, ◌⊎◌, List, [], ◌∷◌, length, set, refl, sym, ◌∙◌, ap, subst, inl, inr, arith, get_or-set_same, get_or-set_other}
+use Rattle.std.proofs.Common.{ℕ, Bool, false, None, ◌≡◌, ◌≢◌, ◌<◌, [], ◌∷◌, length, refl, sym, ◌∙◌, ap, subst, inl, inr, get_or-set_same, get_or-set_other}
 use Rattle.std.proofs.lemmas.Bool.{cases_eq}
 use Rattle.lot_base.specs.declared.keys.Keys.TheVariants.{One}
 use Rattle.lot_acts.specs.declared.acts.Next.TheVariants.{At, End as Over}
 use Rattle.lot_acts.specs.declared.acts.Reply.TheVariants.{Done}
-use Rattle.lot_acts.specs.Stations.{Station, nowhere, station_by}
+use Rattle.lot_acts.specs.Stations.{Station, nowhere}
 use Rattle.lot_calls.specs.declared.outcomes.Answer.TheVariants as answer
-use Rattle.lot_steps.specs.declared.places.Place.{Place}
 use Rattle.lot_steps.specs.declared.places.Place.TheVariants.{Condvar, Idle}
 use Rattle.lot_condvar.specs.declared.places.CondvarPlace.{CondvarPlace}
 use Rattle.lot_condvar.specs.declared.places.CondvarPlace.TheVariants.{Wait}
 use Rattle.lot_condvar.specs.declared.wait.WaitAt.TheVariants as wait
 use Rattle.lot_condvar.specs.CondvarWaits.{WaiterFollows}
-use Rattle.lot_condvar.specs.CondvarMoves.{row_beside}
 use Rattle.abstract_locks.specs.Locks as locks
 use Rattle.abstract_locks.specs.Locks.{putting}
 use Rattle.abstract_locks.specs.Sites.{End, Main, Out, has_readers}
 use Rattle.lot_machine.specs.Machine.{State, place_at, put, queue_at, section_at, state_with_sections}
 use Rattle.lot_laws.specs.MutexDeeds.{acts}
 use Rattle.lot_laws.specs.Refinement.{taken_at}
-use Rattle.lot_laws.specs.Stations.{doing_on, station_at}
+use Rattle.lot_laws.specs.Stations.{station_at}
 use Rattle.lot_laws.specs.SitesOf.{GoesAll, IsSteady, key_of, rules_in, site_of, stations_of}
 use Rattle.lot_laws.proofs.Glue.{parts_at, put_here, put_other}
 use Rattle.lot_laws.proofs.OneStep.{Steps, steps_by}
 use Rattle.lot_laws.proofs.StandsKept.{Alike}
-use Rattle.lot_laws.proofs.StandsMoved.{AreThere, goes_out, stands_put, there_in}
+use Rattle.lot_laws.proofs.StandsMoved.{goes_out, stands_put, there_in}
 use Rattle.lot_laws.proofs.TwoLocks.{places_put, two_at, two_follow}
-use Rattle.lot_laws.proofs.CondvarParts.{nothing_else, nothing_there, station_beside, taken_beside}
+use Rattle.lot_laws.proofs.CondvarParts.{nothing_else, station_beside, taken_beside}
 use Rattle.lot_laws.proofs.CondvarHears.{waiter_hears}
 use Rattle.lot_laws.proofs.CondvarThere.{out_steps, then_is, was}
 use Rattle.lot_laws.proofs.WaitsBeside as beside

@@ -1,17 +1,13 @@
 -- A wait that releases its mutex takes the first of its line, itself too where a notification brought it there: every lock is a site again.
-use Rattle.std.proofs.Common.{ℕ, Bool, true, false, Option, Some, None, if◌then◌else◌, ◌==◌, ◌||◌, ◌≡◌, ◌≢◌, ◌⊎◌, ◌+◌, ◌*◌, ◌≤◌, ◌<◌, List, [], ◌∷◌, length, map, drop, get_or, set, refl, sym, ◌∙◌, ap, subst, inl, inr, arith, get_or-set_same, get_or-set_other}
+use Rattle.std.proofs.Common.{ℕ, Bool, true, false, Option, Some, None, if◌then◌else◌, ◌==◌, ◌||◌, ◌≡◌, ◌≢◌, ◌*◌, ◌≤◌, ◌<◌, List, [], ◌∷◌, length, map, drop, get_or, set, refl, sym, ◌∙◌, ap, subst, inl, inr, arith, get_or-set_same, get_or-set_other}
 use Rattle.std.proofs.lemmas.Bool.{cases_eq}
 use Rattle.lot_base.specs.declared.wants.Waiter.{Waiter}
 use Rattle.lot_base.specs.declared.wants.Want.TheVariants.{Exclusive}
-use Rattle.lot_base.specs.declared.notes.Note.TheVariants as note
 use Rattle.lot_base.specs.Lines.{first_of, times}
-use Rattle.lot_acts.specs.declared.acts.Act.{Act}
-use Rattle.lot_acts.specs.declared.acts.Act.TheVariants as act
 use Rattle.lot_acts.specs.declared.acts.Next.TheVariants.{At}
 use Rattle.lot_acts.specs.declared.acts.Reply.{Reply}
 use Rattle.lot_acts.specs.declared.acts.Reply.TheVariants.{Took, TakenBy}
-use Rattle.lot_acts.specs.declared.acts.Whom.TheVariants.{First}
-use Rattle.lot_acts.specs.Profiles.{hand, taken_from}
+use Rattle.lot_acts.specs.Profiles.{taken_from}
 use Rattle.lot_acts.specs.Stations.{Station, station_by}
 use Rattle.lot_steps.specs.declared.places.Place.{Place}
 use Rattle.lot_steps.specs.declared.places.Place.TheVariants.{Condvar, Idle}
@@ -28,14 +24,13 @@ use Rattle.lot_condvar.specs.declared.wait.WaitAt.TheVariants as wait
 use Rattle.lot_condvar.specs.CondvarSteps.{released}
 use Rattle.lot_mutex.specs.MutexSteps.{in_unlock}
 use Rattle.lot_condvar.specs.CondvarMoves.{row_beside, row_there, there}
-use Rattle.lot_condvar.specs.CondvarProfiles.{is_moved, wait_row}
+use Rattle.lot_condvar.specs.CondvarProfiles.{wait_row}
 use Rattle.lot_condvar.specs.CondvarWaits.{WaiterFollows, waiter_deeds}
-use Rattle.abstract_locks.specs.Deeds as laws
 use Rattle.abstract_locks.specs.Locks as locks
 use Rattle.abstract_locks.specs.Locks.{Rules, TakeFirst, Taken, first_thread}
 use Rattle.abstract_locks.specs.Picks.{queued_of}
-use Rattle.abstract_locks.specs.Sites.{Case, Deed, Doing, FindNobody, IsSite, Line, Main, Site}
-use Rattle.lot_machine.specs.Machine.{State, is_there, place_at, put, queue_at, queues_without_first, reply_to, section_at, state_after_act, state_after_reply, state_after_taking}
+use Rattle.abstract_locks.specs.Sites.{Case, Deed, IsSite, Main, Site}
+use Rattle.lot_machine.specs.Machine.{State, is_there, place_at, put, queue_at, queues_without_first, section_at, state_after_taking}
 use Rattle.lot_laws.specs.MutexDeeds.{acts, queued}
 use Rattle.lot_laws.specs.Refinement.{taken_at}
 use Rattle.lot_laws.specs.Stations.{doing_on, station_at}
@@ -45,7 +40,7 @@ use Rattle.lot_laws.proofs.Glue.{differ, parts_at, same, seen_in}
 use Rattle.lot_laws.proofs.Following.{lock_by}
 use Rattle.lot_laws.proofs.LawsKept.{after_same, needed_same}
 use Rattle.lot_laws.proofs.CondvarParts.{station_beside, taken_beside}
-use Rattle.lot_laws.proofs.CondvarHears.{taken_by_wait, waiter_hears}
+use Rattle.lot_laws.proofs.CondvarHears.{waiter_hears}
 use Rattle.lot_laws.proofs.MutexActs.{finds_nobody_at}
 use Rattle.lot_laws.proofs.MutexHands.{first_goes}
 use Rattle.lot_laws.proofs.MutexSections.{exclusive_wanted}

@@ -1,5 +1,5 @@
 -- Each act in a wait at its condition variable, where it leaves its mutex as it is: every lock is a site again.
-use Rattle.std.proofs.Common.{ℕ, Bool, true, false, Option, Some, None, if◌then◌else◌, ◌==◌, ◌||◌, ◌≡◌, ◌≢◌, ◌+◌, ◌*◌, ◌<◌, List, [], ◌∷◌, length, refl, sym, ◌∙◌, ap, subst, is_none}
+use Rattle.std.proofs.Common.{ℕ, Bool, true, false, Option, Some, None, if◌then◌else◌, ◌==◌, ◌||◌, ◌≡◌, ◌≢◌, ◌*◌, ◌<◌, [], ◌∷◌, length, refl, sym, ◌∙◌, ap, subst, is_none}
 use Rattle.lot_acts.specs.declared.acts.Next.{Next}
 use Rattle.lot_acts.specs.declared.acts.Next.TheVariants.{At}
 use Rattle.lot_acts.specs.Moves.{inside_of}
@@ -7,7 +7,6 @@ use Rattle.lot_condvar.specs.CondvarMoves.{row_beside, row_there, there}
 use Rattle.lot_acts.specs.declared.acts.Reply.TheVariants.{Done, Value, Removed}
 use Rattle.lot_base.specs.declared.ops.Op.TheVariants as op
 use Rattle.lot_base.specs.Lines.{without}
-use Rattle.lot_steps.specs.declared.places.Place.{Place}
 use Rattle.lot_steps.specs.declared.places.Place.TheVariants.{Condvar}
 use Rattle.lot_steps.specs.Steps.{condvar_goes}
 use Rattle.lot_condvar.specs.declared.places.CondvarPlace.{CondvarPlace}

@@ -1,6 +1,6 @@
 -- A wait that releases its mutex goes out of its section and wakes whom it has in hand, itself too where a notification brought it there and it took
 -- itself: every lock is a site again.
-use Rattle.std.proofs.Common.{ℕ, Bool, true, false, Option, Some, None, if◌then◌else◌, ◌==◌, ◌≡◌, ◌≢◌, ◌⊎◌, ◌+◌, ◌*◌, ◌<◌, List, [], ◌∷◌, length, map, get_or, refl, sym, ◌∙◌, ap, subst, inl, inr}
+use Rattle.std.proofs.Common.{ℕ, Bool, true, false, Option, Some, None, if◌then◌else◌, ◌==◌, ◌≡◌, ◌≢◌, ◌⊎◌, ◌*◌, ◌<◌, [], ◌∷◌, length, refl, sym, ◌∙◌, ap, subst, inl, inr}
 use Rattle.std.proofs.lemmas.Bool.{cases_eq}
 use Rattle.std.proofs.Math.ListN.{get_or-map}
 use Rattle.lot_base.specs.declared.keys.Keys.TheVariants.{One}
@@ -11,13 +11,12 @@ use Rattle.lot_acts.specs.declared.acts.Next.TheVariants.{At}
 use Rattle.lot_acts.specs.declared.acts.Reply.TheVariants.{Done, Woken}
 use Rattle.lot_acts.specs.Acts.{wakes_taken}
 use Rattle.lot_acts.specs.Owners.{is_thread}
-use Rattle.lot_acts.specs.Profiles.{Hand, hand, taken_from, in_hand}
-use Rattle.lot_acts.specs.Stations.{Station, nowhere, station_by}
+use Rattle.lot_acts.specs.Profiles.{hand, taken_from, in_hand}
+use Rattle.lot_acts.specs.Stations.{Station, station_by}
 use Rattle.lot_steps.specs.declared.places.Place.{Place}
 use Rattle.lot_steps.specs.declared.places.Place.TheVariants.{Condvar, Idle}
 use Rattle.lot_steps.specs.Steps.{next_place, taker}
 use Rattle.lot_mutex.specs.declared.places.MutexPlace.TheVariants as mutex
-use Rattle.lot_mutex.specs.declared.unlock.UnlockAt.{UnlockAt}
 use Rattle.lot_mutex.specs.declared.unlock.UnlockAt.TheVariants as unlock
 use Rattle.lot_condvar.specs.declared.places.CondvarPlace.{CondvarPlace}
 use Rattle.lot_condvar.specs.declared.places.CondvarPlace.TheVariants.{Wait}
@@ -25,15 +24,15 @@ use Rattle.lot_condvar.specs.declared.wait.Stands.{Stands}
 use Rattle.lot_condvar.specs.declared.wait.Stands.TheVariants as stands
 use Rattle.lot_condvar.specs.declared.wait.WaitAt.{WaitAt}
 use Rattle.lot_condvar.specs.declared.wait.WaitAt.TheVariants as wait
-use Rattle.lot_condvar.specs.CondvarSteps.{behind, condvar_next}
+use Rattle.lot_condvar.specs.CondvarSteps.{behind}
 use Rattle.lot_condvar.specs.CondvarMoves.{row_beside, row_there, there}
 use Rattle.lot_condvar.specs.CondvarProfiles.{hand_of, taker_of, wait_row}
-use Rattle.lot_condvar.specs.CondvarWaits.{WaiterFollows, waiter_deeds}
+use Rattle.lot_condvar.specs.CondvarWaits.{WaiterFollows}
 use Rattle.abstract_locks.specs.Deeds as laws
 use Rattle.abstract_locks.specs.Locks as locks
 use Rattle.abstract_locks.specs.Locks.{Rules, Taken, keep_from}
-use Rattle.abstract_locks.specs.Sites.{Deed, Doing, Main, Out, Site, wakened}
-use Rattle.lot_machine.specs.Machine.{State, can_do, place_after_telling, place_at, put, section_at, state_after_act, state_after_telling, state_with_sections}
+use Rattle.abstract_locks.specs.Sites.{Doing, Main, Out, Site, wakened}
+use Rattle.lot_machine.specs.Machine.{State, place_after_telling, place_at, put, state_after_act, state_after_telling, state_with_sections}
 use Rattle.lot_laws.specs.MutexDeeds.{acts}
 use Rattle.lot_laws.specs.Refinement.{taken_at}
 use Rattle.lot_laws.specs.Stations.{doing_on, station_at}
@@ -41,7 +40,7 @@ use Rattle.lot_laws.specs.SitesOf.{FitsItsLock, Goes, IsSteady, carried_at, hand
 use Rattle.lot_laws.proofs.Glue as glue
 use Rattle.lot_laws.proofs.Glue.{CarriesAt, differ, untaken}
 use Rattle.lot_laws.proofs.CondvarParts.{nothing_there, station_there, station_beside, taken_beside}
-use Rattle.lot_laws.proofs.CondvarHears.{taken_by_wait, waiter_hears}
+use Rattle.lot_laws.proofs.CondvarHears.{waiter_hears}
 use Rattle.lot_laws.proofs.MutexActs.{goes_out_at, goes_out_waking}
 use Rattle.lot_laws.proofs.MutexHands.{tries}
 use Rattle.lot_laws.proofs.Waiters.{IsHeldThere, calls_mutex_at, held_there, holds_here}
