@@ -136,3 +136,4 @@ pub mod NotifiesWords
 pub mod NotifiesBoth
 pub mod NotifiesWaking
 pub mod LooksThere
+pub mod MovedWaiters
