@@ -137,3 +137,4 @@ pub mod NotifiesBoth
 pub mod NotifiesWaking
 pub mod LooksThere
 pub mod MovedWaiters
+pub mod NotifiesMoves

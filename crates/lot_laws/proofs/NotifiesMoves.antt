@@ -1,0 +1,218 @@
+-- A notification moves waiters of its condition variable to the mutex, or takes the first of them: both locks are sites again.
+use Rattle.std.proofs.Common.{ℕ, Bool, true, false, Option, Some, None, if◌then◌else◌, ◌==◌, ◌||◌, ◌≡◌, ◌≢◌, ◌⊎◌, ◌+◌, ◌*◌, ◌≤◌, ◌<◌, List, [], ◌∷◌, ◌++◌, length, map, drop, take, get_or, set, not, refl, sym, ◌∙◌, ap, subst, arith, inl, inr, length-set, get_or-set_same, get_or-set_other}
+use Rattle.std.proofs.lemmas.Bool.Decides.{nat_tests}
+use Rattle.lot_base.specs.declared.requeues.Requeue.{Requeue}
+use Rattle.lot_base.specs.declared.requeues.Requeue.TheVariants as requeue
+use Rattle.lot_base.specs.declared.wants.Waiter.{Waiter}
+use Rattle.lot_base.specs.declared.wants.Want.TheVariants.{Exclusive}
+use Rattle.lot_base.specs.Lines.{first_of, threads_of, times}
+use Rattle.lot_base.specs.Requeues.{moved_by, taken_by}
+use Rattle.lot_acts.specs.declared.acts.Next.{Next}
+use Rattle.lot_acts.specs.declared.acts.Next.TheVariants.{At, End as Over}
+use Rattle.lot_acts.specs.declared.acts.Reply.{Reply}
+use Rattle.lot_acts.specs.declared.acts.Reply.TheVariants.{MovedTo, Requeued, TakenBy, Took}
+use Rattle.lot_acts.specs.Moves.{inside_of}
+use Rattle.lot_acts.specs.Profiles.{Profile, in_hand, taken_from}
+use Rattle.lot_acts.specs.Stations.{Station, station_by}
+use Rattle.lot_steps.specs.declared.places.Place.{Place}
+use Rattle.lot_steps.specs.declared.places.Place.TheVariants.{Condvar, Idle}
+use Rattle.lot_steps.specs.Steps.{condvar_goes, next_place}
+use Rattle.lot_condvar.specs.declared.notify.NotifyAt.{NotifyAt}
+use Rattle.lot_condvar.specs.declared.notify.NotifyAt.TheVariants as notify
+use Rattle.lot_condvar.specs.declared.places.CondvarPlace.{CondvarPlace}
+use Rattle.lot_condvar.specs.declared.places.CondvarPlace.TheVariants.{Notify}
+use Rattle.lot_condvar.specs.CondvarMoves.{MovesWaiters, row_beside, row_there, there}
+use Rattle.lot_condvar.specs.CondvarMutex.{FollowsBeside, MayHearBeside, beside_deeds, doing_next}
+use Rattle.lot_condvar.specs.CondvarSteps.{condvar_next, in_notify, move_act, next_notify}
+use Rattle.lot_condvar.proofs.NotifierFit.{notifiers_follow}
+use Rattle.abstract_locks.specs.Condvars.{IsCondvar, WaitsAside, in_line, line_of, moved_of, taken_of}
+use Rattle.abstract_locks.specs.Deeds as laws
+use Rattle.abstract_locks.specs.Locks as locks
+use Rattle.abstract_locks.specs.Locks.{putting}
+use Rattle.abstract_locks.specs.Picks.{queued_of}
+use Rattle.abstract_locks.specs.Sites.{Bring, Deed, Doing, bringing, Main, Send, Site, has_readers, idle}
+use Rattle.lot_machine.specs.Machine.{State, left_behind, listed, moved_threads, moved_under, place_at, places_told, put, queue_at, queues_requeued, section_at, state_after_requeue}
+use Rattle.lot_laws.specs.MutexDeeds.{acts}
+use Rattle.lot_laws.specs.Refinement.{taken_at}
+use Rattle.lot_laws.specs.Stations.{doing_on, station_at}
+use Rattle.lot_laws.specs.SitesOf.{ActsNeeded, AreWaiting, FitsItsLock, GoesAll, IsSteady, condvar_of, key_of, rules_in, site_of, stations_of}
+use Rattle.lot_laws.proofs.Glue.{put_here, same}
+use Rattle.lot_laws.proofs.LawsKept.{needed_same}
+use Rattle.lot_laws.proofs.StandsKept.{Alike}
+use Rattle.lot_laws.proofs.TwoLocks.{two_at}
+use Rattle.lot_laws.proofs.CondvarParts.{Beside, doing_beside, doing_of_row, doing_there, nothing_else, station_beside, station_there, taken_beside, taken_there}
+use Rattle.lot_laws.proofs.CondvarHears as hears
+use Rattle.lot_laws.proofs.MovedWaiters.{waits_across}
+use Rattle.lot_laws.proofs.MovingKept.{moves_kept}
+use Rattle.lot_laws.proofs.Moving.{WaitsAcross, places_across}
+use Rattle.lot_laws.proofs.TakesAt.{member}
+
+-- ---------------------------------------------------------------- the lists
+
+-- whom a requeue takes
+abbrev gone_by : Requeue → List Waiter → List Waiter
+gone_by requeue.TakeOneMoveRest q = take 1 q
+gone_by how q = []
+
+gone_threads : (how : Requeue) (q : List Waiter) → listed (taken_by how q) ≡ threads_of (gone_by how q)
+gone_threads requeue.One q = refl
+gone_threads requeue.All q = refl
+gone_threads requeue.TakeOneMoveRest [] = refl
+gone_threads requeue.TakeOneMoveRest (x ∷ q) = refl
+
+threads_moved : (how : Requeue) (q : List Waiter) → moved_threads how (threads_of q) ≡ threads_of (moved_by how q)
+threads_moved requeue.All q = refl
+threads_moved requeue.One [] = refl
+threads_moved requeue.One (x ∷ q) = refl
+threads_moved requeue.TakeOneMoveRest [] = refl
+threads_moved requeue.TakeOneMoveRest (x ∷ q) = refl
+
+-- each is taken, moved, or left
+all_counted : (how : Requeue) (q : List Waiter) (u : ℕ) → times u (gone_by how q) + times u (moved_by how q) + times u (left_behind how q) ≡ times u q
+all_counted requeue.All q u = omega arith
+all_counted requeue.One [] u = refl
+all_counted requeue.One (x ∷ q) u = one_more (x.thread == u) (times u q)
+  where
+    one_more : (b : Bool) (n : ℕ) → 0 + ((if b then 1 else 0) + 0) + n ≡ (if b then 1 else 0) + n
+    one_more true n = omega arith
+    one_more false n = omega arith
+all_counted requeue.TakeOneMoveRest [] u = refl
+all_counted requeue.TakeOneMoveRest (x ∷ q) u = one_more (x.thread == u) (times u q)
+  where
+    one_more : (b : Bool) (n : ℕ) → ((if b then 1 else 0) + 0) + n + 0 ≡ (if b then 1 else 0) + n
+    one_more true n = omega arith
+    one_more false n = omega arith
+
+left_waits : (at : ℕ → ℕ → Station) (l : ℕ) (how : Requeue) (q : List Waiter) → AreWaiting at l Main q → AreWaiting at l Main (left_behind how q)
+left_waits at l requeue.All q h = tt
+left_waits at l requeue.TakeOneMoveRest q h = tt
+left_waits at l requeue.One [] h = tt
+left_waits at l requeue.One (x ∷ q) h = h.1
+
+one_member : (x : Waiter) (u : ℕ) → member u (x ∷ []) ≡ true → x.thread ≡ u
+one_member x u h = grind (arith, nat_tests)
+
+one_taken : (how : Requeue) (q : List Waiter) (u v : ℕ) → member u (gone_by how q) ≡ true → member v (gone_by how q) ≡ true → u ≡ v
+one_taken requeue.One q u v h g = absurd cc
+one_taken requeue.All q u v h g = absurd cc
+one_taken requeue.TakeOneMoveRest [] u v h g = absurd cc
+one_taken requeue.TakeOneMoveRest (x ∷ q) u v h g = sym (one_member x u h) ∙ one_member x v g
+
+-- as the abstract locks have them
+under_lined : (key : ℕ) (q : List Waiter) → map queued_of (moved_under key q) ≡ map in_line (map queued_of q)
+under_lined key [] = refl
+under_lined key (x ∷ q) = ap (λ (ys : List locks.Queued). record { thread = x.thread; want = Exclusive } ∷ ys) (under_lined key q)
+
+first_lined : (key : ℕ) (q : List Waiter) → map queued_of (moved_under key (take 1 q)) ≡ map in_line (take 1 (map queued_of q))
+first_lined key [] = refl
+first_lined key (x ∷ q) = refl
+
+rest_lined : (key : ℕ) (q : List Waiter) → map queued_of (moved_under key (drop 1 q)) ≡ drop 1 (map in_line (map queued_of q))
+rest_lined key [] = refl
+rest_lined key (x ∷ q) = under_lined key q
+
+taken_lined : (key : ℕ) (q : List Waiter) → map queued_of (moved_under key (take 1 q)) ≡ take 1 (map in_line (map queued_of q))
+taken_lined key [] = refl
+taken_lined key (x ∷ q) = refl
+
+dropped_lined : (q : List Waiter) → map queued_of (drop 1 q) ≡ drop 1 (map queued_of q)
+dropped_lined [] = refl
+dropped_lined (x ∷ q) = refl
+
+some_first : (q : List Waiter) → map queued_of q ≢ [] → (u : ℕ) × (member u (take 1 q) ≡ true)
+some_first [] h = absurd (h refl)
+some_first (x ∷ q) h = (x.thread, rw (same x.thread) refl)
+
+-- ---------------------------------------------------------------- a notification at its move
+
+module _ (w : State) (t l m : ℕ) (all locked : Bool) (steady : IsSteady w) (is_there : t < length w.places) (apart : m ≢ l) (sort_l : (rules_in w l).sort ≡ locks.Condvar) (sort_m : (rules_in w m).sort ≡ locks.Mutex) (kept : IsCondvar (condvar_of w l))
+    (is : place_at w t ≡ Condvar l (Notify all m (notify.Move locked))) where
+  abbrev this : CondvarPlace
+  this = Notify all m (notify.Move locked)
+
+  abbrev line : List Waiter
+  line = queue_at w (key_of l Main)
+
+  module _ (told : Reply) (x : MovesWaiters (map queued_of line) this all locked told) (beside : Beside m (condvar_next this told)) (hears_it : MayHearBeside (rules_in w m) (site_of w m) (condvar_of w l) t m all (notify.Move locked) told) (fits : FitsItsLock w (condvar_goes l (condvar_next this told))) where
+    abbrev p2 : Place
+    p2 = condvar_goes l (condvar_next this told)
+
+    station_l : station_at (place_at w t) l ≡ there this
+    station_l = ap (λ q. station_at q l) is ∙ station_there l m apart (At this) refl
+
+    station_m : station_at (place_at w t) m ≡ inside_of Main
+    station_m = ap (λ q. station_at q m) is ∙ station_beside l m apart (At this) refl ∙ x.inside.1
+
+    now_l : station_at p2 l ≡ station_at (place_at w t) l
+    now_l = station_there l m apart (condvar_next this told) beside ∙ x.stays ∙ sym station_l
+
+    now_m : station_at p2 m ≡ record (station_at (place_at w t) m) { carries = in_hand (not locked) false }
+    now_m = station_beside l m apart (condvar_next this told) beside ∙ x.carries ∙ sym (ap (λ (y : Station). record y { carries = in_hand (not locked) false }) station_m)
+
+    alike_t : (k : ℕ) → k ≢ l → k ≢ m → Alike k (place_at w t) p2
+    alike_t k nl nm = subst (λ q. Alike k q p2) (sym is) (nothing_else l m apart (At this) (condvar_next this told) refl beside k nl nm)
+
+    -- at the condition variable it does what it did
+    same_l : (doing_on p2 l ≡ doing_on (place_at w t) l) × (taken_at p2 l ≡ taken_at (place_at w t) l)
+    same_l = (
+      doing_there l m apart (condvar_next this told) beside ∙ doing_of_row (condvar_next this told) ∙ ap (λ (y : Station). record idle { inside = y.inside }) x.stays ∙ sym (doing_of_row (At this)) ∙ sym (ap (λ q. doing_on q l) is ∙ doing_there l m apart (At this) refl),
+      taken_there l m apart (condvar_next this told) beside ∙ sym (ap (λ q. taken_at q l) is ∙ taken_there l m apart (At this) refl),
+    )
+
+    -- and it is in nobody's hand
+    same_m : taken_at p2 m ≡ taken_at (place_at w t) m
+    same_m = taken_beside l m apart (condvar_next this told) beside ∙ ap (λ h. taken_from h (row_beside (condvar_next this told)).wants true) (ap (λ (y : Station). y.hand) x.carries) ∙ sym (ap (λ q. taken_at q m) is ∙ taken_beside l m apart (At this) refl)
+
+    needed_l : ActsNeeded (rules_in w l) (acts t (Send all ∷ [])) (site_of w l)
+    needed_l = ((sort_l, ap (λ q. (doing_on q l).inside) is ∙ ap (λ (d : Doing). d.inside) (doing_there l m apart (At this) refl) ∙ ap (λ (y : Station). y.inside) x.inside.0), tt)
+
+    follows : FollowsBeside (rules_in w m) (site_of w m) (condvar_of w l) t m all (notify.Move locked) told
+    follows = notifiers_follow (rules_in w m) (site_of w m) (condvar_of w l) t m all (notify.Move locked) told sort_m (hears.doing_beside w t l this steady is m refl) hears_it
+
+    needed_m : ActsNeeded (rules_in w m) (acts t (Bring (taken_of locked (moved_of all (map queued_of line))) (line_of locked (moved_of all (map queued_of line))) ∷ [])) (site_of w m)
+    needed_m = subst (λ ds. ActsNeeded (rules_in w m) (acts t ds) (site_of w m)) x.deeds_beside (needed_same (rules_in w m) (beside_deeds all (map queued_of line) (notify.Move locked) told) (site_of w m) t follows.needed)
+
+    -- what it does about the mutex then
+    does_m : doing_on p2 m ≡ bringing (taken_of locked (moved_of all (map queued_of line))) (line_of locked (moved_of all (map queued_of line))) (doing_on (place_at w t) m)
+    does_m = doing_beside l m apart (condvar_next this told) beside ∙ by_next (next_notify all m (notify.Move locked) told) ∙ sym follows.doing
+        ∙ ap (λ ds. (laws.after_all (rules_in w m) ds (site_of w m) t).doing t) x.deeds_beside ∙ put_here (λ u. doing_on (place_at w u) m) t _
+      where
+        by_next : (n : Next NotifyAt) → (row_beside (in_notify all m n)).doing ≡ doing_next all m n
+        by_next (At at) = refl
+        by_next (Over answer) = refl
+
+    -- by whom it takes, whom it moves, and who is left
+    module _ (gone moved left : List Waiter) (counts : (u : ℕ) → times u gone + times u moved + times u left ≡ times u line) (lefts : AreWaiting (stations_of (place_at w)) l Main left) (one_gone : (u v : ℕ) → member u gone ≡ true → member v gone ≡ true → u ≡ v)
+        (none_gone : locked ≡ true → gone ≡ []) (some_gone : locked ≡ false → (u : ℕ) × (member u gone ≡ true))
+        (left_is : map queued_of left ≡ (if all then [] else drop 1 (map queued_of line))) (gone_is : map queued_of (moved_under (key_of m Main) gone) ≡ taken_of locked (moved_of all (map queued_of line))) (moved_is : map queued_of (moved_under (key_of m Main) moved) ≡ line_of locked (moved_of all (map queued_of line))) where
+      across : (u : ℕ) → 1 ≤ times u line → WaitsAcross w t l m (place_at w u)
+      across = waits_across w t l m steady apart sort_l all locked is kept
+
+      out : (station_at (place_at w t) l).stands ≡ None
+      out = ap (λ (y : Station). y.stands) (station_l ∙ x.inside.0)
+
+      bare : (station_at (place_at w t) m).carries ≡ None
+      bare = ap (λ (y : Station). y.carries) station_m
+
+      abbrev behind : ℕ → Place
+      behind = places_across w t l m apart steady p2 gone moved left counts lefts across one_gone out bare now_l (in_hand (not locked) false) now_m alike_t fits
+
+      carries_some : (b : Bool) → in_hand (not locked) false ≡ Some b → (b ≡ false) × ((u : ℕ) × (member u gone ≡ true))
+      carries_some b e = by_locked locked refl e
+        where
+          by_locked : (c : Bool) → locked ≡ c → in_hand (not c) false ≡ Some b → (b ≡ false) × ((u : ℕ) × (member u gone ≡ true))
+          by_locked true f e = absurd cc
+          by_locked false f e = (let g : false ≡ b = cc in sym g, some_gone f)
+
+      carries_all : (u : ℕ) → member u gone ≡ true → in_hand (not locked) false ≡ Some false
+      carries_all u h = by_locked locked refl
+        where
+          by_locked : (c : Bool) → locked ≡ c → in_hand (not c) false ≡ Some false
+          by_locked true f = absurd (let none : member u gone ≡ false = ap (member u) (none_gone f) in cc)
+          by_locked false f = refl
+
+      module _ (v : State) (el : v.locks ≡ w.locks) (eh : v.shares ≡ w.shares) (es : v.sections ≡ w.sections) (threads : length v.places ≡ length w.places) (places : place_at v ≡ behind)
+          (here : queue_at v (key_of l Main) ≡ left) (there_now : queue_at v (key_of m Main) ≡ queue_at w (key_of m Main) ++ moved_under (key_of m Main) moved) (others : (key : ℕ) → key ≢ key_of l Main → key ≢ key_of m Main → queue_at v key ≡ queue_at w key) where
+        moves_so : GoesAll w v (two_at l m (acts t (Send all ∷ [])) (acts t (Bring (taken_of locked (moved_of all (map queued_of line))) (line_of locked (moved_of all (map queued_of line))) ∷ [])))
+        moves_so = moves_kept w v t l m apart steady p2 gone moved left counts lefts across one_gone out bare now_l (in_hand (not locked) false) now_m alike_t fits
+            el eh es threads places here there_now others same_l same_m all locked left_is gone_is moved_is does_m (ap has_readers sort_l) (ap has_readers sort_m) needed_l needed_m carries_some carries_all
