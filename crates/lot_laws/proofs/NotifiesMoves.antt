@@ -35,17 +35,18 @@ use Rattle.lot_machine.specs.Machine.{State, left_behind, listed, moved_threads,
 use Rattle.lot_laws.specs.MutexDeeds.{acts}
 use Rattle.lot_laws.specs.Refinement.{taken_at}
 use Rattle.lot_laws.specs.Stations.{doing_on, station_at}
-use Rattle.lot_laws.specs.SitesOf.{ActsNeeded, AreWaiting, FitsItsLock, GoesAll, IsSteady, condvar_of, key_of, rules_in, site_of, stations_of}
-use Rattle.lot_laws.proofs.Glue.{put_here, same}
+use Rattle.lot_laws.specs.SitesOf.{ActsNeeded, AreWaiting, FitsItsLock, GoesAll, IsSteady, condvar_of, key_of, rules_in, site_of, stations_of, stood_in}
+use Rattle.lot_laws.proofs.Glue.{put_here, same, put_places}
 use Rattle.lot_laws.proofs.LawsKept.{needed_same}
-use Rattle.lot_laws.proofs.StandsKept.{Alike}
+use Rattle.lot_laws.proofs.StandsKept.{Alike, other_key}
 use Rattle.lot_laws.proofs.TwoLocks.{two_at}
 use Rattle.lot_laws.proofs.CondvarParts.{Beside, doing_beside, doing_of_row, doing_there, nothing_else, station_beside, station_there, taken_beside, taken_there}
 use Rattle.lot_laws.proofs.CondvarHears as hears
 use Rattle.lot_laws.proofs.MovedWaiters.{waits_across}
 use Rattle.lot_laws.proofs.MovingKept.{moves_kept}
 use Rattle.lot_laws.proofs.Moving.{WaitsAcross, places_across}
-use Rattle.lot_laws.proofs.TakesAt.{member}
+use Rattle.lot_laws.proofs.TakesAt.{member, at_most_one, member_times, told_once, told_places}
+use Rattle.lot_machine.proofs.QueueLemmas.{told_count}
 
 -- ---------------------------------------------------------------- the lists
 
@@ -216,3 +217,65 @@ module _ (w : State) (t l m : ℕ) (all locked : Bool) (steady : IsSteady w) (is
         moves_so : GoesAll w v (two_at l m (acts t (Send all ∷ [])) (acts t (Bring (taken_of locked (moved_of all (map queued_of line))) (line_of locked (moved_of all (map queued_of line))) ∷ [])))
         moves_so = moves_kept w v t l m apart steady p2 gone moved left counts lefts across one_gone out bare now_l (in_hand (not locked) false) now_m alike_t fits
             el eh es threads places here there_now others same_l same_m all locked left_is gone_is moved_is does_m (ap has_readers sort_l) (ap has_readers sort_m) needed_l needed_m carries_some carries_all
+
+    -- ---------------------------------------------------------------- by a requeue
+
+    module _ (how : Requeue) (line_l : key_of l Main < length w.queues) (line_m : key_of m Main < length w.queues) (none_gone : locked ≡ true → gone_by how line ≡ []) (some_gone : locked ≡ false → (u : ℕ) × (member u (gone_by how line) ≡ true))
+        (left_is : map queued_of (left_behind how line) ≡ (if all then [] else drop 1 (map queued_of line))) (gone_is : map queued_of (moved_under (key_of m Main) (gone_by how line)) ≡ taken_of locked (moved_of all (map queued_of line))) (moved_is : map queued_of (moved_under (key_of m Main) (moved_by how line)) ≡ line_of locked (moved_of all (map queued_of line))) where
+      abbrev gone : List Waiter
+      gone = gone_by how line
+
+      abbrev moved : List Waiter
+      moved = moved_by how line
+
+      abbrev requeued : State
+      requeued = state_after_requeue w t (2 * l) (2 * m) how
+
+      keys : key_of m Main ≢ key_of l Main
+      keys = other_key l m Main Main apart
+
+      at_most : (u : ℕ) → times u gone + times u moved ≤ 1
+      at_most u = let a : times u gone + times u moved + times u (left_behind how line) ≡ times u line = all_counted how line u in let b : times u line ≡ stood_in (station_at (place_at w u) l).stands Main = steady.stands.lines u l Main in
+          let c : stood_in (station_at (place_at w u) l).stands Main ≤ 1 = at_most_one (station_at (place_at w u) l).stands Main in omega arith
+
+      -- first those are told whom it takes
+      abbrev taken_places : List Place
+      taken_places = places_told (TakenBy t) (threads_of gone) w.places
+
+      taken_then : (u : ℕ) → get_or taken_places u Idle ≡ (if member u gone then next_place (place_at w u) (TakenBy t) else place_at w u)
+      taken_then u = ap (λ (f : ℕ → Place). f u) (told_places (TakenBy t) gone w.places) ∙ told_once (TakenBy t) gone (place_at w) u (let a = at_most u in omega arith)
+
+      -- where each goes
+      abbrev goes : ℕ → Place
+      goes u = if member u gone then next_place (place_at w u) (TakenBy t) else if member u moved then next_place (place_at w u) (MovedTo (key_of m Main)) else place_at w u
+
+      place_then : (u : ℕ) → place_at requeued u ≡ goes u
+      place_then u = ap (λ us. get_or (places_told (MovedTo (2 * m)) us (places_told (TakenBy t) (listed (taken_by how line)) w.places)) u Idle) (threads_moved how line)
+          ∙ ap (λ us. get_or (places_told (MovedTo (2 * m)) (threads_of moved) (places_told (TakenBy t) us w.places)) u Idle) (gone_threads how line)
+          ∙ ap (λ (f : ℕ → Place). f u) (told_places (MovedTo (2 * m)) moved taken_places) ∙ told_once (MovedTo (2 * m)) moved (λ u. get_or taken_places u Idle) u (let a = at_most u in omega arith)
+          ∙ ap (λ p. if member u moved then next_place p (MovedTo (2 * m)) else p) (taken_then u) ∙ either (member u gone) (member u moved) refl refl
+        where
+          either : (a b : Bool) → member u gone ≡ a → member u moved ≡ b
+              → (if b then next_place (if a then next_place (place_at w u) (TakenBy t) else place_at w u) (MovedTo (2 * m)) else if a then next_place (place_at w u) (TakenBy t) else place_at w u)
+              ≡ (if a then next_place (place_at w u) (TakenBy t) else if b then next_place (place_at w u) (MovedTo (key_of m Main)) else place_at w u)
+          either true true e f = absurd (let a = at_most u in let b = member_times u gone e in let c = member_times u moved f in omega arith)
+          either true false e f = refl
+          either false true e f = refl
+          either false false e f = refl
+
+      abbrev v : State
+      v = put requeued t p2
+
+      told_length : length requeued.places ≡ length w.places
+      told_length = told_count (MovedTo (2 * m)) (moved_threads how (threads_of line)) (places_told (TakenBy t) (listed (taken_by how line)) w.places) ∙ told_count (TakenBy t) (listed (taken_by how line)) w.places
+
+      abbrev others_left : List (List Waiter)
+      others_left = set w.queues (2 * l) (left_behind how line)
+
+      pub requeues : GoesAll w v (two_at l m (acts t (Send all ∷ [])) (acts t (Bring (taken_of locked (moved_of all (map queued_of line))) (line_of locked (moved_of all (map queued_of line))) ∷ [])))
+      requeues = moves_so gone moved (left_behind how line) (all_counted how line) (left_waits (stations_of (place_at w)) l how line (steady.stands.waits l Main)) (one_taken how line) none_gone some_gone left_is gone_is moved_is v refl refl refl
+          (length-set requeued.places t p2 ∙ told_length)
+          (put_places requeued t p2 (λ h. absurd (let n = told_length in omega arith)) ∙ ap (λ (f : ℕ → Place). putting f t p2) (λ i u. place_then u i))
+          (get_or-set_other others_left (2 * m) (2 * l) _ [] (λ e. keys (sym e)) ∙ get_or-set_same w.queues (2 * l) (left_behind how line) [] line_l)
+          (get_or-set_same others_left (2 * m) _ [] (rw (length-set w.queues (2 * l) (left_behind how line)) line_m) ∙ ap (λ q. q ++ moved_under (key_of m Main) moved) (get_or-set_other w.queues (2 * l) (2 * m) (left_behind how line) [] keys))
+          (λ key nl nm. get_or-set_other others_left (2 * m) key _ [] nm ∙ get_or-set_other w.queues (2 * l) key (left_behind how line) [] nl)
