@@ -31,7 +31,7 @@ use Rattle.abstract_locks.specs.Locks as locks
 use Rattle.abstract_locks.specs.Locks.{putting}
 use Rattle.abstract_locks.specs.Picks.{queued_of}
 use Rattle.abstract_locks.specs.Sites.{Bring, Deed, Doing, bringing, Main, Send, Site, has_readers, idle}
-use Rattle.lot_machine.specs.Machine.{State, left_behind, listed, moved_threads, moved_under, place_at, places_told, put, queue_at, queues_requeued, section_at, state_after_requeue}
+use Rattle.lot_machine.specs.Machine.{State, left_behind, listed, moved_threads, moved_under, place_at, places_told, put, queue_at, queues_requeued, section_at, state_after_requeue, queues_without_first, state_after_taking}
 use Rattle.lot_laws.specs.MutexDeeds.{acts}
 use Rattle.lot_laws.specs.Refinement.{taken_at}
 use Rattle.lot_laws.specs.Stations.{doing_on, station_at}
@@ -279,3 +279,66 @@ module _ (w : State) (t l m : ℕ) (all locked : Bool) (steady : IsSteady w) (is
           (get_or-set_other others_left (2 * m) (2 * l) _ [] (λ e. keys (sym e)) ∙ get_or-set_same w.queues (2 * l) (left_behind how line) [] line_l)
           (get_or-set_same others_left (2 * m) _ [] (rw (length-set w.queues (2 * l) (left_behind how line)) line_m) ∙ ap (λ q. q ++ moved_under (key_of m Main) moved) (get_or-set_other w.queues (2 * l) (2 * m) (left_behind how line) [] keys))
           (λ key nl nm. get_or-set_other others_left (2 * m) key _ [] nm ∙ get_or-set_other w.queues (2 * l) key (left_behind how line) [] nl)
+
+    -- ---------------------------------------------------------------- by a take of the first
+
+    module _ (line_l : key_of l Main < length w.queues) (free : locked ≡ false) (some : (u : ℕ) × (member u (take 1 line) ≡ true)) (left_is : map queued_of (drop 1 line) ≡ (if all then [] else drop 1 (map queued_of line))) (gone_is : map queued_of (moved_under (key_of m Main) (take 1 line)) ≡ taken_of locked (moved_of all (map queued_of line)))
+        (moved_is : [] ≡ line_of locked (moved_of all (map queued_of line))) where
+      abbrev without : State
+      without = record w { queues = queues_without_first w.queues (2 * l) }
+
+      abbrev after : List Waiter → State
+      after q = state_after_taking without t (first_of q)
+
+      after_locks : (q : List Waiter) → (after q).locks ≡ w.locks
+      after_locks [] = refl
+      after_locks (x ∷ q) = refl
+
+      after_shares : (q : List Waiter) → (after q).shares ≡ w.shares
+      after_shares [] = refl
+      after_shares (x ∷ q) = refl
+
+      after_sections : (q : List Waiter) → (after q).sections ≡ w.sections
+      after_sections [] = refl
+      after_sections (x ∷ q) = refl
+
+      after_queues : (q : List Waiter) → (after q).queues ≡ queues_without_first w.queues (2 * l)
+      after_queues [] = refl
+      after_queues (x ∷ q) = refl
+
+      after_threads : (q : List Waiter) → length (after q).places ≡ length w.places
+      after_threads [] = refl
+      after_threads (x ∷ q) = length-set w.places x.thread _
+
+      after_place : (q : List Waiter) (u : ℕ) → place_at (after q) u ≡ (if member u (take 1 q) then next_place (place_at w u) (TakenBy t) else place_at w u)
+      after_place [] u = refl
+      after_place (x ∷ q) u = ap (λ (f : ℕ → Place). f u) (told_places (TakenBy t) (x ∷ []) w.places) ∙ told_once (TakenBy t) (x ∷ []) (place_at w) u (once (x.thread == u))
+        where
+          once : (b : Bool) → (if b then 1 else 0) + 0 ≤ 1
+          once true = omega arith
+          once false = omega arith
+
+      counted : (q : List Waiter) (u : ℕ) → times u (take 1 q) + 0 + times u (drop 1 q) ≡ times u q
+      counted q u = let a = all_counted requeue.TakeOneMoveRest q u in omega arith
+
+      left_lined : (q : List Waiter) → AreWaiting (stations_of (place_at w)) l Main q → AreWaiting (stations_of (place_at w)) l Main (drop 1 q)
+      left_lined [] h = tt
+      left_lined (x ∷ q) h = h.1
+
+      none_more : (q : List Waiter) → q ≡ q ++ []
+      none_more [] = refl
+      none_more (x ∷ q) = ap (λ ys. x ∷ ys) (none_more q)
+
+      abbrev taken_state : State
+      taken_state = put (after line) t p2
+
+      queue_then : (key : ℕ) → queue_at taken_state key ≡ get_or (queues_without_first w.queues (2 * l)) key []
+      queue_then key = ap (λ qs. get_or qs key []) (after_queues line)
+
+      pub takes_first : GoesAll w taken_state (two_at l m (acts t (Send all ∷ [])) (acts t (Bring (taken_of locked (moved_of all (map queued_of line))) (line_of locked (moved_of all (map queued_of line))) ∷ [])))
+      takes_first = moves_so (take 1 line) [] (drop 1 line) (counted line) (left_lined line (steady.stands.waits l Main)) (one_taken requeue.TakeOneMoveRest line) (λ e. absurd (let f : true ≡ false = sym e ∙ free in cc)) (λ e. some) left_is gone_is moved_is taken_state
+          (after_locks line) (after_shares line) (after_sections line) (length-set (after line).places t p2 ∙ after_threads line)
+          (put_places (after line) t p2 (λ h. absurd (let n = after_threads line in omega arith)) ∙ ap (λ (f : ℕ → Place). putting f t p2) (λ i u. after_place line u i))
+          (queue_then (2 * l) ∙ get_or-set_same w.queues (2 * l) (drop 1 line) [] line_l)
+          (queue_then (2 * m) ∙ get_or-set_other w.queues (2 * l) (2 * m) (drop 1 line) [] (other_key l m Main Main apart) ∙ none_more (queue_at w (2 * m)))
+          (λ key nl nm. queue_then key ∙ get_or-set_other w.queues (2 * l) key (drop 1 line) [] nl)
