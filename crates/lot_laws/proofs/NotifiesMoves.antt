@@ -31,7 +31,7 @@ use Rattle.abstract_locks.specs.Locks as locks
 use Rattle.abstract_locks.specs.Locks.{putting}
 use Rattle.abstract_locks.specs.Picks.{queued_of}
 use Rattle.abstract_locks.specs.Sites.{Bring, Deed, Doing, bringing, Main, Send, Site, has_readers, idle}
-use Rattle.lot_machine.specs.Machine.{State, left_behind, listed, moved_threads, moved_under, place_at, places_told, put, queue_at, queues_requeued, section_at, state_after_requeue, queues_without_first, state_after_taking}
+use Rattle.lot_machine.specs.Machine.{State, left_behind, listed, moved_threads, moved_under, place_at, places_told, put, queue_at, queues_requeued, section_at, state_after_requeue, queues_without_first, state_after_taking, reply_to, state_after_act}
 use Rattle.lot_laws.specs.MutexDeeds.{acts}
 use Rattle.lot_laws.specs.Refinement.{taken_at}
 use Rattle.lot_laws.specs.Stations.{doing_on, station_at}
@@ -47,6 +47,8 @@ use Rattle.lot_laws.proofs.MovingKept.{moves_kept}
 use Rattle.lot_laws.proofs.Moving.{WaitsAcross, places_across}
 use Rattle.lot_laws.proofs.TakesAt.{member, at_most_one, member_times, told_once, told_places}
 use Rattle.lot_machine.proofs.QueueLemmas.{told_count}
+use Rattle.lot_condvar.proofs.CondvarActs.{notifies_move}
+use Rattle.lot_laws.proofs.CondvarHears.{notifier_hears}
 
 -- ---------------------------------------------------------------- the lists
 
@@ -342,3 +344,55 @@ module _ (w : State) (t l m : ℕ) (all locked : Bool) (steady : IsSteady w) (is
           (queue_then (2 * l) ∙ get_or-set_same w.queues (2 * l) (drop 1 line) [] line_l)
           (queue_then (2 * m) ∙ get_or-set_other w.queues (2 * l) (2 * m) (drop 1 line) [] (other_key l m Main Main apart) ∙ none_more (queue_at w (2 * m)))
           (λ key nl nm. queue_then key ∙ get_or-set_other w.queues (2 * l) key (drop 1 line) [] nl)
+
+-- ---------------------------------------------------------------- whichever it is
+
+module _ (w : State) (t l m : ℕ) (steady : IsSteady w) (is_there : t < length w.places) (apart : m ≢ l) (sort_l : (rules_in w l).sort ≡ locks.Condvar) (sort_m : (rules_in w m).sort ≡ locks.Mutex) (kept : IsCondvar (condvar_of w l)) (aside : WaitsAside (condvar_of w l) (site_of w m) m)
+    (line_l : key_of l Main < length w.queues) (line_m : key_of m Main < length w.queues) where
+  abbrev moves_at : Bool → Bool → CondvarPlace
+  moves_at all locked = Notify all m (notify.Move locked)
+
+  abbrev told_of : Bool → Bool → Reply
+  told_of all locked = reply_to w t (move_act all locked l m)
+
+  abbrev next_of : Bool → Bool → Place
+  next_of all locked = condvar_goes l (condvar_next (moves_at all locked) (told_of all locked))
+
+  abbrev waiting : List Waiter
+  waiting = queue_at w (key_of l Main)
+
+  abbrev brings_of : Bool → Bool → List Deed
+  brings_of all locked = Bring (taken_of locked (moved_of all (map queued_of waiting))) (line_of locked (moved_of all (map queued_of waiting))) ∷ []
+
+  pub moves : (all locked : Bool) → place_at w t ≡ Condvar l (moves_at all locked) → FitsItsLock w (next_of all locked)
+      → GoesAll w (put (state_after_act w t (Condvar l (moves_at all locked)) (move_act all locked l m)) t (next_of all locked)) (two_at l m (acts t (Send all ∷ [])) (acts t (brings_of all locked)))
+  moves true true is fits = requeues w t l m true true steady is_there apart sort_l sort_m kept is (told_of true true) ((notifies_move l m (map queued_of waiting) true (notify.Move true) tt).2 _ _) refl
+      (notifier_hears w t l m true (notify.Move true) steady kept aside is refl) fits requeue.All line_l line_m (λ e. refl) (λ e. absurd cc) refl refl (under_lined (key_of m Main) waiting)
+  moves true false is fits = requeues w t l m true false steady is_there apart sort_l sort_m kept is (told_of true false) ((notifies_move l m (map queued_of waiting) true (notify.Move false) tt).2 _ _) refl
+      heard fits requeue.TakeOneMoveRest line_l line_m (λ e. absurd cc) (λ e. some_first waiting heard.1.some) refl (taken_lined (key_of m Main) waiting) (rest_lined (key_of m Main) waiting)
+    where
+      heard : MayHearBeside (rules_in w m) (site_of w m) (condvar_of w l) t m true (notify.Move false) (told_of true false)
+      heard = notifier_hears w t l m true (notify.Move false) steady kept aside is refl
+  moves false true is fits = requeues w t l m false true steady is_there apart sort_l sort_m kept is (told_of false true) ((notifies_move l m (map queued_of waiting) false (notify.Move true) tt).2 _ _) next_beside
+      (notifier_hears w t l m false (notify.Move true) steady kept aside is refl) fits requeue.One line_l line_m (λ e. refl) (λ e. absurd cc) (dropped_lined waiting) refl (first_lined (key_of m Main) waiting)
+    where
+      next_beside : Beside m (condvar_next (moves_at false true) (told_of false true))
+      next_beside = refl
+  moves false false is fits = takes_first w t l m false false steady is_there apart sort_l sort_m kept is (told_of false false) so refl heard fits line_l refl (some_first waiting (λ e. heard.1.some (ap (take 1) e))) (dropped_lined waiting) (first_taken waiting) (none_moved waiting)
+    where
+      heard : MayHearBeside (rules_in w m) (site_of w m) (condvar_of w l) t m false (notify.Move false) (told_of false false)
+      heard = notifier_hears w t l m false (notify.Move false) steady kept aside is refl
+
+      so : MovesWaiters (map queued_of waiting) (moves_at false false) false false (told_of false false)
+      so = elim (notifies_move l m (map queued_of waiting) false (notify.Move false) tt) [
+        | inl at_m ↦ absurd (apart (let e : 2 * l ≡ 2 * m = at_m.0 in omega arith))
+        | inr at_l ↦ subst (λ b. MovesWaiters (map queued_of waiting) (moves_at false false) false false (Took b (length (drop 1 waiting) == 0))) (sym heard.0) (at_l.1 (length (drop 1 waiting) == 0))
+      ]
+
+      first_taken : (q : List Waiter) → map queued_of (moved_under (key_of m Main) (take 1 q)) ≡ taken_of false (moved_of false (map queued_of q))
+      first_taken [] = refl
+      first_taken (x ∷ q) = refl
+
+      none_moved : (q : List Waiter) → [] ≡ line_of false (moved_of false (map queued_of q))
+      none_moved [] = refl
+      none_moved (x ∷ q) = refl
