@@ -118,7 +118,7 @@ goes_all_steady w v ds steady f stands = record {
     room_then k h = subst (λ n. HasRoom n (rules_in w k)) (sym f.numbers.threads) (steady.sites.limits k h).0
 
 -- a step of one lock leaves the others as they were
-abbrev only_at : ℕ → List deeds.Act → ℕ → List deeds.Act
+abbrev pub only_at : ℕ → List deeds.Act → ℕ → List deeds.Act
 only_at l ds k = if k == l then ds else []
 
 follows_all : (w v : State) (l : ℕ) (ds : List deeds.Act) → IsSteady w → Follows w v l ds → FollowAll w v (only_at l ds)

@@ -138,3 +138,4 @@ pub mod NotifiesWaking
 pub mod LooksThere
 pub mod MovedWaiters
 pub mod NotifiesMoves
+pub mod WaitsGo
