@@ -25,7 +25,7 @@ use Rattle.lot_condvar.specs.declared.wait.WaitAt.{WaitAt}
 use Rattle.lot_condvar.specs.declared.wait.WaitAt.TheVariants as wait
 use Rattle.lot_condvar.specs.CondvarCalls.{IsReached, IsLockOf}
 use Rattle.lot_condvar.specs.CondvarDeeds.{wait_deeds, relocked_deeds}
-use Rattle.lot_condvar.specs.CondvarSteps.{wait_act}
+use Rattle.lot_condvar.specs.CondvarSteps.{wait_act, condvar_next}
 use Rattle.lot_condvar.specs.CondvarWaits.{waiter_deeds}
 use Rattle.abstract_locks.specs.Condvars.{IsCondvar}
 use Rattle.abstract_locks.specs.Locks as locks
@@ -40,7 +40,7 @@ use Rattle.lot_laws.proofs.Glue.{differ, same}
 use Rattle.lot_laws.proofs.TwoLocks.{two_at}
 use Rattle.lot_laws.proofs.CondvarHears.{fits_here, taken_by_wait}
 use Rattle.lot_laws.proofs.CondvarThere.{there_deeds}
-use Rattle.lot_laws.proofs.WaitsThere.{waits_there}
+use Rattle.lot_laws.proofs.WaitsThere.{waits_there, IsAtCondvar}
 use Rattle.lot_laws.proofs.WaitsBeside.{clears, decides, loads, subtracts, tries}
 use Rattle.lot_laws.proofs.WaitsInside.{accepts, enters_to_park, enters_to_release, leaves_late, leaves_line, leaves_parked, parks}
 use Rattle.lot_laws.proofs.WaitsRefused.{refused}
@@ -163,3 +163,26 @@ module _ (w : State) (t l m : ℕ) (timed : Bool) (steady : IsSteady w) (is_ther
   relock_goes late retries (lock.Taken by) of is can = absurd cc
   relock_goes late retries (lock.Handed by) of is can = absurd cc
   relock_goes late retries at of is can = absurd of
+
+  -- ---------------------------------------------------------------- whatever it does
+
+  at_condvar : (at : WaitAt) → IsAtCondvar at → place_at w t ≡ Condvar l (waits at) → can_do w (wait_act l m at) ≡ true → FitsItsLock w (condvar_goes l (condvar_next (waits at) (reply_to w t (wait_act l m at))))
+      → Goes w (put (after at (wait_act l m at)) t (next_place (Condvar l (waits at)) (told (wait_act l m at)))) l (acts t (there_deeds (wait_deeds m at (told (wait_act l m at)))))
+  at_condvar = waits_there w t l m timed steady is_there apart sort_l condvar lock_l section_l line_l
+
+  pub waits_go : (at : WaitAt) → IsReached (waits at) → place_at w t ≡ Condvar l (waits at) → can_do w (wait_act l m at) ≡ true → GoesOnBy at (wait_act l m at)
+  waits_go wait.Enter reached is can = there wait.Enter (wait_act l m wait.Enter) is refl refl (at_condvar wait.Enter tt is can)
+  waits_go wait.Show reached is can = there wait.Show (wait_act l m wait.Show) is refl refl (at_condvar wait.Show tt is can)
+  waits_go wait.Stand reached is can = there wait.Stand (wait_act l m wait.Stand) is refl refl (at_condvar wait.Stand tt is can)
+  waits_go wait.Leave reached is can = there wait.Leave (wait_act l m wait.Leave) is refl refl (at_condvar wait.Leave tt is can)
+  waits_go wait.Refuse reached is can = from_there wait.Refuse (wait_act l m wait.Refuse) is refl _ (λ fits. refused w t l m timed steady is_there apart sort_l sort_m section_l is)
+  waits_go wait.Remove reached is can = there wait.Remove (wait_act l m wait.Remove) is refl refl (at_condvar wait.Remove tt is can)
+  waits_go wait.Hide reached is can = there wait.Hide (wait_act l m wait.Hide) is refl refl (at_condvar wait.Hide tt is can)
+  waits_go wait.GiveUp reached is can = there wait.GiveUp (wait_act l m wait.GiveUp) is refl refl (at_condvar wait.GiveUp tt is can)
+  waits_go wait.RemoveMoved reached is can = beside wait.RemoveMoved (act.Remove (2 * m)) is refl refl refl (leaves_line w t l m timed steady is_there apart sort_m section_m line_m is)
+  waits_go (wait.GiveUpMoved none_left) reached is can = beside (wait.GiveUpMoved none_left) (wait_act l m (wait.GiveUpMoved none_left)) is refl refl refl (leaves_late w t l m timed steady is_there apart sort_m section_m line_m none_left is)
+  waits_go (wait.Asleep s) reached is can = absurd cc
+  waits_go (wait.Release s (mutex.Unlock at)) reached is can = release_goes s at is can
+  waits_go (wait.Release s at) reached is can = absurd reached.0
+  waits_go (wait.Lock late (mutex.Lock entry.Lock retries at)) reached is can = relock_goes late retries at reached.1 is can
+  waits_go (wait.Lock late at) reached is can = absurd reached.1
