@@ -143,6 +143,11 @@ module _ (w : State) (t l : ℕ) (at : CondvarPlace) (is : place_at w t ≡ Cond
   unfolding went
   went_alike = still_alike at own_place.0 (reply_to w t (condvar_act l at)) own_place.2
 
+-- who notifies stands where it stood
+pub notifier_still : (w : State) (t l m : ℕ) (all : Bool) (p : NotifyAt) (is : place_at w t ≡ Condvar l (Notify all m p)) (reached : IsReached (Notify all m p)) (there : t < length w.places)
+    → place_at (state_after_act w t (Condvar l (Notify all m p)) (condvar_act l (Notify all m p))) t ≡ Condvar l (Notify all m p)
+notifier_still w t l m all p is reached there = let own = own_place w t l (Notify all m p) is reached there in own.1 ∙ ap (Condvar l) own.2
+
 -- who notifies, or looks, goes on from where it stood
 pub notify_place : (w : State) (t l m : ℕ) (all : Bool) (p : NotifyAt) (is : place_at w t ≡ Condvar l (Notify all m p)) (reached : IsReached (Notify all m p)) (there : t < length w.places)
     → place_at (state_after_going w t (Condvar l (Notify all m p))) t ≡ condvar_goes l (condvar_next (Notify all m p) (reply_to w t (condvar_act l (Notify all m p))))

@@ -139,3 +139,4 @@ pub mod LooksThere
 pub mod MovedWaiters
 pub mod NotifiesMoves
 pub mod WaitsGo
+pub mod NotifiesGo
