@@ -1,5 +1,5 @@
 -- A notification moves waiters of its condition variable to the mutex, or takes the first of them: both locks are sites again.
-use Rattle.std.proofs.Common.{ℕ, Bool, true, false, Option, Some, None, if◌then◌else◌, ◌==◌, ◌||◌, ◌≡◌, ◌≢◌, ◌⊎◌, ◌+◌, ◌*◌, ◌≤◌, ◌<◌, List, [], ◌∷◌, ◌++◌, length, map, drop, take, get_or, set, not, refl, sym, ◌∙◌, ap, subst, arith, inl, inr, length-set, get_or-set_same, get_or-set_other}
+use Rattle.std.proofs.Common.{ℕ, Bool, true, false, Some, None, if◌then◌else◌, ◌==◌, ◌≡◌, ◌≢◌, ◌+◌, ◌*◌, ◌≤◌, ◌<◌, List, [], ◌∷◌, ◌++◌, length, map, drop, take, get_or, set, not, refl, sym, ◌∙◌, ap, subst, arith, inl, inr, length-set, get_or-set_same, get_or-set_other}
 use Rattle.std.proofs.lemmas.Bool.Decides.{nat_tests}
 use Rattle.lot_base.specs.declared.requeues.Requeue.{Requeue}
 use Rattle.lot_base.specs.declared.requeues.Requeue.TheVariants as requeue
@@ -10,10 +10,10 @@ use Rattle.lot_base.specs.Requeues.{moved_by, taken_by}
 use Rattle.lot_acts.specs.declared.acts.Next.{Next}
 use Rattle.lot_acts.specs.declared.acts.Next.TheVariants.{At, End as Over}
 use Rattle.lot_acts.specs.declared.acts.Reply.{Reply}
-use Rattle.lot_acts.specs.declared.acts.Reply.TheVariants.{MovedTo, Requeued, TakenBy, Took}
+use Rattle.lot_acts.specs.declared.acts.Reply.TheVariants.{MovedTo, TakenBy, Took}
 use Rattle.lot_acts.specs.Moves.{inside_of}
-use Rattle.lot_acts.specs.Profiles.{Profile, in_hand, taken_from}
-use Rattle.lot_acts.specs.Stations.{Station, station_by}
+use Rattle.lot_acts.specs.Profiles.{in_hand, taken_from}
+use Rattle.lot_acts.specs.Stations.{Station}
 use Rattle.lot_steps.specs.declared.places.Place.{Place}
 use Rattle.lot_steps.specs.declared.places.Place.TheVariants.{Condvar, Idle}
 use Rattle.lot_steps.specs.Steps.{condvar_goes, next_place}
@@ -21,7 +21,7 @@ use Rattle.lot_condvar.specs.declared.notify.NotifyAt.{NotifyAt}
 use Rattle.lot_condvar.specs.declared.notify.NotifyAt.TheVariants as notify
 use Rattle.lot_condvar.specs.declared.places.CondvarPlace.{CondvarPlace}
 use Rattle.lot_condvar.specs.declared.places.CondvarPlace.TheVariants.{Notify}
-use Rattle.lot_condvar.specs.CondvarMoves.{MovesWaiters, row_beside, row_there, there}
+use Rattle.lot_condvar.specs.CondvarMoves.{MovesWaiters, row_beside, there}
 use Rattle.lot_condvar.specs.CondvarMutex.{FollowsBeside, MayHearBeside, beside_deeds, doing_next}
 use Rattle.lot_condvar.specs.CondvarSteps.{condvar_next, in_notify, move_act, next_notify}
 use Rattle.lot_condvar.proofs.NotifierFit.{notifiers_follow}
@@ -30,8 +30,8 @@ use Rattle.abstract_locks.specs.Deeds as laws
 use Rattle.abstract_locks.specs.Locks as locks
 use Rattle.abstract_locks.specs.Locks.{putting}
 use Rattle.abstract_locks.specs.Picks.{queued_of}
-use Rattle.abstract_locks.specs.Sites.{Bring, Deed, Doing, bringing, Main, Send, Site, has_readers, idle}
-use Rattle.lot_machine.specs.Machine.{State, left_behind, listed, moved_threads, moved_under, place_at, places_told, put, queue_at, queues_requeued, section_at, state_after_requeue, queues_without_first, state_after_taking, reply_to, state_after_act}
+use Rattle.abstract_locks.specs.Sites.{Bring, Deed, Doing, bringing, Main, Send, has_readers, idle}
+use Rattle.lot_machine.specs.Machine.{State, left_behind, listed, moved_threads, moved_under, place_at, places_told, put, queue_at, state_after_requeue, queues_without_first, state_after_taking, reply_to, state_after_act}
 use Rattle.lot_laws.specs.MutexDeeds.{acts}
 use Rattle.lot_laws.specs.Refinement.{taken_at}
 use Rattle.lot_laws.specs.Stations.{doing_on, station_at}

@@ -1,5 +1,5 @@
 -- A wait goes on: by each of its acts both its locks are sites again, as the deeds of its place say.
-use Rattle.std.proofs.Common.{ℕ, Bool, true, false, Option, Some, None, if◌then◌else◌, ◌==◌, ◌≡◌, ◌≢◌, ◌⊎◌, ◌+◌, ◌*◌, ◌<◌, List, [], ◌∷◌, length, map, not, refl, sym, ◌∙◌, ap, subst, inl, inr}
+use Rattle.std.proofs.Common.{ℕ, Bool, true, false, None, if◌then◌else◌, ◌==◌, ◌≡◌, ◌≢◌, ◌+◌, ◌*◌, ◌<◌, List, [], length, not, refl, sym, ◌∙◌, ap, subst}
 use Rattle.std.proofs.lemmas.Bool.{eqb-true}
 use Rattle.lot_base.specs.declared.keys.Keys.TheVariants.{One}
 use Rattle.lot_base.specs.declared.ops.Op.TheVariants as op
@@ -9,7 +9,7 @@ use Rattle.lot_acts.specs.declared.acts.Next.{Next}
 use Rattle.lot_acts.specs.declared.acts.Next.TheVariants.{At, End as Over}
 use Rattle.lot_acts.specs.declared.acts.Reply.{Reply}
 use Rattle.lot_steps.specs.declared.places.Place.{Place}
-use Rattle.lot_steps.specs.declared.places.Place.TheVariants.{Condvar, Idle}
+use Rattle.lot_steps.specs.declared.places.Place.TheVariants.{Condvar}
 use Rattle.lot_steps.specs.Steps.{condvar_goes, next_place}
 use Rattle.lot_mutex.specs.declared.lock.Entry.TheVariants as entry
 use Rattle.lot_mutex.specs.declared.lock.LockAt.{LockAt}
@@ -30,7 +30,7 @@ use Rattle.lot_condvar.specs.CondvarWaits.{waiter_deeds}
 use Rattle.abstract_locks.specs.Condvars.{IsCondvar}
 use Rattle.abstract_locks.specs.Locks as locks
 use Rattle.abstract_locks.specs.Sites.{Main}
-use Rattle.lot_machine.specs.Machine.{State, can_do, place_at, put, reply_to, state_after_act, state_after_going, queues_with_last, word_at}
+use Rattle.lot_machine.specs.Machine.{State, can_do, place_at, put, reply_to, state_after_act, queues_with_last, word_at}
 use Rattle.lot_laws.specs.MutexDeeds.{acts}
 use Rattle.lot_laws.specs.MutexDeeds as deeds
 use Rattle.lot_laws.specs.SitesOf.{FitsItsLock, Goes, GoesAll, IsSteady, condvar_of, key_of, rules_in}
@@ -38,7 +38,7 @@ use Rattle.lot_laws.proofs.Following.{goes_all, only_at}
 use Rattle.lot_laws.proofs.Glue as glue
 use Rattle.lot_laws.proofs.Glue.{differ, same}
 use Rattle.lot_laws.proofs.TwoLocks.{two_at}
-use Rattle.lot_laws.proofs.CondvarHears.{fits_here, taken_by_wait}
+use Rattle.lot_laws.proofs.CondvarHears.{taken_by_wait}
 use Rattle.lot_laws.proofs.CondvarThere.{there_deeds}
 use Rattle.lot_laws.proofs.WaitsThere.{waits_there, IsAtCondvar}
 use Rattle.lot_laws.proofs.WaitsBeside.{clears, decides, loads, subtracts, tries}
