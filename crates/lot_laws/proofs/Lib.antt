@@ -140,3 +140,4 @@ pub mod MovedWaiters
 pub mod NotifiesMoves
 pub mod WaitsGo
 pub mod NotifiesGo
+pub mod CondvarOthers
