@@ -1,5 +1,5 @@
 -- By each act of a call of a condition variable the calls of the other threads become what its event makes of them.
-use Rattle.std.proofs.Common.{ℕ, Bool, true, false, Option, Some, None, if◌then◌else◌, ◌==◌, ◌||◌, ◌≡◌, ◌≢◌, ◌+◌, ◌*◌, ◌<◌, List, [], ◌∷◌, length, not, refl, sym, ◌∙◌, ap, subst}
+use Rattle.std.proofs.Common.{ℕ, Bool, true, false, Option, Some, None, if◌then◌else◌, ◌==◌, ◌||◌, ◌≡◌, ◌≢◌, ◌+◌, ◌*◌, ◌<◌, List, [], ◌∷◌, length, not, refl, sym, ◌∙◌, ap, subst, get_or, get_or-set_other, inl, inr}
 use Rattle.lot_base.specs.declared.keys.Keys.TheVariants.{One}
 use Rattle.lot_base.specs.declared.ops.Op.TheVariants as op
 use Rattle.lot_base.specs.declared.wants.Want.TheVariants.{Exclusive}
@@ -7,10 +7,10 @@ use Rattle.lot_acts.specs.declared.acts.Act.{Act}
 use Rattle.lot_acts.specs.declared.acts.Act.TheVariants as act
 use Rattle.lot_acts.specs.declared.acts.Next.{Next}
 use Rattle.lot_acts.specs.declared.acts.Next.TheVariants.{At, End as Over}
-use Rattle.lot_acts.specs.declared.acts.Reply.TheVariants.{Done, Parked, Value}
+use Rattle.lot_acts.specs.declared.acts.Reply.TheVariants.{Done, Parked, Value, Woken}
 use Rattle.lot_acts.specs.declared.acts.Whom.TheVariants.{First}
 use Rattle.lot_steps.specs.declared.places.Place.{Place}
-use Rattle.lot_steps.specs.declared.places.Place.TheVariants.{Condvar}
+use Rattle.lot_steps.specs.declared.places.Place.TheVariants.{Condvar, Idle}
 use Rattle.lot_mutex.specs.declared.lock.Entry.TheVariants as entry
 use Rattle.lot_mutex.specs.declared.lock.LockAt.{LockAt}
 use Rattle.lot_mutex.specs.declared.lock.LockAt.TheVariants as lock
@@ -25,22 +25,33 @@ use Rattle.lot_condvar.specs.declared.wait.WaitAt.{WaitAt}
 use Rattle.lot_condvar.specs.declared.wait.WaitAt.TheVariants as wait
 use Rattle.lot_condvar.specs.CondvarCalls.{IsLockOf, IsReached, case_there, or_else, wait_event}
 use Rattle.lot_condvar.specs.CondvarDeeds.{relocked_deeds}
-use Rattle.lot_condvar.specs.CondvarSteps.{is_shown, wait_act}
+use Rattle.lot_condvar.specs.CondvarSteps.{is_shown, wait_act, mutex_beside}
 use Rattle.lot_condvar.specs.CondvarWaits.{unended}
 use Rattle.abstract_locks.specs.Condvars.{SeeOther, Show}
 use Rattle.abstract_locks.specs.Deeds.{case_of, event_by}
 use Rattle.abstract_locks.specs.Locks as locks
 use Rattle.abstract_locks.specs.Locks.{Leave, LockCase, Rights}
-use Rattle.abstract_locks.specs.Runs.{AtLock, Event, Moves, Nothing, woken}
+use Rattle.abstract_locks.specs.Runs.{AtLock, Event, Moves, Nothing, is_taken_by, woken}
 use Rattle.abstract_locks.specs.Sites.{Case, Deed, End, Main, Mark}
-use Rattle.lot_machine.specs.Machine.{State, can_do, place_at, put, reply_to, state_after_act, word_at}
-use Rattle.lot_laws.specs.Refinement.{call_state, locks_of}
-use Rattle.lot_laws.specs.SitesOf.{IsSteady, key_of, rules_in}
+use Rattle.lot_machine.specs.Machine.{State, can_do, place_at, put, reply_to, state_after_act, word_at, place_after_telling, state_after_telling}
+use Rattle.lot_laws.specs.Refinement.{call_state, locks_of, taken_at}
+use Rattle.lot_laws.specs.SitesOf.{IsSteady, key_of, rules_in, carried_at, hand_at}
+use Rattle.lot_laws.proofs.AtPlaces.{unless_held}
 use Rattle.lot_laws.proofs.CallEvents.{Happens, Others, OthersFollow, others_follow}
 use Rattle.lot_laws.proofs.CondvarHears.{taken_by_wait}
-use Rattle.lot_laws.proofs.OtherCalls.{IsCalm, IsLonely, Stay, lonely, no_hand_off, takes}
+use Rattle.lot_laws.proofs.OtherCalls.{IsCalm, IsLonely, Stay, lonely, no_hand_off, takes, taken_by_hand}
 use Rattle.lot_acts.specs.declared.acts.Check.TheVariants.{WordIs}
 use Rattle.lot_acts.specs.Acts.{holds}
+use Rattle.std.proofs.Math.ListN.{get_or-map}
+use Rattle.std.proofs.lemmas.Bool.{cases_eq}
+use Rattle.lot_base.specs.declared.notes.Note.TheVariants.{Normal}
+use Rattle.lot_acts.specs.Owners.{is_thread}
+use Rattle.lot_acts.specs.Profiles.{hand}
+use Rattle.lot_acts.specs.Stations.{Station}
+use Rattle.lot_steps.specs.Steps.{next_place, taker}
+use Rattle.lot_laws.proofs.Glue.{CarriesAt, IsInHandOf, aparts, held_tells, in_hand_here, in_hand_where}
+use Rattle.lot_laws.proofs.CondvarParts.{nothing_there, station_there}
+use Rattle.lot_laws.proofs.LockEvents.{Befalls, wakes_others}
 
 -- an event that leaves the calls of the others as they are
 abbrev pub IsCalmEvent : Event → Type 0
@@ -64,6 +75,37 @@ two_calm : (m l : ℕ) (x y : Option LockCase) → IsCalm x → IsCalm y → IsC
 two_calm m l None None h g = tt
 two_calm m l None (Some b) h g = g
 two_calm m l (Some a) y h g = h
+
+-- whoever calls a condition variable has somebody in hand at its mutex alone
+pub condvar_carries : (l m : ℕ) → m ≢ l → (at : CondvarPlace) → mutex_beside at ≡ Some m → CarriesAt m (Condvar l at)
+condvar_carries l m apart at of k ne = elim (cases_eq k l) [
+  | inl e ↦ subst (λ j. carried_at (Condvar l at) j ≡ None) (sym e) (ap (λ (y : Station). y.carries) (station_there l m apart (At at) of))
+  | inr nl ↦ ap (λ (y : Station). y.carries) (nothing_there l m apart (At at) of k nl ne)
+]
+
+-- whom it took there is woken
+module _ (w : State) (t m : ℕ) (steady : IsSteady w) (carries : CarriesAt m (place_at w t)) (took : carried_at (place_at w t) m ≡ Some false) (p2 : Place) where
+  in_hand : (u : ℕ) → is_thread t (taker (place_at w u)) ≡ true → hand_at (place_at w u) m ≡ hand t false
+  in_hand u e =
+      let x : IsInHandOf (place_at w u) t = in_hand_where (place_at w u) t (aparts w steady u) e in
+      let here = subst (λ k. hand_at (place_at w u) k ≡ hand t x.handed) (in_hand_here (place_at w) steady.stands.hands t m u carries x) x.hand in
+      let there : carried_at (place_at w t) m ≡ Some x.handed = steady.stands.hands.taken t u m x.handed here in
+      here ∙ ap (hand t) (let g : Some x.handed ≡ Some false = sym there ∙ took in let f : x.handed ≡ false = cc in f)
+
+  pub wake_befalls : (b : State) → b.places ≡ w.places → Befalls w (put (state_after_telling b t (Woken Normal)) t p2) t m (Woken Normal)
+  wake_befalls b places u ne = get_or-set_other _ t u p2 Idle ne ∙ get_or-map (place_after_telling t (Woken Normal)) b.places u Idle ∙ ap (λ (xs : List Place). place_after_telling t (Woken Normal) (get_or xs u Idle)) places
+      ∙ ap (λ c. if c then next_place (place_at w u) (Woken Normal) else place_at w u) (same_test (is_thread t (taker (place_at w u))) refl)
+    where
+      same_test : (c : Bool) → is_thread t (taker (place_at w u)) ≡ c → is_thread t (taker (place_at w u)) ≡ is_taken_by t (taken_at (place_at w u) m)
+      same_test true e = e ∙ sym (taken_by_hand w (place_at w u) t m (steady.stands.calls u) (in_hand u e))
+      same_test false e = e ∙ sym (unless_held w steady t m u (λ h. let f : is_thread t (taker (place_at w u)) ≡ true = held_tells (place_at w u) t m false h in cc))
+
+  -- and their calls say so
+  pub wake_follows : (b : State) → b.places ≡ w.places → Happens w (put (state_after_telling b t (Woken Normal)) t p2) t (AtLock m locks.Wake) → OthersFollow w (put (state_after_telling b t (Woken Normal)) t p2) t (AtLock m locks.Wake)
+  wake_follows b places h = others_follow w v t m (Some locks.Wake) h (λ x y e. cc) (wakes_others w v t m (wake_befalls b places))
+    where
+      v : State
+      v = put (state_after_telling b t (Woken Normal)) t p2
 
 module _ (w : State) (t l m : ℕ) (timed : Bool) (steady : IsSteady w) (plain : (rules_in w m).sort ≡ locks.Mutex) where
   abbrev waits : WaitAt → CondvarPlace
