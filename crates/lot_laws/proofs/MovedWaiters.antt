@@ -6,7 +6,7 @@ use Rattle.lot_acts.specs.declared.acts.Next.TheVariants.{At}
 use Rattle.lot_acts.specs.Profiles.{Profile, hand, taken_from}
 use Rattle.lot_acts.specs.Stations.{Station, station_by}
 use Rattle.lot_steps.specs.declared.places.Place.TheVariants.{Condvar}
-use Rattle.lot_steps.specs.Steps.{profile_at}
+use Rattle.lot_steps.specs.Steps.{profile_at, next_place}
 use Rattle.lot_mutex.specs.declared.places.MutexPlace.TheVariants as mutex
 use Rattle.lot_mutex.specs.declared.unlock.UnlockAt.{UnlockAt}
 use Rattle.lot_condvar.specs.declared.notify.NotifyAt.TheVariants as notify
@@ -21,10 +21,10 @@ use Rattle.lot_condvar.specs.CondvarProfiles.{condvar_profile, condvar_row, wait
 use Rattle.abstract_locks.specs.Condvars as condvars
 use Rattle.abstract_locks.specs.Condvars.{AllOf, IsCondvar, moving}
 use Rattle.abstract_locks.specs.Locks as locks
-use Rattle.abstract_locks.specs.Locks.{Taken}
+use Rattle.abstract_locks.specs.Locks.{Taken, Rights}
 use Rattle.abstract_locks.specs.Sites.{Main}
 use Rattle.lot_machine.specs.Machine.{State, place_at, queue_at, section_at}
-use Rattle.lot_laws.specs.Refinement.{lock_state}
+use Rattle.lot_laws.specs.Refinement.{lock_state, call_state}
 use Rattle.lot_laws.specs.Stations.{station_at}
 use Rattle.lot_laws.specs.SitesOf.{FitsCondvar, FitsItsLock, IsSteady, condvar_of, key_of, rules_in}
 use Rattle.lot_laws.proofs.Glue.{same}
@@ -34,6 +34,11 @@ use Rattle.lot_laws.proofs.CondvarParts.{doing_beside, doing_there, nothing_else
 use Rattle.lot_laws.proofs.CondvarPromises.{unlisted}
 use Rattle.lot_laws.proofs.CondvarSites.{at_place}
 use Rattle.lot_laws.proofs.WaitersAside.{waits_there}
+use Rattle.lot_acts.specs.declared.acts.Reply.{Reply}
+use Rattle.abstract_locks.specs.Purposes.{WasMoved}
+use Rattle.lot_condvar.proofs.WaitTells.{waiters_are_told}
+use Rattle.lot_steps.specs.declared.places.Place.{Place}
+use Rattle.lot_acts.specs.declared.acts.Reply.TheVariants.{MovedTo, TakenBy}
 
 module _ (w : State) (l m : ℕ) (apart : m ≢ l) (timed : Bool) where
   abbrev waits : WaitAt → CondvarPlace
@@ -121,29 +126,45 @@ module _ (w : State) (t l m : ℕ) (steady : IsSteady w) (apart : m ≢ l) (sort
     not_inside timed p at within = let a : section_at w (key_of l Main) ≡ Some u = (steady.stands.sections u l Main).0 (ap (λ q. (station_at q l).inside) at ∙ ap (λ (y : Station). y.inside) (station_there l m apart (At (Wait m timed p)) refl) ∙ within) in
         let b : Some u ≡ Some t = sym a ∙ held in let c : u ≡ t = cc in let d : Condvar l (Wait m timed p) ≡ Condvar l this = sym at ∙ ap (place_at w) c ∙ is in cc
 
-    by_wait : (timed : Bool) (p : WaitAt) → place_at w u ≡ Condvar l (Wait m timed p) → (wait_row m p).listed ≡ true → FitsCondvar w l (Wait m timed p) → WaitsAcross w t l m (Condvar l (Wait m timed p))
-    by_wait timed wait.Leave at h fits = absurd (not_inside timed wait.Leave at refl)
-    by_wait timed wait.Remove at h fits = absurd (not_inside timed wait.Remove at refl)
-    by_wait timed (wait.Asleep stands.Listed) at h fits = sleeper w l m apart timed t fits
-    by_wait timed (wait.Asleep s) at h fits = absurd cc
-    by_wait timed (wait.Release stands.Listed (mutex.Unlock p)) at h fits = releaser w l m apart timed t p fits
-    by_wait timed (wait.Release stands.Listed p) at h fits = absurd fits.reached.0
-    by_wait timed (wait.Release s p) at h fits = absurd cc
-    by_wait timed p at h fits = absurd cc
+    -- so it sleeps, or releases its mutex still
+    module _ (P : Place → Type 0) (sleeps : (timed : Bool) → FitsCondvar w l (Wait m timed (wait.Asleep stands.Listed)) → P (Condvar l (Wait m timed (wait.Asleep stands.Listed))))
+        (releases : (timed : Bool) (at : UnlockAt) → FitsCondvar w l (Wait m timed (wait.Release stands.Listed (mutex.Unlock at))) → P (Condvar l (Wait m timed (wait.Release stands.Listed (mutex.Unlock at))))) where
+      by_wait : (timed : Bool) (p : WaitAt) → place_at w u ≡ Condvar l (Wait m timed p) → (wait_row m p).listed ≡ true → FitsCondvar w l (Wait m timed p) → P (Condvar l (Wait m timed p))
+      by_wait timed wait.Leave at h fits = absurd (not_inside timed wait.Leave at refl)
+      by_wait timed wait.Remove at h fits = absurd (not_inside timed wait.Remove at refl)
+      by_wait timed (wait.Asleep stands.Listed) at h fits = sleeps timed fits
+      by_wait timed (wait.Asleep s) at h fits = absurd cc
+      by_wait timed (wait.Release stands.Listed (mutex.Unlock p)) at h fits = releases timed p fits
+      by_wait timed (wait.Release stands.Listed p) at h fits = absurd fits.reached.0
+      by_wait timed (wait.Release s p) at h fits = absurd cc
+      by_wait timed p at h fits = absurd cc
 
-    by_at : (at : CondvarPlace) → place_at w u ≡ Condvar l at → (condvar_row at).listed ≡ true → WaitsAcross w t l m (place_at w u)
-    by_at (Look all) at h = absurd cc
-    by_at (Notify every k p) at h = absurd (let none : false ≡ true = sym (unlisted every k p) ∙ h in cc)
-    by_at (Wait k timed p) at h = subst (WaitsAcross w t l m) (sym here) (by_wait timed p here (subst (λ j. (wait_row j p).listed ≡ true) named h) (subst (FitsItsLock w) here (steady.stands.calls u)))
-      where
-        row : profile_at (place_at w u) l ≡ condvar_profile (Wait k timed p)
-        row = rw (at, same l) refl
+      by_at : (at : CondvarPlace) → place_at w u ≡ Condvar l at → (condvar_row at).listed ≡ true → P (place_at w u)
+      by_at (Look all) at h = absurd cc
+      by_at (Notify every k p) at h = absurd (let none : false ≡ true = sym (unlisted every k p) ∙ h in cc)
+      by_at (Wait k timed p) at h = subst P (sym here) (by_wait timed p here (subst (λ j. (wait_row j p).listed ≡ true) named h) (subst (FitsItsLock w) here (steady.stands.calls u)))
+        where
+          row : profile_at (place_at w u) l ≡ condvar_profile (Wait k timed p)
+          row = rw (at, same l) refl
 
-        named : k ≡ m
-        named = let both : Some k ≡ Some m = sym (ap (λ (y : Profile). y.names) row) ∙ all_of u listed in cc
+          named : k ≡ m
+          named = let both : Some k ≡ Some m = sym (ap (λ (y : Profile). y.names) row) ∙ all_of u listed in cc
 
-        here : place_at w u ≡ Condvar l (Wait m timed p)
-        here = at ∙ ap (λ j. Condvar l (Wait j timed p)) named
+          here : place_at w u ≡ Condvar l (Wait m timed p)
+          here = at ∙ ap (λ j. Condvar l (Wait j timed p)) named
+
+      pub each_waiter : P (place_at w u)
+      each_waiter = let x = waits_there w steady l sort_l u listed in by_at x.at x.is x.listed
 
     pub waits_across : WaitsAcross w t l m (place_at w u)
-    waits_across = let x = waits_there w steady l sort_l u listed in by_at x.at x.is x.listed
+    waits_across = each_waiter (WaitsAcross w t l m) (λ timed fits. sleeper w l m apart timed t fits) (λ timed at fits. releaser w l m apart timed t at fits)
+
+    -- its call knows then that it was moved
+    abbrev KnowsIt : Reply → Place → Type 0
+    KnowsIt reply p = (r : ℕ → Rights) → call_state (next_place p reply) r ≡ record (call_state p r) { recalls = WasMoved }
+
+    pub knows_taken : KnowsIt (TakenBy t) (place_at w u)
+    knows_taken = each_waiter (KnowsIt (TakenBy t)) (λ timed fits. waiters_are_told l m timed (wait.Asleep stands.Listed) (TakenBy t) tt tt) (λ timed at fits. waiters_are_told l m timed (wait.Release stands.Listed (mutex.Unlock at)) (TakenBy t) tt tt)
+
+    pub knows_moved : KnowsIt (MovedTo (key_of m Main)) (place_at w u)
+    knows_moved = each_waiter (KnowsIt (MovedTo (key_of m Main))) (λ timed fits. waiters_are_told l m timed (wait.Asleep stands.Listed) (MovedTo (key_of m Main)) tt tt) (λ timed at fits. waiters_are_told l m timed (wait.Release stands.Listed (mutex.Unlock at)) (MovedTo (key_of m Main)) tt tt)
