@@ -28,27 +28,30 @@ use Rattle.lot_condvar.proofs.NotifierFit.{notifiers_follow}
 use Rattle.abstract_locks.specs.Condvars.{IsCondvar, WaitsAside, in_line, line_of, moved_of, taken_of}
 use Rattle.abstract_locks.specs.Deeds as laws
 use Rattle.abstract_locks.specs.Locks as locks
-use Rattle.abstract_locks.specs.Locks.{putting}
+use Rattle.abstract_locks.specs.Locks.{putting, Rights}
 use Rattle.abstract_locks.specs.Picks.{queued_of}
 use Rattle.abstract_locks.specs.Sites.{Bring, Deed, Doing, bringing, Main, Send, has_readers, idle}
 use Rattle.lot_machine.specs.Machine.{State, left_behind, listed, moved_threads, moved_under, place_at, places_told, put, queue_at, state_after_requeue, queues_without_first, state_after_taking, reply_to, state_after_act}
 use Rattle.lot_laws.specs.MutexDeeds.{acts}
-use Rattle.lot_laws.specs.Refinement.{taken_at}
+use Rattle.lot_laws.specs.Refinement.{taken_at, call_state}
 use Rattle.lot_laws.specs.Stations.{doing_on, station_at}
 use Rattle.lot_laws.specs.SitesOf.{ActsNeeded, AreWaiting, FitsItsLock, GoesAll, IsSteady, condvar_of, key_of, rules_in, site_of, stations_of, stood_in}
-use Rattle.lot_laws.proofs.Glue.{put_here, same, put_places}
+use Rattle.lot_laws.proofs.Glue.{put_here, same, put_places, put_other}
 use Rattle.lot_laws.proofs.LawsKept.{needed_same}
 use Rattle.lot_laws.proofs.StandsKept.{Alike, other_key}
 use Rattle.lot_laws.proofs.TwoLocks.{two_at}
 use Rattle.lot_laws.proofs.CondvarParts.{Beside, doing_beside, doing_of_row, doing_there, nothing_else, station_beside, station_there, taken_beside, taken_there}
 use Rattle.lot_laws.proofs.CondvarHears as hears
-use Rattle.lot_laws.proofs.MovedWaiters.{waits_across}
+use Rattle.lot_laws.proofs.MovedWaiters.{waits_across, knows_moved, knows_taken}
 use Rattle.lot_laws.proofs.MovingKept.{moves_kept}
-use Rattle.lot_laws.proofs.Moving.{WaitsAcross, places_across}
-use Rattle.lot_laws.proofs.TakesAt.{member, at_most_one, member_times, told_once, told_places}
+use Rattle.lot_laws.proofs.Moving.{WaitsAcross, places_across, goes}
+use Rattle.lot_laws.proofs.TakesAt.{member, at_most_one, member_times, told_once, told_places, stranger_times}
 use Rattle.lot_machine.proofs.QueueLemmas.{told_count}
 use Rattle.lot_condvar.proofs.CondvarActs.{notifies_move}
 use Rattle.lot_laws.proofs.CondvarHears.{notifier_hears}
+use Rattle.std.specs.Prelude.{nat_le}
+use Rattle.abstract_locks.specs.Purposes.{WasMoved}
+use Rattle.abstract_locks.specs.Runs.{befallen}
 
 -- ---------------------------------------------------------------- the lists
 
@@ -126,6 +129,9 @@ some_first : (q : List Waiter) → map queued_of q ≢ [] → (u : ℕ) × (memb
 some_first [] h = absurd (h refl)
 some_first (x ∷ q) h = (x.thread, rw (same x.thread) refl)
 
+is_some : (n : ℕ) → 1 ≤ n → nat_le 1 n ≡ true
+is_some n h = grind (arith, nat_tests)
+
 -- ---------------------------------------------------------------- a notification at its move
 
 module _ (w : State) (t l m : ℕ) (all locked : Bool) (steady : IsSteady w) (is_there : t < length w.places) (apart : m ≢ l) (sort_l : (rules_in w l).sort ≡ locks.Condvar) (sort_m : (rules_in w m).sort ≡ locks.Mutex) (kept : IsCondvar (condvar_of w l))
@@ -200,6 +206,24 @@ module _ (w : State) (t l m : ℕ) (all locked : Bool) (steady : IsSteady w) (is
       abbrev behind : ℕ → Place
       behind = places_across w t l m apart steady p2 gone moved left counts lefts across one_gone out bare now_l (in_hand (not locked) false) now_m alike_t fits
 
+      -- the others' calls say so: who is taken or moved knows it
+      knows : ((u : ℕ) → locks.times u (moved_of all (map queued_of line)) ≡ times u gone + times u moved) → (u : ℕ) → u ≢ t → (r : ℕ → Rights) → call_state (behind u) r ≡ befallen u (moved_of all (map queued_of line)) (call_state (place_at w u) r)
+      knows counted u ne r = ap (λ q. call_state q r) (put_other goes_across t p2 u ne) ∙ either (member u gone) (member u moved) refl refl
+        where
+          goes_across : ℕ → Place
+          goes_across = goes w t l m apart steady p2 gone moved left counts lefts across one_gone out bare now_l (in_hand (not locked) false) now_m alike_t fits
+
+          known : 1 ≤ times u gone + times u moved → befallen u (moved_of all (map queued_of line)) (call_state (place_at w u) r) ≡ record (call_state (place_at w u) r) { recalls = WasMoved }
+          known some = ap (λ b. if b then record (call_state (place_at w u) r) { recalls = WasMoved } else call_state (place_at w u) r) (is_some (locks.times u (moved_of all (map queued_of line))) (let a = counted u in omega arith))
+
+          unknown : times u gone + times u moved ≡ 0 → befallen u (moved_of all (map queued_of line)) (call_state (place_at w u) r) ≡ call_state (place_at w u) r
+          unknown none = ap (λ n. if nat_le 1 n then record (call_state (place_at w u) r) { recalls = WasMoved } else call_state (place_at w u) r) (counted u ∙ none)
+
+          either : (a b : Bool) → member u gone ≡ a → member u moved ≡ b → call_state (if a then next_place (place_at w u) (TakenBy t) else if b then next_place (place_at w u) (MovedTo (key_of m Main)) else place_at w u) r ≡ befallen u (moved_of all (map queued_of line)) (call_state (place_at w u) r)
+          either true b e f = let n : 1 ≤ times u gone = member_times u gone e in knows_taken w t l m steady apart sort_l all locked is kept u (let a = counts u in omega arith) r ∙ sym (known (omega arith))
+          either false true e f = let n : 1 ≤ times u moved = member_times u moved f in knows_moved w t l m steady apart sort_l all locked is kept u (let a = counts u in omega arith) r ∙ sym (known (omega arith))
+          either false false e f = sym (unknown (let a = stranger_times u gone e in let b = stranger_times u moved f in omega arith))
+
       carries_some : (b : Bool) → in_hand (not locked) false ≡ Some b → (b ≡ false) × ((u : ℕ) × (member u gone ≡ true))
       carries_some b e = by_locked locked refl e
         where
@@ -248,10 +272,10 @@ module _ (w : State) (t l m : ℕ) (all locked : Bool) (steady : IsSteady w) (is
       taken_then u = ap (λ (f : ℕ → Place). f u) (told_places (TakenBy t) gone w.places) ∙ told_once (TakenBy t) gone (place_at w) u (let a = at_most u in omega arith)
 
       -- where each goes
-      abbrev goes : ℕ → Place
-      goes u = if member u gone then next_place (place_at w u) (TakenBy t) else if member u moved then next_place (place_at w u) (MovedTo (key_of m Main)) else place_at w u
+      abbrev goes_then : ℕ → Place
+      goes_then u = if member u gone then next_place (place_at w u) (TakenBy t) else if member u moved then next_place (place_at w u) (MovedTo (key_of m Main)) else place_at w u
 
-      place_then : (u : ℕ) → place_at requeued u ≡ goes u
+      place_then : (u : ℕ) → place_at requeued u ≡ goes_then u
       place_then u = ap (λ us. get_or (places_told (MovedTo (2 * m)) us (places_told (TakenBy t) (listed (taken_by how line)) w.places)) u Idle) (threads_moved how line)
           ∙ ap (λ us. get_or (places_told (MovedTo (2 * m)) (threads_of moved) (places_told (TakenBy t) us w.places)) u Idle) (gone_threads how line)
           ∙ ap (λ (f : ℕ → Place). f u) (told_places (MovedTo (2 * m)) moved taken_places) ∙ told_once (MovedTo (2 * m)) moved (λ u. get_or taken_places u Idle) u (let a = at_most u in omega arith)
@@ -271,13 +295,21 @@ module _ (w : State) (t l m : ℕ) (all locked : Bool) (steady : IsSteady w) (is
       told_length : length requeued.places ≡ length w.places
       told_length = told_count (MovedTo (2 * m)) (moved_threads how (threads_of line)) (places_told (TakenBy t) (listed (taken_by how line)) w.places) ∙ told_count (TakenBy t) (listed (taken_by how line)) w.places
 
+      places_now : place_at v ≡ putting goes_then t p2
+      places_now = put_places requeued t p2 (λ h. absurd (let n = told_length in omega arith)) ∙ ap (λ (f : ℕ → Place). putting f t p2) (λ i u. place_then u i)
+
+      -- the others' calls say so
+      pub requeued_calls : ((u : ℕ) → locks.times u (moved_of all (map queued_of line)) ≡ times u gone + times u moved) → (u : ℕ) → u ≢ t → (r : ℕ → Rights) → call_state (place_at v u) r ≡ befallen u (moved_of all (map queued_of line)) (call_state (place_at w u) r)
+      requeued_calls counted u ne r = ap (λ (f : ℕ → Place). call_state (f u) r) places_now
+          ∙ knows gone moved (left_behind how line) (all_counted how line) (left_waits (stations_of (place_at w)) l how line (steady.stands.waits l Main)) (one_taken how line) none_gone some_gone left_is gone_is moved_is counted u ne r
+
       abbrev others_left : List (List Waiter)
       others_left = set w.queues (2 * l) (left_behind how line)
 
       pub requeues : GoesAll w v (two_at l m (acts t (Send all ∷ [])) (acts t (Bring (taken_of locked (moved_of all (map queued_of line))) (line_of locked (moved_of all (map queued_of line))) ∷ [])))
       requeues = moves_so gone moved (left_behind how line) (all_counted how line) (left_waits (stations_of (place_at w)) l how line (steady.stands.waits l Main)) (one_taken how line) none_gone some_gone left_is gone_is moved_is v refl refl refl
           (length-set requeued.places t p2 ∙ told_length)
-          (put_places requeued t p2 (λ h. absurd (let n = told_length in omega arith)) ∙ ap (λ (f : ℕ → Place). putting f t p2) (λ i u. place_then u i))
+          places_now
           (get_or-set_other others_left (2 * m) (2 * l) _ [] (λ e. keys (sym e)) ∙ get_or-set_same w.queues (2 * l) (left_behind how line) [] line_l)
           (get_or-set_same others_left (2 * m) _ [] (rw (length-set w.queues (2 * l) (left_behind how line)) line_m) ∙ ap (λ q. q ++ moved_under (key_of m Main) moved) (get_or-set_other w.queues (2 * l) (2 * m) (left_behind how line) [] keys))
           (λ key nl nm. get_or-set_other others_left (2 * m) key _ [] nm ∙ get_or-set_other w.queues (2 * l) key (left_behind how line) [] nl)
@@ -334,13 +366,23 @@ module _ (w : State) (t l m : ℕ) (all locked : Bool) (steady : IsSteady w) (is
       abbrev taken_state : State
       taken_state = put (after line) t p2
 
+      first_places : place_at taken_state ≡ putting (λ u. if member u (take 1 line) then next_place (place_at w u) (TakenBy t) else place_at w u) t p2
+      first_places = put_places (after line) t p2 (λ h. absurd (let n = after_threads line in omega arith)) ∙ ap (λ (f : ℕ → Place). putting f t p2) (λ i u. after_place line u i)
+
+      no_locked : locked ≡ true → take 1 line ≡ []
+      no_locked e = absurd (let f : true ≡ false = sym e ∙ free in cc)
+
+      pub taken_calls : ((u : ℕ) → locks.times u (moved_of all (map queued_of line)) ≡ times u (take 1 line) + 0) → (u : ℕ) → u ≢ t → (r : ℕ → Rights) → call_state (place_at taken_state u) r ≡ befallen u (moved_of all (map queued_of line)) (call_state (place_at w u) r)
+      taken_calls once u ne r = ap (λ (f : ℕ → Place). call_state (f u) r) first_places
+          ∙ knows (take 1 line) [] (drop 1 line) (counted line) (left_lined line (steady.stands.waits l Main)) (one_taken requeue.TakeOneMoveRest line) no_locked (λ e. some) left_is gone_is moved_is once u ne r
+
       queue_then : (key : ℕ) → queue_at taken_state key ≡ get_or (queues_without_first w.queues (2 * l)) key []
       queue_then key = ap (λ qs. get_or qs key []) (after_queues line)
 
       pub takes_first : GoesAll w taken_state (two_at l m (acts t (Send all ∷ [])) (acts t (Bring (taken_of locked (moved_of all (map queued_of line))) (line_of locked (moved_of all (map queued_of line))) ∷ [])))
-      takes_first = moves_so (take 1 line) [] (drop 1 line) (counted line) (left_lined line (steady.stands.waits l Main)) (one_taken requeue.TakeOneMoveRest line) (λ e. absurd (let f : true ≡ false = sym e ∙ free in cc)) (λ e. some) left_is gone_is moved_is taken_state
+      takes_first = moves_so (take 1 line) [] (drop 1 line) (counted line) (left_lined line (steady.stands.waits l Main)) (one_taken requeue.TakeOneMoveRest line) no_locked (λ e. some) left_is gone_is moved_is taken_state
           (after_locks line) (after_shares line) (after_sections line) (length-set (after line).places t p2 ∙ after_threads line)
-          (put_places (after line) t p2 (λ h. absurd (let n = after_threads line in omega arith)) ∙ ap (λ (f : ℕ → Place). putting f t p2) (λ i u. after_place line u i))
+          first_places
           (queue_then (2 * l) ∙ get_or-set_same w.queues (2 * l) (drop 1 line) [] line_l)
           (queue_then (2 * m) ∙ get_or-set_other w.queues (2 * l) (2 * m) (drop 1 line) [] (other_key l m Main Main apart) ∙ none_more (queue_at w (2 * m)))
           (λ key nl nm. queue_then key ∙ get_or-set_other w.queues (2 * l) key (drop 1 line) [] nl)
