@@ -52,6 +52,7 @@ use Rattle.lot_laws.proofs.CondvarHears.{notifier_hears}
 use Rattle.std.specs.Prelude.{nat_le}
 use Rattle.abstract_locks.specs.Purposes.{WasMoved}
 use Rattle.abstract_locks.specs.Runs.{befallen}
+use Rattle.lot_laws.proofs.OneStep.{queued_times}
 
 -- ---------------------------------------------------------------- the lists
 
@@ -406,6 +407,23 @@ module _ (w : State) (t l m : ℕ) (steady : IsSteady w) (is_there : t < length 
   abbrev brings_of : Bool → Bool → List Deed
   brings_of all locked = Bring (taken_of locked (moved_of all (map queued_of waiting))) (line_of locked (moved_of all (map queued_of waiting))) ∷ []
 
+  heard_so : place_at w t ≡ Condvar l (moves_at false false) → MayHearBeside (rules_in w m) (site_of w m) (condvar_of w l) t m false (notify.Move false) (told_of false false)
+  heard_so is = notifier_hears w t l m false (notify.Move false) steady kept aside is refl
+
+  takes_so : place_at w t ≡ Condvar l (moves_at false false) → MovesWaiters (map queued_of waiting) (moves_at false false) false false (told_of false false)
+  takes_so is = elim (notifies_move l m (map queued_of waiting) false (notify.Move false) tt) [
+    | inl at_m ↦ absurd (apart (let e : 2 * l ≡ 2 * m = at_m.0 in omega arith))
+    | inr at_l ↦ subst (λ b. MovesWaiters (map queued_of waiting) (moves_at false false) false false (Took b (length (drop 1 waiting) == 0))) (sym (heard_so is).0) (at_l.1 (length (drop 1 waiting) == 0))
+  ]
+
+  first_taken : (q : List Waiter) → map queued_of (moved_under (key_of m Main) (take 1 q)) ≡ taken_of false (moved_of false (map queued_of q))
+  first_taken [] = refl
+  first_taken (x ∷ q) = refl
+
+  none_moved : (q : List Waiter) → [] ≡ line_of false (moved_of false (map queued_of q))
+  none_moved [] = refl
+  none_moved (x ∷ q) = refl
+
   pub moves : (all locked : Bool) → place_at w t ≡ Condvar l (moves_at all locked) → FitsItsLock w (next_of all locked)
       → GoesAll w (put (state_after_act w t (Condvar l (moves_at all locked)) (move_act all locked l m)) t (next_of all locked)) (two_at l m (acts t (Send all ∷ [])) (acts t (brings_of all locked)))
   moves true true is fits = requeues w t l m true true steady is_there apart sort_l sort_m kept is (told_of true true) ((notifies_move l m (map queued_of waiting) true (notify.Move true) tt).2 _ _) refl
@@ -420,21 +438,26 @@ module _ (w : State) (t l m : ℕ) (steady : IsSteady w) (is_there : t < length 
     where
       next_beside : Beside m (condvar_next (moves_at false true) (told_of false true))
       next_beside = refl
-  moves false false is fits = takes_first w t l m false false steady is_there apart sort_l sort_m kept is (told_of false false) so refl heard fits line_l refl (some_first waiting (λ e. heard.1.some (ap (take 1) e))) (dropped_lined waiting) (first_taken waiting) (none_moved waiting)
+  moves false false is fits = takes_first w t l m false false steady is_there apart sort_l sort_m kept is (told_of false false) (takes_so is) refl (heard_so is) fits line_l refl (some_first waiting (λ e. (heard_so is).1.some (ap (take 1) e))) (dropped_lined waiting) (first_taken waiting) (none_moved waiting)
+
+  -- ---------------------------------------------------------------- the calls of the others
+
+  first_counted : (q : List Waiter) (u : ℕ) → locks.times u (take 1 (map queued_of q)) ≡ times u (take 1 q)
+  first_counted [] u = refl
+  first_counted (x ∷ q) u = refl
+
+  -- whoever is moved or taken knows it
+  pub moves_calls : (all locked : Bool) → place_at w t ≡ Condvar l (moves_at all locked) → FitsItsLock w (next_of all locked) → (u : ℕ) → u ≢ t → (r : ℕ → Rights)
+      → call_state (place_at (put (state_after_act w t (Condvar l (moves_at all locked)) (move_act all locked l m)) t (next_of all locked)) u) r ≡ befallen u (moved_of all (map queued_of waiting)) (call_state (place_at w u) r)
+  moves_calls true true is fits = requeued_calls w t l m true true steady is_there apart sort_l sort_m kept is (told_of true true) ((notifies_move l m (map queued_of waiting) true (notify.Move true) tt).2 _ _) refl
+      (notifier_hears w t l m true (notify.Move true) steady kept aside is refl) fits requeue.All line_l line_m (λ e. refl) (λ e. absurd cc) refl refl (under_lined (key_of m Main) waiting) (λ u. let a = queued_times u waiting in omega arith)
+  moves_calls true false is fits = requeued_calls w t l m true false steady is_there apart sort_l sort_m kept is (told_of true false) ((notifies_move l m (map queued_of waiting) true (notify.Move false) tt).2 _ _) refl
+      heard fits requeue.TakeOneMoveRest line_l line_m (λ e. absurd cc) (λ e. some_first waiting heard.1.some) refl (taken_lined (key_of m Main) waiting) (rest_lined (key_of m Main) waiting)
+      (λ u. let a = queued_times u waiting in let b = all_counted requeue.TakeOneMoveRest waiting u in omega arith)
     where
-      heard : MayHearBeside (rules_in w m) (site_of w m) (condvar_of w l) t m false (notify.Move false) (told_of false false)
-      heard = notifier_hears w t l m false (notify.Move false) steady kept aside is refl
-
-      so : MovesWaiters (map queued_of waiting) (moves_at false false) false false (told_of false false)
-      so = elim (notifies_move l m (map queued_of waiting) false (notify.Move false) tt) [
-        | inl at_m ↦ absurd (apart (let e : 2 * l ≡ 2 * m = at_m.0 in omega arith))
-        | inr at_l ↦ subst (λ b. MovesWaiters (map queued_of waiting) (moves_at false false) false false (Took b (length (drop 1 waiting) == 0))) (sym heard.0) (at_l.1 (length (drop 1 waiting) == 0))
-      ]
-
-      first_taken : (q : List Waiter) → map queued_of (moved_under (key_of m Main) (take 1 q)) ≡ taken_of false (moved_of false (map queued_of q))
-      first_taken [] = refl
-      first_taken (x ∷ q) = refl
-
-      none_moved : (q : List Waiter) → [] ≡ line_of false (moved_of false (map queued_of q))
-      none_moved [] = refl
-      none_moved (x ∷ q) = refl
+      heard : MayHearBeside (rules_in w m) (site_of w m) (condvar_of w l) t m true (notify.Move false) (told_of true false)
+      heard = notifier_hears w t l m true (notify.Move false) steady kept aside is refl
+  moves_calls false true is fits = requeued_calls w t l m false true steady is_there apart sort_l sort_m kept is (told_of false true) ((notifies_move l m (map queued_of waiting) false (notify.Move true) tt).2 _ _) refl
+      (notifier_hears w t l m false (notify.Move true) steady kept aside is refl) fits requeue.One line_l line_m (λ e. refl) (λ e. absurd cc) (dropped_lined waiting) refl (first_lined (key_of m Main) waiting) (λ u. let a = first_counted waiting u in omega arith)
+  moves_calls false false is fits = taken_calls w t l m false false steady is_there apart sort_l sort_m kept is (told_of false false) (takes_so is) refl (heard_so is) fits line_l refl (some_first waiting (λ e. (heard_so is).1.some (ap (take 1) e))) (dropped_lined waiting) (first_taken waiting) (none_moved waiting)
+      (λ u. let a = first_counted waiting u in omega arith)
