@@ -33,7 +33,7 @@ use Rattle.abstract_locks.specs.Locks as locks
 use Rattle.abstract_locks.specs.Locks.{Leave, LockCase, Rights}
 use Rattle.abstract_locks.specs.Runs.{AtLock, Event, Moves, Nothing, is_taken_by, woken}
 use Rattle.abstract_locks.specs.Sites.{Case, Deed, End, Main, Mark}
-use Rattle.lot_machine.specs.Machine.{State, can_do, place_at, put, reply_to, state_after_act, word_at, place_after_telling, state_after_telling}
+use Rattle.lot_machine.specs.Machine.{State, can_do, place_at, put, reply_to, state_after_act, word_at, place_after_telling, state_after_telling, state_with_sections}
 use Rattle.lot_laws.specs.Refinement.{call_state, locks_of, taken_at}
 use Rattle.lot_laws.specs.SitesOf.{IsSteady, key_of, rules_in, carried_at, hand_at}
 use Rattle.lot_laws.proofs.AtPlaces.{unless_held}
@@ -50,8 +50,9 @@ use Rattle.lot_acts.specs.Profiles.{hand}
 use Rattle.lot_acts.specs.Stations.{Station}
 use Rattle.lot_steps.specs.Steps.{next_place, taker}
 use Rattle.lot_laws.proofs.Glue.{CarriesAt, IsInHandOf, aparts, held_tells, in_hand_here, in_hand_where}
-use Rattle.lot_laws.proofs.CondvarParts.{nothing_there, station_there}
+use Rattle.lot_laws.proofs.CondvarParts.{nothing_there, station_there, station_beside}
 use Rattle.lot_laws.proofs.LockEvents.{Befalls, wakes_others}
+use Rattle.lot_condvar.specs.declared.wait.Stands.{Stands}
 
 -- an event that leaves the calls of the others as they are
 abbrev pub IsCalmEvent : Event → Type 0
@@ -219,3 +220,23 @@ module _ (w : State) (t l m : ℕ) (timed : Bool) (steady : IsSteady w) (plain :
   quiet (wait.Release s p) reached can calm = absurd reached.0
   quiet (wait.Lock late (mutex.Lock entry.Lock again at)) reached can calm = relock_quiet late again at reached.1 can
   quiet (wait.Lock late p) reached can calm = absurd reached.1
+
+  -- ---------------------------------------------------------------- a wait
+
+  module _ (is_there : t < length w.places) (apart : m ≢ l) where
+    abbrev behind : WaitAt → Place → State
+    behind p p2 = put (state_after_act w t (Condvar l (waits p)) (wait_act l m p)) t p2
+
+    -- it wakes whom it took
+    wakes : (s : Stands) → place_at w t ≡ Condvar l (waits (wait.Release s (mutex.Unlock (unlock.Leave true)))) → (p2 : Place) → Happens w (behind (wait.Release s (mutex.Unlock (unlock.Leave true))) p2) t (AtLock m locks.Wake) → OthersFollow w (behind (wait.Release s (mutex.Unlock (unlock.Leave true))) p2) t (AtLock m locks.Wake)
+    wakes s is p2 h = wake_follows w t m steady (subst (CarriesAt m) (sym is) (condvar_carries l m apart this refl)) (ap (λ q. carried_at q m) is ∙ ap (λ (y : Station). y.carries) (station_beside l m apart (At this) refl)) p2 (state_with_sections w (One (2 * m)) None) refl h
+      where
+        this : CondvarPlace
+        this = waits (wait.Release s (mutex.Unlock (unlock.Leave true)))
+
+    calmly : (p : WaitAt) → IsReached (waits p) → can_do w (wait_act l m p) ≡ true → (IsWaking p → ⊥) → (p2 : Place) → Happens w (behind p p2) t (event p) → OthersFollow w (behind p p2) t (event p)
+    calmly p reached can calm p2 h = let q = quiet p reached can calm in calm_follow w (behind p p2) t (event p) h q.calm (q.stays p2)
+
+    pub wait_others : (p : WaitAt) → IsReached (waits p) → place_at w t ≡ Condvar l (waits p) → can_do w (wait_act l m p) ≡ true → (p2 : Place) → Happens w (behind p p2) t (event p) → OthersFollow w (behind p p2) t (event p)
+    wait_others (wait.Release s (mutex.Unlock (unlock.Leave true))) reached is can p2 h = wakes s is p2 h
+    wait_others p reached is can p2 h = calmly p reached can (λ e. e) p2 h
