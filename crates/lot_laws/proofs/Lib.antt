@@ -141,3 +141,4 @@ pub mod NotifiesMoves
 pub mod WaitsGo
 pub mod NotifiesGo
 pub mod CondvarOthers
+pub mod NotifyOthers
