@@ -142,3 +142,4 @@ pub mod WaitsGo
 pub mod NotifiesGo
 pub mod CondvarOthers
 pub mod NotifyOthers
+pub mod CondvarGo
