@@ -7,7 +7,7 @@ use Rattle.lot_acts.specs.declared.acts.Act.{Act}
 use Rattle.lot_acts.specs.declared.acts.Act.TheVariants as act
 use Rattle.lot_acts.specs.declared.acts.Next.{Next}
 use Rattle.lot_acts.specs.declared.acts.Next.TheVariants.{At, End as Over}
-use Rattle.lot_acts.specs.declared.acts.Reply.TheVariants.{Done, Parked, Value, Woken}
+use Rattle.lot_acts.specs.declared.acts.Reply.TheVariants.{Parked, Woken}
 use Rattle.lot_acts.specs.declared.acts.Whom.TheVariants.{First}
 use Rattle.lot_steps.specs.declared.places.Place.{Place}
 use Rattle.lot_steps.specs.declared.places.Place.TheVariants.{Condvar, Idle}
@@ -31,11 +31,11 @@ use Rattle.abstract_locks.specs.Condvars.{SeeOther, Show}
 use Rattle.abstract_locks.specs.Deeds.{case_of, event_by}
 use Rattle.abstract_locks.specs.Locks as locks
 use Rattle.abstract_locks.specs.Locks.{Leave, LockCase, Rights}
-use Rattle.abstract_locks.specs.Runs.{AtLock, Event, Moves, Nothing, is_taken_by, woken}
-use Rattle.abstract_locks.specs.Sites.{Case, Deed, End, Main, Mark}
+use Rattle.abstract_locks.specs.Runs.{AtLock, Event, Moves, Nothing, is_taken_by}
+use Rattle.abstract_locks.specs.Sites.{Case, End, Main, Mark}
 use Rattle.lot_machine.specs.Machine.{State, can_do, place_at, put, reply_to, state_after_act, word_at, place_after_telling, state_after_telling, state_with_sections}
-use Rattle.lot_laws.specs.Refinement.{call_state, locks_of, taken_at}
-use Rattle.lot_laws.specs.SitesOf.{IsSteady, key_of, rules_in, carried_at, hand_at}
+use Rattle.lot_laws.specs.Refinement.{call_state, taken_at}
+use Rattle.lot_laws.specs.SitesOf.{IsSteady, rules_in, carried_at, hand_at}
 use Rattle.lot_laws.proofs.AtPlaces.{unless_held}
 use Rattle.lot_laws.proofs.CallEvents.{Happens, Others, OthersFollow, others_follow}
 use Rattle.lot_laws.proofs.CondvarHears.{taken_by_wait}

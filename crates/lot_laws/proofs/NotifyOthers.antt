@@ -1,10 +1,9 @@
 -- By each act of a notification the calls of the other threads become what its event makes of them: whoever is moved or taken knows it, and whoever is
 -- woken tries the mutex again.
-use Rattle.std.proofs.Common.{ℕ, Bool, true, false, Option, Some, None, if◌then◌else◌, ◌==◌, ◌≡◌, ◌≢◌, ◌*◌, ◌<◌, List, [], ◌∷◌, length, map, refl, sym, ◌∙◌, ap, subst, inl, inr}
+use Rattle.std.proofs.Common.{ℕ, Bool, true, false, None, if◌then◌else◌, ◌==◌, ◌≡◌, ◌≢◌, ◌*◌, ◌<◌, length, refl, sym, ◌∙◌, ap, subst, inl, inr}
 use Rattle.std.proofs.lemmas.Bool.{cases_eq}
 use Rattle.lot_base.specs.declared.keys.Keys.TheVariants.{Two}
 use Rattle.lot_acts.specs.declared.acts.Next.TheVariants.{At}
-use Rattle.lot_acts.specs.declared.acts.Reply.{Reply}
 use Rattle.lot_acts.specs.Stations.{Station}
 use Rattle.lot_steps.specs.declared.places.Place.{Place}
 use Rattle.lot_steps.specs.declared.places.Place.TheVariants.{Condvar}
@@ -13,17 +12,16 @@ use Rattle.lot_mutex.specs.MutexSteps.{is_locked}
 use Rattle.lot_condvar.specs.declared.notify.NotifyAt.{NotifyAt}
 use Rattle.lot_condvar.specs.declared.notify.NotifyAt.TheVariants as notify
 use Rattle.lot_condvar.specs.declared.places.CondvarPlace.{CondvarPlace}
-use Rattle.lot_condvar.specs.declared.places.CondvarPlace.TheVariants.{Look, Notify}
-use Rattle.lot_condvar.specs.CondvarCalls.{look_event, marked_event, notify_event}
+use Rattle.lot_condvar.specs.declared.places.CondvarPlace.TheVariants.{Notify}
+use Rattle.lot_condvar.specs.CondvarCalls.{notify_event}
 use Rattle.lot_condvar.specs.CondvarSteps.{condvar_next, move_act, notify_act}
 use Rattle.abstract_locks.specs.Condvars.{IsCondvar, WaitsAside, moved_of}
 use Rattle.abstract_locks.specs.Locks as locks
 use Rattle.abstract_locks.specs.Locks.{Rights, rights_of, LockState, putting}
-use Rattle.abstract_locks.specs.Picks.{queued_of}
 use Rattle.abstract_locks.specs.Runs.{AtLock, Event, Moves, Nothing, befallen}
-use Rattle.abstract_locks.specs.Sites.{Bring, Deed, Main, Send}
-use Rattle.lot_machine.specs.Machine.{State, can_do, place_at, put, queue_at, reply_to, state_after_act, state_with_sections, word_at}
-use Rattle.lot_laws.specs.Refinement.{call_state, lock_state, locks_of}
+use Rattle.abstract_locks.specs.Sites.{Main}
+use Rattle.lot_machine.specs.Machine.{State, place_at, put, reply_to, state_after_act, state_with_sections, word_at}
+use Rattle.lot_laws.specs.Refinement.{call_state, lock_state}
 use Rattle.lot_laws.specs.SitesOf.{FitsItsLock, IsSteady, carried_at, condvar_of, key_of, rules_in, site_of}
 use Rattle.lot_laws.proofs.CallEvents.{Happens, OthersFollow, rights}
 use Rattle.lot_laws.proofs.CondvarOthers.{IsCalmEvent, calm_follow, condvar_carries, wake_follows}
