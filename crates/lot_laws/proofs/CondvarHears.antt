@@ -50,12 +50,9 @@ use Rattle.lot_laws.specs.SitesOf.{carried_at, FitsCondvar, FitsItsLock, IsStead
 use Rattle.lot_laws.proofs.Glue.{differ, inside_is, plain_rules, same, untaken}
 use Rattle.lot_laws.proofs.OneStep.{empty_line, queued_times, queued_without}
 use Rattle.lot_laws.proofs.CondvarSites.{at_place}
+use Rattle.lot_laws.proofs.StandsKept.{both}
 
-both : (a b : Bool) → (a && b) ≡ true → (a ≡ true) × (b ≡ true)
-both true b h = (refl, h)
-both false b h = absurd cc
-
-none_so : (o : Option ℕ) → is_none o ≡ true → o ≡ None
+pub none_so : (o : Option ℕ) → is_none o ≡ true → o ≡ None
 none_so None h = refl
 none_so (Some u) h = absurd cc
 

@@ -34,7 +34,7 @@ use Rattle.lot_machine.specs.Machine.{State, filled_at, place_at, places_told, p
 use Rattle.lot_machine.proofs.QueueLemmas.{told_count}
 use Rattle.lot_laws.proofs.StandsKept.{AlikeBeside}
 use Rattle.lot_laws.proofs.Following.{lock_by}
-use Rattle.lot_laws.proofs.TakesAt.{IsTakenAt, SplitsAt, behind_take, member, told_by, told_places, take_goes}
+use Rattle.lot_laws.proofs.TakesAt.{IsTakenAt, SplitsAt, behind_take, member, told_by, told_places, take_goes, only_member}
 use Rattle.lot_laws.specs.SitesOf.{stations_of, ActsNeeded, AreWaiting, FitsItsLock, Goes, IsSteady, rules_in}
 use Rattle.lot_laws.proofs.Waiters.{CallsMutex, IsHeldThere, SleepsAt, WasGivenThere, held_there}
 
@@ -53,9 +53,6 @@ accepts l t by p given = record {
 }
 
 -- ---------------------------------------------------------------- the first of the line is taken
-
-only_member : (x : Waiter) (u : ℕ) → member u (x ∷ []) ≡ true → x.thread ≡ u
-only_member x u h = grind (arith, nat_tests)
 
 -- whoever takes it, in whatever call, and whoever it is: itself too
 module _ (w : State) (t l : ℕ) (steady : IsSteady w) (there : t < length w.places) (p2 : Place) (beside : AlikeBeside l (place_at w t) p2) (fits : FitsItsLock w p2) (rules : rules_in w l ≡ mutex) (line : 2 * l < length w.queues)

@@ -28,26 +28,18 @@ use Rattle.lot_laws.specs.Stations.{doing_on, station_at}
 use Rattle.lot_laws.specs.SitesOf.{FitsItsLock, GoesAll, IsSteady, condvar_of, key_of, rules_in, site_of, stations_of, carried_at, hand_at}
 use Rattle.lot_laws.proofs.Glue.{parts_at, put_here, put_other, LetGo, stays, untaken}
 use Rattle.lot_laws.proofs.OneStep.{Steps, steps_by}
-use Rattle.lot_laws.proofs.StandsKept.{Alike, other_key}
+use Rattle.lot_laws.proofs.StandsKept.{Alike, other_key, both}
 use Rattle.lot_laws.proofs.StandsMoved.{stands_put, there_in}
 use Rattle.lot_laws.proofs.TwoLocks.{goes_in_two, goes_out_two, places_put, two_at, two_follow}
 use Rattle.lot_laws.proofs.CondvarParts.{Beside, doing_beside, nothing_else, station_beside, taken_beside}
 use Rattle.lot_laws.proofs.CondvarHears as hears
-use Rattle.lot_laws.proofs.CondvarHears.{notifier_hears}
+use Rattle.lot_laws.proofs.CondvarHears.{notifier_hears, none_so}
 use Rattle.lot_laws.proofs.CondvarThere.{in_steps, out_steps, then_is, was}
 use Rattle.lot_condvar.specs.CondvarProfiles.{has_moved, notify_row}
 use Rattle.lot_mutex.specs.MutexProfiles.{inside}
 use Rattle.lot_laws.proofs.LawsKept.{after_same, needed_same}
 use Rattle.lot_laws.proofs.WakesAt.{leaving_by}
 use Rattle.lot_acts.specs.Profiles.{hand}
-
-none_so : (o : Option ℕ) → is_none o ≡ true → o ≡ None
-none_so None h = refl
-none_so (Some u) h = absurd cc
-
-both : (a b : Bool) → (a && b) ≡ true → (a ≡ true) × (b ≡ true)
-both true b h = (refl, h)
-both false b h = absurd cc
 
 module _ (w : State) (t l m : ℕ) (all : Bool) (steady : IsSteady w) (is_there : t < length w.places) (apart : m ≢ l) (sort_l : (rules_in w l).sort ≡ locks.Condvar) (sort_m : (rules_in w m).sort ≡ locks.Mutex) (kept : IsCondvar (condvar_of w l)) (aside : WaitsAside (condvar_of w l) (site_of w m) m)
     (section_l : key_of l Main < length w.sections) (section_m : key_of m Main < length w.sections) where

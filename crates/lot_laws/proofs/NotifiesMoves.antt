@@ -45,7 +45,7 @@ use Rattle.lot_laws.proofs.CondvarHears as hears
 use Rattle.lot_laws.proofs.MovedWaiters.{waits_across, knows_moved, knows_taken}
 use Rattle.lot_laws.proofs.MovingKept.{moves_kept}
 use Rattle.lot_laws.proofs.Moving.{WaitsAcross, places_across, goes}
-use Rattle.lot_laws.proofs.TakesAt.{member, at_most_one, member_times, told_once, told_places, stranger_times}
+use Rattle.lot_laws.proofs.TakesAt.{member, at_most_one, member_times, told_once, told_places, stranger_times, only_member}
 use Rattle.lot_machine.proofs.QueueLemmas.{told_count}
 use Rattle.lot_condvar.proofs.CondvarActs.{notifies_move}
 use Rattle.lot_laws.proofs.CondvarHears.{notifier_hears}
@@ -96,14 +96,11 @@ left_waits at l requeue.TakeOneMoveRest q h = tt
 left_waits at l requeue.One [] h = tt
 left_waits at l requeue.One (x ∷ q) h = h.1
 
-one_member : (x : Waiter) (u : ℕ) → member u (x ∷ []) ≡ true → x.thread ≡ u
-one_member x u h = grind (arith, nat_tests)
-
 one_taken : (how : Requeue) (q : List Waiter) (u v : ℕ) → member u (gone_by how q) ≡ true → member v (gone_by how q) ≡ true → u ≡ v
 one_taken requeue.One q u v h g = absurd cc
 one_taken requeue.All q u v h g = absurd cc
 one_taken requeue.TakeOneMoveRest [] u v h g = absurd cc
-one_taken requeue.TakeOneMoveRest (x ∷ q) u v h g = sym (one_member x u h) ∙ one_member x v g
+one_taken requeue.TakeOneMoveRest (x ∷ q) u v h g = sym (only_member x u h) ∙ only_member x v g
 
 -- as the abstract locks have them
 under_lined : (key : ℕ) (q : List Waiter) → map queued_of (moved_under key q) ≡ map in_line (map queued_of q)

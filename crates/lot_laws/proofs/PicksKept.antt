@@ -30,14 +30,12 @@ use Rattle.lot_laws.proofs.Glue.{put_places, same, station_here, IsOf}
 use Rattle.lot_laws.proofs.OneStep.{noted}
 use Rattle.lot_laws.proofs.ActsKept.{lock_by, site_by}
 use Rattle.lot_laws.proofs.TakesKept.{member, told_by, told_places, AllAre, IsTakenFrom, take_goes}
+use Rattle.lot_laws.proofs.TakesAt.{only_member}
 
 -- all stand under one key
 abbrev pub AllUnder : ℕ → List Waiter → Type 0
 AllUnder key [] = Unit {0}
 AllUnder key (x ∷ xs) = (x.key ≡ key) × AllUnder key xs
-
-only_member : (x : Waiter) (u : ℕ) → member u (x ∷ []) ≡ true → x.thread ≡ u
-only_member x u h = grind (arith, nat_tests)
 
 line_all : (key : ℕ) (xs : List Waiter) → AllUnder key xs → line key xs ≡ xs
 line_all key [] h = refl

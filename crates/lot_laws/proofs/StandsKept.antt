@@ -17,7 +17,7 @@ use Rattle.lot_laws.specs.Stations.{Hand, Station, hand, doing_on, station_at}
 use Rattle.lot_laws.specs.SitesOf.{Sections, Lines, Waits, AreWaiting, HandsBy, FitsItsLock, key_of, stood_in}
 use Rattle.lot_laws.proofs.Glue.{IsOf, put_here, put_other, same, station_elsewhere, doing_elsewhere, taken_elsewhere, IsMutexOf}
 
-both : (a b : Bool) → (a && b) ≡ true → (a ≡ true) × (b ≡ true)
+pub both : (a b : Bool) → (a && b) ≡ true → (a ≡ true) × (b ≡ true)
 both true b h = (refl, h)
 both false b h = absurd cc
 

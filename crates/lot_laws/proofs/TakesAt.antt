@@ -47,6 +47,9 @@ no_member : (u : ℕ) (xs : List Waiter) → times u xs ≡ 0 → member u xs �
 no_member u [] h = refl
 no_member u (x ∷ xs) h = grind (arith, nat_tests, no_member u xs)
 
+pub only_member : (x : Waiter) (u : ℕ) → member u (x ∷ []) ≡ true → x.thread ≡ u
+only_member x u h = grind (arith, nat_tests)
+
 -- what threads are told, one after another
 abbrev pub told_by : Reply → List Waiter → (ℕ → Place) → ℕ → Place
 told_by reply [] p = p

@@ -41,7 +41,7 @@ use Rattle.lot_laws.specs.Stations.{doing_on, station_at}
 use Rattle.lot_laws.specs.SitesOf.{FitsItsLock, Goes, IsSteady, key_of, rules_in, site_of}
 use Rattle.lot_laws.proofs.StandsKept.{AlikeBeside}
 use Rattle.lot_laws.proofs.CondvarHears as hears
-use Rattle.lot_laws.proofs.CondvarHears.{taken_by_wait, waiter_hears}
+use Rattle.lot_laws.proofs.CondvarHears.{taken_by_wait, waiter_hears, none_so}
 use Rattle.lot_laws.proofs.WaitsBeside as beside
 use Rattle.lot_laws.proofs.WaitsBeside.{StaysThere}
 use Rattle.lot_laws.proofs.MutexActs.{accepts_at, goes_in_at, goes_out_at, leaves_line_at, stands_at}
@@ -113,10 +113,6 @@ module _ (w : State) (t l m : ℕ) (timed : Bool) (steady : IsSteady w) (is_ther
 
       does_next : doing_on p2 m ≡ waiter_next m next
       does_next = beside.does_next w t l m timed steady is_there apart sort next stays.0
-
-  none_so : (o : Option ℕ) → is_none o ≡ true → o ≡ None
-  none_so None h = refl
-  none_so (Some u) h = absurd cc
 
   abbrev enter : Act
   enter = act.Enter (One (2 * m))

@@ -26,13 +26,9 @@ use Rattle.lot_laws.specs.Stations.{station_at}
 use Rattle.lot_laws.specs.SitesOf.{FitsItsLock, Goes, IsSteady, condvar_of, key_of, rules_in}
 use Rattle.lot_laws.proofs.StandsKept.{Alike}
 use Rattle.lot_laws.proofs.CondvarParts.{Beside, SameBeside, alike_beside, station_beside}
-use Rattle.lot_laws.proofs.CondvarHears.{at_it, may_hear, word_is}
+use Rattle.lot_laws.proofs.CondvarHears.{at_it, may_hear, word_is, none_so}
 use Rattle.lot_laws.proofs.CondvarThere.{IsOfWord, enters_there, leaves_list, leaves_there, stands_there, there_deeds, works_there}
 use Rattle.lot_acts.specs.Stations.{Station, station_by}
-
-none_so : (o : Option ℕ) → is_none o ≡ true → o ≡ None
-none_so None h = refl
-none_so (Some u) h = absurd cc
 
 -- the places of a wait whose act is at the condition variable alone
 abbrev pub IsAtCondvar : WaitAt → Type 0
