@@ -51,6 +51,7 @@ use Rattle.lot_laws.proofs.Glue.{differ, inside_is, plain_rules, same, untaken}
 use Rattle.lot_laws.proofs.OneStep.{empty_line, queued_times, queued_without}
 use Rattle.lot_laws.proofs.CondvarSites.{at_place}
 use Rattle.lot_laws.proofs.StandsKept.{both}
+use Rattle.lot_laws.proofs.Counts.{first_out}
 
 pub none_so : (o : Option ℕ) → is_none o ≡ true → o ≡ None
 none_so None h = refl
@@ -85,6 +86,13 @@ number_of false (x ∷ q) = let e : length q ≡ length (map queued_of q) = leng
 abbrev pub taken_first : State → ℕ → UnlockAt → Option ℕ
 taken_first w m unlock.Take = first_thread (lock_state w m).queue
 taken_first w m p = None
+
+-- what a thread does about the word that it saw, by its two tests
+abbrev pub decided_by : ℕ → ℕ → Bool → Bool → Act
+decided_by m x a b =
+    if not a then act.Word m (op.Exchange x (x + 1))
+    else if b then act.Word m (op.Exchange 1 3)
+    else act.Enter (One (2 * m))
 
 -- where it looks whether to stand in the line
 abbrev lock_out : LockAt → Type 0
@@ -213,16 +221,12 @@ module _ (w : State) (t l : ℕ) (at : CondvarPlace) (steady : IsSteady w) (is :
     nowhere_beside : (mutex_side at).stands ≡ None → (mutex_side at).hand ≡ None → standing t there.lock ≡ 0
     nowhere_beside out free =
         let main : locks.times t (map queued_of (queue_at w (2 * m))) ≡ 0 = queued_times t (queue_at w (2 * m)) ∙ stood Main in
-        let aside : locks.is_thread t (first_of (queue_at w (2 * m + 1))) ≡ 0 = first_out (queue_at w (2 * m + 1)) (stood Second) in
+        let aside : locks.is_thread t (first_of (queue_at w (2 * m + 1))) ≡ 0 = first_out t (queue_at w (2 * m + 1)) (stood Second) in
         let taken : one_if_some (taken_at (place_at w t) m) ≡ 0 = ap one_if_some (taken_beside ∙ ap (λ h. taken_from h (mutex_side at).wants true) free) in
         omega arith
       where
         stood : (n : Line) → times t (queue_at w (key_of m n)) ≡ 0
         stood n = steady.stands.lines t m n ∙ ap (λ (y : Station). stood_in y.stands n) station_beside ∙ ap (λ o. stood_in o n) out
-
-        first_out : (q : List Waiter) → times t q ≡ 0 → locks.is_thread t (first_of q) ≡ 0
-        first_out [] h = refl
-        first_out (y ∷ q) h = omega arith
 
     stands_beside : (mutex_side at).stands ≡ Some Main → 1 ≤ locks.times t there.lock.queue
     stands_beside stands = let a : locks.times t there.lock.queue ≡ 1 = queued_times t (queue_at w (2 * m)) ∙ steady.stands.lines t m Main ∙ ap (λ (y : Station). stood_in y.stands Main) station_beside ∙ ap (λ o. stood_in o Main) stands in omega arith
@@ -242,14 +246,7 @@ module _ (w : State) (t l : ℕ) (at : CondvarPlace) (steady : IsSteady w) (is :
     releasing_hears s (unlock.Clear any) free carried can = tt
     releasing_hears s (unlock.Leave any) free carried can = tt
 
-    -- what a thread does about the word that it saw, by its two tests
-    abbrev decided_by : ℕ → Bool → Bool → Act
-    decided_by x a b =
-        if not a then act.Word m (op.Exchange x (x + 1))
-        else if b then act.Word m (op.Exchange 1 3)
-        else act.Enter (One (2 * m))
-
-    deciding_hears : (x : ℕ) (a b : Bool) → can_do w (decided_by x a b) ≡ true → MayHearLocking rules there t (lock.Decide x) (reply_to w t (decided_by x a b))
+    deciding_hears : (x : ℕ) (a b : Bool) → can_do w (decided_by m x a b) ≡ true → MayHearLocking rules there t (lock.Decide x) (reply_to w t (decided_by m x a b))
     deciding_hears x false b can = word_beside
     deciding_hears x true true can = word_beside
     deciding_hears x true false can = free_beside can

@@ -38,7 +38,7 @@ use Rattle.lot_laws.specs.Refinement.{call_state, taken_at}
 use Rattle.lot_laws.specs.SitesOf.{IsSteady, rules_in, carried_at, hand_at}
 use Rattle.lot_laws.proofs.AtPlaces.{unless_held}
 use Rattle.lot_laws.proofs.CallEvents.{Happens, Others, OthersFollow, others_follow}
-use Rattle.lot_laws.proofs.CondvarHears.{taken_by_wait}
+use Rattle.lot_laws.proofs.CondvarHears.{taken_by_wait, decided_by}
 use Rattle.lot_laws.proofs.OtherCalls.{IsCalm, IsLonely, Stay, lonely, no_hand_off, takes, taken_by_hand}
 use Rattle.lot_acts.specs.declared.acts.Check.TheVariants.{WordIs}
 use Rattle.lot_acts.specs.Acts.{holds}
@@ -156,18 +156,12 @@ module _ (w : State) (t l m : ℕ) (timed : Bool) (steady : IsSteady w) (plain :
   locks_quiet : (late again : Bool) (at : LockAt) → IsLonely (lock_act m at) → IsCalm (case_of None (lock_deeds at (reply_to w t (lock_act m at)))) → IsQuiet (relocks late again at)
   locks_quiet late again at h calm = alone (relocks late again at) h (two_calm m l _ _ calm (relocked (mutex_next (mutex.Lock entry.Lock again at) (reply_to w t (lock_act m at)))))
 
-  abbrev decided_by : ℕ → Bool → Bool → Act
-  decided_by x a b =
-      if not a then act.Word m (op.Exchange x (x + 1))
-      else if b then act.Word m (op.Exchange 1 3)
-      else act.Enter (One (2 * m))
-
-  decided_lonely : (x : ℕ) (a b : Bool) → IsLonely (decided_by x a b)
+  decided_lonely : (x : ℕ) (a b : Bool) → IsLonely (decided_by m x a b)
   decided_lonely x false b = tt
   decided_lonely x true true = tt
   decided_lonely x true false = tt
 
-  decided_calm : (x : ℕ) (a b : Bool) → IsCalm (case_of None (lock_deeds (lock.Decide x) (reply_to w t (decided_by x a b))))
+  decided_calm : (x : ℕ) (a b : Bool) → IsCalm (case_of None (lock_deeds (lock.Decide x) (reply_to w t (decided_by m x a b))))
   decided_calm x false b = word_seen (word_at w m == x) (is_locked (word_at w m))
   decided_calm x true true = word_seen (word_at w m == x) (is_locked (word_at w m))
   decided_calm x true false = tt

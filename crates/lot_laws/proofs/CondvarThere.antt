@@ -45,6 +45,7 @@ use Rattle.lot_laws.proofs.Glue as glue
 use Rattle.lot_condvar.proofs.CondvarFit.{condvar_owners_follow, condvar_steps_code}
 use Rattle.std.specs.Prelude.{nat_le, ◌&&◌}
 use Rattle.lot_laws.proofs.CondvarParts.{Beside, doing_of_row, doing_there, nothing_else, station_there, taken_there, nothing_there}
+use Rattle.lot_laws.proofs.Counts.{first_out, aside_kept}
 
 -- ---------------------------------------------------------------- deeds of the condition variable, as deeds of a site
 
@@ -175,13 +176,9 @@ module _ (w : State) (t l m : ℕ) (at : CondvarPlace) (steady : IsSteady w) (is
           stood : (n : Line) → times t (queue_at w (key_of l n)) ≡ 0
           stood n = steady.stands.lines t l n ∙ ap (λ (y : Station). stood_in y.stands n) (was ∙ was_in)
 
-          first_out : (q : List Waiter) → times t q ≡ 0 → locks.is_thread t (first_of q) ≡ 0
-          first_out [] h = refl
-          first_out (y ∷ q) h = omega arith
-
           alone : standing t here.lock ≡ 0
           alone = let main : locks.times t (map queued_of (queue_at w (2 * l))) ≡ 0 = queued_times t (queue_at w (2 * l)) ∙ stood Main in
-              let aside : locks.is_thread t (first_of (queue_at w (2 * l + 1))) ≡ 0 = first_out (queue_at w (2 * l + 1)) (stood Second) in
+              let aside : locks.is_thread t (first_of (queue_at w (2 * l + 1))) ≡ 0 = first_out t (queue_at w (2 * l + 1)) (stood Second) in
               let taken : one_if_some (taken_at (place_at w t) l) ≡ 0 = ap one_if_some untaken in
               omega arith
 
@@ -196,12 +193,8 @@ module _ (w : State) (t l m : ℕ) (at : CondvarPlace) (steady : IsSteady w) (is
           stood : (n : Line) → times t (queue_at w (key_of l n)) ≡ stood_in (Some Main) n
           stood n = steady.stands.lines t l n ∙ ap (λ (y : Station). stood_in y.stands n) (was ∙ was_in)
 
-          first_out : (q : List Waiter) → times t q ≡ 0 → locks.is_thread t (first_of q) ≡ 0
-          first_out [] h = refl
-          first_out (y ∷ q) h = omega arith
-
           no_first : locks.is_thread t (first_of (queue_at w (2 * l + 1))) ≡ 0
-          no_first = first_out (queue_at w (2 * l + 1)) (stood Second)
+          no_first = first_out t (queue_at w (2 * l + 1)) (stood Second)
 
           listed : 1 ≤ locks.times t (map queued_of (queue_at w (2 * l))) + locks.is_thread t (first_of (queue_at w (2 * l + 1)))
           listed = let a : locks.times t (map queued_of (queue_at w (2 * l))) ≡ 1 = queued_times t (queue_at w (2 * l)) ∙ stood Main in omega arith
@@ -211,15 +204,7 @@ module _ (w : State) (t l m : ℕ) (at : CondvarPlace) (steady : IsSteady w) (is
               let b : locks.is_thread t (Some t) ≡ 1 = ap (λ (c : Bool). if c then 1 else 0) (same t) in omega arith
 
           still_aside : first_of (queue_at w (2 * l + 1)) ≡ locks.aside_without t (first_of (queue_at w (2 * l + 1)))
-          still_aside = sym (kept_aside (first_of (queue_at w (2 * l + 1))) no_first)
-            where
-              kept_aside : (o : Option ℕ) → locks.is_thread t o ≡ 0 → locks.aside_without t o ≡ o
-              kept_aside None h = refl
-              kept_aside (Some u) h = either (u == t) h
-                where
-                  either : (b : Bool) → ◌≡◌ {A = ℕ} (if b then 1 else 0) 0 → (if b then None else Some u) ≡ Some u
-                  either false e = refl
-                  either true e = absurd (omega arith)
+          still_aside = sym (aside_kept t (first_of (queue_at w (2 * l + 1))) no_first)
 
     -- ---------------------------------------------------------------- a step on the word
 

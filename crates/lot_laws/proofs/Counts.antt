@@ -1,8 +1,9 @@
 -- What the changes of a line do to its counts.
-use Rattle.std.proofs.Common.{ℕ, Some, None, cond, ◌≡◌, ◌+◌, ◌≤◌, List, [], ◌∷◌, ◌==◌, refl, arith, drop}
+use Rattle.std.proofs.Common.{ℕ, Bool, true, false, Option, Some, None, cond, if◌then◌else◌, ◌≡◌, ◌+◌, ◌≤◌, List, [], ◌∷◌, ◌==◌, refl, arith, drop}
 use Rattle.std.proofs.lemmas.Bool.Decides.{nat_tests}
 use Rattle.lot_base.specs.declared.wants.Waiter.{Waiter}
 use Rattle.lot_base.specs.Lines.{without, times, first_of}
+use Rattle.abstract_locks.specs.Locks as locks
 
 pub without_absent : (t : ℕ) (q : List Waiter) → times t q ≡ 0 → without t q ≡ q
 without_absent t [] h = refl
@@ -19,3 +20,16 @@ first_times u (y ∷ q) h = grind (arith, nat_tests)
 pub none_first : (q : List Waiter) → first_of q ≡ None → q ≡ []
 none_first [] h = refl
 none_first (y ∷ q) h = absurd cc
+
+-- who stands in no line is no first
+pub first_out : (t : ℕ) (q : List Waiter) → times t q ≡ 0 → locks.is_thread t (first_of q) ≡ 0
+first_out t [] h = refl
+first_out t (y ∷ q) h = omega arith
+
+pub aside_kept : (t : ℕ) (o : Option ℕ) → locks.is_thread t o ≡ 0 → locks.aside_without t o ≡ o
+aside_kept t None h = refl
+aside_kept t (Some u) h = either (u == t) h
+  where
+    either : (b : Bool) → ◌≡◌ {A = ℕ} (if b then 1 else 0) 0 → (if b then None else Some u) ≡ Some u
+    either false e = refl
+    either true e = absurd (omega arith)

@@ -25,6 +25,7 @@ use Rattle.lot_laws.specs.SitesOf.{FollowAll, IsSteady, after_acts, condvar_of, 
 use Rattle.lot_laws.proofs.CallEvents.{Happens, OthersFollow, happens_at, put_is, rights}
 use Rattle.lot_laws.proofs.CondvarGoes.{NamesStill, ToldSo, begins_two, call_led, condvar_goes_on, may_go, no_closure, unwoken}
 use Rattle.lot_laws.proofs.CondvarHears.{fits_here}
+use Rattle.lot_laws.proofs.Glue.{differ}
 
 module _ (w v : State) (t l : ℕ) (all : Bool) (steady : IsSteady w) (after : IsSteady v) (is : place_at w t ≡ Condvar l (places.Look all)) (done : ℕ → List deeds.Act) (f : FollowAll w v done) (nothing : (k : ℕ) → done k ≡ []) where
   abbrev seen : ℕ
@@ -47,7 +48,7 @@ module _ (w v : State) (t l : ℕ) (all : Bool) (steady : IsSteady w) (after : I
       by_word (Some m) e = subst (Happens w v t) (sym sees) (happens_at w v t l (Some (OfCondvar (locks.Look (Some m)))) steady after f.kinds (stays l) (λ k ne. stays k) ((fits_here w t l (places.Look all) steady is).sort, sym e))
         where
           sees : look_event l (m + 1) ≡ AtLock l (OfCondvar (locks.Look (Some m)))
-          sees = let some : (m + 1 == 0) ≡ false = grind (arith, nat_tests) in let same_mutex : m + 1 - 1 ≡ m = omega arith in
+          sees = let some : (m + 1 == 0) ≡ false = differ (m + 1) 0 (λ h. omega arith) in let same_mutex : m + 1 - 1 ≡ m = omega arith in
               ap (λ (b : Bool). if b then Nothing else AtLock l (OfCondvar (locks.Look (Some (m + 1 - 1))))) some ∙ ap (λ j. AtLock l (OfCondvar (locks.Look (Some j)))) same_mutex
 
   follows : CallFollows l mutex (places.Look all) (Value seen) event (lock_state w l).shown (lock_state w mutex) (lock_state w mutex) t (condvar_next (places.Look all) (Value seen))

@@ -36,7 +36,7 @@ use Rattle.lot_laws.specs.Refinement.{taken_at}
 use Rattle.lot_laws.specs.MutexDeeds.{acts}
 use Rattle.lot_laws.specs.Stations.{station, station_at, doing_on}
 use Rattle.lot_laws.specs.SitesOf.{stations_of, ActsNeeded, AreWaiting, IsSteady, Goes, FitsItsLock, TakesOne, after_acts, rules_in, key_of, stood_in, carried_at, hand_at}
-use Rattle.lot_laws.proofs.Counts.{without_absent, first_times, none_first}
+use Rattle.lot_laws.proofs.Counts.{without_absent, first_times, none_first, first_out, aside_kept}
 use Rattle.lot_laws.proofs.Glue.{free_of, held_calls, IsOf, IsLock, IsInHandOf, in_hand_where, held_tells, aparts, nothing_at, next_of, inside_is, parts_at, lock_in, same, put_here, doing_here, station_here, lets_nobody, of_single, IsSingle, single_taken, single_wants, of_lock}
 use Rattle.lot_laws.proofs.OneStep.{AreSingle, HasOneCase, steps_by, empty_line, queued_times, queued_without}
 use Rattle.lot_laws.proofs.ActsKept.{NoHandOff, lock_by, operated, site_by, with_line, place_goes, enter_goes, leave_goes, nobody_inside, park_goes, parks, asides, lates, remove_goes, nobody_goes, finds_none}
@@ -213,14 +213,10 @@ module _ (w : State) (t l : ℕ) (steady : IsSteady w) (there : t < length w.pla
   -- ---------------------------------------------------------------- lines
 
   -- who stands in no line and no hand stands nowhere
-  first_out : (q : List Waiter) → times t q ≡ 0 → locks.is_thread t (first_of q) ≡ 0
-  first_out [] h = refl
-  first_out (y ∷ q) h = omega arith
-
   pub nowhere_here : (station_of x).stands ≡ None → (station_of x).hand ≡ None → standing t here.lock ≡ 0
   nowhere_here out free =
       let main : locks.times t (map queued_of (queue_at w (2 * l))) ≡ 0 = queued_times t (queue_at w (2 * l)) ∙ none Main in
-      let aside : locks.is_thread t (first_of (queue_at w (2 * l + 1))) ≡ 0 = first_out (queue_at w (2 * l + 1)) (none Second) in
+      let aside : locks.is_thread t (first_of (queue_at w (2 * l + 1))) ≡ 0 = first_out t (queue_at w (2 * l + 1)) (none Second) in
       let taken : one_if_some (taken_at (place_at w t) l) ≡ 0 = ap one_if_some (free_of (place_at w t) l (of_single l (place_at w t) own) (ap (λ (y : Station). y.hand) station_is ∙ free)) in
       omega arith
     where
@@ -439,14 +435,6 @@ module _ (w : State) (t l : ℕ) (steady : IsSteady w) (there : t < length w.pla
 
     -- ---------------------------------------------------------------- out of a line
 
-    aside_kept : (o : Option ℕ) → locks.is_thread t o ≡ 0 → locks.aside_without t o ≡ o
-    aside_kept None h = refl
-    aside_kept (Some u) h = either (u == t) h
-      where
-        either : (b : Bool) → ◌≡◌ {A = ℕ} (if b then 1 else 0) 0 → (if b then None else Some u) ≡ Some u
-        either false e = refl
-        either true e = absurd (omega arith)
-
     stood_once : (m n : Line) → (station_of x).stands ≡ Some m → times t (queue_at w (key_of l n)) ≡ stood_in (Some m) n
     stood_once m n h = steady.stands.lines t l n ∙ ap (λ (y : Station). stood_in y.stands n) (station_here l (place_at w t) own ∙ station_is) ∙ ap (λ o. stood_in o n) h
 
@@ -487,7 +475,7 @@ module _ (w : State) (t l : ℕ) (steady : IsSteady w) (there : t < length w.pla
 
       pub leaves_line : (m : Line) → LeavesLine x hears m → ((b : Bool) → hears r here t None (Removed b) → IsFollowed None (Removed b) (next_place (place_at w t) (Removed b)))
           → Goes w (put (record w { queues = queues_without w.queues t }) t (next_place (place_at w t) (Removed (length (without t (queue_at w (key_of l m))) == 0)))) l (acts t (x.deeds None (Removed (length (without t (queue_at w (key_of l m))) == 0))))
-      leaves_line Main g followed = leaves_by Main (length (without t (queue_at w (2 * l))) == 0) (next_place (place_at w t) (Removed (length (without t (queue_at w (2 * l))) == 0))) g (queued_without t (queue_at w (2 * l))) (sym (aside_kept (first_of (queue_at w (2 * l + 1))) (first_out (queue_at w (2 * l + 1)) (stood_once Main Second (ap (λ (y : Station). y.stands) g.was)))))
+      leaves_line Main g followed = leaves_by Main (length (without t (queue_at w (2 * l))) == 0) (next_place (place_at w t) (Removed (length (without t (queue_at w (2 * l))) == 0))) g (queued_without t (queue_at w (2 * l))) (sym (aside_kept t (first_of (queue_at w (2 * l + 1))) (first_out t (queue_at w (2 * l + 1)) (stood_once Main Second (ap (λ (y : Station). y.stands) g.was)))))
           (followed (length (without t (queue_at w (2 * l))) == 0) (removed_hears Main g))
       leaves_line Second g followed = leaves_by Second (length (without t (queue_at w (2 * l + 1))) == 0) (next_place (place_at w t) (Removed (length (without t (queue_at w (2 * l + 1))) == 0))) g
           (ap (map queued_of) (sym (without_absent t (queue_at w (2 * l)) (stood_once Second Main (ap (λ (y : Station). y.stands) g.was)))) ∙ queued_without t (queue_at w (2 * l)))

@@ -33,6 +33,7 @@ use Rattle.lot_laws.proofs.ToldAt.{HoldsHere, same_hands}
 use Rattle.lot_laws.proofs.WakesAt.{IsWokenAt, leaving_by, wake_goes}
 use Rattle.lot_laws.proofs.ActsAt as acting
 use Rattle.lot_base.specs.Lines.{first_of, times, without}
+use Rattle.lot_laws.proofs.Counts.{first_out, aside_kept}
 
 -- a step on the word of a mutex: it is owned, or not, or its bit is set, or cleared
 abbrev pub IsOfWord : List Deed → Type 0
@@ -175,22 +176,10 @@ module _ (w : State) (t m : ℕ) (steady : IsSteady w) (is_there : t < length w.
     pub leaves_line_at : acting.IsOut w t m steady is_there r refl p2 alike fits → (station_at (place_at w t) m).stands ≡ Some Main → laws.AllNeeded r (Case locks.Late ∷ []) here t → (laws.after_all r (Case locks.Late ∷ []) here t).doing t ≡ doing_on p2 m
         → station_at p2 m ≡ record (station_at (place_at w t) m) { stands = None; waits = None } → taken_at (place_at w t) m ≡ taken_at p2 m → Goes w (put (record w { queues = queues_without w.queues t }) t p2) m (acts t (Case locks.Late ∷ []))
     leaves_line_at out stands needed doing goes same_hand = acting.remove_goes w t m steady is_there r refl p2 alike fits out Main (Case locks.Late ∷ []) (λ h. ((λ k. k), tt)) stands
-        (lates r m (parts_at w m) (place_at w) t p2 (steady.sites.site m) same_hand Main (without t (queue_at w (key_of m Main))) (queued_without t (queue_at w (key_of m Main))) (sym (kept_aside (first_of (queue_at w (key_of m Second))) (first_out (queue_at w (key_of m Second)) not_aside))) (needed.0, tt) (sym doing)) goes
+        (lates r m (parts_at w m) (place_at w) t p2 (steady.sites.site m) same_hand Main (without t (queue_at w (key_of m Main))) (queued_without t (queue_at w (key_of m Main))) (sym (aside_kept t (first_of (queue_at w (key_of m Second))) (first_out t (queue_at w (key_of m Second)) not_aside))) (needed.0, tt) (sym doing)) goes
       where
         not_aside : times t (queue_at w (key_of m Second)) ≡ 0
         not_aside = steady.stands.lines t m Second ∙ ap (λ o. stood_in o Second) stands
-
-        first_out : (q : List Waiter) → times t q ≡ 0 → locks.is_thread t (first_of q) ≡ 0
-        first_out [] h = refl
-        first_out (y ∷ q) h = omega arith
-
-        kept_aside : (o : Option ℕ) → locks.is_thread t o ≡ 0 → locks.aside_without t o ≡ o
-        kept_aside None h = refl
-        kept_aside (Some u) h = either (u == t) h
-          where
-            either : (b : Bool) → ◌≡◌ {A = ℕ} (if b then 1 else 0) 0 → (if b then None else Some u) ≡ Some u
-            either false e = refl
-            either true e = absurd (omega arith)
 
   -- it was handed the mutex, and its call goes on
   pub accepts_at : laws.AllNeeded r (End ∷ []) here t → (laws.after_all r (End ∷ []) here t).doing t ≡ doing_on p2 m → station_at p2 m ≡ station_at (place_at w t) m → taken_at (place_at w t) m ≡ taken_at p2 m → Goes w (put w t p2) m (acts t (End ∷ []))

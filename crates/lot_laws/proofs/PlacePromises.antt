@@ -21,7 +21,7 @@ use Rattle.lot_laws.specs.Stations.{Station, nowhere, station, station_at, doing
 use Rattle.lot_laws.specs.SitesOf.{IsSteady, FitsItsLock, key_of, stood_in, rules_in}
 use Rattle.lot_laws.specs.Owing.{Owes, IsInside, LetsOthersIn, IsDowngrade, sort_at}
 use Rattle.lot_laws.specs.Promises.{CallsOneLock, GoesToWake, WakesAside}
-use Rattle.lot_laws.proofs.Counts.{none_first}
+use Rattle.lot_laws.proofs.Counts.{none_first, first_out}
 use Rattle.lot_laws.proofs.SingleCalls.{call_here, call_none}
 use Rattle.lot_laws.proofs.CondvarPromises.{StandsAt, two_stand_main}
 use Rattle.lot_laws.proofs.Glue.{single_or_two}
@@ -30,7 +30,6 @@ use Rattle.lot_laws.proofs.MutexTable.{queued_times}
 use Rattle.lot_laws.proofs.StandsMoved.{mutex_rules}
 use Rattle.lot_laws.proofs.LineActs.{IsOfLine, IsLineAct, line_act}
 use Rattle.lot_laws.proofs.MutexRows.{mutex_promises}
-use Rattle.lot_laws.proofs.SitesPromise.{first_out}
 use Rattle.lot_laws.proofs.RowPromises.{LetsIn, LetsInAt, IsWaiting, calls_one as purpose_of_one, taken_of, RowPromises}
 use Rattle.lot_laws.proofs.CallEvents.{rights}
 use Rattle.lot_laws.proofs.CallRows.{call_promises}

@@ -34,6 +34,7 @@ use Rattle.lot_rwlock_fair.specs.declared.places.RwLockCallPlace.{RwLockCallPlac
 use Rattle.lot_rwlock_fair.specs.declared.places.RwLockCallPlace.TheVariants as places
 use Rattle.lot_rwlock_fair.specs.declared.hand_over.HandOverAt.TheVariants as handing
 use Rattle.lot_rwlock_fair.specs.FairProfiles.{call_profile}
+use Rattle.lot_laws.proofs.Counts.{first_out}
 
 pub codes_by : (e : Option ℕ) (b : Bool) (w : ℕ) → w ≡ one_if_some e + 2 * bit b → IsMutexWord w e
 codes_by e true w h = inr h
@@ -102,10 +103,6 @@ no_once w (Mutex k at) l rules fits = tt
 no_once w (RwLock k a c) l rules fits = tt
 no_once w (Condvar k at) l rules fits = absurd fits.begun
 no_once w Idle l rules fits = tt
-
-pub first_out : (t : ℕ) (q : List Waiter) → Lines.times t q ≡ 0 → locks.is_thread t (Lines.first_of q) ≡ 0
-first_out t [] h = refl
-first_out t (x ∷ q) h = grind (arith, nat_tests)
 
 -- a waiter of a mutex implies its parked bit
 module _ (w : State) (s : IsSteady w) (t l : ℕ) (rules : rules_in w l ≡ mutex) where

@@ -38,7 +38,7 @@ use Rattle.lot_laws.proofs.Following.{goes_all, only_at}
 use Rattle.lot_laws.proofs.Glue as glue
 use Rattle.lot_laws.proofs.Glue.{differ, same}
 use Rattle.lot_laws.proofs.TwoLocks.{two_at}
-use Rattle.lot_laws.proofs.CondvarHears.{taken_by_wait}
+use Rattle.lot_laws.proofs.CondvarHears.{taken_by_wait, decided_by}
 use Rattle.lot_laws.proofs.CondvarThere.{there_deeds}
 use Rattle.lot_laws.proofs.WaitsThere.{waits_there, IsAtCondvar}
 use Rattle.lot_laws.proofs.WaitsBeside.{clears, decides, loads, subtracts, tries}
@@ -132,15 +132,8 @@ module _ (w : State) (t l m : ℕ) (timed : Bool) (steady : IsSteady w) (is_ther
   none_there : (late retries : Bool) (at : LockAt) (a : Act) → there_deeds (wait_deeds m (relocks late retries at) (told a)) ≡ []
   none_there late retries at a = no_deeds (mutex_next (mutex.Lock entry.Lock retries at) (told a))
 
-  -- by its two tests of the word that it saw
-  abbrev decided_by : ℕ → Bool → Bool → Act
-  decided_by x a b =
-      if not a then act.Word m (op.Exchange x (x + 1))
-      else if b then act.Word m (op.Exchange 1 3)
-      else act.Enter (One (2 * m))
-
-  decided_goes : (late retries : Bool) (x : ℕ) (is : place_at w t ≡ Condvar l (waits (relocks late retries (lock.Decide x)))) (a b : Bool) → (act_is : wait_act l m (relocks late retries (lock.Decide x)) ≡ decided_by x a b) → can_do w (decided_by x a b) ≡ true
-      → GoesOnBy (relocks late retries (lock.Decide x)) (decided_by x a b)
+  decided_goes : (late retries : Bool) (x : ℕ) (is : place_at w t ≡ Condvar l (waits (relocks late retries (lock.Decide x)))) (a b : Bool) → (act_is : wait_act l m (relocks late retries (lock.Decide x)) ≡ decided_by m x a b) → can_do w (decided_by m x a b) ≡ true
+      → GoesOnBy (relocks late retries (lock.Decide x)) (decided_by m x a b)
   decided_goes late retries x is false b act_is can = beside (relocks late retries (lock.Decide x)) (act.Word m (op.Exchange x (x + 1))) is refl (none_there late retries (lock.Decide x) (act.Word m (op.Exchange x (x + 1)))) refl (decides w t l m timed steady is_there apart sort_m lock_m late retries x (op.Exchange x (x + 1)) is act_is)
   decided_goes late retries x is true true act_is can = beside (relocks late retries (lock.Decide x)) (act.Word m (op.Exchange 1 3)) is refl (none_there late retries (lock.Decide x) (act.Word m (op.Exchange 1 3))) refl (decides w t l m timed steady is_there apart sort_m lock_m late retries x (op.Exchange 1 3) is act_is)
   decided_goes late retries x is true false act_is can = beside (relocks late retries (lock.Decide x)) (act.Enter (One (2 * m))) is refl (none_there late retries (lock.Decide x) (act.Enter (One (2 * m)))) refl (enters_to_park w t l m timed steady is_there apart sort_m section_m line_m late retries x is act_is can)
