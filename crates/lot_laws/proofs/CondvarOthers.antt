@@ -49,7 +49,8 @@ use Rattle.lot_acts.specs.Owners.{is_thread}
 use Rattle.lot_acts.specs.Profiles.{hand}
 use Rattle.lot_acts.specs.Stations.{Station}
 use Rattle.lot_steps.specs.Steps.{next_place, taker}
-use Rattle.lot_laws.proofs.Glue.{CarriesAt, IsInHandOf, aparts, held_tells, in_hand_here, in_hand_where}
+use Rattle.lot_laws.proofs.Glue.{IsInHandOf, aparts, held_tells, in_hand_where}
+use Rattle.lot_laws.proofs.Handed.{CarriesAt, in_hand_here}
 use Rattle.lot_laws.proofs.CondvarParts.{nothing_there, station_there, station_beside}
 use Rattle.lot_laws.proofs.LockEvents.{Befalls, wakes_others}
 use Rattle.lot_condvar.specs.declared.wait.Stands.{Stands}

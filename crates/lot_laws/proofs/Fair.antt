@@ -56,7 +56,8 @@ use Rattle.lot_laws.proofs.CountsPut.{looking_counted}
 use Rattle.lot_rwlock.specs.declared.places.Admission.{Admission}
 use Rattle.lot_rwlock_fair.specs.declared.places.RwLockCallPlace.{RwLockCallPlace}
 use Rattle.lot_laws.proofs.ExclusiveOwners.{owner_after, exclusive-owners, by_code}
-use Rattle.lot_laws.proofs.Glue.{IsSingle, singles, own_stance, successor_one, aparts, of_carries}
+use Rattle.lot_laws.proofs.Glue.{IsSingle, singles, own_stance, aparts}
+use Rattle.lot_laws.proofs.Handed.{successor_one, of_carries}
 use Rattle.lot_laws.proofs.Waiters.{held_there}
 use Rattle.lot_laws.proofs.AtPlaces.{coded as words_coded, in_no_hand}
 use Rattle.lot_laws.proofs.TurnsKept.{after_steady}

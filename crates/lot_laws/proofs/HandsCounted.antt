@@ -18,7 +18,8 @@ use Rattle.lot_machine.specs.Machine.{State, held, held_by, place_at, shares_at,
 use Rattle.lot_laws.specs.Refinement.{lock_state, taken_at}
 use Rattle.lot_laws.specs.Stations.{Station, nowhere, station, station_by}
 use Rattle.lot_laws.specs.SitesOf.{IsCounted, IsSteady, carried_at, hand_at}
-use Rattle.lot_laws.proofs.Glue.{IsOf, same, IsSingle, single_held, single_station, single_taken, single_taker, taken_out, IsInHandOf, in_hand_where, in_hand_here, aparts, of_carries}
+use Rattle.lot_laws.proofs.Glue.{IsOf, same, IsSingle, single_held, single_station, single_taken, single_taker, taken_out, IsInHandOf, in_hand_where, aparts}
+use Rattle.lot_laws.proofs.Handed.{in_hand_here, of_carries}
 use Rattle.lot_laws.proofs.Waiters.{side_wanted}
 use Rattle.lot_condvar.specs.declared.places.CondvarPlace.{CondvarPlace}
 use Rattle.lot_condvar.specs.CondvarSteps.{mutex_beside}

@@ -46,7 +46,7 @@ use Rattle.lot_laws.proofs.StandsMoved.{stands_by}
 use Rattle.lot_laws.proofs.ToldAt.{HoldsHere, IsToldAt, SameHands, HeldHere, same_hands, has, told, places_then, held_here, told_on, told_off, not_held, in_hand, carries, alike, calls_then, all_parts, places_are}
 use Rattle.lot_laws.proofs.Waiters.{holds_here}
 use Rattle.lot_laws.proofs.StandsKept.{AlikeBeside, own_alike}
-use Rattle.lot_laws.proofs.Glue.{of_carries}
+use Rattle.lot_laws.proofs.Handed.{of_carries}
 
 -- ---------------------------------------------------------------- deeds of many threads
 

@@ -5,6 +5,7 @@ pub mod Closings
 pub mod Alone
 pub mod Runs
 pub mod Glue
+pub mod Handed
 pub mod Beside
 pub mod Waiters
 pub mod WaiterCalls

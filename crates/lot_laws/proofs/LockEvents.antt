@@ -54,7 +54,8 @@ use Rattle.lot_laws.proofs.WaiterCalls.{waiter_claims, waiter_does, waiter_hande
 use Rattle.lot_laws.proofs.Waiters.{calls_mutex_at}
 use Rattle.lot_condvar.specs.declared.places.CondvarPlace.{CondvarPlace}
 use Rattle.lot_condvar.specs.CondvarProfiles.{mutex_side}
-use Rattle.lot_laws.proofs.Glue.{IsTakenAt, heir, put_same, same, IsMutexCall, taken_elsewhere, IsSingle, single_taken}
+use Rattle.lot_laws.proofs.Glue.{IsTakenAt, put_same, same, IsMutexCall, taken_elsewhere, IsSingle, single_taken}
+use Rattle.lot_laws.proofs.Handed.{heir}
 use Rattle.lot_laws.proofs.MutexTable.{mutex}
 use Rattle.lot_laws.proofs.CallEvents.{put_is, rights, rights_led, led_here, led_elsewhere, Happens, Others, OthersFollow}
 

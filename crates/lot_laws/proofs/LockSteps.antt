@@ -117,7 +117,8 @@ use Rattle.lot_acts.specs.declared.acts.Next.{Next}
 use Rattle.lot_acts.specs.declared.acts.Next.TheVariants as next
 use Rattle.lot_acts.specs.declared.acts.Whom.TheVariants as whoms
 use Rattle.lot_condvar.specs.declared.places.CondvarPlace.TheVariants as condvars
-use Rattle.lot_laws.proofs.Glue.{IsSingle, heir, is_owner, own_stance, thread_is}
+use Rattle.lot_laws.proofs.Glue.{IsSingle, is_owner, own_stance, thread_is}
+use Rattle.lot_laws.proofs.Handed.{heir}
 use Rattle.lot_laws.proofs.MutexTable.{mutex}
 use Rattle.lot_laws.proofs.StandsMoved.{mutex_rules}
 use Rattle.lot_laws.proofs.SitesKept.{go_by, single_at}

@@ -37,7 +37,8 @@ use Rattle.lot_laws.specs.MutexDeeds.{acts}
 use Rattle.lot_laws.specs.Stations.{station, station_at, doing_on}
 use Rattle.lot_laws.specs.SitesOf.{stations_of, ActsNeeded, AreWaiting, IsSteady, Goes, FitsItsLock, TakesOne, after_acts, rules_in, key_of, stood_in, carried_at, hand_at}
 use Rattle.lot_laws.proofs.Counts.{without_absent, first_times, none_first, first_out, aside_kept}
-use Rattle.lot_laws.proofs.Glue.{free_of, held_calls, IsOf, IsLock, IsInHandOf, in_hand_where, held_tells, aparts, nothing_at, next_of, inside_is, parts_at, lock_in, same, put_here, doing_here, station_here, lets_nobody, of_single, IsSingle, single_taken, single_wants, of_lock}
+use Rattle.lot_laws.proofs.Glue.{free_of, held_calls, IsOf, IsLock, IsInHandOf, in_hand_where, held_tells, aparts, nothing_at, next_of, inside_is, parts_at, lock_in, same, put_here, doing_here, station_here, of_single, IsSingle, single_taken, single_wants, of_lock}
+use Rattle.lot_laws.proofs.Handed.{lets_nobody}
 use Rattle.lot_laws.proofs.OneStep.{AreSingle, HasOneCase, steps_by, empty_line, queued_times, queued_without}
 use Rattle.lot_laws.proofs.ActsKept.{NoHandOff, lock_by, operated, site_by, with_line, place_goes, enter_goes, leave_goes, nobody_inside, park_goes, parks, asides, lates, remove_goes, nobody_goes, finds_none}
 use Rattle.lot_laws.proofs.LawsKept.{after_same, needed_same, lawful_goes}

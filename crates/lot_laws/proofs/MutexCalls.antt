@@ -28,7 +28,8 @@ use Rattle.abstract_locks.specs.Deeds.{AreOneCase, case_of, after_event}
 use Rattle.abstract_locks.proofs.Rights.{unchanged, changed, agree, entered_alone, left, regained}
 use Rattle.lot_laws.specs.MutexDeeds.{mutex_row, mutex_station, enters, takes, hands_over, queued}
 use Rattle.lot_laws.specs.Refinement.{is_bump, entry_purpose, release_purpose, before_release}
-use Rattle.lot_laws.proofs.Glue.{mutex, heir}
+use Rattle.lot_laws.proofs.Glue.{mutex}
+use Rattle.lot_laws.proofs.Handed.{heir}
 
 -- where a call goes on, by its row, or what it answers
 abbrev pub row_of : Next MutexPlace → Next Profile

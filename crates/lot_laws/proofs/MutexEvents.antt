@@ -14,7 +14,8 @@ use Rattle.abstract_locks.specs.Sites.{Site, IsSite, Doing, Has, Main, In, End, 
 use Rattle.abstract_locks.specs.Deeds.{AllNeeded}
 use Rattle.lot_laws.specs.MutexPromises.{IsMutexWord}
 use Rattle.lot_laws.specs.MutexDeeds.{Act, acts, deeds, claims_of, mutex_doing, mutex_deeds, enters, hands_over}
-use Rattle.lot_laws.proofs.Glue.{mutex, heir}
+use Rattle.lot_laws.proofs.Glue.{mutex}
+use Rattle.lot_laws.proofs.Handed.{heir}
 use Rattle.lot_laws.proofs.CallEvents.{AreClaims}
 use Rattle.lot_laws.proofs.LockEvents.{gives_right}
 use Rattle.lot_laws.proofs.MutexCalls.{Tells, first, loads, exchanges, checks, leaves_line, removes, gives_up, accepts, tries, subtracts, takes_one, wakes_taken, unlocks_fairly, bumps, takes_fairly, stores, leaves_fairly, goes_to}

@@ -28,7 +28,8 @@ use Rattle.lot_laws.specs.Refinement.{lock_seen, taken_at}
 use Rattle.lot_laws.specs.MutexDeeds.{Act, mutex_station, queued}
 use Rattle.lot_laws.specs.Stations.{hand, nowhere, doing_on}
 use Rattle.lot_laws.specs.SitesOf.{after_acts, hand_at, Hands}
-use Rattle.lot_laws.proofs.Glue.{mutex, Base, seen, handed_is, heir, LetGo, untaken, put_here, put_other, same, differ}
+use Rattle.lot_laws.proofs.Glue.{mutex, Base, seen, LetGo, untaken, put_here, put_other, same, differ}
+use Rattle.lot_laws.proofs.Handed.{handed_is, heir}
 use Rattle.lot_base.specs.Lines.{times, threads_of}
 use Rattle.lot_machine.specs.Machine.{State, filled_at, place_at, places_told, put, queue_at, queues_without_first, state_after_reply}
 use Rattle.lot_machine.proofs.QueueLemmas.{told_count}

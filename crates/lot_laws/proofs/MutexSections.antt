@@ -17,7 +17,8 @@ use Rattle.abstract_locks.specs.Picks.{queued_of}
 use Rattle.lot_laws.specs.MutexDeeds.{mutex_doing, acts, queued}
 use Rattle.lot_laws.specs.Stations.{hand, doing_on}
 use Rattle.lot_laws.specs.SitesOf.{ActsNeeded}
-use Rattle.lot_laws.proofs.Glue.{Base, seen, same, Untaken, untaken, handed_is}
+use Rattle.lot_laws.proofs.Glue.{Base, seen, same, Untaken, untaken}
+use Rattle.lot_laws.proofs.Handed.{handed_is}
 use Rattle.lot_laws.proofs.Waiters.{CallsMutex, IsHeldThere}
 use Rattle.lot_laws.proofs.MutexHands.{hands_acts, taken_there}
 use Rattle.lot_laws.specs.SitesOf.{hand_at, Hands}

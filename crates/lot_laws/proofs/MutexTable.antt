@@ -32,7 +32,8 @@ use Rattle.lot_laws.specs.MutexDeeds.{owner, mutex_doing, mutex_deeds, mutex_sta
 use Rattle.lot_laws.specs.Stations.{Station, nowhere, station, doing_on}
 use Rattle.lot_laws.specs.SitesOf.{after_acts}
 pub use Rattle.lot_laws.proofs.Glue.{mutex}
-use Rattle.lot_laws.proofs.Glue.{Base, Parts, seen, same, own_stance, handed_is, Untaken, untaken}
+use Rattle.lot_laws.proofs.Glue.{Base, Parts, seen, same, own_stance, Untaken, untaken}
+use Rattle.lot_laws.proofs.Handed.{handed_is}
 pub use Rattle.lot_laws.proofs.OneStep.{AreSingle, others_same, same_filled, meets, Steps, queued_behind, queued_without, queued_times}
 use Rattle.lot_laws.specs.SitesOf.{Hands, carried_at}
 

@@ -29,7 +29,8 @@ use Rattle.lot_laws.specs.Refinement.{taken_at}
 use Rattle.lot_laws.specs.Stations.{doing_on, station_at}
 use Rattle.lot_laws.specs.SitesOf.{GoesAll, IsSteady, Sections, carried_at, condvar_of, hand_at, key_of, rules_in, site_of, stations_of}
 use Rattle.lot_laws.proofs.Glue as glue
-use Rattle.lot_laws.proofs.Glue.{CarriesAt, LetGo, parts_at, put_here, put_other, stays, untaken}
+use Rattle.lot_laws.proofs.Glue.{LetGo, parts_at, put_here, put_other, stays, untaken}
+use Rattle.lot_laws.proofs.Handed.{CarriesAt}
 use Rattle.lot_laws.proofs.OneStep.{same_word}
 use Rattle.lot_laws.proofs.Following.{AlikeAt}
 use Rattle.lot_laws.proofs.LawsKept.{after_same, needed_same}

@@ -26,7 +26,8 @@ use Rattle.lot_laws.specs.SitesOf.{FitsItsLock, IsSteady, carried_at, condvar_of
 use Rattle.lot_laws.proofs.CallEvents.{Happens, OthersFollow, rights}
 use Rattle.lot_laws.proofs.CondvarOthers.{IsCalmEvent, calm_follow, condvar_carries, wake_follows}
 use Rattle.lot_laws.proofs.CondvarParts.{station_beside}
-use Rattle.lot_laws.proofs.Glue.{CarriesAt, put_here, put_other}
+use Rattle.lot_laws.proofs.Glue.{put_here, put_other}
+use Rattle.lot_laws.proofs.Handed.{CarriesAt}
 use Rattle.lot_laws.proofs.NotifiesMoves.{moves_calls}
 use Rattle.lot_laws.proofs.OtherCalls.{IsLonely, lonely}
 

@@ -51,7 +51,8 @@ use Rattle.lot_laws.proofs.LineActs.{TakesHere}
 use Rattle.lot_laws.proofs.PicksKept.{picked_counts, under_of}
 use Rattle.lot_laws.proofs.TakesAt.{at_most_one, member, member_times, told_once, told_places}
 use Rattle.lot_laws.proofs.WaiterCalls.{waiter_taken, waiter_taken_by, waiter_told}
-use Rattle.lot_laws.proofs.Glue.{IsInHandOf, aparts, held_tells, in_hand_where, of_carries, in_hand_here as in_hand_at}
+use Rattle.lot_laws.proofs.Glue.{IsInHandOf, aparts, held_tells, in_hand_where}
+use Rattle.lot_laws.proofs.Handed.{of_carries, in_hand_here as in_hand_at}
 use Rattle.lot_laws.proofs.Glue.{IsOf, IsTakenAt, IsHandedAt, is_taken, is_handed, same}
 use Rattle.lot_laws.proofs.CallEvents.{Happens, IsNoHandOff, Others}
 use Rattle.lot_laws.proofs.LockEvents.{Befalls, taken_call, wakes_others}

@@ -43,7 +43,8 @@ use Rattle.lot_laws.specs.MutexDeeds.{mutex_doing, mutex_deeds, mutex_station, a
 use Rattle.lot_laws.specs.Stations.{Station, hand, nowhere, station, station_at, doing_on}
 use Rattle.lot_laws.specs.MutexDeeds as deeds
 use Rattle.lot_laws.specs.SitesOf.{SameNumbers, TakesOne, rules_in, ActsNeeded, IsSteady, Follows, Goes, FitsItsLock, carried_at, hand_at, after_acts}
-use Rattle.lot_laws.proofs.Glue.{base_at, seen_in, seen, goes_from, put_places, put_here, put_other, IsOf, own_stance, leaving, told_one, successor_one, none_given, lets_nobody, untaken, WantsAlone, station_here, IsMutexOf, own_of, next_mutex, aparts, of_carries}
+use Rattle.lot_laws.proofs.Glue.{base_at, seen_in, seen, goes_from, put_places, put_here, put_other, IsOf, own_stance, leaving, none_given, untaken, WantsAlone, station_here, IsMutexOf, own_of, next_mutex, aparts}
+use Rattle.lot_laws.proofs.Handed.{told_one, successor_one, lets_nobody, of_carries}
 use Rattle.lot_laws.proofs.Waiters.{CallsMutex, IsHeldThere, SleepsAt, WasGivenThere, calls_mutex_at, held_alone, held_there, given_there, holds_here}
 use Rattle.lot_laws.proofs.TakesAt.{behind_take, member}
 use Rattle.lot_laws.proofs.Following as following

@@ -69,7 +69,8 @@ use Rattle.lot_steps.specs.Steps.{is_lock}
 use Rattle.lot_laws.specs.Stations.{station_by}
 use Rattle.lot_condvar.specs.CondvarSteps.{mutex_beside}
 use Rattle.lot_condvar.specs.CondvarProfiles.{mutex_side}
-use Rattle.lot_laws.proofs.Glue.{IsSingle, nothing_at, not_beside, taken_held, put_here, own_stance, successor_one, singles, differ, aparts, of_carries}
+use Rattle.lot_laws.proofs.Glue.{IsSingle, nothing_at, not_beside, taken_held, put_here, own_stance, singles, differ, aparts}
+use Rattle.lot_laws.proofs.Handed.{successor_one, of_carries}
 use Rattle.lot_laws.proofs.SitesPromise.{parked_at}
 use Rattle.lot_mutex.specs.declared.places.MutexPlace.{MutexPlace}
 use Rattle.lot_acts.specs.declared.acts.Whom as whoms

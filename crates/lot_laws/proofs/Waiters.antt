@@ -37,7 +37,8 @@ use Rattle.lot_laws.specs.Stations.{Station, Hand, hand, nowhere, station, stati
 use Rattle.lot_laws.specs.SitesOf.{FitsItsLock, IsSteady, Hands, hand_at, rules_in}
 use Rattle.lot_laws.proofs.StandsKept.{Alike, AlikeBeside}
 use Rattle.lot_laws.proofs.ToldAt.{HoldsHere}
-use Rattle.lot_laws.proofs.Glue.{aparts, held_tells, same, differ, mutex, taken_out, IsApart, CarriesAt, WantsAlone, in_hand_where, in_hand_here}
+use Rattle.lot_laws.proofs.Glue.{aparts, held_tells, same, differ, mutex, taken_out, IsApart, WantsAlone, in_hand_where}
+use Rattle.lot_laws.proofs.Handed.{CarriesAt, in_hand_here}
 
 -- told something by another thread, it goes to a place: what the lock l sees then, and where it may stand there
 pub record IsTold (l : ℕ) (p q : Place) (may : Type 0) (goes : Station → Station) (does : Doing → Doing) (held : Option Taken) : Type 0 where

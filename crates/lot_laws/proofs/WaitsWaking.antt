@@ -38,7 +38,8 @@ use Rattle.lot_laws.specs.Refinement.{taken_at}
 use Rattle.lot_laws.specs.Stations.{doing_on, station_at}
 use Rattle.lot_laws.specs.SitesOf.{FitsItsLock, Goes, IsSteady, carried_at, hand_at, key_of, rules_in, site_of}
 use Rattle.lot_laws.proofs.Glue as glue
-use Rattle.lot_laws.proofs.Glue.{CarriesAt, differ, untaken}
+use Rattle.lot_laws.proofs.Glue.{differ, untaken}
+use Rattle.lot_laws.proofs.Handed.{CarriesAt}
 use Rattle.lot_laws.proofs.CondvarParts.{nothing_there, station_there, station_beside, taken_beside}
 use Rattle.lot_laws.proofs.CondvarHears.{waiter_hears}
 use Rattle.lot_laws.proofs.MutexActs.{goes_out_at, goes_out_waking}

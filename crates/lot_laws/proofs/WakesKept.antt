@@ -12,7 +12,8 @@ use Rattle.lot_laws.specs.Refinement.{taken_at}
 use Rattle.lot_laws.specs.MutexDeeds.{acts}
 use Rattle.lot_laws.specs.Stations.{Station, hand, station, station_at, nowhere, doing_on}
 use Rattle.lot_laws.specs.SitesOf.{ActsNeeded, IsSteady, Goes, FitsItsLock, after_acts, rules_in, key_of, hand_at}
-use Rattle.lot_laws.proofs.Glue.{Parts, seen_in, IsOf, LetGo, next_of, of_carries, station_here}
+use Rattle.lot_laws.proofs.Glue.{Parts, seen_in, IsOf, LetGo, next_of, station_here}
+use Rattle.lot_laws.proofs.Handed.{of_carries}
 use Rattle.lot_laws.proofs.Waiters.{holds_here}
 use Rattle.lot_laws.proofs.ActsKept.{lock_by}
 use Rattle.lot_laws.proofs.StandsKept.{AlikeBeside, own_alike}
