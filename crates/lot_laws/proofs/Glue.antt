@@ -1,6 +1,5 @@
 -- The state of a world by its parts, as total functions, and what each act does to a lock and to what the threads do about it.
 use Rattle.std.proofs.Common.{ℕ, zero, suc, Bool, true, false, Option, Some, None, if◌then◌else◌, ◌==◌, ◌||◌, ◌≡◌, ◌≢◌, ◌+◌, ◌*◌, ◌≤◌, ◌⊎◌, List, [], ◌∷◌, map, length, get_or, set, inl, inr, refl, sym, ◌∙◌, ap, subst, arith, length-set, get_or-set_same, get_or-set_other, not}
-use Rattle.abstract_locks.proofs.LockKeeps.{sharing_same}
 use Rattle.abstract_locks.specs.Locks.{IsLockState, wants_shared}
 use Rattle.std.proofs.lemmas.Bool.{cases_eq, cases_lt, eqb-true}
 use Rattle.std.proofs.lemmas.Bool.Decides.{nat_tests}
@@ -35,16 +34,16 @@ use Rattle.lot_base.specs.declared.wants.Want.{Want}
 use Rattle.lot_acts.specs.Profiles.{Hand, Of, hand_owner, taken_from, Profile, blank}
 use Rattle.lot_steps.specs.Steps.{next_place, taker, mutex_goes, rwlock_goes, once_goes, lock_of, profile, wants, is_lock, calls, beside_of, or_else, profile_beside, key_in, late_key, line_owed, retries_on}
 use Rattle.abstract_locks.specs.Locks.{LockState, Taken, Queued, Rules, TakeFirst, keep_from, let_go, shares_handed, sharing_from, putting}
-use Rattle.std.specs.Prelude.{sum, ◌&&◌, ◌||◌}
-use Rattle.lot_acts.specs.Owners.{is_thread, with_exclusive}
+use Rattle.std.specs.Prelude.{◌&&◌, ◌||◌}
+use Rattle.lot_acts.specs.Owners.{is_thread}
 use Rattle.abstract_locks.specs.Locks as locks
 use Rattle.abstract_locks.specs.Sites.{Doing, Site, Out, idle, leaves, wakened, after_deed}
-use Rattle.lot_machine.specs.Machine.{State, place_at, kind_at, word_at, owners_at, shares_at, filled_at, queue_at, place_after_telling, state_after_telling, held, shares_in_hand, with_share, shares_given, wants_more_in_hand, successor_or, successor_from, pending_for, owners_of_successor, shares_handed_over, owners_handed_over, state_after_reply, put, held_by}
+use Rattle.lot_machine.specs.Machine.{State, place_at, kind_at, word_at, owners_at, shares_at, filled_at, queue_at, place_after_telling, held, shares_in_hand, with_share, shares_given, wants_more_in_hand, successor_or, successor_from, put, held_by}
 use Rattle.lot_machine.specs.declared.hands.Successor.{Successor}
 use Rattle.lot_laws.specs.Refinement.{lock_seen, taken_at}
-use Rattle.lot_laws.specs.MutexDeeds.{mutex_station, queued}
+use Rattle.lot_laws.specs.MutexDeeds.{mutex_station}
 use Rattle.lot_laws.specs.Stations.{Station, hand, station, station_at, nowhere, doing_on, station_by}
-use Rattle.lot_laws.specs.SitesOf.{site_of, rules_in, carried_at, hand_at, Hands, FitsItsLock, IsSteady, TakesOne}
+use Rattle.lot_laws.specs.SitesOf.{site_of, rules_in, hand_at, FitsItsLock, IsSteady, TakesOne}
 
 -- ---------------------------------------------------------------- lists with one element set, as functions
 

@@ -1,51 +1,24 @@
 -- Whom a thread has in hand that has somebody in hand at one lock alone: whoever is in its hand is so there, and where that lock lets one go at a time there is
 -- one at most. What its leaving and its hand-over make of it.
-use Rattle.std.proofs.Common.{ℕ, zero, suc, Bool, true, false, Option, Some, None, if◌then◌else◌, ◌==◌, ◌||◌, ◌≡◌, ◌≢◌, ◌+◌, ◌*◌, ◌≤◌, ◌⊎◌, List, [], ◌∷◌, map, length, get_or, set, inl, inr, refl, sym, ◌∙◌, ap, subst, arith, length-set, get_or-set_same, get_or-set_other, not}
+use Rattle.std.proofs.Common.{ℕ, Bool, true, false, Option, Some, None, if◌then◌else◌, ◌==◌, ◌≡◌, ◌≢◌, ◌+◌, List, inl, inr, refl, ◌∙◌, ap, subst, arith}
 use Rattle.abstract_locks.proofs.LockKeeps.{sharing_same}
 use Rattle.abstract_locks.specs.Locks.{IsLockState, wants_shared}
-use Rattle.std.proofs.lemmas.Bool.{cases_eq, cases_lt, eqb-true}
-use Rattle.std.proofs.lemmas.Bool.Decides.{nat_tests}
+use Rattle.std.proofs.lemmas.Bool.{cases_eq}
 use Rattle.lot_base.specs.declared.wants.Waiter.{Waiter}
 use Rattle.lot_base.specs.declared.wants.Want.TheVariants.{Exclusive}
 use Rattle.lot_acts.specs.declared.owners.Owners.{Owners}
-use Rattle.lot_once.specs.declared.places.OncePlace.{OncePlace}
-use Rattle.lot_once.specs.OnceSteps.{once_next}
-use Rattle.lot_condvar.specs.declared.places.CondvarPlace.{CondvarPlace}
-use Rattle.lot_condvar.specs.declared.places.CondvarPlace.TheVariants.{Wait, Look, Notify}
-use Rattle.lot_condvar.specs.CondvarSteps.{mutex_beside}
-use Rattle.lot_condvar.specs.CondvarProfiles.{mutex_side}
-use Rattle.lot_calls.specs.declared.kinds.Kind.{Kind}
-use Rattle.lot_calls.specs.declared.kinds.Kind as kind
-use Rattle.lot_calls.specs.Kinds.{is_plain_mutex}
-use Rattle.abstract_locks.specs.Purposes.{rules_of}
 use Rattle.lot_steps.specs.declared.places.Place.{Place}
-use Rattle.lot_steps.specs.declared.places.Place.TheVariants.{Idle, Mutex, RwLock, Once, Condvar}
-use Rattle.lot_mutex.specs.declared.lock.Entry.{Entry}
-use Rattle.lot_mutex.specs.declared.places.MutexPlace.{MutexPlace}
-use Rattle.lot_mutex.specs.declared.places.MutexPlace.TheVariants.{Lock}
-use Rattle.lot_mutex.specs.declared.lock.LockAt.TheVariants as lock
 use Rattle.lot_acts.specs.declared.acts.Reply.{Reply}
-use Rattle.abstract_locks.specs.Codes.{parked_in, aside_in}
-use Rattle.lot_mutex.specs.MutexSteps.{is_parked}
-use Rattle.lot_acts.specs.declared.acts.Next.{Next}
-use Rattle.lot_rwlock_fair.specs.declared.places.RwLockCallPlace.{RwLockCallPlace}
-use Rattle.lot_rwlock_fair.specs.FairSteps.{call_next}
-use Rattle.lot_acts.specs.declared.acts.Next as next
-use Rattle.lot_mutex.specs.MutexSteps.{mutex_next}
-use Rattle.lot_base.specs.declared.wants.Want.{Want}
-use Rattle.lot_acts.specs.Profiles.{Hand, Of, hand_owner, taken_from, Profile, blank}
-use Rattle.lot_steps.specs.Steps.{next_place, taker, mutex_goes, rwlock_goes, once_goes, lock_of, profile, wants, is_lock, calls, beside_of, or_else, profile_beside, key_in, late_key, line_owed, retries_on}
+use Rattle.lot_steps.specs.Steps.{taker}
 use Rattle.abstract_locks.specs.Locks.{LockState, Taken, Queued, Rules, TakeFirst, keep_from, let_go, shares_handed, sharing_from, putting}
-use Rattle.std.specs.Prelude.{sum, ◌&&◌, ◌||◌}
+use Rattle.std.specs.Prelude.{sum}
 use Rattle.lot_acts.specs.Owners.{is_thread, with_exclusive}
 use Rattle.abstract_locks.specs.Locks as locks
-use Rattle.abstract_locks.specs.Sites.{Doing, Site, Out, idle, leaves, wakened, after_deed}
-use Rattle.lot_machine.specs.Machine.{State, place_at, kind_at, word_at, owners_at, shares_at, filled_at, queue_at, place_after_telling, state_after_telling, held, shares_in_hand, with_share, shares_given, wants_more_in_hand, successor_or, successor_from, pending_for, owners_of_successor, shares_handed_over, owners_handed_over, state_after_reply, put, held_by}
-use Rattle.lot_machine.specs.declared.hands.Successor.{Successor}
+use Rattle.lot_machine.specs.Machine.{State, place_at, shares_at, state_after_telling, held, pending_for, owners_of_successor, shares_handed_over, owners_handed_over, state_after_reply}
 use Rattle.lot_laws.specs.Refinement.{lock_seen, taken_at}
-use Rattle.lot_laws.specs.MutexDeeds.{mutex_station, queued}
-use Rattle.lot_laws.specs.Stations.{Station, hand, station, station_at, nowhere, doing_on, station_by}
-use Rattle.lot_laws.specs.SitesOf.{site_of, rules_in, carried_at, hand_at, Hands, FitsItsLock, IsSteady, TakesOne}
+use Rattle.lot_laws.specs.MutexDeeds.{queued}
+use Rattle.lot_laws.specs.Stations.{Station, hand}
+use Rattle.lot_laws.specs.SitesOf.{carried_at, hand_at, Hands}
 use Rattle.lot_laws.proofs.Glue.{mutex, put_other, stays, untaken, IsOf, station_elsewhere, WantsAlone, none_given, IsApart, held_tells, in_hand_where, Base, LetGo, IsInHandOf, successor_in, successor_is, told_in}
 
 -- a thread that has somebody in hand at one lock at most

@@ -1,6 +1,5 @@
 -- The first step of a notification, which looks at the mutex that is shown, changes no lock, and its call goes on by what it sees.
 use Rattle.std.proofs.Common.{ℕ, Bool, true, false, Option, Some, None, if◌then◌else◌, ◌==◌, ◌≡◌, ◌+◌, ◌-◌, List, [], inl, refl, sym, ◌∙◌, ap, subst, arith}
-use Rattle.std.proofs.lemmas.Bool.Decides.{nat_tests}
 use Rattle.lot_acts.specs.Acts.{outcome_of}
 use Rattle.lot_acts.specs.Calls.{rights_where}
 use Rattle.lot_acts.specs.declared.acts.Next.TheVariants as next

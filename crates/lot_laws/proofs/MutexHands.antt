@@ -1,6 +1,5 @@
 -- A mutex's steps that take its first waiter, hand the mutex over, or let go whom they have in hand: what they do to the lock, by what befalls the other thread.
 use Rattle.std.proofs.Common.{ℕ, Bool, true, false, Some, None, if◌then◌else◌, ◌≡◌, ◌≢◌, ◌*◌, ◌<◌, List, [], ◌∷◌, length, drop, map, inl, inr, refl, sym, ◌∙◌, ap, subst, arith, length-set, get_or-set_same, get_or-set_other}
-use Rattle.std.proofs.lemmas.Bool.Decides.{nat_tests}
 use Rattle.abstract_locks.specs.Picks.{queued_of}
 use Rattle.lot_laws.specs.MutexDeeds.{acts}
 use Rattle.lot_laws.specs.Stations.{station_at}

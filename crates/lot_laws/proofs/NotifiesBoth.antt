@@ -1,5 +1,5 @@
 -- A notification goes into both its sections, or out of them where it has nobody in hand: both locks are sites again.
-use Rattle.std.proofs.Common.{ℕ, Bool, true, false, Option, Some, None, if◌then◌else◌, ◌==◌, ◌&&◌, ◌≡◌, ◌≢◌, ◌*◌, ◌<◌, [], ◌∷◌, length, set, refl, sym, ◌∙◌, ap, subst, is_none, inl, inr, length-set, get_or-set_same, get_or-set_other}
+use Rattle.std.proofs.Common.{ℕ, Bool, true, false, Option, Some, None, if◌then◌else◌, ◌==◌, ◌≡◌, ◌≢◌, ◌*◌, ◌<◌, [], ◌∷◌, length, set, refl, sym, ◌∙◌, ap, subst, is_none, inl, inr, length-set, get_or-set_same, get_or-set_other}
 use Rattle.std.proofs.lemmas.Bool.{cases_eq}
 use Rattle.lot_base.specs.declared.keys.Keys.TheVariants.{Two}
 use Rattle.lot_acts.specs.declared.acts.Next.{Next}

@@ -1,7 +1,5 @@
 -- What its lock's being a site says of the word of a mutex, and of who waits for it.
 use Rattle.std.proofs.Common.{ℕ, Bool, true, false, Option, if◌then◌else◌, ◌==◌, ◌≡◌, ◌≢◌, ◌+◌, ◌*◌, ◌≤◌, List, [], ◌∷◌, inl, inr, refl, sym, ◌∙◌, ap, subst, arith, None}
-use Rattle.std.proofs.lemmas.Bool.Decides.{nat_tests}
-use Rattle.lot_base.specs.declared.wants.Waiter.{Waiter}
 use Rattle.lot_base.specs.Lines as Lines
 use Rattle.lot_mutex.specs.MutexSteps.{is_parked}
 use Rattle.lot_once.specs.OnceProfiles.{once_profile}
@@ -34,7 +32,6 @@ use Rattle.lot_rwlock_fair.specs.declared.places.RwLockCallPlace.{RwLockCallPlac
 use Rattle.lot_rwlock_fair.specs.declared.places.RwLockCallPlace.TheVariants as places
 use Rattle.lot_rwlock_fair.specs.declared.hand_over.HandOverAt.TheVariants as handing
 use Rattle.lot_rwlock_fair.specs.FairProfiles.{call_profile}
-use Rattle.lot_laws.proofs.Counts.{first_out}
 
 pub codes_by : (e : Option ℕ) (b : Bool) (w : ℕ) → w ≡ one_if_some e + 2 * bit b → IsMutexWord w e
 codes_by e true w h = inr h
