@@ -21,6 +21,7 @@ has_call Mutex (call.TheVariants.Mutex lock c) = true
 has_call Fair (call.TheVariants.Mutex lock c) = true
 has_call (RwLock limit) (call.TheVariants.RwLock lock c) = true
 has_call (Recursive limit) (call.TheVariants.RwLock lock c) = true
+has_call Condvar (call.TheVariants.Condvar lock c) = true
 has_call Once (call.TheVariants.Once lock c) = true
 has_call _ c = false
 

@@ -41,6 +41,7 @@ impl Kind {
         match (self, call) {
             (Kind::Mutex | Kind::Fair, Call::Mutex { .. }) => true,
             (Kind::RwLock { .. } | Kind::Recursive { .. }, Call::RwLock { .. }) => true,
+            (Kind::Condvar, Call::Condvar { .. }) => true,
             (Kind::Once, Call::Once { .. }) => true,
             _ => false,
         }

@@ -122,7 +122,7 @@ is_mutex k = false
 
 -- calls of condition variables begin: not yet
 abbrev pub CondvarsBegin : Type 0
-CondvarsBegin = ⊥
+CondvarsBegin = Unit {0}
 
 -- a call of a condition variable has come to its place, and the mutex that it names is a plain one
 pub record FitsCondvar (w : State) (l : ℕ) (at : CondvarPlace) : Type 0 where

@@ -51,8 +51,9 @@ abbrev pub kind_of : List ℕ → Option Kind
 kind_of word =
     if bytes_eq word (codes "mutex") then Some kind.TheVariants.Mutex
     else (if bytes_eq word (codes "fair") then Some kind.TheVariants.Fair
+    else (if bytes_eq word (codes "condvar") then Some kind.TheVariants.Condvar
     else (if bytes_eq word (codes "once") then Some kind.TheVariants.Once
-    else limited_kind_of word (Some MOST_READERS)))
+    else limited_kind_of word (Some MOST_READERS))))
 
 abbrev pub mutex_call_of : List ℕ → Option MutexCall
 mutex_call_of word =

@@ -235,6 +235,8 @@ fn kind(word: &[u8]) -> Option<Kind>
         Some(Kind::Mutex)
     } else if word == b"fair".as_slice() {
         Some(Kind::Fair)
+    } else if word == b"condvar".as_slice() {
+        Some(Kind::Condvar)
     } else if word == b"once".as_slice() {
         Some(Kind::Once)
     } else {

@@ -73,6 +73,8 @@ fn a_wait_needs_a_right_to_its_mutex(rt: HostRuntime) {
     };
     assert_eq!(rt; (notify.lock(), notify.mutex()), (3, None));
     assert_eq!(rt; notify.needs_right_to(), 3);
+    assert!(rt; Kind::Condvar.has_call(wait) && Kind::Condvar.has_call(notify));
+    assert!(rt; !Kind::Mutex.has_call(wait) && !Kind::Once.has_call(notify));
     assert!(rt; Kind::Mutex.is_plain_mutex() && !Kind::Fair.is_plain_mutex());
     assert!(rt; Kind::Condvar.is_condvar() && !Kind::Once.is_condvar());
 }

@@ -77,6 +77,8 @@ const MALFORMED: [&str; 69] = [
     "lock m fair 1",
     "lock m Once",
     "lock m once 1",
+    "lock c condvar 1",
+    "lock c Condvar",
     "lock m Mutex",
     "lock M mutex",
     "lock 1m mutex",
@@ -377,11 +379,14 @@ fn calls_of_a_once_have_their_meaning(rt: HostRuntime) {
 fn calls_of_a_condition_variable_have_their_meaning(rt: HostRuntime) {
     let c = Name::from_word(b"c");
     let m = Name::from_word(b"m");
-    // No world begins a call of one yet, so none is declared.
-    assert_eq!(rt; meaning(b"lock c condvar"), None);
     let (Some(name), Some(mutex)) = (c, m) else {
         return;
     };
+    let lock = Some(Command::Lock {
+        name,
+        kind: Kind::Condvar,
+    });
+    assert_eq!(rt; meaning(b"lock c condvar"), lock);
     for (line, call) in [
         ("3 begin notify_one c", NamedCall::Notify { all: false }),
         ("3 begin notify_all c", NamedCall::Notify { all: true }),
