@@ -16,6 +16,8 @@ use Rattle.lot_calls.specs.declared.calls.Downgrade.{Downgrade}
 use Rattle.lot_calls.specs.declared.calls.Downgrade.TheVariants as downgrade
 use Rattle.lot_calls.specs.declared.calls.RwLockCall.{RwLockCall}
 use Rattle.lot_calls.specs.declared.calls.RwLockCall.TheVariants as rwlock_call
+use Rattle.lot_calls.specs.declared.calls.CondvarCall.{CondvarCall}
+use Rattle.lot_calls.specs.declared.calls.CondvarCall.TheVariants as condvar_call
 use Rattle.lot_calls.specs.declared.calls.OnceCall.{OnceCall}
 use Rattle.lot_calls.specs.declared.calls.OnceCall.TheVariants as once_call
 use Rattle.abstract_locks.specs.Onces.{Start, Rest}
@@ -75,12 +77,17 @@ abbrev pub once_purpose : ℕ → OnceCall → Purpose
 once_purpose l (once_call.CallOnce forced) = CallsOnce l forced
 once_purpose l (once_call.Wait forced) = Awaits l forced
 
+abbrev pub condvar_purpose : ℕ → CondvarCall → Purpose
+condvar_purpose l (condvar_call.Wait m timed) = Waits l m timed
+condvar_purpose l (condvar_call.Notify all) = Notifies l all
+
 -- what a call of a lock of this kind is for; nothing where the kind lacks the call
 abbrev pub purpose_of : Kind → Call → Option Purpose
 purpose_of kind.TheVariants.Mutex (call.TheVariants.Mutex l c) = Some (mutex_purpose false l c)
 purpose_of kind.TheVariants.Fair (call.TheVariants.Mutex l c) = Some (mutex_purpose true l c)
 purpose_of (kind.TheVariants.RwLock limit) (call.TheVariants.RwLock l c) = Some (rwlock_purpose l c)
 purpose_of (kind.TheVariants.Recursive limit) (call.TheVariants.RwLock l c) = Some (rwlock_purpose l c)
+purpose_of kind.TheVariants.Condvar (call.TheVariants.Condvar l c) = Some (condvar_purpose l c)
 purpose_of kind.TheVariants.Once (call.TheVariants.Once l c) = Some (once_purpose l c)
 purpose_of k c = None
 

@@ -28,6 +28,7 @@ use Rattle.lot_condvar.specs.declared.notify.NotifyAt.{NotifyAt}
 use Rattle.lot_condvar.specs.declared.notify.NotifyAt.TheVariants as notify
 use Rattle.lot_condvar.specs.declared.places.CondvarPlace.{CondvarPlace}
 use Rattle.lot_condvar.specs.declared.places.CondvarPlace.TheVariants.{Wait, Look, Notify}
+use Rattle.lot_condvar.specs.declared.wait.Stands.{Stands}
 use Rattle.lot_condvar.specs.declared.wait.Stands.TheVariants as stands
 use Rattle.lot_condvar.specs.declared.wait.WaitAt.{WaitAt}
 use Rattle.lot_condvar.specs.declared.wait.WaitAt.TheVariants as wait
@@ -125,10 +126,16 @@ abbrev pub IsRelock : MutexPlace → Type 0
 IsRelock (mutex.Lock entry.Lock retries at) = IsLockOf at
 IsRelock at = ⊥
 
+-- who has its note is awake
+abbrev pub IsUnnoted : Stands → Type 0
+IsUnnoted (stands.Noted by) = ⊥
+IsUnnoted s = Unit {0}
+
 -- only a timed wait is ever late, and who was handed its mutex has released it; a notification hides what it shows only to move all, and sets the bit
 -- of a mutex that it saw locked; who is to wake somebody has moved some: the first alone where it isn't to move all
 abbrev pub IsReached : CondvarPlace → Type 0
 IsReached (Wait m timed (wait.Release s at)) = IsRelease at × (has_mutex s ≡ true → (mutex_profile at).doing.claims ≡ None)
+IsReached (Wait m timed (wait.Asleep s)) = IsUnnoted s
 IsReached (Wait m timed wait.Remove) = timed ≡ true
 IsReached (Wait m timed wait.Hide) = timed ≡ true
 IsReached (Wait m timed wait.GiveUp) = timed ≡ true
