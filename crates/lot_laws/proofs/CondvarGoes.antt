@@ -110,7 +110,7 @@ module _ (w v : State) (t l m : ℕ) (p : CondvarPlace) (call_is : call_at w t �
   abbrev call : CallState
   call = calls.call_at l m p (rights w t)
 
-  call_then : (q : CondvarPlace) → place_at v t ≡ Condvar l q → mutex_beside q ≡ Some m → call_state (place_at v t) (rights v t) ≡ calls.call_at l m q (rights v t)
+  pub call_then : (q : CondvarPlace) → place_at v t ≡ Condvar l q → mutex_beside q ≡ Some m → call_state (place_at v t) (rights v t) ≡ calls.call_at l m q (rights v t)
   call_then q there named = ap (λ x. call_state x (rights v t)) there ∙ ap (λ o. call_on_both o (Some l) (condvar_profile q) (mutex_side q) (rights v t)) named
 
   -- what it is made of

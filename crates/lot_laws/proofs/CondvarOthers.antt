@@ -28,7 +28,7 @@ use Rattle.abstract_locks.specs.Condvars.{SeeOther, Show}
 use Rattle.abstract_locks.specs.Deeds.{case_of, event_by}
 use Rattle.abstract_locks.specs.Locks as locks
 use Rattle.abstract_locks.specs.Locks.{Leave, LockCase, Rights}
-use Rattle.abstract_locks.specs.Runs.{AtLock, Event, Moves, Nothing, is_taken_by}
+use Rattle.abstract_locks.specs.Runs.{AtLock, CallState, Event, LocksState, Moves, Nothing, is_taken_by, woken}
 use Rattle.abstract_locks.specs.Sites.{Case, End, Main, Mark}
 use Rattle.lot_machine.specs.Machine.{State, can_do, place_at, put, reply_to, state_after_act, word_at, place_after_telling, state_after_telling, state_with_sections}
 use Rattle.lot_laws.specs.Refinement.{call_state, taken_at}
@@ -68,6 +68,17 @@ calm_follow w v t (AtLock l case) h calm stay = others_follow w v t l (Some case
     by_case (locks.HandOff x y) calm = absurd calm
     by_case case calm = stay
 calm_follow w v t (Moves c m all owned number) h calm stay = absurd calm
+
+-- nor does its own thread learn of it
+pub calm_unwoken : (w : LocksState) (t : ℕ) (e : Event) (u : ℕ) (c : CallState) → IsCalmEvent e → woken w t e u c ≡ c
+calm_unwoken w t Nothing u c calm = refl
+calm_unwoken w t (Moves k m all owned number) u c calm = absurd calm
+calm_unwoken w t (AtLock l case) u c calm = by_case case calm
+  where
+    by_case : (case : LockCase) → IsCalm (Some case) → woken w t (AtLock l case) u c ≡ c
+    by_case locks.Wake calm = absurd calm
+    by_case (locks.HandOff x y) calm = absurd calm
+    by_case case calm = refl
 
 -- of two cases of which each is calm
 two_calm : (m l : ℕ) (x y : Option LockCase) → IsCalm x → IsCalm y → IsCalmEvent (or_else (event_by m x) (event_by l y))
@@ -114,7 +125,7 @@ module _ (w : State) (t l m : ℕ) (timed : Bool) (steady : IsSteady w) (plain :
   event p = wait_event l m p (taken_by_wait w m p) (reply_to w t (wait_act l m p))
 
   -- nobody else's call changes
-  record IsQuiet (p : WaitAt) : Type 0 where
+  pub record IsQuiet (p : WaitAt) : Type 0 where
     pub calm : IsCalmEvent (event p)
     pub stays : (p2 : Place) → Stay w t p2 (put (state_after_act w t (Condvar l (waits p)) (wait_act l m p)) t p2)
 
@@ -181,14 +192,14 @@ module _ (w : State) (t l m : ℕ) (timed : Bool) (steady : IsSteady w) (plain :
   relock_quiet late again at of can = absurd of
 
   -- but where it wakes whom it took
-  abbrev IsWaking : WaitAt → Type 0
+  abbrev pub IsWaking : WaitAt → Type 0
   IsWaking (wait.Release s (mutex.Unlock (unlock.Leave true))) = Unit {0}
   IsWaking p = ⊥
 
   not_condvar : (rules_in w m).sort ≢ locks.Condvar
   not_condvar e = let f : locks.Mutex ≡ locks.Condvar = sym plain ∙ e in cc
 
-  quiet : (p : WaitAt) → IsReached (waits p) → can_do w (wait_act l m p) ≡ true → (IsWaking p → ⊥) → IsQuiet p
+  pub quiet : (p : WaitAt) → IsReached (waits p) → can_do w (wait_act l m p) ≡ true → (IsWaking p → ⊥) → IsQuiet p
   quiet wait.Enter reached can calm = alone wait.Enter tt tt
   quiet wait.Show reached can calm = alone wait.Show tt (two_calm m l None _ tt (shows ((word_at w l == 0) || is_shown (word_at w l) m)))
   quiet wait.Stand reached can calm = alone wait.Stand tt tt

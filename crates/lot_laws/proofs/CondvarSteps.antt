@@ -41,7 +41,8 @@ use Rattle.lot_laws.proofs.CondvarHears.{free_inside, may_hear}
 use Rattle.lot_laws.proofs.CondvarLed.{condvar_stays}
 use Rattle.lot_laws.proofs.CondvarOwn.{alike_same, went, went_alike, went_place}
 use Rattle.lot_laws.proofs.CondvarRows.{names_of, names_unmoved, stage_of, stage_unmoved}
-use Rattle.lot_laws.proofs.CondvarsKept.{condvar_kept, moved_on, same_condvar}
+use Rattle.lot_laws.proofs.CondvarsKept.{condvar_kept, moved_on}
+use Rattle.lot_laws.proofs.SameCondvars.{same_condvar}
 use Rattle.lot_laws.proofs.CondvarWent.{goes_led}
 use Rattle.lot_laws.proofs.Glue.{calls_none, put_other, same}
 use Rattle.lot_laws.proofs.KindsKept.{after_kinds}
@@ -110,7 +111,7 @@ looks_from l (Wait m timed p) q is = absurd cc
 looks_from l (Look all) q is = absurd cc
 looks_from l (Notify all m p) q is = absurd cc
 
-module _ (w : State) (s : Step) (shape : IsShaped w) (steady : IsSteady w) (counted : AreCounted w) (l : ℕ) (at : CondvarPlace) (is : place_at w s.thread ≡ Condvar l at) (lt : l < length w.locks) (condvar : IsCondvar (condvar_of w l)) where
+module _ (w : State) (s : Step) (shape : IsShaped w) (steady : IsSteady w) (counted : AreCounted w) (condvars : AreCondvars w) (l : ℕ) (at : CondvarPlace) (is : place_at w s.thread ≡ Condvar l at) (lt : l < length w.locks) (condvar : IsCondvar (condvar_of w l)) where
   abbrev v : State
   v = after w s
 
@@ -118,13 +119,13 @@ module _ (w : State) (s : Step) (shape : IsShaped w) (steady : IsSteady w) (coun
   t = s.thread
 
   stands_then : Stands v
-  stands_then = (after_steady w s shape steady counted).stands
+  stands_then = (after_steady w s shape steady counted condvars).stands
 
   says : OthersSay w v t l
   says u ne = (others_keep_it (λ p. stage_of p l) (stage_unmoved l) w s u ne, others_keep_it (λ p. names_of p l) (names_unmoved l) w s u ne)
 
   section : SectionChanges (section_at w (key_of l Main)) t (section_at v (key_of l Main))
-  section = let step : IsStep (locks_of w) s (step_outcome w s) (locks_of v) = after_step w s shape steady counted in step.0.sections (key_of l Main)
+  section = let step : IsStep (locks_of w) s (step_outcome w s) (locks_of v) = after_step w s shape steady counted condvars in step.0.sections (key_of l Main)
 
   -- from where it looks
   looks : (q : Place) → t < length w.places → looking (place_at w t) ≡ Some q → v ≡ state_after_look w t (Some q) → IsCondvar (condvar_of v l)
@@ -279,9 +280,9 @@ after_condvars w s shape steady counted condvars l sort_then = by_lock (is_or_no
     by_lock (inl own) behind =
         let at = condvar_place w steady s.thread l sort own in
         let fits : PlaceFits (length w.locks) (Condvar l at.0) = subst (PlaceFits (length w.locks)) at.1 (shape.places s.thread) in
-        own_condvar w s shape steady counted l at.0 at.1 fits.0 (condvars l sort)
-    by_lock (inr other) (inl own) = elim (moved_on w s shape steady counted) [
+        own_condvar w s shape steady counted condvars l at.0 at.1 fits.0 (condvars l sort)
+    by_lock (inr other) (inl own) = elim (moved_on w s shape steady counted condvars) [
       | inl stays ↦ absurd (elim stays [ inl same_lock ↦ other (sym same_lock ∙ own) | inr ended ↦ let never : ◌≡◌ {A = Option ℕ} None (Some l) = sym ended ∙ own in cc ])
-      | inr none ↦ let at = condvar_place (after w s) (after_steady w s shape steady counted) s.thread l sort_then own in begins at.0 at.1 none
+      | inr none ↦ let at = condvar_place (after w s) (after_steady w s shape steady counted condvars) s.thread l sort_then own in begins at.0 at.1 none
     ]
-    by_lock (inr other) (inr other_then) = subst IsCondvar (sym (condvar_kept w s shape steady counted l sort other other_then)) (condvars l sort)
+    by_lock (inr other) (inr other_then) = subst IsCondvar (sym (condvar_kept w s shape steady counted condvars l sort other other_then)) (condvars l sort)

@@ -30,7 +30,7 @@ use Rattle.lot_machine.specs.Fits.{IsShaped, PlaceFits}
 use Rattle.lot_laws.specs.Refinement.{taken_at}
 use Rattle.lot_laws.specs.MutexDeeds.{acts}
 use Rattle.lot_laws.specs.Stations.{doing_on, station_at}
-use Rattle.lot_laws.specs.SitesOf.{CondvarsBegin, FitsCondvar, FitsItsLock, Goes, IsSteady, key_of, rules_in}
+use Rattle.lot_laws.specs.SitesOf.{FitsCondvar, FitsItsLock, Goes, IsSteady, key_of, rules_in}
 use Rattle.lot_laws.proofs.Glue.{differ, parts_at, put_here, same, thread_is}
 use Rattle.lot_laws.proofs.OneStep.{steps_by}
 use Rattle.lot_laws.proofs.StandsKept.{Alike, AlikeBeside}
@@ -98,9 +98,9 @@ condvar_sort kind.Condvar h = refl
 condvar_sort k h = absurd cc
 
 -- it may begin where it names a plain mutex that its thread owns
-module _ (w : State) (t l : ℕ) (steady : IsSteady w) (there : t < length w.places) (is : place_at w t ≡ Idle) (begun : CondvarsBegin) where
+module _ (w : State) (t l : ℕ) (steady : IsSteady w) (there : t < length w.places) (is : place_at w t ≡ Idle) where
   pub condvar_begins : (c : CondvarCall) → is_open_to w t (call.Condvar l c) ≡ true → Goes w (state_after_begin w t (call.Condvar l c)) (begins_at l c) (acts t (begins_by c))
-  condvar_begins (condvar_call.Notify all) may = notification_begins w t l all steady there is (record { sort = condvar_sort (kind_at w l) suits.1.0; reached = tt; mutex = λ m none. absurd cc; begun = begun })
+  condvar_begins (condvar_call.Notify all) may = notification_begins w t l all steady there is (record { sort = condvar_sort (kind_at w l) suits.1.0; reached = tt; mutex = λ m none. absurd cc })
     where
       suits : Suits (length w.locks) (kind_at w) (Condvar l (Look all))
       suits = call_suits w t (call.Condvar l (condvar_call.Notify all)) may
@@ -110,7 +110,7 @@ module _ (w : State) (t l : ℕ) (steady : IsSteady w) (there : t < length w.pla
       suits = call_suits w t (call.Condvar l (condvar_call.Wait m timed)) may
 
       fits : FitsCondvar w l (Wait m timed wait.Enter)
-      fits = record { sort = condvar_sort (kind_at w l) suits.1.0; reached = tt; mutex = λ k names. let same_mutex : m ≡ k = cc in subst (λ j. is_plain_mutex (kind_at w j) ≡ true) same_mutex suits.1.1; begun = begun }
+      fits = record { sort = condvar_sort (kind_at w l) suits.1.0; reached = tt; mutex = λ k names. let same_mutex : m ≡ k = cc in subst (λ j. is_plain_mutex (kind_at w j) ≡ true) same_mutex suits.1.1 }
 
       right : holds_right w t (call.Condvar l (condvar_call.Wait m timed)) ≡ true
       right = let named = call.Condvar l (condvar_call.Wait m timed) in

@@ -35,6 +35,7 @@ use Rattle.lot_laws.proofs.LockSteps.{after_step}
 use Rattle.lot_laws.proofs.PlacePromises.{row_promises}
 use Rattle.lot_laws.proofs.SingleCalls.{call_here}
 use Rattle.lot_laws.proofs.SoloAnswers.{purpose_stays, woken_purpose}
+use Rattle.lot_laws.proofs.SameCondvars.{Kept, same_condvar}
 use Rattle.lot_laws.proofs.TurnsKept.{after_steady}
 use Rattle.lot_laws.proofs.WaitersAside.{plain_sort}
 
@@ -129,10 +130,6 @@ module _ (w : State) (steady : IsSteady w) (t : ℕ) where
 
 -- ---------------------------------------------------------------- an event of another lock
 
--- it leaves what is shown, and who waits
-abbrev Kept : LockState → LockState → Type 0
-Kept s s2 = (s2.shown ≡ s.shown) × (s2.queue ≡ s.queue)
-
 abbrev KeepsIt : LockCase → Type 0
 KeepsIt case = (r : Rules) (s : LockState) (t : ℕ) → Kept s (after_case r case s t)
 
@@ -189,22 +186,7 @@ module _ (w : LocksState) (t k : ℕ) (sort : (rules_at w k).sort ≡ locks.Cond
 
 -- ---------------------------------------------------------------- a step
 
-pub same_condvar : (w v : State) (k : ℕ) → Kept (lock_state w k) (lock_state v k) → section_at v (key_of k Main) ≡ section_at w (key_of k Main)
-    → ((u : ℕ) → (stage_of (place_at v u) k ≡ stage_of (place_at w u) k) × (names_of (place_at v u) k ≡ names_of (place_at w u) k)) → condvar_of v k ≡ condvar_of w k
-same_condvar w v k lock section says = λ i. record {
-  shown = lock.0 i;
-  waiters = lock.1 i;
-  inside = inside_as (section i) (λ u. stage_now u i);
-  waits_with = λ u. names_now u i;
-}
-  where
-    stage_now : (u : ℕ) → (profile_at (place_at v u) k).stage ≡ (profile_at (place_at w u) k).stage
-    stage_now u = (row_says (place_at v u) k).0 ∙ (says u).0 ∙ sym (row_says (place_at w u) k).0
-
-    names_now : (u : ℕ) → (profile_at (place_at v u) k).names ≡ (profile_at (place_at w u) k).names
-    names_now u = (row_says (place_at v u) k).1 ∙ (says u).1 ∙ sym (row_says (place_at w u) k).1
-
-module _ (w : State) (s : Step) (shape : IsShaped w) (steady : IsSteady w) (counted : AreCounted w) where
+module _ (w : State) (s : Step) (shape : IsShaped w) (steady : IsSteady w) (counted : AreCounted w) (condvars : AreCondvars w) where
   abbrev v : State
   v = after w s
 
@@ -212,10 +194,10 @@ module _ (w : State) (s : Step) (shape : IsShaped w) (steady : IsSteady w) (coun
   t = s.thread
 
   steady_then : IsSteady v
-  steady_then = after_steady w s shape steady counted
+  steady_then = after_steady w s shape steady counted condvars
 
   step : IsStep (locks_of w) s (step_outcome w s) (locks_of v)
-  step = after_step w s shape steady counted
+  step = after_step w s shape steady counted condvars
 
   -- its call is of the lock that it was of, or it has ended
   abbrev pub StaysOf : Type 0
@@ -294,13 +276,3 @@ module _ (w : State) (s : Step) (shape : IsShaped w) (steady : IsSteady w) (coun
               rw e (behind.0 ∙ sym before.0, behind.1 ∙ sym before.1)
           | inr ne ↦ says_kept u ne
         ]
-
--- who stands elsewhere, where its place says the same of it, leaves each as it was
-pub put_condvars : (w : State) (t : ℕ) (q : Place) → t < length w.places → ((k : ℕ) → (stage_of q k ≡ stage_of (place_at w t) k) × (names_of q k ≡ names_of (place_at w t) k)) → AreCondvars w → AreCondvars (put w t q)
-put_condvars w t q there says condvars k sort = subst IsCondvar (sym (same_condvar w (put w t q) k (refl, refl) refl says_now)) (condvars k sort)
-  where
-    says_now : (u : ℕ) → (stage_of (place_at (put w t q) u) k ≡ stage_of (place_at w u) k) × (names_of (place_at (put w t q) u) k ≡ names_of (place_at w u) k)
-    says_now u = elim (cases_eq u t) [
-      | inl e ↦ rw (e, get_or-set_same w.places t q Idle there) (says k)
-      | inr ne ↦ let stays = get_or-set_other w.places t u q Idle ne in (ap (λ p. stage_of p k) stays, ap (λ p. names_of p k) stays)
-    ]

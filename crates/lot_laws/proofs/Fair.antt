@@ -36,7 +36,7 @@ use Rattle.lot_machine.specs.Machine.{State, unlocked, place_at, word_at, owners
 use Rattle.lot_machine.specs.Fits.{IsShaped, PlaceFits}
 use Rattle.lot_laws.specs.MutexPromises.{IsMutexWord}
 use Rattle.lot_laws.specs.MutexDeeds.{mutex_station}
-use Rattle.lot_laws.specs.SitesOf.{AreCounted, IsSteady, FitsItsLock, is_mutex, rules_in}
+use Rattle.lot_laws.specs.SitesOf.{AreCondvars, AreCounted, IsSteady, FitsItsLock, is_mutex, rules_in}
 use Rattle.abstract_locks.specs.Sites.{Main}
 use Rattle.lot_laws.proofs.MutexTable.{own_doing}
 use Rattle.lot_machine.proofs.Shape.{both, looking_shaped}
@@ -420,8 +420,8 @@ module _ (w : State) (t l : ℕ) (shape : IsShaped w) (steady : IsSteady w) (cou
           subst (λ u. Comes (state_after_turn w u s.turn)) (sym e) (turned_gives_shared (rw e at (ltb-true s.thread (length w.places) parts.0)) s.turn (subst (λ u. can_turn w u s.turn ≡ true) e parts.1))
       either false can = inl h.2
 
-pub is_fair : (w : State) (s : Step) → IsShaped w → IsSteady w → AreCounted w → IsFair w (after w s)
-is_fair w s shape steady counted = record {
+pub is_fair : (w : State) (s : Step) → IsShaped w → IsSteady w → AreCounted w → AreCondvars w → IsFair w (after w s)
+is_fair w s shape steady counted condvars = record {
   gives = λ t l h. elim (cases_eq s.thread t) [
     | inl e ↦ told t l h (after_gives w t l shape steady h.1 h.2 h.0 s e)
     | inr ne ↦ inl (owned t l h (turned_so (λ x y. x.exclusive ≡ Some t → y.exclusive ≡ Some t) (locks_of w) (locks_of (after w s)) s.thread l one (λ e. e)
@@ -441,13 +441,13 @@ is_fair w s shape steady counted = record {
     all l = (steady.sites.site l).state
 
     step : IsStep (locks_of w) s (step_outcome w s) (locks_of (after w s))
-    step = after_step w s shape steady counted
+    step = after_step w s shape steady counted condvars
 
     one : CallsOneLock (call_at w s.thread).purpose
     one = calls_one_lock w s.thread steady (singles w steady s.thread)
 
     coded : (t l : ℕ) → ReleasesFairly w t l → IsMutexWord (word_at (after w s) l) (owner_at (after w s) l)
-    coded t l h = words_coded (after w s) (after_steady w s shape steady counted) l
+    coded t l h = words_coded (after w s) (after_steady w s shape steady counted condvars) l
         (ap rules_of (after_kinds w s l) ∙ mutex_rules (kind_at w l) h.2)
 
     owned : (t l : ℕ) → ReleasesFairly w t l → owner_at (after w s) l ≡ Some t → OwnsOn (after w s) t l

@@ -40,7 +40,7 @@ use Rattle.lot_laws.specs.MutexDeeds.{mutex_doing, mutex_station, acts, deeds, m
 use Rattle.lot_laws.specs.Stations.{Station, nowhere, station, station_at}
 use Rattle.lot_laws.specs.SitesOf.{AreCounted, IsSteady, Goes, stood_in}
 use Rattle.lot_machine.proofs.Shape.{main_line_there, main_key_there}
-use Rattle.lot_laws.proofs.Glue.{base_at, same, own_stance, inside_is, doing_of, doing_here, IsMutexOf, own_of, IsSingle, singles}
+use Rattle.lot_laws.proofs.Glue.{base_at, same, own_stance, inside_is, doing_of, doing_here, IsMutexOf, own_of, IsSingle}
 use Rattle.lot_laws.proofs.MutexTable.{Fits, own_doing, ends, looks, at_first, at_load, at_decide_free, at_decide_one, at_clear, at_release_clear, at_try, at_subtract, at_unlock_fair, at_bump, at_store_none}
 use Rattle.lot_laws.proofs.OneStep.{empty_line}
 use Rattle.lot_laws.proofs.SitesKept.{go_by, goes_steady, site_l, word_l, word_keeps, place_keeps, enter_keeps, leave_keeps, one_held, release_wakes, tells, hands_over, take_keeps, mutexes_at}
@@ -225,9 +225,9 @@ module _ (w : State) (t : ℕ) (steady : IsSteady w) (shape : IsShaped w) (there
   gone_goes l (HandOff bumps a) is lt can = hand_off_kept l bumps a is lt can
 
   -- a thread goes on
-  pub gone_kept : AreCounted w → (p : Place) → place_at w t ≡ p → PlaceFits (length w.locks) p → can_do w (act_of p) ≡ true → IsSteady (go_by w t p (act_of p))
-  gone_kept counted Idle is fits can = absurd cc
-  gone_kept counted (Condvar l at) is fits can = absurd (subst IsSingle is (singles w steady t))
-  gone_kept counted (Once l at) is fits can = goes_steady w _ l _ steady (goes_once w t l at steady shape there fits is can).goes
-  gone_kept counted (Mutex l at) is fits can = goes_steady w _ l _ steady (gone_goes l at is fits.0 can).1
-  gone_kept counted (RwLock l a c) is fits can = (rwlock_goes_on w t l a c steady shape there fits is counted can).happened.after
+  pub gone_kept : AreCounted w → (p : Place) → place_at w t ≡ p → IsSingle p → PlaceFits (length w.locks) p → can_do w (act_of p) ≡ true → IsSteady (go_by w t p (act_of p))
+  gone_kept counted Idle is single fits can = absurd cc
+  gone_kept counted (Condvar l at) is single fits can = absurd single
+  gone_kept counted (Once l at) is single fits can = goes_steady w _ l _ steady (goes_once w t l at steady shape there fits is can).goes
+  gone_kept counted (Mutex l at) is single fits can = goes_steady w _ l _ steady (gone_goes l at is fits.0 can).1
+  gone_kept counted (RwLock l a c) is single fits can = (rwlock_goes_on w t l a c steady shape there fits is counted can).happened.after

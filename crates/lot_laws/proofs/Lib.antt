@@ -115,6 +115,7 @@ pub mod RowLaws
 pub mod RunsKept
 pub mod WaitersAside
 pub mod CondvarRows
+pub mod SameCondvars
 pub mod CondvarsKept
 pub mod CondvarLed
 pub mod CondvarWent
@@ -143,4 +144,5 @@ pub mod WaitsGo
 pub mod NotifiesGo
 pub mod CondvarOthers
 pub mod NotifyOthers
+pub mod ReleaseOwn
 pub mod CondvarGo

@@ -77,10 +77,10 @@ module _ (w : State) (t l : ℕ) (p : Place) (v : ℕ) (q : Line → List Waiter
     told can ∙ ap (λ r. outcome_of (next_act p r)) heard,
     record {
       shape = after_shaped w (go_of t) f.shape;
-      steady = after_steady w (go_of t) f.shape f.steady f.counted;
-      counted = counted_after w (go_of t) f.shape f.steady f.counted;
+      steady = after_steady w (go_of t) f.shape f.steady f.counted f.condvars;
+      counted = counted_after w (go_of t) f.shape f.steady f.counted f.condvars;
       condvars = after_condvars w (go_of t) f.shape f.steady f.counted f.condvars;
-      running = running_after w (go_of t) f.shape f.steady f.counted f.running;
+      running = running_after w (go_of t) f.shape f.steady f.counted f.condvars f.running;
       thread = let size : SameSize w (after w (go_of t)) = after_size w (go_of t) in rw size.threads f.thread;
       lock = let size : SameSize w (after w (go_of t)) = after_size w (go_of t) in rw size.locks f.lock;
       single = next_single p reply f.single;

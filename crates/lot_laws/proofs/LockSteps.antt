@@ -88,7 +88,7 @@ use Rattle.lot_machine.proofs.Looks.{mutex_looks}
 use Rattle.lot_laws.proofs.CountsPut.{looking_counted}
 use Rattle.lot_laws.proofs.Looking.{here, looks_now, looking_steady, goes_as_before, stays_as_before}
 use Rattle.lot_laws.proofs.Closures.{closes_one, closure_told, mutex_runs_none, runs_one}
-use Rattle.lot_laws.specs.SitesOf.{site_of, AreCounted, IsSteady, Goes, FitsItsLock, is_mutex, rules_in, carried_at}
+use Rattle.lot_laws.specs.SitesOf.{site_of, AreCondvars, AreCounted, IsSteady, Goes, FitsItsLock, is_mutex, rules_in, carried_at}
 use Rattle.abstract_locks.specs.Sites.{IsSite, Deed, Main, Mark, End, Case}
 use Rattle.abstract_locks.specs.Locks.{LockCase, Wake, Leave as GivesBack, HandOff as HandsOff, Rights, rights_of, standing}
 use Rattle.abstract_locks.specs.Runs.{LocksState, CallState, GoesOn, Stays, Looks, IsOfMutex, Does, SectionChanges, MayBegin, MayTurn, HasRight, Turned, IsStep, purpose_at, new_call, Nothing}
@@ -117,7 +117,9 @@ use Rattle.lot_acts.specs.declared.acts.Next.{Next}
 use Rattle.lot_acts.specs.declared.acts.Next.TheVariants as next
 use Rattle.lot_acts.specs.declared.acts.Whom.TheVariants as whoms
 use Rattle.lot_condvar.specs.declared.places.CondvarPlace.TheVariants as condvars
-use Rattle.lot_laws.proofs.Glue.{IsSingle, is_owner, own_stance, thread_is}
+use Rattle.lot_laws.proofs.Glue.{IsSingle, is_owner, own_stance, single_or_two, thread_is}
+use Rattle.lot_laws.proofs.CondvarGo.{condvar_on}
+use Rattle.lot_laws.proofs.SameCondvars.{looking_condvars}
 use Rattle.lot_laws.proofs.Handed.{heir}
 use Rattle.lot_laws.proofs.MutexTable.{mutex}
 use Rattle.lot_laws.proofs.StandsMoved.{mutex_rules}
@@ -387,17 +389,21 @@ module _ (w : State) (t : ℕ) (shape : IsShaped w) (steady : IsSteady w) (there
         place_then : call_state (place_at decided t) ≡ call_state (place_at w t)
         place_then = ap call_state (get_or-set_same w.places t (next_place (Mutex l (Lock e again Load)) (Value (word_at w l))) Idle there) ∙ ap call_state (sym is)
 
-  go_goes : AreCounted w → (p : Place) → place_at w t ≡ p → PlaceFits (length w.locks) p → FitsItsLock w p → can_do w (act_of p) ≡ true → GoesOn (locks_of w) t (outcome_of (next_act p (reply_to w t (act_of p)))) (locks_of (go_by w t p (act_of p)))
-  go_goes counted Idle is fits of can = absurd cc
-  go_goes counted (Condvar l at) is fits of can = absurd of.begun
-  go_goes counted (Once l at) is fits of can = once_step w t l at steady shape there fits is can
-  go_goes counted (RwLock l a c) is fits of can = rwlock_step w t l a c steady shape there fits is counted can
-  go_goes counted (Mutex l at) is fits of can = mutex_goes_on l fits.0 (mutex_rules (kind_at w l) of) at is can fits.1
+  go_goes : AreCounted w → (p : Place) → place_at w t ≡ p → IsSingle p → PlaceFits (length w.locks) p → FitsItsLock w p → can_do w (act_of p) ≡ true → GoesOn (locks_of w) t (outcome_of (next_act p (reply_to w t (act_of p)))) (locks_of (go_by w t p (act_of p)))
+  go_goes counted Idle is single fits of can = absurd cc
+  go_goes counted (Condvar l at) is single fits of can = absurd single
+  go_goes counted (Once l at) is single fits of can = once_step w t l at steady shape there fits is can
+  go_goes counted (RwLock l a c) is single fits of can = rwlock_step w t l a c steady shape there fits is counted can
+  go_goes counted (Mutex l at) is single fits of can = mutex_goes_on l fits.0 (mutex_rules (kind_at w l) of) at is can fits.1
 
-  going_goes : AreCounted w → can_go w t ≡ true → GoesOn (locks_of w) t (go_outcome w t) (locks_of (state_after_go w t))
-  going_goes counted can = subst (λ o. GoesOn (locks_of w) t o (locks_of (state_after_go w t))) (sym (gone_told w t steady))
-      (subst (λ v. GoesOn (locks_of w) t (outcome_of (next_act (place_at w t) (go_reply w t))) (locks_of v)) (sym (gone w t steady))
-      (go_goes counted (place_at w t) refl (shape.places t) (steady.stands.calls t) can))
+  going_goes : AreCounted w → AreCondvars w → can_go w t ≡ true → GoesOn (locks_of w) t (go_outcome w t) (locks_of (state_after_go w t))
+  going_goes counted condvars can = elim (single_or_two (place_at w t)) [
+    | inl single ↦ subst (λ o. GoesOn (locks_of w) t o (locks_of (state_after_go w t))) (sym (gone_told w t single))
+        (subst (λ v. GoesOn (locks_of w) t (outcome_of (next_act (place_at w t) (go_reply w t))) (locks_of v)) (sym (gone w t single))
+        (go_goes counted (place_at w t) refl single (shape.places t) (steady.stands.calls t) can))
+    | inr two ↦ subst (λ p. GoesOn (locks_of w) t (going_outcome w t p) (locks_of (state_after_going w t p))) (sym two.is)
+        (condvar_on w t two.lock shape steady condvars there two.at two.is (ap (λ p. can_do w (act_of p)) (sym two.is) ∙ can))
+  ]
 
   -- ---------------------------------------------------------------- turns by which the place alone changes
 
@@ -517,10 +523,10 @@ module _ (w : State) (t : ℕ) (shape : IsShaped w) (steady : IsSteady w) (there
       calls_moved : {x : MutexPlace} → place_at moved t ≡ Mutex l x → FitsItsLock moved (Mutex l x)
       calls_moved now = subst (FitsItsLock moved) now (steady_moved.stands.calls t)
 
-  looks : AreCounted w → Looks (locks_of w) t (go_outcome moved t) (locks_of (state_after_go moved t))
-  looks counted = record {
+  looks : AreCounted w → AreCondvars w → Looks (locks_of w) t (go_outcome moved t) (locks_of (state_after_go moved t))
+  looks counted condvars = record {
     goes = goes_as_before w t there q is _ (locks_of (state_after_go moved t))
-        (going_goes moved t shaped_moved steady_moved there_moved (looking_counted w t there q is counted) (looks_now w t there q is));
+        (going_goes moved t shaped_moved steady_moved there_moved (looking_counted w t there q is counted) (looking_condvars w t q there is condvars) (looks_now w t there q is));
     stays = λ of. look_stays (place_at w t) refl of;
   }
 
@@ -734,17 +740,17 @@ module _ (w : State) (t : ℕ) (shape : IsShaped w) (steady : IsSteady w) (there
           lt : one.lock < length v.locks
           lt = subst (PlaceFits (length v.locks)) is_v (shape_v.places t)
 
-  turned_does : AreCounted w → (x : Turn) → can_turn w t x ≡ true → MayTurn (locks_of w) t x × Does (locks_of w) t x (turn_outcome w t x) (locks_of (state_after_turn w t x))
-  turned_does counted (turn.TheVariants.Begin c) can = begin_goes w t c shape steady there can
-  turned_does counted turn.TheVariants.Go can = (may_go w t can, going_goes w t shape steady there counted can)
-  turned_does counted turn.TheVariants.Spin can = (can, by_look (looking (place_at w t)) refl can)
+  turned_does : AreCounted w → AreCondvars w → (x : Turn) → can_turn w t x ≡ true → MayTurn (locks_of w) t x × Does (locks_of w) t x (turn_outcome w t x) (locks_of (state_after_turn w t x))
+  turned_does counted condvars (turn.TheVariants.Begin c) can = begin_goes w t c shape steady there can
+  turned_does counted condvars turn.TheVariants.Go can = (may_go w t can, going_goes w t shape steady there counted condvars can)
+  turned_does counted condvars turn.TheVariants.Spin can = (can, by_look (looking (place_at w t)) refl can)
     where
       by_look : (o : Option Place) → looking (place_at w t) ≡ o → is_some o ≡ true → Looks (locks_of w) t (look_outcome w t o) (locks_of (state_after_look w t o))
       by_look None is can = absurd cc
-      by_look (Some q) is can = looks w t shape steady there q is counted
-  turned_does counted turn.TheVariants.Late can = (may_be_late w t steady can, late_goes w t shape steady there (place_at w t) refl can)
-  turned_does counted turn.TheVariants.Ok can = closed_does true can
-  turned_does counted turn.TheVariants.Err can = closed_does false can
+      by_look (Some q) is can = looks w t shape steady there q is counted condvars
+  turned_does counted condvars turn.TheVariants.Late can = (may_be_late w t steady can, late_goes w t shape steady there (place_at w t) refl can)
+  turned_does counted condvars turn.TheVariants.Ok can = closed_does true can
+  turned_does counted condvars turn.TheVariants.Err can = closed_does false can
 
 -- a turn that may be taken is possible
 module _ (w : State) (t : ℕ) (steady : IsSteady w) where
@@ -827,8 +833,8 @@ module _ (w : State) (t : ℕ) (shape : IsShaped w) (steady : IsSteady w) (there
   turned_runs turn.TheVariants.Ok can = closing_runs true can
   turned_runs turn.TheVariants.Err can = closing_runs false can
 
-pub after_step : (w : State) (s : Step) → IsShaped w → IsSteady w → AreCounted w → IsStep (locks_of w) s (step_outcome w s) (locks_of (after w s))
-after_step w s shape steady counted = (record { threads = size.threads; size = size.locks; kinds = after_kinds w s; sections = sections (is_possible w s) refl; told = told (is_possible w s) refl; runs = runs (is_possible w s) refl }, either (is_possible w s) refl)
+pub after_step : (w : State) (s : Step) → IsShaped w → IsSteady w → AreCounted w → AreCondvars w → IsStep (locks_of w) s (step_outcome w s) (locks_of (after w s))
+after_step w s shape steady counted condvars = (record { threads = size.threads; size = size.locks; kinds = after_kinds w s; sections = sections (is_possible w s) refl; told = told (is_possible w s) refl; runs = runs (is_possible w s) refl }, either (is_possible w s) refl)
   where
     size : SameSize w (after w s)
     size = after_size w s
@@ -851,5 +857,5 @@ after_step w s shape steady counted = (record { threads = size.threads; size = s
     runs false cannot ne = absurd (ne refl)
 
     either : (b : Bool) → is_possible w s ≡ b → Turned (locks_of w) s.thread s.turn (if b then turn_outcome w s.thread s.turn else outcome.TheVariants.NotNow) (locks_of (if b then state_after_turn w s.thread s.turn else w))
-    either true can = inl (turned_does w s.thread shape steady (parts can).0 counted s.turn (parts can).1)
+    either true can = inl (turned_does w s.thread shape steady (parts can).0 counted condvars s.turn (parts can).1)
     either false cannot = inr (stuck w s.thread steady s.turn cannot, (refl, refl))

@@ -39,7 +39,7 @@ module _ (w v : State) (t l : ℕ) (all : Bool) (steady : IsSteady w) (after : I
   stays : (k : ℕ) → lock_state v k ≡ lock_state w k
   stays k = ap (λ (s : Site). s.lock) (f.site k) ∙ ap (λ ds. (after_acts (rules_in w k) ds (site_of w k)).lock) (nothing k)
 
-  look_happened : Happens w v t event
+  pub look_happened : Happens w v t event
   look_happened = by_word (lock_state w l).shown refl
     where
       by_word : (o : Option ℕ) → (lock_state w l).shown ≡ o → Happens w v t (look_event l (word_of o))

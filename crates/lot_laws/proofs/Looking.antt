@@ -69,7 +69,7 @@ of_lock l o e = rw e refl
 
 -- it has come on in the same call, beside the same mutex
 pub fits_on : (w : State) (l : ℕ) (at at2 : CondvarPlace) → FitsCondvar w l at → IsReached at2 → mutex_beside at2 ≡ mutex_beside at → FitsCondvar w l at2
-fits_on w l at at2 f reached beside = record { sort = f.sort; reached = reached; mutex = λ m is. f.mutex m (sym beside ∙ is); begun = f.begun }
+fits_on w l at at2 f reached beside = record { sort = f.sort; reached = reached; mutex = λ m is. f.mutex m (sym beside ∙ is) }
 
 -- as a wait does that looks at its mutex once more
 looks_on : (at at2 : CondvarPlace) → condvar_looking at ≡ Some at2 → IsReached at → IsReached at2 × (mutex_beside at2 ≡ mutex_beside at)

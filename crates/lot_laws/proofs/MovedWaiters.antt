@@ -69,7 +69,7 @@ module _ (w : State) (l m : ℕ) (apart : m ≢ l) (timed : Bool) where
 
   -- it has come to the next place too
   comes : (p p2 : WaitAt) → FitsCondvar w l (waits p) → (IsReached (waits p) → IsReached (waits p2)) → FitsItsLock w (Condvar l (waits p2))
-  comes p p2 fits reached = record { sort = fits.sort; reached = reached fits.reached; mutex = fits.mutex; begun = fits.begun }
+  comes p p2 fits reached = record { sort = fits.sort; reached = reached fits.reached; mutex = fits.mutex }
 
   module _ (t : ℕ) where
     -- asleep

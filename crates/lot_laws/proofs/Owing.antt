@@ -28,7 +28,7 @@ use Rattle.abstract_locks.specs.Locks.{Rights}
 use Rattle.lot_laws.specs.Owing.{Owes, IsInside, SeesWaiters, OwesSince, OnlyLooks, LooksFirst, LetsOthersIn, line_let_in, sort_at, tells_by}
 use Rattle.lot_machine.specs.Fits.{IsShaped}
 use Rattle.abstract_locks.specs.Sites.{Line}
-use Rattle.lot_laws.specs.SitesOf.{AreCounted, IsSteady, key_of}
+use Rattle.lot_laws.specs.SitesOf.{AreCondvars, AreCounted, IsSteady, key_of}
 use Rattle.lot_machine.proofs.Shape.{both}
 use Rattle.lot_laws.proofs.TurnsKept.{idle_is, after_steady}
 use Rattle.lot_laws.proofs.SingleCalls.{call_none}
@@ -212,9 +212,9 @@ module _ (w : State) (t : ℕ) (shape : IsShaped w) (steady : IsSteady w) (there
   turned_owing turn.TheVariants.Ok can behind l m = closed_owing true (closes_one w t true can) behind l m
   turned_owing turn.TheVariants.Err can behind l m = closed_owing false (closes_one w t false can) behind l m
 
-pub owes_since : (w : State) (s : Step) → IsShaped w → IsSteady w → AreCounted w → OwesSince w s.thread (step_outcome w s) (after w s)
-owes_since w s shape steady counted = record {
-  own = own (is_possible w s) refl (after_steady w s shape steady counted);
+pub owes_since : (w : State) (s : Step) → IsShaped w → IsSteady w → AreCounted w → AreCondvars w → OwesSince w s.thread (step_outcome w s) (after w s)
+owes_since w s shape steady counted condvars = record {
+  own = own (is_possible w s) refl (after_steady w s shape steady counted condvars);
   others = λ u l ne. others_owe w s u l ne;
 }
   where

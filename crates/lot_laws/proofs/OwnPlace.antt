@@ -1,4 +1,4 @@
--- In the calls that begin, a thread that tells others something hears nothing of it: its act leaves it where it stands.
+-- In a call of one lock a thread that tells others something hears nothing of it: its act leaves it where it stands.
 use Rattle.std.proofs.Common.{ℕ, Bool, true, false, None, if◌then◌else◌, ◌≡◌, not, ◌==◌, ◌+◌, ◌*◌, ◌<◌, length, get_or-set_same, refl, sym, ap, ◌∙◌}
 use Rattle.lot_base.specs.declared.keys.Keys.TheVariants.{One}
 use Rattle.lot_base.specs.declared.keys.Line.{Line}
@@ -55,8 +55,7 @@ use Rattle.lot_steps.specs.declared.places.Place.TheVariants.{Idle, Mutex, RwLoc
 use Rattle.lot_steps.specs.Steps.{act_of, mutex_goes, next_act, next_place, once_goes, rwlock_goes}
 use Rattle.lot_machine.specs.Machine.{State, go_outcome, go_reply, going_outcome, place_at, put, reply_to, state_after_act, state_after_go, state_after_going}
 use Rattle.lot_machine.proofs.Acted.{Befalls, acted_keeps, tells}
-use Rattle.lot_laws.proofs.Glue.{IsSingle, singles}
-use Rattle.lot_laws.specs.SitesOf.{IsSteady}
+use Rattle.lot_laws.proofs.Glue.{IsSingle}
 use Rattle.lot_machine.proofs.Shape.{performed_counts}
 
 -- ---------------------------------------------------------------- mutexes
@@ -226,12 +225,12 @@ module _ (w : State) (t : ℕ) (p : Place) (is : place_at w t ≡ p) (single : I
   pub told_from_there : going_outcome w t p ≡ outcome_of (next_act p (reply_to w t (act_of p)))
   told_from_there = ap (λ q. outcome_of (next_act q (reply_to w t (act_of p)))) stays_there
 
-module _ (w : State) (t : ℕ) (steady : IsSteady w) where
+module _ (w : State) (t : ℕ) (single : IsSingle (place_at w t)) where
   pub gone : state_after_go w t ≡ put (state_after_act w t (place_at w t) (act_of (place_at w t))) t (next_place (place_at w t) (go_reply w t))
-  gone = goes_from_there w t (place_at w t) refl (singles w steady t)
+  gone = goes_from_there w t (place_at w t) refl single
 
   pub gone_told : go_outcome w t ≡ outcome_of (next_act (place_at w t) (go_reply w t))
-  gone_told = told_from_there w t (place_at w t) refl (singles w steady t)
+  gone_told = told_from_there w t (place_at w t) refl single
 
   -- where it goes
   pub gone_place : t < length w.places → place_at (state_after_go w t) t ≡ next_place (place_at w t) (go_reply w t)

@@ -13,7 +13,7 @@ use Rattle.lot_steps.specs.Steps.{act_of, calls, is_lock, lock_of, or_else, prof
 use Rattle.lot_machine.specs.Machine.{State, opening, place_at, after, kind_at, filled_at, section_at}
 use Rattle.lot_machine.specs.Fits.{IsShaped}
 use Rattle.lot_laws.specs.Stations.{Station, station_at, doing_on}
-use Rattle.lot_laws.specs.SitesOf.{AreCounted, IsSteady, RunsInClosures, rules_in}
+use Rattle.lot_laws.specs.SitesOf.{AreCondvars, AreCounted, IsSteady, RunsInClosures, rules_in}
 use Rattle.abstract_locks.specs.Runs.{CallState, IsOpening}
 use Rattle.abstract_locks.specs.Locks.{LockState, Sort, Queued, Rights, Taken, opening_lock, Rules, IsSomePending, has_caller, rights_of, readers, count, standing}
 use Rattle.abstract_locks.specs.Onces.{InProgress, IsRunning}
@@ -332,8 +332,8 @@ module _ (w : State) (steady : IsSteady w) where
     aside_parked = λ l. (steady.sites.site l).aside_parked;
   }
 
-pub kept_after : (w : State) (s : Step) → IsShaped w → IsSteady w → AreCounted w → RunsInClosures (after w s) → IsKept (after w s)
-kept_after w s shape steady counted running = kept (after w s) (after_steady w s shape steady counted) running
+pub kept_after : (w : State) (s : Step) → IsShaped w → IsSteady w → AreCounted w → AreCondvars w → RunsInClosures (after w s) → IsKept (after w s)
+kept_after w s shape steady counted condvars running = kept (after w s) (after_steady w s shape steady counted condvars) running
 
 -- ---------------------------------------------------------------- the opening state, of the abstract locks
 

@@ -36,7 +36,7 @@ use Rattle.lot_steps.specs.Steps.{act_of, lock_of, looking, mutex_goes, next_pla
 use Rattle.lot_machine.specs.Fits.{IsShaped}
 use Rattle.lot_machine.specs.Machine.{State, after, opening, place_at, put, runs_closure, step_outcome}
 use Rattle.lot_laws.specs.Refinement.{RunsClosure, call_at, call_state, lock_state, locks_of, sleeps}
-use Rattle.lot_laws.specs.SitesOf.{AreCounted, IsSteady, RunsInClosures}
+use Rattle.lot_laws.specs.SitesOf.{AreCondvars, AreCounted, IsSteady, RunsInClosures}
 use Rattle.lot_laws.proofs.Befallen.{others_keep_it}
 use Rattle.lot_laws.proofs.Closures.{call_runs_none, course_runs_none, mutex_runs_none, runs_one, condvar_runs_none}
 use Rattle.lot_laws.proofs.Glue.{put_here, put_other, same}
@@ -291,8 +291,8 @@ module _ (w : State) (s : Step) (o : Outcome) (step : IsStep (locks_of w) s o (l
     | inr refused ↦ unchanged refused.1.1
   ]
 
-pub running_after : (w : State) (s : Step) → IsShaped w → IsSteady w → AreCounted w → RunsInClosures w → RunsInClosures (after w s)
-running_after w s shape steady counted running = runs_on w s (step_outcome w s) (after_step w s shape steady counted) running
+pub running_after : (w : State) (s : Step) → IsShaped w → IsSteady w → AreCounted w → AreCondvars w → RunsInClosures w → RunsInClosures (after w s)
+running_after w s shape steady counted condvars running = runs_on w s (step_outcome w s) (after_step w s shape steady counted condvars) running
 
 -- who stands elsewhere in its call, and in no closure, has no run on
 pub put_running : (w : State) (t : ℕ) (q : Place) → runs_closure (act_of (place_at w t)) ≡ false → RunsInClosures w → RunsInClosures (put w t q)

@@ -371,6 +371,6 @@ calls_of w l (Condvar k at) h m = absurd h
 pub calls_in : (w v : State) (p : Place) → ((k : ℕ) → kind_at v k ≡ kind_at w k) → FitsItsLock w p → FitsItsLock v p
 calls_in w v Idle e h = tt
 calls_in w v (Once l at) e h = ap (λ k. (rules_of k).sort) (e l) ∙ h
-calls_in w v (Condvar l at) e h = record { sort = ap (λ k. (rules_of k).sort) (e l) ∙ h.sort; reached = h.reached; mutex = λ m is. ap is_plain_mutex (e m) ∙ h.mutex m is; begun = h.begun }
+calls_in w v (Condvar l at) e h = record { sort = ap (λ k. (rules_of k).sort) (e l) ∙ h.sort; reached = h.reached; mutex = λ m is. ap is_plain_mutex (e m) ∙ h.mutex m is }
 calls_in w v (Mutex l at) e h = ap is_mutex (e l) ∙ h
 calls_in w v (RwLock l a c) e h = (subst (λ k. Admits (rules_of k) a) (sym (e l)) h.0, h.1)

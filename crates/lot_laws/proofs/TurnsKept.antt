@@ -2,7 +2,7 @@
 use Rattle.std.proofs.Common.{ℕ, Bool, true, false, Option, Some, None, if◌then◌else◌, ◌≡◌, ◌<◌, [], ◌∷◌, length, length-set, nat_lt, refl, subst, sym, ◌∙◌, ap}
 use Rattle.lot_laws.proofs.OnceKept.{once_begins}
 use Rattle.lot_laws.proofs.KindsKept.{calls_once}
-use Rattle.lot_machine.specs.Machine.{can_close, state_after_close, can_go, state_after_go}
+use Rattle.lot_machine.specs.Machine.{can_close, can_do, can_go, state_after_close, state_after_go, state_after_going}
 use Rattle.lot_laws.proofs.Looking.{closing_steady}
 use Rattle.lot_laws.proofs.Closings.{closing, closing_counted, closing_may, closing_shaped, closing_there}
 use Rattle.lot_laws.proofs.Closures.{closes_one}
@@ -27,7 +27,7 @@ use Rattle.lot_mutex.specs.declared.lock.LockAt.TheVariants as lock
 use Rattle.lot_mutex.specs.declared.places.MutexPlace.{MutexPlace}
 use Rattle.lot_mutex.specs.declared.places.MutexPlace.TheVariants.{Lock, TryLock, Unlock, UnlockFair, Bump, HandOff}
 use Rattle.lot_mutex.specs.MutexSteps.{mutex_first, mutex_right}
-use Rattle.lot_steps.specs.Steps.{is_idle, looking, late_key, key_in}
+use Rattle.lot_steps.specs.Steps.{act_of, is_idle, looking, late_key, key_in}
 use Rattle.abstract_locks.specs.Sites.{Claim, Has, Begin, HasClaim, idle}
 use Rattle.lot_machine.specs.Machine.{State, place_at, owners_at, kind_at, put, state_after_begin, can_begin, is_open_to, state_after_look, state_after_late_on, is_free_under, state_after_turn, can_turn, is_possible, after}
 use Rattle.lot_machine.specs.Fits.{IsShaped, PlaceFits}
@@ -35,16 +35,18 @@ use Rattle.lot_laws.specs.Refinement.{lock_state, taken_at}
 use Rattle.lot_laws.specs.SitesOf.{is_mutex}
 use Rattle.lot_laws.specs.MutexDeeds.{mutex_doing, mutex_station, acts, begins}
 use Rattle.lot_laws.specs.Stations.{nowhere, station}
-use Rattle.lot_laws.specs.SitesOf.{AreCounted, IsSteady, Goes}
+use Rattle.lot_laws.specs.SitesOf.{AreCondvars, AreCounted, IsSteady, Goes}
 use Rattle.lot_machine.proofs.Shape.{both, looking_shaped}
-use Rattle.lot_laws.proofs.KindsKept.{calls_mutex, calls_readers, no_condvar_call}
-use Rattle.lot_laws.proofs.Glue.{parts_at, same, thread_is}
+use Rattle.lot_laws.proofs.KindsKept.{calls_mutex, calls_readers}
+use Rattle.lot_laws.proofs.Glue.{parts_at, same, single_or_two, thread_is}
 use Rattle.lot_laws.proofs.MutexTable.{mutex, own_doing, meets, others_same}
 use Rattle.lot_laws.proofs.StandsMoved.{mutex_rules}
 use Rattle.lot_laws.proofs.SitesKept.{mutex_at, goes_steady, place_goes}
 use Rattle.lot_laws.proofs.Looking.{looking_steady, looks_now}
 use Rattle.lot_laws.proofs.CountsPut.{looking_counted}
 use Rattle.lot_laws.proofs.GoneKept.{enters, gone_kept}
+use Rattle.lot_laws.proofs.CondvarGo.{condvar_steady}
+use Rattle.lot_laws.proofs.SameCondvars.{closing_condvars, looking_condvars}
 use Rattle.lot_laws.proofs.CondvarTurns.{begins_at, condvar_begins, condvar_goes_late}
 use Rattle.lot_laws.proofs.OwnPlace.{gone}
 use Rattle.lot_laws.proofs.RwLockKept.{rwlock_begins, rwlock_goes_late}
@@ -63,8 +65,11 @@ idle_is (Condvar l at) h = absurd cc
 
 module _ (w : State) (t : ℕ) (steady : IsSteady w) (shape : IsShaped w) (there : t < length w.places) where
   -- a thread goes on from its place
-  gone_steady : AreCounted w → can_go w t ≡ true → IsSteady (state_after_go w t)
-  gone_steady counted can = subst IsSteady (sym (gone w t steady)) (gone_kept w t steady shape there counted (place_at w t) refl (shape.places t) can)
+  gone_steady : AreCounted w → AreCondvars w → can_go w t ≡ true → IsSteady (state_after_go w t)
+  gone_steady counted condvars can = elim (single_or_two (place_at w t)) [
+    | inl single ↦ subst IsSteady (sym (gone w t single)) (gone_kept w t steady shape there counted (place_at w t) refl single (shape.places t) can)
+    | inr two ↦ subst (λ p. IsSteady (state_after_going w t p)) (sym two.is) (condvar_steady w t two.lock shape steady condvars there two.at two.is (ap (λ p. can_do w (act_of p)) (sym two.is) ∙ can))
+  ]
 
 module _ (w : State) (t : ℕ) (steady : IsSteady w) (shape : IsShaped w) (there : t < length w.places) where
   -- it begins, with the claim that the call needs
@@ -98,9 +103,7 @@ module _ (w : State) (t : ℕ) (steady : IsSteady w) (shape : IsShaped w) (there
       goes_steady w _ l _ steady (once_begins w t l c steady there (idle_is (place_at w t) parts.0) (calls_once (kind_at w l) l c right.0))
   begun_kept (calling.TheVariants.Condvar l c) can =
       let parts = both (is_idle (place_at w t)) (is_open_to w t (calling.TheVariants.Condvar l c)) can in
-      let open_to = both (nat_lt l (length w.locks)) _ parts.1 in
-      let has = both (has_call (kind_at w l) (calling.TheVariants.Condvar l c)) _ open_to.1 in
-      goes_steady w _ (begins_at l c) _ steady (condvar_begins w t l steady there (idle_is (place_at w t) parts.0) (no_condvar_call (kind_at w l) l c has.0) c parts.1)
+      goes_steady w _ (begins_at l c) _ steady (condvar_begins w t l steady there (idle_is (place_at w t) parts.0) c parts.1)
   begun_kept (calling.TheVariants.RwLock l c) can =
       let parts = both (is_idle (place_at w t)) (is_open_to w t (calling.TheVariants.RwLock l c)) can in
       let open_to = both (nat_lt l (length w.locks)) _ parts.1 in
@@ -108,9 +111,9 @@ module _ (w : State) (t : ℕ) (steady : IsSteady w) (shape : IsShaped w) (there
       goes_steady w _ l _ steady (rwlock_begins w t l c steady there (idle_is (place_at w t) parts.0) (calls_readers (kind_at w l) l c right.0) right.1)
 
   -- it looks at the word once more
-  spun_kept : AreCounted w → (o : Option Place) → looking (place_at w t) ≡ o → IsSteady (state_after_look w t o)
-  spun_kept counted None is = steady
-  spun_kept counted (Some q) is = gone_steady (put w t q) t (looking_steady w t there q is steady) (looking_shaped w t q shape is) (rw (length-set w.places t q) there) (looking_counted w t there q is counted) (looks_now w t there q is)
+  spun_kept : AreCounted w → AreCondvars w → (o : Option Place) → looking (place_at w t) ≡ o → IsSteady (state_after_look w t o)
+  spun_kept counted condvars None is = steady
+  spun_kept counted condvars (Some q) is = gone_steady (put w t q) t (looking_steady w t there q is steady) (looking_shaped w t q shape is) (rw (length-set w.places t q) there) (looking_counted w t there q is counted) (looking_condvars w t q there is condvars) (looks_now w t there q is)
 
   -- its time is up, and it goes into the section of its line
   asleep_late : (l : ℕ) (e : Entry) (r : Bool) → place_at w t ≡ Mutex l (Lock e r lock.Asleep) → l < length w.locks → is_free_under w (late_key (Mutex l (Lock e r lock.Asleep))) ≡ true → IsSteady (state_after_late_on w t (late_key (Mutex l (Lock e r lock.Asleep))))
@@ -146,25 +149,25 @@ module _ (w : State) (t : ℕ) (steady : IsSteady w) (shape : IsShaped w) (there
       once_late (Some m) e h = absurd (once_never_late at m e)
 
   -- its closure has answered, and it goes on behind it
-  closed_kept : AreCounted w → (succeeded : Bool) → can_close w t succeeded ≡ true → IsSteady (state_after_close w t succeeded)
-  closed_kept counted succeeded can =
+  closed_kept : AreCounted w → AreCondvars w → (succeeded : Bool) → can_close w t succeeded ≡ true → IsSteady (state_after_close w t succeeded)
+  closed_kept counted condvars succeeded can =
       let one = closes_one w t succeeded can in
       gone_steady (closing w t there succeeded one) t (closing_steady w t there succeeded one steady) (closing_shaped w t there succeeded one shape) (closing_there w t there succeeded one)
-      (closing_counted w t there succeeded one counted) (closing_may w t there succeeded one)
+      (closing_counted w t there succeeded one counted) (closing_condvars w t there succeeded one condvars) (closing_may w t there succeeded one)
 
-  turned_kept : AreCounted w → (x : Turn) → can_turn w t x ≡ true → IsSteady (state_after_turn w t x)
-  turned_kept counted (turn.TheVariants.Begin c) can = begun_kept c can
-  turned_kept counted turn.TheVariants.Go can = gone_steady w t steady shape there counted can
-  turned_kept counted turn.TheVariants.Spin can = spun_kept counted (looking (place_at w t)) refl
-  turned_kept counted turn.TheVariants.Late can = late_kept (place_at w t) refl (shape.places t) can
-  turned_kept counted turn.TheVariants.Ok can = closed_kept counted true can
-  turned_kept counted turn.TheVariants.Err can = closed_kept counted false can
+  turned_kept : AreCounted w → AreCondvars w → (x : Turn) → can_turn w t x ≡ true → IsSteady (state_after_turn w t x)
+  turned_kept counted condvars (turn.TheVariants.Begin c) can = begun_kept c can
+  turned_kept counted condvars turn.TheVariants.Go can = gone_steady w t steady shape there counted condvars can
+  turned_kept counted condvars turn.TheVariants.Spin can = spun_kept counted condvars (looking (place_at w t)) refl
+  turned_kept counted condvars turn.TheVariants.Late can = late_kept (place_at w t) refl (shape.places t) can
+  turned_kept counted condvars turn.TheVariants.Ok can = closed_kept counted condvars true can
+  turned_kept counted condvars turn.TheVariants.Err can = closed_kept counted condvars false can
 
 -- a step keeps what holds between steps
-pub after_steady : (w : State) (s : Step) → IsShaped w → IsSteady w → AreCounted w → IsSteady (after w s)
-after_steady w s shape steady counted = either (is_possible w s) refl
+pub after_steady : (w : State) (s : Step) → IsShaped w → IsSteady w → AreCounted w → AreCondvars w → IsSteady (after w s)
+after_steady w s shape steady counted condvars = either (is_possible w s) refl
   where
     either : (b : Bool) → is_possible w s ≡ b → IsSteady (if b then state_after_turn w s.thread s.turn else w)
     either true can = let parts = both (nat_lt s.thread (length w.places)) (can_turn w s.thread s.turn) can in
-        turned_kept w s.thread steady shape (ltb-true s.thread (length w.places) parts.0) counted s.turn parts.1
+        turned_kept w s.thread steady shape (ltb-true s.thread (length w.places) parts.0) counted condvars s.turn parts.1
     either false can = steady

@@ -22,7 +22,8 @@ use Rattle.lot_mutex.specs.MutexSteps.{is_locked, is_parked, lock_act, mutex_nex
 use Rattle.lot_condvar.specs.declared.places.CondvarPlace.TheVariants.{Wait}
 use Rattle.lot_condvar.specs.declared.wait.WaitAt.{WaitAt}
 use Rattle.lot_condvar.specs.declared.wait.WaitAt.TheVariants as wait
-use Rattle.lot_condvar.specs.CondvarCalls.{CallFollows, IsLockOf, IsReached, case_there, heard, or_else, wait_event}
+use Rattle.lot_condvar.specs.CondvarCalls as calls
+use Rattle.lot_condvar.specs.CondvarCalls.{BecomesOfTwo, CallFollows, IsLockOf, IsReached, case_there, heard, or_else, wait_event}
 use Rattle.lot_condvar.specs.CondvarDeeds.{condvar_deeds, relocked_deeds, wait_deeds}
 use Rattle.lot_condvar.specs.CondvarDeeds as condvar
 use Rattle.lot_condvar.proofs.WaitTells.{waits_tell}
@@ -31,8 +32,8 @@ use Rattle.lot_condvar.specs.CondvarSteps.{condvar_next, in_wait, is_shown, next
 use Rattle.lot_condvar.specs.CondvarWaits.{unended, waiter_deeds}
 use Rattle.abstract_locks.specs.Condvars.{CondvarDeed, IsCondvar, SeeOther, Show}
 use Rattle.abstract_locks.specs.Deeds.{AreOneCase, KeepLock, after_all, case_of, event_by}
-use Rattle.abstract_locks.specs.Locks.{HasTakenNobody, LockCase, LockState, Rules, rights_of}
-use Rattle.abstract_locks.specs.Runs.{CallState, Event, GoesOn, Moves, is_taken_by}
+use Rattle.abstract_locks.specs.Locks.{HasTakenNobody, LockCase, LockState, Rights, Rules, rights_of}
+use Rattle.abstract_locks.specs.Runs.{CallState, Event, GoesOn, MayHappen, Moves, going_on, woken}
 use Rattle.abstract_locks.specs.Sites.{End, Main, Mark, Site}
 use Rattle.lot_machine.specs.Machine.{State, can_do, place_at, reply_to, word_at}
 use Rattle.lot_acts.specs.Calls.{rights_where}
@@ -41,11 +42,11 @@ use Rattle.lot_steps.specs.declared.places.Place.TheVariants.{Condvar}
 use Rattle.lot_steps.specs.Steps.{condvar_does, condvar_goes}
 use Rattle.lot_laws.specs.MutexDeeds.{acts}
 use Rattle.lot_laws.specs.MutexDeeds as deeds
-use Rattle.lot_laws.specs.Refinement.{lock_state, locks_of, taken_at}
+use Rattle.lot_laws.specs.Refinement.{call_at, call_state, lock_state, locks_of}
 use Rattle.lot_laws.specs.SitesOf.{FollowAll, IsSteady, condvar_of, rules_in, site_of}
 use Rattle.lot_laws.proofs.AtPlaces.{in_no_hand, taken_nobody}
-use Rattle.lot_laws.proofs.CallEvents.{Happens, OthersFollow, deeds_by, put_is, rights}
-use Rattle.lot_laws.proofs.CondvarGoes.{call_named, NamesStill, ToldSo, begins_two, call_led, condvar_goes_on, locks_led, may_go, no_closure, others, unwoken, wait_happens}
+use Rattle.lot_laws.proofs.CallEvents.{GoesAs, Happens, OthersFollow, deeds_by, put_is, rights}
+use Rattle.lot_laws.proofs.CondvarGoes.{call_named, call_then, NamesStill, ToldSo, begins_two, call_led, condvar_goes_on, locks_led, may_go, no_closure, others, wait_happens}
 use Rattle.lot_laws.proofs.CondvarHears.{apart, at_it, doing_beside, fits_here, may_hear, rules_beside, station_beside, taken_by_wait, waiter_hears}
 use Rattle.lot_laws.proofs.Glue.{same}
 use Rattle.lot_laws.proofs.CondvarThere.{there_deeds}
@@ -210,13 +211,35 @@ module _ (w v : State) (t l m : ℕ) (timed : Bool) (p : WaitAt) (steady : IsSte
   follows = waits_tell (condvar_of w l) (rules_in w m) (site_of w m) t l m timed p whom told (rules_beside w t l (Wait m timed p) steady is m refl) condvar_holds (at_it w t l (Wait m timed p) steady is) (steady.sites.site m)
       (doing_beside w t l (Wait m timed p) steady is m refl) (may_hear w t l (Wait m timed p) steady is can) (waiter_hears w t l m timed p steady is can) reached
 
-  -- the step goes on by that event, where it stands then as its reply says, is in no hand of its own, and the others' calls follow
-  pub wait_goes : place_at v t ≡ condvar_goes l (condvar_next (Wait m timed p) told) → ((k : ℕ) → is_taken_by t (taken_at (place_at w t) k) ≡ false) → (lock_state v l).shown ≡ shown_then
+  -- its call
+  abbrev pub call : CallState
+  call = calls.call_at l m (Wait m timed p) (rights w t)
+
+  call_is : call_at w t ≡ call
+  call_is = call_named w t l m (Wait m timed p) is refl
+
+  may : MayHappen (locks_of w) t event
+  may = may_go w v t l m (Wait m timed p) call_is told event wait_happened shown_then behind follows.may (λ c k every owned n e. absurd (never_moves m l _ _ c k n every owned e))
+
+  -- the step goes on by that event, where it stands then as its reply says, isn't woken by itself, and the others' calls follow
+  pub wait_goes : place_at v t ≡ condvar_goes l (condvar_next (Wait m timed p) told) → woken (locks_of w) t event t (going_on event call) ≡ going_on event call → (lock_state v l).shown ≡ shown_then
       → ToldSo v t (condvar_next (Wait m timed p) told) (outcome_of (condvar_does l (condvar_next (Wait m timed p) told))) → OthersFollow w v t event
       → GoesOn (locks_of w) t (outcome_of (condvar_does l (condvar_next (Wait m timed p) told))) (locks_of v)
-  wait_goes there free shown rests others_follow = condvar_goes_on w v t l m (Wait m timed p) (call_named w t l m (Wait m timed p) is refl) told event wait_happened shown_then behind (condvar_next (Wait m timed p) told) _
-      (may_go w v t l m (Wait m timed p) (call_named w t l m (Wait m timed p) is refl) told event wait_happened shown_then behind follows.may (λ c k every owned n e. absurd (never_moves m l _ _ c k n every owned e)))
-      (call_led w v t l m (Wait m timed p) (call_named w t l m (Wait m timed p) is refl) told event wait_happened shown_then behind (condvar_next (Wait m timed p) told) _ (unheard w t (wait_act l m p) _)
-      (unwoken w t event _ free (λ c k n every owned e. absurd (never_moves m l _ _ c k n every owned e)))
+  wait_goes there unwoken shown rests others_follow = condvar_goes_on w v t l m (Wait m timed p) call_is told event wait_happened shown_then behind (condvar_next (Wait m timed p) told) _ may
+      (call_led w v t l m (Wait m timed p) call_is told event wait_happened shown_then behind (condvar_next (Wait m timed p) told) _ (unheard w t (wait_act l m p) _) unwoken
       follows.becomes there (names_wait m timed (next_wait m timed p told)) shown rights_led rests)
       others_follow (begins_two (locks_of w) l (Wait m timed p) event _ follows.may (no_closure l (condvar_next (Wait m timed p) told)))
+
+  -- or where its own act has befallen it: its call is then what that makes of the one that its reply says
+  pub wait_goes_told : (q q2 : WaitAt) → condvar_next (Wait m timed p) told ≡ next.At (Wait m timed q) → place_at v t ≡ Condvar l (Wait m timed q2) → (makes : CallState → CallState)
+      → ((r : ℕ → Rights) → calls.call_at l m (Wait m timed q2) r ≡ makes (calls.call_at l m (Wait m timed q) r)) → woken (locks_of w) t event t (going_on event call) ≡ makes (going_on event call)
+      → (k : ℕ) × GoesAs v t k (outcome_of (wait_act l m q2)) → OthersFollow w v t event → GoesOn (locks_of w) t (outcome_of (wait_act l m q2)) (locks_of v)
+  wait_goes_told q q2 says there makes made woken_so goes_as others_follow = condvar_goes_on w v t l m (Wait m timed p) call_is told event wait_happened shown_then behind (next.At (Wait m timed q2)) _ may
+      (inl (call_now ∙ made (rights v t) ∙ ap makes (ap (calls.call_at l m (Wait m timed q)) (λ i k. rights_led k i) ∙ becomes (rights w t) refl ∙ ap (going_on event) (unheard w t (wait_act l m p) call)) ∙ sym woken_so, goes_as))
+      others_follow (begins_two (locks_of w) l (Wait m timed p) event _ follows.may (no_closure l (next.At (Wait m timed q2))))
+    where
+      call_now : call_state (place_at v t) (rights v t) ≡ calls.call_at l m (Wait m timed q2) (rights v t)
+      call_now = call_then w v t l m (Wait m timed p) call_is told event wait_happened shown_then behind (Wait m timed q2) there refl
+
+      becomes : BecomesOfTwo l m (Wait m timed p) told event shown_then (lock_state w m) behind t (next.At (Wait m timed q))
+      becomes = subst (BecomesOfTwo l m (Wait m timed p) told event shown_then (lock_state w m) behind t) says follows.becomes

@@ -139,7 +139,7 @@ module _ (k l : ℕ) (apart : k ≢ l) where
       doing = doing_beside p2 of2 ∙ d ∙ ap does (sym (doing_beside p of));
       taken = taken_beside p2 of2 ∙ h;
       others = condvar_same;
-      fits = λ m w fits. record { sort = fits.sort; reached = reached m fits.reached; mutex = λ m is. fits.mutex m (of ∙ sym of2 ∙ is); begun = fits.begun };
+      fits = λ m w fits. record { sort = fits.sort; reached = reached m fits.reached; mutex = λ m is. fits.mutex m (of ∙ sym of2 ∙ is) };
     }
 
 -- a wait locks its mutex again at its other places too

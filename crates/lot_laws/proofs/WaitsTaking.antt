@@ -241,6 +241,9 @@ module _ (w : State) (t l m : ℕ) (timed : Bool) (steady : IsSteady w) (here : 
         ∙ sym (ap (λ q. taken_at q m) taken_place) ∙ sym (ap (λ b. if b then taken_at (next_place (place_at w t) (TakenBy t)) m else taken_at (place_at w t) m) own_member))
         (needed stands.Moved is x rest first) (does_then stands.Moved is (stands.InHand t) true nobody_left (own_there nobody_left) ∙ own_does nobody_left ∙ sym (does stands.Moved is x rest first))) fits
 
+  pub moved_first : (s : Stands) → place_at w t ≡ Condvar l (waits (taking s)) → (x : Waiter) (rest : List Waiter) → queue_at w (2 * m) ≡ x ∷ rest → x.thread ≡ t → s ≡ stands.Moved
+  moved_first s is x rest e itself = moved_so s (sym (ap (λ (y : Station). y.stands) (station_was s is)) ∙ sym (ap (λ u. (station_at (place_at w u) m).stands) itself) ∙ stood s is x rest e)
+
   -- ---------------------------------------------------------------- whoever it takes
 
   pub takes : (s : Stands) → place_at w t ≡ Condvar l (waits (taking s)) → FitsBy (queue_at w (2 * m)) → KeptBy (queue_at w (2 * m)) s
@@ -250,7 +253,7 @@ module _ (w : State) (t l m : ℕ) (timed : Bool) (steady : IsSteady w) (here : 
       by_line [] e fits = finds_nobody s is e fits
       by_line (x ∷ rest) e fits = elim (cases_eq x.thread t) [
         | inr other ↦ takes_another s is x rest e other fits
-        | inl itself ↦ by_stand s is (moved_so s (sym (ap (λ (y : Station). y.stands) (station_was s is)) ∙ sym (ap (λ u. (station_at (place_at w u) m).stands) itself) ∙ stood s is x rest e)) itself
+        | inl itself ↦ by_stand s is (moved_first s is x rest e itself) itself
       ]
         where
           by_stand : (s : Stands) → place_at w t ≡ Condvar l (waits (taking s)) → s ≡ stands.Moved → x.thread ≡ t → KeptBy (x ∷ rest) s

@@ -129,7 +129,7 @@ module _ (w : State) (t l m : ℕ) (timed : Bool) (steady : IsSteady w) (is_ther
     ]
 
     -- and whom it has there it has taken
-    not_given : hand_of s ≡ hand t true → ⊥
+    pub not_given : hand_of s ≡ hand t true → ⊥
     not_given e = by_any any (ap (λ (y : Station). y.carries) station_was) (steady.stands.hands.taken t t m true (ap (λ (y : Station). y.hand) station_was ∙ e))
       where
         by_any : (b : Bool) → carried_at (place_at w t) m ≡ in_hand b false → carried_at (place_at w t) m ≡ Some true → ⊥

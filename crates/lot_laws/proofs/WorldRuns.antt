@@ -24,25 +24,25 @@ use Rattle.lot_laws.proofs.TurnsKept.{after_steady}
 pub world_after : (w : State) (s : Step) → IsWorld w → IsWorld (after w s)
 world_after w s h = record {
   shaped = after_shaped w s h.shaped;
-  steady = after_steady w s h.shaped h.steady h.counted;
-  counted = counted_after w s h.shaped h.steady h.counted;
+  steady = after_steady w s h.shaped h.steady h.counted h.condvars;
+  counted = counted_after w s h.shaped h.steady h.counted h.condvars;
   condvars = after_condvars w s h.shaped h.steady h.counted h.condvars;
-  running = running_after w s h.shaped h.steady h.counted h.running;
+  running = running_after w s h.shaped h.steady h.counted h.condvars h.running;
 }
 
 pub world_step : (w : State) (s : Step) → IsWorld w → IsWorldStep w s (step_outcome w s) (after w s)
 world_step w s h = record {
-  refines = after_step w s h.shaped h.steady h.counted;
+  refines = after_step w s h.shaped h.steady h.counted h.condvars;
   one_thing = one_thing w s h.steady;
   touches = touches w s;
-  owing = owes_since w s h.shaped h.steady h.counted;
-  fair = is_fair w s h.shaped h.steady h.counted;
-  kept = kept_after w s h.shaped h.steady h.counted (running_after w s h.shaped h.steady h.counted h.running);
+  owing = owes_since w s h.shaped h.steady h.counted h.condvars;
+  fair = is_fair w s h.shaped h.steady h.counted h.condvars;
+  kept = kept_after w s h.shaped h.steady h.counted h.condvars (running_after w s h.shaped h.steady h.counted h.condvars h.running);
 }
 
 -- what holds of each step of the abstract locks holds of each step of the world
 pub of_step : {law : LocksState → LocksState → Type 0} → OfEachStep law → (w : State) (s : Step) → IsWorld w → law (locks_of w) (locks_of (after w s))
-of_step each w s h = each (locks_of w) (locks_of (after w s)) s (step_outcome w s) (kept w h.steady h.running).state (after_step w s h.shaped h.steady h.counted)
+of_step each w s h = each (locks_of w) (locks_of (after w s)) s (step_outcome w s) (kept w h.steady h.running).state (after_step w s h.shaped h.steady h.counted h.condvars)
 
 pub world_run : (w : State) (ss : List Step) → IsWorld w → IsWorldRun w ss (step_outcomes w ss) (after_steps w ss)
 world_run w [] h = refl

@@ -120,16 +120,11 @@ is_mutex kind.TheVariants.Mutex = true
 is_mutex kind.TheVariants.Fair = true
 is_mutex k = false
 
--- calls of condition variables begin: not yet
-abbrev pub CondvarsBegin : Type 0
-CondvarsBegin = Unit {0}
-
 -- a call of a condition variable has come to its place, and the mutex that it names is a plain one
 pub record FitsCondvar (w : State) (l : ℕ) (at : CondvarPlace) : Type 0 where
   pub sort : (rules_in w l).sort ≡ CondvarSort
   pub reached : IsReached at
   pub mutex : (m : ℕ) → mutex_beside at ≡ Some m → is_plain_mutex (kind_at w m) ≡ true
-  pub begun : CondvarsBegin
 
 -- a call is of a lock of its sort, and stands where it may
 abbrev pub FitsItsLock : State → Place → Type 0
