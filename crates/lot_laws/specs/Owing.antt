@@ -12,7 +12,7 @@ use Rattle.lot_laws.specs.SitesOf.{rules_in, key_of}
 use Rattle.abstract_locks.specs.Codes.{parked_in, aside_in, count_in}
 use Rattle.abstract_locks.specs.Locks.{Sort}
 use Rattle.abstract_locks.specs.Sites.{Line, Main, Second, has_readers}
-use Rattle.abstract_locks.specs.Purposes.{Purpose, Releases, Converts, Bumps, IsReleasing}
+use Rattle.abstract_locks.specs.Purposes.{Purpose, Releases, Converts, Bumps, Waits, IsReleasing}
 
 abbrev pub sort_at : State → ℕ → Sort
 sort_at w l = (rules_in w l).sort
@@ -24,6 +24,11 @@ Owes w t l m = line_owed (place_at w t) l ≡ Some m
 -- it is inside the section of the line
 abbrev pub IsInside : State → ℕ → ℕ → Line → Type 0
 IsInside w t l m = section_at w (key_of l m) ≡ Some t
+
+-- a call that waits on a condition variable
+abbrev pub IsWait : Option Purpose → Type 0
+IsWait (Some (Waits l m timed)) = Unit {0}
+IsWait purpose = ⊥
 
 -- its call releases the lock
 abbrev pub ReleasesLock : State → ℕ → ℕ → Type 0
@@ -70,12 +75,14 @@ LooksFirst purpose l = ⊥
 abbrev pub OnlyLooks : State → ℕ → ℕ → Type 0
 OnlyLooks w t l = LooksFirst (call_at w t).purpose l × ((call_at w t).released ≡ false)
 
--- a call that lets others in finds a word that says that somebody may wait, and goes on; where it only looked, into the section of the line
+-- a call that lets others in finds a word that says that somebody may wait, and goes on; where it only looked, into the section of the line; a wait
+-- by the step with which it releases its mutex
 abbrev pub SeesWaiters : State → ℕ → ℕ → Line → Outcome → State → Type 0
 SeesWaiters w t l m o v =
     LetsOthersIn w t l × (line_let_in (sort_at w l) (call_at w t).purpose ≡ m)
     × (tells_by (sort_at w l) (call_at w t).purpose m (word_at w l) ≡ true) × (o ≡ told.Step)
     × (OnlyLooks v t l → act_of (place_at v t) ≡ Enter (One (key_of l m)))
+    × (IsWait (call_at w t).purpose → (call_at v t).released ≡ true)
 
 -- in a step from w to v its thread begins and ends to owe by what it sees and where it is, and no other thread does
 pub record OwesSince (w : State) (t : ℕ) (o : Outcome) (v : State) : Type 0 where

@@ -21,7 +21,7 @@ use Rattle.abstract_locks.specs.Purposes.{Purpose, Enters, Releases, Converts, B
 use Rattle.lot_laws.specs.Refinement.{RunsClosure, lock_state, locks_of, call_at}
 use Rattle.lot_laws.specs.Stations.{doing_on}
 use Rattle.lot_laws.specs.SitesOf.{rules_in, key_of}
-use Rattle.lot_laws.specs.Owing.{Owes, IsInside, LetsOthersIn, sort_at}
+use Rattle.lot_laws.specs.Owing.{Owes, IsInside, IsWait, LetsOthersIn, sort_at}
 
 -- a thread stands in the queue of a lock
 abbrev pub WaitsFor : State → ℕ → ℕ → Type 0
@@ -40,7 +40,7 @@ abbrev pub IsCoded : State → ℕ → Type 0
 IsCoded w l =
     word_at w l ≡ word_by (sort_at w l) (rules_in w l).limit (lock_state w l) (has_aside_bit w l) (has_parked_bit w l)
 
--- the thread has brought waiters of a condition variable to the lock, and is about to set its parked bit (no such call is built); or it has
+-- the thread has brought waiters of a condition variable to the lock, and is about to set its parked bit; or it has
 -- ended its run of a `Once`, has cleared the bit beside waiters, and is about to take them
 abbrev pub IsAboutToMark : State → ℕ → ℕ → Type 0
 IsAboutToMark w t l = (doing_on (place_at w t) l).sets ≡ true
@@ -53,10 +53,16 @@ WakesAside purpose l Main = ⊥
 WakesAside (Some (Bumps k Shared)) l Second = k ≡ l
 WakesAside purpose l Second = ⊥
 
+-- a wait that has released its mutex, whose waiters it wakes then
+abbrev pub HasReleased : Option Purpose → Bool → ℕ → Line → Type 0
+HasReleased (Some (Waits l n timed)) released k Main = (n ≡ k) × (released ≡ true)
+HasReleased purpose released k m = ⊥
+
 -- a call that lets others in, and enters the section of the line next
 abbrev pub GoesToWake : State → ℕ → ℕ → Line → Type 0
 GoesToWake w t l m =
-    (act_of (place_at w t) ≡ Enter (One (key_of l m))) × (LetsOthersIn w t l ⊎ WakesAside (call_at w t).purpose l m)
+    (act_of (place_at w t) ≡ Enter (One (key_of l m)))
+    × (LetsOthersIn w t l ⊎ (WakesAside (call_at w t).purpose l m ⊎ HasReleased (call_at w t).purpose (call_at w t).released l m))
 
 -- the mutex that a notification has seen
 abbrev pub mutex_seen : Recall → Option ℕ
@@ -108,12 +114,12 @@ IsDebtorOf w t l Main =
     ⊎ (((call_at w t).retries ≡ Some l) × (counts_some (sort_at w l) (want_of (call_at w t).purpose) ≡ true))
 IsDebtorOf w t l Second = Owes w t l Second
 
--- some thread, which is awake, stands in no queue and isn't taken, is such a debtor
+-- some thread, which is awake, stands in no queue and isn't taken, is such a debtor; a wait may stand in one while it still releases its mutex
 pub record IsLookedAfter (w : State) (l : ℕ) (m : Line) : Type 0 where
   pub debtor : ℕ
   pub debt : IsDebtorOf w debtor l m
   pub awake : act_of (place_at w debtor) ≢ Sleep
-  pub stands_nowhere : (k : ℕ) → standing debtor (lock_state w k) ≡ 0
+  pub stands_nowhere : (k : ℕ) → (standing debtor (lock_state w k) ≡ 0) ⊎ HasReleased (call_at w debtor).purpose (call_at w debtor).released l m
 
 -- nobody bars the way of who stands first in the main line: nobody owns the mutex, no writer is there, or a permit is free
 abbrev pub IsOpenNow : Rules → LockState → Type 0
@@ -160,19 +166,12 @@ pub record IsHandedOver (w : State) (t : ℕ) : Type 0 where
 abbrev pub IsWithinLimit : Rules → LockState → Type 0
 IsWithinLimit r s = (count s ≤ r.limit) ⊎ ((r.sort ≡ Recursive) × (count s ≡ r.limit + 1))
 
--- a call is of one lock: none of a condition variable begins here
-abbrev pub IsOfOne : Place → Type 0
-IsOfOne (Condvar l at) = ⊥
-IsOfOne p = Unit {0}
-
 abbrev pub CallsOneLock : Option Purpose → Type 0
 CallsOneLock (Some (Waits l m timed)) = ⊥
 CallsOneLock (Some (Notifies l all)) = ⊥
 CallsOneLock purpose = Unit {0}
 
 pub record IsKept (w : State) : Type 0 where
-  pub of_one : (t : ℕ) → IsOfOne (place_at w t)
-  pub calls_one : (t : ℕ) → CallsOneLock (call_at w t).purpose
   -- owners exclude each other, and a thread stands at most once in the queue of a lock, aside of it or taken from it
   pub state : AreLockStates (locks_of w)
   -- and at one lock at most
@@ -190,7 +189,10 @@ pub record IsKept (w : State) : Type 0 where
   -- a run of a `Once` is on exactly while its thread runs the closure of its call
   pub runs : (t l : ℕ) → (lock_state w l).phase ≡ InProgress t ↔ RunsClosure w t l
   -- who is shown to owe a wake on a line is inside its section, or lets others in and is on its way into it
-  pub owing : (t l : ℕ) (m : Line) → Owes w t l m ↔ (IsInside w t l m ⊎ GoesToWake w t l m)
+  pub owing : (t l : ℕ) (m : Line) → Owes w t l m → IsInside w t l m ⊎ GoesToWake w t l m
+  -- whoever is inside does, and whoever is on its way but for a wait, which may be about to lock its mutex again
+  pub inside_owes : (t l : ℕ) (m : Line) → IsInside w t l m → Owes w t l m
+  pub going_owes : (t l : ℕ) (m : Line) → GoesToWake w t l m → Owes w t l m ⊎ IsWait (call_at w t).purpose
   -- and only a lock that is shared has a second line
   pub second_line : (t l : ℕ) → Owes w t l Second → has_readers (sort_at w l) ≡ true
   -- who is shown to try a lock again was woken on it, and has got neither the lock nor a place in a queue since
