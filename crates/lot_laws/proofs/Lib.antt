@@ -146,3 +146,5 @@ pub mod CondvarOthers
 pub mod NotifyOthers
 pub mod ReleaseOwn
 pub mod CondvarGo
+pub mod Placed
+pub mod CondvarBegins
