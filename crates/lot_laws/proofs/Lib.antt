@@ -68,6 +68,7 @@ pub mod CondvarAsleep
 pub mod CondvarLate
 pub mod CondvarPromises
 pub mod PlacePromises
+pub mod WhoOwes
 pub mod AtPlaces
 pub mod ExclusiveOwners
 pub mod LineActs
