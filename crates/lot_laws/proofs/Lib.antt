@@ -121,6 +121,7 @@ pub mod CondvarsKept
 pub mod CondvarLed
 pub mod CondvarWent
 pub mod CondvarOwn
+pub mod CondvarOwes
 pub mod CondvarSteps
 pub mod CondvarGoes
 pub mod WaitGoes
