@@ -1,14 +1,17 @@
 -- What a thread in a call of a condition variable owes once it has gone on: what it is inside, and on its mutex where its release has just seen the
 -- parked bit.
-use Rattle.std.proofs.Common.{ℕ, Bool, true, false, Option, Some, None, if◌then◌else◌, ◌==◌, ◌≡◌, ◌≢◌, ◌<◌, ◌⊎◌, ◌↔◌, ◌||◌, inl, inr, length, refl, sym, ◌∙◌, ap, subst}
+use Rattle.std.proofs.Common.{ℕ, Bool, true, false, Option, Some, None, if◌then◌else◌, ◌==◌, ◌≡◌, ◌<◌, ◌⊎◌, ◌↔◌, ◌||◌, inl, inr, length, refl, sym, ◌∙◌, ap, subst}
 use Rattle.lot_base.specs.declared.keys.Keys.TheVariants.{One}
 use Rattle.lot_base.specs.declared.notes.Note.TheVariants as note
+use Rattle.lot_calls.specs.declared.calls.CondvarCall.{CondvarCall}
+use Rattle.lot_calls.specs.declared.calls.CondvarCall.TheVariants as call
 use Rattle.lot_calls.specs.declared.outcomes.Answer.TheVariants as answer
 use Rattle.lot_calls.specs.declared.outcomes.Outcome.{Outcome}
 use Rattle.lot_calls.specs.declared.outcomes.Outcome.TheVariants as told
 use Rattle.lot_acts.specs.Acts.{outcome_of}
 use Rattle.lot_acts.specs.declared.acts.Act.TheVariants.{Enter}
 use Rattle.lot_acts.specs.declared.acts.Next.{Next}
+use Rattle.lot_acts.specs.declared.acts.Reply.TheVariants.{Late}
 use Rattle.lot_acts.specs.declared.acts.Next.TheVariants.{At, End as Over}
 use Rattle.lot_mutex.specs.declared.places.MutexPlace.{MutexPlace}
 use Rattle.lot_mutex.specs.declared.places.MutexPlace.TheVariants as mutex
@@ -24,10 +27,9 @@ use Rattle.lot_condvar.specs.declared.wait.WaitAt.{WaitAt}
 use Rattle.lot_condvar.specs.declared.wait.WaitAt.TheVariants as wait
 use Rattle.lot_condvar.specs.CondvarCalls.{IsReached}
 use Rattle.lot_condvar.specs.CondvarProfiles.{has_given_up, has_released}
-use Rattle.lot_condvar.specs.CondvarSteps.{behind, condvar_act, condvar_next, in_notify, in_wait, is_shown, mutex_beside, mutex_shown, next_notify, notified, notify_act, released, relocked}
-use Rattle.lot_steps.specs.declared.places.Place.{Place}
-use Rattle.lot_steps.specs.declared.places.Place.TheVariants.{Condvar, Idle}
-use Rattle.lot_steps.specs.Steps.{act_of, condvar_does, condvar_goes, line_owed, next_act}
+use Rattle.lot_condvar.specs.CondvarSteps.{behind, condvar_act, condvar_first, condvar_next, in_notify, in_wait, is_shown, mutex_beside, mutex_shown, next_notify, notified, notify_act, released, relocked}
+use Rattle.lot_steps.specs.declared.places.Place.TheVariants.{Condvar}
+use Rattle.lot_steps.specs.Steps.{act_of, condvar_does, condvar_goes, late_key, line_owed, next_act}
 use Rattle.abstract_locks.specs.Locks as locks
 use Rattle.abstract_locks.specs.Locks.{Rights, Sort}
 use Rattle.abstract_locks.specs.Purposes.{Waits}
@@ -35,9 +37,8 @@ use Rattle.abstract_locks.specs.Runs.{CallState}
 use Rattle.abstract_locks.specs.Sites.{Line, Main, has_readers}
 use Rattle.lot_machine.specs.Machine.{State, going_outcome, place_at, reply_to, state_after_act, state_after_going, word_at}
 use Rattle.lot_laws.specs.Refinement.{call_at, call_state}
-use Rattle.lot_laws.specs.Stations.{station_at}
-use Rattle.lot_laws.specs.SitesOf.{FitsCondvar, IsSteady, key_of, rules_in}
-use Rattle.lot_laws.specs.Owing.{IsInside, IsWait, LooksFirst, OnlyLooks, Owes, SeesWaiters, line_let_in, sort_at, tells_by, tells_of}
+use Rattle.lot_laws.specs.SitesOf.{FitsCondvar, IsSteady, key_of}
+use Rattle.lot_laws.specs.Owing.{IsInside, IsWait, LetsOthersIn, LooksFirst, OnlyLooks, Owes, SeesWaiters, line_let_in, sort_at, tells_by, tells_of}
 use Rattle.lot_laws.proofs.CallEvents.{rights}
 use Rattle.lot_laws.proofs.CondvarHears.{fits_here, rules_beside}
 use Rattle.lot_laws.proofs.CondvarOwn.{IsStill, is_release, own_place, went_is, went_place}
@@ -285,3 +286,41 @@ module _ (w : State) (t k : ℕ) (at : CondvarPlace) (steady : IsSteady w) (is :
           | inr sees ↦ (two_owe v t behind k p stands l m).1 (inr (subst (λ x. EntersNext x l m) e (sees_entering w t k at still.0 still.2 l m (seen_by l m (outcome_of (condvar_act k p)) (calls _ sees)))))
         ],
       )
+
+-- ---------------------------------------------------------------- where a call begins, and where its time is up
+
+-- whose time is up has released its mutex, and enters the section of the queue where it slept
+pub record GoesLate (k : ℕ) (at : CondvarPlace) : Type 0 where
+  pub next : CondvarPlace
+  pub goes : condvar_next at Late ≡ At next
+  pub calm : IsEntering next → ⊥
+  pub shut : (w : State) (t l : ℕ) (r : ℕ → Rights) → LetsBy w t l (call_state (Condvar k at) r) → ⊥
+
+-- a wait that sleeps has released its mutex
+sleeper_shut : (k j : ℕ) (timed : Bool) (s : Stands) (w : State) (t l : ℕ) (r : ℕ → Rights) → LetsBy w t l (call_state (Condvar k (Wait j timed (wait.Asleep s))) r) → ⊥
+sleeper_shut k j timed s w t l r h = elim h [
+  | inl releases ↦ let released : true ≡ false = releases.1 in cc
+  | inr shared ↦ elim shared.1 [ inl less ↦ less | inr left ↦ let none : ◌≡◌ {A = Option ℕ} None (Some l) = left.0 in cc ]
+]
+
+pub two_goes_late : (k : ℕ) (at : CondvarPlace) (key : ℕ) → late_key (Condvar k at) ≡ Some key → GoesLate k at
+two_goes_late k (Wait j true (wait.Asleep stands.Listed)) key h = record { next = Wait j true wait.Remove; goes = refl; calm = λ e. e; shut = sleeper_shut k j true stands.Listed }
+two_goes_late k (Wait j true (wait.Asleep stands.Moved)) key h = record { next = Wait j true wait.RemoveMoved; goes = refl; calm = λ e. e; shut = sleeper_shut k j true stands.Moved }
+two_goes_late k (Wait j true (wait.Asleep s)) key h = absurd cc
+two_goes_late k (Wait j false (wait.Asleep s)) key h = absurd cc
+two_goes_late k (Wait j timed at) key h = absurd cc
+two_goes_late k (Look all) key h = absurd cc
+two_goes_late k (Notify all j at) key h = absurd cc
+
+-- no call begins on its way into a section of its mutex
+pub first_calm : (c : CondvarCall) → IsEntering (condvar_first c) → ⊥
+first_calm (call.Wait j timed) e = e
+first_calm (call.Notify all) e = e
+
+-- who lets nobody in and isn't on its way owes what it is inside
+pub calm_owing : (w v : State) (t k : ℕ) (at : CondvarPlace) → IsSteady v → place_at v t ≡ Condvar k at → (IsEntering at → ⊥) → ((l : ℕ) → LetsOthersIn w t l → ⊥)
+    → (l : ℕ) (m : Line) (o : Outcome) → Owes v t l m ↔ (IsInside v t l m ⊎ SeesWaiters w t l m o v)
+calm_owing w v t k at behind is calm shut l m o = (
+  (λ h. elim ((two_owe v t behind k at is l m).0 h) [ inl i ↦ inl i | inr enters ↦ absurd (calm enters.2) ]),
+  λ h. elim h [ inl i ↦ inside_owes_so v t behind l m i | inr sees ↦ absurd (shut l sees.0) ],
+)

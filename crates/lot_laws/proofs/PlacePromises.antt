@@ -12,7 +12,7 @@ use Rattle.lot_steps.specs.Steps.{act_of, lock_of, is_lock, calls, profile, line
 use Rattle.abstract_locks.specs.Locks.{Taken, IsSomePending, one_if_some, is_thread, standing}
 use Rattle.abstract_locks.specs.Locks as locks
 use Rattle.abstract_locks.specs.Runs.{CallState}
-use Rattle.abstract_locks.specs.Purposes.{Purpose, IsReleasing, Waits, Notifies}
+use Rattle.abstract_locks.specs.Purposes.{Purpose, IsReleasing, Waits}
 use Rattle.std.proofs.lemmas.Bool.{cases_eq}
 use Rattle.abstract_locks.specs.Sites.{Doing, Line, Main, Second, Pends, idle, has_readers}
 use Rattle.lot_machine.specs.Machine.{State, place_at, kind_at, queue_at}
