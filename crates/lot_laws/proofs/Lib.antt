@@ -68,6 +68,7 @@ pub mod CondvarAsleep
 pub mod CondvarLate
 pub mod CondvarPromises
 pub mod PlacePromises
+pub mod WhoOwes
 pub mod AtPlaces
 pub mod ExclusiveOwners
 pub mod LineActs
@@ -120,6 +121,7 @@ pub mod CondvarsKept
 pub mod CondvarLed
 pub mod CondvarWent
 pub mod CondvarOwn
+pub mod CondvarOwes
 pub mod CondvarSteps
 pub mod CondvarGoes
 pub mod WaitGoes
