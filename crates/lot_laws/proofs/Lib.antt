@@ -71,6 +71,7 @@ pub mod PlacePromises
 pub mod AtPlaces
 pub mod ExclusiveOwners
 pub mod LineActs
+pub mod CondvarLines
 pub mod OwnHand
 pub mod SingleCalls
 pub mod CallEvents

@@ -1,5 +1,5 @@
 -- What its lock's being a site says of the word of a mutex, and of who waits for it.
-use Rattle.std.proofs.Common.{ℕ, Bool, true, false, Option, if◌then◌else◌, ◌==◌, ◌≡◌, ◌≢◌, ◌+◌, ◌*◌, ◌≤◌, List, [], ◌∷◌, inl, inr, refl, sym, ◌∙◌, ap, subst, arith, None}
+use Rattle.std.proofs.Common.{ℕ, Bool, true, false, Option, Some, None, ◌⊎◌, if◌then◌else◌, ◌==◌, ◌≡◌, ◌≢◌, ◌+◌, ◌*◌, ◌≤◌, List, [], ◌∷◌, inl, inr, refl, sym, ◌∙◌, ap, subst, arith}
 use Rattle.lot_base.specs.Lines as Lines
 use Rattle.lot_mutex.specs.MutexSteps.{is_parked}
 use Rattle.lot_once.specs.OnceProfiles.{once_profile}
@@ -9,14 +9,14 @@ use Rattle.abstract_locks.specs.Locks.{Queued, times, one_if_some}
 use Rattle.abstract_locks.specs.Locks as locks
 use Rattle.abstract_locks.specs.Sites.{idle, Line, Main, Second, Claim}
 use Rattle.abstract_locks.specs.Codes.{bit, code, parked_in}
-use Rattle.lot_machine.specs.Machine.{State, place_at, word_at, owners_at, queue_at}
+use Rattle.lot_machine.specs.Machine.{State, place_at, word_at, owners_at, queue_at, section_at}
 use Rattle.lot_laws.specs.Refinement.{lock_state}
-use Rattle.lot_laws.specs.Promises.{WaitsFor}
+use Rattle.lot_laws.specs.Promises.{IsAboutToMark, WaitsFor}
 use Rattle.lot_laws.specs.MutexPromises.{IsMutexWord}
 use Rattle.lot_laws.specs.MutexDeeds.{mutex_doing}
 use Rattle.lot_laws.specs.Stations.{doing_on}
-use Rattle.lot_laws.specs.SitesOf.{FitsItsLock, IsSteady, rules_in}
-use Rattle.lot_laws.proofs.Glue.{differ}
+use Rattle.lot_laws.specs.SitesOf.{IsSteady, rules_in}
+use Rattle.lot_laws.proofs.Glue.{differ, inside_is}
 use Rattle.lot_laws.proofs.MutexTable.{mutex, queued_times}
 use Rattle.lot_laws.proofs.SitesKept.{lock_by}
 use Rattle.lot_base.specs.declared.wants.Want.{Want}
@@ -93,21 +93,24 @@ sets_nothing (RwLock k a c) l other = either (k == l)
     either false = refl
 sets_nothing (Condvar k at) l other = absurd other
 
-no_once : (w : State) (p : Place) (l : ℕ) → rules_in w l ≡ mutex → FitsItsLock w p → IsNoOnce l p
-no_once w (Once k at) l rules fits = λ here.
-    let both : locks.Once ≡ locks.Mutex = sym fits ∙ ap (λ n. (rules_in w n).sort) here ∙ ap (λ (r : locks.Rules). r.sort) rules in cc
-no_once w (Mutex k at) l rules fits = tt
-no_once w (RwLock k a c) l rules fits = tt
-no_once w (Condvar k at) l rules fits = absurd fits.begun
-no_once w Idle l rules fits = tt
-
--- a waiter of a mutex implies its parked bit
-module _ (w : State) (s : IsSteady w) (t l : ℕ) (rules : rules_in w l ≡ mutex) where
-  parked : WaitsFor w t l → is_parked (word_at w l) ≡ true
-  parked h = elim ((s.sites.site l).parked (not_empty t (lock_state w l).queue h)) [
-    | inl g ↦ subst (λ r. parked_in r.sort (word_at w l) ≡ true) rules g
-    | inr g ↦ absurd (let a : (doing_on (place_at w g.0) l).sets ≡ false = sets_nothing (place_at w g.0) l (no_once w (place_at w g.0) l rules (s.stands.calls g.0)) in let b : (doing_on (place_at w g.0) l).sets ≡ true = g.1 in cc)
+module _ (w : State) (s : IsSteady w) (l : ℕ) (rules : rules_in w l ≡ mutex) where
+  -- who is about to set the parked bit of a mutex is inside its section
+  pub marks_inside : (u : ℕ) → IsAboutToMark w u l → section_at w (2 * l) ≡ Some u
+  marks_inside u sets = elim ((s.sites.site l).setting u sets) [
+    | inl covers ↦ (s.stands.sections u l Main).0 (sym (inside_is (place_at w u) l) ∙ ((s.sites.site l).covered u covers).0)
+    | inr once ↦ absurd (let both : locks.Once ≡ locks.Mutex = sym once.0 ∙ ap (λ (r : locks.Rules). r.sort) rules in cc)
   ]
 
-  pub parked_at : 1 ≤ Lines.times t (queue_at w (2 * l)) → is_parked (word_at w l) ≡ true
-  parked_at h = parked (subst (λ n. 1 ≤ n) (sym (queued_times t (queue_at w (2 * l)))) h)
+  -- a waiter of a mutex implies its parked bit, or somebody who is about to set it
+  pub parked_or_marks : (t : ℕ) → WaitsFor w t l → (is_parked (word_at w l) ≡ true) ⊎ ((u : ℕ) × IsAboutToMark w u l)
+  parked_or_marks t h = elim ((s.sites.site l).parked (not_empty t (lock_state w l).queue h)) [
+    | inl g ↦ inl (subst (λ r. parked_in r.sort (word_at w l) ≡ true) rules g)
+    | inr g ↦ inr g
+  ]
+
+-- so it implies the bit where nobody is inside the section
+pub parked_at : (w : State) → IsSteady w → (t l : ℕ) → rules_in w l ≡ mutex → section_at w (2 * l) ≡ None → 1 ≤ Lines.times t (queue_at w (2 * l)) → is_parked (word_at w l) ≡ true
+parked_at w s t l rules free h = elim (parked_or_marks w s l rules t (subst (λ n. 1 ≤ n) (sym (queued_times t (queue_at w (2 * l)))) h)) [
+  | inl set ↦ set
+  | inr marks ↦ absurd (let both : ◌≡◌ {A = Option ℕ} None (Some marks.0) = sym free ∙ marks_inside w s l rules marks.0 marks.1 in cc)
+]
