@@ -65,6 +65,7 @@ pub mod MutexRows
 pub mod RwLockRows
 pub mod CallRows
 pub mod CondvarAsleep
+pub mod CondvarDebts
 pub mod CondvarLate
 pub mod CondvarPromises
 pub mod PlacePromises
