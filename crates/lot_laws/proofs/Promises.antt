@@ -44,6 +44,7 @@ use Rattle.lot_base.specs.declared.notes.Note as note
 use Rattle.lot_acts.specs.declared.acts.Wakes as wakes
 use Rattle.lot_condvar.specs.CondvarProfiles.{condvar_profile, condvar_purpose, condvar_recalls, condvar_released, condvar_row}
 use Rattle.lot_condvar.specs.CondvarSteps.{mutex_beside}
+use Rattle.lot_laws.proofs.WhoOwes.{going_owes_so, inside_owes_so, owing_so}
 use Rattle.lot_laws.proofs.CondvarDebts.{LooksBeside, debtor_beside, looks_beside, no_second, two_owe, two_recalls, two_released, two_retries}
 use Rattle.lot_laws.proofs.Glue.{same, calls_none, single_retries, single_taker, IsSingle, plain_rules}
 use Rattle.lot_machine.proofs.Opening.{idle_at, none_at, empty_at, nobody_owns, opening_shares}
