@@ -69,6 +69,7 @@ pub mod CondvarDebts
 pub mod CondvarLate
 pub mod CondvarPromises
 pub mod PlacePromises
+pub mod WhoOwes
 pub mod AtPlaces
 pub mod ExclusiveOwners
 pub mod LineActs
