@@ -1,6 +1,6 @@
 -- An act in a call of a condition variable enters sections of its two locks, and one that leaves sections or touches queues is of those that
 -- its thread is inside, as its row says.
-use Rattle.std.proofs.Common.{ℕ, Bool, true, false, Option, Some, None, if◌then◌else◌, ◌==◌, not, ◌+◌, ◌*◌, ◌≡◌, ◌≢◌, ◌⊎◌, inl, inr, [], map, get_or, refl, sym, ◌∙◌, ap, subst, arith}
+use Rattle.std.proofs.Common.{ℕ, Bool, true, false, Option, Some, None, if◌then◌else◌, ◌==◌, not, ◌+◌, ◌*◌, ◌≡◌, ◌≢◌, ◌⊎◌, inl, inr, [], map, get_or, refl, sym, ◌∙◌, ap}
 use Rattle.std.proofs.lemmas.Bool.{cases_eq, eqb-true}
 use Rattle.std.proofs.Math.ListN.{get_or-map}
 use Rattle.lot_base.specs.declared.keys.Keys.TheVariants.{One, Two}
@@ -9,7 +9,7 @@ use Rattle.lot_base.specs.Lines.{without, times}
 use Rattle.lot_acts.specs.declared.acts.Act.{Act}
 use Rattle.lot_acts.specs.declared.acts.Act.TheVariants as act
 use Rattle.lot_acts.specs.Profiles.{in_line}
-use Rattle.lot_acts.specs.Stations.{Station, station_by}
+use Rattle.lot_acts.specs.Stations.{Station}
 use Rattle.lot_mutex.specs.declared.places.MutexPlace.TheVariants as mutex
 use Rattle.lot_mutex.specs.declared.lock.Entry.TheVariants as entry
 use Rattle.lot_mutex.specs.declared.lock.LockAt.{LockAt}
@@ -35,7 +35,7 @@ use Rattle.lot_laws.specs.SitesOf.{FitsItsLock, IsSteady, key_of, stood_in}
 use Rattle.lot_laws.proofs.CondvarPromises.{stands_at, two_stand_main}
 use Rattle.lot_laws.proofs.CondvarSites.{station_there}
 use Rattle.lot_laws.proofs.Counts.{without_absent}
-use Rattle.lot_laws.proofs.Glue.{condvar_apart, same}
+use Rattle.lot_laws.proofs.Glue.{condvar_apart}
 use Rattle.lot_laws.proofs.LineActs.{line_of_key}
 use Rattle.lot_laws.proofs.Waiters.{station_beside}
 

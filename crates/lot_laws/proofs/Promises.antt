@@ -8,14 +8,14 @@ use Rattle.lot_calls.specs.declared.kinds.Kind.{Kind}
 use Rattle.lot_calls.specs.declared.kinds.Kind as kinds
 use Rattle.lot_calls.specs.declared.calls.Step.{Step}
 use Rattle.lot_steps.specs.declared.places.Place.{Place}
-use Rattle.lot_steps.specs.declared.places.Place.TheVariants.{Idle, Mutex, RwLock, Once, Condvar}
+use Rattle.lot_steps.specs.declared.places.Place.TheVariants.{Condvar}
 use Rattle.lot_steps.specs.Steps.{act_of, calls, is_lock, lock_of, or_else, profile, retries_on, taker}
 use Rattle.lot_machine.specs.Machine.{State, opening, place_at, after, kind_at, filled_at, section_at}
 use Rattle.lot_machine.specs.Fits.{IsShaped}
 use Rattle.lot_laws.specs.Stations.{Station, station_at, doing_on}
 use Rattle.lot_laws.specs.SitesOf.{AreCondvars, AreCounted, IsSteady, RunsInClosures, rules_in}
 use Rattle.abstract_locks.specs.Runs.{CallState, IsOpening}
-use Rattle.abstract_locks.specs.Locks.{LockState, Sort, Queued, Rights, Taken, opening_lock, Rules, IsSomePending, has_caller, rights_of, readers, count, standing}
+use Rattle.abstract_locks.specs.Locks.{LockState, Sort, Queued, Rights, opening_lock, Rules, IsSomePending, has_caller, rights_of, readers, count, standing}
 use Rattle.abstract_locks.specs.Onces.{InProgress, IsRunning}
 use Rattle.abstract_locks.specs.Locks as sorts
 use Rattle.abstract_locks.specs.Sites.{Doing, Line, Main, Second, Has, Pends, Runs, IsOpen, counts_some, has_readers}
@@ -45,7 +45,7 @@ use Rattle.lot_acts.specs.declared.acts.Wakes as wakes
 use Rattle.lot_condvar.specs.CondvarProfiles.{condvar_profile, condvar_purpose, condvar_recalls, condvar_released, condvar_row}
 use Rattle.lot_condvar.specs.CondvarSteps.{mutex_beside}
 use Rattle.lot_laws.proofs.WhoOwes.{going_owes_so, inside_owes_so, owing_so}
-use Rattle.lot_laws.proofs.CondvarDebts.{LooksBeside, debtor_beside, looks_beside, no_second, two_owe, two_recalls, two_released, two_retries}
+use Rattle.lot_laws.proofs.CondvarDebts.{LooksBeside, debtor_beside, idle_owes, looks_beside, no_second, two_owe, two_recalls, two_released, two_retries}
 use Rattle.lot_laws.proofs.Glue.{same, calls_none, single_retries, single_taker, IsSingle, plain_rules}
 use Rattle.lot_machine.proofs.Opening.{idle_at, none_at, empty_at, nobody_owns, opening_shares}
 use Rattle.std.proofs.lemmas.Bool.{cases_lt, eqb-true}
@@ -92,9 +92,9 @@ open_unowned sorts.Condvar s none h = absurd h
 open_unowned sorts.Once s none h = none (λ k. k)
 
 -- whoever has released a mutex is in a wait with it
-released_mutex : (sort : ℕ → Sort) (q : Option Purpose) (released : Bool) (l : ℕ) (m : Line) → KnowsRights sort q → HasReleased q released l m → sort l ≡ sorts.Mutex
-released_mutex sort (Some (Waits k n timed)) released l m knows h = ap sort (sym h.0) ∙ knows.1
-released_mutex sort q released l m knows h = absurd h
+released_mutex : (sort : ℕ → Sort) (q : Option Purpose) (released : Bool) (l : ℕ) → KnowsRights sort q → HasReleased q released l Main → sort l ≡ sorts.Mutex
+released_mutex sort (Some (Waits k n timed)) released l knows h = ap sort (sym h.0) ∙ knows.1
+released_mutex sort q released l knows h = absurd h
 
 within : (r : Rules) (s : LockState) → has_readers r.sort ≡ true → HasLimit r s → IsWithinLimit r s
 within r s shared h = by_sort r.sort refl shared
@@ -270,7 +270,7 @@ module _ (w : State) (steady : IsSteady w) where
       rests_nowhere : (k : ℕ) → standing after.debtor (lock_state w k) ≡ 0
       rests_nowhere k = elim (after.stands_nowhere k) [
         | inl none ↦ none
-        | inr released ↦ absurd (let both : sorts.Once ≡ sorts.Mutex = sym once ∙ released_mutex (sort_at w) (call_at w after.debtor).purpose (call_at w after.debtor).released l Main (known after.debtor) released in cc)
+        | inr released ↦ absurd (let both : sorts.Once ≡ sorts.Mutex = sym once ∙ released_mutex (sort_at w) (call_at w after.debtor).purpose (call_at w after.debtor).released l (known after.debtor) released in cc)
       ]
 
       counts_none : (o : Option Want) → counts_some sorts.Once o ≡ true → ⊥
