@@ -65,6 +65,7 @@ pub mod MutexRows
 pub mod RwLockRows
 pub mod CallRows
 pub mod CondvarAsleep
+pub mod CondvarDebts
 pub mod CondvarLate
 pub mod CondvarPromises
 pub mod PlacePromises
@@ -72,6 +73,7 @@ pub mod WhoOwes
 pub mod AtPlaces
 pub mod ExclusiveOwners
 pub mod LineActs
+pub mod CondvarLines
 pub mod OwnHand
 pub mod SingleCalls
 pub mod CallEvents
