@@ -88,7 +88,7 @@ use Rattle.lot_machine.proofs.Looks.{mutex_looks}
 use Rattle.lot_laws.proofs.CountsPut.{looking_counted}
 use Rattle.lot_laws.proofs.Looking.{here, looks_now, looking_steady, goes_as_before, stays_as_before}
 use Rattle.lot_laws.proofs.Closures.{closes_one, closure_told, mutex_runs_none, runs_one}
-use Rattle.lot_laws.specs.SitesOf.{site_of, AreCondvars, AreCounted, IsSteady, Goes, FitsItsLock, is_mutex, rules_in, carried_at}
+use Rattle.lot_laws.specs.SitesOf.{site_of, AreCondvars, AreCounted, FitsCondvar, IsSteady, Goes, FitsItsLock, is_mutex, rules_in, carried_at}
 use Rattle.abstract_locks.specs.Sites.{IsSite, Deed, Main, Mark, End, Case}
 use Rattle.abstract_locks.specs.Locks.{LockCase, Wake, Leave as GivesBack, HandOff as HandsOff, Rights, rights_of, standing}
 use Rattle.abstract_locks.specs.Runs.{LocksState, CallState, GoesOn, Stays, Looks, IsOfMutex, Does, SectionChanges, MayBegin, MayTurn, HasRight, Turned, IsStep, purpose_at, new_call, Nothing}
@@ -118,6 +118,7 @@ use Rattle.lot_mutex.specs.MutexSteps.{mutex_act, mutex_next}
 use Rattle.lot_acts.specs.declared.acts.Next.{Next}
 use Rattle.lot_acts.specs.declared.acts.Next.TheVariants as next
 use Rattle.lot_acts.specs.declared.acts.Whom.TheVariants as whoms
+use Rattle.lot_condvar.specs.declared.places.CondvarPlace.{CondvarPlace}
 use Rattle.lot_condvar.specs.declared.places.CondvarPlace.TheVariants as condvars
 use Rattle.lot_laws.proofs.Glue.{IsSingle, is_owner, own_stance, single_or_two, thread_is}
 use Rattle.lot_laws.proofs.CondvarGo.{condvar_on}
