@@ -15,7 +15,7 @@ invariant_of-self g c =
 pub returns-clause-refines : goal.returns-clause-refines
 returns-clause-refines g c =
     let before : IsWorld c.self.inside.machine = c.self.invariant in
-    rw (c.turn.ensures.outcome, c.turn.ensures.state, ← c.self.view_is) (after_step c.self.inside.machine c.args.step before.shaped before.steady before.counted)
+    rw (c.turn.ensures.outcome, c.turn.ensures.state, ← c.self.view_is) (after_step c.self.inside.machine c.args.step before.shaped before.steady before.counted before.condvars)
 
 pub returns-clause-one_thing : goal.returns-clause-one_thing
 returns-clause-one_thing g c =
@@ -33,7 +33,7 @@ returns-clause-same_size g c = rw (c.turn.ensures.state, ← c.self.view_is) (af
 pub returns-clause-fair : goal.returns-clause-fair
 returns-clause-fair g c =
     let before : IsWorld c.self.inside.machine = c.self.invariant in
-    rw (c.turn.ensures.state, ← c.self.view_is) (is_fair c.self.inside.machine c.args.step before.shaped before.steady before.counted)
+    rw (c.turn.ensures.state, ← c.self.view_is) (is_fair c.self.inside.machine c.args.step before.shaped before.steady before.counted before.condvars)
 
 pub returns-clause-touches : goal.returns-clause-touches
 returns-clause-touches g c = rw (c.turn.ensures.state, ← c.self.view_is) (touches c.self.inside.machine c.args.step)
@@ -41,7 +41,7 @@ returns-clause-touches g c = rw (c.turn.ensures.state, ← c.self.view_is) (touc
 pub returns-clause-owing : goal.returns-clause-owing
 returns-clause-owing g c =
     let before : IsWorld c.self.inside.machine = c.self.invariant in
-    rw (c.turn.ensures.outcome, c.turn.ensures.state, ← c.self.view_is) (owes_since c.self.inside.machine c.args.step before.shaped before.steady before.counted)
+    rw (c.turn.ensures.outcome, c.turn.ensures.state, ← c.self.view_is) (owes_since c.self.inside.machine c.args.step before.shaped before.steady before.counted before.condvars)
 
 pub returns-clause-readers_stay_out : goal.returns-clause-readers_stay_out
 returns-clause-readers_stay_out g c =
