@@ -99,6 +99,7 @@ pub mod SharedFair
 pub mod Fair
 pub mod CountsTaken
 pub mod CountsKept
+pub mod Leads
 pub mod SoloActs
 pub mod SoloAnswers
 pub mod LineSolo
@@ -109,6 +110,8 @@ pub mod RwLockEnds
 pub mod CallEnds
 pub mod Solo
 pub mod OnceSolo
+pub mod CondvarAlone
+pub mod RelockSolo
 pub mod Owing
 pub mod WorldRuns
 pub mod RowLaws

@@ -90,7 +90,8 @@ use Rattle.lot_rwlock_fair.specs.declared.places.RwLockCallPlace.{RwLockCallPlac
 use Rattle.lot_rwlock_fair.specs.FairBegins.{call_first}
 use Rattle.lot_laws.proofs.RwLockKept.{admits_by}
 use Rattle.lot_laws.proofs.AtPlaces.{coded as words_coded, coded_for, rules_for, absent, owns}
-use Rattle.lot_laws.proofs.SoloActs.{Leads, leads_rest, leads_step, leads_more, leads_so, Facing, Faces, word_faces, enter_faces, leave_faces, wake_faces, hand_faces, accept_faces, park_faces, unparked_faces, remove_faces, take_faces, act_led}
+use Rattle.lot_laws.proofs.Leads.{Leads, leads_rest, leads_step, leads_more, leads_so}
+use Rattle.lot_laws.proofs.SoloActs.{Facing, Faces, word_faces, enter_faces, leave_faces, wake_faces, hand_faces, accept_faces, park_faces, unparked_faces, remove_faces, take_faces, act_led}
 
 -- ---------------------------------------------------------------- lock
 
@@ -439,7 +440,7 @@ never_aside w l (Once k at) fits sort e = either (k == l) refl
 
 module _ (w : State) (t : ℕ) (shape : IsShaped w) (steady : IsSteady w) (counted : AreCounted w) (condvars : AreCondvars w) (running : RunsInClosures w) (there : t < length w.places) (way : HasItsWay w t) where
   facing : (l : ℕ) (p : Place) → IsSingle p → place_at w t ≡ p → l < length w.locks → Facing w t l p (word_at w l) (owner_at w l) (section_at w (2 * l)) (queue_at w (2 * l))
-  facing l p single is lt = record { single = single; shape = shape; steady = steady; counted = counted; thread = there; lock = lt; place = is; word = refl; owner = refl; section = refl; queue = refl }
+  facing l p single is lt = record { single = single; shape = shape; steady = steady; counted = counted; condvars = condvars; thread = there; lock = lt; place = is; word = refl; owner = refl; section = refl; queue = refl }
 
   -- outside its section it finds it free
   free : (l : ℕ) (p : Place) → IsSingle p → place_at w t ≡ p → lock_of p ≡ Some l → (station p).inside ≡ None → (x : Option ℕ) → section_at w (2 * l) ≡ x → x ≡ None
