@@ -112,6 +112,7 @@ pub mod Solo
 pub mod OnceSolo
 pub mod CondvarAlone
 pub mod RelockSolo
+pub mod NotifySolo
 pub mod Owing
 pub mod WorldRuns
 pub mod RowLaws
