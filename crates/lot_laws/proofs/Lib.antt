@@ -113,6 +113,7 @@ pub mod OnceSolo
 pub mod CondvarAlone
 pub mod RelockSolo
 pub mod NotifySolo
+pub mod WaitSolo
 pub mod Owing
 pub mod WorldRuns
 pub mod RowLaws
