@@ -114,6 +114,8 @@ pub mod CondvarAlone
 pub mod RelockSolo
 pub mod NotifySolo
 pub mod WaitSolo
+pub mod NotifyEnds
+pub mod WaitEnds
 pub mod Owing
 pub mod WorldRuns
 pub mod RowLaws

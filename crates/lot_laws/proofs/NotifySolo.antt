@@ -178,7 +178,7 @@ module _ (t l m : ℕ) (keeps : Keeps t) where
     enters : (P : State → Outcome → Type 0) (k : ℕ) → (Alone (after w (go_of t)) all notify.Again → Leads k (after w (go_of t)) t P) → Leads (k + 1) w t P
     enters P k on = goes w all notify.Enter g P k both_free (λ h. inr (refl, on h))
 
-  enters_seeing : (w : State) (all : Bool) (q : List Queued) → is_shown (word_at w l) m ≡ true → (lock_state w l).queue ≡ q → Alone w all notify.Enter → Leads 8 w t (Ends all (moved_number all q) (left_then all q))
+  pub enters_seeing : (w : State) (all : Bool) (q : List Queued) → is_shown (word_at w l) m ≡ true → (lock_state w l).queue ≡ q → Alone w all notify.Enter → Leads 8 w t (Ends all (moved_number all q) (left_then all q))
   enters_seeing w all q shown e g = enters w all g (Moves all q) 7 (sees all q (after w (go_of t)) (ap (λ v. is_shown v m) (same_word w all g) ∙ shown) (same_queue w all g ∙ e))
 
   -- ---------------------------------------------------------------- from any place
