@@ -116,6 +116,7 @@ pub mod NotifySolo
 pub mod WaitSolo
 pub mod NotifyEnds
 pub mod WaitEnds
+pub mod CondvarEnds
 pub mod Owing
 pub mod WorldRuns
 pub mod RowLaws

@@ -30,6 +30,7 @@ use Rattle.lot_mutex.specs.declared.unlock.UnlockAt.{UnlockAt}
 use Rattle.lot_mutex.specs.declared.unlock.UnlockAt.TheVariants as unlock
 use Rattle.lot_mutex.specs.declared.hand_off.HandOffAt.{HandOffAt}
 use Rattle.lot_mutex.specs.declared.hand_off.HandOffAt.TheVariants as hand_off
+use Rattle.lot_calls.specs.declared.calls.CondvarCall.{CondvarCall}
 use Rattle.lot_calls.specs.declared.calls.OnceCall.{OnceCall}
 use Rattle.lot_once.specs.declared.places.OncePlace.{OncePlace}
 use Rattle.lot_condvar.specs.CondvarSteps.{condvar_first}
@@ -50,7 +51,7 @@ use Rattle.lot_laws.specs.MutexPromises.{IsMutexWord}
 use Rattle.abstract_locks.specs.Sites.{Line, Main, Second, Site, has_readers}
 use Rattle.lot_laws.specs.MutexDeeds.{acts, takes, queued}
 use Rattle.lot_laws.specs.Stations.{nowhere, station, station_at, Station, hand}
-use Rattle.lot_laws.specs.SitesOf.{AreCondvars, AreCounted, IsSteady, RunsInClosures, key_of, FitsItsLock, is_mutex, Goes, hand_at, rules_in}
+use Rattle.lot_laws.specs.SitesOf.{AreCondvars, AreCounted, IsSteady, IsWorld, RunsInClosures, key_of, FitsItsLock, is_mutex, Goes, hand_at, rules_in}
 use Rattle.lot_laws.proofs.ExclusiveOwners.{by_code, owner_after}
 use Rattle.abstract_locks.specs.Locks.{readers, Rules, MayEnter, IsBlocked, first_thread}
 use Rattle.abstract_locks.specs.Locks as locks
@@ -69,7 +70,7 @@ use Rattle.lot_steps.specs.Steps.{is_lock}
 use Rattle.lot_laws.specs.Stations.{station_by}
 use Rattle.lot_condvar.specs.CondvarSteps.{mutex_beside}
 use Rattle.lot_condvar.specs.CondvarProfiles.{mutex_side}
-use Rattle.lot_laws.proofs.Glue.{IsSingle, nothing_at, not_beside, taken_held, put_here, own_stance, singles, differ, aparts}
+use Rattle.lot_laws.proofs.Glue.{IsSingle, nothing_at, not_beside, taken_held, put_here, own_stance, differ, aparts}
 use Rattle.lot_laws.proofs.Handed.{successor_one, of_carries}
 use Rattle.lot_laws.proofs.SitesPromise.{parked_at}
 use Rattle.lot_mutex.specs.declared.places.MutexPlace.{MutexPlace}
@@ -84,7 +85,8 @@ use Rattle.lot_laws.proofs.LineSolo.{StepsAlone}
 use Rattle.lot_laws.proofs.BumpSolo.{call_rests}
 use Rattle.lot_laws.proofs.RwLockSolo.{word_small}
 use Rattle.lot_laws.proofs.CallEnds.{rwlock_alone}
-use Rattle.lot_laws.proofs.WorldRuns.{runs_alone}
+use Rattle.lot_laws.proofs.CondvarEnds.{condvar_alone, condvar_rests}
+use Rattle.lot_laws.proofs.WorldRuns.{runs_alone, world_after}
 use Rattle.lot_rwlock.specs.RwLockBegins.{admission_of}
 use Rattle.lot_rwlock_fair.specs.declared.places.RwLockCallPlace.{RwLockCallPlace}
 use Rattle.lot_rwlock_fair.specs.FairBegins.{call_first}
@@ -439,6 +441,13 @@ never_aside w l (Once k at) fits sort e = either (k == l) refl
     either false h = let none : None ≡ Some Second = sym (ap (λ b. (if b then station (Once k at) else nowhere).inside) h) ∙ e in cc
 
 module _ (w : State) (t : ℕ) (shape : IsShaped w) (steady : IsSteady w) (counted : AreCounted w) (condvars : AreCondvars w) (running : RunsInClosures w) (there : t < length w.places) (way : HasItsWay w t) where
+  world : IsWorld w
+  world = record { shaped = shape; steady = steady; counted = counted; condvars = condvars; running = running }
+
+  -- what holds of a world holds after each step of the thread
+  stays_world : (v : State) → IsWorld v → IsWorld (after v (go_of t))
+  stays_world v h = world_after v (go_of t) h
+
   facing : (l : ℕ) (p : Place) → IsSingle p → place_at w t ≡ p → l < length w.locks → Facing w t l p (word_at w l) (owner_at w l) (section_at w (2 * l)) (queue_at w (2 * l))
   facing l p single is lt = record { single = single; shape = shape; steady = steady; counted = counted; condvars = condvars; thread = there; lock = lt; place = is; word = refl; owner = refl; section = refl; queue = refl }
 
@@ -502,7 +511,7 @@ module _ (w : State) (t : ℕ) (shape : IsShaped w) (steady : IsSteady w) (count
 
   place_rests : (p : Place) → place_at w t ≡ p → PlaceFits (length w.locks) p → p ≢ Idle → act_of p ≢ act.TheVariants.Sleep → runs_closure (act_of p) ≡ false → Leads 18 w t (λ v x. Rests x)
   place_rests Idle is fits busy up outside = absurd (busy refl)
-  place_rests (Condvar l at) is fits busy up outside = absurd (subst IsSingle is (singles w steady t))
+  place_rests (Condvar l at) is fits busy up outside = leads_more 17 18 w t (λ v x. Rests x) (omega arith) (condvar_rests t stays_world w world there way l at is up)
   place_rests (Once l at) is fits busy up outside =
       leads_more 8 18 w t (λ v x. Rests x) (omega arith) (once_rests t l at (word_at w l) w (λ m. queue_at w (key_of l m)) up outside (once_steps_alone l at is fits))
   place_rests (RwLock l a c) is fits busy up outside =
@@ -618,7 +627,7 @@ module _ (w : State) (t : ℕ) (shape : IsShaped w) (steady : IsSteady w) (count
       fits = subst (PlaceFits (length w.locks)) is (shape.places t)
 
       ends : has_readers (rules_in w l).sort ≡ true → EndsAlone w t (Some (rwlock_purpose l c)) (solo 64 w t outcome.TheVariants.NotNow).outcome (solo 64 w t outcome.TheVariants.NotNow).state
-      ends readers = rwlock_alone w t l (admission_of (kind_at w l)) c 64 outcome.TheVariants.NotNow (omega arith) steady (admits_by (kind_at w l) readers) is (steps_alone l (admission_of (kind_at w l)) (call_first c) readers is fits) (runs_alone 64 w t (record { shaped = shape; steady = steady; counted = counted; condvars = condvars; running = running }))
+      ends readers = rwlock_alone w t l (admission_of (kind_at w l)) c 64 outcome.TheVariants.NotNow (omega arith) steady (admits_by (kind_at w l) readers) is (steps_alone l (admission_of (kind_at w l)) (call_first c) readers is fits) (runs_alone 64 w t world)
 
       by_kind : (k : Kind) → kind_at w l ≡ k → EndsAlone w t (purpose_of k (call.TheVariants.RwLock l c)) (solo 64 w t outcome.TheVariants.NotNow).outcome (solo 64 w t outcome.TheVariants.NotNow).state
       by_kind kinds.Mutex e = tt
@@ -626,6 +635,14 @@ module _ (w : State) (t : ℕ) (shape : IsShaped w) (steady : IsSteady w) (count
       by_kind (kinds.RwLock limit) e = ends (ap (λ k. has_readers (rules_of k).sort) e)
       by_kind (kinds.Recursive limit) e = ends (ap (λ k. has_readers (rules_of k).sort) e)
       by_kind k e = tt
+
+  pub condvar_ends : (l : ℕ) (c : CondvarCall) → place_at w t ≡ Condvar l (condvar_first c)
+      → EndsAlone w t (purpose_at (locks_of w) (call.TheVariants.Condvar l c)) (solo 64 w t outcome.TheVariants.NotNow).outcome (solo 64 w t outcome.TheVariants.NotNow).state
+  condvar_ends l c is = by_kind (kind_at w l)
+    where
+      by_kind : (k : Kind) → EndsAlone w t (purpose_of k (call.TheVariants.Condvar l c)) (solo 64 w t outcome.TheVariants.NotNow).outcome (solo 64 w t outcome.TheVariants.NotNow).state
+      by_kind kinds.Condvar = condvar_alone t stays_world w world there way l c is 64 outcome.TheVariants.NotNow (omega arith)
+      by_kind k = tt
 
   pub once_ends : (l : ℕ) (c : OnceCall) → place_at w t ≡ Once l (once_first c)
       → EndsAlone w t (purpose_at (locks_of w) (call.TheVariants.Once l c)) (solo 64 w t outcome.TheVariants.NotNow).outcome (solo 64 w t outcome.TheVariants.NotNow).state
@@ -657,7 +674,7 @@ module _ (w : State) (t : ℕ) (shape : IsShaped w) (steady : IsSteady w) (count
 
   pub ends_alone : (c : Call) → place_at w t ≡ first_place (kind_at w (lock_in c)) c → HasItsWay w t
       → EndsAlone w t (purpose_at (locks_of w) c) (solo 64 w t outcome.TheVariants.NotNow).outcome (solo 64 w t outcome.TheVariants.NotNow).state
-  ends_alone (call.TheVariants.Condvar l c) is way = absurd (subst (FitsItsLock w) is (steady.stands.calls t)).begun
+  ends_alone (call.TheVariants.Condvar l c) is way = condvar_ends w t shape steady counted condvars running (stands_there w.places t (first_busy (kind_at w l) (call.TheVariants.Condvar l c) (place_at w t) is)) way l c is
   ends_alone (call.TheVariants.Once l c) is way = once_ends w t shape steady counted condvars running (stands_there w.places t (first_busy (kind_at w l) (call.TheVariants.Once l c) (place_at w t) is)) way l c is
   ends_alone (call.TheVariants.Mutex l c) is way = mutex_ends w t shape steady counted condvars running (stands_there w.places t (first_busy (kind_at w l) (call.TheVariants.Mutex l c) (place_at w t) is)) way l c is 64 outcome.TheVariants.NotNow (omega arith)
   ends_alone (call.TheVariants.RwLock l c) is way = rwlock_ends w t shape steady counted condvars running (stands_there w.places t (first_busy (kind_at w l) (call.TheVariants.RwLock l c) (place_at w t) is)) way l c is
