@@ -40,13 +40,8 @@ pub record WasHandedBeside (k : ℕ) (at : CondvarPlace) : Type 0 where
   pub claims : (mutex_side at).doing.claims ≡ Some (Has Exclusive)
   pub waited : MayWait (Some (condvar_purpose at k)) mutex × (want_of (Some (condvar_purpose at k)) ≡ Some Exclusive)
 
--- it has its note, and is about to sleep
-abbrev pub IsNoted : CondvarPlace → Type 0
-IsNoted (Wait m timed (wait.Asleep (stands.Noted note))) = Unit {0}
-IsNoted at = ⊥
-
 abbrev pub IsAsleep : ℕ → CondvarPlace → Type 0
-IsAsleep k at = ((l : ℕ) × StandsAt (Condvar k at) l) ⊎ (WasHandedBeside k at ⊎ IsNoted at)
+IsAsleep k at = ((l : ℕ) × StandsAt (Condvar k at) l) ⊎ WasHandedBeside k at
 
 in_a_line : (o : Option Line) (n : Line) → o ≡ Some n → o ≢ None
 in_a_line o n e none = let g : ◌≡◌ {A = Option Line} None (Some n) = sym none ∙ e in cc
@@ -59,11 +54,11 @@ module _ (k m : ℕ) (apart : k ≢ m) where
   wait_asleep timed (wait.Asleep stands.Listed) reached h = inl (k, inl (in_a_line (station_at (Condvar k (Wait m timed (wait.Asleep stands.Listed))) k).stands Main (stands_at k (Wait m timed (wait.Asleep stands.Listed)) k ∙ rw (same k) refl)))
   wait_asleep timed (wait.Asleep stands.Moved) reached h = inl (m, inl (in_a_line (station_at (Condvar k (Wait m timed (wait.Asleep stands.Moved))) m).stands Main (stands_at k (Wait m timed (wait.Asleep stands.Moved)) m ∙ rw (differ k m apart, same m) refl)))
   wait_asleep timed (wait.Asleep (stands.InHand by)) reached h = inl (m, inr (in_a_hand (taken_at (Condvar k (Wait m timed (wait.Asleep (stands.InHand by)))) m) (record { by = by; want = Exclusive }) (rw (differ k m apart, same m) refl)))
-  wait_asleep timed (wait.Asleep (stands.Handed by)) reached h = inr (inl (record { mutex = m; by = by; beside = refl; in_hand = refl; claims = refl; waited = (inr refl, refl) }))
-  wait_asleep timed (wait.Asleep (stands.Noted note)) reached h = inr (inr tt)
+  wait_asleep timed (wait.Asleep (stands.Handed by)) reached h = inr (record { mutex = m; by = by; beside = refl; in_hand = refl; claims = refl; waited = (inr refl, refl) })
+  wait_asleep timed (wait.Asleep (stands.Noted note)) reached h = absurd reached
   wait_asleep timed (wait.Lock late (mutex.Lock entry.Lock r lock.Asleep)) reached h = inl (m, inl (in_a_line (station_at (Condvar k (Wait m timed (wait.Lock late (mutex.Lock entry.Lock r lock.Asleep)))) m).stands Main (stands_at k (Wait m timed (wait.Lock late (mutex.Lock entry.Lock r lock.Asleep))) m ∙ rw (differ k m apart, same m) refl)))
   wait_asleep timed (wait.Lock late (mutex.Lock entry.Lock r (lock.Taken by))) reached h = inl (m, inr (in_a_hand (taken_at (Condvar k (Wait m timed (wait.Lock late (mutex.Lock entry.Lock r (lock.Taken by))))) m) (record { by = by; want = Exclusive }) (rw (differ k m apart, same m) refl)))
-  wait_asleep timed (wait.Lock late (mutex.Lock entry.Lock r (lock.Handed by))) reached h = inr (inl (record { mutex = m; by = by; beside = refl; in_hand = refl; claims = refl; waited = (inr refl, refl) }))
+  wait_asleep timed (wait.Lock late (mutex.Lock entry.Lock r (lock.Handed by))) reached h = inr (record { mutex = m; by = by; beside = refl; in_hand = refl; claims = refl; waited = (inr refl, refl) })
   wait_asleep timed (wait.Lock late (mutex.Lock entry.Lock r (lock.Decide x))) reached h = absurd (decided_awake m x (is_locked x) (x == 1) h)
   wait_asleep timed (wait.Lock late (mutex.Lock entry.Lock r at)) reached h = absurd cc
   wait_asleep timed (wait.Lock late at) reached h = absurd reached.1

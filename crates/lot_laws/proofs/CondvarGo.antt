@@ -127,8 +127,8 @@ module _ (w : State) (t l : ℕ) (shape : IsShaped w) (steady : IsSteady w) (con
     abbrev told : Reply
     told = reply_to w t (notify_act all l m p)
 
-    abbrev notified : State
-    notified = state_after_going w t (Condvar l notifies)
+    abbrev behind : State
+    behind = state_after_going w t (Condvar l notifies)
 
     abbrev at_l : List deeds.Act
     at_l = acts t (there_deeds (notify_deeds all m p told))
@@ -156,24 +156,24 @@ module _ (w : State) (t l : ℕ) (shape : IsShaped w) (steady : IsSteady w) (con
     goes_there : next_place (place_at (state_after_act w t (Condvar l notifies) (notify_act all l m p)) t) told ≡ condvar_goes l (condvar_next notifies told)
     goes_there = ap (λ q. next_place q told) (notifier_still w t l m all p is (fits notifies is m refl).reached there)
 
-    pub goes : GoesAll w notified (two_at l m at_l at_m)
+    pub goes : GoesAll w behind (two_at l m at_l at_m)
     goes = let n = sized notifies is m refl in notifies_go w t l m all steady there apart_m sort_l (sort_m notifies is m refl) (plain notifies is m refl) (condvars l sort_l) aside n.0 n.1
         (section_of notifies is m refl l n.0) (section_of notifies is m refl m n.1) (line_of notifies is m refl l n.0) (line_of notifies is m refl m n.1) p (fits notifies is m refl).reached is can (subst (FitsItsLock w) (sym goes_there) fits_notified)
 
-    happened : Happens w notified t (notify_event l all m p told)
-    happened = notify_happened w notified t l m all p steady (goes_all_steady w notified (two_at l m at_l at_m) steady goes.follows goes.stands) (condvars l sort_l) aside is can (two_at l m at_l at_m) goes.follows
+    happened : Happens w behind t (notify_event l all m p told)
+    happened = notify_happened w behind t l m all p steady (goes_all_steady w behind (two_at l m at_l at_m) steady goes.follows goes.stands) (condvars l sort_l) aside is can (two_at l m at_l at_m) goes.follows
         (two_else l m apart_m at_l at_m) (two_there l m apart_m at_l at_m) (two_beside l m apart_m at_l at_m)
 
-    others : OthersFollow w notified t (notify_event l all m p told)
+    others : OthersFollow w behind t (notify_event l all m p told)
     others = let n = sized notifies is m refl in
         subst (λ q. Happens w (put (state_after_act w t (Condvar l notifies) (notify_act all l m p)) t q) t (notify_event l all m p told) → OthersFollow w (put (state_after_act w t (Condvar l notifies) (notify_act all l m p)) t q) t (notify_event l all m p told)) (sym goes_there)
         (notify_others w t l m all steady there apart_m sort_l (sort_m notifies is m refl) (condvars l sort_l) aside (line_of notifies is m refl l n.0) (line_of notifies is m refl m n.1) p is fits_notified) happened
 
-    notified_so : going_outcome w t (Condvar l notifies) ≡ outcome_of (condvar_does l (condvar_next notifies told))
-    notified_so = ap (λ q. outcome_of (next_act q told)) (notifier_still w t l m all p is (fits notifies is m refl).reached there)
+    told_behind : going_outcome w t (Condvar l notifies) ≡ outcome_of (condvar_does l (condvar_next notifies told))
+    told_behind = ap (λ q. outcome_of (next_act q told)) (notifier_still w t l m all p is (fits notifies is m refl).reached there)
 
-    pub notifies_on : GoesOn (locks_of w) t (going_outcome w t (Condvar l notifies)) (locks_of notified)
-    notifies_on = subst (λ o. GoesOn (locks_of w) t o (locks_of notified)) (sym notified_so) (notify_step w notified t l shape steady (condvars l sort_l) there (sized notifies is m refl).0 (two_at l m at_l at_m) goes m all p is refl can (two_else l m apart_m at_l at_m) (two_there l m apart_m at_l at_m) (two_beside l m apart_m at_l at_m) others)
+    pub notifies_on : GoesOn (locks_of w) t (going_outcome w t (Condvar l notifies)) (locks_of behind)
+    notifies_on = subst (λ o. GoesOn (locks_of w) t o (locks_of behind)) (sym told_behind) (notify_step w behind t l shape steady (condvars l sort_l) there (sized notifies is m refl).0 (two_at l m at_l at_m) goes m all p is refl can (two_else l m apart_m at_l at_m) (two_there l m apart_m at_l at_m) (two_beside l m apart_m at_l at_m) others)
 
   -- ---------------------------------------------------------------- a wait
 

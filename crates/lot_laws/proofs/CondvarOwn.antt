@@ -35,11 +35,11 @@ use Rattle.lot_laws.proofs.RowPromises.{Befalls}
 use Rattle.lot_machine.proofs.Shape.{performed_counts}
 
 -- whatever befell it while it released its mutex
-abbrev IsStill : CondvarPlace → CondvarPlace → Type 0
+abbrev pub IsStill : CondvarPlace → CondvarPlace → Type 0
 IsStill (Wait m timed (wait.Release s a)) q = (s2 : Stands) × (q ≡ Wait m timed (wait.Release s2 a))
 IsStill p q = q ≡ p
 
-abbrev StandsAt : ℕ → CondvarPlace → Place → Type 0
+abbrev pub StandsAt : ℕ → CondvarPlace → Place → Type 0
 StandsAt l at p = (q : CondvarPlace) × (p ≡ Condvar l q) × IsStill at q
 
 module _ (l : ℕ) where
@@ -127,12 +127,16 @@ still_self (Look all) = refl
 still_self (Notify all m at) = refl
 
 module _ (w : State) (t l : ℕ) (at : CondvarPlace) (is : place_at w t ≡ Condvar l at) (reached : IsReached at) (there : t < length w.places) where
-  own_place : StandsAt l at (place_at (state_after_act w t (Condvar l at) (condvar_act l at)) t)
+  pub own_place : StandsAt l at (place_at (state_after_act w t (Condvar l at) (condvar_act l at)) t)
   own_place = acted_keeps (StandsAt l at) w t t (Condvar l at) (condvar_act l at) (act_keeps l at reached) (at, is, still_self at)
 
   -- from there it goes on
   pub went : Next CondvarPlace
   went = condvar_next own_place.0 (reply_to w t (condvar_act l at))
+
+  pub went_is : went ≡ condvar_next own_place.0 (reply_to w t (condvar_act l at))
+  unfolding went
+  went_is = refl
 
   pub went_place : place_at (state_after_going w t (Condvar l at)) t ≡ condvar_goes l went
   unfolding went

@@ -134,7 +134,7 @@ module _ (k : ℕ) where
       either false false e f = absurd (out_of_both (Wait m timed at) l e f s)
 
   -- who notifies stands nowhere
-  notifier_nowhere : (all : Bool) (m : ℕ) (at : NotifyAt) (l : ℕ) → StandsAt (Condvar k (Notify all m at)) l → ⊥
+  pub notifier_nowhere : (all : Bool) (m : ℕ) (at : NotifyAt) (l : ℕ) → StandsAt (Condvar k (Notify all m at)) l → ⊥
   notifier_nowhere all m at l (inl stands) = stands (stands_at (Notify all m at) l ∙ by_lock (k == l) (is_lock l (Some m)))
     where
       none : (b : Bool) → b ≡ false → in_line b Main ≡ None

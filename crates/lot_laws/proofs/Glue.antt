@@ -215,16 +215,6 @@ single_or_two (RwLock k a at) = inl tt
 single_or_two (Once k at) = inl tt
 single_or_two (Condvar k at) = inr (record { lock = k; at = at; is = refl })
 
-pub fits_single : (w : State) (p : Place) → FitsItsLock w p → IsSingle p
-fits_single w Idle fits = tt
-fits_single w (Mutex k at) fits = tt
-fits_single w (RwLock k a at) fits = tt
-fits_single w (Once k at) fits = tt
-fits_single w (Condvar k at) fits = absurd fits.begun
-
-pub singles : (w : State) → IsSteady w → (t : ℕ) → IsSingle (place_at w t)
-singles w steady t = fits_single w (place_at w t) (steady.stands.calls t)
-
 -- a call of two locks fits them
 pub fits_two : (w : State) (t : ℕ) → IsSteady w → (two : IsOfTwo (place_at w t)) → FitsItsLock w (Condvar two.lock two.at)
 fits_two w t steady two = subst (FitsItsLock w) two.is (steady.stands.calls t)

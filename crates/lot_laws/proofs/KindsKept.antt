@@ -78,11 +78,6 @@ pub calls_once : (k : Kind) (l : ℕ) (c : OnceCall) → has_call k (call.TheVar
 calls_once kind.TheVariants.Once l c h = refl
 calls_once k l c h = absurd cc
 
--- no kind has a call of a condition variable yet
-pub no_condvar_call : (k : Kind) (l : ℕ) (c : CondvarCall) → has_call k (call.TheVariants.Condvar l c) ≡ true → ⊥
-no_condvar_call kind.TheVariants.Mutex l c h = cc
-no_condvar_call kind.TheVariants.Fair l c h = cc
-no_condvar_call (kind.TheVariants.RwLock limit) l c h = cc
-no_condvar_call (kind.TheVariants.Recursive limit) l c h = cc
-no_condvar_call kind.TheVariants.Condvar l c h = cc
-no_condvar_call kind.TheVariants.Once l c h = cc
+pub calls_condvar : (k : Kind) (l : ℕ) (c : CondvarCall) → has_call k (call.TheVariants.Condvar l c) ≡ true → (rules_of k).sort ≡ locks.Condvar
+calls_condvar kind.TheVariants.Condvar l c h = refl
+calls_condvar k l c h = absurd cc

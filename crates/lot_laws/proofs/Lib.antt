@@ -65,12 +65,15 @@ pub mod MutexRows
 pub mod RwLockRows
 pub mod CallRows
 pub mod CondvarAsleep
+pub mod CondvarDebts
 pub mod CondvarLate
 pub mod CondvarPromises
 pub mod PlacePromises
+pub mod WhoOwes
 pub mod AtPlaces
 pub mod ExclusiveOwners
 pub mod LineActs
+pub mod CondvarLines
 pub mod OwnHand
 pub mod SingleCalls
 pub mod CallEvents
@@ -128,6 +131,7 @@ pub mod CondvarsKept
 pub mod CondvarLed
 pub mod CondvarWent
 pub mod CondvarOwn
+pub mod CondvarOwes
 pub mod CondvarSteps
 pub mod CondvarGoes
 pub mod WaitGoes
@@ -154,3 +158,5 @@ pub mod CondvarOthers
 pub mod NotifyOthers
 pub mod ReleaseOwn
 pub mod CondvarGo
+pub mod Placed
+pub mod CondvarBegins

@@ -88,7 +88,7 @@ use Rattle.lot_machine.proofs.Looks.{mutex_looks}
 use Rattle.lot_laws.proofs.CountsPut.{looking_counted}
 use Rattle.lot_laws.proofs.Looking.{here, looks_now, looking_steady, goes_as_before, stays_as_before}
 use Rattle.lot_laws.proofs.Closures.{closes_one, closure_told, mutex_runs_none, runs_one}
-use Rattle.lot_laws.specs.SitesOf.{site_of, AreCondvars, AreCounted, IsSteady, Goes, FitsItsLock, is_mutex, rules_in, carried_at}
+use Rattle.lot_laws.specs.SitesOf.{site_of, AreCondvars, AreCounted, FitsCondvar, IsSteady, Goes, FitsItsLock, is_mutex, rules_in, carried_at}
 use Rattle.abstract_locks.specs.Sites.{IsSite, Deed, Main, Mark, End, Case}
 use Rattle.abstract_locks.specs.Locks.{LockCase, Wake, Leave as GivesBack, HandOff as HandsOff, Rights, rights_of, standing}
 use Rattle.abstract_locks.specs.Runs.{LocksState, CallState, GoesOn, Stays, Looks, IsOfMutex, Does, SectionChanges, MayBegin, MayTurn, HasRight, Turned, IsStep, purpose_at, new_call, Nothing}
@@ -99,7 +99,9 @@ use Rattle.lot_acts.specs.Calls.{ComesTo}
 use Rattle.abstract_locks.specs.Deeds.{AllNeeded, case_of, event_by, after_event}
 use Rattle.lot_laws.specs.Stations.{hand}
 use Rattle.lot_laws.specs.Refinement.{owner_at, lock_state, taken_at, call_state, locks_of, sleeps}
-use Rattle.lot_laws.proofs.KindsKept.{after_kinds, calls_mutex, calls_readers, calls_once, no_condvar_call}
+use Rattle.lot_laws.proofs.KindsKept.{after_kinds, calls_mutex, calls_readers, calls_once}
+use Rattle.lot_laws.proofs.CondvarBegins.{condvar_begun, condvar_is_late, condvar_may}
+use Rattle.lot_laws.proofs.Placed.{placed}
 use Rattle.lot_laws.proofs.RwLockEvents.{rwlock_begins_with, rwlock_purpose_is, rwlock_right_held, rwlock_right_needed, rwlock_step, rwlock_untaken_first}
 use Rattle.lot_rwlock.specs.RwLockBegins.{admission_of}
 use Rattle.lot_rwlock_fair.specs.declared.places.RwLockCallPlace.{RwLockCallPlace}
@@ -116,6 +118,7 @@ use Rattle.lot_mutex.specs.MutexSteps.{mutex_act, mutex_next}
 use Rattle.lot_acts.specs.declared.acts.Next.{Next}
 use Rattle.lot_acts.specs.declared.acts.Next.TheVariants as next
 use Rattle.lot_acts.specs.declared.acts.Whom.TheVariants as whoms
+use Rattle.lot_condvar.specs.declared.places.CondvarPlace.{CondvarPlace}
 use Rattle.lot_condvar.specs.declared.places.CondvarPlace.TheVariants as condvars
 use Rattle.lot_laws.proofs.Glue.{IsSingle, is_owner, own_stance, single_or_two, thread_is}
 use Rattle.lot_laws.proofs.CondvarGo.{condvar_on}
@@ -407,29 +410,10 @@ module _ (w : State) (t : ℕ) (shape : IsShaped w) (steady : IsSteady w) (there
 
   -- ---------------------------------------------------------------- turns by which the place alone changes
 
-  placed : (s : List (Option ℕ)) (p p2 : Place) → place_at w t ≡ p → ((k : ℕ) → taken_at p2 k ≡ taken_at p k) → (c : CallState) → ((r : ℕ → Rights) → r ≡ rights w t → call_state p2 r ≡ c)
-      → Stays (locks_of w) t c outcome.TheVariants.Step (locks_of (put (record w { sections = s }) t p2))
-  placed s p p2 is stays c called = record {
-    told = refl;
-    locks = same_locks;
-    calls = λ u. put_is (λ x. call_state (place_at w x) (rights w x)) t c u _
-        (λ e. rw (e, get_or-set_same w.places t p2 Idle there) (called _ (λ i k. rights_of (same_locks k i) t)))
-        (λ ne. ap (λ q. call_state q (rights (put (record w { sections = s }) t p2) u)) (get_or-set_other w.places t u p2 Idle ne) ∙ ap (call_state (place_at w u)) (λ i k. rights_of (same_locks k i) u));
-  }
-    where
-      taken_same : (u k : ℕ) → taken_at (place_at (put (record w { sections = s }) t p2) u) k ≡ taken_at (place_at w u) k
-      taken_same u k = elim (cases_eq u t) [
-        | inl e ↦ rw (e, get_or-set_same w.places t p2 Idle there, is) (stays k)
-        | inr ne ↦ ap (λ q. taken_at q k) (get_or-set_other w.places t u p2 Idle ne)
-      ]
-
-      same_locks : (k : ℕ) → lock_state (put (record w { sections = s }) t p2) k ≡ lock_state w k
-      same_locks k = λ i. record (lock_state w k) { shared = get_or w.shares k (replicate (length-set w.places t p2 i) 0); taken = λ u. taken_same u k i }
-
   late_goes : (p : Place) → place_at w t ≡ p → is_free_under w (late_key p) ≡ true
       → Stays (locks_of w) t (record (call_state p (rights w t)) { late = true }) outcome.TheVariants.Step (locks_of (state_after_late_on w t (late_key p)))
   late_goes Idle is can = absurd cc
-  late_goes (Condvar l at) is can = absurd (subst (FitsItsLock w) is (steady.stands.calls t)).begun
+  late_goes (Condvar l at) is can = condvar_is_late w t l at there is can
   late_goes (Once l at) is can = by_line (once_profile at).late_line refl can
     where
       by_line : (m : Option Line) → (once_profile at).late_line ≡ m → is_free_under w (key_in (Some l) m) ≡ true
@@ -448,12 +432,12 @@ module _ (w : State) (t : ℕ) (shape : IsShaped w) (steady : IsSteady w) (there
           → Stays (locks_of w) t (record (call_state (RwLock l a c) (rights w t)) { late = true }) outcome.TheVariants.Step (locks_of (state_after_late_on w t (key_in (Some l) m)))
       by_line None e can = absurd cc
       by_line (Some m) e can = let z = call_late a c m (sym (late_row a c) ∙ e) in
-          placed (state_with_sections w (One (key_of l m)) (Some t)).sections (RwLock l a c) (next_place (place_at w t) reply.Late) is
+          placed w t there (state_with_sections w (One (key_of l m)) (Some t)).sections (RwLock l a c) (next_place (place_at w t) reply.Late) is
           (λ k. ap (λ y. taken_at (next_place y reply.Late) k) is ∙ ap (λ n. taken_at (rwlock_goes l a n) k) z.1 ∙ in_no_hand_at z.0 z.3 k ∙ sym (in_no_hand_at c z.2 k)) _
           (λ r same_rights. ap (λ y. call_state (next_place y reply.Late) r) is ∙ ap (λ n. call_state (rwlock_goes l a n) r) z.1
           ∙ (fair_sleepers_hear a l c stands).late (λ none. let f : ◌≡◌ {A = Option Line} None (Some m) = sym none ∙ e in cc) z.0 r z.1
           ∙ ap (λ x. record (call_state (RwLock l a c) x) { late = true }) same_rights)
-  late_goes (Mutex l (Lock entries.LockTimed retries Asleep)) is can = placed (state_with_sections w (One (2 * l)) (Some t)).sections (Mutex l (Lock entries.LockTimed retries Asleep)) (next_place (place_at w t) reply.Late) is (rw is (λ k. refl)) _ (rw is (λ r e. rw e refl))
+  late_goes (Mutex l (Lock entries.LockTimed retries Asleep)) is can = placed w t there (state_with_sections w (One (2 * l)) (Some t)).sections (Mutex l (Lock entries.LockTimed retries Asleep)) (next_place (place_at w t) reply.Late) is (rw is (λ k. refl)) _ (rw is (λ r e. rw e refl))
   late_goes (Mutex l (Lock entries.Lock retries Asleep)) is can = absurd cc
   late_goes (Mutex l (Lock entries.Bump retries Asleep)) is can = absurd cc
   late_goes (Mutex l (Lock entry retries First)) is can = absurd cc
@@ -493,6 +477,11 @@ once_no_mutex w l (Look (once_call.CallOnce forced) again at) once r of = let bo
 once_no_mutex w l (Look (once_call.Wait forced) again at) once r of = let both : locks.Once ≡ locks.Mutex = sym once ∙ of in cc
 once_no_mutex w l (Run forced at) once r of = let both : locks.Once ≡ locks.Mutex = sym once ∙ of in cc
 
+condvar_no_mutex : (w : State) (l : ℕ) (at : CondvarPlace) → (rules_in w l).sort ≡ locks.Condvar → (r : ℕ → Rights) → IsOfMutex (locks_of w) (call_state (Condvar l at) r).purpose → ⊥
+condvar_no_mutex w l (condvars.Wait m timed at) condvar r of = let both : locks.Condvar ≡ locks.Mutex = sym condvar ∙ of in cc
+condvar_no_mutex w l (condvars.Look all) condvar r of = let both : locks.Condvar ≡ locks.Mutex = sym condvar ∙ of in cc
+condvar_no_mutex w l (condvars.Notify all m at) condvar r of = let both : locks.Condvar ≡ locks.Mutex = sym condvar ∙ of in cc
+
 -- its call goes on by what it sees there
 module _ (w : State) (t : ℕ) (shape : IsShaped w) (steady : IsSteady w) (there : t < length w.places) (q : Place) (is : looking (place_at w t) ≡ Some q) where
   abbrev moved : State
@@ -509,7 +498,7 @@ module _ (w : State) (t : ℕ) (shape : IsShaped w) (steady : IsSteady w) (there
 
   look_stays : (p : Place) → place_at w t ≡ p → IsOfMutex (locks_of w) (call_state p (rights w t)).purpose → Stays (locks_of w) t ((locks_of w).calls t) (go_outcome moved t) (locks_of (state_after_go moved t))
   look_stays Idle e of = absurd of
-  look_stays (Condvar l at) e of = absurd (subst (FitsItsLock w) e (steady.stands.calls t)).begun
+  look_stays (Condvar l at) e of = absurd (let calls : FitsCondvar w l at = subst (FitsItsLock w) e (steady.stands.calls t) in condvar_no_mutex w l at calls.sort (rights w t) of)
   look_stays (Once l at) e of = absurd (let calls : FitsItsLock w (Once l at) = subst (FitsItsLock w) e (steady.stands.calls t) in once_no_mutex w l at calls (rights w t) of)
   look_stays (RwLock l a c) e of = absurd (let calls : FitsItsLock w (RwLock l a c) = subst (FitsItsLock w) e (steady.stands.calls t) in not_mutex w l a c calls.0 (rights w t) of)
   look_stays (Mutex l at) e of = let loads = mutex_looks l at q (ap looking (sym e) ∙ is) in
@@ -551,6 +540,7 @@ no_purpose w t kind.TheVariants.Fair (call.TheVariants.Mutex l c) h r = absurd c
 no_purpose w t (kind.TheVariants.RwLock limit) (call.TheVariants.RwLock l c) h r = absurd cc
 no_purpose w t (kind.TheVariants.Recursive limit) (call.TheVariants.RwLock l c) h r = absurd cc
 no_purpose w t kind.TheVariants.Once (call.TheVariants.Once l c) h r = absurd cc
+no_purpose w t kind.TheVariants.Condvar (call.TheVariants.Condvar l c) h r = absurd cc
 no_purpose w t k c h r = r
 
 no_call_idle : (p : Place) (r : ℕ → Rights) → (call_state p r).purpose ≡ None → is_idle p ≡ true
@@ -606,7 +596,7 @@ begin_goes : (w : State) (t : ℕ) (c : Call) → IsShaped w → IsSteady w → 
     → MayBegin (locks_of w) t c × Stays (locks_of w) t (new_call (purpose_at (locks_of w) c) (rights w t)) outcome.TheVariants.Step (locks_of (state_after_begin w t c))
 begin_goes w t (call.TheVariants.RwLock l c) shape steady there can = (
   record { thread = there; idle = rw idle refl; lock = ltb-true l (length w.locks) open_to.0; right = rw (rwlock_purpose_is (kind_at w l) l c is_kind) (rwlock_right_held w t l c held.1) },
-  placed w t shape steady there w.sections Idle (RwLock l (admission_of (kind_at w l)) (call_first c)) idle (rwlock_untaken_first l (admission_of (kind_at w l)) c) _
+  placed w t there w.sections Idle (RwLock l (admission_of (kind_at w l)) (call_first c)) idle (rwlock_untaken_first l (admission_of (kind_at w l)) c) _
       (λ r e. rwlock_begins_with l (admission_of (kind_at w l)) c r ∙ (λ i. new_call (sym (rwlock_purpose_is (kind_at w l) l c is_kind) i) (e i))),
 )
   where
@@ -623,7 +613,7 @@ begin_goes w t (call.TheVariants.RwLock l c) shape steady there can = (
     is_kind = calls_readers (kind_at w l) l c held.0
 begin_goes w t (call.TheVariants.Once l c) shape steady there can = (
   record { thread = there; idle = rw idle refl; lock = ltb-true l (length w.locks) open_to.0; right = rw (once_purpose_is (kind_at w l) l c is_kind) (once_right l c) },
-  placed w t shape steady there w.sections Idle (Once l (once_first c)) idle (λ k. refl) _ (λ r e. once_begins_with l c r ∙ (λ i. new_call (sym (once_purpose_is (kind_at w l) l c is_kind) i) (e i))),
+  placed w t there w.sections Idle (Once l (once_first c)) idle (λ k. refl) _ (λ r e. once_begins_with l c r ∙ (λ i. new_call (sym (once_purpose_is (kind_at w l) l c is_kind) i) (e i))),
 )
   where
     idle : place_at w t ≡ Idle
@@ -639,11 +629,10 @@ begin_goes w t (call.TheVariants.Once l c) shape steady there can = (
     once_right l (once_call.CallOnce forced) = tt
     once_right l (once_call.Wait forced) = tt
 begin_goes w t (call.TheVariants.Condvar l c) shape steady there can =
-    let open_to = both (nat_lt l (length w.locks)) _ (both (is_idle (place_at w t)) (is_open_to w t (call.TheVariants.Condvar l c)) can).1 in
-    absurd (no_condvar_call (kind_at w l) l c (both (has_call (kind_at w l) (call.TheVariants.Condvar l c)) _ open_to.1).0)
+    condvar_begun w t l c (idle_is (place_at w t) (both (is_idle (place_at w t)) (is_open_to w t (call.TheVariants.Condvar l c)) can).0) there can
 begin_goes w t (call.TheVariants.Mutex l c) shape steady there can = (
   record { thread = there; idle = rw idle refl; lock = ltb-true l (length w.locks) open_to.0; right = rw (purpose_is (kind_at w l) l c is_kind) (right_held w t l (is_fair (kind_at w l)) c held.1) },
-  placed w t shape steady there w.sections Idle (Mutex l (mutex_first (is_fair (kind_at w l)) c)) idle (untaken_first w t l (is_fair (kind_at w l)) c) _
+  placed w t there w.sections Idle (Mutex l (mutex_first (is_fair (kind_at w l)) c)) idle (untaken_first w t l (is_fair (kind_at w l)) c) _
       (λ r e. begins_with w t l (is_fair (kind_at w l)) c r ∙ (λ i. new_call (sym (purpose_is (kind_at w l) l c is_kind) i) (e i))),
 )
   where
@@ -674,15 +663,8 @@ begin_refused w t (call.TheVariants.Once l c) cannot may = let idle : is_idle (p
     either : (b : Bool) → has_call (kind_at w l) (call.TheVariants.Once l c) ≡ b → is_idle (place_at w t) ≡ true → nat_lt l (length w.locks) ≡ true → ⊥
     either false e idle there = no_purpose (locks_of w) t (kind_at w l) (call.TheVariants.Once l c) e may.right
     either true e idle there = let open_now : can_begin w t (call.TheVariants.Once l c) ≡ true = rw (idle, there, e) refl in let f : true ≡ false = sym open_now ∙ cannot in cc
-begin_refused w t (call.TheVariants.Condvar l c) cannot may = by_kind (kind_at w l) may.right
-  where
-    by_kind : (k : Kind) → HasRight (locks_of w) t (purpose_of k (call.TheVariants.Condvar l c)) → ⊥
-    by_kind kind.TheVariants.Mutex right = right
-    by_kind kind.TheVariants.Fair right = right
-    by_kind (kind.TheVariants.RwLock limit) right = right
-    by_kind (kind.TheVariants.Recursive limit) right = right
-    by_kind kind.TheVariants.Condvar right = right
-    by_kind kind.TheVariants.Once right = right
+begin_refused w t (call.TheVariants.Condvar l c) cannot may =
+    let can : can_begin w t (call.TheVariants.Condvar l c) ≡ true = condvar_may w t l c (no_call_idle (place_at w t) (rights w t) may.idle) may in let f : true ≡ false = sym can ∙ cannot in cc
 begin_refused w t (call.TheVariants.Mutex l c) cannot may = let idle : is_idle (place_at w t) ≡ true = no_call_idle (place_at w t) (rights w t) may.idle in
     let there : nat_lt l (length w.locks) ≡ true = lt-ltb l (length w.locks) may.lock in either (has_call (kind_at w l) (call.TheVariants.Mutex l c)) refl idle there
   where

@@ -1,15 +1,9 @@
 -- What is promised of every state, and of every step, says of a mutex what its users know it by.
-use Rattle.std.proofs.Common.{ℕ, Bool, true, false, Option, Some, None, ◌≡◌, ◌⊎◌, ◌↔◌, inl, inr, refl, sym, ◌∙◌, ap, subst}
+use Rattle.std.proofs.Common.{ℕ, true, false, Option, Some, None, ◌≡◌, ◌⊎◌, inl, inr, refl, sym, ◌∙◌, ap, subst}
 use Rattle.lot_base.specs.declared.wants.Want.{Want}
 use Rattle.lot_base.specs.declared.wants.Want.TheVariants.{Exclusive, Upgradable, Shared}
 use Rattle.lot_calls.specs.declared.outcomes.Outcome.{Outcome}
 use Rattle.lot_mutex.specs.MutexSteps.{is_parked}
-use Rattle.lot_once.specs.declared.places.OncePlace.{OncePlace}
-use Rattle.lot_once.specs.declared.places.OncePlace.TheVariants.{Look, Run}
-use Rattle.lot_once.specs.OnceProfiles.{once_profile}
-use Rattle.lot_calls.specs.declared.calls.OnceCall.TheVariants as once_call
-use Rattle.lot_steps.specs.declared.places.Place.{Place}
-use Rattle.lot_steps.specs.declared.places.Place.TheVariants.{Idle, Mutex, RwLock, Once, Condvar}
 use Rattle.lot_steps.specs.Steps.{is_line, line_owed}
 use Rattle.abstract_locks.specs.Locks as locks
 use Rattle.abstract_locks.specs.Locks.{Knows, Sort}
@@ -17,39 +11,38 @@ use Rattle.abstract_locks.specs.Codes.{parked_in, aside_in, word_by}
 use Rattle.abstract_locks.specs.Sites.{Line, Main, Second, has_readers}
 use Rattle.abstract_locks.specs.Purposes.{Recall, Purpose, Enters, Releases, Converts, Bumps, CallsOnce, Awaits, Waits, Notifies}
 use Rattle.lot_machine.specs.Machine.{State, place_at, word_at, kind_at}
-use Rattle.lot_laws.specs.Refinement.{owner_at, lock_state, call_at, call_state}
+use Rattle.lot_laws.specs.Refinement.{owner_at, lock_state, call_at}
 use Rattle.lot_laws.specs.SitesOf.{is_mutex, rules_in}
-use Rattle.lot_laws.specs.Owing.{Owes, IsInside, ReleasesLock, LetsOthersIn, SeesWaiters, OwesSince, OnlyLooks, LooksFirst, line_let_in, tells_by, sort_at}
-use Rattle.lot_laws.specs.Promises.{KnowsRights, WakesWaiters, IsKept, IsLookedAfter, IsOpenNow, IsOfOne, CallsOneLock}
-use Rattle.lot_laws.specs.MutexPromises.{HasDebtor, IsShownToOwe, GoesToRelease, SeesParkedBit, IsMutexKept, MutexesAreKept, OwesMutexSince, MutexesOwe}
+use Rattle.lot_laws.specs.Owing.{Owes, IsInside, IsWait, ReleasesLock, LetsOthersIn, SeesWaiters, OwesSince, OnlyLooks, LooksFirst, line_let_in, tells_by, sort_at}
+use Rattle.lot_laws.specs.Promises.{KnowsRights, WakesAside, WakesWaiters, IsKept, IsLookedAfter, IsOpenNow}
+use Rattle.lot_laws.specs.MutexPromises.{HasDebtor, HasReleasedIt, IsShownToOwe, WakesOne, GoesToRelease, SeesParkedBit, IsMutexKept, MutexesAreKept, OwesMutexSince, MutexesOwe}
 use Rattle.lot_laws.proofs.MutexTable.{mutex}
 use Rattle.lot_laws.proofs.StandsMoved.{mutex_rules}
 use Rattle.lot_laws.proofs.RowPromises.{mutex_tells}
-use Rattle.lot_laws.proofs.SitesPromise.{IsNoOnce, codes_by, sets_nothing}
+use Rattle.lot_laws.proofs.SitesPromise.{codes_by}
 
 -- a mutex knows one right
 only_exclusive : (x : Want) → Knows locks.Mutex x → x ≡ Exclusive
 only_exclusive Exclusive h = refl
 only_exclusive x h = absurd h
 
--- whoever wakes the waiters of a mutex releases it
-releases : (sort : ℕ → Sort) (q : Option Purpose) (g : Option ℕ) (r : Recall) (l : ℕ) → sort l ≡ locks.Mutex → CallsOneLock q → KnowsRights sort q → WakesWaiters locks.Mutex q g r l → q ≡ Some (Releases l Exclusive false)
-releases sort None g r l e one knows h = absurd h
-releases sort (Some (Enters k x how)) g r l e one knows h = absurd (let f : false ≡ true = h.2 in cc)
-releases sort (Some (Releases k x fair)) g r l e one knows h = by_right x fair (only_exclusive x (subst (λ s. Knows s x) (ap sort h.0 ∙ e) knows)) h.1
+-- whoever wakes the waiters of a mutex releases it, waits with it, or notifies and has seen it
+wakes_one : (sort : ℕ → Sort) (q : Option Purpose) (g : Option ℕ) (r : Recall) (l : ℕ) → sort l ≡ locks.Mutex → KnowsRights sort q → WakesWaiters locks.Mutex q g r l → WakesOne q r l
+wakes_one sort None g r l e knows h = h
+wakes_one sort (Some (Enters k x how)) g r l e knows h = absurd (let f : false ≡ true = h.2 in cc)
+wakes_one sort (Some (Releases k x fair)) g r l e knows h = (h.0, right, elim h.1 [ inl unfair ↦ unfair | inr greater ↦ absurd (let f : Exclusive ≡ Upgradable = sym right ∙ greater in cc) ])
   where
-    by_right : (x : Want) (fair : Bool) → x ≡ Exclusive → (fair ≡ false) ⊎ (x ≡ Upgradable) → ◌≡◌ {A = Option Purpose} (Some (Releases k x fair)) (Some (Releases l Exclusive false))
-    by_right x fair is (inl unfair) = λ i. Some (Releases (h.0 i) (is i) (unfair i))
-    by_right x fair is (inr greater) = absurd (let f : Exclusive ≡ Upgradable = sym is ∙ greater in cc)
-releases sort (Some (Converts k x y how)) g r l e one knows h = absurd (elim h.1 [
+    right : x ≡ Exclusive
+    right = only_exclusive x (subst (λ s. Knows s x) (ap sort h.0 ∙ e) knows)
+wakes_one sort (Some (Converts k x y how)) g r l e knows h = absurd (elim h.1 [
   | inl less ↦ less (only_exclusive y (subst (λ s. Knows s y) (ap sort h.0 ∙ e) knows.1))
   | inr gave_up ↦ let f : false ≡ true = gave_up.1 in cc
 ])
-releases sort (Some (CallsOnce k forced)) g r l e one knows h = absurd (let f : locks.Once ≡ locks.Mutex = sym knows ∙ (ap sort h ∙ e) in cc)
-releases sort (Some (Awaits k forced)) g r l e one knows h = absurd h
-releases sort (Some (Waits k m timed)) g r l e one knows h = absurd one
-releases sort (Some (Notifies k all)) g r l e one knows h = absurd one
-releases sort (Some (Bumps k x)) g r l e one knows h = absurd (h.1 (only_exclusive x (subst (λ s. Knows s x) (ap sort h.0 ∙ e) knows)))
+wakes_one sort (Some (CallsOnce k forced)) g r l e knows h = absurd (let f : locks.Once ≡ locks.Mutex = sym knows ∙ (ap sort h ∙ e) in cc)
+wakes_one sort (Some (Awaits k forced)) g r l e knows h = h
+wakes_one sort (Some (Waits k m timed)) g r l e knows h = h
+wakes_one sort (Some (Notifies k all)) g r l e knows h = h
+wakes_one sort (Some (Bumps k x)) g r l e knows h = absurd (h.1 (only_exclusive x (subst (λ s. Knows s x) (ap sort h.0 ∙ e) knows)))
 
 -- the line that a call of a mutex lets in is its queue
 lets_in_main : (q : Option Purpose) → line_let_in locks.Mutex q ≡ Main
@@ -60,11 +53,6 @@ lets_in_main (Some (Bumps l Shared)) = refl
 lets_in_main (Some (Bumps l Exclusive)) = refl
 lets_in_main (Some (Bumps l x)) = refl
 lets_in_main q = refl
-
-known_once : (sort : ℕ → locks.Sort) (k : ℕ) (at : OncePlace) → KnowsRights sort (Some ((once_profile at).purpose k)) → sort k ≡ locks.Once
-known_once sort k (Look (once_call.CallOnce forced) again at) h = h
-known_once sort k (Look (once_call.Wait forced) again at) h = h
-known_once sort k (Run forced at) h = h
 
 module _ (w : State) (l : ℕ) (of_mutex : is_mutex (kind_at w l) ≡ true) where
   rules : rules_in w l ≡ mutex
@@ -86,7 +74,7 @@ module _ (w : State) (l : ℕ) (kept : IsKept w) (of_mutex : is_mutex (kind_at w
   looked_after k = record {
     debtor = k.debtor;
     debt = elim k.debt [
-      | inl owes ↦ inl (owes.0, releases (sort_at w) (call_at w k.debtor).purpose (call_at w k.debtor).gave_up (call_at w k.debtor).recalls l (sort w l of_mutex) (kept.calls_one k.debtor) (kept.known k.debtor) (subst (λ s. WakesWaiters s (call_at w k.debtor).purpose (call_at w k.debtor).gave_up (call_at w k.debtor).recalls l) (sort w l of_mutex) owes.1))
+      | inl owes ↦ inl (owes.0, wakes_one (sort_at w) (call_at w k.debtor).purpose (call_at w k.debtor).gave_up (call_at w k.debtor).recalls l (sort w l of_mutex) (kept.known k.debtor) (subst (λ s. WakesWaiters s (call_at w k.debtor).purpose (call_at w k.debtor).gave_up (call_at w k.debtor).recalls l) (sort w l of_mutex) owes.1))
       | inr again ↦ inr again.0
     ];
     awake = k.awake;
@@ -102,31 +90,27 @@ module _ (w : State) (l : ℕ) (kept : IsKept w) (of_mutex : is_mutex (kind_at w
       by_line (Some Main) e h = refl
       by_line (Some Second) e h = absurd (unshared w l of_mutex (kept.second_line t l e))
 
-  owing : (t : ℕ) → IsShownToOwe w t l ↔ (IsInside w t l Main ⊎ GoesToRelease w t l)
-  owing t = (
-    (λ h. elim ((kept.owing t l Main).0 (shown t h)) [ inl i ↦ inl i | inr g ↦ inr (g.0, elim g.1 [ inl lets ↦ only_releases w l of_mutex t lets | inr none ↦ absurd none ]) ]),
-    λ h. ap is_line ((kept.owing t l Main).1 (elim h [ inl i ↦ inl i | inr g ↦ inr (g.0, inl (inl g.1)) ])),
-  )
+  owing : (t : ℕ) → IsShownToOwe w t l → IsInside w t l Main ⊎ GoesToRelease w t l
+  owing t h = elim (kept.owing t l Main (shown t h)) [ inl i ↦ inl i | inr g ↦ inr (g.0, goes g.1) ]
+    where
+      goes : LetsOthersIn w t l ⊎ (WakesAside (call_at w t).purpose l Main ⊎ HasReleasedIt w t l) → ReleasesLock w t l ⊎ HasReleasedIt w t l
+      goes (inl lets) = inl (only_releases w l of_mutex t lets)
+      goes (inr (inl aside)) = absurd aside
+      goes (inr (inr released)) = inr released
 
-  -- nobody calls it as a `Once`
-  no_once : (t : ℕ) (p : Place) → place_at w t ≡ p → IsNoOnce l p
-  no_once t (Once k at) is = λ here.
-      let knows : KnowsRights (sort_at w) (call_state (Once k at) (λ j. locks.rights_of (lock_state w j) t)).purpose = subst (λ p. KnowsRights (sort_at w) (call_state p (λ j. locks.rights_of (lock_state w j) t)).purpose) is (kept.known t) in
-      let a : sort_at w k ≡ locks.Once = known_once (sort_at w) k at knows in
-      let b : sort_at w k ≡ locks.Mutex = ap (sort_at w) here ∙ ap (λ r. r.sort) (rules w l of_mutex) in cc
-  no_once t (Mutex k at) is = tt
-  no_once t (RwLock k a c) is = tt
-  no_once t (Condvar k at) is = subst IsOfOne is (kept.of_one t)
-  no_once t Idle is = tt
+  going_owes : (t : ℕ) → GoesToRelease w t l → IsShownToOwe w t l ⊎ IsWait (call_at w t).purpose
+  going_owes t g = elim (kept.going_owes t l Main (g.0, elim g.1 [ inl releases ↦ inl (inl releases) | inr released ↦ inr (inr released) ])) [ inl owes ↦ inl (ap is_line owes) | inr waits ↦ inr waits ]
 
   pub mutex_kept : IsMutexKept w l
   mutex_kept = record {
     coded = codes_by (owner_at w l) (is_parked (word_at w l)) (word_at w l) (kept.coded l ∙ ap (λ r. word_by r.sort r.limit (lock_state w l) (aside_in r.sort (word_at w l)) (parked_in r.sort (word_at w l))) (rules w l of_mutex));
     parked = λ t waits. elim (kept.parked t l waits) [
-      | inl set ↦ subst (λ r. parked_in r.sort (word_at w l) ≡ true) (rules w l of_mutex) set
-      | inr sets ↦ absurd (let none = sets_nothing (place_at w sets.0) l (no_once sets.0 (place_at w sets.0) refl) in let some = sets.1 in cc)
+      | inl set ↦ inl (subst (λ r. parked_in r.sort (word_at w l) ≡ true) (rules w l of_mutex) set)
+      | inr sets ↦ inr sets
     ];
     owing = owing;
+    inside_owes = λ t i. ap is_line (kept.inside_owes t l Main i);
+    going_owes = going_owes;
     nobody_forgotten = λ t waits free. looked_after (kept.nobody_forgotten.main t l waits (subst (λ r. IsOpenNow r (lock_state w l)) (sym (rules w l of_mutex)) (inl free)) (λ readers. absurd (unshared w l of_mutex readers)));
   }
 
@@ -136,8 +120,8 @@ mutexes_are_kept w l kept of_mutex = mutex_kept w l kept of_mutex
 -- ---------------------------------------------------------------- a step
 
 module _ (w v : State) (t l : ℕ) (o : Outcome) (since : OwesSince w t o v) (kept : IsKept v) (before : is_mutex (kind_at w l) ≡ true) (behind : is_mutex (kind_at v l) ≡ true) where
-  seen : SeesWaiters w t l Main o v → SeesParkedBit w t l o
-  seen s = (only_releases w l before t s.0, sym (mutex_tells (call_at w t).purpose Main (word_at w l)) ∙ subst (λ x. tells_by x (call_at w t).purpose Main (word_at w l) ≡ true) (sort w l before) s.2, s.3)
+  seen : SeesWaiters w t l Main o v → SeesParkedBit w t l o v
+  seen s = (only_releases w l before t s.0, sym (mutex_tells (call_at w t).purpose Main (word_at w l)) ∙ subst (λ x. tells_by x (call_at w t).purpose Main (word_at w l) ≡ true) (sort w l before) s.2, s.3, s.5)
 
   -- a mutex knows no right of which a bump would look first
   looks : OnlyLooks v t l → ⊥
@@ -154,13 +138,14 @@ module _ (w v : State) (t l : ℕ) (o : Outcome) (since : OwesSince w t o v) (ke
       by_purpose (Some (Releases j x fair)) knows k = k.2 (only_exclusive x (subst (λ s. Knows s x) (ap (sort_at v) k.0 ∙ sort v l behind) knows))
       by_purpose (Some (Bumps j x)) knows k = k.1 (only_exclusive x (subst (λ s. Knows s x) (ap (sort_at v) k.0 ∙ sort v l behind) knows))
 
-  sees : SeesParkedBit w t l o → SeesWaiters w t l Main o v
+  sees : SeesParkedBit w t l o v → SeesWaiters w t l Main o v
   sees s = (
     inl s.0,
     ap (λ x. line_let_in x (call_at w t).purpose) (sort w l before) ∙ lets_in_main (call_at w t).purpose,
     subst (λ x. tells_by x (call_at w t).purpose Main (word_at w l) ≡ true) (sym (sort w l before)) (mutex_tells (call_at w t).purpose Main (word_at w l) ∙ s.1),
     s.2,
-    λ k. absurd (looks k),
+    (λ k. absurd (looks k)),
+    s.3,
   )
 
   pub owes_since : OwesMutexSince w t l o v

@@ -24,13 +24,17 @@ use Rattle.lot_calls.specs.declared.calls.Step.{Step}
 use Rattle.lot_steps.specs.declared.places.Place.{Place}
 use Rattle.lot_calls.specs.Calls.{lock_in}
 use Rattle.lot_steps.specs.Steps.{act_of, lock_of, next_place, first_place, looking, late_key}
-use Rattle.lot_machine.specs.Machine.{state_after_hand_over_by, State, state_after_take, can_turn, unlocked, place_at, word_at, queue_at, section_at, put, state_after_operation, state_with_sections, queues_with_last, queues_without_first, state_after_taking, state_after_wake, state_after_act, state_after_look, state_after_late_on, go_reply, state_after_turn, is_possible, after, kind_at}
+use Rattle.lot_machine.specs.Machine.{state_after_hand_over_by, State, left_behind, state_after_requeue, state_after_take, can_turn, unlocked, place_at, word_at, queue_at, section_at, put, state_after_operation, state_with_sections, queues_with_last, queues_without_first, state_after_taking, state_after_wake, state_after_act, state_after_look, state_after_late_on, go_reply, state_after_turn, is_possible, after, kind_at}
 use Rattle.lot_laws.proofs.Looking.{looks_untouched}
 use Rattle.lot_machine.proofs.Shape.{both}
 use Rattle.std.specs.Prelude.{nat_lt, length}
 use Rattle.lot_laws.specs.Stations.{station}
-use Rattle.lot_laws.specs.SitesOf.{IsSteady}
-use Rattle.lot_laws.proofs.Glue.{IsOf, IsSingle, calls_none, fits_two, of_own, single_or_two}
+use Rattle.lot_laws.specs.SitesOf.{FitsItsLock, IsSteady}
+use Rattle.lot_laws.proofs.CondvarLines.{IsActOfTwo, condvar_lines, holds_key, left_at}
+use Rattle.lot_condvar.specs.declared.places.CondvarPlace.{CondvarPlace}
+use Rattle.lot_steps.specs.declared.places.Place.TheVariants.{Condvar}
+use Rattle.lot_base.specs.declared.requeues.Requeue.{Requeue}
+use Rattle.lot_laws.proofs.Glue.{IsOf, IsOfTwo, IsSingle, calls_none, fits_two, of_own, single_or_two}
 use Rattle.lot_laws.proofs.LineActs.{IsLineAct, line_act, holds_line, removed_at}
 use Rattle.lot_base.specs.declared.wants.Want.{Want}
 use Rattle.lot_base.specs.declared.wants.Waiter.{Waiter}
@@ -131,8 +135,33 @@ module _ (w : State) (t : ℕ) (steady : IsSteady w) (there : t < length w.place
   one_gone single (Some l) own = act_one l (of_own l (place_at w t) single own) (place_at w t) (act_of (place_at w t)) (line_act (place_at w t) l single own)
   one_gone single None none = subst (λ p. ChangesOneThing w t (state_after_act w t p (act_of p))) (sym (calls_none (place_at w t) none)) stays
 
+  -- in a call of a condition variable, by the sections that it is inside
+  module _ (c : ℕ) (at : CondvarPlace) (is : place_at w t ≡ Condvar c at) (fits : FitsItsLock w (Condvar c at)) where
+    requeued_one : (from to : ℕ) (how : Requeue) → section_at w from ≡ Some t → section_at w to ≡ Some t → ChangesOneThing w t (state_after_requeue w t from to how)
+    requeued_one from to how held_from held_to = inr ((λ k. refl), set_at to (set w.queues from (left_behind how (queue_at w from))) _ held_to (set_at from w.queues (left_behind how (queue_at w from)) held_from (λ k. inl refl)))
+
+    act_of_two : (p : Place) (a : Act) → IsActOfTwo c at a → ChangesOneThing w t (state_after_act w t p a)
+    act_of_two p (act.TheVariants.Word k f) h = word_one p k f
+    act_of_two p (act.TheVariants.HandOver k f) h = given_one p k f (takes_effect f (word_at w k))
+    act_of_two p (act.TheVariants.Enter keys) h = filled_one keys (Some t)
+    act_of_two p (act.TheVariants.Park k key check x) h = park_one key x (holds_key w t c at steady is fits key h.0) (left_at w t c at steady is fits key h.1 h.0) (holds check (word_at w k))
+    act_of_two p (act.TheVariants.Stand key x) h = park_one key x (holds_key w t c at steady is fits key h.0) (left_at w t c at steady is fits key h.1 h.0) true
+    act_of_two p (act.TheVariants.Take key x) h = take_one key (holds_key w t c at steady is fits key h) x
+    act_of_two p (act.TheVariants.Requeue from to how) h = requeued_one from to how (holds_key w t c at steady is fits from h.0) (holds_key w t c at steady is fits to h.1)
+    act_of_two p (act.TheVariants.Remove key) h = inr ((λ k. refl), left_at w t c at steady is fits key h.1 h.0)
+    act_of_two p (act.TheVariants.Leave keys x) h = left_one keys x
+    act_of_two p act.TheVariants.Rest h = stays
+    act_of_two p act.TheVariants.Sleep h = stays
+    act_of_two p act.TheVariants.Accept h = stays
+    act_of_two p (act.TheVariants.Closure state) h = stays
+    act_of_two p (act.TheVariants.End answer) h = stays
+
+  two_gone : (two : IsOfTwo (place_at w t)) → ChangesOneThing w t (state_after_act w t (place_at w t) (act_of (place_at w t)))
+  two_gone two = let fits = fits_two w t steady two in
+      act_of_two two.lock two.at two.is fits (place_at w t) (act_of (place_at w t)) (subst (λ p. IsActOfTwo two.lock two.at (act_of p)) (sym two.is) (condvar_lines two.lock two.at fits.reached))
+
   gone_one : (o : Option ℕ) → lock_of (place_at w t) ≡ o → ChangesOneThing w t (state_after_act w t (place_at w t) (act_of (place_at w t)))
-  gone_one o e = elim (single_or_two (place_at w t)) [ inl single ↦ one_gone single o e | inr two ↦ absurd (fits_two w t steady two).begun ]
+  gone_one o e = elim (single_or_two (place_at w t)) [ inl single ↦ one_gone single o e | inr two ↦ two_gone two ]
 
   spin_one : (o : Option Place) → looking (place_at w t) ≡ o → ChangesOneThing w t (state_after_look w t o)
   spin_one o is = same_one w (state_after_look w t o) t (spun_touches w t there o is)

@@ -11,6 +11,7 @@ use Rattle.lot_laws.proofs.Closures.{RunsOne, closes_one}
 use Rattle.std.proofs.lemmas.Bool.{ltb-true}
 use Rattle.lot_base.specs.declared.keys.Keys.TheVariants.{One}
 use Rattle.lot_calls.specs.declared.calls.Call.{Call}
+use Rattle.lot_calls.specs.declared.calls.Call as call
 use Rattle.lot_calls.specs.declared.calls.Turn.{Turn}
 use Rattle.lot_calls.specs.declared.calls.Turn as turn
 use Rattle.lot_calls.specs.declared.calls.Step.{Step}
@@ -21,26 +22,29 @@ use Rattle.lot_acts.specs.declared.acts.Reply.TheVariants.{Late}
 use Rattle.lot_steps.specs.declared.places.Place.{Place}
 use Rattle.lot_steps.specs.declared.places.Place.TheVariants.{Idle}
 use Rattle.lot_calls.specs.Calls.{lock_in}
-use Rattle.lot_steps.specs.Steps.{act_of, next_place, first_place, is_idle, looking, late_key, lock_of, line_owed, profile, next_act}
-use Rattle.lot_machine.specs.Machine.{State, place_at, word_at, state_after_go, go_reply, go_outcome, is_free_under, is_open_to, can_begin, state_after_begin, can_turn, turn_outcome, kind_at, put, state_after_look, look_outcome, state_after_late_on, state_after_turn, is_possible, after, step_outcome}
+use Rattle.lot_condvar.specs.CondvarSteps.{condvar_first}
+use Rattle.lot_steps.specs.Steps.{act_of, condvar_goes, next_place, first_place, is_idle, looking, late_key, lock_of, line_owed, profile, next_act}
+use Rattle.lot_machine.specs.Machine.{State, place_at, word_at, state_after_go, state_after_going, go_reply, go_outcome, going_outcome, is_free_under, is_open_to, can_begin, state_after_begin, can_turn, turn_outcome, kind_at, put, state_after_look, look_outcome, state_after_late_on, state_after_turn, is_possible, after, step_outcome}
 use Rattle.lot_laws.proofs.Befallen.{others_keep_it}
 use Rattle.abstract_locks.specs.Locks.{Rights}
-use Rattle.lot_laws.specs.Owing.{Owes, IsInside, SeesWaiters, OwesSince, OnlyLooks, LooksFirst, LetsOthersIn, line_let_in, sort_at, tells_by}
+use Rattle.lot_laws.specs.Owing.{Owes, IsInside, IsWait, SeesWaiters, OwesSince, OnlyLooks, LooksFirst, LetsOthersIn, line_let_in, sort_at, tells_by}
 use Rattle.lot_machine.specs.Fits.{IsShaped}
+use Rattle.lot_laws.specs.Refinement.{call_at, call_state}
 use Rattle.abstract_locks.specs.Sites.{Line}
 use Rattle.lot_laws.specs.SitesOf.{AreCondvars, AreCounted, IsSteady, key_of}
 use Rattle.lot_machine.proofs.Shape.{both}
 use Rattle.lot_laws.proofs.TurnsKept.{idle_is, after_steady}
 use Rattle.lot_laws.proofs.SingleCalls.{call_none}
-use Rattle.lot_laws.proofs.Glue.{IsLock, IsSingle, next_of, calls_none, singles, of_lock_of, of_own}
+use Rattle.lot_laws.proofs.CondvarOwes.{SeesBy, calm_owing, first_calm, two_goes_late, went_owing}
+use Rattle.lot_laws.proofs.Glue.{IsLock, IsSingle, next_of, next_single, calls_none, of_lock_of, of_own, single_or_two}
 use Rattle.lot_laws.proofs.Looking.{looking_steady, calls_same}
 use Rattle.lot_laws.proofs.CallEvents.{rights as rights_at}
 use Rattle.lot_acts.specs.Profiles.{Profile}
 use Rattle.lot_acts.specs.Calls.{call_by}
 use Rattle.abstract_locks.specs.Runs.{CallState, no_call}
-use Rattle.abstract_locks.specs.Purposes.{lock_for}
+use Rattle.abstract_locks.specs.Purposes.{Purpose, Waits, lock_for}
 use Rattle.lot_laws.proofs.RowPromises.{RowFinds, RowLooks, releases_for, downgrades_for}
-use Rattle.lot_laws.proofs.PlacePromises.{LetsBy, row_promises, row_calls_one, owing_is, owes_own, owed_own, inside_own, call_own, lets_in, lets_out}
+use Rattle.lot_laws.proofs.PlacePromises.{LetsBy, row_promises, row_calls_one, calls_one_lock, owing_is, owes_own, owed_own, inside_own, call_own, lets_in, lets_out}
 use Rattle.lot_laws.proofs.LineActs.{late_line}
 use Rattle.lot_laws.proofs.PlaceSteps.{owes_befallen, owes_next, first_owes, late_next}
 
@@ -50,12 +54,6 @@ others_owe : (w : State) (s : Step) (u k : ℕ) → u ≢ s.thread → line_owed
 others_owe w s u k ne = others_keep_it (λ p. line_owed p k) (λ p r b. owes_befallen p r b k) w s u ne
 
 -- ---------------------------------------------------------------- the thread of the step
-
--- it sees waiters, by its call
-abbrev SeesBy : State → ℕ → ℕ → Line → Outcome → State → CallState → Type 0
-SeesBy w t l m o v c =
-    LetsBy w t l c × (line_let_in (sort_at w l) c.purpose ≡ m) × (tells_by (sort_at w l) c.purpose m (word_at w l) ≡ true) × (o ≡ outcome.TheVariants.Step)
-    × (OnlyLooks v t l → act_of (place_at v t) ≡ Enter (One (key_of l m)))
 
 -- a thread that is in no call lets nobody in
 idle_shut : (w : State) (t l : ℕ) → lock_of (place_at w t) ≡ None → LetsOthersIn w t l → ⊥
@@ -81,6 +79,12 @@ lets_own w t l steady single lets = by_lock (lock_of (place_at w t)) refl
     by_lock None e = absurd (idle_shut w t l e lets)
     by_lock (Some k) e = ap Some (by_row k (profile (place_at w t)) (rights_at w t) (row_promises w t steady k single e).own (row_calls_one w t steady k single e) (subst (LetsBy w t l) (call_own w t steady k single e) lets))
 
+-- a call of one lock waits on no condition variable
+waits_not : (q : Option Purpose) → CallsOneLock q → IsWait q → ⊥
+waits_not None one waits = waits
+waits_not (Some (Waits k n timed)) one waits = one
+waits_not (Some q) one waits = waits
+
 module _ (w v : State) (t : ℕ) (steady : IsSteady w) (behind : IsSteady v) (single : IsSingle (place_at w t)) (single_then : IsSingle (place_at v t)) where
   -- what it sees, by its row
   sees_row : (l : ℕ) (m : Line) (o : Outcome) (own : lock_of (place_at w t) ≡ Some l) → SeesWaiters w t l m o v → RowFinds (sort_at w l) l (word_at w l) (profile (place_at w t)) m
@@ -97,7 +101,8 @@ module _ (w v : State) (t : ℕ) (steady : IsSteady w) (behind : IsSteady v) (si
     ap (λ (c : CallState). line_let_in (sort_at w l) c.purpose) (call_own w t steady l single own) ∙ s.1,
     ap (λ (c : CallState). tells_by (sort_at w l) c.purpose m (word_at w l)) (call_own w t steady l single own) ∙ s.2,
     step,
-    λ looks. enters,
+    (λ looks. enters),
+    λ waits. absurd (waits_not (call_at w t).purpose (calls_one_lock w t steady single) waits),
   )
 
   -- where it goes on to a place of its lock, or ends
@@ -131,7 +136,7 @@ module _ (w v : State) (t : ℕ) (steady : IsSteady w) (behind : IsSteady v) (si
           let own = own_before (ap lock_of (sym at_q) ∙ owes_own (place_at v t) l m single_then h) (lock_of (place_at w t)) refl in
           elim ((owing_is v t behind single_then l m).0 h) [
             | inl i ↦ inl i
-            | inr g ↦ elim ((owes_next w t l steady own).since m (row_then q at_q l m o h)) [
+            | inr g ↦ elim ((owes_next w t l steady single own).since m (row_then q at_q l m o h)) [
               | inl i ↦ inl (within_then q at_q l m o h i)
               | inr s ↦ inr (row_sees l m o own s.0 s.1 g.0)
             ]
@@ -140,7 +145,7 @@ module _ (w v : State) (t : ℕ) (steady : IsSteady w) (behind : IsSteady v) (si
       saw : SeesWaiters w t l m o v → Owes v t l m
       saw s =
           let own = lets_own w t l steady single s.0 in
-          let owes = (owes_next w t l steady own).sees m (sees_row l m o own s) s.3 (λ looks. ap act_of (sym at_q) ∙ s.4 (looks_then own (lock_of q) refl looks)) in
+          let owes = (owes_next w t l steady single own).sees m (sees_row l m o own s) s.3 (λ looks. ap act_of (sym at_q) ∙ s.4 (looks_then own (lock_of q) refl looks)) in
           owed_own (place_at v t) l (ap lock_of at_q ∙ still (lock_of q) refl owes own) single_then ∙ ap (λ p. (profile p).owes) at_q ∙ owes
         where
           same_lock : (j : ℕ) → lock_of q ≡ Some j → lock_of (place_at w t) ≡ Some l → j ≡ l
@@ -164,28 +169,61 @@ module _ (w v : State) (t : ℕ) (steady : IsSteady w) (behind : IsSteady v) (si
     λ h. elim h [ inl i ↦ inside_then q at_q l m o i | inr s ↦ absurd (shut l s.0) ],
   )
 
+-- a thread goes on, in a call of one lock or of two
 gone_owes : (w : State) (t : ℕ) (steady : IsSteady w) (there : t < length w.places) → IsSteady (state_after_go w t) → (l : ℕ) (m : Line)
     → Owes (state_after_go w t) t l m ↔ (IsInside (state_after_go w t) t l m ⊎ SeesWaiters w t l m (go_outcome w t) (state_after_go w t))
-gone_owes w t steady there behind l m = let v = state_after_go w t in
-    subst (λ o. Owes v t l m ↔ (IsInside v t l m ⊎ SeesWaiters w t l m o v)) (sym (gone_told w t steady)) (go_owes w v t steady behind (singles w steady t) (singles v behind t) (gone_place w t steady there) l m)
+gone_owes w t steady there behind l m = elim (single_or_two (place_at w t)) [
+  | inl single ↦ (
+      let v = state_after_go w t in
+      let at_q : place_at v t ≡ next_place (place_at w t) (go_reply w t) = gone_place w t single there in
+      subst (λ o. Owes v t l m ↔ (IsInside v t l m ⊎ SeesWaiters w t l m o v)) (sym (gone_told w t single))
+      (go_owes w v t steady behind single (subst IsSingle (sym at_q) (next_single (place_at w t) (go_reply w t) single)) at_q l m)
+      )
+  | inr two ↦ subst (λ p. Owes (state_after_going w t p) t l m ↔ (IsInside (state_after_going w t p) t l m ⊎ SeesWaiters w t l m (going_outcome w t p) (state_after_going w t p))) (sym two.is)
+      (went_owing w t two.lock two.at steady two.is there (subst (λ p. IsSteady (state_after_going w t p)) two.is behind) l m)
+]
 
 module _ (w : State) (t : ℕ) (shape : IsShaped w) (steady : IsSteady w) (there : t < length w.places) where
+  -- a call begins, of one lock or of two
   begun_owing : (c : Call) → can_begin w t c ≡ true → IsSteady (state_after_begin w t c) → (l : ℕ) (m : Line) (o : Outcome) → Owes (state_after_begin w t c) t l m ↔ (IsInside (state_after_begin w t c) t l m ⊎ SeesWaiters w t l m o (state_after_begin w t c))
-  begun_owing c can behind = quiet_owes w (state_after_begin w t c) t steady behind (singles w steady t) (singles (state_after_begin w t c) behind t) (first_place (kind_at w (lock_in c)) c) (get_or-set_same w.places t (first_place (kind_at w (lock_in c)) c) Idle there)
-      (λ m h. absurd (let e : ◌≡◌ {A = Option Line} None (Some m) = sym (first_owes (kind_at w (lock_in c)) c) ∙ h in cc))
-      (λ l lets. idle_shut w t l (ap lock_of (idle_is (place_at w t) (both (is_idle (place_at w t)) (is_open_to w t c) can).0)) lets)
+  begun_owing c can behind = by_call c here behind
+    where
+      at_rest : place_at w t ≡ Idle
+      at_rest = idle_is (place_at w t) (both (is_idle (place_at w t)) (is_open_to w t c) can).0
+
+      shut : (l : ℕ) → LetsOthersIn w t l → ⊥
+      shut l lets = idle_shut w t l (ap lock_of at_rest) lets
+
+      here : place_at (state_after_begin w t c) t ≡ first_place (kind_at w (lock_in c)) c
+      here = get_or-set_same w.places t (first_place (kind_at w (lock_in c)) c) Idle there
+
+      by_call : (d : Call) → place_at (state_after_begin w t d) t ≡ first_place (kind_at w (lock_in d)) d → IsSteady (state_after_begin w t d) → (l : ℕ) (m : Line) (o : Outcome)
+          → Owes (state_after_begin w t d) t l m ↔ (IsInside (state_after_begin w t d) t l m ⊎ SeesWaiters w t l m o (state_after_begin w t d))
+      by_call (call.TheVariants.Condvar k d) is after = calm_owing w (state_after_begin w t (call.TheVariants.Condvar k d)) t k (condvar_first d) after is (first_calm d) shut
+      by_call d is after = quiet_owes w (state_after_begin w t d) t steady after (subst IsSingle (sym at_rest) tt) (subst IsSingle (sym is) tt) (first_place (kind_at w (lock_in d)) d) is
+          (λ m h. absurd (let e : ◌≡◌ {A = Option Line} None (Some m) = sym (first_owes (kind_at w (lock_in d)) d) ∙ h in cc)) shut
 
   -- who enters the section of the line where it slept
   late_owing : (o : Option ℕ) → late_key (place_at w t) ≡ o → is_free_under w o ≡ true → IsSteady (state_after_late_on w t o) → (l : ℕ) (m : Line) (told : Outcome) → Owes (state_after_late_on w t o) t l m ↔ (IsInside (state_after_late_on w t o) t l m ⊎ SeesWaiters w t l m told (state_after_late_on w t o))
   late_owing None e can behind = absurd cc
-  late_owing (Some key) e can behind =
-      let single = singles w steady t in
-      let of = late_line (place_at w t) key single e in
-      let n : Line = of.2.0 in
-      let after = late_next (place_at w t) n single of.2.1 in
-      quiet_owes w (state_after_late_on w t (Some key)) t steady behind single (singles (state_after_late_on w t (Some key)) behind t) (next_place (place_at w t) Late) (get_or-set_same w.places t (next_place (place_at w t) Late) Idle there)
-      (λ m h. after.inside ∙ sym after.owes ∙ h)
-      (λ l lets. let own = lets_own w t l steady single lets in ((row_promises w t steady l single own).late n of.2.1).shut (lets_in w t steady l single own lets))
+  late_owing (Some key) e can behind = elim (single_or_two (place_at w t)) [
+    | inl single ↦ (
+        let of = late_line (place_at w t) key single e in
+        let n : Line = of.2.0 in
+        let after = late_next (place_at w t) n single of.2.1 in
+        quiet_owes w (state_after_late_on w t (Some key)) t steady behind single (subst IsSingle (sym here) (next_single (place_at w t) Late single)) (next_place (place_at w t) Late) here
+        (λ m h. after.inside ∙ sym after.owes ∙ h)
+        (λ l lets. let own = lets_own w t l steady single lets in ((row_promises w t steady l single own).late n of.2.1).shut (lets_in w t steady l single own lets))
+        )
+    | inr two ↦ (
+        let late = two_goes_late two.lock two.at key (ap late_key (sym two.is) ∙ e) in
+        calm_owing w (state_after_late_on w t (Some key)) t two.lock late.next behind (here ∙ ap (λ p. next_place p Late) two.is ∙ ap (condvar_goes two.lock) late.goes) late.calm
+        (λ l lets. late.shut w t l (rights_at w t) (subst (λ p. LetsBy w t l (call_state p (rights_at w t))) two.is lets))
+        )
+  ]
+    where
+      here : place_at (state_after_late_on w t (Some key)) t ≡ next_place (place_at w t) Late
+      here = get_or-set_same w.places t (next_place (place_at w t) Late) Idle there
 
   -- it looks at the word once more, and is in its call as before
   spun_owing : (o : Option Place) → looking (place_at w t) ≡ o → is_some o ≡ true → IsSteady (state_after_look w t o) → (l : ℕ) (m : Line)

@@ -12,7 +12,7 @@ use Rattle.lot_steps.specs.Steps.{act_of, lock_of, is_lock, calls, profile, line
 use Rattle.abstract_locks.specs.Locks.{Taken, IsSomePending, one_if_some, is_thread, standing}
 use Rattle.abstract_locks.specs.Locks as locks
 use Rattle.abstract_locks.specs.Runs.{CallState}
-use Rattle.abstract_locks.specs.Purposes.{IsReleasing}
+use Rattle.abstract_locks.specs.Purposes.{Purpose, IsReleasing, Waits}
 use Rattle.std.proofs.lemmas.Bool.{cases_eq}
 use Rattle.abstract_locks.specs.Sites.{Doing, Line, Main, Second, Pends, idle, has_readers}
 use Rattle.lot_machine.specs.Machine.{State, place_at, kind_at, queue_at}
@@ -20,7 +20,7 @@ use Rattle.lot_laws.specs.Refinement.{lock_state, call_on, call_at, taken_at}
 use Rattle.lot_laws.specs.Stations.{Station, nowhere, station, station_at, doing_on, station_by}
 use Rattle.lot_laws.specs.SitesOf.{IsSteady, FitsItsLock, key_of, stood_in, rules_in}
 use Rattle.lot_laws.specs.Owing.{Owes, IsInside, LetsOthersIn, IsDowngrade, sort_at}
-use Rattle.lot_laws.specs.Promises.{CallsOneLock, GoesToWake, WakesAside}
+use Rattle.lot_laws.specs.Promises.{CallsOneLock, GoesToWake, HasReleased, WakesAside}
 use Rattle.lot_laws.proofs.Counts.{none_first, first_out}
 use Rattle.lot_laws.proofs.SingleCalls.{call_here, call_none}
 use Rattle.lot_laws.proofs.CondvarPromises.{StandsAt, two_stand_main}
@@ -102,6 +102,12 @@ abbrev pub LetsBy : State → ℕ → ℕ → CallState → Type 0
 LetsBy w t l c =
     IsReleasing c.purpose c.released l
     ⊎ ((has_readers (sort_at w l) ≡ true) × (IsDowngrade c.purpose l ⊎ ((c.gave_up ≡ Some l) × ((m : Line) → IsInside w t l m → ⊥))))
+
+-- a call of one lock is no wait that has released its mutex
+pub not_released : (q : Option Purpose) → CallsOneLock q → (released : Bool) (l : ℕ) (m : Line) → HasReleased q released l m → ⊥
+not_released None one released l m h = h
+not_released (Some (Waits k n timed)) one released l m h = one
+not_released (Some q) one released l m h = h
 
 -- ---------------------------------------------------------------- each place
 
@@ -320,11 +326,13 @@ module _ (w : State) (t : ℕ) (steady : IsSteady w) where
     ])
 
     -- on its way into the section of a line
-    lets_in_at : (m : Line) → LetsOthersIn w t l ⊎ WakesAside (call_at w t).purpose l m → LetsInAt (sort_at w l) l (profile (place_at w t)) m
-    lets_in_at m h = elim h [ inl lets ↦ inl (lets_in lets) | inr wakes ↦ inr (subst (λ (c : CallState). WakesAside c.purpose l m) call_own wakes) ]
+    lets_in_at : (m : Line) → LetsOthersIn w t l ⊎ (WakesAside (call_at w t).purpose l m ⊎ HasReleased (call_at w t).purpose (call_at w t).released l m) → LetsInAt (sort_at w l) l (profile (place_at w t)) m
+    lets_in_at m (inl lets) = inl (lets_in lets)
+    lets_in_at m (inr (inl wakes)) = inr (subst (λ (c : CallState). WakesAside c.purpose l m) call_own wakes)
+    lets_in_at m (inr (inr released)) = absurd (not_released (call_at w t).purpose (calls_one_lock single) (call_at w t).released l m released)
 
-    lets_out_at : (m : Line) → LetsInAt (sort_at w l) l (profile (place_at w t)) m → LetsOthersIn w t l ⊎ WakesAside (call_at w t).purpose l m
-    lets_out_at m h = elim h [ inl lets ↦ inl (lets_out lets) | inr wakes ↦ inr (subst (λ (c : CallState). WakesAside c.purpose l m) (sym call_own) wakes) ]
+    lets_out_at : (m : Line) → LetsInAt (sort_at w l) l (profile (place_at w t)) m → LetsOthersIn w t l ⊎ (WakesAside (call_at w t).purpose l m ⊎ HasReleased (call_at w t).purpose (call_at w t).released l m)
+    lets_out_at m h = elim h [ inl lets ↦ inl (lets_out lets) | inr wakes ↦ inr (inl (subst (λ (c : CallState). WakesAside c.purpose l m) (sym call_own) wakes)) ]
 
   -- who owes a wake on a line is inside its section, or lets others in and is on its way into it
   pub owing_is : IsSingle (place_at w t) → (l : ℕ) (m : Line) → Owes w t l m ↔ (IsInside w t l m ⊎ GoesToWake w t l m)

@@ -77,9 +77,9 @@ call_owes w t k a c admits stands alone = leads (call_next a c (reply_to w t (ca
     leads (next.At d) h = h
     leads (next.End answer) h = record { since = h.since; sees = λ m s step looks. absurd cc }
 
--- the reply to its act leads a thread on
-pub owes_next : (w : State) (t l : ℕ) → IsSteady w → lock_of (place_at w t) ≡ Some l → OwesAt w t (sort_at w l) l (place_at w t)
-owes_next w t l steady own = by_place (place_at w t) refl own
+-- the reply to its act leads a thread on, in a call of one lock
+pub owes_next : (w : State) (t l : ℕ) → IsSteady w → IsSingle (place_at w t) → lock_of (place_at w t) ≡ Some l → OwesAt w t (sort_at w l) l (place_at w t)
+owes_next w t l steady single own = by_place (place_at w t) refl own
   where
     -- an exclusive owner knows the word but for those who wait
     alone : (k : ℕ) (a : Admission) (c : RwLockCallPlace) → place_at w t ≡ RwLock k a c → has_readers (rules_in w k).sort ≡ true
@@ -95,7 +95,7 @@ owes_next w t l steady own = by_place (place_at w t) refl own
         let here : k ≡ l = cc in
         let admitted : (rules_in w k).sort ≡ locks.Once = subst (FitsItsLock w) is (steady.stands.calls t) in
         subst (λ j. OwesAt w t (sort_at w j) j (Once k at)) here (subst (λ s. OwesAt w t s k (Once k at)) (sym admitted) (once_owes_next w t k at))
-    by_place (Condvar k at) is own = absurd (subst (FitsItsLock w) is (steady.stands.calls t)).begun
+    by_place (Condvar k at) is own = absurd (subst IsSingle is single)
     by_place (Mutex k at) is own =
         let here : k ≡ l = cc in
         let admitted : FitsItsLock w (Mutex k at) = rw is at (steady.stands.calls t) in

@@ -1,6 +1,6 @@
 -- A turn is possible exactly where the abstract locks and the call say so, and a thread is told that it sleeps where it does.
 use Rattle.lot_calls.specs.declared.calls.CondvarCall.TheVariants as condvar
-use Rattle.std.proofs.Common.{is_some, subst, ℕ, Bool, true, false, Option, Some, None, if◌then◌else◌, ◌&&◌, ◌≡◌, ◌≢◌, ◌+◌, ◌*◌, ◌≤◌, ◌<◌, ◌↔◌, ◌⊎◌, inl, inr, List, length, is_none, refl, sym, ◌∙◌, ap, arith, get_or-set_other, get_or-set_same}
+use Rattle.std.proofs.Common.{is_some, subst, ℕ, Bool, true, false, Option, Some, None, if◌then◌else◌, ◌&&◌, ◌≡◌, ◌≢◌, ◌+◌, ◌*◌, ◌≤◌, ◌<◌, ◌↔◌, ◌⊎◌, inl, inr, List, length, is_none, refl, sym, ◌∙◌, ap, arith, get_or-set_other, get_or-set_same, length-set, set}
 use Rattle.lot_laws.proofs.OnceOwing.{once_never_late}
 use Rattle.lot_once.specs.OnceProfiles.{once_profile}
 use Rattle.abstract_locks.specs.Runs.{is_closure}
@@ -31,7 +31,7 @@ use Rattle.lot_mutex.specs.declared.places.MutexPlace.{MutexPlace}
 use Rattle.lot_once.specs.declared.places.OncePlace.{OncePlace}
 use Rattle.lot_once.specs.OnceSteps.{once_act, once_next}
 use Rattle.lot_condvar.specs.declared.places.CondvarPlace.{CondvarPlace}
-use Rattle.lot_condvar.specs.CondvarSteps.{condvar_next, condvar_act}
+use Rattle.lot_condvar.specs.CondvarSteps.{condvar_next, condvar_act, mutex_beside}
 use Rattle.lot_steps.specs.declared.places.Place.{Place}
 use Rattle.lot_steps.specs.declared.places.Place.TheVariants.{Idle, Mutex, RwLock, Once, Condvar}
 use Rattle.lot_acts.specs.declared.acts.Wakes.{Wakes}
@@ -51,6 +51,8 @@ use Rattle.lot_laws.specs.Refinement.{lock_state, locks_of, call_state, sleeps, 
 use Rattle.lot_laws.proofs.SingleCalls.{call_none}
 use Rattle.lot_laws.proofs.Glue.{IsOf, of_own, IsOfTwo, IsSingle, fits_two, calls_none, condvar_apart, single_late, single_or_two}
 use Rattle.lot_laws.proofs.CondvarLate.{IsLate, condvar_acts, two_late, two_may_late}
+use Rattle.lot_laws.proofs.CondvarLines.{IsActOfTwo, IsItsKey, condvar_lines, holds_key, inside_its}
+use Rattle.lot_condvar.specs.declared.places.CondvarPlace.TheVariants.{Wait, Look, Notify}
 use Rattle.lot_laws.proofs.LineActs.{IsOfLine, IsLineAct, line_act, holds_line, key_there, late_line, calls_there}
 use Rattle.lot_laws.proofs.GoneKept.{none_is}
 use Rattle.lot_machine.specs.Machine.{runs_closure}
@@ -355,6 +357,12 @@ module _ (w : State) (t : ℕ) where
     | inr ne ↦ inl (get_or-set_other w.sections k key who None ne)
   ]
 
+  filled_both : (j k : ℕ) (who : Option ℕ) → j < length w.sections → k < length w.sections → SectionChanges (section_at w j) t who → SectionChanges (section_at w k) t who → (key : ℕ) → SectionChanges (section_at w key) t (section_at (state_with_sections w (Two j k) who) key)
+  filled_both j k who there here first second key = elim (cases_eq key k) [
+    | inl e ↦ rw (e, get_or-set_same (set w.sections j who) k who None (rw (length-set w.sections j who) here)) second
+    | inr ne ↦ rw (get_or-set_other (set w.sections j who) k key who None ne) (filled_changes j who there first key)
+  ]
+
   parked_sections : (b : Bool) (queues : List (List Waiter)) (key : ℕ) → section_at (if b then record w { queues = queues } else w) key ≡ section_at w key
   parked_sections true queues key = refl
   parked_sections false queues key = refl
@@ -393,12 +401,40 @@ module _ (w : State) (t : ℕ) where
     act_sections p Rest can h key = inl refl
     act_sections p a can h key = inl refl
 
+  module _ (shape : IsShaped w) (steady : IsSteady w) (c : ℕ) (at : CondvarPlace) (is : place_at w t ≡ Condvar c at) (fits : FitsItsLock w (Condvar c at)) where
+    key_is : (key : ℕ) → IsItsKey c at key → key < length w.sections
+    key_is key (inl h) = subst (λ k. k < length w.sections) (sym h) (key_there w c Main shape (subst (PlaceFits (length w.locks)) is (shape.places t)).0)
+    key_is key (inr h) = subst (λ k. k < length w.sections) (sym h.2) (key_there w h.0 Main shape (beside_there at h.1 (subst (PlaceFits (length w.locks)) is (shape.places t))))
+      where
+        beside_there : (p : CondvarPlace) → mutex_beside p ≡ Some h.0 → PlaceFits (length w.locks) (Condvar c p) → h.0 < length w.locks
+        beside_there (Wait m timed q) e held = let here : m ≡ h.0 = cc in subst (λ k. k < length w.locks) here held.1
+        beside_there (Notify all m q) e held = let here : m ≡ h.0 = cc in subst (λ k. k < length w.locks) here held.1
+        beside_there (Look all) e held = absurd cc
+
+    -- it enters sections that are free, and leaves those that it is inside
+    two_sections : (p : Place) (a : Act) → can_do w a ≡ true → IsActOfTwo c at a → (key : ℕ) → SectionChanges (section_at w key) t (section_at (state_after_act w t p a) key)
+    two_sections p (Enter (One k)) can h key = filled_changes k (Some t) (key_is k h) (inr (inl (none_is (section_at w k) can, refl))) key
+    two_sections p (Enter (Two first second)) can h key = let free = (can_is w (Enter (Two first second)) can).2 in
+        filled_both first second (Some t) (key_is first h.0) (key_is second h.1) (inr (inl (free.0, refl))) (inr (inl (free.1, refl))) key
+    two_sections p (act.Leave (One k) x) can h key = rw (left_sections (One k) x key) (filled_changes k None (key_is k (inside_its c at k h)) (inr (inr (holds_key w t c at steady is fits k h, refl))) key)
+    two_sections p (act.Leave (Two first second) x) can h key = rw (left_sections (Two first second) x key)
+        (filled_both first second None (key_is first (inside_its c at first h.0)) (key_is second (inside_its c at second h.1)) (inr (inr (holds_key w t c at steady is fits first h.0, refl))) (inr (inr (holds_key w t c at steady is fits second h.1, refl))) key)
+    two_sections p (Park k key_there check x) can h key = inl (parked_sections (holds check (word_at w k)) _ key)
+    two_sections p (Take k x) can h key = inl (took_all k x key)
+    two_sections p (act.HandOver k op) can h key = inl (given_sections p k op (takes_effect op (word_at w k)) key)
+    two_sections p Rest can h key = inl refl
+    two_sections p a can h key = inl refl
+
 pub gone_sections : (w : State) (t : ℕ) → IsShaped w → IsSteady w → can_go w t ≡ true → (key : ℕ) → SectionChanges (section_at w key) t (section_at (state_after_go w t) key)
-gone_sections w t shape steady can = elim (single_or_two (place_at w t)) [ inl single ↦ by_lock single (lock_of (place_at w t)) refl | inr two ↦ absurd (fits_two w t steady two).begun ]
+gone_sections w t shape steady can = elim (single_or_two (place_at w t)) [ inl single ↦ by_lock single (lock_of (place_at w t)) refl | inr two ↦ by_two two ]
   where
     by_lock : IsSingle (place_at w t) → (o : Option ℕ) → lock_of (place_at w t) ≡ o → (key : ℕ) → SectionChanges (section_at w key) t (section_at (state_after_act w t (place_at w t) (act_of (place_at w t))) key)
     by_lock single (Some l) own key = act_sections w t shape steady l (of_own l (place_at w t) single own) (calls_there (length w.locks) (place_at w t) l own (shape.places t)) (place_at w t) (act_of (place_at w t)) can (line_act (place_at w t) l single own) key
     by_lock single None none key = absurd (let e : can_do w (act_of (place_at w t)) ≡ false = ap (λ p. can_do w (act_of p)) (calls_none (place_at w t) none) in cc)
+
+    by_two : (two : IsOfTwo (place_at w t)) → (key : ℕ) → SectionChanges (section_at w key) t (section_at (state_after_act w t (place_at w t) (act_of (place_at w t))) key)
+    by_two two key = let fits = fits_two w t steady two in
+        two_sections w t shape steady two.lock two.at two.is fits (place_at w t) (act_of (place_at w t)) can (subst (λ p. IsActOfTwo two.lock two.at (act_of p)) (sym two.is) (condvar_lines two.lock two.at fits.reached)) key
 
 -- ---------------------------------------------------------------- the other turns
 

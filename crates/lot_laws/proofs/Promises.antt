@@ -8,27 +8,27 @@ use Rattle.lot_calls.specs.declared.kinds.Kind.{Kind}
 use Rattle.lot_calls.specs.declared.kinds.Kind as kinds
 use Rattle.lot_calls.specs.declared.calls.Step.{Step}
 use Rattle.lot_steps.specs.declared.places.Place.{Place}
-use Rattle.lot_steps.specs.declared.places.Place.TheVariants.{Idle, Mutex, RwLock, Once, Condvar}
+use Rattle.lot_steps.specs.declared.places.Place.TheVariants.{Condvar}
 use Rattle.lot_steps.specs.Steps.{act_of, calls, is_lock, lock_of, or_else, profile, retries_on, taker}
 use Rattle.lot_machine.specs.Machine.{State, opening, place_at, after, kind_at, filled_at, section_at}
 use Rattle.lot_machine.specs.Fits.{IsShaped}
 use Rattle.lot_laws.specs.Stations.{Station, station_at, doing_on}
 use Rattle.lot_laws.specs.SitesOf.{AreCondvars, AreCounted, IsSteady, RunsInClosures, rules_in}
 use Rattle.abstract_locks.specs.Runs.{CallState, IsOpening}
-use Rattle.abstract_locks.specs.Locks.{LockState, Sort, Queued, Rights, Taken, opening_lock, Rules, IsSomePending, has_caller, rights_of, readers, count, standing}
+use Rattle.abstract_locks.specs.Locks.{LockState, Sort, Queued, Rights, opening_lock, Rules, IsSomePending, has_caller, rights_of, readers, count, standing}
 use Rattle.abstract_locks.specs.Onces.{InProgress, IsRunning}
 use Rattle.abstract_locks.specs.Locks as sorts
-use Rattle.abstract_locks.specs.Sites.{Doing, Line, Main, Second, Has, Pends, Runs, IsOpen, counts_some, has_readers, idle}
+use Rattle.abstract_locks.specs.Sites.{Doing, Line, Main, Second, Has, Pends, Runs, IsOpen, counts_some, has_readers}
 use Rattle.abstract_locks.specs.Codes.{HasLimit}
 use Rattle.abstract_locks.specs.Purposes.{Enters, Converts, Bumps, CallsOnce, Awaits, Purpose, MayWait, rules_of, Waits}
 use Rattle.lot_laws.specs.Refinement.{RunsClosure, locks_of, lock_state, lock_seen, taken_at, call_at, call_on, call_state, stance_of}
 use Rattle.lot_laws.specs.Owing.{Owes, sort_at}
-use Rattle.lot_laws.specs.Promises.{IsKept, KnowsRights, WaitsFor, WakesWaiters, IsDebtorOf, IsLookedAfter, IsOpenNow, WasNeverFull, HasOrPends, IsHandedOver, IsOwedWake, IsWithinLimit, want_of, IsOfOne, CallsOneLock}
+use Rattle.lot_laws.specs.Promises.{IsKept, KnowsRights, WaitsFor, WakesWaiters, IsDebtorOf, IsLookedAfter, IsOpenNow, WasNeverFull, HasOrPends, IsHandedOver, IsOwedWake, IsWithinLimit, want_of, CallsOneLock, HasReleased}
 use Rattle.lot_laws.proofs.Closures.{runs_one}
 use Rattle.lot_laws.proofs.TurnsKept.{after_steady}
 use Rattle.lot_laws.proofs.SitesPromise.{not_empty}
 use Rattle.lot_laws.proofs.RowPromises.{IsDebtorIn, HasClaimed, HasDebt, WasHanded, RowLooksAfter}
-use Rattle.lot_laws.proofs.PlacePromises.{row_promises, station_own, doing_own, owed_own, owes_own, calls_one_lock, doing_calls, station_calls, stands_waiting, waiting_stands, call_own, inside_own, owing_is}
+use Rattle.lot_laws.proofs.PlacePromises.{row_promises, station_own, doing_own, owed_own, owes_own, calls_one_lock, doing_calls, station_calls, stands_waiting, waiting_stands, call_own, inside_own}
 use Rattle.lot_laws.proofs.SingleCalls.{call_none, single_call}
 use Rattle.lot_condvar.specs.declared.places.CondvarPlace.{CondvarPlace}
 use Rattle.lot_steps.specs.Steps.{line_owed}
@@ -42,8 +42,11 @@ use Rattle.lot_laws.proofs.Waiters.{doing_beside, station_beside}
 use Rattle.lot_base.specs.declared.keys.Keys.TheVariants.{One}
 use Rattle.lot_base.specs.declared.notes.Note as note
 use Rattle.lot_acts.specs.declared.acts.Wakes as wakes
-use Rattle.lot_condvar.specs.CondvarProfiles.{condvar_profile}
-use Rattle.lot_laws.proofs.Glue.{same, calls_none, single_retries, singles, single_taker, IsSingle}
+use Rattle.lot_condvar.specs.CondvarProfiles.{condvar_profile, condvar_purpose, condvar_recalls, condvar_released, condvar_row}
+use Rattle.lot_condvar.specs.CondvarSteps.{mutex_beside}
+use Rattle.lot_laws.proofs.WhoOwes.{going_owes_so, inside_owes_so, owing_so}
+use Rattle.lot_laws.proofs.CondvarDebts.{LooksBeside, debtor_beside, idle_owes, looks_beside, no_second, two_owe, two_recalls, two_released, two_retries}
+use Rattle.lot_laws.proofs.Glue.{same, calls_none, single_retries, single_taker, IsSingle, plain_rules}
 use Rattle.lot_machine.proofs.Opening.{idle_at, none_at, empty_at, nobody_owns, opening_shares}
 use Rattle.std.proofs.lemmas.Bool.{cases_lt, eqb-true}
 
@@ -56,13 +59,6 @@ one_purpose (Some (CallsOnce j forced)) l k one h g = sym h ∙ g
 one_purpose (Some (Awaits j forced)) l k one h g = sym h ∙ g
 one_purpose (Some (Waits j m timed)) l k one h g = absurd one
 one_purpose o l k one h g = absurd h
-
-one_of : (p : Place) → IsSingle p → IsOfOne p
-one_of Idle single = tt
-one_of (Mutex l at) single = tt
-one_of (RwLock l a at) single = tt
-one_of (Once l at) single = tt
-one_of (Condvar l at) single = absurd single
 
 -- who is shown to try again does
 retry_shown : (o : Option ℕ) (row : Profile) (r : ℕ → Rights) (l : ℕ) → ((row.retries && is_lock l o) ≡ true) ↔ ((call_on o row r).retries ≡ Some l)
@@ -95,10 +91,10 @@ open_unowned sorts.Semaphore s none h = absurd h
 open_unowned sorts.Condvar s none h = absurd h
 open_unowned sorts.Once s none h = none (λ k. k)
 
--- who does nothing owes nothing
-idle_owes : (sort : Sort) (m : Line) → IsDebtorIn sort idle m → ⊥
-idle_owes sort Main d = elim d [ inl h ↦ cc | inr h ↦ elim h [ inl k ↦ cc | inr k ↦ cc ] ]
-idle_owes sort Second d = cc
+-- whoever has released a mutex is in a wait with it
+released_mutex : (sort : ℕ → Sort) (q : Option Purpose) (released : Bool) (l : ℕ) → KnowsRights sort q → HasReleased q released l Main → sort l ≡ sorts.Mutex
+released_mutex sort (Some (Waits k n timed)) released l knows h = ap sort (sym h.0) ∙ knows.1
+released_mutex sort q released l knows h = absurd h
 
 within : (r : Rules) (s : LockState) → has_readers r.sort ≡ true → HasLimit r s → IsWithinLimit r s
 within r s shared h = by_sort r.sort refl shared
@@ -182,7 +178,63 @@ module _ (w : State) (steady : IsSteady w) where
     ]
 
     looks_after : IsLookedAfter w l m
-    looks_after = record { debtor = t; debt = debt_of m row.debt; awake = row.awake; stands_nowhere = stands_nowhere }
+    looks_after = record { debtor = t; debt = debt_of m row.debt; awake = row.awake; stands_nowhere = λ k. inl (stands_nowhere k) }
+
+  -- in a call of a condition variable, beside it
+  module _ (t l : ℕ) (two : IsOfTwo (place_at w t)) where
+    named_there : (m : Line) → IsDebtorIn (sort_at w l) (doing_on (place_at w t) l) m → (mutex_beside two.at ≡ Some l) × (doing_on (place_at w t) l ≡ (condvar_row two.at).doing)
+    named_there m debtor = let b = debtor_beside (sort_at w l) two.lock two.at l m (subst (λ p. IsDebtorIn (sort_at w l) (doing_on p l) m) two.is debtor) in (b.0, ap (λ p. doing_on p l) two.is ∙ b.1)
+
+    mutex_sort : mutex_beside two.at ≡ Some l → sort_at w l ≡ sorts.Mutex
+    mutex_sort names = ap (λ (r : Rules). r.sort) (plain_rules (kind_at w l) ((fits_two w t steady two).mutex l names))
+
+    purpose_two : (call_at w t).purpose ≡ Some (condvar_purpose two.at two.lock)
+    purpose_two = ap (λ p. (call_state p (rights_now t)).purpose) two.is ∙ two_purpose two.lock two.at (rights_now t)
+
+    recalls_two : (call_at w t).recalls ≡ condvar_recalls two.at
+    recalls_two = ap (λ p. (call_state p (rights_now t)).recalls) two.is ∙ two_recalls two.lock two.at (rights_now t)
+
+    released_two : (call_at w t).released ≡ condvar_released two.at
+    released_two = ap (λ p. (call_state p (rights_now t)).released) two.is ∙ two_released two.lock two.at (rights_now t)
+
+    module _ (names : mutex_beside two.at ≡ Some l) (looks : LooksBeside two.lock two.at l) where
+      debt_two : IsDebtorOf w t l Main
+      debt_two = elim looks.debt [
+        | inl owed ↦ inl (
+          ap (λ p. line_owed p l) two.is ∙ two_owe two.lock two.at l names owed.0,
+          subst (λ q. WakesWaiters (sort_at w l) q (call_at w t).gave_up (call_at w t).recalls l) (sym purpose_two)
+              (subst (λ x. WakesWaiters (sort_at w l) (Some (condvar_purpose two.at two.lock)) (call_at w t).gave_up x l) (sym recalls_two) (owed.1 (sort_at w l) (call_at w t).gave_up)),
+        )
+        | inr again ↦ inr (
+          ap (λ p. (call_state p (rights_now t)).retries) two.is ∙ two_retries two.lock two.at l (rights_now t) names again.0,
+          ap (λ s. counts_some s (want_of (call_at w t).purpose)) (mutex_sort names) ∙ ap (counts_some sorts.Mutex) (ap want_of purpose_two ∙ again.1),
+        )
+      ]
+
+      nowhere_two : (k : ℕ) → (standing t (lock_state w k) ≡ 0) ⊎ HasReleased (call_at w t).purpose (call_at w t).released l Main
+      nowhere_two k = elim looks.stands [
+        | inl none ↦ inl (elim (cases_lt (standing t (lock_state w k)) 1) [
+          | inl few ↦ omega arith
+          | inr some ↦ absurd (none k (subst (λ p. StandsAt p k) two.is (stands_there w t steady k some)))
+        ])
+        | inr released ↦ inr (subst (λ q. HasReleased q (call_at w t).released l Main) (sym purpose_two) (subst (λ b. HasReleased (Some (condvar_purpose two.at two.lock)) b l Main) (sym released_two) released))
+      ]
+
+      looks_two : IsLookedAfter w l Main
+      looks_two = record { debtor = t; debt = debt_two; awake = λ asleep. looks.awake (sym (ap act_of two.is) ∙ asleep); stands_nowhere = nowhere_two }
+
+    looked_main : IsDebtorIn (sort_at w l) (doing_on (place_at w t) l) Main → (lock_state w l).exclusive ≢ Some t → IsLookedAfter w l Main
+    looked_main debtor unowned = let there = named_there Main debtor in
+        looks_two there.0 (looks_beside two.lock two.at l (fits_two w t steady two).reached there.0
+        (subst (λ s. IsDebtorIn s (condvar_row two.at).doing Main) (mutex_sort there.0) (subst (λ d. IsDebtorIn (sort_at w l) d Main) there.1 debtor))
+        (λ claims. unowned ((steady.sites.site l).held t (Has Exclusive) (ap (λ (d : Doing). d.claims) there.1 ∙ claims))))
+
+    looked_two : (m : Line) → IsDebtorIn (sort_at w l) (doing_on (place_at w t) l) m → (lock_state w l).exclusive ≢ Some t → IsLookedAfter w l m
+    looked_two Main debtor unowned = looked_main debtor unowned
+    looked_two Second debtor unowned = let there = named_there Second debtor in absurd (no_second two.at (fits_two w t steady two).reached (subst (λ d. IsDebtorIn (sort_at w l) d Second) there.1 debtor))
+
+  looked_after : (t l : ℕ) (m : Line) → IsDebtorIn (sort_at w l) (doing_on (place_at w t) l) m → (lock_state w l).exclusive ≢ Some t → IsLookedAfter w l m
+  looked_after t l m debtor unowned = elim (single_or_two (place_at w t)) [ inl single ↦ looks_after t l m single debtor unowned | inr two ↦ looked_two t l two m debtor unowned ]
 
   unfilled : (l : ℕ) → WasNeverFull w l → filled_at w l ≡ false
   unfilled l full = by_sort (has_readers (sort_at w l)) refl
@@ -196,7 +248,7 @@ module _ (w : State) (steady : IsSteady w) where
   in_line l some now empty =
       let free = open_unowned (sort_at w l) (lock_state w l) (steady.sites.site l).state.unwritten now in
       let d = (steady.sites.site l).main (inl some) now empty in
-      looks_after d.0 l Main (singles w steady d.0) d.1 (λ own. let e : ◌≡◌ {A = Option ℕ} None (Some d.0) = sym free ∙ own in cc)
+      looked_after d.0 l Main d.1 (λ own. let e : ◌≡◌ {A = Option ℕ} None (Some d.0) = sym free ∙ own in cc)
 
   main : (t l : ℕ) → WaitsFor w t l → IsOpenNow (rules_in w l) (lock_state w l) → WasNeverFull w l → IsLookedAfter w l Main
   main t l waiting open_now full =
@@ -205,7 +257,7 @@ module _ (w : State) (steady : IsSteady w) where
 
   -- nobody counts as one who passes the turn of a `Once` on but who owes its waiters their wake
   callers : (l : ℕ) → sort_at w l ≡ sorts.Once → has_caller (lock_state w l).queue ≡ true → (IsRunning (lock_state w l).phase → ⊥) → IsOwedWake w l
-  callers l once called rests = record { debtor = after.debtor; owes = by_debt after.debtor after.debt; awake = after.awake; stands_nowhere = after.stands_nowhere }
+  callers l once called rests = record { debtor = after.debtor; owes = by_debt after.debtor after.debt; awake = after.awake; stands_nowhere = rests_nowhere }
     where
       called_some : (q : List Queued) → has_caller q ≡ true → q ≢ []
       called_some [] h e = cc
@@ -213,6 +265,13 @@ module _ (w : State) (steady : IsSteady w) where
 
       after : IsLookedAfter w l Main
       after = in_line l (called_some (lock_state w l).queue called) (subst (λ s. IsOpen s (lock_state w l)) (sym once) (called, rests)) (steady.sites.unfilled l (ap has_readers once))
+
+      -- it is in no wait, whose mutex is none
+      rests_nowhere : (k : ℕ) → standing after.debtor (lock_state w k) ≡ 0
+      rests_nowhere k = elim (after.stands_nowhere k) [
+        | inl none ↦ none
+        | inr released ↦ absurd (let both : sorts.Once ≡ sorts.Mutex = sym once ∙ released_mutex (sort_at w) (call_at w after.debtor).purpose (call_at w after.debtor).released l (known after.debtor) released in cc)
+      ]
 
       counts_none : (o : Option Want) → counts_some sorts.Once o ≡ true → ⊥
       counts_none None h = cc
@@ -230,7 +289,7 @@ module _ (w : State) (steady : IsSteady w) where
   second : (l : ℕ) → (lock_state w l).aside ≢ None → readers (lock_state w l) ≡ 0 → IsLookedAfter w l Second
   second l aside none =
       let d = (steady.sites.site l).second aside none in
-      looks_after d.0 l Second (singles w steady d.0) d.1 (λ own. pending_alone d.0 own (lock_state w l).aside refl aside)
+      looked_after d.0 l Second d.1 (λ own. pending_alone d.0 own (lock_state w l).aside refl aside)
     where
       -- beside an owner that has the lock alone nobody is pending
       pending_alone : (t : ℕ) → (lock_state w l).exclusive ≡ Some t → (o : Option ℕ) → (lock_state w l).aside ≡ o → o ≢ None → ⊥
@@ -301,7 +360,7 @@ module _ (w : State) (steady : IsSteady w) where
         by_two : IsOfTwo (place_at w t) → IsHandedOver w t
         by_two two = let fits = fits_two w t steady two in elim (two_asleep two.lock two.at (condvar_apart w two.lock two.at fits) fits.reached (sym (ap act_of two.is) ∙ asleep)) [
           | inl some ↦ absurd (let stood = there_stands w t steady some.0 (subst (λ p. StandsAt p some.0) (sym two.is) some.1) in let none = nowhere some.0 in omega arith)
-          | inr other ↦ elim other [ inl handed ↦ handed_beside two handed | inr noted ↦ absurd fits.begun ]
+          | inr handed ↦ handed_beside two handed
         ]
 
         by_lock : IsSingle (place_at w t) → (o : Option ℕ) → lock_of (place_at w t) ≡ o → IsHandedOver w t
@@ -313,9 +372,7 @@ module _ (w : State) (steady : IsSteady w) where
 
   pub kept : RunsInClosures w → IsKept w
   kept running = record {
-    of_one = λ t. one_of (place_at w t) (singles w steady t);
     state = λ l. (steady.sites.site l).state;
-    calls_one = λ t. calls_one_lock w t steady (singles w steady t);
     one_place = one_place;
     waiting = waits;
     known = known;
@@ -324,7 +381,9 @@ module _ (w : State) (steady : IsSteady w) where
     nobody_forgotten = record { main = main; second = second };
     callers = callers;
     runs = λ t l. (running t l, closures t l);
-    owing = λ t l m. owing_is w t steady (singles w steady t) l m;
+    owing = λ t. owing_so w t steady;
+    inside_owes = λ t. inside_owes_so w t steady;
+    going_owes = λ t. going_owes_so w t steady;
     second_line = second_line;
     retrying = retrying;
     handing = λ t h. handed_over t h.0 h.1;

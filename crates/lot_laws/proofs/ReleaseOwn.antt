@@ -92,13 +92,13 @@ module _ (w : State) (t l m : ℕ) (timed : Bool) (steady : IsSteady w) (here : 
       }
     ]
 
+  abbrev Told : Stands → Type 0
+  Told s = place_at (acted s (unlock.Leave true)) t ≡ place_after_telling t (Woken note.Normal) (place_of s (unlock.Leave true))
+
   -- it opens its hand
   leaves : (s : Stands) → place_at w t ≡ place_of s (unlock.Leave true) → LeftAt s (unlock.Leave true)
   leaves s is = by_stand s (not_given w t l m timed steady here apart sort plain section true s is) (get_or-map (place_after_telling t (Woken note.Normal)) w.places t Idle ∙ ap (place_after_telling t (Woken note.Normal)) is)
     where
-      abbrev Told : Stands → Type 0
-      Told s = place_at (acted s (unlock.Leave true)) t ≡ place_after_telling t (Woken note.Normal) (place_of s (unlock.Leave true))
-
       by_stand : (s : Stands) → (hand_of s ≡ hand t true → ⊥) → Told s → LeftAt s (unlock.Leave true)
       by_stand stands.Listed given told = record { now = stands.Listed; place = told; how = inl (refl, λ e. refl) }
       by_stand stands.Moved given told = record { now = stands.Moved; place = told; how = inl (refl, λ e. refl) }

@@ -1,5 +1,5 @@
 -- A condition variable is as it was where what it shows, who waits, who is inside and what places say of it is.
-use Rattle.std.proofs.Common.{ℕ, Bool, Option, Some, None, if◌then◌else◌, ◌==◌, ◌≡◌, ◌≢◌, ◌<◌, ◌×◌, length, get_or-set_other, get_or-set_same, inl, inr, refl, sym, ◌∙◌, ap, subst}
+use Rattle.std.proofs.Common.{ℕ, Bool, true, false, Option, Some, None, if◌then◌else◌, ◌==◌, ◌≡◌, ◌≢◌, ◌<◌, length, get_or-set_other, get_or-set_same, inl, inr, refl, sym, ◌∙◌, ap, subst}
 use Rattle.std.proofs.lemmas.Bool.{cases_eq}
 use Rattle.lot_mutex.specs.declared.lock.Entry.{Entry}
 use Rattle.lot_mutex.specs.declared.lock.LockAt.TheVariants as lock
@@ -69,7 +69,7 @@ looks_alike (Mutex l at) q is = by_place (mutex_looking at) is
     by_place : (o : Option MutexPlace) → in_mutex l o ≡ Some q → Says (Mutex l at) q
     by_place None e = absurd cc
     by_place (Some to) e = let there : Mutex l to ≡ q = cc in subst (Says (Mutex l at)) there (λ k. (refl, refl))
-looks_alike (RwLock l a c) q is = by_place (call_looking c) is
+looks_alike (RwLock l a c) q is = by_place (call_looking a c) is
   where
     by_place : (o : Option RwLockCallPlace) → in_rwlock l a o ≡ Some q → Says (RwLock l a c) q
     by_place None e = absurd cc

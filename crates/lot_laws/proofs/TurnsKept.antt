@@ -1,5 +1,5 @@
 -- Each turn of a thread keeps every lock a site, and every thread in the line, the section and the hand that its place says.
-use Rattle.std.proofs.Common.{ℕ, Bool, true, false, Option, Some, None, if◌then◌else◌, ◌≡◌, ◌<◌, [], ◌∷◌, length, length-set, nat_lt, refl, subst, sym, ◌∙◌, ap}
+use Rattle.std.proofs.Common.{ℕ, Bool, true, false, Option, Some, None, if◌then◌else◌, ◌≡◌, ◌<◌, [], ◌∷◌, length, length-set, nat_lt, inl, inr, refl, subst, sym, ◌∙◌, ap}
 use Rattle.lot_laws.proofs.OnceKept.{once_begins}
 use Rattle.lot_laws.proofs.KindsKept.{calls_once}
 use Rattle.lot_machine.specs.Machine.{can_close, can_do, can_go, state_after_close, state_after_go, state_after_going}

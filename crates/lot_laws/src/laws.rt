@@ -17,8 +17,8 @@ pub fn nobody_is_passed_over()
     ensures { NobodyIsPassedOver }
 {}
 
-/// What is promised of every state says of a mutex: its word tells whether it is owned, a waiter implies the parked bit, and whoever
-/// waits while nobody owns it has a thread that owes its wake or tries again.
+/// What is promised of every state says of a mutex: its word tells whether it is owned, a waiter implies the parked bit or a thread that
+/// is about to set it, and whoever waits while nobody owns it has a thread that owes its wake or tries again.
 pub fn mutexes_are_kept()
     ensures { MutexesAreKept }
 {}
