@@ -64,7 +64,7 @@ use Rattle.lot_laws.proofs.CondvarSteps.{after_condvars}
 use Rattle.lot_laws.proofs.CountsKept.{counted_after}
 use Rattle.lot_laws.proofs.Counting.{nothing}
 use Rattle.lot_laws.proofs.CondvarRows.{names_of, stage_of}
-use Rattle.lot_laws.proofs.CondvarsKept.{put_condvars}
+use Rattle.lot_laws.proofs.SameCondvars.{put_condvars}
 use Rattle.lot_laws.proofs.CountsPut.{put_counted}
 use Rattle.lot_laws.proofs.TurnsKept.{after_steady}
 

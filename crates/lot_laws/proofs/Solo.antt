@@ -288,12 +288,12 @@ unparked_below zero h = refl
 unparked_below (suc zero) h = refl
 unparked_below (suc (suc v)) h = absurd (omega arith)
 
--- where the parked bit is clear nobody waits
-none_waits : (t l : ℕ) (at : MutexPlace) (v : ℕ) (o s : Option ℕ) (q : List Waiter) (w : State) → Facing w t l (Mutex l at) v o s q → v < 2 → q ≡ []
-none_waits t l at v o s [] w f below = refl
-none_waits t l at v o s (x ∷ q) w f below = absurd (
+-- where the parked bit is clear, and nobody is inside the section, nobody waits
+none_waits : (t l : ℕ) (at : MutexPlace) (v : ℕ) (o : Option ℕ) (q : List Waiter) (w : State) → Facing w t l (Mutex l at) v o None q → v < 2 → q ≡ []
+none_waits t l at v o [] w f below = refl
+none_waits t l at v o (x ∷ q) w f below = absurd (
     let first : first_of (queue_at w (2 * l)) ≡ Some x.thread = ap first_of f.queue in
-    let parked : is_parked v ≡ true = subst (λ n. is_parked n ≡ true) f.word (parked_at w f.steady x.thread l (rules_for w f.steady t l at f.place) (first_times x.thread (queue_at w (2 * l)) first)) in
+    let parked : is_parked v ≡ true = subst (λ n. is_parked n ≡ true) f.word (parked_at w f.steady x.thread l (rules_for w f.steady t l at f.place) f.section (first_times x.thread (queue_at w (2 * l)) first)) in
     let clear : is_parked v ≡ false = unparked_below v below in cc
     )
 
@@ -369,7 +369,7 @@ module _ (t l : ℕ) where
   unlock_fair_leads q v o w f = either (v == 1) refl (word_faces w t l (Mutex l UnlockFair) v o None q f (op.TheVariants.Exchange 1 0) refl)
     where
       either : (b : Bool) → (v == 1) ≡ b → Faces w t l (mutex_goes l (looked false (not b))) (outcome_of (mutex_does l (looked false (not b)))) (if b then 0 else v) (if b then None else o) None q → Leads 11 w t (FairEnds false t l (first_of q) (drop 1 q))
-      either true e h = let one : v ≡ 1 = eqb-true v 1 e in let none : first_of q ≡ None = ap first_of (none_waits t l UnlockFair v o None q w f (omega arith)) in
+      either true e h = let one : v ≡ 1 = eqb-true v 1 e in let none : first_of q ≡ None = ap first_of (none_waits t l UnlockFair v o q w f (omega arith)) in
           leads_more 1 11 w t (UnlockEnds l (first_of q)) (omega arith) (leads_rest w t (UnlockEnds l (first_of q)) (outcome.TheVariants.End answer.TheVariants.Ok) h.0 tt (refl, h.1.owner ∙ sym none))
       either false e h = leads_step w t (UnlockEnds l (first_of q)) 10 h.0 (fair_enter_leads false q v o _ h.1)
 
@@ -381,7 +381,7 @@ module _ (t l : ℕ) where
 
       either : (b : Bool) → is_parked v ≡ b → Faces w t l (mutex_goes l (looked true b)) (outcome_of (mutex_does l (looked true b))) v o None q → Leads 11 w t (FairEnds true t l (first_of q) (drop 1 q))
       either true e h = leads_step w t (FairEnds true t l (first_of q) (drop 1 q)) 10 h.0 (fair_enter_leads true q v o _ h.1)
-      either false e h = let empty : q ≡ [] = none_waits t l Bump v o None q w f (unparked v o (coded t l entries.Bump q w _ v o None f) e) in
+      either false e h = let empty : q ≡ [] = none_waits t l Bump v o q w f (unparked v o (coded t l entries.Bump q w _ v o None f) e) in
           leads_more 1 11 w t (FairEnds true t l (first_of q) (drop 1 q)) (omega arith)
           (leads_rest w t (FairEnds true t l (first_of q) (drop 1 q)) (outcome.TheVariants.End answer.TheVariants.Ok) h.0 tt (rw empty (refl, h.1.owner ∙ owned)))
 
