@@ -11,11 +11,9 @@ use Rattle.lot_calls.specs.declared.outcomes.Outcome.{Outcome}
 use Rattle.lot_calls.specs.declared.outcomes.Outcome.TheVariants as outcome
 use Rattle.lot_acts.specs.declared.acts.Act.{Act}
 use Rattle.lot_acts.specs.declared.acts.Act.TheVariants as act
-use Rattle.lot_acts.specs.declared.acts.Check.{Check}
 use Rattle.lot_acts.specs.declared.acts.Next.{Next}
 use Rattle.lot_acts.specs.declared.acts.Next.TheVariants as next
 use Rattle.lot_acts.specs.declared.acts.Reply.{Reply}
-use Rattle.lot_acts.specs.declared.acts.Wakes.{Wakes}
 use Rattle.lot_acts.specs.declared.acts.Wakes.TheVariants as wakes
 use Rattle.lot_acts.specs.declared.acts.Whom.TheVariants as whoms
 use Rattle.lot_acts.specs.Acts.{holds, outcome_of, takes_effect}
@@ -23,7 +21,7 @@ use Rattle.lot_acts.specs.Stations.{Station, station_by}
 use Rattle.lot_condvar.specs.declared.places.CondvarPlace.{CondvarPlace}
 use Rattle.lot_condvar.specs.CondvarCalls.{IsReached}
 use Rattle.lot_condvar.specs.CondvarDeeds.{MayHear, after_all, condvar_deeds}
-use Rattle.lot_condvar.specs.CondvarProfiles.{condvar_profile, condvar_row, mutex_side}
+use Rattle.lot_condvar.specs.CondvarProfiles.{condvar_profile, mutex_side}
 use Rattle.lot_condvar.specs.CondvarSteps.{condvar_act, condvar_next, mutex_beside}
 use Rattle.lot_steps.specs.declared.places.Place.{Place}
 use Rattle.lot_steps.specs.declared.places.Place.TheVariants.{Idle, Condvar}
@@ -31,7 +29,7 @@ use Rattle.lot_steps.specs.Steps.{condvar_does, condvar_goes, next_act, next_pla
 use Rattle.abstract_locks.specs.Locks as locks
 use Rattle.abstract_locks.specs.Sites.{Line, Main}
 use Rattle.lot_machine.specs.Fits.{IsThere, PlaceFits, SameSize}
-use Rattle.lot_machine.specs.Machine.{State, after, can_do, go_of, go_outcome, going_outcome, is_possible, place_at, put, queue_at, queues_with_last, queues_without_first, reply_to, section_at, state_after_act, state_after_go, state_after_going, state_after_hand_over_by, state_after_taking, state_after_wake, state_with_sections, step_outcome, unlocked, word_at}
+use Rattle.lot_machine.specs.Machine.{State, after, can_do, go_of, go_outcome, going_outcome, is_possible, place_at, put, queue_at, queues_with_last, queues_without_first, reply_to, section_at, state_after_act, state_after_go, state_after_going, state_after_hand_over_by, state_after_taking, state_with_sections, step_outcome, unlocked, word_at}
 use Rattle.lot_machine.proofs.Shape.{after_size, performed_counts}
 use Rattle.lot_laws.specs.Refinement.{lock_state}
 use Rattle.lot_laws.specs.Stations.{station_at}

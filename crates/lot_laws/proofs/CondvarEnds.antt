@@ -1,19 +1,17 @@
 -- A call of a condition variable whose thread steps alone: from any place it ends or sleeps, and from its beginning it does what it is for.
-use Rattle.std.proofs.Common.{ℕ, Bool, Option, Some, None, ◌≡◌, ◌≢◌, ◌⊎◌, ◌*◌, ◌≤◌, ◌<◌, length, inl, inr, refl, ◌∙◌, ap, subst, arith}
+use Rattle.std.proofs.Common.{ℕ, Bool, Option, Some, None, ◌≡◌, ◌≢◌, ◌*◌, ◌<◌, length, inl, inr, refl, ◌∙◌, ap, arith}
 use Rattle.lot_calls.specs.declared.calls.CondvarCall.{CondvarCall}
 use Rattle.lot_calls.specs.declared.calls.CondvarCall.TheVariants as condvar_call
 use Rattle.lot_calls.specs.declared.outcomes.Outcome.{Outcome}
-use Rattle.lot_calls.specs.declared.outcomes.Outcome.TheVariants as outcome
 use Rattle.lot_acts.specs.declared.acts.Act.TheVariants as act
 use Rattle.lot_condvar.specs.declared.places.CondvarPlace.{CondvarPlace}
 use Rattle.lot_condvar.specs.declared.places.CondvarPlace.TheVariants.{Wait, Look, Notify}
-use Rattle.lot_condvar.specs.CondvarCalls.{IsReached}
 use Rattle.lot_condvar.specs.CondvarSteps.{condvar_act, condvar_first, mutex_beside}
 use Rattle.lot_steps.specs.declared.places.Place.TheVariants.{Condvar}
 use Rattle.lot_steps.specs.Steps.{beside_of, lock_of}
 use Rattle.abstract_locks.specs.Purposes.{condvar_purpose}
 use Rattle.abstract_locks.specs.Sites.{Main}
-use Rattle.lot_machine.specs.Machine.{State, place_at, section_at, solo}
+use Rattle.lot_machine.specs.Machine.{State, place_at, section_at}
 use Rattle.lot_laws.specs.Refinement.{lock_state}
 use Rattle.lot_laws.specs.SitesOf.{IsWorld}
 use Rattle.lot_laws.specs.Solo.{EndsAlone, HasItsWay, Rests, mutex_to_come}

@@ -1,22 +1,17 @@
 -- A notification from its beginning, whose thread steps alone: it moves the first, or all, where a mutex is shown.
-use Rattle.std.proofs.Common.{ℕ, Bool, true, false, Option, Some, None, if◌then◌else◌, ◌==◌, ◌&&◌, ◌≡◌, ◌≢◌, ◌+◌, ◌-◌, ◌*◌, ◌≤◌, List, [], ◌∷◌, drop, length, not, is_none, inl, inr, refl, sym, ◌∙◌, ap, subst, arith, get_or-set_same}
+use Rattle.std.proofs.Common.{ℕ, Bool, true, false, Option, Some, None, if◌then◌else◌, ◌==◌, ◌≡◌, ◌≢◌, ◌+◌, ◌-◌, List, [], ◌∷◌, is_none, inr, refl, sym, ◌∙◌, ap, subst, arith, get_or-set_same}
 use Rattle.std.proofs.lemmas.Bool.Decides.{nat_tests}
-use Rattle.lot_base.specs.declared.ops.Op.TheVariants as op
-use Rattle.lot_base.specs.Words.{apply}
 use Rattle.lot_calls.specs.declared.kinds.Kind.TheVariants as kind
 use Rattle.lot_calls.specs.declared.outcomes.Outcome.{Outcome}
 use Rattle.lot_calls.specs.declared.outcomes.Outcome.TheVariants as outcome
-use Rattle.lot_acts.specs.declared.acts.Act.TheVariants as act
 use Rattle.lot_acts.specs.declared.acts.Next.TheVariants as next
-use Rattle.lot_acts.specs.declared.acts.Reply.TheVariants.{Value}
 use Rattle.lot_condvar.specs.declared.notify.NotifyAt.TheVariants as notify
 use Rattle.lot_condvar.specs.declared.places.CondvarPlace.TheVariants.{Look, Notify}
 use Rattle.lot_condvar.specs.CondvarDeeds.{word_of}
-use Rattle.lot_condvar.specs.CondvarSteps.{condvar_act, is_shown, look_next, mutex_shown, notified, shown_as}
-use Rattle.lot_steps.specs.declared.places.Place.TheVariants.{Condvar}
-use Rattle.abstract_locks.specs.Condvars.{AllOf, CondvarSite, Inside, IsAsInside, IsCondvar, IsSettledAt}
+use Rattle.lot_condvar.specs.CondvarSteps.{is_shown, look_next, mutex_shown, notified, shown_as}
+use Rattle.abstract_locks.specs.Condvars.{IsAsInside, IsSettledAt}
 use Rattle.abstract_locks.specs.Locks.{Queued}
-use Rattle.lot_machine.specs.Machine.{State, after, go_of, state_after_act, unlocked, word_at}
+use Rattle.lot_machine.specs.Machine.{State, after, go_of, unlocked, word_at}
 use Rattle.lot_laws.specs.Refinement.{lock_state}
 use Rattle.lot_laws.specs.SitesOf.{condvar_of}
 use Rattle.lot_laws.specs.Solo.{NotifiesAlone, Rests}
@@ -54,8 +49,11 @@ module _ (t l m : ℕ) (keeps : Keeps t) (w : State) (all : Bool) (g : GoesAlone
 
     seen : (b : Bool) (k : ℕ) → b ≡ false → k ≡ m → Behind t l m keeps w (Look all) g Moves 8 (if b then next.End (notified all 0) else next.At (Notify all k notify.Enter))
     seen true k e f = absurd cc
-    seen false k e f = λ h. inr (refl, enters_seeing t l m keeps (after w (go_of t)) all (lock_state w l).queue (ap (λ v. is_shown v m) word_then ∙ shows_itself m) (queue_then t l m keeps w (Look all) g refl)
-        (subst (λ j. GoesAlone (after w (go_of t)) t l m (Notify all j notify.Enter)) f h))
+    seen false k e f = λ h. inr (
+      refl,
+      enters_seeing t l m keeps (after w (go_of t)) all (lock_state w l).queue (ap (λ v. is_shown v m) word_then ∙ shows_itself m) (queue_then t l m keeps w (Look all) g refl)
+          (subst (λ j. GoesAlone (after w (go_of t)) t l m (Notify all j notify.Enter)) f h),
+    )
 
     pub finds_some : Leads 9 w t Moves
     finds_some = looks Moves 8 (subst (λ v. Behind t l m keeps w (Look all) g Moves 8 (look_next all v)) (sym shown) (seen (shown_as m == 0) (mutex_shown (shown_as m)) (shown_one m) (shown_again m)))

@@ -1,6 +1,5 @@
 -- A notification whose thread steps alone: from each place it ends, and has moved the first, or all, or nobody where its mutex is not shown.
-use Rattle.std.proofs.Common.{ℕ, suc, Bool, true, false, Option, Some, None, if◌then◌else◌, ◌==◌, ◌&&◌, ◌≡◌, ◌≢◌, ◌⊎◌, ◌+◌, ◌-◌, ◌*◌, ◌≤◌, List, [], ◌∷◌, drop, length, nat_lt, not, is_none, inl, inr, refl, sym, ◌∙◌, ap, subst, arith}
-use Rattle.std.proofs.lemmas.Bool.{cases_eq}
+use Rattle.std.proofs.Common.{ℕ, Bool, true, false, if◌then◌else◌, ◌==◌, ◌&&◌, ◌≡◌, ◌+◌, ◌-◌, ◌*◌, ◌≤◌, List, [], ◌∷◌, drop, length, nat_lt, not, inr, refl, sym, ◌∙◌, ap, subst, arith}
 use Rattle.lot_base.specs.declared.ops.Op.{Op}
 use Rattle.lot_base.specs.declared.ops.Op.TheVariants as op
 use Rattle.lot_base.specs.Words.{apply}
@@ -10,26 +9,24 @@ use Rattle.lot_calls.specs.declared.outcomes.Outcome.TheVariants as outcome
 use Rattle.lot_acts.specs.declared.acts.Act.TheVariants as act
 use Rattle.lot_acts.specs.declared.acts.Next.TheVariants as next
 use Rattle.lot_acts.specs.declared.acts.Reply.{Reply}
-use Rattle.lot_acts.specs.declared.acts.Reply.TheVariants.{Done, Value, Took, Requeued}
+use Rattle.lot_acts.specs.declared.acts.Reply.TheVariants.{Requeued}
 use Rattle.lot_acts.specs.Acts.{outcome_of}
 use Rattle.lot_mutex.specs.MutexSteps.{is_locked}
 use Rattle.lot_condvar.specs.declared.notify.NotifyAt.{NotifyAt}
 use Rattle.lot_condvar.specs.declared.notify.NotifyAt.TheVariants as notify
-use Rattle.lot_condvar.specs.declared.places.CondvarPlace.{CondvarPlace}
-use Rattle.lot_condvar.specs.declared.places.CondvarPlace.TheVariants.{Look, Notify}
-use Rattle.lot_condvar.specs.CondvarDeeds.{MayHear, after_all, condvar_deeds, word_of}
-use Rattle.lot_condvar.specs.CondvarSteps.{again_next, condvar_act, condvar_next, is_shown, look_next, marks, move_act, moved_one, mutex_shown, notified, notify_act, shown_as}
+use Rattle.lot_condvar.specs.declared.places.CondvarPlace.TheVariants.{Notify}
+use Rattle.lot_condvar.specs.CondvarDeeds.{MayHear, after_all, condvar_deeds}
+use Rattle.lot_condvar.specs.CondvarSteps.{condvar_next, is_shown, marks, move_act, moved_one, notified, notify_act}
 use Rattle.lot_steps.specs.declared.places.Place.TheVariants.{Condvar}
 use Rattle.abstract_locks.specs.Condvars.{SeeAgain, MissIt}
 use Rattle.abstract_locks.specs.Locks.{Queued}
-use Rattle.lot_machine.specs.Machine.{State, after, can_do, go_of, is_free, is_there, place_at, queue_at, reply_to, section_at, state_after_act, word_at}
+use Rattle.lot_machine.specs.Machine.{State, after, can_do, go_of, is_there, place_at, queue_at, reply_to, state_after_act, word_at}
 use Rattle.lot_laws.specs.Refinement.{lock_state}
 use Rattle.lot_laws.specs.SitesOf.{condvar_of}
 use Rattle.lot_laws.specs.Solo.{Rests}
-use Rattle.lot_laws.proofs.CondvarAlone.{Behind, GoesAlone, Keeps, free_beside, free_here, hears, leads_behind, queue_then, reached, shown_then, so_then, word_then}
-use Rattle.lot_laws.proofs.CondvarHears.{word_is}
+use Rattle.lot_laws.proofs.CondvarAlone.{Behind, GoesAlone, Keeps, free_beside, free_here, hears, leads_behind, queue_then, reached, so_then, word_then}
 use Rattle.lot_laws.proofs.CondvarOwn.{notifier_still}
-use Rattle.lot_laws.proofs.Glue.{differ, same}
+use Rattle.lot_laws.proofs.Glue.{same}
 use Rattle.lot_laws.proofs.Leads.{Leads, leads_more, leads_so}
 
 -- how many it moves of those who wait, and who is left

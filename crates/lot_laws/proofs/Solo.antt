@@ -7,7 +7,6 @@ use Rattle.lot_base.specs.declared.wants.Waiter.{Waiter}
 use Rattle.lot_base.specs.declared.wants.Want.TheVariants.{Exclusive}
 use Rattle.lot_base.specs.Words.{apply}
 use Rattle.lot_base.specs.Lines.{times, waiter, without, first_of}
-use Rattle.lot_acts.specs.declared.acts.Act.{Act}
 use Rattle.lot_acts.specs.declared.acts.Act as act
 use Rattle.lot_acts.specs.declared.acts.Reply.TheVariants.{Value, Took, Removed}
 use Rattle.lot_acts.specs.declared.acts.Next as next

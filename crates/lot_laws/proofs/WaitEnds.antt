@@ -9,7 +9,7 @@ use Rattle.lot_calls.specs.declared.outcomes.Answer.TheVariants as answer
 use Rattle.lot_calls.specs.declared.outcomes.Outcome.{Outcome}
 use Rattle.lot_calls.specs.declared.outcomes.Outcome.TheVariants as outcome
 use Rattle.lot_acts.specs.declared.acts.Next.TheVariants as next
-use Rattle.lot_acts.specs.Acts.{outcome_of, wakes_taken}
+use Rattle.lot_acts.specs.Acts.{outcome_of}
 use Rattle.lot_mutex.specs.declared.places.MutexPlace.TheVariants as mutex
 use Rattle.lot_mutex.specs.declared.unlock.UnlockAt.{UnlockAt}
 use Rattle.lot_mutex.specs.declared.unlock.UnlockAt.TheVariants as unlock
@@ -25,7 +25,6 @@ use Rattle.lot_condvar.specs.CondvarSteps.{behind, in_wait, is_shown, shown_as, 
 use Rattle.lot_steps.specs.declared.places.Place.TheVariants.{Condvar}
 use Rattle.abstract_locks.specs.Condvars.{SeeOther, Show}
 use Rattle.abstract_locks.specs.Locks.{Queued, times}
-use Rattle.abstract_locks.specs.Runs.{ShowsOther}
 use Rattle.lot_machine.specs.Machine.{State, after, can_do, go_of, queue_at, queues_without_first, reply_to, state_after_act, state_after_taking, unlocked, word_at}
 use Rattle.lot_laws.specs.Refinement.{lock_state, locks_of, owner_at}
 use Rattle.lot_laws.specs.SitesOf.{condvar_of}
@@ -93,9 +92,10 @@ module _ (t l m : ℕ) (keeps : Keeps t) (timed : Bool) where
       finish v (stands.Handed by) j g = inl (refl, (refl, j))
 
       lets_go : (w : State) → (lock_state w l).queue ≡ q → Alone w (releasing t l m keeps timed stands.Listed unlock.Subtract) → Leads 13 w t Sleeps
-      lets_go w e g = subtracts t l m keeps timed Sleeps LetGo kept finish w stands.Listed g
-          (queue_is w (releasing t l m keeps timed stands.Listed unlock.Subtract) g refl q e,
-          owner_then w stands.Listed unlock.Subtract g refl (ap (λ y. y.owners.exclusive) (get_or-set_same w.locks m _ (unlocked kind.Mutex) (there w stands.Listed unlock.Subtract g))))
+      lets_go w e g = subtracts t l m keeps timed Sleeps LetGo kept finish w stands.Listed g (
+        queue_is w (releasing t l m keeps timed stands.Listed unlock.Subtract) g refl q e,
+        owner_then w stands.Listed unlock.Subtract g refl (ap (λ y. y.owners.exclusive) (get_or-set_same w.locks m _ (unlocked kind.Mutex) (there w stands.Listed unlock.Subtract g))),
+      )
 
   goes_out : (q : List Queued) (w : State) → (lock_state w l).queue ≡ q → Alone w wait.Leave → Leads 14 w t (Sleeps q)
   goes_out q w e g = goes t l m keeps timed w wait.Leave g (Sleeps q) 13 refl refl (λ h. inr (refl, lets_go q last (after w (go_of t)) (queue_is w wait.Leave g refl q e) h))
@@ -132,8 +132,11 @@ module _ (t l m : ℕ) (keeps : Keeps t) (timed : Bool) where
     shows_by P b e left = goes t l m keeps timed w wait.Show g P 15 refl refl (subst (Shown P) (sym e) left)
 
     shows : (q : List Queued) → (lock_state w l).queue ≡ q → may_show (word_at w l) ≡ true → Leads 16 w t (Sleeps (behind_last q))
-    shows q e may = shows_by (Sleeps (behind_last q)) true may (λ h. inr (refl, stands_last q (after w (go_of t))
-        (queue_is w wait.Show g refl q (ap (λ b. (after_all (if b then Show m ∷ [] else SeeOther m ∷ []) (condvar_of w l) t).waiters) may ∙ e)) h))
+    shows q e may = shows_by (Sleeps (behind_last q)) true may (λ h. inr (
+      refl,
+      stands_last q (after w (go_of t))
+          (queue_is w wait.Show g refl q (ap (λ b. (after_all (if b then Show m ∷ [] else SeeOther m ∷ []) (condvar_of w l) t).waiters) may ∙ e)) h,
+    ))
 
     sees_other : may_show (word_at w l) ≡ false → Leads 16 w t Refused
     sees_other none = shows_by Refused false none (λ h. inr (refl, leads_more 1 15 (after w (go_of t)) t Refused (omega arith) (refuses (after w (go_of t)) h)))

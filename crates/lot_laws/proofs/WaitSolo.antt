@@ -1,5 +1,5 @@
 -- A wait whose thread steps alone: from each place where it is awake it ends, or sleeps.
-use Rattle.std.proofs.Common.{ℕ, Bool, true, false, Option, Some, None, if◌then◌else◌, ◌==◌, ◌||◌, ◌≡◌, ◌≢◌, ◌⊎◌, ◌+◌, ◌*◌, ◌≤◌, List, length, drop, is_none, inl, inr, refl, sym, ◌∙◌, ap, subst, arith}
+use Rattle.std.proofs.Common.{ℕ, Bool, true, false, if◌then◌else◌, ◌==◌, ◌||◌, ◌≡◌, ◌≢◌, ◌⊎◌, ◌+◌, ◌*◌, length, drop, is_none, inl, inr, refl, sym, ap, subst, arith}
 use Rattle.lot_base.specs.declared.notes.Note.TheVariants as note
 use Rattle.lot_base.specs.Lines.{without}
 use Rattle.lot_calls.specs.declared.outcomes.Answer.TheVariants as answer
@@ -16,7 +16,6 @@ use Rattle.lot_mutex.specs.declared.places.MutexPlace.TheVariants as mutex
 use Rattle.lot_mutex.specs.declared.unlock.UnlockAt.{UnlockAt}
 use Rattle.lot_mutex.specs.declared.unlock.UnlockAt.TheVariants as unlock
 use Rattle.lot_mutex.specs.MutexSteps.{in_unlock, is_parked, unlock_act}
-use Rattle.lot_condvar.specs.declared.places.CondvarPlace.{CondvarPlace}
 use Rattle.lot_condvar.specs.declared.places.CondvarPlace.TheVariants.{Wait}
 use Rattle.lot_condvar.specs.declared.wait.Stands.{Stands}
 use Rattle.lot_condvar.specs.declared.wait.Stands.TheVariants as stands
