@@ -2,13 +2,13 @@
 -- thread brings anybody into its hand or lets anybody go.
 use Rattle.std.proofs.Common.{ℕ, Bool, true, false, Option, Some, None, if◌then◌else◌, ◌==◌, ◌≡◌, ◌≢◌, ◌<◌, inl, inr, length, nat_lt, refl, sym, ◌∙◌, ap, subst, get_or, get_or-set_same, length-set, set}
 use Rattle.lot_steps.specs.declared.places.Place.TheVariants.{Once}
-use Rattle.lot_laws.proofs.Glue.{singles}
-use Rattle.lot_laws.proofs.PlacePromises.{calls_one_lock}
+use Rattle.lot_laws.proofs.Glue.{IsOfTwo, IsSingle, fits_two, single_or_two}
 use Rattle.lot_laws.proofs.Counting.{once_counted, condvar_counted}
 use Rattle.lot_once.specs.OnceSteps.{once_next}
 use Rattle.lot_once.specs.declared.run.RunAt.TheVariants as run
 use Rattle.lot_once.specs.declared.places.OncePlace.TheVariants.{Run}
-use Rattle.lot_machine.specs.Machine.{reply_to, state_after_close}
+use Rattle.lot_machine.specs.Machine.{reply_to, state_after_close, state_after_go, state_after_going}
+use Rattle.abstract_locks.specs.Sites.{has_readers}
 use Rattle.lot_laws.proofs.Closures.{RunsOne, closes_one}
 use Rattle.lot_laws.proofs.Closings.{closing, closing_there, is_behind}
 use Rattle.lot_laws.proofs.OwnPlace.{gone, gone_place}
@@ -45,15 +45,16 @@ use Rattle.lot_steps.specs.declared.places.Place.TheVariants.{Idle, Mutex, RwLoc
 use Rattle.lot_steps.specs.Steps.{act_of, first_place, late_key, looking, next_place, rwlock_goes}
 use Rattle.abstract_locks.specs.Locks.{LockState}
 use Rattle.abstract_locks.specs.Runs.{IsStep, Turned}
-use Rattle.lot_machine.specs.Machine.{State, after, can_turn, go_reply, held, is_possible, kind_at, place_at, put, reply_to, state_after_act, state_after_hand_over_by, state_after_late_on, state_after_look, state_after_operation, state_after_turn, step_outcome, word_at}
+use Rattle.lot_machine.specs.Machine.{State, after, can_turn, go_reply, held, is_possible, kind_at, place_at, put, state_after_act, state_after_hand_over_by, state_after_late_on, state_after_look, state_after_operation, state_after_turn, step_outcome, word_at}
 use Rattle.lot_machine.specs.Fits.{IsShaped}
 use Rattle.lot_machine.proofs.Shape.{after_size, both}
 use Rattle.lot_laws.specs.Refinement.{lock_state, locks_of}
-use Rattle.lot_laws.specs.SitesOf.{AreCounted, IsCounted, IsSteady, rules_in}
+use Rattle.lot_laws.specs.SitesOf.{AreCondvars, AreCounted, FitsItsLock, IsCounted, IsSteady, rules_in}
 use Rattle.lot_laws.proofs.Befallen.{others_keep_it}
-use Rattle.lot_laws.proofs.Counting.{HasCounted, IsHandOver, are_counted, begins_bare, counted_befallen, counted_next, counted_on, counting_row, counts_there, goes_counted, late_bare, looks_bare, mutex_counted, none_is, nothing, once_counted, others_bare}
+use Rattle.lot_laws.proofs.Counting.{HasCounted, IsHandOver, are_counted, begins_bare, counted_befallen, counted_next, counted_on, counting, counting_row, counts_there, goes_counted, late_bare, looks_bare, mutex_counted, none_is, nothing, once_counted, others_bare}
 use Rattle.lot_laws.proofs.CountsTaken.{picked_now, take_counts, took_is}
-use Rattle.lot_laws.proofs.Fair.{turned_so}
+use Rattle.lot_laws.proofs.CondvarOwn.{went, went_place}
+use Rattle.lot_laws.proofs.EachLock.{moves_no_readers, turned_so}
 use Rattle.lot_laws.proofs.Glue.{same}
 use Rattle.lot_laws.proofs.HandCases.{others_hold}
 use Rattle.lot_laws.proofs.HandsCounted.{counted_stays, same_hand}
@@ -72,10 +73,14 @@ module _ (w v : State) (a : ℕ) (steady : IsSteady w) (behind : IsSteady v) (co
     then_so : HasCounted l (place_at v t)
     then_so = counting_row l k (place_at v t) now
 
+    -- a lock that is shared
+    readers : has_readers (rules_in w l).sort ≡ true
+    readers = let h = counting l k (place_at w t) was in let fits : FitsItsLock w (RwLock l h.admission h.call) = subst (FitsItsLock w) h.is (steady.stands.calls t) in fits.0.0
+
     -- whom it has in hand, the abstract lock says, and no case of another changes that
     same_wanted : t ≢ a → (x : Turn) (o : Outcome) → Turned (locks_of w) a x o (locks_of v) → (u : ℕ) → wanted_of t (held (place_at v u)) ≡ wanted_of t (held (place_at w u))
     same_wanted ne x o turned u = same_hand v t l behind then_so.of then_so.any then_so.carries u
-        ∙ turned_so (λ (s z : LockState). wanted_of t (z.taken u) ≡ wanted_of t (s.taken u)) (locks_of w) (locks_of v) a l (calls_one_lock w a steady (singles w steady a)) refl
+        ∙ turned_so (λ (s z : LockState). wanted_of t (z.taken u) ≡ wanted_of t (s.taken u)) (locks_of w) (locks_of v) a l (λ c m every owned number may. moves_no_readers (locks_of w) a c m every owned number l readers may (λ z. wanted_of t (z.taken u) ≡ wanted_of t ((lock_state w l).taken u)) refl) refl
         (λ c needs. others_hold (rules_in w l) (lock_state w l) t a u (steady.sites.site l).state ne c needs) x o turned
         ∙ sym (same_hand w t l steady before.of before.any before.carries u)
 
@@ -214,14 +219,25 @@ module _ (w : State) (t : ℕ) (steady : IsSteady w) (counted : AreCounted w) (t
     going_counts (RwLock j a (Glance x)) is behind turned l k e = bare_goes j a (Glance x) (λ no. no) is behind turned l k e
     going_counts (RwLock j a (Handed x how b to)) is behind turned l k e = bare_goes j a (Handed x how b to) (λ no. no) is behind turned l k e
 
+-- in a call of two locks it counts nobody
+two_bare : (w : State) (t : ℕ) → IsSteady w → t < length w.places → IsOfTwo (place_at w t) → (l : ℕ) → counted_on (place_at (state_after_go w t) t) l ≡ None
+two_bare w t steady there two l = ap (λ p. counted_on (place_at (state_after_going w t p) t) l) two.is
+    ∙ ap (λ p. counted_on p l) (went_place w t two.lock two.at two.is (fits_two w t steady two).reached there) ∙ condvar_counted l two.lock (went w t two.lock two.at two.is (fits_two w t steady two).reached there)
+
 module _ (w : State) (t : ℕ) (steady : IsSteady w) (counted : AreCounted w) (there : t < length w.places) where
   -- it looks at the word once more
   spun_counts : (p : Option Place) → looking (place_at w t) ≡ p → (l : ℕ) (k : Counted) → counted_on (place_at (state_after_look w t p) t) l ≡ Some k → IsCounted (state_after_look w t p) t k
   spun_counts None is l k e = counts_there w t l k counted e
-  spun_counts (Some q) is l k e = absurd (none_is k _ (ap (λ p. counted_on p l) (gone_place moved t (looking_steady w t there q is steady) (rw (length-set w.places t q) there) ∙ ap (λ p. next_place p (go_reply moved t)) (get_or-set_same w.places t q Idle there)) ∙ (looks_bare (place_at w t) q is).goes_on (go_reply moved t) l) e)
+  spun_counts (Some q) is l k e = absurd (none_is k _ (elim (single_or_two (place_at moved t)) [
+    | inl single ↦ ap (λ p. counted_on p l) (gone_place moved t single there_moved ∙ ap (λ p. next_place p (go_reply moved t)) (get_or-set_same w.places t q Idle there)) ∙ (looks_bare (place_at w t) q is).goes_on (go_reply moved t) l
+    | inr two ↦ two_bare moved t (looking_steady w t there q is steady) there_moved two l
+  ]) e)
     where
       moved : State
       moved = put w t q
+
+      there_moved : t < length moved.places
+      there_moved = rw (length-set w.places t q) there
 
   late_counts : (key : Option ℕ) → late_key (place_at w t) ≡ key → (l : ℕ) (k : Counted) → counted_on (place_at (state_after_late_on w t key) t) l ≡ Some k → IsCounted (state_after_late_on w t key) t k
   late_counts None is l k e = counts_there w t l k counted e
@@ -231,17 +247,19 @@ module _ (w : State) (t : ℕ) (steady : IsSteady w) (counted : AreCounted w) (t
   closed_bare : (succeeded : Bool) → RunsOne (place_at w t) → (l : ℕ) → counted_on (place_at (state_after_close w t succeeded) t) l ≡ None
   closed_bare succeeded one l =
       let v = closing w t there succeeded one in
-      ap (λ p. counted_on p l) (gone_place v t (closing_steady w t there succeeded one steady) (closing_there w t there succeeded one))
+      ap (λ p. counted_on p l) (gone_place v t (subst IsSingle (sym (closing_here w t there succeeded one ∙ is_behind w t there succeeded one)) tt) (closing_there w t there succeeded one))
       ∙ ap (λ p. counted_on (next_place p (reply_to v t (act_of p))) l) (closing_here w t there succeeded one ∙ is_behind w t there succeeded one)
       ∙ once_counted l one.lock (once_next (Run one.forced (run.Close succeeded)) (reply_to v t (act_of (Once one.lock (Run one.forced (run.Close succeeded))))))
 
   turned_counts : (x : Turn) → can_turn w t x ≡ true → IsSteady (state_after_turn w t x) → (o : Outcome) → Turned (locks_of w) t x o (locks_of (state_after_turn w t x)) → (l : ℕ) (k : Counted) → counted_on (place_at (state_after_turn w t x) t) l ≡ Some k → IsCounted (state_after_turn w t x) t k
   turned_counts (turn.TheVariants.Begin c) can behind o turned l k e = absurd (none_is k _ (ap (λ p. counted_on p l) (get_or-set_same w.places t (first_place (kind_at w (lock_in c)) c) Idle there) ∙ begins_bare l (kind_at w (lock_in c)) c) e)
-  turned_counts turn.TheVariants.Go can behind o turned l k e =
-      let same = gone w t steady in
-      subst (λ (v : State). IsCounted v t k) (sym same) (going_counts w t steady counted there turn.TheVariants.Go o (place_at w t) refl
-      (subst IsSteady same behind) (subst (λ (v : State). Turned (locks_of w) t turn.TheVariants.Go o (locks_of v)) same turned) l k
-      (ap (λ p. counted_on p l) (sym (gone_place w t steady there)) ∙ e))
+  turned_counts turn.TheVariants.Go can behind o turned l k e = elim (single_or_two (place_at w t)) [
+    | inl single ↦ (let same = gone w t single in
+        subst (λ (v : State). IsCounted v t k) (sym same) (going_counts w t steady counted there turn.TheVariants.Go o (place_at w t) refl
+        (subst IsSteady same behind) (subst (λ (v : State). Turned (locks_of w) t turn.TheVariants.Go o (locks_of v)) same turned) l k
+        (ap (λ p. counted_on p l) (sym (gone_place w t single there)) ∙ e)))
+    | inr two ↦ absurd (none_is k _ (two_bare w t steady there two l) e)
+  ]
   turned_counts turn.TheVariants.Spin can behind o turned l k e = spun_counts (looking (place_at w t)) refl l k e
   turned_counts turn.TheVariants.Late can behind o turned l k e = late_counts (late_key (place_at w t)) refl l k e
   turned_counts turn.TheVariants.Ok can behind o turned l k e = absurd (none_is k _ (closed_bare true (closes_one w t true can) l) e)
@@ -249,14 +267,14 @@ module _ (w : State) (t : ℕ) (steady : IsSteady w) (counted : AreCounted w) (t
 
 -- ---------------------------------------------------------------- every step
 
-pub counted_after : (w : State) (s : Step) → IsShaped w → IsSteady w → AreCounted w → AreCounted (after w s)
-counted_after w s shape steady counted = are_counted (after w s) each
+pub counted_after : (w : State) (s : Step) → IsShaped w → IsSteady w → AreCounted w → AreCondvars w → AreCounted (after w s)
+counted_after w s shape steady counted condvars = are_counted (after w s) each
   where
     behind : IsSteady (after w s)
-    behind = after_steady w s shape steady counted
+    behind = after_steady w s shape steady counted condvars
 
     stepped : IsStep (locks_of w) s (step_outcome w s) (locks_of (after w s))
-    stepped = after_step w s shape steady counted
+    stepped = after_step w s shape steady counted condvars
 
     own : (b : Bool) → is_possible w s ≡ b → IsSteady (if b then state_after_turn w s.thread s.turn else w) → Turned (locks_of w) s.thread s.turn (step_outcome w s) (locks_of (if b then state_after_turn w s.thread s.turn else w))
         → (l : ℕ) (k : Counted) → counted_on (place_at (if b then state_after_turn w s.thread s.turn else w) s.thread) l ≡ Some k → IsCounted (if b then state_after_turn w s.thread s.turn else w) s.thread k

@@ -28,14 +28,14 @@ use Rattle.abstract_locks.specs.Runs.{Turned}
 use Rattle.abstract_locks.specs.Sites.{Main, has_readers}
 use Rattle.lot_machine.specs.Machine.{State, held, place_at, places_told, put, queue_at, sharers, state_after_take, successor_from, want_of_successor, wants_more_in_hand}
 use Rattle.lot_machine.proofs.QueueLemmas.{told_count}
-use Rattle.lot_laws.proofs.Glue.{singles}
+use Rattle.lot_laws.proofs.EachLock.{moves_nobody, turned_so}
+use Rattle.lot_laws.proofs.Glue.{IsSingle}
 use Rattle.lot_laws.proofs.PlacePromises.{calls_one_lock}
 use Rattle.lot_laws.specs.Refinement.{lock_state, locks_of}
 use Rattle.lot_laws.specs.SitesOf.{stations_of, FitsItsLock, IsCounted, IsSteady, carried_at, rules_in}
 use Rattle.lot_laws.specs.Stations.{nowhere, station}
 use Rattle.lot_laws.proofs.AtPlaces.{in_no_hand}
 use Rattle.lot_laws.proofs.Counting.{HasCounted, counting_row, counted_on}
-use Rattle.lot_laws.proofs.Fair.{turned_so}
 use Rattle.lot_laws.proofs.Glue.{same}
 use Rattle.lot_laws.proofs.HandCases.{OneMore, nobody_more, takes_one_more, wanting_more}
 use Rattle.lot_laws.proofs.HandsCounted.{is_more, same_hand, same_sharers, same_successor}
@@ -59,8 +59,8 @@ module _ (w : State) (t l : ℕ) (steady : IsSteady w) where
       omega arith)
 
   -- behind a step of a thread that had nobody in hand
-  one_more_then : (v : State) (x : Turn) (o : Outcome) → (rules_in w l).sort ≢ Once → Turned (locks_of w) t x o (locks_of v) → HasTakenNobody (lock_state w l) t → OneMore (lock_state v l).taken t
-  one_more_then v x o lock turned none = turned_so (λ (s z : LockState). OneMore z.taken t) (locks_of w) (locks_of v) t l (calls_one_lock w t steady (singles w steady t)) (nobody_more t (lock_state w l).taken none)
+  one_more_then : IsSingle (place_at w t) → (v : State) (x : Turn) (o : Outcome) → (rules_in w l).sort ≢ Once → Turned (locks_of w) t x o (locks_of v) → HasTakenNobody (lock_state w l) t → OneMore (lock_state v l).taken t
+  one_more_then single v x o lock turned none = turned_so (λ (s z : LockState). OneMore z.taken t) (locks_of w) (locks_of v) t l (λ c m every owned number may. absurd (moves_nobody (locks_of w) t (calls_one_lock w t steady single) c m every owned number may)) (nobody_more t (lock_state w l).taken none)
       (λ c needs. takes_one_more (lock_state w l) t none (rules_in w l) lock few_picked c needs) x o turned
 
 -- by where it stands then
@@ -138,5 +138,5 @@ module _ (w : State) (t l : ℕ) (a : Admission) (x : Access) (b : Bool) (steady
   take_counts behind y o turned = record {
     number = same_sharers taken_all state_then t (length-set taken_all.places t place_then) same_wants;
     more = ap want_of_successor (same_successor taken_all state_then t (length-set taken_all.places t place_then) same_wants);
-    one = one_in_hand state_then t l behind (subst (HasCounted l) (sym at_then) (counting_row l picked_now place_then counts)) (one_more_then w t l steady state_then y o shared turned nobody_before);
+    one = one_in_hand state_then t l behind (subst (HasCounted l) (sym at_then) (counting_row l picked_now place_then counts)) (one_more_then w t l steady (subst IsSingle (sym is) tt) state_then y o shared turned nobody_before);
   }

@@ -2,7 +2,6 @@
 use Rattle.std.proofs.Common.{ℕ, Bool, true, false, Option, Some, None, if◌then◌else◌, ◌==◌, ◌&&◌, not, ◌≡◌, ◌≢◌, ◌+◌, ◌*◌, ◌<◌, ◌⊎◌, inl, inr, [], length, refl, sym, ◌∙◌, ap, subst, arith, get_or-set_same, length-set}
 use Rattle.lot_calls.specs.declared.calls.OnceCall.TheVariants as once_call
 use Rattle.lot_once.specs.declared.places.OncePlace.TheVariants.{Look, Run}
-use Rattle.lot_laws.specs.Promises.{CallsOneLock}
 use Rattle.lot_laws.proofs.Closures.{closes_one}
 use Rattle.lot_laws.proofs.OwnPlace.{gone}
 use Rattle.std.proofs.lemmas.Bool.{cases_eq, eqb-true, ltb-true}
@@ -29,6 +28,7 @@ use Rattle.lot_mutex.specs.declared.hand_off.HandOffAt.{HandOffAt}
 use Rattle.lot_mutex.specs.declared.hand_off.HandOffAt.TheVariants as hand_off
 use Rattle.lot_steps.specs.declared.places.Place.{Place}
 use Rattle.lot_steps.specs.declared.places.Place.TheVariants.{Idle, Mutex, RwLock, Once, Condvar}
+use Rattle.lot_condvar.specs.declared.places.CondvarPlace.{CondvarPlace}
 use Rattle.lot_condvar.specs.declared.places.CondvarPlace.TheVariants as condvar_place
 use Rattle.lot_mutex.specs.MutexSteps.{is_locked, is_parked, lock_act, hand_off_act}
 use Rattle.lot_steps.specs.Steps.{act_of, looking, late_key, next_place, lock_of, profile}
@@ -45,18 +45,19 @@ use Rattle.std.specs.Prelude.{nat_lt}
 use Rattle.abstract_locks.specs.Onces.{OnceCase, Start, Finish, Fail, Rest, TakeAll}
 use Rattle.abstract_locks.specs.Locks.{LockState, Rules, Rights, Taken, LockCase, Enter, Pend, Settle, Leave, Convert, Park, Aside, TakeFirst, TakeAside, TakePicked, Wake, HandOff as HandsLockOff, Late, Rollback, OfOnce, Needs, IsTaken, HasTakenNobody, IsLockState, keep_from, first_thread, Owns}
 use Rattle.abstract_locks.specs.Locks as locks
-use Rattle.abstract_locks.specs.Runs.{LocksState, CallState, Event, Nothing, AtLock, AreLockStates, GoesOn, Stays, Does, MayHappen, IsStep, Turned, rules_at, locks_after, Moves}
+use Rattle.abstract_locks.specs.Runs.{CallState, AreLockStates, IsStep, MayMove, rules_at, locks_after, Moves}
 use Rattle.lot_laws.specs.Refinement.{call_at, lock_state, locks_of, call_state, owner_at}
 use Rattle.lot_laws.specs.Fair.{ReleasesFairly, IsFairRelease, OwnsOn, HandsOver, LetsGo, IsFair, IsToGiveAt, GivesUpFairly, ComesTo as GivesFrom}
 use Rattle.lot_rwlock_fair.specs.FairGives.{IsToGive}
 use Rattle.lot_rwlock_fair.specs.FairSteps.{call_act}
 use Rattle.lot_laws.proofs.SharedFair.{goes_giving, owner_stays}
-use Rattle.lot_laws.proofs.PlacePromises.{calls_one_lock, row_promises}
+use Rattle.lot_laws.proofs.PlacePromises.{row_promises}
 use Rattle.lot_laws.proofs.CountsPut.{looking_counted}
 use Rattle.lot_rwlock.specs.declared.places.Admission.{Admission}
 use Rattle.lot_rwlock_fair.specs.declared.places.RwLockCallPlace.{RwLockCallPlace}
 use Rattle.lot_laws.proofs.ExclusiveOwners.{owner_after, exclusive-owners, by_code}
-use Rattle.lot_laws.proofs.Glue.{IsSingle, singles, own_stance, aparts}
+use Rattle.lot_laws.proofs.EachLock.{moves_no_owner, moves_no_readers, moves_takes, turned_so}
+use Rattle.lot_laws.proofs.Glue.{IsSingle, own_stance, aparts, single_or_two}
 use Rattle.lot_laws.proofs.Handed.{successor_one, of_carries}
 use Rattle.lot_laws.proofs.Waiters.{held_there}
 use Rattle.lot_laws.proofs.AtPlaces.{coded as words_coded, in_no_hand}
@@ -177,36 +178,6 @@ taken_was s t u a x is (OfOnce case) n h = absurd (let e : locks.Mutex ≡ locks
 taken_was s t u a x is (locks.OfCondvar case) n h = absurd (let e : locks.Mutex ≡ locks.Condvar = n.0 in cc)
 taken_was s t u a x is (locks.SeeOwner owned) n h = inl h
 taken_was s t u a x is Rollback n h = inl (grind arith)
-
--- what holds of a lock before and after each case, and where nothing happens, holds of each step
-module _ (P : LockState → LockState → Type 0) (w v : LocksState) (a l : ℕ) (one : CallsOneLock (w.calls a).purpose) (stays : P (w.locks l) (w.locks l))
-    (goes : (c : LockCase) → Needs (rules_at w l) c (w.locks l) a → P (w.locks l) (locks.after_case (rules_at w l) c (w.locks l) a)) where
-  event_so : (e : Event) → MayHappen w a e → P (w.locks l) (locks_after w a e l)
-  event_so Nothing may = stays
-  event_so (Moves c m all owned number) may = absurd (subst CallsOneLock may.notifies one)
-  event_so (AtLock k case) may = either (l == k) refl
-    where
-      either : (b : Bool) → (l == k) ≡ b → P (w.locks l) (if b then locks.after_case (rules_at w k) case (w.locks k) a else w.locks l)
-      either false e = stays
-      either true e = let here : l ≡ k = eqb-true l k e in rw (← here) (goes case (subst (λ n. Needs (rules_at w n) case (w.locks n) a) (sym here) (needs_of w a k case (w.calls a).purpose may)))
-
-  goes_so : (o : Outcome) → GoesOn w a o v → P (w.locks l) (v.locks l)
-  goes_so o g = rw (g.locks l) (event_so g.event g.may)
-
-  stays_so : (c : CallState) (o : Outcome) → Stays w a c o v → P (w.locks l) (v.locks l)
-  stays_so c o s = rw (s.locks l) stays
-
-  does_so : (x : Turn) (o : Outcome) → Does w a x o v → P (w.locks l) (v.locks l)
-  does_so (turn.TheVariants.Begin c) o d = stays_so _ o d
-  does_so turn.TheVariants.Go o d = goes_so o d
-  does_so turn.TheVariants.Spin o d = goes_so o d.goes
-  does_so turn.TheVariants.Late o d = stays_so _ o d
-  does_so turn.TheVariants.Ok o d = goes_so o d.goes
-  does_so turn.TheVariants.Err o d = goes_so o d.goes
-
-  pub turned_so : (x : Turn) (o : Outcome) → Turned w a x o v → P (w.locks l) (v.locks l)
-  turned_so x o (inl d) = does_so x o d.1
-  turned_so x o (inr r) = rw r.1.1 stays
 
 -- ---------------------------------------------------------------- what a fair release does by its own step
 
@@ -358,16 +329,23 @@ module _ (w : State) (t l : ℕ) (shape : IsShaped w) (steady : IsSteady w) (cou
 
   -- from its place
   go_gives_shared : t < length w.places → can_do w (act_of (place_at w t)) ≡ true → ToGive (place_at w t) → Owns (lock_state w l) t x → Gives (state_after_go w t)
-  go_gives_shared there can gives own = subst Gives (sym (gone w t steady)) (by_place (place_at w t) refl (shape.places t) can gives)
+  go_gives_shared there can gives own = elim (single_or_two (place_at w t)) [
+    | inl single ↦ subst Gives (sym (gone w t single)) (by_place (place_at w t) refl (shape.places t) can gives)
+    | inr two ↦ absurd (two_give two.lock two.at (subst ToGive two.is gives))
+  ]
     where
+      -- a call of two locks gives up none fairly
+      two_give : (k : ℕ) (at : CondvarPlace) → ToGive (Condvar k at) → ⊥
+      two_give k (condvar_place.Wait m timed at) gives = gives.1
+      two_give k (condvar_place.Notify all m at) gives = gives.1
+      two_give k (condvar_place.Look all) gives = gives.1
+
       by_place : (p : Place) → place_at w t ≡ p → PlaceFits (length w.locks) p → can_do w (act_of p) ≡ true → ToGive p → Gives (put (state_after_act w t p (act_of p)) t (next_place p (reply_to w t (act_of p))))
       by_place Idle is fits can gives = absurd gives
       by_place (Once k (Look (once_call.CallOnce forced) again at)) is fits can gives = absurd gives.1
       by_place (Once k (Look (once_call.Wait forced) again at)) is fits can gives = absurd gives.1
       by_place (Once k (Run forced at)) is fits can gives = absurd gives.1
-      by_place (Condvar k (condvar_place.Wait m timed at)) is fits can gives = absurd gives.1
-      by_place (Condvar k (condvar_place.Notify all m at)) is fits can gives = absurd gives.1
-      by_place (Condvar k (condvar_place.Look all)) is fits can gives = absurd gives.1
+      by_place (Condvar k at) is fits can gives = absurd (two_give k at gives)
       by_place (Mutex k at) is fits can gives = absurd (
           let fits_k : is_mutex (kind_at w k) ≡ true = subst (FitsItsLock w) is (steady.stands.calls t) in
           let here : k ≡ l = sym (subst (λ p. lock_for ((profile p).purpose k) ≡ k) is (row_promises w t steady k (subst IsSingle (sym is) tt) (ap lock_of is)).own) ∙ gives.0 in
@@ -424,15 +402,15 @@ pub is_fair : (w : State) (s : Step) → IsShaped w → IsSteady w → AreCounte
 is_fair w s shape steady counted condvars = record {
   gives = λ t l h. elim (cases_eq s.thread t) [
     | inl e ↦ told t l h (after_gives w t l shape steady h.1 h.2 h.0 s e)
-    | inr ne ↦ inl (owned t l h (turned_so (λ x y. x.exclusive ≡ Some t → y.exclusive ≡ Some t) (locks_of w) (locks_of (after w s)) s.thread l one (λ e. e)
+    | inr ne ↦ inl (owned t l h (turned_so (λ x y. x.exclusive ≡ Some t → y.exclusive ≡ Some t) (locks_of w) (locks_of (after w s)) s.thread l (λ c m every owned number may e. moves_no_owner (locks_of w) s.thread c m every owned number l ∙ e) (λ e. e)
         (λ c n e. others_keep (rules_at (locks_of w) l) (lock_state w l) t s.thread (all l) e ne c n) s.turn (step_outcome w s) step.1 h.1))
   ];
-  takes = λ t l u h. turned_so (λ x y. IsTaken y t u Exclusive → IsTaken x t u Exclusive ⊎ (first_thread x.queue ≡ Some u)) (locks_of w) (locks_of (after w s)) s.thread l one (λ e. inl e)
+  takes = λ t l u h. turned_so (λ x y. IsTaken y t u Exclusive → IsTaken x t u Exclusive ⊎ (first_thread x.queue ≡ Some u)) (locks_of w) (locks_of (after w s)) s.thread l (takes_no_other t l u h.0) (λ e. inl e)
       (λ c n. let rules : rules_at (locks_of w) l ≡ mutex = mutex_rules (kind_at w l) h.2 in
       rw rules (taken_was (lock_state w l) t u s.thread Exclusive (subst (λ r. IsLockState r (lock_state w l)) rules (all l)) c (subst (λ r. Needs r c (lock_state w l) s.thread) rules n))) s.turn (step_outcome w s) step.1;
   shared = λ t l x h. elim (cases_eq s.thread t) [
     | inl e ↦ after_gives_shared w t l shape steady counted x h s e
-    | inr ne ↦ inl (turned_so (λ y z. Owns y t x → Owns z t x) (locks_of w) (locks_of (after w s)) s.thread l one (λ e. e)
+    | inr ne ↦ inl (turned_so (λ y z. Owns y t x → Owns z t x) (locks_of w) (locks_of (after w s)) s.thread l (λ c m every owned number may. moves_no_readers (locks_of w) s.thread c m every owned number l h.3 may (λ z. Owns (lock_state w l) t x → Owns z t x) (λ e. e)) (λ e. e)
         (λ c n own. rights_keep (rules_at (locks_of w) l) (lock_state w l) t s.thread x (all l) h.1 own ne c n) s.turn (step_outcome w s) step.1 h.2)
   ];
 }
@@ -443,8 +421,13 @@ is_fair w s shape steady counted condvars = record {
     step : IsStep (locks_of w) s (step_outcome w s) (locks_of (after w s))
     step = after_step w s shape steady counted condvars
 
-    one : CallsOneLock (call_at w s.thread).purpose
-    one = calls_one_lock w s.thread steady (singles w steady s.thread)
+    -- whom a notification takes is in its own hand
+    takes_no_other : (t l u : ℕ) → IsFairRelease (call_at w t).purpose l → (c m : ℕ) (every owned : Bool) (number : ℕ) → MayMove (locks_of w) s.thread c m every owned number
+        → IsTaken (locks_after (locks_of w) s.thread (Moves c m every owned number) l) t u Exclusive → IsTaken (lock_state w l) t u Exclusive ⊎ (first_thread (lock_state w l).queue ≡ Some u)
+    takes_no_other t l u fair c m every owned number may taken = elim (moves_takes (locks_of w) s.thread c m every owned number l u (record { by = t; want = Exclusive }) taken) [
+      | inl before ↦ inl before
+      | inr own ↦ absurd (subst (λ q. IsFairRelease q l) may.notifies (subst (λ k. IsFairRelease (call_at w k).purpose l) own fair))
+    ]
 
     coded : (t l : ℕ) → ReleasesFairly w t l → IsMutexWord (word_at (after w s) l) (owner_at (after w s) l)
     coded t l h = words_coded (after w s) (after_steady w s shape steady counted condvars) l

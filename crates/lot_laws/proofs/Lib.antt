@@ -99,6 +99,7 @@ pub mod OneThing
 pub mod Promises
 pub mod MutexPromises
 pub mod SharedFair
+pub mod EachLock
 pub mod Fair
 pub mod CountsTaken
 pub mod CountsKept
