@@ -112,6 +112,7 @@ pub mod CallSolo
 pub mod BumpSolo
 pub mod RwLockEnds
 pub mod CallEnds
+pub mod MutexSolo
 pub mod Solo
 pub mod OnceSolo
 pub mod CondvarAlone
