@@ -45,7 +45,7 @@ use Rattle.lot_machine.specs.Machine.{Alone as Ran, State, state_after_operation
 use Rattle.lot_machine.specs.Fits.{IsShaped, SameSize, IsOfItsKind}
 use Rattle.lot_machine.proofs.Shape.{after_shaped, after_size, performed_counts, put_shaped}
 use Rattle.lot_laws.proofs.OwnPlace.{goes_from_there, told_from_there}
-use Rattle.lot_laws.specs.SitesOf.{AreCounted, IsSteady, rules_in}
+use Rattle.lot_laws.specs.SitesOf.{AreCondvars, AreCounted, IsSteady, rules_in}
 use Rattle.lot_laws.proofs.Closures.{call_runs_none}
 use Rattle.lot_laws.proofs.RunsKept.{put_running}
 use Rattle.lot_laws.specs.Stations.{doing_on, station}
@@ -57,13 +57,14 @@ use Rattle.lot_laws.proofs.OneStep.{steps_by}
 use Rattle.lot_laws.proofs.PlainCalls.{never_given}
 use Rattle.lot_laws.proofs.RwLockRows.{of}
 use Rattle.lot_laws.proofs.RwLockSolo.{is_ready, rwlock_rests, word_small}
-use Rattle.lot_laws.proofs.SoloActs.{Leads, leads_more, leads_so}
+use Rattle.lot_laws.proofs.Leads.{Leads, leads_more, leads_so}
 use Rattle.lot_laws.proofs.LineSolo.{StepsAlone}
 use Rattle.lot_laws.proofs.CallSolo.{Ends, Resting, Shares, shares_on, accepts_rest, gives_rest, glance_rests, hands_over_rest, wakes_rest}
+use Rattle.lot_laws.proofs.CondvarSteps.{after_condvars}
 use Rattle.lot_laws.proofs.CountsKept.{counted_after}
 use Rattle.lot_laws.proofs.Counting.{nothing}
 use Rattle.lot_laws.proofs.CondvarRows.{names_of, stage_of}
-use Rattle.lot_laws.proofs.CondvarsKept.{put_condvars}
+use Rattle.lot_laws.proofs.SameCondvars.{put_condvars}
 use Rattle.lot_laws.proofs.CountsPut.{put_counted}
 use Rattle.lot_laws.proofs.TurnsKept.{after_steady}
 
@@ -282,6 +283,7 @@ module _ (t l : ℕ) (a : Admission) (x : Access) where
     pub shape : IsShaped w
     pub steady : IsSteady w
     pub counted : AreCounted w
+    pub condvars : AreCondvars w
     pub shares : Admits (rules_in w l) a
     pub thread : t < length w.places
     pub place : place_at w t ≡ RwLock l a (Bump (of (purpose.Enter x Patient) retries to))
@@ -397,8 +399,9 @@ module _ (t l : ℕ) (a : Admission) (x : Access) where
       again_then : Again (after w (go_of t)) q.retries q.at
       again_then = record {
         shape = after_shaped w (go_of t) g.shape;
-        steady = after_steady w (go_of t) g.shape g.steady g.counted;
-        counted = counted_after w (go_of t) g.shape g.steady g.counted;
+        steady = after_steady w (go_of t) g.shape g.steady g.counted g.condvars;
+        counted = counted_after w (go_of t) g.shape g.steady g.counted g.condvars;
+        condvars = after_condvars w (go_of t) g.shape g.steady g.counted g.condvars;
         shares = shares_on t l a w g.shares;
         thread = let size : SameSize w (after w (go_of t)) = after_size w (go_of t) in rw size.threads g.thread;
         place = ap (λ (s : State). place_at s t) (went able ∙ ap (λ m. put acted t (rwlock_goes l a (bump_next (purpose.Enter x Patient) m))) is)
@@ -461,7 +464,7 @@ module _ (t l : ℕ) (a : Admission) where
 
   pub as_entry : (x : Access) (retries : Bool) (to : RwLockAt) (v : ℕ) (w : State) (q : Line → List Waiter) → Shares t l a w → MayStand a (of (purpose.Enter x Patient) retries to) → StepsAlone w t l (RwLock l a (Bump (of (purpose.Enter x Patient) retries to))) v q
       → (k : ℕ) (last : Outcome) → SameEnd t l a x (solo k (as_plain w t l a (of (purpose.Enter x Patient) retries to)) t last) (solo k w t last)
-  as_entry x retries to v w q shares may f k last = same_run t l a x k w retries to last (record { shape = f.shape; steady = f.steady; counted = f.counted; shares = shares; thread = f.thread; place = f.place; stands = may })
+  as_entry x retries to v w q shares may f k last = same_run t l a x k w retries to last (record { shape = f.shape; steady = f.steady; counted = f.counted; condvars = f.condvars; shares = shares; thread = f.thread; place = f.place; stands = may })
 
   small_at : (w : State) (v : ℕ) (q : Line → List Waiter) (c : RwLockCallPlace) → Shares t l a w → StepsAlone w t l (RwLock l a c) v q → v < 2 ^ 64
   small_at w v q c shares f = subst (λ n. n < 2 ^ 64) f.word (word_small w l f.steady shares.0)

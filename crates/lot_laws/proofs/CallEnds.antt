@@ -40,7 +40,7 @@ use Rattle.lot_laws.specs.Stations.{doing_on}
 use Rattle.lot_laws.specs.Solo.{BumpsShared, ComesBack, EndsAlone, EntersAlone, GivesWay, MayEnterAtOnce, NeedsNoWay, Rests, WaitsAlone, WaitsForReaders}
 use Rattle.lot_laws.specs.WorldRuns.{IsWorldRun}
 use Rattle.lot_laws.proofs.Glue.{doing_here, inside_is, put_here}
-use Rattle.lot_laws.proofs.SoloActs.{Leads}
+use Rattle.lot_laws.proofs.Leads.{Leads}
 use Rattle.lot_laws.proofs.LineSolo.{StepsAlone}
 use Rattle.lot_laws.proofs.SoloAnswers.{HasAnswered, answered, former_kept}
 use Rattle.lot_laws.proofs.WorldRuns.{RunsAlone, run_refines, runs_alone, world_run}

@@ -45,7 +45,7 @@ use Rattle.lot_laws.proofs.Glue.{same}
 use Rattle.lot_laws.proofs.KindsKept.{after_kinds}
 use Rattle.lot_laws.proofs.RwLockRows.{of}
 use Rattle.lot_laws.proofs.RwLockSolo.{taken_word, taken_sections}
-use Rattle.lot_laws.proofs.SoloActs.{Leads, leads_rest, leads_step, leads_more, leads_so}
+use Rattle.lot_laws.proofs.Leads.{Leads, leads_rest, leads_step, leads_more, leads_so}
 use Rattle.lot_laws.proofs.LineSolo.{StepsAlone, Comes, word_comes, enter_comes, leave_comes, take_comes, hand_comes, accept_comes, finds_free}
 
 abbrev pub Resting : State → Outcome → Type 0

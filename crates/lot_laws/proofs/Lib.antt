@@ -103,6 +103,7 @@ pub mod EachLock
 pub mod Fair
 pub mod CountsTaken
 pub mod CountsKept
+pub mod Leads
 pub mod SoloActs
 pub mod SoloAnswers
 pub mod LineSolo
@@ -111,8 +112,16 @@ pub mod CallSolo
 pub mod BumpSolo
 pub mod RwLockEnds
 pub mod CallEnds
+pub mod MutexSolo
 pub mod Solo
 pub mod OnceSolo
+pub mod CondvarAlone
+pub mod RelockSolo
+pub mod NotifySolo
+pub mod WaitSolo
+pub mod NotifyEnds
+pub mod WaitEnds
+pub mod CondvarEnds
 pub mod Owing
 pub mod WorldRuns
 pub mod RowLaws

@@ -39,7 +39,7 @@ use Rattle.lot_laws.specs.Stations.{doing_on}
 use Rattle.lot_laws.proofs.Glue.{same}
 use Rattle.lot_laws.proofs.LineSolo.{Comes, StepsAlone, enter_comes, finds_free, leave_comes, park_comes, parks_last, word_comes}
 use Rattle.lot_laws.proofs.MutexTable.{queued_behind}
-use Rattle.lot_laws.proofs.SoloActs.{Leads, leads_more, leads_rest, leads_step}
+use Rattle.lot_laws.proofs.Leads.{Leads, leads_more, leads_rest, leads_step}
 
 -- who waits for a run still does so while none has ended
 none_yet : (forced : Bool) → holds (check_of (Wait forced)) 8 ≡ true

@@ -37,7 +37,7 @@ use Rattle.lot_laws.specs.SitesOf.{site_of}
 use Rattle.lot_laws.specs.Solo.{Rests}
 use Rattle.lot_laws.proofs.LineSolo.{Comes, StepsAlone, enter_comes, finds_free, leave_comes, park_comes, take_comes, word_comes}
 use Rattle.lot_laws.proofs.OnceEnds.{Ended, Looked, decides, loads, looks, told_by_word}
-use Rattle.lot_laws.proofs.SoloActs.{Leads, leads_more, leads_rest, leads_so, leads_step}
+use Rattle.lot_laws.proofs.Leads.{Leads, leads_more, leads_rest, leads_so, leads_step}
 
 module _ (t l : ℕ) where
   abbrev Queues : Type 0

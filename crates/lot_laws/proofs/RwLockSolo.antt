@@ -49,7 +49,7 @@ use Rattle.lot_laws.specs.SitesOf.{IsSteady, key_of, rules_in, site_of}
 use Rattle.abstract_locks.specs.Locks.{Rules, Sort, Mutex, Normal, Recursive, Semaphore, Once, count, one_if_some, Condvar}
 use Rattle.lot_laws.specs.Solo.{Rests}
 use Rattle.lot_laws.proofs.Glue.{same}
-use Rattle.lot_laws.proofs.SoloActs.{Leads, leads_rest, leads_step, leads_more, leads_so}
+use Rattle.lot_laws.proofs.Leads.{Leads, leads_rest, leads_step, leads_more, leads_so}
 use Rattle.lot_laws.proofs.LineSolo.{StepsAlone, Comes, word_comes, enter_comes, leave_comes, park_comes, parks_last, remove_comes, take_comes, finds_free}
 
 -- ---------------------------------------------------------------- runs of a thread alone

@@ -1,5 +1,5 @@
 -- A thread that steps alone: what each of its acts leads to, of the lock that it calls.
-use Rattle.std.proofs.Common.{subst, ℕ, zero, suc, true, false, Option, Some, None, if◌then◌else◌, ◌==◌, ◌≡◌, ◌+◌, ◌*◌, ◌≤◌, ◌<◌, List, [], ◌∷◌, ◌++◌, length, get_or, map, drop, is_none, refl, sym, ◌∙◌, ap, arith, get_or-set_same, length-set}
+use Rattle.std.proofs.Common.{subst, ℕ, true, false, Option, Some, None, if◌then◌else◌, ◌==◌, ◌≡◌, ◌+◌, ◌*◌, ◌<◌, List, [], ◌∷◌, ◌++◌, length, get_or, map, drop, is_none, refl, sym, ◌∙◌, ap, get_or-set_same, length-set}
 use Rattle.std.proofs.lemmas.Bool.{lt-ltb}
 use Rattle.std.proofs.lemmas.List.{length-map}
 use Rattle.std.proofs.Math.ListN.{get_or-map}
@@ -11,10 +11,8 @@ use Rattle.lot_base.specs.declared.wants.Want.TheVariants.{Exclusive}
 use Rattle.lot_base.specs.Words.{apply}
 use Rattle.lot_base.specs.Lines.{waiter, without, first_of}
 use Rattle.lot_calls.specs.declared.kinds.Kind as kind
-use Rattle.lot_acts.specs.declared.acts.Act.{Act}
 use Rattle.lot_acts.specs.declared.acts.Act as act
 use Rattle.lot_acts.specs.declared.acts.Check.TheVariants.{WordIs}
-use Rattle.lot_acts.specs.declared.acts.Wakes.{Wakes}
 use Rattle.lot_acts.specs.declared.acts.Wakes as wakes
 use Rattle.lot_acts.specs.declared.acts.Reply.TheVariants.{Done, Value, Parked, Took, Removed, TakenBy, Woken}
 use Rattle.lot_calls.specs.declared.outcomes.Outcome.{Outcome}
@@ -24,14 +22,15 @@ use Rattle.lot_steps.specs.declared.places.Place.TheVariants.{Idle}
 use Rattle.lot_acts.specs.declared.acts.Whom as whoms
 use Rattle.lot_acts.specs.Acts.{takes_effect, outcome_of}
 use Rattle.lot_steps.specs.Steps.{act_of, next_place, next_act}
-use Rattle.lot_machine.specs.Machine.{state_after_hand_over_by, hand_over_told, State, unlocked, place_at, word_at, owners_at, section_at, queue_at, put, state_after_operation, state_with_sections, queues_with_last, queues_without, queues_without_first, state_after_taking, state_after_reply, state_after_act, reply_to, can_do, state_after_go, go_of, is_possible, after, step_outcome, go_outcome, solo, place_after_telling, state_after_telling, state_after_hand_over, owners_handed_over, is_there, going_outcome, state_after_going}
+use Rattle.lot_machine.specs.Machine.{state_after_hand_over_by, hand_over_told, State, unlocked, place_at, word_at, owners_at, section_at, queue_at, put, state_after_operation, state_with_sections, queues_with_last, queues_without, queues_without_first, state_after_taking, state_after_reply, state_after_act, reply_to, can_do, state_after_go, go_of, is_possible, after, step_outcome, go_outcome, place_after_telling, state_after_telling, state_after_hand_over, owners_handed_over, is_there, going_outcome, state_after_going}
 use Rattle.lot_machine.specs.Fits.{IsShaped, SameSize}
 use Rattle.lot_laws.proofs.Glue.{IsSingle, next_single}
 use Rattle.lot_laws.proofs.OwnPlace.{goes_from_there, told_from_there}
 use Rattle.lot_laws.specs.Refinement.{owner_at}
 use Rattle.lot_laws.specs.Stations.{station}
-use Rattle.lot_laws.specs.SitesOf.{AreCounted, IsSteady}
+use Rattle.lot_laws.specs.SitesOf.{AreCondvars, AreCounted, IsSteady}
 use Rattle.lot_machine.proofs.Shape.{after_shaped, after_size, main_key_there, main_line_there}
+use Rattle.lot_laws.proofs.CondvarSteps.{after_condvars}
 use Rattle.lot_laws.proofs.CountsKept.{counted_after}
 use Rattle.lot_laws.proofs.TurnsKept.{after_steady}
 use Rattle.lot_laws.proofs.AtPlaces.{same_without}
@@ -39,31 +38,6 @@ use Rattle.lot_laws.proofs.ExclusiveOwners.{owner_after, exclusive-owners}
 use Rattle.lot_acts.specs.declared.owners.Owners.{Owners}
 use Rattle.lot_acts.specs.Owners.{with_exclusive}
 use Rattle.lot_steps.specs.Steps.{owners_after}
-use Rattle.lot_laws.specs.Solo.{Rests}
-use Rattle.lot_laws.proofs.Alone.{rests_after}
-
--- ---------------------------------------------------------------- runs
-
--- after at most k steps of the thread alone its call rests, and then this holds
-abbrev pub Leads : ℕ → State → ℕ → (State → Outcome → Type 0) → Type 0
-Leads k w t P = (n : ℕ) (last : Outcome) → k ≤ n → P (solo n w t last).state (solo n w t last).outcome
-
-module _ (w : State) (t : ℕ) (P : State → Outcome → Type 0) where
-  pub leads_rest : (o : Outcome) → step_outcome w (go_of t) ≡ o → Rests o → P (after w (go_of t)) o → Leads 1 w t P
-  unfolding solo
-  leads_rest o told rest h zero last le = absurd (omega arith)
-  leads_rest o told rest h (suc n) last le = rw (told, rests_after o w (after w (go_of t)) last (solo n (after w (go_of t)) t outcome.TheVariants.Step) (λ e. subst Rests e rest) (λ e. subst Rests e rest)) h
-
-  pub leads_step : (k : ℕ) → step_outcome w (go_of t) ≡ outcome.TheVariants.Step → Leads k (after w (go_of t)) t P → Leads (k + 1) w t P
-  unfolding solo
-  leads_step k told more zero last le = absurd (omega arith)
-  leads_step k told more (suc n) last le = rw told (more n outcome.TheVariants.Step (omega arith))
-
-pub leads_more : (k m : ℕ) (w : State) (t : ℕ) (P : State → Outcome → Type 0) → k ≤ m → Leads k w t P → Leads m w t P
-leads_more k m w t P le h n last bound = h n last (omega arith)
-
-pub leads_so : (k : ℕ) (w : State) (t : ℕ) (P Q : State → Outcome → Type 0) → ((v : State) (x : Outcome) → P v x → Q v x) → Leads k w t P → Leads k w t Q
-leads_so k w t P Q so h n last bound = so _ _ (h n last bound)
 
 -- ---------------------------------------------------------------- acts
 
@@ -72,6 +46,7 @@ pub record Facing (w : State) (t l : ℕ) (p : Place) (v : ℕ) (o : Option ℕ)
   pub shape : IsShaped w
   pub steady : IsSteady w
   pub counted : AreCounted w
+  pub condvars : AreCondvars w
   pub thread : t < length w.places
   pub lock : l < length w.locks
   pub place : place_at w t ≡ p
@@ -103,8 +78,9 @@ module _ (w : State) (t l : ℕ) (p : Place) (v : ℕ) (o s : Option ℕ) (q : L
       → next_place p (reply_to w t (act_of p)) ≡ p2 → word_at b l ≡ v2 → owner_at b l ≡ o2 → section_at b (2 * l) ≡ s2 → queue_at b (2 * l) ≡ q2 → Facing (after w (go_of t)) t l p2 v2 o2 s2 q2
   faces b p2 v2 o2 s2 q2 can does places to word owner section queue = record {
     shape = after_shaped w (go_of t) f.shape;
-    steady = after_steady w (go_of t) f.shape f.steady f.counted;
-    counted = counted_after w (go_of t) f.shape f.steady f.counted;
+    steady = after_steady w (go_of t) f.shape f.steady f.counted f.condvars;
+    counted = counted_after w (go_of t) f.shape f.steady f.counted f.condvars;
+    condvars = after_condvars w (go_of t) f.shape f.steady f.counted f.condvars;
     thread = let size : SameSize w (after w (go_of t)) = after_size w (go_of t) in rw size.threads f.thread;
     lock = let size : SameSize w (after w (go_of t)) = after_size w (go_of t) in rw size.locks f.lock;
     single = subst IsSingle to (next_single p (reply_to w t (act_of p)) f.single);
