@@ -96,6 +96,8 @@ pub mod RwLockGoes
 pub mod CountsPut
 pub mod LockSteps
 pub mod OneThing
+pub mod ShownMutex
+pub mod NobodyWakes
 pub mod Promises
 pub mod MutexPromises
 pub mod SharedFair

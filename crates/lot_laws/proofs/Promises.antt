@@ -6,14 +6,12 @@ use Rattle.lot_acts.specs.declared.acts.Act.TheVariants.{Leave, Rest, Sleep}
 use Rattle.lot_acts.specs.Profiles.{Profile, hand, hand_owner}
 use Rattle.lot_calls.specs.declared.kinds.Kind.{Kind}
 use Rattle.lot_calls.specs.declared.kinds.Kind as kinds
-use Rattle.lot_calls.specs.declared.calls.Step.{Step}
 use Rattle.lot_steps.specs.declared.places.Place.{Place}
 use Rattle.lot_steps.specs.declared.places.Place.TheVariants.{Condvar}
 use Rattle.lot_steps.specs.Steps.{act_of, calls, is_lock, lock_of, or_else, profile, retries_on, taker}
-use Rattle.lot_machine.specs.Machine.{State, opening, place_at, after, kind_at, filled_at, section_at}
-use Rattle.lot_machine.specs.Fits.{IsShaped}
+use Rattle.lot_machine.specs.Machine.{State, opening, place_at, kind_at, filled_at, section_at}
 use Rattle.lot_laws.specs.Stations.{Station, station_at, doing_on}
-use Rattle.lot_laws.specs.SitesOf.{AreCondvars, AreCounted, IsSteady, RunsInClosures, rules_in}
+use Rattle.lot_laws.specs.SitesOf.{AreCondvars, IsSteady, RunsInClosures, rules_in}
 use Rattle.abstract_locks.specs.Runs.{CallState, IsOpening}
 use Rattle.abstract_locks.specs.Locks.{LockState, Sort, Queued, Rights, opening_lock, Rules, IsSomePending, has_caller, rights_of, readers, count, standing}
 use Rattle.abstract_locks.specs.Onces.{InProgress, IsRunning}
@@ -25,7 +23,7 @@ use Rattle.lot_laws.specs.Refinement.{RunsClosure, locks_of, lock_state, lock_se
 use Rattle.lot_laws.specs.Owing.{Owes, sort_at}
 use Rattle.lot_laws.specs.Promises.{IsKept, KnowsRights, WaitsFor, WakesWaiters, IsDebtorOf, IsLookedAfter, IsOpenNow, WasNeverFull, HasOrPends, IsHandedOver, IsOwedWake, IsWithinLimit, want_of, CallsOneLock, HasReleased}
 use Rattle.lot_laws.proofs.Closures.{runs_one}
-use Rattle.lot_laws.proofs.TurnsKept.{after_steady}
+use Rattle.lot_laws.proofs.ShownMutex.{shows_waiters}
 use Rattle.lot_laws.proofs.SitesPromise.{not_empty}
 use Rattle.lot_laws.proofs.RowPromises.{IsDebtorIn, HasClaimed, HasDebt, WasHanded, RowLooksAfter}
 use Rattle.lot_laws.proofs.PlacePromises.{row_promises, station_own, doing_own, owed_own, owes_own, calls_one_lock, doing_calls, station_calls, stands_waiting, waiting_stands, call_own, inside_own}
@@ -370,8 +368,8 @@ module _ (w : State) (steady : IsSteady w) where
           | inr handed ↦ handed_at l single e handed
         ]
 
-  pub kept : RunsInClosures w → IsKept w
-  kept running = record {
+  pub kept : AreCondvars w → RunsInClosures w → IsKept w
+  kept condvars running = record {
     state = λ l. (steady.sites.site l).state;
     one_place = one_place;
     waiting = waits;
@@ -389,10 +387,8 @@ module _ (w : State) (steady : IsSteady w) where
     handing = λ t h. handed_over t h.0 h.1;
     parked = λ t l waiting. (steady.sites.site l).parked (not_empty t (lock_state w l).queue waiting);
     aside_parked = λ l. (steady.sites.site l).aside_parked;
+    shown = λ l sort free. shows_waiters w l (condvars l sort) free;
   }
-
-pub kept_after : (w : State) (s : Step) → IsShaped w → IsSteady w → AreCounted w → AreCondvars w → RunsInClosures (after w s) → IsKept (after w s)
-kept_after w s shape steady counted condvars running = kept (after w s) (after_steady w s shape steady counted condvars) running
 
 -- ---------------------------------------------------------------- the opening state, of the abstract locks
 

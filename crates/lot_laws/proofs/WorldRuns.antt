@@ -6,6 +6,7 @@ use Rattle.lot_calls.specs.declared.outcomes.Outcome as outcome
 use Rattle.abstract_locks.specs.Runs.{IsRun, LocksState}
 use Rattle.abstract_locks.specs.UserLaws.{OfEachStep}
 use Rattle.lot_machine.specs.Machine.{State, after, step_outcome, after_steps, step_outcomes, alone_after, go_of, solo}
+use Rattle.lot_laws.specs.Promises.{IsKept}
 use Rattle.lot_laws.specs.Refinement.{locks_of}
 use Rattle.lot_laws.specs.WorldRuns.{IsWorldStep, IsWorldRun, Tells}
 use Rattle.lot_laws.specs.Solo.{IsSoloRun, GoesOnUntil, last_told}
@@ -16,7 +17,7 @@ use Rattle.lot_laws.proofs.Fair.{is_fair}
 use Rattle.lot_laws.proofs.LockSteps.{after_step}
 use Rattle.lot_laws.proofs.OneThing.{one_thing, touches}
 use Rattle.lot_laws.specs.SitesOf.{IsWorld}
-use Rattle.lot_laws.proofs.Promises.{kept, kept_after}
+use Rattle.lot_laws.proofs.Promises.{kept}
 use Rattle.lot_laws.proofs.RunsKept.{running_after}
 use Rattle.lot_machine.proofs.Shape.{after_shaped}
 use Rattle.lot_laws.proofs.TurnsKept.{after_steady}
@@ -30,6 +31,9 @@ world_after w s h = record {
   running = running_after w s h.shaped h.steady h.counted h.condvars h.running;
 }
 
+pub world_kept : (w : State) → IsWorld w → IsKept w
+world_kept w h = kept w h.steady h.condvars h.running
+
 pub world_step : (w : State) (s : Step) → IsWorld w → IsWorldStep w s (step_outcome w s) (after w s)
 world_step w s h = record {
   refines = after_step w s h.shaped h.steady h.counted h.condvars;
@@ -37,12 +41,12 @@ world_step w s h = record {
   touches = touches w s;
   owing = owes_since w s h.shaped h.steady h.counted h.condvars;
   fair = is_fair w s h.shaped h.steady h.counted h.condvars;
-  kept = kept_after w s h.shaped h.steady h.counted h.condvars (running_after w s h.shaped h.steady h.counted h.condvars h.running);
+  kept = world_kept (after w s) (world_after w s h);
 }
 
 -- what holds of each step of the abstract locks holds of each step of the world
 pub of_step : {law : LocksState → LocksState → Type 0} → OfEachStep law → (w : State) (s : Step) → IsWorld w → law (locks_of w) (locks_of (after w s))
-of_step each w s h = each (locks_of w) (locks_of (after w s)) s (step_outcome w s) (kept w h.steady h.running).state (after_step w s h.shaped h.steady h.counted h.condvars)
+of_step each w s h = each (locks_of w) (locks_of (after w s)) s (step_outcome w s) (world_kept w h).state (after_step w s h.shaped h.steady h.counted h.condvars)
 
 pub world_run : (w : State) (ss : List Step) → IsWorld w → IsWorldRun w ss (step_outcomes w ss) (after_steps w ss)
 world_run w [] h = refl

@@ -1,7 +1,7 @@
 -- What is promised of every state, before and after each step, under every schedule. Each clause is told by the sort of lock, so that it
 -- stays as it is for sorts that have no call yet.
 use Rattle.abstract_locks.specs.Locks as locks
-use Rattle.std.specs.Prelude.{ℕ, Bool, false, true, None, Option, ◌≡◌, ◌≢◌, ◌<◌, ◌≤◌, ◌⊎◌, ◌↔◌, Some, ◌*◌, ◌+◌}
+use Rattle.std.specs.Prelude.{ℕ, Bool, false, true, None, Option, ◌≡◌, ◌≢◌, ◌<◌, ◌≤◌, ◌⊎◌, ◌↔◌, Some, ◌*◌, ◌+◌, []}
 use Rattle.lot_base.specs.declared.keys.Keys.TheVariants.{One}
 use Rattle.lot_base.specs.declared.wants.Want.{Want}
 use Rattle.lot_base.specs.declared.wants.Want.TheVariants.{Exclusive, Upgradable, Shared}
@@ -166,6 +166,12 @@ pub record IsHandedOver (w : State) (t : ℕ) : Type 0 where
 abbrev pub IsWithinLimit : Rules → LockState → Type 0
 IsWithinLimit r s = (count s ≤ r.limit) ⊎ ((r.sort ≡ Recursive) × (count s ≡ r.limit + 1))
 
+-- a condition variable shows a mutex exactly while somebody waits for it, each in a call that waits with that mutex
+pub record ShowsItsWaiters (w : State) (l : ℕ) : Type 0 where
+  pub shows : ((lock_state w l).shown ≡ None) ↔ ((lock_state w l).queue ≡ [])
+  pub one : (t m : ℕ) → (lock_state w l).shown ≡ Some m → WaitsFor w t l → (timed : Bool) × ((call_at w t).purpose ≡ Some (Waits l m timed))
+
+-- a call is of one lock
 abbrev pub CallsOneLock : Option Purpose → Type 0
 CallsOneLock (Some (Waits l m timed)) = ⊥
 CallsOneLock (Some (Notifies l all)) = ⊥
@@ -203,3 +209,5 @@ pub record IsKept (w : State) : Type 0 where
   pub parked : (t l : ℕ) → WaitsFor w t l → (has_parked_bit w l ≡ true) ⊎ ((u : ℕ) × IsAboutToMark w u l)
   -- and a writer aside implies its own
   pub aside_parked : (l : ℕ) → (lock_state w l).aside ≢ None → has_aside_bit w l ≡ true
+  -- while nobody is inside its section, a condition variable shows a mutex exactly while somebody waits, and all wait with that one
+  pub shown : (l : ℕ) → sort_at w l ≡ locks.Condvar → section_at w (key_of l Main) ≡ None → ShowsItsWaiters w l

@@ -7,6 +7,7 @@ ghost use Rattle.lot_machine.specs.Machine.{opening, place_at, word_at, kind_at,
 ghost use Rattle.lot_machine.specs.Fits.{SameSize};
 ghost use Rattle.abstract_locks.specs.Runs.{IsOpening, IsStep, IsRun, purpose_at};
 ghost use Rattle.abstract_locks.specs.UserLaws.{ReadersStayOut, RereadersPass, UpgradesLetNobodyWrite, DowngradesOwn};
+ghost use Rattle.lot_laws.specs.CondvarLaws.{NobodyWakesByItself};
 ghost use Rattle.lot_laws.specs.Refinement.{locks_of, ChangesOneThing};
 ghost use Rattle.lot_laws.specs.Promises.{IsKept};
 ghost use Rattle.lot_laws.specs.Fair.{IsFair};
@@ -84,8 +85,8 @@ impl<Q: Queues + Drop> World<Q> {
         // all whom it has taken have what they waited for in that one step, or are woken where they would pass the limit.
         ensures fair { IsFair self.old self.new }
 
-        // Words are coded, counts keep to the limit, and whoever waits for a lock whose way nobody bars has a thread that owes its wake or
-        // tries again.
+        // Words are coded, counts keep to the limit, and whoever waits for a lock whose way nobody bars, a requeued waiter too, has a thread
+        // that owes its wake or tries again. Outside its section a condition variable shows a mutex exactly while somebody waits.
         ensures kept { IsKept self.new }
 
         // While a writer is pending on a lock that isn't recursive, nobody begins to share it.
@@ -97,6 +98,9 @@ impl<Q: Queues + Drop> World<Q> {
         // From the upgradable right to the exclusive one, an upgrade lets no other writer in, and a downgrade owns throughout.
         ensures upgrades_let_nobody_write { UpgradesLetNobodyWrite (locks_of self.old) (locks_of self.new) }
         ensures downgrades_own { DowngradesOwn (locks_of self.old) (locks_of self.new) }
+
+        // No wait on a condition variable wakes by itself: another thread notifies that one, while it stands in its queue.
+        ensures nobody_wakes_by_itself { NobodyWakesByItself (locks_of self.old) (locks_of self.new) }
 
         // A thread owes a wake since the step that saw waiters, or since it entered the section, until it leaves it.
         ensures owing { OwesSince self.old step.thread result self.new }

@@ -17,4 +17,4 @@ invariant_of-result g c = rw c.in_ok-new.ensures.ok (record {
 pub returns-clause-opening : goal.returns-clause-opening
 returns-clause-opening g c =
     let steady = opening_steady c.args.kinds.now c.args.threads c.requires.some c.requires.fit in
-    rw c.in_ok-new.ensures.ok (opening_is c.args.kinds.now c.args.threads, kept _ steady (opening_running c.args.kinds.now c.args.threads))
+    rw c.in_ok-new.ensures.ok (opening_is c.args.kinds.now c.args.threads, kept _ steady (opening_condvars c.args.kinds.now c.args.threads) (opening_running c.args.kinds.now c.args.threads))

@@ -6,8 +6,7 @@ use Rattle.lot_laws.proofs.Runs.{run_state, run_outcomes}
 use Rattle.std.proofs.lemmas.List.{take_all}
 use Rattle.std.proofs.Common.{◌≡◌, ap, ◌∙◌, ◌++◌, arith}
 use Rattle.lot_machine.specs.Machine.{after_steps, step_outcomes}
-use Rattle.lot_laws.proofs.Promises.{kept}
-use Rattle.lot_laws.proofs.WorldRuns.{tells_run, tells_refines}
+use Rattle.lot_laws.proofs.WorldRuns.{tells_run, tells_refines, world_kept}
 use Rattle.lot_world.proofs.world.World.run.Goals as goal
 
 pub loop-taken-preserved : goal.loop-taken-preserved
@@ -23,12 +22,12 @@ loop-taken-preserved g c =
 pub returns-then-is_err-clause-kept_before : goal.returns-then-is_err-clause-kept_before
 returns-then-is_err-clause-kept_before g c =
     let before : IsWorld c.self.inside.machine = c.self.invariant in
-    rw (← c.self.view_is) (kept c.self.inside.machine before.steady before.running)
+    rw (← c.self.view_is) (world_kept c.self.inside.machine before)
 
 pub returns-clause-kept_before : goal.returns-clause-kept_before
 returns-clause-kept_before g c =
     let before : IsWorld c.self.inside.machine = c.self.invariant in
-    rw (← c.self.view_is) (kept c.self.inside.machine before.steady before.running)
+    rw (← c.self.view_is) (world_kept c.self.inside.machine before)
 
 pub returns-then-is_err-clause-stopped_refines : goal.returns-then-is_err-clause-stopped_refines
 returns-then-is_err-clause-stopped_refines g c =

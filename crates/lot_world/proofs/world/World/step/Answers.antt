@@ -3,6 +3,7 @@ use Rattle.lot_machine.proofs.Shape.{after_size}
 use Rattle.lot_laws.proofs.LockSteps.{after_step}
 use Rattle.lot_laws.proofs.OneThing.{one_thing, touches}
 use Rattle.lot_laws.proofs.Fair.{is_fair}
+use Rattle.lot_laws.proofs.NobodyWakes.{nobody_wakes}
 use Rattle.lot_laws.proofs.Owing.{owes_since}
 use Rattle.lot_laws.proofs.WorldRuns.{of_step, world_after, world_step}
 use Rattle.abstract_locks.proofs.UserLaws.{readers_stay_out, rereaders_pass, upgrades_hold, downgrades_hold}
@@ -62,3 +63,8 @@ pub returns-clause-downgrades_own : goal.returns-clause-downgrades_own
 returns-clause-downgrades_own g c =
     let before : IsWorld c.self.inside.machine = c.self.invariant in
     rw (c.turn.ensures.state, ← c.self.view_is) (of_step downgrades_hold c.self.inside.machine c.args.step before)
+
+pub returns-clause-nobody_wakes_by_itself : goal.returns-clause-nobody_wakes_by_itself
+returns-clause-nobody_wakes_by_itself g c =
+    let before : IsWorld c.self.inside.machine = c.self.invariant in
+    rw (c.turn.ensures.state, ← c.self.view_is) (of_step nobody_wakes c.self.inside.machine c.args.step before)
