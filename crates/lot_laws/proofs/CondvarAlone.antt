@@ -26,7 +26,6 @@ use Rattle.lot_condvar.specs.CondvarSteps.{condvar_act, condvar_next, mutex_besi
 use Rattle.lot_steps.specs.declared.places.Place.{Place}
 use Rattle.lot_steps.specs.declared.places.Place.TheVariants.{Idle, Condvar}
 use Rattle.lot_steps.specs.Steps.{condvar_does, condvar_goes, next_act, next_place}
-use Rattle.abstract_locks.specs.Locks as locks
 use Rattle.abstract_locks.specs.Sites.{Line, Main}
 use Rattle.lot_machine.specs.Fits.{IsThere, PlaceFits, SameSize}
 use Rattle.lot_machine.specs.Machine.{State, after, can_do, go_of, go_outcome, going_outcome, is_possible, place_at, put, queue_at, queues_with_last, queues_without_first, reply_to, section_at, state_after_act, state_after_go, state_after_going, state_after_hand_over_by, state_after_taking, state_with_sections, step_outcome, unlocked, word_at}

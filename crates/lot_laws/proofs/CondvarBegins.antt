@@ -1,9 +1,8 @@
 -- A call of a condition variable begins where it may, and is late where it sleeps with a deadline: its place alone changes, and its call.
-use Rattle.std.proofs.Common.{ℕ, Bool, true, false, Option, Some, None, if◌then◌else◌, ◌&&◌, ◌≡◌, ◌<◌, ◌≤◌, length, nat_lt, ltb-true, lt-ltb, inl, inr, refl, sym, ◌∙◌, ap, subst}
+use Rattle.std.proofs.Common.{ℕ, Bool, true, false, Option, Some, None, if◌then◌else◌, ◌&&◌, ◌≡◌, ◌<◌, length, nat_lt, ltb-true, lt-ltb, inl, inr, refl, sym, ◌∙◌, ap, subst}
 use Rattle.std.proofs.lemmas.Bool.{cases_lt}
 use Rattle.std.proofs.lemmas.List.{get_or_past}
 use Rattle.lot_base.specs.declared.keys.Keys.TheVariants.{One}
-use Rattle.lot_base.specs.declared.wants.Want.TheVariants.{Exclusive}
 use Rattle.lot_calls.specs.declared.kinds.Kind.{Kind}
 use Rattle.lot_calls.specs.declared.kinds.Kind.TheVariants as kind
 use Rattle.lot_calls.specs.declared.calls.Call.{Call}
@@ -14,7 +13,6 @@ use Rattle.lot_calls.specs.declared.outcomes.Outcome.TheVariants as outcome
 use Rattle.lot_calls.specs.Calls.{mutex_named}
 use Rattle.lot_calls.specs.Kinds.{has_call, is_plain_mutex}
 use Rattle.lot_acts.specs.declared.acts.Reply.TheVariants.{Late}
-use Rattle.lot_acts.specs.Owners.{is_thread}
 use Rattle.lot_condvar.specs.declared.places.CondvarPlace.{CondvarPlace}
 use Rattle.lot_condvar.specs.declared.places.CondvarPlace.TheVariants.{Look, Notify, Wait}
 use Rattle.lot_condvar.specs.declared.wait.Stands.TheVariants as stands
@@ -25,11 +23,11 @@ use Rattle.lot_steps.specs.Steps.{is_idle, late_key, next_place}
 use Rattle.abstract_locks.specs.Locks as locks
 use Rattle.abstract_locks.specs.Locks.{Rights, Taken}
 use Rattle.abstract_locks.specs.Purposes.{condvar_purpose, purpose_of, rules_of}
-use Rattle.abstract_locks.specs.Runs.{HasRight, LocksState, MayBegin, Stays, new_call, purpose_at}
+use Rattle.abstract_locks.specs.Runs.{HasRight, MayBegin, Stays, new_call, purpose_at}
 use Rattle.abstract_locks.specs.Sites.{Main}
 use Rattle.lot_machine.specs.Machine.{State, can_begin, has_mutex, holds_right, is_free_under, is_open_to, kind_at, owners_at, place_at, state_after_begin, state_after_late_on, state_with_sections, unlocked}
 use Rattle.lot_machine.proofs.Shape.{both}
-use Rattle.lot_laws.specs.Refinement.{call_state, lock_state, locks_of, taken_at}
+use Rattle.lot_laws.specs.Refinement.{call_state, locks_of, taken_at}
 use Rattle.lot_laws.specs.SitesOf.{key_of}
 use Rattle.lot_laws.proofs.CallEvents.{rights}
 use Rattle.lot_laws.proofs.Glue.{is_owner, thread_is}

@@ -1,5 +1,5 @@
 -- A thread goes on in a call of a condition variable, and does so in the abstract locks: each act of a wait and of a notification.
-use Rattle.std.proofs.Common.{ℕ, Bool, true, false, Option, Some, None, if◌then◌else◌, ◌==◌, ◌&&◌, ◌≡◌, ◌≢◌, ◌<◌, List, [], length, not, inl, inr, get_or-set_same, refl, sym, ◌∙◌, ap, subst, arith}
+use Rattle.std.proofs.Common.{ℕ, Bool, true, false, Some, None, if◌then◌else◌, ◌==◌, ◌&&◌, ◌≡◌, ◌≢◌, ◌<◌, List, [], length, not, inl, inr, get_or-set_same, refl, sym, ◌∙◌, ap, subst, arith}
 use Rattle.lot_base.specs.declared.notes.Note.TheVariants as note
 use Rattle.lot_base.specs.declared.ops.Op.TheVariants as op
 use Rattle.lot_calls.specs.Kinds.{is_plain_mutex}

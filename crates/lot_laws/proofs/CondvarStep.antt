@@ -9,7 +9,6 @@ use Rattle.lot_condvar.specs.declared.notify.NotifyAt.{NotifyAt}
 use Rattle.lot_condvar.specs.declared.notify.NotifyAt.TheVariants as notify
 use Rattle.lot_condvar.specs.declared.places.CondvarPlace.TheVariants.{Wait, Look, Notify}
 use Rattle.lot_condvar.specs.declared.wait.WaitAt.{WaitAt}
-use Rattle.lot_condvar.specs.declared.wait.WaitAt.TheVariants as wait
 use Rattle.lot_condvar.specs.CondvarCalls.{call_at, look_event, notify_event, wait_event}
 use Rattle.lot_condvar.specs.CondvarDeeds.{notify_deeds, wait_deeds, word_of}
 use Rattle.lot_condvar.specs.CondvarMutex.{beside_deeds}

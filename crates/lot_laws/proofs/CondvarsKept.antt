@@ -1,5 +1,5 @@
 -- Each step keeps what holds of condition variables: those that its call is not of are as they were.
-use Rattle.std.proofs.Common.{ℕ, Bool, true, false, Option, Some, None, if◌then◌else◌, ◌==◌, ◌≡◌, ◌≢◌, ◌⊎◌, ◌<◌, length, inl, inr, refl, sym, ◌∙◌, ap, subst, get_or-set_same, get_or-set_other}
+use Rattle.std.proofs.Common.{ℕ, Bool, true, false, Option, Some, None, if◌then◌else◌, ◌==◌, ◌≡◌, ◌≢◌, ◌⊎◌, inl, inr, refl, sym, ◌∙◌, ap, subst}
 use Rattle.std.proofs.lemmas.Bool.{cases_eq, eqb-true}
 use Rattle.lot_calls.specs.declared.calls.Step.{Step}
 use Rattle.lot_calls.specs.declared.calls.Turn.{Turn}
@@ -13,22 +13,22 @@ use Rattle.lot_condvar.specs.CondvarProfiles.{condvar_profile, condvar_row, mute
 use Rattle.lot_condvar.specs.CondvarSteps.{mutex_beside}
 use Rattle.lot_steps.specs.declared.places.Place.{Place}
 use Rattle.lot_steps.specs.declared.places.Place.TheVariants.{Idle, Mutex, RwLock, Once, Condvar}
-use Rattle.lot_steps.specs.Steps.{is_lock, lock_of, profile, profile_at}
-use Rattle.abstract_locks.specs.Condvars.{IsCondvar, moved_of}
+use Rattle.lot_steps.specs.Steps.{is_lock, lock_of, profile}
+use Rattle.abstract_locks.specs.Condvars.{moved_of}
 use Rattle.abstract_locks.specs.Locks as locks
 use Rattle.abstract_locks.specs.Locks.{LockCase, LockState, Rules, SeeOwner, Wake, after_case, left_behind, putting}
 use Rattle.abstract_locks.specs.Purposes.{Purpose, Enters, Releases, Converts, Bumps, CallsOnce, Awaits, Waits, Notifies, IsMadeOf, NotifiesBeside, Recall, lock_for, rules_of}
 use Rattle.abstract_locks.specs.Runs.{AtLock, CallState, Event, GoesOn, IsStep, LocksState, MayDo, MayHappen, MayTurn, Does, Moves, Nothing, SectionChanges, going_on, joined_by, locks_after, rules_at, unless_ended, woken}
 use Rattle.abstract_locks.specs.Sites.{Main}
 use Rattle.lot_machine.specs.Fits.{IsShaped}
-use Rattle.lot_machine.specs.Machine.{State, after, kind_at, place_at, put, section_at, step_outcome}
+use Rattle.lot_machine.specs.Machine.{State, after, kind_at, place_at, section_at, step_outcome}
 use Rattle.lot_laws.specs.Promises.{KnowsRights}
 use Rattle.lot_laws.specs.Refinement.{call_at, call_state, lock_state, locks_of}
 use Rattle.lot_laws.specs.Stations.{station_at}
-use Rattle.lot_laws.specs.SitesOf.{AreCondvars, AreCounted, FitsCondvar, FitsItsLock, IsSteady, condvar_of, inside_as, key_of, rules_in}
+use Rattle.lot_laws.specs.SitesOf.{AreCondvars, AreCounted, FitsCondvar, FitsItsLock, IsSteady, condvar_of, key_of, rules_in}
 use Rattle.lot_laws.proofs.Befallen.{others_keep_it}
 use Rattle.lot_laws.proofs.CallEvents.{rights}
-use Rattle.lot_laws.proofs.CondvarRows.{names_of, names_unmoved, row_says, stage_of, stage_unmoved}
+use Rattle.lot_laws.proofs.CondvarRows.{names_of, names_unmoved, stage_of, stage_unmoved}
 use Rattle.lot_laws.proofs.Glue.{IsSingle, put_here, same, single_station}
 use Rattle.lot_laws.proofs.KindsKept.{after_kinds}
 use Rattle.lot_laws.proofs.LockSteps.{after_step}

@@ -60,7 +60,7 @@ use Rattle.lot_laws.proofs.HandCases.{others_hold}
 use Rattle.lot_laws.proofs.HandsCounted.{counted_stays, same_hand}
 use Rattle.lot_laws.proofs.InHand.{wanted_of}
 use Rattle.lot_laws.proofs.LockSteps.{after_step}
-use Rattle.lot_laws.proofs.Looking.{closing_here, closing_steady, looking_steady, set_keeps}
+use Rattle.lot_laws.proofs.Looking.{closing_here, looking_steady, set_keeps}
 use Rattle.lot_laws.proofs.TurnsKept.{after_steady}
 
 -- ---------------------------------------------------------------- another thread goes on

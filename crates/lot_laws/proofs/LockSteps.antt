@@ -1,5 +1,5 @@
 -- Each turn of a thread is a step of the abstract locks.
-use Rattle.std.proofs.Common.{◌≤◌, ◌++◌, arith, ℕ, Bool, true, false, Option, Some, None, if◌then◌else◌, ◌==◌, ◌&&◌, not, ◌≡◌, ◌≢◌, ◌+◌, ◌*◌, ◌<◌, ◌↔◌, inl, inr, List, [], ◌∷◌, length, get_or, refl, sym, ◌∙◌, ap, subst, get_or-set_other, get_or-set_same, length-set, nat_lt, is_some}
+use Rattle.std.proofs.Common.{◌≤◌, ◌++◌, arith, ℕ, Bool, true, false, Option, Some, None, if◌then◌else◌, ◌==◌, ◌&&◌, not, ◌≡◌, ◌≢◌, ◌+◌, ◌*◌, ◌<◌, ◌↔◌, inl, inr, List, [], ◌∷◌, length, refl, sym, ◌∙◌, ap, subst, get_or-set_other, get_or-set_same, length-set, nat_lt, is_some}
 use Rattle.lot_laws.proofs.Possible.{begins_outside, closure_gone, late_outside}
 use Rattle.abstract_locks.specs.Runs.{AtLock}
 use Rattle.abstract_locks.specs.Purposes.{rules_of}
@@ -45,7 +45,7 @@ use Rattle.lot_rwlock.specs.RwLockProfiles.{purpose_by, rwlock_late_line, late_l
 use Rattle.lot_rwlock.specs.RwLockDeeds.{Admits}
 use Rattle.abstract_locks.specs.Sites.{has_readers}
 use Rattle.abstract_locks.specs.Locks.{Mutex as Mutual}
-use Rattle.std.proofs.lemmas.Bool.{cases_eq, ltb-true, lt-ltb}
+use Rattle.std.proofs.lemmas.Bool.{ltb-true, lt-ltb}
 use Rattle.lot_base.specs.declared.keys.Keys.TheVariants.{One}
 use Rattle.lot_base.specs.declared.ops.Op as op
 use Rattle.lot_base.specs.declared.wants.Want.TheVariants.{Exclusive}
@@ -91,7 +91,7 @@ use Rattle.lot_laws.proofs.Closures.{closes_one, closure_told, mutex_runs_none, 
 use Rattle.lot_laws.specs.SitesOf.{site_of, AreCondvars, AreCounted, FitsCondvar, IsSteady, Goes, FitsItsLock, is_mutex, rules_in, carried_at}
 use Rattle.abstract_locks.specs.Sites.{IsSite, Deed, Main, Mark, End, Case}
 use Rattle.abstract_locks.specs.Locks.{LockCase, Wake, Leave as GivesBack, HandOff as HandsOff, Rights, rights_of, standing}
-use Rattle.abstract_locks.specs.Runs.{LocksState, CallState, GoesOn, Stays, Looks, IsOfMutex, Does, SectionChanges, MayBegin, MayTurn, HasRight, Turned, IsStep, purpose_at, new_call, Nothing}
+use Rattle.abstract_locks.specs.Runs.{LocksState, GoesOn, Stays, Looks, IsOfMutex, Does, SectionChanges, MayBegin, MayTurn, HasRight, Turned, IsStep, purpose_at, new_call, Nothing}
 use Rattle.abstract_locks.specs.Purposes.{purpose_of, mutex_purpose, rwlock_purpose}
 use Rattle.lot_laws.specs.MutexDeeds.{mutex_row, mutex_station, mutex_deeds, lock_deeds, enters, hands_over, acts}
 use Rattle.lot_laws.specs.MutexDeeds as of_mutex
@@ -111,7 +111,6 @@ use Rattle.lot_rwlock_fair.specs.FairProfiles.{call_late_line, call_profile}
 use Rattle.lot_rwlock_fair.specs.FairSteps.{bump_next, call_next, plain_next}
 use Rattle.lot_rwlock_fair.proofs.FairSleepers.{fair_sleepers_hear}
 use Rattle.lot_rwlock_fair.specs.FairBegins.{call_first, call_right}
-use Rattle.std.specs.Prelude.{replicate}
 use Rattle.lot_acts.specs.declared.acts.Reply.{Reply}
 use Rattle.lot_mutex.specs.declared.places.MutexPlace.{MutexPlace}
 use Rattle.lot_mutex.specs.MutexSteps.{mutex_act, mutex_next}

@@ -11,7 +11,6 @@ use Rattle.lot_acts.specs.declared.acts.Act as act
 use Rattle.lot_acts.specs.declared.acts.Reply.TheVariants.{Value, Took, Removed}
 use Rattle.lot_acts.specs.declared.acts.Next as next
 use Rattle.lot_calls.specs.declared.outcomes.Answer as answer
-use Rattle.lot_calls.specs.declared.calls.Call as call
 use Rattle.lot_calls.specs.declared.outcomes.Outcome.{Outcome}
 use Rattle.lot_calls.specs.declared.outcomes.Outcome as outcome
 use Rattle.lot_mutex.specs.declared.places.TheConstants.{NOT_PARKED}
@@ -40,7 +39,6 @@ use Rattle.abstract_locks.specs.Locks.{first_thread}
 use Rattle.abstract_locks.specs.Picks.{queued_of}
 use Rattle.lot_laws.specs.Refinement.{owner_at, taken_at}
 use Rattle.lot_laws.specs.Solo.{Rests}
-use Rattle.lot_laws.proofs.MutexTable.{mutex}
 use Rattle.lot_laws.proofs.MutexCalls.{decides}
 use Rattle.lot_laws.proofs.Counts.{first_times}
 use Rattle.lot_laws.proofs.Glue.{taken_held, put_here, own_stance, differ, aparts}

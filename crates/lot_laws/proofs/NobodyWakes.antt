@@ -1,6 +1,5 @@
 -- No wait wakes by itself: its call recalls that it was notified since another thread's move alone.
-use Rattle.std.proofs.Common.{ℕ, Bool, true, false, Option, Some, None, if◌then◌else◌, ◌==◌, ◌≡◌, ◌≢◌, ◌≤◌, ◌+◌, List, [], ◌∷◌, take, inl, inr, eqb-true, refl, sym, ◌∙◌, ap, subst, arith}
-use Rattle.std.specs.Prelude.{nat_le}
+use Rattle.std.proofs.Common.{ℕ, Bool, true, false, Option, Some, None, if◌then◌else◌, ◌==◌, ◌≡◌, ◌≤◌, ◌+◌, List, [], ◌∷◌, inl, inr, eqb-true, refl, sym, ◌∙◌, ap, subst, arith}
 use Rattle.std.proofs.lemmas.Bool.{leb-true}
 use Rattle.lot_calls.specs.declared.calls.Turn.{Turn}
 use Rattle.lot_calls.specs.declared.calls.Turn as turn
@@ -112,14 +111,16 @@ module _ (w v : LocksState) (a : ℕ) where
         → (1 ≤ times t (w.locks l).queue) × ((u : ℕ) × IsNotifier w t l u)
     by_move k n all owned number may among =
         let names : Some (Waits k n (may.wait t among).0.0) ≡ Some (Waits l m timed) = sym (may.wait t among).0.1 ∙ waits in
-        let same : k ≡ l = cc in
-        (
+        let same : k ≡ l = cc in (
           subst (λ j. 1 ≤ times t (w.locks j).queue) same (among_stood t all (w.locks k).queue among),
-          (a, record {
-            another = λ e. let both : Some (Notifies k all) ≡ Some (Waits l m timed) = sym may.notifies ∙ ap (λ j. (w.calls j).purpose) e ∙ waits in cc;
-            all = all;
-            notifies = may.notifies ∙ ap (λ j. Some (Notifies j all)) same;
-          }),
+          (
+            a,
+            record {
+              another = λ e. let both : Some (Notifies k all) ≡ Some (Waits l m timed) = sym may.notifies ∙ ap (λ j. (w.calls j).purpose) e ∙ waits in cc;
+              all = all;
+              notifies = may.notifies ∙ ap (λ j. Some (Notifies j all)) same;
+            },
+          ),
         )
 
     told_so : (e : Event) → MayHappen w a e → (c : CallState) → Unnotified c → IsNotified (woken w a e t c).recalls → (1 ≤ times t (w.locks l).queue) × ((u : ℕ) × IsNotifier w t l u)

@@ -1,5 +1,5 @@
 -- By a turn that changes no more than its thread's place, and sections, no lock changes: its call alone does.
-use Rattle.std.proofs.Common.{ℕ, Option, Some, None, ◌==◌, if◌then◌else◌, ◌≡◌, ◌≢◌, ◌<◌, List, length, length-set, replicate, get_or, get_or-set_other, get_or-set_same, inl, inr, refl, sym, ◌∙◌, ap, subst}
+use Rattle.std.proofs.Common.{ℕ, Option, ◌≡◌, ◌<◌, List, length, length-set, replicate, get_or, get_or-set_other, get_or-set_same, inl, inr, refl, ◌∙◌, ap}
 use Rattle.std.proofs.lemmas.Bool.{cases_eq}
 use Rattle.lot_calls.specs.declared.outcomes.Outcome as outcome
 use Rattle.lot_steps.specs.declared.places.Place.{Place}

@@ -1,8 +1,7 @@
 -- Where a wait's own release of its mutex leaves its thread: where it stood, unless it has taken itself from the queue of the mutex, or wakes itself.
-use Rattle.std.proofs.Common.{ℕ, Bool, true, false, Option, Some, None, if◌then◌else◌, ◌==◌, ◌≡◌, ◌≢◌, ◌⊎◌, ◌+◌, ◌*◌, ◌<◌, List, [], ◌∷◌, length, drop, get_or, set, get_or-set_other, get_or-set_same, inl, inr, refl, sym, ◌∙◌, ap, subst}
+use Rattle.std.proofs.Common.{ℕ, Bool, true, false, if◌then◌else◌, ◌==◌, ◌≡◌, ◌≢◌, ◌⊎◌, ◌*◌, ◌<◌, List, [], ◌∷◌, length, drop, get_or, set, get_or-set_other, get_or-set_same, inl, inr, refl, sym, ◌∙◌, ap, subst}
 use Rattle.std.proofs.Math.ListN.{get_or-map}
-use Rattle.std.proofs.lemmas.Bool.{cases_eq, eqb-true}
-use Rattle.lot_base.specs.declared.keys.Keys.TheVariants.{One}
+use Rattle.std.proofs.lemmas.Bool.{cases_eq}
 use Rattle.lot_base.specs.declared.notes.Note.TheVariants as note
 use Rattle.lot_base.specs.declared.wants.Waiter.{Waiter}
 use Rattle.lot_base.specs.Lines.{first_of}
@@ -21,10 +20,10 @@ use Rattle.lot_acts.specs.Profiles.{hand}
 use Rattle.lot_condvar.specs.CondvarProfiles.{hand_of, taker_of}
 use Rattle.lot_steps.specs.declared.places.Place.{Place}
 use Rattle.lot_steps.specs.declared.places.Place.TheVariants.{Condvar, Idle}
-use Rattle.lot_steps.specs.Steps.{next_place, taker}
+use Rattle.lot_steps.specs.Steps.{next_place}
 use Rattle.abstract_locks.specs.Locks as locks
 use Rattle.abstract_locks.specs.Sites.{Main}
-use Rattle.lot_machine.specs.Machine.{State, is_there, place_after_telling, place_at, queue_at, queues_without_first, reply_to, state_after_act, state_after_taking, state_with_sections}
+use Rattle.lot_machine.specs.Machine.{State, is_there, place_after_telling, place_at, queue_at, queues_without_first, reply_to, state_after_act, state_after_taking}
 use Rattle.lot_laws.specs.SitesOf.{IsSteady, key_of, rules_in}
 use Rattle.lot_laws.proofs.Glue as glue
 use Rattle.lot_laws.proofs.Glue.{differ, same}

@@ -1,14 +1,12 @@
 -- A condition variable is as it was where what it shows, who waits, who is inside and what places say of it is.
-use Rattle.std.proofs.Common.{ℕ, Bool, true, false, Option, Some, None, if◌then◌else◌, ◌==◌, ◌≡◌, ◌≢◌, ◌<◌, length, get_or-set_other, get_or-set_same, inl, inr, refl, sym, ◌∙◌, ap, subst}
+use Rattle.std.proofs.Common.{ℕ, Bool, true, false, Option, Some, None, if◌then◌else◌, ◌==◌, ◌≡◌, ◌<◌, length, get_or-set_other, get_or-set_same, inl, inr, refl, sym, ◌∙◌, ap, subst}
 use Rattle.std.proofs.lemmas.Bool.{cases_eq}
-use Rattle.lot_mutex.specs.declared.lock.Entry.{Entry}
 use Rattle.lot_mutex.specs.declared.lock.LockAt.TheVariants as lock
 use Rattle.lot_mutex.specs.declared.places.MutexPlace.{MutexPlace}
 use Rattle.lot_mutex.specs.declared.places.MutexPlace.TheVariants as mutex
 use Rattle.lot_mutex.specs.MutexSteps.{mutex_looking}
 use Rattle.lot_once.specs.declared.places.OncePlace.{OncePlace}
 use Rattle.lot_once.specs.OnceSteps.{once_looking}
-use Rattle.lot_rwlock.specs.declared.places.Admission.{Admission}
 use Rattle.lot_rwlock_fair.specs.declared.places.RwLockCallPlace.{RwLockCallPlace}
 use Rattle.lot_rwlock_fair.specs.FairProfiles.{call_looking}
 use Rattle.lot_condvar.specs.declared.places.CondvarPlace.TheVariants.{Look, Notify, Wait}
@@ -23,7 +21,7 @@ use Rattle.abstract_locks.specs.Sites.{Main}
 use Rattle.lot_machine.specs.Machine.{State, closed_place, place_at, put, section_at}
 use Rattle.lot_laws.specs.Refinement.{lock_state}
 use Rattle.lot_laws.specs.SitesOf.{AreCondvars, condvar_of, inside_as, key_of}
-use Rattle.lot_laws.proofs.Closings.{behind, closing, is_behind}
+use Rattle.lot_laws.proofs.Closings.{closing, is_behind}
 use Rattle.lot_laws.proofs.Closures.{RunsOne}
 use Rattle.lot_laws.proofs.CondvarRows.{names_of, row_says, stage_of}
 

@@ -68,7 +68,7 @@ use Rattle.lot_rwlock.specs.RwLockBegins.{admission_of}
 use Rattle.lot_rwlock_fair.specs.declared.places.RwLockCallPlace.{RwLockCallPlace}
 use Rattle.lot_rwlock_fair.specs.FairBegins.{call_first}
 use Rattle.lot_laws.proofs.RwLockKept.{admits_by}
-use Rattle.lot_laws.proofs.AtPlaces.{coded as words_coded, coded_for, absent, owns}
+use Rattle.lot_laws.proofs.AtPlaces.{coded as words_coded, coded_for, absent}
 use Rattle.lot_laws.proofs.Leads.{Leads, leads_more, leads_so}
 use Rattle.lot_laws.proofs.SoloActs.{Facing}
 

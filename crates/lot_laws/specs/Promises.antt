@@ -8,8 +8,6 @@ use Rattle.lot_base.specs.declared.wants.Want.TheVariants.{Exclusive, Upgradable
 use Rattle.lot_acts.specs.declared.acts.Act.TheVariants.{Enter, Leave, Sleep}
 use Rattle.lot_acts.specs.declared.acts.Wakes as wakes
 use Rattle.lot_base.specs.declared.notes.Note.TheVariants.{HandOff}
-use Rattle.lot_steps.specs.declared.places.Place.{Place}
-use Rattle.lot_steps.specs.declared.places.Place.TheVariants.{Condvar}
 use Rattle.lot_steps.specs.Steps.{act_of, taker, retries_on}
 use Rattle.lot_machine.specs.Machine.{State, place_at, word_at, filled_at, section_at}
 use Rattle.abstract_locks.specs.Locks.{LockState, Sort, Recursive, Semaphore, Once, Rules, Knows, IsSomePending, times, standing, readers, count, has_caller, Owns}
