@@ -76,7 +76,8 @@ impl<Q: Queues + Drop> World<Q> {
         ensures state { self.new ≡ after self.old step }
         ensures outcome { result ≡ step_outcome self.old step }
 
-        // The step is one of the abstract locks: one case of one lock, or nothing, and its answer is true.
+        // The step is one of the abstract locks: one case of one lock, a notification's move of waiters between two, or nothing, and
+        // its answer is true.
         ensures refines { IsStep (locks_of self.old) step result (locks_of self.new) }
         ensures one_thing { ChangesOneThing self.old step.thread self.new }
         ensures touches { TouchesOnlyByGoing self.old step.turn self.new }
