@@ -9,8 +9,6 @@ const MUTEX: usize = 0;
 
 const CONDVAR: usize = 1;
 
-const KINDS: [Kind; 2] = [Kind::Mutex, Kind::Condvar];
-
 const DONE: Outcome = Outcome::End(Answer::Ok);
 
 const NOTIFIED: Outcome = Outcome::End(Answer::Notified);
@@ -42,6 +40,18 @@ fn waits() -> Does {
 
 fn waits_timed() -> Does {
     Does::Calls(wait(true))
+}
+
+/// A wait with any lock.
+fn waits_with(mutex: usize) -> Does {
+    let timed = false;
+    Does::Calls(condvar(CondvarCall::Wait { mutex, timed }))
+}
+
+/// A call of any mutex.
+fn locks(lock: usize) -> Does {
+    let call = MutexCall::Lock;
+    Does::Calls(Call::Mutex { lock, call })
 }
 
 fn notifies(all: bool) -> Does {
@@ -96,7 +106,7 @@ fn all_leave(world: &mut World<ListQueues>, threads: usize) -> bool {
 
 #[test]
 fn a_wait_ends_once_it_is_notified(rt: HostRuntime) -> Result<(), Fail> {
-    let mut world = World::<ListQueues>::new(rt.alloc(), &KINDS, 2)?;
+    let mut world = World::<ListQueues>::new(rt.alloc(), &[Kind::Mutex, Kind::Condvar], 2)?;
     let unheard = [
         (1, notifies(false), Outcome::End(Answer::No)),
         (1, notifies(true), told(0)),
@@ -136,7 +146,7 @@ fn a_wait_ends_once_it_is_notified(rt: HostRuntime) -> Result<(), Fail> {
 
 #[test]
 fn a_wait_takes_and_wakes_itself(rt: HostRuntime) -> Result<(), Fail> {
-    let mut world = World::<ListQueues>::new(rt.alloc(), &KINDS, 2)?;
+    let mut world = World::<ListQueues>::new(rt.alloc(), &[Kind::Mutex, Kind::Condvar], 2)?;
     // It stands in the queue and has left the section, and still owns the mutex.
     let moved = [
         (0, mutex(MutexCall::Lock), DONE),
@@ -178,7 +188,7 @@ fn a_wait_takes_and_wakes_itself(rt: HostRuntime) -> Result<(), Fail> {
 
 #[test]
 fn a_timed_wait_gives_up_in_the_queue_where_it_stands(rt: HostRuntime) -> Result<(), Fail> {
-    let mut world = World::<ListQueues>::new(rt.alloc(), &KINDS, 3)?;
+    let mut world = World::<ListQueues>::new(rt.alloc(), &[Kind::Mutex, Kind::Condvar], 3)?;
     let gives_up = [
         (0, mutex(MutexCall::Lock), DONE),
         (0, waits_timed(), Outcome::Sleep),
@@ -222,7 +232,7 @@ fn a_timed_wait_gives_up_in_the_queue_where_it_stands(rt: HostRuntime) -> Result
 
 #[test]
 fn beside_a_locked_mutex_all_are_moved(rt: HostRuntime) -> Result<(), Fail> {
-    let mut world = World::<ListQueues>::new(rt.alloc(), &KINDS, 4)?;
+    let mut world = World::<ListQueues>::new(rt.alloc(), &[Kind::Mutex, Kind::Condvar], 4)?;
     assert!(rt; all_wait(&mut world, 3));
     let notified = [
         (3, mutex(MutexCall::Lock), DONE),
@@ -253,7 +263,7 @@ fn beside_a_locked_mutex_all_are_moved(rt: HostRuntime) -> Result<(), Fail> {
 fn beside_an_unlocked_mutex_the_first_is_woken_and_the_rest_are_moved(
     rt: HostRuntime,
 ) -> Result<(), Fail> {
-    let mut world = World::<ListQueues>::new(rt.alloc(), &KINDS, 5)?;
+    let mut world = World::<ListQueues>::new(rt.alloc(), &[Kind::Mutex, Kind::Condvar], 5)?;
     assert!(rt; all_wait(&mut world, 3));
     assert_eq!(rt; surprise(&mut world, &[(3, notifies(true), told(3))]), None);
     let woken = Shown {
@@ -291,28 +301,20 @@ fn beside_an_unlocked_mutex_the_first_is_woken_and_the_rest_are_moved(
 fn a_second_mutex_is_refused(rt: HostRuntime) -> Result<(), Fail> {
     let kinds = [Kind::Mutex, Kind::Condvar, Kind::Mutex, Kind::Fair];
     let mut world = World::<ListQueues>::new(rt.alloc(), &kinds, 2)?;
-    let own = |lock| {
-        let call = MutexCall::Lock;
-        Does::Calls(Call::Mutex { lock, call })
-    };
-    let wait_with = |mutex| {
-        let timed = false;
-        Does::Calls(condvar(CondvarCall::Wait { mutex, timed }))
-    };
     assert!(rt; all_wait(&mut world, 1));
     let refused = [
-        (1, own(2), DONE),
-        (1, own(3), DONE),
-        (1, wait_with(3), Outcome::NotNow),
-        (1, wait_with(CONDVAR), Outcome::NotNow),
-        (1, wait_with(4), Outcome::NotNow),
-        (1, wait_with(2), Outcome::End(Answer::TwoMutexes)),
+        (1, locks(2), DONE),
+        (1, locks(3), DONE),
+        (1, waits_with(3), Outcome::NotNow),
+        (1, waits_with(CONDVAR), Outcome::NotNow),
+        (1, waits_with(4), Outcome::NotNow),
+        (1, waits_with(2), Outcome::End(Answer::TwoMutexes)),
     ];
     assert_eq!(rt; surprise(&mut world, &refused), None);
     assert_eq!(rt; look(&world, 2), rests(1, Some((Owner::Exclusive, 1))));
     let shows_another = [
         (1, notifies(true), told(1)),
-        (1, wait_with(2), Outcome::Sleep),
+        (1, waits_with(2), Outcome::Sleep),
         (0, Does::GoesOn, DONE),
     ];
     assert_eq!(rt; surprise(&mut world, &shows_another), None);
@@ -328,7 +330,7 @@ fn a_second_mutex_is_refused(rt: HostRuntime) -> Result<(), Fail> {
 
 #[test]
 fn all_of_600_waiters_have_the_mutex_in_their_order(rt: HostRuntime) -> Result<(), Fail> {
-    let mut world = World::<ListQueues>::new(rt.alloc(), &KINDS, 601)?;
+    let mut world = World::<ListQueues>::new(rt.alloc(), &[Kind::Mutex, Kind::Condvar], 601)?;
     assert!(rt; all_wait(&mut world, 600));
     assert_eq!(rt;
         surprise(&mut world, &[(600, notifies(true), told(600))]),
