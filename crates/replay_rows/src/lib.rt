@@ -1,6 +1,7 @@
 //! Worked schedules, as lines in and lines out.
 #![tactic(auto)]
 
+pub mod condvars;
 pub mod fair;
 pub mod malformed;
 pub mod mutexes;

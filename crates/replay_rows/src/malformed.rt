@@ -1,7 +1,7 @@
 //! Inputs that end at a malformed line, with the text that they lead to.
 
 /// Inputs that end at a malformed line, with the text that they lead to.
-pub const MALFORMED: [(&str, &str); 27] = [
+pub const MALFORMED: [(&str, &str); 34] = [
     // The form of a line.
     ("\n", "line 1 malformed\n"),
     ("threads 1\n\nlock m mutex\n", "line 2 malformed\n"),
@@ -63,5 +63,31 @@ pub const MALFORMED: [(&str, &str); 27] = [
     (
         "threads 1\nlock m mutex\n0 begin wait m\n0 begin notify_one m\n0 begin wait_timed m\n",
         "0 not now\n0 not now\nline 5 malformed\n",
+    ),
+    // A condition variable has no limit, and a wait on it names its mutex alone.
+    ("threads 1\nlock c condvar 1\n", "line 2 malformed\n"),
+    (
+        "threads 1\nlock m mutex\nlock c condvar\n0 do lock m\n0 do wait c\n0 do wait c m\n",
+        "0 end ok\nline 5 malformed\n",
+    ),
+    (
+        "threads 1\nlock m mutex\nlock c condvar\n0 do wait_timed c\n",
+        "line 4 malformed\n",
+    ),
+    (
+        "threads 1\nlock m mutex\nlock c condvar\n0 do wait c m m\n",
+        "line 4 malformed\n",
+    ),
+    (
+        "threads 1\nlock m mutex\nlock c condvar\n0 do wait c n\n",
+        "line 4 malformed\n",
+    ),
+    (
+        "threads 1\nlock m mutex\nlock c condvar\n0 do wait m c\n",
+        "line 4 malformed\n",
+    ),
+    (
+        "threads 1\nlock m mutex\nlock c condvar\n0 do notify_one c\n0 do notify_all c m\n",
+        "0 end no\nline 5 malformed\n",
     ),
 ];

@@ -5,6 +5,7 @@ use devices::{Pieces, Short};
 use lot_base::ListQueues;
 use lot_replay::start::start;
 use lot_world::{Answer, Call, Kind, MutexCall, Outcome, Step, Turn, World};
+use replay_rows::condvars::CONDVAR_ROWS;
 use replay_rows::fair::FAIR_ROWS;
 use replay_rows::malformed::MALFORMED;
 use replay_rows::mutexes::{ROWS, TWO_TRIES};
@@ -47,6 +48,16 @@ fn answers_inputs_of_reader_writer_locks(rt: HostRuntime) {
 #[test]
 fn answers_inputs_of_onces(rt: HostRuntime) {
     for (input, want) in ONCE_ROWS {
+        let (text, ended) = replayed(rt.alloc(), input);
+        assert_eq!(rt; text.as_slice(), want);
+        assert_eq!(rt; ended, 0);
+    }
+}
+
+#[test]
+fn answers_inputs_of_condition_variables(rt: HostRuntime) {
+    for row in &CONDVAR_ROWS {
+        let (input, want) = *row;
         let (text, ended) = replayed(rt.alloc(), input);
         assert_eq!(rt; text.as_slice(), want);
         assert_eq!(rt; ended, 0);

@@ -1,3 +1,4 @@
+mod condvar;
 mod handed;
 mod mutex;
 mod once;

@@ -1,0 +1,353 @@
+//! Worlds of condition variables.
+use super::scripts::{Does, Shown, look, rests, surprise};
+use lot_base::{ListQueues, Want};
+use lot_calls::CondvarCall;
+use lot_world::{Answer, Call, Debt, Kind, MutexCall, Outcome, Owner, Step, Turn, World};
+use std::test::Fail;
+
+const MUTEX: usize = 0;
+
+const CONDVAR: usize = 1;
+
+const DONE: Outcome = Outcome::End(Answer::Ok);
+
+const NOTIFIED: Outcome = Outcome::End(Answer::Notified);
+
+const TIMED_OUT: Outcome = Outcome::End(Answer::TimedOut);
+
+const GO: Does = Does::Turns(Turn::Go);
+
+const LATE: Does = Does::Turns(Turn::Late);
+
+fn mutex(call: MutexCall) -> Does {
+    let lock = MUTEX;
+    Does::Calls(Call::Mutex { lock, call })
+}
+
+fn condvar(call: CondvarCall) -> Call {
+    let lock = CONDVAR;
+    Call::Condvar { lock, call }
+}
+
+fn wait(timed: bool) -> Call {
+    let mutex = MUTEX;
+    condvar(CondvarCall::Wait { mutex, timed })
+}
+
+fn waits() -> Does {
+    Does::Calls(wait(false))
+}
+
+fn waits_timed() -> Does {
+    Does::Calls(wait(true))
+}
+
+/// A wait with any lock.
+fn waits_with(mutex: usize) -> Does {
+    let timed = false;
+    Does::Calls(condvar(CondvarCall::Wait { mutex, timed }))
+}
+
+/// A call of any mutex.
+fn locks(lock: usize) -> Does {
+    let call = MutexCall::Lock;
+    Does::Calls(Call::Mutex { lock, call })
+}
+
+fn notifies(all: bool) -> Does {
+    Does::Calls(condvar(CondvarCall::Notify { all }))
+}
+
+fn begins(call: Call) -> Does {
+    Does::Turns(Turn::Begin(call))
+}
+
+fn told(number: usize) -> Outcome {
+    Outcome::End(Answer::Number(number))
+}
+
+/// What the mutex shows beside its first waiter, who wants it.
+fn wanted(word: u64, owner: Option<usize>, waiter: usize) -> Shown {
+    Shown {
+        word,
+        owner: owner.map(|thread| (Owner::Exclusive, thread)),
+        waiter: Some((waiter, Want::Exclusive)),
+        debt: None,
+    }
+}
+
+/// These threads lock the mutex and wait, in their order.
+fn all_wait(world: &mut World<ListQueues>, threads: usize) -> bool {
+    for thread in 0..threads {
+        let script = [
+            (thread, mutex(MutexCall::Lock), DONE),
+            (thread, waits(), Outcome::Sleep),
+        ];
+        if surprise(world, &script).is_some() {
+            return false;
+        }
+    }
+    true
+}
+
+/// These threads go on in their order: each has the mutex, ends its wait and releases it.
+fn all_leave(world: &mut World<ListQueues>, threads: usize) -> bool {
+    for thread in 0..threads {
+        let script = [
+            (thread, Does::GoesOn, DONE),
+            (thread, mutex(MutexCall::Unlock), DONE),
+        ];
+        if surprise(world, &script).is_some() {
+            return false;
+        }
+    }
+    true
+}
+
+#[test]
+fn a_wait_ends_once_it_is_notified(rt: HostRuntime) -> Result<(), Fail> {
+    let mut world = World::<ListQueues>::new(rt.alloc(), &[Kind::Mutex, Kind::Condvar], 2)?;
+    let unheard = [
+        (1, notifies(false), Outcome::End(Answer::No)),
+        (1, notifies(true), told(0)),
+        (0, waits(), Outcome::NotNow),
+    ];
+    assert_eq!(rt; surprise(&mut world, &unheard), None);
+    assert!(rt; all_wait(&mut world, 1));
+    assert_eq!(rt; look(&world, MUTEX), rests(0, None));
+    let waiting = Shown {
+        word: 1,
+        owner: None,
+        waiter: Some((0, Want::Wait)),
+        debt: None,
+    };
+    assert_eq!(rt; look(&world, CONDVAR), Some(waiting));
+    let notified = [
+        (0, Does::GoesOn, Outcome::NotNow),
+        (1, notifies(false), Outcome::End(Answer::Yes)),
+    ];
+    assert_eq!(rt; surprise(&mut world, &notified), None);
+    let woken = Shown {
+        word: 0,
+        owner: None,
+        waiter: None,
+        debt: Some((Debt::Retries, 0)),
+    };
+    assert_eq!(rt; look(&world, MUTEX), Some(woken));
+    assert_eq!(rt; look(&world, CONDVAR), rests(0, None));
+    let ends = [
+        (0, Does::GoesOn, DONE),
+        (1, notifies(false), Outcome::End(Answer::No)),
+    ];
+    assert_eq!(rt; surprise(&mut world, &ends), None);
+    assert_eq!(rt; look(&world, MUTEX), rests(1, Some((Owner::Exclusive, 0))));
+    Ok(())
+}
+
+#[test]
+fn a_wait_takes_and_wakes_itself(rt: HostRuntime) -> Result<(), Fail> {
+    let mut world = World::<ListQueues>::new(rt.alloc(), &[Kind::Mutex, Kind::Condvar], 2)?;
+    // It stands in the queue and has left the section, and still owns the mutex.
+    let moved = [
+        (0, mutex(MutexCall::Lock), DONE),
+        (0, begins(wait(false)), Outcome::Step),
+        (0, GO, Outcome::Step),
+        (0, GO, Outcome::Step),
+        (0, GO, Outcome::Step),
+        (0, GO, Outcome::Step),
+        (1, notifies(false), Outcome::End(Answer::Yes)),
+    ];
+    assert_eq!(rt; surprise(&mut world, &moved), None);
+    assert_eq!(rt; look(&world, MUTEX), Some(wanted(3, Some(0), 0)));
+    assert_eq!(rt; look(&world, CONDVAR), rests(0, None));
+    // It subtracts, enters the section, takes itself, clears the bit, and wakes itself.
+    let releases = [(0, GO, Outcome::Step), (0, GO, Outcome::Step)];
+    assert_eq!(rt; surprise(&mut world, &releases), None);
+    let owing = Shown {
+        debt: Some((Debt::Owes, 0)),
+        ..wanted(2, None, 0)
+    };
+    assert_eq!(rt; look(&world, MUTEX), Some(owing));
+    let wakes = [
+        (0, GO, Outcome::Step),
+        (0, GO, Outcome::Step),
+        (0, GO, Outcome::Step),
+    ];
+    assert_eq!(rt; surprise(&mut world, &wakes), None);
+    let woken = Shown {
+        word: 0,
+        owner: None,
+        waiter: None,
+        debt: Some((Debt::Retries, 0)),
+    };
+    assert_eq!(rt; look(&world, MUTEX), Some(woken));
+    assert_eq!(rt; surprise(&mut world, &[(0, GO, DONE)]), None);
+    assert_eq!(rt; look(&world, MUTEX), rests(1, Some((Owner::Exclusive, 0))));
+    Ok(())
+}
+
+#[test]
+fn a_timed_wait_gives_up_in_the_queue_where_it_stands(rt: HostRuntime) -> Result<(), Fail> {
+    let mut world = World::<ListQueues>::new(rt.alloc(), &[Kind::Mutex, Kind::Condvar], 3)?;
+    let gives_up = [
+        (0, mutex(MutexCall::Lock), DONE),
+        (0, waits_timed(), Outcome::Sleep),
+        (0, LATE, Outcome::Step),
+        (0, LATE, Outcome::NotNow),
+        (0, Does::GoesOn, TIMED_OUT),
+    ];
+    assert_eq!(rt; surprise(&mut world, &gives_up), None);
+    assert_eq!(rt; look(&world, CONDVAR), rests(0, None));
+    assert_eq!(rt; look(&world, MUTEX), rests(1, Some((Owner::Exclusive, 0))));
+    // In the queue of its mutex it was notified.
+    let moved = [
+        (0, waits_timed(), Outcome::Sleep),
+        (1, mutex(MutexCall::Lock), DONE),
+        (1, waits(), Outcome::Sleep),
+        (2, mutex(MutexCall::Lock), DONE),
+        (2, notifies(true), told(2)),
+    ];
+    assert_eq!(rt; surprise(&mut world, &moved), None);
+    assert_eq!(rt; look(&world, MUTEX), Some(wanted(3, Some(2), 0)));
+    let late = [
+        (1, LATE, Outcome::NotNow),
+        (0, LATE, Outcome::Step),
+        (0, Does::GoesOn, Outcome::Sleep),
+        (0, LATE, Outcome::NotNow),
+    ];
+    assert_eq!(rt; surprise(&mut world, &late), None);
+    assert_eq!(rt; look(&world, MUTEX), Some(wanted(3, Some(2), 1)));
+    let ends = [
+        (2, mutex(MutexCall::Unlock), DONE),
+        (1, Does::GoesOn, DONE),
+        (1, mutex(MutexCall::Unlock), DONE),
+        (0, Does::GoesOn, NOTIFIED),
+        (0, mutex(MutexCall::Unlock), DONE),
+    ];
+    assert_eq!(rt; surprise(&mut world, &ends), None);
+    assert_eq!(rt; look(&world, MUTEX), rests(0, None));
+    assert_eq!(rt; look(&world, CONDVAR), rests(0, None));
+    Ok(())
+}
+
+#[test]
+fn beside_a_locked_mutex_all_are_moved(rt: HostRuntime) -> Result<(), Fail> {
+    let mut world = World::<ListQueues>::new(rt.alloc(), &[Kind::Mutex, Kind::Condvar], 4)?;
+    assert!(rt; all_wait(&mut world, 3));
+    let notified = [
+        (3, mutex(MutexCall::Lock), DONE),
+        (3, notifies(true), told(3)),
+    ];
+    assert_eq!(rt; surprise(&mut world, &notified), None);
+    assert_eq!(rt; look(&world, MUTEX), Some(wanted(3, Some(3), 0)));
+    assert_eq!(rt; look(&world, CONDVAR), rests(0, None));
+    // The release wakes the first alone.
+    let releases = [
+        (0, Does::GoesOn, Outcome::NotNow),
+        (3, mutex(MutexCall::Unlock), DONE),
+        (1, Does::GoesOn, Outcome::NotNow),
+        (2, Does::GoesOn, Outcome::NotNow),
+    ];
+    assert_eq!(rt; surprise(&mut world, &releases), None);
+    let woken = Shown {
+        debt: Some((Debt::Retries, 0)),
+        ..wanted(2, None, 1)
+    };
+    assert_eq!(rt; look(&world, MUTEX), Some(woken));
+    assert!(rt; all_leave(&mut world, 3));
+    assert_eq!(rt; look(&world, MUTEX), rests(0, None));
+    Ok(())
+}
+
+#[test]
+fn beside_an_unlocked_mutex_the_first_is_woken_and_the_rest_are_moved(
+    rt: HostRuntime,
+) -> Result<(), Fail> {
+    let mut world = World::<ListQueues>::new(rt.alloc(), &[Kind::Mutex, Kind::Condvar], 5)?;
+    assert!(rt; all_wait(&mut world, 3));
+    assert_eq!(rt; surprise(&mut world, &[(3, notifies(true), told(3))]), None);
+    let woken = Shown {
+        debt: Some((Debt::Retries, 0)),
+        ..wanted(2, None, 1)
+    };
+    assert_eq!(rt; look(&world, MUTEX), Some(woken));
+    assert_eq!(rt; look(&world, CONDVAR), rests(0, None));
+    assert!(rt; all_leave(&mut world, 3));
+    assert_eq!(rt; look(&world, MUTEX), rests(0, None));
+    // Another locks the mutex first: who was woken sleeps behind the rest.
+    assert!(rt; all_wait(&mut world, 3));
+    let overtaken = [
+        (3, notifies(true), told(3)),
+        (4, mutex(MutexCall::Lock), DONE),
+        (0, Does::GoesOn, Outcome::Sleep),
+    ];
+    assert_eq!(rt; surprise(&mut world, &overtaken), None);
+    assert_eq!(rt; look(&world, MUTEX), Some(wanted(3, Some(4), 1)));
+    let ends = [
+        (4, mutex(MutexCall::Unlock), DONE),
+        (1, Does::GoesOn, DONE),
+        (1, mutex(MutexCall::Unlock), DONE),
+        (2, Does::GoesOn, DONE),
+        (2, mutex(MutexCall::Unlock), DONE),
+        (0, Does::GoesOn, DONE),
+        (0, mutex(MutexCall::Unlock), DONE),
+    ];
+    assert_eq!(rt; surprise(&mut world, &ends), None);
+    assert_eq!(rt; look(&world, MUTEX), rests(0, None));
+    Ok(())
+}
+
+#[test]
+fn a_second_mutex_is_refused(rt: HostRuntime) -> Result<(), Fail> {
+    let kinds = [Kind::Mutex, Kind::Condvar, Kind::Mutex, Kind::Fair];
+    let mut world = World::<ListQueues>::new(rt.alloc(), &kinds, 2)?;
+    assert!(rt; all_wait(&mut world, 1));
+    let refused = [
+        (1, locks(2), DONE),
+        (1, locks(3), DONE),
+        (1, waits_with(3), Outcome::NotNow),
+        (1, waits_with(CONDVAR), Outcome::NotNow),
+        (1, waits_with(4), Outcome::NotNow),
+        (1, waits_with(2), Outcome::End(Answer::TwoMutexes)),
+    ];
+    assert_eq!(rt; surprise(&mut world, &refused), None);
+    assert_eq!(rt; look(&world, 2), rests(1, Some((Owner::Exclusive, 1))));
+    let shows_another = [
+        (1, notifies(true), told(1)),
+        (1, waits_with(2), Outcome::Sleep),
+        (0, Does::GoesOn, DONE),
+    ];
+    assert_eq!(rt; surprise(&mut world, &shows_another), None);
+    let waiting = Shown {
+        word: 3,
+        owner: None,
+        waiter: Some((1, Want::Wait)),
+        debt: None,
+    };
+    assert_eq!(rt; look(&world, CONDVAR), Some(waiting));
+    Ok(())
+}
+
+#[test]
+fn all_of_600_waiters_have_the_mutex_in_their_order(rt: HostRuntime) -> Result<(), Fail> {
+    let mut world = World::<ListQueues>::new(rt.alloc(), &[Kind::Mutex, Kind::Condvar], 601)?;
+    assert!(rt; all_wait(&mut world, 600));
+    assert_eq!(rt;
+        surprise(&mut world, &[(600, notifies(true), told(600))]),
+        None
+    );
+    assert_eq!(rt; look(&world, CONDVAR), rests(0, None));
+    assert!(rt; all_leave(&mut world, 600));
+    assert_eq!(rt; look(&world, MUTEX), rests(0, None));
+    // And where somebody owns it meanwhile.
+    assert!(rt; all_wait(&mut world, 600));
+    let notified = [
+        (600, mutex(MutexCall::Lock), DONE),
+        (600, notifies(true), told(600)),
+        (600, mutex(MutexCall::Unlock), DONE),
+    ];
+    assert_eq!(rt; surprise(&mut world, &notified), None);
+    assert!(rt; all_leave(&mut world, 600));
+    assert_eq!(rt; look(&world, MUTEX), rests(0, None));
+    Ok(())
+}
