@@ -29,7 +29,6 @@ pub enum Place {
         lock: usize,
         at: OncePlace,
     },
-    /// In a call of a condition variable, which only the driver of real threads makes.
     Condvar {
         lock: usize,
         at: CondvarPlace,
