@@ -37,7 +37,7 @@ const OUTCOMES: [(Outcome, &str); 18] = [
 ];
 
 /// Lines without a meaning.
-const MALFORMED: [&str; 69] = [
+const MALFORMED: [&str; 71] = [
     // Blanks.
     "",
     " ",
