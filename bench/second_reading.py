@@ -1,10 +1,11 @@
 #!/usr/bin/env python3
-"""A second reading of the step tables, beside the program: random schedules of mutexes, reader-writer locks and `Once`, answered here and
-by `lotsim replay`, have to agree.
+"""A second reading of the step tables, beside the program: random schedules of mutexes, reader-writer locks, `Once` and condition variables,
+answered here and by `lotsim replay`, have to agree.
 
 Build the proved program first: `rt run -- replay < stdin` in crates/lotsim. Then:
-python3 bench/second_reading.py crates/lotsim/out/lotsim SCHEDULES LINES [FIRST_SEED] [--fair] [--once]
-With --fair, fair releases and bumps of reader-writer locks are among the calls; with --once, each `Once` is among the locks. To answer one schedule here: python3 bench/second_reading.py - < SCHEDULE
+python3 bench/second_reading.py crates/lotsim/out/lotsim SCHEDULES LINES [FIRST_SEED] [--fair] [--once] [--condvar]
+With --fair, fair releases and bumps of reader-writer locks are among the calls; with --once, each `Once` is among the locks; with --condvar the
+locks are mutexes and condition variables. To answer one schedule here: python3 bench/second_reading.py - < SCHEDULE
 """
 import os, random, subprocess, sys, tempfile
 
@@ -31,13 +32,13 @@ class Thread:
     def clear(self):
         self.call = None        # (name, lock)
         self.step = None        # what the next go does
-        self.enters = None      # (lock, line)
+        self.enters = []        # each (lock, line)
         self.spin = None
         self.asleep = False
         self.note = None
         self.timed = False
         self.late = None
-        self.owes = None        # (lock, line)
+        self.owes = []          # each lock
         self.retries = None
         self.hand = []
         self.woken = None       # what a go does with a note
@@ -59,9 +60,7 @@ class World:
     def can_go(self, t):
         if t.call is None or t.close is not None: return False
         if t.asleep and t.note is None: return False
-        if not t.asleep and t.enters is not None:
-            lock, line = t.enters
-            if lock.inside[line] is not None: return False
+        if not t.asleep and any(lock.inside[line] is not None for lock, line in t.enters): return False
         return True
 
     def go(self, number):
@@ -75,7 +74,7 @@ class World:
             woken(note)
         else:
             step = t.step
-            t.step, t.enters, t.spin = None, None, None
+            t.step, t.enters, t.spin = None, [], None
             step()
         return self.outcome(t)
 
@@ -85,7 +84,7 @@ class World:
         if t.call is None or t.asleep or t.close is not None or t.spin is None: return "not now"
         t.ended = None
         spin = t.spin
-        t.step, t.enters, t.spin = None, None, None
+        t.step, t.enters, t.spin = None, [], None
         spin()
         return self.outcome(t)
 
@@ -113,7 +112,7 @@ class World:
         if at is None: return "not now"
         lock, line = at
         lock.inside[line] = t.number
-        t.owes = (lock, line)
+        t.owes = [lock]
         t.asleep = False
         t.ended = None
         t.late()
@@ -128,12 +127,19 @@ class World:
             if out != "step": return last
         return last
 
-    def begin(self, number, name, lock_number):
+    def begin(self, number, name, lock_number, mutex_number=None):
         if number >= len(self.threads): return "not now"
         t, l = self.threads[number], self.locks[lock_number]
         if t.call is not None: return "not now"
-        calls = {"mutex": MUTEX, "fair": MUTEX, "once": ONCE}.get(l.kind, RWLOCK | FAIR)
+        calls = {"mutex": MUTEX, "fair": MUTEX, "once": ONCE, "condvar": CONDVAR}.get(l.kind, RWLOCK | FAIR)
         if name not in calls: return "not now"
+        if l.kind == "condvar":
+            m = None if mutex_number is None else self.locks[mutex_number]
+            if name in WAITS and (m is None or m.kind != "mutex" or m.exclusive != number): return "not now"
+            t.call = (name, l)
+            t.ended = None
+            WaitCall(self, t, l, m, name).begin() if name in WAITS else NotifyCall(self, t, l, name).begin()
+            return "step"
         need = RIGHT.get(name)
         if need == "x" and l.exclusive != number: return "not now"
         if need == "u" and l.upgradable != number: return "not now"
@@ -156,7 +162,7 @@ class World:
             if own: line += " own=" + ",".join(own)
             if l.main: line += " queue=" + ",".join(f"{t}{w}" for t, w in l.main)
             if l.second: line += " aside=" + ",".join(f"{t}" for t, _ in l.second)
-            owe = [str(t.number) for t in self.threads if t.owes is not None and t.owes[0] is l]
+            owe = [str(t.number) for t in self.threads if l in t.owes]
             if owe: line += " owe=" + ",".join(owe)
             retry = [str(t.number) for t in self.threads if t.retries is l]
             if retry: line += " retry=" + ",".join(retry)
@@ -168,6 +174,8 @@ RWLOCK = {"read", "read_timed", "try_read", "upgradable", "upgradable_timed", "t
           "unlock_shared", "unlock_exclusive", "unlock_upgradable", "downgrade", "downgrade_upgradable", "downgrade_to_upgradable",
           "upgrade", "upgrade_timed", "try_upgrade"}
 FAIR = {"unlock_shared_fair", "unlock_exclusive_fair", "unlock_upgradable_fair", "bump_shared", "bump_exclusive", "bump_upgradable"}
+WAITS = {"wait", "wait_timed"}
+CONDVAR = WAITS | {"notify_one", "notify_all"}
 ONCE = {"call_once", "call_once_force", "wait", "wait_force"}
 RIGHT = {"unlock": "x", "unlock_fair": "x", "bump": "x", "unlock_shared": "s", "unlock_shared_fair": "s", "bump_shared": "s",
          "unlock_exclusive": "x", "unlock_exclusive_fair": "x", "bump_exclusive": "x", "downgrade": "x", "downgrade_to_upgradable": "x",
@@ -182,7 +190,7 @@ class Call:
 
     # ------------------------------------------------ tools
     def then(self, step, enters=None, spin=None):
-        self.t.step, self.t.enters, self.t.spin = step, enters, spin
+        self.t.step, self.t.enters, self.t.spin = step, [enters] if enters else [], spin
     def end(self, answer):
         t = self.t
         hand = t.hand
@@ -200,13 +208,13 @@ class Call:
         def step():
             assert self.l.inside[line] is None
             self.l.inside[line] = self.t.number
-            self.t.owes = (self.l, line)
+            self.t.owes = [self.l]
             then()
         self.then(step, (self.l, line))
     def leave(self, line, note, then):
         def step():
             self.l.inside[line] = None
-            self.t.owes = None
+            self.t.owes = []
             for u in self.t.hand: self.wake(u, note)
             self.t.hand = []
             then()
@@ -232,7 +240,7 @@ class Call:
             woken(note)
             if note == "normal":
                 step = t.step
-                t.step, t.enters, t.spin = None, None, None
+                t.step, t.enters, t.spin = None, [], None
                 step()
         def late():
             # the late step has entered the section
@@ -313,14 +321,15 @@ class Call:
                 self.end("yes")
             else: self.end("no")
         self.then(step)
-    def m_unlock(self):
+    def m_unlock(self, after=None):
         if self.l.kind == "fair": return self.m_unlock_fair()
+        after = after or (lambda: self.end("ok"))
         def step():
             seen = self.l.word
             self.l.word -= 1
             self.l.exclusive = None
-            if seen & 2 == 0: return self.end("ok")
-            self.t.owes = (self.l, "main")
+            if seen & 2 == 0: return after()
+            self.t.owes = [self.l]
             self.enter("main", lambda: self.then(take))
         def take():
             q = self.l.main
@@ -328,9 +337,9 @@ class Call:
             if not q:
                 def clear():
                     self.l.word &= ~2
-                    self.leave("main", "normal", lambda: self.end("ok"))
+                    self.leave("main", "normal", after)
                 self.then(clear)
-            else: self.leave("main", "normal", lambda: self.end("ok"))
+            else: self.leave("main", "normal", after)
         self.then(step)
     def m_unlock_fair(self, after=None):
         after = after or (lambda: self.end("ok"))
@@ -338,7 +347,7 @@ class Call:
             if self.exchange(1, 0):
                 self.l.exclusive = None
                 return after()
-            self.t.owes = (self.l, "main")
+            self.t.owes = [self.l]
             self.m_hand(after)
         self.then(step)
     def m_hand(self, after):
@@ -361,7 +370,7 @@ class Call:
     def m_bump(self):
         def step():
             if self.l.word & 2 == 0: return self.end("ok")
-            self.t.owes = (self.l, "main")
+            self.t.owes = [self.l]
             self.m_hand(self.m_lock)
         self.then(step)
 
@@ -457,7 +466,7 @@ class Call:
             self.l.pending = None
             if self.prev == 20: self.l.upgradable = self.t.number
             if seen & P == 0: return self.end("no")
-            self.t.owes = (self.l, "main")
+            self.t.owes = [self.l]
             self.wake_main("u" if self.prev == 20 else None, lambda: self.end("no"))
         self.then(step)
 
@@ -497,7 +506,7 @@ class Call:
             l.shared[t] -= 1
             if l.shared[t] == 0: del l.shared[t]
             if seen // 16 == 1 and seen & WP:
-                self.t.owes = (l, "second")
+                self.t.owes = [l]
                 self.enter("second", lambda: self.then(take))
             else: self.released()
         def take():
@@ -518,7 +527,7 @@ class Call:
             self.l.word += change
             own()
             if seen & P == 0: return self.end("ok")
-            self.t.owes = (self.l, "main")
+            self.t.owes = [self.l]
             self.wake_main(start, lambda: self.end("ok"))
         self.then(step)
     def r_unlock_exclusive(self):
@@ -593,7 +602,7 @@ class Call:
             if self.exchange(8, 0):
                 self.l.exclusive = None
                 return self.end("ok")
-            self.t.owes = (self.l, "main")
+            self.t.owes = [self.l]
             self.hand_exclusive(lambda: self.end("ok"))
         self.then(step)
     def hand_upgradable(self, after):
@@ -607,7 +616,7 @@ class Call:
                     else: loop(self.l.word)
                 self.then(step)
             else:
-                self.t.owes = (self.l, "main")
+                self.t.owes = [self.l]
                 self.enter("main", lambda: self.then(take))
         def take():
             who = self.take_picked(None)
@@ -635,7 +644,7 @@ class Call:
     def r_bump_exclusive(self):
         def step():
             if self.l.word & P == 0: return self.end("ok")
-            self.t.owes = (self.l, "main")
+            self.t.owes = [self.l]
             self.hand_exclusive(self.begin_write)
         self.then(step)
     def r_bump_upgradable(self):
@@ -673,12 +682,124 @@ class Call:
         seen, self.l.word, self.l.runner = self.l.word, DONE if succeeded else POISONED, None
         answer = "ok" if succeeded else "failed"
         if not seen & MARKED: return self.end(answer)
-        self.t.owes = (self.l, "main")
+        self.t.owes = [self.l]
         def take():
             self.t.hand = [u for u, _ in self.l.main]
             self.l.main.clear()
             self.leave("main", "normal", lambda: self.end(answer))
         self.enter("main", lambda: self.then(take))
+
+# ---------------------------------------------------------------- condition variables
+
+class Relock(Call):
+    """A wait's call of its mutex, which ends the wait."""
+    def __init__(self, world, t, mutex, told):
+        super().__init__(world, t, mutex, "lock")
+        self.told = told
+    def end(self, answer): super().end(self.told)
+
+class WaitCall(Call):
+    def __init__(self, world, t, l, mutex, name):
+        super().__init__(world, t, l, name)
+        self.m = mutex
+        self.limited = name == "wait_timed"
+    def begin(self): self.enter("main", lambda: self.then(self.show))
+    def show(self):
+        mine = self.m.number + 1
+        if self.l.word == 0: self.l.word = mine
+        if self.l.word == mine: self.then(self.stand)
+        else: self.leave("main", "normal", lambda: self.end("two mutexes"))
+    def stand(self):
+        self.l.main.append((self.t.number, "w"))
+        self.leave("main", "normal", lambda: Call(self.world, self.t, self.m, "unlock").m_unlock(self.sleep))
+    def sleep(self):
+        # a note may have come while it released its mutex
+        t = self.t
+        t.asleep, t.woken, t.late, t.timed = True, self.wakes, self.is_late, self.limited
+    def relock(self, told):
+        self.t.timed = False
+        Relock(self.world, self.t, self.m, told).m_lock()
+    def wakes(self, note):
+        told = "notified" if self.limited else "ok"
+        if note == "hand-off": return self.end(told)
+        self.relock(told)
+        step = self.t.step
+        self.t.step, self.t.enters, self.t.spin = None, [], None
+        step()
+    def is_late(self):
+        me = self.t.number
+        def listed():
+            self.l.main[:] = [x for x in self.l.main if x[0] != me]
+            out = lambda: self.leave("main", "normal", lambda: self.relock("timed out"))
+            def hide():
+                self.l.word = 0
+                out()
+            if self.l.main: out()
+            else: self.then(hide)
+        def moved():
+            self.m.main[:] = [x for x in self.m.main if x[0] != me]
+            def out():
+                self.m.inside["main"] = None
+                self.t.owes = []
+                self.relock("notified")
+            self.then(out)
+        self.then(listed if self.l.inside["main"] == me else moved)
+
+class NotifyCall(Call):
+    def begin(self):
+        self.all, self.number = self.name == "notify_all", 0
+        self.then(self.look)
+    def tell(self): self.end(str(self.number) if self.all else "yes" if self.number else "no")
+    def look(self):
+        self.seen = self.l.word
+        if self.seen == 0: return self.tell()
+        self.m = self.world.locks[self.seen - 1]
+        self.t.step, self.t.enters, self.t.spin = self.come, [(self.l, "main"), (self.m, "main")], None
+    def come(self):
+        self.l.inside["main"] = self.m.inside["main"] = self.t.number
+        self.t.owes = [self.l, self.m]
+        self.then(self.again)
+    def again(self):
+        if self.l.word != self.seen: self.then(self.go_out)
+        elif self.all: self.then(self.hide)
+        else: self.then(self.mark)
+    def hide(self):
+        self.l.word = 0
+        self.then(self.mark)
+    def mark(self): self.marked(self.m.word)
+    def marked(self, s):
+        if s & 1 == 0: return self.then(lambda: self.move(False))
+        def put():
+            if self.m.word == s:
+                self.m.word = s | 2
+                self.then(lambda: self.move(True))
+            else: self.marked(self.m.word)
+        self.then(put)
+    def move(self, locked):
+        q = self.l.main
+        gone = [u for u, _ in (q[:] if self.all else q[:1])]
+        q[:] = q[len(gone):]
+        self.number = len(gone)
+        taken, moved = ([], gone) if locked else (gone[:1], gone[1:])
+        self.t.hand = taken
+        self.m.main += [(u, "x") for u in moved]
+        def clear():
+            self.l.word = 0
+            self.then(self.go_out)
+        def mark_moved():
+            self.m.word |= 2
+            self.then(self.go_out)
+        if not self.all and not q: self.then(clear)
+        elif self.all and not locked and moved: self.then(mark_moved)
+        else: self.then(self.go_out)
+    def go_out(self):
+        self.l.inside["main"] = self.m.inside["main"] = None
+        self.t.owes = []
+        for u in self.t.hand:
+            thread = self.world.threads[u]
+            thread.note, thread.retries = "normal", self.m
+        self.t.hand = []
+        self.tell()
 
 # ---------------------------------------------------------------- one schedule
 
@@ -696,7 +817,7 @@ def answered(text):
             continue
         t, turn = int(words[0]), words[1]
         if turn in ("begin", "do"):
-            told = w.begin(t, words[2], numbers[words[3]])
+            told = w.begin(t, words[2], numbers[words[3]], numbers[words[4]] if len(words) > 4 else None)
             if turn == "do" and told == "step": told = w.solo(t)
         else:
             told = {"go": w.go, "spin": w.spin, "late": w.turn_late, "solo": w.solo, "ok": lambda t: w.closes(t, True),
@@ -705,6 +826,53 @@ def answered(text):
     return out
 
 # ---------------------------------------------------------------- random schedules
+
+def run_condvars(seed, lines):
+    """Mutexes and condition variables alone."""
+    rng = random.Random(seed)
+    threads = rng.randrange(2, 7)
+    kinds = ["mutex"] + [rng.choice(["mutex", "condvar", "condvar", "fair"]) for _ in range(rng.randrange(1, 4))] + ["condvar"]
+    rng.shuffle(kinds)
+    locks = [(f"l{i}", kind, DEFAULT) for i, kind in enumerate(kinds)]
+    text = [f"threads {threads}"] + [f"lock {name} {kind}" for name, kind, _ in locks]
+    w = World(threads, locks)
+    expected = []
+    def begins(t):
+        mine = [m for m in w.locks if m.kind in ("mutex", "fair") and m.exclusive == t]
+        x = rng.random()
+        if mine and x < 0.75:
+            m = rng.choice(mine)
+            if x < 0.40:
+                c = rng.choice([l for l in w.locks if l.kind == "condvar"])
+                return rng.choice(sorted(WAITS)), c, m
+            return rng.choice(["unlock", "unlock", "unlock_fair", "bump"]), m, None
+        l = rng.choice(w.locks)
+        if l.kind == "condvar":
+            if x < 0.95: return rng.choice(["notify_one", "notify_all"]), l, None
+            return rng.choice(sorted(WAITS)), l, rng.choice(w.locks)
+        if l in mine: return rng.choice(["unlock", "try_lock", "lock_timed"]), l, None
+        return rng.choice(["lock", "lock", "lock_timed", "try_lock"]), l, None
+    for _ in range(lines):
+        # mostly one that isn't asleep
+        awake = [u.number for u in w.threads if u.call is None or w.can_go(u)]
+        t = rng.choice(awake) if awake and rng.random() < 0.8 else rng.randrange(threads)
+        if rng.random() < 0.08:
+            text.append("show"); expected += w.show(); continue
+        y = rng.random()
+        if w.threads[t].call is None or y < 0.02:
+            name, l, m = begins(t)
+            if m is not None and m.kind == "condvar": continue
+            turn = "do" if rng.random() < 0.15 else "begin"
+            text.append(f"{t} {turn} {name} {l.name}" + (f" {m.name}" if m else ""))
+            out = w.begin(t, name, l.number, m.number if m else None)
+            if turn == "do" and out == "step": out = w.solo(t)
+        else:
+            turn, does = ("late", w.turn_late) if y < 0.09 else ("spin", w.spin) if y < 0.14 else ("solo", w.solo) if y < 0.20 else ("go", w.go)
+            text.append(f"{t} {turn}")
+            out = does(t)
+        expected.append(f"{t} {out}")
+    text.append("show"); expected += w.show()
+    return text, expected
 
 def run(seed, lines, fair, once):
     rng = random.Random(seed)
@@ -770,8 +938,8 @@ def run(seed, lines, fair, once):
     return text, expected
 
 def main():
-    fair, once = "--fair" in sys.argv, "--once" in sys.argv
-    given = [word for word in sys.argv[1:] if word not in ("--fair", "--once")]
+    fair, once, condvar = "--fair" in sys.argv, "--once" in sys.argv, "--condvar" in sys.argv
+    given = [word for word in sys.argv[1:] if word not in ("--fair", "--once", "--condvar")]
     if given == ["-"]:
         print("\n".join(answered(sys.stdin.read())))
         return 0
@@ -779,7 +947,7 @@ def main():
     first = int(given[3]) if len(given) > 3 else 0
     seen = {}
     for seed in range(first, first + seeds):
-        text, expected = run(seed, lines, fair, once)
+        text, expected = run_condvars(seed, lines) if condvar else run(seed, lines, fair, once)
         out = subprocess.run([program, "replay"], input="\n".join(text) + "\n", capture_output=True, text=True).stdout.split("\n")[:-1]
         for e in expected: seen[e.split(" ", 1)[1] if " own" not in e else "show"] = seen.get(e.split(" ", 1)[1] if " own" not in e else "show", 0) + 1
         if out != expected:
