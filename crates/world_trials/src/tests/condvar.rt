@@ -2,7 +2,7 @@
 use super::scripts::{Does, Shown, look, rests, surprise};
 use lot_base::{ListQueues, Want};
 use lot_calls::CondvarCall;
-use lot_world::{Answer, Call, Debt, Kind, MutexCall, Outcome, Owner, Step, Turn, World};
+use lot_world::{Answer, Call, Debt, Kind, MutexCall, Outcome, Owner, Turn, World};
 use std::test::Fail;
 
 const MUTEX: usize = 0;
