@@ -19,3 +19,4 @@ pub mod Deeds
 pub mod Rights
 pub mod UserLaws
 pub mod HandsTaken
+pub mod NobodyWakes

@@ -7,6 +7,7 @@ pub mod Sites
 pub mod Codes
 pub mod Onces
 pub mod OnceLaws
+pub mod CondvarLaws
 pub mod Condvars
 pub mod Permits
 pub mod Deeds

@@ -1,5 +1,5 @@
--- A run of the abstract locks: each step is one case of one lock, or changes nothing, each answer is true, and a step is refused
--- exactly where it isn't possible.
+-- A run of the abstract locks: each step is one event, which is one case of one lock, a move of a condition variable's waiters to their
+-- mutex, or nothing; each answer is true, and a step is refused exactly where it isn't possible.
 use Rattle.std.specs.Prelude.{ℕ, Option, Some, None, ◌<◌, ◌≤◌, ◌≡◌, ◌≢◌, ◌⊎◌, List, [], ◌∷◌, ◌++◌, length, nat_le, Bool, true, false, if◌then◌else◌, ◌==◌, ◌*◌, ◌+◌, ◌↔◌}
 use Rattle.lot_base.specs.declared.keys.Keys.{Keys}
 use Rattle.lot_base.specs.declared.keys.Keys as keys

@@ -6,6 +6,7 @@ ghost use Rattle.abstract_locks.specs.UserLaws.{DowngradesOwn, OfEachStep, Reade
 ghost use Rattle.abstract_locks.specs.Picks.{PickersPickAsTheLocksSay};
 ghost use Rattle.abstract_locks.specs.Sites.{EachDeedKeeps};
 ghost use Rattle.abstract_locks.specs.Permits.{EachDeedKeepsPermits, PermitsAreLookedAfter};
+ghost use Rattle.abstract_locks.specs.CondvarLaws.{NobodyWakesByItself};
 ghost use Rattle.abstract_locks.specs.Condvars.{EachCondvarDeedKeeps, EachMoveFits};
 ghost use Rattle.abstract_locks.specs.OnceLaws.{CallersAreLookedAfter, NothingLeavesDone};
 ghost use Rattle.abstract_locks.specs.Codes.{LimitKept, WordFollows, WordsTellTrue};
@@ -109,4 +110,10 @@ pub fn upgrades_let_nobody_write()
 /// A downgrade owns the lock throughout.
 pub fn downgrades_own()
     ensures { OfEachStep DowngradesOwn }
+{}
+
+/// No wait wakes by itself: it was notified only by a step of another thread that notifies its condition variable, while it stood in that
+/// queue.
+pub fn nobody_wakes_by_itself()
+    ensures { OfEachStep NobodyWakesByItself }
 {}

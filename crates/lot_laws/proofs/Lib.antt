@@ -97,7 +97,6 @@ pub mod CountsPut
 pub mod LockSteps
 pub mod OneThing
 pub mod ShownMutex
-pub mod NobodyWakes
 pub mod Promises
 pub mod MutexPromises
 pub mod SharedFair

@@ -8,5 +8,4 @@ pub mod Solo
 pub mod Stations
 pub mod MutexDeeds
 pub mod SitesOf
-pub mod CondvarLaws
 pub mod Laws

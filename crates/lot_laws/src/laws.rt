@@ -1,7 +1,5 @@
 //! One run, worked out step by step, and what no world comes to.
 ghost use Rattle.lot_laws.specs.Laws.{FairUnlockHandsOver, NoWaiterIsForgotten, NobodyIsPassedOver};
-ghost use Rattle.abstract_locks.specs.UserLaws.{OfEachStep};
-ghost use Rattle.lot_laws.specs.CondvarLaws.{NobodyWakesByItself};
 ghost use Rattle.lot_laws.specs.MutexPromises.{MutexesAreKept, MutexesOwe};
 
 /// Thread 0 locks a mutex, threads 1 and 2 wait for it, and thread 0 unlocks it fairly: thread 1 owns it, and thread 2 waits.
@@ -29,10 +27,4 @@ pub fn mutexes_are_kept()
 /// since it entered the section, until it leaves it.
 pub fn mutexes_owe()
     ensures { MutexesOwe }
-{}
-
-/// No wait wakes by itself: it was notified only by a step of another thread that notifies its condition variable, while it stood in that
-/// queue.
-pub fn nobody_wakes_by_itself()
-    ensures { OfEachStep NobodyWakesByItself }
 {}

@@ -7,7 +7,7 @@ ghost use Rattle.lot_machine.specs.Machine.{opening, place_at, word_at, kind_at,
 ghost use Rattle.lot_machine.specs.Fits.{SameSize};
 ghost use Rattle.abstract_locks.specs.Runs.{IsOpening, IsStep, IsRun, purpose_at};
 ghost use Rattle.abstract_locks.specs.UserLaws.{ReadersStayOut, RereadersPass, UpgradesLetNobodyWrite, DowngradesOwn};
-ghost use Rattle.lot_laws.specs.CondvarLaws.{NobodyWakesByItself};
+ghost use Rattle.abstract_locks.specs.CondvarLaws.{NobodyWakesByItself};
 ghost use Rattle.lot_laws.specs.Refinement.{locks_of, ChangesOneThing};
 ghost use Rattle.lot_laws.specs.Promises.{IsKept};
 ghost use Rattle.lot_laws.specs.Fair.{IsFair};

@@ -13,7 +13,7 @@ use Rattle.abstract_locks.specs.Onces as onces
 use Rattle.abstract_locks.specs.Purposes.{Blank, HasMoved, Notifies, Recall, Saw, SawOwner, Waits, WasMoved, WasNotified}
 use Rattle.abstract_locks.specs.Runs.{AtLock, CallState, Does, Event, GoesOn, IsNotified, LocksState, MayHappen, Moves, Nothing, Stays, behind_wake, calls_after, gives_up, going_on, is_among, is_taken_by, unless_ended, woken}
 use Rattle.abstract_locks.specs.UserLaws.{OfEachStep}
-use Rattle.lot_laws.specs.CondvarLaws.{IsNotifier, NobodyWakesByItself}
+use Rattle.abstract_locks.specs.CondvarLaws.{IsNotifier, NobodyWakesByItself}
 
 -- whoever is woken was notified only where it was
 behind_wake_none : (r : Recall) → (IsNotified r → ⊥) → IsNotified (behind_wake r) → ⊥
