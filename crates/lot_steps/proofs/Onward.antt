@@ -1,8 +1,6 @@
--- Where a step leads, and what is done there.
-use Rattle.std.proofs.Common.{ℕ, ◌≡◌, ◌≢◌, refl, arith}
+-- What is done where a step leads.
+use Rattle.std.proofs.Common.{◌≡◌, ◌≢◌, refl}
 use Rattle.lot_calls.specs.declared.outcomes.Answer.{Answer}
-use Rattle.lot_calls.specs.declared.outcomes.Outcome as outcome
-use Rattle.lot_acts.specs.Acts.{outcome_of}
 use Rattle.lot_acts.specs.declared.acts.Act.{Act}
 use Rattle.lot_acts.specs.declared.acts.Act as act
 use Rattle.lot_acts.specs.declared.acts.Next.{Next}
@@ -10,36 +8,15 @@ use Rattle.lot_acts.specs.declared.acts.Next.TheVariants.{At, End}
 use Rattle.lot_acts.specs.declared.acts.Reply.{Reply}
 use Rattle.lot_steps.specs.declared.places.Place.{Place}
 use Rattle.lot_steps.specs.declared.places.Place.TheVariants.{Idle, Mutex, RwLock, Once, Condvar}
-use Rattle.lot_steps.specs.Steps.{HasKeys, ShowsKeys, act_of, next_place, next_act, mutex_goes, mutex_does, rwlock_goes, rwlock_does, once_goes, once_does, condvar_goes, condvar_does}
+use Rattle.lot_steps.specs.Steps.{act_of, next_place, next_act, mutex_goes, mutex_does, rwlock_goes, rwlock_does, once_goes, once_does, condvar_goes, condvar_does}
 use Rattle.lot_condvar.specs.CondvarSteps.{condvar_next}
 use Rattle.lot_condvar.specs.declared.places.CondvarPlace.{CondvarPlace}
 use Rattle.lot_mutex.specs.MutexSteps.{mutex_next}
 use Rattle.lot_mutex.specs.declared.places.MutexPlace.{MutexPlace}
 use Rattle.lot_once.specs.OnceSteps.{once_next}
 use Rattle.lot_once.specs.declared.places.OncePlace.{OncePlace}
-use Rattle.lot_rwlock.specs.declared.places.Admission.{Admission}
 use Rattle.lot_rwlock_fair.specs.FairSteps.{call_next}
 use Rattle.lot_rwlock_fair.specs.declared.places.RwLockCallPlace.{RwLockCallPlace}
-
--- the keys of the lock stay numbers
-pub keeps_keys : (p : Place) (r : Reply) → HasKeys p → ShowsKeys p r → HasKeys (next_place p r)
-keeps_keys Idle r keys shown = keys
-keeps_keys (Mutex lock at) r keys shown = of (mutex_next at r)
-  where
-    of : (n : Next MutexPlace) → HasKeys (mutex_goes lock n)
-    of (At q) = keys
-    of (End x) = tt
-keeps_keys (RwLock lock a at) r keys shown = of (call_next a at r)
-  where
-    of : (n : Next RwLockCallPlace) → HasKeys (rwlock_goes lock a n)
-    of (At q) = keys
-    of (End x) = tt
-keeps_keys (Once lock at) r keys shown = of (once_next at r)
-  where
-    of : (n : Next OncePlace) → HasKeys (once_goes lock n)
-    of (At q) = keys
-    of (End x) = tt
-keeps_keys (Condvar lock at) r keys shown = shown
 
 -- a step that ends no call does what its place says
 pub does : (p : Place) (r : Reply) → ((x : Answer) → next_act p r ≢ act.TheVariants.End x) → next_act p r ≡ act_of (next_place p r)
@@ -64,7 +41,3 @@ does (Condvar lock at) r goes = of (condvar_next at r) goes
     of : (n : Next CondvarPlace) → ((x : Answer) → condvar_does lock n ≢ act.TheVariants.End x) → condvar_does lock n ≡ act_of (condvar_goes lock n)
     of (At q) h = refl
     of (End x) h = absurd (h x refl)
-
--- who is told of an answer ends its call with it
-pub ends : (c : Act) (x : Answer) → outcome_of c ≡ outcome.TheVariants.End x → c ≡ act.TheVariants.End x
-ends c x e = grind arith

@@ -85,6 +85,52 @@ impl Place {
         }
     }
 
+    /// The step of `advance`, of a place that is kept: a running thread copies none of it.
+    pub fn go_on(&mut self, reply: Reply) -> Act
+        requires keys { HasKeys self.old }
+        requires shown { ShowsKeys self.old reply }
+        ensures place { self.new ≡ next_place self.old reply }
+        ensures act { result ≡ next_act self.old reply }
+    {
+        let answer = match self {
+            Place::Idle => return Act::Rest,
+            Place::Mutex { lock, at } => match at.next(reply) {
+                Next::At(next) => {
+                    *at = next;
+                    return next.act(*lock);
+                }
+                Next::End(answer) => answer,
+            },
+            Place::RwLock {
+                lock,
+                admission,
+                at,
+            } => match at.next(*admission, reply) {
+                Next::At(next) => {
+                    *at = next;
+                    return next.act(*lock, *admission);
+                }
+                Next::End(answer) => answer,
+            },
+            Place::Once { lock, at } => match at.next(reply) {
+                Next::At(next) => {
+                    *at = next;
+                    return next.act(*lock);
+                }
+                Next::End(answer) => answer,
+            },
+            Place::Condvar { lock, at } => match at.next(reply) {
+                Next::At(next) => {
+                    *at = next;
+                    return next.act(*lock);
+                }
+                Next::End(answer) => answer,
+            },
+        };
+        *self = Place::Idle;
+        Act::End(answer)
+    }
+
     /// What a thread is told that comes here.
     pub fn outcome(self) -> Outcome
         ensures { result ≡ outcome_of (act_of self) }
@@ -295,9 +341,7 @@ pub fn advance(place: Place, reply: Reply) -> (Place, Act)
     ensures place { result.0 ≡ next_place place reply }
     ensures act { result.1 ≡ next_act place reply }
 {
-    let (next, outcome) = arrive(place, reply);
-    match outcome {
-        Outcome::End(answer) => (next, Act::End(answer)),
-        _ => (next, next.act()),
-    }
+    let mut next = place;
+    let act = next.go_on(reply);
+    (next, act)
 }
