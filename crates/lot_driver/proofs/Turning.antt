@@ -13,7 +13,8 @@ use Rattle.lot_condvar.specs.declared.places.CondvarPlace.TheVariants.{Wait, Loo
 use Rattle.lot_condvar.specs.declared.wait.WaitAt.{WaitAt}
 use Rattle.lot_once.specs.OnceSteps.{once_next}
 use Rattle.lot_once.specs.declared.places.OncePlace.{OncePlace}
-use Rattle.lot_steps.specs.Steps.{act_of, next_place, mutex_goes, rwlock_goes, once_goes, condvar_goes, HasKeys, ShowsKeys}
+use Rattle.lot_steps.specs.Steps.{act_of, next_act, next_place, mutex_goes, rwlock_goes, once_goes, condvar_goes, HasKeys, ShowsKeys}
+use Rattle.lot_steps.proofs.Onward.{does}
 use Rattle.lot_acts.specs.declared.acts.Next.{Next}
 use Rattle.lot_acts.specs.declared.acts.Next.TheVariants.{At, End}
 use Rattle.lot_mutex.specs.declared.places.MutexPlace.{MutexPlace}
@@ -34,7 +35,7 @@ use Rattle.parking_lot_core.specs.Tokens.{view_of, last_of}
 use Rattle.parking_lot_core.specs.declared.sections.Section.{Section}
 use Rattle.parking_lot_core.specs.declared.tokens.SectionRecord.{SectionRecord}
 use Rattle.parking_lot_core.specs.declared.tokens.Token.{Token}
-use Rattle.lot_driver.specs.Fitting.{AreWordsFor}
+use Rattle.lot_driver.specs.Fitting.{AreWordsFor, answer_of}
 use Rattle.lot_driver.specs.Paths.{Brings, Told, closure_of, step, word, hands, parks, other, is_wordless, is_valueless}
 use Rattle.lot_driver.specs.Stages.{Stage, Became, Stepped, Adds, stage, stage_of, inside_of}
 use Rattle.lot_driver.specs.declared.acting.Sleeper.{Sleeper}
@@ -114,3 +115,7 @@ shows_keys (Condvar l place) reply kinds at w = has_keys (next_place (Condvar l 
 pub by_stage : (w : Word) (op : Op) (seen : ℕ) (old : Token) (section : Option Section) (new : Token) → view_of new ≡ after_step w.kind (word_index w.number w.kind) op seen (view_of old) → last_of new ≡ None → CodesWith w.kind (word_index w.number w.kind) seen (view_of old).owns
     → Stepped w.kind (word_index w.number w.kind) op seen (stage_of old section) (stage_of new section)
 by_stage w op seen old section new e last code = (code, ap (λ (v : View). stage v.owns (inside_of section) (last_of new)) e ∙ ap (λ (l : Option SectionRecord). stage (owns_after_step w.kind (word_index w.number w.kind) op seen (view_of old).owns) (inside_of section) l) last)
+
+-- a step that ends no call does what its place says
+pub does_next : (p : Place) (reply : Reply) → answer_of (next_act p reply) ≡ None → next_act p reply ≡ act_of (next_place p reply)
+does_next p reply none = does p reply (λ x e. let some : answer_of (next_act p reply) ≡ Some x = ap answer_of e in cc)

@@ -1,5 +1,5 @@
 -- What the calls of a condition variable did.
-use Rattle.std.specs.Prelude.{ℕ, ◌≡◌, ◌≢◌, ◌<◌, ◌≤◌, ◌*◌, ◌+◌, ◌++◌, ◌⊎◌, Bool, true, false, List, Option, Some, if◌then◌else◌}
+use Rattle.std.specs.Prelude.{ℕ, ◌≡◌, ◌≢◌, ◌<◌, ◌*◌, ◌+◌, ◌++◌, ◌⊎◌, Bool, List, Option, Some, if◌then◌else◌}
 use Rattle.lot_calls.specs.declared.outcomes.Answer.{Answer}
 use Rattle.lot_calls.specs.declared.outcomes.Answer.TheVariants as answers
 use Rattle.lot_condvar.specs.declared.places.CondvarPlace.TheVariants.{Wait, Look, Notify}
@@ -20,6 +20,7 @@ use Rattle.parking_lot_core.specs.Tokens.{IsTokenOf}
 use Rattle.parking_lot_core.specs.declared.tokens.SectionRecord.{SectionRecord}
 use Rattle.lot_driver.specs.CondvarFitting.{move_did}
 use Rattle.lot_driver.specs.Paths.{Walks, at_condvar, condvar_at, step}
+use Rattle.lot_driver.specs.Telling.{owns_of, steps_of}
 
 -- a thread of the lot, a mutex of it, and a condition variable of it of another number, whose keys are numbers
 abbrev pub MeetBeside : ParkingLot → Token → Word → Word → Type 0
@@ -55,7 +56,11 @@ IsStray words c seen = (words < seen) ⊎ (seen ≡ c + 1)
 abbrev pub notify_begin : ℕ → Bool → Place
 notify_begin c all = Condvar c (Look all)
 
--- behind its first step, which saw this: the rest leads to its answer; a stray value is answered as where nobody waits
+-- its thread loaded the word once and found this
+abbrev pub HasLooked : ℕ → ℕ → Token → Token → Type 0
+HasLooked c seen old new = (steps_of new ≡ steps_of old ++ step (condvar_at c) Load seen) × (owns_of new ≡ owns_of old)
+
+-- behind that step the rest leads to its answer; a stray value is answered as where nobody waits
 abbrev pub NotifiesBehind : ℕ → ℕ → Bool → ℕ → Answer → List WordStep → List WordStep → Type 0
 NotifiesBehind words c all seen answer old new =
     ((m : ℕ) × (m ≢ c) × (seen ≡ m + 1) × HasNotified c m all answer old new)

@@ -5,20 +5,23 @@ ghost use Rattle.lot_base.specs.Lines.{waiter, line, lines, without};
 ghost use Rattle.lot_base.specs.declared.keys.Keys.TheVariants.{One};
 ghost use Rattle.lot_base.specs.declared.ops.Op.TheVariants.{Load};
 ghost use Rattle.lot_acts.specs.Acts.{holds};
+ghost use Rattle.lot_steps.specs.Steps.{HasKeys};
 ghost use Rattle.lot_words.specs.Lots.{IsWordOf};
 ghost use Rattle.lot_words.specs.Indices.{word_index};
 ghost use Rattle.lot_words.specs.Steps.{MayStep, CodesWith, after_step};
 ghost use Rattle.parking_lot_core.specs.Keys.{AreKeys};
 ghost use Rattle.parking_lot_core.specs.Tokens.{IsTokenOf, IsSameThread, view_of, last_of};
+ghost use Rattle.lot_driver.specs.Fitting.{sleeper_at};
 ghost use Rattle.lot_driver.specs.Paths.{closure_of, step};
 ghost use Rattle.lot_driver.specs.Telling.{AreWaiting, HasStepped, MayFind, MayTake, MayTakeAt, StandsLast, index_of, is_empty_at, owns_of, steps_of};
 ghost use Rattle.lot_driver.specs.Words.{AreWordsOf, word_in, kind_in, at_in};
 ghost use Rattle.lot_driver.specs.Stages.{Adds, Awoke, AwokeLate, HandsEach, HasKey, IsCounted, IsFresh, IsUngiven, MayLeave, IsIn, IsLeft, TookBy, handed, note_of, inside_of, stage_of, waiting_of, wanted_in, entered_now, ActNeeds, Became};
 
+use crate::driver::sleeper;
 use crate::taking::{requeue, take_all, take_first, take_picked, tell_wants};
 use crate::words::Words;
 use lot_acts::takes_effect;
-use lot_steps::{Act, Check, Reply, Wakes, Whom};
+use lot_steps::{Act, Check, Place, Reply, Wakes, Whom};
 use parking_lot_core::{Clock, Key, Keys, Note, Op, ParkingLot, Section, Slept, Token, Want, Word};
 use std::sync::Wait;
 
@@ -271,22 +274,23 @@ fn sleep<'a, R: Wait, C: Clock>(
     }
 }
 
-/// Does an act. A sleeper may be late only where it is given a limit.
+/// Does the act of a place. A sleeper may be late only where it is given a limit.
 pub(crate) fn perform<'a, R: Wait, C: Clock>(
     rt: &R,
     lot: &'a ParkingLot,
     token: &mut Token,
     words: Words,
     limit: Option<(&C, u64)>,
-    sleeper: Sleeper,
     section: &mut Option<Section<'a>>,
+    place: Place,
     act: Act,
 ) -> Reply
     requires own { IsTokenOf lot.now token.old × AreWordsOf lot.now words × IsIn lot.now section.old }
+    requires keys { HasKeys place }
     requires needs { ActNeeds (kind_in words) (at_in words) (stage_of token.old section.old) act }
     requires no_closure { closure_of act ≡ None }
     ensures own { IsSameThread lot.now token.old token.new × IsIn lot.now section.new }
-    ensures became { Became (IsUp C.tells limit.entry) (kind_in words) (at_in words) sleeper
+    ensures became { Became (IsUp C.tells limit.entry) (kind_in words) (at_in words) (sleeper_at place)
         (stage_of token.old section.old) act result (stage_of token.new section.new) }
     ensures adds { Adds (at_in words) act result (steps_of token.old) (steps_of token.new) }
 {
@@ -321,15 +325,18 @@ pub(crate) fn perform<'a, R: Wait, C: Clock>(
             leave(rt, lot, token, section, note_of(wakes));
             Reply::Done
         }
-        Act::Sleep => sleep(
-            rt,
-            lot,
-            token,
-            words.of(sleeper.lock),
-            limit,
-            sleeper,
-            section,
-        ),
+        Act::Sleep => {
+            let sleeper = sleeper(place);
+            sleep(
+                rt,
+                lot,
+                token,
+                words.of(sleeper.lock),
+                limit,
+                sleeper,
+                section,
+            )
+        }
         Act::Accept => Reply::Done,
         _ => unreachable!(),
     }

@@ -1,9 +1,11 @@
 //! The calls of a condition variable.
-ghost use Rattle.std.specs.Prelude.{◌≡◌, ◌≢◌, None};
+ghost use Rattle.std.specs.Prelude.{◌≡◌, ◌≢◌, Bool, None};
 ghost use Rattle.lot_base.specs.Clocks.{IsUp};
 ghost use Rattle.parking_lot_core.specs.Tokens.{IsSameThread, last_of};
+ghost use Rattle.parking_lot_core.specs.declared.tokens.Token.{Token};
 ghost use Rattle.lot_condvar.specs.CondvarSteps.{notified};
-ghost use Rattle.lot_driver.specs.CondvarCalls.{HasNotified, HasWaited, MeetBeside, MeetsCondvar, Notifies, NotifiesBehind, TellsMoved, notify_behind, wait_begin};
+ghost use Rattle.lot_driver.specs.CondvarCalls as calls;
+ghost use Rattle.lot_driver.specs.CondvarCalls.{HasLooked, HasNotified, HasWaited, MeetBeside, MeetsCondvar, Notifies, NotifiesBehind, TellsMoved, wait_begin};
 ghost use Rattle.lot_driver.specs.CondvarFitting.{IsNotifyOver, IsWaitOver, OwnsIt};
 ghost use Rattle.lot_driver.specs.Stages.{stage_of};
 ghost use Rattle.lot_driver.specs.Telling.{owns_of, steps_of};
@@ -61,7 +63,7 @@ pub fn wait<R: Wait, C: Clock>(
 
 // Where a notification goes on that has seen this mutex.
 fn notifies(condvar: Word, mutex: Word, all: bool) -> Place
-    ensures { result ≡ notify_behind condvar.number mutex.number all }
+    ensures { result ≡ calls.notify_behind condvar.number mutex.number all }
 {
     Place::Condvar {
         lock: condvar.number(),
@@ -105,9 +107,7 @@ fn nobody(all: bool) -> Answer
     if all { Answer::Number(0) } else { Answer::No }
 }
 
-// The rest of a notification whose first step saw that a mutex is shown.
-#[cold]
-#[inline(never)]
+// From behind the first step of a notification, which saw that a mutex is shown.
 fn notify_seen<R: Wait>(
     rt: &R,
     lot: &ParkingLot,
@@ -131,26 +131,40 @@ fn notify_seen<R: Wait>(
     }
 }
 
-/// Wakes the first who waits, or all: those whose mutex somebody owns it moves to the queue of that, but for the first where nobody owns
-/// it. It answers how many it took and moved, of the first whether there was one.
+/// The step with which each notification begins, as all callers make it themselves. It answers what it sees of the condition variable:
+/// where that is 0 nobody waits, and the notification is over.
 #[inline]
-pub fn notify<R: Wait>(
+pub fn begin_notify(lot: &ParkingLot, token: &mut Token, condvar: Word) -> u64
+    requires own { MeetsCondvar lot.now token.old condvar }
+    ensures own { IsSameThread lot.now token.old token.new }
+    ensures looked { HasLooked condvar.number result token.old token.new }
+    ensures nobody { result ≡ 0 → (all : Bool)
+        → Notifies lot.now.words.count condvar.number all (notified all 0) (steps_of token.old) (steps_of token.new) }
+{
+    condvar_may_step();
+    lot.word(token, condvar, Op::Load)
+}
+
+/// The rest of a notification whose first step saw that a mutex is shown. It wakes the first who waits, or all: those whose mutex
+/// somebody owns it moves to the queue of that, but for the first where nobody owns it. It answers how many it took and moved, of the
+/// first whether there was one.
+#[cold]
+#[inline(never)]
+pub fn notify_behind<R: Wait>(
     rt: &R,
     lot: &ParkingLot,
     token: &mut Token,
     condvar: Word,
     all: bool,
+    seen: u64,
 ) -> Answer
     requires own { MeetsCondvar lot.now token.old condvar }
+    requires some { seen ≢ 0 }
     ensures own { IsSameThread lot.now token.old token.new }
-    ensures path { Notifies lot.now.words.count condvar.number all result (steps_of token.old) (steps_of token.new) }
+    ensures path { (before : Token) → HasLooked condvar.number seen before token.old
+        → Notifies lot.now.words.count condvar.number all result (steps_of before) (steps_of token.new) }
     ensures owns { owns_of token.new ≡ owns_of token.old }
     ensures record { TellsMoved condvar.number all result (last_of token.new) }
 {
-    condvar_may_step();
-    let seen = lot.word(token, condvar, Op::Load);
-    if seen == 0 {
-        return nobody(all);
-    }
     notify_seen(rt, lot, token, condvar, all, seen)
 }

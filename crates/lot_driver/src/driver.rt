@@ -30,7 +30,7 @@ use lot_condvar::{CondvarPlace, WaitAt};
 use lot_rwlock::park::ParkAt;
 use lot_rwlock::places::RwLockAt;
 use lot_rwlock_fair::RwLockCallPlace;
-use lot_steps::{Act, MutexPlace, Place, Reply, advance};
+use lot_steps::{Act, MutexPlace, Place, Reply};
 use parking_lot_core::{Clock, Op, ParkingLot, Section, Token, Want, Word};
 use std::hint::spin_loop;
 use std::sync::Wait;
@@ -113,13 +113,16 @@ fn pause(loads: u32) {
     }
 }
 
-// Where a call goes on. In place of an act that leads to sleep it looks at the word once more, after a pause, some times
-// over. Before a later look the thread lets others run.
-fn go_from(place: Place, loads: &mut u32) -> Place
-    ensures { GoesFrom place result }
+// Where a call goes on, and what it does there. In place of an act that leads to sleep it looks at the word once more, after a
+// pause, some times over. Before a later look the thread lets others run.
+fn go_from(words: Words, place: &mut Place, act: Act, loads: &mut u32) -> Act
+    requires words { AreWordsFor place.old (kind_in words) (at_in words) }
+    requires act { act ≡ act_of place.old }
+    ensures place { GoesFrom place.old place.new }
+    ensures act { result ≡ act_of place.new }
 {
     if *loads >= MOST_LOADS {
-        return place;
+        return act;
     }
     match place.looking() {
         Some(looking) => {
@@ -128,9 +131,10 @@ fn go_from(place: Place, loads: &mut u32) -> Place
                 yield_now();
             }
             *loads += 1;
-            looking
+            *place = looking;
+            looking.act()
         }
-        None => place,
+        None => act,
     }
 }
 
@@ -182,7 +186,7 @@ fn condvar_sleeper(lock: usize, at: CondvarPlace) -> Sleeper
 }
 
 // For what a thread sleeps in its call.
-fn sleeper(place: Place) -> Sleeper
+pub(crate) fn sleeper(place: Place) -> Sleeper
     requires { HasKeys place }
     ensures { result ≡ sleeper_at place }
 {
@@ -218,9 +222,11 @@ fn turn<'a, R: Wait, C: Clock>(
     limit: Option<(&C, u64)>,
     section: &mut Option<Section<'a>>,
     place: Place,
+    act: Act,
 ) -> Reply
     requires own { IsTokenOf lot.now token.old × AreWordsOf lot.now words × IsIn lot.now section.old }
     requires words { AreWordsFor place (kind_in words) (at_in words) }
+    requires act { act ≡ act_of place }
     requires fits { (base : List Ownership)
         × Fits (IsUp C.tells limit) base place (stage_of token.old section.old) }
     requires no_closure { closure_of (act_of place) ≡ None }
@@ -230,16 +236,7 @@ fn turn<'a, R: Wait, C: Clock>(
         → Fits (IsUp C.tells limit.entry) base place (stage_of token.old section.old)
         → Reached (IsUp C.tells limit.entry) base place result (stage_of token.new section.new) }
 {
-    perform(
-        rt,
-        lot,
-        token,
-        words,
-        limit,
-        sleeper(place),
-        section,
-        place.act(),
-    )
+    perform(rt, lot, token, words, limit, section, place, act)
 }
 
 /// Runs a call from a place to its answer or its closure, up to a deadline where the call is timed.
@@ -264,20 +261,21 @@ pub(crate) fn run<R: Wait, C: Clock>(
     ensures words { AreWordsAfter result (kind_in words) (at_in words) }
 {
     let mut place = start;
+    let mut act = start.act();
     let mut section = None;
     let mut loads = 0;
     for _ in rt.forever() {
-        if let Some(state) = closure_of(place.act()) {
+        if let Some(state) = closure_of(act) {
             end(section);
             return Stop::Paused { place, state };
         }
-        let reply = turn(rt, lot, token, words, limit, &mut section, place);
-        let (next, act) = advance(place, reply);
+        let reply = turn(rt, lot, token, words, limit, &mut section, place, act);
+        act = place.go_on(reply);
         if let Some(answer) = answer_of(act) {
             end(section);
             return Stop::Ended(answer);
         }
-        place = go_from(next, &mut loads);
+        act = go_from(words, &mut place, act, &mut loads);
     }
     unreachable!()
 }

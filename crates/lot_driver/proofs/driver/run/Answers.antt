@@ -12,7 +12,7 @@ use Rattle.lot_driver.specs.Words.{kind_in, at_in}
 use Rattle.lot_driver.proofs.Ending.{closed, closes_outside, end_of, ended, outside}
 use Rattle.lot_driver.proofs.Leading.{places_lead, fits_from, words_from}
 use Rattle.lot_driver.proofs.Paths.{comes_here, comes_on, comes_from, comes_to_end}
-use Rattle.lot_driver.proofs.Turning.{shows_keys, words_on}
+use Rattle.lot_driver.proofs.Turning.{does_next, shows_keys, words_on}
 use Rattle.lot_driver.proofs.driver.run.Goals as goal
 
 pub loop-init : goal.loop-init
@@ -22,24 +22,26 @@ loop-init g c = record {
   path = comes_here (at_in c.args.words) c.args.start (view_of c.args.token.now).steps;
   words = c.requires.words;
   fits = λ base fits. fits;
+  act = c.act-act.ensures;
   aim = refl;
 }
 
 pub loop-preserved : goal.loop-preserved
 loop-preserved g c = let p = c.loop.place in let t = c.turn-reply in let reply = t.result in let new = t.new.token in
-    let before = c.loop.invariant in let next = c.advance-next.ensures.place in let from = c.go_from-place.ensures in
+    let before = c.loop.invariant in let next = c.go_on-act.ensures.place in let from = c.go_from-act.ensures.place in
     let none : answer_of (next_act c.loop.place c.turn-reply.result) ≡ None = search rules in
     let reached : (base : List Ownership) → Fits (IsUp g.C.Clock.tells c.args.limit) base c.args.start (stage_of c.args.token.now None) → ReachedBy (IsUp g.C.Clock.tells c.args.limit) base (aim_of c.loop.place) (next_place c.loop.place c.turn-reply.result) None (stage_of c.turn-reply.new.token c.turn-reply.new.section)
     = λ (base : List Ownership) fits. subst (λ (o : Option Answer). ReachedBy (IsUp g.C.Clock.tells c.args.limit) base (aim_of c.loop.place) (next_place c.loop.place c.turn-reply.result) o (stage_of c.turn-reply.new.token c.turn-reply.new.section)) none (t.ensures.reached base (before.fits base fits)) in
     let words_then = subst (λ (q : Place). AreWordsFor q (kind_in c.args.words) (at_in c.args.words)) (sym next) (words_on p reply (kind_in c.args.words) (at_in c.args.words) before.words) in
-    let goes_from : (base : List Ownership) → Fits (IsUp g.C.Clock.tells c.args.limit) base c.args.start (stage_of c.args.token.now None) → Fits (IsUp g.C.Clock.tells c.args.limit) base c.go_from-place.result (stage_of c.turn-reply.new.token c.turn-reply.new.section) × (aim_of c.go_from-place.result ≡ aim_of c.advance-next.result.0)
-    = λ (base : List Ownership) fits. fits_from (IsUp g.C.Clock.tells c.args.limit) (kind_in c.args.words) (at_in c.args.words) base c.advance-next.result.0 c.go_from-place.result (stage_of new t.new.section) from words_then
+    let goes_from : (base : List Ownership) → Fits (IsUp g.C.Clock.tells c.args.limit) base c.args.start (stage_of c.args.token.now None) → Fits (IsUp g.C.Clock.tells c.args.limit) base c.go_from-act.new.place (stage_of c.turn-reply.new.token c.turn-reply.new.section) × (aim_of c.go_from-act.new.place ≡ aim_of c.go_on-act.new.self)
+    = λ (base : List Ownership) fits. fits_from (IsUp g.C.Clock.tells c.args.limit) (kind_in c.args.words) (at_in c.args.words) base c.go_on-act.new.self c.go_from-act.new.place (stage_of new t.new.section) from words_then
     (subst (λ (q : Place). Fits (IsUp g.C.Clock.tells c.args.limit) base q (stage_of c.turn-reply.new.token c.turn-reply.new.section)) (sym next) (reached base fits).0) in record {
       turns = (tt, tt);
       own = ((t.ensures.own.0.0, t.ensures.own.0.1 ∙ before.own.0.1), t.ensures.own.1);
-      path = comes_from (at_in c.args.words) c.args.start c.advance-next.result.0 c.go_from-place.result (view_of c.args.token.now).steps (view_of new).steps (comes_on (at_in c.args.words) c.args.start p c.advance-next.result.0 (view_of c.args.token.now).steps (view_of c.loop.token).steps (view_of new).steps reply t.ensures.told.0 before.path t.ensures.told.1 t.ensures.told.2 next) from;
-      words = words_from (kind_in c.args.words) (at_in c.args.words) c.advance-next.result.0 c.go_from-place.result from words_then;
+      path = comes_from (at_in c.args.words) c.args.start c.go_on-act.new.self c.go_from-act.new.place (view_of c.args.token.now).steps (view_of new).steps (comes_on (at_in c.args.words) c.args.start p c.go_on-act.new.self (view_of c.args.token.now).steps (view_of c.loop.token).steps (view_of new).steps reply t.ensures.told.0 before.path t.ensures.told.1 t.ensures.told.2 next) from;
+      words = words_from (kind_in c.args.words) (at_in c.args.words) c.go_on-act.new.self c.go_from-act.new.place from words_then;
       fits = λ (base : List Ownership) fits. (goes_from base fits).0;
+      act = c.go_from-act.ensures.act;
       aim = (goes_from c.requires.start.0 c.requires.start.1).1 ∙ ap aim_of next ∙ (reached c.requires.start.0 c.requires.start.1).1 ∙ before.aim;
     }
 
@@ -62,16 +64,25 @@ end-requires-in-Some-answer_of g c = let start = c.requires.start in let p = c.l
 
 pub end-requires : goal.end-requires
 end-requires g c = let start = c.requires.start in let p = c.loop.place in let words = c.args.words in let st = stage_of c.loop.token c.loop.section in
-    let is : closure_of (act_of c.loop.place) ≡ Some c.in-Some-closure_of.state = search rules in
+    let is : closure_of (act_of c.loop.place) ≡ Some c.in-Some-closure_of.state = sym (ap closure_of c.loop.invariant.act) ∙ sym c.closure_of.ensures ∙ c.in-Some-closure_of.is in
     closes_outside (kind_in words) (at_in words) st (act_of p) c.in-Some-closure_of.state is
     (places_lead (IsUp g.C.Clock.tells c.args.limit) (kind_in words) (at_in words) start.0 p st c.loop.invariant.words (c.loop.invariant.fits start.0 start.1)).0
 
 pub returns-in-Some-closure_of-clause-stopped : goal.returns-in-Some-closure_of-clause-stopped
 returns-in-Some-closure_of-clause-stopped g c = let p = c.loop.place in let words = c.args.words in let before = c.loop.invariant in let token = c.loop.token in let st = stage_of c.loop.token c.loop.section in
-    let is : closure_of (act_of c.loop.place) ≡ Some c.in-Some-closure_of.state = search rules in
+    let is : closure_of (act_of c.loop.place) ≡ Some c.in-Some-closure_of.state = sym (ap closure_of c.loop.invariant.act) ∙ sym c.closure_of.ensures ∙ c.in-Some-closure_of.is in
     λ (base : List Ownership) fits. let needs = (places_lead (IsUp g.C.Clock.tells c.args.limit) (kind_in words) (at_in words) base p st before.words (before.fits base fits)).0 in
     closed (IsUp g.C.Clock.tells c.args.limit) base (view_of token).owns (aim_of c.args.start) p c.in-Some-closure_of.state (inside_of c.loop.section) (last_of token) is
     (closes_outside (kind_in words) (at_in words) st (act_of p) c.in-Some-closure_of.state is needs) (before.fits base fits) before.aim
 
-pub advance-next-requires-clause-shown : goal.advance-next-requires-clause-shown
-advance-next-requires-clause-shown g c = shows_keys c.loop.place c.turn-reply.result (kind_in c.args.words) (at_in c.args.words) c.loop.invariant.words
+pub go_on-act-requires-clause-shown : goal.go_on-act-requires-clause-shown
+go_on-act-requires-clause-shown g c = shows_keys c.loop.place c.turn-reply.result (kind_in c.args.words) (at_in c.args.words) c.loop.invariant.words
+
+pub go_from-act-requires-clause-words : goal.go_from-act-requires-clause-words
+go_from-act-requires-clause-words g c = subst (λ (q : Place). AreWordsFor q (kind_in c.args.words) (at_in c.args.words)) (sym c.go_on-act.ensures.place)
+    (words_on c.loop.place c.turn-reply.result (kind_in c.args.words) (at_in c.args.words) c.loop.invariant.words)
+
+pub go_from-act-requires-clause-act : goal.go_from-act-requires-clause-act
+go_from-act-requires-clause-act g c =
+    let none : answer_of (next_act c.loop.place c.turn-reply.result) ≡ None = search rules in
+    c.go_on-act.ensures.act ∙ does_next c.loop.place c.turn-reply.result none ∙ sym (ap act_of c.go_on-act.ensures.place)

@@ -1,5 +1,6 @@
 use Rattle.std.proofs.Common.{◌≡◌, None, List}
 use Rattle.lot_base.specs.Clocks.{IsUp}
+use Rattle.lot_steps.specs.Steps.{act_of}
 use Rattle.lot_words.specs.declared.owners.Ownership.{Ownership}
 use Rattle.parking_lot_core.specs.Tokens.{IsSameThread, view_of}
 use Rattle.lot_driver.specs.Fitting.{AreWordsFor, Fits, aim_of}
@@ -15,5 +16,6 @@ invariant-loop g l = record {
   path : Comes (at_in l.words) l.fn.start (view_of l.fn.token).steps (view_of l.token).steps l.place;
   words : AreWordsFor l.place (kind_in l.words) (at_in l.words);
   fits : (base : List Ownership) → Fits (IsUp g.C.Clock.tells l.limit) base l.fn.start (stage_of l.fn.token None) → Fits (IsUp g.C.Clock.tells l.limit) base l.place (stage_of l.token l.section);
+  act : l.act ≡ act_of l.place;
   aim : aim_of l.place ≡ aim_of l.fn.start;
 }
