@@ -97,7 +97,12 @@ impl<R: RawCondvar> Condvar<R> {
         ensures path { R.notified self.now false (notifying_answer result) token.old token.new }
         ensures record { R.moved self.now false (moved_first result) token.old token.new }
     {
-        self.raw.notify_one(rt, token)
+        // Where nobody waits it is over with a step that doesn't wait: no flag is tested behind a call that may.
+        let seen = self.raw.begin_notify(token);
+        if seen == 0 {
+            return false;
+        }
+        self.raw.notify_one_behind(rt, token, seen)
     }
 
     /// Notifies all who wait. How many did.
@@ -108,7 +113,11 @@ impl<R: RawCondvar> Condvar<R> {
         ensures path { R.notified self.now true (Number result) token.old token.new }
         ensures record { R.moved self.now true result token.old token.new }
     {
-        self.raw.notify_all(rt, token)
+        let seen = self.raw.begin_notify(token);
+        if seen == 0 {
+            return 0;
+        }
+        self.raw.notify_all_behind(rt, token, seen)
     }
 
     /// The raw condition variable.

@@ -1,10 +1,10 @@
 //! Raw condition variables, as generic code sees them.
-ghost use Rattle.std.specs.Prelude.{◌≡◌, ◌≤◌, ◌+◌, ◌^◌, ℕ, Bool, true, false, MatchOption, MatchResult, IfOk};
+ghost use Rattle.std.specs.Prelude.{◌≡◌, ◌≢◌, ◌≤◌, ◌+◌, ◌^◌, ℕ, Bool, true, false, MatchOption, MatchResult, IfOk};
 ghost use Rattle.std.specs.Arc.{arc_value};
 ghost use Rattle.std.specs.Duration.{as_nanos};
 ghost use Rattle.lot_base.specs.Clocks.{HasElapsed, HasPassed};
 ghost use Rattle.lot_calls.specs.declared.outcomes.Answer.{Answer};
-ghost use Rattle.lot_calls.specs.declared.outcomes.Answer.TheVariants.{Number};
+ghost use Rattle.lot_calls.specs.declared.outcomes.Answer.TheVariants.{No, Number};
 ghost use Rattle.lock_raw.specs.Answers.{GivesBack, GivesBackTimed, IsRefusal, IsLate, moved_first, notifying_answer, timed_answer, waiting_answer};
 
 use crate::RawMutex;
@@ -27,6 +27,8 @@ pub trait RawCondvar {
     ghost waited: { Self → Self.RawMutex → Bool → Answer → Self.RawMutex.Token → Self.RawMutex.Token → Type 0 };
     // Between them it took the steps of a notification of the first who waits, or of all, to this answer.
     ghost notified: { Self → Bool → Answer → Self.RawMutex.Token → Self.RawMutex.Token → Type 0 };
+    // Between them it looked at the condition variable once, and saw this.
+    ghost looked: { Self → ℕ → Self.RawMutex.Token → Self.RawMutex.Token → Type 0 };
     // Between them it took or moved so many, of the first or of all, and where it saw the same mutex twice its last section tells so.
     ghost moved: { Self → Bool → ℕ → Self.RawMutex.Token → Self.RawMutex.Token → Type 0 };
 
@@ -64,19 +66,71 @@ pub trait RawCondvar {
         ensures guard { GivesBack result (Self.RawMutex.is_guard_of mutex.now) }
         ensures path { waited self.now mutex.now false (waiting_answer result) token.old token.new };
 
+    /// The first step of a notification, of one or of all. It answers what it sees of the condition variable: where that is 0, nobody
+    /// waits, and the notification is over.
+    fn begin_notify(&self, token: &mut <Self::RawMutex as RawMutex>::Token) -> u64
+        requires { Self.RawMutex.is_token_of (lot_of self.now) token.old }
+        ensures token { Self.RawMutex.is_token_of (lot_of self.now) token.new × Self.RawMutex.stays token.old token.new }
+        ensures looked { looked self.now result token.old token.new }
+        ensures one { result ≡ 0 → notified self.now false No token.old token.new × moved self.now false 0 token.old token.new }
+        ensures all { result ≡ 0 → notified self.now true (Number 0) token.old token.new × moved self.now true 0 token.old token.new };
+
+    /// The rest of a notification of the first who waits, whose first step saw this. Whether anybody did.
+    fn notify_one_behind<R: Wait>(
+        &self,
+        rt: &R,
+        token: &mut <Self::RawMutex as RawMutex>::Token,
+        seen: u64,
+    ) -> bool
+        requires token { Self.RawMutex.is_token_of (lot_of self.now) token.old }
+        requires some { seen ≢ 0 }
+        ensures token { Self.RawMutex.is_token_of (lot_of self.now) token.new × Self.RawMutex.stays token.old token.new }
+        ensures path { (before : Self.RawMutex.Token) → looked self.now seen before token.old
+            → notified self.now false (notifying_answer result) before token.new
+            × moved self.now false (moved_first result) before token.new };
+
+    /// The rest of a notification of all who wait, whose first step saw this. How many did.
+    fn notify_all_behind<R: Wait>(
+        &self,
+        rt: &R,
+        token: &mut <Self::RawMutex as RawMutex>::Token,
+        seen: u64,
+    ) -> usize
+        requires token { Self.RawMutex.is_token_of (lot_of self.now) token.old }
+        requires some { seen ≢ 0 }
+        ensures token { Self.RawMutex.is_token_of (lot_of self.now) token.new × Self.RawMutex.stays token.old token.new }
+        ensures path { (before : Self.RawMutex.Token) → looked self.now seen before token.old
+            → notified self.now true (Number result) before token.new × moved self.now true result before token.new };
+
     /// Notifies the first who waits. Whether anybody did.
+    #[inline]
     fn notify_one<R: Wait>(&self, rt: &R, token: &mut <Self::RawMutex as RawMutex>::Token) -> bool
         requires { Self.RawMutex.is_token_of (lot_of self.now) token.old }
         ensures token { Self.RawMutex.is_token_of (lot_of self.now) token.new × Self.RawMutex.stays token.old token.new }
         ensures path { notified self.now false (notifying_answer result) token.old token.new }
-        ensures record { moved self.now false (moved_first result) token.old token.new };
+        ensures record { moved self.now false (moved_first result) token.old token.new }
+    {
+        let seen = self.begin_notify(token);
+        if seen == 0 {
+            return false;
+        }
+        self.notify_one_behind(rt, token, seen)
+    }
 
     /// Notifies all who wait. How many did.
+    #[inline]
     fn notify_all<R: Wait>(&self, rt: &R, token: &mut <Self::RawMutex as RawMutex>::Token) -> usize
         requires { Self.RawMutex.is_token_of (lot_of self.now) token.old }
         ensures token { Self.RawMutex.is_token_of (lot_of self.now) token.new × Self.RawMutex.stays token.old token.new }
         ensures path { notified self.now true (Number result) token.old token.new }
-        ensures record { moved self.now true result token.old token.new };
+        ensures record { moved self.now true result token.old token.new }
+    {
+        let seen = self.begin_notify(token);
+        if seen == 0 {
+            return 0;
+        }
+        self.notify_all_behind(rt, token, seen)
+    }
 }
 
 /// A condition variable whose waiters may give up.

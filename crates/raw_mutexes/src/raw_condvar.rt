@@ -8,7 +8,7 @@ ghost use Rattle.lot_calls.specs.declared.outcomes.Answer.{Answer};
 ghost use Rattle.lot_words.specs.Lots.{IsWordOf};
 ghost use Rattle.lot_words.specs.declared.words.WordKind.TheVariants.{Condvar};
 ghost use Rattle.parking_lot_core.specs.Tokens.{IsTokenOf};
-ghost use Rattle.lot_driver.specs.CondvarCalls.{Notifies};
+ghost use Rattle.lot_driver.specs.CondvarCalls.{HasLooked, Notifies};
 ghost use Rattle.lot_driver.specs.Drawing.{Drew};
 ghost use Rattle.lot_driver.specs.Telling.{steps_of};
 ghost use Rattle.raw_mutexes.specs.CondvarCalls.{AnswersWait, HasMoved, WaitsBy};
@@ -20,7 +20,7 @@ use crate::guards::RawGuard;
 use crate::raw_mutex::RawMutex;
 use lot_base::main_key;
 use lot_calls::Answer;
-use lot_driver::condvar_calls::{notify, wait};
+use lot_driver::condvar_calls::{begin_notify, notify_behind, wait};
 use lot_driver::driver::NO_LIMIT;
 use parking_lot_core::{Clock, Fault, Key, ParkingLot, Token, Word, WordKind, to_deadline};
 use std::sync::{Arc, Wait};
@@ -114,6 +114,8 @@ impl lock_raw::RawCondvar for RawCondvar {
     ghost notified = { λ condvar all answer old new.
         Notifies (arc_value condvar.lot).words.count condvar.word.number all answer (steps_of old) (steps_of new) };
 
+    ghost looked = { λ condvar seen old new. HasLooked condvar.word.number seen old new };
+
     ghost moved = { λ condvar all number old new. HasMoved condvar.word.number all number new };
 
     fn new(lot: &Arc<ParkingLot>, token: &mut Token) -> Result<RawCondvar, Fault> {
@@ -136,13 +138,21 @@ impl lock_raw::RawCondvar for RawCondvar {
     }
 
     #[inline]
-    fn notify_one<R: Wait>(&self, rt: &R, token: &mut Token) -> bool {
-        matches!(notify(rt, &self.lot, token, self.word, false), Answer::Yes)
+    fn begin_notify(&self, token: &mut Token) -> u64 {
+        begin_notify(&self.lot, token, self.word)
     }
 
-    #[inline]
-    fn notify_all<R: Wait>(&self, rt: &R, token: &mut Token) -> usize {
-        match notify(rt, &self.lot, token, self.word, true) {
+    #[cold]
+    #[inline(never)]
+    fn notify_one_behind<R: Wait>(&self, rt: &R, token: &mut Token, seen: u64) -> bool {
+        let answer = notify_behind(rt, &self.lot, token, self.word, false, seen);
+        matches!(answer, Answer::Yes)
+    }
+
+    #[cold]
+    #[inline(never)]
+    fn notify_all_behind<R: Wait>(&self, rt: &R, token: &mut Token, seen: u64) -> usize {
+        match notify_behind(rt, &self.lot, token, self.word, true, seen) {
             Answer::Number(number) => number,
             // Who notifies all answers a number.
             _ => unreachable!(),
