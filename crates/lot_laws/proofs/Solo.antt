@@ -47,7 +47,7 @@ use Rattle.lot_laws.proofs.MutexSolo.{LockEnds, UnlockEnds, bump_leads, fair_res
 use Rattle.lot_laws.proofs.MutexTable.{mutex, queued_behind}
 use Rattle.lot_laws.proofs.StandsMoved.{mutex_rules}
 use Rattle.lot_laws.proofs.MutexEvents.{free_word, owned_word}
-use Rattle.lot_laws.proofs.LockSteps.{purpose_is}
+use Rattle.lot_laws.proofs.CallBegins.{purpose_is}
 use Rattle.lot_laws.proofs.Counts.{first_times}
 use Rattle.lot_steps.specs.Steps.{is_lock}
 use Rattle.lot_laws.specs.Stations.{station_by}
