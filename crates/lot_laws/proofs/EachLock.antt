@@ -9,7 +9,7 @@ use Rattle.abstract_locks.specs.Locks.{LockCase, LockState, Needs, Queued, Sort,
 use Rattle.abstract_locks.specs.Runs.{AtLock, CallState, Does, Event, GoesOn, LocksState, MayHappen, MayMove, Moves, Nothing, Stays, Turned, joined_by, locks_after, rules_at}
 use Rattle.abstract_locks.specs.Sites.{has_readers}
 use Rattle.abstract_locks.proofs.Runs.{needs_of}
-use Rattle.lot_laws.specs.Promises.{CallsOneLock}
+use Rattle.lot_laws.proofs.RowPromises.{CallsOneLock}
 
 -- ---------------------------------------------------------------- a move
 

@@ -1,6 +1,5 @@
 -- Who owes a wake does so since it saw waiters, or since it entered the section.
 use Rattle.lot_acts.specs.Acts.{outcome_of}
-use Rattle.lot_laws.specs.Promises.{CallsOneLock}
 use Rattle.std.proofs.Common.{ℕ, Bool, true, false, Option, Some, None, if◌then◌else◌, ◌≡◌, ◌≢◌, ◌<◌, ◌⊎◌, ◌↔◌, inl, inr, length, refl, sym, ◌∙◌, ap, subst, get_or-set_same, nat_lt, is_some, length-set}
 use Rattle.lot_machine.specs.Machine.{closed_place}
 use Rattle.lot_laws.proofs.Looking.{alike_calls, closing_steady, like}
@@ -43,7 +42,7 @@ use Rattle.lot_acts.specs.Profiles.{Profile}
 use Rattle.lot_acts.specs.Calls.{call_by}
 use Rattle.abstract_locks.specs.Runs.{CallState, no_call}
 use Rattle.abstract_locks.specs.Purposes.{Purpose, Waits, lock_for}
-use Rattle.lot_laws.proofs.RowPromises.{RowFinds, RowLooks, releases_for, downgrades_for}
+use Rattle.lot_laws.proofs.RowPromises.{CallsOneLock, RowFinds, RowLooks, releases_for, downgrades_for}
 use Rattle.lot_laws.proofs.PlacePromises.{LetsBy, row_promises, row_calls_one, calls_one_lock, owing_is, owes_own, owed_own, inside_own, call_own, lets_in, lets_out}
 use Rattle.lot_laws.proofs.LineActs.{late_line}
 use Rattle.lot_laws.proofs.PlaceSteps.{owes_befallen, owes_next, first_owes, late_next}

@@ -20,7 +20,7 @@ use Rattle.lot_laws.specs.Refinement.{lock_state, call_on, call_at, taken_at}
 use Rattle.lot_laws.specs.Stations.{Station, nowhere, station, station_at, doing_on, station_by}
 use Rattle.lot_laws.specs.SitesOf.{IsSteady, FitsItsLock, key_of, stood_in, rules_in}
 use Rattle.lot_laws.specs.Owing.{Owes, IsInside, LetsOthersIn, IsDowngrade, sort_at}
-use Rattle.lot_laws.specs.Promises.{CallsOneLock, GoesToWake, HasReleased, WakesAside}
+use Rattle.lot_laws.specs.Promises.{GoesToWake, HasReleased, WakesAside}
 use Rattle.lot_laws.proofs.Counts.{none_first, first_out}
 use Rattle.lot_laws.proofs.SingleCalls.{call_here, call_none}
 use Rattle.lot_laws.proofs.CondvarPromises.{StandsAt, two_stand_main}
@@ -30,7 +30,7 @@ use Rattle.lot_laws.proofs.MutexTable.{queued_times}
 use Rattle.lot_laws.proofs.StandsMoved.{mutex_rules}
 use Rattle.lot_laws.proofs.LineActs.{IsOfLine, IsLineAct, line_act}
 use Rattle.lot_laws.proofs.MutexRows.{mutex_promises}
-use Rattle.lot_laws.proofs.RowPromises.{LetsIn, LetsInAt, IsWaiting, calls_one as purpose_of_one, taken_of, RowPromises}
+use Rattle.lot_laws.proofs.RowPromises.{CallsOneLock, LetsIn, LetsInAt, IsWaiting, calls_one as purpose_of_one, taken_of, RowPromises}
 use Rattle.lot_laws.proofs.CallEvents.{rights}
 use Rattle.lot_laws.proofs.CallRows.{call_promises}
 use Rattle.lot_rwlock_fair.specs.FairProfiles.{call_profile}

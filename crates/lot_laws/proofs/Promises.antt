@@ -21,11 +21,11 @@ use Rattle.abstract_locks.specs.Codes.{HasLimit}
 use Rattle.abstract_locks.specs.Purposes.{Enters, Converts, Bumps, CallsOnce, Awaits, Purpose, MayWait, rules_of, Waits}
 use Rattle.lot_laws.specs.Refinement.{RunsClosure, locks_of, lock_state, lock_seen, taken_at, call_at, call_on, call_state, stance_of}
 use Rattle.lot_laws.specs.Owing.{Owes, sort_at}
-use Rattle.lot_laws.specs.Promises.{IsKept, KnowsRights, WaitsFor, WakesWaiters, IsDebtorOf, IsLookedAfter, IsOpenNow, WasNeverFull, HasOrPends, IsHandedOver, IsOwedWake, IsWithinLimit, want_of, CallsOneLock, HasReleased}
+use Rattle.lot_laws.specs.Promises.{IsKept, KnowsRights, WaitsFor, WakesWaiters, IsDebtorOf, IsLookedAfter, IsOpenNow, WasNeverFull, HasOrPends, IsHandedOver, IsOwedWake, IsWithinLimit, want_of, HasReleased}
 use Rattle.lot_laws.proofs.Closures.{runs_one}
 use Rattle.lot_laws.proofs.ShownMutex.{shows_waiters}
 use Rattle.lot_laws.proofs.SitesPromise.{not_empty}
-use Rattle.lot_laws.proofs.RowPromises.{IsDebtorIn, HasClaimed, HasDebt, WasHanded, RowLooksAfter}
+use Rattle.lot_laws.proofs.RowPromises.{CallsOneLock, IsDebtorIn, HasClaimed, HasDebt, WasHanded, RowLooksAfter}
 use Rattle.lot_laws.proofs.PlacePromises.{row_promises, station_own, doing_own, owed_own, owes_own, calls_one_lock, doing_calls, station_calls, stands_waiting, waiting_stands, call_own, inside_own}
 use Rattle.lot_laws.proofs.SingleCalls.{call_none, single_call}
 use Rattle.lot_condvar.specs.declared.places.CondvarPlace.{CondvarPlace}

@@ -22,13 +22,19 @@ use Rattle.abstract_locks.specs.Sites.{Claim, Doing, Line, Main, Second, Has, Pe
 pub use Rattle.lot_machine.proofs.Acted.{Befalls}
 use Rattle.lot_laws.specs.SitesOf.{key_of}
 use Rattle.lot_laws.specs.Owing.{IsDowngrade, LooksFirst, line_let_in, tells_by, tells_of}
-use Rattle.lot_laws.specs.Promises.{CallsOneLock, KnowsRights, WakesAside, WakesWaiters, want_of}
+use Rattle.lot_laws.specs.Promises.{KnowsRights, WakesAside, WakesWaiters, want_of}
 
 -- what a thread in a call does
 abbrev pub is_acting : Act → Bool
 is_acting Rest = false
 is_acting (End answer) = false
 is_acting a = true
+
+-- a call is of one lock
+abbrev pub CallsOneLock : Option Purpose → Type 0
+CallsOneLock (Some (Waits l m timed)) = ⊥
+CallsOneLock (Some (Notifies l all)) = ⊥
+CallsOneLock purpose = Unit {0}
 
 -- a call of a lock that is no condition variable is of one lock
 pub calls_one : (sort : Sort) (q : Purpose) → KnowsRights (λ k. sort) (Some q) → sort ≢ sorts.Condvar → CallsOneLock (Some q)

@@ -169,12 +169,6 @@ pub record ShowsItsWaiters (w : State) (l : ℕ) : Type 0 where
   pub shows : ((lock_state w l).shown ≡ None) ↔ ((lock_state w l).queue ≡ [])
   pub one : (t m : ℕ) → (lock_state w l).shown ≡ Some m → WaitsFor w t l → (timed : Bool) × ((call_at w t).purpose ≡ Some (Waits l m timed))
 
--- a call is of one lock
-abbrev pub CallsOneLock : Option Purpose → Type 0
-CallsOneLock (Some (Waits l m timed)) = ⊥
-CallsOneLock (Some (Notifies l all)) = ⊥
-CallsOneLock purpose = Unit {0}
-
 pub record IsKept (w : State) : Type 0 where
   -- owners exclude each other, and a thread stands at most once in the queue of a lock, aside of it or taken from it
   pub state : AreLockStates (locks_of w)
