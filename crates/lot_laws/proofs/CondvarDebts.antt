@@ -10,7 +10,7 @@ use Rattle.lot_mutex.specs.declared.lock.Entry.TheVariants as entry
 use Rattle.lot_mutex.specs.declared.lock.LockAt.{LockAt}
 use Rattle.lot_mutex.specs.declared.lock.LockAt.TheVariants as lock
 use Rattle.lot_mutex.specs.declared.unlock.UnlockAt.TheVariants as unlock
-use Rattle.lot_mutex.specs.MutexProfiles.{inside}
+use Rattle.lot_mutex.specs.MutexProfiles.{inside, mutex_profile}
 use Rattle.lot_mutex.specs.MutexSteps.{is_locked}
 use Rattle.lot_condvar.specs.declared.notify.NotifyAt.{NotifyAt}
 use Rattle.lot_condvar.specs.declared.notify.NotifyAt.TheVariants as notify
@@ -21,7 +21,7 @@ use Rattle.lot_condvar.specs.declared.wait.Stands.TheVariants as stands
 use Rattle.lot_condvar.specs.declared.wait.WaitAt.{WaitAt}
 use Rattle.lot_condvar.specs.declared.wait.WaitAt.TheVariants as wait
 use Rattle.lot_condvar.specs.CondvarCalls.{IsLockOf, IsReached}
-use Rattle.lot_condvar.specs.CondvarProfiles.{condvar_profile, condvar_purpose, condvar_recalls, condvar_released, condvar_row, has_moved, has_mutex}
+use Rattle.lot_condvar.specs.CondvarProfiles.{condvar_profile, condvar_purpose, condvar_recalls, condvar_released, condvar_row, has_moved, has_mutex, is_main}
 use Rattle.lot_condvar.specs.CondvarSteps.{condvar_act, mutex_beside}
 use Rattle.lot_steps.specs.declared.places.Place.TheVariants.{Condvar}
 use Rattle.lot_steps.specs.Steps.{is_lock, line_owed, or_else}
@@ -32,7 +32,7 @@ use Rattle.abstract_locks.specs.Sites.{Doing, Has, Line, Main, Second, counts_so
 use Rattle.lot_laws.specs.Promises.{HasReleased, WakesWaiters, mutex_seen, want_of}
 use Rattle.lot_laws.specs.Refinement.{call_state}
 use Rattle.lot_laws.specs.Stations.{doing_on}
-use Rattle.lot_laws.proofs.CondvarPromises.{StandsAt, notifier_nowhere}
+use Rattle.lot_laws.proofs.CondvarPromises.{StandsAt, neither_nowhere, notifier_nowhere}
 use Rattle.lot_laws.proofs.Glue.{same}
 use Rattle.lot_laws.proofs.MutexRows.{decided_awake}
 use Rattle.lot_laws.proofs.RowPromises.{IsDebtorIn}
@@ -66,24 +66,30 @@ debtor_beside sort c at l m debt = by_lock (c == l) (mutex_beside at) refl debt
 
 -- ---------------------------------------------------------------- what it does
 
--- it has the debt at its mutex, is awake, and stands nowhere, or is a wait that has released the mutex
+-- it has the debt at its mutex, is awake, and stands nowhere, or is a wait that has released the mutex and owes there
 pub record LooksBeside (c : ℕ) (at : CondvarPlace) (m : ℕ) : Type 0 where
   pub debt : (((condvar_row at).owes_mutex ≡ true) × ((sort : Sort) (gave_up : Option ℕ) → WakesWaiters sort (Some (condvar_purpose at c)) gave_up (condvar_recalls at) m))
       ⊎ (((condvar_row at).retries ≡ true) × (want_of (Some (condvar_purpose at c)) ≡ Some Exclusive))
   pub awake : condvar_act c at ≢ Sleep
-  pub stands : ((l : ℕ) → StandsAt (Condvar c at) l → ⊥) ⊎ HasReleased (Some (condvar_purpose at c)) (condvar_released at) m Main
+  pub stands : ((l : ℕ) → StandsAt (Condvar c at) l → ⊥)
+      ⊎ (HasReleased (Some (condvar_purpose at c)) (condvar_released at) m Main × ((condvar_row at).owes_mutex ≡ true))
 
 module _ (c m : ℕ) where
   abbrev IsDebtorHere : CondvarPlace → Type 0
   IsDebtorHere at = IsDebtorIn sorts.Mutex (condvar_row at).doing Main
 
+  -- who tries to lock its mutex again stands nowhere
+  tries_nowhere : (timed late : Bool) (a : LockAt) → (mutex_profile (mutex.Lock entry.Lock true a)).stands ≡ None → (mutex_profile (mutex.Lock entry.Lock true a)).hand ≡ None
+      → (l : ℕ) → StandsAt (Condvar c (Wait m timed (wait.Lock late (mutex.Lock entry.Lock true a)))) l → ⊥
+  tries_nowhere timed late a stands hand l = neither_nowhere c (Wait m timed (wait.Lock late (mutex.Lock entry.Lock true a))) l refl (ap is_main stands) hand
+
   -- a wait that was woken to lock its mutex again
   relock_looks : (timed late r : Bool) (a : LockAt) → IsLockOf a → IsDebtorHere (Wait m timed (wait.Lock late (mutex.Lock entry.Lock r a))) → LooksBeside c (Wait m timed (wait.Lock late (mutex.Lock entry.Lock r a))) m
-  relock_looks timed late true lock.First of d = record { debt = inr (refl, refl); awake = λ h. cc; stands = inr (refl, refl) }
-  relock_looks timed late true lock.Load of d = record { debt = inr (refl, refl); awake = λ h. cc; stands = inr (refl, refl) }
-  relock_looks timed late true (lock.Decide x) of d = record { debt = inr (refl, refl); awake = decided_awake m x (is_locked x) (x == 1); stands = inr (refl, refl) }
-  relock_looks timed late true lock.Check of d = record { debt = inr (refl, refl); awake = λ h. cc; stands = inr (refl, refl) }
-  relock_looks timed late true (lock.Leave false) of d = record { debt = inr (refl, refl); awake = λ h. cc; stands = inr (refl, refl) }
+  relock_looks timed late true lock.First of d = record { debt = inr (refl, refl); awake = λ h. cc; stands = inl (tries_nowhere timed late lock.First refl refl) }
+  relock_looks timed late true lock.Load of d = record { debt = inr (refl, refl); awake = λ h. cc; stands = inl (tries_nowhere timed late lock.Load refl refl) }
+  relock_looks timed late true (lock.Decide x) of d = record { debt = inr (refl, refl); awake = decided_awake m x (is_locked x) (x == 1); stands = inl (tries_nowhere timed late (lock.Decide x) refl refl) }
+  relock_looks timed late true lock.Check of d = record { debt = inr (refl, refl); awake = λ h. cc; stands = inl (tries_nowhere timed late lock.Check refl refl) }
+  relock_looks timed late true (lock.Leave false) of d = record { debt = inr (refl, refl); awake = λ h. cc; stands = inl (tries_nowhere timed late (lock.Leave false) refl refl) }
   relock_looks timed late false lock.First of d = absurd (idle_owes sorts.Mutex Main d)
   relock_looks timed late false lock.Load of d = absurd (idle_owes sorts.Mutex Main d)
   relock_looks timed late false (lock.Decide x) of d = absurd (idle_owes sorts.Mutex Main d)
@@ -110,10 +116,10 @@ module _ (c m : ℕ) where
 
   wait_looks : (timed : Bool) (at : WaitAt) → IsReached (Wait m timed at) → IsDebtorHere (Wait m timed at) → ((condvar_row (Wait m timed at)).doing.claims ≡ Some (Has Exclusive) → ⊥) → LooksBeside c (Wait m timed at) m
   wait_looks timed (wait.Release s (mutex.Unlock unlock.Subtract)) reached d free = absurd (free (owns_it (has_mutex s)))
-  wait_looks timed (wait.Release s (mutex.Unlock unlock.Enter)) reached d free = record { debt = inl (refl, λ sort gave_up. refl); awake = λ h. cc; stands = inr (refl, refl) }
-  wait_looks timed (wait.Release s (mutex.Unlock unlock.Take)) reached d free = record { debt = inl (refl, λ sort gave_up. refl); awake = λ h. cc; stands = inr (refl, refl) }
-  wait_looks timed (wait.Release s (mutex.Unlock (unlock.Clear any))) reached d free = record { debt = inl (refl, λ sort gave_up. refl); awake = λ h. cc; stands = inr (refl, refl) }
-  wait_looks timed (wait.Release s (mutex.Unlock (unlock.Leave any))) reached d free = record { debt = inl (refl, λ sort gave_up. refl); awake = λ h. cc; stands = inr (refl, refl) }
+  wait_looks timed (wait.Release s (mutex.Unlock unlock.Enter)) reached d free = record { debt = inl (refl, λ sort gave_up. refl); awake = λ h. cc; stands = inr ((refl, refl), refl) }
+  wait_looks timed (wait.Release s (mutex.Unlock unlock.Take)) reached d free = record { debt = inl (refl, λ sort gave_up. refl); awake = λ h. cc; stands = inr ((refl, refl), refl) }
+  wait_looks timed (wait.Release s (mutex.Unlock (unlock.Clear any))) reached d free = record { debt = inl (refl, λ sort gave_up. refl); awake = λ h. cc; stands = inr ((refl, refl), refl) }
+  wait_looks timed (wait.Release s (mutex.Unlock (unlock.Leave any))) reached d free = record { debt = inl (refl, λ sort gave_up. refl); awake = λ h. cc; stands = inr ((refl, refl), refl) }
   wait_looks timed (wait.Release s at) reached d free = absurd reached.0
   wait_looks timed (wait.Asleep s) reached d free = absurd (asleep_none timed s reached d)
   wait_looks timed (wait.Lock late (mutex.Lock entry.Lock r a)) reached d free = relock_looks timed late r a reached.1 d

@@ -133,23 +133,27 @@ module _ (k : ℕ) where
       either false true e f = inr (eqb-true m l f)
       either false false e f = absurd (out_of_both (Wait m timed at) l e f s)
 
-  -- who notifies stands nowhere
-  pub notifier_nowhere : (all : Bool) (m : ℕ) (at : NotifyAt) (l : ℕ) → StandsAt (Condvar k (Notify all m at)) l → ⊥
-  notifier_nowhere all m at l (inl stands) = stands (stands_at (Notify all m at) l ∙ by_lock (k == l) (is_lock l (Some m)))
+  -- who is in neither line, and in no hand, stands nowhere
+  pub neither_nowhere : (at : CondvarPlace) (l : ℕ) → (condvar_row at).listed ≡ false → (condvar_row at).moved ≡ false → (condvar_row at).hand ≡ None → StandsAt (Condvar k at) l → ⊥
+  neither_nowhere at l listed moved hand (inl stands) = stands (stands_at at l ∙ by_lock (k == l) (is_lock l (mutex_beside at)))
     where
       none : (b : Bool) → b ≡ false → in_line b Main ≡ None
       none true e = absurd cc
       none false e = refl
 
-      by_lock : (c d : Bool) → (if c then in_line (notify_row all m at).listed Main else if d then in_line (notify_row all m at).moved Main else None) ≡ None
-      by_lock true d = none (notify_row all m at).listed (unlisted all m at)
-      by_lock false true = none (notify_row all m at).moved (notifier_stands all m at).0
+      by_lock : (c d : Bool) → (if c then in_line (condvar_row at).listed Main else if d then in_line (condvar_row at).moved Main else None) ≡ None
+      by_lock true d = none (condvar_row at).listed listed
+      by_lock false true = none (condvar_row at).moved moved
       by_lock false false = refl
-  notifier_nowhere all m at l (inr taken) = taken (by_lock (is_lock l (Some m) && not (k == l)))
+  neither_nowhere at l listed moved hand (inr taken) = taken (by_lock (is_lock l (mutex_beside at) && not (k == l)))
     where
-      by_lock : (b : Bool) → (if b then taken_from (mutex_side (Notify all m at)).hand (mutex_side (Notify all m at)).wants true else None) ≡ None
-      by_lock true = ap (λ h. taken_from h (mutex_side (Notify all m at)).wants true) (notifier_stands all m at).1
+      by_lock : (b : Bool) → (if b then taken_from (mutex_side at).hand (mutex_side at).wants true else None) ≡ None
+      by_lock true = ap (λ h. taken_from h (mutex_side at).wants true) hand
       by_lock false = refl
+
+  -- so does who notifies
+  pub notifier_nowhere : (all : Bool) (m : ℕ) (at : NotifyAt) (l : ℕ) → StandsAt (Condvar k (Notify all m at)) l → ⊥
+  notifier_nowhere all m at l = neither_nowhere (Notify all m at) l (unlisted all m at) (notifier_stands all m at).0 (notifier_stands all m at).1
 
   pub two_wait : (at : CondvarPlace) (l : ℕ) → StandsAt (Condvar k at) l → MayWait (Some (condvar_purpose at k)) l
   two_wait (Wait m timed at) l s = wait_waits m timed at l s

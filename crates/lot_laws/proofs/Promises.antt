@@ -196,10 +196,13 @@ module _ (w : State) (steady : IsSteady w) where
     released_two = ap (λ p. (call_state p (rights_now t)).released) two.is ∙ two_released two.lock two.at (rights_now t)
 
     module _ (names : mutex_beside two.at ≡ Some l) (looks : LooksBeside two.lock two.at l) where
+      owes_two : (condvar_row two.at).owes_mutex ≡ true → Owes w t l Main
+      owes_two owes = ap (λ p. line_owed p l) two.is ∙ two_owe two.lock two.at l names owes
+
       debt_two : IsDebtorOf w t l Main
       debt_two = elim looks.debt [
         | inl owed ↦ inl (
-          ap (λ p. line_owed p l) two.is ∙ two_owe two.lock two.at l names owed.0,
+          owes_two owed.0,
           subst (λ q. WakesWaiters (sort_at w l) q (call_at w t).gave_up (call_at w t).recalls l) (sym purpose_two)
               (subst (λ x. WakesWaiters (sort_at w l) (Some (condvar_purpose two.at two.lock)) (call_at w t).gave_up x l) (sym recalls_two) (owed.1 (sort_at w l) (call_at w t).gave_up)),
         )
@@ -209,13 +212,16 @@ module _ (w : State) (steady : IsSteady w) where
         )
       ]
 
-      nowhere_two : (k : ℕ) → (standing t (lock_state w k) ≡ 0) ⊎ HasReleased (call_at w t).purpose (call_at w t).released l Main
+      nowhere_two : (k : ℕ) → (standing t (lock_state w k) ≡ 0) ⊎ (HasReleased (call_at w t).purpose (call_at w t).released l Main × Owes w t l Main)
       nowhere_two k = elim looks.stands [
         | inl none ↦ inl (elim (cases_lt (standing t (lock_state w k)) 1) [
           | inl few ↦ omega arith
           | inr some ↦ absurd (none k (subst (λ p. StandsAt p k) two.is (stands_there w t steady k some)))
         ])
-        | inr released ↦ inr (subst (λ q. HasReleased q (call_at w t).released l Main) (sym purpose_two) (subst (λ b. HasReleased (Some (condvar_purpose two.at two.lock)) b l Main) (sym released_two) released))
+        | inr released ↦ inr (
+          subst (λ q. HasReleased q (call_at w t).released l Main) (sym purpose_two) (subst (λ b. HasReleased (Some (condvar_purpose two.at two.lock)) b l Main) (sym released_two) released.0),
+          owes_two released.1,
+        )
       ]
 
       looks_two : IsLookedAfter w l Main
@@ -268,7 +274,7 @@ module _ (w : State) (steady : IsSteady w) where
       rests_nowhere : (k : ℕ) → standing after.debtor (lock_state w k) ≡ 0
       rests_nowhere k = elim (after.stands_nowhere k) [
         | inl none ↦ none
-        | inr released ↦ absurd (let both : sorts.Once ≡ sorts.Mutex = sym once ∙ released_mutex (sort_at w) (call_at w after.debtor).purpose (call_at w after.debtor).released l (known after.debtor) released in cc)
+        | inr released ↦ absurd (let both : sorts.Once ≡ sorts.Mutex = sym once ∙ released_mutex (sort_at w) (call_at w after.debtor).purpose (call_at w after.debtor).released l (known after.debtor) released.0 in cc)
       ]
 
       counts_none : (o : Option Want) → counts_some sorts.Once o ≡ true → ⊥

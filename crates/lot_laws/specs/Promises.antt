@@ -112,12 +112,14 @@ IsDebtorOf w t l Main =
     ⊎ (((call_at w t).retries ≡ Some l) × (counts_some (sort_at w l) (want_of (call_at w t).purpose) ≡ true))
 IsDebtorOf w t l Second = Owes w t l Second
 
--- some thread, which is awake, stands in no queue and isn't taken, is such a debtor; a wait may stand in one while it still releases its mutex
+-- some thread, which is awake, stands in no queue and isn't taken, is such a debtor; but a wait that has released its mutex and owes a wake there may
+-- stand in one, or be taken
 pub record IsLookedAfter (w : State) (l : ℕ) (m : Line) : Type 0 where
   pub debtor : ℕ
   pub debt : IsDebtorOf w debtor l m
   pub awake : act_of (place_at w debtor) ≢ Sleep
-  pub stands_nowhere : (k : ℕ) → (standing debtor (lock_state w k) ≡ 0) ⊎ HasReleased (call_at w debtor).purpose (call_at w debtor).released l m
+  pub stands_nowhere : (k : ℕ) → (standing debtor (lock_state w k) ≡ 0)
+      ⊎ (HasReleased (call_at w debtor).purpose (call_at w debtor).released l m × Owes w debtor l m)
 
 -- nobody bars the way of who stands first in the main line: nobody owns the mutex, no writer is there, or a permit is free
 abbrev pub IsOpenNow : Rules → LockState → Type 0
