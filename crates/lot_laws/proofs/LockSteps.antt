@@ -1,6 +1,7 @@
 -- Each turn of a thread is a step of the abstract locks.
 use Rattle.std.proofs.Common.{◌≤◌, ◌++◌, arith, ℕ, Bool, true, false, Option, Some, None, if◌then◌else◌, ◌==◌, ◌&&◌, not, ◌≡◌, ◌≢◌, ◌+◌, ◌*◌, ◌<◌, ◌↔◌, inl, inr, List, [], ◌∷◌, length, refl, sym, ◌∙◌, ap, subst, get_or-set_other, get_or-set_same, length-set, nat_lt, is_some}
 use Rattle.lot_laws.proofs.CallBegins.{begin_goes, begin_possible}
+use Rattle.lot_laws.proofs.RwLockLate.{call_late, late_row}
 use Rattle.lot_laws.proofs.Possible.{begins_outside, closure_gone, late_outside}
 use Rattle.abstract_locks.specs.Runs.{AtLock}
 use Rattle.abstract_locks.specs.Codes.{is_marked}
@@ -28,17 +29,12 @@ use Rattle.lot_once.specs.OnceProfiles.{once_profile}
 use Rattle.lot_laws.proofs.OnceOwing.{once_never_late}
 use Rattle.lot_laws.proofs.OnceGoes.{once_step}
 use Rattle.lot_acts.specs.Profiles.{taken_from}
-use Rattle.lot_rwlock.specs.declared.places.RwLockAt.TheVariants as at
-use Rattle.lot_rwlock.specs.declared.park.ParkAt.TheVariants as parking
 use Rattle.lot_base.specs.Keys.{key_of}
 use Rattle.lot_base.specs.declared.keys.Line.{Line}
-use Rattle.lot_rwlock.specs.declared.places.RwLockAt.{RwLockAt}
-use Rattle.lot_rwlock.specs.RwLockSteps.{rwlock_next, next_at, patience_of}
 use Rattle.lot_rwlock.specs.declared.places.Admission.{Admission}
-use Rattle.lot_rwlock.specs.declared.places.RwLockPlace.{RwLockPlace}
 use Rattle.lot_rwlock.specs.declared.purposes.RwLockPurpose.{RwLockPurpose}
 use Rattle.lot_rwlock.specs.declared.purposes.RwLockPurpose.TheVariants as purposes
-use Rattle.lot_rwlock.specs.RwLockProfiles.{purpose_by, rwlock_late_line, late_line_at, hand_at as rwlock_hand}
+use Rattle.lot_rwlock.specs.RwLockProfiles.{purpose_by}
 use Rattle.lot_rwlock.specs.RwLockDeeds.{Admits}
 use Rattle.abstract_locks.specs.Sites.{has_readers}
 use Rattle.abstract_locks.specs.Locks.{Mutex as Mutual}
@@ -95,8 +91,7 @@ use Rattle.lot_laws.proofs.RwLockEvents.{rwlock_step}
 use Rattle.lot_rwlock_fair.specs.declared.places.RwLockCallPlace.{RwLockCallPlace}
 use Rattle.lot_rwlock_fair.specs.declared.places.RwLockCallPlace.TheVariants.{Plain, Glance, HandOver, Bump as BumpCall, Handed}
 use Rattle.lot_rwlock_fair.specs.FairCalls.{CallStands}
-use Rattle.lot_rwlock_fair.specs.FairProfiles.{call_late_line, call_profile}
-use Rattle.lot_rwlock_fair.specs.FairSteps.{bump_next, call_next, plain_next}
+use Rattle.lot_rwlock_fair.specs.FairProfiles.{call_profile}
 use Rattle.lot_rwlock_fair.proofs.FairSleepers.{fair_sleepers_hear}
 use Rattle.lot_acts.specs.declared.acts.Reply.{Reply}
 use Rattle.lot_mutex.specs.declared.places.MutexPlace.{MutexPlace}
@@ -121,37 +116,6 @@ use Rattle.lot_laws.proofs.LockEvents.{Befalls, wakes_others, hands_others}
 use Rattle.lot_laws.proofs.OtherCalls.{IsLonely, IsCalm, lonely, takes, calm, befalls, befalls_nobody, no_hand_off, tells_handed}
 use Rattle.lot_laws.proofs.MutexCalls.{Tells, Rests, row_of}
 use Rattle.lot_laws.proofs.MutexEvents.{Hears, owned_word, mutex_tells, claims_at, deeds_are, are_claims}
-
--- ---------------------------------------------------------------- a reader-writer call whose time is up
-
--- it sleeps in a line, and stands there still
-late_place : (a : Admission) (p : RwLockPlace) (m : Line) → rwlock_late_line p ≡ Some m
-    → (p2 : RwLockPlace) × (rwlock_next a p reply.Late ≡ next.At p2) × (rwlock_hand p.at ≡ None) × (rwlock_hand p2.at ≡ None)
-late_place a p m h = by_place p.at refl h
-  where
-    by_place : (to : RwLockAt) → p.at ≡ to → late_line_at (patience_of p.purpose) to ≡ Some m
-        → (p2 : RwLockPlace) × (rwlock_next a p reply.Late ≡ next.At p2) × (rwlock_hand p.at ≡ None) × (rwlock_hand p2.at ≡ None)
-    by_place (at.Park parking.Asleep) e h = (record p { at = at.Park parking.Remove }, ap (λ x. next_at a p x reply.Late) e, ap rwlock_hand e, refl)
-    by_place (at.Aside parking.Asleep) e h = (record p { at = at.Aside parking.Remove }, ap (λ x. next_at a p x reply.Late) e, ap rwlock_hand e, refl)
-    by_place (at.Park to) e h = absurd cc
-    by_place (at.Aside to) e h = absurd cc
-    by_place to e h = absurd cc
-
-call_late : (a : Admission) (c : RwLockCallPlace) (m : Line) → call_late_line c ≡ Some m
-    → (d : RwLockCallPlace) × (call_next a c reply.Late ≡ next.At d) × ((call_profile a c).hand ≡ None) × ((call_profile a d).hand ≡ None)
-call_late a (Plain p) m h = let z = late_place a p m h in (Plain z.0, ap plain_next z.1, z.2, z.3)
-call_late a (BumpCall p) m h = let z = late_place a p m h in (BumpCall z.0, ap (bump_next p.purpose) z.1, z.2, z.3)
-call_late a (Glance x) m h = absurd cc
-call_late a (HandOver x b to) m h = absurd cc
-call_late a (Handed x how b to) m h = absurd cc
-
--- its line stands in its row
-late_row : (a : Admission) (c : RwLockCallPlace) → (call_profile a c).late_line ≡ call_late_line c
-late_row a (Plain p) = refl
-late_row a (BumpCall p) = refl
-late_row a (Glance x) = refl
-late_row a (HandOver x b to) = refl
-late_row a (Handed x how b to) = refl
 
 -- ---------------------------------------------------------------- a thread goes on
 
