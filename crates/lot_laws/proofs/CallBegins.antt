@@ -41,16 +41,19 @@ use Rattle.lot_laws.proofs.TurnsKept.{idle_is}
 use Rattle.lot_laws.proofs.CallEvents.{rights}
 
 -- a call of a mutex has its purpose
-pub purpose_is : (k : Kind) (l : ℕ) (c : MutexCall) → is_mutex k ≡ true → purpose_of k (call.TheVariants.Mutex l c) ≡ Some (mutex_purpose (is_fair k) l c)
+pub purpose_is : (k : Kind) (l : ℕ) (c : MutexCall) → is_mutex k ≡ true
+    → purpose_of k (call.TheVariants.Mutex l c) ≡ Some (mutex_purpose (is_fair k) l c)
 purpose_is kind.TheVariants.Mutex l c h = refl
 purpose_is kind.TheVariants.Fair l c h = refl
 purpose_is k l c h = absurd cc
 
-once_purpose_is : (k : Kind) (l : ℕ) (c : OnceCall) → (rules_of k).sort ≡ locks.Once → purpose_of k (call.TheVariants.Once l c) ≡ Some (once_purpose l c)
+once_purpose_is : (k : Kind) (l : ℕ) (c : OnceCall) → (rules_of k).sort ≡ locks.Once
+    → purpose_of k (call.TheVariants.Once l c) ≡ Some (once_purpose l c)
 once_purpose_is kind.TheVariants.Once l c h = refl
 once_purpose_is k l c h = absurd cc
 
-once_begins_with : (l : ℕ) (c : OnceCall) (r : ℕ → Rights) → call_state (Once l (once_first c)) r ≡ new_call (Some (once_purpose l c)) r
+once_begins_with : (l : ℕ) (c : OnceCall) (r : ℕ → Rights)
+    → call_state (Once l (once_first c)) r ≡ new_call (Some (once_purpose l c)) r
 once_begins_with l c r = refl
 
 no_purpose : (w : LocksState) (t : ℕ) (k : Kind) (c : Call) → has_call k c ≡ false → HasRight w t (purpose_of k c) → ⊥
@@ -77,7 +80,8 @@ no_call_idle (Mutex l Bump) r h = absurd cc
 no_call_idle (Mutex l (HandOff bumps a)) r h = absurd cc
 
 module _ (w : State) (t l : ℕ) where
-  right_held : (fair : Bool) (c : MutexCall) → mutex_right c t (owners_at w l) ≡ true → HasRight (locks_of w) t (Some (mutex_purpose fair l c))
+  right_held : (fair : Bool) (c : MutexCall) → mutex_right c t (owners_at w l) ≡ true
+      → HasRight (locks_of w) t (Some (mutex_purpose fair l c))
   right_held fair mutex_call.TheVariants.Lock h = tt
   right_held fair mutex_call.TheVariants.LockTimed h = tt
   right_held fair mutex_call.TheVariants.TryLock h = tt
@@ -85,7 +89,8 @@ module _ (w : State) (t l : ℕ) where
   right_held fair mutex_call.TheVariants.UnlockFair h = thread_is t (owner_at w l) h
   right_held fair mutex_call.TheVariants.Bump h = thread_is t (owner_at w l) h
 
-  right_needed : (fair : Bool) (c : MutexCall) → HasRight (locks_of w) t (Some (mutex_purpose fair l c)) → mutex_right c t (owners_at w l) ≡ true
+  right_needed : (fair : Bool) (c : MutexCall) → HasRight (locks_of w) t (Some (mutex_purpose fair l c))
+      → mutex_right c t (owners_at w l) ≡ true
   right_needed fair mutex_call.TheVariants.Lock h = refl
   right_needed fair mutex_call.TheVariants.LockTimed h = refl
   right_needed fair mutex_call.TheVariants.TryLock h = refl
@@ -93,7 +98,8 @@ module _ (w : State) (t l : ℕ) where
   right_needed fair mutex_call.TheVariants.UnlockFair h = is_owner t (owner_at w l) h
   right_needed fair mutex_call.TheVariants.Bump h = is_owner t (owner_at w l) h
 
-  begins_with : (fair : Bool) (c : MutexCall) (r : ℕ → Rights) → call_state (Mutex l (mutex_first fair c)) r ≡ new_call (Some (mutex_purpose fair l c)) r
+  begins_with : (fair : Bool) (c : MutexCall) (r : ℕ → Rights)
+      → call_state (Mutex l (mutex_first fair c)) r ≡ new_call (Some (mutex_purpose fair l c)) r
   begins_with fair mutex_call.TheVariants.Lock r = refl
   begins_with fair mutex_call.TheVariants.LockTimed r = refl
   begins_with fair mutex_call.TheVariants.TryLock r = refl
@@ -112,7 +118,9 @@ module _ (w : State) (t l : ℕ) where
   untaken_first fair mutex_call.TheVariants.Bump k = refl
 
 pub begin_goes : (w : State) (t : ℕ) (c : Call) → IsShaped w → IsSteady w → t < length w.places → can_begin w t c ≡ true
-    → MayBegin (locks_of w) t c × Stays (locks_of w) t (new_call (purpose_at (locks_of w) c) (rights w t)) outcome.TheVariants.Step (locks_of (state_after_begin w t c))
+    → MayBegin (locks_of w) t c
+    × Stays (locks_of w) t (new_call (purpose_at (locks_of w) c) (rights w t)) outcome.TheVariants.Step
+    (locks_of (state_after_begin w t c))
 begin_goes w t (call.TheVariants.RwLock l c) shape steady there can = (
   record { thread = there; idle = rw idle refl; lock = ltb-true l (length w.locks) open_to.0; right = rw (rwlock_purpose_is (kind_at w l) l c is_kind) (rwlock_right_held w t l c held.1) },
   placed w t there w.sections Idle (RwLock l (admission_of (kind_at w l)) (call_first c)) idle (rwlock_untaken_first l (admission_of (kind_at w l)) c) _
@@ -122,10 +130,12 @@ begin_goes w t (call.TheVariants.RwLock l c) shape steady there can = (
     idle : place_at w t ≡ Idle
     idle = idle_is (place_at w t) (both (is_idle (place_at w t)) (is_open_to w t (call.TheVariants.RwLock l c)) can).0
 
-    open_to : (nat_lt l (length w.locks) ≡ true) × ((has_call (kind_at w l) (call.TheVariants.RwLock l c) && has_right (call.TheVariants.RwLock l c) t (owners_at w l) (share_at w l t)) ≡ true)
+    open_to : (nat_lt l (length w.locks) ≡ true)
+        × ((has_call (kind_at w l) (call.TheVariants.RwLock l c) && has_right (call.TheVariants.RwLock l c) t (owners_at w l) (share_at w l t)) ≡ true)
     open_to = both (nat_lt l (length w.locks)) _ (both (is_idle (place_at w t)) (is_open_to w t (call.TheVariants.RwLock l c)) can).1
 
-    held : (has_call (kind_at w l) (call.TheVariants.RwLock l c) ≡ true) × (call_right c t (owners_at w l) (share_at w l t) ≡ true)
+    held : (has_call (kind_at w l) (call.TheVariants.RwLock l c) ≡ true)
+        × (call_right c t (owners_at w l) (share_at w l t) ≡ true)
     held = both (has_call (kind_at w l) (call.TheVariants.RwLock l c)) (call_right c t (owners_at w l) (share_at w l t)) open_to.1
 
     is_kind : has_readers (rules_in w l).sort ≡ true
@@ -138,7 +148,8 @@ begin_goes w t (call.TheVariants.Once l c) shape steady there can = (
     idle : place_at w t ≡ Idle
     idle = idle_is (place_at w t) (both (is_idle (place_at w t)) (is_open_to w t (call.TheVariants.Once l c)) can).0
 
-    open_to : (nat_lt l (length w.locks) ≡ true) × ((has_call (kind_at w l) (call.TheVariants.Once l c) && has_right (call.TheVariants.Once l c) t (owners_at w l) (share_at w l t)) ≡ true)
+    open_to : (nat_lt l (length w.locks) ≡ true)
+        × ((has_call (kind_at w l) (call.TheVariants.Once l c) && has_right (call.TheVariants.Once l c) t (owners_at w l) (share_at w l t)) ≡ true)
     open_to = both (nat_lt l (length w.locks)) _ (both (is_idle (place_at w t)) (is_open_to w t (call.TheVariants.Once l c)) can).1
 
     is_kind : (rules_in w l).sort ≡ locks.Once
@@ -158,7 +169,8 @@ begin_goes w t (call.TheVariants.Mutex l c) shape steady there can = (
     idle : place_at w t ≡ Idle
     idle = idle_is (place_at w t) (both (is_idle (place_at w t)) (is_open_to w t (call.TheVariants.Mutex l c)) can).0
 
-    open_to : (nat_lt l (length w.locks) ≡ true) × ((has_call (kind_at w l) (call.TheVariants.Mutex l c) && has_right (call.TheVariants.Mutex l c) t (owners_at w l) (share_at w l t)) ≡ true)
+    open_to : (nat_lt l (length w.locks) ≡ true)
+        × ((has_call (kind_at w l) (call.TheVariants.Mutex l c) && has_right (call.TheVariants.Mutex l c) t (owners_at w l) (share_at w l t)) ≡ true)
     open_to = both (nat_lt l (length w.locks)) _ (both (is_idle (place_at w t)) (is_open_to w t (call.TheVariants.Mutex l c)) can).1
 
     held : (has_call (kind_at w l) (call.TheVariants.Mutex l c) ≡ true) × (mutex_right c t (owners_at w l) ≡ true)
@@ -172,14 +184,16 @@ begin_refused : (w : State) (t : ℕ) (c : Call) → can_begin w t c ≡ false �
 begin_refused w t (call.TheVariants.RwLock l c) cannot may = let idle : is_idle (place_at w t) ≡ true = no_call_idle (place_at w t) (rights w t) may.idle in
     let there : nat_lt l (length w.locks) ≡ true = lt-ltb l (length w.locks) may.lock in either (has_call (kind_at w l) (call.TheVariants.RwLock l c)) refl idle there
   where
-    either : (b : Bool) → has_call (kind_at w l) (call.TheVariants.RwLock l c) ≡ b → is_idle (place_at w t) ≡ true → nat_lt l (length w.locks) ≡ true → ⊥
+    either : (b : Bool) → has_call (kind_at w l) (call.TheVariants.RwLock l c) ≡ b → is_idle (place_at w t) ≡ true
+        → nat_lt l (length w.locks) ≡ true → ⊥
     either false e idle there = no_purpose (locks_of w) t (kind_at w l) (call.TheVariants.RwLock l c) e may.right
     either true e idle there = let right : HasRight (locks_of w) t (Some (rwlock_purpose l c)) = subst (HasRight (locks_of w) t) (rwlock_purpose_is (kind_at w l) l c (calls_readers (kind_at w l) l c e)) may.right in
         let held : call_right c t (owners_at w l) (share_at w l t) ≡ true = rwlock_right_needed w t l c right in cc
 begin_refused w t (call.TheVariants.Once l c) cannot may = let idle : is_idle (place_at w t) ≡ true = no_call_idle (place_at w t) (rights w t) may.idle in
     let there : nat_lt l (length w.locks) ≡ true = lt-ltb l (length w.locks) may.lock in either (has_call (kind_at w l) (call.TheVariants.Once l c)) refl idle there
   where
-    either : (b : Bool) → has_call (kind_at w l) (call.TheVariants.Once l c) ≡ b → is_idle (place_at w t) ≡ true → nat_lt l (length w.locks) ≡ true → ⊥
+    either : (b : Bool) → has_call (kind_at w l) (call.TheVariants.Once l c) ≡ b → is_idle (place_at w t) ≡ true
+        → nat_lt l (length w.locks) ≡ true → ⊥
     either false e idle there = no_purpose (locks_of w) t (kind_at w l) (call.TheVariants.Once l c) e may.right
     either true e idle there = let open_now : can_begin w t (call.TheVariants.Once l c) ≡ true = rw (idle, there, e) refl in let f : true ≡ false = sym open_now ∙ cannot in cc
 begin_refused w t (call.TheVariants.Condvar l c) cannot may =
@@ -187,7 +201,8 @@ begin_refused w t (call.TheVariants.Condvar l c) cannot may =
 begin_refused w t (call.TheVariants.Mutex l c) cannot may = let idle : is_idle (place_at w t) ≡ true = no_call_idle (place_at w t) (rights w t) may.idle in
     let there : nat_lt l (length w.locks) ≡ true = lt-ltb l (length w.locks) may.lock in either (has_call (kind_at w l) (call.TheVariants.Mutex l c)) refl idle there
   where
-    either : (b : Bool) → has_call (kind_at w l) (call.TheVariants.Mutex l c) ≡ b → is_idle (place_at w t) ≡ true → nat_lt l (length w.locks) ≡ true → ⊥
+    either : (b : Bool) → has_call (kind_at w l) (call.TheVariants.Mutex l c) ≡ b → is_idle (place_at w t) ≡ true
+        → nat_lt l (length w.locks) ≡ true → ⊥
     either false e idle there = no_purpose (locks_of w) t (kind_at w l) (call.TheVariants.Mutex l c) e may.right
     either true e idle there = let is_kind : is_mutex (kind_at w l) ≡ true = calls_mutex (kind_at w l) l c e in
         let right : HasRight (locks_of w) t (Some (mutex_purpose (is_fair (kind_at w l)) l c)) = subst (HasRight (locks_of w) t) (purpose_is (kind_at w l) l c is_kind) may.right in

@@ -122,12 +122,15 @@ use Rattle.lot_laws.proofs.MutexEvents.{Hears, owned_word, mutex_tells, claims_a
 module _ (w : State) (t : ℕ) (shape : IsShaped w) (steady : IsSteady w) (there : t < length w.places) where
   module _ (l : ℕ) (lt : l < length w.locks) (rules : rules_in w l ≡ mutex) where
     -- what it is told of its step
-    decided_hears : (e : Entry) (again : Bool) (x : ℕ) (a b : Bool) → Hears (site_of w l) t (Lock e again (Decide x)) (reply_to w t (if not a then act.TheVariants.Word l (op.TheVariants.Exchange x (x + 1)) else if b then act.TheVariants.Word l (op.TheVariants.Exchange 1 3) else act.TheVariants.Enter (One (2 * l))))
+    decided_hears : (e : Entry) (again : Bool) (x : ℕ) (a b : Bool)
+        → Hears (site_of w l) t (Lock e again (Decide x))
+        (reply_to w t (if not a then act.TheVariants.Word l (op.TheVariants.Exchange x (x + 1)) else if b then act.TheVariants.Word l (op.TheVariants.Exchange 1 3) else act.TheVariants.Enter (One (2 * l))))
     decided_hears e again x false b = tt
     decided_hears e again x true true = tt
     decided_hears e again x true false = tt
 
-    lock_hears : (e : Entry) (again : Bool) (a : LockAt) → can_do w (lock_act l a) ≡ true → GivesUpTimed (Lock e again a) → Hears (site_of w l) t (Lock e again a) (reply_to w t (lock_act l a))
+    lock_hears : (e : Entry) (again : Bool) (a : LockAt) → can_do w (lock_act l a) ≡ true → GivesUpTimed (Lock e again a)
+        → Hears (site_of w l) t (Lock e again a) (reply_to w t (lock_act l a))
     lock_hears e again First can timed = tt
     lock_hears e again Load can timed = tt
     lock_hears e again (Decide x) can timed = decided_hears e again x (is_locked x) (x == 1)
@@ -141,7 +144,8 @@ module _ (w : State) (t : ℕ) (shape : IsShaped w) (steady : IsSteady w) (there
     lock_hears e again Clear can timed = tt
     lock_hears e again GiveUp can timed = timed
 
-    hears : (at : MutexPlace) → place_at w t ≡ Mutex l at → can_do w (mutex_act l at) ≡ true → GivesUpTimed at → Hears (site_of w l) t at (reply_to w t (mutex_act l at))
+    hears : (at : MutexPlace) → place_at w t ≡ Mutex l at → can_do w (mutex_act l at) ≡ true → GivesUpTimed at
+        → Hears (site_of w l) t at (reply_to w t (mutex_act l at))
     hears (Lock e again a) is can timed = lock_hears e again a can timed
     hears TryLock is can timed = λ locked free. owned_word (word_at w l) (owner_at w l) (coded w steady l rules) locked free
     hears (Unlock unlock.Subtract) is can timed = tt
@@ -159,7 +163,8 @@ module _ (w : State) (t : ℕ) (shape : IsShaped w) (steady : IsSteady w) (there
     hears (HandOff bumping (hand_off.Leave true)) is can timed = tt
     hears (HandOff bumping (hand_off.Leave false)) is can timed = tt
 
-    module _ (at : MutexPlace) (is : place_at w t ≡ Mutex l at) (can : can_do w (mutex_act l at) ≡ true) (timed : GivesUpTimed at) where
+    module _ (at : MutexPlace) (is : place_at w t ≡ Mutex l at) (can : can_do w (mutex_act l at) ≡ true)
+        (timed : GivesUpTimed at) where
       abbrev told : Reply
       told = reply_to w t (mutex_act l at)
 
@@ -191,7 +196,8 @@ module _ (w : State) (t : ℕ) (shape : IsShaped w) (steady : IsSteady w) (there
       leads : LeadsTo behind t l (row_of (mutex_next at told)) (outcome_of (mutex_does l (mutex_next at told)))
       leads = by_next (mutex_next at told) (get_or-set_same (state_after_act w t (Mutex l at) (mutex_act l at)).places t _ Idle (rw (performed_counts w t (Mutex l at) (mutex_act l at)).0 there)) tells.rests
         where
-          by_next : (n : Next MutexPlace) → place_at behind t ≡ mutex_goes l n → Rests l n → LeadsTo behind t l (row_of n) (outcome_of (mutex_does l n))
+          by_next : (n : Next MutexPlace) → place_at behind t ≡ mutex_goes l n → Rests l n
+              → LeadsTo behind t l (row_of n) (outcome_of (mutex_does l n))
           by_next (next.At at2) e rests = (
             rw e refl,
             rw e refl,
@@ -202,11 +208,13 @@ module _ (w : State) (t : ℕ) (shape : IsShaped w) (steady : IsSteady w) (there
             subst IsSingle (sym e) tt,
           )
             where
-              standing_then : (at2 : MutexPlace) → place_at behind t ≡ Mutex l at2 → (mutex_station at2).stands ≡ Some Main → 1 ≤ standing t (lock_state behind l)
+              standing_then : (at2 : MutexPlace) → place_at behind t ≡ Mutex l at2 → (mutex_station at2).stands ≡ Some Main
+                  → 1 ≤ standing t (lock_state behind l)
               standing_then at2 e stands = rw (standing_by behind t happens_so.after l, own_stance l (place_at behind t) at2 e, stands) (omega arith)
           by_next (next.End a) e rests = (e, refl)
 
-      goes_if : OthersFollow w behind t (event_by l happened) → GoesOn (locks_of w) t (outcome_of (next_act (Mutex l at) told)) (locks_of behind)
+      goes_if : OthersFollow w behind t (event_by l happened)
+          → GoesOn (locks_of w) t (outcome_of (next_act (Mutex l at) told)) (locks_of behind)
       goes_if others = goes_by w behind t l happened happens_so (Mutex l at) is refl tt tells.follows.may (row_of (mutex_next at told)) _
           (subst (λ r. ComesTo r l (mutex_row at) (event_by l happened) (lock_state w l) (after_event r (event_by l happened) (lock_state w l) t) t (row_of (mutex_next at told))) (sym rules) tells.follows.comes)
           leads others (begins_nothing (locks_of w) l (mutex_row at) happened _ runs tells.follows.may (tells_none (mutex_next at told)))
@@ -223,15 +231,19 @@ module _ (w : State) (t : ℕ) (shape : IsShaped w) (steady : IsSteady w) (there
           tells_none (next.End answer) = refl
 
       -- nobody else's call changes
-      calmly : IsCalm happened → Others w behind t Nothing → GoesOn (locks_of w) t (outcome_of (next_act (Mutex l at) told)) (locks_of behind)
+      calmly : IsCalm happened → Others w behind t Nothing
+          → GoesOn (locks_of w) t (outcome_of (next_act (Mutex l at) told)) (locks_of behind)
       calmly still others = goes_if (others_follow w behind t l happened happens_so (no_hand_off w behind t l happened happens_so happened still) (calm w t (next_place (Mutex l at) told) behind l happened still others))
 
       -- it hands the lock over
-      gives : (to : Option ℕ) → happened ≡ Some (HandsOff Exclusive (heir to)) → (left_alone : Bool) → Befalls w behind t l (HandedBy t left_alone) → taken_at (place_at w t) l ≡ None → GoesOn (locks_of w) t (outcome_of (next_act (Mutex l at) told)) (locks_of behind)
+      gives : (to : Option ℕ) → happened ≡ Some (HandsOff Exclusive (heir to)) → (left_alone : Bool)
+          → Befalls w behind t l (HandedBy t left_alone) → taken_at (place_at w t) l ≡ None
+          → GoesOn (locks_of w) t (outcome_of (next_act (Mutex l at) told)) (locks_of behind)
       gives to case left_alone befalls awake = goes_if (subst (λ c. OthersFollow w behind t (event_by l c)) (sym case) (hands_others w behind t l to (subst (λ c. Happens w behind t (event_by l c)) case happens_so) rules awake left_alone befalls))
 
     -- whichever way it decides, the case is one that leaves the others in peace
-    if_calm : (hand : Option Bool) (b : Bool) (xs ys : List Deed) → IsCalm (case_of hand xs) → IsCalm (case_of hand ys) → IsCalm (case_of hand (if b then xs else ys))
+    if_calm : (hand : Option Bool) (b : Bool) (xs ys : List Deed) → IsCalm (case_of hand xs) → IsCalm (case_of hand ys)
+        → IsCalm (case_of hand (if b then xs else ys))
     if_calm hand true xs ys h k = h
     if_calm hand false xs ys h k = k
 
@@ -260,12 +272,17 @@ module _ (w : State) (t : ℕ) (shape : IsShaped w) (steady : IsSteady w) (there
     calm_takes (Some u) = tt
 
     -- nobody else goes anywhere, or whoever is taken goes on in its call
-    alone : (at : MutexPlace) (is : place_at w t ≡ Mutex l at) (can : can_do w (mutex_act l at) ≡ true) (timed : GivesUpTimed at) → IsLonely (mutex_act l at) → IsCalm (happened at is can timed)
-        → GoesOn (locks_of w) t (outcome_of (next_act (Mutex l at) (reply_to w t (mutex_act l at)))) (locks_of (go_by w t (Mutex l at) (mutex_act l at)))
+    alone : (at : MutexPlace) (is : place_at w t ≡ Mutex l at) (can : can_do w (mutex_act l at) ≡ true) (timed : GivesUpTimed at)
+        → IsLonely (mutex_act l at) → IsCalm (happened at is can timed)
+        → GoesOn (locks_of w) t (outcome_of (next_act (Mutex l at) (reply_to w t (mutex_act l at))))
+        (locks_of (go_by w t (Mutex l at) (mutex_act l at)))
     alone at is can timed by_itself still = calmly at is can timed still (lonely w t (next_place (Mutex l at) (reply_to w t (mutex_act l at))) (Mutex l at) (mutex_act l at) by_itself)
 
-    lock_goes : (e : Entry) (again : Bool) (a : LockAt) (is : place_at w t ≡ Mutex l (Lock e again a)) (can : can_do w (lock_act l a) ≡ true) → GivesUpTimed (Lock e again a)
-        → GoesOn (locks_of w) t (outcome_of (next_act (Mutex l (Lock e again a)) (reply_to w t (lock_act l a)))) (locks_of (go_by w t (Mutex l (Lock e again a)) (lock_act l a)))
+    lock_goes : (e : Entry) (again : Bool) (a : LockAt) (is : place_at w t ≡ Mutex l (Lock e again a))
+        (can : can_do w (lock_act l a) ≡ true)
+        → GivesUpTimed (Lock e again a)
+        → GoesOn (locks_of w) t (outcome_of (next_act (Mutex l (Lock e again a)) (reply_to w t (lock_act l a))))
+        (locks_of (go_by w t (Mutex l (Lock e again a)) (lock_act l a)))
     lock_goes e again First is can timed = alone (Lock e again First) is can timed tt (if_calm None (word_at w l == 0) enters [] tt tt)
     lock_goes e again Load is can timed = alone (Lock e again Load) is can timed tt tt
     lock_goes e again (Decide x) is can timed = alone (Lock e again (Decide x)) is can timed (lonely_decided x (is_locked x) (x == 1)) (calm_decided x (is_locked x) (x == 1))
@@ -280,7 +297,8 @@ module _ (w : State) (t : ℕ) (shape : IsShaped w) (steady : IsSteady w) (there
     lock_goes e again GiveUp is can timed = alone (Lock e again GiveUp) is can timed tt tt
 
     unlock_goes : (a : UnlockAt) (is : place_at w t ≡ Mutex l (Unlock a)) (can : can_do w (unlock_act l a) ≡ true)
-        → GoesOn (locks_of w) t (outcome_of (next_act (Mutex l (Unlock a)) (reply_to w t (unlock_act l a)))) (locks_of (go_by w t (Mutex l (Unlock a)) (unlock_act l a)))
+        → GoesOn (locks_of w) t (outcome_of (next_act (Mutex l (Unlock a)) (reply_to w t (unlock_act l a))))
+        (locks_of (go_by w t (Mutex l (Unlock a)) (unlock_act l a)))
     unlock_goes unlock.Subtract is can = alone (Unlock unlock.Subtract) is can tt tt tt
     unlock_goes unlock.Enter is can = alone (Unlock unlock.Enter) is can tt tt tt
     unlock_goes unlock.Take is can = calmly (Unlock unlock.Take) is can tt (calm_takes (whom (Unlock unlock.Take) is can tt)) (takes w t _ steady l Main (λ e. let both : locks.Mutex ≡ locks.Condvar = sym (single_at w t l (Unlock unlock.Take) steady is) ∙ e in cc) (Mutex l (Unlock unlock.Take)) (2 * l) refl whoms.First)
@@ -289,12 +307,16 @@ module _ (w : State) (t : ℕ) (shape : IsShaped w) (steady : IsSteady w) (there
     unlock_goes (unlock.Leave true) is can = goes_if (Unlock (unlock.Leave true)) is can tt (others_follow w (behind (Unlock (unlock.Leave true)) is can tt) t l (Some Wake) (happens_so (Unlock (unlock.Leave true)) is can tt) (λ x y e. cc)
         (wakes_others w (behind (Unlock (unlock.Leave true)) is can tt) t l (befalls w t l steady (rw is refl) Idle (state_with_sections w (One (2 * l)) None) (Woken note.Normal) refl (carries (Unlock (unlock.Leave true)) is can tt))))
 
-    hands_case : (bumping any b : Bool) (o : Option ℕ) → case_of (mutex_row (HandOff bumping (hand_off.Store any b))).carries (hands_over o b) ≡ Some (HandsOff Exclusive (heir o))
+    hands_case : (bumping any b : Bool) (o : Option ℕ)
+        → case_of (mutex_row (HandOff bumping (hand_off.Store any b))).carries (hands_over o b)
+        ≡ Some (HandsOff Exclusive (heir o))
     hands_case bumping any b None = refl
     hands_case bumping any b (Some u) = refl
 
-    hand_off_goes : (bumping : Bool) (a : HandOffAt) (is : place_at w t ≡ Mutex l (HandOff bumping a)) (can : can_do w (hand_off_act l a) ≡ true)
-        → GoesOn (locks_of w) t (outcome_of (next_act (Mutex l (HandOff bumping a)) (reply_to w t (hand_off_act l a)))) (locks_of (go_by w t (Mutex l (HandOff bumping a)) (hand_off_act l a)))
+    hand_off_goes : (bumping : Bool) (a : HandOffAt) (is : place_at w t ≡ Mutex l (HandOff bumping a))
+        (can : can_do w (hand_off_act l a) ≡ true)
+        → GoesOn (locks_of w) t (outcome_of (next_act (Mutex l (HandOff bumping a)) (reply_to w t (hand_off_act l a))))
+        (locks_of (go_by w t (Mutex l (HandOff bumping a)) (hand_off_act l a)))
     hand_off_goes bumping hand_off.Enter is can = alone (HandOff bumping hand_off.Enter) is can tt tt tt
     hand_off_goes bumping hand_off.Take is can = calmly (HandOff bumping hand_off.Take) is can tt (calm_takes (whom (HandOff bumping hand_off.Take) is can tt)) (takes w t _ steady l Main (λ e. let both : locks.Mutex ≡ locks.Condvar = sym (single_at w t l (HandOff bumping hand_off.Take) steady is) ∙ e in cc) (Mutex l (HandOff bumping hand_off.Take)) (2 * l) refl whoms.First)
     hand_off_goes bumping (hand_off.Store false b) is can = gives (HandOff bumping (hand_off.Store false b)) is can tt (whom (HandOff bumping (hand_off.Store false b)) is can tt) (hands_case bumping false b (whom (HandOff bumping (hand_off.Store false b)) is can tt)) true
@@ -305,7 +327,8 @@ module _ (w : State) (t : ℕ) (shape : IsShaped w) (steady : IsSteady w) (there
     hand_off_goes bumping (hand_off.Leave true) is can = calmly (HandOff bumping (hand_off.Leave true)) is can tt tt (tells_handed w t l steady (rw is refl) _ (state_with_sections w (One (2 * l)) None) refl (carries (HandOff bumping (hand_off.Leave true)) is can tt))
 
     mutex_goes_on : (at : MutexPlace) (is : place_at w t ≡ Mutex l at) (can : can_do w (mutex_act l at) ≡ true) → GivesUpTimed at
-        → GoesOn (locks_of w) t (outcome_of (next_act (Mutex l at) (reply_to w t (mutex_act l at)))) (locks_of (go_by w t (Mutex l at) (mutex_act l at)))
+        → GoesOn (locks_of w) t (outcome_of (next_act (Mutex l at) (reply_to w t (mutex_act l at))))
+        (locks_of (go_by w t (Mutex l at) (mutex_act l at)))
     mutex_goes_on (Lock e again a) is can timed = lock_goes e again a is can timed
     mutex_goes_on TryLock is can timed = alone TryLock is can tt tt (if_calm None (is_locked (word_at w l)) (End ∷ []) enters tt tt)
     mutex_goes_on (Unlock a) is can timed = unlock_goes a is can
@@ -320,7 +343,8 @@ module _ (w : State) (t : ℕ) (shape : IsShaped w) (steady : IsSteady w) (there
     decides_on x true false = refl
 
     load_stays : (e : Entry) (again : Bool) → place_at w t ≡ Mutex l (Lock e again Load)
-        → Stays (locks_of w) t (call_state (place_at w t) (rights w t)) (going_outcome w t (Mutex l (Lock e again Load))) (locks_of (state_after_going w t (Mutex l (Lock e again Load))))
+        → Stays (locks_of w) t (call_state (place_at w t) (rights w t)) (going_outcome w t (Mutex l (Lock e again Load)))
+        (locks_of (state_after_going w t (Mutex l (Lock e again Load))))
     load_stays e again is = subst (λ (v : State). Stays (locks_of w) t (call_state (place_at w t) (rights w t)) (going_outcome w t (Mutex l (Lock e again Load))) (locks_of v)) (sym (goes_from_there w t (Mutex l (Lock e again Load)) is tt)) (record {
       told = told_from_there w t (Mutex l (Lock e again Load)) is tt ∙ decides_on (word_at w l) (is_locked (word_at w l)) (word_at w l == 1);
       locks = locks_stay;
@@ -341,14 +365,17 @@ module _ (w : State) (t : ℕ) (shape : IsShaped w) (steady : IsSteady w) (there
         place_then : call_state (place_at decided t) ≡ call_state (place_at w t)
         place_then = ap call_state (get_or-set_same w.places t (next_place (Mutex l (Lock e again Load)) (Value (word_at w l))) Idle there) ∙ ap call_state (sym is)
 
-  go_goes : AreCounted w → (p : Place) → place_at w t ≡ p → IsSingle p → PlaceFits (length w.locks) p → FitsItsLock w p → can_do w (act_of p) ≡ true → GoesOn (locks_of w) t (outcome_of (next_act p (reply_to w t (act_of p)))) (locks_of (go_by w t p (act_of p)))
+  go_goes : AreCounted w → (p : Place) → place_at w t ≡ p → IsSingle p → PlaceFits (length w.locks) p → FitsItsLock w p
+      → can_do w (act_of p) ≡ true
+      → GoesOn (locks_of w) t (outcome_of (next_act p (reply_to w t (act_of p)))) (locks_of (go_by w t p (act_of p)))
   go_goes counted Idle is single fits of can = absurd cc
   go_goes counted (Condvar l at) is single fits of can = absurd single
   go_goes counted (Once l at) is single fits of can = once_step w t l at steady shape there fits is can
   go_goes counted (RwLock l a c) is single fits of can = rwlock_step w t l a c steady shape there fits is counted can
   go_goes counted (Mutex l at) is single fits of can = mutex_goes_on l fits.0 (mutex_rules (kind_at w l) of) at is can fits.1
 
-  going_goes : AreCounted w → AreCondvars w → can_go w t ≡ true → GoesOn (locks_of w) t (go_outcome w t) (locks_of (state_after_go w t))
+  going_goes : AreCounted w → AreCondvars w → can_go w t ≡ true
+      → GoesOn (locks_of w) t (go_outcome w t) (locks_of (state_after_go w t))
   going_goes counted condvars can = elim (single_or_two (place_at w t)) [
     | inl single ↦ subst (λ o. GoesOn (locks_of w) t o (locks_of (state_after_go w t))) (sym (gone_told w t single))
         (subst (λ v. GoesOn (locks_of w) t (outcome_of (next_act (place_at w t) (go_reply w t))) (locks_of v)) (sym (gone w t single))
@@ -360,13 +387,15 @@ module _ (w : State) (t : ℕ) (shape : IsShaped w) (steady : IsSteady w) (there
   -- ---------------------------------------------------------------- turns by which the place alone changes
 
   late_goes : (p : Place) → place_at w t ≡ p → is_free_under w (late_key p) ≡ true
-      → Stays (locks_of w) t (record (call_state p (rights w t)) { late = true }) outcome.TheVariants.Step (locks_of (state_after_late_on w t (late_key p)))
+      → Stays (locks_of w) t (record (call_state p (rights w t)) { late = true }) outcome.TheVariants.Step
+      (locks_of (state_after_late_on w t (late_key p)))
   late_goes Idle is can = absurd cc
   late_goes (Condvar l at) is can = condvar_is_late w t l at there is can
   late_goes (Once l at) is can = by_line (once_profile at).late_line refl can
     where
       by_line : (m : Option Line) → (once_profile at).late_line ≡ m → is_free_under w (key_in (Some l) m) ≡ true
-          → Stays (locks_of w) t (record (call_state (Once l at) (rights w t)) { late = true }) outcome.TheVariants.Step (locks_of (state_after_late_on w t (key_in (Some l) m)))
+          → Stays (locks_of w) t (record (call_state (Once l at) (rights w t)) { late = true }) outcome.TheVariants.Step
+          (locks_of (state_after_late_on w t (key_in (Some l) m)))
       by_line None e can = absurd cc
       by_line (Some m) e can = absurd (once_never_late at m e)
   late_goes (RwLock l a c) is can = by_line (call_profile a c).late_line refl can
@@ -378,7 +407,8 @@ module _ (w : State) (t : ℕ) (shape : IsShaped w) (steady : IsSteady w) (there
       in_no_hand_at d e k = ap (λ h. taken_from h (call_profile a d).wants (calls (RwLock l a d) k)) e
 
       by_line : (m : Option Line) → (call_profile a c).late_line ≡ m → is_free_under w (key_in (Some l) m) ≡ true
-          → Stays (locks_of w) t (record (call_state (RwLock l a c) (rights w t)) { late = true }) outcome.TheVariants.Step (locks_of (state_after_late_on w t (key_in (Some l) m)))
+          → Stays (locks_of w) t (record (call_state (RwLock l a c) (rights w t)) { late = true }) outcome.TheVariants.Step
+          (locks_of (state_after_late_on w t (key_in (Some l) m)))
       by_line None e can = absurd cc
       by_line (Some m) e can = let z = call_late a c m (sym (late_row a c) ∙ e) in
           placed w t there (state_with_sections w (One (key_of l m)) (Some t)).sections (RwLock l a c) (next_place (place_at w t) reply.Late) is
@@ -400,7 +430,8 @@ module _ (w : State) (t : ℕ) (shape : IsShaped w) (steady : IsSteady w) (there
 -- ---------------------------------------------------------------- a look at the word once more
 
 -- a call of a reader-writer lock is of no mutex
-not_mutex : (w : State) (l : ℕ) (a : Admission) (c : RwLockCallPlace) → Admits (rules_in w l) a → (r : ℕ → Rights) → IsOfMutex (locks_of w) (call_state (RwLock l a c) r).purpose → ⊥
+not_mutex : (w : State) (l : ℕ) (a : Admission) (c : RwLockCallPlace) → Admits (rules_in w l) a → (r : ℕ → Rights)
+    → IsOfMutex (locks_of w) (call_state (RwLock l a c) r).purpose → ⊥
 not_mutex w l a c admits r of = by_call c of
   where
     readers : (rules_in w l).sort ≡ Mutual → ⊥
@@ -421,18 +452,21 @@ not_mutex w l a c admits r of = by_call c of
     by_call (Handed x how true to) e = readers e
     by_call (Handed x how false to) e = readers e
 
-once_no_mutex : (w : State) (l : ℕ) (at : OncePlace) → (rules_in w l).sort ≡ locks.Once → (r : ℕ → Rights) → IsOfMutex (locks_of w) (call_state (Once l at) r).purpose → ⊥
+once_no_mutex : (w : State) (l : ℕ) (at : OncePlace) → (rules_in w l).sort ≡ locks.Once → (r : ℕ → Rights)
+    → IsOfMutex (locks_of w) (call_state (Once l at) r).purpose → ⊥
 once_no_mutex w l (Look (once_call.CallOnce forced) again at) once r of = let both : locks.Once ≡ locks.Mutex = sym once ∙ of in cc
 once_no_mutex w l (Look (once_call.Wait forced) again at) once r of = let both : locks.Once ≡ locks.Mutex = sym once ∙ of in cc
 once_no_mutex w l (Run forced at) once r of = let both : locks.Once ≡ locks.Mutex = sym once ∙ of in cc
 
-condvar_no_mutex : (w : State) (l : ℕ) (at : CondvarPlace) → (rules_in w l).sort ≡ locks.Condvar → (r : ℕ → Rights) → IsOfMutex (locks_of w) (call_state (Condvar l at) r).purpose → ⊥
+condvar_no_mutex : (w : State) (l : ℕ) (at : CondvarPlace) → (rules_in w l).sort ≡ locks.Condvar → (r : ℕ → Rights)
+    → IsOfMutex (locks_of w) (call_state (Condvar l at) r).purpose → ⊥
 condvar_no_mutex w l (condvars.Wait m timed at) condvar r of = let both : locks.Condvar ≡ locks.Mutex = sym condvar ∙ of in cc
 condvar_no_mutex w l (condvars.Look all) condvar r of = let both : locks.Condvar ≡ locks.Mutex = sym condvar ∙ of in cc
 condvar_no_mutex w l (condvars.Notify all m at) condvar r of = let both : locks.Condvar ≡ locks.Mutex = sym condvar ∙ of in cc
 
 -- its call goes on by what it sees there
-module _ (w : State) (t : ℕ) (shape : IsShaped w) (steady : IsSteady w) (there : t < length w.places) (q : Place) (is : looking (place_at w t) ≡ Some q) where
+module _ (w : State) (t : ℕ) (shape : IsShaped w) (steady : IsSteady w) (there : t < length w.places) (q : Place)
+    (is : looking (place_at w t) ≡ Some q) where
   abbrev moved : State
   moved = put w t q
 
@@ -445,7 +479,8 @@ module _ (w : State) (t : ℕ) (shape : IsShaped w) (steady : IsSteady w) (there
   there_moved : t < length moved.places
   there_moved = rw (length-set w.places t q) there
 
-  look_stays : (p : Place) → place_at w t ≡ p → IsOfMutex (locks_of w) (call_state p (rights w t)).purpose → Stays (locks_of w) t ((locks_of w).calls t) (go_outcome moved t) (locks_of (state_after_go moved t))
+  look_stays : (p : Place) → place_at w t ≡ p → IsOfMutex (locks_of w) (call_state p (rights w t)).purpose
+      → Stays (locks_of w) t ((locks_of w).calls t) (go_outcome moved t) (locks_of (state_after_go moved t))
   look_stays Idle e of = absurd of
   look_stays (Condvar l at) e of = absurd (let calls : FitsCondvar w l at = subst (FitsItsLock w) e (steady.stands.calls t) in condvar_no_mutex w l at calls.sort (rights w t) of)
   look_stays (Once l at) e of = absurd (let calls : FitsItsLock w (Once l at) = subst (FitsItsLock w) e (steady.stands.calls t) in once_no_mutex w l at calls (rights w t) of)
@@ -473,7 +508,8 @@ module _ (w : State) (t : ℕ) (shape : IsShaped w) (steady : IsSteady w) (there
 module _ (w : State) (t : ℕ) (shape : IsShaped w) (steady : IsSteady w) (there : t < length w.places) where
   -- its closure has answered, and its run ends by the next act
   closed_does : (succeeded : Bool) → can_close w t succeeded ≡ true
-      → (((locks_of w).stances t).in_closure ≡ true) × Closes (locks_of w) t (end_of succeeded) (close_outcome w t succeeded) (locks_of (state_after_close w t succeeded))
+      → (((locks_of w).stances t).in_closure ≡ true)
+      × Closes (locks_of w) t (end_of succeeded) (close_outcome w t succeeded) (locks_of (state_after_close w t succeeded))
   closed_does succeeded can = (
     (both (runs_closure (act_of (place_at w t))) (can_do w (act_of (closed_place w t succeeded))) can).0,
     record { goes = ended.0; lock = one.lock; ends = ended.1 },
@@ -488,7 +524,8 @@ module _ (w : State) (t : ℕ) (shape : IsShaped w) (steady : IsSteady w) (there
       v : State
       v = closing w t there succeeded one
 
-      ended : (g : GoesOn (locks_of w) t (close_outcome w t succeeded) (locks_of (state_after_close w t succeeded))) × (g.event ≡ AtLock one.lock (OfOnce (end_of succeeded)))
+      ended : (g : GoesOn (locks_of w) t (close_outcome w t succeeded) (locks_of (state_after_close w t succeeded)))
+          × (g.event ≡ AtLock one.lock (OfOnce (end_of succeeded)))
       ended = subst (λ x. (g : GoesOn (locks_of w) t (close_outcome w t succeeded) (locks_of x)) × (g.event ≡ AtLock one.lock (OfOnce (end_of succeeded)))) (sym (goes_there w t there succeeded one ∙ goes_from_there v t (Once one.lock at) is_v tt))
           (subst (λ o. (g : GoesOn (locks_of w) t o (locks_of (go_by v t (Once one.lock at) (act_of (Once one.lock at))))) × (g.event ≡ AtLock one.lock (OfOnce (end_of succeeded)))) (sym (told_there w t there succeeded one ∙ told_from_there v t (Once one.lock at) is_v tt))
           (alike_event w t there (closed_place w t succeeded) (like w t there succeeded one) _ _ (AtLock one.lock (OfOnce (end_of succeeded)))
@@ -509,12 +546,14 @@ module _ (w : State) (t : ℕ) (shape : IsShaped w) (steady : IsSteady w) (there
           lt : one.lock < length v.locks
           lt = subst (PlaceFits (length v.locks)) is_v (shape_v.places t)
 
-  turned_does : AreCounted w → AreCondvars w → (x : Turn) → can_turn w t x ≡ true → MayTurn (locks_of w) t x × Does (locks_of w) t x (turn_outcome w t x) (locks_of (state_after_turn w t x))
+  turned_does : AreCounted w → AreCondvars w → (x : Turn) → can_turn w t x ≡ true
+      → MayTurn (locks_of w) t x × Does (locks_of w) t x (turn_outcome w t x) (locks_of (state_after_turn w t x))
   turned_does counted condvars (turn.TheVariants.Begin c) can = begin_goes w t c shape steady there can
   turned_does counted condvars turn.TheVariants.Go can = (may_go w t can, going_goes w t shape steady there counted condvars can)
   turned_does counted condvars turn.TheVariants.Spin can = (can, by_look (looking (place_at w t)) refl can)
     where
-      by_look : (o : Option Place) → looking (place_at w t) ≡ o → is_some o ≡ true → Looks (locks_of w) t (look_outcome w t o) (locks_of (state_after_look w t o))
+      by_look : (o : Option Place) → looking (place_at w t) ≡ o → is_some o ≡ true
+          → Looks (locks_of w) t (look_outcome w t o) (locks_of (state_after_look w t o))
       by_look None is can = absurd cc
       by_look (Some q) is can = looks w t shape steady there q is counted condvars
   turned_does counted condvars turn.TheVariants.Late can = (may_be_late w t steady can, late_goes w t shape steady there (place_at w t) refl can)
@@ -541,7 +580,8 @@ module _ (w : State) (t : ℕ) (steady : IsSteady w) where
 
 -- sections, and what the thread is told
 module _ (w : State) (t : ℕ) (there : t < length w.places) where
-  put_sleeps : (b : State) (p : Place) → length b.places ≡ length w.places → sleeps (act_of (place_at (put b t p) t)) ≡ sleeps (act_of p)
+  put_sleeps : (b : State) (p : Place) → length b.places ≡ length w.places
+      → sleeps (act_of (place_at (put b t p) t)) ≡ sleeps (act_of p)
   put_sleeps b p size = ap (λ q. sleeps (act_of q)) (get_or-set_same b.places t p Idle (rw size there))
 
   told_going : (go_outcome w t ≡ outcome.TheVariants.Sleep) ↔ (sleeps (act_of (place_at (state_after_go w t) t)) ≡ true)
@@ -549,60 +589,73 @@ module _ (w : State) (t : ℕ) (there : t < length w.places) where
       rw (put_sleeps acted (next_place (place_at acted t) (go_reply w t)) (performed_counts w t (place_at w t) (act_of (place_at w t))).0) (told_gone (place_at acted t) (go_reply w t))
 
 module _ (w : State) (t : ℕ) (shape : IsShaped w) (steady : IsSteady w) (there : t < length w.places) where
-  closed_sections : (succeeded : Bool) → can_close w t succeeded ≡ true → (key : ℕ) → SectionChanges (section_at w key) t (section_at (state_after_close w t succeeded) key)
+  closed_sections : (succeeded : Bool) → can_close w t succeeded ≡ true → (key : ℕ)
+      → SectionChanges (section_at w key) t (section_at (state_after_close w t succeeded) key)
   closed_sections succeeded can key = let one = closes_one w t succeeded can in inl (ap (λ (v : State). section_at v key) (goes_there w t there succeeded one))
 
-  turned_sections : (x : Turn) → can_turn w t x ≡ true → (key : ℕ) → SectionChanges (section_at w key) t (section_at (state_after_turn w t x) key)
+  turned_sections : (x : Turn) → can_turn w t x ≡ true → (key : ℕ)
+      → SectionChanges (section_at w key) t (section_at (state_after_turn w t x) key)
   turned_sections (turn.TheVariants.Begin c) can key = inl refl
   turned_sections turn.TheVariants.Go can key = gone_sections w t shape steady can key
   turned_sections turn.TheVariants.Spin can key = by_look (looking (place_at w t)) refl
     where
-      by_look : (o : Option Place) → looking (place_at w t) ≡ o → SectionChanges (section_at w key) t (section_at (state_after_look w t o) key)
+      by_look : (o : Option Place) → looking (place_at w t) ≡ o
+          → SectionChanges (section_at w key) t (section_at (state_after_look w t o) key)
       by_look None is = inl refl
       by_look (Some q) is = gone_sections (put w t q) t (shaped_moved w t shape steady there q is) (steady_moved w t shape steady there q is) (looks_now w t there q is) key
   turned_sections turn.TheVariants.Late can key = late_sections w t shape steady (place_at w t) refl (shape.places t) can key
   turned_sections turn.TheVariants.Ok can key = closed_sections true can key
   turned_sections turn.TheVariants.Err can key = closed_sections false can key
 
-  closed_told : (succeeded : Bool) → can_close w t succeeded ≡ true → (close_outcome w t succeeded ≡ outcome.TheVariants.Sleep) ↔ (sleeps (act_of (place_at (state_after_close w t succeeded) t)) ≡ true)
+  closed_told : (succeeded : Bool) → can_close w t succeeded ≡ true
+      → (close_outcome w t succeeded ≡ outcome.TheVariants.Sleep)
+      ↔ (sleeps (act_of (place_at (state_after_close w t succeeded) t)) ≡ true)
   closed_told succeeded can = let one = closes_one w t succeeded can in told_going (closing w t there succeeded one) t (closing_there w t there succeeded one)
 
-  turned_told : (x : Turn) → can_turn w t x ≡ true → (turn_outcome w t x ≡ outcome.TheVariants.Sleep) ↔ (sleeps (act_of (place_at (state_after_turn w t x) t)) ≡ true)
+  turned_told : (x : Turn) → can_turn w t x ≡ true
+      → (turn_outcome w t x ≡ outcome.TheVariants.Sleep) ↔ (sleeps (act_of (place_at (state_after_turn w t x) t)) ≡ true)
   turned_told (turn.TheVariants.Begin c) can = told_step _ (put_sleeps w t there w (first_place (kind_at w (lock_in c)) c) refl ∙ begins_awake (kind_at w (lock_in c)) c)
   turned_told turn.TheVariants.Go can = told_going w t there
   turned_told turn.TheVariants.Spin can = by_look (looking (place_at w t)) refl can
     where
-      by_look : (o : Option Place) → looking (place_at w t) ≡ o → is_some o ≡ true → (look_outcome w t o ≡ outcome.TheVariants.Sleep) ↔ (sleeps (act_of (place_at (state_after_look w t o) t)) ≡ true)
+      by_look : (o : Option Place) → looking (place_at w t) ≡ o → is_some o ≡ true
+          → (look_outcome w t o ≡ outcome.TheVariants.Sleep) ↔ (sleeps (act_of (place_at (state_after_look w t o) t)) ≡ true)
       by_look None is can = absurd cc
       by_look (Some q) is can = told_going (put w t q) t (there_moved w t shape steady there q is)
   turned_told turn.TheVariants.Late can = told_step _ (late_awake w t there steady (late_key (place_at w t)) refl can)
   turned_told turn.TheVariants.Ok can = closed_told true can
   turned_told turn.TheVariants.Err can = closed_told false can
 
-  going_runs : (v : State) → t < length v.places → is_closure (go_outcome v t) ≡ runs_closure (act_of (place_at (state_after_go v t) t))
+  going_runs : (v : State) → t < length v.places
+      → is_closure (go_outcome v t) ≡ runs_closure (act_of (place_at (state_after_go v t) t))
   going_runs v there_v = let acted = state_after_act v t (place_at v t) (act_of (place_at v t)) in closure_gone (place_at acted t) (go_reply v t)
       ∙ sym (ap (λ p. runs_closure (act_of p)) (get_or-set_same acted.places t (next_place (place_at acted t) (go_reply v t)) Idle (rw (performed_counts v t (place_at v t) (act_of (place_at v t))).0 there_v)))
 
-  closing_runs : (succeeded : Bool) → can_close w t succeeded ≡ true → is_closure (close_outcome w t succeeded) ≡ runs_closure (act_of (place_at (state_after_close w t succeeded) t))
+  closing_runs : (succeeded : Bool) → can_close w t succeeded ≡ true
+      → is_closure (close_outcome w t succeeded) ≡ runs_closure (act_of (place_at (state_after_close w t succeeded) t))
   closing_runs succeeded can = let one = closes_one w t succeeded can in going_runs (closing w t there succeeded one) (closing_there w t there succeeded one)
 
-  late_runs : (o : Option ℕ) → late_key (place_at w t) ≡ o → is_free_under w o ≡ true → false ≡ runs_closure (act_of (place_at (state_after_late_on w t o) t))
+  late_runs : (o : Option ℕ) → late_key (place_at w t) ≡ o → is_free_under w o ≡ true
+      → false ≡ runs_closure (act_of (place_at (state_after_late_on w t o) t))
   late_runs None e can = absurd cc
   late_runs (Some key) e can = sym (ap (λ p. runs_closure (act_of p)) (get_or-set_same w.places t (next_place (place_at w t) reply.Late) Idle there) ∙ late_outside (place_at w t) (λ none. let f : ◌≡◌ {A = Option ℕ} None (Some key) = sym none ∙ e in cc))
 
-  turned_runs : (x : Turn) → can_turn w t x ≡ true → is_closure (turn_outcome w t x) ≡ runs_closure (act_of (place_at (state_after_turn w t x) t))
+  turned_runs : (x : Turn) → can_turn w t x ≡ true
+      → is_closure (turn_outcome w t x) ≡ runs_closure (act_of (place_at (state_after_turn w t x) t))
   turned_runs (turn.TheVariants.Begin c) can = sym (ap (λ p. runs_closure (act_of p)) (get_or-set_same w.places t (first_place (kind_at w (lock_in c)) c) Idle there) ∙ begins_outside (kind_at w (lock_in c)) c)
   turned_runs turn.TheVariants.Go can = going_runs w there
   turned_runs turn.TheVariants.Spin can = by_look (looking (place_at w t)) refl can
     where
-      by_look : (o : Option Place) → looking (place_at w t) ≡ o → is_some o ≡ true → is_closure (look_outcome w t o) ≡ runs_closure (act_of (place_at (state_after_look w t o) t))
+      by_look : (o : Option Place) → looking (place_at w t) ≡ o → is_some o ≡ true
+          → is_closure (look_outcome w t o) ≡ runs_closure (act_of (place_at (state_after_look w t o) t))
       by_look None is can = absurd cc
       by_look (Some q) is can = going_runs (put w t q) (there_moved w t shape steady there q is)
   turned_runs turn.TheVariants.Late can = late_runs (late_key (place_at w t)) refl can
   turned_runs turn.TheVariants.Ok can = closing_runs true can
   turned_runs turn.TheVariants.Err can = closing_runs false can
 
-pub after_step : (w : State) (s : Step) → IsShaped w → IsSteady w → AreCounted w → AreCondvars w → IsStep (locks_of w) s (step_outcome w s) (locks_of (after w s))
+pub after_step : (w : State) (s : Step) → IsShaped w → IsSteady w → AreCounted w → AreCondvars w
+    → IsStep (locks_of w) s (step_outcome w s) (locks_of (after w s))
 after_step w s shape steady counted condvars = (record { threads = size.threads; size = size.locks; kinds = after_kinds w s; sections = sections (is_possible w s) refl; told = told (is_possible w s) refl; runs = runs (is_possible w s) refl }, either (is_possible w s) refl)
   where
     size : SameSize w (after w s)
@@ -611,20 +664,27 @@ after_step w s shape steady counted condvars = (record { threads = size.threads;
     parts : is_possible w s ≡ true → (s.thread < length w.places) × (can_turn w s.thread s.turn ≡ true)
     parts can = let h = both (nat_lt s.thread (length w.places)) (can_turn w s.thread s.turn) can in (ltb-true s.thread (length w.places) h.0, h.1)
 
-    sections : (b : Bool) → is_possible w s ≡ b → (key : ℕ) → SectionChanges (section_at w key) s.thread (section_at (if b then state_after_turn w s.thread s.turn else w) key)
+    sections : (b : Bool) → is_possible w s ≡ b → (key : ℕ)
+        → SectionChanges (section_at w key) s.thread (section_at (if b then state_after_turn w s.thread s.turn else w) key)
     sections true can key = turned_sections w s.thread shape steady (parts can).0 s.turn (parts can).1 key
     sections false cannot key = inl refl
 
-    told : (b : Bool) → is_possible w s ≡ b → (if b then turn_outcome w s.thread s.turn else outcome.TheVariants.NotNow) ≢ outcome.TheVariants.NotNow
-        → ((if b then turn_outcome w s.thread s.turn else outcome.TheVariants.NotNow) ≡ outcome.TheVariants.Sleep) ↔ (sleeps (act_of (place_at (if b then state_after_turn w s.thread s.turn else w) s.thread)) ≡ true)
+    told : (b : Bool) → is_possible w s ≡ b
+        → (if b then turn_outcome w s.thread s.turn else outcome.TheVariants.NotNow) ≢ outcome.TheVariants.NotNow
+        → ((if b then turn_outcome w s.thread s.turn else outcome.TheVariants.NotNow) ≡ outcome.TheVariants.Sleep)
+        ↔ (sleeps (act_of (place_at (if b then state_after_turn w s.thread s.turn else w) s.thread)) ≡ true)
     told true can ne = turned_told w s.thread shape steady (parts can).0 s.turn (parts can).1
     told false cannot ne = absurd (ne refl)
 
-    runs : (b : Bool) → is_possible w s ≡ b → (if b then turn_outcome w s.thread s.turn else outcome.TheVariants.NotNow) ≢ outcome.TheVariants.NotNow
-        → is_closure (if b then turn_outcome w s.thread s.turn else outcome.TheVariants.NotNow) ≡ runs_closure (act_of (place_at (if b then state_after_turn w s.thread s.turn else w) s.thread))
+    runs : (b : Bool) → is_possible w s ≡ b
+        → (if b then turn_outcome w s.thread s.turn else outcome.TheVariants.NotNow) ≢ outcome.TheVariants.NotNow
+        → is_closure (if b then turn_outcome w s.thread s.turn else outcome.TheVariants.NotNow)
+        ≡ runs_closure (act_of (place_at (if b then state_after_turn w s.thread s.turn else w) s.thread))
     runs true can ne = turned_runs w s.thread shape steady (parts can).0 s.turn (parts can).1
     runs false cannot ne = absurd (ne refl)
 
-    either : (b : Bool) → is_possible w s ≡ b → Turned (locks_of w) s.thread s.turn (if b then turn_outcome w s.thread s.turn else outcome.TheVariants.NotNow) (locks_of (if b then state_after_turn w s.thread s.turn else w))
+    either : (b : Bool) → is_possible w s ≡ b
+        → Turned (locks_of w) s.thread s.turn (if b then turn_outcome w s.thread s.turn else outcome.TheVariants.NotNow)
+        (locks_of (if b then state_after_turn w s.thread s.turn else w))
     either true can = inl (turned_does w s.thread shape steady (parts can).0 counted condvars s.turn (parts can).1)
     either false cannot = inr (stuck w s.thread steady s.turn cannot, (refl, refl))

@@ -29,7 +29,8 @@ late_place a p m h = by_place p.at refl h
     by_place to e h = absurd cc
 
 pub call_late : (a : Admission) (c : RwLockCallPlace) (m : Line) → call_late_line c ≡ Some m
-    → (d : RwLockCallPlace) × (call_next a c reply.Late ≡ next.At d) × ((call_profile a c).hand ≡ None) × ((call_profile a d).hand ≡ None)
+    → (d : RwLockCallPlace) × (call_next a c reply.Late ≡ next.At d) × ((call_profile a c).hand ≡ None)
+    × ((call_profile a d).hand ≡ None)
 call_late a (Plain p) m h = let z = late_place a p m h in (Plain z.0, ap plain_next z.1, z.2, z.3)
 call_late a (BumpCall p) m h = let z = late_place a p m h in (BumpCall z.0, ap (bump_next p.purpose) z.1, z.2, z.3)
 call_late a (Glance x) m h = absurd cc

@@ -169,7 +169,8 @@ IsWithinLimit r s = (count s ≤ r.limit) ⊎ ((r.sort ≡ Recursive) × (count 
 -- a condition variable shows a mutex exactly while somebody waits for it, each in a call that waits with that mutex
 pub record ShowsItsWaiters (w : State) (l : ℕ) : Type 0 where
   pub shows : ((lock_state w l).shown ≡ None) ↔ ((lock_state w l).queue ≡ [])
-  pub one : (t m : ℕ) → (lock_state w l).shown ≡ Some m → WaitsFor w t l → (timed : Bool) × ((call_at w t).purpose ≡ Some (Waits l m timed))
+  pub one : (t m : ℕ) → (lock_state w l).shown ≡ Some m → WaitsFor w t l
+      → (timed : Bool) × ((call_at w t).purpose ≡ Some (Waits l m timed))
 
 pub record IsKept (w : State) : Type 0 where
   -- owners exclude each other, and a thread stands at most once in the queue of a lock, aside of it or taken from it
