@@ -34,7 +34,8 @@ use Rattle.lot_laws.proofs.Following.{Moves, NoHandOff, alike_put, follows_by, l
 
 -- ---------------------------------------------------------------- one thread goes elsewhere
 
-module _ (w : State) (t l : ℕ) (steady : IsSteady w) (there : t < length w.places) (r : Rules) (rules : rules_in w l ≡ r) (p2 : Place) (alike : AlikeBeside l (place_at w t) p2) (fits : FitsItsLock w p2) where
+module _ (w : State) (t l : ℕ) (steady : IsSteady w) (there : t < length w.places) (r : Rules) (rules : rules_in w l ≡ r)
+    (p2 : Place) (alike : AlikeBeside l (place_at w t) p2) (fits : FitsItsLock w p2) where
   -- how it stands at the lock
   abbrev was : Station
   was = station_at (place_at w t) l
@@ -64,14 +65,17 @@ module _ (w : State) (t l : ℕ) (steady : IsSteady w) (there : t < length w.pla
   pub word_by_lines : (m s : List Waiter) (q : ℕ → Place) → word_at w l ≡ code r (seen_in r l (record (parts_at w l) { main = m; second = s }) q)
   word_by_lines m s q = steady.sites.word l ∙ (λ i. code (rules i) (lock_by w l (rules i))) ∙ same_word r.sort r.limit _ _ _ _ refl refl refl refl refl refl
 
-  base_stays : (v : State) → v.locks ≡ w.locks → v.shares ≡ w.shares → v.places ≡ set w.places t p2 → (k : ℕ) → base_at v k ≡ base_at w k
+  base_stays : (v : State) → v.locks ≡ w.locks → v.shares ≡ w.shares → v.places ≡ set w.places t p2 → (k : ℕ)
+      → base_at v k ≡ base_at w k
   base_stays v el es ep k = λ i. record { shared = get_or (es i) k (replicate ((ap (λ (xs : List Place). length xs) ep ∙ length-set w.places t p2) i) 0); filled = (get_or (el i) k (unlocked kind.TheVariants.Mutex)).filled }
 
   places_put : (v : State) → v.places ≡ set w.places t p2 → place_at v ≡ putting (place_at w) t p2
   places_put v ep = ap (λ (xs : List Place). λ u. get_or xs u Idle) ep ∙ put_places w t p2 past
 
   -- its place changes, and who stands in the lines of the lock
-  lines_move : (v : State) (m s : List Waiter) → v.locks ≡ w.locks → v.shares ≡ w.shares → v.places ≡ set w.places t p2 → queue_at v (2 * l) ≡ m → queue_at v (2 * l + 1) ≡ s → ((k : ℕ) → k ≢ l → (n : Line) → queue_at v (key_of k n) ≡ queue_at w (key_of k n))
+  lines_move : (v : State) (m s : List Waiter) → v.locks ≡ w.locks → v.shares ≡ w.shares → v.places ≡ set w.places t p2
+      → queue_at v (2 * l) ≡ m → queue_at v (2 * l + 1) ≡ s
+      → ((k : ℕ) → k ≢ l → (n : Line) → queue_at v (key_of k n) ≡ queue_at w (key_of k n))
       → Moves w v l (record (parts_at w l) { main = m; second = s }) (putting (place_at w) t p2)
   lines_move v m s el es ep em en elsewhere = record {
     here = λ i. record { base = base_stays v el es ep l i; word = (get_or (el i) l (unlocked kind.TheVariants.Mutex)).word; owners = (get_or (el i) l (unlocked kind.TheVariants.Mutex)).owners; main = em i; second = en i };
@@ -84,8 +88,10 @@ module _ (w : State) (t l : ℕ) (steady : IsSteady w) (there : t < length w.pla
   }
 
   -- a step on the word
-  pub word_goes : (p : Place) → l < length w.locks → l < length w.shares → (f : Op) (ds : List Deed) → (has_readers r.sort ≡ true → NoHandOff ds) → Steps r l (parts_at w l) (operated w t p l f) (place_at w) t p2 ds
-      → apply f (word_at w l) ≡ code r (seen_in r l (operated w t p l f) (putting (place_at w) t p2)) → is ≡ was → Goes w (put (state_after_operation w t p l f) t p2) l (acts t ds)
+  pub word_goes : (p : Place) → l < length w.locks → l < length w.shares → (f : Op) (ds : List Deed)
+      → (has_readers r.sort ≡ true → NoHandOff ds) → Steps r l (parts_at w l) (operated w t p l f) (place_at w) t p2 ds
+      → apply f (word_at w l) ≡ code r (seen_in r l (operated w t p l f) (putting (place_at w) t p2)) → is ≡ was
+      → Goes w (put (state_after_operation w t p l f) t p2) l (acts t ds)
   word_goes p lt shared f ds plain steps coded e = record {
     follows = follows_by w v l (operated w t p l f) (putting (place_at w) t p2) moves r rules (acts t ds) (limited w l steady r rules (acts t ds) (λ h. ordinary_by (length w.places) t ds there (plain h)) steps.needed) steps.site steps.needed coded;
     stands = stands_put w v steady.stands (operated_kinds w t p l f) t p2 fits (places_put v refl) (still (stations_of (place_at w)) stations_now (section_at w) (queue_at w) before t l others_still (put_now ∙ e));
@@ -132,13 +138,16 @@ module _ (w : State) (t l : ℕ) (steady : IsSteady w) (there : t < length w.pla
       }
 
   -- a place and the section of its lock change
-  place_follows : (v : State) (ds : List Deed) → (has_readers r.sort ≡ true → NoHandOff ds) → v.locks ≡ w.locks → v.shares ≡ w.shares → v.queues ≡ w.queues → v.places ≡ set w.places t p2 → Steps r l (parts_at w l) (parts_at w l) (place_at w) t p2 ds → Follows w v l (acts t ds)
+  place_follows : (v : State) (ds : List Deed) → (has_readers r.sort ≡ true → NoHandOff ds) → v.locks ≡ w.locks
+      → v.shares ≡ w.shares → v.queues ≡ w.queues → v.places ≡ set w.places t p2
+      → Steps r l (parts_at w l) (parts_at w l) (place_at w) t p2 ds → Follows w v l (acts t ds)
   place_follows v ds plain el es eq ep steps = follows_by w v l (parts_at w l) (putting (place_at w) t p2)
       (lines_move v (queue_at w (2 * l)) (queue_at w (2 * l + 1)) el es ep (ap (λ (qs : List (List Waiter)). get_or qs (2 * l) []) eq) (ap (λ (qs : List (List Waiter)). get_or qs (2 * l + 1) []) eq) (λ k ne n. ap (λ (qs : List (List Waiter)). get_or qs (key_of k n) []) eq))
       r rules (acts t ds) (limited w l steady r rules (acts t ds) (λ h. ordinary_by (length w.places) t ds there (plain h)) steps.needed) steps.site steps.needed (word_by_lines (queue_at w (2 * l)) (queue_at w (2 * l + 1)) (putting (place_at w) t p2))
 
   -- a place that changes alone
-  pub place_goes : (ds : List Deed) → (has_readers r.sort ≡ true → NoHandOff ds) → Steps r l (parts_at w l) (parts_at w l) (place_at w) t p2 ds → is ≡ was → Goes w (put w t p2) l (acts t ds)
+  pub place_goes : (ds : List Deed) → (has_readers r.sort ≡ true → NoHandOff ds)
+      → Steps r l (parts_at w l) (parts_at w l) (place_at w) t p2 ds → is ≡ was → Goes w (put w t p2) l (acts t ds)
   place_goes ds plain steps e = record {
     follows = place_follows (put w t p2) ds plain refl refl refl refl steps;
     stands = stands_put w (put w t p2) steady.stands (λ k. refl) t p2 fits (places_put (put w t p2) refl) (still (stations_of (place_at w)) stations_now (section_at w) (queue_at w) before t l others_still (put_now ∙ e));
@@ -153,12 +162,15 @@ module _ (w : State) (t l : ℕ) (steady : IsSteady w) (there : t < length w.pla
     pub goes_into : (m : Line) → ActsNeeded r (acts t (In m ∷ [])) (lock_by w l r) → doing_on p2 l ≡ record (doing_on (place_at w t) l) { inside = Some m } → Steps r l (parts_at w l) (parts_at w l) (place_at w) t p2 (In m ∷ [])
     goes_into m needed e = steps_by r l (parts_at w l) (parts_at w l) (place_at w) t p2 (In m ∷ []) needed (tt, tt) hand refl refl refl refl (e ∙ sym (put_here (λ u. doing_on (place_at w u) l) t _))
 
-    pub finds_none : (m : Line) (d : Doing) → ActsNeeded r (acts t (FindNobody m ∷ [])) (lock_by w l r) → doing_on p2 l ≡ (after_deed r (FindNobody m) (lock_by w l r) t).doing t → Steps r l (parts_at w l) (parts_at w l) (place_at w) t p2 (FindNobody m ∷ [])
+    pub finds_none : (m : Line) (d : Doing) → ActsNeeded r (acts t (FindNobody m ∷ [])) (lock_by w l r)
+        → doing_on p2 l ≡ (after_deed r (FindNobody m) (lock_by w l r) t).doing t
+        → Steps r l (parts_at w l) (parts_at w l) (place_at w) t p2 (FindNobody m ∷ [])
     finds_none m d needed e = steps_by r l (parts_at w l) (parts_at w l) (place_at w) t p2 (FindNobody m ∷ []) needed (tt, tt) hand refl refl refl refl e
 
   -- into a section that is free
   module _ (m : Line) (line : key_of l m < length w.sections) where
-    section_then : (who : Option ℕ) (key : ℕ) → key ≢ key_of l m → section_at (state_with_sections w (One (key_of l m)) who) key ≡ section_at w key
+    section_then : (who : Option ℕ) (key : ℕ) → key ≢ key_of l m
+        → section_at (state_with_sections w (One (key_of l m)) who) key ≡ section_at w key
     section_then who key ne = get_or-set_other w.sections (key_of l m) key who None ne
 
     pub enter_goes : section_at w (key_of l m) ≡ None → was.inside ≡ None → Steps r l (parts_at w l) (parts_at w l) (place_at w) t p2 (In m ∷ []) → is ≡ record was { inside = Some m }
@@ -182,8 +194,11 @@ module _ (w : State) (t l : ℕ) (steady : IsSteady w) (there : t < length w.pla
         v = put (state_with_sections w (One (key_of l m)) None) t p2
 
   -- a line of the lock, before and behind
-  module _ (m : Line) (v : State) (q : List Waiter) (el : v.locks ≡ w.locks) (eh : v.shares ≡ w.shares) (es : v.sections ≡ w.sections) (ep : v.places ≡ set w.places t p2) (here : queue_at v (key_of l m) ≡ q) (elsewhere : (key : ℕ) → key ≢ key_of l m → queue_at v key ≡ queue_at w key) where
-    line_follows : (ds : List Deed) → (has_readers r.sort ≡ true → NoHandOff ds) → Steps r l (parts_at w l) (with_line (parts_at w l) m q) (place_at w) t p2 ds → Follows w v l (acts t ds)
+  module _ (m : Line) (v : State) (q : List Waiter) (el : v.locks ≡ w.locks) (eh : v.shares ≡ w.shares)
+      (es : v.sections ≡ w.sections) (ep : v.places ≡ set w.places t p2) (here : queue_at v (key_of l m) ≡ q)
+      (elsewhere : (key : ℕ) → key ≢ key_of l m → queue_at v key ≡ queue_at w key) where
+    line_follows : (ds : List Deed) → (has_readers r.sort ≡ true → NoHandOff ds)
+        → Steps r l (parts_at w l) (with_line (parts_at w l) m q) (place_at w) t p2 ds → Follows w v l (acts t ds)
     line_follows ds plain steps = by_line m refl
       where
         by_line : (n : Line) → m ≡ n → Follows w v l (acts t ds)
@@ -196,8 +211,12 @@ module _ (w : State) (t l : ℕ) (steady : IsSteady w) (there : t < length w.pla
             r rules (acts t ds) (limited w l steady r rules (acts t ds) (λ h. ordinary_by (length w.places) t ds there (plain h)) (subst (λ n. Steps r l (parts_at w l) (with_line (parts_at w l) n q) (place_at w) t p2 ds) e steps).needed) (subst (λ n. Steps r l (parts_at w l) (with_line (parts_at w l) n q) (place_at w) t p2 ds) e steps).site (subst (λ n. Steps r l (parts_at w l) (with_line (parts_at w l) n q) (place_at w) t p2 ds) e steps).needed
             (word_by_lines (queue_at w (2 * l)) q (putting (place_at w) t p2))
 
-    line_goes : (ds : List Deed) → (has_readers r.sort ≡ true → NoHandOff ds) → Steps r l (parts_at w l) (with_line (parts_at w l) m q) (place_at w) t p2 ds → ((u : ℕ) → u ≢ t → times u q ≡ times u (queue_at w (key_of l m))) → ((n : Line) → times t (queue_at v (key_of l n)) ≡ stood_in is.stands n)
-        → (to : Option Line) (wanted : Option Want) → is ≡ record was { stands = to; waits = wanted } → ((n : Line) → n ≢ m → stood_in to n ≡ 0) → AreWaiting stations_now l m q → Goes w v l (acts t ds)
+    line_goes : (ds : List Deed) → (has_readers r.sort ≡ true → NoHandOff ds)
+        → Steps r l (parts_at w l) (with_line (parts_at w l) m q) (place_at w) t p2 ds
+        → ((u : ℕ) → u ≢ t → times u q ≡ times u (queue_at w (key_of l m)))
+        → ((n : Line) → times t (queue_at v (key_of l n)) ≡ stood_in is.stands n)
+        → (to : Option Line) (wanted : Option Want) → is ≡ record was { stands = to; waits = wanted }
+        → ((n : Line) → n ≢ m → stood_in to n ≡ 0) → AreWaiting stations_now l m q → Goes w v l (acts t ds)
     line_goes ds plain steps counts own_count to wanted e to_here lined = record {
       follows = line_follows ds plain steps;
       stands = stands_put w v steady.stands (λ k i. (get_or (el i) k (unlocked kind.TheVariants.Mutex)).kind) t p2 fits (places_put v ep)
@@ -249,8 +268,12 @@ module _ (w : State) (t l : ℕ) (steady : IsSteady w) (there : t < length w.pla
   others_wait m out = waiting_same (stations_of (place_at w)) stations_now l m (queue_at w (key_of l m)) (steady.stands.waits l m) (λ u g. part_else (λ y. y.waits) l (place_at w) t p2 alike u l (λ h i. out (subst (λ j. 1 ≤ times j (queue_at w (key_of l m))) h g)))
 
   -- it stands behind the last of a line
-  pub park_goes : IsOut → (m : Line) (x : Want) (ds : List Deed) → (has_readers r.sort ≡ true → NoHandOff ds) → key_of l m < length w.queues → was.stands ≡ None → Steps r l (parts_at w l) (with_line (parts_at w l) m (queue_at w (key_of l m) ++ waiter (key_of l m) t x ∷ [])) (place_at w) t p2 ds
-      → is ≡ record was { stands = Some m; waits = Some x } → Goes w (put (record w { queues = queues_with_last w.queues (key_of l m) t x }) t p2) l (acts t ds)
+  pub park_goes : IsOut → (m : Line) (x : Want) (ds : List Deed) → (has_readers r.sort ≡ true → NoHandOff ds)
+      → key_of l m < length w.queues → was.stands ≡ None
+      → Steps r l (parts_at w l) (with_line (parts_at w l) m (queue_at w (key_of l m) ++ waiter (key_of l m) t x ∷ []))
+      (place_at w) t p2 ds
+      → is ≡ record was { stands = Some m; waits = Some x }
+      → Goes w (put (record w { queues = queues_with_last w.queues (key_of l m) t x }) t p2) l (acts t ds)
   park_goes out m x ds plain line nowhere steps e = line_goes m v behind refl refl refl refl line_now others ds plain steps
       (λ u ne. let a : ◌≡◌ {A = ℕ} (if t == u then 1 else 0) 0 = ap (λ (b : Bool). if b then 1 else 0) (differ t u (λ h. ne (sym h))) in let b : times u behind ≡ times u (queue_at w (key_of l m)) + (if t == u then 1 else 0) = times_append u (key_of l m) t x (queue_at w (key_of l m)) in omega arith)
       (λ n. own_count n (same_line n m) ∙ ap (λ (y : Station). stood_in y.stands n) (sym e)) (Some m) (Some x) e (stood_other m)
@@ -276,8 +299,10 @@ module _ (w : State) (t l : ℕ) (steady : IsSteady w) (there : t < length w.pla
       own_count n (inr ne) = ap (times t) (others (key_of l n) (other_line l m n ne)) ∙ absent out nowhere l n ∙ sym (stood_other m n ne)
 
   -- it leaves the line in which it stands
-  pub remove_goes : IsOut → (m : Line) (ds : List Deed) → (has_readers r.sort ≡ true → NoHandOff ds) → was.stands ≡ Some m → Steps r l (parts_at w l) (with_line (parts_at w l) m (without t (queue_at w (key_of l m)))) (place_at w) t p2 ds
-      → is ≡ record was { stands = None; waits = None } → Goes w (put (record w { queues = queues_without w.queues t }) t p2) l (acts t ds)
+  pub remove_goes : IsOut → (m : Line) (ds : List Deed) → (has_readers r.sort ≡ true → NoHandOff ds) → was.stands ≡ Some m
+      → Steps r l (parts_at w l) (with_line (parts_at w l) m (without t (queue_at w (key_of l m)))) (place_at w) t p2 ds
+      → is ≡ record was { stands = None; waits = None }
+      → Goes w (put (record w { queues = queues_without w.queues t }) t p2) l (acts t ds)
   remove_goes out m ds plain stands steps e = line_goes m v (without t (queue_at w (key_of l m))) refl refl refl refl (get_or-map (without t) w.queues (key_of l m) []) others ds plain steps
       (λ u ne. times_without u t (queue_at w (key_of l m)) ne) (λ n. own_count n (same_line n m) ∙ ap (λ (y : Station). stood_in y.stands n) (sym e)) None None e (λ n ne. refl) lined
     where
@@ -302,7 +327,8 @@ module _ (w : State) (t l : ℕ) (steady : IsSteady w) (there : t < length w.pla
       own_count n (inr ne) = ap (times t) (others (key_of l n) (other_line l m n ne)) ∙ stood_out l n (other_line l m n ne)
 
   -- nobody is there to be taken
-  pub nobody_goes : (m : Line) (ds : List Deed) → (has_readers r.sort ≡ true → NoHandOff ds) → key_of l m < length w.queues → queue_at w (key_of l m) ≡ [] → Steps r l (parts_at w l) (parts_at w l) (place_at w) t p2 ds → is ≡ was
+  pub nobody_goes : (m : Line) (ds : List Deed) → (has_readers r.sort ≡ true → NoHandOff ds) → key_of l m < length w.queues
+      → queue_at w (key_of l m) ≡ [] → Steps r l (parts_at w l) (parts_at w l) (place_at w) t p2 ds → is ≡ was
       → Goes w (put (record w { queues = queues_without_first w.queues (key_of l m) }) t p2) l (acts t ds)
   nobody_goes m ds plain line empty steps e = record {
     follows = follows_by w v l (parts_at w l) (putting (place_at w) t p2)

@@ -22,10 +22,12 @@ pub use Rattle.lot_laws.proofs.Following.{AlikeAt, Moves, NoHandOff, asides, fol
 use Rattle.lot_laws.proofs.Following as following
 use Rattle.lot_laws.proofs.ActsAt as at
 
-pub alike_put : (l k : ℕ) (p : ℕ → Place) (t : ℕ) (p2 : Place) → IsOf l (p t) → IsOf l p2 → k ≢ l → (u : ℕ) → AlikeAt k (p u) (putting p t p2 u)
+pub alike_put : (l k : ℕ) (p : ℕ → Place) (t : ℕ) (p2 : Place) → IsOf l (p t) → IsOf l p2 → k ≢ l → (u : ℕ)
+    → AlikeAt k (p u) (putting p t p2 u)
 alike_put l k p t p2 h h2 = following.alike_put l k p t p2 (own_alike l (p t) p2 h h2)
 
-module _ (w : State) (t l : ℕ) (steady : IsSteady w) (own : IsOf l (place_at w t)) (there : t < length w.places) (r : Rules) (rules : rules_in w l ≡ r) (p2 : Place) (of : IsOf l p2) (fits : FitsItsLock w p2) where
+module _ (w : State) (t l : ℕ) (steady : IsSteady w) (own : IsOf l (place_at w t)) (there : t < length w.places) (r : Rules)
+    (rules : rules_in w l ≡ r) (p2 : Place) (of : IsOf l p2) (fits : FitsItsLock w p2) where
   alike : AlikeBeside l (place_at w t) p2
   alike = own_alike l (place_at w t) p2 own of
 
@@ -48,11 +50,15 @@ module _ (w : State) (t l : ℕ) (steady : IsSteady w) (own : IsOf l (place_at w
   pub word_by_lines : (m s : List Waiter) (q : ℕ → Place) → word_at w l ≡ code r (seen_in r l (record (parts_at w l) { main = m; second = s }) q)
   word_by_lines = at.word_by_lines w t l steady there r rules p2 alike fits
 
-  pub word_goes : (p : Place) → l < length w.locks → l < length w.shares → (f : Op) (ds : List Deed) → (has_readers r.sort ≡ true → NoHandOff ds) → Steps r l (parts_at w l) (operated w t p l f) (place_at w) t p2 ds
-      → apply f (word_at w l) ≡ code r (seen_in r l (operated w t p l f) (putting (place_at w) t p2)) → station p2 ≡ station (place_at w t) → Goes w (put (state_after_operation w t p l f) t p2) l (acts t ds)
+  pub word_goes : (p : Place) → l < length w.locks → l < length w.shares → (f : Op) (ds : List Deed)
+      → (has_readers r.sort ≡ true → NoHandOff ds) → Steps r l (parts_at w l) (operated w t p l f) (place_at w) t p2 ds
+      → apply f (word_at w l) ≡ code r (seen_in r l (operated w t p l f) (putting (place_at w) t p2))
+      → station p2 ≡ station (place_at w t) → Goes w (put (state_after_operation w t p l f) t p2) l (acts t ds)
   word_goes p lt shared f ds plain steps coded e = at.word_goes w t l steady there r rules p2 alike fits p lt shared f ds plain steps coded (same_here e)
 
-  pub place_goes : (ds : List Deed) → (has_readers r.sort ≡ true → NoHandOff ds) → Steps r l (parts_at w l) (parts_at w l) (place_at w) t p2 ds → station p2 ≡ station (place_at w t) → Goes w (put w t p2) l (acts t ds)
+  pub place_goes : (ds : List Deed) → (has_readers r.sort ≡ true → NoHandOff ds)
+      → Steps r l (parts_at w l) (parts_at w l) (place_at w) t p2 ds → station p2 ≡ station (place_at w t)
+      → Goes w (put w t p2) l (acts t ds)
   place_goes ds plain steps e = at.place_goes w t l steady there r rules p2 alike fits ds plain steps (same_here e)
 
   pub nobody_inside : (m : Line) → section_at w (key_of l m) ≡ None → (u : ℕ) → (doing_on (place_at w u) l).inside ≢ Some m
@@ -62,7 +68,9 @@ module _ (w : State) (t l : ℕ) (steady : IsSteady w) (own : IsOf l (place_at w
     pub goes_into : (m : Line) → ActsNeeded r (acts t (In m ∷ [])) (lock_by w l r) → doing_on p2 l ≡ record (doing_on (place_at w t) l) { inside = Some m } → Steps r l (parts_at w l) (parts_at w l) (place_at w) t p2 (In m ∷ [])
     goes_into = at.goes_into w t l steady there r rules p2 alike fits hand
 
-    pub finds_none : (m : Line) (d : Doing) → ActsNeeded r (acts t (FindNobody m ∷ [])) (lock_by w l r) → doing_on p2 l ≡ (after_deed r (FindNobody m) (lock_by w l r) t).doing t → Steps r l (parts_at w l) (parts_at w l) (place_at w) t p2 (FindNobody m ∷ [])
+    pub finds_none : (m : Line) (d : Doing) → ActsNeeded r (acts t (FindNobody m ∷ [])) (lock_by w l r)
+        → doing_on p2 l ≡ (after_deed r (FindNobody m) (lock_by w l r) t).doing t
+        → Steps r l (parts_at w l) (parts_at w l) (place_at w) t p2 (FindNobody m ∷ [])
     finds_none = at.finds_none w t l steady there r rules p2 alike fits hand
 
   module _ (m : Line) (line : key_of l m < length w.sections) where
@@ -75,16 +83,25 @@ module _ (w : State) (t l : ℕ) (steady : IsSteady w) (own : IsOf l (place_at w
     leave_goes within ds plain steps e = at.leave_goes w t l steady there r rules p2 alike fits m line (ap (λ (x : Station). x.inside) was_here ∙ within) ds plain steps
         (is_here ∙ e ∙ sym (ap (λ (x : Station). record x { inside = None }) was_here))
 
-  pub park_goes : (m : Line) (x : Want) (ds : List Deed) → (has_readers r.sort ≡ true → NoHandOff ds) → key_of l m < length w.queues → (station (place_at w t)).stands ≡ None → Steps r l (parts_at w l) (with_line (parts_at w l) m (queue_at w (key_of l m) ++ waiter (key_of l m) t x ∷ [])) (place_at w) t p2 ds
-      → station p2 ≡ record (station (place_at w t)) { stands = Some m; waits = Some x } → Goes w (put (record w { queues = queues_with_last w.queues (key_of l m) t x }) t p2) l (acts t ds)
+  pub park_goes : (m : Line) (x : Want) (ds : List Deed) → (has_readers r.sort ≡ true → NoHandOff ds)
+      → key_of l m < length w.queues → (station (place_at w t)).stands ≡ None
+      → Steps r l (parts_at w l) (with_line (parts_at w l) m (queue_at w (key_of l m) ++ waiter (key_of l m) t x ∷ []))
+      (place_at w) t p2 ds
+      → station p2 ≡ record (station (place_at w t)) { stands = Some m; waits = Some x }
+      → Goes w (put (record w { queues = queues_with_last w.queues (key_of l m) t x }) t p2) l (acts t ds)
   park_goes m x ds plain line nowhere steps e = at.park_goes w t l steady there r rules p2 alike fits out m x ds plain line (ap (λ (y : Station). y.stands) was_here ∙ nowhere) steps
       (is_here ∙ e ∙ sym (ap (λ (y : Station). record y { stands = Some m; waits = Some x }) was_here))
 
-  pub remove_goes : (m : Line) (ds : List Deed) → (has_readers r.sort ≡ true → NoHandOff ds) → (station (place_at w t)).stands ≡ Some m → Steps r l (parts_at w l) (with_line (parts_at w l) m (without t (queue_at w (key_of l m)))) (place_at w) t p2 ds
-      → station p2 ≡ record (station (place_at w t)) { stands = None; waits = None } → Goes w (put (record w { queues = queues_without w.queues t }) t p2) l (acts t ds)
+  pub remove_goes : (m : Line) (ds : List Deed) → (has_readers r.sort ≡ true → NoHandOff ds)
+      → (station (place_at w t)).stands ≡ Some m
+      → Steps r l (parts_at w l) (with_line (parts_at w l) m (without t (queue_at w (key_of l m)))) (place_at w) t p2 ds
+      → station p2 ≡ record (station (place_at w t)) { stands = None; waits = None }
+      → Goes w (put (record w { queues = queues_without w.queues t }) t p2) l (acts t ds)
   remove_goes m ds plain stands steps e = at.remove_goes w t l steady there r rules p2 alike fits out m ds plain (ap (λ (y : Station). y.stands) was_here ∙ stands) steps
       (is_here ∙ e ∙ sym (ap (λ (y : Station). record y { stands = None; waits = None }) was_here))
 
-  pub nobody_goes : (m : Line) (ds : List Deed) → (has_readers r.sort ≡ true → NoHandOff ds) → key_of l m < length w.queues → queue_at w (key_of l m) ≡ [] → Steps r l (parts_at w l) (parts_at w l) (place_at w) t p2 ds → station p2 ≡ station (place_at w t)
+  pub nobody_goes : (m : Line) (ds : List Deed) → (has_readers r.sort ≡ true → NoHandOff ds) → key_of l m < length w.queues
+      → queue_at w (key_of l m) ≡ [] → Steps r l (parts_at w l) (parts_at w l) (place_at w) t p2 ds
+      → station p2 ≡ station (place_at w t)
       → Goes w (put (record w { queues = queues_without_first w.queues (key_of l m) }) t p2) l (acts t ds)
   nobody_goes m ds plain line empty steps e = at.nobody_goes w t l steady there r rules p2 alike fits m ds plain line empty steps (same_here e)

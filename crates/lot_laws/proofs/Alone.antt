@@ -38,7 +38,9 @@ turn_possible w t x can h = cc
 pub after_stuck : (w : State) (s : Step) → step_outcome w s ≡ outcome.TheVariants.NotNow → after w s ≡ w
 after_stuck w s h = either (is_possible w s) refl h
   where
-    either : (b : Bool) → is_possible w s ≡ b → (if b then turn_outcome w s.thread s.turn else outcome.TheVariants.NotNow) ≡ outcome.TheVariants.NotNow → (if b then state_after_turn w s.thread s.turn else w) ≡ w
+    either : (b : Bool) → is_possible w s ≡ b
+        → (if b then turn_outcome w s.thread s.turn else outcome.TheVariants.NotNow) ≡ outcome.TheVariants.NotNow
+        → (if b then state_after_turn w s.thread s.turn else w) ≡ w
     either false can e = refl
     either true can e = absurd (turn_possible w s.thread s.turn (both (nat_lt s.thread (length w.places)) (can_turn w s.thread s.turn) can).1 e)
 
@@ -47,12 +49,17 @@ unfolding solo
 solo_end zero w t last e = refl
 solo_end (suc n) w t last e = cc
 
-solo_more : (n : ℕ) (w : State) (t : ℕ) (last : Outcome) → solo (suc n) w t last ≡ alone_after (step_outcome w (go_of t)) w (after w (go_of t)) last (solo n (after w (go_of t)) t outcome.TheVariants.Step)
+solo_more : (n : ℕ) (w : State) (t : ℕ) (last : Outcome)
+    → solo (suc n) w t last
+    ≡ alone_after (step_outcome w (go_of t)) w (after w (go_of t)) last
+    (solo n (after w (go_of t)) t outcome.TheVariants.Step)
 unfolding solo
 solo_more n w t last = refl
 
 solo_next : (counter : ℕ) (w : State) (t : ℕ) (last : Outcome) → counter < 64
-    → solo (64 - counter) w t last ≡ alone_after (step_outcome w (go_of t)) w (after w (go_of t)) last (solo (64 - (counter + 1)) (after w (go_of t)) t outcome.TheVariants.Step)
+    → solo (64 - counter) w t last
+    ≡ alone_after (step_outcome w (go_of t)) w (after w (go_of t)) last
+    (solo (64 - (counter + 1)) (after w (go_of t)) t outcome.TheVariants.Step)
 solo_next counter w t last h = let e : 64 - counter ≡ suc (64 - (counter + 1)) = omega arith in ap (λ n. solo n w t last) e ∙ solo_more (64 - (counter + 1)) w t last
 
 pub rests_after : (o : Outcome) (w v : State) (last : Outcome) (more : Alone) → o ≢ outcome.TheVariants.NotNow → o ≢ outcome.TheVariants.Step → alone_after o w v last more ≡ record { state = v; outcome = o }
@@ -60,7 +67,8 @@ rests_after outcome.TheVariants.NotNow w v last more h k = absurd (h refl)
 rests_after outcome.TheVariants.Step w v last more h k = absurd (k refl)
 rests_after o w v last more h k = refl
 
-module _ (counter : ℕ) (w v : State) (t : ℕ) (last o : Outcome) (below : counter < 64) (led : v ≡ after w (go_of t)) (told : o ≡ step_outcome w (go_of t)) where
+module _ (counter : ℕ) (w v : State) (t : ℕ) (last o : Outcome) (below : counter < 64) (led : v ≡ after w (go_of t))
+    (told : o ≡ step_outcome w (go_of t)) where
   -- no step was possible
   pub alone_stuck : o ≡ outcome.TheVariants.NotNow → solo (64 - counter) w t last ≡ record { state = v; outcome = last }
   alone_stuck h =
@@ -69,7 +77,8 @@ module _ (counter : ℕ) (w v : State) (t : ℕ) (last o : Outcome) (below : cou
       solo_next counter w t last below ∙ ap (λ x. alone_after x w (after w (go_of t)) last (solo (64 - (counter + 1)) (after w (go_of t)) t outcome.TheVariants.Step)) stuck ∙ ap (λ (s : State). record { state = s; outcome = last }) (sym same)
 
   -- the thread goes on
-  pub alone_goes : o ≡ outcome.TheVariants.Step → solo (64 - counter) w t last ≡ solo (64 - (counter + 1)) v t outcome.TheVariants.Step
+  pub alone_goes : o ≡ outcome.TheVariants.Step
+      → solo (64 - counter) w t last ≡ solo (64 - (counter + 1)) v t outcome.TheVariants.Step
   alone_goes h =
       solo_next counter w t last below
       ∙ ap (λ x. alone_after x w (after w (go_of t)) last (solo (64 - (counter + 1)) (after w (go_of t)) t outcome.TheVariants.Step)) (sym told ∙ h)

@@ -16,7 +16,9 @@ abbrev pub any_in : ℕ → ℕ → List Place → Bool
 any_in t k ps = any_picked (sharers t ps) (want_of_successor (successor_from t k ps))
 
 -- the first, or another
-joined : (shares : Bool) (more : Option Want) (u : ℕ) (p : Place) (qs : List Place) (later : Option Successor) → any_picked (length (cond shares (p ∷ qs) qs)) (want_of_successor (successor_or u more later)) ≡ (shares || (is_there more || any_picked (length qs) (want_of_successor later)))
+joined : (shares : Bool) (more : Option Want) (u : ℕ) (p : Place) (qs : List Place) (later : Option Successor)
+    → any_picked (length (cond shares (p ∷ qs) qs)) (want_of_successor (successor_or u more later))
+    ≡ (shares || (is_there more || any_picked (length qs) (want_of_successor later)))
 joined true more u p qs later = ap (λ b. not b || is_there (want_of_successor (successor_or u more later))) (differ (length (p ∷ qs)) 0 (λ e. omega arith))
 joined false None u p qs later = refl
 joined false (Some x) u p qs later = or-true (not (length qs == 0))
@@ -31,7 +33,9 @@ module _ (t : ℕ) where
   is_in (Some b) None rest h = inr h
   is_in (Some b) (Some z) rest h = by_thread (b == t) h
     where
-      by_thread : (c : Bool) → ((c && wants_shared z) || (is_there (if c && not (wants_shared z) then Some z else None) || rest)) ≡ true → (c ≡ true) ⊎ (rest ≡ true)
+      by_thread : (c : Bool)
+          → ((c && wants_shared z) || (is_there (if c && not (wants_shared z) then Some z else None) || rest)) ≡ true
+          → (c ≡ true) ⊎ (rest ≡ true)
       by_thread true g = inl refl
       by_thread false g = inr g
 
@@ -62,7 +66,8 @@ module _ (t : ℕ) where
   ]
 
   -- and who is in hand was picked
-  pub held_any : (k : ℕ) (ps : List Place) (u : ℕ) (z : Want) → is_thread t (taker (get_or ps u Idle)) ≡ true → wants (get_or ps u Idle) ≡ Some z → any_in t k ps ≡ true
+  pub held_any : (k : ℕ) (ps : List Place) (u : ℕ) (z : Want) → is_thread t (taker (get_or ps u Idle)) ≡ true
+      → wants (get_or ps u Idle) ≡ Some z → any_in t k ps ≡ true
   held_any k [] u z h e = absurd cc
   held_any k (p ∷ ps) zero z h e = first_or k p ps ∙ ap (λ y. is_of (taker p) y (any_in t (suc k) ps)) e ∙ in_is (taker p) z (any_in t (suc k) ps) h
   held_any k (p ∷ ps) (suc u) z h e = first_or k p ps ∙ ap (is_of (taker p) (wants p)) (held_any (suc k) ps u z h e) ∙ of_rest (taker p) (wants p)

@@ -25,7 +25,8 @@ use Rattle.lot_laws.proofs.StandsMoved.{mutex_rules}
 use Rattle.lot_laws.proofs.SitesPromise.{coded_at}
 
 -- whoever stands in a line is there
-pub stood : (places : List Place) (u l : ℕ) (m : Line) → 1 ≤ stood_in (station_at (get_or places u Idle) l).stands m → u < length places
+pub stood : (places : List Place) (u l : ℕ) (m : Line) → 1 ≤ stood_in (station_at (get_or places u Idle) l).stands m
+    → u < length places
 stood places u l m h = elim (cases_lt u (length places)) [
   | inl lt ↦ lt
   | inr ge ↦ absurd (let none : stood_in (station_at (get_or places u Idle) l).stands m ≡ 0 = ap (λ p. stood_in (station_at p l).stands m) (get_or_past places u Idle ge) in omega arith)

@@ -38,10 +38,12 @@ looks_beside (Once l at) q is = by_place (once_looking at) is
     by_place (Some at2) e = let there : Once l at2 ≡ q = cc in subst (SameBeside (Once l at)) there (refl, refl)
 looks_beside (Condvar l at) q is = condvar_look at is
   where
-    locks : (m : ℕ) (timed late : Bool) (at : MutexPlace) → in_condvar l (in_lock m timed late (mutex_looking at)) ≡ Some q → SameBeside (Condvar l (Wait m timed (wait.Lock late at))) q
+    locks : (m : ℕ) (timed late : Bool) (at : MutexPlace) → in_condvar l (in_lock m timed late (mutex_looking at)) ≡ Some q
+        → SameBeside (Condvar l (Wait m timed (wait.Lock late at))) q
     locks m timed late (Lock e again (lock.Decide seen)) is = by_mark _ is
       where
-        by_mark : (b : Bool) → in_condvar l (in_lock m timed late (if b then Some (Lock e again lock.Load) else None)) ≡ Some q → SameBeside (Condvar l (Wait m timed (wait.Lock late (Lock e again (lock.Decide seen))))) q
+        by_mark : (b : Bool) → in_condvar l (in_lock m timed late (if b then Some (Lock e again lock.Load) else None)) ≡ Some q
+            → SameBeside (Condvar l (Wait m timed (wait.Lock late (Lock e again (lock.Decide seen))))) q
         by_mark true is = let there : Condvar l (Wait m timed (wait.Lock late (Lock e again lock.Load))) ≡ q = cc in subst (SameBeside (Condvar l (Wait m timed (wait.Lock late (Lock e again (lock.Decide seen)))))) there (refl, refl)
         by_mark false is = absurd cc
     locks m timed late (Lock e again to) is = absurd cc

@@ -208,13 +208,16 @@ module _ (l : ℕ) (a : Admission) (x : Access) (retries : Bool) where
     abbrev told_at : RwLockAt → Reply
     told_at to = reply_to w t (act_at l a (in_entry to) to)
 
-    decides_may : (seen : ℕ) (d : Decision) → decided a (in_entry (at.Decide seen)) seen ≡ d → IsNoRefusal d → MayBeTold a (in_entry (at.Decide seen)) (at.Decide seen) (reply_to w t (decided_act l (purpose.Enter x Patient) seen d))
+    decides_may : (seen : ℕ) (d : Decision) → decided a (in_entry (at.Decide seen)) seen ≡ d → IsNoRefusal d
+        → MayBeTold a (in_entry (at.Decide seen)) (at.Decide seen) (reply_to w t (decided_act l (purpose.Enter x Patient) seen d))
     decides_may seen decisions.Take e h = small
     decides_may seen decisions.Mark e h = small
     decides_may seen decisions.Park e h = e
     decides_may seen (decisions.Refuse answer) e h = absurd h
 
-    counts_may : (seen : ℕ) (b : Bool) → MayBeTold a (in_entry (at.Count seen)) (at.Count seen) (reply_to w t (if b then act.Enter (One (2 * l + 1)) else exchange l seen (plus seen 2)))
+    counts_may : (seen : ℕ) (b : Bool)
+        → MayBeTold a (in_entry (at.Count seen)) (at.Count seen)
+        (reply_to w t (if b then act.Enter (One (2 * l + 1)) else exchange l seen (plus seen 2)))
     counts_may seen true = tt
     counts_may seen false = small
 
@@ -255,7 +258,8 @@ module _ (l : ℕ) (a : Admission) (x : Access) (retries : Bool) where
 abbrev TakenAlike : Place → Place → Type 0
 TakenAlike p q = (k : ℕ) → taken_at p k ≡ taken_at q k
 
-taken_set : (ps : List Place) (t : ℕ) (p q : Place) → TakenAlike p q → (u k : ℕ) → taken_at (get_or (set ps t p) u Idle) k ≡ taken_at (get_or (set ps t q) u Idle) k
+taken_set : (ps : List Place) (t : ℕ) (p q : Place) → TakenAlike p q → (u k : ℕ)
+    → taken_at (get_or (set ps t p) u Idle) k ≡ taken_at (get_or (set ps t q) u Idle) k
 taken_set [] t p q alike u k = refl
 taken_set (y ∷ ps) zero p q alike zero k = alike k
 taken_set (y ∷ ps) zero p q alike (suc u) k = refl
@@ -272,7 +276,8 @@ locks_put w t p q alike k =
     let size : length (set w.places t p) ≡ length (set w.places t q) = length-set w.places t p ∙ sym (length-set w.places t q) in
     λ i. lock_seen (slice_index_or w.shares k (replicate (size i) 0)) (owners_at w k) (queue_at w (2 * k)) (queue_at w (2 * k + 1)) (λ u. taken_set w.places t p q alike u k i)
 
-locks_kept : (w : State) (t l : ℕ) (c d : RwLockCallPlace) (a : Admission) → TakenAlike (RwLock l a c) (RwLock l a d) → place_at w t ≡ RwLock l a d → (k : ℕ) → lock_state (put w t (RwLock l a c)) k ≡ lock_state w k
+locks_kept : (w : State) (t l : ℕ) (c d : RwLockCallPlace) (a : Admission) → TakenAlike (RwLock l a c) (RwLock l a d)
+    → place_at w t ≡ RwLock l a d → (k : ℕ) → lock_state (put w t (RwLock l a c)) k ≡ lock_state w k
 locks_kept w t l c d a alike is k = locks_put w t (RwLock l a c) (RwLock l a d) alike k ∙ ap (λ q. lock_state (put w t q) k) (sym is) ∙ ap (λ ps. lock_state (record w { places = ps }) k) (set_own w.places t)
 
 -- ---------------------------------------------------------------- solo runs
@@ -294,7 +299,8 @@ module _ (t l : ℕ) (a : Admission) (x : Access) where
   SameEnd r r2 = (r.outcome ≡ r2.outcome) × ((k : ℕ) → lock_state r.state k ≡ lock_state r2.state k)
 
   -- what one more step comes to
-  ends_same : (o : Outcome) (w v w2 v2 : State) (last : Outcome) (more more2 : Ran) → ((k : ℕ) → lock_state w k ≡ lock_state w2 k) → ((k : ℕ) → lock_state v k ≡ lock_state v2 k) → (o ≡ outcome.Step → SameEnd more more2)
+  ends_same : (o : Outcome) (w v w2 v2 : State) (last : Outcome) (more more2 : Ran) → ((k : ℕ) → lock_state w k ≡ lock_state w2 k)
+      → ((k : ℕ) → lock_state v k ≡ lock_state v2 k) → (o ≡ outcome.Step → SameEnd more more2)
       → SameEnd (alone_after o w v last more) (alone_after o w2 v2 last more2)
   ends_same outcome.NotNow w v w2 v2 last more more2 before behind h = (refl, before)
   ends_same outcome.Step w v w2 v2 last more more2 before behind h = h refl
@@ -336,7 +342,8 @@ module _ (t l : ℕ) (a : Admission) (x : Access) where
     possible : is_possible plain_w (go_of t) ≡ is_possible w (go_of t)
     possible = λ i. nat_lt t (length-set w.places t (RwLock l a (Plain p)) i) && can i
 
-    does_same : (n : Next RwLockPlace) → outcome_of (rwlock_does l a (plain_next n)) ≡ outcome_of (rwlock_does l a (bump_next (purpose.Enter x Patient) n))
+    does_same : (n : Next RwLockPlace)
+        → outcome_of (rwlock_does l a (plain_next n)) ≡ outcome_of (rwlock_does l a (bump_next (purpose.Enter x Patient) n))
     does_same (At q) = refl
     does_same (End answer) = refl
 
@@ -357,7 +364,8 @@ module _ (t l : ℕ) (a : Admission) (x : Access) where
     abbrev acted : State
     acted = state_after_act w t (RwLock l a (Bump p)) y
 
-    went : is_possible w (go_of t) ≡ true → after w (go_of t) ≡ put acted t (rwlock_goes l a (bump_next (purpose.Enter x Patient) n))
+    went : is_possible w (go_of t) ≡ true
+        → after w (go_of t) ≡ put acted t (rwlock_goes l a (bump_next (purpose.Enter x Patient) n))
     went able = ap (λ b. if b then state_after_go w t else w) able ∙ ap (state_after_going w t) g.place ∙ goes_from_there w t (RwLock l a (Bump p)) g.place tt
         ∙ ap (λ (o : Option RwLockCallPlace). put acted t (rwlock_goes l a (unless_given o (bump_next (purpose.Enter x Patient) n)))) (never_given w t true p y)
 
@@ -371,14 +379,17 @@ module _ (t l : ℕ) (a : Admission) (x : Access) where
     locks_here : (k : ℕ) → lock_state plain_w k ≡ lock_state w k
     locks_here = locks_kept w t l (Plain p) (Bump p) a (λ k. refl) g.place
 
-    locks_then : (m : Next RwLockPlace) (k : ℕ) → lock_state (put acted t (rwlock_goes l a (plain_next m))) k ≡ lock_state (put acted t (rwlock_goes l a (bump_next (purpose.Enter x Patient) m))) k
+    locks_then : (m : Next RwLockPlace) (k : ℕ)
+        → lock_state (put acted t (rwlock_goes l a (plain_next m))) k
+        ≡ lock_state (put acted t (rwlock_goes l a (bump_next (purpose.Enter x Patient) m))) k
     locks_then (At q) k = locks_put acted t (RwLock l a (Plain q)) (RwLock l a (Bump q)) (λ j. refl) k
     locks_then (End answer) k = refl
 
     locks_behind : (k : ℕ) → lock_state (after plain_w (go_of t)) k ≡ lock_state (after w (go_of t)) k
     locks_behind k = either (is_possible w (go_of t)) refl
       where
-        either : (b : Bool) → is_possible w (go_of t) ≡ b → lock_state (after plain_w (go_of t)) k ≡ lock_state (after w (go_of t)) k
+        either : (b : Bool) → is_possible w (go_of t) ≡ b
+            → lock_state (after plain_w (go_of t)) k ≡ lock_state (after w (go_of t)) k
         either true able = ap (λ (s : State). lock_state s k) (went_plain able) ∙ locks_then n k ∙ sym (ap (λ (s : State). lock_state s k) (went able))
         either false able = ap (λ (b : Bool). lock_state (if b then state_after_go plain_w t else plain_w) k) (possible ∙ able) ∙ locks_here k ∙ sym (ap (λ (b : Bool). lock_state (if b then state_after_go w t else w) k) able)
 
@@ -413,16 +424,20 @@ module _ (t l : ℕ) (a : Admission) (x : Access) where
     goes_on : step_outcome w (go_of t) ≡ outcome.Step → (q : RwLockPlace) × ((is_possible w (go_of t) ≡ true) × (n ≡ At q))
     goes_on step = by_possible (is_possible w (go_of t)) refl step
       where
-        by_next : (m : Next RwLockPlace) → n ≡ m → is_possible w (go_of t) ≡ true → outcome_of (rwlock_does l a (bump_next (purpose.Enter x Patient) m)) ≡ outcome.Step → (q : RwLockPlace) × ((is_possible w (go_of t) ≡ true) × (n ≡ At q))
+        by_next : (m : Next RwLockPlace) → n ≡ m → is_possible w (go_of t) ≡ true
+            → outcome_of (rwlock_does l a (bump_next (purpose.Enter x Patient) m)) ≡ outcome.Step
+            → (q : RwLockPlace) × ((is_possible w (go_of t) ≡ true) × (n ≡ At q))
         by_next (At q) is able step = (q, (able, is))
         by_next (End answer) is able step = absurd cc
 
-        by_possible : (b : Bool) → is_possible w (go_of t) ≡ b → (if b then go_outcome w t else outcome.NotNow) ≡ outcome.Step → (q : RwLockPlace) × ((is_possible w (go_of t) ≡ true) × (n ≡ At q))
+        by_possible : (b : Bool) → is_possible w (go_of t) ≡ b → (if b then go_outcome w t else outcome.NotNow) ≡ outcome.Step
+            → (q : RwLockPlace) × ((is_possible w (go_of t) ≡ true) × (n ≡ At q))
         by_possible true able step = by_next n refl able (sym told_bump ∙ step)
         by_possible false able step = absurd cc
 
   -- its runs come to the same
-  same_run : (k : ℕ) (w : State) (retries : Bool) (to : RwLockAt) (last : Outcome) → Again w retries to → SameEnd (solo k (as_plain w t l a (of (purpose.Enter x Patient) retries to)) t last) (solo k w t last)
+  same_run : (k : ℕ) (w : State) (retries : Bool) (to : RwLockAt) (last : Outcome) → Again w retries to
+      → SameEnd (solo k (as_plain w t l a (of (purpose.Enter x Patient) retries to)) t last) (solo k w t last)
   unfolding solo
   same_run zero w retries to last g = (refl, locks_here w retries to g)
   same_run (suc k) w retries to last g = subst
@@ -438,7 +453,8 @@ module _ (t l : ℕ) (a : Admission) (x : Access) where
 
 module _ (t l : ℕ) (a : Admission) where
   -- its place in a call that only enters is as good
-  plain_steady : (w : State) (p : RwLockPlace) → IsSteady w → t < length w.places → place_at w t ≡ RwLock l a (Bump p) → Admits (rules_in w l) a → MayStand a p → IsSteady (put w t (RwLock l a (Plain p)))
+  plain_steady : (w : State) (p : RwLockPlace) → IsSteady w → t < length w.places → place_at w t ≡ RwLock l a (Bump p)
+      → Admits (rules_in w l) a → MayStand a p → IsSteady (put w t (RwLock l a (Plain p)))
   plain_steady w p steady there is admits stands = goes_steady w (put w t (RwLock l a (Plain p))) l [] steady
       (place_goes w t l steady (rw is refl) there (rules_in w l) refl (RwLock l a (Plain p)) refl (admits, stands) [] (λ h. tt)
       (steps_by (rules_in w l) l (parts_at w l) (parts_at w l) (place_at w) t (RwLock l a (Plain p)) [] tt tt
@@ -446,7 +462,8 @@ module _ (t l : ℕ) (a : Admission) where
       (sym (ap station is)))
 
   -- as a call that only enters it steps alone too
-  pub plain_alone : (w : State) (p : RwLockPlace) (v : ℕ) (q : Line → List Waiter) → Shares t l a w → MayStand a p → StepsAlone w t l (RwLock l a (Bump p)) v q → StepsAlone (as_plain w t l a p) t l (RwLock l a (Plain p)) v q
+  pub plain_alone : (w : State) (p : RwLockPlace) (v : ℕ) (q : Line → List Waiter) → Shares t l a w → MayStand a p
+      → StepsAlone w t l (RwLock l a (Bump p)) v q → StepsAlone (as_plain w t l a p) t l (RwLock l a (Plain p)) v q
   plain_alone w p v q shares may f = record {
     shape = put_shaped w t (RwLock l a (Plain p)) f.shape (f.lock, subst (IsOfItsKind (kind_at w)) f.place (f.shape.kinds t));
     steady = plain_steady w p f.steady f.thread f.place shares may;
@@ -462,15 +479,21 @@ module _ (t l : ℕ) (a : Admission) where
     way = f.way;
   }
 
-  pub as_entry : (x : Access) (retries : Bool) (to : RwLockAt) (v : ℕ) (w : State) (q : Line → List Waiter) → Shares t l a w → MayStand a (of (purpose.Enter x Patient) retries to) → StepsAlone w t l (RwLock l a (Bump (of (purpose.Enter x Patient) retries to))) v q
-      → (k : ℕ) (last : Outcome) → SameEnd t l a x (solo k (as_plain w t l a (of (purpose.Enter x Patient) retries to)) t last) (solo k w t last)
+  pub as_entry : (x : Access) (retries : Bool) (to : RwLockAt) (v : ℕ) (w : State) (q : Line → List Waiter) → Shares t l a w
+      → MayStand a (of (purpose.Enter x Patient) retries to)
+      → StepsAlone w t l (RwLock l a (Bump (of (purpose.Enter x Patient) retries to))) v q
+      → (k : ℕ) (last : Outcome)
+      → SameEnd t l a x (solo k (as_plain w t l a (of (purpose.Enter x Patient) retries to)) t last) (solo k w t last)
   as_entry x retries to v w q shares may f k last = same_run t l a x k w retries to last (record { shape = f.shape; steady = f.steady; counted = f.counted; condvars = f.condvars; shares = shares; thread = f.thread; place = f.place; stands = may })
 
-  small_at : (w : State) (v : ℕ) (q : Line → List Waiter) (c : RwLockCallPlace) → Shares t l a w → StepsAlone w t l (RwLock l a c) v q → v < 2 ^ 64
+  small_at : (w : State) (v : ℕ) (q : Line → List Waiter) (c : RwLockCallPlace) → Shares t l a w
+      → StepsAlone w t l (RwLock l a c) v q → v < 2 ^ 64
   small_at w v q c shares f = subst (λ n. n < 2 ^ 64) f.word (word_small w l f.steady shares.0)
 
-  entry_rests : (x : Access) (retries : Bool) (to : RwLockAt) (v : ℕ) (w : State) (q : Line → List Waiter) → Shares t l a w → MayStand a (of (purpose.Enter x Patient) retries to)
-      → rwlock_act l a (of (purpose.Enter x Patient) retries to) ≢ act.Sleep → StepsAlone w t l (RwLock l a (Bump (of (purpose.Enter x Patient) retries to))) v q → Leads 11 w t Resting
+  entry_rests : (x : Access) (retries : Bool) (to : RwLockAt) (v : ℕ) (w : State) (q : Line → List Waiter) → Shares t l a w
+      → MayStand a (of (purpose.Enter x Patient) retries to)
+      → rwlock_act l a (of (purpose.Enter x Patient) retries to) ≢ act.Sleep
+      → StepsAlone w t l (RwLock l a (Bump (of (purpose.Enter x Patient) retries to))) v q → Leads 11 w t Resting
   entry_rests x retries to v w q shares may up f = λ k last enough. subst Rests (as_entry x retries to v w q shares may f k last).0
       (rwlock_rests t l a entry v (as_plain w t l a entry) q (small_at w v q (Bump entry) shares f) (is_ready t l a entry may up) (plain_alone w entry v q shares may f) k last enough)
     where
@@ -484,16 +507,19 @@ module _ (t l : ℕ) (a : Admission) where
   first_may access.Upgradable = record { place = tt; fresh = tt; decided = tt }
 
   -- there its runs come to the same as those of a call that only enters
-  pub as_first : (x : Access) (v : ℕ) (w : State) (q : Line → List Waiter) → Shares t l a w → StepsAlone w t l (RwLock l a (enters_again x)) v q → (k : ℕ) (last : Outcome)
+  pub as_first : (x : Access) (v : ℕ) (w : State) (q : Line → List Waiter) → Shares t l a w
+      → StepsAlone w t l (RwLock l a (enters_again x)) v q → (k : ℕ) (last : Outcome)
       → SameEnd t l a x (solo k (as_plain w t l a (rwlock_first (purpose.Enter x Patient))) t last) (solo k w t last)
   as_first access.Exclusive v w q shares f k last = as_entry access.Exclusive false at.First v w q shares (first_may access.Exclusive) f k last
   as_first access.Shared v w q shares f k last = as_entry access.Shared false at.Load v w q shares (first_may access.Shared) f k last
   as_first access.Upgradable v w q shares f k last = as_entry access.Upgradable false at.Load v w q shares (first_may access.Upgradable) f k last
 
-  pub first_seen : (x : Access) (w : State) → place_at w t ≡ RwLock l a (enters_again x) → (k : ℕ) → lock_state (as_plain w t l a (rwlock_first (purpose.Enter x Patient))) k ≡ lock_state w k
+  pub first_seen : (x : Access) (w : State) → place_at w t ≡ RwLock l a (enters_again x) → (k : ℕ)
+      → lock_state (as_plain w t l a (rwlock_first (purpose.Enter x Patient))) k ≡ lock_state w k
   first_seen x w is k = locks_kept w t l (Plain (rwlock_first (purpose.Enter x Patient))) (enters_again x) a (λ j. refl) is k
 
-  pub again_rests : (x : Access) (v : ℕ) (w : State) (q : Line → List Waiter) → Shares t l a w → StepsAlone w t l (RwLock l a (enters_again x)) v q → Leads 11 w t Resting
+  pub again_rests : (x : Access) (v : ℕ) (w : State) (q : Line → List Waiter) → Shares t l a w
+      → StepsAlone w t l (RwLock l a (enters_again x)) v q → Leads 11 w t Resting
   again_rests access.Exclusive v w q shares f = entry_rests access.Exclusive false at.First v w q shares (first_may access.Exclusive) (λ e. cc) f
   again_rests access.Shared v w q shares f = entry_rests access.Shared false at.Load v w q shares (first_may access.Shared) (λ e. cc) f
   again_rests access.Upgradable v w q shares f = entry_rests access.Upgradable false at.Load v w q shares (first_may access.Upgradable) (λ e. cc) f
@@ -502,20 +528,24 @@ module _ (t l : ℕ) (a : Admission) where
   ends_rest true x k w h = leads_so k w t (Ends t l a true x w) Resting (λ v o e. let again = e.0 refl in subst Rests again.outcome_is (again_rests x again.word _ again.queues again.shares again.alone again.room again.last again.enough)) h
   ends_rest false x k w h = leads_so k w t (Ends t l a false x w) Resting (λ v o e. subst Rests (sym (e.1 refl)) tt) h
 
-  bump_rests : (q : RwLockPurpose) (retries : Bool) (to : RwLockAt) (v : ℕ) (w : State) (line : Line → List Waiter) → Shares t l a w → v < 2 ^ 64 → MayStand a (of q retries to) → IsOfBump q retries
-      → rwlock_act l a (of q retries to) ≢ act.Sleep → StepsAlone w t l (RwLock l a (Bump (of q retries to))) v line → Leads 18 w t Resting
+  bump_rests : (q : RwLockPurpose) (retries : Bool) (to : RwLockAt) (v : ℕ) (w : State) (line : Line → List Waiter)
+      → Shares t l a w → v < 2 ^ 64 → MayStand a (of q retries to) → IsOfBump q retries
+      → rwlock_act l a (of q retries to) ≢ act.Sleep → StepsAlone w t l (RwLock l a (Bump (of q retries to))) v line
+      → Leads 18 w t Resting
   bump_rests (purpose.Enter x Patient) retries to v w line shares small may bump up f = leads_more 11 18 w t Resting (omega arith) (entry_rests x retries to v w line shares may up f)
   bump_rests (purpose.Release access.Shared) true to v w line shares small may bump up f = absurd (let e : true ≡ false = bump in cc)
   bump_rests (purpose.Release access.Shared) false to v w line shares small may bump up f = by_place to may.place f
     where
-      by_place : (to : RwLockAt) → StandsAt (purpose.Release access.Shared) false to → StepsAlone w t l (RwLock l a (Bump (of (purpose.Release access.Shared) false to))) v line → Leads 18 w t Resting
+      by_place : (to : RwLockAt) → StandsAt (purpose.Release access.Shared) false to
+          → StepsAlone w t l (RwLock l a (Bump (of (purpose.Release access.Shared) false to))) v line → Leads 18 w t Resting
       by_place at.GiveWay fits f = leads_more 16 18 w t Resting (omega arith) (ends_rest true access.Shared 16 w (gives_rest t l a v w line shares f))
       by_place (at.Wake Second to) fits f = leads_more 15 18 w t Resting (omega arith) (ends_rest true access.Shared 15 w (wakes_rest t l a to v w line shares f))
       by_place to fits f = absurd fits
   bump_rests q retries to v w line shares small may bump up f = absurd bump
 
   -- from each place of a call where the thread is awake
-  pub call_rests : (c : RwLockCallPlace) (v : ℕ) (w : State) (q : Line → List Waiter) → Shares t l a w → v < 2 ^ 64 → CallStands a c → act_of (RwLock l a c) ≢ act.Sleep → StepsAlone w t l (RwLock l a c) v q → Leads 18 w t Resting
+  pub call_rests : (c : RwLockCallPlace) (v : ℕ) (w : State) (q : Line → List Waiter) → Shares t l a w → v < 2 ^ 64
+      → CallStands a c → act_of (RwLock l a c) ≢ act.Sleep → StepsAlone w t l (RwLock l a c) v q → Leads 18 w t Resting
   call_rests (Plain p) v w q shares small stands up f = leads_more 11 18 w t Resting (omega arith) (rwlock_rests t l a p v w q small (is_ready t l a p stands up) f)
   call_rests (Bump p) v w q shares small stands up f = bump_rests p.purpose p.retries p.at v w q shares small stands.0 stands.1 up f
   call_rests (Glance x) v w q shares small stands up f = ends_rest (gives_way a x v) x 18 w (glance_rests t l a x v w q shares f)

@@ -51,7 +51,8 @@ use Rattle.lot_laws.proofs.RwLockEnds.{downgrades_alone, enters_alone, exclusive
 
 -- ---------------------------------------------------------------- some steps of a thread alone, behind each of which it goes on
 
-steps_run : (n : ℕ) (w : State) (t : ℕ) → IsWorld w → step_outcomes w (replicate n (go_of t)) ≡ replicate n outcome.Step → IsRun (locks_of w) (replicate n (go_of t)) (replicate n outcome.Step) (locks_of (after_steps w (replicate n (go_of t))))
+steps_run : (n : ℕ) (w : State) (t : ℕ) → IsWorld w → step_outcomes w (replicate n (go_of t)) ≡ replicate n outcome.Step
+    → IsRun (locks_of w) (replicate n (go_of t)) (replicate n outcome.Step) (locks_of (after_steps w (replicate n (go_of t))))
 steps_run n w t h told = run_refines w (after_steps w (replicate n (go_of t))) (replicate n (go_of t)) (replicate n outcome.Step)
     (subst (λ os. IsWorldRun w (replicate n (go_of t)) os (after_steps w (replicate n (go_of t)))) told (world_run w (replicate n (go_of t)) h))
 
@@ -61,20 +62,25 @@ unfolding solo
 moves k w t h e = subst (λ o. Rests (alone_after o w (after w (go_of t)) outcome.NotNow (solo k (after w (go_of t)) t outcome.Step)).outcome) e (h (suc k) outcome.NotNow (omega arith))
 
 -- and then it is the same what was told it before
-solo_from : (n : ℕ) (w : State) (t : ℕ) (last last2 : Outcome) → step_outcome w (go_of t) ≢ outcome.NotNow → 1 ≤ n → solo n w t last ≡ solo n w t last2
+solo_from : (n : ℕ) (w : State) (t : ℕ) (last last2 : Outcome) → step_outcome w (go_of t) ≢ outcome.NotNow → 1 ≤ n
+    → solo n w t last ≡ solo n w t last2
 unfolding solo
 solo_from zero w t last last2 goes le = absurd (omega arith)
 solo_from (suc n) w t last last2 goes le = by_outcome (step_outcome w (go_of t)) goes
   where
-    by_outcome : (o : Outcome) → o ≢ outcome.NotNow → alone_after o w (after w (go_of t)) last (solo n (after w (go_of t)) t outcome.Step) ≡ alone_after o w (after w (go_of t)) last2 (solo n (after w (go_of t)) t outcome.Step)
+    by_outcome : (o : Outcome) → o ≢ outcome.NotNow
+        → alone_after o w (after w (go_of t)) last (solo n (after w (go_of t)) t outcome.Step)
+        ≡ alone_after o w (after w (go_of t)) last2 (solo n (after w (go_of t)) t outcome.Step)
     by_outcome outcome.NotNow ne = absurd (ne refl)
     by_outcome o ne = refl
 
 -- ---------------------------------------------------------------- what is said of the locks alone
 
 -- what waits for a right comes to the same by the locks that it sees
-module _ (before : Type 0) (w w2 v v2 : LocksState) (t l : ℕ) (o o2 : Outcome) (locks : w.locks l ≡ w2.locks l) (rules : rules_at w l ≡ rules_at w2 l) (locks2 : v.locks l ≡ v2.locks l) (told : o ≡ o2) where
-  may_so : (x : Access) → MayEnterAtOnce ⊥ (rules_at w2 l) (w2.locks l) (wanted x) Patient → MayEnterAtOnce before (rules_at w l) (w.locks l) (wanted x) Patient
+module _ (before : Type 0) (w w2 v v2 : LocksState) (t l : ℕ) (o o2 : Outcome) (locks : w.locks l ≡ w2.locks l)
+    (rules : rules_at w l ≡ rules_at w2 l) (locks2 : v.locks l ≡ v2.locks l) (told : o ≡ o2) where
+  may_so : (x : Access) → MayEnterAtOnce ⊥ (rules_at w2 l) (w2.locks l) (wanted x) Patient
+      → MayEnterAtOnce before (rules_at w l) (w.locks l) (wanted x) Patient
   may_so access.Shared h = subst (λ (p : Rules × LockState). MayEnter p.0 p.1 Shared) (λ i. (sym rules i, sym locks i)) h
   may_so access.Upgradable h = subst (λ (p : Rules × LockState). MayEnter p.0 p.1 Upgradable) (λ i. (sym rules i, sym locks i)) h
   may_so access.Exclusive h = subst (λ (p : Rules × LockState). MayEnter p.0 p.1 Exclusive × (has_readers p.0.sort ≡ true → readers p.1 ≡ 0)) (λ i. (sym rules i, sym locks i)) h
@@ -102,7 +108,8 @@ pending_is_writer s most some = grind (arith, nat_tests)
 writer_beside_readers : (r : Rules) (s : LockState) → IsLockState r s → 1 ≤ readers s → (writers s == 1) ≡ true → s.pending ≢ None
 writer_beside_readers r s state shared h none = grind (arith, nat_tests, state.exclusive_alone)
 
-module _ (w : State) (t l : ℕ) (a : Admission) (x : Access) (holds : IsWorld w) (admits : Admits (rules_in w l) a) (is : place_at w t ≡ RwLock l a (Glance x)) (v2 : State) (o : Outcome) (run : RunsAlone w t o v2) where
+module _ (w : State) (t l : ℕ) (a : Admission) (x : Access) (holds : IsWorld w) (admits : Admits (rules_in w l) a)
+    (is : place_at w t ≡ RwLock l a (Glance x)) (v2 : State) (o : Outcome) (run : RunsAlone w t o v2) where
   abbrev s : LockState
   s = lock_state w l
 
@@ -174,7 +181,8 @@ module _ (w : State) (t l : ℕ) (a : Admission) (x : Access) (holds : IsWorld w
   last_reader : ((rules_in w l).sort ≡ Recursive → count s ≡ 1) → (not a.recursive || (count_in word == 1)) ≡ true
   last_reader one = by_sort (rules_in w l).sort refl admits.1
     where
-      by_sort : (sort : Sort) → (rules_in w l).sort ≡ sort → is_recursive sort ≡ a.recursive → (not a.recursive || (count_in word == 1)) ≡ true
+      by_sort : (sort : Sort) → (rules_in w l).sort ≡ sort → is_recursive sort ≡ a.recursive
+          → (not a.recursive || (count_in word == 1)) ≡ true
       by_sort Recursive e f = ap (λ (b : Bool). not b || (count_in word == 1)) (sym f) ∙ ap (λ n. n == 1) (counted ∙ one e)
       by_sort Normal e f = ap (λ (b : Bool). not b || (count_in word == 1)) (sym f)
       by_sort Mutual e f = ap (λ (b : Bool). not b || (count_in word == 1)) (sym f)
@@ -191,7 +199,8 @@ module _ (w : State) (t l : ℕ) (a : Admission) (x : Access) (holds : IsWorld w
   writes_pending : 1 ≤ readers s → (writers s == 1) ≡ true → s.pending ≢ None
   writes_pending shared h = writer_beside_readers (rules_in w l) s site.state shared h
 
-  gives_so : (x2 : Access) → x2 ≡ x → ((u : ℕ) → section_at w (key_of l Main) ≡ Some u → u ≡ t) → GivesWay (rules_in w l) s (wanted x2) → gives_way a x2 word ≡ true
+  gives_so : (x2 : Access) → x2 ≡ x → ((u : ℕ) → section_at w (key_of l Main) ≡ Some u → u ≡ t)
+      → GivesWay (rules_in w l) s (wanted x2) → gives_way a x2 word ≡ true
   gives_so access.Shared e way g = ap (λ b. b && (not a.recursive || (count_in word == 1))) (writer_is ∙ pending_writes g.0) ∙ last_reader g.1
   gives_so access.Upgradable e way g = has_waiter way g
   gives_so access.Exclusive e way g = has_waiter way g
@@ -202,7 +211,8 @@ module _ (w : State) (t l : ℕ) (a : Admission) (x : Access) (holds : IsWorld w
   shares_now : access.Shared ≡ x → 1 ≤ readers s
   shares_now e = some_share (site.held t (Has Shared) (ap (λ (d : Doing). d.claims) doing_now ∙ ap (λ (y : Access). Some (Has (wanted y))) (sym e)))
 
-  keeps_so : (x2 : Access) → x2 ≡ x → NeedsNoWay (has_parked word ≡ false) (rules_in w l) s (wanted x2) → gives_way a x2 word ≡ false
+  keeps_so : (x2 : Access) → x2 ≡ x → NeedsNoWay (has_parked word ≡ false) (rules_in w l) s (wanted x2)
+      → gives_way a x2 word ≡ false
   keeps_so access.Shared e none = either (has_writer word) (not a.recursive || (count_in word == 1)) refl refl
     where
       either : (b c : Bool) → has_writer word ≡ b → (not a.recursive || (count_in word == 1)) ≡ c → (b && c) ≡ false
@@ -236,7 +246,8 @@ module _ (w : State) (t l : ℕ) (a : Admission) (x : Access) (holds : IsWorld w
     run_there : IsRun (locks_of w) (replicate e.steps (go_of t)) (replicate e.steps outcome.Step) (locks_of between)
     run_there = steps_run e.steps w t holds e.told
 
-    former_at : (y : Access) (rights : ℕ → Rights) → (call_state (RwLock l a (enters_again y)) rights).former ≡ one_more_at l (wanted y) rights
+    former_at : (y : Access) (rights : ℕ → Rights)
+        → (call_state (RwLock l a (enters_again y)) rights).former ≡ one_more_at l (wanted y) rights
     former_at access.Shared rights = refl
     former_at access.Upgradable rights = refl
     former_at access.Exclusive rights = refl
@@ -261,7 +272,8 @@ module _ (w : State) (t l : ℕ) (a : Admission) (x : Access) (holds : IsWorld w
           (runs_alone e.room plain_w t (record { shaped = plain.shape; steady = plain.steady; counted = plain.counted; condvars = plain.condvars; running = plain.running })));
     }
 
-  pub bumps_shared : ((u : ℕ) → section_at w (key_of l Main) ≡ Some u → u ≡ t) → Ends t l a (gives_way a x word) x w v2 o → BumpsShared (has_parked word ≡ false) (locks_of w) t l (wanted x) o (locks_of v2)
+  pub bumps_shared : ((u : ℕ) → section_at w (key_of l Main) ≡ Some u → u ≡ t) → Ends t l a (gives_way a x word) x w v2 o
+      → BumpsShared (has_parked word ≡ false) (locks_of w) t l (wanted x) o (locks_of v2)
   bumps_shared way h = record {
     gives_way = λ g. comes_back (h.0 (gives_so x refl way g));
     stays = λ none. let told = h.1 (keeps_so x refl none) in (told, ends_owning told);
@@ -269,8 +281,11 @@ module _ (w : State) (t l : ℕ) (a : Admission) (x : Access) (holds : IsWorld w
 
 -- ---------------------------------------------------------------- each call, from its beginning
 
-pub rwlock_alone : (w : State) (t l : ℕ) (a : Admission) (c : RwLockCall) (n : ℕ) (last : Outcome) → 18 ≤ n → IsSteady w → Admits (rules_in w l) a → place_at w t ≡ RwLock l a (call_first c) → StepsAlone w t l (RwLock l a (call_first c)) (word_at w l) (λ m. queue_at w (key_of l m))
-    → RunsAlone w t (solo n w t last).outcome (solo n w t last).state → EndsAlone w t (Some (rwlock_purpose l c)) (solo n w t last).outcome (solo n w t last).state
+pub rwlock_alone : (w : State) (t l : ℕ) (a : Admission) (c : RwLockCall) (n : ℕ) (last : Outcome) → 18 ≤ n → IsSteady w
+    → Admits (rules_in w l) a → place_at w t ≡ RwLock l a (call_first c)
+    → StepsAlone w t l (RwLock l a (call_first c)) (word_at w l) (λ m. queue_at w (key_of l m))
+    → RunsAlone w t (solo n w t last).outcome (solo n w t last).state
+    → EndsAlone w t (Some (rwlock_purpose l c)) (solo n w t last).outcome (solo n w t last).state
 rwlock_alone w t l a c n last le steady admits is f run = by_call c is f
   where
     small : word_at w l < 2 ^ 64
@@ -282,7 +297,9 @@ rwlock_alone w t l a c n last le steady admits is f run = by_call c is f
     x : Outcome
     x = (solo n w t last).outcome
 
-    by_call : (c : RwLockCall) → place_at w t ≡ RwLock l a (call_first c) → StepsAlone w t l (RwLock l a (call_first c)) (word_at w l) (λ m. queue_at w (key_of l m)) → EndsAlone w t (Some (rwlock_purpose l c)) x v2
+    by_call : (c : RwLockCall) → place_at w t ≡ RwLock l a (call_first c)
+        → StepsAlone w t l (RwLock l a (call_first c)) (word_at w l) (λ m. queue_at w (key_of l m))
+        → EndsAlone w t (Some (rwlock_purpose l c)) x v2
     by_call (call.Enter y how) is f = enters_alone w t l a y how n last (omega arith) steady admits is f run
     by_call (call.Release y) is f = releases_alone w t l a steady admits v2 x run y is (release_ends t l a y false (word_at w l) w (λ m. queue_at w (key_of l m)) f n last (omega arith))
     by_call (call.Downgrade d) is f = downgrades_alone w t l a steady admits v2 x run d is (downgrade_ends t l a d false (word_at w l) w (λ m. queue_at w (key_of l m)) f n last (omega arith))

@@ -80,7 +80,8 @@ pub record Happens (w v : State) (t : ℕ) (e : Event) : Type 0 where
 
 -- one lock alone goes through it
 pub happens_at : (w v : State) (t l : ℕ) (c : Option LockCase) → IsSteady w → IsSteady v → ((k : ℕ) → kind_at v k ≡ kind_at w k)
-    → lock_state v l ≡ after_event (rules_in w l) (event_by l c) (lock_state w l) t → ((k : ℕ) → k ≢ l → lock_state v k ≡ lock_state w k)
+    → lock_state v l ≡ after_event (rules_in w l) (event_by l c) (lock_state w l) t
+    → ((k : ℕ) → k ≢ l → lock_state v k ≡ lock_state w k)
     → EventNeeds (rules_in w l) (event_by l c) (lock_state w l) t → Happens w v t (event_by l c)
 happens_at w v t l None before after kinds here other needs =
     record { led = λ k. elim (cases_eq k l) [ inl e ↦ rw e here | inr ne ↦ other k ne ]; needs = tt; kinds = kinds; before = before; after = after }
@@ -88,7 +89,8 @@ happens_at w v t l (Some case) before after kinds here other needs =
     record { led = λ k. put_is (lock_state w) l _ k (lock_state v k) (λ e. rw e here) (λ ne. other k ne); needs = needs; kinds = kinds; before = before; after = after }
 
 -- or waiters move from one to another
-pub happens_moving : (w v : State) (t c m : ℕ) (all owned : Bool) (number : ℕ) → IsSteady w → IsSteady v → ((k : ℕ) → kind_at v k ≡ kind_at w k)
+pub happens_moving : (w v : State) (t c m : ℕ) (all owned : Bool) (number : ℕ) → IsSteady w → IsSteady v
+    → ((k : ℕ) → kind_at v k ≡ kind_at w k)
     → c ≢ m → lock_state v c ≡ left_behind all (lock_state w c)
     → lock_state v m ≡ joined_by owned t (moved_of all (lock_state w c).queue) (lock_state w m)
     → ((k : ℕ) → k ≢ c → k ≢ m → lock_state v k ≡ lock_state w k) → Happens w v t (Moves c m all owned number)
@@ -118,7 +120,8 @@ module _ (r : Rules) where
       claim_keeps (Begin c) h = refl
       claim_keeps d h = absurd h
 
-  deeds_then : (t : ℕ) (ds : List Deed) (claims : List Act) (s : Site) → AreClaims claims → (after_acts r (acts t ds ++ claims) s).lock ≡ (deeds.after_all r ds s t).lock
+  deeds_then : (t : ℕ) (ds : List Deed) (claims : List Act) (s : Site) → AreClaims claims
+      → (after_acts r (acts t ds ++ claims) s).lock ≡ (deeds.after_all r ds s t).lock
   deeds_then t [] claims s h = claims_keep claims s h
   deeds_then t (d ∷ ds) claims s h = deeds_then t ds claims (after_deed r d s t) h
 
@@ -126,20 +129,25 @@ module _ (r : Rules) where
   deeds_by t [] s = refl
   deeds_by t (d ∷ ds) s = deeds_by t ds (after_deed r d s t)
 
-  pub needed_then : (t : ℕ) (ds : List Deed) (claims : List Act) (s : Site) → ActsNeeded r (acts t ds ++ claims) s → deeds.AllNeeded r ds s t
+  pub needed_then : (t : ℕ) (ds : List Deed) (claims : List Act) (s : Site) → ActsNeeded r (acts t ds ++ claims) s
+      → deeds.AllNeeded r ds s t
   needed_then t [] claims s n = tt
   needed_then t (d ∷ ds) claims s n = (n.0, needed_then t ds claims (after_deed r d s t) n.1)
 
 -- the event of deeds that a lock has been through
-pub happens : (w v : State) (t l : ℕ) (hand : Option Bool) (ds : List Deed) (claims : List Act) → IsSteady w → Goes w v l (acts t ds ++ claims) → AreClaims claims → AreOneCase ds → (hand ≢ Some false → HasTakenNobody (lock_state w l) t) → Happens w v t (event_of l hand ds)
+pub happens : (w v : State) (t l : ℕ) (hand : Option Bool) (ds : List Deed) (claims : List Act) → IsSteady w
+    → Goes w v l (acts t ds ++ claims) → AreClaims claims → AreOneCase ds
+    → (hand ≢ Some false → HasTakenNobody (lock_state w l) t) → Happens w v t (event_of l hand ds)
 happens w v t l hand ds claims steady goes begin one free = happens_at w v t l (case_of hand ds) steady (goes_steady w v l (acts t ds ++ claims) steady goes) goes.follows.kinds
     (ap (λ (s : Site). s.lock) goes.follows.site ∙ deeds_then (rules_in w l) t ds claims (site_of w l) begin ∙ deeds_lead (rules_in w l) t l hand ds (site_of w l) free one)
     (λ k ne. ap (λ (s : Site). s.lock) (goes.follows.others k ne).0)
     (deeds_need (rules_in w l) t l hand ds (site_of w l) (needed_then (rules_in w l) t ds claims (site_of w l) goes.follows.needed) one)
 
 -- a step of several locks, of which this one goes through the event of its deeds
-pub happens_all : (w v : State) (t l : ℕ) (hand : Option Bool) (all : ℕ → List Act) (ds : List Deed) (claims : List Act) → IsSteady w → IsSteady v → FollowAll w v all
-    → all l ≡ acts t ds ++ claims → AreClaims claims → AreOneCase ds → ((k : ℕ) → k ≢ l → (other : List Deed) × (all k ≡ acts t other) × KeepLock other)
+pub happens_all : (w v : State) (t l : ℕ) (hand : Option Bool) (all : ℕ → List Act) (ds : List Deed) (claims : List Act)
+    → IsSteady w → IsSteady v → FollowAll w v all
+    → all l ≡ acts t ds ++ claims → AreClaims claims → AreOneCase ds
+    → ((k : ℕ) → k ≢ l → (other : List Deed) × (all k ≡ acts t other) × KeepLock other)
     → (hand ≢ Some false → HasTakenNobody (lock_state w l) t) → Happens w v t (event_of l hand ds)
 happens_all w v t l hand all ds claims before after f is begin one others free = happens_at w v t l (case_of hand ds) before after f.kinds
     (locks_led l ∙ ap (λ done. (after_acts (rules_in w l) done (site_of w l)).lock) is ∙ deeds_then (rules_in w l) t ds claims (site_of w l) begin ∙ deeds_lead (rules_in w l) t l hand ds (site_of w l) free one)
@@ -150,8 +158,12 @@ happens_all w v t l hand all ds claims before after f is begin one others free =
     locks_led k = ap (λ (s : Site). s.lock) (f.site k)
 
 -- or of which waiters of one go to the other
-pub happens_sending : (w v : State) (t c m : ℕ) (all owned : Bool) (number : ℕ) (ds : ℕ → List Act) → IsSteady w → IsSteady v → FollowAll w v ds → c ≢ m
-    → ds c ≡ acts t (Send all ∷ []) → ds m ≡ acts t (Bring (taken_of owned (moved_of all (lock_state w c).queue)) (line_of owned (moved_of all (lock_state w c).queue)) ∷ [])
+pub happens_sending : (w v : State) (t c m : ℕ) (all owned : Bool) (number : ℕ) (ds : ℕ → List Act) → IsSteady w → IsSteady v
+    → FollowAll w v ds → c ≢ m
+    → ds c ≡ acts t (Send all ∷ [])
+    → ds m
+    ≡ acts t
+    (Bring (taken_of owned (moved_of all (lock_state w c).queue)) (line_of owned (moved_of all (lock_state w c).queue)) ∷ [])
     → ((k : ℕ) → k ≢ c → k ≢ m → ds k ≡ []) → Happens w v t (Moves c m all owned number)
 happens_sending w v t c m all owned number ds before after f apart sent brought others = happens_moving w v t c m all owned number before after f.kinds apart
     (locks_led c ∙ ap (λ done. (after_acts (rules_in w c) done (site_of w c)).lock) sent)
@@ -226,7 +238,8 @@ same_purpose (AtLock l case) x = by_case case
     by_case case = refl
 
 -- a case may happen where the call is made of it and what it needs is there
-pub may_do : (w : LocksState) (t l : ℕ) (case : LockCase) (purpose : Purpose) (c : CallState) → w.calls t ≡ c → c.purpose ≡ Some purpose → IsMadeOf purpose c.gave_up c.released c.recalls l case
+pub may_do : (w : LocksState) (t l : ℕ) (case : LockCase) (purpose : Purpose) (c : CallState) → w.calls t ≡ c
+    → c.purpose ≡ Some purpose → IsMadeOf purpose c.gave_up c.released c.recalls l case
     → Needs (locks_rules w l) case (w.locks l) t → IsTimely c.late case → MayHappen w t (AtLock l case)
 may_do w t l case purpose c is e made needs timely = rw (is, e) (rw is made, needs, rw is timely)
 
@@ -236,12 +249,14 @@ RunsNothing (CallsOnce l forced) = ⊥
 RunsNothing (Awaits l forced) = ⊥
 RunsNothing purpose = Unit {0}
 
-pub runs_nothing : (sorts : ℕ → Sort) (l : ℕ) (p : Purpose) → lock_for p ≡ l → KnowsRights sorts (Some p) → (sorts l ≡ Once → ⊥) → RunsNothing p
+pub runs_nothing : (sorts : ℕ → Sort) (l : ℕ) (p : Purpose) → lock_for p ≡ l → KnowsRights sorts (Some p) → (sorts l ≡ Once → ⊥)
+    → RunsNothing p
 runs_nothing sorts l (CallsOnce k forced) own knows other = other (subst (λ j. sorts j ≡ Once) own knows)
 runs_nothing sorts l (Awaits k forced) own knows other = other (subst (λ j. sorts j ≡ Once) own knows)
 runs_nothing sorts l p own knows other = tt
 
-pub never_starts : (p : Purpose) (g : Option ℕ) (r : Bool) (q : Recall) (l : ℕ) (forced : Bool) → RunsNothing p → IsMadeOf p g r q l (OfOnce (Start forced)) → ⊥
+pub never_starts : (p : Purpose) (g : Option ℕ) (r : Bool) (q : Recall) (l : ℕ) (forced : Bool) → RunsNothing p
+    → IsMadeOf p g r q l (OfOnce (Start forced)) → ⊥
 never_starts (Enters k x how) g r q l forced h m = m.1
 never_starts (Releases k x fair) g r q l forced h m = m.1
 never_starts (Converts k x y how) g r q l forced h m = m.1
@@ -252,7 +267,8 @@ never_starts (Waits k n timed) g r q l forced h m = elim m [ inl there ↦ there
 never_starts (Notifies k all) g r q l forced h m = elim m [ inl there ↦ there.1 | inr beside ↦ beside ]
 
 -- and is told of no closure
-pub begins_nothing : (w : LocksState) (l : ℕ) (row : Profile) (c : Option LockCase) (o : Outcome) → RunsNothing (row.purpose l) → MayCome l row (event_by l c) → is_closure o ≡ false → Begins w (event_by l c) o
+pub begins_nothing : (w : LocksState) (l : ℕ) (row : Profile) (c : Option LockCase) (o : Outcome) → RunsNothing (row.purpose l)
+    → MayCome l row (event_by l c) → is_closure o ≡ false → Begins w (event_by l c) o
 begins_nothing w l row None o runs may told = by_outcome o told
   where
     by_outcome : (o : Outcome) → is_closure o ≡ false → Begins w Nothing o
@@ -274,10 +290,12 @@ CallLed w v t e call o =
     ⊎ ((a : Answer) × (o ≡ outcome.TheVariants.End a) × (place_at v t ≡ Idle) × AnswerHolds call.purpose (locks_of v) t (going_on e call) a)
 
 module _ (w v : State) (t : ℕ) (e : Event) (h : Happens w v t e) (call : CallState) (is : call_at w t ≡ call) (o : Outcome) where
-  own_call : CallLed w v t e call o → call_state (place_at v t) (rights v t) ≡ unless_ended o (woken (locks_of w) t e t (going_on e call))
+  own_call : CallLed w v t e call o
+      → call_state (place_at v t) (rights v t) ≡ unless_ended o (woken (locks_of w) t e t (going_on e call))
   own_call (inl on) = on.0 ∙ goes_on on.1.1
     where
-      goes_on : GoesAs v t on.1.0 o → woken (locks_of w) t e t (going_on e call) ≡ unless_ended o (woken (locks_of w) t e t (going_on e call))
+      goes_on : GoesAs v t on.1.0 o
+          → woken (locks_of w) t e t (going_on e call) ≡ unless_ended o (woken (locks_of w) t e t (going_on e call))
       goes_on (inl k) = rw k refl
       goes_on (inr (inl k)) = rw k.0 refl
       goes_on (inr (inr k)) = rw k.1 refl
@@ -296,7 +314,8 @@ module _ (w v : State) (t : ℕ) (e : Event) (h : Happens w v t e) (call : CallS
     λ k. taken_nobody v h.after t k (rw over.2 refl),
   )
 
-  pub goes_with : MayHappen (locks_of w) t e → call.purpose ≢ None → CallLed w v t e call o → OthersFollow w v t e → Begins (locks_of w) e o → GoesOn (locks_of w) t o (locks_of v)
+  pub goes_with : MayHappen (locks_of w) t e → call.purpose ≢ None → CallLed w v t e call o → OthersFollow w v t e
+      → Begins (locks_of w) e o → GoesOn (locks_of w) t o (locks_of v)
   goes_with may called led others begins = record {
     called = rw is called;
     event = e;
@@ -307,7 +326,9 @@ module _ (w v : State) (t : ℕ) (e : Event) (h : Happens w v t e) (call : CallS
     begins = begins;
   }
 
-  pub goes_with_event : (may : MayHappen (locks_of w) t e) (called : call.purpose ≢ None) (led : CallLed w v t e call o) (others : OthersFollow w v t e) (begins : Begins (locks_of w) e o) → (goes_with may called led others begins).event ≡ e
+  pub goes_with_event : (may : MayHappen (locks_of w) t e) (called : call.purpose ≢ None) (led : CallLed w v t e call o)
+      (others : OthersFollow w v t e) (begins : Begins (locks_of w) e o)
+      → (goes_with may called led others begins).event ≡ e
   unfolding goes_with
   goes_with_event may called led others begins = refl
 
@@ -317,7 +338,8 @@ module _ (w v : State) (t l : ℕ) (c : Option LockCase) (h : Happens w v t (eve
   pub led_here : lock_state v l ≡ after_event (rules_in w l) (event_by l c) (lock_state w l) t
   led_here = by_case c h
     where
-      by_case : (c : Option LockCase) → Happens w v t (event_by l c) → lock_state v l ≡ after_event (rules_in w l) (event_by l c) (lock_state w l) t
+      by_case : (c : Option LockCase) → Happens w v t (event_by l c)
+          → lock_state v l ≡ after_event (rules_in w l) (event_by l c) (lock_state w l) t
       by_case None h = h.led l
       by_case (Some case) h = h.led l ∙ put_here (lock_state w) l (after_event (rules_in w l) (AtLock l case) (lock_state w l) t)
 
@@ -336,7 +358,8 @@ module _ (w v : State) (t l : ℕ) (c : Option LockCase) (h : Happens w v t (eve
       by_case (Some case) h = h.needs
 
   -- what a thread owns then
-  pub rights_led : (u k : ℕ) → rights v u k ≡ rights_where l (after_event (rules_in w l) (event_by l c) (lock_state w l) t) u (rights w u) k
+  pub rights_led : (u k : ℕ)
+      → rights v u k ≡ rights_where l (after_event (rules_in w l) (event_by l c) (lock_state w l) t) u (rights w u) k
   rights_led u k = put_is (rights w u) l _ k (rights v u k) (λ e. rw e (ap (λ s. rights_of s u) led_here)) (λ ne. ap (λ s. rights_of s u) (led_elsewhere k ne))
 
   abbrev pub IsNoHandOff : Option LockCase → Type 0
@@ -350,7 +373,8 @@ module _ (w v : State) (t l : ℕ) (c : Option LockCase) (h : Happens w v t (eve
     | inr nk ↦ ap (λ s. rights_of s u) (led_elsewhere k nk)
   ]
     where
-      stays : (c : Option LockCase) → IsNoHandOff c → EventNeeds (rules_in w l) (event_by l c) (lock_state w l) t → rights_of (after_event (rules_in w l) (event_by l c) (lock_state w l) t) u ≡ rights w u l
+      stays : (c : Option LockCase) → IsNoHandOff c → EventNeeds (rules_in w l) (event_by l c) (lock_state w l) t
+          → rights_of (after_event (rules_in w l) (event_by l c) (lock_state w l) t) u ≡ rights w u l
       stays None plain needs = refl
       stays (Some case) plain needs = others_keep (rules_in w l) (lock_state w l) t u (h.before.sites.site l).state ne case plain needs
 
@@ -371,14 +395,17 @@ module _ (w v : State) (t l : ℕ) (c : Option LockCase) (h : Happens w v t (eve
     may_happen : MayCome l (profile p) (event_by l c) → MayHappen (locks_of w) t (event_by l c)
     may_happen may = by_case c may needs_here
       where
-        by_case : (c : Option LockCase) → MayCome l (profile p) (event_by l c) → EventNeeds (rules_in w l) (event_by l c) (lock_state w l) t → MayHappen (locks_of w) t (event_by l c)
+        by_case : (c : Option LockCase) → MayCome l (profile p) (event_by l c)
+            → EventNeeds (rules_in w l) (event_by l c) (lock_state w l) t → MayHappen (locks_of w) t (event_by l c)
         by_case None may needs = tt
         by_case (Some case) may needs = may_do (locks_of w) t l case ((profile p).purpose l) call_then (called_by (rights w t)) refl may.0 needs may.1
 
     -- the event of the step is that of its deeds
     pub goes_by : MayCome l (profile p) (event_by l c) → (n : Next Profile) (o : Outcome)
-        → ComesTo (rules_in w l) l (profile p) (event_by l c) (lock_state w l) (after_event (rules_in w l) (event_by l c) (lock_state w l) t) t n
-        → LeadsTo v t l n o → OthersFollow w v t (event_by l c) → Begins (locks_of w) (event_by l c) o → GoesOn (locks_of w) t o (locks_of v)
+        → ComesTo (rules_in w l) l (profile p) (event_by l c) (lock_state w l)
+        (after_event (rules_in w l) (event_by l c) (lock_state w l) t) t n
+        → LeadsTo v t l n o → OthersFollow w v t (event_by l c) → Begins (locks_of w) (event_by l c) o
+        → GoesOn (locks_of w) t o (locks_of v)
     goes_by may n o comes leads others begins = goes_with w v t (event_by l c) h call_then (called_by (rights w t)) o (may_happen may) (λ e. cc) (led n comes leads) others begins
       where
         -- it is in no hand of its own
@@ -388,7 +415,8 @@ module _ (w v : State) (t l : ℕ) (c : Option LockCase) (h : Happens w v t (eve
         unwoken None x = refl
         unwoken (Some case) x = refl
 
-        led : (n : Next Profile) → ComesTo (rules_in w l) l (profile p) (event_by l c) (lock_state w l) behind t n → LeadsTo v t l n o → CallLed w v t (event_by l c) call_then o
+        led : (n : Next Profile) → ComesTo (rules_in w l) l (profile p) (event_by l c) (lock_state w l) behind t n
+            → LeadsTo v t l n o → CallLed w v t (event_by l c) call_then o
         led (next.At row) comes leads = inl (
           call_here (place_at v t) l leads.3 leads.0 (rights v t) ∙ ap (λ x. call_by l x (rights v t)) leads.1
               ∙ ap (call_by l row) (λ i k. rights_led t k i) ∙ comes (rights w t) refl ∙ sym (unwoken c (going_on (event_by l c) call_then)),

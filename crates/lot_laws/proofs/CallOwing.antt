@@ -74,7 +74,8 @@ CallOwesNext r a l word c n =
 abbrev pub IsOwners : ℕ → Type 0
 IsOwners word = has_parked word ≡ false → has_aside word ≡ false → word ≡ 8
 
-pub owners_word : (r : Rules) (s : Site) (t : ℕ) → has_readers r.sort ≡ true → IsSite r s → s.lock.exclusive ≡ Some t → IsOwners (code r s)
+pub owners_word : (r : Rules) (s : Site) (t : ℕ) → has_readers r.sort ≡ true → IsSite r s → s.lock.exclusive ≡ Some t
+    → IsOwners (code r s)
 owners_word r s t shared site own parked aside = by_sort r.sort refl shared
   where
     alone : (s.lock.pending ≡ None) × (s.lock.upgradable ≡ None) × (readers s.lock ≡ 0)
@@ -107,7 +108,8 @@ module _ (r : Rules) (shared : has_readers r.sort ≡ true) (a : Admission) (l w
 
   -- it owes nothing then, and saw nothing, or only looked
   rests : (c : RwLockCallPlace) (n : Next RwLockCallPlace) → (then_row n).owes ≡ None
-      → ((m : Line) → RowFinds r.sort l word (call_profile a c) m → (RowLooks l (then_row n) → call_does l a n ≡ act.Enter (One (key_of l m))) → ⊥) → Owing c n
+      → ((m : Line) → RowFinds r.sort l word (call_profile a c) m → (RowLooks l (then_row n) → call_does l a n ≡ act.Enter (One (key_of l m))) → ⊥)
+      → Owing c n
   rests c n none blind = record {
     since = λ m h. absurd (let e : None ≡ Some m = sym none ∙ h in cc);
     sees = λ m s step looks. absurd (blind m s looks);
@@ -121,14 +123,17 @@ module _ (r : Rules) (shared : has_readers r.sort ≡ true) (a : Admission) (l w
 
   -- it owes on the line that it lets in, since it saw somebody wait there, or inside
   owes_on : (c : RwLockCallPlace) (n : Next RwLockCallPlace) (m : Line) → (then_row n).owes ≡ Some m → line_by c ≡ m
-      → ((then_row n).doing.inside ≡ Some m) ⊎ (RowFinds r.sort l word (call_profile a c) m × (outcome_of (call_does l a n) ≡ told.Step)) → Owing c n
+      → ((then_row n).doing.inside ≡ Some m)
+      ⊎ (RowFinds r.sort l word (call_profile a c) m × (outcome_of (call_does l a n) ≡ told.Step))
+      → Owing c n
   owes_on c n m owes line finds = record {
     since = λ k h. subst (λ k. ((then_row n).doing.inside ≡ Some k) ⊎ (RowFinds r.sort l word (call_profile a c) k × (outcome_of (call_does l a n) ≡ told.Step))) (some_line m k (sym owes ∙ h)) finds;
     sees = λ k s step looks. owes ∙ ap Some (sym line ∙ s.1);
   }
 
   -- its word tells of nobody
-  dark : (c : RwLockCallPlace) (m : Line) → line_by c ≡ m → tells_at c m ≡ false → (k : Line) → RowFinds r.sort l word (call_profile a c) k → ⊥
+  dark : (c : RwLockCallPlace) (m : Line) → line_by c ≡ m → tells_at c m ≡ false → (k : Line)
+      → RowFinds r.sort l word (call_profile a c) k → ⊥
   dark c m line none k s = let e : tells_at c m ≡ true = subst (λ k. tells_at c k ≡ true) (sym (sym line ∙ s.1)) s.2 in let f : false ≡ true = sym none ∙ e in cc
 
   -- ---------------------------------------------------------------- who hands over
@@ -171,7 +176,8 @@ module _ (r : Rules) (shared : has_readers r.sort ≡ true) (a : Admission) (l w
     tells_ex : (to : HandOverAt) → tells_at (ex to) Main ≡ (has_parked word || has_aside word)
     tells_ex to = by_bump b ∙ (λ i. parked_is r.sort word shared i || aside_is r.sort word shared i)
       where
-        by_bump : (c : Bool) → tells_by r.sort (Some (release_purpose c Exclusive l)) Main word ≡ (parked_in r.sort word || aside_in r.sort word)
+        by_bump : (c : Bool)
+            → tells_by r.sort (Some (release_purpose c Exclusive l)) Main word ≡ (parked_in r.sort word || aside_in r.sort word)
         by_bump true = refl
         by_bump false = refl
 
@@ -192,12 +198,14 @@ module _ (r : Rules) (shared : has_readers r.sort ≡ true) (a : Admission) (l w
         by_bump true access.Upgradable = refl
         by_bump true access.Exclusive = refl
 
-    freed_up : (expected : ℕ) → has_parked expected ≡ false → (won : Bool) → (word == expected) ≡ won → Owing (up (handing.Free expected)) (if won then released access.Upgradable b else next.At (up (looked word)))
+    freed_up : (expected : ℕ) → has_parked expected ≡ false → (won : Bool) → (word == expected) ≡ won
+        → Owing (up (handing.Free expected)) (if won then released access.Upgradable b else next.At (up (looked word)))
     freed_up expected clear true e = rests (up (handing.Free expected)) (released access.Upgradable b) (released_owes access.Upgradable)
         (λ m s looks. dark (up (handing.Free expected)) Main (line_up (handing.Free expected)) (tells_up (handing.Free expected) ∙ ap has_parked (eqb-true word expected e) ∙ clear) m s)
     freed_up expected clear false e = looked_owes (handing.Free expected) refl
 
-    freed_ex : IsOwners word → (expected : ℕ) → expected ≡ 8 → (won : Bool) → (word == expected) ≡ won → Owing (ex (handing.Free expected)) (if won then released access.Exclusive b else next.At (ex handing.Enter))
+    freed_ex : IsOwners word → (expected : ℕ) → expected ≡ 8 → (won : Bool) → (word == expected) ≡ won
+        → Owing (ex (handing.Free expected)) (if won then released access.Exclusive b else next.At (ex handing.Enter))
     freed_ex alone expected clear true e = rests (ex (handing.Free expected)) (released access.Exclusive b) (released_owes access.Exclusive)
         (λ m s looks. dark (ex (handing.Free expected)) Main (line_ex (handing.Free expected)) (tells_ex (handing.Free expected) ∙ ap (λ v. has_parked v || has_aside v) (eqb-true word expected e ∙ clear)) m s)
     freed_ex alone expected clear false e = owes_on (ex (handing.Free expected)) (next.At (ex handing.Enter)) Main refl (line_ex (handing.Free expected))
@@ -209,7 +217,8 @@ module _ (r : Rules) (shared : has_readers r.sort ≡ true) (a : Admission) (l w
         some_bit false false f g = absurd (let h : (word == expected) ≡ true = ap (λ v. v == expected) (alone f g ∙ sym clear) ∙ same expected in let k : true ≡ false = sym h ∙ e in cc)
 
     -- inside the section
-    within : (x : Access) (to to2 : HandOverAt) → HandsOverAt x to → (call_profile a (HandOver x b to2)).owes ≡ Some Main → (call_profile a (HandOver x b to2)).doing.inside ≡ Some Main → Owing (HandOver x b to) (next.At (HandOver x b to2))
+    within : (x : Access) (to to2 : HandOverAt) → HandsOverAt x to → (call_profile a (HandOver x b to2)).owes ≡ Some Main
+        → (call_profile a (HandOver x b to2)).doing.inside ≡ Some Main → Owing (HandOver x b to) (next.At (HandOver x b to2))
     within access.Shared to to2 fits owes inside = absurd fits
     within access.Upgradable to to2 fits owes inside = owes_on (up to) (next.At (up to2)) Main owes (line_up to) (inl inside)
     within access.Exclusive to to2 fits owes inside = owes_on (ex to) (next.At (ex to2)) Main owes (line_ex to) (inl inside)
@@ -228,7 +237,8 @@ module _ (r : Rules) (shared : has_readers r.sort ≡ true) (a : Admission) (l w
   glance_owes : (x : Access) → Owing (Glance x) (glance_next a x word)
   glance_owes x = either x (gives_way a x word) refl
     where
-      either : (x : Access) (c : Bool) → gives_way a x word ≡ c → Owing (Glance x) (if c then next.At (gives_up_at x) else next.End Ok)
+      either : (x : Access) (c : Bool) → gives_way a x word ≡ c
+          → Owing (Glance x) (if c then next.At (gives_up_at x) else next.End Ok)
       either x false e = ended (Glance x) Ok
       either access.Exclusive true e = owes_on (Glance access.Exclusive) (next.At (HandOver access.Exclusive true handing.Enter)) Main refl refl
           (inr ((inl (refl, refl), refl, ap (λ c. c || aside_in r.sort word) (parked_is r.sort word shared ∙ e)), refl))
@@ -243,7 +253,8 @@ module _ (r : Rules) (shared : has_readers r.sort ≡ true) (a : Admission) (l w
 
   -- ---------------------------------------------------------------- who was handed the lock
 
-  handed_owes : (x : Access) (how : Patience) (b : Bool) (to : HandedAt) (n : Next RwLockCallPlace) → (then_row n).owes ≡ None → Owing (Handed x how b to) n
+  handed_owes : (x : Access) (how : Patience) (b : Bool) (to : HandedAt) (n : Next RwLockCallPlace) → (then_row n).owes ≡ None
+      → Owing (Handed x how b to) n
   handed_owes x how b to n none = rests (Handed x how b to) n none (λ m s looks. shut b s.0)
     where
       shut : (c : Bool) → LetsIn r.sort l (call_profile a (Handed x how c to)) → ⊥
@@ -279,12 +290,15 @@ module _ (r : Rules) (shared : has_readers r.sort ≡ true) (a : Admission) (l w
   bumping_inside (purpose.Downgrade d) row = refl
   bumping_inside (purpose.Upgrade how) row = refl
 
-  within_again : (x : Access) (n : Next RwLockPlace) → IsWithin n → (m : Line) → (then_row (bump_next (purpose.Enter x Patient) n)).owes ≡ Some m → (then_row (bump_next (purpose.Enter x Patient) n)).doing.inside ≡ Some m
+  within_again : (x : Access) (n : Next RwLockPlace) → IsWithin n → (m : Line)
+      → (then_row (bump_next (purpose.Enter x Patient) n)).owes ≡ Some m
+      → (then_row (bump_next (purpose.Enter x Patient) n)).doing.inside ≡ Some m
   within_again x (next.At p) h m e = bumping_inside p.purpose (rwlock_profile a p) ∙ h m (sym (bumping_owes p.purpose (rwlock_profile a p)) ∙ e)
   within_again x (next.End answer) h m e = absurd cc
 
   again_owes : (x : Access) (again : Bool) (to : RwLockAt) → StandsAt (purpose.Enter x Patient) again to → (told : Reply)
-      → Owing (Bump (of (purpose.Enter x Patient) again to)) (bump_next (purpose.Enter x Patient) (next_at a (of (purpose.Enter x Patient) again to) to told))
+      → Owing (Bump (of (purpose.Enter x Patient) again to))
+      (bump_next (purpose.Enter x Patient) (next_at a (of (purpose.Enter x Patient) again to) to told))
   again_owes x again to fits told = record {
     since = λ m h. inl (within_again x (next_at a p to told) (quiet_next (next_at a p to told) (before_quiet a p to (before_again x again to fits) told)) m h);
     sees = λ m s step looks. absurd (shut_before r shared a l (purpose.Enter x Patient) again to fits (before_again x again to fits) (lets_plain a x again to s.0));
@@ -293,7 +307,9 @@ module _ (r : Rules) (shared : has_readers r.sort ≡ true) (a : Admission) (l w
       p : RwLockPlace
       p = of (purpose.Enter x Patient) again to
 
-      lets_plain : (a : Admission) (x : Access) (again : Bool) (to : RwLockAt) → LetsIn r.sort l (call_profile a (Bump (of (purpose.Enter x Patient) again to))) → LetsIn r.sort l (rwlock_profile a (of (purpose.Enter x Patient) again to))
+      lets_plain : (a : Admission) (x : Access) (again : Bool) (to : RwLockAt)
+          → LetsIn r.sort l (call_profile a (Bump (of (purpose.Enter x Patient) again to)))
+          → LetsIn r.sort l (rwlock_profile a (of (purpose.Enter x Patient) again to))
       lets_plain a x again to (inl h) = absurd (let e : true ≡ false = h.1 in cc)
       lets_plain a x again to (inr h) = inr (h.0, elim h.1 [ inl less ↦ absurd less | inr left ↦ inr left ])
 
@@ -305,13 +321,16 @@ module _ (r : Rules) (shared : has_readers r.sort ≡ true) (a : Admission) (l w
   line_shared : (to : RwLockAt) → line_by (leaving to) ≡ Second
   line_shared to = ap (λ b. if b then Second else Main) shared
 
-  gave_owes : Owing (leaving at.GiveWay) (bump_next (purpose.Release access.Shared) (if has_aside word && (count_in word == 1) then next.At (of (purpose.Release access.Shared) false (at.Wake Second waking.Enter)) else next.End Ok))
+  gave_owes : Owing (leaving at.GiveWay)
+      (bump_next (purpose.Release access.Shared) (if has_aside word && (count_in word == 1) then next.At (of (purpose.Release access.Shared) false (at.Wake Second waking.Enter)) else next.End Ok))
   gave_owes = either (has_aside word && (count_in word == 1)) refl
     where
       tells : tells_at (leaving at.GiveWay) Second ≡ (has_aside word && (count_in word == 1))
       tells = ap (λ b. b && (count_in word == 1)) (aside_is r.sort word shared)
 
-      either : (c : Bool) → (has_aside word && (count_in word == 1)) ≡ c → Owing (leaving at.GiveWay) (bump_next (purpose.Release access.Shared) (if c then next.At (of (purpose.Release access.Shared) false (at.Wake Second waking.Enter)) else next.End Ok))
+      either : (c : Bool) → (has_aside word && (count_in word == 1)) ≡ c
+          → Owing (leaving at.GiveWay)
+          (bump_next (purpose.Release access.Shared) (if c then next.At (of (purpose.Release access.Shared) false (at.Wake Second waking.Enter)) else next.End Ok))
       either true e = owes_on (leaving at.GiveWay) (next.At (leaving (at.Wake Second waking.Enter))) Second refl (line_shared at.GiveWay) (inr ((inl (refl, refl), line_shared at.GiveWay, tells ∙ e), refl))
       either false e = rests (leaving at.GiveWay) (next.At (enters_again access.Shared)) refl (λ m s looks. dark (leaving at.GiveWay) Second (line_shared at.GiveWay) (tells ∙ e) m s)
 
@@ -319,7 +338,8 @@ module _ (r : Rules) (shared : has_readers r.sort ≡ true) (a : Admission) (l w
   shut_waking to (inl h) = let e : true ≡ false = h.1 in cc
   shut_waking to (inr h) = elim h.1 [ inl less ↦ less | inr left ↦ let e : false ≡ true = left.0 in cc ]
 
-  wakes_owe : (to : WakeAt) (n : Next RwLockCallPlace) → ((m : Line) → (then_row n).owes ≡ Some m → (then_row n).doing.inside ≡ Some m) → Owing (leaving (at.Wake Second to)) n
+  wakes_owe : (to : WakeAt) (n : Next RwLockCallPlace)
+      → ((m : Line) → (then_row n).owes ≡ Some m → (then_row n).doing.inside ≡ Some m) → Owing (leaving (at.Wake Second to)) n
   wakes_owe to n inside = record { since = λ m h. inl (inside m h); sees = λ m s step looks. absurd (shut_waking to s.0) }
 
 -- ---------------------------------------------------------------- each place
@@ -336,28 +356,34 @@ module _ (w : State) (t l : ℕ) (a : Admission) (admits : Admits (rules_in w l)
   abbrev Goes : RwLockCallPlace → Type 0
   Goes c = CallOwesNext (rules_in w l) a l (word_at w l) c (next_of c)
 
-  exchange_reply : (b : Bool) (k : Taken) (seen : ℕ) → reply_to w t (exchange_act l a.limit access.Upgradable k seen) ≡ Value (word_at w l)
+  exchange_reply : (b : Bool) (k : Taken) (seen : ℕ)
+      → reply_to w t (exchange_act l a.limit access.Upgradable k seen) ≡ Value (word_at w l)
   exchange_reply b k seen = either (has_room a.limit k seen) _ _
     where
-      either : (c : Bool) (y z : ℕ) → reply_to w t (if c then act.HandOver l (operation.Exchange seen y) else act.Word l (operation.Exchange seen z)) ≡ Value (word_at w l)
+      either : (c : Bool) (y z : ℕ)
+          → reply_to w t (if c then act.HandOver l (operation.Exchange seen y) else act.Word l (operation.Exchange seen z))
+          ≡ Value (word_at w l)
       either true y z = refl
       either false y z = refl
 
   exchanged_owes : (b : Bool) (k : Taken) (seen : ℕ) → Goes (HandOver access.Upgradable b (handing.Exchange k seen))
   exchanged_owes b k seen = rw (exchange_reply b k seen) (either (word_at w l == seen))
     where
-      either : (won : Bool) → CallOwesNext (rules_in w l) a l (word_at w l) (HandOver access.Upgradable b (handing.Exchange k seen))
+      either : (won : Bool)
+          → CallOwesNext (rules_in w l) a l (word_at w l) (HandOver access.Upgradable b (handing.Exchange k seen))
           (if won then next.At (HandOver access.Upgradable b (handing.Leave (any_taken k) (has_room a.limit k (word_at w l)))) else next.At (HandOver access.Upgradable b (handing.Exchange k (word_at w l))))
       either true = within (rules_in w l) admits.0 a l (word_at w l) b access.Upgradable (handing.Exchange k seen) (handing.Leave (any_taken k) (has_room a.limit k (word_at w l))) tt refl refl
       either false = within (rules_in w l) admits.0 a l (word_at w l) b access.Upgradable (handing.Exchange k seen) (handing.Exchange k (word_at w l)) tt refl refl
 
   picked_owes : (x : Access) (b : Bool) → HandsOverAt x handing.Take → (n : ℕ) (y : Option Want) (none_left : Bool)
-      → CallOwesNext (rules_in w l) a l (word_at w l) (HandOver x b handing.Take) (next.At (HandOver x b (took x (record { sharers = n; successor = y; none_left = none_left }))))
+      → CallOwesNext (rules_in w l) a l (word_at w l) (HandOver x b handing.Take)
+      (next.At (HandOver x b (took x (record { sharers = n; successor = y; none_left = none_left }))))
   picked_owes access.Shared b fits n y none_left = absurd fits
   picked_owes access.Upgradable b fits n y none_left = within (rules_in w l) admits.0 a l (word_at w l) b access.Upgradable handing.Take (handing.Look (record { sharers = n; successor = y; none_left = none_left })) fits refl refl
   picked_owes access.Exclusive b fits n y none_left = within (rules_in w l) admits.0 a l (word_at w l) b access.Exclusive handing.Take (handing.Store (record { sharers = n; successor = y; none_left = none_left })) fits refl refl
 
-  hands_owe : (x : Access) (b : Bool) (to : HandOverAt) → HandsOverAt x to → ((seen : ℕ) → x ≡ access.Exclusive → to ≡ handing.Free seen → IsOwners (word_at w l)) → Goes (HandOver x b to)
+  hands_owe : (x : Access) (b : Bool) (to : HandOverAt) → HandsOverAt x to
+      → ((seen : ℕ) → x ≡ access.Exclusive → to ≡ handing.Free seen → IsOwners (word_at w l)) → Goes (HandOver x b to)
   hands_owe access.Shared b to fits alone = absurd fits
   hands_owe access.Upgradable b handing.Load fits alone = looked_owes (rules_in w l) admits.0 a l (word_at w l) b handing.Load refl
   hands_owe access.Exclusive b handing.Load fits alone = absurd fits
@@ -371,14 +397,16 @@ module _ (w : State) (t l : ℕ) (a : Admission) (admits : Admits (rules_in w l)
   hands_owe access.Exclusive b (handing.Exchange k seen) fits alone = absurd fits
   hands_owe x b (handing.Leave any told) fits alone = left_owes (rules_in w l) admits.0 a l (word_at w l) x b any told
 
-  bump_owes : (q : RwLockPurpose) (again : Bool) (to : RwLockAt) → StandsAt q again to → IsOfBump q again → Goes (Bump (of q again to))
+  bump_owes : (q : RwLockPurpose) (again : Bool) (to : RwLockAt) → StandsAt q again to → IsOfBump q again
+      → Goes (Bump (of q again to))
   bump_owes (purpose.Enter x Patient) again to fits bump =
       rw (never_given w t true (of (purpose.Enter x Patient) again to) (rwlock_act l a (of (purpose.Enter x Patient) again to)))
       (again_owes (rules_in w l) admits.0 a l (word_at w l) x again to fits (reply_to w t (rwlock_act l a (of (purpose.Enter x Patient) again to))))
   bump_owes (purpose.Release access.Shared) true to fits bump = absurd (let e : true ≡ false = bump in cc)
   bump_owes (purpose.Release access.Shared) false to fits bump = by_place to fits
     where
-      by_place : (to : RwLockAt) → StandsAt (purpose.Release access.Shared) false to → Goes (Bump (of (purpose.Release access.Shared) false to))
+      by_place : (to : RwLockAt) → StandsAt (purpose.Release access.Shared) false to
+          → Goes (Bump (of (purpose.Release access.Shared) false to))
       by_place at.GiveWay fits = gave_owes (rules_in w l) admits.0 a l (word_at w l)
       by_place (at.Wake Second waking.Enter) fits = wakes_owe (rules_in w l) admits.0 a l (word_at w l) waking.Enter (next_of (Bump (of (purpose.Release access.Shared) false (at.Wake Second waking.Enter)))) (λ m h. h)
       by_place (at.Wake Second waking.Take) fits = wakes_owe (rules_in w l) admits.0 a l (word_at w l) waking.Take (next_of (Bump (of (purpose.Release access.Shared) false (at.Wake Second waking.Take)))) (λ m h. h)
@@ -394,7 +422,8 @@ module _ (w : State) (t l : ℕ) (a : Admission) (admits : Admits (rules_in w l)
   handed_goes access.Upgradable how b handed.Accept = handed_owes (rules_in w l) admits.0 a l (word_at w l) access.Upgradable how b handed.Accept (next_of (Handed access.Upgradable how b handed.Accept)) refl
 
   -- what the reply to its act makes of what a thread owes, where an owner that tries its word has the lock alone
-  pub call_owes_next : (c : RwLockCallPlace) → CallStands a c → IsNoPlain c → ((b : Bool) (seen : ℕ) → c ≡ HandOver access.Exclusive b (handing.Free seen) → IsOwners (word_at w l)) → Goes c
+  pub call_owes_next : (c : RwLockCallPlace) → CallStands a c → IsNoPlain c
+      → ((b : Bool) (seen : ℕ) → c ≡ HandOver access.Exclusive b (handing.Free seen) → IsOwners (word_at w l)) → Goes c
   call_owes_next (Plain p) stands other alone = absurd other
   call_owes_next (Bump p) stands other alone = bump_owes p.purpose p.retries p.at stands.0.place stands.1
   call_owes_next (Glance x) stands other alone = glance_owes (rules_in w l) admits.0 a l (word_at w l) x

@@ -62,7 +62,8 @@ IsKeeping (at.Wake m to) = ⊥
 IsKeeping to = Unit {0}
 
 -- it never gives up
-never_gives_up : (x : Access) (again : Bool) (to : RwLockAt) → StandsAt (purpose.Enter x Patient) again to → late_at has_given_up (purpose.Enter x Patient) to ≡ false
+never_gives_up : (x : Access) (again : Bool) (to : RwLockAt) → StandsAt (purpose.Enter x Patient) again to
+    → late_at has_given_up (purpose.Enter x Patient) to ≡ false
 never_gives_up x again to stands = by_place to (parks x to stands)
   where
     parks : (x : Access) (to : RwLockAt) → StandsAt (purpose.Enter x Patient) again to → IsKeeping to
@@ -93,7 +94,8 @@ never_gives_up x again to stands = by_place to (parks x to stands)
     by_place to h = refl
 
 -- who shares again never goes aside
-enters_main : (l : ℕ) (a : Admission) (again : Bool) (to : RwLockAt) → StandsAt (purpose.Enter access.Shared Patient) again to → rwlock_act l a (of (purpose.Enter access.Shared Patient) again to) ≡ act.Enter (One (2 * l + 1)) → ⊥
+enters_main : (l : ℕ) (a : Admission) (again : Bool) (to : RwLockAt) → StandsAt (purpose.Enter access.Shared Patient) again to
+    → rwlock_act l a (of (purpose.Enter access.Shared Patient) again to) ≡ act.Enter (One (2 * l + 1)) → ⊥
 enters_main l a again at.Load stands e = cc
 enters_main l a again (at.Decide seen) stands e = by_decision (decided a (of (purpose.Enter access.Shared Patient) again (at.Decide seen)) seen) e
   where
@@ -130,13 +132,16 @@ module _ (r : Rules) (a : Admission) (l : ℕ) (admits : Admits r a) where
     plain_lets (inl h) = absurd h
     plain_lets (inr h) = inr (h.0, elim h.1 [ inl less ↦ absurd less | inr left ↦ inr left ])
 
-    owes_on : (m : Line) → row.owes ≡ Some m → (row.doing.inside ≡ Some m) ⊎ ((rwlock_act l a p ≡ act.Enter (One (key_of l m))) × LetsInAt r.sort l row m)
+    owes_on : (m : Line) → row.owes ≡ Some m
+        → (row.doing.inside ≡ Some m) ⊎ ((rwlock_act l a p ≡ act.Enter (One (key_of l m))) × LetsInAt r.sort l row m)
     owes_on m h = elim (plain.owing.owes m h) [
       | inl i ↦ inl i
       | inr g ↦ inr (g.0, elim g.1 [ inl lets ↦ inl (plain_lets lets) | inr wakes ↦ absurd (no_bump l (purpose.Enter x Patient) m wakes) ])
     ]
 
-    no_wake : (y : Access) (m : Line) → StandsAt (purpose.Enter y Patient) again to → rwlock_act l a (of (purpose.Enter y Patient) again to) ≡ act.Enter (One (key_of l m)) → WakesAside (Some (Bumps l (wanted y))) l m → ⊥
+    no_wake : (y : Access) (m : Line) → StandsAt (purpose.Enter y Patient) again to
+        → rwlock_act l a (of (purpose.Enter y Patient) again to) ≡ act.Enter (One (key_of l m))
+        → WakesAside (Some (Bumps l (wanted y))) l m → ⊥
     no_wake access.Shared Second fits e h = enters_main l a again to fits e
     no_wake access.Shared Main fits e h = h
     no_wake access.Upgradable Second fits e h = h
@@ -156,7 +161,8 @@ module _ (r : Rules) (a : Admission) (l : ℕ) (admits : Admits r a) where
     debt Main (inr h) = inr h
     debt Second h = h
 
-    looks_after : (m : Line) → RowLooksAfter r.sort l (rwlock_profile a p) (rwlock_act l a p) m → RowLooksAfter r.sort l row (rwlock_act l a p) m
+    looks_after : (m : Line) → RowLooksAfter r.sort l (rwlock_profile a p) (rwlock_act l a p) m
+        → RowLooksAfter r.sort l row (rwlock_act l a p) m
     looks_after m h = record { debt = debt m h.debt; awake = h.awake; stands = h.stands; taken = h.taken }
 
     again_promises : Promised (Bump p)
@@ -190,12 +196,14 @@ module _ (r : Rules) (a : Admission) (l : ℕ) (admits : Admits r a) where
     its_row = call_profile a (Bump leaves)
 
     -- it owes on the second line alone
-    second_alone : (to : RwLockAt) → StandsAt (purpose.Release access.Shared) false to → (m : Line) → (rwlock_profile a (of (purpose.Release access.Shared) false to)).owes ≡ Some m → m ≡ Second
+    second_alone : (to : RwLockAt) → StandsAt (purpose.Release access.Shared) false to → (m : Line)
+        → (rwlock_profile a (of (purpose.Release access.Shared) false to)).owes ≡ Some m → m ≡ Second
     second_alone at.GiveWay fits m h = absurd cc
     second_alone (at.Wake Second to) fits m h = cc
     second_alone to fits m h = absurd fits
 
-    owes_second : (m : Line) → its_row.owes ≡ Some m → (its_row.doing.inside ≡ Some m) ⊎ ((rwlock_act l a leaves ≡ act.Enter (One (key_of l m))) × LetsInAt r.sort l its_row m)
+    owes_second : (m : Line) → its_row.owes ≡ Some m
+        → (its_row.doing.inside ≡ Some m) ⊎ ((rwlock_act l a leaves ≡ act.Enter (One (key_of l m))) × LetsInAt r.sort l its_row m)
     owes_second m h = elim (released.owing.owes m h) [
       | inl i ↦ inl i
       | inr g ↦ inr (g.0, inr (subst (WakesAside (Some (Bumps l (wanted access.Shared))) l) (sym (second_alone to stands.place m h)) refl))
@@ -221,7 +229,8 @@ module _ (r : Rules) (a : Admission) (l : ℕ) (admits : Admits r a) where
       may_be_late = λ m s sleeps timed. absurd timed;
     }
 
-  bump_promises : (q : RwLockPurpose) (again : Bool) (to : RwLockAt) → MayStand a (of q again to) → IsOfBump q again → Promised (Bump (of q again to))
+  bump_promises : (q : RwLockPurpose) (again : Bool) (to : RwLockAt) → MayStand a (of q again to) → IsOfBump q again
+      → Promised (Bump (of q again to))
   bump_promises (purpose.Enter x Patient) again to stands bump = again_promises x again to stands
   bump_promises (purpose.Release access.Shared) false to stands bump = release_promises to stands
   bump_promises (purpose.Release access.Shared) true to stands bump = absurd (let e : true ≡ false = bump in cc)
@@ -244,7 +253,9 @@ module _ (r : Rules) (a : Admission) (l : ℕ) (admits : Admits r a) where
     may_be_late = λ m s sleeps timed. absurd cc;
   }
     where
-      owes_none : (m : Line) → IsDebtorIn r.sort (call_profile a (Glance x)).doing m → ((call_profile a (Glance x)).doing.claims ≡ Some (Has Exclusive) → ⊥) → RowLooksAfter r.sort l (call_profile a (Glance x)) (call_act l a (Glance x)) m
+      owes_none : (m : Line) → IsDebtorIn r.sort (call_profile a (Glance x)).doing m
+          → ((call_profile a (Glance x)).doing.claims ≡ Some (Has Exclusive) → ⊥)
+          → RowLooksAfter r.sort l (call_profile a (Glance x)) (call_act l a (Glance x)) m
       owes_none Main d free = absurd (elim d [ inl h ↦ cc | inr h ↦ elim h [ inl k ↦ cc | inr k ↦ cc ] ])
       owes_none Second d free = absurd cc
 
@@ -253,7 +264,8 @@ module _ (r : Rules) (a : Admission) (l : ℕ) (admits : Admits r a) where
   exchange_acts : (x : Access) (k : Taken) (seen : ℕ) → is_acting (exchange_act l a.limit x k seen) ≡ true
   exchange_acts x k seen = either (has_room a.limit k seen) _ _
     where
-      either : (b : Bool) (y z : ℕ) → is_acting (if b then act.HandOver l (operation.Exchange seen y) else act.Word l (operation.Exchange seen z)) ≡ true
+      either : (b : Bool) (y z : ℕ)
+          → is_acting (if b then act.HandOver l (operation.Exchange seen y) else act.Word l (operation.Exchange seen z)) ≡ true
       either true y z = refl
       either false y z = refl
 
@@ -267,10 +279,13 @@ module _ (r : Rules) (a : Admission) (l : ℕ) (admits : Admits r a) where
   hands_acts x (handing.Exchange k seen) = exchange_acts x k seen
   hands_acts x (handing.Leave any told) = refl
 
-  exchange_other : (x : Access) (k : Taken) (seen : ℕ) → (exchange_act l a.limit x k seen ≢ Sleep) × ((m : Line) → exchange_act l a.limit x k seen ≢ act.Enter (One (key_of l m)))
+  exchange_other : (x : Access) (k : Taken) (seen : ℕ)
+      → (exchange_act l a.limit x k seen ≢ Sleep) × ((m : Line) → exchange_act l a.limit x k seen ≢ act.Enter (One (key_of l m)))
   exchange_other x k seen = either (has_room a.limit k seen) _ _
     where
-      either : (b : Bool) (y z : ℕ) → ((if b then act.HandOver l (operation.Exchange seen y) else act.Word l (operation.Exchange seen z)) ≢ Sleep) × ((m : Line) → (if b then act.HandOver l (operation.Exchange seen y) else act.Word l (operation.Exchange seen z)) ≢ act.Enter (One (key_of l m)))
+      either : (b : Bool) (y z : ℕ)
+          → ((if b then act.HandOver l (operation.Exchange seen y) else act.Word l (operation.Exchange seen z)) ≢ Sleep)
+          × ((m : Line) → (if b then act.HandOver l (operation.Exchange seen y) else act.Word l (operation.Exchange seen z)) ≢ act.Enter (One (key_of l m)))
       either true y z = (λ e. cc, λ m e. cc)
       either false y z = (λ e. cc, λ m e. cc)
 
@@ -298,7 +313,9 @@ module _ (r : Rules) (a : Admission) (l : ℕ) (admits : Admits r a) where
         by_bump true = inl (refl, refl)
         by_bump false = inl refl
 
-    hands_owe : (to : HandOverAt) (m : Line) → (over_row to).owes ≡ Some m → ((over_row to).doing.inside ≡ Some m) ⊎ ((hand_over_act l a x to ≡ act.Enter (One (key_of l m))) × LetsInAt r.sort l (over_row to) m)
+    hands_owe : (to : HandOverAt) (m : Line) → (over_row to).owes ≡ Some m
+        → ((over_row to).doing.inside ≡ Some m)
+        ⊎ ((hand_over_act l a x to ≡ act.Enter (One (key_of l m))) × LetsInAt r.sort l (over_row to) m)
     hands_owe handing.Load m h = absurd cc
     hands_owe (handing.Free seen) m h = absurd cc
     hands_owe handing.Enter Main h = inr (refl, inl lets_over)
@@ -319,7 +336,8 @@ module _ (r : Rules) (a : Admission) (l : ℕ) (admits : Admits r a) where
     hands_inside (handing.Exchange k seen) m h = h
     hands_inside (handing.Leave any told) m h = h
 
-    hands_enter : (to : HandOverAt) (m : Line) → hand_over_act l a x to ≡ act.Enter (One (key_of l m)) → (over_row to).owes ≡ Some m
+    hands_enter : (to : HandOverAt) (m : Line) → hand_over_act l a x to ≡ act.Enter (One (key_of l m))
+        → (over_row to).owes ≡ Some m
     hands_enter handing.Load m e = absurd cc
     hands_enter (handing.Free seen) m e = absurd cc
     hands_enter handing.Enter Main e = refl
@@ -331,11 +349,14 @@ module _ (r : Rules) (a : Admission) (l : ℕ) (admits : Admits r a) where
     hands_enter (handing.Leave any told) m e = absurd cc
 
   -- an upgradable owner wakes whom it takes where there is no room for them
-  debt_over : (b : Bool) (to : HandOverAt) → (call_profile a (HandOver access.Upgradable b to)).owes ≡ Some Main → HasDebt r.sort l (call_profile a (HandOver access.Upgradable b to)) Main
+  debt_over : (b : Bool) (to : HandOverAt) → (call_profile a (HandOver access.Upgradable b to)).owes ≡ Some Main
+      → HasDebt r.sort l (call_profile a (HandOver access.Upgradable b to)) Main
   debt_over true to owes = inl (owes, (refl, λ e. cc))
   debt_over false to owes = inl (owes, (refl, inr refl))
 
-  hands_debtor : (x : Access) (b : Bool) (to : HandOverAt) → HandsOverAt x to → (m : Line) → IsDebtorIn r.sort (call_profile a (HandOver x b to)).doing m → ((call_profile a (HandOver x b to)).doing.claims ≡ Some (Has Exclusive) → ⊥)
+  hands_debtor : (x : Access) (b : Bool) (to : HandOverAt) → HandsOverAt x to → (m : Line)
+      → IsDebtorIn r.sort (call_profile a (HandOver x b to)).doing m
+      → ((call_profile a (HandOver x b to)).doing.claims ≡ Some (Has Exclusive) → ⊥)
       → RowLooksAfter r.sort l (call_profile a (HandOver x b to)) (hand_over_act l a x to) m
   hands_debtor access.Shared b to fits m d free = absurd fits
   hands_debtor access.Upgradable b (handing.Look k) fits Main d free = record { debt = debt_over b (handing.Look k) refl; awake = hands_awake access.Upgradable (handing.Look k); stands = refl; taken = refl }
@@ -359,7 +380,8 @@ module _ (r : Rules) (a : Admission) (l : ℕ) (admits : Admits r a) where
       either false e = cc
 
   hands_tell : (x : Access) (b : Bool) (to : HandOverAt) → (call_profile a (HandOver x b to)).carries ≡ Some true
-      → (hand_over_act l a x to ≡ act.Leave (One (2 * l)) (wakes.TheVariants.All note.HandOff)) × ((call_profile a (HandOver x b to)).doing.inside ≡ Some Main)
+      → (hand_over_act l a x to ≡ act.Leave (One (2 * l)) (wakes.TheVariants.All note.HandOff))
+      × ((call_profile a (HandOver x b to)).doing.inside ≡ Some Main)
   hands_tell x b (handing.Leave true true) h = (refl, refl)
   hands_tell x b (handing.Leave true false) h = absurd cc
   hands_tell x b (handing.Leave false told) h = absurd cc
@@ -387,7 +409,8 @@ module _ (r : Rules) (a : Admission) (l : ℕ) (admits : Admits r a) where
       by_bump true = refl
       by_bump false = refl
 
-      known : (c : Bool) (sorts : ℕ → Sort) → has_readers (sorts l) ≡ true → KnowsRights sorts (Some (release_purpose c (wanted x) l))
+      known : (c : Bool) (sorts : ℕ → Sort) → has_readers (sorts l) ≡ true
+          → KnowsRights sorts (Some (release_purpose c (wanted x) l))
       known true sorts e = knows (sorts l) e x
       known false sorts e = knows (sorts l) e x
 
@@ -414,7 +437,8 @@ module _ (r : Rules) (a : Admission) (l : ℕ) (admits : Admits r a) where
         by_bump false = refl
 
     -- a writer beside readers is pending
-    has_claimed : (y : Access) (by : ℕ) (alone : Bool) → HasClaimed r.sort (Some (claim_at (wanted y) (handed.Asleep by alone))) (wanted y)
+    has_claimed : (y : Access) (by : ℕ) (alone : Bool)
+        → HasClaimed r.sort (Some (claim_at (wanted y) (handed.Asleep by alone))) (wanted y)
     has_claimed access.Shared by true = inl refl
     has_claimed access.Shared by false = inl refl
     has_claimed access.Upgradable by true = inl refl
@@ -426,16 +450,20 @@ module _ (r : Rules) (a : Admission) (l : ℕ) (admits : Admits r a) where
     quiet to Main d = elim d [ inl h ↦ cc | inr h ↦ elim h [ inl k ↦ cc | inr k ↦ cc ] ]
     quiet to Second d = cc
 
-    accepts : (y : Access) → (is_acting (handed_act l y handed.Accept) ≡ true) × (handed_act l y handed.Accept ≢ Sleep) × ((m : Line) → handed_act l y handed.Accept ≢ act.Enter (One (key_of l m)))
+    accepts : (y : Access)
+        → (is_acting (handed_act l y handed.Accept) ≡ true) × (handed_act l y handed.Accept ≢ Sleep)
+        × ((m : Line) → handed_act l y handed.Accept ≢ act.Enter (One (key_of l m)))
     accepts access.Exclusive = (refl, λ e. cc, λ m e. cc)
     accepts access.Shared = (refl, λ e. cc, λ m e. cc)
     accepts access.Upgradable = (refl, λ e. cc, λ m e. cc)
 
-    hears : (to : HandedAt) → (is_acting (handed_act l x to) ≡ true) × ((m : Line) → handed_act l x to ≢ act.Enter (One (key_of l m)))
+    hears : (to : HandedAt)
+        → (is_acting (handed_act l x to) ≡ true) × ((m : Line) → handed_act l x to ≢ act.Enter (One (key_of l m)))
     hears (handed.Asleep by alone) = (refl, λ m e. cc)
     hears handed.Accept = let k = accepts x in (k.0, k.2)
 
-    sleeps : (to : HandedAt) → handed_act l x to ≡ Sleep → IsWaiting (call_profile a (Handed x how b to)) ⊎ WasHanded r.sort l (call_profile a (Handed x how b to))
+    sleeps : (to : HandedAt) → handed_act l x to ≡ Sleep
+        → IsWaiting (call_profile a (Handed x how b to)) ⊎ WasHanded r.sort l (call_profile a (Handed x how b to))
     sleeps (handed.Asleep by alone) e = inr (record {
       by = by;
       in_hand = refl;
@@ -469,13 +497,15 @@ module _ (r : Rules) (a : Admission) (l : ℕ) (admits : Admits r a) where
         by_bump true = refl
         by_bump false = refl
 
-        known : (c : Bool) (sorts : ℕ → Sort) → has_readers (sorts l) ≡ true → KnowsRights sorts (Some (entry_purpose c (wanted x) how l))
+        known : (c : Bool) (sorts : ℕ → Sort) → has_readers (sorts l) ≡ true
+            → KnowsRights sorts (Some (entry_purpose c (wanted x) how l))
         known true sorts e = knows (sorts l) e x
         known false sorts e = knows (sorts l) e x
 
 -- ---------------------------------------------------------------- every place
 
-pub call_promises : (r : Rules) (a : Admission) (l : ℕ) (c : RwLockCallPlace) → Admits r a → CallStands a c → RowPromises r.sort l (call_profile a c) (call_act l a c)
+pub call_promises : (r : Rules) (a : Admission) (l : ℕ) (c : RwLockCallPlace) → Admits r a → CallStands a c
+    → RowPromises r.sort l (call_profile a c) (call_act l a c)
 call_promises r a l (Plain p) admits stands = rwlock_promises r a l p admits stands
 call_promises r a l (Bump p) admits stands = bump_promises r a l admits p.purpose p.retries p.at stands.0 stands.1
 call_promises r a l (Glance x) admits stands = glance_promises r a l admits x

@@ -44,7 +44,8 @@ use Rattle.lot_laws.proofs.Leads.{Leads, leads_more, leads_rest, leads_step}
 abbrev pub IsOnly : ℕ → Option ℕ → Type 0
 IsOnly t o = (u : ℕ) → o ≡ Some u → u ≡ t
 
-set_only : (t : ℕ) (ss : List (Option ℕ)) (key k : ℕ) (who : Option ℕ) → IsOnly t who → IsOnly t (get_or ss k None) → IsOnly t (get_or (set ss key who) k None)
+set_only : (t : ℕ) (ss : List (Option ℕ)) (key k : ℕ) (who : Option ℕ) → IsOnly t who → IsOnly t (get_or ss k None)
+    → IsOnly t (get_or (set ss key who) k None)
 set_only t [] key k who new old = old
 set_only t (x ∷ ss) zero zero who new old = new
 set_only t (x ∷ ss) zero (suc k) who new old = old
@@ -157,7 +158,8 @@ module _ (t l m : ℕ) (keeps : Keeps t) (w : State) (p : CondvarPlace) (g : Goe
     pub so_then : {A : Type 0} (f : State → A) → ((q : Place) → f (put acted t q) ≡ f acted) → f (after w (go_of t)) ≡ f acted
     so_then f blind = ap f goes ∙ blind (next_place (place_at acted t) told)
 
-    pub word_then : (x : Op) → mutex_beside p ≡ Some m → condvar_act l p ≡ act.Word m x → word_at (after w (go_of t)) m ≡ apply x (word_at w m)
+    pub word_then : (x : Op) → mutex_beside p ≡ Some m → condvar_act l p ≡ act.Word m x
+        → word_at (after w (go_of t)) m ≡ apply x (word_at w m)
     word_then x beside is = so_then (λ s. word_at s m) (λ q. refl) ∙ ap (λ a. word_at (state_after_act w t (Condvar l p) a) m) is
         ∙ ap (λ y. y.word) (get_or-set_same w.locks m _ (unlocked kind.Mutex) (mutex_there beside))
 
@@ -195,7 +197,8 @@ module _ (t l m : ℕ) (keeps : Keeps t) (w : State) (p : CondvarPlace) (g : Goe
       → ((outcome_of (condvar_act l q) ≡ outcome.Sleep) × P (after w (go_of t)) outcome.Sleep)
       ⊎ ((outcome_of (condvar_act l q) ≡ outcome.Step) × Leads k (after w (go_of t)) t P)
 
-  pub leads_behind : (can : can_do w (condvar_act l p) ≡ true) (P : State → Outcome → Type 0) (k : ℕ) (q : CondvarPlace) → place_at (state_after_act w t (Condvar l p) (condvar_act l p)) t ≡ Condvar l q
+  pub leads_behind : (can : can_do w (condvar_act l p) ≡ true) (P : State → Outcome → Type 0) (k : ℕ) (q : CondvarPlace)
+      → place_at (state_after_act w t (Condvar l p) (condvar_act l p)) t ≡ Condvar l q
       → Behind P k (condvar_next q (reply_to w t (condvar_act l p))) → Leads (k + 1) w t P
   leads_behind can P k q stays = by_next (condvar_next q (reply_to w t (condvar_act l p))) refl
     where

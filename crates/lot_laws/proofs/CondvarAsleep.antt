@@ -50,7 +50,8 @@ in_a_hand : (o : Option Taken) (x : Taken) → o ≡ Some x → o ≢ None
 in_a_hand o x e none = let g : ◌≡◌ {A = Option Taken} None (Some x) = sym none ∙ e in cc
 
 module _ (k m : ℕ) (apart : k ≢ m) where
-  wait_asleep : (timed : Bool) (at : WaitAt) → IsReached (Wait m timed at) → condvar_act k (Wait m timed at) ≡ Sleep → IsAsleep k (Wait m timed at)
+  wait_asleep : (timed : Bool) (at : WaitAt) → IsReached (Wait m timed at) → condvar_act k (Wait m timed at) ≡ Sleep
+      → IsAsleep k (Wait m timed at)
   wait_asleep timed (wait.Asleep stands.Listed) reached h = inl (k, inl (in_a_line (station_at (Condvar k (Wait m timed (wait.Asleep stands.Listed))) k).stands Main (stands_at k (Wait m timed (wait.Asleep stands.Listed)) k ∙ rw (same k) refl)))
   wait_asleep timed (wait.Asleep stands.Moved) reached h = inl (m, inl (in_a_line (station_at (Condvar k (Wait m timed (wait.Asleep stands.Moved))) m).stands Main (stands_at k (Wait m timed (wait.Asleep stands.Moved)) m ∙ rw (differ k m apart, same m) refl)))
   wait_asleep timed (wait.Asleep (stands.InHand by)) reached h = inl (m, inr (in_a_hand (taken_at (Condvar k (Wait m timed (wait.Asleep (stands.InHand by)))) m) (record { by = by; want = Exclusive }) (rw (differ k m apart, same m) refl)))
@@ -76,7 +77,8 @@ notifier_awake : (all : Bool) (k m : ℕ) (at : NotifyAt) → notify_act all k m
 notifier_awake all k m (notify.Move locked) h = moving_awake all locked k m h
 notifier_awake all k m at h = cc
 
-pub two_asleep : (k : ℕ) (at : CondvarPlace) → ((m : ℕ) → mutex_beside at ≡ Some m → k ≢ m) → IsReached at → condvar_act k at ≡ Sleep → IsAsleep k at
+pub two_asleep : (k : ℕ) (at : CondvarPlace) → ((m : ℕ) → mutex_beside at ≡ Some m → k ≢ m) → IsReached at
+    → condvar_act k at ≡ Sleep → IsAsleep k at
 two_asleep k (Wait m timed at) apart reached h = wait_asleep k m (apart m refl) timed at reached h
 two_asleep k (Notify all m at) apart reached h = absurd (notifier_awake all k m at h)
 two_asleep k (Look all) apart reached h = absurd cc
@@ -105,7 +107,8 @@ hands_none (Look all) reached h = cc
 pub two_hand_none : (k : ℕ) (at : CondvarPlace) → IsReached at → (l : ℕ) → (station_at (Condvar k at) l).carries ≡ Some true → ⊥
 two_hand_none k at reached l h = by_lock (k == l) (is_lock l (mutex_beside at)) h
   where
-    by_lock : (c d : Bool) → (if c then station (Condvar k at) else if d then station_by (mutex_side at) else nowhere).carries ≡ Some true → ⊥
+    by_lock : (c d : Bool)
+        → (if c then station (Condvar k at) else if d then station_by (mutex_side at) else nowhere).carries ≡ Some true → ⊥
     by_lock true d g = cc
     by_lock false true g = hands_none at reached g
     by_lock false false g = cc

@@ -34,11 +34,13 @@ use Rattle.lot_laws.proofs.Glue.{is_owner, thread_is}
 use Rattle.lot_laws.proofs.KindsKept.{calls_condvar}
 use Rattle.lot_laws.proofs.Placed.{placed}
 
-pub condvar_purpose_is : (k : Kind) (l : ℕ) (c : CondvarCall) → (rules_of k).sort ≡ locks.Condvar → purpose_of k (call.Condvar l c) ≡ Some (condvar_purpose l c)
+pub condvar_purpose_is : (k : Kind) (l : ℕ) (c : CondvarCall) → (rules_of k).sort ≡ locks.Condvar
+    → purpose_of k (call.Condvar l c) ≡ Some (condvar_purpose l c)
 condvar_purpose_is kind.Condvar l c h = refl
 condvar_purpose_is k l c h = absurd cc
 
-begins_with : (l : ℕ) (c : CondvarCall) (r : ℕ → Rights) → call_state (Condvar l (condvar_first c)) r ≡ new_call (Some (condvar_purpose l c)) r
+begins_with : (l : ℕ) (c : CondvarCall) (r : ℕ → Rights)
+    → call_state (Condvar l (condvar_first c)) r ≡ new_call (Some (condvar_purpose l c)) r
 begins_with l (condvar_call.Wait m timed) r = refl
 begins_with l (condvar_call.Notify all) r = refl
 
@@ -54,7 +56,8 @@ untaken_first l (condvar_call.Notify all) k = refl
 
 module _ (w : State) (t l : ℕ) where
   -- its thread has the right that it needs
-  right_held : (c : CondvarCall) → (has_mutex w (mutex_named c) && holds_right w t (call.Condvar l c)) ≡ true → HasRight (locks_of w) t (Some (condvar_purpose l c))
+  right_held : (c : CondvarCall) → (has_mutex w (mutex_named c) && holds_right w t (call.Condvar l c)) ≡ true
+      → HasRight (locks_of w) t (Some (condvar_purpose l c))
   right_held (condvar_call.Notify all) h = tt
   right_held (condvar_call.Wait m timed) h =
       let parts = both (has_mutex w (Some m)) (holds_right w t (call.Condvar l (condvar_call.Wait m timed))) h in
@@ -67,19 +70,24 @@ module _ (w : State) (t l : ℕ) where
     | inr past ↦ absurd (let none : ◌≡◌ {A = Option ℕ} (owners_at w m).exclusive None = ap (λ x. x.owners.exclusive) (get_or_past w.locks m (unlocked kind.Mutex) past) in let e : ◌≡◌ {A = Option ℕ} None (Some t) = sym none ∙ owns in cc)
   ]
 
-  right_needed : (c : CondvarCall) → HasRight (locks_of w) t (Some (condvar_purpose l c)) → (has_mutex w (mutex_named c) && holds_right w t (call.Condvar l c)) ≡ true
+  right_needed : (c : CondvarCall) → HasRight (locks_of w) t (Some (condvar_purpose l c))
+      → (has_mutex w (mutex_named c) && holds_right w t (call.Condvar l c)) ≡ true
   right_needed (condvar_call.Notify all) h = refl
   right_needed (condvar_call.Wait m timed) h = rw (lt-ltb m (length w.locks) (owned_there m h.1), h.0, is_owner t (owners_at w m).exclusive h.1) refl
 
   abbrev begun : CondvarCall → Call
   begun c = call.Condvar l c
 
-  abbrev parts_of : (c : CondvarCall) → can_begin w t (begun c) ≡ true → (nat_lt l (length w.locks) ≡ true) × ((has_call (kind_at w l) (begun c) && (has_mutex w (mutex_named c) && holds_right w t (begun c))) ≡ true)
+  abbrev parts_of : (c : CondvarCall) → can_begin w t (begun c) ≡ true
+      → (nat_lt l (length w.locks) ≡ true)
+      × ((has_call (kind_at w l) (begun c) && (has_mutex w (mutex_named c) && holds_right w t (begun c))) ≡ true)
   parts_of c can = both (nat_lt l (length w.locks)) _ (both (is_idle (place_at w t)) (is_open_to w t (begun c)) can).1
 
   -- where it can it may, and no lock changes
   pub condvar_begun : (c : CondvarCall) → place_at w t ≡ Idle → t < length w.places → can_begin w t (begun c) ≡ true
-      → MayBegin (locks_of w) t (begun c) × Stays (locks_of w) t (new_call (purpose_at (locks_of w) (begun c)) (rights w t)) outcome.Step (locks_of (state_after_begin w t (begun c)))
+      → MayBegin (locks_of w) t (begun c)
+      × Stays (locks_of w) t (new_call (purpose_at (locks_of w) (begun c)) (rights w t)) outcome.Step
+      (locks_of (state_after_begin w t (begun c)))
   condvar_begun c idle there can = (
     record { thread = there; idle = rw idle refl; lock = ltb-true l (length w.locks) (parts_of c can).0; right = subst (HasRight (locks_of w) t) (sym purpose) (right_held c rest.1) },
     placed w t there w.sections Idle (Condvar l (condvar_first c)) idle (untaken_first l c) _ (λ r e. begins_with l c r ∙ (λ i. new_call (sym purpose i) (e i))),
@@ -92,7 +100,8 @@ module _ (w : State) (t l : ℕ) where
       purpose = condvar_purpose_is (kind_at w l) l c (calls_condvar (kind_at w l) l c rest.0)
 
   -- and where it may it can
-  pub condvar_may : (c : CondvarCall) → is_idle (place_at w t) ≡ true → MayBegin (locks_of w) t (begun c) → can_begin w t (begun c) ≡ true
+  pub condvar_may : (c : CondvarCall) → is_idle (place_at w t) ≡ true → MayBegin (locks_of w) t (begun c)
+      → can_begin w t (begun c) ≡ true
   condvar_may c idle may = by_kind (kind_at w l) refl may.right
     where
       there : nat_lt l (length w.locks) ≡ true
@@ -108,8 +117,10 @@ module _ (w : State) (t l : ℕ) where
 
   -- ---------------------------------------------------------------- its time is up
 
-  pub condvar_is_late : (at : CondvarPlace) → t < length w.places → place_at w t ≡ Condvar l at → is_free_under w (late_key (Condvar l at)) ≡ true
-      → Stays (locks_of w) t (record (call_state (Condvar l at) (rights w t)) { late = true }) outcome.Step (locks_of (state_after_late_on w t (late_key (Condvar l at))))
+  pub condvar_is_late : (at : CondvarPlace) → t < length w.places → place_at w t ≡ Condvar l at
+      → is_free_under w (late_key (Condvar l at)) ≡ true
+      → Stays (locks_of w) t (record (call_state (Condvar l at) (rights w t)) { late = true }) outcome.Step
+      (locks_of (state_after_late_on w t (late_key (Condvar l at))))
   condvar_is_late (Wait m true (wait.Asleep stands.Listed)) there is can = placed w t there (state_with_sections w (One (key_of l Main)) (Some t)).sections (Condvar l (Wait m true (wait.Asleep stands.Listed))) (next_place (place_at w t) Late) is (rw is (λ k. refl)) _ (rw is (λ r e. rw e refl))
   condvar_is_late (Wait m true (wait.Asleep stands.Moved)) there is can = placed w t there (state_with_sections w (One (key_of m Main)) (Some t)).sections (Condvar l (Wait m true (wait.Asleep stands.Moved))) (next_place (place_at w t) Late) is (rw is (λ k. refl)) _ (rw is (λ r e. rw e refl))
   condvar_is_late (Wait m true (wait.Asleep s)) there is can = absurd cc

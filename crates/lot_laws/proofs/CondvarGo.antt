@@ -89,7 +89,8 @@ module _ (l m : ℕ) (apart_m : m ≢ l) (at_l at_m : List deeds.Act) where
   two_else : (k : ℕ) → k ≢ l → k ≢ m → two_at l m at_l at_m k ≡ []
   two_else k nl nm = ap (λ b. if b then at_l else if k == m then at_m else []) (differ k l nl) ∙ ap (λ b. if b then at_m else []) (differ k m nm)
 
-module _ (w : State) (t l : ℕ) (shape : IsShaped w) (steady : IsSteady w) (condvars : AreCondvars w) (there : t < length w.places) where
+module _ (w : State) (t l : ℕ) (shape : IsShaped w) (steady : IsSteady w) (condvars : AreCondvars w)
+    (there : t < length w.places) where
   -- what a call of it says of its locks
   module _ (at : CondvarPlace) (is : place_at w t ≡ Condvar l at) (m : ℕ) (of : mutex_beside at ≡ Some m) where
     fits : FitsCondvar w l at
@@ -120,7 +121,8 @@ module _ (w : State) (t l : ℕ) (shape : IsShaped w) (steady : IsSteady w) (con
 
   -- ---------------------------------------------------------------- a notification
 
-  module _ (all : Bool) (m : ℕ) (p : NotifyAt) (is : place_at w t ≡ Condvar l (Notify all m p)) (can : can_do w (notify_act all l m p) ≡ true) where
+  module _ (all : Bool) (m : ℕ) (p : NotifyAt) (is : place_at w t ≡ Condvar l (Notify all m p))
+      (can : can_do w (notify_act all l m p) ≡ true) where
     abbrev notifies : CondvarPlace
     notifies = Notify all m p
 
@@ -153,7 +155,8 @@ module _ (w : State) (t l : ℕ) (shape : IsShaped w) (steady : IsSteady w) (con
     fits_notified = fits_next notifies is m refl (condvar_next notifies told) (reaches notifies is m refl can) (names_notified (next_notify all m p told))
 
     -- it stands where it stood, and goes on from there
-    goes_there : next_place (place_at (state_after_act w t (Condvar l notifies) (notify_act all l m p)) t) told ≡ condvar_goes l (condvar_next notifies told)
+    goes_there : next_place (place_at (state_after_act w t (Condvar l notifies) (notify_act all l m p)) t) told
+        ≡ condvar_goes l (condvar_next notifies told)
     goes_there = ap (λ q. next_place q told) (notifier_still w t l m all p is (fits notifies is m refl).reached there)
 
     pub goes : GoesAll w behind (two_at l m at_l at_m)
@@ -177,7 +180,8 @@ module _ (w : State) (t l : ℕ) (shape : IsShaped w) (steady : IsSteady w) (con
 
   -- ---------------------------------------------------------------- a wait
 
-  module _ (m : ℕ) (timed : Bool) (p : WaitAt) (is : place_at w t ≡ Condvar l (Wait m timed p)) (can : can_do w (wait_act l m p) ≡ true) where
+  module _ (m : ℕ) (timed : Bool) (p : WaitAt) (is : place_at w t ≡ Condvar l (Wait m timed p))
+      (can : can_do w (wait_act l m p) ≡ true) where
     abbrev waits : CondvarPlace
     waits = Wait m timed p
 
@@ -233,8 +237,12 @@ module _ (w : State) (t l : ℕ) (shape : IsShaped w) (steady : IsSteady w) (con
             goes_there_waiting unwoken others_waiting)
 
       -- or from where its own act has left it
-      waits_told : (q q2 : WaitAt) → condvar_next waits heard ≡ At (Wait m timed q) → next_place stood heard ≡ Condvar l (Wait m timed q2) → going_outcome w t (Condvar l waits) ≡ outcome_of (wait_act l m q2) → IsSettled q2 → (makes : CallState → CallState)
-          → ((r : ℕ → Rights) → call_at l m (Wait m timed q2) r ≡ makes (call_at l m (Wait m timed q) r)) → woken (locks_of w) t (own_event w t l m p) t (going_on (own_event w t l m p) (own_call w t l m timed p)) ≡ makes (going_on (own_event w t l m p) (own_call w t l m timed p))
+      waits_told : (q q2 : WaitAt) → condvar_next waits heard ≡ At (Wait m timed q)
+          → next_place stood heard ≡ Condvar l (Wait m timed q2)
+          → going_outcome w t (Condvar l waits) ≡ outcome_of (wait_act l m q2) → IsSettled q2 → (makes : CallState → CallState)
+          → ((r : ℕ → Rights) → call_at l m (Wait m timed q2) r ≡ makes (call_at l m (Wait m timed q) r))
+          → woken (locks_of w) t (own_event w t l m p) t (going_on (own_event w t l m p) (own_call w t l m timed p))
+          ≡ makes (going_on (own_event w t l m p) (own_call w t l m timed p))
           → GoesOn (locks_of w) t (going_outcome w t (Condvar l waits)) (locks_of waited)
       waits_told q q2 says goes_to told settled makes made woken_so = subst (λ o. GoesOn (locks_of w) t o (locks_of waited)) (sym told)
           (told_step w waited t l shape steady (condvars l sort_w) there (sized waits is m refl).0 (two_at l m on_l on_m) goes_waiting m timed p q q2 is can (two_else l m apart_w on_l on_m) (two_there l m apart_w on_l on_m) (two_beside l m apart_w on_l on_m) says
@@ -261,7 +269,8 @@ module _ (w : State) (t l : ℕ) (shape : IsShaped w) (steady : IsSteady w) (con
 
   -- ---------------------------------------------------------------- its release of the mutex
 
-  module _ (m : ℕ) (timed : Bool) (s : Stands) (a : UnlockAt) (is : place_at w t ≡ Condvar l (Wait m timed (releasing s a))) (can : can_do w (unlock_act m a) ≡ true) where
+  module _ (m : ℕ) (timed : Bool) (s : Stands) (a : UnlockAt) (is : place_at w t ≡ Condvar l (Wait m timed (releasing s a)))
+      (can : can_do w (unlock_act m a) ≡ true) where
     abbrev releases : CondvarPlace
     releases = Wait m timed (releasing s a)
 
@@ -271,11 +280,14 @@ module _ (w : State) (t l : ℕ) (shape : IsShaped w) (steady : IsSteady w) (con
     sort_of_m : (rules_in w m).sort ≡ locks.Mutex
     sort_of_m = sort_m releases is m refl
 
-    left : LeftAt w t l m timed steady there (apart w t l releases steady is m refl) sort_of_m (plain releases is m refl) (line_of releases is m refl m (sized releases is m refl).1) (section_of releases is m refl m (sized releases is m refl).1) s a
+    left : LeftAt w t l m timed steady there (apart w t l releases steady is m refl) sort_of_m (plain releases is m refl)
+        (line_of releases is m refl m (sized releases is m refl).1)
+        (section_of releases is m refl m (sized releases is m refl).1) s a
     left = let n = sized releases is m refl in left_at w t l m timed steady there (apart w t l releases steady is m refl) sort_of_m (plain releases is m refl) (line_of releases is m refl m n.1) (section_of releases is m refl m n.1) s a is
 
     -- it has come to a place of its call
-    taken_reached : (none_left : Bool) → IsReachedNext (condvar_next (Wait m timed (releasing (stands.InHand t) unlock.Take)) (Took true none_left))
+    taken_reached : (none_left : Bool)
+        → IsReachedNext (condvar_next (Wait m timed (releasing (stands.InHand t) unlock.Take)) (Took true none_left))
     taken_reached true = (tt, λ e. absurd cc)
     taken_reached false = (tt, λ e. absurd cc)
 
@@ -293,28 +305,34 @@ module _ (w : State) (t l : ℕ) (shape : IsShaped w) (steady : IsSteady w) (con
     left_fits = subst (FitsItsLock w) (sym (ap (λ q. next_place q answered) left.place)) (fits_at m timed (releasing s a) is can (next_wait m timed (releasing left.now a) answered) left_reached)
 
   -- where nothing befell it
-  module _ (m : ℕ) (timed : Bool) (s : Stands) (a : UnlockAt) (is : place_at w t ≡ Condvar l (Wait m timed (releasing s a))) (can : can_do w (unlock_act m a) ≡ true) where
+  module _ (m : ℕ) (timed : Bool) (s : Stands) (a : UnlockAt) (is : place_at w t ≡ Condvar l (Wait m timed (releasing s a)))
+      (can : can_do w (unlock_act m a) ≡ true) where
     abbrev Goes : Type 0
     Goes = GoesOn (locks_of w) t (going_outcome w t (Condvar l (Wait m timed (releasing s a)))) (locks_of (state_after_going w t (Condvar l (Wait m timed (releasing s a)))))
 
     unheld : is_thread t (taker_of s) ≡ false → (k : ℕ) → is_taken_by t (taken_at (place_at w t) k) ≡ false
     unheld free k = ap (λ q. is_taken_by t (taken_at q k)) is ∙ either (is_lock k (Some m) && not (l == k))
       where
-        by_stand : (s : Stands) → is_thread t (taker_of s) ≡ false → is_taken_by t (taken_from (hand_of s) (wants_beside (Some (want_of s))) true) ≡ false
+        by_stand : (s : Stands) → is_thread t (taker_of s) ≡ false
+            → is_taken_by t (taken_from (hand_of s) (wants_beside (Some (want_of s))) true) ≡ false
         by_stand stands.Listed free = refl
         by_stand stands.Moved free = refl
         by_stand (stands.InHand u) free = free
         by_stand (stands.Handed u) free = refl
         by_stand (stands.Noted n) free = refl
 
-        either : (b : Bool) → is_taken_by t (if b then taken_from (hand_of s) (wants_beside (Some (want_of s))) true else taken_from None (condvar_profile (Wait m timed (releasing s a))).wants (l == k)) ≡ false
+        either : (b : Bool)
+            → is_taken_by t
+            (if b then taken_from (hand_of s) (wants_beside (Some (want_of s))) true else taken_from None (condvar_profile (Wait m timed (releasing s a))).wants (l == k))
+            ≡ false
         either true = by_stand s free
         either false = refl
 
     stays_unwoken : IsLeft t s a → IsUnwoken w t l m timed (releasing s a)
     stays_unwoken free = by_act a is can free
       where
-        by_act : (a : UnlockAt) → place_at w t ≡ Condvar l (Wait m timed (releasing s a)) → can_do w (unlock_act m a) ≡ true → IsLeft t s a → IsUnwoken w t l m timed (releasing s a)
+        by_act : (a : UnlockAt) → place_at w t ≡ Condvar l (Wait m timed (releasing s a)) → can_do w (unlock_act m a) ≡ true
+            → IsLeft t s a → IsUnwoken w t l m timed (releasing s a)
         by_act (unlock.Leave true) is can free = ap (λ (b : Bool). if b then record (own_call w t l m timed (releasing s (unlock.Leave true))) { retries = Some m; recalls = behind_wake (own_call w t l m timed (releasing s (unlock.Leave true))).recalls } else own_call w t l m timed (releasing s (unlock.Leave true)))
             (unheld (free refl) m)
         by_act unlock.Subtract is can free = calm_act m timed (releasing s unlock.Subtract) is can (λ h. h)
@@ -323,39 +341,51 @@ module _ (w : State) (t l : ℕ) (shape : IsShaped w) (steady : IsSteady w) (con
         by_act (unlock.Clear any) is can free = calm_act m timed (releasing s (unlock.Clear any)) is can (λ h. h)
         by_act (unlock.Leave false) is can free = calm_act m timed (releasing s (unlock.Leave false)) is can (λ h. h)
 
-    module _ (fits_left : FitsItsLock w (next_place (place_at (state_after_act w t (Condvar l (Wait m timed (releasing s a))) (unlock_act m a)) t) (reply_to w t (unlock_act m a)))) where
-      stays_on : place_at (state_after_act w t (Condvar l (Wait m timed (releasing s a))) (unlock_act m a)) t ≡ Condvar l (Wait m timed (releasing s a)) → IsLeft t s a → Goes
+    module _
+        (fits_left : FitsItsLock w (next_place (place_at (state_after_act w t (Condvar l (Wait m timed (releasing s a))) (unlock_act m a)) t) (reply_to w t (unlock_act m a)))) where
+      stays_on : place_at (state_after_act w t (Condvar l (Wait m timed (releasing s a))) (unlock_act m a)) t
+          ≡ Condvar l (Wait m timed (releasing s a))
+          → IsLeft t s a → Goes
       stays_on still free = waits_still m timed (releasing s a) is can fits_left still (stays_unwoken free)
 
   -- it has taken itself
-  module _ (m : ℕ) (timed : Bool) (is : place_at w t ≡ Condvar l (Wait m timed (releasing stands.Moved unlock.Take))) (can : can_do w (unlock_act m unlock.Take) ≡ true) where
+  module _ (m : ℕ) (timed : Bool) (is : place_at w t ≡ Condvar l (Wait m timed (releasing stands.Moved unlock.Take)))
+      (can : can_do w (unlock_act m unlock.Take) ≡ true) where
     abbrev takes_at : Place
     takes_at = Condvar l (Wait m timed (releasing stands.Moved unlock.Take))
 
     abbrev took_at : Place
     took_at = place_at (state_after_act w t takes_at (unlock_act m unlock.Take)) t
 
-    took_on : (none_left : Bool) → reply_to w t (unlock_act m unlock.Take) ≡ Took true none_left → took_at ≡ Condvar l (Wait m timed (releasing (stands.InHand t) unlock.Take))
-        → FitsItsLock w (next_place took_at (reply_to w t (unlock_act m unlock.Take))) → GoesOn (locks_of w) t (going_outcome w t takes_at) (locks_of (state_after_going w t takes_at))
+    took_on : (none_left : Bool) → reply_to w t (unlock_act m unlock.Take) ≡ Took true none_left
+        → took_at ≡ Condvar l (Wait m timed (releasing (stands.InHand t) unlock.Take))
+        → FitsItsLock w (next_place took_at (reply_to w t (unlock_act m unlock.Take)))
+        → GoesOn (locks_of w) t (going_outcome w t takes_at) (locks_of (state_after_going w t takes_at))
     took_on none_left told stood fits_then = by_left none_left told
       where
         calm : IsUnwoken w t l m timed (releasing stands.Moved unlock.Take)
         calm = calm_act m timed (releasing stands.Moved unlock.Take) is can (λ h. h)
 
-        goes_by : (r : Reply) → reply_to w t (unlock_act m unlock.Take) ≡ r → next_place took_at (reply_to w t (unlock_act m unlock.Take)) ≡ next_place (Condvar l (Wait m timed (releasing (stands.InHand t) unlock.Take))) r
+        goes_by : (r : Reply) → reply_to w t (unlock_act m unlock.Take) ≡ r
+            → next_place took_at (reply_to w t (unlock_act m unlock.Take))
+            ≡ next_place (Condvar l (Wait m timed (releasing (stands.InHand t) unlock.Take))) r
         goes_by r e = ap (λ q. next_place q (reply_to w t (unlock_act m unlock.Take))) stood ∙ ap (next_place (Condvar l (Wait m timed (releasing (stands.InHand t) unlock.Take)))) e
 
-        told_by : (r : Reply) → reply_to w t (unlock_act m unlock.Take) ≡ r → going_outcome w t takes_at ≡ outcome_of (next_act (Condvar l (Wait m timed (releasing (stands.InHand t) unlock.Take))) r)
+        told_by : (r : Reply) → reply_to w t (unlock_act m unlock.Take) ≡ r
+            → going_outcome w t takes_at
+            ≡ outcome_of (next_act (Condvar l (Wait m timed (releasing (stands.InHand t) unlock.Take))) r)
         told_by r e = ap (λ q. outcome_of (next_act q (reply_to w t (unlock_act m unlock.Take)))) stood ∙ ap (λ x. outcome_of (next_act (Condvar l (Wait m timed (releasing (stands.InHand t) unlock.Take))) x)) e
 
-        by_left : (b : Bool) → reply_to w t (unlock_act m unlock.Take) ≡ Took true b → GoesOn (locks_of w) t (going_outcome w t takes_at) (locks_of (state_after_going w t takes_at))
+        by_left : (b : Bool) → reply_to w t (unlock_act m unlock.Take) ≡ Took true b
+            → GoesOn (locks_of w) t (going_outcome w t takes_at) (locks_of (state_after_going w t takes_at))
         by_left true e = waits_told m timed (releasing stands.Moved unlock.Take) is can fits_then (releasing stands.Moved (unlock.Clear true)) (releasing (stands.InHand t) (unlock.Clear true)) (ap (condvar_next (Wait m timed (releasing stands.Moved unlock.Take))) e)
             (goes_by (Took true true) e) (told_by (Took true true) e) tt (λ c. c) (λ r. refl) calm
         by_left false e = waits_told m timed (releasing stands.Moved unlock.Take) is can fits_then (releasing stands.Moved (unlock.Leave true)) (releasing (stands.InHand t) (unlock.Leave true)) (ap (condvar_next (Wait m timed (releasing stands.Moved unlock.Take))) e)
             (goes_by (Took true false) e) (told_by (Took true false) e) tt (λ c. c) (λ r. refl) calm
 
   -- it wakes itself
-  module _ (m : ℕ) (timed : Bool) (is : place_at w t ≡ Condvar l (Wait m timed (releasing (stands.InHand t) (unlock.Leave true)))) (can : can_do w (unlock_act m (unlock.Leave true)) ≡ true) where
+  module _ (m : ℕ) (timed : Bool) (is : place_at w t ≡ Condvar l (Wait m timed (releasing (stands.InHand t) (unlock.Leave true))))
+      (can : can_do w (unlock_act m (unlock.Leave true)) ≡ true) where
     abbrev wakes_at : Place
     wakes_at = Condvar l (Wait m timed (releasing (stands.InHand t) (unlock.Leave true)))
 
@@ -365,7 +395,9 @@ module _ (w : State) (t l : ℕ) (shape : IsShaped w) (steady : IsSteady w) (con
     abbrev woken_call : CallState → CallState
     woken_call c = record c { retries = Some m; recalls = behind_wake c.recalls }
 
-    woke_on : woke_at ≡ Condvar l (Wait m timed (releasing (stands.Noted note.Normal) (unlock.Leave true))) → FitsItsLock w (next_place woke_at Done) → GoesOn (locks_of w) t (going_outcome w t wakes_at) (locks_of (state_after_going w t wakes_at))
+    woke_on : woke_at ≡ Condvar l (Wait m timed (releasing (stands.Noted note.Normal) (unlock.Leave true)))
+        → FitsItsLock w (next_place woke_at Done)
+        → GoesOn (locks_of w) t (going_outcome w t wakes_at) (locks_of (state_after_going w t wakes_at))
     woke_on stood fits_then = waits_told m timed (releasing (stands.InHand t) (unlock.Leave true)) is can fits_then (wait.Asleep (stands.InHand t)) (wait.Lock false (first_lock true)) refl (ap (λ q. next_place q Done) stood)
         (ap (λ q. outcome_of (next_act q Done)) stood) tt woken_call (λ r. refl)
         (ap (λ (b : Bool). if b then woken_call (own_call w t l m timed (releasing (stands.InHand t) (unlock.Leave true))) else own_call w t l m timed (releasing (stands.InHand t) (unlock.Leave true))) in_own_hand)
@@ -375,7 +407,8 @@ module _ (w : State) (t l : ℕ) (shape : IsShaped w) (steady : IsSteady w) (con
             ∙ ap (is_taken_by t) (taken_beside l m (apart w t l (Wait m timed (releasing (stands.InHand t) (unlock.Leave true))) steady is m refl) (At (Wait m timed (releasing (stands.InHand t) (unlock.Leave true)))) refl) ∙ same t
 
   -- whatever its release does
-  module _ (m : ℕ) (timed : Bool) (s : Stands) (a : UnlockAt) (is : place_at w t ≡ Condvar l (Wait m timed (releasing s a))) (can : can_do w (unlock_act m a) ≡ true) where
+  module _ (m : ℕ) (timed : Bool) (s : Stands) (a : UnlockAt) (is : place_at w t ≡ Condvar l (Wait m timed (releasing s a)))
+      (can : can_do w (unlock_act m a) ≡ true) where
     abbrev Released : Stands → UnlockAt → Type 0
     Released s a = GoesOn (locks_of w) t (going_outcome w t (Condvar l (Wait m timed (releasing s a)))) (locks_of (state_after_going w t (Condvar l (Wait m timed (releasing s a)))))
 
@@ -415,7 +448,9 @@ module _ (w : State) (t l : ℕ) (shape : IsShaped w) (steady : IsSteady w) (con
         shows : Shows (length w.locks) (kind_at w) (word_at w l)
         shows = shape.shown l (let k = subst (IsOfItsKind (kind_at w)) is (shape.kinds t) in k.0)
 
-        by_word : (b : Bool) → (word_at w l == 0) ≡ b → FitsItsLock w (condvar_goes l (if b then Over (notified all 0) else At (Notify all (mutex_shown (word_at w l)) notify.Enter)))
+        by_word : (b : Bool) → (word_at w l == 0) ≡ b
+            → FitsItsLock w
+            (condvar_goes l (if b then Over (notified all 0) else At (Notify all (mutex_shown (word_at w l)) notify.Enter)))
         by_word true e = tt
         by_word false e = record {
           sort = here_fits.sort;
@@ -455,7 +490,8 @@ module _ (w : State) (t l : ℕ) (shape : IsShaped w) (steady : IsSteady w) (con
   -- ---------------------------------------------------------------- whatever it does
 
   -- it goes on in the abstract locks
-  pub condvar_on : (at : CondvarPlace) → place_at w t ≡ Condvar l at → can_do w (condvar_act l at) ≡ true → GoesOn (locks_of w) t (going_outcome w t (Condvar l at)) (locks_of (state_after_going w t (Condvar l at)))
+  pub condvar_on : (at : CondvarPlace) → place_at w t ≡ Condvar l at → can_do w (condvar_act l at) ≡ true
+      → GoesOn (locks_of w) t (going_outcome w t (Condvar l at)) (locks_of (state_after_going w t (Condvar l at)))
   condvar_on (Look all) is can = looks_on all is
   condvar_on (Notify all m p) is can = notifies_on all m p is can
   condvar_on (Wait m timed (wait.Release s (mutex.Unlock a))) is can = release_on m timed s a is can
@@ -463,7 +499,8 @@ module _ (w : State) (t l : ℕ) (shape : IsShaped w) (steady : IsSteady w) (con
   condvar_on (Wait m timed p) is can = calm_on m timed p is can refl
 
   -- and every lock is a site again
-  pub condvar_steady : (at : CondvarPlace) → place_at w t ≡ Condvar l at → can_do w (condvar_act l at) ≡ true → IsSteady (state_after_going w t (Condvar l at))
+  pub condvar_steady : (at : CondvarPlace) → place_at w t ≡ Condvar l at → can_do w (condvar_act l at) ≡ true
+      → IsSteady (state_after_going w t (Condvar l at))
   condvar_steady (Look all) is can = goes_all_steady w _ _ steady (looks_goes all is).follows (looks_goes all is).stands
   condvar_steady (Notify all m p) is can = goes_all_steady w _ _ steady (goes all m p is can).follows (goes all m p is can).stands
   condvar_steady (Wait m timed (wait.Release s (mutex.Unlock a))) is can = let g = goes_waiting m timed (releasing s a) is can (left_fits m timed s a is can) in goes_all_steady w _ _ steady g.follows g.stands

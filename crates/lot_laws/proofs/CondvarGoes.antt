@@ -39,13 +39,15 @@ use Rattle.lot_laws.proofs.CondvarThere.{there_deeds}
 
 -- ---------------------------------------------------------------- an event of one of two locks
 
-module _ (w v : State) (t c m : ℕ) (apart : m ≢ c) (before : IsSteady w) (after : IsSteady v) (kinds : (k : ℕ) → kind_at v k ≡ kind_at w k)
+module _ (w v : State) (t c m : ℕ) (apart : m ≢ c) (before : IsSteady w) (after : IsSteady v)
+    (kinds : (k : ℕ) → kind_at v k ≡ kind_at w k)
     (others : (k : ℕ) → k ≢ c → k ≢ m → lock_state v k ≡ lock_state w k) where
   abbrev pub Led : ℕ → Option LockCase → Type 0
   Led l x = (lock_state v l ≡ after_event (rules_in w l) (event_by l x) (lock_state w l) t) × EventNeeds (rules_in w l) (event_by l x) (lock_state w l) t
 
   -- nothing happens to the one, or to the other
-  pub happens_two : (x y : Option LockCase) → Led m x → Led c y → (x ≡ None) ⊎ (y ≡ None) → Happens w v t (or_else (event_by m x) (event_by c y))
+  pub happens_two : (x y : Option LockCase) → Led m x → Led c y → (x ≡ None) ⊎ (y ≡ None)
+      → Happens w v t (or_else (event_by m x) (event_by c y))
   happens_two (Some a) (Some b) at_m at_c one = absurd (elim one [ inl e ↦ cc | inr e ↦ cc ])
   happens_two (Some a) None at_m at_c one = happens_at w v t m (Some a) before after kinds at_m.0
       (λ k ne. elim (cases_eq k c) [ inl e ↦ subst (λ j. lock_state v j ≡ lock_state w j) (sym e) at_c.0 | inr nc ↦ others k nc ne ]) at_m.1
@@ -68,23 +70,29 @@ there_case (d ∷ ds) = refl
 
 -- ---------------------------------------------------------------- a step of both locks
 
-module _ (w v : State) (t c m : ℕ) (apart : m ≢ c) (before : IsSteady w) (after : IsSteady v) (all : ℕ → List Act) (f : FollowAll w v all) (elsewhere : (k : ℕ) → k ≢ c → k ≢ m → all k ≡ []) where
+module _ (w v : State) (t c m : ℕ) (apart : m ≢ c) (before : IsSteady w) (after : IsSteady v) (all : ℕ → List Act)
+    (f : FollowAll w v all) (elsewhere : (k : ℕ) → k ≢ c → k ≢ m → all k ≡ []) where
   pub locks_led : (k : ℕ) (ds : List Act) → all k ≡ ds → lock_state v k ≡ (after_acts (rules_in w k) ds (site_of w k)).lock
   locks_led k ds is = ap (λ (s : Site). s.lock) (f.site k) ∙ ap (λ done. (after_acts (rules_in w k) done (site_of w k)).lock) is
 
   pub others : (k : ℕ) → k ≢ c → k ≢ m → lock_state v k ≡ lock_state w k
   others k nc nm = locks_led k [] (elsewhere k nc nm)
 
-  pub led_by : (l : ℕ) (hand : Option Bool) (ds : List Deed) → all l ≡ acts t ds → AreOneCase ds → (hand ≢ Some false → HasTakenNobody (lock_state w l) t) → Led w v t c m apart before after f.kinds others l (case_of hand ds)
+  pub led_by : (l : ℕ) (hand : Option Bool) (ds : List Deed) → all l ≡ acts t ds → AreOneCase ds
+      → (hand ≢ Some false → HasTakenNobody (lock_state w l) t)
+      → Led w v t c m apart before after f.kinds others l (case_of hand ds)
   led_by l hand ds is one free = (
     locks_led l (acts t ds) is ∙ deeds_by (rules_in w l) t ds (site_of w l) ∙ deeds_lead (rules_in w l) t l hand ds (site_of w l) free one,
     deeds_need (rules_in w l) t l hand ds (site_of w l) (needed_then (rules_in w l) t ds [] (site_of w l) (subst (λ done. ActsNeeded (rules_in w l) done (site_of w l)) (is ∙ sym (append-nil (acts t ds))) (f.needed l))) one,
   )
 
   -- what happens in a step of a wait
-  pub wait_happens : (p : WaitAt) (whom : Option ℕ) (told : Reply) → all c ≡ acts t (there_deeds (wait_deeds m p told)) → all m ≡ acts t (waiter_deeds p whom told)
-      → AreOneCase (there_deeds (wait_deeds m p told)) → AreOneCase (waiter_deeds p whom told) → HasTakenNobody (lock_state w c) t → (wait_carries p ≢ Some false → HasTakenNobody (lock_state w m) t)
-      → (case_of (wait_carries p) (waiter_deeds p whom told) ≡ None) ⊎ (case_there (wait_deeds m p told) ≡ None) → Happens w v t (wait_event c m p whom told)
+  pub wait_happens : (p : WaitAt) (whom : Option ℕ) (told : Reply) → all c ≡ acts t (there_deeds (wait_deeds m p told))
+      → all m ≡ acts t (waiter_deeds p whom told)
+      → AreOneCase (there_deeds (wait_deeds m p told)) → AreOneCase (waiter_deeds p whom told) → HasTakenNobody (lock_state w c) t
+      → (wait_carries p ≢ Some false → HasTakenNobody (lock_state w m) t)
+      → (case_of (wait_carries p) (waiter_deeds p whom told) ≡ None) ⊎ (case_there (wait_deeds m p told) ≡ None)
+      → Happens w v t (wait_event c m p whom told)
   wait_happens p whom told at_c at_m one_c one_m free_c free_m alone = happens_two w v t c m apart before after f.kinds others (case_of (wait_carries p) (waiter_deeds p whom told)) (case_there (wait_deeds m p told))
       (led_by m (wait_carries p) (waiter_deeds p whom told) at_m one_m free_m)
       (subst (Led w v t c m apart before after f.kinds others c) (there_case (wait_deeds m p told)) (led_by c None (there_deeds (wait_deeds m p told)) at_c one_c (λ h. free_c)))
@@ -103,28 +111,38 @@ ToldSo v t (next.At q) o = (l : ℕ) × GoesAs v t l o
 ToldSo v t (next.End answer) o = o ≡ outcome.TheVariants.End answer
 
 -- its call is that of its place at both locks
-pub call_named : (w : State) (t l m : ℕ) (p : CondvarPlace) → place_at w t ≡ Condvar l p → mutex_beside p ≡ Some m → call_at w t ≡ calls.call_at l m p (rights w t)
+pub call_named : (w : State) (t l m : ℕ) (p : CondvarPlace) → place_at w t ≡ Condvar l p → mutex_beside p ≡ Some m
+    → call_at w t ≡ calls.call_at l m p (rights w t)
 call_named w t l m p is names = ap (λ q. call_state q (rights w t)) is ∙ ap (λ o. call_on_both o (Some l) (condvar_profile p) (mutex_side p) (rights w t)) names
 
-module _ (w v : State) (t l m : ℕ) (p : CondvarPlace) (call_is : call_at w t ≡ calls.call_at l m p (rights w t)) (told : Reply) (e : Event) (h : Happens w v t e) (shown : Option ℕ) (s2 : LockState) where
+module _ (w v : State) (t l m : ℕ) (p : CondvarPlace) (call_is : call_at w t ≡ calls.call_at l m p (rights w t)) (told : Reply)
+    (e : Event) (h : Happens w v t e) (shown : Option ℕ) (s2 : LockState) where
   abbrev call : CallState
   call = calls.call_at l m p (rights w t)
 
-  pub call_then : (q : CondvarPlace) → place_at v t ≡ Condvar l q → mutex_beside q ≡ Some m → call_state (place_at v t) (rights v t) ≡ calls.call_at l m q (rights v t)
+  pub call_then : (q : CondvarPlace) → place_at v t ≡ Condvar l q → mutex_beside q ≡ Some m
+      → call_state (place_at v t) (rights v t) ≡ calls.call_at l m q (rights v t)
   call_then q there named = ap (λ x. call_state x (rights v t)) there ∙ ap (λ o. call_on_both o (Some l) (condvar_profile q) (mutex_side q) (rights v t)) named
 
   -- what it is made of
-  pub may_go : MayComeOfTwo l (condvar_profile p) e → ((c k : ℕ) (all owned : Bool) (n : ℕ) → e ≡ Moves c k all owned n → MayMove (locks_of w) t c k all owned n) → MayHappen (locks_of w) t e
+  pub may_go : MayComeOfTwo l (condvar_profile p) e
+      → ((c k : ℕ) (all owned : Bool) (n : ℕ) → e ≡ Moves c k all owned n → MayMove (locks_of w) t c k all owned n)
+      → MayHappen (locks_of w) t e
   may_go may moves = by_event e h may moves
     where
-      by_event : (e : Event) → Happens w v t e → MayComeOfTwo l (condvar_profile p) e → ((c k : ℕ) (all owned : Bool) (n : ℕ) → e ≡ Moves c k all owned n → MayMove (locks_of w) t c k all owned n) → MayHappen (locks_of w) t e
+      by_event : (e : Event) → Happens w v t e → MayComeOfTwo l (condvar_profile p) e
+          → ((c k : ℕ) (all owned : Bool) (n : ℕ) → e ≡ Moves c k all owned n → MayMove (locks_of w) t c k all owned n)
+          → MayHappen (locks_of w) t e
       by_event Nothing h may moves = tt
       by_event (AtLock k case) h may moves = may_do (locks_of w) t k case ((condvar_profile p).purpose l) call call_is refl may.0 h.needs may.1
       by_event (Moves c k all owned n) h may moves = moves c k all owned n refl
 
   -- and what it comes to
-  pub call_led : (n : Next CondvarPlace) (o : Outcome) → heard told call ≡ call → woken (locks_of w) t e t (going_on e call) ≡ going_on e call → calls.BecomesOfTwo l m p told e shown (lock_state w m) s2 t n
-      → place_at v t ≡ condvar_goes l n → NamesStill m n → (lock_state v l).shown ≡ shown → ((k : ℕ) → rights v t k ≡ rights_where m s2 t (rights w t) k) → ToldSo v t n o → CallLed w v t e call o
+  pub call_led : (n : Next CondvarPlace) (o : Outcome) → heard told call ≡ call
+      → woken (locks_of w) t e t (going_on e call) ≡ going_on e call
+      → calls.BecomesOfTwo l m p told e shown (lock_state w m) s2 t n
+      → place_at v t ≡ condvar_goes l n → NamesStill m n → (lock_state v l).shown ≡ shown
+      → ((k : ℕ) → rights v t k ≡ rights_where m s2 t (rights w t) k) → ToldSo v t n o → CallLed w v t e call o
   call_led (next.At q) o unheard unwoken becomes there named shown_is led so = inl (
     call_then q there named ∙ ap (calls.call_at l m q) (λ i k. led k i) ∙ becomes (rights w t) refl ∙ ap (going_on e) unheard ∙ sym unwoken,
     so,
@@ -137,7 +155,8 @@ module _ (w v : State) (t l m : ℕ) (p : CondvarPlace) (call_is : call_at w t �
   )
 
   -- so the step is that event
-  pub condvar_goes_on : (n : Next CondvarPlace) (o : Outcome) → MayHappen (locks_of w) t e → CallLed w v t e call o → OthersFollow w v t e → Begins (locks_of w) e o → GoesOn (locks_of w) t o (locks_of v)
+  pub condvar_goes_on : (n : Next CondvarPlace) (o : Outcome) → MayHappen (locks_of w) t e → CallLed w v t e call o
+      → OthersFollow w v t e → Begins (locks_of w) e o → GoesOn (locks_of w) t o (locks_of v)
   condvar_goes_on n o may led others begins = goes_with w v t e h call call_is o may (λ f. cc) led others begins
 
 -- ---------------------------------------------------------------- what a thread in such a call is never told, nor does to itself
@@ -148,7 +167,8 @@ runs_nothing_here l (Look all) = tt
 runs_nothing_here l (Notify all m at) = tt
 
 -- it runs no closure
-pub begins_two : (w : LocksState) (l : ℕ) (p : CondvarPlace) (e : Event) (o : Outcome) → MayComeOfTwo l (condvar_profile p) e → is_closure o ≡ false → Begins w e o
+pub begins_two : (w : LocksState) (l : ℕ) (p : CondvarPlace) (e : Event) (o : Outcome) → MayComeOfTwo l (condvar_profile p) e
+    → is_closure o ≡ false → Begins w e o
 begins_two w l p Nothing (outcome.TheVariants.Closure state) may told = absurd cc
 begins_two w l p Nothing o may told = tt
 begins_two w l p (Moves c m all owned number) (outcome.TheVariants.Closure state) may told = absurd cc
@@ -162,7 +182,9 @@ no_closure l (next.At q) = closure_told (condvar_act l q) ∙ condvar_runs_none 
 no_closure l (next.End answer) = refl
 
 -- where it isn't in its own hand, nor among those whom it moves, it is neither woken nor moved by itself
-pub unwoken : (w : State) (t : ℕ) (e : Event) (x : CallState) → ((k : ℕ) → is_taken_by t (taken_at (place_at w t) k) ≡ false) → ((c m n : ℕ) (all owned : Bool) → e ≡ Moves c m all owned n → is_among t (moved_of all (lock_state w c).queue) ≡ false) → woken (locks_of w) t e t x ≡ x
+pub unwoken : (w : State) (t : ℕ) (e : Event) (x : CallState) → ((k : ℕ) → is_taken_by t (taken_at (place_at w t) k) ≡ false)
+    → ((c m n : ℕ) (all owned : Bool) → e ≡ Moves c m all owned n → is_among t (moved_of all (lock_state w c).queue) ≡ false)
+    → woken (locks_of w) t e t x ≡ x
 unwoken w t Nothing x free apart = refl
 unwoken w t (AtLock k Wake) x free apart = rw (free k) refl
 unwoken w t (AtLock k (HandOff y z)) x free apart = rw (free k) refl

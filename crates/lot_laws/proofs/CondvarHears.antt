@@ -75,7 +75,10 @@ length_queued [] = refl
 length_queued (x ∷ q) = ap suc (length_queued q)
 
 -- whom a requeue takes and moves are all that stood there
-pub number_of : (locked : Bool) (q : List Waiter) → length (listed (taken_by (if locked then requeue.All else requeue.TakeOneMoveRest) q)) + length (moved_by (if locked then requeue.All else requeue.TakeOneMoveRest) q) ≡ length (map queued_of q)
+pub number_of : (locked : Bool) (q : List Waiter)
+    → length (listed (taken_by (if locked then requeue.All else requeue.TakeOneMoveRest) q)) + length
+    (moved_by (if locked then requeue.All else requeue.TakeOneMoveRest) q)
+    ≡ length (map queued_of q)
 number_of true q = let a : 0 + length q ≡ length q = omega arith in a ∙ length_queued q
 number_of false [] = refl
 number_of false (x ∷ q) = let e : length q ≡ length (map queued_of q) = length_queued q in let a : 1 + length q ≡ suc (length q) = omega arith in a ∙ ap suc e
@@ -130,7 +133,8 @@ module _ (w : State) (t l : ℕ) (at : CondvarPlace) (steady : IsSteady w) (is :
   releasing m (unlock.Clear any) = refl
   releasing m (unlock.Leave any) = refl
 
-  waiting_hears : (m : ℕ) (timed : Bool) (p : WaitAt) → IsReached (Wait m timed p) → can_do w (wait_act l m p) ≡ true → MayHearWaiting here t p (reply_to w t (wait_act l m p))
+  waiting_hears : (m : ℕ) (timed : Bool) (p : WaitAt) → IsReached (Wait m timed p) → can_do w (wait_act l m p) ≡ true
+      → MayHearWaiting here t p (reply_to w t (wait_act l m p))
   waiting_hears m timed wait.Enter reached can = free_inside can
   waiting_hears m timed wait.Show reached can = word_is
   waiting_hears m timed wait.Stand reached can = tt
@@ -146,13 +150,15 @@ module _ (w : State) (t l : ℕ) (at : CondvarPlace) (steady : IsSteady w) (is :
   waiting_hears m timed (wait.GiveUpMoved none_left) reached can = tt
   waiting_hears m timed (wait.Lock late p) reached can = tt
 
-  moving_hears : (all locked : Bool) (m : ℕ) → MayHearNotifying here all (notify.Move locked) (reply_to w t (move_act all locked l m))
+  moving_hears : (all locked : Bool) (m : ℕ)
+      → MayHearNotifying here all (notify.Move locked) (reply_to w t (move_act all locked l m))
   moving_hears true true m = number_of true (queue_at w (2 * l))
   moving_hears true false m = number_of false (queue_at w (2 * l))
   moving_hears false true m = left_alone (queue_at w (2 * l))
   moving_hears false false m = left_alone (queue_at w (2 * l))
 
-  notifying_hears : (all : Bool) (m : ℕ) (p : NotifyAt) → IsReached (Notify all m p) → can_do w (notify_act all l m p) ≡ true → MayHearNotifying here all p (reply_to w t (notify_act all l m p))
+  notifying_hears : (all : Bool) (m : ℕ) (p : NotifyAt) → IsReached (Notify all m p) → can_do w (notify_act all l m p) ≡ true
+      → MayHearNotifying here all p (reply_to w t (notify_act all l m p))
   notifying_hears all m notify.Enter reached can = free_inside (both (is_free w (2 * l)) (is_free w (2 * m)) can).0
   notifying_hears all m notify.Again reached can = word_is
   notifying_hears all m notify.Hide reached can = reached
@@ -167,7 +173,8 @@ module _ (w : State) (t l : ℕ) (at : CondvarPlace) (steady : IsSteady w) (is :
   pub may_hear : can_do w (condvar_act l at) ≡ true → MayHear here t at (reply_to w t (condvar_act l at))
   may_hear can = by_place at fits_here.reached can
     where
-      by_place : (p : CondvarPlace) → IsReached p → can_do w (condvar_act l p) ≡ true → MayHear here t p (reply_to w t (condvar_act l p))
+      by_place : (p : CondvarPlace) → IsReached p → can_do w (condvar_act l p) ≡ true
+          → MayHear here t p (reply_to w t (condvar_act l p))
       by_place (Wait m timed p) reached can = waiting_hears m timed p reached can
       by_place (Look all) reached can = tt
       by_place (Notify all m p) reached can = notifying_hears all m p reached can
@@ -210,7 +217,8 @@ module _ (w : State) (t l : ℕ) (at : CondvarPlace) (steady : IsSteady w) (is :
         let gone : keep_from t (Some (record { by = t; want = x })) ≡ Some (record { by = t; want = x }) = subst (λ o. keep_from t o ≡ o) h kept in
         let f : ◌≡◌ {A = Option Taken} None (Some (record { by = t; want = x })) = sym (ap (λ b. if b then None else Some (record { by = t; want = x })) (same t)) ∙ gone in cc
 
-    first_there : TakesFirst there (first_thread there.lock.queue) (is_there (first_of (queue_at w (2 * m)))) (length (drop 1 (queue_at w (2 * m))) == 0)
+    first_there : TakesFirst there (first_thread there.lock.queue) (is_there (first_of (queue_at w (2 * m))))
+        (length (drop 1 (queue_at w (2 * m))) == 0)
     first_there = record { first = refl; some = any_first (queue_at w (2 * m)); left = left_alone (queue_at w (2 * m)) }
       where
         any_first : (q : List Waiter) → is_there (first_of q) ≡ not (is_none (first_thread (map queued_of q)))
@@ -234,7 +242,8 @@ module _ (w : State) (t l : ℕ) (at : CondvarPlace) (steady : IsSteady w) (is :
     left_beside : (length (without t (queue_at w (2 * m))) == 0) ≡ is_empty (locks.without t there.lock.queue)
     left_beside = sym (empty_line (without t (queue_at w (2 * m)))) ∙ ap is_empty (queued_without t (queue_at w (2 * m)))
 
-    releasing_hears : (s : Stands) (p : UnlockAt) → (has_mutex s ≡ true → (mutex_profile (mutex.Unlock p)).doing.claims ≡ None) → carried_at (place_at w t) m ≡ (mutex_profile (mutex.Unlock p)).carries → can_do w (unlock_act m p) ≡ true
+    releasing_hears : (s : Stands) (p : UnlockAt) → (has_mutex s ≡ true → (mutex_profile (mutex.Unlock p)).doing.claims ≡ None)
+        → carried_at (place_at w t) m ≡ (mutex_profile (mutex.Unlock p)).carries → can_do w (unlock_act m p) ≡ true
         → MayHearReleasing rules there t s p (taken_first w m p) (reply_to w t (unlock_act m p))
     releasing_hears s unlock.Subtract free carried can = (word_beside, unowned (has_mutex s) refl)
       where
@@ -246,12 +255,14 @@ module _ (w : State) (t l : ℕ) (at : CondvarPlace) (steady : IsSteady w) (is :
     releasing_hears s (unlock.Clear any) free carried can = tt
     releasing_hears s (unlock.Leave any) free carried can = tt
 
-    deciding_hears : (x : ℕ) (a b : Bool) → can_do w (decided_by m x a b) ≡ true → MayHearLocking rules there t (lock.Decide x) (reply_to w t (decided_by m x a b))
+    deciding_hears : (x : ℕ) (a b : Bool) → can_do w (decided_by m x a b) ≡ true
+        → MayHearLocking rules there t (lock.Decide x) (reply_to w t (decided_by m x a b))
     deciding_hears x false b can = word_beside
     deciding_hears x true true can = word_beside
     deciding_hears x true false can = free_beside can
 
-    locking_hears : (p : LockAt) → IsLockOf p → (lock_out p → standing t there.lock ≡ 0) → can_do w (lock_act m p) ≡ true → MayHearLocking rules there t p (reply_to w t (lock_act m p))
+    locking_hears : (p : LockAt) → IsLockOf p → (lock_out p → standing t there.lock ≡ 0) → can_do w (lock_act m p) ≡ true
+        → MayHearLocking rules there t p (reply_to w t (lock_act m p))
     locking_hears lock.First of out can = word_beside
     locking_hears lock.Load of out can = tt
     locking_hears (lock.Decide x) of out can = deciding_hears x (is_locked x) (x == 1) can
@@ -272,23 +283,27 @@ abbrev pub taken_by_wait : State → ℕ → WaitAt → Option ℕ
 taken_by_wait w m (wait.Release s (mutex.Unlock p)) = taken_first w m p
 taken_by_wait w m p = None
 
-module _ (w : State) (t l m : ℕ) (timed : Bool) (at : WaitAt) (steady : IsSteady w) (is : place_at w t ≡ Condvar l (Wait m timed at)) where
+module _ (w : State) (t l m : ℕ) (timed : Bool) (at : WaitAt) (steady : IsSteady w)
+    (is : place_at w t ≡ Condvar l (Wait m timed at)) where
   abbrev site_m : Site
   site_m = site_of w m
 
   wait_reached : IsReached (Wait m timed at)
   wait_reached = (fits_here w t l (Wait m timed at) steady is).reached
 
-  out_of_line : (mutex_side (Wait m timed at)).stands ≡ None → (mutex_side (Wait m timed at)).hand ≡ None → standing t site_m.lock ≡ 0
+  out_of_line : (mutex_side (Wait m timed at)).stands ≡ None → (mutex_side (Wait m timed at)).hand ≡ None
+      → standing t site_m.lock ≡ 0
   out_of_line = nowhere_beside w t l (Wait m timed at) steady is m refl
 
   carried : carried_at (place_at w t) m ≡ (mutex_side (Wait m timed at)).carries
   carried = ap (λ (y : Station). y.carries) (station_beside w t l (Wait m timed at) steady is m refl)
 
-  pub waiter_hears : can_do w (wait_act l m at) ≡ true → MayHearWaiter (rules_in w m) site_m t at (taken_by_wait w m at) (reply_to w t (wait_act l m at))
+  pub waiter_hears : can_do w (wait_act l m at) ≡ true
+      → MayHearWaiter (rules_in w m) site_m t at (taken_by_wait w m at) (reply_to w t (wait_act l m at))
   waiter_hears can = by_place at refl
     where
-      by_place : (p : WaitAt) → at ≡ p → MayHearWaiter (rules_in w m) site_m t p (taken_by_wait w m p) (reply_to w t (wait_act l m p))
+      by_place : (p : WaitAt) → at ≡ p
+          → MayHearWaiter (rules_in w m) site_m t p (taken_by_wait w m p) (reply_to w t (wait_act l m p))
       by_place wait.Enter e = tt
       by_place wait.Show e = tt
       by_place wait.Stand e = tt
@@ -306,14 +321,16 @@ module _ (w : State) (t l m : ℕ) (timed : Bool) (at : WaitAt) (steady : IsStea
       by_place (wait.Lock late (mutex.Lock entry.Lock retries p)) e = locking_hears w t l (Wait m timed at) steady is m refl p
           (subst (λ q. IsReached (Wait m timed q)) e wait_reached).1 (stood_out p e) (subst (λ q. can_do w (wait_act l m q) ≡ true) e can)
         where
-          stood_out : (p : LockAt) → at ≡ wait.Lock late (mutex.Lock entry.Lock retries p) → lock_out p → standing t site_m.lock ≡ 0
+          stood_out : (p : LockAt) → at ≡ wait.Lock late (mutex.Lock entry.Lock retries p) → lock_out p
+              → standing t site_m.lock ≡ 0
           stood_out lock.Check e h = out_of_line (ap (λ q. (mutex_side (Wait m timed q)).stands) e) (ap (λ q. (mutex_side (Wait m timed q)).hand) e)
           stood_out p e h = absurd h
       by_place (wait.Lock late p) e = absurd (subst (λ q. IsReached (Wait m timed q)) e wait_reached).1
 
 -- ---------------------------------------------------------------- a notification, at the mutex
 
-module _ (w : State) (t l m : ℕ) (all : Bool) (at : NotifyAt) (steady : IsSteady w) (condvars : IsCondvar (condvar_of w l)) (aside : WaitsAside (condvar_of w l) (site_of w m) m) (is : place_at w t ≡ Condvar l (Notify all m at)) where
+module _ (w : State) (t l m : ℕ) (all : Bool) (at : NotifyAt) (steady : IsSteady w) (condvars : IsCondvar (condvar_of w l))
+    (aside : WaitsAside (condvar_of w l) (site_of w m) m) (is : place_at w t ≡ Condvar l (Notify all m at)) where
   abbrev beside_site : Site
   beside_site = site_of w m
 
@@ -332,16 +349,20 @@ module _ (w : State) (t l m : ℕ) (all : Bool) (at : NotifyAt) (steady : IsStea
   any_waits [] some = absurd (some refl)
   any_waits (x ∷ q) some = refl
 
-  pub notifier_hears : can_do w (notify_act all l m at) ≡ true → MayHearBeside (rules_in w m) beside_site (condvar_of w l) t m all at (reply_to w t (notify_act all l m at))
+  pub notifier_hears : can_do w (notify_act all l m at) ≡ true
+      → MayHearBeside (rules_in w m) beside_site (condvar_of w l) t m all at (reply_to w t (notify_act all l m at))
   notifier_hears can = by_place at refl
     where
-      by_move : (b locked : Bool) → all ≡ b → at ≡ notify.Move locked → MayHearBeside (rules_in w m) beside_site (condvar_of w l) t m b (notify.Move locked) (reply_to w t (move_act b locked l m))
+      by_move : (b locked : Bool) → all ≡ b → at ≡ notify.Move locked
+          → MayHearBeside (rules_in w m) beside_site (condvar_of w l) t m b (notify.Move locked)
+          (reply_to w t (move_act b locked l m))
       by_move true true f e = (number_of true (queue_at w (2 * l)), subst (λ b. MoveFits (rules_in w m) b true (condvar_of w l) beside_site t m) f (fits_move true e))
       by_move true false f e = (number_of false (queue_at w (2 * l)), subst (λ b. MoveFits (rules_in w m) b false (condvar_of w l) beside_site t m) f (fits_move false e))
       by_move false true f e = subst (λ b. MoveFits (rules_in w m) b true (condvar_of w l) beside_site t m) f (fits_move true e)
       by_move false false f e = let k = subst (λ b. MoveFits (rules_in w m) b false (condvar_of w l) beside_site t m) f (fits_move false e) in (any_waits (queue_at w (2 * l)) k.some, k)
 
-      by_place : (p : NotifyAt) → at ≡ p → MayHearBeside (rules_in w m) beside_site (condvar_of w l) t m all p (reply_to w t (notify_act all l m p))
+      by_place : (p : NotifyAt) → at ≡ p
+          → MayHearBeside (rules_in w m) beside_site (condvar_of w l) t m all p (reply_to w t (notify_act all l m p))
       by_place notify.Enter e = free_beside w t l this steady is m refl (both (is_free w (2 * l)) (is_free w (2 * m)) (subst (λ q. can_do w (notify_act all l m q) ≡ true) e can)).1
       by_place notify.Again e = tt
       by_place notify.Hide e = tt

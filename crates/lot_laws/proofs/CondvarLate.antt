@@ -65,7 +65,8 @@ pub record IsLate (k : ℕ) (at : CondvarPlace) (key : ℕ) : Type 0 where
   pub awake : act_of (next_place (Condvar k at) Late) ≢ Sleep
 
 module _ (k : ℕ) where
-  late_wait : (m : ℕ) (s : Stands) → k ≢ m → (key : ℕ) → late_key (Condvar k (Wait m true (wait.Asleep s))) ≡ Some key → IsLate k (Wait m true (wait.Asleep s)) key
+  late_wait : (m : ℕ) (s : Stands) → k ≢ m → (key : ℕ) → late_key (Condvar k (Wait m true (wait.Asleep s))) ≡ Some key
+      → IsLate k (Wait m true (wait.Asleep s)) key
   late_wait m stands.Listed apart key h = record {
     lock = k;
     there = λ n fits. fits.0;
@@ -86,7 +87,8 @@ module _ (k : ℕ) where
   }
   late_wait m s apart key h = absurd cc
 
-  pub two_late : (at : CondvarPlace) → ((m : ℕ) → mutex_beside at ≡ Some m → k ≢ m) → (key : ℕ) → late_key (Condvar k at) ≡ Some key → IsLate k at key
+  pub two_late : (at : CondvarPlace) → ((m : ℕ) → mutex_beside at ≡ Some m → k ≢ m) → (key : ℕ)
+      → late_key (Condvar k at) ≡ Some key → IsLate k at key
   two_late (Wait m true (wait.Asleep s)) apart key h = late_wait m s (apart m refl) key h
   two_late (Wait m false (wait.Asleep s)) apart key h = absurd cc
   two_late (Wait m timed at) apart key h = absurd cc
@@ -94,7 +96,8 @@ module _ (k : ℕ) where
   two_late (Look all) apart key h = absurd cc
 
   -- who sleeps in a queue, in a wait with a deadline, may be late there
-  module _ (m : ℕ) (timed : Bool) (at : WaitAt) (l : ℕ) (n : Line) (stands : (station_at (Condvar k (Wait m timed at)) l).stands ≡ Some n) where
+  module _ (m : ℕ) (timed : Bool) (at : WaitAt) (l : ℕ) (n : Line)
+      (stands : (station_at (Condvar k (Wait m timed at)) l).stands ≡ Some n) where
     main : n ≡ Main
     main = by_line n stands
       where
@@ -102,19 +105,24 @@ module _ (k : ℕ) where
         by_line Main e = refl
         by_line Second e = absurd (two_stand_main k (Wait m timed at) l e)
 
-    in_one : (if k == l then in_line (wait_row m at).listed Main else if m == l then in_line (wait_row m at).moved Main else None) ≡ Some n
+    in_one : (if k == l then in_line (wait_row m at).listed Main else if m == l then in_line (wait_row m at).moved Main else None)
+        ≡ Some n
     in_one = sym (stands_at k (Wait m timed at) l) ∙ stands
 
   -- at the condition variable, or moved
-  there_listed : (m : ℕ) (row_listed row_moved : Bool) (l : ℕ) (n : Line) → (if k == l then in_line row_listed Main else if m == l then in_line row_moved Main else None) ≡ Some n → k ≡ l → row_listed ≡ true
+  there_listed : (m : ℕ) (row_listed row_moved : Bool) (l : ℕ) (n : Line)
+      → (if k == l then in_line row_listed Main else if m == l then in_line row_moved Main else None) ≡ Some n → k ≡ l
+      → row_listed ≡ true
   there_listed m true moved l n h e = refl
   there_listed m false moved l n h e = absurd (by_lock (k == l) (rw e (same l)) h)
     where
-      by_lock : (c : Bool) → c ≡ true → (if c then in_line false Main else if m == l then in_line moved Main else None) ≡ Some n → ⊥
+      by_lock : (c : Bool) → c ≡ true → (if c then in_line false Main else if m == l then in_line moved Main else None) ≡ Some n
+          → ⊥
       by_lock true f g = cc
       by_lock false f g = cc
 
-  nowhere_here : (m : ℕ) (l : ℕ) (n : Line) → (if k == l then in_line false Main else if m == l then in_line false Main else None) ≡ Some n → ⊥
+  nowhere_here : (m : ℕ) (l : ℕ) (n : Line)
+      → (if k == l then in_line false Main else if m == l then in_line false Main else None) ≡ Some n → ⊥
   nowhere_here m l n h = by_lock (k == l) (m == l) h
     where
       by_lock : (c d : Bool) → (if c then in_line false Main else if d then in_line false Main else None) ≡ Some n → ⊥
@@ -122,7 +130,11 @@ module _ (k : ℕ) where
       by_lock false true h = cc
       by_lock false false h = cc
 
-  asleep_late : (m : ℕ) (timed : Bool) (s : Stands) (l : ℕ) (r : ℕ → Rights) → IsTimed (call_state (Condvar k (Wait m timed (wait.Asleep s))) r).purpose (call_state (Condvar k (Wait m timed (wait.Asleep s))) r).recalls l → (n : Line) → (station_at (Condvar k (Wait m timed (wait.Asleep s))) l).stands ≡ Some n → late_key (Condvar k (Wait m timed (wait.Asleep s))) ≡ Some (key_of l n)
+  asleep_late : (m : ℕ) (timed : Bool) (s : Stands) (l : ℕ) (r : ℕ → Rights)
+      → IsTimed (call_state (Condvar k (Wait m timed (wait.Asleep s))) r).purpose
+      (call_state (Condvar k (Wait m timed (wait.Asleep s))) r).recalls l
+      → (n : Line) → (station_at (Condvar k (Wait m timed (wait.Asleep s))) l).stands ≡ Some n
+      → late_key (Condvar k (Wait m timed (wait.Asleep s))) ≡ Some (key_of l n)
   asleep_late m false s l r time n h = absurd (let e : false ≡ true = time.0 in cc)
   asleep_late m true stands.Listed l r time n h = elim time.1 [
     | inl e ↦ rw (main m true (wait.Asleep stands.Listed) l n h) (ap (λ j. Some (2 * j)) e)
@@ -136,7 +148,9 @@ module _ (k : ℕ) where
   asleep_late m true (stands.Handed by) l r time n h = absurd (nowhere_here m l n (in_one m true (wait.Asleep (stands.Handed by)) l n h))
   asleep_late m true (stands.Noted note) l r time n h = absurd (nowhere_here m l n (in_one m true (wait.Asleep (stands.Noted note)) l n h))
 
-  pub two_may_late : (at : CondvarPlace) → IsReached at → condvar_act k at ≡ Sleep → (l : ℕ) (r : ℕ → Rights) → IsTimed (call_state (Condvar k at) r).purpose (call_state (Condvar k at) r).recalls l → (n : Line) → (station_at (Condvar k at) l).stands ≡ Some n → late_key (Condvar k at) ≡ Some (key_of l n)
+  pub two_may_late : (at : CondvarPlace) → IsReached at → condvar_act k at ≡ Sleep → (l : ℕ) (r : ℕ → Rights)
+      → IsTimed (call_state (Condvar k at) r).purpose (call_state (Condvar k at) r).recalls l → (n : Line)
+      → (station_at (Condvar k at) l).stands ≡ Some n → late_key (Condvar k at) ≡ Some (key_of l n)
   two_may_late (Wait m timed (wait.Asleep s)) reached asleep l r time n h = asleep_late m timed s l r time n h
   two_may_late (Wait m timed (wait.Lock true at)) reached asleep l r time n h = absurd (elim time.1 [
     | inl e ↦ let f : false ≡ true = there_listed m false (wait_row m (wait.Lock true at)).moved l n (in_one m timed (wait.Lock true at) l n h) e in cc

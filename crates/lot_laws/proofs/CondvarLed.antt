@@ -99,7 +99,8 @@ Alike (next.At q) (next.At q2) = ((condvar_row q2).stage ≡ (condvar_row q).sta
 Alike (next.End answer) (next.End answer2) = Unit {0}
 Alike n n2 = ⊥
 
-module _ (w v : State) (t l : ℕ) (at : CondvarPlace) (told : Reply) (stands : Stands w) (stands_then : Stands v) (is : place_at w t ≡ Condvar l at)
+module _ (w v : State) (t l : ℕ) (at : CondvarPlace) (told : Reply) (stands : Stands w) (stands_then : Stands v)
+    (is : place_at w t ≡ Condvar l at)
     (n : Next CondvarPlace) (goes : place_at v t ≡ condvar_goes l n) (alike : Alike (condvar_next at told) n) (condvar : IsCondvar (condvar_of w l)) (hears : MayHear (condvar_of w l) t at told)
     (says : (u : ℕ) → u ≢ t → (stage_of (place_at v u) l ≡ stage_of (place_at w u) l) × (names_of (place_at v u) l ≡ names_of (place_at w u) l))
     (section : SectionChanges (section_at w (key_of l Main)) t (section_at v (key_of l Main))) where
@@ -145,7 +146,8 @@ module _ (w v : State) (t l : ℕ) (at : CondvarPlace) (told : Reply) (stands : 
   over : place_at v t ≡ Idle → IsInsideNot (condvar_of v l).inside t
   over idle = by_section (section_at v (key_of l Main)) refl
     where
-      by_section : (o : Option ℕ) → section_at v (key_of l Main) ≡ o → IsInsideNot (inside_as o (λ u. (profile_at (place_at v u) l).stage)) t
+      by_section : (o : Option ℕ) → section_at v (key_of l Main) ≡ o
+          → IsInsideNot (inside_as o (λ u. (profile_at (place_at v u) l).stage)) t
       by_section None e = tt
       by_section (Some u) e = λ own.
           let there : (station_at (place_at v t) l).inside ≡ Some Main = (stands_then.sections t l Main).1 (e ∙ ap Some own) in
@@ -162,7 +164,8 @@ module _ (w v : State) (t l : ℕ) (at : CondvarPlace) (told : Reply) (stands : 
       by_stage None a b = others a b
       by_stage (Some stage) a b = a ∙ sym b
 
-      by_next : (x n : Next CondvarPlace) → place_at v t ≡ condvar_goes l n → Alike x n → IsAtNext led t x → (condvar_of v l).inside ≡ led.inside
+      by_next : (x n : Next CondvarPlace) → place_at v t ≡ condvar_goes l n → Alike x n → IsAtNext led t x
+          → (condvar_of v l).inside ≡ led.inside
       by_next (next.At q) (next.At q2) there same_row at_next = by_stage (condvar_row q).stage (subst (IsAtStage (condvar_of v l) t) same_row.0 (at_place v stands_then t l q2 there).stage) at_next.stage
       by_next (next.End answer) (next.End answer2) there same_row away = others (over there) away.outside
       by_next x n there same_row at_next = absurd same_row
@@ -173,7 +176,8 @@ module _ (w v : State) (t l : ℕ) (at : CondvarPlace) (told : Reply) (stands : 
     | inr other ↦ names_then u other ∙ sym (deeds_names t (condvar_deeds at told) (condvar_of w l) u other)
   ]
     where
-      by_next : (x n : Next CondvarPlace) → place_at v t ≡ condvar_goes l n → Alike x n → IsAtNext led t x → (condvar_of v l).waits_with t ≡ led.waits_with t
+      by_next : (x n : Next CondvarPlace) → place_at v t ≡ condvar_goes l n → Alike x n → IsAtNext led t x
+          → (condvar_of v l).waits_with t ≡ led.waits_with t
       by_next (next.At q) (next.At q2) there same_row at_next = (at_place v stands_then t l q2 there).names ∙ same_row.1 ∙ sym at_next.names
       by_next (next.End answer) (next.End answer2) there same_row away = ap (λ p. (profile_at p l).names) there ∙ sym away.names
       by_next x n there same_row at_next = absurd same_row

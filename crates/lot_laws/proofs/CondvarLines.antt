@@ -73,10 +73,13 @@ inside_its c at key (inr h) = inr (h.0, h.1, h.2)
 -- ---------------------------------------------------------------- each place
 
 module _ (c m : ℕ) where
-  relock_lines : (timed late r : Bool) (a : LockAt) → IsLockOf a → IsActOfTwo c (Wait m timed (wait.Lock late (mutex.Lock entry.Lock r a))) (lock_act m a)
+  relock_lines : (timed late r : Bool) (a : LockAt) → IsLockOf a
+      → IsActOfTwo c (Wait m timed (wait.Lock late (mutex.Lock entry.Lock r a))) (lock_act m a)
   relock_lines timed late r (lock.Decide x) of = decides (is_locked x) (x == 1)
     where
-      decides : (a b : Bool) → IsActOfTwo c (Wait m timed (wait.Lock late (mutex.Lock entry.Lock r (lock.Decide x)))) (if not a then act.Word m (op.TheVariants.Exchange x (x + 1)) else if b then act.Word m (op.TheVariants.Exchange 1 3) else act.Enter (One (2 * m)))
+      decides : (a b : Bool)
+          → IsActOfTwo c (Wait m timed (wait.Lock late (mutex.Lock entry.Lock r (lock.Decide x))))
+          (if not a then act.Word m (op.TheVariants.Exchange x (x + 1)) else if b then act.Word m (op.TheVariants.Exchange 1 3) else act.Enter (One (2 * m)))
       decides false b = tt
       decides true true = tt
       decides true false = inr (m, refl, refl)
@@ -90,7 +93,8 @@ module _ (c m : ℕ) where
   relock_lines timed late r lock.Accept of = tt
   relock_lines timed late r a of = absurd of
 
-  wait_lines : (timed : Bool) (at : WaitAt) → IsReached (Wait m timed at) → IsActOfTwo c (Wait m timed at) (condvar_act c (Wait m timed at))
+  wait_lines : (timed : Bool) (at : WaitAt) → IsReached (Wait m timed at)
+      → IsActOfTwo c (Wait m timed at) (condvar_act c (Wait m timed at))
   wait_lines timed wait.Enter reached = inl refl
   wait_lines timed wait.Stand reached = (inl (refl, refl), (λ e. refl, λ e k f. absurd cc))
   wait_lines timed wait.Leave reached = inl (refl, refl)
@@ -131,7 +135,8 @@ condvar_lines c (Notify all m at) reached = notify_lines c m all at
 
 -- ---------------------------------------------------------------- the sections and queues that it touches
 
-module _ (w : State) (t c : ℕ) (at : CondvarPlace) (steady : IsSteady w) (is : place_at w t ≡ Condvar c at) (fits : FitsItsLock w (Condvar c at)) where
+module _ (w : State) (t c : ℕ) (at : CondvarPlace) (steady : IsSteady w) (is : place_at w t ≡ Condvar c at)
+    (fits : FitsItsLock w (Condvar c at)) where
   -- it holds each section in which its row has it
   pub holds_key : (key : ℕ) → IsInsideKey c at key → section_at w key ≡ Some t
   holds_key key (inl h) = ap (section_at w) h.0 ∙ (steady.stands.sections t c Main).0 (ap (λ (s : Station). s.inside) (station_there w steady.stands t c at is) ∙ h.1)
@@ -140,19 +145,26 @@ module _ (w : State) (t c : ℕ) (at : CondvarPlace) (steady : IsSteady w) (is :
 
   -- in no queue but that one it stands
   module _ (key : ℕ) (under : StandsUnder c at key) where
-    main_out : (k : ℕ) → 2 * k ≢ key → (o : Option Line) → o ≡ (if c == k then in_line (condvar_row at).listed Main else if is_lock k (mutex_beside at) then in_line (condvar_row at).moved Main else None) → stood_in o Main ≡ 0
+    main_out : (k : ℕ) → 2 * k ≢ key → (o : Option Line)
+        → o
+        ≡ (if c == k then in_line (condvar_row at).listed Main else if is_lock k (mutex_beside at) then in_line (condvar_row at).moved Main else None)
+        → stood_in o Main ≡ 0
     main_out k ne o e = rw e (by_lock (c == k) (mutex_beside at) refl refl)
       where
         listed : (b : Bool) → (condvar_row at).listed ≡ b → (c == k) ≡ true → stood_in (in_line b Main) Main ≡ 0
         listed true f g = absurd (ne (ap (λ j. 2 * j) (sym (eqb-true c k g)) ∙ sym (under.0 f)))
         listed false f g = refl
 
-        moved : (m : ℕ) → mutex_beside at ≡ Some m → (b d : Bool) → (condvar_row at).moved ≡ b → (m == k) ≡ d → stood_in (if d then in_line b Main else None) Main ≡ 0
+        moved : (m : ℕ) → mutex_beside at ≡ Some m → (b d : Bool) → (condvar_row at).moved ≡ b → (m == k) ≡ d
+            → stood_in (if d then in_line b Main else None) Main ≡ 0
         moved m names true true f g = absurd (ne (ap (λ j. 2 * j) (sym (eqb-true m k g)) ∙ sym (under.1 f m names)))
         moved m names false true f g = refl
         moved m names b false f g = refl
 
-        by_lock : (b : Bool) (o : Option ℕ) → (c == k) ≡ b → mutex_beside at ≡ o → stood_in (if b then in_line (condvar_row at).listed Main else if is_lock k o then in_line (condvar_row at).moved Main else None) Main ≡ 0
+        by_lock : (b : Bool) (o : Option ℕ) → (c == k) ≡ b → mutex_beside at ≡ o
+            → stood_in
+            (if b then in_line (condvar_row at).listed Main else if is_lock k o then in_line (condvar_row at).moved Main else None) Main
+            ≡ 0
         by_lock true o f g = listed (condvar_row at).listed refl f
         by_lock false None f g = refl
         by_lock false (Some m) f g = moved m g (condvar_row at).moved (m == k) refl refl
@@ -167,7 +179,8 @@ module _ (w : State) (t c : ℕ) (at : CondvarPlace) (steady : IsSteady w) (is :
     stood_out k Second ne = steady.stands.lines t k Second ∙ ap (λ p. stood_in (station_at p k).stands Second) is ∙ second_out k (station_at (Condvar c at) k).stands refl
 
     -- so where it leaves the queues, only that one changes
-    pub left_at : IsInsideKey c at key → (k : ℕ) → (get_or (map (without t) w.queues) k [] ≡ queue_at w k) ⊎ (section_at w k ≡ Some t)
+    pub left_at : IsInsideKey c at key → (k : ℕ)
+        → (get_or (map (without t) w.queues) k [] ≡ queue_at w k) ⊎ (section_at w k ≡ Some t)
     left_at within k = let of = line_of_key k in elim (cases_eq (key_of of.0 of.1) key) [
       | inl e ↦ inr (ap (section_at w) (of.2 ∙ e) ∙ holds_key key within)
       | inr ne ↦ inl (ap (λ j. get_or (map (without t) w.queues) j []) of.2 ∙ get_or-map (without t) w.queues (key_of of.0 of.1) [] ∙ without_absent t (queue_at w (key_of of.0 of.1)) (stood_out of.0 of.1 ne) ∙ sym (ap (queue_at w) of.2))

@@ -59,7 +59,8 @@ IsCalmEvent (AtLock l case) = IsCalm (Some case)
 IsCalmEvent (Moves c m all owned number) = ⊥
 
 -- behind it they follow, where they are as they were
-pub calm_follow : (w v : State) (t : ℕ) (e : Event) → Happens w v t e → IsCalmEvent e → ((u : ℕ) → u ≢ t → (r : ℕ → Rights) → call_state (place_at v u) r ≡ call_state (place_at w u) r) → OthersFollow w v t e
+pub calm_follow : (w v : State) (t : ℕ) (e : Event) → Happens w v t e → IsCalmEvent e
+    → ((u : ℕ) → u ≢ t → (r : ℕ → Rights) → call_state (place_at v u) r ≡ call_state (place_at w u) r) → OthersFollow w v t e
 calm_follow w v t Nothing h calm stay = others_follow w v t 0 None h tt stay
 calm_follow w v t (AtLock l case) h calm stay = others_follow w v t l (Some case) h (no_hand_off w v t l (Some case) h (Some case) calm) (by_case case calm)
   where
@@ -94,7 +95,8 @@ condvar_carries l m apart at of k ne = elim (cases_eq k l) [
 ]
 
 -- whom it took there is woken
-module _ (w : State) (t m : ℕ) (steady : IsSteady w) (carries : CarriesAt m (place_at w t)) (took : carried_at (place_at w t) m ≡ Some false) (p2 : Place) where
+module _ (w : State) (t m : ℕ) (steady : IsSteady w) (carries : CarriesAt m (place_at w t))
+    (took : carried_at (place_at w t) m ≡ Some false) (p2 : Place) where
   in_hand : (u : ℕ) → is_thread t (taker (place_at w u)) ≡ true → hand_at (place_at w u) m ≡ hand t false
   in_hand u e =
       let x : IsInHandOf (place_at w u) t = in_hand_where (place_at w u) t (aparts w steady u) e in
@@ -102,16 +104,20 @@ module _ (w : State) (t m : ℕ) (steady : IsSteady w) (carries : CarriesAt m (p
       let there : carried_at (place_at w t) m ≡ Some x.handed = steady.stands.hands.taken t u m x.handed here in
       here ∙ ap (hand t) (let g : Some x.handed ≡ Some false = sym there ∙ took in let f : x.handed ≡ false = cc in f)
 
-  pub wake_befalls : (b : State) → b.places ≡ w.places → Befalls w (put (state_after_telling b t (Woken Normal)) t p2) t m (Woken Normal)
+  pub wake_befalls : (b : State) → b.places ≡ w.places
+      → Befalls w (put (state_after_telling b t (Woken Normal)) t p2) t m (Woken Normal)
   wake_befalls b places u ne = get_or-set_other _ t u p2 Idle ne ∙ get_or-map (place_after_telling t (Woken Normal)) b.places u Idle ∙ ap (λ (xs : List Place). place_after_telling t (Woken Normal) (get_or xs u Idle)) places
       ∙ ap (λ c. if c then next_place (place_at w u) (Woken Normal) else place_at w u) (same_test (is_thread t (taker (place_at w u))) refl)
     where
-      same_test : (c : Bool) → is_thread t (taker (place_at w u)) ≡ c → is_thread t (taker (place_at w u)) ≡ is_taken_by t (taken_at (place_at w u) m)
+      same_test : (c : Bool) → is_thread t (taker (place_at w u)) ≡ c
+          → is_thread t (taker (place_at w u)) ≡ is_taken_by t (taken_at (place_at w u) m)
       same_test true e = e ∙ sym (taken_by_hand w (place_at w u) t m (steady.stands.calls u) (in_hand u e))
       same_test false e = e ∙ sym (unless_held w steady t m u (λ h. let f : is_thread t (taker (place_at w u)) ≡ true = held_tells (place_at w u) t m false h in cc))
 
   -- and their calls say so
-  pub wake_follows : (b : State) → b.places ≡ w.places → Happens w (put (state_after_telling b t (Woken Normal)) t p2) t (AtLock m locks.Wake) → OthersFollow w (put (state_after_telling b t (Woken Normal)) t p2) t (AtLock m locks.Wake)
+  pub wake_follows : (b : State) → b.places ≡ w.places
+      → Happens w (put (state_after_telling b t (Woken Normal)) t p2) t (AtLock m locks.Wake)
+      → OthersFollow w (put (state_after_telling b t (Woken Normal)) t p2) t (AtLock m locks.Wake)
   wake_follows b places h = others_follow w v t m (Some locks.Wake) h (λ x y e. cc) (wakes_others w v t m (wake_befalls b places))
     where
       v : State
@@ -162,7 +168,8 @@ module _ (w : State) (t l m : ℕ) (timed : Bool) (steady : IsSteady w) (plain :
   relocks late again at = wait.Lock late (mutex.Lock entry.Lock again at)
 
   -- of a place where it locks its mutex again, by what it does there
-  locks_quiet : (late again : Bool) (at : LockAt) → IsLonely (lock_act m at) → IsCalm (case_of None (lock_deeds at (reply_to w t (lock_act m at)))) → IsQuiet (relocks late again at)
+  locks_quiet : (late again : Bool) (at : LockAt) → IsLonely (lock_act m at)
+      → IsCalm (case_of None (lock_deeds at (reply_to w t (lock_act m at)))) → IsQuiet (relocks late again at)
   locks_quiet late again at h calm = alone (relocks late again at) h (two_calm m l _ _ calm (relocked (mutex_next (mutex.Lock entry.Lock again at) (reply_to w t (lock_act m at)))))
 
   decided_lonely : (x : ℕ) (a b : Bool) → IsLonely (decided_by m x a b)
@@ -179,7 +186,8 @@ module _ (w : State) (t l m : ℕ) (timed : Bool) (steady : IsSteady w) (plain :
   parked_calm true = tt
   parked_calm false = tt
 
-  relock_quiet : (late again : Bool) (at : LockAt) → IsLockOf at → can_do w (lock_act m at) ≡ true → IsQuiet (relocks late again at)
+  relock_quiet : (late again : Bool) (at : LockAt) → IsLockOf at → can_do w (lock_act m at) ≡ true
+      → IsQuiet (relocks late again at)
   relock_quiet late again lock.First of can = locks_quiet late again lock.First tt (entered (word_at w m == 0))
   relock_quiet late again lock.Load of can = locks_quiet late again lock.Load tt tt
   relock_quiet late again (lock.Decide x) of can = locks_quiet late again (lock.Decide x) (decided_lonely x (is_locked x) (x == 1)) (decided_calm x (is_locked x) (x == 1))
@@ -231,15 +239,19 @@ module _ (w : State) (t l m : ℕ) (timed : Bool) (steady : IsSteady w) (plain :
     behind p p2 = put (state_after_act w t (Condvar l (waits p)) (wait_act l m p)) t p2
 
     -- it wakes whom it took
-    wakes : (s : Stands) → place_at w t ≡ Condvar l (waits (wait.Release s (mutex.Unlock (unlock.Leave true)))) → (p2 : Place) → Happens w (behind (wait.Release s (mutex.Unlock (unlock.Leave true))) p2) t (AtLock m locks.Wake) → OthersFollow w (behind (wait.Release s (mutex.Unlock (unlock.Leave true))) p2) t (AtLock m locks.Wake)
+    wakes : (s : Stands) → place_at w t ≡ Condvar l (waits (wait.Release s (mutex.Unlock (unlock.Leave true)))) → (p2 : Place)
+        → Happens w (behind (wait.Release s (mutex.Unlock (unlock.Leave true))) p2) t (AtLock m locks.Wake)
+        → OthersFollow w (behind (wait.Release s (mutex.Unlock (unlock.Leave true))) p2) t (AtLock m locks.Wake)
     wakes s is p2 h = wake_follows w t m steady (subst (CarriesAt m) (sym is) (condvar_carries l m apart this refl)) (ap (λ q. carried_at q m) is ∙ ap (λ (y : Station). y.carries) (station_beside l m apart (At this) refl)) p2 (state_with_sections w (One (2 * m)) None) refl h
       where
         this : CondvarPlace
         this = waits (wait.Release s (mutex.Unlock (unlock.Leave true)))
 
-    calmly : (p : WaitAt) → IsReached (waits p) → can_do w (wait_act l m p) ≡ true → (IsWaking p → ⊥) → (p2 : Place) → Happens w (behind p p2) t (event p) → OthersFollow w (behind p p2) t (event p)
+    calmly : (p : WaitAt) → IsReached (waits p) → can_do w (wait_act l m p) ≡ true → (IsWaking p → ⊥) → (p2 : Place)
+        → Happens w (behind p p2) t (event p) → OthersFollow w (behind p p2) t (event p)
     calmly p reached can calm p2 h = let q = quiet p reached can calm in calm_follow w (behind p p2) t (event p) h q.calm (q.stays p2)
 
-    pub wait_others : (p : WaitAt) → IsReached (waits p) → place_at w t ≡ Condvar l (waits p) → can_do w (wait_act l m p) ≡ true → (p2 : Place) → Happens w (behind p p2) t (event p) → OthersFollow w (behind p p2) t (event p)
+    pub wait_others : (p : WaitAt) → IsReached (waits p) → place_at w t ≡ Condvar l (waits p) → can_do w (wait_act l m p) ≡ true
+        → (p2 : Place) → Happens w (behind p p2) t (event p) → OthersFollow w (behind p p2) t (event p)
     wait_others (wait.Release s (mutex.Unlock (unlock.Leave true))) reached is can p2 h = wakes s is p2 h
     wait_others p reached is can p2 h = calmly p reached can (λ e. e) p2 h

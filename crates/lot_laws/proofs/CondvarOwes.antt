@@ -68,7 +68,8 @@ notifier_stays : (all : Bool) (n : ℕ) (x : Next NotifyAt) (l : ℕ) (m : Line)
 notifier_stays all n (At at) l m e = e.2
 notifier_stays all n (Over answer) l m e = e
 
-locker_stays : (n : ℕ) (timed late : Bool) (x : Next MutexPlace) (l : ℕ) (m : Line) → EntersNext (in_wait n timed (relocked timed late x)) l m → ⊥
+locker_stays : (n : ℕ) (timed late : Bool) (x : Next MutexPlace) (l : ℕ) (m : Line)
+    → EntersNext (in_wait n timed (relocked timed late x)) l m → ⊥
 locker_stays n timed late (At at) l m e = e.2
 locker_stays n timed late (Over answer) l m e = e
 
@@ -83,17 +84,24 @@ module _ (w : State) (t k : ℕ) where
   next_of at q = condvar_next q (reply_to w t (condvar_act k at))
 
   -- it enters the section next only from its release, where that saw the bit
-  release_enters : (n : ℕ) (timed : Bool) (s s2 : Stands) (at : MutexPlace) → IsReached (Wait n timed (wait.Release s at)) → (l : ℕ) (m : Line)
-      → EntersNext (next_of (Wait n timed (wait.Release s at)) (Wait n timed (wait.Release s2 at))) l m → SeesAt w (Wait n timed (wait.Release s at)) l m
+  release_enters : (n : ℕ) (timed : Bool) (s s2 : Stands) (at : MutexPlace) → IsReached (Wait n timed (wait.Release s at))
+      → (l : ℕ) (m : Line)
+      → EntersNext (next_of (Wait n timed (wait.Release s at)) (Wait n timed (wait.Release s2 at))) l m
+      → SeesAt w (Wait n timed (wait.Release s at)) l m
   release_enters n timed s s2 (mutex.Unlock unlock.Subtract) reached l m e = by_bit (is_parked (word_at w n)) refl e
     where
-      by_bit : (b : Bool) → is_parked (word_at w n) ≡ b → EntersAt (Wait n timed (released s2 (in_unlock (if b then At unlock.Enter else Over answer.Ok)))) l m → (n ≡ l) × (m ≡ Main) × (is_parked (word_at w n) ≡ true)
+      by_bit : (b : Bool) → is_parked (word_at w n) ≡ b
+          → EntersAt (Wait n timed (released s2 (in_unlock (if b then At unlock.Enter else Over answer.Ok)))) l m
+          → (n ≡ l) × (m ≡ Main) × (is_parked (word_at w n) ≡ true)
       by_bit true parked e = ((let names = e.0 in cc), e.1, parked)
       by_bit false parked e = absurd (sleeper_stays n timed s2 e.2)
   release_enters n timed s s2 (mutex.Unlock unlock.Enter) reached l m e = absurd e.2
   release_enters n timed s s2 (mutex.Unlock unlock.Take) reached l m e = absurd (by_left _ _ e)
     where
-      by_left : (any none_left : Bool) → EntersAt (Wait n timed (released s2 (in_unlock (if none_left then At (unlock.Clear any) else At (unlock.Leave any))))) l m → ⊥
+      by_left : (any none_left : Bool)
+          → EntersAt
+          (Wait n timed (released s2 (in_unlock (if none_left then At (unlock.Clear any) else At (unlock.Leave any))))) l m
+          → ⊥
       by_left any true e = e.2
       by_left any false e = e.2
   release_enters n timed s s2 (mutex.Unlock (unlock.Clear any)) reached l m e = absurd e.2
@@ -101,7 +109,8 @@ module _ (w : State) (t k : ℕ) where
   release_enters n timed s s2 at reached l m e = absurd reached.0
 
   -- from any other place of a wait it doesn't
-  calm_stays : (n : ℕ) (timed : Bool) (at : WaitAt) → is_release at ≡ false → (l : ℕ) (m : Line) → EntersNext (next_of (Wait n timed at) (Wait n timed at)) l m → ⊥
+  calm_stays : (n : ℕ) (timed : Bool) (at : WaitAt) → is_release at ≡ false → (l : ℕ) (m : Line)
+      → EntersNext (next_of (Wait n timed at) (Wait n timed at)) l m → ⊥
   calm_stays n timed (wait.Release s at) calm l m e = cc
   calm_stays n timed wait.Enter calm l m e = e.2
   calm_stays n timed wait.Show calm l m e = by_word ((word_at w k == 0) || is_shown (word_at w k) n) e
@@ -124,10 +133,12 @@ module _ (w : State) (t k : ℕ) where
   calm_stays n timed (wait.GiveUpMoved none_left) calm l m e = e.2
   calm_stays n timed (wait.Lock late at) calm l m e = locker_stays n timed late (mutex_next at (reply_to w t (mutex_act n at))) l m e
 
-  enters_seeing : (at q : CondvarPlace) → IsReached at → IsStill at q → (l : ℕ) (m : Line) → EntersNext (next_of at q) l m → SeesAt w at l m
+  enters_seeing : (at q : CondvarPlace) → IsReached at → IsStill at q → (l : ℕ) (m : Line) → EntersNext (next_of at q) l m
+      → SeesAt w at l m
   enters_seeing (Look all) q reached still l m e = absurd (by_word (word_at w k == 0) (subst (λ x. EntersNext (next_of (Look all) x) l m) still e))
     where
-      by_word : (b : Bool) → EntersNext (if b then Over (notified all 0) else At (Notify all (mutex_shown (word_at w k)) notify.Enter)) l m → ⊥
+      by_word : (b : Bool)
+          → EntersNext (if b then Over (notified all 0) else At (Notify all (mutex_shown (word_at w k)) notify.Enter)) l m → ⊥
       by_word true e = e
       by_word false e = e.2
   enters_seeing (Notify all n at) q reached still l m e = absurd (notifier_stays all n (next_notify all n at (reply_to w t (notify_act all k n at))) l m (subst (λ x. EntersNext (next_of (Notify all n at) x) l m) still e))
@@ -161,7 +172,8 @@ IsReleasingNow at = ⊥
 
 module _ (w : State) (t k n : ℕ) (timed : Bool) (r : ℕ → Rights) where
   -- only then it has released its mutex behind a step before which it hadn't
-  calm_unreleased : (at : WaitAt) → is_release at ≡ false → has_released at ≡ false → has_released_at k (next_of w t k (Wait n timed at) (Wait n timed at)) r ≡ true → ⊥
+  calm_unreleased : (at : WaitAt) → is_release at ≡ false → has_released at ≡ false
+      → has_released_at k (next_of w t k (Wait n timed at) (Wait n timed at)) r ≡ true → ⊥
   calm_unreleased (wait.Release s at) calm before later = cc
   calm_unreleased wait.Enter calm before later = cc
   calm_unreleased wait.Show calm before later = by_word ((word_at w k == 0) || is_shown (word_at w k) n) later
@@ -174,7 +186,8 @@ module _ (w : State) (t k n : ℕ) (timed : Bool) (r : ℕ → Rights) where
   calm_unreleased wait.Refuse calm before later = cc
   calm_unreleased at calm before later = cc
 
-  releases_now : (at : WaitAt) (q : CondvarPlace) → IsReached (Wait n timed at) → IsStill (Wait n timed at) q → has_released at ≡ false → has_released_at k (next_of w t k (Wait n timed at) q) r ≡ true → IsReleasingNow at
+  releases_now : (at : WaitAt) (q : CondvarPlace) → IsReached (Wait n timed at) → IsStill (Wait n timed at) q
+      → has_released at ≡ false → has_released_at k (next_of w t k (Wait n timed at) q) r ≡ true → IsReleasingNow at
   releases_now (wait.Release s (mutex.Unlock unlock.Subtract)) q reached still before later = tt
   releases_now (wait.Release s (mutex.Unlock unlock.Enter)) q reached still before later = absurd cc
   releases_now (wait.Release s (mutex.Unlock unlock.Take)) q reached still before later = absurd cc
@@ -185,14 +198,16 @@ module _ (w : State) (t k n : ℕ) (timed : Bool) (r : ℕ → Rights) where
 
 -- ---------------------------------------------------------------- a step
 
-module _ (w : State) (t k : ℕ) (at : CondvarPlace) (steady : IsSteady w) (is : place_at w t ≡ Condvar k at) (there : t < length w.places) where
+module _ (w : State) (t k : ℕ) (at : CondvarPlace) (steady : IsSteady w) (is : place_at w t ≡ Condvar k at)
+    (there : t < length w.places) where
   abbrev fits : FitsCondvar w k at
   fits = fits_here w t k at steady is
 
   abbrev v : State
   v = state_after_going w t (Condvar k at)
 
-  abbrev still : (q : CondvarPlace) × (place_at (state_after_act w t (Condvar k at) (condvar_act k at)) t ≡ Condvar k q) × IsStill at q
+  abbrev still : (q : CondvarPlace) × (place_at (state_after_act w t (Condvar k at) (condvar_act k at)) t ≡ Condvar k q)
+      × IsStill at q
   still = own_place w t k at is fits.reached there
 
   abbrev n : Next CondvarPlace
@@ -206,7 +221,8 @@ module _ (w : State) (t k : ℕ) (at : CondvarPlace) (steady : IsSteady w) (is :
 
   module _ (l : ℕ) (m : Line) where
     -- what it sees there, its call does
-    sees_by : (o : Outcome) → SeesAt w at l m → o ≡ told.Step → (call_at v t).released ≡ true → ((j : ℕ) → LooksFirst (call_at v t).purpose j → ⊥) → SeesBy w t l m o v (call_state (Condvar k at) (rights w t))
+    sees_by : (o : Outcome) → SeesAt w at l m → o ≡ told.Step → (call_at v t).released ≡ true
+        → ((j : ℕ) → LooksFirst (call_at v t).purpose j → ⊥) → SeesBy w t l m o v (call_state (Condvar k at) (rights w t))
     sees_by o sees step released looks = by_place at refl sees
       where
         by_place : (p : CondvarPlace) → at ≡ p → SeesAt w p l m → SeesBy w t l m o v (call_state (Condvar k p) (rights w t))
@@ -232,11 +248,14 @@ module _ (w : State) (t k : ℕ) (at : CondvarPlace) (steady : IsSteady w) (is :
         unshared : k ≡ l → has_readers (sort_at w l) ≡ true → ⊥
         unshared here readers = let shared : false ≡ true = sym (ap has_readers (ap (sort_at w) (sym here) ∙ fits.sort)) ∙ readers in cc
 
-        by_release : (j : ℕ) (timed : Bool) (a : WaitAt) → IsReleasingNow a → j ≡ l → m ≡ Main → is_parked (word_at w j) ≡ true → SeesAt w (Wait j timed a) l m
+        by_release : (j : ℕ) (timed : Bool) (a : WaitAt) → IsReleasingNow a → j ≡ l → m ≡ Main → is_parked (word_at w j) ≡ true
+            → SeesAt w (Wait j timed a) l m
         by_release j timed (wait.Release s (mutex.Unlock unlock.Subtract)) now here main parked = (here, main, parked)
         by_release j timed a now here main parked = absurd now
 
-        by_wait : (j : ℕ) (timed : Bool) (a : WaitAt) → at ≡ Wait j timed a → j ≡ l → has_released a ≡ false → (call_at v t).released ≡ true → m ≡ Main → tells_of (sort_at w l) m (word_at w l) ≡ true → SeesAt w (Wait j timed a) l m
+        by_wait : (j : ℕ) (timed : Bool) (a : WaitAt) → at ≡ Wait j timed a → j ≡ l → has_released a ≡ false
+            → (call_at v t).released ≡ true → m ≡ Main → tells_of (sort_at w l) m (word_at w l) ≡ true
+            → SeesAt w (Wait j timed a) l m
         by_wait j timed a e here before later main saw =
             let sort : sort_at w l ≡ locks.Mutex = ap (sort_at w) (sym here) ∙ rules_beside w t k at steady is j (ap mutex_beside e) in
             let parked : is_parked (word_at w l) ≡ true = subst (λ (x : Sort). tells_of x Main (word_at w l) ≡ true) sort (subst (λ x. tells_of (sort_at w l) x (word_at w l) ≡ true) main saw) in
@@ -254,7 +273,8 @@ module _ (w : State) (t k : ℕ) (at : CondvarPlace) (steady : IsSteady w) (is :
         ]
 
   -- it owes what it is inside, and what it has seen
-  pub went_owing : IsSteady v → (l : ℕ) (m : Line) → Owes v t l m ↔ (IsInside v t l m ⊎ SeesWaiters w t l m (going_outcome w t (Condvar k at)) v)
+  pub went_owing : IsSteady v → (l : ℕ) (m : Line)
+      → Owes v t l m ↔ (IsInside v t l m ⊎ SeesWaiters w t l m (going_outcome w t (Condvar k at)) v)
   went_owing behind l m = subst (λ o. Owes v t l m ↔ (IsInside v t l m ⊎ SeesWaiters w t l m o v)) (sym tells) (by_next n refl goes)
     where
       called : (o : Outcome) → SeesBy w t l m o v (call_state (Condvar k at) (rights w t)) → SeesWaiters w t l m o v
@@ -263,7 +283,8 @@ module _ (w : State) (t k : ℕ) (at : CondvarPlace) (steady : IsSteady w) (is :
       calls : (o : Outcome) → SeesWaiters w t l m o v → SeesBy w t l m o v (call_state (Condvar k at) (rights w t))
       calls o sees = subst (λ p. SeesBy w t l m o v (call_state p (rights w t))) is sees
 
-      by_next : (x : Next CondvarPlace) → n ≡ x → place_at v t ≡ condvar_goes k x → Owes v t l m ↔ (IsInside v t l m ⊎ SeesWaiters w t l m (outcome_of (condvar_does k x)) v)
+      by_next : (x : Next CondvarPlace) → n ≡ x → place_at v t ≡ condvar_goes k x
+          → Owes v t l m ↔ (IsInside v t l m ⊎ SeesWaiters w t l m (outcome_of (condvar_does k x)) v)
       by_next (Over answer) e stands = (
         (λ h. absurd (let none : ◌≡◌ {A = Option Line} None (Some m) = subst (λ p. line_owed p l ≡ Some m) stands h in cc)),
         λ h. elim h [
@@ -297,7 +318,8 @@ pub record GoesLate (k : ℕ) (at : CondvarPlace) : Type 0 where
   pub shut : (w : State) (t l : ℕ) (r : ℕ → Rights) → LetsBy w t l (call_state (Condvar k at) r) → ⊥
 
 -- a wait that sleeps has released its mutex
-sleeper_shut : (k j : ℕ) (timed : Bool) (s : Stands) (w : State) (t l : ℕ) (r : ℕ → Rights) → LetsBy w t l (call_state (Condvar k (Wait j timed (wait.Asleep s))) r) → ⊥
+sleeper_shut : (k j : ℕ) (timed : Bool) (s : Stands) (w : State) (t l : ℕ) (r : ℕ → Rights)
+    → LetsBy w t l (call_state (Condvar k (Wait j timed (wait.Asleep s))) r) → ⊥
 sleeper_shut k j timed s w t l r h = elim h [
   | inl releases ↦ let released : true ≡ false = releases.1 in cc
   | inr shared ↦ elim shared.1 [ inl less ↦ less | inr left ↦ let none : ◌≡◌ {A = Option ℕ} None (Some l) = left.0 in cc ]
@@ -318,7 +340,8 @@ first_calm (call.Wait j timed) e = e
 first_calm (call.Notify all) e = e
 
 -- who lets nobody in and isn't on its way owes what it is inside
-pub calm_owing : (w v : State) (t k : ℕ) (at : CondvarPlace) → IsSteady v → place_at v t ≡ Condvar k at → (IsEntering at → ⊥) → ((l : ℕ) → LetsOthersIn w t l → ⊥)
+pub calm_owing : (w v : State) (t k : ℕ) (at : CondvarPlace) → IsSteady v → place_at v t ≡ Condvar k at → (IsEntering at → ⊥)
+    → ((l : ℕ) → LetsOthersIn w t l → ⊥)
     → (l : ℕ) (m : Line) (o : Outcome) → Owes v t l m ↔ (IsInside v t l m ⊎ SeesWaiters w t l m o v)
 calm_owing w v t k at behind is calm shut l m o = (
   (λ h. elim ((two_owe v t behind k at is l m).0 h) [ inl i ↦ inl i | inr enters ↦ absurd (calm enters.2) ]),

@@ -38,26 +38,32 @@ owes_none c m k = either (m == k) (c == k)
     either false true = refl
     either false false = refl
 
-relocked_owes : (c m : ℕ) (timed late : Bool) (n : Next MutexPlace) (k : ℕ) → line_owed (condvar_goes c (in_wait m timed (relocked timed late n))) k ≡ owed_beside c m (profile (mutex_goes m n)).owes k
+relocked_owes : (c m : ℕ) (timed late : Bool) (n : Next MutexPlace) (k : ℕ)
+    → line_owed (condvar_goes c (in_wait m timed (relocked timed late n))) k ≡ owed_beside c m (profile (mutex_goes m n)).owes k
 relocked_owes c m timed late (next.At at) k = refl
 relocked_owes c m timed late (next.End answer) k = owes_none c m k
 
 -- by what it owes in a call of the mutex
-mutex_owes : (m : ℕ) (at : MutexPlace) (r : Reply) → Befalls r → (profile (mutex_goes m (mutex_next at r))).owes ≡ (profile (Mutex m at)).owes
+mutex_owes : (m : ℕ) (at : MutexPlace) (r : Reply) → Befalls r
+    → (profile (mutex_goes m (mutex_next at r))).owes ≡ (profile (Mutex m at)).owes
 mutex_owes m at r b = sym (own (mutex_next at r)) ∙ mutex_befallen m at r b m ∙ own (next.At at)
   where
     own : (n : Next MutexPlace) → line_owed (mutex_goes m n) m ≡ (profile (mutex_goes m n)).owes
     own (next.At q) = ap (λ b. or_else None (if b then (profile (Mutex m q)).owes else None)) (same m)
     own (next.End answer) = refl
 
-release_owes : (c m : ℕ) (timed : Bool) (s : Stands) (at : MutexPlace) (r : Reply) → Befalls r → (k : ℕ) → line_owed (next_place (Condvar c (Wait m timed (wait.Release s at))) r) k ≡ line_owed (Condvar c (Wait m timed (wait.Release s at))) k
+release_owes : (c m : ℕ) (timed : Bool) (s : Stands) (at : MutexPlace) (r : Reply) → Befalls r → (k : ℕ)
+    → line_owed (next_place (Condvar c (Wait m timed (wait.Release s at))) r) k
+    ≡ line_owed (Condvar c (Wait m timed (wait.Release s at))) k
 release_owes c m timed s at (TakenBy t) b k = refl
 release_owes c m timed s at (MovedTo key) b k = refl
 release_owes c m timed s at (HandedBy t alone) b k = refl
 release_owes c m timed s at (Woken n) b k = refl
 release_owes c m timed s at r b k = absurd b
 
-asleep_owes : (c m : ℕ) (timed : Bool) (s : Stands) (r : Reply) → Befalls r → (k : ℕ) → line_owed (next_place (Condvar c (Wait m timed (wait.Asleep s))) r) k ≡ line_owed (Condvar c (Wait m timed (wait.Asleep s))) k
+asleep_owes : (c m : ℕ) (timed : Bool) (s : Stands) (r : Reply) → Befalls r → (k : ℕ)
+    → line_owed (next_place (Condvar c (Wait m timed (wait.Asleep s))) r) k
+    ≡ line_owed (Condvar c (Wait m timed (wait.Asleep s))) k
 asleep_owes c m timed s (TakenBy t) b k = refl
 asleep_owes c m timed s (MovedTo key) b k = refl
 asleep_owes c m timed s (HandedBy t alone) b k = refl
@@ -65,7 +71,8 @@ asleep_owes c m timed s (Woken note.Normal) b k = refl
 asleep_owes c m timed s (Woken note.HandOff) b k = refl
 asleep_owes c m timed s r b k = absurd b
 
-wait_owes : (c m : ℕ) (timed : Bool) (at : WaitAt) (r : Reply) → Befalls r → (k : ℕ) → line_owed (next_place (Condvar c (Wait m timed at)) r) k ≡ line_owed (Condvar c (Wait m timed at)) k
+wait_owes : (c m : ℕ) (timed : Bool) (at : WaitAt) (r : Reply) → Befalls r → (k : ℕ)
+    → line_owed (next_place (Condvar c (Wait m timed at)) r) k ≡ line_owed (Condvar c (Wait m timed at)) k
 wait_owes c m timed (wait.Release s at) r b k = release_owes c m timed s at r b k
 wait_owes c m timed (wait.Asleep s) r b k = asleep_owes c m timed s r b k
 wait_owes c m timed (wait.Lock late at) r b k = relocked_owes c m timed late (mutex_next at r) k ∙ ap (λ o. owed_beside c m o k) (mutex_owes m at r b)
@@ -75,7 +82,8 @@ wait_owes c m timed at (HandedBy t alone) b k = refl
 wait_owes c m timed at (Woken n) b k = refl
 wait_owes c m timed at r b k = absurd b
 
-notify_owes : (c m : ℕ) (all : Bool) (at : NotifyAt) (r : Reply) → Befalls r → (k : ℕ) → line_owed (next_place (Condvar c (Notify all m at)) r) k ≡ line_owed (Condvar c (Notify all m at)) k
+notify_owes : (c m : ℕ) (all : Bool) (at : NotifyAt) (r : Reply) → Befalls r → (k : ℕ)
+    → line_owed (next_place (Condvar c (Notify all m at)) r) k ≡ line_owed (Condvar c (Notify all m at)) k
 notify_owes c m all notify.Enter (TakenBy t) b k = refl
 notify_owes c m all notify.Enter (MovedTo key) b k = refl
 notify_owes c m all notify.Enter (HandedBy t alone) b k = refl
@@ -86,7 +94,8 @@ notify_owes c m all at (HandedBy t alone) b k = refl
 notify_owes c m all at (Woken n) b k = refl
 notify_owes c m all at r b k = absurd b
 
-pub condvar_befallen : (c : ℕ) (at : CondvarPlace) (r : Reply) → Befalls r → (k : ℕ) → line_owed (next_place (Condvar c at) r) k ≡ line_owed (Condvar c at) k
+pub condvar_befallen : (c : ℕ) (at : CondvarPlace) (r : Reply) → Befalls r → (k : ℕ)
+    → line_owed (next_place (Condvar c at) r) k ≡ line_owed (Condvar c at) k
 condvar_befallen c (Wait m timed at) r b k = wait_owes c m timed at r b k
 condvar_befallen c (Notify all m at) r b k = notify_owes c m all at r b k
 condvar_befallen c (Look all) (TakenBy t) b k = refl

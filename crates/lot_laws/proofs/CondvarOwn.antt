@@ -46,10 +46,12 @@ module _ (l : ℕ) where
   abbrev Keeps : CondvarPlace → Reply → Type 0
   Keeps at r = (p : Place) → StandsAt l at p → StandsAt l at (next_place p r)
 
-  releases : (m : ℕ) (timed : Bool) (s : Stands) (a : MutexPlace) (r : Reply) → Befalls r → Keeps (Wait m timed (wait.Release s a)) r
+  releases : (m : ℕ) (timed : Bool) (s : Stands) (a : MutexPlace) (r : Reply) → Befalls r
+      → Keeps (Wait m timed (wait.Release s a)) r
   releases m timed s a r h p stood = subst (λ x. StandsAt l (Wait m timed (wait.Release s a)) (next_place x r)) (sym (stood.1 ∙ ap (Condvar l) stood.2.1)) (told stood.2.0 r h)
     where
-      told : (s2 : Stands) (r : Reply) → Befalls r → StandsAt l (Wait m timed (wait.Release s a)) (next_place (Condvar l (Wait m timed (wait.Release s2 a))) r)
+      told : (s2 : Stands) (r : Reply) → Befalls r
+          → StandsAt l (Wait m timed (wait.Release s a)) (next_place (Condvar l (Wait m timed (wait.Release s2 a))) r)
       told s2 (TakenBy t) h = (Wait m timed (wait.Release (befallen s2 (TakenBy t)) a), refl, (befallen s2 (TakenBy t), refl))
       told s2 (MovedTo key) h = (Wait m timed (wait.Release (befallen s2 (MovedTo key)) a), refl, (befallen s2 (MovedTo key), refl))
       told s2 (HandedBy t alone) h = (Wait m timed (wait.Release (befallen s2 (HandedBy t alone)) a), refl, (befallen s2 (HandedBy t alone), refl))
@@ -72,7 +74,10 @@ module _ (l : ℕ) where
   quietly : (m : ℕ) (a : LockAt) → IsLockOf a → tells (lock_act m a) ≡ false
   quietly m (lock.Decide seen) of = decides (is_locked seen) (seen == 1)
     where
-      decides : (a b : Bool) → tells (if not a then act.Word m (op.TheVariants.Exchange seen (seen + 1)) else if b then act.Word m (op.TheVariants.Exchange 1 3) else act.Enter (One (2 * m))) ≡ false
+      decides : (a b : Bool)
+          → tells
+          (if not a then act.Word m (op.TheVariants.Exchange seen (seen + 1)) else if b then act.Word m (op.TheVariants.Exchange 1 3) else act.Enter (One (2 * m)))
+          ≡ false
       decides false b = refl
       decides true true = refl
       decides true false = refl
@@ -126,7 +131,8 @@ still_self (Wait m timed at) = refl
 still_self (Look all) = refl
 still_self (Notify all m at) = refl
 
-module _ (w : State) (t l : ℕ) (at : CondvarPlace) (is : place_at w t ≡ Condvar l at) (reached : IsReached at) (there : t < length w.places) where
+module _ (w : State) (t l : ℕ) (at : CondvarPlace) (is : place_at w t ≡ Condvar l at) (reached : IsReached at)
+    (there : t < length w.places) where
   pub own_place : StandsAt l at (place_at (state_after_act w t (Condvar l at) (condvar_act l at)) t)
   own_place = acted_keeps (StandsAt l at) w t t (Condvar l at) (condvar_act l at) (act_keeps l at reached) (at, is, still_self at)
 
@@ -148,18 +154,22 @@ module _ (w : State) (t l : ℕ) (at : CondvarPlace) (is : place_at w t ≡ Cond
   went_alike = still_alike at own_place.0 (reply_to w t (condvar_act l at)) own_place.2
 
 -- who notifies stands where it stood
-pub notifier_still : (w : State) (t l m : ℕ) (all : Bool) (p : NotifyAt) (is : place_at w t ≡ Condvar l (Notify all m p)) (reached : IsReached (Notify all m p)) (there : t < length w.places)
+pub notifier_still : (w : State) (t l m : ℕ) (all : Bool) (p : NotifyAt) (is : place_at w t ≡ Condvar l (Notify all m p))
+    (reached : IsReached (Notify all m p)) (there : t < length w.places)
     → place_at (state_after_act w t (Condvar l (Notify all m p)) (condvar_act l (Notify all m p))) t ≡ Condvar l (Notify all m p)
 notifier_still w t l m all p is reached there = let own = own_place w t l (Notify all m p) is reached there in own.1 ∙ ap (Condvar l) own.2
 
 -- who notifies, or looks, goes on from where it stood
-pub notify_place : (w : State) (t l m : ℕ) (all : Bool) (p : NotifyAt) (is : place_at w t ≡ Condvar l (Notify all m p)) (reached : IsReached (Notify all m p)) (there : t < length w.places)
-    → place_at (state_after_going w t (Condvar l (Notify all m p))) t ≡ condvar_goes l (condvar_next (Notify all m p) (reply_to w t (condvar_act l (Notify all m p))))
+pub notify_place : (w : State) (t l m : ℕ) (all : Bool) (p : NotifyAt) (is : place_at w t ≡ Condvar l (Notify all m p))
+    (reached : IsReached (Notify all m p)) (there : t < length w.places)
+    → place_at (state_after_going w t (Condvar l (Notify all m p))) t
+    ≡ condvar_goes l (condvar_next (Notify all m p) (reply_to w t (condvar_act l (Notify all m p))))
 unfolding went
 notify_place w t l m all p is reached there = went_place w t l (Notify all m p) is reached there ∙ ap (λ q. condvar_goes l (condvar_next q (reply_to w t (condvar_act l (Notify all m p))))) (own_place w t l (Notify all m p) is reached there).2
 
 pub look_place : (w : State) (t l : ℕ) (all : Bool) (is : place_at w t ≡ Condvar l (Look all)) (there : t < length w.places)
-    → place_at (state_after_going w t (Condvar l (Look all))) t ≡ condvar_goes l (condvar_next (Look all) (reply_to w t (condvar_act l (Look all))))
+    → place_at (state_after_going w t (Condvar l (Look all))) t
+    ≡ condvar_goes l (condvar_next (Look all) (reply_to w t (condvar_act l (Look all))))
 unfolding went
 look_place w t l all is there = went_place w t l (Look all) is tt there ∙ ap (λ q. condvar_goes l (condvar_next q (reply_to w t (condvar_act l (Look all))))) (own_place w t l (Look all) is tt there).2
 
@@ -169,16 +179,22 @@ is_release (wait.Release s a) = true
 is_release p = false
 
 -- any other goes on from where it stood
-calm_still : (m : ℕ) (timed : Bool) (p : WaitAt) (q : CondvarPlace) → is_release p ≡ false → IsStill (Wait m timed p) q → q ≡ Wait m timed p
+calm_still : (m : ℕ) (timed : Bool) (p : WaitAt) (q : CondvarPlace) → is_release p ≡ false → IsStill (Wait m timed p) q
+    → q ≡ Wait m timed p
 calm_still m timed (wait.Release s a) q calm still = absurd cc
 calm_still m timed p q calm still = still
 
-pub calm_waiter : (w : State) (t l m : ℕ) (timed : Bool) (p : WaitAt) (is : place_at w t ≡ Condvar l (Wait m timed p)) (reached : IsReached (Wait m timed p)) (there : t < length w.places) → is_release p ≡ false
+pub calm_waiter : (w : State) (t l m : ℕ) (timed : Bool) (p : WaitAt) (is : place_at w t ≡ Condvar l (Wait m timed p))
+    (reached : IsReached (Wait m timed p)) (there : t < length w.places)
+    → is_release p ≡ false
     → place_at (state_after_act w t (Condvar l (Wait m timed p)) (condvar_act l (Wait m timed p))) t ≡ Condvar l (Wait m timed p)
 calm_waiter w t l m timed p is reached there calm = let own = own_place w t l (Wait m timed p) is reached there in own.1 ∙ ap (Condvar l) (calm_still m timed p _ calm own.2)
 
-pub wait_place : (w : State) (t l m : ℕ) (timed : Bool) (p : WaitAt) (is : place_at w t ≡ Condvar l (Wait m timed p)) (reached : IsReached (Wait m timed p)) (there : t < length w.places) → is_release p ≡ false
-    → place_at (state_after_going w t (Condvar l (Wait m timed p))) t ≡ condvar_goes l (condvar_next (Wait m timed p) (reply_to w t (condvar_act l (Wait m timed p))))
+pub wait_place : (w : State) (t l m : ℕ) (timed : Bool) (p : WaitAt) (is : place_at w t ≡ Condvar l (Wait m timed p))
+    (reached : IsReached (Wait m timed p)) (there : t < length w.places)
+    → is_release p ≡ false
+    → place_at (state_after_going w t (Condvar l (Wait m timed p))) t
+    ≡ condvar_goes l (condvar_next (Wait m timed p) (reply_to w t (condvar_act l (Wait m timed p))))
 unfolding went
 wait_place w t l m timed p is reached there calm = went_place w t l (Wait m timed p) is reached there
     ∙ ap (λ q. condvar_goes l (condvar_next q (reply_to w t (condvar_act l (Wait m timed p))))) (calm_still m timed p _ calm (own_place w t l (Wait m timed p) is reached there).2)

@@ -66,7 +66,8 @@ module _ (l m : ℕ) (apart : m ≢ l) where
     pub taken_beside : taken_at place m ≡ taken_from (row_beside n).hand (row_beside n).wants true
     taken_beside = by_next n beside
       where
-        by_next : (n : Next CondvarPlace) → Beside m n → taken_at (condvar_goes l n) m ≡ taken_from (row_beside n).hand (row_beside n).wants true
+        by_next : (n : Next CondvarPlace) → Beside m n
+            → taken_at (condvar_goes l n) m ≡ taken_from (row_beside n).hand (row_beside n).wants true
         by_next (At p) e = rw (there_differ, e, same m) refl
         by_next (Over answer) e = refl
 
@@ -76,10 +77,13 @@ module _ (l m : ℕ) (apart : m ≢ l) where
   nothing_there (Over answer) e k nl nm = refl
 
   -- another lock sees nothing of it
-  pub nothing_else : (n n2 : Next CondvarPlace) → Beside m n → Beside m n2 → (k : ℕ) → k ≢ l → k ≢ m → Alike k (condvar_goes l n) (condvar_goes l n2)
+  pub nothing_else : (n n2 : Next CondvarPlace) → Beside m n → Beside m n2 → (k : ℕ) → k ≢ l → k ≢ m
+      → Alike k (condvar_goes l n) (condvar_goes l n2)
   nothing_else n n2 h h2 k nl nm = let a = nothing n h in let b = nothing n2 h2 in record { station = b.0 ∙ sym a.0; doing = b.1 ∙ sym a.1; taken = b.2 ∙ sym a.2 }
     where
-      nothing : (n : Next CondvarPlace) → Beside m n → (station_at (condvar_goes l n) k ≡ nowhere) × (doing_on (condvar_goes l n) k ≡ idle) × (taken_at (condvar_goes l n) k ≡ None)
+      nothing : (n : Next CondvarPlace) → Beside m n
+          → (station_at (condvar_goes l n) k ≡ nowhere) × (doing_on (condvar_goes l n) k ≡ idle)
+          × (taken_at (condvar_goes l n) k ≡ None)
       nothing (At p) e = (rw (differ l k (λ f. nl (sym f)), e, differ m k (λ f. nm (sym f))) refl, rw (differ l k (λ f. nl (sym f)), e, differ m k (λ f. nm (sym f))) refl, rw (differ l k (λ f. nl (sym f)), e, differ m k (λ f. nm (sym f))) refl)
       nothing (Over answer) e = (refl, refl, refl)
 

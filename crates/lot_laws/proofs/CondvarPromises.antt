@@ -80,13 +80,15 @@ module _ (k : ℕ) where
       either false true e = (λ h. absurd cc, λ h. absurd (let here : m ≡ l = cc in let yes : (m == l) ≡ true = rw here (same l) in cc))
       either false false e = (λ h. absurd cc, λ h. absurd cc)
 
-  pub two_retry : (at : CondvarPlace) (l : ℕ) (r : ℕ → Rights) → (retries_on (Condvar k at) l ≡ true) ↔ ((call_state (Condvar k at) r).retries ≡ Some l)
+  pub two_retry : (at : CondvarPlace) (l : ℕ) (r : ℕ → Rights)
+      → (retries_on (Condvar k at) l ≡ true) ↔ ((call_state (Condvar k at) r).retries ≡ Some l)
   two_retry (Wait m timed at) l r = tries_mutex m l (mutex_side (Wait m timed at)).retries
   two_retry (Notify all m at) l r = tries_mutex m l (mutex_side (Notify all m at)).retries
   two_retry (Look all) l r = (λ h. absurd cc, λ h. absurd cc)
 
   -- it owes, and stands, in no second line
-  main_owed : (a b c d : Bool) → or_else (if a then in_line b Main else None) (if c then in_line d Main else None) ≡ Some Second → ⊥
+  main_owed : (a b c d : Bool) → or_else (if a then in_line b Main else None) (if c then in_line d Main else None) ≡ Some Second
+      → ⊥
   main_owed true true c d h = cc
   main_owed true false true true h = cc
   main_owed true false true false h = cc
@@ -99,10 +101,14 @@ module _ (k : ℕ) where
   two_owe_main at l h = main_owed (is_lock l (mutex_beside at)) (condvar_row at).owes_mutex (k == l) (condvar_row at).owes h
 
   -- where it stands
-  pub stands_at : (at : CondvarPlace) (l : ℕ) → (station_at (Condvar k at) l).stands ≡ (if k == l then in_line (condvar_row at).listed Main else if is_lock l (mutex_beside at) then in_line (condvar_row at).moved Main else None)
+  pub stands_at : (at : CondvarPlace) (l : ℕ)
+      → (station_at (Condvar k at) l).stands
+      ≡ (if k == l then in_line (condvar_row at).listed Main else if is_lock l (mutex_beside at) then in_line (condvar_row at).moved Main else None)
   stands_at at l = by_lock (k == l) (is_lock l (mutex_beside at))
     where
-      by_lock : (c d : Bool) → (if c then station (Condvar k at) else if d then station_by (mutex_side at) else nowhere).stands ≡ (if c then in_line (condvar_row at).listed Main else if d then in_line (condvar_row at).moved Main else None)
+      by_lock : (c d : Bool)
+          → (if c then station (Condvar k at) else if d then station_by (mutex_side at) else nowhere).stands
+          ≡ (if c then in_line (condvar_row at).listed Main else if d then in_line (condvar_row at).moved Main else None)
       by_lock true d = refl
       by_lock false true = refl
       by_lock false false = refl
@@ -118,10 +124,13 @@ module _ (k : ℕ) where
       by_lock false false a b h = cc
 
   -- whoever stands at a lock, or is taken there, may wait for it: it is in a wait, of the condition variable or with the mutex
-  taken_here : (at : CondvarPlace) (l : ℕ) → taken_at (Condvar k at) l ≡ (if is_lock l (mutex_beside at) && not (k == l) then taken_from (mutex_side at).hand (mutex_side at).wants true else None)
+  taken_here : (at : CondvarPlace) (l : ℕ)
+      → taken_at (Condvar k at) l
+      ≡ (if is_lock l (mutex_beside at) && not (k == l) then taken_from (mutex_side at).hand (mutex_side at).wants true else None)
   taken_here at l = refl
 
-  out_of_both : (at : CondvarPlace) (l : ℕ) → (k == l) ≡ false → is_lock l (mutex_beside at) ≡ false → StandsAt (Condvar k at) l → ⊥
+  out_of_both : (at : CondvarPlace) (l : ℕ) → (k == l) ≡ false → is_lock l (mutex_beside at) ≡ false → StandsAt (Condvar k at) l
+      → ⊥
   out_of_both at l c d (inl stands) = stands (stands_at at l ∙ rw (c, d) refl)
   out_of_both at l c d (inr taken) = taken (rw (c, d) refl)
 
@@ -133,23 +142,29 @@ module _ (k : ℕ) where
       either false true e f = inr (eqb-true m l f)
       either false false e f = absurd (out_of_both (Wait m timed at) l e f s)
 
-  -- who notifies stands nowhere
-  pub notifier_nowhere : (all : Bool) (m : ℕ) (at : NotifyAt) (l : ℕ) → StandsAt (Condvar k (Notify all m at)) l → ⊥
-  notifier_nowhere all m at l (inl stands) = stands (stands_at (Notify all m at) l ∙ by_lock (k == l) (is_lock l (Some m)))
+  -- who is in neither line, and in no hand, stands nowhere
+  pub neither_nowhere : (at : CondvarPlace) (l : ℕ) → (condvar_row at).listed ≡ false → (condvar_row at).moved ≡ false
+      → (condvar_row at).hand ≡ None → StandsAt (Condvar k at) l → ⊥
+  neither_nowhere at l listed moved hand (inl stands) = stands (stands_at at l ∙ by_lock (k == l) (is_lock l (mutex_beside at)))
     where
       none : (b : Bool) → b ≡ false → in_line b Main ≡ None
       none true e = absurd cc
       none false e = refl
 
-      by_lock : (c d : Bool) → (if c then in_line (notify_row all m at).listed Main else if d then in_line (notify_row all m at).moved Main else None) ≡ None
-      by_lock true d = none (notify_row all m at).listed (unlisted all m at)
-      by_lock false true = none (notify_row all m at).moved (notifier_stands all m at).0
+      by_lock : (c d : Bool)
+          → (if c then in_line (condvar_row at).listed Main else if d then in_line (condvar_row at).moved Main else None) ≡ None
+      by_lock true d = none (condvar_row at).listed listed
+      by_lock false true = none (condvar_row at).moved moved
       by_lock false false = refl
-  notifier_nowhere all m at l (inr taken) = taken (by_lock (is_lock l (Some m) && not (k == l)))
+  neither_nowhere at l listed moved hand (inr taken) = taken (by_lock (is_lock l (mutex_beside at) && not (k == l)))
     where
-      by_lock : (b : Bool) → (if b then taken_from (mutex_side (Notify all m at)).hand (mutex_side (Notify all m at)).wants true else None) ≡ None
-      by_lock true = ap (λ h. taken_from h (mutex_side (Notify all m at)).wants true) (notifier_stands all m at).1
+      by_lock : (b : Bool) → (if b then taken_from (mutex_side at).hand (mutex_side at).wants true else None) ≡ None
+      by_lock true = ap (λ h. taken_from h (mutex_side at).wants true) hand
       by_lock false = refl
+
+  -- so does who notifies
+  pub notifier_nowhere : (all : Bool) (m : ℕ) (at : NotifyAt) (l : ℕ) → StandsAt (Condvar k (Notify all m at)) l → ⊥
+  notifier_nowhere all m at l = neither_nowhere (Notify all m at) l (unlisted all m at) (notifier_stands all m at).0 (notifier_stands all m at).1
 
   pub two_wait : (at : CondvarPlace) (l : ℕ) → StandsAt (Condvar k at) l → MayWait (Some (condvar_purpose at k)) l
   two_wait (Wait m timed at) l s = wait_waits m timed at l s
@@ -162,13 +177,15 @@ module _ (k : ℕ) where
   two_wait (Look all) l (inr taken) = absurd (taken refl)
 
 -- what its call is for
-pub two_purpose : (k : ℕ) (at : CondvarPlace) (r : ℕ → Rights) → (call_state (Condvar k at) r).purpose ≡ Some (condvar_purpose at k)
+pub two_purpose : (k : ℕ) (at : CondvarPlace) (r : ℕ → Rights)
+    → (call_state (Condvar k at) r).purpose ≡ Some (condvar_purpose at k)
 two_purpose k (Wait m timed at) r = refl
 two_purpose k (Notify all m at) r = refl
 two_purpose k (Look all) r = refl
 
 -- and its call is for rights that both locks know
-pub two_know : (w : State) (k : ℕ) (at : CondvarPlace) → FitsItsLock w (Condvar k at) → KnowsRights (sort_at w) (Some (condvar_purpose at k))
+pub two_know : (w : State) (k : ℕ) (at : CondvarPlace) → FitsItsLock w (Condvar k at)
+    → KnowsRights (sort_at w) (Some (condvar_purpose at k))
 two_know w k (Wait m timed at) fits = (fits.sort, ap (λ (r : Rules). r.sort) (plain_rules (kind_at w m) (fits.mutex m refl)))
 two_know w k (Notify all m at) fits = fits.sort
 two_know w k (Look all) fits = fits.sort
@@ -186,7 +203,9 @@ module _ (w : State) (k m : ℕ) (timed : Bool) (at : WaitAt) (fits : FitsItsLoc
       by_row false e = absurd (stands (stands_at k (Wait m timed at) k ∙ ap (λ c. if c then in_line (wait_row m at).listed Main else if m == k then in_line (wait_row m at).moved Main else None) (same k) ∙ ap (λ b. in_line b Main) e))
   listed_there (inr taken) = absurd (taken (ap (λ c. if (m == k) && not c then taken_from (mutex_side (Wait m timed at)).hand (mutex_side (Wait m timed at)).wants true else None) (same k) ∙ none (m == k)))
     where
-      none : (b : Bool) → (if b && false then taken_from (mutex_side (Wait m timed at)).hand (mutex_side (Wait m timed at)).wants true else None) ≡ None
+      none : (b : Bool)
+          → (if b && false then taken_from (mutex_side (Wait m timed at)).hand (mutex_side (Wait m timed at)).wants true else None)
+          ≡ None
       none true = refl
       none false = refl
 
@@ -209,7 +228,8 @@ module _ (w : State) (k m : ℕ) (timed : Bool) (at : WaitAt) (fits : FitsItsLoc
       by_both (inl e) (inr f) = absurd (not_beside_too (listed_there (subst (StandsAt (Condvar k (Wait m timed at))) (sym e) s)) (subst (StandsAt (Condvar k (Wait m timed at))) (sym f) z))
       by_both (inr e) (inl f) = absurd (not_beside_too (listed_there (subst (StandsAt (Condvar k (Wait m timed at))) (sym f) z)) (subst (StandsAt (Condvar k (Wait m timed at))) (sym e) s))
 
-pub two_one : (w : State) (k : ℕ) (at : CondvarPlace) → FitsItsLock w (Condvar k at) → (l j : ℕ) → StandsAt (Condvar k at) l → StandsAt (Condvar k at) j → l ≡ j
+pub two_one : (w : State) (k : ℕ) (at : CondvarPlace) → FitsItsLock w (Condvar k at) → (l j : ℕ) → StandsAt (Condvar k at) l
+    → StandsAt (Condvar k at) j → l ≡ j
 two_one w k (Wait m timed at) fits l j s z = wait_one w k m timed at fits l j s z
 two_one w k (Notify all m at) fits l j s z = absurd (notifier_nowhere k all m at l s)
 two_one w k (Look all) fits l j s z = absurd (two_wait k (Look all) l s)

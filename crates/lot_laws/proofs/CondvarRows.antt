@@ -91,7 +91,8 @@ row_says (Once l at) k = either (l == k)
     either false = (refl, refl)
 row_says (Condvar c at) k = either (c == k) (is_lock k (mutex_beside at))
   where
-    either : (here there : Bool) → (((if here then condvar_profile at else if there then mutex_side at else blank)).stage ≡ (if here then (condvar_row at).stage else None))
+    either : (here there : Bool)
+        → (((if here then condvar_profile at else if there then mutex_side at else blank)).stage ≡ (if here then (condvar_row at).stage else None))
         × (((if here then condvar_profile at else if there then mutex_side at else blank)).names ≡ (if here then (condvar_row at).waits_with else None))
     either true there = (refl, refl)
     either false true = (refl, refl)
@@ -100,7 +101,8 @@ row_says (Condvar c at) k = either (c == k) (is_lock k (mutex_beside at))
 -- ---------------------------------------------------------------- whatever befalls its thread
 
 -- by the four replies that tell what another thread has done
-pub befalling : (P : Reply → Type 0) → ((t : ℕ) → P (TakenBy t)) → ((key : ℕ) → P (MovedTo key)) → ((t : ℕ) (alone : Bool) → P (HandedBy t alone)) → ((n : Note) → P (Woken n)) → (r : Reply) → Befalls r → P r
+pub befalling : (P : Reply → Type 0) → ((t : ℕ) → P (TakenBy t)) → ((key : ℕ) → P (MovedTo key))
+    → ((t : ℕ) (alone : Bool) → P (HandedBy t alone)) → ((n : Note) → P (Woken n)) → (r : Reply) → Befalls r → P r
 befalling P taken moved handed woken (TakenBy t) h = taken t
 befalling P taken moved handed woken (MovedTo key) h = moved key
 befalling P taken moved handed woken (HandedBy t alone) h = handed t alone
@@ -174,7 +176,8 @@ says m timed (wait.Asleep s) r h = befalling (SaysTheSame (Wait m timed (wait.As
     woken note.HandOff = record { place = _; goes = refl; stage = refl; names = refl }
 says m timed (wait.Lock late at) r h = let k = mutex_goes_on at r h in record { place = Wait m timed (wait.Lock late k.0); goes = by_reply r h ∙ ap (λ n. in_wait m timed (relocked timed late n)) k.1; stage = refl; names = refl }
   where
-    by_reply : (r : Reply) → Befalls r → condvar_next (Wait m timed (wait.Lock late at)) r ≡ in_wait m timed (relocked timed late (mutex_next at r))
+    by_reply : (r : Reply) → Befalls r
+        → condvar_next (Wait m timed (wait.Lock late at)) r ≡ in_wait m timed (relocked timed late (mutex_next at r))
     by_reply r h = refl
 says m timed wait.Enter (TakenBy t) h = record { place = _; goes = refl; stage = refl; names = refl }
 says m timed at (TakenBy t) h = record { place = _; goes = refl; stage = refl; names = refl }

@@ -30,7 +30,8 @@ module _ (w : State) (stands : Stands w) (t l : ℕ) (at : CondvarPlace) (is : p
       held = (stands.sections t l Main).0 (ap (λ (y : Station). y.inside) station_there ∙ ap section_in e)
 
   -- or not inside
-  outside : (condvar_row at).stage ≡ None → (o : Option ℕ) → section_at w (key_of l Main) ≡ o → IsInsideNot (inside_as o (λ u. (profile_at (place_at w u) l).stage)) t
+  outside : (condvar_row at).stage ≡ None → (o : Option ℕ) → section_at w (key_of l Main) ≡ o
+      → IsInsideNot (inside_as o (λ u. (profile_at (place_at w u) l).stage)) t
   outside none None e = tt
   outside none (Some u) e = λ here.
       let in_it : (station_at (place_at w t) l).inside ≡ Some Main = (stands.sections t l Main).1 (e ∙ ap Some here) in

@@ -62,35 +62,50 @@ own_call w t l m timed p = call_at l m (Wait m timed p) (rights w t)
 abbrev pub IsUnwoken : State → ℕ → ℕ → ℕ → Bool → WaitAt → Type 0
 IsUnwoken w t l m timed p = woken (locks_of w) t (own_event w t l m p) t (going_on (own_event w t l m p) (own_call w t l m timed p)) ≡ going_on (own_event w t l m p) (own_call w t l m timed p)
 
-module _ (w v : State) (t l : ℕ) (shape : IsShaped w) (steady : IsSteady w) (condvar : IsCondvar (condvar_of w l)) (there : t < length w.places) (lt : l < length w.locks) (all_deeds : ℕ → List deeds.Act) (goes : GoesAll w v all_deeds) where
+module _ (w v : State) (t l : ℕ) (shape : IsShaped w) (steady : IsSteady w) (condvar : IsCondvar (condvar_of w l))
+    (there : t < length w.places) (lt : l < length w.locks) (all_deeds : ℕ → List deeds.Act) (goes : GoesAll w v all_deeds) where
   after : IsSteady v
   after = goes_all_steady w v all_deeds steady goes.follows goes.stands
 
   -- a wait that goes on from where it stood
-  pub wait_step : (m : ℕ) (timed : Bool) (p : WaitAt) → place_at w t ≡ Condvar l (Wait m timed p) → v ≡ state_after_going w t (Condvar l (Wait m timed p)) → (can : can_do w (wait_act l m p) ≡ true)
-      → ((k : ℕ) → k ≢ l → k ≢ m → all_deeds k ≡ []) → all_deeds l ≡ acts t (there_deeds (wait_deeds m p (reply_to w t (wait_act l m p)))) → all_deeds m ≡ acts t (waiter_deeds p (taken_by_wait w m p) (reply_to w t (wait_act l m p)))
+  pub wait_step : (m : ℕ) (timed : Bool) (p : WaitAt) → place_at w t ≡ Condvar l (Wait m timed p)
+      → v ≡ state_after_going w t (Condvar l (Wait m timed p)) → (can : can_do w (wait_act l m p) ≡ true)
+      → ((k : ℕ) → k ≢ l → k ≢ m → all_deeds k ≡ [])
+      → all_deeds l ≡ acts t (there_deeds (wait_deeds m p (reply_to w t (wait_act l m p))))
+      → all_deeds m ≡ acts t (waiter_deeds p (taken_by_wait w m p) (reply_to w t (wait_act l m p)))
       → place_at v t ≡ condvar_goes l (condvar_next (Wait m timed p) (reply_to w t (wait_act l m p))) → IsUnwoken w t l m timed p
       → OthersFollow w v t (wait_event l m p (taken_by_wait w m p) (reply_to w t (wait_act l m p)))
-      → GoesOn (locks_of w) t (outcome_of (condvar_does l (condvar_next (Wait m timed p) (reply_to w t (wait_act l m p))))) (locks_of v)
+      → GoesOn (locks_of w) t (outcome_of (condvar_does l (condvar_next (Wait m timed p) (reply_to w t (wait_act l m p)))))
+      (locks_of v)
   wait_step m timed p is led can elsewhere at_l at_m goes_there unwoken others = wait_goes w v t l m timed p steady after condvar is can all_deeds goes.follows elsewhere at_l at_m goes_there unwoken
       (ap (λ (x : State). (lock_state x l).shown) led ∙ (goes_led w t l (Wait m timed p) shape steady is lt can).0)
       (wait_rests v t l m timed after (next_wait m timed p (reply_to w t (wait_act l m p))) goes_there (wait_settles w t l m timed steady p is (fits_here w t l (Wait m timed p) steady is).reached can))
       others
 
   -- or from where its own act has left it
-  pub told_step : (m : ℕ) (timed : Bool) (p q q2 : WaitAt) → place_at w t ≡ Condvar l (Wait m timed p) → (can : can_do w (wait_act l m p) ≡ true)
-      → ((k : ℕ) → k ≢ l → k ≢ m → all_deeds k ≡ []) → all_deeds l ≡ acts t (there_deeds (wait_deeds m p (reply_to w t (wait_act l m p)))) → all_deeds m ≡ acts t (waiter_deeds p (taken_by_wait w m p) (reply_to w t (wait_act l m p)))
-      → condvar_next (Wait m timed p) (reply_to w t (wait_act l m p)) ≡ next.At (Wait m timed q) → place_at v t ≡ Condvar l (Wait m timed q2) → IsSettled q2 → (makes : CallState → CallState)
-      → ((r : ℕ → Rights) → call_at l m (Wait m timed q2) r ≡ makes (call_at l m (Wait m timed q) r)) → woken (locks_of w) t (own_event w t l m p) t (going_on (own_event w t l m p) (own_call w t l m timed p)) ≡ makes (going_on (own_event w t l m p) (own_call w t l m timed p))
+  pub told_step : (m : ℕ) (timed : Bool) (p q q2 : WaitAt) → place_at w t ≡ Condvar l (Wait m timed p)
+      → (can : can_do w (wait_act l m p) ≡ true)
+      → ((k : ℕ) → k ≢ l → k ≢ m → all_deeds k ≡ [])
+      → all_deeds l ≡ acts t (there_deeds (wait_deeds m p (reply_to w t (wait_act l m p))))
+      → all_deeds m ≡ acts t (waiter_deeds p (taken_by_wait w m p) (reply_to w t (wait_act l m p)))
+      → condvar_next (Wait m timed p) (reply_to w t (wait_act l m p)) ≡ next.At (Wait m timed q)
+      → place_at v t ≡ Condvar l (Wait m timed q2) → IsSettled q2 → (makes : CallState → CallState)
+      → ((r : ℕ → Rights) → call_at l m (Wait m timed q2) r ≡ makes (call_at l m (Wait m timed q) r))
+      → woken (locks_of w) t (own_event w t l m p) t (going_on (own_event w t l m p) (own_call w t l m timed p))
+      ≡ makes (going_on (own_event w t l m p) (own_call w t l m timed p))
       → OthersFollow w v t (own_event w t l m p) → GoesOn (locks_of w) t (outcome_of (wait_act l m q2)) (locks_of v)
   told_step m timed p q q2 is can elsewhere at_l at_m says there settled makes made woken_so others = wait_goes_told w v t l m timed p steady after condvar is can all_deeds goes.follows elsewhere at_l at_m q q2 says there makes made woken_so
       (wait_rests v t l m timed after (next.At q2) there settled) others
 
   -- a notification
-  pub notify_step : (m : ℕ) (all : Bool) (p : NotifyAt) → place_at w t ≡ Condvar l (Notify all m p) → v ≡ state_after_going w t (Condvar l (Notify all m p)) → (can : can_do w (notify_act all l m p) ≡ true)
-      → ((k : ℕ) → k ≢ l → k ≢ m → all_deeds k ≡ []) → all_deeds l ≡ acts t (there_deeds (notify_deeds all m p (reply_to w t (notify_act all l m p)))) → all_deeds m ≡ acts t (beside_deeds all (condvar_of w l).waiters p (reply_to w t (notify_act all l m p)))
+  pub notify_step : (m : ℕ) (all : Bool) (p : NotifyAt) → place_at w t ≡ Condvar l (Notify all m p)
+      → v ≡ state_after_going w t (Condvar l (Notify all m p)) → (can : can_do w (notify_act all l m p) ≡ true)
+      → ((k : ℕ) → k ≢ l → k ≢ m → all_deeds k ≡ [])
+      → all_deeds l ≡ acts t (there_deeds (notify_deeds all m p (reply_to w t (notify_act all l m p))))
+      → all_deeds m ≡ acts t (beside_deeds all (condvar_of w l).waiters p (reply_to w t (notify_act all l m p)))
       → OthersFollow w v t (notify_event l all m p (reply_to w t (notify_act all l m p)))
-      → GoesOn (locks_of w) t (outcome_of (condvar_does l (condvar_next (Notify all m p) (reply_to w t (notify_act all l m p))))) (locks_of v)
+      → GoesOn (locks_of w) t (outcome_of (condvar_does l (condvar_next (Notify all m p) (reply_to w t (notify_act all l m p)))))
+      (locks_of v)
   notify_step m all p is led can elsewhere at_l at_m others = notify_goes w v t l m all p steady after condvar (waits_aside w steady l (fits_here w t l (Notify all m p) steady is).sort m) is can all_deeds goes.follows elsewhere at_l at_m
       (ap (λ (x : State). place_at x t) led ∙ notify_place w t l m all p is (fits_here w t l (Notify all m p) steady is).reached there) free
       (ap (λ (x : State). (lock_state x l).shown) led ∙ (goes_led w t l (Notify all m p) shape steady is lt can).0) others
@@ -98,13 +113,18 @@ module _ (w v : State) (t l : ℕ) (shape : IsShaped w) (steady : IsSteady w) (c
       free : (k : ℕ) → is_taken_by t (taken_at (place_at w t) k) ≡ false
       free k = ap (λ q. is_taken_by t (taken_at q k)) is ∙ either (is_lock k (Some m) && not (l == k))
         where
-          either : (b : Bool) → is_taken_by t (if b then taken_from (mutex_side (Notify all m p)).hand (mutex_side (Notify all m p)).wants true else taken_from None (condvar_profile (Notify all m p)).wants (l == k)) ≡ false
+          either : (b : Bool)
+              → is_taken_by t
+              (if b then taken_from (mutex_side (Notify all m p)).hand (mutex_side (Notify all m p)).wants true else taken_from None (condvar_profile (Notify all m p)).wants (l == k))
+              ≡ false
           either true = ap (λ (h : Option Hand). is_taken_by t (taken_from h (mutex_side (Notify all m p)).wants true)) (no_hand all m p)
           either false = refl
 
   -- its first step, which looks
-  pub look_step : (all : Bool) → place_at w t ≡ Condvar l (Look all) → v ≡ state_after_going w t (Condvar l (Look all)) → ((k : ℕ) → all_deeds k ≡ []) → OthersFollow w v t (look_event l (word_at w l))
-      → GoesOn (locks_of w) t (outcome_of (condvar_does l (condvar_next (Look all) (reply_to w t (condvar_act l (Look all)))))) (locks_of v)
+  pub look_step : (all : Bool) → place_at w t ≡ Condvar l (Look all) → v ≡ state_after_going w t (Condvar l (Look all))
+      → ((k : ℕ) → all_deeds k ≡ []) → OthersFollow w v t (look_event l (word_at w l))
+      → GoesOn (locks_of w) t (outcome_of (condvar_does l (condvar_next (Look all) (reply_to w t (condvar_act l (Look all))))))
+      (locks_of v)
   look_step all is led nothing others = subst (λ n. GoesOn (locks_of w) t (outcome_of (condvar_does l (condvar_next (Look all) (Value n)))) (locks_of v)) (sym shows)
       (look_goes w v t l all steady after is all_deeds goes.follows nothing stands_so free (subst (λ n. OthersFollow w v t (look_event l n)) shows others))
     where

@@ -56,7 +56,8 @@ use Rattle.lot_laws.proofs.TurnsKept.{after_steady}
 abbrev OthersSay : State → State → ℕ → ℕ → Type 0
 OthersSay w v t l = (u : ℕ) → u ≢ t → (stage_of (place_at v u) l ≡ stage_of (place_at w u) l) × (names_of (place_at v u) l ≡ names_of (place_at w u) l)
 
-module _ (w v : State) (t l : ℕ) (at : CondvarPlace) (shape : IsShaped w) (steady : IsSteady w) (stands_then : Stands v) (is : place_at w t ≡ Condvar l at) (there : t < length w.places) (lt : l < length w.locks)
+module _ (w v : State) (t l : ℕ) (at : CondvarPlace) (shape : IsShaped w) (steady : IsSteady w) (stands_then : Stands v)
+    (is : place_at w t ≡ Condvar l at) (there : t < length w.places) (lt : l < length w.locks)
     (condvar : IsCondvar (condvar_of w l)) (says : OthersSay w v t l) (section : SectionChanges (section_at w (key_of l Main)) t (section_at v (key_of l Main))) where
   fits : FitsCondvar w l at
   fits = subst (FitsItsLock w) is (steady.stands.calls t)
@@ -69,23 +70,28 @@ module _ (w v : State) (t l : ℕ) (at : CondvarPlace) (shape : IsShaped w) (ste
 
   -- it goes into the section of the queue where it slept
   slept : (p : CondvarPlace) (key : ℕ) → at ≡ p → v ≡ state_after_late_on w t (Some key) → MayHear (condvar_of w l) t p Late
-      → (lock_state v l).shown ≡ (after_all (condvar_deeds p Late) (condvar_of w l) t).shown → (lock_state v l).queue ≡ (after_all (condvar_deeds p Late) (condvar_of w l) t).waiters → IsCondvar (condvar_of v l)
+      → (lock_state v l).shown ≡ (after_all (condvar_deeds p Late) (condvar_of w l) t).shown
+      → (lock_state v l).queue ≡ (after_all (condvar_deeds p Late) (condvar_of w l) t).waiters → IsCondvar (condvar_of v l)
   slept p key e led hears shown waiters = condvar_stays w v t l p Late steady.stands stands_then (is ∙ ap (Condvar l) e) (condvar_next p Late)
       (ap (λ (x : State). place_at x t) led ∙ get_or-set_same w.places t (next_place (place_at w t) Late) Idle there ∙ ap (λ q. next_place q Late) (is ∙ ap (Condvar l) e))
       (alike_same (condvar_next p Late)) condvar hears says section shown waiters
 
   -- its time is up
-  late : v ≡ state_after_late_on w t (late_key (Condvar l at)) → is_free_under w (late_key (Condvar l at)) ≡ true → IsCondvar (condvar_of v l)
+  late : v ≡ state_after_late_on w t (late_key (Condvar l at)) → is_free_under w (late_key (Condvar l at)) ≡ true
+      → IsCondvar (condvar_of v l)
   late = by_place at refl
     where
-      by_wait : (m : ℕ) (timed : Bool) (p : WaitAt) → at ≡ Wait m timed p → v ≡ state_after_late_on w t (late_key (Condvar l (Wait m timed p))) → is_free_under w (late_key (Condvar l (Wait m timed p))) ≡ true → IsCondvar (condvar_of v l)
+      by_wait : (m : ℕ) (timed : Bool) (p : WaitAt) → at ≡ Wait m timed p
+          → v ≡ state_after_late_on w t (late_key (Condvar l (Wait m timed p)))
+          → is_free_under w (late_key (Condvar l (Wait m timed p))) ≡ true → IsCondvar (condvar_of v l)
       by_wait m true (wait.Asleep stands.Listed) e led free = slept (Wait m true (wait.Asleep stands.Listed)) (2 * l) e led (free_inside w t l at steady is free) (ap (λ (x : State). (lock_state x l).shown) led) (ap (λ (x : State). (lock_state x l).queue) led)
       by_wait m true (wait.Asleep stands.Moved) e led free = slept (Wait m true (wait.Asleep stands.Moved)) (2 * m) e led tt (ap (λ (x : State). (lock_state x l).shown) led) (ap (λ (x : State). (lock_state x l).queue) led)
       by_wait m true (wait.Asleep s) e led free = absurd cc
       by_wait m false (wait.Asleep s) e led free = absurd cc
       by_wait m timed p e led free = absurd cc
 
-      by_place : (p : CondvarPlace) → at ≡ p → v ≡ state_after_late_on w t (late_key (Condvar l p)) → is_free_under w (late_key (Condvar l p)) ≡ true → IsCondvar (condvar_of v l)
+      by_place : (p : CondvarPlace) → at ≡ p → v ≡ state_after_late_on w t (late_key (Condvar l p))
+          → is_free_under w (late_key (Condvar l p)) ≡ true → IsCondvar (condvar_of v l)
       by_place (Wait m timed p) e led free = by_wait m timed p e led free
       by_place (Look all) e led free = absurd cc
       by_place (Notify all m p) e led free = absurd cc
@@ -101,7 +107,8 @@ record LooksFrom (l : ℕ) (at : CondvarPlace) (q : Place) : Type 0 where
 looks_from : (l : ℕ) (at : CondvarPlace) (q : Place) → looking (Condvar l at) ≡ Some q → LooksFrom l at q
 looks_from l (Wait m timed (wait.Lock late (mutex.Lock e again (lock.Decide seen)))) q is = by_word (seen == 1) is
   where
-    by_word : (b : Bool) → in_condvar l (in_lock m timed late (if b then Some (mutex.Lock e again lock.Load) else None)) ≡ Some q → LooksFrom l (Wait m timed (wait.Lock late (mutex.Lock e again (lock.Decide seen)))) q
+    by_word : (b : Bool) → in_condvar l (in_lock m timed late (if b then Some (mutex.Lock e again lock.Load) else None)) ≡ Some q
+        → LooksFrom l (Wait m timed (wait.Lock late (mutex.Lock e again (lock.Decide seen)))) q
     by_word true f = let there : Condvar l (Wait m timed (wait.Lock late (mutex.Lock e again lock.Load))) ≡ q = cc in
         subst (LooksFrom l (Wait m timed (wait.Lock late (mutex.Lock e again (lock.Decide seen))))) there (record { place = Wait m timed (wait.Lock late (mutex.Lock e again lock.Load)); is = refl; stage = refl; names = refl; acts = λ w. refl })
     by_word false f = absurd cc
@@ -111,7 +118,9 @@ looks_from l (Wait m timed p) q is = absurd cc
 looks_from l (Look all) q is = absurd cc
 looks_from l (Notify all m p) q is = absurd cc
 
-module _ (w : State) (s : Step) (shape : IsShaped w) (steady : IsSteady w) (counted : AreCounted w) (condvars : AreCondvars w) (l : ℕ) (at : CondvarPlace) (is : place_at w s.thread ≡ Condvar l at) (lt : l < length w.locks) (condvar : IsCondvar (condvar_of w l)) where
+module _ (w : State) (s : Step) (shape : IsShaped w) (steady : IsSteady w) (counted : AreCounted w) (condvars : AreCondvars w)
+    (l : ℕ) (at : CondvarPlace) (is : place_at w s.thread ≡ Condvar l at) (lt : l < length w.locks)
+    (condvar : IsCondvar (condvar_of w l)) where
   abbrev v : State
   v = after w s
 
@@ -128,7 +137,8 @@ module _ (w : State) (s : Step) (shape : IsShaped w) (steady : IsSteady w) (coun
   section = let step : IsStep (locks_of w) s (step_outcome w s) (locks_of v) = after_step w s shape steady counted condvars in step.0.sections (key_of l Main)
 
   -- from where it looks
-  looks : (q : Place) → t < length w.places → looking (place_at w t) ≡ Some q → v ≡ state_after_look w t (Some q) → IsCondvar (condvar_of v l)
+  looks : (q : Place) → t < length w.places → looking (place_at w t) ≡ Some q → v ≡ state_after_look w t (Some q)
+      → IsCondvar (condvar_of v l)
   looks q there looking_is led = goes_on looked v t l from.place (looking_shaped w t q shape looking_is) (looking_steady w t there q looking_is steady) stands_then (here ∙ from.is) (rw (length-set w.places t q) there) lt
       (subst IsCondvar (sym same_there) condvar) says_there section (led ∙ ap (state_after_going looked t) (here ∙ from.is)) (from.acts looked)
     where
@@ -173,14 +183,16 @@ module _ (w : State) (s : Step) (shape : IsShaped w) (steady : IsSteady w) (coun
 
 -- ---------------------------------------------------------------- a call begins
 
-module _ (w : State) (t l : ℕ) (steady : IsSteady w) (idle : place_at w t ≡ Idle) (there : t < length w.places) (condvar : IsCondvar (condvar_of w l)) where
+module _ (w : State) (t l : ℕ) (steady : IsSteady w) (idle : place_at w t ≡ Idle) (there : t < length w.places)
+    (condvar : IsCondvar (condvar_of w l)) where
   unlisted : times t (condvar_of w l).waiters ≡ 0
   unlisted = queued_times t (queue_at w (2 * l)) ∙ steady.stands.lines t l Main ∙ ap (λ p. stood_in (station_at p l).stands Main) idle
 
   not_inside_yet : IsInsideNot (condvar_of w l).inside t
   not_inside_yet = by_section (section_at w (key_of l Main)) refl
     where
-      by_section : (o : Option ℕ) → section_at w (key_of l Main) ≡ o → IsInsideNot (inside_as o (λ u. (profile_at (place_at w u) l).stage)) t
+      by_section : (o : Option ℕ) → section_at w (key_of l Main) ≡ o
+          → IsInsideNot (inside_as o (λ u. (profile_at (place_at w u) l).stage)) t
       by_section None e = tt
       by_section (Some u) e = λ own.
           let in_it : (station_at (place_at w t) l).inside ≡ Some Main = (steady.stands.sections t l Main).1 (e ∙ ap Some own) in
@@ -193,7 +205,9 @@ module _ (w : State) (t l : ℕ) (steady : IsSteady w) (idle : place_at w t ≡ 
       here : place_at (put w t (Condvar l (Look all))) t ≡ Condvar l (Look all)
       here = get_or-set_same w.places t (Condvar l (Look all)) Idle there
 
-      says : (u : ℕ) → (stage_of (place_at (put w t (Condvar l (Look all))) u) l ≡ stage_of (place_at w u) l) × (names_of (place_at (put w t (Condvar l (Look all))) u) l ≡ names_of (place_at w u) l)
+      says : (u : ℕ)
+          → (stage_of (place_at (put w t (Condvar l (Look all))) u) l ≡ stage_of (place_at w u) l)
+          × (names_of (place_at (put w t (Condvar l (Look all))) u) l ≡ names_of (place_at w u) l)
       says u = elim (cases_eq u t) [
         | inl e ↦ rw (e, here, idle, same l) (refl, refl)
         | inr ne ↦ let stays = get_or-set_other w.places t u (Condvar l (Look all)) Idle ne in (ap (λ p. stage_of p l) stays, ap (λ p. names_of p l) stays)
@@ -203,13 +217,17 @@ module _ (w : State) (t l : ℕ) (steady : IsSteady w) (idle : place_at w t ≡ 
       here : place_at (put w t (Condvar l (Wait m timed wait.Enter))) t ≡ Condvar l (Wait m timed wait.Enter)
       here = get_or-set_same w.places t (Condvar l (Wait m timed wait.Enter)) Idle there
 
-      stages : (u : ℕ) → (profile_at (place_at (put w t (Condvar l (Wait m timed wait.Enter))) u) l).stage ≡ (profile_at (place_at w u) l).stage
+      stages : (u : ℕ)
+          → (profile_at (place_at (put w t (Condvar l (Wait m timed wait.Enter))) u) l).stage
+          ≡ (profile_at (place_at w u) l).stage
       stages u = elim (cases_eq u t) [
         | inl e ↦ rw (e, here, idle, same l) refl
         | inr ne ↦ ap (λ p. (profile_at p l).stage) (get_or-set_other w.places t u (Condvar l (Wait m timed wait.Enter)) Idle ne)
       ]
 
-      names : (u : ℕ) → (profile_at (place_at (put w t (Condvar l (Wait m timed wait.Enter))) u) l).names ≡ putting (λ k. (profile_at (place_at w k) l).names) t (Some m) u
+      names : (u : ℕ)
+          → (profile_at (place_at (put w t (Condvar l (Wait m timed wait.Enter))) u) l).names
+          ≡ putting (λ k. (profile_at (place_at w k) l).names) t (Some m) u
       names u = elim (cases_eq u t) [
         | inl e ↦ rw (e, here, same l, same t) refl
         | inr ne ↦ ap (λ p. (profile_at p l).names) (get_or-set_other w.places t u (Condvar l (Wait m timed wait.Enter)) Idle ne) ∙ sym (put_other (λ k. (profile_at (place_at w k) l).names) t (Some m) u ne)
@@ -230,10 +248,12 @@ is_or_not None k = inr (λ e. cc)
 is_or_not (Some j) k = elim (cases_eq j k) [ inl e ↦ inl (ap Some e) | inr ne ↦ inr (λ e. ne cc) ]
 
 -- who calls a condition variable is at a place of its calls
-condvar_place : (w : State) → IsSteady w → (t l : ℕ) → (rules_in w l).sort ≡ locks.Condvar → lock_of (place_at w t) ≡ Some l → (at : CondvarPlace) × (place_at w t ≡ Condvar l at)
+condvar_place : (w : State) → IsSteady w → (t l : ℕ) → (rules_in w l).sort ≡ locks.Condvar → lock_of (place_at w t) ≡ Some l
+    → (at : CondvarPlace) × (place_at w t ≡ Condvar l at)
 condvar_place w steady t l sort own = by_place (place_at w t) refl (steady.stands.calls t) own
   where
-    by_place : (p : Place) → place_at w t ≡ p → FitsItsLock w p → lock_of p ≡ Some l → (at : CondvarPlace) × (place_at w t ≡ Condvar l at)
+    by_place : (p : Place) → place_at w t ≡ p → FitsItsLock w p → lock_of p ≡ Some l
+        → (at : CondvarPlace) × (place_at w t ≡ Condvar l at)
     by_place Idle is fits own = absurd cc
     by_place (Mutex k at) is fits own = absurd (let here : k ≡ l = cc in let both : locks.Mutex ≡ locks.Condvar = sym (ap (λ (r : Rules). r.sort) (mutex_rules (kind_at w k) fits)) ∙ ap (λ j. (rules_in w j).sort) here ∙ sort in cc)
     by_place (RwLock k a c) is fits own = absurd (let here : k ≡ l = cc in let both : false ≡ true = sym (ap has_readers (ap (λ j. (rules_in w j).sort) here ∙ sort)) ∙ fits.0.0 in cc)
@@ -247,23 +267,27 @@ after_condvars w s shape steady counted condvars l sort_then = by_lock (is_or_no
     sort = sym (ap (λ x. (rules_of x).sort) (after_kinds w s l)) ∙ sort_then
 
     -- the thread has begun a call of it
-    begins : (at : CondvarPlace) → place_at (after w s) s.thread ≡ Condvar l at → lock_of (place_at w s.thread) ≡ None → IsCondvar (condvar_of (after w s) l)
+    begins : (at : CondvarPlace) → place_at (after w s) s.thread ≡ Condvar l at → lock_of (place_at w s.thread) ≡ None
+        → IsCondvar (condvar_of (after w s) l)
     begins at there_then none = either (is_possible w s) refl
       where
         idle : place_at w s.thread ≡ Idle
         idle = calls_none (place_at w s.thread) none
 
-        by_call : s.thread < length w.places → (c : Call) → after w s ≡ put w s.thread (first_place (kind_at w (lock_in c)) c) → IsCondvar (condvar_of (after w s) l)
+        by_call : s.thread < length w.places → (c : Call) → after w s ≡ put w s.thread (first_place (kind_at w (lock_in c)) c)
+            → IsCondvar (condvar_of (after w s) l)
         by_call there c led = by_first c (sym (get_or-set_same w.places s.thread (first_place (kind_at w (lock_in c)) c) Idle there) ∙ sym (ap (λ (x : State). place_at x s.thread) led) ∙ there_then) led
           where
-            by_first : (c : Call) → first_place (kind_at w (lock_in c)) c ≡ Condvar l at → after w s ≡ put w s.thread (first_place (kind_at w (lock_in c)) c) → IsCondvar (condvar_of (after w s) l)
+            by_first : (c : Call) → first_place (kind_at w (lock_in c)) c ≡ Condvar l at
+                → after w s ≡ put w s.thread (first_place (kind_at w (lock_in c)) c) → IsCondvar (condvar_of (after w s) l)
             by_first (call.Mutex k x) e led = absurd cc
             by_first (call.RwLock k x) e led = absurd cc
             by_first (call.Once k x) e led = absurd cc
             by_first (call.Condvar k x) e led = let here : k ≡ l = cc in
                 subst (λ (z : State). IsCondvar (condvar_of z l)) (sym (led ∙ ap (λ j. put w s.thread (Condvar j (condvar_first x))) here)) (begun w s.thread l steady idle there (condvars l sort) x)
 
-        turned_idle : s.thread < length w.places → (x : Turn) → can_turn w s.thread x ≡ true → after w s ≡ state_after_turn w s.thread x → IsCondvar (condvar_of (after w s) l)
+        turned_idle : s.thread < length w.places → (x : Turn) → can_turn w s.thread x ≡ true
+            → after w s ≡ state_after_turn w s.thread x → IsCondvar (condvar_of (after w s) l)
         turned_idle there (turn.TheVariants.Begin c) can led = by_call there c led
         turned_idle there turn.TheVariants.Go can led = absurd (let no : can_do w (act_of (place_at w s.thread)) ≡ false = ap (λ p. can_do w (act_of p)) idle in cc)
         turned_idle there turn.TheVariants.Late can led = absurd (let no : is_free_under w (late_key (place_at w s.thread)) ≡ false = ap (λ p. is_free_under w (late_key p)) idle in cc)
@@ -276,7 +300,9 @@ after_condvars w s shape steady counted condvars l sort_then = by_lock (is_or_no
             turned_idle (ltb-true s.thread (length w.places) parts.0) s.turn parts.1 (ap (λ (b : Bool). if b then state_after_turn w s.thread s.turn else w) can)
         either false cannot = subst (λ (x : State). IsCondvar (condvar_of x l)) (sym (ap (λ (b : Bool). if b then state_after_turn w s.thread s.turn else w) cannot)) (condvars l sort)
 
-    by_lock : (lock_of (place_at w s.thread) ≡ Some l) ⊎ (lock_of (place_at w s.thread) ≢ Some l) → (lock_of (place_at (after w s) s.thread) ≡ Some l) ⊎ (lock_of (place_at (after w s) s.thread) ≢ Some l) → IsCondvar (condvar_of (after w s) l)
+    by_lock : (lock_of (place_at w s.thread) ≡ Some l) ⊎ (lock_of (place_at w s.thread) ≢ Some l)
+        → (lock_of (place_at (after w s) s.thread) ≡ Some l) ⊎ (lock_of (place_at (after w s) s.thread) ≢ Some l)
+        → IsCondvar (condvar_of (after w s) l)
     by_lock (inl own) behind =
         let at = condvar_place w steady s.thread l sort own in
         let fits : PlaceFits (length w.locks) (Condvar l at.0) = subst (PlaceFits (length w.locks)) at.1 (shape.places s.thread) in

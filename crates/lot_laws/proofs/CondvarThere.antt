@@ -71,7 +71,9 @@ IsOfWord (condvars.Hide ∷ []) = Unit {0}
 IsOfWord (condvars.Clear ∷ []) = Unit {0}
 IsOfWord ds = ⊥
 
-module _ (w : State) (t l m : ℕ) (at : CondvarPlace) (steady : IsSteady w) (is_there : t < length w.places) (apart : m ≢ l) (sort : (rules_in w l).sort ≡ locks.Condvar) (is : place_at w t ≡ Condvar l at) (of : mutex_beside at ≡ Some m) (told : Reply) (beside : Beside m (condvar_next at told)) where
+module _ (w : State) (t l m : ℕ) (at : CondvarPlace) (steady : IsSteady w) (is_there : t < length w.places) (apart : m ≢ l)
+    (sort : (rules_in w l).sort ≡ locks.Condvar) (is : place_at w t ≡ Condvar l at) (of : mutex_beside at ≡ Some m) (told : Reply)
+    (beside : Beside m (condvar_next at told)) where
   abbrev pub p2 : Place
   p2 = condvar_goes l (condvar_next at told)
 
@@ -160,7 +162,8 @@ module _ (w : State) (t l m : ℕ) (at : CondvarPlace) (steady : IsSteady w) (is
 
       -- it stands behind the last of the list
       pub stands_there : (line : key_of l Main < length w.queues) → there at ≡ inside_of Main → there_then at told ≡ record (inside_of Main) { stands = Some Main; waits = Some WaitHere }
-          → Goes w (put (record w { queues = queues_with_last w.queues (key_of l Main) t WaitHere }) t p2) l (acts t (Case (Park WaitHere) ∷ []))
+          → Goes w (put (record w { queues = queues_with_last w.queues (key_of l Main) t WaitHere }) t p2) l
+          (acts t (Case (Park WaitHere) ∷ []))
       stands_there line was_in goes = acting.park_goes w t l steady is_there r refl p2 alike fits out Main WaitHere (Case (Park WaitHere) ∷ []) (λ h. plain h) line (ap (λ (y : Station). y.stands) (was ∙ was_in))
           (parks r l (parts_at w l) (place_at w) t p2 site (untaken ∙ sym untaken_then) (key_of l Main) WaitHere (((blocked, alone), (ap (λ (d : Doing). d.inside) did ∙ ap (λ (y : Station). y.inside) was_in, parked, ap (λ (d : Doing). d.wakes) did, ap (λ (d : Doing). d.covers) did)), tt)
           (does ∙ ap (λ (y : Station). record idle { inside = y.inside }) goes ∙ sym (ap (λ (d : Doing). record d { retries = None; empty = None }) (did ∙ ap (λ (y : Station). record idle { inside = y.inside }) was_in))))
@@ -208,7 +211,9 @@ module _ (w : State) (t l m : ℕ) (at : CondvarPlace) (steady : IsSteady w) (is
     -- ---------------------------------------------------------------- a step on the word
 
     -- what is shown behind it
-    module _ (shown : Option ℕ) (op : Op) (lt : l < length w.locks) (ds : List Deed) (owners : condvar_owners at t (word_at w l) (owners_at w l) ≡ record (owners_at w l) { shown = shown }) (coded : apply op (word_at w l) ≡ word_of shown) (stays_in : there_then at told ≡ there at)
+    module _ (shown : Option ℕ) (op : Op) (lt : l < length w.locks) (ds : List Deed)
+        (owners : condvar_owners at t (word_at w l) (owners_at w l) ≡ record (owners_at w l) { shown = shown })
+        (coded : apply op (word_at w l) ≡ word_of shown) (stays_in : there_then at told ≡ there at)
         (needed : ActsNeeded r (acts t ds) here) (single : AreSingle ds) (led : (after_acts r (acts t ds) here).lock ≡ record here.lock { shown = shown }) (bits : (after_acts r (acts t ds) here).parked ≡ here.parked) (bits_aside : (after_acts r (acts t ds) here).aside_parked ≡ here.aside_parked)
         (doing : (after_acts r (acts t ds) here).doing t ≡ here.doing t) (plain_deeds : NoHandOff ds) where
       abbrev before : Place
@@ -238,7 +243,9 @@ module _ (w : State) (t l m : ℕ) (at : CondvarPlace) (steady : IsSteady w) (is
           (then_is ∙ stays_in ∙ sym was)
 
     -- by the deeds of its place
-    pub works_there : (op : Op) → l < length w.locks → condvar_act l at ≡ act.Word l op → told ≡ Value (word_at w l) → word_at w l ≡ word_of (condvar_of w l).shown → there_then at told ≡ there at → IsOfWord (condvar_deeds at told) → Follows (condvar_of w l) t at told
+    pub works_there : (op : Op) → l < length w.locks → condvar_act l at ≡ act.Word l op → told ≡ Value (word_at w l)
+        → word_at w l ≡ word_of (condvar_of w l).shown → there_then at told ≡ there at → IsOfWord (condvar_deeds at told)
+        → Follows (condvar_of w l) t at told
         → Goes w (put (state_after_operation w t (Condvar l at) l op) t p2) l (acts t (there_deeds (condvar_deeds at told)))
     works_there op lt acts_so told_so word_is stays_in of_word follows = by_deeds (condvar_deeds at told) of_word follows.needed shown_then coded_then
       where
@@ -259,7 +266,8 @@ module _ (w : State) (t l m : ℕ) (at : CondvarPlace) (steady : IsSteady w) (is
         coded_then = ap (apply op) word_is ∙ condvar_steps_code c t l at op acts_so other_word ∙ sym (ap (λ x. word_of (condvar.after_all (condvar_deeds at x) c t).shown) told_is)
 
         by_deeds : (ds : List CondvarDeed) → IsOfWord ds → condvar.AllNeeded ds c t → condvar_owners at t (word_at w l) (owners_at w l) ≡ record (owners_at w l) { shown = (condvar.after_all ds c t).shown }
-            → apply op (word_at w l) ≡ word_of (condvar.after_all ds c t).shown → Goes w (put (state_after_operation w t (Condvar l at) l op) t p2) l (acts t (there_deeds ds))
+            → apply op (word_at w l) ≡ word_of (condvar.after_all ds c t).shown
+            → Goes w (put (state_after_operation w t (Condvar l at) l op) t p2) l (acts t (there_deeds ds))
         by_deeds [] h n o e = works_by c.shown op lt [] o e stays_in tt tt refl refl refl refl tt
         by_deeds (condvars.SeeOther k ∷ []) h n o e = works_by c.shown op lt [] o e stays_in tt tt refl refl refl refl tt
         by_deeds (condvars.SeeAgain k ∷ []) h n o e = works_by c.shown op lt [] o e stays_in tt tt refl refl refl refl tt

@@ -49,7 +49,8 @@ apart_of w l m at f names e = let both : locks.Mutex ≡ locks.Condvar = sym (pl
 -- ---------------------------------------------------------------- a call begins
 
 -- a notification knows no mutex yet, and stands nowhere
-module _ (w : State) (t l : ℕ) (all : Bool) (steady : IsSteady w) (there : t < length w.places) (is : place_at w t ≡ Idle) (fits : FitsItsLock w (Condvar l (Look all))) where
+module _ (w : State) (t l : ℕ) (all : Bool) (steady : IsSteady w) (there : t < length w.places) (is : place_at w t ≡ Idle)
+    (fits : FitsItsLock w (Condvar l (Look all))) where
   looks_nowhere : (k : ℕ) → Alike k Idle (Condvar l (Look all))
   looks_nowhere k = elim (cases_eq k l) [
     | inl e ↦ subst (λ j. Alike j Idle (Condvar l (Look all))) (sym e) (record { station = rw (same l) refl; doing = rw (same l) refl; taken = refl })
@@ -62,7 +63,8 @@ module _ (w : State) (t l : ℕ) (all : Bool) (steady : IsSteady w) (there : t <
       (ap (λ q. taken_at q l) is ∙ sym (looks_nowhere l).taken) refl refl refl refl ((looks_nowhere l).doing ∙ sym (ap (λ q. doing_on q l) is)))
       ((looks_nowhere l).station ∙ sym (ap (λ q. station_at q l) is))
 
-module _ (w : State) (t l m : ℕ) (timed : Bool) (steady : IsSteady w) (there : t < length w.places) (is : place_at w t ≡ Idle) (apart : m ≢ l) (fits : FitsItsLock w (Condvar l (Wait m timed wait.Enter))) where
+module _ (w : State) (t l m : ℕ) (timed : Bool) (steady : IsSteady w) (there : t < length w.places) (is : place_at w t ≡ Idle)
+    (apart : m ≢ l) (fits : FitsItsLock w (Condvar l (Wait m timed wait.Enter))) where
   abbrev entering : Place
   entering = Condvar l (Wait m timed wait.Enter)
 
@@ -99,7 +101,8 @@ condvar_sort k h = absurd cc
 
 -- it may begin where it names a plain mutex that its thread owns
 module _ (w : State) (t l : ℕ) (steady : IsSteady w) (there : t < length w.places) (is : place_at w t ≡ Idle) where
-  pub condvar_begins : (c : CondvarCall) → is_open_to w t (call.Condvar l c) ≡ true → Goes w (state_after_begin w t (call.Condvar l c)) (begins_at l c) (acts t (begins_by c))
+  pub condvar_begins : (c : CondvarCall) → is_open_to w t (call.Condvar l c) ≡ true
+      → Goes w (state_after_begin w t (call.Condvar l c)) (begins_at l c) (acts t (begins_by c))
   condvar_begins (condvar_call.Notify all) may = notification_begins w t l all steady there is (record { sort = condvar_sort (kind_at w l) suits.1.0; reached = tt; mutex = λ m none. absurd cc })
     where
       suits : Suits (length w.locks) (kind_at w) (Condvar l (Look all))
@@ -121,7 +124,8 @@ module _ (w : State) (t l : ℕ) (steady : IsSteady w) (there : t < length w.pla
 
 module _ (w : State) (t l m : ℕ) (steady : IsSteady w) (there : t < length w.places) (apart : m ≢ l) where
   -- it leaves the queue of the condition variable
-  module _ (sort : (rules_in w l).sort ≡ locks.Condvar) (is : place_at w t ≡ Condvar l (Wait m true (wait.Asleep stands.Listed))) (fits : FitsItsLock w (Condvar l (Wait m true wait.Remove))) where
+  module _ (sort : (rules_in w l).sort ≡ locks.Condvar) (is : place_at w t ≡ Condvar l (Wait m true (wait.Asleep stands.Listed)))
+      (fits : FitsItsLock w (Condvar l (Wait m true wait.Remove))) where
     same_beside : Alike m (place_at w t) (Condvar l (Wait m true wait.Remove))
     same_beside = subst (λ q. Alike m q (Condvar l (Wait m true wait.Remove))) (sym is) (record {
       station = station_beside l m apart (At (Wait m true wait.Remove)) refl ∙ sym (station_beside l m apart (At (Wait m true (wait.Asleep stands.Listed))) refl);
@@ -130,11 +134,13 @@ module _ (w : State) (t l m : ℕ) (steady : IsSteady w) (there : t < length w.p
     })
 
     pub listed_late : (line : key_of l Main < length w.sections) → section_at w (key_of l Main) ≡ None
-        → Goes w (put (state_with_sections w (One (key_of l Main)) (Some t)) t (Condvar l (Wait m true wait.Remove))) l (acts t (In Main ∷ []))
+        → Goes w (put (state_with_sections w (One (key_of l Main)) (Some t)) t (Condvar l (Wait m true wait.Remove))) l
+        (acts t (In Main ∷ []))
     listed_late line free = enters_there w t l m (Wait m true (wait.Asleep stands.Listed)) steady there apart sort is refl Late refl fits same_beside line free refl refl
 
   -- or that of its mutex, to which it was moved
-  module _ (is : place_at w t ≡ Condvar l (Wait m true (wait.Asleep stands.Moved))) (fits : FitsItsLock w (Condvar l (Wait m true wait.RemoveMoved))) where
+  module _ (is : place_at w t ≡ Condvar l (Wait m true (wait.Asleep stands.Moved)))
+      (fits : FitsItsLock w (Condvar l (Wait m true wait.RemoveMoved))) where
     abbrev before : CondvarPlace
     before = Wait m true (wait.Asleep stands.Moved)
 
@@ -174,7 +180,8 @@ module _ (w : State) (t l : ℕ) (shape : IsShaped w) (steady : IsSteady w) (the
   abbrev LateGoes : CondvarPlace → Type 0
   LateGoes at = (k : ℕ) × Goes w (state_after_late_on w t (late_key (Condvar l at))) k (acts t (In Main ∷ []))
 
-  late_goes : (at : CondvarPlace) → place_at w t ≡ Condvar l at → FitsCondvar w l at → PlaceFits (length w.locks) (Condvar l at) → is_free_under w (late_key (Condvar l at)) ≡ true → LateGoes at
+  late_goes : (at : CondvarPlace) → place_at w t ≡ Condvar l at → FitsCondvar w l at → PlaceFits (length w.locks) (Condvar l at)
+      → is_free_under w (late_key (Condvar l at)) ≡ true → LateGoes at
   late_goes (Wait m true (wait.Asleep stands.Listed)) is fits held can = (
     l,
     subst (λ q. Goes w (put (state_with_sections w (One (key_of l Main)) (Some t)) t (next_place q Late)) l (acts t (In Main ∷ []))) (sym is)
@@ -195,5 +202,6 @@ module _ (w : State) (t l : ℕ) (shape : IsShaped w) (steady : IsSteady w) (the
   late_goes (Look all) is fits held can = absurd cc
   late_goes (Notify all m at) is fits held can = absurd cc
 
-  pub condvar_goes_late : (at : CondvarPlace) → place_at w t ≡ Condvar l at → is_free_under w (late_key (Condvar l at)) ≡ true → LateGoes at
+  pub condvar_goes_late : (at : CondvarPlace) → place_at w t ≡ Condvar l at → is_free_under w (late_key (Condvar l at)) ≡ true
+      → LateGoes at
   condvar_goes_late at is can = late_goes at is (subst (FitsItsLock w) is (steady.stands.calls t)) (subst (PlaceFits (length w.locks)) is (shape.places t)) can

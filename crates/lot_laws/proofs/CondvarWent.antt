@@ -63,7 +63,8 @@ dropped : (q : List Waiter) → map queued_of (drop 1 q) ≡ drop 1 (map queued_
 dropped [] = refl
 dropped (x ∷ q) = refl
 
-module _ (w : State) (t l : ℕ) (at : CondvarPlace) (shape : IsShaped w) (steady : IsSteady w) (is : place_at w t ≡ Condvar l at) (lt : l < length w.locks) where
+module _ (w : State) (t l : ℕ) (at : CondvarPlace) (shape : IsShaped w) (steady : IsSteady w) (is : place_at w t ≡ Condvar l at)
+    (lt : l < length w.locks) where
   abbrev here : CondvarSite
   here = condvar_of w l
 
@@ -130,16 +131,19 @@ module _ (w : State) (t l : ℕ) (at : CondvarPlace) (shape : IsShaped w) (stead
 
   -- ---------------------------------------------------------------- and on its own word
 
-  at_own_word : (p : CondvarPlace) (f : Op) → condvar_act l p ≡ act.Word l f → mutex_beside p ≢ Some l → (after_all (condvar_deeds p (Value (word_at w l))) here t).waiters ≡ here.waiters → Led p (act.Word l f)
+  at_own_word : (p : CondvarPlace) (f : Op) → condvar_act l p ≡ act.Word l f → mutex_beside p ≢ Some l
+      → (after_all (condvar_deeds p (Value (word_at w l))) here t).waiters ≡ here.waiters → Led p (act.Word l f)
   at_own_word p f acts other waiters = (ap (λ (x : Lock). x.owners.shown) (get_or-set_same w.locks l _ (unlocked kind.Mutex) lt) ∙ shown, sym waiters)
     where
-      shown : (condvar_owners p t (word_at w l) (owners_at w l)).shown ≡ (after_all (condvar_deeds p (Value (word_at w l))) here t).shown
+      shown : (condvar_owners p t (word_at w l) (owners_at w l)).shown
+          ≡ (after_all (condvar_deeds p (Value (word_at w l))) here t).shown
       shown = subst (λ v. (condvar_owners p t v (owners_at w l)).shown ≡ (after_all (condvar_deeds p (Value v)) here t).shown) (sym (word_is w t l at steady is))
           (ap (λ (o : Owners). o.shown) (condvar_owners_follow here t l p f (owners_at w l) acts other refl))
 
   -- ---------------------------------------------------------------- each place
 
-  relocked : (n : Next MutexPlace) (b : State) → Same b → Is b (after_all (relocked_deeds n) here t).shown (after_all (relocked_deeds n) here t).waiters
+  relocked : (n : Next MutexPlace) (b : State) → Same b
+      → Is b (after_all (relocked_deeds n) here t).shown (after_all (relocked_deeds n) here t).waiters
   relocked (next.At q) b h = h
   relocked (next.End answer) b h = h
 
@@ -165,7 +169,9 @@ module _ (w : State) (t l : ℕ) (at : CondvarPlace) (shape : IsShaped w) (stead
       by_word : (a : LockAt) (f : Op) → Led (relocks a) (act.Word m f)
       by_word a f = by_act a (act.Word m f) (at_word m apart (Condvar l (relocks a)) f)
 
-      decides : (seen : ℕ) (a b : Bool) → Led (relocks (lock.Decide seen)) (if not a then act.Word m (op.TheVariants.Exchange seen (seen + 1)) else if b then act.Word m (op.TheVariants.Exchange 1 3) else act.Enter (One (2 * m)))
+      decides : (seen : ℕ) (a b : Bool)
+          → Led (relocks (lock.Decide seen))
+          (if not a then act.Word m (op.TheVariants.Exchange seen (seen + 1)) else if b then act.Word m (op.TheVariants.Exchange 1 3) else act.Enter (One (2 * m)))
       decides seen false b = by_word (lock.Decide seen) (op.TheVariants.Exchange seen (seen + 1))
       decides seen true true = by_word (lock.Decide seen) (op.TheVariants.Exchange 1 3)
       decides seen true false = by_act (lock.Decide seen) (act.Enter (One (2 * m))) (at_sections (One (2 * m)) (Some t))
@@ -182,7 +188,8 @@ module _ (w : State) (t l : ℕ) (at : CondvarPlace) (shape : IsShaped w) (stead
       locks_led lock.Accept e of can = by_act lock.Accept act.Accept (refl, refl)
       locks_led a e of can = absurd of
 
-    wait_led : (p : WaitAt) → at ≡ Wait m timed p → IsReached (Wait m timed p) → can_do w (wait_act l m p) ≡ true → Led (Wait m timed p) (wait_act l m p)
+    wait_led : (p : WaitAt) → at ≡ Wait m timed p → IsReached (Wait m timed p) → can_do w (wait_act l m p) ≡ true
+        → Led (Wait m timed p) (wait_act l m p)
     wait_led wait.Enter e reached can = (refl, refl)
     wait_led wait.Show e reached can = at_own_word (Wait m timed wait.Show) (op.TheVariants.Exchange 0 (m + 1)) refl named (shows ((word_at w l == 0) || is_shown (word_at w l) m))
     wait_led wait.Stand e reached can = (

@@ -100,7 +100,8 @@ module _ (w : State) (steady : IsSteady w) (t : ℕ) where
         single l p is one own = ap (λ (x : Station). x.inside) (single_station p k one) ∙ ap (λ o. (if is_lock k o then station_by (profile p) else nowhere).inside) own
             ∙ ap (λ (b : Bool). (if b then station_by (profile p) else nowhere).inside) (other_lock l (ap lock_of is ∙ own))
 
-        beside : (at : CondvarPlace) (o : Option ℕ) → ((m : ℕ) → o ≡ Some m → (rules_in w m).sort ≡ locks.Mutex) → (if is_lock k o then station_by (mutex_side at) else nowhere).inside ≡ None
+        beside : (at : CondvarPlace) (o : Option ℕ) → ((m : ℕ) → o ≡ Some m → (rules_in w m).sort ≡ locks.Mutex)
+            → (if is_lock k o then station_by (mutex_side at) else nowhere).inside ≡ None
         beside at None plain = refl
         beside at (Some m) plain = either (m == k) refl
           where
@@ -143,7 +144,8 @@ module _ (w : LocksState) (t k : ℕ) (sort : (rules_at w k).sort ≡ locks.Cond
   apart : (l j : ℕ) → Some l ≢ Some k → j ≡ l → j ≢ k
   apart l j other here e = other (ap Some (sym here ∙ e))
 
-  by_purpose : (q : Purpose) (g : Option ℕ) (r : Bool) (rc : Recall) (j : ℕ) (case : LockCase) → Some (lock_for q) ≢ Some k → KnowsRights (λ l. (rules_at w l).sort) (Some q) → IsMadeOf q g r rc j case → Elsewhere j case
+  by_purpose : (q : Purpose) (g : Option ℕ) (r : Bool) (rc : Recall) (j : ℕ) (case : LockCase) → Some (lock_for q) ≢ Some k
+      → KnowsRights (λ l. (rules_at w l).sort) (Some q) → IsMadeOf q g r rc j case → Elsewhere j case
   by_purpose (Enters l x how) g r rc j case other known made = inl (apart l j other made.0)
   by_purpose (Releases l x fair) g r rc j case other known made = inl (apart l j other made.0)
   by_purpose (Converts l x y how) g r rc j case other known made = inl (apart l j other made.0)
@@ -164,29 +166,34 @@ module _ (w : LocksState) (t k : ℕ) (sort : (rules_at w k).sort ≡ locks.Cond
       sees Wake h = λ r s t. (refl, refl)
       sees case h = absurd h
 
-  untouched : (e : Event) → MayHappen w t e → KnowsRights (λ l. (rules_at w l).sort) (w.calls t).purpose → of_purpose (w.calls t).purpose ≢ Some k → Kept (w.locks k) (locks_after w t e k)
+  untouched : (e : Event) → MayHappen w t e → KnowsRights (λ l. (rules_at w l).sort) (w.calls t).purpose
+      → of_purpose (w.calls t).purpose ≢ Some k → Kept (w.locks k) (locks_after w t e k)
   untouched Nothing may known other = (refl, refl)
   untouched (AtLock j case) may known other = by_call (w.calls t).purpose may known other
     where
-      here : (b : Bool) → (k == j) ≡ b → Elsewhere j case → Kept (w.locks k) (if b then after_case (rules_at w j) case (w.locks j) t else w.locks k)
+      here : (b : Bool) → (k == j) ≡ b → Elsewhere j case
+          → Kept (w.locks k) (if b then after_case (rules_at w j) case (w.locks j) t else w.locks k)
       here false e h = (refl, refl)
       here true e (inl ne) = absurd (ne (sym (eqb-true k j e)))
       here true e (inr keeps) = subst (λ i. Kept (w.locks i) (after_case (rules_at w j) case (w.locks j) t)) (sym (eqb-true k j e)) (keeps (rules_at w j) (w.locks j) t)
 
-      by_call : (o : Option Purpose) → MayDo w t j case o → KnowsRights (λ l. (rules_at w l).sort) o → of_purpose o ≢ Some k → Kept (w.locks k) (locks_after w t (AtLock j case) k)
+      by_call : (o : Option Purpose) → MayDo w t j case o → KnowsRights (λ l. (rules_at w l).sort) o → of_purpose o ≢ Some k
+          → Kept (w.locks k) (locks_after w t (AtLock j case) k)
       by_call None may known other = absurd may
       by_call (Some q) may known other = here (k == j) refl (by_purpose q _ _ _ j case other known may.0)
   untouched (Moves c m all owned number) may known other = here (k == m) (k == c) refl refl
     where
       here : (at_mutex at_condvar : Bool) → (k == m) ≡ at_mutex → (k == c) ≡ at_condvar
-          → Kept (w.locks k) (if at_mutex then joined_by owned t (moved_of all (w.locks c).queue) (w.locks m) else if at_condvar then left_behind all (w.locks c) else w.locks k)
+          → Kept (w.locks k)
+          (if at_mutex then joined_by owned t (moved_of all (w.locks c).queue) (w.locks m) else if at_condvar then left_behind all (w.locks c) else w.locks k)
       here true there e f = absurd (no_mutex m may.sorts.1 (sym (eqb-true k m e)))
       here false true e f = absurd (other (ap of_purpose may.notifies ∙ ap Some (sym (eqb-true k c f))))
       here false false e f = (refl, refl)
 
 -- ---------------------------------------------------------------- a step
 
-module _ (w : State) (s : Step) (shape : IsShaped w) (steady : IsSteady w) (counted : AreCounted w) (condvars : AreCondvars w) where
+module _ (w : State) (s : Step) (shape : IsShaped w) (steady : IsSteady w) (counted : AreCounted w)
+    (condvars : AreCondvars w) where
   abbrev v : State
   v = after w s
 
@@ -223,7 +230,8 @@ module _ (w : State) (s : Step) (shape : IsShaped w) (steady : IsSteady w) (coun
     | inr refused ↦ inl (same_purpose (ap (λ (x : LocksState). (x.calls t).purpose) refused.1.1))
   ]
     where
-      by_turn : (x : Turn) → MayTurn (locks_of w) t x → Does (locks_of w) t x (step_outcome w s) (locks_of v) → StaysOf ⊎ (lock_of (place_at w t) ≡ None)
+      by_turn : (x : Turn) → MayTurn (locks_of w) t x → Does (locks_of w) t x (step_outcome w s) (locks_of v)
+          → StaysOf ⊎ (lock_of (place_at w t) ≡ None)
       by_turn (turn.TheVariants.Begin c) may does = inr (sym (call_lock w steady t) ∙ ap of_purpose may.idle)
       by_turn turn.TheVariants.Late may does = inl (same_purpose (ap (λ (c : CallState). c.purpose) (does.calls t ∙ put_here (call_at w) t (record (call_at w t) { late = true }))))
       by_turn turn.TheVariants.Go may does = inl (goes_of does)
@@ -258,19 +266,22 @@ module _ (w : State) (s : Step) (shape : IsShaped w) (steady : IsSteady w) (coun
         by_turn turn.TheVariants.Err does = goes_by does.goes
 
     -- the others are about to do there what they were
-    says_kept : (u : ℕ) → u ≢ t → (stage_of (place_at v u) k ≡ stage_of (place_at w u) k) × (names_of (place_at v u) k ≡ names_of (place_at w u) k)
+    says_kept : (u : ℕ) → u ≢ t
+        → (stage_of (place_at v u) k ≡ stage_of (place_at w u) k) × (names_of (place_at v u) k ≡ names_of (place_at w u) k)
     says_kept u ne = (others_keep_it (λ p. stage_of p k) (stage_unmoved k) w s u ne, others_keep_it (λ p. names_of p k) (names_unmoved k) w s u ne)
 
     -- so a condition variable is as it was, where the thread is in no call of it before or behind the step
     pub condvar_kept : lock_of (place_at v t) ≢ Some k → condvar_of v k ≡ condvar_of w k
     condvar_kept other_then = same_condvar w v k lock_kept (by_change (step.0.sections (key_of k Main))) says
       where
-        by_change : SectionChanges (section_at w (key_of k Main)) t (section_at v (key_of k Main)) → section_at v (key_of k Main) ≡ section_at w (key_of k Main)
+        by_change : SectionChanges (section_at w (key_of k Main)) t (section_at v (key_of k Main))
+            → section_at v (key_of k Main) ≡ section_at w (key_of k Main)
         by_change (inl stays) = stays
         by_change (inr (inl enters)) = absurd (let within : (station_at (place_at v t) k).inside ≡ Some Main = (steady_then.stands.sections t k Main).1 enters.1 in let out = not_inside v steady_then t k sort_then other_then in cc)
         by_change (inr (inr leaves)) = absurd (let within : (station_at (place_at w t) k).inside ≡ Some Main = (steady.stands.sections t k Main).1 leaves.0 in let out = not_inside w steady t k sort other in cc)
 
-        says : (u : ℕ) → (stage_of (place_at v u) k ≡ stage_of (place_at w u) k) × (names_of (place_at v u) k ≡ names_of (place_at w u) k)
+        says : (u : ℕ)
+            → (stage_of (place_at v u) k ≡ stage_of (place_at w u) k) × (names_of (place_at v u) k ≡ names_of (place_at w u) k)
         says u = elim (cases_eq u t) [
           | inl e ↦ let before = says_nothing w steady t k sort other in let behind = says_nothing v steady_then t k sort_then other_then in
               rw e (behind.0 ∙ sym before.0, behind.1 ∙ sym before.1)

@@ -68,7 +68,8 @@ pub nothing : (b : Bool) → ◌≡◌ {A = Option Counted} (if b then None else
 nothing true = refl
 nothing false = refl
 
-pub goes_counted : (l j : ℕ) (a : Admission) (n : Next RwLockCallPlace) → counted_on (rwlock_goes j a n) l ≡ (if j == l then counted_next n else None)
+pub goes_counted : (l j : ℕ) (a : Admission) (n : Next RwLockCallPlace)
+    → counted_on (rwlock_goes j a n) l ≡ (if j == l then counted_next n else None)
 goes_counted l j a (next.At c) = refl
 goes_counted l j a (next.End answer) = sym (nothing (j == l))
 
@@ -159,7 +160,8 @@ given_bare b p (reply.Woken note.TheVariants.HandOff) c e = by_place p.purpose p
 given_bare b p (reply.Woken n) c e = absurd cc
 given_bare b p r c e = absurd cc
 
-unless_given_bare : (o : Option RwLockCallPlace) (n : Next RwLockCallPlace) → ((c : RwLockCallPlace) → o ≡ Some c → in_hand_of c ≡ None) → counted_next n ≡ None → counted_next (unless_given o n) ≡ None
+unless_given_bare : (o : Option RwLockCallPlace) (n : Next RwLockCallPlace)
+    → ((c : RwLockCallPlace) → o ≡ Some c → in_hand_of c ≡ None) → counted_next n ≡ None → counted_next (unless_given o n) ≡ None
 unless_given_bare None n bare h = h
 unless_given_bare (Some c) n bare h = bare c refl
 
@@ -175,7 +177,8 @@ bump_bare q (next.End answer) = by_purpose q
     by_purpose (purpose.Release x) = refl
     by_purpose q = refl
 
-handed_bare : (x : Access) (how : Patience) (b : Bool) (to : HandedAt) (r : Reply) → counted_next (handed_next x how b to r) ≡ None
+handed_bare : (x : Access) (how : Patience) (b : Bool) (to : HandedAt) (r : Reply)
+    → counted_next (handed_next x how b to r) ≡ None
 handed_bare x how b (handed.Asleep u alone) (reply.Woken note.TheVariants.HandOff) = woken_bare x how b alone
 handed_bare x how b (handed.Asleep u alone) (reply.Woken n) = refl
 handed_bare x how b (handed.Asleep u alone) r = refl
@@ -210,7 +213,8 @@ others_bare a (Handed x how b to) r no_hand = handed_bare x how b to r
 
 -- ---------------------------------------------------------------- whatever befalls a thread
 
-stays_counted : (a : Admission) (x : Access) (b : Bool) (to : HandOverAt) (r : Reply) → Befalls r → counted_next (hand_over_next a x b to r) ≡ in_hand_of (HandOver x b to)
+stays_counted : (a : Admission) (x : Access) (b : Bool) (to : HandOverAt) (r : Reply) → Befalls r
+    → counted_next (hand_over_next a x b to r) ≡ in_hand_of (HandOver x b to)
 stays_counted a x b handing.Load (reply.Woken n) h = refl
 stays_counted a x b to (reply.Woken n) h = refl
 stays_counted a x b to (reply.TakenBy v) h = refl
@@ -260,7 +264,8 @@ bare_at j a c none no_hand = record {
   goes_on = λ r l. goes_counted l j a (call_next a c r) ∙ ap (λ o. if j == l then o else None) (others_bare a c r no_hand) ∙ nothing (j == l);
 }
 
-looks_bare_at : (j : ℕ) (a : Admission) (b : Bool) (o : Option RwLockPlace) (q : Place) → in_rwlock j a (in_call b o) ≡ Some q → LooksBare q
+looks_bare_at : (j : ℕ) (a : Admission) (b : Bool) (o : Option RwLockPlace) (q : Place) → in_rwlock j a (in_call b o) ≡ Some q
+    → LooksBare q
 looks_bare_at j a b None q is = absurd cc
 looks_bare_at j a true (Some p) q is = let there : RwLock j a (Bump p) ≡ q = cc in subst LooksBare there (bare_at j a (Bump p) refl (λ no. no))
 looks_bare_at j a false (Some p) q is = let there : RwLock j a (Plain p) ≡ q = cc in subst LooksBare there (bare_at j a (Plain p) refl (λ no. no))

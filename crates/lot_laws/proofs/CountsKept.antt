@@ -65,7 +65,8 @@ use Rattle.lot_laws.proofs.TurnsKept.{after_steady}
 
 -- ---------------------------------------------------------------- another thread goes on
 
-module _ (w v : State) (a : ℕ) (steady : IsSteady w) (behind : IsSteady v) (counted : AreCounted w) (size : length v.places ≡ length w.places) where
+module _ (w v : State) (a : ℕ) (steady : IsSteady w) (behind : IsSteady v) (counted : AreCounted w)
+    (size : length v.places ≡ length w.places) where
   module _ (t l : ℕ) (k : Counted) (was : counted_on (place_at w t) l ≡ Some k) (now : counted_on (place_at v t) l ≡ Some k) where
     before : HasCounted l (place_at w t)
     before = counting_row l k (place_at w t) was
@@ -78,7 +79,8 @@ module _ (w v : State) (a : ℕ) (steady : IsSteady w) (behind : IsSteady v) (co
     readers = let h = counting l k (place_at w t) was in let fits : FitsItsLock w (RwLock l h.admission h.call) = subst (FitsItsLock w) h.is (steady.stands.calls t) in fits.0.0
 
     -- whom it has in hand, the abstract lock says, and no case of another changes that
-    same_wanted : t ≢ a → (x : Turn) (o : Outcome) → Turned (locks_of w) a x o (locks_of v) → (u : ℕ) → wanted_of t (held (place_at v u)) ≡ wanted_of t (held (place_at w u))
+    same_wanted : t ≢ a → (x : Turn) (o : Outcome) → Turned (locks_of w) a x o (locks_of v) → (u : ℕ)
+        → wanted_of t (held (place_at v u)) ≡ wanted_of t (held (place_at w u))
     same_wanted ne x o turned u = same_hand v t l behind then_so.of then_so.any then_so.carries u
         ∙ turned_so (λ (s z : LockState). wanted_of t (z.taken u) ≡ wanted_of t (s.taken u)) (locks_of w) (locks_of v) a l (λ c m every owned number may. moves_no_readers (locks_of w) a c m every owned number l readers may (λ z. wanted_of t (z.taken u) ≡ wanted_of t ((lock_state w l).taken u)) refl) refl
         (λ c needs. others_hold (rules_in w l) (lock_state w l) t a u (steady.sites.site l).state ne c needs) x o turned
@@ -94,7 +96,8 @@ module _ (w : State) (t : ℕ) (steady : IsSteady w) (counted : AreCounted w) (t
   goes_to p = put (state_after_act w t p (act_of p)) t (next_place p (reply_to w t (act_of p)))
 
   -- no place changes but its own, and that is in no hand
-  alone_counts : (b : State) (l : ℕ) (k : Counted) (q : Place) → b.places ≡ w.places → counted_on (place_at w t) l ≡ Some k → counted_on q l ≡ Some k → IsCounted (put b t q) t k
+  alone_counts : (b : State) (l : ℕ) (k : Counted) (q : Place) → b.places ≡ w.places → counted_on (place_at w t) l ≡ Some k
+      → counted_on q l ≡ Some k → IsCounted (put b t q) t k
   alone_counts b l k q same_places was now = counted_stays w (put b t q) t (length-set b.places t q ∙ ap (λ ps. length ps) same_places) same_wants k (counts_there w t l k counted was)
     where
       same_wants : (u : ℕ) → wanted_of t (held (place_at (put b t q) u)) ≡ wanted_of t (held (place_at w u))
@@ -112,7 +115,9 @@ module _ (w : State) (t : ℕ) (steady : IsSteady w) (counted : AreCounted w) (t
     Counts to = (k : Counted) → counted_next (hand_over_next a x b to (told to)) ≡ Some k → IsCounted (goes_to (at to)) t k
 
     -- the place says of the hand what it said
-    keeps_count : (v : State) (m k : Counted) (to now : HandOverAt) → v.places ≡ w.places → place_at w t ≡ at to → in_hand_of (HandOver x b to) ≡ Some m → in_hand_of (HandOver x b now) ≡ Some m → m ≡ k → IsCounted (put v t (at now)) t k
+    keeps_count : (v : State) (m k : Counted) (to now : HandOverAt) → v.places ≡ w.places → place_at w t ≡ at to
+        → in_hand_of (HandOver x b to) ≡ Some m → in_hand_of (HandOver x b now) ≡ Some m → m ≡ k
+        → IsCounted (put v t (at now)) t k
     keeps_count v m k to now same_places is was then_so same_count = subst (IsCounted (put v t (at now)) t) same_count
         (alone_counts v l m (at now) same_places (ap (λ p. counted_on p l) is ∙ here to ∙ was) (here now ∙ then_so))
       where
@@ -141,12 +146,14 @@ module _ (w : State) (t : ℕ) (steady : IsSteady w) (counted : AreCounted w) (t
     free_counts : (expected : ℕ) → Counts (handing.Free expected)
     free_counts expected k e = absurd (none_is k (counted_next (if word_at w l == expected then released x b else next.At (HandOver x b (freed_next x (word_at w l))))) (either (word_at w l == expected)) e)
       where
-        either : (c : Bool) → counted_next (if c then released x b else next.At (HandOver x b (freed_next x (word_at w l)))) ≡ None
+        either : (c : Bool)
+            → counted_next (if c then released x b else next.At (HandOver x b (freed_next x (word_at w l)))) ≡ None
         either true = released_bare
         either false = freed_bare (word_at w l) x
 
     -- it found another value
-    exchange_counts : (m : Counted) (expected : ℕ) → place_at w t ≡ at (handing.Exchange m expected) → Counts (handing.Exchange m expected)
+    exchange_counts : (m : Counted) (expected : ℕ) → place_at w t ≡ at (handing.Exchange m expected)
+        → Counts (handing.Exchange m expected)
     exchange_counts m expected is k = by_room (has_room a.limit m expected)
       where
         seen : ℕ
@@ -164,20 +171,27 @@ module _ (w : State) (t : ℕ) (steady : IsSteady w) (counted : AreCounted w) (t
         goes_by : Bool → Next RwLockCallPlace
         goes_by found = if found then next.At (HandOver x b (handing.Leave (any_taken m) (has_room a.limit m seen))) else next.At (HandOver x b (handing.Exchange m seen))
 
-        handed : (found : Bool) → counted_next (goes_by found) ≡ Some k → IsCounted (put (state_after_hand_over_by found w t (at (handing.Exchange m expected)) l over) t (rwlock_goes l a (goes_by found))) t k
+        handed : (found : Bool) → counted_next (goes_by found) ≡ Some k
+            → IsCounted
+            (put (state_after_hand_over_by found w t (at (handing.Exchange m expected)) l over) t (rwlock_goes l a (goes_by found))) t k
         handed true e = absurd cc
         handed false e = keeps_count (state_after_operation w t (at (handing.Exchange m expected)) l over) m k (handing.Exchange m expected) (handing.Exchange m seen) refl is refl refl (let z : m ≡ k = cc in z)
 
-        let_go : (found : Bool) → counted_next (goes_by found) ≡ Some k → IsCounted (put (state_after_operation w t (at (handing.Exchange m expected)) l away) t (rwlock_goes l a (goes_by found))) t k
+        let_go : (found : Bool) → counted_next (goes_by found) ≡ Some k
+            → IsCounted
+            (put (state_after_operation w t (at (handing.Exchange m expected)) l away) t (rwlock_goes l a (goes_by found))) t k
         let_go true e = absurd cc
         let_go false e = keeps_count (state_after_operation w t (at (handing.Exchange m expected)) l away) m k (handing.Exchange m expected) (handing.Exchange m seen) refl is refl refl (let z : m ≡ k = cc in z)
 
-        by_room : (room : Bool) → counted_next (hand_over_next a x b (handing.Exchange m expected) (reply_to w t (acts_by room))) ≡ Some k
-            → IsCounted (put (state_after_act w t (at (handing.Exchange m expected)) (acts_by room)) t (rwlock_goes l a (hand_over_next a x b (handing.Exchange m expected) (reply_to w t (acts_by room))))) t k
+        by_room : (room : Bool)
+            → counted_next (hand_over_next a x b (handing.Exchange m expected) (reply_to w t (acts_by room))) ≡ Some k
+            → IsCounted
+            (put (state_after_act w t (at (handing.Exchange m expected)) (acts_by room)) t (rwlock_goes l a (hand_over_next a x b (handing.Exchange m expected) (reply_to w t (acts_by room))))) t k
         by_room true e = handed (seen == expected) e
         by_room false e = let_go (seen == expected) e
 
-    hand_over_counts : (to : HandOverAt) → place_at w t ≡ at to → IsSteady (goes_to (at to)) → Turned (locks_of w) t y o (locks_of (goes_to (at to))) → Counts to
+    hand_over_counts : (to : HandOverAt) → place_at w t ≡ at to → IsSteady (goes_to (at to))
+        → Turned (locks_of w) t y o (locks_of (goes_to (at to))) → Counts to
     hand_over_counts handing.Load is behind turned k e = absurd (none_is k (in_hand_of (HandOver x b (looked (word_at w l)))) (looked_bare (word_at w l)) e)
     hand_over_counts (handing.Free expected) is behind turned k e = free_counts expected k e
     hand_over_counts handing.Enter is behind turned k e = absurd cc
@@ -211,7 +225,8 @@ module _ (w : State) (t : ℕ) (steady : IsSteady w) (counted : AreCounted w) (t
         n : Next RwLockCallPlace
         n = call_next a (HandOver x b to) (reply_to w t (call_act j a (HandOver x b to)))
 
-        either : (c : Bool) → (if c then counted_next n else None) ≡ Some k → IsCounted (goes_to (RwLock j a (HandOver x b to))) t k
+        either : (c : Bool) → (if c then counted_next n else None) ≡ Some k
+            → IsCounted (goes_to (RwLock j a (HandOver x b to))) t k
         either true f = hand_over_counts j a x b y o to is behind turned k f
         either false f = absurd cc
     going_counts (RwLock j a (Plain p)) is behind turned l k e = bare_goes j a (Plain p) (λ no. no) is behind turned l k e
@@ -220,13 +235,15 @@ module _ (w : State) (t : ℕ) (steady : IsSteady w) (counted : AreCounted w) (t
     going_counts (RwLock j a (Handed x how b to)) is behind turned l k e = bare_goes j a (Handed x how b to) (λ no. no) is behind turned l k e
 
 -- in a call of two locks it counts nobody
-two_bare : (w : State) (t : ℕ) → IsSteady w → t < length w.places → IsOfTwo (place_at w t) → (l : ℕ) → counted_on (place_at (state_after_go w t) t) l ≡ None
+two_bare : (w : State) (t : ℕ) → IsSteady w → t < length w.places → IsOfTwo (place_at w t) → (l : ℕ)
+    → counted_on (place_at (state_after_go w t) t) l ≡ None
 two_bare w t steady there two l = ap (λ p. counted_on (place_at (state_after_going w t p) t) l) two.is
     ∙ ap (λ p. counted_on p l) (went_place w t two.lock two.at two.is (fits_two w t steady two).reached there) ∙ condvar_counted l two.lock (went w t two.lock two.at two.is (fits_two w t steady two).reached there)
 
 module _ (w : State) (t : ℕ) (steady : IsSteady w) (counted : AreCounted w) (there : t < length w.places) where
   -- it looks at the word once more
-  spun_counts : (p : Option Place) → looking (place_at w t) ≡ p → (l : ℕ) (k : Counted) → counted_on (place_at (state_after_look w t p) t) l ≡ Some k → IsCounted (state_after_look w t p) t k
+  spun_counts : (p : Option Place) → looking (place_at w t) ≡ p → (l : ℕ) (k : Counted)
+      → counted_on (place_at (state_after_look w t p) t) l ≡ Some k → IsCounted (state_after_look w t p) t k
   spun_counts None is l k e = counts_there w t l k counted e
   spun_counts (Some q) is l k e = absurd (none_is k _ (elim (single_or_two (place_at moved t)) [
     | inl single ↦ ap (λ p. counted_on p l) (gone_place moved t single there_moved ∙ ap (λ p. next_place p (go_reply moved t)) (get_or-set_same w.places t q Idle there)) ∙ (looks_bare (place_at w t) q is).goes_on (go_reply moved t) l
@@ -239,19 +256,23 @@ module _ (w : State) (t : ℕ) (steady : IsSteady w) (counted : AreCounted w) (t
       there_moved : t < length moved.places
       there_moved = rw (length-set w.places t q) there
 
-  late_counts : (key : Option ℕ) → late_key (place_at w t) ≡ key → (l : ℕ) (k : Counted) → counted_on (place_at (state_after_late_on w t key) t) l ≡ Some k → IsCounted (state_after_late_on w t key) t k
+  late_counts : (key : Option ℕ) → late_key (place_at w t) ≡ key → (l : ℕ) (k : Counted)
+      → counted_on (place_at (state_after_late_on w t key) t) l ≡ Some k → IsCounted (state_after_late_on w t key) t k
   late_counts None is l k e = counts_there w t l k counted e
   late_counts (Some key) is l k e = absurd (none_is k _ (ap (λ p. counted_on p l) (get_or-set_same w.places t (next_place (place_at w t) Late) Idle there) ∙ late_bare (place_at w t) key is l) e)
 
   -- a call of a `Once` counts nobody
-  closed_bare : (succeeded : Bool) → RunsOne (place_at w t) → (l : ℕ) → counted_on (place_at (state_after_close w t succeeded) t) l ≡ None
+  closed_bare : (succeeded : Bool) → RunsOne (place_at w t) → (l : ℕ)
+      → counted_on (place_at (state_after_close w t succeeded) t) l ≡ None
   closed_bare succeeded one l =
       let v = closing w t there succeeded one in
       ap (λ p. counted_on p l) (gone_place v t (subst IsSingle (sym (closing_here w t there succeeded one ∙ is_behind w t there succeeded one)) tt) (closing_there w t there succeeded one))
       ∙ ap (λ p. counted_on (next_place p (reply_to v t (act_of p))) l) (closing_here w t there succeeded one ∙ is_behind w t there succeeded one)
       ∙ once_counted l one.lock (once_next (Run one.forced (run.Close succeeded)) (reply_to v t (act_of (Once one.lock (Run one.forced (run.Close succeeded))))))
 
-  turned_counts : (x : Turn) → can_turn w t x ≡ true → IsSteady (state_after_turn w t x) → (o : Outcome) → Turned (locks_of w) t x o (locks_of (state_after_turn w t x)) → (l : ℕ) (k : Counted) → counted_on (place_at (state_after_turn w t x) t) l ≡ Some k → IsCounted (state_after_turn w t x) t k
+  turned_counts : (x : Turn) → can_turn w t x ≡ true → IsSteady (state_after_turn w t x) → (o : Outcome)
+      → Turned (locks_of w) t x o (locks_of (state_after_turn w t x)) → (l : ℕ) (k : Counted)
+      → counted_on (place_at (state_after_turn w t x) t) l ≡ Some k → IsCounted (state_after_turn w t x) t k
   turned_counts (turn.TheVariants.Begin c) can behind o turned l k e = absurd (none_is k _ (ap (λ p. counted_on p l) (get_or-set_same w.places t (first_place (kind_at w (lock_in c)) c) Idle there) ∙ begins_bare l (kind_at w (lock_in c)) c) e)
   turned_counts turn.TheVariants.Go can behind o turned l k e = elim (single_or_two (place_at w t)) [
     | inl single ↦ (let same = gone w t single in
@@ -276,8 +297,10 @@ counted_after w s shape steady counted condvars = are_counted (after w s) each
     stepped : IsStep (locks_of w) s (step_outcome w s) (locks_of (after w s))
     stepped = after_step w s shape steady counted condvars
 
-    own : (b : Bool) → is_possible w s ≡ b → IsSteady (if b then state_after_turn w s.thread s.turn else w) → Turned (locks_of w) s.thread s.turn (step_outcome w s) (locks_of (if b then state_after_turn w s.thread s.turn else w))
-        → (l : ℕ) (k : Counted) → counted_on (place_at (if b then state_after_turn w s.thread s.turn else w) s.thread) l ≡ Some k → IsCounted (if b then state_after_turn w s.thread s.turn else w) s.thread k
+    own : (b : Bool) → is_possible w s ≡ b → IsSteady (if b then state_after_turn w s.thread s.turn else w)
+        → Turned (locks_of w) s.thread s.turn (step_outcome w s) (locks_of (if b then state_after_turn w s.thread s.turn else w))
+        → (l : ℕ) (k : Counted) → counted_on (place_at (if b then state_after_turn w s.thread s.turn else w) s.thread) l ≡ Some k
+        → IsCounted (if b then state_after_turn w s.thread s.turn else w) s.thread k
     own true can behind turned l k e = let h = both (nat_lt s.thread (length w.places)) (can_turn w s.thread s.turn) can in
         turned_counts w s.thread steady counted (ltb-true s.thread (length w.places) h.0) s.turn h.1 behind (step_outcome w s) turned l k e
     own false cannot behind turned l k e = counts_there w s.thread l k counted e

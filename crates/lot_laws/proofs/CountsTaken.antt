@@ -59,13 +59,15 @@ module _ (w : State) (t l : ℕ) (steady : IsSteady w) where
       omega arith)
 
   -- behind a step of a thread that had nobody in hand
-  one_more_then : IsSingle (place_at w t) → (v : State) (x : Turn) (o : Outcome) → (rules_in w l).sort ≢ Once → Turned (locks_of w) t x o (locks_of v) → HasTakenNobody (lock_state w l) t → OneMore (lock_state v l).taken t
+  one_more_then : IsSingle (place_at w t) → (v : State) (x : Turn) (o : Outcome) → (rules_in w l).sort ≢ Once
+      → Turned (locks_of w) t x o (locks_of v) → HasTakenNobody (lock_state w l) t → OneMore (lock_state v l).taken t
   one_more_then single v x o lock turned none = turned_so (λ (s z : LockState). OneMore z.taken t) (locks_of w) (locks_of v) t l (λ c m every owned number may. absurd (moves_nobody (locks_of w) t (calls_one_lock w t steady single) c m every owned number may)) (nobody_more t (lock_state w l).taken none)
       (λ c needs. takes_one_more (lock_state w l) t none (rules_in w l) lock few_picked c needs) x o turned
 
 -- by where it stands then
 one_in_hand : (v : State) (t l : ℕ) → IsSteady v → HasCounted l (place_at v t) → OneMore (lock_state v l).taken t
-    → (u i : ℕ) (x y : Want) → wants_more_in_hand t (held (place_at v u)) ≡ Some x → wants_more_in_hand t (held (place_at v i)) ≡ Some y → u ≡ i
+    → (u i : ℕ) (x y : Want) → wants_more_in_hand t (held (place_at v u)) ≡ Some x
+    → wants_more_in_hand t (held (place_at v i)) ≡ Some y → u ≡ i
 one_in_hand v t l steady has one u i x y e f = let a = is_more t (held (place_at v u)) x e in let b = is_more t (held (place_at v i)) y f in
     one u i x y (taken_so u x a.0) a.1 (taken_so i y b.0) b.1
   where
@@ -75,7 +77,8 @@ one_in_hand v t l steady has one u i x y e f = let a = is_more t (held (place_at
 -- ---------------------------------------------------------------- the take
 
 -- who isn't moved by what is told stays where it is
-told_stays : (u : ℕ) (r : Reply) (p : Place) → next_place p r ≡ p → (us : List ℕ) (ps : List Place) → get_or ps u Idle ≡ p → get_or (places_told r us ps) u Idle ≡ p
+told_stays : (u : ℕ) (r : Reply) (p : Place) → next_place p r ≡ p → (us : List ℕ) (ps : List Place) → get_or ps u Idle ≡ p
+    → get_or (places_told r us ps) u Idle ≡ p
 told_stays u r p stays [] ps is = is
 told_stays u r p stays (x ∷ us) ps is = told_stays u r p stays us (set ps x (next_place (get_or ps x Idle) r)) (elim (cases_eq u x) [
   | inl e ↦ elim (cases_lt x (length ps)) [
@@ -90,7 +93,8 @@ took_is access.Shared b k = refl
 took_is access.Upgradable b k = refl
 took_is access.Exclusive b k = refl
 
-module _ (w : State) (t l : ℕ) (a : Admission) (x : Access) (b : Bool) (steady : IsSteady w) (there : t < length w.places) (is : place_at w t ≡ RwLock l a (HandOver x b handing.Take)) where
+module _ (w : State) (t l : ℕ) (a : Admission) (x : Access) (b : Bool) (steady : IsSteady w) (there : t < length w.places)
+    (is : place_at w t ≡ RwLock l a (HandOver x b handing.Take)) where
   abbrev taken_all : State
   taken_all = state_after_take w t (2 * l) (whom.Picked None a.recursive)
 
@@ -134,7 +138,8 @@ module _ (w : State) (t l : ℕ) (a : Admission) (x : Access) (b : Bool) (steady
       let fits : FitsItsLock w (RwLock l a (HandOver x b handing.Take)) = subst (FitsItsLock w) is (steady.stands.calls t) in
       let f : has_readers Once ≡ true = subst (λ sort. has_readers sort ≡ true) once fits.0.0 in cc
 
-  pub take_counts : IsSteady state_then → (y : Turn) (o : Outcome) → Turned (locks_of w) t y o (locks_of state_then) → IsCounted state_then t picked_now
+  pub take_counts : IsSteady state_then → (y : Turn) (o : Outcome) → Turned (locks_of w) t y o (locks_of state_then)
+      → IsCounted state_then t picked_now
   take_counts behind y o turned = record {
     number = same_sharers taken_all state_then t (length-set taken_all.places t place_then) same_wants;
     more = ap want_of_successor (same_successor taken_all state_then t (length-set taken_all.places t place_then) same_wants);

@@ -88,14 +88,16 @@ call_owner a (places.Bump p) t v o = exclusive_by (change a p v) t o
 call_owner a (places.HandOver x b to) t v o = if gives_up to v then without_access x o else o
 call_owner a c t v o = o
 
-call_is : (a : Admission) (c : RwLockCallPlace) (t v : ℕ) (r : Owners) → (call_owners a c t v r).exclusive ≡ call_owner a c t v r.exclusive
+call_is : (a : Admission) (c : RwLockCallPlace) (t v : ℕ) (r : Owners)
+    → (call_owners a c t v r).exclusive ≡ call_owner a c t v r.exclusive
 call_is a (places.Plain p) t v r = exclusive_is (change a p v) t r
 call_is a (places.Bump p) t v r = exclusive_is (change a p v) t r
 call_is a (places.Glance x) t v r = refl
 call_is a (places.Handed x how b to) t v r = refl
 call_is a (places.HandOver x b to) t v r = either (gives_up to v)
   where
-    either : (c : Bool) → (if c then without_owned x r else r).exclusive ≡ (if c then without_access x r.exclusive else r.exclusive)
+    either : (c : Bool)
+        → (if c then without_owned x r else r).exclusive ≡ (if c then without_access x r.exclusive else r.exclusive)
     either true = without_is x r
     either false = refl
 
@@ -158,7 +160,8 @@ mutex_is Bump t v r = refl
 mutex_is (HandOff bumps (hand_off.Store any none_left)) t v r = refl
 mutex_is (HandOff bumps at) t v r = refl
 
-condvar_is : (at : CondvarPlace) (t v : ℕ) (r : Owners) → (condvar_owners at t v r).exclusive ≡ condvar_owner_after at t v r.exclusive
+condvar_is : (at : CondvarPlace) (t v : ℕ) (r : Owners)
+    → (condvar_owners at t v r).exclusive ≡ condvar_owner_after at t v r.exclusive
 condvar_is (Wait m timed (wait.Release s at)) t v r = mutex_is at t v r
 condvar_is (Wait m timed (wait.Lock late at)) t v r = mutex_is at t v r
 condvar_is (Wait m timed wait.Show) t v r = either (v == 0)
@@ -183,7 +186,8 @@ exclusive-owners (Condvar l at) t v r = condvar_is at t v r
 -- ---------------------------------------------------------------- words
 
 -- the four words of a mutex
-pub by_code : (P : ℕ → Option ℕ → Type 0) → P 0 None → P 2 None → ((u : ℕ) → P 1 (Some u)) → ((u : ℕ) → P 3 (Some u)) → (v : ℕ) (o : Option ℕ) → IsMutexWord v o → P v o
+pub by_code : (P : ℕ → Option ℕ → Type 0) → P 0 None → P 2 None → ((u : ℕ) → P 1 (Some u)) → ((u : ℕ) → P 3 (Some u))
+    → (v : ℕ) (o : Option ℕ) → IsMutexWord v o → P v o
 by_code P a b c d v None (inl e) = rw e a
 by_code P a b c d v None (inr e) = rw e b
 by_code P a b c d v (Some u) (inl e) = rw e (c u)

@@ -91,7 +91,8 @@ released_lock (Notifies k all) l h = absurd h
 -- ---------------------------------------------------------------- what others do to an owner
 
 -- what is done to a `Once` changes no owner
-once_keeps : (case : OnceCase) (s : LockState) (u : ℕ) → ((locks.once_after case s u).exclusive ≡ s.exclusive) × ((locks.once_after case s u).upgradable ≡ s.upgradable)
+once_keeps : (case : OnceCase) (s : LockState) (u : ℕ)
+    → ((locks.once_after case s u).exclusive ≡ s.exclusive) × ((locks.once_after case s u).upgradable ≡ s.upgradable)
 once_keeps (Start forced) s u = (refl, refl)
 once_keeps Finish s u = (refl, refl)
 once_keeps Fail s u = (refl, refl)
@@ -110,7 +111,8 @@ condvar_keeps (locks.Show m) s = record { exclusive = refl; upgradable = refl; t
 condvar_keeps locks.Hide s = record { exclusive = refl; upgradable = refl; taken = refl }
 
 -- no case of another thread takes a lock from its owner
-others_keep : (r : Rules) (s : LockState) (t u : ℕ) → IsLockState r s → s.exclusive ≡ Some t → u ≢ t → (c : LockCase) → Needs r c s u → (locks.after_case r c s u).exclusive ≡ Some t
+others_keep : (r : Rules) (s : LockState) (t u : ℕ) → IsLockState r s → s.exclusive ≡ Some t → u ≢ t → (c : LockCase)
+    → Needs r c s u → (locks.after_case r c s u).exclusive ≡ Some t
 others_keep r s t u is own ne (Enter Exclusive) n = grind arith
 others_keep r s t u is own ne (Enter x) n = grind arith
 others_keep r s t u is own ne Pend n = grind arith
@@ -130,7 +132,8 @@ others_keep r s t u is own ne (locks.OfCondvar case) n = (condvar_keeps case s).
 others_keep r s t u is own ne (locks.SeeOwner owned) n = own
 others_keep r s t u is own ne Rollback n = grind (arith, is.exclusive_alone t own)
 
-upgradable_keep : (r : Rules) (s : LockState) (t u : ℕ) → IsLockState r s → s.upgradable ≡ Some t → u ≢ t → (c : LockCase) → Needs r c s u → (locks.after_case r c s u).upgradable ≡ Some t
+upgradable_keep : (r : Rules) (s : LockState) (t u : ℕ) → IsLockState r s → s.upgradable ≡ Some t → u ≢ t → (c : LockCase)
+    → Needs r c s u → (locks.after_case r c s u).upgradable ≡ Some t
 upgradable_keep r s t u is own ne (Enter Upgradable) n = grind arith
 upgradable_keep r s t u is own ne (Enter x) n = own
 upgradable_keep r s t u is own ne Pend n = own
@@ -154,7 +157,8 @@ upgradable_keep r s t u is own ne Rollback n = grind (arith, is.pending_alone)
 let_go_was : (t : ℕ) (o : Option Taken) (h : Taken) → keep_from t o ≡ Some h → o ≡ Some h
 let_go_was t o h e = grind arith
 
-taken_was : (s : LockState) (t u a : ℕ) (x : Want) → IsLockState mutex s → (c : LockCase) → Needs mutex c s a → IsTaken (locks.after_case mutex c s a) t u x → IsTaken s t u x ⊎ (first_thread s.queue ≡ Some u)
+taken_was : (s : LockState) (t u a : ℕ) (x : Want) → IsLockState mutex s → (c : LockCase) → Needs mutex c s a
+    → IsTaken (locks.after_case mutex c s a) t u x → IsTaken s t u x ⊎ (first_thread s.queue ≡ Some u)
 taken_was s t u a x is (Enter Exclusive) n h = inl h
 taken_was s t u a x is (Enter y) n h = inl (grind arith)
 taken_was s t u a x is Pend n h = inl h
@@ -187,8 +191,10 @@ ComesFrom s word t l v = (owner_at v l ≡ Some t) ⊎ (((u : ℕ) × IsTaken s 
 abbrev ComesTo : State → ℕ → ℕ → State → Type 0
 ComesTo w t l v = ComesFrom (lock_state w l) (word_at w l) t l v
 
-module _ (w : State) (t l : ℕ) (shape : IsShaped w) (steady : IsSteady w) (own : owner_at w l ≡ Some t) (of_mutex : is_mutex (kind_at w l) ≡ true) where
-  operated_owner : (p : Place) (f : Op) → l < length w.locks → owner_at (state_after_operation w t p l f) l ≡ owner_after p t (word_at w l) (Some t)
+module _ (w : State) (t l : ℕ) (shape : IsShaped w) (steady : IsSteady w) (own : owner_at w l ≡ Some t)
+    (of_mutex : is_mutex (kind_at w l) ≡ true) where
+  operated_owner : (p : Place) (f : Op) → l < length w.locks
+      → owner_at (state_after_operation w t p l f) l ≡ owner_after p t (word_at w l) (Some t)
   operated_owner p f lt = ap (λ x. x.owners.exclusive) (get_or-set_same w.locks l _ (unlocked kind.TheVariants.Mutex) lt) ∙ exclusive-owners p t (word_at w l) (owners_at w l) ∙ ap (owner_after p t (word_at w l)) own
 
   still_own : (b : Bool) → (if b then Some t else Some t) ≡ Some t
@@ -197,7 +203,9 @@ module _ (w : State) (t l : ℕ) (shape : IsShaped w) (steady : IsSteady w) (own
 
   module _ (lt : l < length w.locks) where
     -- a bump that enters again owns what it owned
-    decided_keeps : (retries : Bool) (s : ℕ) (a b : Bool) → ComesTo w t l (state_after_act w t (Mutex l (Lock entries.Bump retries (lock.Decide s))) (if not a then act.TheVariants.Word l (op.TheVariants.Exchange s (s + 1)) else if b then act.TheVariants.Word l (op.TheVariants.Exchange 1 3) else act.TheVariants.Enter (One (2 * l))))
+    decided_keeps : (retries : Bool) (s : ℕ) (a b : Bool)
+        → ComesTo w t l
+        (state_after_act w t (Mutex l (Lock entries.Bump retries (lock.Decide s))) (if not a then act.TheVariants.Word l (op.TheVariants.Exchange s (s + 1)) else if b then act.TheVariants.Word l (op.TheVariants.Exchange 1 3) else act.TheVariants.Enter (One (2 * l))))
     decided_keeps retries s false b = inl (operated_owner (Mutex l (Lock entries.Bump retries (lock.Decide s))) (op.TheVariants.Exchange s (s + 1)) lt ∙ still_own ((word_at w l == s) && not (is_locked (word_at w l))))
     decided_keeps retries s true true = inl (operated_owner (Mutex l (Lock entries.Bump retries (lock.Decide s))) (op.TheVariants.Exchange 1 3) lt ∙ still_own ((word_at w l == s) && not (is_locked (word_at w l))))
     decided_keeps retries s true false = inl own
@@ -206,7 +214,8 @@ module _ (w : State) (t l : ℕ) (shape : IsShaped w) (steady : IsSteady w) (own
     parked_keeps true = inl own
     parked_keeps false = inl own
 
-    lock_keeps : (retries : Bool) (a : LockAt) → ComesTo w t l (state_after_act w t (Mutex l (Lock entries.Bump retries a)) (lock_act l a))
+    lock_keeps : (retries : Bool) (a : LockAt)
+        → ComesTo w t l (state_after_act w t (Mutex l (Lock entries.Bump retries a)) (lock_act l a))
     lock_keeps retries lock.First = inl (operated_owner (Mutex l (Lock entries.Bump retries lock.First)) (op.TheVariants.Exchange 0 1) lt ∙ still_own (word_at w l == 0))
     lock_keeps retries lock.Load = inl (operated_owner (Mutex l (Lock entries.Bump retries lock.Load)) op.TheVariants.Load lt)
     lock_keeps retries (lock.Decide s) = decided_keeps retries s (is_locked s) (s == 1)
@@ -220,13 +229,18 @@ module _ (w : State) (t l : ℕ) (shape : IsShaped w) (steady : IsSteady w) (own
     lock_keeps retries lock.Clear = inl (operated_owner (Mutex l (Lock entries.Bump retries lock.Clear)) (op.TheVariants.And NOT_PARKED) lt)
     lock_keeps retries lock.GiveUp = inl own
 
-    carries_nobody : (at : MutexPlace) → place_at w t ≡ Mutex l at → ((mutex_station at).carries ≡ Some false → ⊥) → HasTakenNobody (lock_state w l) t
+    carries_nobody : (at : MutexPlace) → place_at w t ≡ Mutex l at → ((mutex_station at).carries ≡ Some false → ⊥)
+        → HasTakenNobody (lock_state w l) t
     carries_nobody at is none = in_no_hand w steady t l (λ h. none (sym (ap (λ x. x.carries) (own_stance l (place_at w t) at is)) ∙ h))
 
-    unlock_fair_gives : place_at w t ≡ Mutex l UnlockFair → ComesTo w t l (state_after_operation w t (Mutex l UnlockFair) l (op.TheVariants.Exchange 1 0))
+    unlock_fair_gives : place_at w t ≡ Mutex l UnlockFair
+        → ComesTo w t l (state_after_operation w t (Mutex l UnlockFair) l (op.TheVariants.Exchange 1 0))
     unlock_fair_gives is = either (word_at w l == 1) refl (operated_owner (Mutex l UnlockFair) (op.TheVariants.Exchange 1 0) lt)
       where
-        either : (b : Bool) → (word_at w l == 1) ≡ b → owner_at (state_after_operation w t (Mutex l UnlockFair) l (op.TheVariants.Exchange 1 0)) l ≡ (if b then None else Some t) → ComesTo w t l (state_after_operation w t (Mutex l UnlockFair) l (op.TheVariants.Exchange 1 0))
+        either : (b : Bool) → (word_at w l == 1) ≡ b
+            → owner_at (state_after_operation w t (Mutex l UnlockFair) l (op.TheVariants.Exchange 1 0)) l
+            ≡ (if b then None else Some t)
+            → ComesTo w t l (state_after_operation w t (Mutex l UnlockFair) l (op.TheVariants.Exchange 1 0))
         either false e h = inl h
         either true e h = inr (inr (h, carries_nobody UnlockFair is (λ g. absurd cc), inl (rw (eqb-true (word_at w l) 1 e) refl)))
 
@@ -234,7 +248,8 @@ module _ (w : State) (t l : ℕ) (shape : IsShaped w) (steady : IsSteady w) (own
     taken_gives bumps None = inl own
     taken_gives bumps (Some u) = inl own
 
-    hand_off_gives : (bumps : Bool) (a : HandOffAt) → place_at w t ≡ Mutex l (HandOff bumps a) → ComesTo w t l (state_after_act w t (Mutex l (HandOff bumps a)) (hand_off_act l a))
+    hand_off_gives : (bumps : Bool) (a : HandOffAt) → place_at w t ≡ Mutex l (HandOff bumps a)
+        → ComesTo w t l (state_after_act w t (Mutex l (HandOff bumps a)) (hand_off_act l a))
     hand_off_gives bumps hand_off.Enter is = inl own
     hand_off_gives bumps hand_off.Take is = taken_gives bumps (first_of (queue_at w (2 * l)))
     hand_off_gives bumps (hand_off.Store false none_left) is = inr (inr (
@@ -254,7 +269,8 @@ module _ (w : State) (t l : ℕ) (shape : IsShaped w) (steady : IsSteady w) (own
   here k e lt = rw (← e) lt
 
   -- whatever the act, and wherever the thread goes then
-  go_gives : (p : Place) → place_at w t ≡ p → PlaceFits (length w.locks) p → IsFairRelease (call_state p (rights w t)).purpose l → ComesTo w t l (state_after_act w t p (act_of p))
+  go_gives : (p : Place) → place_at w t ≡ p → PlaceFits (length w.locks) p → IsFairRelease (call_state p (rights w t)).purpose l
+      → ComesTo w t l (state_after_act w t p (act_of p))
   go_gives Idle is fits h = absurd h
   go_gives (Once k (Look (once_call.CallOnce forced) again at)) is fits h = absurd h
   go_gives (Once k (Look (once_call.Wait forced) again at)) is fits h = absurd h
@@ -283,16 +299,19 @@ module _ (w : State) (t l : ℕ) (shape : IsShaped w) (steady : IsSteady w) (own
   late_gives None = inl own
   late_gives (Some key) = inl own
 
-module _ (w : State) (t l : ℕ) (shape : IsShaped w) (steady : IsSteady w) (own : owner_at w l ≡ Some t) (of_mutex : is_mutex (kind_at w l) ≡ true) where
+module _ (w : State) (t l : ℕ) (shape : IsShaped w) (steady : IsSteady w) (own : owner_at w l ≡ Some t)
+    (of_mutex : is_mutex (kind_at w l) ≡ true) where
   -- it looks at the word once more, and goes on from there
-  spin_gives : t < length w.places → IsFairRelease (call_state (place_at w t) (rights w t)).purpose l → (o : Option Place) → looking (place_at w t) ≡ o → ComesTo w t l (state_after_look w t o)
+  spin_gives : t < length w.places → IsFairRelease (call_state (place_at w t) (rights w t)).purpose l → (o : Option Place)
+      → looking (place_at w t) ≡ o → ComesTo w t l (state_after_look w t o)
   spin_gives there h None is = inl own
   spin_gives there h (Some q) is = let shaped = looking_shaped w t q shape is in
       subst (λ s. ComesFrom s (word_at w l) t l (state_after_go (put w t q) t)) (locks_same w t there q is l)
       (go_gives (put w t q) t l shaped (looking_steady w t there q is steady) own of_mutex (place_at (put w t q) t) refl (shaped.places t)
       (subst (λ (c : CallState). IsFairRelease c.purpose l) (sym (calls_same w t there q is t)) h))
 
-  turned_gives : t < length w.places → IsFairRelease (call_state (place_at w t) (rights w t)).purpose l → (x : Turn) → can_turn w t x ≡ true → ComesTo w t l (state_after_turn w t x)
+  turned_gives : t < length w.places → IsFairRelease (call_state (place_at w t) (rights w t)).purpose l → (x : Turn)
+      → can_turn w t x ≡ true → ComesTo w t l (state_after_turn w t x)
   turned_gives there h (turn.TheVariants.Begin c) can = inl own
   turned_gives there h turn.TheVariants.Go can = go_gives w t l shape steady own of_mutex (place_at w t) refl (shape.places t) h
   turned_gives there h turn.TheVariants.Spin can = spin_gives there h (looking (place_at w t)) refl
@@ -300,7 +319,8 @@ module _ (w : State) (t l : ℕ) (shape : IsShaped w) (steady : IsSteady w) (own
   turned_gives there h turn.TheVariants.Ok can = absurd (subst (λ p. IsFairRelease (call_state p (rights w t)).purpose l) (closes_one w t true can).is h)
   turned_gives there h turn.TheVariants.Err can = absurd (subst (λ p. IsFairRelease (call_state p (rights w t)).purpose l) (closes_one w t false can).is h)
 
-  after_gives : IsFairRelease (call_state (place_at w t) (rights w t)).purpose l → (s : Step) → s.thread ≡ t → ComesTo w t l (after w s)
+  after_gives : IsFairRelease (call_state (place_at w t) (rights w t)).purpose l → (s : Step) → s.thread ≡ t
+      → ComesTo w t l (after w s)
   after_gives h s e = either (is_possible w s) refl
     where
       either : (b : Bool) → is_possible w s ≡ b → ComesTo w t l (if b then state_after_turn w s.thread s.turn else w)
@@ -311,14 +331,16 @@ module _ (w : State) (t l : ℕ) (shape : IsShaped w) (steady : IsSteady w) (own
 -- ---------------------------------------------------------------- a fair release of a lock that is shared
 
 -- no case of another thread takes a right from its owner
-rights_keep : (r : Rules) (s : LockState) (t u : ℕ) (x : Want) → IsLockState r s → x ≢ Shared → Owns s t x → u ≢ t → (c : LockCase) → Needs r c s u → Owns (locks.after_case r c s u) t x
+rights_keep : (r : Rules) (s : LockState) (t u : ℕ) (x : Want) → IsLockState r s → x ≢ Shared → Owns s t x → u ≢ t
+    → (c : LockCase) → Needs r c s u → Owns (locks.after_case r c s u) t x
 rights_keep r s t u Exclusive is more own ne c n = others_keep r s t u is own ne c n
 rights_keep r s t u Upgradable is more own ne c n = upgradable_keep r s t u is own ne c n
 rights_keep r s t u Shared is more own ne c n = absurd (more refl)
 rights_keep r s t u Wait is more own ne c n = absurd own
 rights_keep r s t u CallOnce is more own ne c n = absurd own
 
-module _ (w : State) (t l : ℕ) (shape : IsShaped w) (steady : IsSteady w) (counted : AreCounted w) (x : Want) (more : x ≢ Shared) (readers : has_readers (rules_in w l).sort ≡ true) where
+module _ (w : State) (t l : ℕ) (shape : IsShaped w) (steady : IsSteady w) (counted : AreCounted w) (x : Want) (more : x ≢ Shared)
+    (readers : has_readers (rules_in w l).sort ≡ true) where
   abbrev Gives : State → Type 0
   Gives v = GivesFrom (rules_in w l) (lock_state w l) (lock_state v l) (word_at w l) t x
 
@@ -326,7 +348,8 @@ module _ (w : State) (t l : ℕ) (shape : IsShaped w) (steady : IsSteady w) (cou
   ToGive p = IsToGiveAt (call_state p (rights w t)) l x
 
   -- from its place
-  go_gives_shared : t < length w.places → can_do w (act_of (place_at w t)) ≡ true → ToGive (place_at w t) → Owns (lock_state w l) t x → Gives (state_after_go w t)
+  go_gives_shared : t < length w.places → can_do w (act_of (place_at w t)) ≡ true → ToGive (place_at w t)
+      → Owns (lock_state w l) t x → Gives (state_after_go w t)
   go_gives_shared there can gives own = elim (single_or_two (place_at w t)) [
     | inl single ↦ subst Gives (sym (gone w t single)) (by_place (place_at w t) refl (shape.places t) can gives)
     | inr two ↦ absurd (two_give two.lock two.at (subst ToGive two.is gives))
@@ -338,7 +361,8 @@ module _ (w : State) (t l : ℕ) (shape : IsShaped w) (steady : IsSteady w) (cou
       two_give k (condvar_place.Notify all m at) gives = gives.1
       two_give k (condvar_place.Look all) gives = gives.1
 
-      by_place : (p : Place) → place_at w t ≡ p → PlaceFits (length w.locks) p → can_do w (act_of p) ≡ true → ToGive p → Gives (put (state_after_act w t p (act_of p)) t (next_place p (reply_to w t (act_of p))))
+      by_place : (p : Place) → place_at w t ≡ p → PlaceFits (length w.locks) p → can_do w (act_of p) ≡ true → ToGive p
+          → Gives (put (state_after_act w t p (act_of p)) t (next_place p (reply_to w t (act_of p))))
       by_place Idle is fits can gives = absurd gives
       by_place (Once k (Look (once_call.CallOnce forced) again at)) is fits can gives = absurd gives.1
       by_place (Once k (Look (once_call.Wait forced) again at)) is fits can gives = absurd gives.1
@@ -353,8 +377,10 @@ module _ (w : State) (t l : ℕ) (shape : IsShaped w) (steady : IsSteady w) (cou
           let here : k ≡ l = sym (subst (λ p. lock_for ((profile p).purpose k) ≡ k) is (row_promises w t steady k (subst IsSingle (sym is) tt) (ap lock_of is)).own) ∙ gives.0 in
           at_lock k here a c is fits can gives.1
         where
-          at_lock : (k : ℕ) → k ≡ l → (a : Admission) (c : RwLockCallPlace) → place_at w t ≡ RwLock k a c → k < length w.locks → can_do w (call_act k a c) ≡ true → IsToGive ((call_profile a c).purpose k) (call_profile a c).released x
-              → Gives (put (state_after_act w t (RwLock k a c) (call_act k a c)) t (next_place (RwLock k a c) (reply_to w t (call_act k a c))))
+          at_lock : (k : ℕ) → k ≡ l → (a : Admission) (c : RwLockCallPlace) → place_at w t ≡ RwLock k a c → k < length w.locks
+              → can_do w (call_act k a c) ≡ true → IsToGive ((call_profile a c).purpose k) (call_profile a c).released x
+              → Gives
+              (put (state_after_act w t (RwLock k a c) (call_act k a c)) t (next_place (RwLock k a c) (reply_to w t (call_act k a c))))
           at_lock k here a c is fits can gives = subst (λ j. GivesFrom (rules_in w j) (lock_state w j) (lock_state (put (state_after_act w t (RwLock k a c) (call_act k a c)) t (next_place (RwLock k a c) (reply_to w t (call_act k a c)))) j) (word_at w j) t x) here
               (goes_giving w t k a c shape steady counted there fits is x more gives (subst (λ j. Owns (lock_state w j) t x) (sym here) own) can)
 
@@ -364,7 +390,8 @@ locked_by : (v : ℕ) (o : Option ℕ) (u : ℕ) → IsMutexWord v o → o ≡ S
 locked_by v o u c e = by_code (λ v o. o ≡ Some u → is_locked v ≡ true) (λ g. absurd cc) (λ g. absurd cc) (λ x g. refl) (λ x g. refl) v o c e
 
 -- whatever turn it takes
-module _ (w : State) (t l : ℕ) (shape : IsShaped w) (steady : IsSteady w) (counted : AreCounted w) (x : Want) (h : GivesUpFairly w t l x) where
+module _ (w : State) (t l : ℕ) (shape : IsShaped w) (steady : IsSteady w) (counted : AreCounted w) (x : Want)
+    (h : GivesUpFairly w t l x) where
   abbrev Comes : State → Type 0
   Comes v = GivesFrom (rules_in w l) (lock_state w l) (lock_state v l) (word_at w l) t x
 
@@ -420,8 +447,10 @@ is_fair w s shape steady counted condvars = record {
     step = after_step w s shape steady counted condvars
 
     -- whom a notification takes is in its own hand
-    takes_no_other : (t l u : ℕ) → IsFairRelease (call_at w t).purpose l → (c m : ℕ) (every owned : Bool) (number : ℕ) → MayMove (locks_of w) s.thread c m every owned number
-        → IsTaken (locks_after (locks_of w) s.thread (Moves c m every owned number) l) t u Exclusive → IsTaken (lock_state w l) t u Exclusive ⊎ (first_thread (lock_state w l).queue ≡ Some u)
+    takes_no_other : (t l u : ℕ) → IsFairRelease (call_at w t).purpose l → (c m : ℕ) (every owned : Bool) (number : ℕ)
+        → MayMove (locks_of w) s.thread c m every owned number
+        → IsTaken (locks_after (locks_of w) s.thread (Moves c m every owned number) l) t u Exclusive
+        → IsTaken (lock_state w l) t u Exclusive ⊎ (first_thread (lock_state w l).queue ≡ Some u)
     takes_no_other t l u fair c m every owned number may taken = elim (moves_takes (locks_of w) s.thread c m every owned number l u (record { by = t; want = Exclusive }) taken) [
       | inl before ↦ inl before
       | inr own ↦ absurd (subst (λ q. IsFairRelease q l) may.notifies (subst (λ k. IsFairRelease (call_at w k).purpose l) own fair))
@@ -434,7 +463,8 @@ is_fair w s shape steady counted condvars = record {
     owned : (t l : ℕ) → ReleasesFairly w t l → owner_at (after w s) l ≡ Some t → OwnsOn (after w s) t l
     owned t l h e = (e, locked_by (word_at (after w s) l) (owner_at (after w s) l) t (coded t l h) e)
 
-    told : (t l : ℕ) → ReleasesFairly w t l → ComesTo w t l (after w s) → OwnsOn (after w s) t l ⊎ (HandsOver w (after w s) t l ⊎ LetsGo w (after w s) t l)
+    told : (t l : ℕ) → ReleasesFairly w t l → ComesTo w t l (after w s)
+        → OwnsOn (after w s) t l ⊎ (HandsOver w (after w s) t l ⊎ LetsGo w (after w s) t l)
     told t l fair (inl e) = inl (owned t l fair e)
     told t l fair (inr (inl h)) = inr (inl (h.0, h.1, h.2, locked_by (word_at (after w s) l) (owner_at (after w s) l) h.0 (coded t l fair) h.2))
     told t l fair (inr (inr h)) = inr (inr h)

@@ -29,7 +29,8 @@ use Rattle.lot_laws.proofs.StandsKept.{AlikeBeside}
 abbrev pub AlikeAt : ℕ → Place → Place → Type 0
 AlikeAt k p q = (taken_at q k ≡ taken_at p k) × (doing_on q k ≡ doing_on p k)
 
-pub alike_put : (l k : ℕ) (p : ℕ → Place) (t : ℕ) (p2 : Place) → AlikeBeside l (p t) p2 → k ≢ l → (u : ℕ) → AlikeAt k (p u) (putting p t p2 u)
+pub alike_put : (l k : ℕ) (p : ℕ → Place) (t : ℕ) (p2 : Place) → AlikeBeside l (p t) p2 → k ≢ l → (u : ℕ)
+    → AlikeAt k (p u) (putting p t p2 u)
 alike_put l k p t p2 alike ne u = elim (cases_eq u t) [
   | inl e ↦ rw (e, put_here p t p2) ((alike k ne).taken, (alike k ne).doing)
   | inr nu ↦ rw (put_other p t p2 u nu) (refl, refl)
@@ -69,7 +70,9 @@ module _ (w v : State) (l : ℕ) (b : Parts) (q : ℕ → Place) (moves : Moves 
       ∙ (λ i. record (site_of w k) { lock = record (site_of w k).lock { taken = λ u. (moves.alike k ne u).0 i }; doing = λ u. (moves.alike k ne u).1 i })
 
   -- what one lock has been through
-  pub follows_by : (ds : List deeds.Act) → (has_readers r.sort ≡ true → HasLimit r (after_acts r ds (lock_by w l r)).lock) → seen_in r l b q ≡ after_acts r ds (lock_by w l r) → ActsNeeded r ds (lock_by w l r) → b.word ≡ code r (seen_in r l b q) → Follows w v l ds
+  pub follows_by : (ds : List deeds.Act) → (has_readers r.sort ≡ true → HasLimit r (after_acts r ds (lock_by w l r)).lock)
+      → seen_in r l b q ≡ after_acts r ds (lock_by w l r) → ActsNeeded r ds (lock_by w l r) → b.word ≡ code r (seen_in r l b q)
+      → Follows w v l ds
   follows_by ds limit led needed coded = record {
     site = site_here ∙ led ∙ sym (λ i. after_acts (rules i) ds (lock_by w l (rules i)));
     needed = subst (λ x. ActsNeeded x ds (lock_by w l x)) (sym rules) needed;
@@ -85,10 +88,13 @@ module _ (w v : State) (l : ℕ) (b : Parts) (q : ℕ → Place) (moves : Moves 
   }
 
 -- a step that hands nothing over stays within the limit
-pub limited : (w : State) (l : ℕ) (steady : IsSteady w) (r : Rules) (rules : rules_in w l ≡ r) (ds : List deeds.Act) → (has_readers r.sort ≡ true → AreOrdinary (length w.places) ds) → ActsNeeded r ds (lock_by w l r) → has_readers r.sort ≡ true → HasLimit r (after_acts r ds (lock_by w l r)).lock
+pub limited : (w : State) (l : ℕ) (steady : IsSteady w) (r : Rules) (rules : rules_in w l ≡ r) (ds : List deeds.Act)
+    → (has_readers r.sort ≡ true → AreOrdinary (length w.places) ds) → ActsNeeded r ds (lock_by w l r) → has_readers r.sort ≡ true
+    → HasLimit r (after_acts r ds (lock_by w l r)).lock
 limited w l steady r rules ds ordinary needed readers = by_rules r rules (ordinary readers) needed readers
   where
-    by_rules : (x : Rules) → rules_in w l ≡ x → AreOrdinary (length w.places) ds → ActsNeeded x ds (lock_by w l x) → has_readers x.sort ≡ true → HasLimit x (after_acts x ds (lock_by w l x)).lock
+    by_rules : (x : Rules) → rules_in w l ≡ x → AreOrdinary (length w.places) ds → ActsNeeded x ds (lock_by w l x)
+        → has_readers x.sort ≡ true → HasLimit x (after_acts x ds (lock_by w l x)).lock
     by_rules x e plain n h = let before = steady.sites.limits l (ap (λ y. has_readers y.sort) e ∙ h) in
         acts_limited x ds (lock_by w l x) (length w.places) h (subst (λ (y : Rules). 1 ≤ y.limit) e before.0.0) (steady.numbers.threads l) plain (subst (λ y. IsSite y (lock_by w l y)) e (steady.sites.site l)) n (subst (λ y. HasLimit y (lock_by w l y).lock) e before.1)
 
@@ -199,7 +205,8 @@ abbrev pub with_line : Parts → Line → List Waiter → Parts
 with_line a Main q = record a { main = q }
 with_line a Second q = record a { second = q }
 
-module _ (r : Rules) (l : ℕ) (a : Parts) (p : ℕ → Place) (t : ℕ) (p2 : Place) (site : IsSite r (seen_in r l a p)) (hand : taken_at (p t) l ≡ taken_at p2 l) where
+module _ (r : Rules) (l : ℕ) (a : Parts) (p : ℕ → Place) (t : ℕ) (p2 : Place) (site : IsSite r (seen_in r l a p))
+    (hand : taken_at (p t) l ≡ taken_at p2 l) where
   -- it stands behind the last of the main line
   pub parks : (key : ℕ) (x : Want) → ActsNeeded r (acts t (Case (locks.Park x) ∷ [])) (seen_in r l a p) → doing_on p2 l ≡ record (doing_on (p t) l) { retries = None; empty = None }
       → Steps r l a (with_line a Main (a.main ++ waiter key t x ∷ [])) p t p2 (Case (locks.Park x) ∷ [])
@@ -213,8 +220,11 @@ module _ (r : Rules) (l : ℕ) (a : Parts) (p : ℕ → Place) (t : ℕ) (p2 : P
       (ap (λ (q : List Waiter). lock_in (with_line a Second (q ++ waiter key t x ∷ [])) (λ u. taken_at (p u) l)) nobody) refl refl (noted r (seen_in r l a p) site) (own ∙ sym (put_here (λ u. doing_on (p u) l) t _))
 
   -- its time is up, and it leaves the line in which it stands
-  pub lates : (m : Line) (q : List Waiter) → map queued_of (with_line a m q).main ≡ locks.without t (map queued_of a.main) → first_of (with_line a m q).second ≡ locks.aside_without t (first_of a.second)
-      → ActsNeeded r (acts t (Case locks.Late ∷ [])) (seen_in r l a p) → doing_on p2 l ≡ (after_deed r (Case locks.Late) (seen_in r l a p) t).doing t → Steps r l a (with_line a m q) p t p2 (Case locks.Late ∷ [])
+  pub lates : (m : Line) (q : List Waiter) → map queued_of (with_line a m q).main ≡ locks.without t (map queued_of a.main)
+      → first_of (with_line a m q).second ≡ locks.aside_without t (first_of a.second)
+      → ActsNeeded r (acts t (Case locks.Late ∷ [])) (seen_in r l a p)
+      → doing_on p2 l ≡ (after_deed r (Case locks.Late) (seen_in r l a p) t).doing t
+      → Steps r l a (with_line a m q) p t p2 (Case locks.Late ∷ [])
   lates Main q mains seconds needed own = steps_by r l a (with_line a Main q) p t p2 (Case locks.Late ∷ []) needed (tt, tt) hand
       (λ i. record (lock_in a (λ u. taken_at (p u) l)) { queue = mains i; aside = seconds i }) refl refl (noted r (seen_in r l a p) site) own
   lates Second q mains seconds needed own = steps_by r l a (with_line a Second q) p t p2 (Case locks.Late ∷ []) needed (tt, tt) hand

@@ -67,7 +67,9 @@ module _ (w : State) (t : ℕ) (steady : IsSteady w) (shape : IsShaped w) (there
   GoesBy l at a = (whom : Option ℕ) × GoesWith l at whom a
 
   -- one operation on the word
-  fitted : (l : ℕ) (at : MutexPlace) → place_at w t ≡ Mutex l at → l < length w.locks → (f : Op) → ((x : ℕ) → Fits l (base_at w l) (owners_at w l) (queue_at w (2 * l)) (queue_at w (2 * l + 1)) (place_at w) t x at f) → Goes w (go_by w t (Mutex l at) (act.TheVariants.Word l f)) l (acts t (mutex_deeds at None (Value (word_at w l))))
+  fitted : (l : ℕ) (at : MutexPlace) → place_at w t ≡ Mutex l at → l < length w.locks → (f : Op)
+      → ((x : ℕ) → Fits l (base_at w l) (owners_at w l) (queue_at w (2 * l)) (queue_at w (2 * l + 1)) (place_at w) t x at f)
+      → Goes w (go_by w t (Mutex l at) (act.TheVariants.Word l f)) l (acts t (mutex_deeds at None (Value (word_at w l))))
   fitted l at is lt f fits = word_keeps w t l at steady is there lt f (fits (word_at w l) is (site_l w t l at steady is there) (word_l w t l at steady is there))
 
   line : (l : ℕ) → l < length w.locks → 2 * l < length w.queues
@@ -77,11 +79,14 @@ module _ (w : State) (t : ℕ) (steady : IsSteady w) (shape : IsShaped w) (there
   key l lt = main_key_there w l shape lt
 
   pub enters : (l : ℕ) (at at2 : MutexPlace) → place_at w t ≡ Mutex l at → l < length w.locks → is_none (section_at w (2 * l)) ≡ true → taken_at (Mutex l at) l ≡ None → taken_at (Mutex l at2) l ≡ None → (mutex_doing at).inside ≡ None → (mutex_doing at).empty ≡ None → mutex_doing at2 ≡ record (mutex_doing at) { inside = Some Main }
-      → mutex_station at2 ≡ record (mutex_station at) { inside = Some Main } → Goes w (put (state_with_sections w (One (2 * l)) (Some t)) t (Mutex l at2)) l (acts t (In Main ∷ []))
+      → mutex_station at2 ≡ record (mutex_station at) { inside = Some Main }
+      → Goes w (put (state_with_sections w (One (2 * l)) (Some t)) t (Mutex l at2)) l (acts t (In Main ∷ []))
   enters l at at2 is lt free none none2 i e d s = enter_keeps w t l at steady is there (key l lt) (Mutex l at2) refl none none2 (none_is (section_at w (2 * l)) free) i e (own_doing l (Mutex l at2) at2 refl ∙ d) s
 
   -- it looks, and does nothing
-  pub looked : (l : ℕ) (at at2 : MutexPlace) → place_at w t ≡ Mutex l at → taken_at (Mutex l at) l ≡ None → taken_at (Mutex l at2) l ≡ None → mutex_doing at2 ≡ mutex_doing at → mutex_station at2 ≡ mutex_station at → Goes w (put w t (Mutex l at2)) l []
+  pub looked : (l : ℕ) (at at2 : MutexPlace) → place_at w t ≡ Mutex l at → taken_at (Mutex l at) l ≡ None
+      → taken_at (Mutex l at2) l ≡ None → mutex_doing at2 ≡ mutex_doing at → mutex_station at2 ≡ mutex_station at
+      → Goes w (put w t (Mutex l at2)) l []
   looked l at at2 is none none2 d s = place_keeps w t l at steady is there (Mutex l at2) [] refl
       (looks l (base_at w l) (word_at w l) (word_at w l) (owners_at w l) (queue_at w (2 * l)) (queue_at w (2 * l + 1)) (place_at w) t (Mutex l at2) (site_l w t l at steady is there) (mutex_doing at) (own_doing l (place_at w t) at is) (ap (λ y. taken_at y l) is ∙ none) none2 refl
       (own_doing l (Mutex l at2) at2 refl ∙ d)) s
@@ -93,13 +98,16 @@ module _ (w : State) (t : ℕ) (steady : IsSteady w) (shape : IsShaped w) (there
       else if b then act.TheVariants.Word l (op.TheVariants.Exchange 1 3)
       else act.TheVariants.Enter (One (2 * l))
 
-  decided_kept : (l : ℕ) (e : Entry) (r : Bool) (x : ℕ) → place_at w t ≡ Mutex l (Lock e r (lock.Decide x)) → l < length w.locks → (a b : Bool) → is_locked x ≡ a → (x == 1) ≡ b → can_do w (decided_by l x a b) ≡ true → GoesWith l (Lock e r (lock.Decide x)) None (decided_by l x a b)
+  decided_kept : (l : ℕ) (e : Entry) (r : Bool) (x : ℕ) → place_at w t ≡ Mutex l (Lock e r (lock.Decide x)) → l < length w.locks
+      → (a b : Bool) → is_locked x ≡ a → (x == 1) ≡ b → can_do w (decided_by l x a b) ≡ true
+      → GoesWith l (Lock e r (lock.Decide x)) None (decided_by l x a b)
   unfolding decided_by
   decided_kept l e r x is lt false b ea eb can = fitted l (Lock e r (lock.Decide x)) is lt (op.TheVariants.Exchange x (x + 1)) (at_decide_free l _ _ _ _ _ t e r x ea)
   decided_kept l e r x is lt true true ea eb can = let z : x ≡ 1 = eqb-true x 1 eb in rw z (fitted l (Lock e r (lock.Decide 1)) (rw z at is) lt (op.TheVariants.Exchange 1 3) (at_decide_one l _ _ _ _ _ t e r))
   decided_kept l e r x is lt true false ea eb can = enters l (Lock e r (lock.Decide x)) (Lock e r lock.Check) is lt can refl refl refl refl refl refl
 
-  parked_kept : (l : ℕ) (e : Entry) (r : Bool) → place_at w t ≡ Mutex l (Lock e r lock.Check) → l < length w.locks → GoesWith l (Lock e r lock.Check) None (act.TheVariants.Park l (2 * l) (WordIs 3) Exclusive)
+  parked_kept : (l : ℕ) (e : Entry) (r : Bool) → place_at w t ≡ Mutex l (Lock e r lock.Check) → l < length w.locks
+      → GoesWith l (Lock e r lock.Check) None (act.TheVariants.Park l (2 * l) (WordIs 3) Exclusive)
   parked_kept l e r is lt = either (word_at w l == 3) refl
     where
       again : (b : Bool) → mutex_doing (Lock e (b && not false) (lock.Leave false)) ≡ mutex_doing (Lock e b lock.Check)
@@ -112,7 +120,8 @@ module _ (w : State) (t : ℕ) (steady : IsSteady w) (shape : IsShaped w) (there
           (own_doing l (Mutex l (Lock e (r && not true) (lock.Leave true))) (Lock e (r && not true) (lock.Leave true)) refl) refl
       either false f = looked l (Lock e r lock.Check) (Lock e (r && not false) (lock.Leave false)) is refl refl (again r) refl
 
-  removed_kept : (l : ℕ) (e : Entry) (r : Bool) → place_at w t ≡ Mutex l (Lock e r lock.Remove) → l < length w.locks → GoesWith l (Lock e r lock.Remove) None (act.TheVariants.Remove (2 * l))
+  removed_kept : (l : ℕ) (e : Entry) (r : Bool) → place_at w t ≡ Mutex l (Lock e r lock.Remove) → l < length w.locks
+      → GoesWith l (Lock e r lock.Remove) None (act.TheVariants.Remove (2 * l))
   removed_kept l e r is lt = either (length (without t (queue_at w (2 * l))) == 0) (empty_line (without t (queue_at w (2 * l))))
     where
       either : (b : Bool) → is_empty (map queued_of (without t (queue_at w (2 * l)))) ≡ b → Goes w (put (record w { queues = queues_without w.queues t }) t (next_place (Mutex l (Lock e r lock.Remove)) (Removed b))) l (deeds t (Lock e r lock.Remove) None (Removed b))
@@ -120,15 +129,20 @@ module _ (w : State) (t : ℕ) (steady : IsSteady w) (shape : IsShaped w) (there
       either false f = remove_keeps w t l (Lock e r lock.Remove) steady is there (line l lt) (Mutex l (Lock e r lock.GiveUp)) refl refl refl refl refl refl (own_doing l (Mutex l (Lock e r lock.GiveUp)) (Lock e r lock.GiveUp) refl ∙ rw f refl) refl
 
   -- it leaves its section with nobody in hand
-  goes_away : (l : ℕ) (at : MutexPlace) (p2 : Place) → place_at w t ≡ Mutex l at → l < length w.locks → IsMutexOf l p2 → taken_at (Mutex l at) l ≡ None → taken_at p2 l ≡ None → doing_of p2 ≡ leaves (mutex_doing at) → (mutex_doing at).inside ≡ Some Main → (mutex_doing at).wakes ≡ None → (mutex_station at).carries ≡ None
-      → station p2 ≡ record (mutex_station at) { inside = None } → Goes w (put (state_with_sections w (One (2 * l)) None) t p2) l (acts t (Out ∷ []))
+  goes_away : (l : ℕ) (at : MutexPlace) (p2 : Place) → place_at w t ≡ Mutex l at → l < length w.locks → IsMutexOf l p2
+      → taken_at (Mutex l at) l ≡ None → taken_at p2 l ≡ None → doing_of p2 ≡ leaves (mutex_doing at)
+      → (mutex_doing at).inside ≡ Some Main → (mutex_doing at).wakes ≡ None → (mutex_station at).carries ≡ None
+      → station p2 ≡ record (mutex_station at) { inside = None }
+      → Goes w (put (state_with_sections w (One (2 * l)) None) t p2) l (acts t (Out ∷ []))
   goes_away l at p2 is lt of none none2 d i k c s = leave_keeps w t l at steady is there (key l lt) p2 of none none2 (doing_here l p2 (own_of l p2 of) ∙ d) i k c s
 
-  leaves_kept : (l : ℕ) (e : Entry) (r b : Bool) → place_at w t ≡ Mutex l (Lock e r (lock.Leave b)) → l < length w.locks → GoesWith l (Lock e r (lock.Leave b)) None (act.TheVariants.Leave (One (2 * l)) wakes.TheVariants.Nobody)
+  leaves_kept : (l : ℕ) (e : Entry) (r b : Bool) → place_at w t ≡ Mutex l (Lock e r (lock.Leave b)) → l < length w.locks
+      → GoesWith l (Lock e r (lock.Leave b)) None (act.TheVariants.Leave (One (2 * l)) wakes.TheVariants.Nobody)
   leaves_kept l e r true is lt = goes_away l (Lock e r (lock.Leave true)) (Mutex l (Lock e r lock.Asleep)) is lt refl refl refl refl refl refl refl refl
   leaves_kept l e r false is lt = goes_away l (Lock e r (lock.Leave false)) (Mutex l (Lock e r lock.Load)) is lt refl refl refl refl refl refl refl refl
 
-  pub lock_kept : (l : ℕ) (e : Entry) (r : Bool) (a : LockAt) → place_at w t ≡ Mutex l (Lock e r a) → l < length w.locks → can_do w (lock_act l a) ≡ true → GoesWith l (Lock e r a) None (lock_act l a)
+  pub lock_kept : (l : ℕ) (e : Entry) (r : Bool) (a : LockAt) → place_at w t ≡ Mutex l (Lock e r a) → l < length w.locks
+      → can_do w (lock_act l a) ≡ true → GoesWith l (Lock e r a) None (lock_act l a)
   unfolding decided_by
   lock_kept l e r lock.First is lt can = fitted l (Lock e r lock.First) is lt (op.TheVariants.Exchange 0 1) (at_first l _ _ _ _ _ t e r)
   lock_kept l e r lock.Load is lt can = fitted l (Lock e r lock.Load) is lt op.TheVariants.Load (at_load l _ _ _ _ _ t e r)
@@ -185,11 +199,17 @@ module _ (w : State) (t : ℕ) (steady : IsSteady w) (shape : IsShaped w) (there
       by_line (x ∷ rest) e = let a : first_of (queue_at w (2 * l)) ≡ Some x.thread = ap first_of e in let b : (length (drop 1 (queue_at w (2 * l))) == 0) ≡ (length rest == 0) = ap (λ (q : List Waiter). length (drop 1 q) == 0) e in (Some x.thread, rw (a, b) (some x rest e))
 
   -- nobody was there
-  takes_nobody : (l : ℕ) (at at2 : MutexPlace) → place_at w t ≡ Mutex l at → l < length w.locks → queue_at w (2 * l) ≡ [] → taken_at (Mutex l at) l ≡ None → taken_at (Mutex l at2) l ≡ None → (mutex_doing at).inside ≡ Some Main → (mutex_doing at).carries ≡ false → ((mutex_doing at).wakes ≡ None) ⊎ ((mutex_doing at).wakes ≡ Some Main)
-      → mutex_doing at2 ≡ record (mutex_doing at) { wakes = None; carries = true; covers = true; empty = Some Main } → mutex_station at2 ≡ mutex_station at → Goes w (put (record w { queues = queues_without_first w.queues (2 * l) }) t (Mutex l at2)) l (acts t (FindNobody Main ∷ []))
+  takes_nobody : (l : ℕ) (at at2 : MutexPlace) → place_at w t ≡ Mutex l at → l < length w.locks → queue_at w (2 * l) ≡ []
+      → taken_at (Mutex l at) l ≡ None → taken_at (Mutex l at2) l ≡ None → (mutex_doing at).inside ≡ Some Main
+      → (mutex_doing at).carries ≡ false → ((mutex_doing at).wakes ≡ None) ⊎ ((mutex_doing at).wakes ≡ Some Main)
+      → mutex_doing at2 ≡ record (mutex_doing at) { wakes = None; carries = true; covers = true; empty = Some Main }
+      → mutex_station at2 ≡ mutex_station at
+      → Goes w (put (record w { queues = queues_without_first w.queues (2 * l) }) t (Mutex l at2)) l
+      (acts t (FindNobody Main ∷ []))
   takes_nobody l at at2 is lt empty none none2 i c v d s = nobody_keeps w t l at steady is there (line l lt) (Mutex l at2) refl none none2 empty i c v (own_doing l (Mutex l at2) at2 refl ∙ d) s
 
-  pub unlock_kept : (l : ℕ) (a : UnlockAt) → place_at w t ≡ Mutex l (Unlock a) → l < length w.locks → can_do w (unlock_act l a) ≡ true → GoesBy l (Unlock a) (unlock_act l a)
+  pub unlock_kept : (l : ℕ) (a : UnlockAt) → place_at w t ≡ Mutex l (Unlock a) → l < length w.locks
+      → can_do w (unlock_act l a) ≡ true → GoesBy l (Unlock a) (unlock_act l a)
   unlock_kept l unlock.Subtract is lt can = (None, fitted l (Unlock unlock.Subtract) is lt (op.TheVariants.Sub 1) (at_subtract l _ _ _ _ _ t))
   unlock_kept l unlock.Enter is lt can = (None, enters l (Unlock unlock.Enter) (Unlock unlock.Take) is lt can refl refl refl refl refl refl)
   unlock_kept l unlock.Take is lt can = takes l (Unlock unlock.Take) is lt refl refl refl (λ h. cc)
@@ -203,7 +223,8 @@ module _ (w : State) (t : ℕ) (steady : IsSteady w) (shape : IsShaped w) (there
   unlock_kept l (unlock.Leave false) is lt can = (None, goes_away l (Unlock (unlock.Leave false)) Idle is lt tt refl refl refl refl refl refl refl)
   unlock_kept l (unlock.Leave true) is lt can = (None, release_wakes w t l steady there (key l lt) is)
 
-  pub hand_off_kept : (l : ℕ) (bumps : Bool) (a : HandOffAt) → place_at w t ≡ Mutex l (HandOff bumps a) → l < length w.locks → can_do w (hand_off_act l a) ≡ true → GoesBy l (HandOff bumps a) (hand_off_act l a)
+  pub hand_off_kept : (l : ℕ) (bumps : Bool) (a : HandOffAt) → place_at w t ≡ Mutex l (HandOff bumps a) → l < length w.locks
+      → can_do w (hand_off_act l a) ≡ true → GoesBy l (HandOff bumps a) (hand_off_act l a)
   hand_off_kept l bumps hand_off.Enter is lt can = (None, enters l (HandOff bumps hand_off.Enter) (HandOff bumps hand_off.Take) is lt can refl refl refl refl refl refl)
   hand_off_kept l bumps hand_off.Take is lt can = takes l (HandOff bumps hand_off.Take) is lt refl refl refl (λ h. cc)
       (λ empty. takes_nobody l (HandOff bumps hand_off.Take) (HandOff bumps (hand_off.Store false true)) is lt empty refl refl refl refl (inl refl) refl refl)
@@ -216,7 +237,8 @@ module _ (w : State) (t : ℕ) (steady : IsSteady w) (shape : IsShaped w) (there
   hand_off_kept l false (hand_off.Leave true) is lt can = (None, tells w t l steady there (key l lt) false is Idle tt refl refl refl)
 
   -- wherever it stands, its deeds are what the place and the reply say
-  pub gone_goes : (l : ℕ) (at : MutexPlace) → place_at w t ≡ Mutex l at → l < length w.locks → can_do w (mutex_act l at) ≡ true → GoesBy l at (mutex_act l at)
+  pub gone_goes : (l : ℕ) (at : MutexPlace) → place_at w t ≡ Mutex l at → l < length w.locks → can_do w (mutex_act l at) ≡ true
+      → GoesBy l at (mutex_act l at)
   gone_goes l (Lock e r a) is lt can = (None, lock_kept l e r a is lt can)
   gone_goes l TryLock is lt can = (None, fitted l TryLock is lt (op.TheVariants.Or 1) (at_try l _ _ _ _ _ t))
   gone_goes l (Unlock a) is lt can = unlock_kept l a is lt can
@@ -225,7 +247,8 @@ module _ (w : State) (t : ℕ) (steady : IsSteady w) (shape : IsShaped w) (there
   gone_goes l (HandOff bumps a) is lt can = hand_off_kept l bumps a is lt can
 
   -- a thread goes on
-  pub gone_kept : AreCounted w → (p : Place) → place_at w t ≡ p → IsSingle p → PlaceFits (length w.locks) p → can_do w (act_of p) ≡ true → IsSteady (go_by w t p (act_of p))
+  pub gone_kept : AreCounted w → (p : Place) → place_at w t ≡ p → IsSingle p → PlaceFits (length w.locks) p
+      → can_do w (act_of p) ≡ true → IsSteady (go_by w t p (act_of p))
   gone_kept counted Idle is single fits can = absurd cc
   gone_kept counted (Condvar l at) is single fits can = absurd single
   gone_kept counted (Once l at) is single fits can = goes_steady w _ l _ steady (goes_once w t l at steady shape there fits is can).goes

@@ -27,7 +27,8 @@ kept_holds t a (Some h) ne = either (h.by == a) refl
     either false e = refl
     either true e = sym (another_hand t (Some h) (λ i f. λ g. let same_one : h ≡ i = cc in let by_a : h.by ≡ a = eqb-true h.by a e in ne (sym g ∙ sym (ap (λ (j : Taken). j.by) same_one) ∙ by_a)))
 
-taken_holds : (t a u : ℕ) (xs : List Queued) (taken : ℕ → Option Taken) → t ≢ a → (1 ≤ times u xs → taken u ≡ None) → wanted_of t (taking a xs taken u) ≡ wanted_of t (taken u)
+taken_holds : (t a u : ℕ) (xs : List Queued) (taken : ℕ → Option Taken) → t ≢ a → (1 ≤ times u xs → taken u ≡ None)
+    → wanted_of t (taking a xs taken u) ≡ wanted_of t (taken u)
 taken_holds t a u xs taken ne free = by_number (times u xs) refl
   where
     by_number : (n : ℕ) → times u xs ≡ n → wanted_of t (taking a xs taken u) ≡ wanted_of t (taken u)
@@ -44,7 +45,8 @@ none_some None h = refl
 none_some (Some x) h = absurd (omega arith)
 
 -- who stands in a line is in no hand
-in_line_free : (r : Rules) (s : LockState) (u : ℕ) → IsLockState r s → 1 ≤ times u s.queue + locks.is_thread u s.aside → s.taken u ≡ None
+in_line_free : (r : Rules) (s : LockState) (u : ℕ) → IsLockState r s → 1 ≤ times u s.queue + locks.is_thread u s.aside
+    → s.taken u ≡ None
 in_line_free r s u is h = let once : standing u s ≤ 1 = is.once u in none_some (s.taken u) (omega arith)
 
 -- who is aside alone
@@ -59,7 +61,8 @@ aside_holds t a u v taken ne free = either (u == v) refl
     either true e = another_hand t (Some (record { by = a; want = Exclusive })) (λ h f g. let mine : record { by = a; want = Exclusive } ≡ h = cc in ne (sym g ∙ sym (ap (λ (j : Taken). j.by) mine)))
         ∙ sym (ap (wanted_of t) (free (eqb-true u v e)))
 
-once_holds : (r : Rules) (s : LockState) (t a u : ℕ) → IsLockState r s → t ≢ a → (c : OnceCase) → wanted_of t ((locks.once_after c s a).taken u) ≡ wanted_of t (s.taken u)
+once_holds : (r : Rules) (s : LockState) (t a u : ℕ) → IsLockState r s → t ≢ a → (c : OnceCase)
+    → wanted_of t ((locks.once_after c s a).taken u) ≡ wanted_of t (s.taken u)
 once_holds r s t a u is ne (Start forced) = refl
 once_holds r s t a u is ne Finish = refl
 once_holds r s t a u is ne Fail = refl
@@ -72,7 +75,8 @@ condvar_taken (locks.Look seen) s = refl
 condvar_taken (locks.Show m) s = refl
 condvar_taken locks.Hide s = refl
 
-pub others_hold : (r : Rules) (s : LockState) (t a u : ℕ) → IsLockState r s → t ≢ a → (c : LockCase) → Needs r c s a → wanted_of t ((locks.after_case r c s a).taken u) ≡ wanted_of t (s.taken u)
+pub others_hold : (r : Rules) (s : LockState) (t a u : ℕ) → IsLockState r s → t ≢ a → (c : LockCase) → Needs r c s a
+    → wanted_of t ((locks.after_case r c s a).taken u) ≡ wanted_of t (s.taken u)
 others_hold r s t a u is ne (Enter x) n = ap (wanted_of t) (let e : (locks.after_case r (Enter x) s a).taken u ≡ s.taken u = grind arith in e)
 others_hold r s t a u is ne Pend n = refl
 others_hold r s t a u is ne Settle n = refl
@@ -179,7 +183,8 @@ module _ (s : LockState) (t : ℕ) (none : HasTakenNobody s t) where
   let_go_then : (z : LockState) → ((u : ℕ) → z.taken u ≡ keep_from t (s.taken u)) → OneMore z.taken t
   let_go_then z e = nobody_more t z.taken (λ u y h. kept_none t u s y (sym (e u) ∙ h))
 
-  pub takes_one_more : (r : Rules) → r.sort ≢ Once → ((start : Option Want) → wanting_more (picked r.sort start s.queue) ≤ 1) → (c : LockCase) → Needs r c s t → OneMore (locks.after_case r c s t).taken t
+  pub takes_one_more : (r : Rules) → r.sort ≢ Once → ((start : Option Want) → wanting_more (picked r.sort start s.queue) ≤ 1)
+      → (c : LockCase) → Needs r c s t → OneMore (locks.after_case r c s t).taken t
   takes_one_more r lock few (Enter x) n = as_before (locks.after_case r (Enter x) s t) (λ u. grind arith)
   takes_one_more r lock few Pend n = as_before (locks.after_case r Pend s t) (λ u. refl)
   takes_one_more r lock few Settle n = as_before (locks.after_case r Settle s t) (λ u. refl)

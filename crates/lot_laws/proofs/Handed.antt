@@ -29,14 +29,16 @@ pub of_carries : (l : ℕ) (p : Place) → IsOf l p → CarriesAt l p
 of_carries l p of k ne = ap (λ (y : Station). y.carries) (station_elsewhere l k p of ne)
 
 -- whoever is in the hand of t is so there
-pub in_hand_here : {one : ℕ → Type 0} (p : ℕ → Place) → Hands one p → (t l u : ℕ) → CarriesAt l (p t) → (x : IsInHandOf (p u) t) → x.lock ≡ l
+pub in_hand_here : {one : ℕ → Type 0} (p : ℕ → Place) → Hands one p → (t l u : ℕ) → CarriesAt l (p t) → (x : IsInHandOf (p u) t)
+    → x.lock ≡ l
 in_hand_here p hands t l u here x = elim (cases_eq x.lock l) [
   | inl e ↦ e
   | inr ne ↦ absurd (let a : carried_at (p t) x.lock ≡ Some x.handed = hands.taken t u x.lock x.handed x.hand in let c : carried_at (p t) x.lock ≡ None = here x.lock ne in cc)
 ]
 
 -- of those who wait at one lock, one at most is in the hand of t
-pub only_held : {one : ℕ → Type 0} (p : ℕ → Place) → ((u : ℕ) → IsApart (p u)) → Hands one p → (t l u : ℕ) (b : Bool) → one l → CarriesAt l (p t) → hand_at (p u) l ≡ hand t b → (x : ℕ) → x ≢ u → is_thread t (taker (p x)) ≡ false
+pub only_held : {one : ℕ → Type 0} (p : ℕ → Place) → ((u : ℕ) → IsApart (p u)) → Hands one p → (t l u : ℕ) (b : Bool) → one l
+    → CarriesAt l (p t) → hand_at (p u) l ≡ hand t b → (x : ℕ) → x ≢ u → is_thread t (taker (p x)) ≡ false
 only_held p apart hands t l u b single here held x ne = either (is_thread t (taker (p x))) refl
   where
     second : IsInHandOf (p x) t → ⊥
@@ -47,11 +49,16 @@ only_held p apart hands t l u b single here held x ne = either (is_thread t (tak
     either true e = absurd (second (in_hand_where (p x) t (apart x) e))
 
 -- so all whom t has in hand are that one
-pub told_one : {one : ℕ → Type 0} (w : State) (t l u : ℕ) (b : Bool) (reply : Reply) → ((u : ℕ) → IsApart (place_at w u)) → Hands one (place_at w) → one l → CarriesAt l (place_at w t) → hand_at (place_at w u) l ≡ hand t b → state_after_telling w t reply ≡ state_after_reply w u reply
+pub told_one : {one : ℕ → Type 0} (w : State) (t l u : ℕ) (b : Bool) (reply : Reply) → ((u : ℕ) → IsApart (place_at w u))
+    → Hands one (place_at w) → one l → CarriesAt l (place_at w t) → hand_at (place_at w u) l ≡ hand t b
+    → state_after_telling w t reply ≡ state_after_reply w u reply
 told_one w t l u b reply apart hands single here held = λ i. record w { places = told_in t reply w.places u (held_tells (place_at w u) t l b held) (only_held (place_at w) apart hands t l u b single here held) i }
 
 -- and it owns when t hands the lock over
-pub successor_one : {one : ℕ → Type 0} (w : State) (t l u : ℕ) (b : Bool) → ((u : ℕ) → IsApart (place_at w u)) → Hands one (place_at w) → one l → CarriesAt l (place_at w t) → hand_at (place_at w u) l ≡ hand t b → ((x : ℕ) → WantsAlone t (place_at w x)) → sum (shares_at w l) ≡ 0 → (o : Owners) → owners_handed_over w t l o ≡ with_exclusive o (Some u)
+pub successor_one : {one : ℕ → Type 0} (w : State) (t l u : ℕ) (b : Bool) → ((u : ℕ) → IsApart (place_at w u))
+    → Hands one (place_at w) → one l → CarriesAt l (place_at w t) → hand_at (place_at w u) l ≡ hand t b
+    → ((x : ℕ) → WantsAlone t (place_at w x)) → sum (shares_at w l) ≡ 0 → (o : Owners)
+    → owners_handed_over w t l o ≡ with_exclusive o (Some u)
 successor_one w t l u b apart hands single here held_at alone unshared o =
     ap (λ s. owners_of_successor (sum (shares_handed_over w t l)) s o) (successor_in t 0 w.places u (alone u) (held_tells (place_at w u) t l b held_at) (only_held (place_at w) apart hands t l u b single here held_at) ∙ ap (λ n. Some (successor_is n)) (let e : 0 + u ≡ u = omega arith in e))
     ∙ ap (λ (n : ℕ). if n == 0 then with_exclusive o (Some u) else pending_for u o) (ap sum (none_given t w.places (shares_at w l) alone) ∙ unshared)
@@ -59,7 +66,8 @@ successor_one w t l u b apart hands single here held_at alone unshared o =
 -- ---------------------------------------------------------------- a release wakes whom it has taken
 
 -- who has nobody in hand leaves alone
-pub lets_nobody : {one : ℕ → Type 0} (places : ℕ → Place) (hands : Hands one places) (t l : ℕ) (p2 : Place) → carried_at (places t) l ≡ None → (u : ℕ) → u ≢ t → LetGo t l (places u) (putting places t p2 u)
+pub lets_nobody : {one : ℕ → Type 0} (places : ℕ → Place) (hands : Hands one places) (t l : ℕ) (p2 : Place)
+    → carried_at (places t) l ≡ None → (u : ℕ) → u ≢ t → LetGo t l (places u) (putting places t p2 u)
 lets_nobody places hands t l p2 none u ne = rw (put_other places t p2 u ne) (stays t l (places u) (untaken (places u) t l (λ h. let a : carried_at (places t) l ≡ Some false = hands.taken t u l false h in absurd cc)))
 
 -- ---------------------------------------------------------------- a lock is handed over
@@ -70,10 +78,14 @@ heir None = None
 heir (Some u) = Some (queued u)
 
 -- the lock goes from t to those in hand
-pub handed_is : (t : ℕ) (n : Base) (o : Owners) (m s : List Waiter) (p : ℕ → Place) (l : ℕ) (to : Option ℕ) → IsLockState mutex (lock_seen n.shared o m s (λ u. taken_at (p u) l))
-    → locks.handed t Exclusive (heir to) (lock_seen n.shared o m s (λ u. taken_at (p u) l)) ≡ lock_seen n.shared (with_exclusive o to) m s (let_go t (λ u. taken_at (p u) l))
+pub handed_is : (t : ℕ) (n : Base) (o : Owners) (m s : List Waiter) (p : ℕ → Place) (l : ℕ) (to : Option ℕ)
+    → IsLockState mutex (lock_seen n.shared o m s (λ u. taken_at (p u) l))
+    → locks.handed t Exclusive (heir to) (lock_seen n.shared o m s (λ u. taken_at (p u) l))
+    ≡ lock_seen n.shared (with_exclusive o to) m s (let_go t (λ u. taken_at (p u) l))
 handed_is t n o m s p l to state = (λ i. locks.with_successor (heir to) (record (lock_seen n.shared (with_exclusive o None) m s (let_go t (λ u. taken_at (p u) l))) { shared = sharing_same mutex (lock_seen n.shared o m s (λ u. taken_at (p u) l)) t 0 n.shared state (λ h. h) i })) ∙ by_heir to
   where
-    by_heir : (to : Option ℕ) → locks.with_successor (heir to) (lock_seen n.shared (with_exclusive o None) m s (let_go t (λ u. taken_at (p u) l))) ≡ lock_seen n.shared (with_exclusive o to) m s (let_go t (λ u. taken_at (p u) l))
+    by_heir : (to : Option ℕ)
+        → locks.with_successor (heir to) (lock_seen n.shared (with_exclusive o None) m s (let_go t (λ u. taken_at (p u) l)))
+        ≡ lock_seen n.shared (with_exclusive o to) m s (let_go t (λ u. taken_at (p u) l))
     by_heir None = refl
     by_heir (Some u) = ap (λ (k : ℕ). if k == 0 then lock_seen n.shared (with_exclusive o (Some u)) m s (let_go t (λ x. taken_at (p x) l)) else locks.pending_for u false (lock_seen n.shared (with_exclusive o None) m s (let_go t (λ x. taken_at (p x) l)))) (state.unshared (λ h. h))

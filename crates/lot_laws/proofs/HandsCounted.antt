@@ -29,7 +29,8 @@ use Rattle.lot_laws.proofs.InHand.{counted, heir_wants, is_wanted, shared_by, sh
 
 -- ---------------------------------------------------------------- the machine's hand and the lock's
 
-by_row : (t : ℕ) (h : Option Hand) (x : Option Want) (b : Bool) → ((g : Bool) → h ≡ hand t g → (g ≡ false) × (b ≡ true)) → wanted_of t (held_by (hand_owner h) x) ≡ wanted_of t (taken_from h x b)
+by_row : (t : ℕ) (h : Option Hand) (x : Option Want) (b : Bool) → ((g : Bool) → h ≡ hand t g → (g ≡ false) × (b ≡ true))
+    → wanted_of t (held_by (hand_owner h) x) ≡ wanted_of t (taken_from h x b)
 by_row t None None b f = refl
 by_row t None (Some x) b f = refl
 by_row t (Some (Of v true)) None b f = refl
@@ -46,7 +47,8 @@ by_row t (Some (Of v false)) (Some y) false f = either (v == t) refl
     either true e = absurd (let g : false ≡ true = (f false (ap (λ u. hand u false) (eqb-true v t e))).1 in cc)
     either false e = refl
 
-module _ (w : State) (t l : ℕ) (steady : IsSteady w) (own : IsOf l (place_at w t)) (any : Bool) (carries : carried_at (place_at w t) l ≡ in_hand any false) where
+module _ (w : State) (t l : ℕ) (steady : IsSteady w) (own : IsOf l (place_at w t)) (any : Bool)
+    (carries : carried_at (place_at w t) l ≡ in_hand any false) where
   by_any : (c g : Bool) → in_hand c false ≡ Some g → g ≡ false
   by_any true g e = let f : false ≡ g = cc in sym f
   by_any false g e = absurd cc
@@ -60,7 +62,8 @@ module _ (w : State) (t l : ℕ) (steady : IsSteady w) (own : IsOf l (place_at w
       held_here ∙ ap (hand t) (by_any any k.handed (sym carries ∙ steady.stands.hands.taken t u l k.handed held_here))
 
   -- in a call of one lock
-  fresh_here : (u : ℕ) → IsSingle (place_at w u) → (g : Bool) → (profile (place_at w u)).hand ≡ hand t g → (g ≡ false) × (calls (place_at w u) l ≡ true)
+  fresh_here : (u : ℕ) → IsSingle (place_at w u) → (g : Bool) → (profile (place_at w u)).hand ≡ hand t g
+      → (g ≡ false) × (calls (place_at w u) l ≡ true)
   fresh_here u single g h = by_call (calls (place_at w u) l) (sym (ap (λ (y : Station). y.hand) (single_station (place_at w u) l single)) ∙ hand_there u (ap (is_thread t) (single_taker (place_at w u) single ∙ ap hand_owner h) ∙ same t))
     where
       by_call : (c : Bool) → (if c then station (place_at w u) else nowhere).hand ≡ hand t false → (g ≡ false) × (c ≡ true)
@@ -76,7 +79,9 @@ module _ (w : State) (t l : ℕ) (steady : IsSteady w) (own : IsOf l (place_at w
     abbrev is_beside : Bool
     is_beside = is_lock l (mutex_beside at) && not (k == l)
 
-    hand_beside : (x : Option Hand) → (mutex_side at).hand ≡ x → wanted_of t (held_by (hand_owner (or_else x None)) (or_else (mutex_side at).wants (condvar_profile at).wants)) ≡ wanted_of t (held_by (hand_owner x) (mutex_side at).wants)
+    hand_beside : (x : Option Hand) → (mutex_side at).hand ≡ x
+        → wanted_of t (held_by (hand_owner (or_else x None)) (or_else (mutex_side at).wants (condvar_profile at).wants))
+        ≡ wanted_of t (held_by (hand_owner x) (mutex_side at).wants)
     hand_beside None e = refl
     hand_beside (Some (Of v b)) e = rw (side_wanted at v b e) refl
 
@@ -84,12 +89,16 @@ module _ (w : State) (t l : ℕ) (steady : IsSteady w) (own : IsOf l (place_at w
     fresh_beside g h = by_call (k == l) (is_lock l (mutex_beside at)) (subst (λ q. hand_at q l ≡ hand t false) is
         (hand_there u (ap (λ q. is_thread t (taker q)) is ∙ ap (λ x. is_thread t (hand_owner (or_else x None))) h ∙ same t)))
       where
-        by_call : (c d : Bool) → (if c then station (Condvar k at) else if d then station_by (mutex_side at) else nowhere).hand ≡ hand t false → (g ≡ false) × ((d && not c) ≡ true)
+        by_call : (c d : Bool)
+            → (if c then station (Condvar k at) else if d then station_by (mutex_side at) else nowhere).hand ≡ hand t false
+            → (g ≡ false) × ((d && not c) ≡ true)
         by_call true d e = absurd cc
         by_call false true e = (let both : hand t g ≡ hand t false = sym h ∙ e in cc, refl)
         by_call false false e = absurd cc
 
-    taken_beside : (b : Bool) → taken_from (mutex_side at).hand (mutex_side at).wants b ≡ (if b then taken_from (mutex_side at).hand (mutex_side at).wants true else None)
+    taken_beside : (b : Bool)
+        → taken_from (mutex_side at).hand (mutex_side at).wants b
+        ≡ (if b then taken_from (mutex_side at).hand (mutex_side at).wants true else None)
     taken_beside true = refl
     taken_beside false = taken_out (mutex_side at).hand (mutex_side at).wants
 
@@ -158,7 +167,8 @@ is_more t (Some h) x e = either (h.by == t) e
 
 -- ---------------------------------------------------------------- what the lock hands over
 
-module _ (w : State) (t l : ℕ) (steady : IsSteady w) (own : IsOf l (place_at w t)) (any : Bool) (carries : carried_at (place_at w t) l ≡ in_hand any false) (k : Counted) (count : IsCounted w t k) where
+module _ (w : State) (t l : ℕ) (steady : IsSteady w) (own : IsOf l (place_at w t)) (any : Bool)
+    (carries : carried_at (place_at w t) l ≡ in_hand any false) (k : Counted) (count : IsCounted w t k) where
   abbrev taken : ℕ → Option Taken
   taken u = taken_at (place_at w u) l
 
@@ -182,7 +192,8 @@ module _ (w : State) (t l : ℕ) (steady : IsSteady w) (own : IsOf l (place_at w
   succeeds : IsSuccessor (lock_state w l) t (heir_of heir k.successor)
   succeeds = subst (λ x. IsSuccessor (lock_state w l) t (heir_of heir x)) count.more (by_heir (successor_from t 0 w.places) refl)
     where
-      by_heir : (o : Option Successor) → successor_from t 0 w.places ≡ o → IsSuccessor (lock_state w l) t (heir_of (thread_of o) (want_of_successor o))
+      by_heir : (o : Option Successor) → successor_from t 0 w.places ≡ o
+          → IsSuccessor (lock_state w l) t (heir_of (thread_of o) (want_of_successor o))
       by_heir None e u x = (
         λ f. absurd cc,
         λ f. absurd (let y = wants_heir t 0 w.places u x (more_taken u x f.0 f.1) in let g : ◌≡◌ {A = Option Successor} None (Some y.0) = sym e ∙ y.1 in cc),
@@ -212,7 +223,8 @@ module _ (w : State) (t l : ℕ) (steady : IsSteady w) (own : IsOf l (place_at w
 
 -- ---------------------------------------------------------------- fewer than all threads
 
-filter_less : (f : Place → Bool) (ps : List Place) (i : ℕ) → i < length ps → f (get_or ps i Idle) ≡ false → length (filter f ps) < length ps
+filter_less : (f : Place → Bool) (ps : List Place) (i : ℕ) → i < length ps → f (get_or ps i Idle) ≡ false
+    → length (filter f ps) < length ps
 filter_less f [] i lt e = absurd (omega arith)
 filter_less f (p ∷ ps) zero lt e = ap_cond (f p) e
   where
@@ -234,7 +246,8 @@ filter_less f (p ∷ ps) (suc i) lt e = let h : length (filter f ps) < length ps
     one false h = omega arith
 
 -- who is in nobody's hand isn't in its own
-pub few_sharers : (w : State) (t : ℕ) → t < length w.places → IsSingle (place_at w t) → (profile (place_at w t)).hand ≡ None → sharers t w.places < length w.places
+pub few_sharers : (w : State) (t : ℕ) → t < length w.places → IsSingle (place_at w t) → (profile (place_at w t)).hand ≡ None
+    → sharers t w.places < length w.places
 few_sharers w t lt single free = filter_less (λ (p : Place). shares_in_hand t (held p)) w.places t lt (ap (shares_in_hand t) (single_held (place_at w t) single) ∙ ap (λ h. shares_in_hand t (held_by (hand_owner h) (profile (place_at w t)).wants)) free)
 
 -- ---------------------------------------------------------------- as long as nobody comes into the hand, or leaves it
@@ -251,7 +264,9 @@ more_by t (Some h) = either (h.by == t)
     either true = refl
     either false = refl
 
-successor_same : (t i : ℕ) (ps qs : List Place) → length qs ≡ length ps → ((u : ℕ) → wants_more_in_hand t (held (get_or qs u Idle)) ≡ wants_more_in_hand t (held (get_or ps u Idle))) → successor_from t i qs ≡ successor_from t i ps
+successor_same : (t i : ℕ) (ps qs : List Place) → length qs ≡ length ps
+    → ((u : ℕ) → wants_more_in_hand t (held (get_or qs u Idle)) ≡ wants_more_in_hand t (held (get_or ps u Idle)))
+    → successor_from t i qs ≡ successor_from t i ps
 successor_same t i [] [] len each = refl
 successor_same t i (p ∷ ps) [] len each = absurd (omega arith)
 successor_same t i [] (q ∷ qs) len each = absurd (omega arith)
@@ -262,7 +277,8 @@ counts_own : (t : ℕ) (ps : List Place) → sharers t ps ≡ sharers_from t (λ
 counts_own t ps = counted t 0 (λ u. held (get_or ps u Idle)) ps (λ j. subst (λ i. shares_handed t (held (get_or ps i Idle)) ≡ (if shares_in_hand t (held (get_or ps j Idle)) then 1 else 0)) (let z : j ≡ 0 + j = omega arith in z) (share_counts t (held (get_or ps j Idle))))
 
 -- the counts are as they were
-module _ (w v : State) (t : ℕ) (len : length v.places ≡ length w.places) (each : (u : ℕ) → wanted_of t (held (place_at v u)) ≡ wanted_of t (held (place_at w u))) where
+module _ (w v : State) (t : ℕ) (len : length v.places ≡ length w.places)
+    (each : (u : ℕ) → wanted_of t (held (place_at v u)) ≡ wanted_of t (held (place_at w u))) where
   more_same : (u : ℕ) → wants_more_in_hand t (held (place_at v u)) ≡ wants_more_in_hand t (held (place_at w u))
   more_same u = more_by t (held (place_at v u)) ∙ ap more_wanted (each u) ∙ sym (more_by t (held (place_at w u)))
 

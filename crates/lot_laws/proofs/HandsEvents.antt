@@ -44,9 +44,11 @@ claims_are t alone taken (suc n) = both_claim (claim_of t alone n (taken n)) (cl
 abbrev pub IsHandedCall : ℕ → ℕ → Bool → Want → Place → Type 0
 IsHandedCall l t alone x p = (r : ℕ → Rights) → call_state (next_place p (HandedBy t alone)) (putting r l (given_right alone x (r l))) ≡ record (call_state p r) { retries = None }
 
-module _ (w v : State) (t l : ℕ) (right : Want) (successor : Option Queued) (h : Happens w v t (AtLock l (HandOff right successor))) (alone : Bool)
+module _ (w v : State) (t l : ℕ) (right : Want) (successor : Option Queued)
+    (h : Happens w v t (AtLock l (HandOff right successor))) (alone : Bool)
     (unshared : alone ≡ (readers (given (rules_in w l) (lock_state w l) t right successor (h.before.sites.site l).state h.needs) == 0)) where
-  led_to : (u : ℕ) (x : Rights) → rights_of (handed t right successor (lock_state w l)) u ≡ x → (k : ℕ) → rights v u k ≡ putting (rights w u) l x k
+  led_to : (u : ℕ) (x : Rights) → rights_of (handed t right successor (lock_state w l)) u ≡ x → (k : ℕ)
+      → rights v u k ≡ putting (rights w u) l x k
   led_to u x e k = rights_led w v t l (Some (HandOff right successor)) h u k ∙ ap (λ y. putting (rights w u) l y k) e
 
   in_world : (u : ℕ) (x : Want) → IsTaken (lock_state w l) t u x → u < length (lock_state w l).shared
@@ -57,7 +59,10 @@ module _ (w v : State) (t l : ℕ) (right : Want) (successor : Option Queued) (h
         let f : ◌≡◌ {A = Option Taken} None (Some (record { by = t; want = x })) = sym none ∙ is in cc)
   ]
 
-  pub hands_many : Befalls w v t l (HandedBy t alone) → ((u : ℕ) (x : Want) → IsTaken (lock_state w l) t u x → IsHandedCall l t alone x (place_at w u)) → ((u : ℕ) (x : Want) → IsTaken (lock_state w l) t u x → IsSingle (place_at w u)) → OthersFollow w v t (AtLock l (HandOff right successor))
+  pub hands_many : Befalls w v t l (HandedBy t alone)
+      → ((u : ℕ) (x : Want) → IsTaken (lock_state w l) t u x → IsHandedCall l t alone x (place_at w u))
+      → ((u : ℕ) (x : Want) → IsTaken (lock_state w l) t u x → IsSingle (place_at w u))
+      → OthersFollow w v t (AtLock l (HandOff right successor))
   hands_many befalls calls of_one u ne = ap (λ p. call_state p (rights v u)) (befalls u ne) ∙ by_hand (taken_at (place_at w u) l) refl
     where
       handed_call : (x : Want) → IsTaken (lock_state w l) t u x → call_state (next_place (place_at w u) (HandedBy t alone)) (rights v u) ≡ record (call_state (place_at w u) (rights w u)) { retries = None }
@@ -65,11 +70,13 @@ module _ (w v : State) (t l : ℕ) (right : Want) (successor : Option Queued) (h
           (λ i k. led_to u _ (handed_have (rules_in w l) (lock_state w l) t right successor (h.before.sites.site l).state h.needs u x ne (in_world u x is) is ∙ ap (λ b. given_right b x (rights w u l)) (sym unshared)) k i)
           ∙ calls u x is (rights w u)
 
-      other_call : ((x : Want) → IsTaken (lock_state w l) t u x → ⊥) → call_state (place_at w u) (rights v u) ≡ call_state (place_at w u) (rights w u)
+      other_call : ((x : Want) → IsTaken (lock_state w l) t u x → ⊥)
+          → call_state (place_at w u) (rights v u) ≡ call_state (place_at w u) (rights w u)
       other_call none = ap (call_state (place_at w u))
           (λ i k. (led_to u (rights w u l) (others_have (rules_in w l) (lock_state w l) t right successor (h.before.sites.site l).state h.needs u ne none) k ∙ put_same (rights w u) l (rights w u l) refl k) i)
 
-      by_hand : (o : Option Taken) → taken_at (place_at w u) l ≡ o → call_state (if is_taken_by t o then next_place (place_at w u) (HandedBy t alone) else place_at w u) (rights v u)
+      by_hand : (o : Option Taken) → taken_at (place_at w u) l ≡ o
+          → call_state (if is_taken_by t o then next_place (place_at w u) (HandedBy t alone) else place_at w u) (rights v u)
           ≡ (if is_taken_by t o then record (call_state (place_at w u) (rights w u)) { retries = None; recalls = behind_wake (call_state (place_at w u) (rights w u)).recalls } else call_state (place_at w u) (rights w u))
       by_hand None e = other_call (λ x is. let f : ◌≡◌ {A = Option Taken} None (Some (record { by = t; want = x })) = sym e ∙ is in cc)
       by_hand (Some g) e = either (g.by == t) refl

@@ -54,7 +54,8 @@ pub after_both : (r : Rules) (xs ys : List deeds.Act) (s : Site) → after_acts 
 after_both r [] ys s = refl
 after_both r (a ∷ xs) ys s = after_both r xs ys (after_deed r a.deed s a.by)
 
-pub needed_both : (r : Rules) (xs ys : List deeds.Act) (s : Site) → ActsNeeded r xs s → ActsNeeded r ys (after_acts r xs s) → ActsNeeded r (xs ++ ys) s
+pub needed_both : (r : Rules) (xs ys : List deeds.Act) (s : Site) → ActsNeeded r xs s → ActsNeeded r ys (after_acts r xs s)
+    → ActsNeeded r (xs ++ ys) s
 needed_both r [] ys s h k = k
 needed_both r (a ∷ xs) ys s h k = (h.0, needed_both r xs ys (after_deed r a.deed s a.by) h.1 k)
 
@@ -91,7 +92,9 @@ module _ (t : ℕ) (alone : Bool) where
     claims_lead r (suc n) s = after_both r (claim_of n (taken n)) (claims_given taken n) s ∙ ap (after_acts r (claims_given taken n)) (one_claim r s n (taken n))
         ∙ claims_lead r n (record s { doing = putting s.doing n (with_claim (taken n) (s.doing n)) }) ∙ (λ i. record s { doing = λ u. claimed n u (spot u (u == n) refl i) })
       where
-        spot : (u : ℕ) (b : Bool) → (u == n) ≡ b → (if b then with_claim (taken n) (s.doing n) else s.doing u) ≡ (if b then with_claim (taken n) (s.doing u) else s.doing u)
+        spot : (u : ℕ) (b : Bool) → (u == n) ≡ b
+            → (if b then with_claim (taken n) (s.doing n) else s.doing u)
+            ≡ (if b then with_claim (taken n) (s.doing u) else s.doing u)
         spot u true e = ap (λ k. with_claim (taken n) (s.doing k)) (sym (eqb-true u n e))
         spot u false e = refl
 
@@ -117,7 +120,9 @@ module _ (t : ℕ) (alone : Bool) where
     claims_so r n s none = claims_lead r n s ∙ (λ i. record s { doing = λ u. claimed_is n u (s.doing u) none i })
 
     -- each of them has it
-    pub claims_needed : (r : Rules) (now : LockState) (n : ℕ) (s : Site) → s.lock ≡ now → ((u : ℕ) (h : Taken) → u < n → taken u ≡ Some h → h.by ≡ t → Holds now u (claim_handed alone h.want)) → ActsNeeded r (claims_given taken n) s
+    pub claims_needed : (r : Rules) (now : LockState) (n : ℕ) (s : Site) → s.lock ≡ now
+        → ((u : ℕ) (h : Taken) → u < n → taken u ≡ Some h → h.by ≡ t → Holds now u (claim_handed alone h.want))
+        → ActsNeeded r (claims_given taken n) s
     claims_needed r now zero s e holds = tt
     claims_needed r now (suc n) s e holds = needed_both r (claim_of n (taken n)) (claims_given taken n) s (one (taken n) refl)
         (claims_needed r now n (after_acts r (claim_of n (taken n)) s) (ap (λ (v : Site). v.lock) (one_claim r s n (taken n)) ∙ e) (λ u h lt. holds u h (omega arith)))
@@ -171,7 +176,9 @@ heir_in None = None
 heir_in (Some x) = Some (record { thread = x.thread; want = x.want })
 
 module _ (shares : List ℕ) (o : Owners) (main second : List Waiter) (taken : ℕ → Option Taken) where
-  writer_is : (b : Bool) (u : ℕ) → lock_seen shares (if b then with_exclusive o (Some u) else pending_for u o) main second taken ≡ (if b then with_owner u Exclusive (lock_seen shares o main second taken) else locks.pending_for u false (lock_seen shares o main second taken))
+  writer_is : (b : Bool) (u : ℕ)
+      → lock_seen shares (if b then with_exclusive o (Some u) else pending_for u o) main second taken
+      ≡ (if b then with_owner u Exclusive (lock_seen shares o main second taken) else locks.pending_for u false (lock_seen shares o main second taken))
   writer_is true u = refl
   writer_is false u = refl
 
@@ -181,7 +188,9 @@ module _ (shares : List ℕ) (o : Owners) (main second : List Waiter) (taken : �
   heir_is u Shared ne = absurd (ne refl)
   heir_is u x ne = refl
 
-  pub heirs_are : (x : Option Successor) → ((q : Queued) → heir_in x ≡ Some q → q.want ≢ Shared) → lock_seen shares (owners_of_successor (sum shares) x o) main second taken ≡ with_successor (heir_in x) (lock_seen shares o main second taken)
+  pub heirs_are : (x : Option Successor) → ((q : Queued) → heir_in x ≡ Some q → q.want ≢ Shared)
+      → lock_seen shares (owners_of_successor (sum shares) x o) main second taken
+      ≡ with_successor (heir_in x) (lock_seen shares o main second taken)
   heirs_are None more = refl
   heirs_are (Some x) more = heir_is x.thread x.want (more (record { thread = x.thread; want = x.want }) refl)
 
@@ -200,12 +209,15 @@ not_in_hand t None x h = refl
 not_in_hand t (Some u) None h = refl
 not_in_hand t (Some u) (Some x) h = ap (λ b. b && wants_shared x) h
 
-one_given : (t n : ℕ) (b : Bool) (o : Option Taken) → n + 1 < 2 ^ 64 → shares_handed t o ≡ (if b then 1 else 0) → with_share b n ≡ n + shares_handed t o
+one_given : (t n : ℕ) (b : Bool) (o : Option Taken) → n + 1 < 2 ^ 64 → shares_handed t o ≡ (if b then 1 else 0)
+    → with_share b n ≡ n + shares_handed t o
 one_given t n true o few f = let m : (n + 1) % 2 ^ 64 ≡ n + 1 = omega arith in m ∙ sym (ap (λ k. n + k) f)
 one_given t n false o few f = let m : n ≡ n + 0 = omega arith in m ∙ sym (ap (λ k. n + k) f)
 
 -- the machine gives each its right, as the lock says
-pub given_is : (t i : ℕ) (taken : ℕ → Option Taken) (ps : List Place) (ns : List ℕ) → ((j : ℕ) → shares_handed t (taken (i + j)) ≡ (if shares_in_hand t (held (get_or ps j Idle)) then 1 else 0)) → length ps ≡ length ns → sum ns + 1 < 2 ^ 64
+pub given_is : (t i : ℕ) (taken : ℕ → Option Taken) (ps : List Place) (ns : List ℕ)
+    → ((j : ℕ) → shares_handed t (taken (i + j)) ≡ (if shares_in_hand t (held (get_or ps j Idle)) then 1 else 0))
+    → length ps ≡ length ns → sum ns + 1 < 2 ^ 64
     → shares_given t ps ns ≡ sharing_from t taken i ns
 given_is t i taken [] [] each e few = refl
 given_is t i taken [] (n ∷ ns) each e few = absurd (omega arith)
@@ -240,7 +252,8 @@ pub record IsGiven (w : State) (t l : ℕ) (handed alone : Bool) (p : Place) : T
 
 -- who calls the lock
 pub given_of : (w : State) (t l : ℕ) (handed alone : Bool) (p : Place) (want : Want) → IsOf l p → handed ≡ false → wants p ≡ Some want → station p ≡ record nowhere { hand = hand t handed } → station (next_place p (HandedBy t alone)) ≡ record nowhere { hand = hand t true }
-    → doing_on (next_place p (HandedBy t alone)) l ≡ record (doing_on p l) { claims = Some (claim_handed alone want) } → FitsItsLock w (next_place p (HandedBy t alone)) → IsGiven w t l handed alone p
+    → doing_on (next_place p (HandedBy t alone)) l ≡ record (doing_on p l) { claims = Some (claim_handed alone want) }
+    → FitsItsLock w (next_place p (HandedBy t alone)) → IsGiven w t l handed alone p
 given_of w t l handed alone p want of fresh wants_it was goes doing fits = record {
   fresh = fresh;
   want = want;
@@ -259,7 +272,9 @@ given_of w t l handed alone p want of fresh wants_it was goes doing fits = recor
     of_2 : IsOf l p2
     of_2 = next_of l p (HandedBy t alone) of
 
-module _ (w : State) (t l : ℕ) (steady : IsSteady w) (own : IsOf l (place_at w t)) (there : t < length w.places) (lt : l < length w.locks) (p p2 : Place) (of : IsOf l p2) (fits : FitsItsLock w p2) (op : Op) (r : Rules) (rules : rules_in w l ≡ r) (sharers : has_readers r.sort ≡ true)
+module _ (w : State) (t l : ℕ) (steady : IsSteady w) (own : IsOf l (place_at w t)) (there : t < length w.places)
+    (lt : l < length w.locks) (p p2 : Place) (of : IsOf l p2) (fits : FitsItsLock w p2) (op : Op) (r : Rules)
+    (rules : rules_in w l ≡ r) (sharers : has_readers r.sort ≡ true)
     (all : (u : ℕ) (b : Bool) → hand_at (place_at w u) l ≡ hand t b → IsGiven w t l b (unshared_then w t l) (place_at w u)) (free : (station (place_at w t)).hand ≡ None) where
   abbrev alone : Bool
   alone = unshared_then w t l
@@ -283,7 +298,8 @@ module _ (w : State) (t l : ℕ) (steady : IsSteady w) (own : IsOf l (place_at w
   abbrev in_hands : HoldsHere w t l
   in_hands = holds_here w t l steady (of_carries l (place_at w t) own)
 
-  pub all_told : (u : ℕ) (b : Bool) → hand_at (place_at w u) l ≡ hand t b → IsToldAt w t l b (hand t true) (hand_over_told w t l) (place_at w u)
+  pub all_told : (u : ℕ) (b : Bool) → hand_at (place_at w u) l ≡ hand t b
+      → IsToldAt w t l b (hand t true) (hand_over_told w t l) (place_at w u)
   all_told u b h = let k = all u b h in record { goes = k.goes; alike = k.alike; fits = k.fits }
 
   was_here : station_at (place_at w t) l ≡ station (place_at w t)
@@ -349,7 +365,8 @@ module _ (w : State) (t l : ℕ) (steady : IsSteady w) (own : IsOf l (place_at w
   pub alone_is : (x : Want) → x ≢ Shared → alone ≡ (readers (sharing_handed t (without_owner t x here.lock)) == 0)
   alone_is x ne = ap (λ ns. sum ns == 0) shares_are ∙ by_want x ne
     where
-      by_want : (x : Want) → x ≢ Shared → (sum (sharing_from t taken 0 (shares_at w l)) == 0) ≡ (readers (sharing_handed t (without_owner t x here.lock)) == 0)
+      by_want : (x : Want) → x ≢ Shared
+          → (sum (sharing_from t taken 0 (shares_at w l)) == 0) ≡ (readers (sharing_handed t (without_owner t x here.lock)) == 0)
       by_want Exclusive ne = refl
       by_want Upgradable ne = refl
       by_want Shared ne = absurd (ne refl)
@@ -380,7 +397,8 @@ module _ (w : State) (t l : ℕ) (steady : IsSteady w) (own : IsOf l (place_at w
     pub record HandsLawful : Type 0 where
       pub needed : laws.AllNeeded r own_deeds here t
       pub doing : between.doing t ≡ doing_on p2 l
-      pub owners : lock_seen (shares_at w l) keeps (queue_at w (2 * l)) (queue_at w (2 * l + 1)) taken ≡ without_owner t right here.lock
+      pub owners : lock_seen (shares_at w l) keeps (queue_at w (2 * l)) (queue_at w (2 * l + 1)) taken
+          ≡ without_owner t right here.lock
       pub word : apply op (word_at w l) ≡ code r between
 
     abbrev parts_then : Parts
@@ -405,7 +423,8 @@ module _ (w : State) (t l : ℕ) (steady : IsSteady w) (own : IsOf l (place_at w
       lock_between : between.lock ≡ handed t right heir here.lock
       lock_between = by_bit none_left
         where
-          by_bit : (b : Bool) → (laws.after_all r (Case (HandOff right heir) ∷ bit_left b ∷ []) here t).lock ≡ handed t right heir here.lock
+          by_bit : (b : Bool)
+              → (laws.after_all r (Case (HandOff right heir) ∷ bit_left b ∷ []) here t).lock ≡ handed t right heir here.lock
           by_bit true = refl
           by_bit false = refl
 
@@ -434,7 +453,8 @@ module _ (w : State) (t l : ℕ) (steady : IsSteady w) (own : IsOf l (place_at w
       none_past u h = ap (λ q. taken_at q l) (past_all w.places u Idle h)
 
       -- each in hand has what it claims
-      holds : (u : ℕ) (h : Taken) → u < length w.places → taken u ≡ Some h → h.by ≡ t → Holds (handed t right heir here.lock) u (claim_handed alone h.want)
+      holds : (u : ℕ) (h : Taken) → u < length w.places → taken u ≡ Some h → h.by ≡ t
+          → Holds (handed t right heir here.lock) u (claim_handed alone h.want)
       holds u h lt e mine = by_want h.want alone refl refl (site.state.known_taken u h e) (λ more. (is_heir u h.want).1 (e ∙ (λ i. Some (record { by = mine i; want = h.want })), more))
         where
           more_or : (heir ≡ None) ⊎ ((x : Queued) × ((heir ≡ Some x) × (x.want ≢ Shared)))
@@ -503,7 +523,9 @@ module _ (w : State) (t l : ℕ) (steady : IsSteady w) (own : IsOf l (place_at w
       }) ∙ sym behind_is
 
       -- every lock is a site again
-      module _ (any : Bool) (inside : (station p2).inside ≡ (station (place_at w t)).inside) (stands : (station p2).stands ≡ (station (place_at w t)).stands) (waits : (station p2).waits ≡ (station (place_at w t)).waits)
+      module _ (any : Bool) (inside : (station p2).inside ≡ (station (place_at w t)).inside)
+          (stands : (station p2).stands ≡ (station (place_at w t)).stands)
+          (waits : (station p2).waits ≡ (station (place_at w t)).waits)
           (carried : (station (place_at w t)).carries ≡ in_hand_if any false) (carries_now : (station p2).carries ≡ in_hand_if any true) where
         places : place_at v ≡ places_behind
         places = places_are w t l steady p2 same_there fits in_hands (hand_over_told w t l) (hand t true) all_told (state_after_hand_over w t p l op) refl there
@@ -517,7 +539,9 @@ module _ (w : State) (t l : ℕ) (steady : IsSteady w) (own : IsOf l (place_at w
         same_lock : get_or (set w.locks l lock_here) l (unlocked kind.TheVariants.Mutex) ≡ lock_here
         same_lock = get_or-set_same w.locks l lock_here (unlocked kind.TheVariants.Mutex) lt
 
-        other_lock : (k : ℕ) → k ≢ l → get_or (set w.locks l lock_here) k (unlocked kind.TheVariants.Mutex) ≡ get_or w.locks k (unlocked kind.TheVariants.Mutex)
+        other_lock : (k : ℕ) → k ≢ l
+            → get_or (set w.locks l lock_here) k (unlocked kind.TheVariants.Mutex)
+            ≡ get_or w.locks k (unlocked kind.TheVariants.Mutex)
         other_lock k ne = get_or-set_other w.locks l k lock_here (unlocked kind.TheVariants.Mutex) ne
 
         moves : Moves w v l parts_then places_behind

@@ -44,7 +44,8 @@ heirs_same : (x : Option Successor) → heir_of (thread_of x) (want_of_successor
 heirs_same None = refl
 heirs_same (Some x) = refl
 
-module _ (w : State) (t l : ℕ) (steady : IsSteady w) (there : t < length w.places) (own : IsOf l (place_at w t)) (r : Rules) (rules : rules_in w l ≡ r) (readers : has_readers r.sort ≡ true) (x : Move) (same_row : profile (place_at w t) ≡ x.row)
+module _ (w : State) (t l : ℕ) (steady : IsSteady w) (there : t < length w.places) (own : IsOf l (place_at w t)) (r : Rules)
+    (rules : rules_in w l ≡ r) (readers : has_readers r.sort ≡ true) (x : Move) (same_row : profile (place_at w t) ≡ x.row)
     (lt : l < length w.locks) (p : Place) (op : Op) (g : HandsOver x op) where
   abbrev here : Site
   here = lock_by w l r
@@ -66,7 +67,8 @@ module _ (w : State) (t l : ℕ) (steady : IsSteady w) (there : t < length w.pla
   free = ap (λ (y : Station). y.hand) station_is
 
   -- where the operation takes effect
-  module _ (takes : takes_effect op seen ≡ true) (p2 : Place) (f : IsFollowed w t l steady there own r rules x same_row whom (Value seen) p2)
+  module _ (takes : takes_effect op seen ≡ true) (p2 : Place)
+      (f : IsFollowed w t l steady there own r rules x same_row whom (Value seen) p2)
       (given : (u : ℕ) (b : Bool) → hand_at (place_at w u) l ≡ hand t b → IsGiven w t l b (unshared_then w t l) (place_at w u)) (knows : g.successor ≡ want_of_successor (successor_from t 0 w.places)) where
     abbrev hands : List Deed
     hands = Case (HandOff g.right (heir_in (successor_from t 0 w.places))) ∷ bit_left g.none_left ∷ []
@@ -77,7 +79,9 @@ module _ (w : State) (t l : ℕ) (steady : IsSteady w) (there : t < length w.pla
     there_is : station p2 ≡ record (inside_of Main) { carries = in_hand g.any true }
     there_is = ap station_by f.row ∙ g.goes seen takes
 
-    pub hands_over : lock_seen (shares_at w l) (owners_after p t seen (owners_at w l)) (queue_at w (2 * l)) (queue_at w (2 * l + 1)) (λ u. taken_at (place_at w u) l) ≡ without_owner t g.right here.lock
+    pub hands_over : lock_seen (shares_at w l) (owners_after p t seen (owners_at w l)) (queue_at w (2 * l))
+        (queue_at w (2 * l + 1)) (λ u. taken_at (place_at w u) l)
+        ≡ without_owner t g.right here.lock
         → apply op seen ≡ code r (laws.after_all r (x.deeds whom (Value seen)) here t)
         → Goes w (put (state_after_act w t p (act.HandOver l op)) t p2) l (acts t (x.deeds whom (Value seen)) ++ claims)
     hands_over owners word = subst (λ ds. Goes w (put (state_after_act w t p (act.HandOver l op)) t p2) l (acts t ds ++ claims)) (sym deeds_are)
@@ -95,14 +99,16 @@ module _ (w : State) (t l : ℕ) (steady : IsSteady w) (there : t < length w.pla
         }
 
   -- where it fails, the thread looks again
-  module _ (fails : takes_effect op seen ≡ false) (p2 : Place) (f : IsFollowed w t l steady there own r rules x same_row whom (Value seen) p2) where
+  module _ (fails : takes_effect op seen ≡ false) (p2 : Place)
+      (f : IsFollowed w t l steady there own r rules x same_row whom (Value seen) p2) where
     nothing : x.deeds whom (Value seen) ≡ []
     nothing = g.fails whom seen fails
 
     same_station : station p2 ≡ station (place_at w t)
     same_station = ap station_by f.row ∙ g.stays seen fails ∙ sym (ap station_by same_row)
 
-    pub looks_again : lock_in (operated w t p l op) (λ u. taken_at (place_at w u) l) ≡ here.lock → apply op seen ≡ code r here → Goes w (put (state_after_act w t p (act.HandOver l op)) t p2) l (acts t (x.deeds whom (Value seen)))
+    pub looks_again : lock_in (operated w t p l op) (λ u. taken_at (place_at w u) l) ≡ here.lock → apply op seen ≡ code r here
+        → Goes w (put (state_after_act w t p (act.HandOver l op)) t p2) l (acts t (x.deeds whom (Value seen)))
     looks_again owners word = subst (λ ds. Goes w (put (state_after_act w t p (act.HandOver l op)) t p2) l (acts t ds)) (sym nothing)
         (subst (λ b. Goes w (put (state_after_hand_over_by b w t p l op) t p2) l []) (sym fails)
         (lawful_goes w t l steady own there r rules p2 f.of f.fits readers p op []
@@ -111,7 +117,9 @@ module _ (w : State) (t l : ℕ) (steady : IsSteady w) (there : t < length w.pla
 
 -- ---------------------------------------------------------------- they are told so
 
-module _ (w : State) (t l : ℕ) (steady : IsSteady w) (there : t < length w.places) (own : IsOf l (place_at w t)) (r : Rules) (rules : rules_in w l ≡ r) (readers : has_readers r.sort ≡ true) (x : Move) (same_row : profile (place_at w t) ≡ x.row) (hears : Hears) where
+module _ (w : State) (t l : ℕ) (steady : IsSteady w) (there : t < length w.places) (own : IsOf l (place_at w t)) (r : Rules)
+    (rules : rules_in w l ≡ r) (readers : has_readers r.sort ≡ true) (x : Move) (same_row : profile (place_at w t) ≡ x.row)
+    (hears : Hears) where
   abbrev now : Site
   now = lock_by w l r
 
@@ -126,7 +134,9 @@ module _ (w : State) (t l : ℕ) (steady : IsSteady w) (there : t < length w.pla
     told_hears = g.may r now t (free_of (place_at w t) l (of_single l (place_at w t) own) bare)
 
     -- out of the section, and whom it has handed its right hears of it
-    pub tells_handed : (p2 : Place) → key_of l Main < length w.sections → IsFollowed w t l steady there own r rules x same_row None Done p2 → ((u : ℕ) (b : Bool) → hand_at (place_at w u) l ≡ hand t b → IsWokenAt w t l HandOffNote (place_at w u))
+    pub tells_handed : (p2 : Place) → key_of l Main < length w.sections
+        → IsFollowed w t l steady there own r rules x same_row None Done p2
+        → ((u : ℕ) (b : Bool) → hand_at (place_at w u) l ≡ hand t b → IsWokenAt w t l HandOffNote (place_at w u))
         → Goes w (put (state_after_leave w t (One (key_of l Main)) wakes) t p2) l (acts t (x.deeds None Done))
     tells_handed p2 line f woken = subst (λ y. Goes w (put (state_after_leave w t (One (key_of l Main)) y) t p2) l (acts t (x.deeds None Done))) (sym g.notes) (either g.any refl)
       where
@@ -136,7 +146,9 @@ module _ (w : State) (t l : ℕ) (steady : IsSteady w) (there : t < length w.pla
         own_then : doing_on p2 l ≡ (after_acts r (acts t (x.deeds None Done)) now).doing t
         own_then = doing_here l p2 f.of ∙ ap (λ (y : Profile). y.doing) f.row ∙ sym f.doing ∙ sym (ap (λ (s : Site). s.doing t) (after_same r (x.deeds None Done) now t))
 
-        either : (b : Bool) → g.any ≡ b → Goes w (put (state_after_leave w t (One (key_of l Main)) (wakes_taken b HandOffNote)) t p2) l (acts t (x.deeds None Done))
+        either : (b : Bool) → g.any ≡ b
+            → Goes w (put (state_after_leave w t (One (key_of l Main)) (wakes_taken b HandOffNote)) t p2) l
+            (acts t (x.deeds None Done))
         either false e = goes_out_alone w t l steady there own r rules x same_row hears Main p2 line g.deeds (ap (λ (y : Station). y.inside) g.was) (ap (λ (y : Station). y.carries) g.was ∙ ap (λ b. in_hand b true) e) (ap (λ (y : Station). y.hand) g.was)
             (g.goes ∙ sym (ap (λ (y : Station). record y { inside = None; carries = None }) g.was)) f
         either true e = wake_goes w t l steady own there p2 f.of f.fits HandOffNote woken bare (ap (λ (y : Station). y.carries) goes_nowhere) (ap (λ (y : Station). y.hand) goes_nowhere)
@@ -144,7 +156,9 @@ module _ (w : State) (t l : ℕ) (steady : IsSteady w) (there : t < length w.pla
             r rules (free_of (place_at w t) l (of_single l (place_at w t) own) bare) (free_of p2 l (of_single l p2 f.of) (ap (λ (y : Station). y.hand) goes_nowhere)) (x.deeds None Done) g.deeds (needed_same r (x.deeds None Done) now t f.needed) own_then
 
   -- who was told so ends its call
-  pub accepts : (g : Accepts x hears) (p2 : Place) → (hears r now t None Done → IsFollowed w t l steady there own r rules x same_row None Done p2) → Goes w (put w t p2) l (acts t (x.deeds None Done))
+  pub accepts : (g : Accepts x hears) (p2 : Place)
+      → (hears r now t None Done → IsFollowed w t l steady there own r rules x same_row None Done p2)
+      → Goes w (put w t p2) l (acts t (x.deeds None Done))
   accepts g p2 followed = subst (λ ds. Goes w (put w t p2) l (acts t ds)) (sym g.deeds)
       (place_goes w t l steady own there r rules p2 f.of f.fits (End ∷ []) (λ h. tt)
       (steps_by r l (parts_at w l) (parts_at w l) (place_at w) t p2 (End ∷ []) (subst (λ ds. ActsNeeded r (acts t ds) now) g.deeds (needed_same r (x.deeds None Done) now t f.needed)) (tt, tt)

@@ -70,13 +70,16 @@ use Rattle.lot_laws.proofs.RwLockKept.{beside_no_call, admits, at_now, call_told
 pub record HandsFacts (a : Admission) (c : RwLockCallPlace) (k : Counted) (op : Op) (seen : ℕ) : Type 0 where
   pub right : Want
   pub deeds : (whom : Option ℕ) → takes_effect op seen ≡ true → call_deeds a c whom (Value seen) ≡ hands_over right k whom
-  pub owners : (t : ℕ) (shared : List ℕ) (o : Owners) (main second : List Waiter) (taken : ℕ → Option Taken) → takes_effect op seen ≡ true
-      → lock_seen shared (call_owners a c t seen o) main second taken ≡ without_owner t right (lock_seen shared o main second taken)
+  pub owners : (t : ℕ) (shared : List ℕ) (o : Owners) (main second : List Waiter) (taken : ℕ → Option Taken)
+      → takes_effect op seen ≡ true
+      → lock_seen shared (call_owners a c t seen o) main second taken
+      ≡ without_owner t right (lock_seen shared o main second taken)
   pub fails : takes_effect op seen ≡ false → (t : ℕ) (o : Owners) → call_owners a c t seen o ≡ o
   pub shares : (n : ℕ) → call_shares a c seen n ≡ None
   pub more : right ≢ Shared
 
-stored : (a : Admission) (b : Bool) (k : Counted) (word seen : ℕ) → CallStands a (HandOver access.Exclusive b (handing.Store k)) → HandsFacts a (HandOver access.Exclusive b (handing.Store k)) k (operation.Store word) seen
+stored : (a : Admission) (b : Bool) (k : Counted) (word seen : ℕ) → CallStands a (HandOver access.Exclusive b (handing.Store k))
+    → HandsFacts a (HandOver access.Exclusive b (handing.Store k)) k (operation.Store word) seen
 stored a b k word seen stands = record {
   right = Exclusive;
   deeds = λ whom h. refl;
@@ -86,7 +89,8 @@ stored a b k word seen stands = record {
   more = λ h. cc;
 }
 
-exchanged : (a : Admission) (b : Bool) (k : Counted) (expected word seen : ℕ) → has_room a.limit k expected ≡ true → CallStands a (HandOver access.Upgradable b (handing.Exchange k expected))
+exchanged : (a : Admission) (b : Bool) (k : Counted) (expected word seen : ℕ) → has_room a.limit k expected ≡ true
+    → CallStands a (HandOver access.Upgradable b (handing.Exchange k expected))
     → HandsFacts a (HandOver access.Upgradable b (handing.Exchange k expected)) k (operation.Exchange expected word) seen
 exchanged a b k expected word seen room stands = record {
   right = Upgradable;
@@ -97,7 +101,8 @@ exchanged a b k expected word seen room stands = record {
   more = λ h. cc;
 }
 
-hands_facts : (l : ℕ) (a : Admission) (c : RwLockCallPlace) (k : Counted) (op : Op) (seen : ℕ) → CallStands a c → in_hand_of c ≡ Some k → call_act l a c ≡ act.HandOver l op → HandsFacts a c k op seen
+hands_facts : (l : ℕ) (a : Admission) (c : RwLockCallPlace) (k : Counted) (op : Op) (seen : ℕ) → CallStands a c
+    → in_hand_of c ≡ Some k → call_act l a c ≡ act.HandOver l op → HandsFacts a c k op seen
 hands_facts l a (HandOver access.Exclusive b (handing.Store j)) k op seen stands is e =
     let same_k : j ≡ k = cc in
     let same_op : operation.Store (parked_as j.none_left (tokens j)) ≡ op = cc in
@@ -108,7 +113,8 @@ hands_facts l a (HandOver access.Upgradable b (handing.Exchange j expected)) k o
     same_k = cc
 
     by_room : (room : Bool) → has_room a.limit j expected ≡ room
-        → (if room then act.HandOver l (operation.Exchange expected (with_taken access.Upgradable j expected)) else act.Word l (operation.Exchange expected (parked_as j.none_left (without access.Upgradable expected)))) ≡ act.HandOver l op
+        → (if room then act.HandOver l (operation.Exchange expected (with_taken access.Upgradable j expected)) else act.Word l (operation.Exchange expected (parked_as j.none_left (without access.Upgradable expected))))
+        ≡ act.HandOver l op
         → HandsFacts a (HandOver access.Upgradable b (handing.Exchange j expected)) k op seen
     by_room true f g =
         let same_op : operation.Exchange expected (with_taken access.Upgradable j expected) ≡ op = cc in
@@ -122,17 +128,21 @@ hands_facts l a (HandOver x b (handing.Look j)) k op seen stands is e = absurd c
 hands_facts l a c k op seen stands is e = absurd cc
 
 -- who is in a hand claims nothing, or is pending
-hand_claims : (a : Admission) (c : RwLockCallPlace) (t : ℕ) → (call_profile a c).hand ≡ hand t false → ((call_profile a c).doing.claims ≡ None) ⊎ ((b : Bool) × ((call_profile a c).doing.claims ≡ Some (Pends b)))
+hand_claims : (a : Admission) (c : RwLockCallPlace) (t : ℕ) → (call_profile a c).hand ≡ hand t false
+    → ((call_profile a c).doing.claims ≡ None) ⊎ ((b : Bool) × ((call_profile a c).doing.claims ≡ Some (Pends b)))
 hand_claims a c t h = by_call c h
   where
-    by_place : (p : RwLockPlace) (to : RwLockAt) → place_hand to ≡ hand t false → ((doing_at (again_of p) p.purpose to).claims ≡ None) ⊎ ((b : Bool) × ((doing_at (again_of p) p.purpose to).claims ≡ Some (Pends b)))
+    by_place : (p : RwLockPlace) (to : RwLockAt) → place_hand to ≡ hand t false
+        → ((doing_at (again_of p) p.purpose to).claims ≡ None)
+        ⊎ ((b : Bool) × ((doing_at (again_of p) p.purpose to).claims ≡ Some (Pends b)))
     by_place p (at.Park (parking.Taken v)) g = inl refl
     by_place p (at.Aside (parking.Taken v)) g = inr (_, refl)
     by_place p (at.Park to) g = absurd cc
     by_place p (at.Aside to) g = absurd cc
     by_place p to g = absurd cc
 
-    by_call : (c : RwLockCallPlace) → (call_profile a c).hand ≡ hand t false → ((call_profile a c).doing.claims ≡ None) ⊎ ((b : Bool) × ((call_profile a c).doing.claims ≡ Some (Pends b)))
+    by_call : (c : RwLockCallPlace) → (call_profile a c).hand ≡ hand t false
+        → ((call_profile a c).doing.claims ≡ None) ⊎ ((b : Bool) × ((call_profile a c).doing.claims ≡ Some (Pends b)))
     by_call (Plain p) g = by_place p p.at g
     by_call (Bump p) g = by_place p p.at g
     by_call (Glance x) g = absurd cc
@@ -155,7 +165,8 @@ heir_same (Some x) (Some y) e = let both : record { thread = 0; want = x } ≡ r
 
 -- ---------------------------------------------------------------- the step
 
-module _ (w : State) (t l : ℕ) (a : Admission) (c : RwLockCallPlace) (steady : IsSteady w) (shape : IsShaped w) (there : t < length w.places) (lt : l < length w.locks) (is : place_at w t ≡ RwLock l a c)
+module _ (w : State) (t l : ℕ) (a : Admission) (c : RwLockCallPlace) (steady : IsSteady w) (shape : IsShaped w)
+    (there : t < length w.places) (lt : l < length w.locks) (is : place_at w t ≡ RwLock l a c)
     (k : Counted) (is_k : in_hand_of c ≡ Some k) (count : IsCounted w t k) (op : Op) (e : call_act l a c ≡ act.HandOver l op) where
   abbrev here : Site
   here = lock_by w l (rules_in w l)
@@ -218,7 +229,8 @@ module _ (w : State) (t l : ℕ) (a : Admission) (c : RwLockCallPlace) (steady :
   abbrev Followed : ℕ → Type 0
   Followed v = IsFollowed w t l steady there of (rules_in w l) refl (call_move a c) row whom (Value v) (next_place (place_at w t) (Value v))
 
-  follows : Followed (word_at w l) × (apply op (word_at w l) ≡ code (rules_in w l) (laws.after_all (rules_in w l) (call_deeds a c whom (Value (word_at w l))) here t))
+  follows : Followed (word_at w l)
+      × (apply op (word_at w l) ≡ code (rules_in w l) (laws.after_all (rules_in w l) (call_deeds a c whom (Value (word_at w l))) here t))
   follows = subst (λ v. Followed v × (apply op v ≡ code (rules_in w l) (laws.after_all (rules_in w l) (call_deeds a c whom (Value v)) here t))) (sym now)
       (let f = hand_overs_follow (rules_in w l) a here t l c op whom hands e in (
         followed_by w t l a c steady shape there lt is whom (Value (code (rules_in w l) here)) f.needed f.doing (call_told_value a c (code (rules_in w l) here) few),
@@ -230,7 +242,9 @@ module _ (w : State) (t l : ℕ) (a : Admission) (c : RwLockCallPlace) (steady :
 
   -- where it takes effect
   module _ (takes : takes_effect op (word_at w l) ≡ true) where
-    same_deeds : (u : Option ℕ) → Case (HandOff g.right (heir_of u g.successor)) ∷ bit_left g.none_left ∷ [] ≡ Case (HandOff facts.right (heir_of u k.successor)) ∷ bit_left k.none_left ∷ []
+    same_deeds : (u : Option ℕ)
+        → Case (HandOff g.right (heir_of u g.successor)) ∷ bit_left g.none_left ∷ []
+        ≡ Case (HandOff facts.right (heir_of u k.successor)) ∷ bit_left k.none_left ∷ []
     same_deeds u = sym (g.deeds u (word_at w l) takes) ∙ facts.deeds u takes
 
     pub same_right : g.right ≡ facts.right
@@ -249,7 +263,8 @@ module _ (w : State) (t l : ℕ) (a : Admission) (c : RwLockCallPlace) (steady :
     unpending = no_pending (rules_in w l) here.lock t g.right (steady.sites.site l).state owns (λ f. facts.more (sym same_right ∙ f))
 
     -- nobody in its hand claims anything yet
-    pub unclaimed : (u j : ℕ) (d : Admission) (q : RwLockCallPlace) → place_at w u ≡ RwLock j d q → j ≡ l → (call_profile d q).hand ≡ hand t false → (call_profile d q).doing.claims ≡ None
+    pub unclaimed : (u j : ℕ) (d : Admission) (q : RwLockCallPlace) → place_at w u ≡ RwLock j d q → j ≡ l
+        → (call_profile d q).hand ≡ hand t false → (call_profile d q).doing.claims ≡ None
     unclaimed u j d q f same_lock z = elim (hand_claims d q t z) [
       | inl none ↦ none
       | inr pends ↦ absurd (
@@ -274,12 +289,14 @@ module _ (w : State) (t l : ℕ) (a : Admission) (c : RwLockCallPlace) (steady :
         by_place (Condvar j at) f h = absurd (let none : hand_at (Condvar j at) l ≡ None = condvar_unheld j at l (beside_no_call w t l a c steady shape there lt is u j at f) in let both : ◌≡◌ {A = Option Hand} None (hand t b) = sym none ∙ h in cc)
         by_place (Once j at) f h = either (j == l) refl h
           where
-            either : (y : Bool) → (j == l) ≡ y → (if y then station (Once j at) else nowhere).hand ≡ hand t b → IsGiven w t l b (unshared_then w t l) (Once j at)
+            either : (y : Bool) → (j == l) ≡ y → (if y then station (Once j at) else nowhere).hand ≡ hand t b
+                → IsGiven w t l b (unshared_then w t l) (Once j at)
             either true same_lock z = absurd (of_no_once w t l a c steady shape there lt is u j at f (eqb-true j l same_lock))
             either false same_lock z = absurd cc
         by_place (Mutex j m) f h = either (j == l) refl h
           where
-            either : (y : Bool) → (j == l) ≡ y → (if y then station (Mutex j m) else nowhere).hand ≡ hand t b → IsGiven w t l b (unshared_then w t l) (Mutex j m)
+            either : (y : Bool) → (j == l) ≡ y → (if y then station (Mutex j m) else nowhere).hand ≡ hand t b
+                → IsGiven w t l b (unshared_then w t l) (Mutex j m)
             either true same_lock z = absurd (of_no_mutex w t l a c steady shape there lt is u j m f (eqb-true j l same_lock))
             either false same_lock z = absurd cc
         by_place (RwLock j d q) f h = either (j == l) refl h
@@ -303,17 +320,22 @@ module _ (w : State) (t l : ℕ) (a : Admission) (c : RwLockCallPlace) (steady :
                 ∙ sym (ap (λ (y : Doing). record y { claims = Some (claim_handed (unshared_then w t l) waits.want) }) (doing_here l (RwLock j d q) same_lock)))
                 (fits_next w t l a c steady shape there lt is j d (call_next d q (HandedBy t (unshared_then w t l))) fits_u.0 (fair_calls_stand d q (HandedBy t (unshared_then w t l)) fits_u.1 (call_told_other d q (HandedBy t (unshared_then w t l)) tt)))
 
-            either : (y : Bool) → (j == l) ≡ y → (if y then station (RwLock j d q) else nowhere).hand ≡ hand t b → IsGiven w t l b (unshared_then w t l) (RwLock j d q)
+            either : (y : Bool) → (j == l) ≡ y → (if y then station (RwLock j d q) else nowhere).hand ≡ hand t b
+                → IsGiven w t l b (unshared_then w t l) (RwLock j d q)
             either true same_lock z = at_lock (eqb-true j l same_lock) z
             either false same_lock z = absurd cc
 
-    pub hands_goes : Goes w (put (state_after_act w t (RwLock l a c) (act.HandOver l op)) t (next_place (place_at w t) (Value (word_at w l)))) l
+    pub hands_goes : Goes w
+        (put (state_after_act w t (RwLock l a c) (act.HandOver l op)) t (next_place (place_at w t) (Value (word_at w l)))) l
         (acts t (call_deeds a c whom (Value (word_at w l))) ++ claims_given t (unshared_then w t l) (λ u. taken_at (place_at w u) l) (length w.places))
     hands_goes = hands_all w t l steady there of (rules_in w l) refl readers (call_move a c) row lt (RwLock l a c) op g takes (next_place (place_at w t) (Value (word_at w l))) follows.0 given (same_successor ∙ sym count.more)
         (facts.owners t (shares_at w l) (owners_at w l) (queue_at w (2 * l)) (queue_at w (2 * l + 1)) (λ u. taken_at (place_at w u) l) takes ∙ ap (λ y. without_owner t y here.lock) (sym same_right)) follows.1
 
   -- where it fails, the thread looks again
-  pub hands_fails : takes_effect op (word_at w l) ≡ false → Goes w (put (state_after_act w t (RwLock l a c) (act.HandOver l op)) t (next_place (place_at w t) (Value (word_at w l)))) l (acts t (call_deeds a c whom (Value (word_at w l))))
+  pub hands_fails : takes_effect op (word_at w l) ≡ false
+      → Goes w
+      (put (state_after_act w t (RwLock l a c) (act.HandOver l op)) t (next_place (place_at w t) (Value (word_at w l)))) l
+      (acts t (call_deeds a c whom (Value (word_at w l))))
   hands_fails fails = looks_again w t l steady there of (rules_in w l) refl readers (call_move a c) row lt (RwLock l a c) op g fails (next_place (place_at w t) (Value (word_at w l))) follows.0
       (λ i. lock_seen (shares_then_same i) (facts.fails fails t (owners_at w l) i) (queue_at w (2 * l)) (queue_at w (2 * l + 1)) (λ u. taken_at (place_at w u) l))
       (follows.1 ∙ ap (λ ds. code (rules_in w l) (laws.after_all (rules_in w l) ds here t)) (g.fails whom (word_at w l) fails))

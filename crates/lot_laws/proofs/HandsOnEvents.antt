@@ -52,7 +52,8 @@ use Rattle.lot_laws.proofs.OtherCalls.{taken_by_hand}
 use Rattle.lot_laws.proofs.RwLockKept.{beside_no_call, admits, of_no_mutex}
 
 -- what a thread has once it was handed what it wanted
-gains : (alone : Bool) (x : Want) (l : ℕ) (r : ℕ → Rights) → putting r l (given_right alone x (r l)) ≡ with_claim (claim_handed alone x) l r
+gains : (alone : Bool) (x : Want) (l : ℕ) (r : ℕ → Rights)
+    → putting r l (given_right alone x (r l)) ≡ with_claim (claim_handed alone x) l r
 gains true Exclusive l r = refl
 gains true Upgradable l r = refl
 gains true Shared l r = refl
@@ -64,7 +65,8 @@ gains false Shared l r = refl
 gains false Wait l r = refl
 gains false CallOnce l r = refl
 
-module _ (w : State) (t l : ℕ) (a : Admission) (c : RwLockCallPlace) (steady : IsSteady w) (shape : IsShaped w) (there : t < length w.places) (lt : l < length w.locks) (is : place_at w t ≡ RwLock l a c)
+module _ (w : State) (t l : ℕ) (a : Admission) (c : RwLockCallPlace) (steady : IsSteady w) (shape : IsShaped w)
+    (there : t < length w.places) (lt : l < length w.locks) (is : place_at w t ≡ RwLock l a c)
     (k : Counted) (is_k : in_hand_of c ≡ Some k) (count : IsCounted w t k) (op : Op) (e : call_act l a c ≡ act.HandOver l op) (takes : takes_effect op (word_at w l) ≡ true) where
   abbrev alone : Bool
   alone = unshared_then w t l
@@ -110,7 +112,8 @@ module _ (w : State) (t l : ℕ) (a : Admission) (c : RwLockCallPlace) (steady :
       ∙ get_or-map (place_after_telling t (HandedBy t alone)) w.places u Idle
       ∙ ap (λ b. if b then next_place (place_at w u) (HandedBy t alone) else place_at w u) (same_test (is_thread t (taker (place_at w u))) refl)
     where
-      same_test : (b : Bool) → is_thread t (taker (place_at w u)) ≡ b → is_thread t (taker (place_at w u)) ≡ is_taken_by t (taken_at (place_at w u) l)
+      same_test : (b : Bool) → is_thread t (taker (place_at w u)) ≡ b
+          → is_thread t (taker (place_at w u)) ≡ is_taken_by t (taken_at (place_at w u) l)
       same_test true f = f ∙ sym (taken_by_hand w (place_at w u) t l (steady.stands.calls u)
           (hand_there w t l steady (of w t l a c steady shape there lt is k is_k count op e) (g w t l a c steady shape there lt is k is_k count op e).any (carries w t l a c steady shape there lt is k is_k count op e) u f))
       same_test false f = f ∙ sym (unless_held w steady t l u (λ h. let z : is_thread t (taker (place_at w u)) ≡ true = held_tells (place_at w u) t l false h in cc))
@@ -160,7 +163,8 @@ module _ (w : State) (t l : ℕ) (a : Admission) (c : RwLockCallPlace) (steady :
           fits_u : FitsItsLock w (RwLock j d q)
           fits_u = subst (FitsItsLock w) f (steady.stands.calls u)
 
-          at_lock : j ≡ l → (call_profile d q).hand ≡ hand t false → (call_profile d q).wants ≡ Some x → IsHandedCall l t alone x (RwLock j d q)
+          at_lock : j ≡ l → (call_profile d q).hand ≡ hand t false → (call_profile d q).wants ≡ Some x
+              → IsHandedCall l t alone x (RwLock j d q)
           at_lock same_lock z wants r = by_next (call_next d q (HandedBy t alone)) refl
             where
               unclaimed_now : (call_profile d q).doing.claims ≡ None

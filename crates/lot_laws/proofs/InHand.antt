@@ -48,13 +48,15 @@ is_wanted t (Some h) x e = either (h.by == t) refl e
     either true f g = let mine : h.by ≡ t = eqb-true h.by t f in let same_want : h.want ≡ x = cc in λ i. Some (record { by = mine i; want = same_want i })
     either false f g = absurd cc
 
-pub sharers_same : (t : ℕ) (p q : ℕ → Option Taken) → ((u : ℕ) → wanted_of t (q u) ≡ wanted_of t (p u)) → (i n : ℕ) → sharers_from t q i n ≡ sharers_from t p i n
+pub sharers_same : (t : ℕ) (p q : ℕ → Option Taken) → ((u : ℕ) → wanted_of t (q u) ≡ wanted_of t (p u)) → (i n : ℕ)
+    → sharers_from t q i n ≡ sharers_from t p i n
 sharers_same t p q e i zero = refl
 sharers_same t p q e i (suc n) = λ j. (shares_by t (q i) ∙ ap share_of (e i) ∙ sym (shares_by t (p i))) j + sharers_same t p q e (i + 1) n j
 
 -- ---------------------------------------------------------------- what the lock hands over
 
-pub shared_by : (t : ℕ) (taken : ℕ → Option Taken) (i : ℕ) (ns : List ℕ) → sum (sharing_from t taken i ns) ≡ sum ns + sharers_from t taken i (length ns)
+pub shared_by : (t : ℕ) (taken : ℕ → Option Taken) (i : ℕ) (ns : List ℕ)
+    → sum (sharing_from t taken i ns) ≡ sum ns + sharers_from t taken i (length ns)
 shared_by t taken i [] = refl
 shared_by t taken i (n ∷ ns) =
     let a = sum_cons n ns in
@@ -64,19 +66,25 @@ shared_by t taken i (n ∷ ns) =
 
 -- ---------------------------------------------------------------- what the machine counts
 
-pub counted : (t i : ℕ) (taken : ℕ → Option Taken) (ps : List Place) → ((j : ℕ) → shares_handed t (taken (i + j)) ≡ (if shares_in_hand t (held (get_or ps j Idle)) then 1 else 0)) → sharers t ps ≡ sharers_from t taken i (length ps)
+pub counted : (t i : ℕ) (taken : ℕ → Option Taken) (ps : List Place)
+    → ((j : ℕ) → shares_handed t (taken (i + j)) ≡ (if shares_in_hand t (held (get_or ps j Idle)) then 1 else 0))
+    → sharers t ps ≡ sharers_from t taken i (length ps)
 counted t i taken [] each = refl
 counted t i taken (p ∷ ps) each =
     let first : shares_handed t (taken i) ≡ (if shares_in_hand t (held p) then 1 else 0) = subst (λ k. shares_handed t (taken k) ≡ (if shares_in_hand t (held p) then 1 else 0)) (let z : i + 0 ≡ i = omega arith in z) (each 0) in
     let rest : sharers t ps ≡ sharers_from t taken (i + 1) (length ps) = counted t (i + 1) taken ps (λ j. subst (λ k. shares_handed t (taken k) ≡ (if shares_in_hand t (held (get_or ps j Idle)) then 1 else 0)) (let z : i + suc j ≡ i + 1 + j = omega arith in z) (each (suc j))) in
     one_more (shares_in_hand t (held p)) ps ∙ (λ k. sym first k + rest k)
   where
-    one_more : (b : Bool) (ps : List Place) → length (cond b (p ∷ filter (λ (q : Place). shares_in_hand t (held q)) ps) (filter (λ (q : Place). shares_in_hand t (held q)) ps)) ≡ (if b then 1 else 0) + sharers t ps
+    one_more : (b : Bool) (ps : List Place)
+        → length
+        (cond b (p ∷ filter (λ (q : Place). shares_in_hand t (held q)) ps) (filter (λ (q : Place). shares_in_hand t (held q)) ps))
+        ≡ (if b then 1 else 0) + sharers t ps
     one_more true ps = omega arith
     one_more false ps = omega arith
 
 -- the heir of the machine wants more, and is in the hand
-pub heir_wants : (t i : ℕ) (ps : List Place) (x : Successor) → successor_from t i ps ≡ Some x → (j : ℕ) × ((x.thread ≡ i + j) × (wants_more_in_hand t (held (get_or ps j Idle)) ≡ Some x.want))
+pub heir_wants : (t i : ℕ) (ps : List Place) (x : Successor) → successor_from t i ps ≡ Some x
+    → (j : ℕ) × ((x.thread ≡ i + j) × (wants_more_in_hand t (held (get_or ps j Idle)) ≡ Some x.want))
 heir_wants t i [] x e = absurd cc
 heir_wants t i (p ∷ ps) x e = by_first (wants_more_in_hand t (held p)) refl e (heir_wants t (suc i) ps x)
   where
@@ -88,11 +96,13 @@ heir_wants t i (p ∷ ps) x e = by_first (wants_more_in_hand t (held p)) refl e 
         (0, (sym (ap (λ (z : Successor). z.thread) same_one) ∙ (let z : i ≡ i + 0 = omega arith in z), f ∙ ap Some (ap (λ (z : Successor). z.want) same_one)))
 
 -- and where anybody wants more, there is one
-pub wants_heir : (t i : ℕ) (ps : List Place) (j : ℕ) (x : Want) → wants_more_in_hand t (held (get_or ps j Idle)) ≡ Some x → (y : Successor) × (successor_from t i ps ≡ Some y)
+pub wants_heir : (t i : ℕ) (ps : List Place) (j : ℕ) (x : Want) → wants_more_in_hand t (held (get_or ps j Idle)) ≡ Some x
+    → (y : Successor) × (successor_from t i ps ≡ Some y)
 wants_heir t i [] j x e = absurd cc
 wants_heir t i (p ∷ ps) zero x e = (record { thread = i; want = x }, ap (λ o. successor_or i o (successor_from t (suc i) ps)) e)
 wants_heir t i (p ∷ ps) (suc j) x e = by_first (wants_more_in_hand t (held p)) (wants_heir t (suc i) ps j x e)
   where
-    by_first : (o : Option Want) → ((y : Successor) × (successor_from t (suc i) ps ≡ Some y)) → (y : Successor) × (successor_or i o (successor_from t (suc i) ps) ≡ Some y)
+    by_first : (o : Option Want) → ((y : Successor) × (successor_from t (suc i) ps ≡ Some y))
+        → (y : Successor) × (successor_or i o (successor_from t (suc i) ps) ≡ Some y)
     by_first None later = later
     by_first (Some z) later = (record { thread = i; want = z }, refl)

@@ -37,7 +37,8 @@ pub given_filled : (w : State) (t : ℕ) (p : Place) (l : ℕ) (f : Op) → rule
 given_filled w t p l f rules k = set_field (λ x. x.filled) w.locks l _ (unlocked kind.TheVariants.Mutex) (ap (λ r. filled_at w l || fills r (apply f (word_at w l))) rules ∙ or-false (filled_at w l)) k
 
 -- nobody gets a share where none is given
-pub given_shares : (w : State) (t l : ℕ) → shares_handed_over w t l ≡ shares_at w l → (k : ℕ) → get_or (set w.shares l (shares_handed_over w t l)) k (replicate (length w.places) 0) ≡ shares_at w k
+pub given_shares : (w : State) (t l : ℕ) → shares_handed_over w t l ≡ shares_at w l → (k : ℕ)
+    → get_or (set w.shares l (shares_handed_over w t l)) k (replicate (length w.places) 0) ≡ shares_at w k
 given_shares w t l none k = set_field (λ x. x) w.shares l (shares_handed_over w t l) (replicate (length w.places) 0) none k
 
 late_kinds : (w : State) (t : ℕ) (o : Option ℕ) (k : ℕ) → kind_at (state_after_late_on w t o) k ≡ kind_at w k
@@ -69,15 +70,18 @@ calls_mutex kind.TheVariants.Mutex l c h = refl
 calls_mutex kind.TheVariants.Fair l c h = refl
 calls_mutex k l c h = absurd cc
 
-pub calls_readers : (k : Kind) (l : ℕ) (c : RwLockCall) → has_call k (call.TheVariants.RwLock l c) ≡ true → has_readers (rules_of k).sort ≡ true
+pub calls_readers : (k : Kind) (l : ℕ) (c : RwLockCall) → has_call k (call.TheVariants.RwLock l c) ≡ true
+    → has_readers (rules_of k).sort ≡ true
 calls_readers (kind.TheVariants.RwLock limit) l c h = refl
 calls_readers (kind.TheVariants.Recursive limit) l c h = refl
 calls_readers k l c h = absurd cc
 
-pub calls_once : (k : Kind) (l : ℕ) (c : OnceCall) → has_call k (call.TheVariants.Once l c) ≡ true → (rules_of k).sort ≡ locks.Once
+pub calls_once : (k : Kind) (l : ℕ) (c : OnceCall) → has_call k (call.TheVariants.Once l c) ≡ true
+    → (rules_of k).sort ≡ locks.Once
 calls_once kind.TheVariants.Once l c h = refl
 calls_once k l c h = absurd cc
 
-pub calls_condvar : (k : Kind) (l : ℕ) (c : CondvarCall) → has_call k (call.TheVariants.Condvar l c) ≡ true → (rules_of k).sort ≡ locks.Condvar
+pub calls_condvar : (k : Kind) (l : ℕ) (c : CondvarCall) → has_call k (call.TheVariants.Condvar l c) ≡ true
+    → (rules_of k).sort ≡ locks.Condvar
 calls_condvar kind.TheVariants.Condvar l c h = refl
 calls_condvar k l c h = absurd cc

@@ -43,7 +43,9 @@ aside_read Semaphore v h = absurd cc
 aside_read Once v h = absurd cc
 aside_read Condvar v h = absurd cc
 
-module _ (w : State) (t l : ℕ) (steady : IsSteady w) (own : IsOf l (place_at w t)) (there : t < length w.places) (r : Rules) (rules : rules_in w l ≡ r) (p2 : Place) (of : IsOf l p2) (fits : FitsItsLock w p2) (readers : has_readers r.sort ≡ true) (p : Place) (f : Op) (ds : List Deed) where
+module _ (w : State) (t l : ℕ) (steady : IsSteady w) (own : IsOf l (place_at w t)) (there : t < length w.places) (r : Rules)
+    (rules : rules_in w l ≡ r) (p2 : Place) (of : IsOf l p2) (fits : FitsItsLock w p2) (readers : has_readers r.sort ≡ true)
+    (p : Place) (f : Op) (ds : List Deed) where
   -- the site behind the deeds
   abbrev behind : Site
   behind = after_acts r (acts t ds) (lock_by w l r)
@@ -81,6 +83,7 @@ module _ (w : State) (t l : ℕ) (steady : IsSteady w) (own : IsOf l (place_at w
         (sym law.doing ∙ sym (ap (λ (s : Site). s.doing t) (after_same r ds (lock_by w l r) t)))
 
     -- so every lock is a site again
-    pub lawful_goes : l < length w.locks → NoHandOff ds → taken_at (place_at w t) l ≡ taken_at p2 l → station p2 ≡ station (place_at w t) → Goes w (put (state_after_operation w t p l f) t p2) l (acts t ds)
+    pub lawful_goes : l < length w.locks → NoHandOff ds → taken_at (place_at w t) l ≡ taken_at p2 l
+        → station p2 ≡ station (place_at w t) → Goes w (put (state_after_operation w t p l f) t p2) l (acts t ds)
     lawful_goes lt plain hand e = word_goes w t l steady own there r rules p2 of fits p lt (rw steady.numbers.locks lt) f ds (λ h. plain) (steps hand)
         (coded ∙ sym (ap (code r) (steps hand).site)) e

@@ -94,6 +94,8 @@ pub mod Possible
 pub mod RwLockEvents
 pub mod RwLockGoes
 pub mod CountsPut
+pub mod RwLockLate
+pub mod CallBegins
 pub mod LockSteps
 pub mod OneThing
 pub mod ShownMutex

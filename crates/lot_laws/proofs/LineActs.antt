@@ -91,7 +91,9 @@ takes_here l s a h = tt
 
 -- ---------------------------------------------------------------- each place
 
-decides : (l x : ℕ) (s : Station) (a b : Bool) → IsLineAct l s (if not a then act.Word l (op.TheVariants.Exchange x (x + 1)) else if b then act.Word l (op.TheVariants.Exchange 1 3) else act.Enter (One (2 * l)))
+decides : (l x : ℕ) (s : Station) (a b : Bool)
+    → IsLineAct l s
+    (if not a then act.Word l (op.TheVariants.Exchange x (x + 1)) else if b then act.Word l (op.TheVariants.Exchange 1 3) else act.Enter (One (2 * l)))
 decides l x s false b = tt
 decides l x s true true = tt
 decides l x s true false = (Main, refl)
@@ -116,7 +118,8 @@ mutex_lines l TryLock = tt
 mutex_lines l UnlockFair = tt
 mutex_lines l Bump = tt
 
-park_lines : (l : ℕ) (a : Admission) (p : RwLockPlace) (m : Line) (to : ParkAt) → p.at ≡ parks_at m to → IsLineAct l (station_by (rwlock_profile a p)) (park_act l a (want_at p) m to)
+park_lines : (l : ℕ) (a : Admission) (p : RwLockPlace) (m : Line) (to : ParkAt) → p.at ≡ parks_at m to
+    → IsLineAct l (station_by (rwlock_profile a p)) (park_act l a (want_at p) m to)
 park_lines l a p Main parking.Check is = ((Main, ap (λ x. (doing_at (again_of p) p.purpose x).inside) is, refl), inl (ap stands_at is))
 park_lines l a p Second parking.Check is = ((Second, ap (λ x. (doing_at (again_of p) p.purpose x).inside) is, refl), inl (ap stands_at is))
 park_lines l a p Main (parking.Leave true) is = (Main, ap (λ x. (doing_at (again_of p) p.purpose x).inside) is, refl)
@@ -129,7 +132,8 @@ park_lines l a p Main parking.GiveUp is = (Main, ap (λ x. (doing_at (again_of p
 park_lines l a p Second parking.GiveUp is = (Second, ap (λ x. (doing_at (again_of p) p.purpose x).inside) is, refl)
 park_lines l a p m to is = tt
 
-rwlock_lines : (l : ℕ) (a : Admission) (p : RwLockPlace) (to : RwLockAt) → p.at ≡ to → IsLineAct l (station_by (rwlock_profile a p)) (act_at l a p to)
+rwlock_lines : (l : ℕ) (a : Admission) (p : RwLockPlace) (to : RwLockAt) → p.at ≡ to
+    → IsLineAct l (station_by (rwlock_profile a p)) (act_at l a p to)
 rwlock_lines l a p at.First is = tt
 rwlock_lines l a p at.Load is = tt
 rwlock_lines l a p at.Look is = tt
@@ -144,7 +148,8 @@ rwlock_lines l a p (at.Decide seen) is = by_decision (decided a p seen)
     by_decision (decisions.Refuse x) = tt
 rwlock_lines l a p (at.Count seen) is = either (has_aside seen)
   where
-    either : (b : Bool) → IsLineAct l (station_by (rwlock_profile a p)) (if b then act.Enter (One (2 * l + 1)) else exchange l seen (plus seen 2))
+    either : (b : Bool)
+        → IsLineAct l (station_by (rwlock_profile a p)) (if b then act.Enter (One (2 * l + 1)) else exchange l seen (plus seen 2))
     either true = (Second, refl)
     either false = tt
 rwlock_lines l a p (at.Park to) is = park_lines l a p Main to is
@@ -155,7 +160,8 @@ rwlock_lines l a p (at.Wake m waking.Take) is = (m, ap (λ x. (doing_at (again_o
 rwlock_lines l a p (at.Wake m (waking.Clear any)) is = tt
 rwlock_lines l a p (at.Wake m (waking.Leave any)) is = (m, ap (λ x. (doing_at (again_of p) p.purpose x).inside) is, refl)
 
-hand_over_lines : (l : ℕ) (a : Admission) (x : Access) (b : Bool) (to : HandOverAt) → IsLineAct l (station_by (call_profile a (places.HandOver x b to))) (hand_over_act l a x to)
+hand_over_lines : (l : ℕ) (a : Admission) (x : Access) (b : Bool) (to : HandOverAt)
+    → IsLineAct l (station_by (call_profile a (places.HandOver x b to))) (hand_over_act l a x to)
 hand_over_lines l a x b handing.Load = tt
 hand_over_lines l a x b (handing.Free seen) = tt
 hand_over_lines l a x b handing.Enter = (Main, refl)
@@ -165,7 +171,9 @@ hand_over_lines l a x b (handing.Look k) = tt
 hand_over_lines l a x b (handing.Leave any given) = (Main, refl, refl)
 hand_over_lines l a x b (handing.Exchange k seen) = either (has_room a.limit k seen)
   where
-    either : (c : Bool) → IsLineAct l (station_by (call_profile a (places.HandOver x b (handing.Exchange k seen)))) (if c then act.HandOver l (op.TheVariants.Exchange seen (with_taken x k seen)) else act.Word l (op.TheVariants.Exchange seen (parked_as k.none_left (fair.without x seen))))
+    either : (c : Bool)
+        → IsLineAct l (station_by (call_profile a (places.HandOver x b (handing.Exchange k seen))))
+        (if c then act.HandOver l (op.TheVariants.Exchange seen (with_taken x k seen)) else act.Word l (op.TheVariants.Exchange seen (parked_as k.none_left (fair.without x seen))))
     either true = tt
     either false = tt
 
@@ -182,7 +190,8 @@ call_lines l a (places.Handed access.Upgradable how b handed.Accept) = tt
 pub once_lines : (l : ℕ) (at : OncePlace) → IsLineAct l (station_by (once_profile at)) (once_act l at)
 once_lines l (Look c again (look_at.Decide seen)) = by_course (course_of c seen)
   where
-    by_course : (course : Course) → IsLineAct l (station_by (once_profile (Look c again (look_at.Decide seen)))) (course_act l seen course)
+    by_course : (course : Course)
+        → IsLineAct l (station_by (once_profile (Look c again (look_at.Decide seen)))) (course_act l seen course)
     by_course (courses.Ends answer) = tt
     by_course courses.Runs = tt
     by_course courses.Marks = tt
@@ -204,10 +213,12 @@ line_act (Condvar k at) l single h = absurd single
 line_act (Mutex k at) l single h = let e : k ≡ l = cc in subst (λ j. IsLineAct j (mutex_station at) (mutex_act k at)) e (mutex_lines k at)
 
 -- a thread that may be late sleeps in a line of its lock
-pub late_line : (p : Place) (key : ℕ) → IsSingle p → late_key p ≡ Some key → (l : ℕ) × (lock_of p ≡ Some l) × ((m : Line) × ((profile p).late_line ≡ Some m) × (key ≡ key_of l m))
+pub late_line : (p : Place) (key : ℕ) → IsSingle p → late_key p ≡ Some key
+    → (l : ℕ) × (lock_of p ≡ Some l) × ((m : Line) × ((profile p).late_line ≡ Some m) × (key ≡ key_of l m))
 late_line p key single h = by_lock (lock_of p) (profile p).late_line (sym (single_late p single) ∙ h)
   where
-    by_lock : (o : Option ℕ) (x : Option Line) → key_in o x ≡ Some key → (l : ℕ) × (o ≡ Some l) × ((m : Line) × (x ≡ Some m) × (key ≡ key_of l m))
+    by_lock : (o : Option ℕ) (x : Option Line) → key_in o x ≡ Some key
+        → (l : ℕ) × (o ≡ Some l) × ((m : Line) × (x ≡ Some m) × (key ≡ key_of l m))
     by_lock (Some l) (Some m) e = (l, refl, (m, refl, cc))
     by_lock (Some l) None e = absurd cc
     by_lock None (Some m) e = absurd cc
@@ -247,7 +258,8 @@ module _ (w : State) (t l : ℕ) (steady : IsSteady w) (is_of : IsOf l (place_at
   holds_line key h = ap (section_at w) h.2 ∙ (steady.stands.sections t l h.0).0 (ap (λ (x : Station). x.inside) (station_here l (place_at w t) is_of) ∙ h.1)
 
   -- in no queue but that of its section it stands
-  stood_out : (k : ℕ) (m n : Line) → (station (place_at w t)).inside ≡ Some m → StandsThere (station (place_at w t)) → key_of k n ≢ key_of l m → times t (queue_at w (key_of k n)) ≡ 0
+  stood_out : (k : ℕ) (m n : Line) → (station (place_at w t)).inside ≡ Some m → StandsThere (station (place_at w t))
+      → key_of k n ≢ key_of l m → times t (queue_at w (key_of k n)) ≡ 0
   stood_out k m n within stands ne = steady.stands.lines t k n ∙ elim (cases_eq k l) [
     | inl e ↦ ap (λ (x : Station). stood_in x.stands n) (ap (station_at (place_at w t)) e ∙ station_here l (place_at w t) is_of) ∙ here stands (λ f. ne (λ i. key_of (e i) (f i)))
     | inr nk ↦ ap (λ (x : Station). stood_in x.stands n) (station_elsewhere l k (place_at w t) is_of nk)
@@ -264,7 +276,8 @@ module _ (w : State) (t l : ℕ) (steady : IsSteady w) (is_of : IsOf l (place_at
       here (inr same) f = ap (λ x. stood_in x n) (same ∙ within) ∙ other n m f
 
   -- so where it leaves the queues, only that one changes
-  pub removed_at : (m : Line) → (station (place_at w t)).inside ≡ Some m → StandsThere (station (place_at w t)) → (key : ℕ) → (get_or (map (without t) w.queues) key [] ≡ queue_at w key) ⊎ (section_at w key ≡ Some t)
+  pub removed_at : (m : Line) → (station (place_at w t)).inside ≡ Some m → StandsThere (station (place_at w t)) → (key : ℕ)
+      → (get_or (map (without t) w.queues) key [] ≡ queue_at w key) ⊎ (section_at w key ≡ Some t)
   removed_at m within stands key = let of = line_of_key key in elim (cases_eq (key_of of.0 of.1) (key_of l m)) [
     | inl e ↦ inr (holds_line key (m, within, of.2 ∙ e))
     | inr ne ↦ inl (ap (λ k. get_or (map (without t) w.queues) k []) of.2 ∙ get_or-map (without t) w.queues (key_of of.0 of.1) [] ∙ without_absent t (queue_at w (key_of of.0 of.1)) (stood_out of.0 m of.1 within stands ne) ∙ sym (ap (queue_at w) of.2))

@@ -64,15 +64,19 @@ module _ (w : State) (t l : ℕ) (p : Place) (v : ℕ) (q : Line → List Waiter
   possible : can_do w (act_of p) ≡ true → is_possible w (go_of t) ≡ true
   possible can = rw (lt-ltb t (length w.places) f.thread, f.place) can
 
-  goes : can_do w (act_of p) ≡ true → after w (go_of t) ≡ put (state_after_act w t p (act_of p)) t (next_place p (reply_to w t (act_of p)))
+  goes : can_do w (act_of p) ≡ true
+      → after w (go_of t) ≡ put (state_after_act w t p (act_of p)) t (next_place p (reply_to w t (act_of p)))
   goes can = ap (λ b. if b then state_after_go w t else w) (possible can) ∙ ap (state_after_going w t) f.place ∙ goes_from_there w t p f.place f.single
 
   told : can_do w (act_of p) ≡ true → step_outcome w (go_of t) ≡ outcome_of (next_act p (reply_to w t (act_of p)))
   told can = ap (λ b. if b then go_outcome w t else outcome.NotNow) (possible can) ∙ ap (going_outcome w t) f.place ∙ told_from_there w t p f.place f.single
 
   -- where the act leads to b, and its reply is this
-  comes : (b : State) (reply : Reply) (v2 : ℕ) (q2 : Line → List Waiter) → can_do w (act_of p) ≡ true → state_after_act w t p (act_of p) ≡ b → reply_to w t (act_of p) ≡ reply → word_at b l ≡ v2 → ((m : Line) → queue_at b (key_of l m) ≡ q2 m)
-      → ((m : Line) (u : ℕ) → section_at b (key_of l m) ≡ Some u → u ≡ t) → Comes w t l (next_place p reply) (outcome_of (next_act p reply)) v2 q2
+  comes : (b : State) (reply : Reply) (v2 : ℕ) (q2 : Line → List Waiter) → can_do w (act_of p) ≡ true
+      → state_after_act w t p (act_of p) ≡ b → reply_to w t (act_of p) ≡ reply → word_at b l ≡ v2
+      → ((m : Line) → queue_at b (key_of l m) ≡ q2 m)
+      → ((m : Line) (u : ℕ) → section_at b (key_of l m) ≡ Some u → u ≡ t)
+      → Comes w t l (next_place p reply) (outcome_of (next_act p reply)) v2 q2
   comes b reply v2 q2 can does heard word queue way = (
     told can ∙ ap (λ r. outcome_of (next_act p r)) heard,
     record {
@@ -98,12 +102,14 @@ module _ (w : State) (t l : ℕ) (p : Place) (v : ℕ) (q : Line → List Waiter
       places = ap (λ (x : State). length x.places) (sym does) ∙ (performed_counts w t p (act_of p)).0
 
   -- a step on the word
-  pub word_comes : (x : Op) → act_of p ≡ act.Word l x → Comes w t l (next_place p (Value v)) (outcome_of (next_act p (Value v))) (apply x v) q
+  pub word_comes : (x : Op) → act_of p ≡ act.Word l x
+      → Comes w t l (next_place p (Value v)) (outcome_of (next_act p (Value v))) (apply x v) q
   word_comes x is = comes (state_after_operation w t p l x) (Value v) (apply x v) q (rw is refl) (ap (state_after_act w t p) is) (ap (reply_to w t) is ∙ ap Value f.word)
       (ap (λ y. y.word) (get_or-set_same w.locks l _ (unlocked kind.Mutex) f.lock) ∙ ap (apply x) f.word) f.queue f.way
 
   -- a right is handed over to those in hand, or an exchange fails
-  pub hand_comes : (x : Op) → act_of p ≡ act.HandOver l x → Comes w t l (next_place p (Value v)) (outcome_of (next_act p (Value v))) (apply x v) q
+  pub hand_comes : (x : Op) → act_of p ≡ act.HandOver l x
+      → Comes w t l (next_place p (Value v)) (outcome_of (next_act p (Value v))) (apply x v) q
   hand_comes x is = by_effect (takes_effect x (word_at w l)) refl
     where
       word : (b : Bool) → word_at (state_after_hand_over_by b w t p l x) l ≡ apply x v
@@ -118,7 +124,8 @@ module _ (w : State) (t l : ℕ) (p : Place) (v : ℕ) (q : Line → List Waiter
       way true m u e = f.way m u e
       way false m u e = f.way m u e
 
-      by_effect : (b : Bool) → takes_effect x (word_at w l) ≡ b → Comes w t l (next_place p (Value v)) (outcome_of (next_act p (Value v))) (apply x v) q
+      by_effect : (b : Bool) → takes_effect x (word_at w l) ≡ b
+          → Comes w t l (next_place p (Value v)) (outcome_of (next_act p (Value v))) (apply x v) q
       by_effect b e = comes (state_after_hand_over_by b w t p l x) (Value v) (apply x v) q (rw is refl) (ap (state_after_act w t p) is ∙ ap (λ b. state_after_hand_over_by b w t p l x) e) (ap (reply_to w t) is ∙ ap Value f.word) (word b) (queue b) (way b)
 
   -- it was handed the lock
@@ -126,14 +133,16 @@ module _ (w : State) (t l : ℕ) (p : Place) (v : ℕ) (q : Line → List Waiter
   accept_comes is = comes w Done v q (rw is refl) (ap (state_after_act w t p) is) (ap (reply_to w t) is) f.word f.queue f.way
 
   -- somebody is inside the section of a line then, or nobody
-  way_then : (m : Line) (who : Option ℕ) → ((u : ℕ) → who ≡ Some u → u ≡ t) → (n : Line) (u : ℕ) → section_at (state_with_sections w (One (key_of l m)) who) (key_of l n) ≡ Some u → u ≡ t
+  way_then : (m : Line) (who : Option ℕ) → ((u : ℕ) → who ≡ Some u → u ≡ t) → (n : Line) (u : ℕ)
+      → section_at (state_with_sections w (One (key_of l m)) who) (key_of l n) ≡ Some u → u ≡ t
   way_then Main who mine Main u e = mine u (sym (get_or-set_same w.sections (2 * l) who None (key_there w l Main f.shape f.lock)) ∙ e)
   way_then Second who mine Second u e = mine u (sym (get_or-set_same w.sections (2 * l + 1) who None (key_there w l Second f.shape f.lock)) ∙ e)
   way_then Main who mine Second u e = f.way Second u (sym (get_or-set_other w.sections (2 * l) (2 * l + 1) who None (λ h. omega arith)) ∙ e)
   way_then Second who mine Main u e = f.way Main u (sym (get_or-set_other w.sections (2 * l + 1) (2 * l) who None (λ h. omega arith)) ∙ e)
 
   -- into a section that is free
-  pub enter_comes : (m : Line) → act_of p ≡ act.Enter (One (key_of l m)) → section_at w (key_of l m) ≡ None → Comes w t l (next_place p Done) (outcome_of (next_act p Done)) v q
+  pub enter_comes : (m : Line) → act_of p ≡ act.Enter (One (key_of l m)) → section_at w (key_of l m) ≡ None
+      → Comes w t l (next_place p Done) (outcome_of (next_act p Done)) v q
   enter_comes m is free = comes (state_with_sections w (One (key_of l m)) (Some t)) Done v q (rw (is, free) refl) (ap (state_after_act w t p) is) (ap (reply_to w t) is) f.word f.queue
       (way_then m (Some t) (λ u e. let g : t ≡ u = cc in sym g))
 
@@ -141,16 +150,19 @@ module _ (w : State) (t l : ℕ) (p : Place) (v : ℕ) (q : Line → List Waiter
   nobody u e = cc
 
   -- and out of it, with whomever it has in hand
-  pub leave_comes : (m : Line) (wakes : Wakes) → act_of p ≡ act.Leave (One (key_of l m)) wakes → Comes w t l (next_place p Done) (outcome_of (next_act p Done)) v q
+  pub leave_comes : (m : Line) (wakes : Wakes) → act_of p ≡ act.Leave (One (key_of l m)) wakes
+      → Comes w t l (next_place p Done) (outcome_of (next_act p Done)) v q
   leave_comes m wakes is = by_wakes wakes is
     where
-      by_wakes : (x : Wakes) → act_of p ≡ act.Leave (One (key_of l m)) x → Comes w t l (next_place p Done) (outcome_of (next_act p Done)) v q
+      by_wakes : (x : Wakes) → act_of p ≡ act.Leave (One (key_of l m)) x
+          → Comes w t l (next_place p Done) (outcome_of (next_act p Done)) v q
       by_wakes notes.Nobody is = comes (state_with_sections w (One (key_of l m)) None) Done v q (rw is refl) (ap (state_after_act w t p) is) (ap (reply_to w t) is) f.word f.queue (way_then m None nobody)
       by_wakes (notes.All note) is = comes (state_after_wake (state_with_sections w (One (key_of l m)) None) t (notes.All note)) Done v q (rw is refl) (ap (state_after_act w t p) is) (ap (reply_to w t) is) f.word f.queue (way_then m None nobody)
 
   -- the check holds, and it stands somewhere in the lines then
   pub park_comes : (key : ℕ) (check : Check) (x : Want) (b : Bool) → act_of p ≡ act.Park l key check x → holds check v ≡ b
-      → Comes w t l (next_place p (Parked b)) (outcome_of (next_act p (Parked b))) v (λ m. queue_at (if b then record w { queues = queues_with_last w.queues key t x } else w) (key_of l m))
+      → Comes w t l (next_place p (Parked b)) (outcome_of (next_act p (Parked b))) v
+      (λ m. queue_at (if b then record w { queues = queues_with_last w.queues key t x } else w) (key_of l m))
   park_comes key check x b is h = by_check b (ap (holds check) f.word ∙ h)
     where
       by_check : (b : Bool) → holds check (word_at w l) ≡ b → Comes w t l (next_place p (Parked b)) (outcome_of (next_act p (Parked b))) v (λ m. queue_at (if b then record w { queues = queues_with_last w.queues key t x } else w) (key_of l m))
@@ -158,11 +170,17 @@ module _ (w : State) (t l : ℕ) (p : Place) (v : ℕ) (q : Line → List Waiter
       by_check false e = comes w (Parked false) v _ (rw is refl) (ap (state_after_act w t p) is ∙ ap (λ c. if c then record w { queues = queues_with_last w.queues key t x } else w) e) (ap (reply_to w t) is ∙ ap Parked e) f.word (λ m. refl) f.way
 
   -- it leaves its line, or takes others of one
-  pub remove_comes : (key : ℕ) → act_of p ≡ act.Remove key → Comes w t l (next_place p (reply_to w t (act.Remove key))) (outcome_of (next_act p (reply_to w t (act.Remove key)))) v (λ m. queue_at (state_after_act w t p (act.Remove key)) (key_of l m))
+  pub remove_comes : (key : ℕ) → act_of p ≡ act.Remove key
+      → Comes w t l (next_place p (reply_to w t (act.Remove key))) (outcome_of (next_act p (reply_to w t (act.Remove key)))) v
+      (λ m. queue_at (state_after_act w t p (act.Remove key)) (key_of l m))
   remove_comes key is = comes (state_after_act w t p (act.Remove key)) (reply_to w t (act.Remove key)) v _ (rw is refl) (ap (state_after_act w t p) is) (ap (reply_to w t) is) f.word (λ m. refl) f.way
 
-  pub take_comes : (key : ℕ) (whom : Whom) → act_of p ≡ act.Take key whom → word_at (state_after_take w t key whom) l ≡ word_at w l → ((k : ℕ) → section_at (state_after_take w t key whom) k ≡ section_at w k)
-      → Comes w t l (next_place p (reply_to w t (act.Take key whom))) (outcome_of (next_act p (reply_to w t (act.Take key whom)))) v (λ m. queue_at (state_after_take w t key whom) (key_of l m))
+  pub take_comes : (key : ℕ) (whom : Whom) → act_of p ≡ act.Take key whom
+      → word_at (state_after_take w t key whom) l ≡ word_at w l
+      → ((k : ℕ) → section_at (state_after_take w t key whom) k ≡ section_at w k)
+      → Comes w t l (next_place p (reply_to w t (act.Take key whom)))
+      (outcome_of (next_act p (reply_to w t (act.Take key whom)))) v
+      (λ m. queue_at (state_after_take w t key whom) (key_of l m))
   take_comes key whom is word sections = comes (state_after_take w t key whom) (reply_to w t (act.Take key whom)) v _ (rw is refl) (ap (state_after_act w t p) is) (ap (reply_to w t) is) (word ∙ f.word) (λ m. refl) (λ m u e. f.way m u (sym (sections (key_of l m)) ∙ e))
 
   -- a thread that stands in no line is the last of one where it parks

@@ -146,10 +146,12 @@ untaken_by s t u none = by_hand (s.taken u) none
         either true e = absurd (other h.want (let f : h.by ≡ t = eqb-true h.by t e in λ i. Some (record { by = f i; want = h.want })))
 
 -- who is taken at a lock calls it, and is in the hand of t
-taken_hand : (p : Place) (t l : ℕ) → IsSingle p → is_taken_by t (taken_at p l) ≡ true → ((profile p).hand ≡ hand t false) × (calls p l ≡ true)
+taken_hand : (p : Place) (t l : ℕ) → IsSingle p → is_taken_by t (taken_at p l) ≡ true
+    → ((profile p).hand ≡ hand t false) × (calls p l ≡ true)
 taken_hand p t l single h = by_row (profile p).hand (profile p).wants (calls p l) (sym (ap (is_taken_by t) (single_taken p l single)) ∙ h)
   where
-    by_row : (o : Option Hand) (x : Option Want) (b : Bool) → is_taken_by t (taken_from o x b) ≡ true → (o ≡ hand t false) × (b ≡ true)
+    by_row : (o : Option Hand) (x : Option Want) (b : Bool) → is_taken_by t (taken_from o x b) ≡ true
+        → (o ≡ hand t false) × (b ≡ true)
     by_row None x b g = absurd cc
     by_row (Some (Of u true)) x b g = absurd cc
     by_row (Some (Of u false)) None b g = absurd cc
@@ -255,7 +257,8 @@ module _ (w v : State) (t l : ℕ) where
 
 -- ---------------------------------------------------------------- it hands its right over
 
-module _ (w v : State) (t l : ℕ) (to : Option ℕ) (h : Happens w v t (AtLock l (HandsOff Exclusive (heir to)))) (rules : rules_in w l ≡ mutex) (awake : taken_at (place_at w t) l ≡ None) where
+module _ (w v : State) (t l : ℕ) (to : Option ℕ) (h : Happens w v t (AtLock l (HandsOff Exclusive (heir to))))
+    (rules : rules_in w l ≡ mutex) (awake : taken_at (place_at w t) l ≡ None) where
   state : IsLockState mutex (lock_state w l)
   state = let s : IsLockState (rules_in w l) (lock_state w l) = (h.before.sites.site l).state in rw rules at s
 
@@ -277,7 +280,8 @@ module _ (w v : State) (t l : ℕ) (to : Option ℕ) (h : Happens w v t (AtLock 
   apart : to ≢ Some t
   apart e = let g : taken_at (place_at w t) l ≡ Some (record { by = t; want = Exclusive }) = heir_of t e in let none : taken_at (place_at w t) l ≡ None = awake in cc
 
-  led_to : (u : ℕ) (x : Rights) → rights_of (locks.handed t Exclusive (heir to) (lock_state w l)) u ≡ x → (k : ℕ) → rights v u k ≡ putting (rights w u) l x k
+  led_to : (u : ℕ) (x : Rights) → rights_of (locks.handed t Exclusive (heir to) (lock_state w l)) u ≡ x → (k : ℕ)
+      → rights v u k ≡ putting (rights w u) l x k
   led_to u x e k = rights_led w v t l (Some (HandsOff Exclusive (heir to))) h u k ∙ ap (λ y. putting (rights w u) l y k) e
 
   -- the heir has the right that it didn't have
@@ -334,18 +338,23 @@ module _ (w v : State) (t l : ℕ) (to : Option ℕ) (h : Happens w v t (AtLock 
         by_place (RwLock k a c) is = of_one (RwLock k a c) is tt (calls_mutex_at w l (RwLock k a c) (subst (FitsItsLock w) is (h.before.stands.calls u)) rules)
         by_place (Once k at) is = of_one (Once k at) is tt (calls_mutex_at w l (Once k at) (subst (FitsItsLock w) is (h.before.stands.calls u)) rules)
 
-  pub hands_others : (alone : Bool) → Befalls w v t l (HandedBy t alone) → OthersFollow w v t (AtLock l (HandsOff Exclusive (heir to)))
+  pub hands_others : (alone : Bool) → Befalls w v t l (HandedBy t alone)
+      → OthersFollow w v t (AtLock l (HandsOff Exclusive (heir to)))
   hands_others alone befalls u ne = ap (λ p. call_state p (rights v u)) (befalls u ne) ∙ either (cases_to to)
     where
       cases_to : (o : Option ℕ) → (o ≡ Some u) ⊎ (o ≢ Some u)
       cases_to None = inr (λ e. cc)
       cases_to (Some x) = elim (cases_eq x u) [ inl e ↦ inl (ap Some e) | inr ne ↦ inr (λ e. ne cc) ]
 
-      either : ((to ≡ Some u) ⊎ (to ≢ Some u)) → call_state (if is_taken_by t (taken_at (place_at w u) l) then next_place (place_at w u) (HandedBy t alone) else place_at w u) (rights v u)
+      either : ((to ≡ Some u) ⊎ (to ≢ Some u))
+          → call_state
+          (if is_taken_by t (taken_at (place_at w u) l) then next_place (place_at w u) (HandedBy t alone) else place_at w u)
+          (rights v u)
           ≡ (if is_taken_by t (taken_at (place_at w u) l) then record (call_state (place_at w u) (rights w u)) { retries = None; recalls = behind_wake (call_state (place_at w u) (rights w u)).recalls } else call_state (place_at w u) (rights w u))
       either (inl e) = let taken : is_taken_by t (taken_at (place_at w u) l) ≡ true = rw (heir_of u e) (same t) in rw taken (handed_goes_on u e ne alone taken)
       either (inr other) = rw (no_heir u other) (ap (call_state (place_at w u)) (λ i k. (led_to u (rights w u l) (neither (lock_state w l) t state to h.needs.0 apart u ne other) k ∙ put_same (rights w u) l (rights w u l) refl k) i))
 
 -- who has an heir that isn't itself gives its right up
-pub gives_right : (s : Site) (t : ℕ) (to : Option ℕ) → IsSite mutex s → Needs mutex (HandsOff Exclusive (heir to)) s.lock t → s.lock.taken t ≡ None → with_right Exclusive (rights_of (locks.handed t Exclusive (heir to) s.lock) t) ≡ rights_of s.lock t
+pub gives_right : (s : Site) (t : ℕ) (to : Option ℕ) → IsSite mutex s → Needs mutex (HandsOff Exclusive (heir to)) s.lock t
+    → s.lock.taken t ≡ None → with_right Exclusive (rights_of (locks.handed t Exclusive (heir to) s.lock) t) ≡ rights_of s.lock t
 gives_right s t to site needs awake = gave s.lock t site.state to needs.0 (λ e. let g : s.lock.taken t ≡ Some (record { by = t; want = Exclusive }) = ((needs.2 t Exclusive).0 (ap heir e)).0 in let none : s.lock.taken t ≡ None = awake in cc)

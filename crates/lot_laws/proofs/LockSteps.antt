@@ -1,8 +1,9 @@
 -- Each turn of a thread is a step of the abstract locks.
 use Rattle.std.proofs.Common.{◌≤◌, ◌++◌, arith, ℕ, Bool, true, false, Option, Some, None, if◌then◌else◌, ◌==◌, ◌&&◌, not, ◌≡◌, ◌≢◌, ◌+◌, ◌*◌, ◌<◌, ◌↔◌, inl, inr, List, [], ◌∷◌, length, refl, sym, ◌∙◌, ap, subst, get_or-set_other, get_or-set_same, length-set, nat_lt, is_some}
+use Rattle.lot_laws.proofs.CallBegins.{begin_goes, begin_possible}
+use Rattle.lot_laws.proofs.RwLockLate.{call_late, late_row}
 use Rattle.lot_laws.proofs.Possible.{begins_outside, closure_gone, late_outside}
 use Rattle.abstract_locks.specs.Runs.{AtLock}
-use Rattle.abstract_locks.specs.Purposes.{rules_of}
 use Rattle.abstract_locks.specs.Codes.{is_marked}
 use Rattle.lot_laws.proofs.OnceGoes.{closes_event, step_event}
 use Rattle.lot_laws.proofs.Looking.{alike_event, closing_here, closing_steady, like}
@@ -21,27 +22,19 @@ use Rattle.lot_laws.proofs.MutexRows.{mutex_promises}
 use Rattle.lot_laws.proofs.RowPromises.{RowPromises}
 use Rattle.lot_laws.proofs.CallEvents.{RunsNothing, begins_nothing, runs_nothing}
 use Rattle.abstract_locks.specs.Runs.{is_closure}
-use Rattle.abstract_locks.specs.Purposes.{once_purpose}
 use Rattle.lot_calls.specs.declared.calls.OnceCall.TheVariants as once_call
-use Rattle.lot_calls.specs.declared.calls.OnceCall.{OnceCall}
 use Rattle.lot_once.specs.declared.places.OncePlace.TheVariants.{Look, Run}
 use Rattle.lot_once.specs.declared.places.OncePlace.{OncePlace}
-use Rattle.lot_once.specs.OnceSteps.{once_first}
 use Rattle.lot_once.specs.OnceProfiles.{once_profile}
 use Rattle.lot_laws.proofs.OnceOwing.{once_never_late}
 use Rattle.lot_laws.proofs.OnceGoes.{once_step}
 use Rattle.lot_acts.specs.Profiles.{taken_from}
-use Rattle.lot_rwlock.specs.declared.places.RwLockAt.TheVariants as at
-use Rattle.lot_rwlock.specs.declared.park.ParkAt.TheVariants as parking
 use Rattle.lot_base.specs.Keys.{key_of}
 use Rattle.lot_base.specs.declared.keys.Line.{Line}
-use Rattle.lot_rwlock.specs.declared.places.RwLockAt.{RwLockAt}
-use Rattle.lot_rwlock.specs.RwLockSteps.{rwlock_next, next_at, patience_of}
 use Rattle.lot_rwlock.specs.declared.places.Admission.{Admission}
-use Rattle.lot_rwlock.specs.declared.places.RwLockPlace.{RwLockPlace}
 use Rattle.lot_rwlock.specs.declared.purposes.RwLockPurpose.{RwLockPurpose}
 use Rattle.lot_rwlock.specs.declared.purposes.RwLockPurpose.TheVariants as purposes
-use Rattle.lot_rwlock.specs.RwLockProfiles.{purpose_by, rwlock_late_line, late_line_at, hand_at as rwlock_hand}
+use Rattle.lot_rwlock.specs.RwLockProfiles.{purpose_by}
 use Rattle.lot_rwlock.specs.RwLockDeeds.{Admits}
 use Rattle.abstract_locks.specs.Sites.{has_readers}
 use Rattle.abstract_locks.specs.Locks.{Mutex as Mutual}
@@ -49,21 +42,14 @@ use Rattle.std.proofs.lemmas.Bool.{ltb-true, lt-ltb}
 use Rattle.lot_base.specs.declared.keys.Keys.TheVariants.{One}
 use Rattle.lot_base.specs.declared.ops.Op as op
 use Rattle.lot_base.specs.declared.wants.Want.TheVariants.{Exclusive}
-use Rattle.lot_calls.specs.declared.kinds.Kind.{Kind}
-use Rattle.lot_calls.specs.declared.kinds.Kind as kind
 use Rattle.lot_acts.specs.declared.acts.Act.{Act}
 use Rattle.lot_acts.specs.declared.acts.Act as act
 use Rattle.lot_acts.specs.declared.acts.Reply.TheVariants.{Value, Parked, HandedBy, Woken}
 use Rattle.lot_acts.specs.declared.acts.Reply.TheVariants as reply
-use Rattle.lot_calls.specs.declared.calls.Call.{Call}
-use Rattle.lot_calls.specs.declared.calls.Call as call
 use Rattle.lot_calls.specs.declared.calls.Turn.{Turn}
 use Rattle.lot_calls.specs.declared.calls.Turn as turn
 use Rattle.lot_calls.specs.declared.calls.Step.{Step}
-use Rattle.lot_calls.specs.declared.calls.MutexCall.{MutexCall}
-use Rattle.lot_calls.specs.declared.calls.MutexCall as mutex_call
 use Rattle.lot_calls.specs.Calls.{lock_in}
-use Rattle.lot_calls.specs.Kinds.{has_call, is_fair}
 use Rattle.lot_calls.specs.declared.outcomes.Outcome as outcome
 use Rattle.lot_mutex.specs.declared.lock.Entry.{Entry}
 use Rattle.lot_mutex.specs.declared.lock.Entry.TheVariants as entries
@@ -78,9 +64,9 @@ use Rattle.lot_mutex.specs.declared.hand_off.HandOffAt.TheVariants as hand_off
 use Rattle.lot_steps.specs.declared.places.Place.{Place}
 use Rattle.lot_steps.specs.declared.places.Place.TheVariants.{Idle, Mutex, RwLock, Once, Condvar}
 use Rattle.lot_acts.specs.Acts.{outcome_of}
-use Rattle.lot_mutex.specs.MutexSteps.{mutex_first, mutex_right, is_locked, is_parked, lock_act, unlock_act, hand_off_word, hand_off_act}
-use Rattle.lot_steps.specs.Steps.{act_of, next_place, next_act, mutex_goes, mutex_does, looking, late_key, is_idle, has_right, first_place, rwlock_goes, key_in, calls}
-use Rattle.lot_machine.specs.Machine.{unshared_then, hand_over_told, State, place_at, word_at, owners_at, kind_at, section_at, put, state_after_act, go_reply, state_after_operation, state_after_hand_over, state_with_sections, reply_to, can_do, state_after_look, look_outcome, state_after_go, state_after_going, go_outcome, going_outcome, state_after_late_on, is_free_under, state_after_begin, can_begin, is_open_to, can_turn, state_after_turn, turn_outcome, is_possible, after, step_outcome, share_at}
+use Rattle.lot_mutex.specs.MutexSteps.{is_locked, is_parked, lock_act, unlock_act, hand_off_word, hand_off_act}
+use Rattle.lot_steps.specs.Steps.{act_of, next_place, next_act, mutex_goes, mutex_does, looking, late_key, first_place, rwlock_goes, key_in, calls}
+use Rattle.lot_machine.specs.Machine.{unshared_then, hand_over_told, State, place_at, word_at, kind_at, section_at, put, state_after_act, go_reply, state_after_operation, state_after_hand_over, state_with_sections, reply_to, can_do, state_after_look, look_outcome, state_after_go, state_after_going, go_outcome, going_outcome, state_after_late_on, is_free_under, can_turn, state_after_turn, turn_outcome, is_possible, after, step_outcome}
 use Rattle.lot_machine.specs.Fits.{IsShaped, SameSize, PlaceFits, GivesUpTimed}
 use Rattle.lot_machine.proofs.Shape.{looking_shaped, after_size, both, performed_counts}
 use Rattle.lot_laws.proofs.Possible.{may_go, go_possible, may_be_late, late_possible, told_gone, told_step, begins_awake, turner_there, gone_sections, late_sections, late_awake}
@@ -88,29 +74,25 @@ use Rattle.lot_machine.proofs.Looks.{mutex_looks}
 use Rattle.lot_laws.proofs.CountsPut.{looking_counted}
 use Rattle.lot_laws.proofs.Looking.{here, looks_now, looking_steady, goes_as_before, stays_as_before}
 use Rattle.lot_laws.proofs.Closures.{closes_one, closure_told, mutex_runs_none, runs_one}
-use Rattle.lot_laws.specs.SitesOf.{site_of, AreCondvars, AreCounted, FitsCondvar, IsSteady, Goes, FitsItsLock, is_mutex, rules_in, carried_at}
+use Rattle.lot_laws.specs.SitesOf.{site_of, AreCondvars, AreCounted, FitsCondvar, IsSteady, Goes, FitsItsLock, rules_in, carried_at}
 use Rattle.abstract_locks.specs.Sites.{IsSite, Deed, Main, Mark, End, Case}
 use Rattle.abstract_locks.specs.Locks.{LockCase, Wake, Leave as GivesBack, HandOff as HandsOff, Rights, rights_of, standing}
-use Rattle.abstract_locks.specs.Runs.{LocksState, GoesOn, Stays, Looks, IsOfMutex, Does, SectionChanges, MayBegin, MayTurn, HasRight, Turned, IsStep, purpose_at, new_call, Nothing}
-use Rattle.abstract_locks.specs.Purposes.{purpose_of, mutex_purpose, rwlock_purpose}
+use Rattle.abstract_locks.specs.Runs.{GoesOn, Stays, Looks, IsOfMutex, Does, SectionChanges, MayTurn, Turned, IsStep, Nothing}
 use Rattle.lot_laws.specs.MutexDeeds.{mutex_row, mutex_station, mutex_deeds, lock_deeds, enters, hands_over, acts}
 use Rattle.lot_laws.specs.MutexDeeds as of_mutex
 use Rattle.lot_acts.specs.Calls.{ComesTo}
 use Rattle.abstract_locks.specs.Deeds.{AllNeeded, case_of, event_by, after_event}
 use Rattle.lot_laws.specs.Stations.{hand}
 use Rattle.lot_laws.specs.Refinement.{owner_at, lock_state, taken_at, call_state, locks_of, sleeps}
-use Rattle.lot_laws.proofs.KindsKept.{after_kinds, calls_mutex, calls_readers, calls_once}
-use Rattle.lot_laws.proofs.CondvarBegins.{condvar_begun, condvar_is_late, condvar_may}
+use Rattle.lot_laws.proofs.KindsKept.{after_kinds}
+use Rattle.lot_laws.proofs.CondvarBegins.{condvar_is_late}
 use Rattle.lot_laws.proofs.Placed.{placed}
-use Rattle.lot_laws.proofs.RwLockEvents.{rwlock_begins_with, rwlock_purpose_is, rwlock_right_held, rwlock_right_needed, rwlock_step, rwlock_untaken_first}
-use Rattle.lot_rwlock.specs.RwLockBegins.{admission_of}
+use Rattle.lot_laws.proofs.RwLockEvents.{rwlock_step}
 use Rattle.lot_rwlock_fair.specs.declared.places.RwLockCallPlace.{RwLockCallPlace}
 use Rattle.lot_rwlock_fair.specs.declared.places.RwLockCallPlace.TheVariants.{Plain, Glance, HandOver, Bump as BumpCall, Handed}
 use Rattle.lot_rwlock_fair.specs.FairCalls.{CallStands}
-use Rattle.lot_rwlock_fair.specs.FairProfiles.{call_late_line, call_profile}
-use Rattle.lot_rwlock_fair.specs.FairSteps.{bump_next, call_next, plain_next}
+use Rattle.lot_rwlock_fair.specs.FairProfiles.{call_profile}
 use Rattle.lot_rwlock_fair.proofs.FairSleepers.{fair_sleepers_hear}
-use Rattle.lot_rwlock_fair.specs.FairBegins.{call_first, call_right}
 use Rattle.lot_acts.specs.declared.acts.Reply.{Reply}
 use Rattle.lot_mutex.specs.declared.places.MutexPlace.{MutexPlace}
 use Rattle.lot_mutex.specs.MutexSteps.{mutex_act, mutex_next}
@@ -119,7 +101,7 @@ use Rattle.lot_acts.specs.declared.acts.Next.TheVariants as next
 use Rattle.lot_acts.specs.declared.acts.Whom.TheVariants as whoms
 use Rattle.lot_condvar.specs.declared.places.CondvarPlace.{CondvarPlace}
 use Rattle.lot_condvar.specs.declared.places.CondvarPlace.TheVariants as condvars
-use Rattle.lot_laws.proofs.Glue.{IsSingle, is_owner, own_stance, single_or_two, thread_is}
+use Rattle.lot_laws.proofs.Glue.{IsSingle, own_stance, single_or_two}
 use Rattle.lot_laws.proofs.CondvarGo.{condvar_on}
 use Rattle.lot_laws.proofs.SameCondvars.{looking_condvars}
 use Rattle.lot_laws.proofs.Handed.{heir}
@@ -127,7 +109,6 @@ use Rattle.lot_laws.proofs.MutexTable.{mutex}
 use Rattle.lot_laws.proofs.StandsMoved.{mutex_rules}
 use Rattle.lot_laws.proofs.SitesKept.{go_by, single_at}
 use Rattle.lot_laws.proofs.GoneKept.{gone_goes}
-use Rattle.lot_laws.proofs.TurnsKept.{idle_is}
 use Rattle.lot_laws.proofs.AtPlaces.{coded, in_no_hand, own_doing}
 use Rattle.lot_laws.proofs.PlacePromises.{standing_by}
 use Rattle.lot_laws.proofs.CallEvents.{put_is, rights, Others, OthersFollow, Happens, LeadsTo, happens, needed_then, others_follow, goes_by}
@@ -136,48 +117,20 @@ use Rattle.lot_laws.proofs.OtherCalls.{IsLonely, IsCalm, lonely, takes, calm, be
 use Rattle.lot_laws.proofs.MutexCalls.{Tells, Rests, row_of}
 use Rattle.lot_laws.proofs.MutexEvents.{Hears, owned_word, mutex_tells, claims_at, deeds_are, are_claims}
 
--- ---------------------------------------------------------------- a reader-writer call whose time is up
-
--- it sleeps in a line, and stands there still
-late_place : (a : Admission) (p : RwLockPlace) (m : Line) → rwlock_late_line p ≡ Some m
-    → (p2 : RwLockPlace) × (rwlock_next a p reply.Late ≡ next.At p2) × (rwlock_hand p.at ≡ None) × (rwlock_hand p2.at ≡ None)
-late_place a p m h = by_place p.at refl h
-  where
-    by_place : (to : RwLockAt) → p.at ≡ to → late_line_at (patience_of p.purpose) to ≡ Some m
-        → (p2 : RwLockPlace) × (rwlock_next a p reply.Late ≡ next.At p2) × (rwlock_hand p.at ≡ None) × (rwlock_hand p2.at ≡ None)
-    by_place (at.Park parking.Asleep) e h = (record p { at = at.Park parking.Remove }, ap (λ x. next_at a p x reply.Late) e, ap rwlock_hand e, refl)
-    by_place (at.Aside parking.Asleep) e h = (record p { at = at.Aside parking.Remove }, ap (λ x. next_at a p x reply.Late) e, ap rwlock_hand e, refl)
-    by_place (at.Park to) e h = absurd cc
-    by_place (at.Aside to) e h = absurd cc
-    by_place to e h = absurd cc
-
-call_late : (a : Admission) (c : RwLockCallPlace) (m : Line) → call_late_line c ≡ Some m
-    → (d : RwLockCallPlace) × (call_next a c reply.Late ≡ next.At d) × ((call_profile a c).hand ≡ None) × ((call_profile a d).hand ≡ None)
-call_late a (Plain p) m h = let z = late_place a p m h in (Plain z.0, ap plain_next z.1, z.2, z.3)
-call_late a (BumpCall p) m h = let z = late_place a p m h in (BumpCall z.0, ap (bump_next p.purpose) z.1, z.2, z.3)
-call_late a (Glance x) m h = absurd cc
-call_late a (HandOver x b to) m h = absurd cc
-call_late a (Handed x how b to) m h = absurd cc
-
--- its line stands in its row
-late_row : (a : Admission) (c : RwLockCallPlace) → (call_profile a c).late_line ≡ call_late_line c
-late_row a (Plain p) = refl
-late_row a (BumpCall p) = refl
-late_row a (Glance x) = refl
-late_row a (HandOver x b to) = refl
-late_row a (Handed x how b to) = refl
-
 -- ---------------------------------------------------------------- a thread goes on
 
 module _ (w : State) (t : ℕ) (shape : IsShaped w) (steady : IsSteady w) (there : t < length w.places) where
   module _ (l : ℕ) (lt : l < length w.locks) (rules : rules_in w l ≡ mutex) where
     -- what it is told of its step
-    decided_hears : (e : Entry) (again : Bool) (x : ℕ) (a b : Bool) → Hears (site_of w l) t (Lock e again (Decide x)) (reply_to w t (if not a then act.TheVariants.Word l (op.TheVariants.Exchange x (x + 1)) else if b then act.TheVariants.Word l (op.TheVariants.Exchange 1 3) else act.TheVariants.Enter (One (2 * l))))
+    decided_hears : (e : Entry) (again : Bool) (x : ℕ) (a b : Bool)
+        → Hears (site_of w l) t (Lock e again (Decide x))
+        (reply_to w t (if not a then act.TheVariants.Word l (op.TheVariants.Exchange x (x + 1)) else if b then act.TheVariants.Word l (op.TheVariants.Exchange 1 3) else act.TheVariants.Enter (One (2 * l))))
     decided_hears e again x false b = tt
     decided_hears e again x true true = tt
     decided_hears e again x true false = tt
 
-    lock_hears : (e : Entry) (again : Bool) (a : LockAt) → can_do w (lock_act l a) ≡ true → GivesUpTimed (Lock e again a) → Hears (site_of w l) t (Lock e again a) (reply_to w t (lock_act l a))
+    lock_hears : (e : Entry) (again : Bool) (a : LockAt) → can_do w (lock_act l a) ≡ true → GivesUpTimed (Lock e again a)
+        → Hears (site_of w l) t (Lock e again a) (reply_to w t (lock_act l a))
     lock_hears e again First can timed = tt
     lock_hears e again Load can timed = tt
     lock_hears e again (Decide x) can timed = decided_hears e again x (is_locked x) (x == 1)
@@ -191,7 +144,8 @@ module _ (w : State) (t : ℕ) (shape : IsShaped w) (steady : IsSteady w) (there
     lock_hears e again Clear can timed = tt
     lock_hears e again GiveUp can timed = timed
 
-    hears : (at : MutexPlace) → place_at w t ≡ Mutex l at → can_do w (mutex_act l at) ≡ true → GivesUpTimed at → Hears (site_of w l) t at (reply_to w t (mutex_act l at))
+    hears : (at : MutexPlace) → place_at w t ≡ Mutex l at → can_do w (mutex_act l at) ≡ true → GivesUpTimed at
+        → Hears (site_of w l) t at (reply_to w t (mutex_act l at))
     hears (Lock e again a) is can timed = lock_hears e again a can timed
     hears TryLock is can timed = λ locked free. owned_word (word_at w l) (owner_at w l) (coded w steady l rules) locked free
     hears (Unlock unlock.Subtract) is can timed = tt
@@ -209,7 +163,8 @@ module _ (w : State) (t : ℕ) (shape : IsShaped w) (steady : IsSteady w) (there
     hears (HandOff bumping (hand_off.Leave true)) is can timed = tt
     hears (HandOff bumping (hand_off.Leave false)) is can timed = tt
 
-    module _ (at : MutexPlace) (is : place_at w t ≡ Mutex l at) (can : can_do w (mutex_act l at) ≡ true) (timed : GivesUpTimed at) where
+    module _ (at : MutexPlace) (is : place_at w t ≡ Mutex l at) (can : can_do w (mutex_act l at) ≡ true)
+        (timed : GivesUpTimed at) where
       abbrev told : Reply
       told = reply_to w t (mutex_act l at)
 
@@ -241,7 +196,8 @@ module _ (w : State) (t : ℕ) (shape : IsShaped w) (steady : IsSteady w) (there
       leads : LeadsTo behind t l (row_of (mutex_next at told)) (outcome_of (mutex_does l (mutex_next at told)))
       leads = by_next (mutex_next at told) (get_or-set_same (state_after_act w t (Mutex l at) (mutex_act l at)).places t _ Idle (rw (performed_counts w t (Mutex l at) (mutex_act l at)).0 there)) tells.rests
         where
-          by_next : (n : Next MutexPlace) → place_at behind t ≡ mutex_goes l n → Rests l n → LeadsTo behind t l (row_of n) (outcome_of (mutex_does l n))
+          by_next : (n : Next MutexPlace) → place_at behind t ≡ mutex_goes l n → Rests l n
+              → LeadsTo behind t l (row_of n) (outcome_of (mutex_does l n))
           by_next (next.At at2) e rests = (
             rw e refl,
             rw e refl,
@@ -252,11 +208,13 @@ module _ (w : State) (t : ℕ) (shape : IsShaped w) (steady : IsSteady w) (there
             subst IsSingle (sym e) tt,
           )
             where
-              standing_then : (at2 : MutexPlace) → place_at behind t ≡ Mutex l at2 → (mutex_station at2).stands ≡ Some Main → 1 ≤ standing t (lock_state behind l)
+              standing_then : (at2 : MutexPlace) → place_at behind t ≡ Mutex l at2 → (mutex_station at2).stands ≡ Some Main
+                  → 1 ≤ standing t (lock_state behind l)
               standing_then at2 e stands = rw (standing_by behind t happens_so.after l, own_stance l (place_at behind t) at2 e, stands) (omega arith)
           by_next (next.End a) e rests = (e, refl)
 
-      goes_if : OthersFollow w behind t (event_by l happened) → GoesOn (locks_of w) t (outcome_of (next_act (Mutex l at) told)) (locks_of behind)
+      goes_if : OthersFollow w behind t (event_by l happened)
+          → GoesOn (locks_of w) t (outcome_of (next_act (Mutex l at) told)) (locks_of behind)
       goes_if others = goes_by w behind t l happened happens_so (Mutex l at) is refl tt tells.follows.may (row_of (mutex_next at told)) _
           (subst (λ r. ComesTo r l (mutex_row at) (event_by l happened) (lock_state w l) (after_event r (event_by l happened) (lock_state w l) t) t (row_of (mutex_next at told))) (sym rules) tells.follows.comes)
           leads others (begins_nothing (locks_of w) l (mutex_row at) happened _ runs tells.follows.may (tells_none (mutex_next at told)))
@@ -273,15 +231,19 @@ module _ (w : State) (t : ℕ) (shape : IsShaped w) (steady : IsSteady w) (there
           tells_none (next.End answer) = refl
 
       -- nobody else's call changes
-      calmly : IsCalm happened → Others w behind t Nothing → GoesOn (locks_of w) t (outcome_of (next_act (Mutex l at) told)) (locks_of behind)
+      calmly : IsCalm happened → Others w behind t Nothing
+          → GoesOn (locks_of w) t (outcome_of (next_act (Mutex l at) told)) (locks_of behind)
       calmly still others = goes_if (others_follow w behind t l happened happens_so (no_hand_off w behind t l happened happens_so happened still) (calm w t (next_place (Mutex l at) told) behind l happened still others))
 
       -- it hands the lock over
-      gives : (to : Option ℕ) → happened ≡ Some (HandsOff Exclusive (heir to)) → (left_alone : Bool) → Befalls w behind t l (HandedBy t left_alone) → taken_at (place_at w t) l ≡ None → GoesOn (locks_of w) t (outcome_of (next_act (Mutex l at) told)) (locks_of behind)
+      gives : (to : Option ℕ) → happened ≡ Some (HandsOff Exclusive (heir to)) → (left_alone : Bool)
+          → Befalls w behind t l (HandedBy t left_alone) → taken_at (place_at w t) l ≡ None
+          → GoesOn (locks_of w) t (outcome_of (next_act (Mutex l at) told)) (locks_of behind)
       gives to case left_alone befalls awake = goes_if (subst (λ c. OthersFollow w behind t (event_by l c)) (sym case) (hands_others w behind t l to (subst (λ c. Happens w behind t (event_by l c)) case happens_so) rules awake left_alone befalls))
 
     -- whichever way it decides, the case is one that leaves the others in peace
-    if_calm : (hand : Option Bool) (b : Bool) (xs ys : List Deed) → IsCalm (case_of hand xs) → IsCalm (case_of hand ys) → IsCalm (case_of hand (if b then xs else ys))
+    if_calm : (hand : Option Bool) (b : Bool) (xs ys : List Deed) → IsCalm (case_of hand xs) → IsCalm (case_of hand ys)
+        → IsCalm (case_of hand (if b then xs else ys))
     if_calm hand true xs ys h k = h
     if_calm hand false xs ys h k = k
 
@@ -310,12 +272,17 @@ module _ (w : State) (t : ℕ) (shape : IsShaped w) (steady : IsSteady w) (there
     calm_takes (Some u) = tt
 
     -- nobody else goes anywhere, or whoever is taken goes on in its call
-    alone : (at : MutexPlace) (is : place_at w t ≡ Mutex l at) (can : can_do w (mutex_act l at) ≡ true) (timed : GivesUpTimed at) → IsLonely (mutex_act l at) → IsCalm (happened at is can timed)
-        → GoesOn (locks_of w) t (outcome_of (next_act (Mutex l at) (reply_to w t (mutex_act l at)))) (locks_of (go_by w t (Mutex l at) (mutex_act l at)))
+    alone : (at : MutexPlace) (is : place_at w t ≡ Mutex l at) (can : can_do w (mutex_act l at) ≡ true) (timed : GivesUpTimed at)
+        → IsLonely (mutex_act l at) → IsCalm (happened at is can timed)
+        → GoesOn (locks_of w) t (outcome_of (next_act (Mutex l at) (reply_to w t (mutex_act l at))))
+        (locks_of (go_by w t (Mutex l at) (mutex_act l at)))
     alone at is can timed by_itself still = calmly at is can timed still (lonely w t (next_place (Mutex l at) (reply_to w t (mutex_act l at))) (Mutex l at) (mutex_act l at) by_itself)
 
-    lock_goes : (e : Entry) (again : Bool) (a : LockAt) (is : place_at w t ≡ Mutex l (Lock e again a)) (can : can_do w (lock_act l a) ≡ true) → GivesUpTimed (Lock e again a)
-        → GoesOn (locks_of w) t (outcome_of (next_act (Mutex l (Lock e again a)) (reply_to w t (lock_act l a)))) (locks_of (go_by w t (Mutex l (Lock e again a)) (lock_act l a)))
+    lock_goes : (e : Entry) (again : Bool) (a : LockAt) (is : place_at w t ≡ Mutex l (Lock e again a))
+        (can : can_do w (lock_act l a) ≡ true)
+        → GivesUpTimed (Lock e again a)
+        → GoesOn (locks_of w) t (outcome_of (next_act (Mutex l (Lock e again a)) (reply_to w t (lock_act l a))))
+        (locks_of (go_by w t (Mutex l (Lock e again a)) (lock_act l a)))
     lock_goes e again First is can timed = alone (Lock e again First) is can timed tt (if_calm None (word_at w l == 0) enters [] tt tt)
     lock_goes e again Load is can timed = alone (Lock e again Load) is can timed tt tt
     lock_goes e again (Decide x) is can timed = alone (Lock e again (Decide x)) is can timed (lonely_decided x (is_locked x) (x == 1)) (calm_decided x (is_locked x) (x == 1))
@@ -330,7 +297,8 @@ module _ (w : State) (t : ℕ) (shape : IsShaped w) (steady : IsSteady w) (there
     lock_goes e again GiveUp is can timed = alone (Lock e again GiveUp) is can timed tt tt
 
     unlock_goes : (a : UnlockAt) (is : place_at w t ≡ Mutex l (Unlock a)) (can : can_do w (unlock_act l a) ≡ true)
-        → GoesOn (locks_of w) t (outcome_of (next_act (Mutex l (Unlock a)) (reply_to w t (unlock_act l a)))) (locks_of (go_by w t (Mutex l (Unlock a)) (unlock_act l a)))
+        → GoesOn (locks_of w) t (outcome_of (next_act (Mutex l (Unlock a)) (reply_to w t (unlock_act l a))))
+        (locks_of (go_by w t (Mutex l (Unlock a)) (unlock_act l a)))
     unlock_goes unlock.Subtract is can = alone (Unlock unlock.Subtract) is can tt tt tt
     unlock_goes unlock.Enter is can = alone (Unlock unlock.Enter) is can tt tt tt
     unlock_goes unlock.Take is can = calmly (Unlock unlock.Take) is can tt (calm_takes (whom (Unlock unlock.Take) is can tt)) (takes w t _ steady l Main (λ e. let both : locks.Mutex ≡ locks.Condvar = sym (single_at w t l (Unlock unlock.Take) steady is) ∙ e in cc) (Mutex l (Unlock unlock.Take)) (2 * l) refl whoms.First)
@@ -339,12 +307,16 @@ module _ (w : State) (t : ℕ) (shape : IsShaped w) (steady : IsSteady w) (there
     unlock_goes (unlock.Leave true) is can = goes_if (Unlock (unlock.Leave true)) is can tt (others_follow w (behind (Unlock (unlock.Leave true)) is can tt) t l (Some Wake) (happens_so (Unlock (unlock.Leave true)) is can tt) (λ x y e. cc)
         (wakes_others w (behind (Unlock (unlock.Leave true)) is can tt) t l (befalls w t l steady (rw is refl) Idle (state_with_sections w (One (2 * l)) None) (Woken note.Normal) refl (carries (Unlock (unlock.Leave true)) is can tt))))
 
-    hands_case : (bumping any b : Bool) (o : Option ℕ) → case_of (mutex_row (HandOff bumping (hand_off.Store any b))).carries (hands_over o b) ≡ Some (HandsOff Exclusive (heir o))
+    hands_case : (bumping any b : Bool) (o : Option ℕ)
+        → case_of (mutex_row (HandOff bumping (hand_off.Store any b))).carries (hands_over o b)
+        ≡ Some (HandsOff Exclusive (heir o))
     hands_case bumping any b None = refl
     hands_case bumping any b (Some u) = refl
 
-    hand_off_goes : (bumping : Bool) (a : HandOffAt) (is : place_at w t ≡ Mutex l (HandOff bumping a)) (can : can_do w (hand_off_act l a) ≡ true)
-        → GoesOn (locks_of w) t (outcome_of (next_act (Mutex l (HandOff bumping a)) (reply_to w t (hand_off_act l a)))) (locks_of (go_by w t (Mutex l (HandOff bumping a)) (hand_off_act l a)))
+    hand_off_goes : (bumping : Bool) (a : HandOffAt) (is : place_at w t ≡ Mutex l (HandOff bumping a))
+        (can : can_do w (hand_off_act l a) ≡ true)
+        → GoesOn (locks_of w) t (outcome_of (next_act (Mutex l (HandOff bumping a)) (reply_to w t (hand_off_act l a))))
+        (locks_of (go_by w t (Mutex l (HandOff bumping a)) (hand_off_act l a)))
     hand_off_goes bumping hand_off.Enter is can = alone (HandOff bumping hand_off.Enter) is can tt tt tt
     hand_off_goes bumping hand_off.Take is can = calmly (HandOff bumping hand_off.Take) is can tt (calm_takes (whom (HandOff bumping hand_off.Take) is can tt)) (takes w t _ steady l Main (λ e. let both : locks.Mutex ≡ locks.Condvar = sym (single_at w t l (HandOff bumping hand_off.Take) steady is) ∙ e in cc) (Mutex l (HandOff bumping hand_off.Take)) (2 * l) refl whoms.First)
     hand_off_goes bumping (hand_off.Store false b) is can = gives (HandOff bumping (hand_off.Store false b)) is can tt (whom (HandOff bumping (hand_off.Store false b)) is can tt) (hands_case bumping false b (whom (HandOff bumping (hand_off.Store false b)) is can tt)) true
@@ -355,7 +327,8 @@ module _ (w : State) (t : ℕ) (shape : IsShaped w) (steady : IsSteady w) (there
     hand_off_goes bumping (hand_off.Leave true) is can = calmly (HandOff bumping (hand_off.Leave true)) is can tt tt (tells_handed w t l steady (rw is refl) _ (state_with_sections w (One (2 * l)) None) refl (carries (HandOff bumping (hand_off.Leave true)) is can tt))
 
     mutex_goes_on : (at : MutexPlace) (is : place_at w t ≡ Mutex l at) (can : can_do w (mutex_act l at) ≡ true) → GivesUpTimed at
-        → GoesOn (locks_of w) t (outcome_of (next_act (Mutex l at) (reply_to w t (mutex_act l at)))) (locks_of (go_by w t (Mutex l at) (mutex_act l at)))
+        → GoesOn (locks_of w) t (outcome_of (next_act (Mutex l at) (reply_to w t (mutex_act l at))))
+        (locks_of (go_by w t (Mutex l at) (mutex_act l at)))
     mutex_goes_on (Lock e again a) is can timed = lock_goes e again a is can timed
     mutex_goes_on TryLock is can timed = alone TryLock is can tt tt (if_calm None (is_locked (word_at w l)) (End ∷ []) enters tt tt)
     mutex_goes_on (Unlock a) is can timed = unlock_goes a is can
@@ -370,7 +343,8 @@ module _ (w : State) (t : ℕ) (shape : IsShaped w) (steady : IsSteady w) (there
     decides_on x true false = refl
 
     load_stays : (e : Entry) (again : Bool) → place_at w t ≡ Mutex l (Lock e again Load)
-        → Stays (locks_of w) t (call_state (place_at w t) (rights w t)) (going_outcome w t (Mutex l (Lock e again Load))) (locks_of (state_after_going w t (Mutex l (Lock e again Load))))
+        → Stays (locks_of w) t (call_state (place_at w t) (rights w t)) (going_outcome w t (Mutex l (Lock e again Load)))
+        (locks_of (state_after_going w t (Mutex l (Lock e again Load))))
     load_stays e again is = subst (λ (v : State). Stays (locks_of w) t (call_state (place_at w t) (rights w t)) (going_outcome w t (Mutex l (Lock e again Load))) (locks_of v)) (sym (goes_from_there w t (Mutex l (Lock e again Load)) is tt)) (record {
       told = told_from_there w t (Mutex l (Lock e again Load)) is tt ∙ decides_on (word_at w l) (is_locked (word_at w l)) (word_at w l == 1);
       locks = locks_stay;
@@ -391,14 +365,17 @@ module _ (w : State) (t : ℕ) (shape : IsShaped w) (steady : IsSteady w) (there
         place_then : call_state (place_at decided t) ≡ call_state (place_at w t)
         place_then = ap call_state (get_or-set_same w.places t (next_place (Mutex l (Lock e again Load)) (Value (word_at w l))) Idle there) ∙ ap call_state (sym is)
 
-  go_goes : AreCounted w → (p : Place) → place_at w t ≡ p → IsSingle p → PlaceFits (length w.locks) p → FitsItsLock w p → can_do w (act_of p) ≡ true → GoesOn (locks_of w) t (outcome_of (next_act p (reply_to w t (act_of p)))) (locks_of (go_by w t p (act_of p)))
+  go_goes : AreCounted w → (p : Place) → place_at w t ≡ p → IsSingle p → PlaceFits (length w.locks) p → FitsItsLock w p
+      → can_do w (act_of p) ≡ true
+      → GoesOn (locks_of w) t (outcome_of (next_act p (reply_to w t (act_of p)))) (locks_of (go_by w t p (act_of p)))
   go_goes counted Idle is single fits of can = absurd cc
   go_goes counted (Condvar l at) is single fits of can = absurd single
   go_goes counted (Once l at) is single fits of can = once_step w t l at steady shape there fits is can
   go_goes counted (RwLock l a c) is single fits of can = rwlock_step w t l a c steady shape there fits is counted can
   go_goes counted (Mutex l at) is single fits of can = mutex_goes_on l fits.0 (mutex_rules (kind_at w l) of) at is can fits.1
 
-  going_goes : AreCounted w → AreCondvars w → can_go w t ≡ true → GoesOn (locks_of w) t (go_outcome w t) (locks_of (state_after_go w t))
+  going_goes : AreCounted w → AreCondvars w → can_go w t ≡ true
+      → GoesOn (locks_of w) t (go_outcome w t) (locks_of (state_after_go w t))
   going_goes counted condvars can = elim (single_or_two (place_at w t)) [
     | inl single ↦ subst (λ o. GoesOn (locks_of w) t o (locks_of (state_after_go w t))) (sym (gone_told w t single))
         (subst (λ v. GoesOn (locks_of w) t (outcome_of (next_act (place_at w t) (go_reply w t))) (locks_of v)) (sym (gone w t single))
@@ -410,13 +387,15 @@ module _ (w : State) (t : ℕ) (shape : IsShaped w) (steady : IsSteady w) (there
   -- ---------------------------------------------------------------- turns by which the place alone changes
 
   late_goes : (p : Place) → place_at w t ≡ p → is_free_under w (late_key p) ≡ true
-      → Stays (locks_of w) t (record (call_state p (rights w t)) { late = true }) outcome.TheVariants.Step (locks_of (state_after_late_on w t (late_key p)))
+      → Stays (locks_of w) t (record (call_state p (rights w t)) { late = true }) outcome.TheVariants.Step
+      (locks_of (state_after_late_on w t (late_key p)))
   late_goes Idle is can = absurd cc
   late_goes (Condvar l at) is can = condvar_is_late w t l at there is can
   late_goes (Once l at) is can = by_line (once_profile at).late_line refl can
     where
       by_line : (m : Option Line) → (once_profile at).late_line ≡ m → is_free_under w (key_in (Some l) m) ≡ true
-          → Stays (locks_of w) t (record (call_state (Once l at) (rights w t)) { late = true }) outcome.TheVariants.Step (locks_of (state_after_late_on w t (key_in (Some l) m)))
+          → Stays (locks_of w) t (record (call_state (Once l at) (rights w t)) { late = true }) outcome.TheVariants.Step
+          (locks_of (state_after_late_on w t (key_in (Some l) m)))
       by_line None e can = absurd cc
       by_line (Some m) e can = absurd (once_never_late at m e)
   late_goes (RwLock l a c) is can = by_line (call_profile a c).late_line refl can
@@ -428,7 +407,8 @@ module _ (w : State) (t : ℕ) (shape : IsShaped w) (steady : IsSteady w) (there
       in_no_hand_at d e k = ap (λ h. taken_from h (call_profile a d).wants (calls (RwLock l a d) k)) e
 
       by_line : (m : Option Line) → (call_profile a c).late_line ≡ m → is_free_under w (key_in (Some l) m) ≡ true
-          → Stays (locks_of w) t (record (call_state (RwLock l a c) (rights w t)) { late = true }) outcome.TheVariants.Step (locks_of (state_after_late_on w t (key_in (Some l) m)))
+          → Stays (locks_of w) t (record (call_state (RwLock l a c) (rights w t)) { late = true }) outcome.TheVariants.Step
+          (locks_of (state_after_late_on w t (key_in (Some l) m)))
       by_line None e can = absurd cc
       by_line (Some m) e can = let z = call_late a c m (sym (late_row a c) ∙ e) in
           placed w t there (state_with_sections w (One (key_of l m)) (Some t)).sections (RwLock l a c) (next_place (place_at w t) reply.Late) is
@@ -450,7 +430,8 @@ module _ (w : State) (t : ℕ) (shape : IsShaped w) (steady : IsSteady w) (there
 -- ---------------------------------------------------------------- a look at the word once more
 
 -- a call of a reader-writer lock is of no mutex
-not_mutex : (w : State) (l : ℕ) (a : Admission) (c : RwLockCallPlace) → Admits (rules_in w l) a → (r : ℕ → Rights) → IsOfMutex (locks_of w) (call_state (RwLock l a c) r).purpose → ⊥
+not_mutex : (w : State) (l : ℕ) (a : Admission) (c : RwLockCallPlace) → Admits (rules_in w l) a → (r : ℕ → Rights)
+    → IsOfMutex (locks_of w) (call_state (RwLock l a c) r).purpose → ⊥
 not_mutex w l a c admits r of = by_call c of
   where
     readers : (rules_in w l).sort ≡ Mutual → ⊥
@@ -471,18 +452,21 @@ not_mutex w l a c admits r of = by_call c of
     by_call (Handed x how true to) e = readers e
     by_call (Handed x how false to) e = readers e
 
-once_no_mutex : (w : State) (l : ℕ) (at : OncePlace) → (rules_in w l).sort ≡ locks.Once → (r : ℕ → Rights) → IsOfMutex (locks_of w) (call_state (Once l at) r).purpose → ⊥
+once_no_mutex : (w : State) (l : ℕ) (at : OncePlace) → (rules_in w l).sort ≡ locks.Once → (r : ℕ → Rights)
+    → IsOfMutex (locks_of w) (call_state (Once l at) r).purpose → ⊥
 once_no_mutex w l (Look (once_call.CallOnce forced) again at) once r of = let both : locks.Once ≡ locks.Mutex = sym once ∙ of in cc
 once_no_mutex w l (Look (once_call.Wait forced) again at) once r of = let both : locks.Once ≡ locks.Mutex = sym once ∙ of in cc
 once_no_mutex w l (Run forced at) once r of = let both : locks.Once ≡ locks.Mutex = sym once ∙ of in cc
 
-condvar_no_mutex : (w : State) (l : ℕ) (at : CondvarPlace) → (rules_in w l).sort ≡ locks.Condvar → (r : ℕ → Rights) → IsOfMutex (locks_of w) (call_state (Condvar l at) r).purpose → ⊥
+condvar_no_mutex : (w : State) (l : ℕ) (at : CondvarPlace) → (rules_in w l).sort ≡ locks.Condvar → (r : ℕ → Rights)
+    → IsOfMutex (locks_of w) (call_state (Condvar l at) r).purpose → ⊥
 condvar_no_mutex w l (condvars.Wait m timed at) condvar r of = let both : locks.Condvar ≡ locks.Mutex = sym condvar ∙ of in cc
 condvar_no_mutex w l (condvars.Look all) condvar r of = let both : locks.Condvar ≡ locks.Mutex = sym condvar ∙ of in cc
 condvar_no_mutex w l (condvars.Notify all m at) condvar r of = let both : locks.Condvar ≡ locks.Mutex = sym condvar ∙ of in cc
 
 -- its call goes on by what it sees there
-module _ (w : State) (t : ℕ) (shape : IsShaped w) (steady : IsSteady w) (there : t < length w.places) (q : Place) (is : looking (place_at w t) ≡ Some q) where
+module _ (w : State) (t : ℕ) (shape : IsShaped w) (steady : IsSteady w) (there : t < length w.places) (q : Place)
+    (is : looking (place_at w t) ≡ Some q) where
   abbrev moved : State
   moved = put w t q
 
@@ -495,7 +479,8 @@ module _ (w : State) (t : ℕ) (shape : IsShaped w) (steady : IsSteady w) (there
   there_moved : t < length moved.places
   there_moved = rw (length-set w.places t q) there
 
-  look_stays : (p : Place) → place_at w t ≡ p → IsOfMutex (locks_of w) (call_state p (rights w t)).purpose → Stays (locks_of w) t ((locks_of w).calls t) (go_outcome moved t) (locks_of (state_after_go moved t))
+  look_stays : (p : Place) → place_at w t ≡ p → IsOfMutex (locks_of w) (call_state p (rights w t)).purpose
+      → Stays (locks_of w) t ((locks_of w).calls t) (go_outcome moved t) (locks_of (state_after_go moved t))
   look_stays Idle e of = absurd of
   look_stays (Condvar l at) e of = absurd (let calls : FitsCondvar w l at = subst (FitsItsLock w) e (steady.stands.calls t) in condvar_no_mutex w l at calls.sort (rights w t) of)
   look_stays (Once l at) e of = absurd (let calls : FitsItsLock w (Once l at) = subst (FitsItsLock w) e (steady.stands.calls t) in once_no_mutex w l at calls (rights w t) of)
@@ -518,174 +503,13 @@ module _ (w : State) (t : ℕ) (shape : IsShaped w) (steady : IsSteady w) (there
     stays = λ of. look_stays (place_at w t) refl of;
   }
 
--- ---------------------------------------------------------------- a call begins
-
--- a call of a mutex has its purpose
-pub purpose_is : (k : Kind) (l : ℕ) (c : MutexCall) → is_mutex k ≡ true → purpose_of k (call.TheVariants.Mutex l c) ≡ Some (mutex_purpose (is_fair k) l c)
-purpose_is kind.TheVariants.Mutex l c h = refl
-purpose_is kind.TheVariants.Fair l c h = refl
-purpose_is k l c h = absurd cc
-
-once_purpose_is : (k : Kind) (l : ℕ) (c : OnceCall) → (rules_of k).sort ≡ locks.Once → purpose_of k (call.TheVariants.Once l c) ≡ Some (once_purpose l c)
-once_purpose_is kind.TheVariants.Once l c h = refl
-once_purpose_is k l c h = absurd cc
-
-once_begins_with : (l : ℕ) (c : OnceCall) (r : ℕ → Rights) → call_state (Once l (once_first c)) r ≡ new_call (Some (once_purpose l c)) r
-once_begins_with l c r = refl
-
-no_purpose : (w : LocksState) (t : ℕ) (k : Kind) (c : Call) → has_call k c ≡ false → HasRight w t (purpose_of k c) → ⊥
-no_purpose w t kind.TheVariants.Mutex (call.TheVariants.Mutex l c) h r = absurd cc
-no_purpose w t kind.TheVariants.Fair (call.TheVariants.Mutex l c) h r = absurd cc
-no_purpose w t (kind.TheVariants.RwLock limit) (call.TheVariants.RwLock l c) h r = absurd cc
-no_purpose w t (kind.TheVariants.Recursive limit) (call.TheVariants.RwLock l c) h r = absurd cc
-no_purpose w t kind.TheVariants.Once (call.TheVariants.Once l c) h r = absurd cc
-no_purpose w t kind.TheVariants.Condvar (call.TheVariants.Condvar l c) h r = absurd cc
-no_purpose w t k c h r = r
-
-no_call_idle : (p : Place) (r : ℕ → Rights) → (call_state p r).purpose ≡ None → is_idle p ≡ true
-no_call_idle Idle r h = refl
-no_call_idle (RwLock l a at) r h = absurd cc
-no_call_idle (Once l at) r h = absurd cc
-no_call_idle (Condvar l (condvars.Wait m timed at)) r h = absurd cc
-no_call_idle (Condvar l (condvars.Look all)) r h = absurd cc
-no_call_idle (Condvar l (condvars.Notify all m at)) r h = absurd cc
-no_call_idle (Mutex l (Lock entry retries a)) r h = absurd cc
-no_call_idle (Mutex l TryLock) r h = absurd cc
-no_call_idle (Mutex l (Unlock a)) r h = absurd cc
-no_call_idle (Mutex l UnlockFair) r h = absurd cc
-no_call_idle (Mutex l Bump) r h = absurd cc
-no_call_idle (Mutex l (HandOff bumps a)) r h = absurd cc
-
-module _ (w : State) (t l : ℕ) where
-  right_held : (fair : Bool) (c : MutexCall) → mutex_right c t (owners_at w l) ≡ true → HasRight (locks_of w) t (Some (mutex_purpose fair l c))
-  right_held fair mutex_call.TheVariants.Lock h = tt
-  right_held fair mutex_call.TheVariants.LockTimed h = tt
-  right_held fair mutex_call.TheVariants.TryLock h = tt
-  right_held fair mutex_call.TheVariants.Unlock h = thread_is t (owner_at w l) h
-  right_held fair mutex_call.TheVariants.UnlockFair h = thread_is t (owner_at w l) h
-  right_held fair mutex_call.TheVariants.Bump h = thread_is t (owner_at w l) h
-
-  right_needed : (fair : Bool) (c : MutexCall) → HasRight (locks_of w) t (Some (mutex_purpose fair l c)) → mutex_right c t (owners_at w l) ≡ true
-  right_needed fair mutex_call.TheVariants.Lock h = refl
-  right_needed fair mutex_call.TheVariants.LockTimed h = refl
-  right_needed fair mutex_call.TheVariants.TryLock h = refl
-  right_needed fair mutex_call.TheVariants.Unlock h = is_owner t (owner_at w l) h
-  right_needed fair mutex_call.TheVariants.UnlockFair h = is_owner t (owner_at w l) h
-  right_needed fair mutex_call.TheVariants.Bump h = is_owner t (owner_at w l) h
-
-  begins_with : (fair : Bool) (c : MutexCall) (r : ℕ → Rights) → call_state (Mutex l (mutex_first fair c)) r ≡ new_call (Some (mutex_purpose fair l c)) r
-  begins_with fair mutex_call.TheVariants.Lock r = refl
-  begins_with fair mutex_call.TheVariants.LockTimed r = refl
-  begins_with fair mutex_call.TheVariants.TryLock r = refl
-  begins_with true mutex_call.TheVariants.Unlock r = refl
-  begins_with false mutex_call.TheVariants.Unlock r = refl
-  begins_with fair mutex_call.TheVariants.UnlockFair r = refl
-  begins_with fair mutex_call.TheVariants.Bump r = refl
-
-  untaken_first : (fair : Bool) (c : MutexCall) (k : ℕ) → taken_at (Mutex l (mutex_first fair c)) k ≡ None
-  untaken_first fair mutex_call.TheVariants.Lock k = refl
-  untaken_first fair mutex_call.TheVariants.LockTimed k = refl
-  untaken_first fair mutex_call.TheVariants.TryLock k = refl
-  untaken_first true mutex_call.TheVariants.Unlock k = refl
-  untaken_first false mutex_call.TheVariants.Unlock k = refl
-  untaken_first fair mutex_call.TheVariants.UnlockFair k = refl
-  untaken_first fair mutex_call.TheVariants.Bump k = refl
-
-begin_goes : (w : State) (t : ℕ) (c : Call) → IsShaped w → IsSteady w → t < length w.places → can_begin w t c ≡ true
-    → MayBegin (locks_of w) t c × Stays (locks_of w) t (new_call (purpose_at (locks_of w) c) (rights w t)) outcome.TheVariants.Step (locks_of (state_after_begin w t c))
-begin_goes w t (call.TheVariants.RwLock l c) shape steady there can = (
-  record { thread = there; idle = rw idle refl; lock = ltb-true l (length w.locks) open_to.0; right = rw (rwlock_purpose_is (kind_at w l) l c is_kind) (rwlock_right_held w t l c held.1) },
-  placed w t there w.sections Idle (RwLock l (admission_of (kind_at w l)) (call_first c)) idle (rwlock_untaken_first l (admission_of (kind_at w l)) c) _
-      (λ r e. rwlock_begins_with l (admission_of (kind_at w l)) c r ∙ (λ i. new_call (sym (rwlock_purpose_is (kind_at w l) l c is_kind) i) (e i))),
-)
-  where
-    idle : place_at w t ≡ Idle
-    idle = idle_is (place_at w t) (both (is_idle (place_at w t)) (is_open_to w t (call.TheVariants.RwLock l c)) can).0
-
-    open_to : (nat_lt l (length w.locks) ≡ true) × ((has_call (kind_at w l) (call.TheVariants.RwLock l c) && has_right (call.TheVariants.RwLock l c) t (owners_at w l) (share_at w l t)) ≡ true)
-    open_to = both (nat_lt l (length w.locks)) _ (both (is_idle (place_at w t)) (is_open_to w t (call.TheVariants.RwLock l c)) can).1
-
-    held : (has_call (kind_at w l) (call.TheVariants.RwLock l c) ≡ true) × (call_right c t (owners_at w l) (share_at w l t) ≡ true)
-    held = both (has_call (kind_at w l) (call.TheVariants.RwLock l c)) (call_right c t (owners_at w l) (share_at w l t)) open_to.1
-
-    is_kind : has_readers (rules_in w l).sort ≡ true
-    is_kind = calls_readers (kind_at w l) l c held.0
-begin_goes w t (call.TheVariants.Once l c) shape steady there can = (
-  record { thread = there; idle = rw idle refl; lock = ltb-true l (length w.locks) open_to.0; right = rw (once_purpose_is (kind_at w l) l c is_kind) (once_right l c) },
-  placed w t there w.sections Idle (Once l (once_first c)) idle (λ k. refl) _ (λ r e. once_begins_with l c r ∙ (λ i. new_call (sym (once_purpose_is (kind_at w l) l c is_kind) i) (e i))),
-)
-  where
-    idle : place_at w t ≡ Idle
-    idle = idle_is (place_at w t) (both (is_idle (place_at w t)) (is_open_to w t (call.TheVariants.Once l c)) can).0
-
-    open_to : (nat_lt l (length w.locks) ≡ true) × ((has_call (kind_at w l) (call.TheVariants.Once l c) && has_right (call.TheVariants.Once l c) t (owners_at w l) (share_at w l t)) ≡ true)
-    open_to = both (nat_lt l (length w.locks)) _ (both (is_idle (place_at w t)) (is_open_to w t (call.TheVariants.Once l c)) can).1
-
-    is_kind : (rules_in w l).sort ≡ locks.Once
-    is_kind = calls_once (kind_at w l) l c (both (has_call (kind_at w l) (call.TheVariants.Once l c)) _ open_to.1).0
-
-    once_right : (l : ℕ) (c : OnceCall) → HasRight (locks_of w) t (Some (once_purpose l c))
-    once_right l (once_call.CallOnce forced) = tt
-    once_right l (once_call.Wait forced) = tt
-begin_goes w t (call.TheVariants.Condvar l c) shape steady there can =
-    condvar_begun w t l c (idle_is (place_at w t) (both (is_idle (place_at w t)) (is_open_to w t (call.TheVariants.Condvar l c)) can).0) there can
-begin_goes w t (call.TheVariants.Mutex l c) shape steady there can = (
-  record { thread = there; idle = rw idle refl; lock = ltb-true l (length w.locks) open_to.0; right = rw (purpose_is (kind_at w l) l c is_kind) (right_held w t l (is_fair (kind_at w l)) c held.1) },
-  placed w t there w.sections Idle (Mutex l (mutex_first (is_fair (kind_at w l)) c)) idle (untaken_first w t l (is_fair (kind_at w l)) c) _
-      (λ r e. begins_with w t l (is_fair (kind_at w l)) c r ∙ (λ i. new_call (sym (purpose_is (kind_at w l) l c is_kind) i) (e i))),
-)
-  where
-    idle : place_at w t ≡ Idle
-    idle = idle_is (place_at w t) (both (is_idle (place_at w t)) (is_open_to w t (call.TheVariants.Mutex l c)) can).0
-
-    open_to : (nat_lt l (length w.locks) ≡ true) × ((has_call (kind_at w l) (call.TheVariants.Mutex l c) && has_right (call.TheVariants.Mutex l c) t (owners_at w l) (share_at w l t)) ≡ true)
-    open_to = both (nat_lt l (length w.locks)) _ (both (is_idle (place_at w t)) (is_open_to w t (call.TheVariants.Mutex l c)) can).1
-
-    held : (has_call (kind_at w l) (call.TheVariants.Mutex l c) ≡ true) × (mutex_right c t (owners_at w l) ≡ true)
-    held = both (has_call (kind_at w l) (call.TheVariants.Mutex l c)) (mutex_right c t (owners_at w l)) open_to.1
-
-    is_kind : is_mutex (kind_at w l) ≡ true
-    is_kind = calls_mutex (kind_at w l) l c held.0
-
--- a call that may begin can
-begin_refused : (w : State) (t : ℕ) (c : Call) → can_begin w t c ≡ false → MayBegin (locks_of w) t c → ⊥
-begin_refused w t (call.TheVariants.RwLock l c) cannot may = let idle : is_idle (place_at w t) ≡ true = no_call_idle (place_at w t) (rights w t) may.idle in
-    let there : nat_lt l (length w.locks) ≡ true = lt-ltb l (length w.locks) may.lock in either (has_call (kind_at w l) (call.TheVariants.RwLock l c)) refl idle there
-  where
-    either : (b : Bool) → has_call (kind_at w l) (call.TheVariants.RwLock l c) ≡ b → is_idle (place_at w t) ≡ true → nat_lt l (length w.locks) ≡ true → ⊥
-    either false e idle there = no_purpose (locks_of w) t (kind_at w l) (call.TheVariants.RwLock l c) e may.right
-    either true e idle there = let right : HasRight (locks_of w) t (Some (rwlock_purpose l c)) = subst (HasRight (locks_of w) t) (rwlock_purpose_is (kind_at w l) l c (calls_readers (kind_at w l) l c e)) may.right in
-        let held : call_right c t (owners_at w l) (share_at w l t) ≡ true = rwlock_right_needed w t l c right in cc
-begin_refused w t (call.TheVariants.Once l c) cannot may = let idle : is_idle (place_at w t) ≡ true = no_call_idle (place_at w t) (rights w t) may.idle in
-    let there : nat_lt l (length w.locks) ≡ true = lt-ltb l (length w.locks) may.lock in either (has_call (kind_at w l) (call.TheVariants.Once l c)) refl idle there
-  where
-    either : (b : Bool) → has_call (kind_at w l) (call.TheVariants.Once l c) ≡ b → is_idle (place_at w t) ≡ true → nat_lt l (length w.locks) ≡ true → ⊥
-    either false e idle there = no_purpose (locks_of w) t (kind_at w l) (call.TheVariants.Once l c) e may.right
-    either true e idle there = let open_now : can_begin w t (call.TheVariants.Once l c) ≡ true = rw (idle, there, e) refl in let f : true ≡ false = sym open_now ∙ cannot in cc
-begin_refused w t (call.TheVariants.Condvar l c) cannot may =
-    let can : can_begin w t (call.TheVariants.Condvar l c) ≡ true = condvar_may w t l c (no_call_idle (place_at w t) (rights w t) may.idle) may in let f : true ≡ false = sym can ∙ cannot in cc
-begin_refused w t (call.TheVariants.Mutex l c) cannot may = let idle : is_idle (place_at w t) ≡ true = no_call_idle (place_at w t) (rights w t) may.idle in
-    let there : nat_lt l (length w.locks) ≡ true = lt-ltb l (length w.locks) may.lock in either (has_call (kind_at w l) (call.TheVariants.Mutex l c)) refl idle there
-  where
-    either : (b : Bool) → has_call (kind_at w l) (call.TheVariants.Mutex l c) ≡ b → is_idle (place_at w t) ≡ true → nat_lt l (length w.locks) ≡ true → ⊥
-    either false e idle there = no_purpose (locks_of w) t (kind_at w l) (call.TheVariants.Mutex l c) e may.right
-    either true e idle there = let is_kind : is_mutex (kind_at w l) ≡ true = calls_mutex (kind_at w l) l c e in
-        let right : HasRight (locks_of w) t (Some (mutex_purpose (is_fair (kind_at w l)) l c)) = subst (HasRight (locks_of w) t) (purpose_is (kind_at w l) l c is_kind) may.right in
-        let held : mutex_right c t (owners_at w l) ≡ true = right_needed w t l (is_fair (kind_at w l)) c right in cc
-
-begin_possible : (w : State) (t : ℕ) (c : Call) → MayBegin (locks_of w) t c → can_begin w t c ≡ true
-begin_possible w t c may = either (can_begin w t c) refl
-  where
-    either : (b : Bool) → can_begin w t c ≡ b → can_begin w t c ≡ true
-    either true e = e
-    either false e = absurd (begin_refused w t c e may)
-
 -- ---------------------------------------------------------------- steps
 
 module _ (w : State) (t : ℕ) (shape : IsShaped w) (steady : IsSteady w) (there : t < length w.places) where
   -- its closure has answered, and its run ends by the next act
   closed_does : (succeeded : Bool) → can_close w t succeeded ≡ true
-      → (((locks_of w).stances t).in_closure ≡ true) × Closes (locks_of w) t (end_of succeeded) (close_outcome w t succeeded) (locks_of (state_after_close w t succeeded))
+      → (((locks_of w).stances t).in_closure ≡ true)
+      × Closes (locks_of w) t (end_of succeeded) (close_outcome w t succeeded) (locks_of (state_after_close w t succeeded))
   closed_does succeeded can = (
     (both (runs_closure (act_of (place_at w t))) (can_do w (act_of (closed_place w t succeeded))) can).0,
     record { goes = ended.0; lock = one.lock; ends = ended.1 },
@@ -700,7 +524,8 @@ module _ (w : State) (t : ℕ) (shape : IsShaped w) (steady : IsSteady w) (there
       v : State
       v = closing w t there succeeded one
 
-      ended : (g : GoesOn (locks_of w) t (close_outcome w t succeeded) (locks_of (state_after_close w t succeeded))) × (g.event ≡ AtLock one.lock (OfOnce (end_of succeeded)))
+      ended : (g : GoesOn (locks_of w) t (close_outcome w t succeeded) (locks_of (state_after_close w t succeeded)))
+          × (g.event ≡ AtLock one.lock (OfOnce (end_of succeeded)))
       ended = subst (λ x. (g : GoesOn (locks_of w) t (close_outcome w t succeeded) (locks_of x)) × (g.event ≡ AtLock one.lock (OfOnce (end_of succeeded)))) (sym (goes_there w t there succeeded one ∙ goes_from_there v t (Once one.lock at) is_v tt))
           (subst (λ o. (g : GoesOn (locks_of w) t o (locks_of (go_by v t (Once one.lock at) (act_of (Once one.lock at))))) × (g.event ≡ AtLock one.lock (OfOnce (end_of succeeded)))) (sym (told_there w t there succeeded one ∙ told_from_there v t (Once one.lock at) is_v tt))
           (alike_event w t there (closed_place w t succeeded) (like w t there succeeded one) _ _ (AtLock one.lock (OfOnce (end_of succeeded)))
@@ -721,12 +546,14 @@ module _ (w : State) (t : ℕ) (shape : IsShaped w) (steady : IsSteady w) (there
           lt : one.lock < length v.locks
           lt = subst (PlaceFits (length v.locks)) is_v (shape_v.places t)
 
-  turned_does : AreCounted w → AreCondvars w → (x : Turn) → can_turn w t x ≡ true → MayTurn (locks_of w) t x × Does (locks_of w) t x (turn_outcome w t x) (locks_of (state_after_turn w t x))
+  turned_does : AreCounted w → AreCondvars w → (x : Turn) → can_turn w t x ≡ true
+      → MayTurn (locks_of w) t x × Does (locks_of w) t x (turn_outcome w t x) (locks_of (state_after_turn w t x))
   turned_does counted condvars (turn.TheVariants.Begin c) can = begin_goes w t c shape steady there can
   turned_does counted condvars turn.TheVariants.Go can = (may_go w t can, going_goes w t shape steady there counted condvars can)
   turned_does counted condvars turn.TheVariants.Spin can = (can, by_look (looking (place_at w t)) refl can)
     where
-      by_look : (o : Option Place) → looking (place_at w t) ≡ o → is_some o ≡ true → Looks (locks_of w) t (look_outcome w t o) (locks_of (state_after_look w t o))
+      by_look : (o : Option Place) → looking (place_at w t) ≡ o → is_some o ≡ true
+          → Looks (locks_of w) t (look_outcome w t o) (locks_of (state_after_look w t o))
       by_look None is can = absurd cc
       by_look (Some q) is can = looks w t shape steady there q is counted condvars
   turned_does counted condvars turn.TheVariants.Late can = (may_be_late w t steady can, late_goes w t shape steady there (place_at w t) refl can)
@@ -753,7 +580,8 @@ module _ (w : State) (t : ℕ) (steady : IsSteady w) where
 
 -- sections, and what the thread is told
 module _ (w : State) (t : ℕ) (there : t < length w.places) where
-  put_sleeps : (b : State) (p : Place) → length b.places ≡ length w.places → sleeps (act_of (place_at (put b t p) t)) ≡ sleeps (act_of p)
+  put_sleeps : (b : State) (p : Place) → length b.places ≡ length w.places
+      → sleeps (act_of (place_at (put b t p) t)) ≡ sleeps (act_of p)
   put_sleeps b p size = ap (λ q. sleeps (act_of q)) (get_or-set_same b.places t p Idle (rw size there))
 
   told_going : (go_outcome w t ≡ outcome.TheVariants.Sleep) ↔ (sleeps (act_of (place_at (state_after_go w t) t)) ≡ true)
@@ -761,60 +589,73 @@ module _ (w : State) (t : ℕ) (there : t < length w.places) where
       rw (put_sleeps acted (next_place (place_at acted t) (go_reply w t)) (performed_counts w t (place_at w t) (act_of (place_at w t))).0) (told_gone (place_at acted t) (go_reply w t))
 
 module _ (w : State) (t : ℕ) (shape : IsShaped w) (steady : IsSteady w) (there : t < length w.places) where
-  closed_sections : (succeeded : Bool) → can_close w t succeeded ≡ true → (key : ℕ) → SectionChanges (section_at w key) t (section_at (state_after_close w t succeeded) key)
+  closed_sections : (succeeded : Bool) → can_close w t succeeded ≡ true → (key : ℕ)
+      → SectionChanges (section_at w key) t (section_at (state_after_close w t succeeded) key)
   closed_sections succeeded can key = let one = closes_one w t succeeded can in inl (ap (λ (v : State). section_at v key) (goes_there w t there succeeded one))
 
-  turned_sections : (x : Turn) → can_turn w t x ≡ true → (key : ℕ) → SectionChanges (section_at w key) t (section_at (state_after_turn w t x) key)
+  turned_sections : (x : Turn) → can_turn w t x ≡ true → (key : ℕ)
+      → SectionChanges (section_at w key) t (section_at (state_after_turn w t x) key)
   turned_sections (turn.TheVariants.Begin c) can key = inl refl
   turned_sections turn.TheVariants.Go can key = gone_sections w t shape steady can key
   turned_sections turn.TheVariants.Spin can key = by_look (looking (place_at w t)) refl
     where
-      by_look : (o : Option Place) → looking (place_at w t) ≡ o → SectionChanges (section_at w key) t (section_at (state_after_look w t o) key)
+      by_look : (o : Option Place) → looking (place_at w t) ≡ o
+          → SectionChanges (section_at w key) t (section_at (state_after_look w t o) key)
       by_look None is = inl refl
       by_look (Some q) is = gone_sections (put w t q) t (shaped_moved w t shape steady there q is) (steady_moved w t shape steady there q is) (looks_now w t there q is) key
   turned_sections turn.TheVariants.Late can key = late_sections w t shape steady (place_at w t) refl (shape.places t) can key
   turned_sections turn.TheVariants.Ok can key = closed_sections true can key
   turned_sections turn.TheVariants.Err can key = closed_sections false can key
 
-  closed_told : (succeeded : Bool) → can_close w t succeeded ≡ true → (close_outcome w t succeeded ≡ outcome.TheVariants.Sleep) ↔ (sleeps (act_of (place_at (state_after_close w t succeeded) t)) ≡ true)
+  closed_told : (succeeded : Bool) → can_close w t succeeded ≡ true
+      → (close_outcome w t succeeded ≡ outcome.TheVariants.Sleep)
+      ↔ (sleeps (act_of (place_at (state_after_close w t succeeded) t)) ≡ true)
   closed_told succeeded can = let one = closes_one w t succeeded can in told_going (closing w t there succeeded one) t (closing_there w t there succeeded one)
 
-  turned_told : (x : Turn) → can_turn w t x ≡ true → (turn_outcome w t x ≡ outcome.TheVariants.Sleep) ↔ (sleeps (act_of (place_at (state_after_turn w t x) t)) ≡ true)
+  turned_told : (x : Turn) → can_turn w t x ≡ true
+      → (turn_outcome w t x ≡ outcome.TheVariants.Sleep) ↔ (sleeps (act_of (place_at (state_after_turn w t x) t)) ≡ true)
   turned_told (turn.TheVariants.Begin c) can = told_step _ (put_sleeps w t there w (first_place (kind_at w (lock_in c)) c) refl ∙ begins_awake (kind_at w (lock_in c)) c)
   turned_told turn.TheVariants.Go can = told_going w t there
   turned_told turn.TheVariants.Spin can = by_look (looking (place_at w t)) refl can
     where
-      by_look : (o : Option Place) → looking (place_at w t) ≡ o → is_some o ≡ true → (look_outcome w t o ≡ outcome.TheVariants.Sleep) ↔ (sleeps (act_of (place_at (state_after_look w t o) t)) ≡ true)
+      by_look : (o : Option Place) → looking (place_at w t) ≡ o → is_some o ≡ true
+          → (look_outcome w t o ≡ outcome.TheVariants.Sleep) ↔ (sleeps (act_of (place_at (state_after_look w t o) t)) ≡ true)
       by_look None is can = absurd cc
       by_look (Some q) is can = told_going (put w t q) t (there_moved w t shape steady there q is)
   turned_told turn.TheVariants.Late can = told_step _ (late_awake w t there steady (late_key (place_at w t)) refl can)
   turned_told turn.TheVariants.Ok can = closed_told true can
   turned_told turn.TheVariants.Err can = closed_told false can
 
-  going_runs : (v : State) → t < length v.places → is_closure (go_outcome v t) ≡ runs_closure (act_of (place_at (state_after_go v t) t))
+  going_runs : (v : State) → t < length v.places
+      → is_closure (go_outcome v t) ≡ runs_closure (act_of (place_at (state_after_go v t) t))
   going_runs v there_v = let acted = state_after_act v t (place_at v t) (act_of (place_at v t)) in closure_gone (place_at acted t) (go_reply v t)
       ∙ sym (ap (λ p. runs_closure (act_of p)) (get_or-set_same acted.places t (next_place (place_at acted t) (go_reply v t)) Idle (rw (performed_counts v t (place_at v t) (act_of (place_at v t))).0 there_v)))
 
-  closing_runs : (succeeded : Bool) → can_close w t succeeded ≡ true → is_closure (close_outcome w t succeeded) ≡ runs_closure (act_of (place_at (state_after_close w t succeeded) t))
+  closing_runs : (succeeded : Bool) → can_close w t succeeded ≡ true
+      → is_closure (close_outcome w t succeeded) ≡ runs_closure (act_of (place_at (state_after_close w t succeeded) t))
   closing_runs succeeded can = let one = closes_one w t succeeded can in going_runs (closing w t there succeeded one) (closing_there w t there succeeded one)
 
-  late_runs : (o : Option ℕ) → late_key (place_at w t) ≡ o → is_free_under w o ≡ true → false ≡ runs_closure (act_of (place_at (state_after_late_on w t o) t))
+  late_runs : (o : Option ℕ) → late_key (place_at w t) ≡ o → is_free_under w o ≡ true
+      → false ≡ runs_closure (act_of (place_at (state_after_late_on w t o) t))
   late_runs None e can = absurd cc
   late_runs (Some key) e can = sym (ap (λ p. runs_closure (act_of p)) (get_or-set_same w.places t (next_place (place_at w t) reply.Late) Idle there) ∙ late_outside (place_at w t) (λ none. let f : ◌≡◌ {A = Option ℕ} None (Some key) = sym none ∙ e in cc))
 
-  turned_runs : (x : Turn) → can_turn w t x ≡ true → is_closure (turn_outcome w t x) ≡ runs_closure (act_of (place_at (state_after_turn w t x) t))
+  turned_runs : (x : Turn) → can_turn w t x ≡ true
+      → is_closure (turn_outcome w t x) ≡ runs_closure (act_of (place_at (state_after_turn w t x) t))
   turned_runs (turn.TheVariants.Begin c) can = sym (ap (λ p. runs_closure (act_of p)) (get_or-set_same w.places t (first_place (kind_at w (lock_in c)) c) Idle there) ∙ begins_outside (kind_at w (lock_in c)) c)
   turned_runs turn.TheVariants.Go can = going_runs w there
   turned_runs turn.TheVariants.Spin can = by_look (looking (place_at w t)) refl can
     where
-      by_look : (o : Option Place) → looking (place_at w t) ≡ o → is_some o ≡ true → is_closure (look_outcome w t o) ≡ runs_closure (act_of (place_at (state_after_look w t o) t))
+      by_look : (o : Option Place) → looking (place_at w t) ≡ o → is_some o ≡ true
+          → is_closure (look_outcome w t o) ≡ runs_closure (act_of (place_at (state_after_look w t o) t))
       by_look None is can = absurd cc
       by_look (Some q) is can = going_runs (put w t q) (there_moved w t shape steady there q is)
   turned_runs turn.TheVariants.Late can = late_runs (late_key (place_at w t)) refl can
   turned_runs turn.TheVariants.Ok can = closing_runs true can
   turned_runs turn.TheVariants.Err can = closing_runs false can
 
-pub after_step : (w : State) (s : Step) → IsShaped w → IsSteady w → AreCounted w → AreCondvars w → IsStep (locks_of w) s (step_outcome w s) (locks_of (after w s))
+pub after_step : (w : State) (s : Step) → IsShaped w → IsSteady w → AreCounted w → AreCondvars w
+    → IsStep (locks_of w) s (step_outcome w s) (locks_of (after w s))
 after_step w s shape steady counted condvars = (record { threads = size.threads; size = size.locks; kinds = after_kinds w s; sections = sections (is_possible w s) refl; told = told (is_possible w s) refl; runs = runs (is_possible w s) refl }, either (is_possible w s) refl)
   where
     size : SameSize w (after w s)
@@ -823,20 +664,27 @@ after_step w s shape steady counted condvars = (record { threads = size.threads;
     parts : is_possible w s ≡ true → (s.thread < length w.places) × (can_turn w s.thread s.turn ≡ true)
     parts can = let h = both (nat_lt s.thread (length w.places)) (can_turn w s.thread s.turn) can in (ltb-true s.thread (length w.places) h.0, h.1)
 
-    sections : (b : Bool) → is_possible w s ≡ b → (key : ℕ) → SectionChanges (section_at w key) s.thread (section_at (if b then state_after_turn w s.thread s.turn else w) key)
+    sections : (b : Bool) → is_possible w s ≡ b → (key : ℕ)
+        → SectionChanges (section_at w key) s.thread (section_at (if b then state_after_turn w s.thread s.turn else w) key)
     sections true can key = turned_sections w s.thread shape steady (parts can).0 s.turn (parts can).1 key
     sections false cannot key = inl refl
 
-    told : (b : Bool) → is_possible w s ≡ b → (if b then turn_outcome w s.thread s.turn else outcome.TheVariants.NotNow) ≢ outcome.TheVariants.NotNow
-        → ((if b then turn_outcome w s.thread s.turn else outcome.TheVariants.NotNow) ≡ outcome.TheVariants.Sleep) ↔ (sleeps (act_of (place_at (if b then state_after_turn w s.thread s.turn else w) s.thread)) ≡ true)
+    told : (b : Bool) → is_possible w s ≡ b
+        → (if b then turn_outcome w s.thread s.turn else outcome.TheVariants.NotNow) ≢ outcome.TheVariants.NotNow
+        → ((if b then turn_outcome w s.thread s.turn else outcome.TheVariants.NotNow) ≡ outcome.TheVariants.Sleep)
+        ↔ (sleeps (act_of (place_at (if b then state_after_turn w s.thread s.turn else w) s.thread)) ≡ true)
     told true can ne = turned_told w s.thread shape steady (parts can).0 s.turn (parts can).1
     told false cannot ne = absurd (ne refl)
 
-    runs : (b : Bool) → is_possible w s ≡ b → (if b then turn_outcome w s.thread s.turn else outcome.TheVariants.NotNow) ≢ outcome.TheVariants.NotNow
-        → is_closure (if b then turn_outcome w s.thread s.turn else outcome.TheVariants.NotNow) ≡ runs_closure (act_of (place_at (if b then state_after_turn w s.thread s.turn else w) s.thread))
+    runs : (b : Bool) → is_possible w s ≡ b
+        → (if b then turn_outcome w s.thread s.turn else outcome.TheVariants.NotNow) ≢ outcome.TheVariants.NotNow
+        → is_closure (if b then turn_outcome w s.thread s.turn else outcome.TheVariants.NotNow)
+        ≡ runs_closure (act_of (place_at (if b then state_after_turn w s.thread s.turn else w) s.thread))
     runs true can ne = turned_runs w s.thread shape steady (parts can).0 s.turn (parts can).1
     runs false cannot ne = absurd (ne refl)
 
-    either : (b : Bool) → is_possible w s ≡ b → Turned (locks_of w) s.thread s.turn (if b then turn_outcome w s.thread s.turn else outcome.TheVariants.NotNow) (locks_of (if b then state_after_turn w s.thread s.turn else w))
+    either : (b : Bool) → is_possible w s ≡ b
+        → Turned (locks_of w) s.thread s.turn (if b then turn_outcome w s.thread s.turn else outcome.TheVariants.NotNow)
+        (locks_of (if b then state_after_turn w s.thread s.turn else w))
     either true can = inl (turned_does w s.thread shape steady (parts can).0 counted condvars s.turn (parts can).1)
     either false cannot = inr (stuck w s.thread steady s.turn cannot, (refl, refl))

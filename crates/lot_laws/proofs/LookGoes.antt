@@ -26,7 +26,9 @@ use Rattle.lot_laws.proofs.CondvarGoes.{NamesStill, ToldSo, begins_two, call_led
 use Rattle.lot_laws.proofs.CondvarHears.{fits_here}
 use Rattle.lot_laws.proofs.Glue.{differ}
 
-module _ (w v : State) (t l : ℕ) (all : Bool) (steady : IsSteady w) (after : IsSteady v) (is : place_at w t ≡ Condvar l (places.Look all)) (done : ℕ → List deeds.Act) (f : FollowAll w v done) (nothing : (k : ℕ) → done k ≡ []) where
+module _ (w v : State) (t l : ℕ) (all : Bool) (steady : IsSteady w) (after : IsSteady v)
+    (is : place_at w t ≡ Condvar l (places.Look all)) (done : ℕ → List deeds.Act) (f : FollowAll w v done)
+    (nothing : (k : ℕ) → done k ≡ []) where
   abbrev seen : ℕ
   seen = word_of (lock_state w l).shown
 
@@ -50,7 +52,8 @@ module _ (w v : State) (t l : ℕ) (all : Bool) (steady : IsSteady w) (after : I
           sees = let some : (m + 1 == 0) ≡ false = differ (m + 1) 0 (λ h. omega arith) in let same_mutex : m + 1 - 1 ≡ m = omega arith in
               ap (λ (b : Bool). if b then Nothing else AtLock l (OfCondvar (locks.Look (Some (m + 1 - 1))))) some ∙ ap (λ j. AtLock l (OfCondvar (locks.Look (Some j)))) same_mutex
 
-  follows : CallFollows l mutex (places.Look all) (Value seen) event (lock_state w l).shown (lock_state w mutex) (lock_state w mutex) t (condvar_next (places.Look all) (Value seen))
+  follows : CallFollows l mutex (places.Look all) (Value seen) event (lock_state w l).shown (lock_state w mutex)
+      (lock_state w mutex) t (condvar_next (places.Look all) (Value seen))
   follows = looks_tell (condvar_of w l) (lock_state w mutex) t l all
 
   rights_led : (k : ℕ) → rights v t k ≡ rights_where mutex (lock_state w mutex) t (rights w t) k
@@ -60,16 +63,20 @@ module _ (w v : State) (t l : ℕ) (all : Bool) (steady : IsSteady w) (after : I
   names true = tt
   names false = refl
 
-  told_so : (b : Bool) → ToldSo v t (if b then next.End (notified all 0) else next.At (places.Notify all mutex notify.Enter)) (outcome_of (condvar_does l (if b then next.End (notified all 0) else next.At (places.Notify all mutex notify.Enter))))
+  told_so : (b : Bool)
+      → ToldSo v t (if b then next.End (notified all 0) else next.At (places.Notify all mutex notify.Enter))
+      (outcome_of (condvar_does l (if b then next.End (notified all 0) else next.At (places.Notify all mutex notify.Enter))))
   told_so true = refl
   told_so false = (l, inl refl)
 
-  no_move : (b : Bool) (c k n : ℕ) (every owned : Bool) → (if b then Nothing else AtLock l (OfCondvar (locks.Look (Some mutex)))) ≡ Moves c k every owned n → ⊥
+  no_move : (b : Bool) (c k n : ℕ) (every owned : Bool)
+      → (if b then Nothing else AtLock l (OfCondvar (locks.Look (Some mutex)))) ≡ Moves c k every owned n → ⊥
   no_move true c k n every owned e = cc
   no_move false c k n every owned e = cc
 
   -- the step goes on by that event, where it stands then as its reply says, is in no hand of its own, and the others' calls follow
-  pub look_goes : place_at v t ≡ condvar_goes l (condvar_next (places.Look all) (Value seen)) → ((k : ℕ) → is_taken_by t (taken_at (place_at w t) k) ≡ false) → OthersFollow w v t event
+  pub look_goes : place_at v t ≡ condvar_goes l (condvar_next (places.Look all) (Value seen))
+      → ((k : ℕ) → is_taken_by t (taken_at (place_at w t) k) ≡ false) → OthersFollow w v t event
       → GoesOn (locks_of w) t (outcome_of (condvar_does l (condvar_next (places.Look all) (Value seen)))) (locks_of v)
   look_goes there free others_follow = condvar_goes_on w v t l mutex (places.Look all) call_is (Value seen) event look_happened (lock_state w l).shown (lock_state w mutex) (condvar_next (places.Look all) (Value seen)) _
       (may_go w v t l mutex (places.Look all) call_is (Value seen) event look_happened (lock_state w l).shown (lock_state w mutex) follows.may (λ c k every owned n e. absurd (no_move (seen == 0) c k n every owned e)))

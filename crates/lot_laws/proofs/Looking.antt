@@ -52,7 +52,8 @@ use Rattle.lot_laws.proofs.Following.{goes_steady}
 use Rattle.lot_laws.proofs.StandsKept.{Alike}
 
 -- who is set as it was is seen as it was
-pub set_keeps : {A B : Type 0} (f : A → B) (xs : List A) (i k : ℕ) (y d : A) → f y ≡ f (get_or xs i d) → f (get_or (set xs i y) k d) ≡ f (get_or xs k d)
+pub set_keeps : {A B : Type 0} (f : A → B) (xs : List A) (i k : ℕ) (y d : A) → f y ≡ f (get_or xs i d)
+    → f (get_or (set xs i y) k d) ≡ f (get_or xs k d)
 set_keeps f [] i k y d e = refl
 set_keeps f (x ∷ xs) zero zero y d e = e
 set_keeps f (x ∷ xs) zero (suc k) y d e = refl
@@ -68,14 +69,17 @@ of_lock : (l : ℕ) (o : Option ℕ) → o ≡ Some l → IsLock l o
 of_lock l o e = rw e refl
 
 -- it has come on in the same call, beside the same mutex
-pub fits_on : (w : State) (l : ℕ) (at at2 : CondvarPlace) → FitsCondvar w l at → IsReached at2 → mutex_beside at2 ≡ mutex_beside at → FitsCondvar w l at2
+pub fits_on : (w : State) (l : ℕ) (at at2 : CondvarPlace) → FitsCondvar w l at → IsReached at2
+    → mutex_beside at2 ≡ mutex_beside at → FitsCondvar w l at2
 fits_on w l at at2 f reached beside = record { sort = f.sort; reached = reached; mutex = λ m is. f.mutex m (sym beside ∙ is) }
 
 -- as a wait does that looks at its mutex once more
-looks_on : (at at2 : CondvarPlace) → condvar_looking at ≡ Some at2 → IsReached at → IsReached at2 × (mutex_beside at2 ≡ mutex_beside at)
+looks_on : (at at2 : CondvarPlace) → condvar_looking at ≡ Some at2 → IsReached at
+    → IsReached at2 × (mutex_beside at2 ≡ mutex_beside at)
 looks_on (Wait m timed (wait.Lock late (mutex.Lock e again (lock.Decide seen)))) at2 is reached = by_mark e (seen == 1) reached.1 is
   where
-    by_mark : (e : Entry) (b : Bool) → IsRelock (mutex.Lock e again (lock.Decide seen)) → in_lock m timed late (if b then Some (mutex.Lock e again lock.Load) else None) ≡ Some at2
+    by_mark : (e : Entry) (b : Bool) → IsRelock (mutex.Lock e again (lock.Decide seen))
+        → in_lock m timed late (if b then Some (mutex.Lock e again lock.Load) else None) ≡ Some at2
         → IsReached at2 × (mutex_beside at2 ≡ Some m)
     by_mark entry.Lock true relocks is = let there : Wait m timed (wait.Lock late (mutex.Lock entry.Lock again lock.Load)) ≡ at2 = cc in
         subst (λ p. IsReached p × (mutex_beside p ≡ Some m)) there ((reached.0, tt), refl)
@@ -134,7 +138,9 @@ module _ (w : State) (t : ℕ) (there : t < length w.places) (q : Place) (it : I
     | inr ne ↦ ap profile (get_or-set_other w.places t u q Idle ne)
   ]
 
-  beside_same : (u : ℕ) → (beside_of (place_at moved u) ≡ beside_of (place_at w u)) × (profile_beside (place_at moved u) ≡ profile_beside (place_at w u))
+  beside_same : (u : ℕ)
+      → (beside_of (place_at moved u) ≡ beside_of (place_at w u))
+      × (profile_beside (place_at moved u) ≡ profile_beside (place_at w u))
   beside_same u = elim (cases_eq u t) [
     | inl e ↦ rw (e, stands_here) (it.beside, it.row_beside)
     | inr ne ↦ let same_place = get_or-set_other w.places t u q Idle ne in (ap beside_of same_place, ap profile_beside same_place)
@@ -186,11 +192,13 @@ module _ (w : State) (t : ℕ) (there : t < length w.places) (q : Place) (it : I
       record { called = h.called; event = h.event; may = may_alike (λ u. stance_of (place_at moved u)) h.event h.may; locks = h.locks; calls = h.calls; agrees = h.agrees; begins = h.begins }
 
   -- by the same event
-  pub alike_event : (o : Outcome) (v : LocksState) (e : Event) → ((g : GoesOn (locks_of moved) t o v) × (g.event ≡ e)) → (g : GoesOn (locks_of w) t o v) × (g.event ≡ e)
+  pub alike_event : (o : Outcome) (v : LocksState) (e : Event) → ((g : GoesOn (locks_of moved) t o v) × (g.event ≡ e))
+      → (g : GoesOn (locks_of w) t o v) × (g.event ≡ e)
   alike_event o v e g = let h = subst (λ x. (g : GoesOn x t o v) × (g.event ≡ e)) (sym sees) g in
       (record { called = h.0.called; event = h.0.event; may = may_alike (λ u. stance_of (place_at moved u)) h.0.event h.0.may; locks = h.0.locks; calls = h.0.calls; agrees = h.0.agrees; begins = h.0.begins }, h.1)
 
-  pub alike_stays : (o : Outcome) (v : LocksState) → Stays (locks_of moved) t ((locks_of moved).calls t) o v → Stays (locks_of w) t ((locks_of w).calls t) o v
+  pub alike_stays : (o : Outcome) (v : LocksState) → Stays (locks_of moved) t ((locks_of moved).calls t) o v
+      → Stays (locks_of w) t ((locks_of w).calls t) o v
   alike_stays o v s = let h = subst (λ x. Stays x t (x.calls t) o v) (sym sees) s in
       record { told = h.told; locks = h.locks; calls = h.calls }
 
@@ -245,7 +253,8 @@ module _ (w : State) (t : ℕ) (there : t < length w.places) (q : Place) (is : l
   pub goes_as_before : (o : Outcome) (v : LocksState) → GoesOn (locks_of looked) t o v → GoesOn (locks_of w) t o v
   goes_as_before o v g = alike_goes w t there q alike o v g
 
-  pub stays_as_before : (o : Outcome) (v : LocksState) → Stays (locks_of looked) t ((locks_of looked).calls t) o v → Stays (locks_of w) t ((locks_of w).calls t) o v
+  pub stays_as_before : (o : Outcome) (v : LocksState) → Stays (locks_of looked) t ((locks_of looked).calls t) o v
+      → Stays (locks_of w) t ((locks_of w).calls t) o v
   stays_as_before o v s = alike_stays w t there q alike o v s
 
   pub looking_steady : IsSteady w → IsSteady looked
@@ -261,7 +270,8 @@ behind_closure succeeded p = next_place p (Closed succeeded)
 pub closes_alike : (p : Place) (succeeded : Bool) → RunsOne p → IsAlike p (behind_closure succeeded p)
 closes_alike p succeeded one = rw one.is (record { lock = one.lock; before = refl; now = refl; row = refl; beside = refl; row_beside = refl })
 
-pub closes_fit : (w : State) (p : Place) (succeeded : Bool) → RunsOne p → FitsItsLock w p → FitsItsLock w (behind_closure succeeded p)
+pub closes_fit : (w : State) (p : Place) (succeeded : Bool) → RunsOne p → FitsItsLock w p
+    → FitsItsLock w (behind_closure succeeded p)
 closes_fit w p succeeded one fits = subst (λ q. FitsItsLock w (behind_closure succeeded q)) (sym one.is) (subst (FitsItsLock w) one.is fits)
 
 module _ (w : State) (t : ℕ) (there : t < length w.places) (succeeded : Bool) (one : RunsOne (place_at w t)) where

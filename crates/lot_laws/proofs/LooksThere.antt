@@ -55,7 +55,8 @@ module _ (l : ℕ) (all : Bool) where
   next_out seen k true e = rw e (refl, refl, refl)
   next_out seen k false e = rw e (enters_out (mutex_shown seen) k)
 
-module _ (w : State) (t l : ℕ) (all : Bool) (steady : IsSteady w) (is_there : t < length w.places) (lock : l < length w.locks) (sort : (rules_in w l).sort ≡ locks.Condvar) (is : place_at w t ≡ Condvar l (Look all)) where
+module _ (w : State) (t l : ℕ) (all : Bool) (steady : IsSteady w) (is_there : t < length w.places) (lock : l < length w.locks)
+    (sort : (rules_in w l).sort ≡ locks.Condvar) (is : place_at w t ≡ Condvar l (Look all)) where
   abbrev p2 : Place
   p2 = condvar_goes l (condvar_next (Look all) (Value (word_at w l)))
 
@@ -71,5 +72,7 @@ module _ (w : State) (t l : ℕ) (all : Bool) (steady : IsSteady w) (is_there : 
       filled_then : (operated w t (Condvar l (Look all)) l op.Load).base.filled ≡ filled_at w l
       filled_then = ap (λ b. filled_at w l || (b && nat_le (rules_in w l).limit (count_in (word_at w l)))) (ap has_readers sort) ∙ or-false (filled_at w l)
 
-      code_same : code (rules_in w l) (seen_in (rules_in w l) l (operated w t (Condvar l (Look all)) l op.Load) (putting (place_at w) t p2)) ≡ code (rules_in w l) (lock_by w l (rules_in w l))
+      code_same : code (rules_in w l)
+          (seen_in (rules_in w l) l (operated w t (Condvar l (Look all)) l op.Load) (putting (place_at w) t p2))
+          ≡ code (rules_in w l) (lock_by w l (rules_in w l))
       code_same = same_word (rules_in w l).sort (rules_in w l).limit _ _ _ _ refl refl refl refl refl refl

@@ -55,7 +55,8 @@ module _ (w : State) (l m : ℕ) (apart : m ≢ l) (timed : Bool) where
 
   -- by its rows
   goes_across : (p p2 : WaitAt) (at_m : Station → Station) (held : Option Taken) → there_of p2 ≡ record (there_of p) { stands = None; waits = None } → beside_of p2 ≡ at_m (beside_of p) → (row_there (At (waits p2))).doing ≡ (row_there (At (waits p))).doing → (row_beside (At (waits p2))).doing ≡ (row_beside (At (waits p))).doing
-      → taken_of p2 ≡ held → FitsItsLock w (Condvar l (waits p2)) → GoesAcross w l m (Condvar l (waits p)) (Condvar l (waits p2)) at_m held
+      → taken_of p2 ≡ held → FitsItsLock w (Condvar l (waits p2))
+      → GoesAcross w l m (Condvar l (waits p)) (Condvar l (waits p2)) at_m held
   goes_across p p2 at_m held left came did_c did_m held_m fits = record {
     left = station_there l m apart (At (waits p2)) refl ∙ left ∙ sym (ap (λ (y : Station). record y { stands = None; waits = None }) (station_there l m apart (At (waits p)) refl));
     came = station_beside l m apart (At (waits p2)) refl ∙ came ∙ sym (ap at_m (station_beside l m apart (At (waits p)) refl));
@@ -68,12 +69,14 @@ module _ (w : State) (l m : ℕ) (apart : m ≢ l) (timed : Bool) where
   }
 
   -- it has come to the next place too
-  comes : (p p2 : WaitAt) → FitsCondvar w l (waits p) → (IsReached (waits p) → IsReached (waits p2)) → FitsItsLock w (Condvar l (waits p2))
+  comes : (p p2 : WaitAt) → FitsCondvar w l (waits p) → (IsReached (waits p) → IsReached (waits p2))
+      → FitsItsLock w (Condvar l (waits p2))
   comes p p2 fits reached = record { sort = fits.sort; reached = reached fits.reached; mutex = fits.mutex }
 
   module _ (t : ℕ) where
     -- asleep
-    sleeper : FitsCondvar w l (waits (wait.Asleep stands.Listed)) → WaitsAcross w t l m (Condvar l (waits (wait.Asleep stands.Listed)))
+    sleeper : FitsCondvar w l (waits (wait.Asleep stands.Listed))
+        → WaitsAcross w t l m (Condvar l (waits (wait.Asleep stands.Listed)))
     sleeper fits = record {
       stands = ap (λ (y : Station). y.stands) (station_there l m apart (At (waits p)) refl);
       out = ap (λ (y : Station). y.stands) (station_beside l m apart (At (waits p)) refl);
@@ -87,7 +90,8 @@ module _ (w : State) (l m : ℕ) (apart : m ≢ l) (timed : Bool) where
         p = wait.Asleep stands.Listed
 
     -- or releasing the mutex still
-    releaser : (at : UnlockAt) → FitsCondvar w l (waits (wait.Release stands.Listed (mutex.Unlock at))) → WaitsAcross w t l m (Condvar l (waits (wait.Release stands.Listed (mutex.Unlock at))))
+    releaser : (at : UnlockAt) → FitsCondvar w l (waits (wait.Release stands.Listed (mutex.Unlock at)))
+        → WaitsAcross w t l m (Condvar l (waits (wait.Release stands.Listed (mutex.Unlock at))))
     releaser at fits = record {
       stands = ap (λ (y : Station). y.stands) (station_there l m apart (At (waits p)) refl);
       out = ap (λ (y : Station). y.stands) (station_beside l m apart (At (waits p)) refl);
@@ -102,7 +106,9 @@ module _ (w : State) (l m : ℕ) (apart : m ≢ l) (timed : Bool) where
 
 -- ---------------------------------------------------------------- all of them, where a notification moves
 
-module _ (w : State) (t l m : ℕ) (steady : IsSteady w) (apart : m ≢ l) (sort_l : (rules_in w l).sort ≡ locks.Condvar) (all locked : Bool) (is : place_at w t ≡ Condvar l (Notify all m (notify.Move locked))) (kept : IsCondvar (condvar_of w l)) where
+module _ (w : State) (t l m : ℕ) (steady : IsSteady w) (apart : m ≢ l) (sort_l : (rules_in w l).sort ≡ locks.Condvar)
+    (all locked : Bool) (is : place_at w t ≡ Condvar l (Notify all m (notify.Move locked)))
+    (kept : IsCondvar (condvar_of w l)) where
   abbrev this : CondvarPlace
   this = Notify all m (notify.Move locked)
 
@@ -122,14 +128,17 @@ module _ (w : State) (t l m : ℕ) (steady : IsSteady w) (apart : m ≢ l) (sort
     listed = let a : locks.times u (lock_state w l).queue ≡ times u (queue_at w (2 * l)) = queued_times u (queue_at w (2 * l)) in omega arith
 
     -- nobody else is inside the section
-    not_inside : (timed : Bool) (p : WaitAt) → place_at w u ≡ Condvar l (Wait m timed p) → (station_by (row_there (At (Wait m timed p)))).inside ≡ Some Main → ⊥
+    not_inside : (timed : Bool) (p : WaitAt) → place_at w u ≡ Condvar l (Wait m timed p)
+        → (station_by (row_there (At (Wait m timed p)))).inside ≡ Some Main → ⊥
     not_inside timed p at within = let a : section_at w (key_of l Main) ≡ Some u = (steady.stands.sections u l Main).0 (ap (λ q. (station_at q l).inside) at ∙ ap (λ (y : Station). y.inside) (station_there l m apart (At (Wait m timed p)) refl) ∙ within) in
         let b : Some u ≡ Some t = sym a ∙ held in let c : u ≡ t = cc in let d : Condvar l (Wait m timed p) ≡ Condvar l this = sym at ∙ ap (place_at w) c ∙ is in cc
 
     -- so it sleeps, or releases its mutex still
-    module _ (P : Place → Type 0) (sleeps : (timed : Bool) → FitsCondvar w l (Wait m timed (wait.Asleep stands.Listed)) → P (Condvar l (Wait m timed (wait.Asleep stands.Listed))))
+    module _ (P : Place → Type 0)
+        (sleeps : (timed : Bool) → FitsCondvar w l (Wait m timed (wait.Asleep stands.Listed)) → P (Condvar l (Wait m timed (wait.Asleep stands.Listed))))
         (releases : (timed : Bool) (at : UnlockAt) → FitsCondvar w l (Wait m timed (wait.Release stands.Listed (mutex.Unlock at))) → P (Condvar l (Wait m timed (wait.Release stands.Listed (mutex.Unlock at))))) where
-      by_wait : (timed : Bool) (p : WaitAt) → place_at w u ≡ Condvar l (Wait m timed p) → (wait_row m p).listed ≡ true → FitsCondvar w l (Wait m timed p) → P (Condvar l (Wait m timed p))
+      by_wait : (timed : Bool) (p : WaitAt) → place_at w u ≡ Condvar l (Wait m timed p) → (wait_row m p).listed ≡ true
+          → FitsCondvar w l (Wait m timed p) → P (Condvar l (Wait m timed p))
       by_wait timed wait.Leave at h fits = absurd (not_inside timed wait.Leave at refl)
       by_wait timed wait.Remove at h fits = absurd (not_inside timed wait.Remove at refl)
       by_wait timed (wait.Asleep stands.Listed) at h fits = sleeps timed fits

@@ -100,7 +100,8 @@ pending_one : (p : Option Pending) (t u : ℕ) → IsSomePending p t → IsSomeP
 pending_one None t u h g = absurd h
 pending_one (Some p) t u h g = sym h ∙ g
 
-module _ (w : State) (t l : ℕ) (steady : IsSteady w) (there : t < length w.places) (own : IsOf l (place_at w t)) (r : Rules) (rules : rules_in w l ≡ r) (x : Move) (same_row : profile (place_at w t) ≡ x.row) where
+module _ (w : State) (t l : ℕ) (steady : IsSteady w) (there : t < length w.places) (own : IsOf l (place_at w t)) (r : Rules)
+    (rules : rules_in w l ≡ r) (x : Move) (same_row : profile (place_at w t) ≡ x.row) where
   abbrev pub here : Site
   here = lock_by w l r
 
@@ -137,8 +138,10 @@ module _ (w : State) (t l : ℕ) (steady : IsSteady w) (there : t < length w.pla
 
   -- ---------------------------------------------------------------- the word
 
-  pub stays : (readers : has_readers r.sort ≡ true) (p p2 : Place) (op : Op) → l < length w.locks → StaysPut x → IsFollowed None (Value (word_at w l)) p2
-      → lock_in (operated w t p l op) (λ u. taken_at (place_at w u) l) ≡ (laws.after_all r (x.deeds None (Value (word_at w l))) here t).lock
+  pub stays : (readers : has_readers r.sort ≡ true) (p p2 : Place) (op : Op) → l < length w.locks → StaysPut x
+      → IsFollowed None (Value (word_at w l)) p2
+      → lock_in (operated w t p l op) (λ u. taken_at (place_at w u) l)
+      ≡ (laws.after_all r (x.deeds None (Value (word_at w l))) here t).lock
       → apply op (word_at w l) ≡ code r (laws.after_all r (x.deeds None (Value (word_at w l))) here t)
       → Goes w (put (state_after_operation w t p l op) t p2) l (acts t (x.deeds None (Value (word_at w l))))
   stays readers p p2 op lt g f owners word = lawful_goes w t l steady own there r rules p2 f.of f.fits readers p op (x.deeds None (Value (word_at w l)))
@@ -153,7 +156,8 @@ module _ (w : State) (t l : ℕ) (steady : IsSteady w) (there : t < length w.pla
     pub free_line : section_at w (key_of l m) ≡ None → (u : ℕ) → (here.doing u).inside ≢ Some m
     free_line = nobody_inside w t l steady own there r rules (place_at w t) own (steady.stands.calls t) m
 
-    goes_in_by : (told : Reply) (p2 : Place) → key_of l m < length w.sections → section_at w (key_of l m) ≡ None → GoesIn x hears m told → IsFollowed None told p2
+    goes_in_by : (told : Reply) (p2 : Place) → key_of l m < length w.sections → section_at w (key_of l m) ≡ None
+        → GoesIn x hears m told → IsFollowed None told p2
         → Goes w (put (state_with_sections w (One (key_of l m)) (Some t)) t p2) l (acts t (x.deeds None told))
     goes_in_by told p2 line free g f = subst (λ ds. Goes w (put (state_with_sections w (One (key_of l m)) (Some t)) t p2) l (acts t ds)) (sym g.deeds)
         (enter_goes w t l steady own there r rules p2 f.of f.fits m line free (ap (λ (y : Station). y.inside) station_is ∙ g.out)
@@ -167,7 +171,8 @@ module _ (w : State) (t l : ℕ) (steady : IsSteady w) (there : t < length w.pla
     entered_hears told free g = g.may r here t (free_line free)
 
     -- into a section that is free
-    pub goes_in : (told : Reply) (p2 : Place) → key_of l m < length w.sections → section_at w (key_of l m) ≡ None → GoesIn x hears m told → (hears r here t None told → IsFollowed None told p2)
+    pub goes_in : (told : Reply) (p2 : Place) → key_of l m < length w.sections → section_at w (key_of l m) ≡ None
+        → GoesIn x hears m told → (hears r here t None told → IsFollowed None told p2)
         → Goes w (put (state_with_sections w (One (key_of l m)) (Some t)) t p2) l (acts t (x.deeds None told))
     goes_in told p2 line free g followed = goes_in_by told p2 line free g (followed (entered_hears told free g))
 
@@ -187,7 +192,8 @@ module _ (w : State) (t l : ℕ) (steady : IsSteady w) (there : t < length w.pla
     -- or whom it has is woken
     goes_out_waking : (p2 : Place) → key_of l m < length w.sections → (g : AreLeaving (x.deeds None Done)) → (station_of x).inside ≡ Some m → (station_of x).hand ≡ None → station_then x Done ≡ record (station_of x) { inside = None; carries = None } → IsFollowed None Done p2
         → ((u : ℕ) (b : Bool) → hand_at (place_at w u) l ≡ hand t b → IsWokenAt w t l Normal (place_at w u))
-        → Goes w (put (state_after_telling (state_with_sections w (One (key_of l m)) None) t (Woken Normal)) t p2) l (acts t (x.deeds None Done))
+        → Goes w (put (state_after_telling (state_with_sections w (One (key_of l m)) None) t (Woken Normal)) t p2) l
+        (acts t (x.deeds None Done))
     goes_out_waking p2 line leaving within free out f woken = wake_goes w t l steady own there p2 f.of f.fits Normal woken (ap (λ (y : Station). y.hand) station_is ∙ free)
         (ap (λ (y : Station). y.carries) (there_is None Done p2 f ∙ out)) (ap (λ (y : Station). y.hand) (there_is None Done p2 f ∙ out) ∙ free)
         m line (ap (λ (y : Station). y.inside) station_is ∙ within)
@@ -199,7 +205,8 @@ module _ (w : State) (t l : ℕ) (steady : IsSteady w) (there : t < length w.pla
     left_hears wakes g = g.may r here t (free_of (place_at w t) l (of_single l (place_at w t) own) (ap (λ (y : Station). y.hand) station_is ∙ g.free))
 
     -- by whether it has anybody
-    pub goes_out : (wakes : Wakes) (p2 : Place) → key_of l m < length w.sections → GoesOut x hears m wakes → (hears r here t None Done → IsFollowed None Done p2)
+    pub goes_out : (wakes : Wakes) (p2 : Place) → key_of l m < length w.sections → GoesOut x hears m wakes
+        → (hears r here t None Done → IsFollowed None Done p2)
         → ((u : ℕ) (b : Bool) → hand_at (place_at w u) l ≡ hand t b → IsWokenAt w t l Normal (place_at w u))
         → Goes w (put (state_after_leave w t (One (key_of l m)) wakes) t p2) l (acts t (x.deeds None Done))
     goes_out wakes p2 line g followed woken = subst (λ y. Goes w (put (state_after_leave w t (One (key_of l m)) y) t p2) l (acts t (x.deeds None Done))) (sym g.notes) (either g.any g.carries)
@@ -207,7 +214,8 @@ module _ (w : State) (t l : ℕ) (steady : IsSteady w) (there : t < length w.pla
         f : IsFollowed None Done p2
         f = followed (left_hears wakes g)
 
-        either : (b : Bool) → (station_of x).carries ≡ in_hand b false → Goes w (put (state_after_leave w t (One (key_of l m)) (wakes_taken b Normal)) t p2) l (acts t (x.deeds None Done))
+        either : (b : Bool) → (station_of x).carries ≡ in_hand b false
+            → Goes w (put (state_after_leave w t (One (key_of l m)) (wakes_taken b Normal)) t p2) l (acts t (x.deeds None Done))
         either false e = goes_out_alone p2 line g.deeds g.inside e g.free g.goes f
         either true e = goes_out_waking p2 line g.deeds g.inside g.free g.goes f woken
 
@@ -227,7 +235,8 @@ module _ (w : State) (t l : ℕ) (steady : IsSteady w) (there : t < length w.pla
   module _ (hears : Hears) (m : Line) where
     -- it stands behind the last of a line, which nobody else stands aside in
     parks_by : (n : Line) → m ≡ n → (want : Want) (p2 : Place) → key_of l n < length w.queues → station_of x ≡ inside_of n → x.deeds None (Parked true) ≡ parks_in n want ∷ [] → station_then x (Parked true) ≡ record (inside_of n) { stands = Some n; waits = Some want } → IsFollowed None (Parked true) p2
-        → Goes w (put (record w { queues = queues_with_last w.queues (key_of l n) t want }) t p2) l (acts t (x.deeds None (Parked true)))
+        → Goes w (put (record w { queues = queues_with_last w.queues (key_of l n) t want }) t p2) l
+        (acts t (x.deeds None (Parked true)))
     parks_by Main e want p2 line was does parked f = subst (λ ds. Goes w (put (record w { queues = queues_with_last w.queues (2 * l) t want }) t p2) l (acts t ds)) (sym does)
         (park_goes w t l steady own there r rules p2 f.of f.fits Main want (Case (Park want) ∷ []) (λ h. ((λ k. k), tt)) line (ap (λ (y : Station). y.stands) (station_is ∙ was))
         (parks r l (parts_at w l) (place_at w) t p2 site (hands p2 was parked f) (2 * l) want (needed_by None (Parked true) p2 f (Case (Park want) ∷ []) does) (own_by None (Parked true) p2 f (Case (Park want) ∷ []) does ∙ put_here (λ u. doing_on (place_at w u) l) t _))
@@ -249,12 +258,16 @@ module _ (w : State) (t l : ℕ) (steady : IsSteady w) (there : t < length w.pla
             by_aside None e = e
             by_aside (Some u) e = absurd (let it : u ≡ t = pending_one here.lock.pending u t (site.state.aside_pending u e) needed.0.0.0 in let none : locks.is_thread t (first_of (queue_at w (2 * l + 1))) ≡ 0 = let all : standing t here.lock ≡ 0 = needed.0.0.2 in omega arith in let one : locks.is_thread t (first_of (queue_at w (2 * l + 1))) ≡ 1 = ap (locks.is_thread t) e ∙ ap (λ b. if b then 1 else 0) (ap (λ v. v == t) it ∙ same t) in omega arith)
 
-    pub parked_hears : (check : Check) (want : Want) → Parks x hears m check want → (b : Bool) → holds check (word_at w l) ≡ b → hears r here t None (Parked b)
+    pub parked_hears : (check : Check) (want : Want) → Parks x hears m check want → (b : Bool) → holds check (word_at w l) ≡ b
+        → hears r here t None (Parked b)
     parked_hears check _ g b e = g.may r here t b (sym e ∙ ap (holds check) word_is) (nowhere_here (ap (λ (y : Station). y.stands) g.was) (ap (λ (y : Station). y.hand) g.was))
 
     -- where the test holds
-    pub parks_or_turns : (check : Check) (want : Want) → key_of l m < length w.queues → Parks x hears m check want → ((b : Bool) → hears r here t None (Parked b) → IsFollowed None (Parked b) (next_place (place_at w t) (Parked b)))
-        → Goes w (put (state_after_park w t l (key_of l m) check want) t (next_place (place_at w t) (Parked (holds check (word_at w l))))) l (acts t (x.deeds None (Parked (holds check (word_at w l)))))
+    pub parks_or_turns : (check : Check) (want : Want) → key_of l m < length w.queues → Parks x hears m check want
+        → ((b : Bool) → hears r here t None (Parked b) → IsFollowed None (Parked b) (next_place (place_at w t) (Parked b)))
+        → Goes w
+        (put (state_after_park w t l (key_of l m) check want) t (next_place (place_at w t) (Parked (holds check (word_at w l))))) l
+        (acts t (x.deeds None (Parked (holds check (word_at w l)))))
     parks_or_turns check want line g followed = either (holds check (word_at w l)) refl
       where
         f : (b : Bool) → holds check (word_at w l) ≡ b → IsFollowed None (Parked b) (next_place (place_at w t) (Parked b))
@@ -288,7 +301,8 @@ module _ (w : State) (t l : ℕ) (steady : IsSteady w) (there : t < length w.pla
     pub sleeper : calls (place_at w u) l ≡ true → IsSleeper u
 
   -- so who has a part in the lock calls it
-  by_calls : {A : Type 0} (p : Place) → is_lock l (beside_of p) ≡ false → (g : Station → Option A) (y : A) → g nowhere ≡ None → g (station_at p l) ≡ Some y → (calls p l ≡ true) × (g (station p) ≡ Some y)
+  by_calls : {A : Type 0} (p : Place) → is_lock l (beside_of p) ≡ false → (g : Station → Option A) (y : A) → g nowhere ≡ None
+      → g (station_at p l) ≡ Some y → (calls p l ≡ true) × (g (station p) ≡ Some y)
   by_calls p apart g y none h = either (calls p l) (ap (λ c. g (if calls p l then station p else if c then station_by (profile_beside p) else nowhere)) (sym apart) ∙ h)
     where
       either : (b : Bool) → g (if b then station p else nowhere) ≡ Some y → (b ≡ true) × (g (station p) ≡ Some y)
@@ -304,10 +318,12 @@ module _ (w : State) (t l : ℕ) (steady : IsSteady w) (there : t < length w.pla
 
   module _ (asleep : (u : ℕ) → SleepsIfCalls u) where
     -- whom t has in hand is woken, and tries again, where t has handed nothing over
-    pub wakes_one : (any : Bool) → (station_of x).carries ≡ in_hand any false → (u : ℕ) (b : Bool) → hand_at (place_at w u) l ≡ hand t b → IsWokenAt w t l Normal (place_at w u)
+    pub wakes_one : (any : Bool) → (station_of x).carries ≡ in_hand any false → (u : ℕ) (b : Bool)
+        → hand_at (place_at w u) l ≡ hand t b → IsWokenAt w t l Normal (place_at w u)
     wakes_one any carries u b held = let k = by_calls (place_at w u) (asleep u).apart (λ (y : Station). y.hand) (Of t b) refl held in by_sleeper (called (place_at w u) ((asleep u).sleeper k.0).single k.0) k.0 k.1 ((asleep u).sleeper k.0)
       where
-        by_sleeper : IsOf l (place_at w u) → calls (place_at w u) l ≡ true → (station (place_at w u)).hand ≡ hand t b → IsSleeper u → IsWokenAt w t l Normal (place_at w u)
+        by_sleeper : IsOf l (place_at w u) → calls (place_at w u) l ≡ true → (station (place_at w u)).hand ≡ hand t b
+            → IsSleeper u → IsWokenAt w t l Normal (place_at w u)
         by_sleeper of_u calls_l h z = by_held (fresh, z.waits.held t (sym (ap (λ (y : Profile). y.hand) z.row) ∙ h ∙ ap (hand t) fresh))
           where
             fresh : b ≡ false
@@ -340,7 +356,8 @@ module _ (w : State) (t l : ℕ) (steady : IsSteady w) (there : t < length w.pla
                 taken_now = single_taken (place_at w u) l z.single ∙ (λ i. taken_from ((h ∙ ap (hand t) k.0) i) ((ap (λ (y : Profile). y.wants) z.row ∙ k.1.wants) i) (calls_l i))
 
     -- who sleeps in a line is taken from there
-    taken_from_line : (m : Line) (u : ℕ) → calls (place_at w u) l ≡ true → (z : IsSleeper u) → Sleeps z.move m → IsTakenFrom w t l m (place_at w u)
+    taken_from_line : (m : Line) (u : ℕ) → calls (place_at w u) l ≡ true → (z : IsSleeper u) → Sleeps z.move m
+        → IsTakenFrom w t l m (place_at w u)
     taken_from_line m u calls_l z k = record {
       calls = of_u;
       wanted = Some k.want;
@@ -382,7 +399,8 @@ module _ (w : State) (t l : ℕ) (steady : IsSteady w) (there : t < length w.pla
           | inr k ↦ record { calls_l = calls_l; sleeper = z; sleeps = k }
         ]
 
-    pub sleeps_in : (m : Line) (u : ℕ) → station_of x ≡ inside_of m → (station_at (place_at w u) l).stands ≡ Some m → IsTakenFrom w t l m (place_at w u)
+    pub sleeps_in : (m : Line) (u : ℕ) → station_of x ≡ inside_of m → (station_at (place_at w u) l).stands ≡ Some m
+        → IsTakenFrom w t l m (place_at w u)
     sleeps_in m u inside stands = let k = asleep_in m u inside stands in taken_from_line m u k.calls_l k.sleeper k.sleeps
 
     -- ---------------------------------------------------------------- the second line
@@ -399,7 +417,8 @@ module _ (w : State) (t l : ℕ) (steady : IsSteady w) (there : t < length w.pla
     pending_aside : (u : ℕ) → 1 ≤ times u (queue_at w (2 * l + 1)) → IsSomePending here.lock.pending u
     pending_aside u h = let k = by_calls (place_at w u) (asleep u).apart (λ (y : Station). y.stands) Second refl (stands_aside u h) in by_sleeper k.0 k.1 ((asleep u).sleeper k.0)
       where
-        by_sleeper : calls (place_at w u) l ≡ true → (station (place_at w u)).stands ≡ Some Second → (z : IsSleeper u) → IsSomePending here.lock.pending u
+        by_sleeper : calls (place_at w u) l ≡ true → (station (place_at w u)).stands ≡ Some Second → (z : IsSleeper u)
+            → IsSomePending here.lock.pending u
         by_sleeper calls_l e z = let a = z.waits.aside (sym (ap (λ (y : Profile). y.stands) z.row) ∙ e) in
             let pends : here.lock.pending ≡ Some (record { thread = u; falls_back = a.1.0 }) = site.held u (Pends a.1.0) (ap (λ (d : Doing). d.claims) (doing_here l (place_at w u) (called (place_at w u) z.single calls_l) ∙ ap (λ (y : Profile). y.doing) z.row) ∙ a.1.1) in
             subst (λ o. IsSomePending o u) (sym pends) refl
@@ -417,7 +436,8 @@ module _ (w : State) (t l : ℕ) (steady : IsSteady w) (there : t < length w.pla
         omega arith
         )
       where
-        at_most : (o : Option Line) → times y.thread (queue_at w (2 * l + 1)) ≡ stood_in o Second → times y.thread (queue_at w (2 * l + 1)) ≤ 1
+        at_most : (o : Option Line) → times y.thread (queue_at w (2 * l + 1)) ≡ stood_in o Second
+            → times y.thread (queue_at w (2 * l + 1)) ≤ 1
         at_most (Some Second) h = omega arith
         at_most (Some Main) h = omega arith
         at_most None h = omega arith
@@ -429,7 +449,8 @@ module _ (w : State) (t l : ℕ) (steady : IsSteady w) (there : t < length w.pla
         waits_there : (station_at (place_at w y.thread) l).waits ≡ Some y.want
         waits_there = (subst (AreWaiting (stations_of (place_at w)) l Second) e (steady.stands.waits l Second)).0.1
 
-        by_sleeper : calls (place_at w y.thread) l ≡ true → (station (place_at w y.thread)).stands ≡ Some Second → (z : IsSleeper y.thread) → y.want ≡ Exclusive
+        by_sleeper : calls (place_at w y.thread) l ≡ true → (station (place_at w y.thread)).stands ≡ Some Second
+            → (z : IsSleeper y.thread) → y.want ≡ Exclusive
         by_sleeper calls_l h z = let a = z.waits.aside (sym (ap (λ (y : Profile). y.stands) z.row) ∙ h) in
             let waits_all : (station (place_at w y.thread)).waits ≡ Some Exclusive = (λ i. waits_for (h i) ((ap (λ (y : Profile). y.wants) z.row ∙ a.0) i)) in
             let both : Some y.want ≡ Some Exclusive = sym waits_there ∙ ap (λ (y : Station). y.waits) (station_here l (place_at w y.thread) (called (place_at w y.thread) z.single calls_l)) ∙ waits_all in cc
@@ -443,7 +464,8 @@ module _ (w : State) (t l : ℕ) (steady : IsSteady w) (there : t < length w.pla
     only_one : 1 ≤ times t (queue_at w (2 * l + 1)) → (y : Waiter) × ((queue_at w (2 * l + 1) ≡ y ∷ []) × (y.thread ≡ t))
     only_one h = by_line (queue_at w (2 * l + 1)) refl
       where
-        by_line : (q : List Waiter) → queue_at w (2 * l + 1) ≡ q → (y : Waiter) × ((queue_at w (2 * l + 1) ≡ y ∷ []) × (y.thread ≡ t))
+        by_line : (q : List Waiter) → queue_at w (2 * l + 1) ≡ q
+            → (y : Waiter) × ((queue_at w (2 * l + 1) ≡ y ∷ []) × (y.thread ≡ t))
         by_line [] e = absurd (let none : times t (queue_at w (2 * l + 1)) ≡ 0 = ap (times t) e in omega arith)
         by_line (y ∷ rest) e = (y, (e ∙ ap (λ (ys : List Waiter). y ∷ ys) (alone_aside y rest e), same_thread))
           where
@@ -455,8 +477,11 @@ module _ (w : State) (t l : ℕ) (steady : IsSteady w) (there : t < length w.pla
 
     module _ (hears : Hears) where
       -- its time is up, and it leaves the line in which it stands
-      leaves_by : (m : Line) (b : Bool) (p2 : Place) → LeavesLine x hears m → (map queued_of (with_line (parts_at w l) m (without t (queue_at w (key_of l m)))).main ≡ locks.without t (map queued_of (queue_at w (2 * l)))) → (first_of (with_line (parts_at w l) m (without t (queue_at w (key_of l m)))).second ≡ locks.aside_without t (first_of (queue_at w (2 * l + 1))))
-          → IsFollowed None (Removed b) p2 → Goes w (put (record w { queues = queues_without w.queues t }) t p2) l (acts t (x.deeds None (Removed b)))
+      leaves_by : (m : Line) (b : Bool) (p2 : Place) → LeavesLine x hears m
+          → (map queued_of (with_line (parts_at w l) m (without t (queue_at w (key_of l m)))).main ≡ locks.without t (map queued_of (queue_at w (2 * l))))
+          → (first_of (with_line (parts_at w l) m (without t (queue_at w (key_of l m)))).second ≡ locks.aside_without t (first_of (queue_at w (2 * l + 1))))
+          → IsFollowed None (Removed b) p2
+          → Goes w (put (record w { queues = queues_without w.queues t }) t p2) l (acts t (x.deeds None (Removed b)))
       leaves_by m b p2 g mains seconds f = subst (λ ds. Goes w (put (record w { queues = queues_without w.queues t }) t p2) l (acts t ds)) (sym (g.deeds b))
           (remove_goes w t l steady own there r rules p2 f.of f.fits m (Case locks.Late ∷ []) (λ h. ((λ k. k), tt)) (ap (λ (y : Station). y.stands) (station_is ∙ g.was))
           (lates r l (parts_at w l) (place_at w) t p2 site (free_of (place_at w t) l (of_single l (place_at w t) own) (ap (λ (y : Station). y.hand) (station_is ∙ g.was)) ∙ sym (free_of p2 l (of_single l p2 f.of) (ap (λ (y : Station). y.hand) (there_is None (Removed b) p2 f ∙ g.goes b))))
@@ -467,15 +492,19 @@ module _ (w : State) (t l : ℕ) (steady : IsSteady w) (there : t < length w.pla
       one_aside : (station_of x).stands ≡ Some Second → (y : Waiter) × ((queue_at w (2 * l + 1) ≡ y ∷ []) × (y.thread ≡ t))
       one_aside stands = only_one (let a : times t (queue_at w (2 * l + 1)) ≡ 1 = stood_once Second Second stands in omega arith)
 
-      pub removed_hears : (m : Line) → LeavesLine x hears m → hears r here t None (Removed (length (without t (queue_at w (key_of l m))) == 0))
+      pub removed_hears : (m : Line) → LeavesLine x hears m
+          → hears r here t None (Removed (length (without t (queue_at w (key_of l m))) == 0))
       removed_hears Main g = g.may r here t (length (without t (queue_at w (2 * l))) == 0) (stands, sym (ap is_empty (sym (queued_without t (queue_at w (2 * l)))) ∙ empty_line (without t (queue_at w (2 * l)))))
         where
           stands : 1 ≤ locks.times t (map queued_of (queue_at w (2 * l)))
           stands = let a : locks.times t (map queued_of (queue_at w (2 * l))) ≡ 1 = queued_times t (queue_at w (2 * l)) ∙ stood_once Main Main (ap (λ (y : Station). y.stands) g.was) in omega arith
       removed_hears Second g = let one = one_aside (ap (λ (y : Station). y.stands) g.was) in g.may r here t (length (without t (queue_at w (2 * l + 1))) == 0) (ap first_of one.1.0 ∙ ap Some one.1.1)
 
-      pub leaves_line : (m : Line) → LeavesLine x hears m → ((b : Bool) → hears r here t None (Removed b) → IsFollowed None (Removed b) (next_place (place_at w t) (Removed b)))
-          → Goes w (put (record w { queues = queues_without w.queues t }) t (next_place (place_at w t) (Removed (length (without t (queue_at w (key_of l m))) == 0)))) l (acts t (x.deeds None (Removed (length (without t (queue_at w (key_of l m))) == 0))))
+      pub leaves_line : (m : Line) → LeavesLine x hears m
+          → ((b : Bool) → hears r here t None (Removed b) → IsFollowed None (Removed b) (next_place (place_at w t) (Removed b)))
+          → Goes w
+          (put (record w { queues = queues_without w.queues t }) t (next_place (place_at w t) (Removed (length (without t (queue_at w (key_of l m))) == 0)))) l
+          (acts t (x.deeds None (Removed (length (without t (queue_at w (key_of l m))) == 0))))
       leaves_line Main g followed = leaves_by Main (length (without t (queue_at w (2 * l))) == 0) (next_place (place_at w t) (Removed (length (without t (queue_at w (2 * l))) == 0))) g (queued_without t (queue_at w (2 * l))) (sym (aside_kept t (first_of (queue_at w (2 * l + 1))) (first_out t (queue_at w (2 * l + 1)) (stood_once Main Second (ap (λ (y : Station). y.stands) g.was)))))
           (followed (length (without t (queue_at w (2 * l))) == 0) (removed_hears Main g))
       leaves_line Second g followed = leaves_by Second (length (without t (queue_at w (2 * l + 1))) == 0) (next_place (place_at w t) (Removed (length (without t (queue_at w (2 * l + 1))) == 0))) g
@@ -495,11 +524,14 @@ module _ (w : State) (t l : ℕ) (steady : IsSteady w) (there : t < length w.pla
 
       -- ---------------------------------------------------------------- the writer aside
 
-      module _ (many : TakesOne w l → ⊥) (line : key_of l Second < length w.queues) (g : TakesAside x hears) (followed : (any none_left : Bool) → hears r here t here.lock.aside (Took any none_left) → IsFollowed here.lock.aside (Took any none_left) (next_place (place_at w t) (Took any none_left))) where
-        followed_by : (o : Option ℕ) (any none_left : Bool) → first_of (queue_at w (2 * l + 1)) ≡ o → IsFollowed o (Took any none_left) (next_place (place_at w t) (Took any none_left))
+      module _ (many : TakesOne w l → ⊥) (line : key_of l Second < length w.queues) (g : TakesAside x hears)
+          (followed : (any none_left : Bool) → hears r here t here.lock.aside (Took any none_left) → IsFollowed here.lock.aside (Took any none_left) (next_place (place_at w t) (Took any none_left))) where
+        followed_by : (o : Option ℕ) (any none_left : Bool) → first_of (queue_at w (2 * l + 1)) ≡ o
+            → IsFollowed o (Took any none_left) (next_place (place_at w t) (Took any none_left))
         followed_by o any none_left e = subst (λ o. IsFollowed o (Took any none_left) (next_place (place_at w t) (Took any none_left))) e (followed any none_left (g.may r here t any none_left))
 
-        hand_then : (o : Option ℕ) (any none_left : Bool) → first_of (queue_at w (2 * l + 1)) ≡ o → taken_at (next_place (place_at w t) (Took any none_left)) l ≡ None
+        hand_then : (o : Option ℕ) (any none_left : Bool) → first_of (queue_at w (2 * l + 1)) ≡ o
+            → taken_at (next_place (place_at w t) (Took any none_left)) l ≡ None
         hand_then o any none_left e = free_of (next_place (place_at w t) (Took any none_left)) l (of_single l (next_place (place_at w t) (Took any none_left)) (followed_by o any none_left e).of) (ap (λ (y : Station). y.hand) (there_is o (Took any none_left) (next_place (place_at w t) (Took any none_left)) (followed_by o any none_left e) ∙ g.goes any none_left))
 
         hand_now : taken_at (place_at w t) l ≡ None
@@ -533,7 +565,9 @@ module _ (w : State) (t l : ℕ) (steady : IsSteady w) (there : t < length w.pla
             first_there : 1 ≤ times y.thread (queue_at w (2 * l + 1))
             first_there = first_times y.thread (queue_at w (2 * l + 1)) (ap first_of first)
 
-        pub takes_whom_aside : Goes w (put (state_after_take_first w t (2 * l + 1)) t (next_place (place_at w t) (reply_to_take w t (2 * l + 1) whom.TheVariants.First))) l (acts t (x.deeds here.lock.aside (reply_to_take w t (2 * l + 1) whom.TheVariants.First)))
+        pub takes_whom_aside : Goes w
+            (put (state_after_take_first w t (2 * l + 1)) t (next_place (place_at w t) (reply_to_take w t (2 * l + 1) whom.TheVariants.First))) l
+            (acts t (x.deeds here.lock.aside (reply_to_take w t (2 * l + 1) whom.TheVariants.First)))
         takes_whom_aside = by_line (queue_at w (2 * l + 1)) refl
           where
             by_line : (q : List Waiter) → queue_at w (2 * l + 1) ≡ q → Goes w (put (state_after_taking (record w { queues = queues_without_first w.queues (2 * l + 1) }) t (first_of (queue_at w (2 * l + 1)))) t (next_place (place_at w t) (Took (is_there (first_of (queue_at w (2 * l + 1)))) (length (drop 1 (queue_at w (2 * l + 1))) == 0)))) l (acts t (x.deeds (first_of (queue_at w (2 * l + 1))) (Took (is_there (first_of (queue_at w (2 * l + 1)))) (length (drop 1 (queue_at w (2 * l + 1))) == 0))))
@@ -543,7 +577,8 @@ module _ (w : State) (t l : ℕ) (steady : IsSteady w) (there : t < length w.pla
 
       -- ---------------------------------------------------------------- those who are picked
 
-      module _ (many : TakesOne w l → ⊥) (line : key_of l Main < length w.queues) (start : Option Want) (g : Picks x hears start) (followed : (n : ℕ) (y : Option Want) (none_left : Bool) → hears r here t None (Picked n y none_left) → IsFollowed None (Picked n y none_left) (next_place (place_at w t) (Picked n y none_left))) where
+      module _ (many : TakesOne w l → ⊥) (line : key_of l Main < length w.queues) (start : Option Want) (g : Picks x hears start)
+          (followed : (n : ℕ) (y : Option Want) (none_left : Bool) → hears r here t None (Picked n y none_left) → IsFollowed None (Picked n y none_left) (next_place (place_at w t) (Picked n y none_left))) where
         abbrev chosen : List Waiter
         chosen = lock_picked start (is_recursive r.sort) (queue_at w (2 * l))
 
@@ -577,7 +612,8 @@ module _ (w : State) (t l : ℕ) (steady : IsSteady w) (there : t < length w.pla
         once : (u : ℕ) → times u chosen ≤ 1
         once u = let b : times u chosen + times u others ≡ times u (queue_at w (2 * l)) = counted u in let c : times u (queue_at w (2 * l)) ≡ stood_in (station_at (place_at w u) l).stands Main = steady.stands.lines u l Main in let d : stood_in (station_at (place_at w u) l).stands Main ≤ 1 = at_most_one (station_at (place_at w u) l).stands Main in omega arith
 
-        place_then : (u : ℕ) → get_or taken_state.places u Idle ≡ (if member u chosen then next_place (place_at w u) (TakenBy t) else place_at w u)
+        place_then : (u : ℕ)
+            → get_or taken_state.places u Idle ≡ (if member u chosen then next_place (place_at w u) (TakenBy t) else place_at w u)
         place_then u = ap (λ (f : ℕ → Place). f u) (told_places (TakenBy t) chosen w.places) ∙ told_once (TakenBy t) chosen (place_at w) u (once u)
 
         -- t had nobody in hand
@@ -590,7 +626,9 @@ module _ (w : State) (t l : ℕ) (steady : IsSteady w) (there : t < length w.pla
         picked_some : any ≡ true → (u : ℕ) × (member u chosen ≡ true)
         picked_some h = let k = any_held t 0 taken_state.places h in (k.0, by_member k.0 (member k.0 chosen) refl (sym (ap (λ q. is_thread t (taker q)) (place_then k.0)) ∙ k.1))
           where
-            by_member : (u : ℕ) (b : Bool) → member u chosen ≡ b → is_thread t (taker (if member u chosen then next_place (place_at w u) (TakenBy t) else place_at w u)) ≡ true → b ≡ true
+            by_member : (u : ℕ) (b : Bool) → member u chosen ≡ b
+                → is_thread t (taker (if member u chosen then next_place (place_at w u) (TakenBy t) else place_at w u)) ≡ true
+                → b ≡ true
             by_member u true e f = refl
             by_member u false e f = absurd (had_nobody u (sym (ap (λ (c : Bool). is_thread t (taker (if c then next_place (place_at w u) (TakenBy t) else place_at w u))) e) ∙ f))
 

@@ -52,12 +52,14 @@ times_both : (u : ℕ) (xs ys : List Waiter) → times u (xs ++ ys) ≡ times u 
 times_both u [] ys = omega arith
 times_both u (x ∷ xs) ys = grind (arith, times_both u xs ys)
 
-waiting_both : (at : ℕ → ℕ → Station) (l : ℕ) (n : Line) (xs ys : List Waiter) → AreWaiting at l n xs → AreWaiting at l n ys → AreWaiting at l n (xs ++ ys)
+waiting_both : (at : ℕ → ℕ → Station) (l : ℕ) (n : Line) (xs ys : List Waiter) → AreWaiting at l n xs → AreWaiting at l n ys
+    → AreWaiting at l n (xs ++ ys)
 waiting_both at l n [] ys h k = k
 waiting_both at l n (x ∷ xs) ys h k = (h.0, waiting_both at l n xs ys h.1 k)
 
 -- whoever is moved waits under the key to own it
-waiting_under : (at : ℕ → ℕ → Station) (l : ℕ) (q : List Waiter) → ((u : ℕ) → member u q ≡ true → (at u l).waits ≡ Some Exclusive) → AreWaiting at l Main (moved_under (key_of l Main) q)
+waiting_under : (at : ℕ → ℕ → Station) (l : ℕ) (q : List Waiter) → ((u : ℕ) → member u q ≡ true → (at u l).waits ≡ Some Exclusive)
+    → AreWaiting at l Main (moved_under (key_of l Main) q)
 waiting_under at l [] each = tt
 waiting_under at l (x ∷ q) each = ((refl, each x.thread (ap (λ b. b || member x.thread q) (same x.thread))), waiting_under at l q (λ u h. each u (more u h (x.thread == u))))
   where
@@ -102,14 +104,18 @@ module _ (w : State) (t c m : ℕ) (apart : m ≢ c) (steady : IsSteady w) (p2 :
       either true e = absurd (let a = counts u in let b = member_times u gone h in let d = member_times u moved e in let f = at_most u in omega arith)
 
   -- by who is looked at
-  pub by_thread : (P : ℕ → Place → Type 0) → P t p2 → ((u : ℕ) → u ≢ t → member u gone ≡ true → P u (next_place (place_at w u) (TakenBy t))) → ((u : ℕ) → u ≢ t → member u gone ≡ false → member u moved ≡ true → P u (next_place (place_at w u) (MovedTo (key_of m Main))))
+  pub by_thread : (P : ℕ → Place → Type 0) → P t p2
+      → ((u : ℕ) → u ≢ t → member u gone ≡ true → P u (next_place (place_at w u) (TakenBy t)))
+      → ((u : ℕ) → u ≢ t → member u gone ≡ false → member u moved ≡ true → P u (next_place (place_at w u) (MovedTo (key_of m Main))))
       → ((u : ℕ) → u ≢ t → member u gone ≡ false → member u moved ≡ false → P u (place_at w u)) → (u : ℕ) → P u (places_across u)
   by_thread P here on under off u = elim (cases_eq u t) [
     | inl e ↦ rw (e, put_here goes t p2) here
     | inr ne ↦ subst (P u) (sym (put_other goes t p2 u ne)) (either ne (member u gone) (member u moved) refl refl)
   ]
     where
-      either : u ≢ t → (a b : Bool) → member u gone ≡ a → member u moved ≡ b → P u (if a then next_place (place_at w u) (TakenBy t) else if b then next_place (place_at w u) (MovedTo (key_of m Main)) else place_at w u)
+      either : u ≢ t → (a b : Bool) → member u gone ≡ a → member u moved ≡ b
+          → P u
+          (if a then next_place (place_at w u) (TakenBy t) else if b then next_place (place_at w u) (MovedTo (key_of m Main)) else place_at w u)
       either ne true b e f = on u ne e
       either ne false true e f = under u ne e f
       either ne false false e f = off u ne e f
@@ -129,7 +135,8 @@ module _ (w : State) (t c m : ℕ) (apart : m ≢ c) (steady : IsSteady w) (p2 :
 
   -- a part of a station that none of it changes
   part_across : {A : Type 0} (g : Station → A) → ((x : Station) → g (record x { stands = None; waits = None }) ≡ g x) → ((x : Station) (b : Option Bool) → g (record x { carries = b }) ≡ g x) → ((x : Station) (h : Option Hand) → g (record x { hand = h }) ≡ g x)
-      → ((x : Station) → g (record x { stands = Some Main; waits = Some Exclusive }) ≡ g x) → (u k : ℕ) → g (station_at (places_across u) k) ≡ g (station_at (place_at w u) k)
+      → ((x : Station) → g (record x { stands = Some Main; waits = Some Exclusive }) ≡ g x) → (u k : ℕ)
+      → g (station_at (places_across u) k) ≡ g (station_at (place_at w u) k)
   part_across g leaving carrying holding coming u k = elim (cases_eq k c) [
     | inl e ↦ rw e (by_thread (λ u p. g (station_at p c) ≡ g (station_at (place_at w u) c)) (ap g now_c) (λ u nu h. ap g (waits_gone u h).taken.left ∙ leaving (station_at (place_at w u) c)) (λ u nu f h. ap g (waits_moved u h).moved.left ∙ leaving (station_at (place_at w u) c)) (λ u nu f h. refl) u)
     | inr nc ↦ elim (cases_eq k m) [
@@ -143,7 +150,8 @@ module _ (w : State) (t c m : ℕ) (apart : m ≢ c) (steady : IsSteady w) (p2 :
   sections_across : Sections (stations_of places_across) (section_at w)
   sections_across = sections_same (stations_of (place_at w)) (stations_of places_across) (section_at w) steady.stands.sections (part_across (λ y. y.inside) (λ x. refl) (λ x b. refl) (λ x h. refl) (λ x. refl))
 
-  hand_across : (u k : ℕ) → hand_at (places_across u) k ≡ (if member u gone && (k == m) then hand t false else hand_at (place_at w u) k)
+  hand_across : (u k : ℕ)
+      → hand_at (places_across u) k ≡ (if member u gone && (k == m) then hand t false else hand_at (place_at w u) k)
   hand_across u k = elim (cases_eq k m) [
     | inl e ↦ rw (e, same m, and-true (member u gone)) (by_thread (λ u p. hand_at p m ≡ (if member u gone then hand t false else hand_at (place_at w u) m))
         (ap (λ (y : Station). y.hand) now_m ∙ sym (ap (λ b. if b then hand t false else hand_at (place_at w t) m) (stays_out t (λ h. let a = in_line t (inl h) in let b = not_t in omega arith))))
@@ -163,7 +171,8 @@ module _ (w : State) (t c m : ℕ) (apart : m ≢ c) (steady : IsSteady w) (p2 :
           either false e = refl
           either true e = absurd (never e)
 
-  carries_across : (i k : ℕ) → carried_at (places_across i) k ≡ (if (i == t) && (k == m) then any else carried_at (place_at w i) k)
+  carries_across : (i k : ℕ)
+      → carried_at (places_across i) k ≡ (if (i == t) && (k == m) then any else carried_at (place_at w i) k)
   carries_across i k = elim (cases_eq k m) [
     | inl e ↦ rw (e, same m, and-true (i == t)) (by_thread (λ u p. carried_at p m ≡ (if u == t then any else carried_at (place_at w u) m))
         (rw (same t) (ap (λ (y : Station). y.carries) now_m))
@@ -176,13 +185,16 @@ module _ (w : State) (t c m : ℕ) (apart : m ≢ c) (steady : IsSteady w) (p2 :
     ])
   ]
 
-  hands_across : ((b : Bool) → any ≡ Some b → (b ≡ false) × ((u : ℕ) × (member u gone ≡ true))) → ((u : ℕ) → member u gone ≡ true → any ≡ Some false) → Hands (TakesOne w) places_across
+  hands_across : ((b : Bool) → any ≡ Some b → (b ≡ false) × ((u : ℕ) × (member u gone ≡ true)))
+      → ((u : ℕ) → member u gone ≡ true → any ≡ Some false) → Hands (TakesOne w) places_across
   hands_across some full = hands_taken (TakesOne w) (stations_of (place_at w)) (stations_of places_across) steady.stands.hands t m (λ u. member u gone) (λ one. one_gone) any hand_across carries_across bare (λ u h. (waits_gone u h).free) some full
 
   -- ---------------------------------------------------------------- lines
 
   -- whether a waiter is taken or moved
-  stands_c : (u : ℕ) → (station_at (places_across u) c).stands ≡ (if member u gone || member u moved then None else (station_at (place_at w u) c).stands)
+  stands_c : (u : ℕ)
+      → (station_at (places_across u) c).stands
+      ≡ (if member u gone || member u moved then None else (station_at (place_at w u) c).stands)
   stands_c = by_thread (λ u p. (station_at p c).stands ≡ (if member u gone || member u moved then None else (station_at (place_at w u) c).stands))
       (ap (λ (y : Station). y.stands) now_c ∙ out ∙ sym (nothing (member t gone || member t moved)))
       (λ u nu h. ap (λ (y : Station). y.stands) (waits_gone u h).taken.left ∙ sym (ap (λ b. if b || member u moved then None else (station_at (place_at w u) c).stands) h))
@@ -193,7 +205,8 @@ module _ (w : State) (t c m : ℕ) (apart : m ≢ c) (steady : IsSteady w) (p2 :
       nothing true = refl
       nothing false = out
 
-  stands_m : (u : ℕ) → (station_at (places_across u) m).stands ≡ (if member u moved then Some Main else (station_at (place_at w u) m).stands)
+  stands_m : (u : ℕ)
+      → (station_at (places_across u) m).stands ≡ (if member u moved then Some Main else (station_at (place_at w u) m).stands)
   stands_m = by_thread (λ u p. (station_at p m).stands ≡ (if member u moved then Some Main else (station_at (place_at w u) m).stands))
       (ap (λ (y : Station). y.stands) now_m ∙ sym (ap (λ b. if b then Some Main else (station_at (place_at w t) m).stands) (t_stays (member t moved) refl)))
       (λ u nu h. ap (λ (y : Station). y.stands) (waits_gone u h).taken.came ∙ sym (ap (λ b. if b then Some Main else (station_at (place_at w u) m).stands) (gone_only u h)))
@@ -204,10 +217,12 @@ module _ (w : State) (t c m : ℕ) (apart : m ≢ c) (steady : IsSteady w) (p2 :
       t_stays false e = refl
       t_stays true e = absurd (let a = in_line t (inr e) in let b = not_t in omega arith)
 
-  left_times : (u : ℕ) → times u left ≡ stood_in (if member u gone || member u moved then None else (station_at (place_at w u) c).stands) Main
+  left_times : (u : ℕ)
+      → times u left ≡ stood_in (if member u gone || member u moved then None else (station_at (place_at w u) c).stands) Main
   left_times u = either (member u gone) (member u moved) refl refl
     where
-      either : (a b : Bool) → member u gone ≡ a → member u moved ≡ b → times u left ≡ stood_in (if a || b then None else (station_at (place_at w u) c).stands) Main
+      either : (a b : Bool) → member u gone ≡ a → member u moved ≡ b
+          → times u left ≡ stood_in (if a || b then None else (station_at (place_at w u) c).stands) Main
       either true b e f = let a = counts u in let k = member_times u gone e in let d = at_most u in omega arith
       either false true e f = let a = counts u in let k = member_times u moved f in let d = at_most u in omega arith
       either false false e f = let a = counts u in let k = stranger_times u gone e in let d = stranger_times u moved f in let g : times u line ≡ stood_in (station_at (place_at w u) c).stands Main = steady.stands.lines u c Main in omega arith
@@ -215,20 +230,27 @@ module _ (w : State) (t c m : ℕ) (apart : m ≢ c) (steady : IsSteady w) (p2 :
   second_left : (u : ℕ) → 0 ≡ stood_in (station_at (place_at w u) c).stands Second ⊎ (member u gone || member u moved) ≡ false
   second_left u = either (member u gone) (member u moved) refl refl
     where
-      either : (a b : Bool) → member u gone ≡ a → member u moved ≡ b → 0 ≡ stood_in (station_at (place_at w u) c).stands Second ⊎ (a || b) ≡ false
+      either : (a b : Bool) → member u gone ≡ a → member u moved ≡ b
+          → 0 ≡ stood_in (station_at (place_at w u) c).stands Second ⊎ (a || b) ≡ false
       either true b e f = inl (sym (ap (λ o. stood_in o Second) (waits_gone u e).stands))
       either false true e f = inl (sym (ap (λ o. stood_in o Second) (waits_moved u f).stands))
       either false false e f = inr refl
 
   -- who is moved stands there once
-  moved_times : (u : ℕ) → times u (queue_at w (key_of m Main) ++ moved_under (key_of m Main) moved) ≡ stood_in (if member u moved then Some Main else (station_at (place_at w u) m).stands) Main
+  moved_times : (u : ℕ)
+      → times u (queue_at w (key_of m Main) ++ moved_under (key_of m Main) moved)
+      ≡ stood_in (if member u moved then Some Main else (station_at (place_at w u) m).stands) Main
   moved_times u = times_both u (queue_at w (key_of m Main)) (moved_under (key_of m Main) moved) ∙ ap (λ n. times u (queue_at w (key_of m Main)) + n) (times_under u (key_of m Main) moved) ∙ either (member u moved) refl
     where
-      either : (b : Bool) → member u moved ≡ b → times u (queue_at w (key_of m Main)) + times u moved ≡ stood_in (if b then Some Main else (station_at (place_at w u) m).stands) Main
+      either : (b : Bool) → member u moved ≡ b
+          → times u (queue_at w (key_of m Main)) + times u moved
+          ≡ stood_in (if b then Some Main else (station_at (place_at w u) m).stands) Main
       either true e = let a = counts u in let k = member_times u moved e in let d = at_most u in let f : times u (queue_at w (key_of m Main)) ≡ 0 = steady.stands.lines u m Main ∙ ap (λ o. stood_in o Main) (waits_moved u e).out in omega arith
       either false e = let k = stranger_times u moved e in let f : times u (queue_at w (key_of m Main)) ≡ stood_in (station_at (place_at w u) m).stands Main = steady.stands.lines u m Main in omega arith
 
-  module _ (queue : ℕ → List Waiter) (here : queue (key_of c Main) ≡ left) (beside : queue (key_of m Main) ≡ queue_at w (key_of m Main) ++ moved_under (key_of m Main) moved) (others : (key : ℕ) → key ≢ key_of c Main → key ≢ key_of m Main → queue key ≡ queue_at w key) where
+  module _ (queue : ℕ → List Waiter) (here : queue (key_of c Main) ≡ left)
+      (beside : queue (key_of m Main) ≡ queue_at w (key_of m Main) ++ moved_under (key_of m Main) moved)
+      (others : (key : ℕ) → key ≢ key_of c Main → key ≢ key_of m Main → queue key ≡ queue_at w key) where
     second_differs : (l : ℕ) → key_of l Second ≢ key_of l Main
     second_differs l = other_line l Main Second (λ e. cc)
 
@@ -245,11 +267,15 @@ module _ (w : State) (t c m : ℕ) (apart : m ≢ c) (steady : IsSteady w) (p2 :
         at_c Main = ap (times u) here ∙ left_times u ∙ sym (ap (λ o. stood_in o Main) (stands_c u))
         at_c Second = ap (times u) (others (key_of c Second) (second_differs c) (other_key m c Main Second (λ e. apart (sym e)))) ∙ steady.stands.lines u c Second ∙ second (second_left u) ∙ sym (ap (λ o. stood_in o Second) (stands_c u))
           where
-            second : (0 ≡ stood_in (station_at (place_at w u) c).stands Second) ⊎ ((member u gone || member u moved) ≡ false) → stood_in (station_at (place_at w u) c).stands Second ≡ stood_in (if member u gone || member u moved then None else (station_at (place_at w u) c).stands) Second
+            second : (0 ≡ stood_in (station_at (place_at w u) c).stands Second) ⊎ ((member u gone || member u moved) ≡ false)
+                → stood_in (station_at (place_at w u) c).stands Second
+                ≡ stood_in (if member u gone || member u moved then None else (station_at (place_at w u) c).stands) Second
             second (inr e) = sym (ap (λ b. stood_in (if b then None else (station_at (place_at w u) c).stands) Second) e)
             second (inl e) = either (member u gone || member u moved)
               where
-                either : (b : Bool) → stood_in (station_at (place_at w u) c).stands Second ≡ stood_in (if b then None else (station_at (place_at w u) c).stands) Second
+                either : (b : Bool)
+                    → stood_in (station_at (place_at w u) c).stands Second
+                    ≡ stood_in (if b then None else (station_at (place_at w u) c).stands) Second
                 either true = sym e
                 either false = refl
 
@@ -257,12 +283,15 @@ module _ (w : State) (t c m : ℕ) (apart : m ≢ c) (steady : IsSteady w) (p2 :
         at_m Main = ap (times u) beside ∙ moved_times u ∙ sym (ap (λ o. stood_in o Main) (stands_m u))
         at_m Second = ap (times u) (others (key_of m Second) (other_key c m Main Second apart) (second_differs m)) ∙ steady.stands.lines u m Second ∙ second (member u moved) refl ∙ sym (ap (λ o. stood_in o Second) (stands_m u))
           where
-            second : (b : Bool) → member u moved ≡ b → stood_in (station_at (place_at w u) m).stands Second ≡ stood_in (if member u moved then Some Main else (station_at (place_at w u) m).stands) Second
+            second : (b : Bool) → member u moved ≡ b
+                → stood_in (station_at (place_at w u) m).stands Second
+                ≡ stood_in (if member u moved then Some Main else (station_at (place_at w u) m).stands) Second
             second true e = ap (λ o. stood_in o Second) (waits_moved u e).out ∙ sym (ap (λ b. stood_in (if b then Some Main else (station_at (place_at w u) m).stands) Second) e)
             second false e = sym (ap (λ b. stood_in (if b then Some Main else (station_at (place_at w u) m).stands) Second) e)
 
     -- who was neither waits as before
-    waits_c : (u : ℕ) → (member u gone || member u moved) ≡ false → (station_at (places_across u) c).waits ≡ (station_at (place_at w u) c).waits
+    waits_c : (u : ℕ) → (member u gone || member u moved) ≡ false
+        → (station_at (places_across u) c).waits ≡ (station_at (place_at w u) c).waits
     waits_c = by_thread (λ u p. (member u gone || member u moved) ≡ false → (station_at p c).waits ≡ (station_at (place_at w u) c).waits)
         (λ h. ap (λ (y : Station). y.waits) now_c)
         (λ u nu g h. absurd (let a : true ≡ false = sym (ap (λ b. b || member u moved) g) ∙ h in cc))
@@ -301,7 +330,8 @@ module _ (w : State) (t c m : ℕ) (apart : m ≢ c) (steady : IsSteady w) (p2 :
     stays_second : (u : ℕ) → 1 ≤ times u (queue_at w (key_of c Second)) → (member u gone || member u moved) ≡ false
     stays_second u h = by (second_left u)
       where
-        by : (0 ≡ stood_in (station_at (place_at w u) c).stands Second) ⊎ ((member u gone || member u moved) ≡ false) → (member u gone || member u moved) ≡ false
+        by : (0 ≡ stood_in (station_at (place_at w u) c).stands Second) ⊎ ((member u gone || member u moved) ≡ false)
+            → (member u gone || member u moved) ≡ false
         by (inr e) = e
         by (inl e) = absurd (let a : times u (queue_at w (key_of c Second)) ≡ stood_in (station_at (place_at w u) c).stands Second = steady.stands.lines u c Second in omega arith)
 
@@ -326,5 +356,7 @@ module _ (w : State) (t c m : ℕ) (apart : m ≢ c) (steady : IsSteady w) (p2 :
             rw same_line_there (waiting_same (stations_of (place_at w)) (stations_of places_across) m Second (queue_at w (key_of m Second)) (steady.stands.waits m Second) (λ u g. waits_m u (not_moved u Second g)))
 
     -- the machine has all of them where their places say
-    pub there_across : ((b : Bool) → any ≡ Some b → (b ≡ false) × ((u : ℕ) × (member u gone ≡ true))) → ((u : ℕ) → member u gone ≡ true → any ≡ Some false) → AreThere (TakesOne w) (stations_of places_across) (section_at w) queue
+    pub there_across : ((b : Bool) → any ≡ Some b → (b ≡ false) × ((u : ℕ) × (member u gone ≡ true)))
+        → ((u : ℕ) → member u gone ≡ true → any ≡ Some false)
+        → AreThere (TakesOne w) (stations_of places_across) (section_at w) queue
     there_across some full = record { sections = sections_across; lines = lines_across; waits = waits_across; hands = hands_across some full }

@@ -44,7 +44,8 @@ module _ (w v : State) (t c m : ℕ) (apart : m ≢ c) (steady : IsSteady w) (p2
   abbrev behind : ℕ → Place
   behind = places_across w t c m apart steady p2 gone moved left counts lefts waits one_gone out bare now_c any now_m alike_t fits
 
-  module _ (el : v.locks ≡ w.locks) (eh : v.shares ≡ w.shares) (es : v.sections ≡ w.sections) (threads : length v.places ≡ length w.places) (places : place_at v ≡ behind)
+  module _ (el : v.locks ≡ w.locks) (eh : v.shares ≡ w.shares) (es : v.sections ≡ w.sections)
+      (threads : length v.places ≡ length w.places) (places : place_at v ≡ behind)
       (here : queue_at v (key_of c Main) ≡ left) (beside : queue_at v (key_of m Main) ≡ queue_at w (key_of m Main) ++ moved_under (key_of m Main) moved) (others : (key : ℕ) → key ≢ key_of c Main → key ≢ key_of m Main → queue_at v key ≡ queue_at w key)
       (same_c : (doing_on p2 c ≡ doing_on (place_at w t) c) × (taken_at p2 c ≡ taken_at (place_at w t) c)) (same_m : taken_at p2 m ≡ taken_at (place_at w t) m)
       (all owned : Bool) (left_is : map queued_of left ≡ (if all then [] else drop 1 (map queued_of (queue_at w (key_of c Main)))))
@@ -94,7 +95,9 @@ module _ (w v : State) (t c m : ℕ) (apart : m ≢ c) (steady : IsSteady w) (p2
     sent = λ i. record site_c { lock = record site_c.lock { queue = left_is i; taken = λ u. taken_c u i }; doing = λ u. doing_c u i }
 
     -- who is taken there, by the threads
-    taken_m : (u : ℕ) → taken_at (behind u) m ≡ locks.taking t (map queued_of (moved_under (key_of m Main) gone)) (λ u. taken_at (place_at w u) m) u
+    taken_m : (u : ℕ)
+        → taken_at (behind u) m
+        ≡ locks.taking t (map queued_of (moved_under (key_of m Main) gone)) (λ u. taken_at (place_at w u) m) u
     taken_m u = by_thread w t c m apart steady p2 gone moved left counts lefts waits one_gone out bare now_c any now_m alike_t fits
         (λ u p. taken_at p m ≡ (if member u gone then Some (record { by = t; want = Exclusive }) else taken_at (place_at w u) m))
         (same_m ∙ sym (ap (λ b. if b then Some (record { by = t; want = Exclusive }) else taken_at (place_at w t) m) (outside_gone t (λ h. not_in t h))))
@@ -119,7 +122,8 @@ module _ (w v : State) (t c m : ℕ) (apart : m ≢ c) (steady : IsSteady w) (p2
             either false e = refl
             either true e = absurd (never e)
 
-    module _ (own : doing_on p2 m ≡ bringing (taken_of owned (moved_of all (map queued_of (queue_at w (key_of c Main))))) (line_of owned (moved_of all (map queued_of (queue_at w (key_of c Main))))) (doing_on (place_at w t) m)) where
+    module _
+        (own : doing_on p2 m ≡ bringing (taken_of owned (moved_of all (map queued_of (queue_at w (key_of c Main))))) (line_of owned (moved_of all (map queued_of (queue_at w (key_of c Main))))) (doing_on (place_at w t) m)) where
       doing_m : (u : ℕ) → doing_on (behind u) m ≡ (after_acts (rules_in w m) (acts t brings) site_m).doing u
       doing_m = by_thread w t c m apart steady p2 gone moved left counts lefts waits one_gone out bare now_c any now_m alike_t fits (λ u p. doing_on p m ≡ (after_acts (rules_in w m) (acts t brings) site_m).doing u)
           (own ∙ sym (put_here (λ u. doing_on (place_at w u) m) t _))
@@ -140,7 +144,9 @@ module _ (w v : State) (t c m : ℕ) (apart : m ≢ c) (steady : IsSteady w) (p2
       word_same : (k : ℕ) (q : List Waiter) → (parts_at w k).word ≡ code (rules_in w k) (seen_in (rules_in w k) k (record (parts_at w k) { main = q }) behind)
       word_same k q = steady.sites.word k ∙ same_word (rules_in w k).sort (rules_in w k).limit _ _ _ _ refl refl refl refl refl refl
 
-      module _ (unshared_c : has_readers (rules_in w c).sort ≡ false) (unshared_m : has_readers (rules_in w m).sort ≡ false) (needed_c : ActsNeeded (rules_in w c) (acts t sends) site_c) (needed_m : ActsNeeded (rules_in w m) (acts t brings) site_m) where
+      module _ (unshared_c : has_readers (rules_in w c).sort ≡ false) (unshared_m : has_readers (rules_in w m).sort ≡ false)
+          (needed_c : ActsNeeded (rules_in w c) (acts t sends) site_c)
+          (needed_m : ActsNeeded (rules_in w m) (acts t brings) site_m) where
         behind_c : BehindIt w v behind c (acts t sends)
         behind_c = record {
           parts = record (parts_at w c) { main = left };
@@ -169,7 +175,8 @@ module _ (w v : State) (t c m : ℕ) (apart : m ≢ c) (steady : IsSteady w) (p2
           λ u. let z = alike_across w t c m apart steady p2 gone moved left counts lefts waits one_gone out bare now_c any now_m alike_t fits k nc nm u in (z.taken, z.doing),
         )
 
-        pub moves_kept : ((b : Bool) → any ≡ Some b → (b ≡ false) × ((u : ℕ) × (member u gone ≡ true))) → ((u : ℕ) → member u gone ≡ true → any ≡ Some false) → GoesAll w v (two_at c m (acts t sends) (acts t brings))
+        pub moves_kept : ((b : Bool) → any ≡ Some b → (b ≡ false) × ((u : ℕ) × (member u gone ≡ true)))
+            → ((u : ℕ) → member u gone ≡ true → any ≡ Some false) → GoesAll w v (two_at c m (acts t sends) (acts t brings))
         moves_kept some full = record {
           follows = follow_two w v steady behind places kinds (record { threads = threads; locks = λ i. length (el i); shares = λ i. length (eh i) }) c m same_else (acts t sends) (acts t brings) apart behind_c behind_m;
           stands = stands_by w v behind places kinds

@@ -73,7 +73,8 @@ bit_read None false = refl
 bit_read (Some u) true = refl
 bit_read (Some u) false = refl
 
-module _ (w : State) (t m : ℕ) (steady : IsSteady w) (is_there : t < length w.places) (sort : (rules_in w m).sort ≡ locks.Mutex) (p2 : Place) (alike : AlikeBeside m (place_at w t) p2) (fits : FitsItsLock w p2) where
+module _ (w : State) (t m : ℕ) (steady : IsSteady w) (is_there : t < length w.places) (sort : (rules_in w m).sort ≡ locks.Mutex)
+    (p2 : Place) (alike : AlikeBeside m (place_at w t) p2) (fits : FitsItsLock w p2) where
   abbrev r : Rules
   r = rules_in w m
 
@@ -87,7 +88,8 @@ module _ (w : State) (t m : ℕ) (steady : IsSteady w) (is_there : t < length w.
   plain_so h = absurd (let e : false ≡ true = sym unshared ∙ h in cc)
 
   -- a step on the word, by what the laws of its place conclude
-  module _ (before : Place) (op : Op) (lt : m < length w.locks) (ds : List Deed) (of_word : IsOfWord ds) (no_share : shares_after before (word_at w m) (share_at w m t) ≡ None)
+  module _ (before : Place) (op : Op) (lt : m < length w.locks) (ds : List Deed) (of_word : IsOfWord ds)
+      (no_share : shares_after before (word_at w m) (share_at w m t) ≡ None)
       (needed : laws.AllNeeded r ds here t) (doing : (laws.after_all r ds here t).doing t ≡ doing_on p2 m)
       (owner : (owners_after before t (word_at w m) (owners_at w m)) ≡ with_exclusive (owners_at w m) (laws.after_all r ds here t).lock.exclusive)
       (coded : apply op (word_at w m) ≡ code r (laws.after_all r ds here t)) (same_station : station_at p2 m ≡ station_at (place_at w t) m) (same_hand : taken_at (place_at w t) m ≡ taken_at p2 m) where
@@ -126,14 +128,19 @@ module _ (w : State) (t m : ℕ) (steady : IsSteady w) (is_there : t < length w.
 
   module _ (line : key_of m Main < length w.sections) where
     -- it goes into the section
-    pub goes_in_at : section_at w (key_of m Main) ≡ None → (station_at (place_at w t) m).inside ≡ None → laws.AllNeeded r (In Main ∷ []) here t → (laws.after_all r (In Main ∷ []) here t).doing t ≡ doing_on p2 m
-        → station_at p2 m ≡ record (station_at (place_at w t) m) { inside = Some Main } → taken_at (place_at w t) m ≡ taken_at p2 m → Goes w (put (state_with_sections w (One (key_of m Main)) (Some t)) t p2) m (acts t (In Main ∷ []))
+    pub goes_in_at : section_at w (key_of m Main) ≡ None → (station_at (place_at w t) m).inside ≡ None
+        → laws.AllNeeded r (In Main ∷ []) here t → (laws.after_all r (In Main ∷ []) here t).doing t ≡ doing_on p2 m
+        → station_at p2 m ≡ record (station_at (place_at w t) m) { inside = Some Main }
+        → taken_at (place_at w t) m ≡ taken_at p2 m
+        → Goes w (put (state_with_sections w (One (key_of m Main)) (Some t)) t p2) m (acts t (In Main ∷ []))
     goes_in_at free outside needed doing goes same_hand = acting.enter_goes w t m steady is_there r refl p2 alike fits Main line free outside
         (steps_by r m (parts_at w m) (parts_at w m) (place_at w) t p2 (In Main ∷ []) (needed.0, tt) (tt, tt) same_hand refl refl refl refl (sym doing)) goes
 
     -- out of it, with nobody in hand
-    pub goes_out_at : (station_at (place_at w t) m).inside ≡ Some Main → (station_at (place_at w t) m).carries ≡ None → (ds : List Deed) → AreLeaving ds → laws.AllNeeded r ds here t → (laws.after_all r ds here t).doing t ≡ doing_on p2 m
-        → station_at p2 m ≡ record (station_at (place_at w t) m) { inside = None } → taken_at (place_at w t) m ≡ taken_at p2 m → keep_from t (taken_at (place_at w t) m) ≡ taken_at (place_at w t) m
+    pub goes_out_at : (station_at (place_at w t) m).inside ≡ Some Main → (station_at (place_at w t) m).carries ≡ None
+        → (ds : List Deed) → AreLeaving ds → laws.AllNeeded r ds here t → (laws.after_all r ds here t).doing t ≡ doing_on p2 m
+        → station_at p2 m ≡ record (station_at (place_at w t) m) { inside = None } → taken_at (place_at w t) m ≡ taken_at p2 m
+        → keep_from t (taken_at (place_at w t) m) ≡ taken_at (place_at w t) m
         → Goes w (put (state_with_sections w (One (key_of m Main)) None) t p2) m (acts t ds)
     goes_out_at within bare ds leaving needed doing goes same_hand kept = acting.leave_goes w t m steady is_there r refl p2 alike fits Main line within ds (λ h. plain_so h)
         (record {
@@ -147,11 +154,17 @@ module _ (w : State) (t m : ℕ) (steady : IsSteady w) (is_there : t < length w.
         nobody u h = let a : carried_at (place_at w t) m ≡ Some false = steady.stands.hands.taken t u m false h in let c : ◌≡◌ {A = Option Bool} None (Some false) = sym bare ∙ a in cc
 
     -- out of it, and whoever is in its hand is woken, itself too where it is
-    pub goes_out_waking : (holds : HoldsHere w t m) (woken : (u : ℕ) (b : Bool) → hand_at (place_at w u) m ≡ hand t b → IsWokenAt w t m Normal (place_at w u)) → (station_at (place_at w t) m).inside ≡ Some Main
-        → (station_at p2 m).inside ≡ None → (station_at p2 m).carries ≡ None → (station_at p2 m).stands ≡ (station_at (place_at w t) m).stands → (station_at p2 m).waits ≡ (station_at (place_at w t) m).waits
-        → (station_at p2 m).hand ≡ (if is_thread t (taker (place_at w t)) then None else (station_at (place_at w t) m).hand) → taken_at p2 m ≡ keep_from t (taken_at (place_at w t) m)
+    pub goes_out_waking : (holds : HoldsHere w t m)
+        (woken : (u : ℕ) (b : Bool) → hand_at (place_at w u) m ≡ hand t b → IsWokenAt w t m Normal (place_at w u))
+        → (station_at (place_at w t) m).inside ≡ Some Main
+        → (station_at p2 m).inside ≡ None → (station_at p2 m).carries ≡ None
+        → (station_at p2 m).stands ≡ (station_at (place_at w t) m).stands
+        → (station_at p2 m).waits ≡ (station_at (place_at w t) m).waits
+        → (station_at p2 m).hand ≡ (if is_thread t (taker (place_at w t)) then None else (station_at (place_at w t) m).hand)
+        → taken_at p2 m ≡ keep_from t (taken_at (place_at w t) m)
         → (ds : List Deed) → AreLeaving ds → laws.AllNeeded r ds here t → (laws.after_all r ds here t).doing t ≡ doing_on p2 m
-        → Goes w (put (state_after_telling (state_with_sections w (One (key_of m Main)) None) t (Woken Normal)) t p2) m (acts t ds)
+        → Goes w (put (state_after_telling (state_with_sections w (One (key_of m Main)) None) t (Woken Normal)) t p2) m
+        (acts t ds)
     goes_out_waking holds woken within out bare stood waited own_hand own_taken ds leaving needed doing = wake_goes w t m steady is_there p2 (same_hands m (place_at w t) p2 alike) fits holds Normal woken bare own_hand alike Main line within stood waited out r refl own_taken
         ds leaving (needed_same r ds here t needed) (sym doing ∙ sym (ap (λ (s : Site). s.doing t) (after_same r ds here t)))
 
@@ -159,21 +172,30 @@ module _ (w : State) (t m : ℕ) (steady : IsSteady w) (is_there : t < length w.
 
   module _ (line : key_of m Main < length w.queues) where
     -- there is nobody
-    pub finds_nobody_at : queue_at w (key_of m Main) ≡ [] → laws.AllNeeded r (FindNobody Main ∷ []) here t → (laws.after_all r (FindNobody Main ∷ []) here t).doing t ≡ doing_on p2 m → station_at p2 m ≡ station_at (place_at w t) m
-        → taken_at (place_at w t) m ≡ taken_at p2 m → Goes w (put (record w { queues = queues_without_first w.queues (key_of m Main) }) t p2) m (acts t (FindNobody Main ∷ []))
+    pub finds_nobody_at : queue_at w (key_of m Main) ≡ [] → laws.AllNeeded r (FindNobody Main ∷ []) here t
+        → (laws.after_all r (FindNobody Main ∷ []) here t).doing t ≡ doing_on p2 m → station_at p2 m ≡ station_at (place_at w t) m
+        → taken_at (place_at w t) m ≡ taken_at p2 m
+        → Goes w (put (record w { queues = queues_without_first w.queues (key_of m Main) }) t p2) m
+        (acts t (FindNobody Main ∷ []))
     finds_nobody_at empty needed doing same_station same_hand = acting.nobody_goes w t m steady is_there r refl p2 alike fits Main (FindNobody Main ∷ []) (λ h. tt) line empty
         (steps_by r m (parts_at w m) (parts_at w m) (place_at w) t p2 (FindNobody Main ∷ []) (needed.0, tt) (tt, tt) same_hand refl refl refl refl (sym doing)) same_station
 
     -- it stands behind the last
     pub stands_at : acting.IsOut w t m steady is_there r refl p2 alike fits → (station_at (place_at w t) m).stands ≡ None → laws.AllNeeded r (Case (Park Exclusive) ∷ []) here t → doing_on p2 m ≡ record (doing_on (place_at w t) m) { retries = None; empty = None }
-        → station_at p2 m ≡ record (station_at (place_at w t) m) { stands = Some Main; waits = Some Exclusive } → taken_at (place_at w t) m ≡ taken_at p2 m
-        → Goes w (put (record w { queues = queues_with_last w.queues (key_of m Main) t Exclusive }) t p2) m (acts t (Case (Park Exclusive) ∷ []))
+        → station_at p2 m ≡ record (station_at (place_at w t) m) { stands = Some Main; waits = Some Exclusive }
+        → taken_at (place_at w t) m ≡ taken_at p2 m
+        → Goes w (put (record w { queues = queues_with_last w.queues (key_of m Main) t Exclusive }) t p2) m
+        (acts t (Case (Park Exclusive) ∷ []))
     stands_at out nowhere_else needed doing goes same_hand = acting.park_goes w t m steady is_there r refl p2 alike fits out Main Exclusive (Case (Park Exclusive) ∷ []) (λ h. ((λ k. k), tt)) line nowhere_else
         (parks r m (parts_at w m) (place_at w) t p2 (steady.sites.site m) same_hand (key_of m Main) Exclusive (needed.0, tt) doing) goes
 
     -- its time is up, and it leaves the line
-    pub leaves_line_at : acting.IsOut w t m steady is_there r refl p2 alike fits → (station_at (place_at w t) m).stands ≡ Some Main → laws.AllNeeded r (Case locks.Late ∷ []) here t → (laws.after_all r (Case locks.Late ∷ []) here t).doing t ≡ doing_on p2 m
-        → station_at p2 m ≡ record (station_at (place_at w t) m) { stands = None; waits = None } → taken_at (place_at w t) m ≡ taken_at p2 m → Goes w (put (record w { queues = queues_without w.queues t }) t p2) m (acts t (Case locks.Late ∷ []))
+    pub leaves_line_at : acting.IsOut w t m steady is_there r refl p2 alike fits
+        → (station_at (place_at w t) m).stands ≡ Some Main → laws.AllNeeded r (Case locks.Late ∷ []) here t
+        → (laws.after_all r (Case locks.Late ∷ []) here t).doing t ≡ doing_on p2 m
+        → station_at p2 m ≡ record (station_at (place_at w t) m) { stands = None; waits = None }
+        → taken_at (place_at w t) m ≡ taken_at p2 m
+        → Goes w (put (record w { queues = queues_without w.queues t }) t p2) m (acts t (Case locks.Late ∷ []))
     leaves_line_at out stands needed doing goes same_hand = acting.remove_goes w t m steady is_there r refl p2 alike fits out Main (Case locks.Late ∷ []) (λ h. ((λ k. k), tt)) stands
         (lates r m (parts_at w m) (place_at w) t p2 (steady.sites.site m) same_hand Main (without t (queue_at w (key_of m Main))) (queued_without t (queue_at w (key_of m Main))) (sym (aside_kept t (first_of (queue_at w (key_of m Second))) (first_out t (queue_at w (key_of m Second)) not_aside))) (needed.0, tt) (sym doing)) goes
       where
@@ -181,6 +203,8 @@ module _ (w : State) (t m : ℕ) (steady : IsSteady w) (is_there : t < length w.
         not_aside = steady.stands.lines t m Second ∙ ap (λ o. stood_in o Second) stands
 
   -- it was handed the mutex, and its call goes on
-  pub accepts_at : laws.AllNeeded r (End ∷ []) here t → (laws.after_all r (End ∷ []) here t).doing t ≡ doing_on p2 m → station_at p2 m ≡ station_at (place_at w t) m → taken_at (place_at w t) m ≡ taken_at p2 m → Goes w (put w t p2) m (acts t (End ∷ []))
+  pub accepts_at : laws.AllNeeded r (End ∷ []) here t → (laws.after_all r (End ∷ []) here t).doing t ≡ doing_on p2 m
+      → station_at p2 m ≡ station_at (place_at w t) m → taken_at (place_at w t) m ≡ taken_at p2 m
+      → Goes w (put w t p2) m (acts t (End ∷ []))
   accepts_at needed doing same_station same_hand = acting.place_goes w t m steady is_there r refl p2 alike fits (End ∷ []) (λ h. tt)
       (steps_by r m (parts_at w m) (parts_at w m) (place_at w) t p2 (End ∷ []) (needed.0, tt) (tt, tt) same_hand refl refl refl refl (sym doing)) same_station

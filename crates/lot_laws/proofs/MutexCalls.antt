@@ -45,7 +45,10 @@ Rests l (next.End a) = Unit {0}
 pub decides : (l s : ℕ) → outcome_of (lock_act l (Decide s)) ≡ outcome.Step
 decides l s = either (is_locked s) (s == 1)
   where
-    either : (a b : Bool) → outcome_of (if not a then act.TheVariants.Word l (op.TheVariants.Exchange s (s + 1)) else if b then act.TheVariants.Word l (op.TheVariants.Exchange 1 3) else act.TheVariants.Enter (One (2 * l))) ≡ outcome.Step
+    either : (a b : Bool)
+        → outcome_of
+        (if not a then act.TheVariants.Word l (op.TheVariants.Exchange s (s + 1)) else if b then act.TheVariants.Word l (op.TheVariants.Exchange 1 3) else act.TheVariants.Enter (One (2 * l)))
+        ≡ outcome.Step
     either false b = refl
     either true true = refl
     either true false = refl
@@ -62,23 +65,29 @@ module _ (l t : ℕ) (s : LockState) where
     pub rests : Rests l n
 
   -- a thread's rights, seen anew
-  same_rights : (s2 : LockState) → rights_of s2 t ≡ rights_of s t → (rights : ℕ → Rights) → rights l ≡ rights_of s t → rights_where l s2 t rights ≡ rights
+  same_rights : (s2 : LockState) → rights_of s2 t ≡ rights_of s t → (rights : ℕ → Rights) → rights l ≡ rights_of s t
+      → rights_where l s2 t rights ≡ rights
   same_rights s2 stay rights is = λ i k. agree rights l (rights_where l s2 t rights) rights _ _ (λ k. refl) (unchanged rights l (rights_of s t) is) stay k i
 
   -- its rights at the lock stay, and its call is what the event makes of it
-  keeps : (at at2 : MutexPlace) (ds : List Deed) → AreOneCase ds → MayCome l (mutex_row at) (event_at l (mutex_row at) ds) → rights_of (after_event mutex (event_at l (mutex_row at) ds) s t) t ≡ rights_of s t
-      → ((rights : ℕ → Rights) → call_by l (mutex_row at2) rights ≡ going_on (event_at l (mutex_row at) ds) (call_by l (mutex_row at) rights)) → Rests l (next.At at2) → Tells at ds (next.At at2)
+  keeps : (at at2 : MutexPlace) (ds : List Deed) → AreOneCase ds → MayCome l (mutex_row at) (event_at l (mutex_row at) ds)
+      → rights_of (after_event mutex (event_at l (mutex_row at) ds) s t) t ≡ rights_of s t
+      → ((rights : ℕ → Rights) → call_by l (mutex_row at2) rights ≡ going_on (event_at l (mutex_row at) ds) (call_by l (mutex_row at) rights))
+      → Rests l (next.At at2) → Tells at ds (next.At at2)
   keeps at at2 ds one may stay same rests = record {
     follows = record { one = one; may = may; comes = λ rights is. ap (call_by l (mutex_row at2)) (same_rights (after_event mutex (event_at l (mutex_row at) ds) s t) stay rights is) ∙ same rights };
     rests = rests;
   }
 
   -- nothing happens to the lock
-  quiet : (at at2 : MutexPlace) (ds : List Deed) → AreOneCase ds → case_of (mutex_row at).carries ds ≡ None → ((rights : ℕ → Rights) → call_by l (mutex_row at2) rights ≡ call_by l (mutex_row at) rights) → Rests l (next.At at2) → Tells at ds (next.At at2)
+  quiet : (at at2 : MutexPlace) (ds : List Deed) → AreOneCase ds → case_of (mutex_row at).carries ds ≡ None
+      → ((rights : ℕ → Rights) → call_by l (mutex_row at2) rights ≡ call_by l (mutex_row at) rights) → Rests l (next.At at2)
+      → Tells at ds (next.At at2)
   quiet at at2 ds one none same rests = keeps at at2 ds one (rw none tt) (rw none refl) (λ rights. rw none (same rights)) rests
 
   -- it has entered: what it owns then
-  module _ (v : LocksState) (rights : ℕ → Rights) (s2 : LockState) (now : v.locks l ≡ s2) (is : rights l ≡ rights_of s t) (has : (k : ℕ) → rights_in v t k ≡ rights_where l s2 t rights k) where
+  module _ (v : LocksState) (rights : ℕ → Rights) (s2 : LockState) (now : v.locks l ≡ s2) (is : rights l ≡ rights_of s t)
+      (has : (k : ℕ) → rights_in v t k ≡ rights_where l s2 t rights k) where
     gains : rights_of s2 t ≡ with_right Exclusive (rights_of s t) → (k : ℕ) → rights_in v t k ≡ one_more_at l Exclusive rights k
     gains e = agree rights l _ _ _ _ has (changed rights l (with_right Exclusive) rights _ (unchanged rights l (rights_of s t) is)) e
 
@@ -89,11 +98,13 @@ module _ (l t : ℕ) (s : LockState) where
     loses e = agree rights l _ _ _ _ (changed rights l (with_right Exclusive) (rights_in v t) _ has) (unchanged rights l (rights_of s t) is) e
 
     -- it was handed its right before
-    had : Owns s t Exclusive → rights_of s2 t ≡ rights_of s t → (k : ℕ) → rights_in v t k ≡ one_more_at l Exclusive (one_less_at l Exclusive rights) k
+    had : Owns s t Exclusive → rights_of s2 t ≡ rights_of s t → (k : ℕ)
+        → rights_in v t k ≡ one_more_at l Exclusive (one_less_at l Exclusive rights) k
     had own e = agree rights l _ _ _ _ has (changed rights l (with_right Exclusive) (one_less_at l Exclusive rights) _ (changed rights l (without_right Exclusive) rights _ (unchanged rights l (rights_of s t) is))) (e ∙ sym (regained s t Exclusive own))
 
   -- it gave its right up
-  lost : (s2 : LockState) → with_right Exclusive (rights_of s2 t) ≡ rights_of s t → (rights : ℕ → Rights) → rights l ≡ rights_of s t → one_more_at l Exclusive (rights_where l s2 t rights) ≡ rights
+  lost : (s2 : LockState) → with_right Exclusive (rights_of s2 t) ≡ rights_of s t → (rights : ℕ → Rights)
+      → rights l ≡ rights_of s t → one_more_at l Exclusive (rights_where l s2 t rights) ≡ rights
   lost s2 e rights is = λ i k. agree rights l (one_more_at l Exclusive (rights_where l s2 t rights)) rights _ _ (changed rights l (with_right Exclusive) (rights_where l s2 t rights) _ (λ k. refl)) (unchanged rights l (rights_of s t) is) e k i
 
   -- ---------------------------------------------------------------- the cases that calls are made of
@@ -124,7 +135,10 @@ module _ (l t : ℕ) (s : LockState) where
   -- ---------------------------------------------------------------- calls that enter
 
   -- the answer of a call that has entered
-  agreed : (entry : Entry) (v : LocksState) (c : CallState) (rights : ℕ → Rights) → c.former ≡ before_release l (is_bump entry) rights → Owns (v.locks l) t Exclusive → ((k : ℕ) → rights_in v t k ≡ one_more_at l Exclusive rights k) → AnswerHolds (Some (entry_purpose l entry)) v t c (entered entry)
+  agreed : (entry : Entry) (v : LocksState) (c : CallState) (rights : ℕ → Rights)
+      → c.former ≡ before_release l (is_bump entry) rights → Owns (v.locks l) t Exclusive
+      → ((k : ℕ) → rights_in v t k ≡ one_more_at l Exclusive rights k)
+      → AnswerHolds (Some (entry_purpose l entry)) v t c (entered entry)
   agreed entries.Lock v c rights former own got = rw former (own, got)
   agreed entries.LockTimed v c rights former own got = rw former (own, got)
   agreed entries.Bump v c rights former own got = rw former (own, got)
@@ -132,7 +146,8 @@ module _ (l t : ℕ) (s : LockState) where
   abbrev by_case : LockCase → MutexPlace → (ℕ → Rights) → CallState
   by_case case at rights = going_on (AtLock l case) (call_by l (mutex_row at) rights)
 
-  pub first : (e : Entry) (again b : Bool) → (b ≡ true → s.exclusive ≡ None) → Tells (Lock e again First) (if b then enters else []) (in_lock e again (if b then next.End (entered e) else next.At Load))
+  pub first : (e : Entry) (again b : Bool) → (b ≡ true → s.exclusive ≡ None)
+      → Tells (Lock e again First) (if b then enters else []) (in_lock e again (if b then next.End (entered e) else next.At Load))
   first e again true free = record {
     follows = record { one = tt; may = (enters_by e, tt); comes = λ v rights ruled now is has. agreed e v (by_case (Enter Exclusive) (Lock e again First) rights) rights refl (rw now refl) (gains v rights _ now is has (entered_alone s t (free refl))) };
     rests = tt;
@@ -143,7 +158,8 @@ module _ (l t : ℕ) (s : LockState) where
   loads e again seen = quiet (Lock e again Load) (Lock e again (Decide seen)) [] tt refl (λ rights. refl) (inl (decides l seen))
 
   pub exchanges : (e : Entry) (again : Bool) (was seen : ℕ) (a b : Bool) → (a ≡ true → b ≡ false → s.exclusive ≡ None)
-      → Tells (Lock e again (Decide was)) (if not a then [] else if b then Mark Main ∷ [] else enters) (in_lock e again (if not a then next.At (Decide seen) else if b then next.At (Decide 3) else next.End (entered e)))
+      → Tells (Lock e again (Decide was)) (if not a then [] else if b then Mark Main ∷ [] else enters)
+      (in_lock e again (if not a then next.At (Decide seen) else if b then next.At (Decide 3) else next.End (entered e)))
   exchanges e again was seen false b free = quiet (Lock e again (Decide was)) (Lock e again (Decide seen)) [] tt refl (λ rights. refl) (inl (decides l seen))
   exchanges e again was seen true true free = quiet (Lock e again (Decide was)) (Lock e again (Decide 3)) (Mark Main ∷ []) tt refl (λ rights. refl) (inl (decides l 3))
   exchanges e again was seen true false free = record {
@@ -159,15 +175,18 @@ module _ (l t : ℕ) (s : LockState) where
   unparked_goes_on true = refl
   unparked_goes_on false = refl
 
-  pub checks : (e : Entry) (again b : Bool) → Tells (Lock e again Check) (if b then Case (Park Exclusive) ∷ [] else []) (next.At (Lock e (again && not b) (Leave b)))
+  pub checks : (e : Entry) (again b : Bool)
+      → Tells (Lock e again Check) (if b then Case (Park Exclusive) ∷ [] else []) (next.At (Lock e (again && not b) (Leave b)))
   checks e again true = keeps (Lock e again Check) (Lock e (again && not true) (Leave true)) (Case (Park Exclusive) ∷ []) tt (parks_by e, tt) refl (λ rights i. record (call_by l (mutex_row (Lock e again Check)) rights) { retries = parked_ends again i }) (inl refl)
   checks e again false = quiet (Lock e again Check) (Lock e (again && not false) (Leave false)) [] tt refl (λ rights i. record (call_by l (mutex_row (Lock e again Check)) rights) { retries = unparked_goes_on again i }) (inl refl)
 
-  pub leaves_line : (e : Entry) (again b : Bool) → Tells (Lock e again (Leave b)) (Out ∷ []) (in_lock e again (if b then next.At Asleep else next.At Load))
+  pub leaves_line : (e : Entry) (again b : Bool)
+      → Tells (Lock e again (Leave b)) (Out ∷ []) (in_lock e again (if b then next.At Asleep else next.At Load))
   leaves_line e again true = quiet (Lock e again (Leave true)) (Lock e again Asleep) (Out ∷ []) tt refl (λ rights. refl) (inr (refl, refl))
   leaves_line e again false = quiet (Lock e again (Leave false)) (Lock e again Load) (Out ∷ []) tt refl (λ rights. refl) (inl refl)
 
-  pub removes : (e : Entry) (again b : Bool) → is_timed e ≡ true → Tells (Lock e again Remove) (Case locks.Late ∷ []) (in_lock e again (if b then next.At Clear else next.At GiveUp))
+  pub removes : (e : Entry) (again b : Bool) → is_timed e ≡ true
+      → Tells (Lock e again Remove) (Case locks.Late ∷ []) (in_lock e again (if b then next.At Clear else next.At GiveUp))
   removes e again true timed = keeps (Lock e again Remove) (Lock e again Clear) (Case locks.Late ∷ []) tt (late_by e timed, refl) refl (λ rights. refl) (inl refl)
   removes e again false timed = keeps (Lock e again Remove) (Lock e again GiveUp) (Case locks.Late ∷ []) tt (late_by e timed, refl) refl (λ rights. refl) (inl refl)
 
@@ -183,7 +202,8 @@ module _ (l t : ℕ) (s : LockState) where
   accepts entries.LockTimed again own = record { follows = record { one = tt; may = tt; comes = λ v rights ruled now is has. (rw now own, had v rights s now is has own refl) }; rests = tt }
   accepts entries.Bump again own = record { follows = record { one = tt; may = tt; comes = λ v rights ruled now is has. (rw now own, stays v rights s now is has refl) }; rests = tt }
 
-  pub tries : (b : Bool) → (b ≡ false → s.exclusive ≡ None) → (b ≡ true → s.exclusive ≢ None) → Tells TryLock (if b then End ∷ [] else enters) (if b then next.End answer.No else next.End answer.Yes)
+  pub tries : (b : Bool) → (b ≡ false → s.exclusive ≡ None) → (b ≡ true → s.exclusive ≢ None)
+      → Tells TryLock (if b then End ∷ [] else enters) (if b then next.End answer.No else next.End answer.Yes)
   tries false free owned = record { follows = record { one = tt; may = ((refl, refl), tt); comes = λ v rights ruled now is has. (rw now refl, gains v rights _ now is has (entered_alone s t (free refl))) }; rests = tt }
   tries true free owned = record {
     follows = record {
@@ -197,7 +217,9 @@ module _ (l t : ℕ) (s : LockState) where
 
   -- ---------------------------------------------------------------- releases
 
-  pub subtracts : (b : Bool) → s.exclusive ≡ Some t → Tells (Unlock unlock.Subtract) (Case (GivesBack Exclusive) ∷ (if b then [] else End ∷ [])) (in_unlock (if b then next.At unlock.Enter else next.End answer.Ok))
+  pub subtracts : (b : Bool) → s.exclusive ≡ Some t
+      → Tells (Unlock unlock.Subtract) (Case (GivesBack Exclusive) ∷ (if b then [] else End ∷ []))
+      (in_unlock (if b then next.At unlock.Enter else next.End answer.Ok))
   subtracts true own = record {
     follows = record { one = tt; may = ((refl, refl), tt); comes = λ rights is. ap (λ f. record (by_case (GivesBack Exclusive) (Unlock unlock.Subtract) rights) { former = f }) (lost (after_case mutex (GivesBack Exclusive) s t) (left s t Exclusive own) rights is) };
     rests = inl refl;
@@ -205,7 +227,8 @@ module _ (l t : ℕ) (s : LockState) where
   subtracts false own = record { follows = record { one = tt; may = ((refl, refl), tt); comes = λ v rights ruled now is has. loses v rights _ now is has (left s t Exclusive own) }; rests = tt }
 
   -- it takes the first of the queue, or finds nobody
-  pub takes_one : (o : Option ℕ) (any b : Bool) → Tells (Unlock unlock.Take) (takes o) (in_unlock (if b then next.At (unlock.Clear any) else next.At (unlock.Leave any)))
+  pub takes_one : (o : Option ℕ) (any b : Bool)
+      → Tells (Unlock unlock.Take) (takes o) (in_unlock (if b then next.At (unlock.Clear any) else next.At (unlock.Leave any)))
   takes_one None any true = quiet (Unlock unlock.Take) (Unlock (unlock.Clear any)) (takes None) tt refl (λ rights. refl) (inl refl)
   takes_one None any false = quiet (Unlock unlock.Take) (Unlock (unlock.Leave any)) (takes None) tt refl (λ rights. refl) (inl refl)
   takes_one (Some u) any true = keeps (Unlock unlock.Take) (Unlock (unlock.Clear any)) (takes (Some u)) tt ((refl, tt), tt) refl (λ rights. refl) (inl refl)
@@ -218,7 +241,8 @@ module _ (l t : ℕ) (s : LockState) where
 
   -- ---------------------------------------------------------------- fair releases
 
-  pub unlocks_fairly : (b : Bool) → (b ≡ true → s.exclusive ≡ Some t) → Tells UnlockFair (if b then Case (GivesBack Exclusive) ∷ End ∷ [] else []) (looked false (not b))
+  pub unlocks_fairly : (b : Bool) → (b ≡ true → s.exclusive ≡ Some t)
+      → Tells UnlockFair (if b then Case (GivesBack Exclusive) ∷ End ∷ [] else []) (looked false (not b))
   unlocks_fairly true own = record { follows = record { one = tt; may = ((refl, refl), tt); comes = λ v rights ruled now is has. loses v rights _ now is has (left s t Exclusive (own refl)) }; rests = tt }
   unlocks_fairly false own = quiet UnlockFair (HandOff false hand_off.Enter) [] tt refl (λ rights. refl) (inl refl)
 
@@ -226,12 +250,16 @@ module _ (l t : ℕ) (s : LockState) where
   bumps true own = quiet Bump (HandOff true hand_off.Enter) [] tt refl (λ rights. refl) (inl refl)
   bumps false own = record { follows = record { one = tt; may = tt; comes = λ v rights ruled now is has. (rw now own, stays v rights s now is has refl) }; rests = tt }
 
-  pub takes_fairly : (bumping : Bool) (o : Option ℕ) (any b : Bool) → Tells (HandOff bumping hand_off.Take) (takes o) (next.At (HandOff bumping (hand_off.Store any b)))
+  pub takes_fairly : (bumping : Bool) (o : Option ℕ) (any b : Bool)
+      → Tells (HandOff bumping hand_off.Take) (takes o) (next.At (HandOff bumping (hand_off.Store any b)))
   takes_fairly bumping None any b = quiet (HandOff bumping hand_off.Take) (HandOff bumping (hand_off.Store any b)) (takes None) tt refl (λ rights. refl) (inl (stores_so l any b))
   takes_fairly bumping (Some u) any b = keeps (HandOff bumping hand_off.Take) (HandOff bumping (hand_off.Store any b)) (takes (Some u)) tt (takes_by bumping (queued u), tt) refl (λ rights. refl) (inl (stores_so l any b))
 
   -- it gives its right to its heir, which isn't itself
-  pub stores : (bumping any none_left : Bool) (to : Option ℕ) → with_right Exclusive (rights_of (locks.handed t Exclusive (heir to) s) t) ≡ rights_of s t → Tells (HandOff bumping (hand_off.Store any none_left)) (hands_over to none_left) (next.At (HandOff bumping (hand_off.Leave any)))
+  pub stores : (bumping any none_left : Bool) (to : Option ℕ)
+      → with_right Exclusive (rights_of (locks.handed t Exclusive (heir to) s) t) ≡ rights_of s t
+      → Tells (HandOff bumping (hand_off.Store any none_left)) (hands_over to none_left)
+      (next.At (HandOff bumping (hand_off.Leave any)))
   stores bumping any none_left to gave = record { follows = record { one = one to none_left; may = may to; comes = comes to gave }; rests = inl (leaves_so any) }
     where
       one : (o : Option ℕ) (b : Bool) → AreOneCase (hands_over o b)
@@ -239,7 +267,9 @@ module _ (l t : ℕ) (s : LockState) where
       one (Some u) true = tt
       one (Some u) false = tt
 
-      may : (o : Option ℕ) → MayCome l (mutex_row (HandOff bumping (hand_off.Store any none_left))) (event_at l (mutex_row (HandOff bumping (hand_off.Store any none_left))) (hands_over o none_left))
+      may : (o : Option ℕ)
+          → MayCome l (mutex_row (HandOff bumping (hand_off.Store any none_left)))
+          (event_at l (mutex_row (HandOff bumping (hand_off.Store any none_left))) (hands_over o none_left))
       may None = (hands_by bumping None, tt)
       may (Some u) = (hands_by bumping (heir (Some u)), tt)
 
@@ -248,12 +278,16 @@ module _ (l t : ℕ) (s : LockState) where
       leaves_so false = refl
 
       comes : (o : Option ℕ) → with_right Exclusive (rights_of (locks.handed t Exclusive (heir o) s) t) ≡ rights_of s t
-          → IsNextCall l (mutex_row (HandOff bumping (hand_off.Store any none_left))) (event_at l (mutex_row (HandOff bumping (hand_off.Store any none_left))) (hands_over o none_left)) s (after_event mutex (event_at l (mutex_row (HandOff bumping (hand_off.Store any none_left))) (hands_over o none_left)) s t) t (mutex_row (HandOff bumping (hand_off.Leave any)))
+          → IsNextCall l (mutex_row (HandOff bumping (hand_off.Store any none_left)))
+          (event_at l (mutex_row (HandOff bumping (hand_off.Store any none_left))) (hands_over o none_left)) s
+          (after_event mutex (event_at l (mutex_row (HandOff bumping (hand_off.Store any none_left))) (hands_over o none_left)) s t) t
+          (mutex_row (HandOff bumping (hand_off.Leave any)))
       comes None e rights is = ap (λ f. record (by_case (HandsOff Exclusive None) (HandOff bumping (hand_off.Store any none_left)) rights) { former = f }) (lost (locks.handed t Exclusive None s) e rights is)
       comes (Some u) e rights is = ap (λ f. record (by_case (HandsOff Exclusive (heir (Some u))) (HandOff bumping (hand_off.Store any none_left)) rights) { former = f }) (lost (locks.handed t Exclusive (heir (Some u)) s) e rights is)
 
   -- it leaves, and a bump enters again
-  pub leaves_fairly : (bumping to : Bool) → Tells (HandOff bumping (hand_off.Leave to)) (Out ∷ []) (in_hand_off bumping (next.End answer.Ok))
+  pub leaves_fairly : (bumping to : Bool)
+      → Tells (HandOff bumping (hand_off.Leave to)) (Out ∷ []) (in_hand_off bumping (next.End answer.Ok))
   leaves_fairly true true = quiet (HandOff true (hand_off.Leave true)) (Lock entries.Bump false First) (Out ∷ []) tt refl (λ rights. refl) (inl refl)
   leaves_fairly true false = quiet (HandOff true (hand_off.Leave false)) (Lock entries.Bump false First) (Out ∷ []) tt refl (λ rights. refl) (inl refl)
   leaves_fairly false true = record { follows = record { one = tt; may = tt; comes = λ v rights ruled now is has k. ap (λ f. one_more_at l Exclusive f k) (λ i x. stays v rights _ now is has refl x i) }; rests = tt }
@@ -262,5 +296,7 @@ module _ (l t : ℕ) (s : LockState) where
   -- ---------------------------------------------------------------- steps that only lead elsewhere
 
   -- into a section, or a bit cleared
-  pub goes_to : (at at2 : MutexPlace) (d : Deed) → AreOneCase (d ∷ []) → case_of (mutex_row at).carries (d ∷ []) ≡ None → ((rights : ℕ → Rights) → call_by l (mutex_row at2) rights ≡ call_by l (mutex_row at) rights) → Rests l (next.At at2) → Tells at (d ∷ []) (next.At at2)
+  pub goes_to : (at at2 : MutexPlace) (d : Deed) → AreOneCase (d ∷ []) → case_of (mutex_row at).carries (d ∷ []) ≡ None
+      → ((rights : ℕ → Rights) → call_by l (mutex_row at2) rights ≡ call_by l (mutex_row at) rights) → Rests l (next.At at2)
+      → Tells at (d ∷ []) (next.At at2)
   goes_to at at2 d one none same rests = quiet at at2 (d ∷ []) one none same rests

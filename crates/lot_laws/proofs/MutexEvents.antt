@@ -70,7 +70,8 @@ module _ (s : Site) (t l : ℕ) (site : IsSite mutex s) where
   first_free true needed e = nobody needed
   first_free false needed e = absurd cc
 
-  decided_free : (a b : Bool) → AllNeeded mutex (if not a then [] else if b then Mark Main ∷ [] else enters) s t → a ≡ true → b ≡ false → s.lock.exclusive ≡ None
+  decided_free : (a b : Bool) → AllNeeded mutex (if not a then [] else if b then Mark Main ∷ [] else enters) s t → a ≡ true
+      → b ≡ false → s.lock.exclusive ≡ None
   decided_free true false needed e f = nobody needed
   decided_free true true needed e f = absurd cc
   decided_free false b needed e f = absurd cc
@@ -83,7 +84,9 @@ module _ (s : Site) (t l : ℕ) (site : IsSite mutex s) where
   given None b needed = needed.0.0
   given (Some u) b needed = needed.0.0
 
-  pub mutex_tells : (at : MutexPlace) (whom : Option ℕ) (told : Reply) → s.doing t ≡ mutex_doing at → AllNeeded mutex (mutex_deeds at whom told) s t → Hears s t at told → Tells l t s.lock at (mutex_deeds at whom told) (mutex_next at told)
+  pub mutex_tells : (at : MutexPlace) (whom : Option ℕ) (told : Reply) → s.doing t ≡ mutex_doing at
+      → AllNeeded mutex (mutex_deeds at whom told) s t → Hears s t at told
+      → Tells l t s.lock at (mutex_deeds at whom told) (mutex_next at told)
   mutex_tells (Lock e again First) whom (Value v) doing needed hears = first l t s.lock e again (v == 0) (first_free (v == 0) needed)
   mutex_tells (Lock e again Load) whom (Value v) doing needed hears = loads l t s.lock e again v
   mutex_tells (Lock e again (Decide was)) whom (Value v) doing needed hears = exchanges l t s.lock e again was v (v == was) (is_locked v) (decided_free (v == was) (is_locked v) needed)
@@ -119,7 +122,8 @@ append_nothing : (xs : List Act) → xs ≡ xs ++ []
 append_nothing [] = refl
 append_nothing (x ∷ xs) = ap (λ ys. x ∷ ys) (append_nothing xs)
 
-pub deeds_are : (t : ℕ) (at : MutexPlace) (whom : Option ℕ) (told : Reply) → deeds t at whom told ≡ acts t (mutex_deeds at whom told) ++ claims_at at whom told
+pub deeds_are : (t : ℕ) (at : MutexPlace) (whom : Option ℕ) (told : Reply)
+    → deeds t at whom told ≡ acts t (mutex_deeds at whom told) ++ claims_at at whom told
 deeds_are t (HandOff bumping (hand_off.Store any b)) whom (Value v) = refl
 deeds_are t (HandOff bumping (hand_off.Store any b)) whom told = append_nothing _
 deeds_are t (HandOff bumping at) whom told = append_nothing _

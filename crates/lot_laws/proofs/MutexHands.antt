@@ -55,7 +55,9 @@ accepts l t by p given = record {
 -- ---------------------------------------------------------------- the first of the line is taken
 
 -- whoever takes it, in whatever call, and whoever it is: itself too
-module _ (w : State) (t l : ℕ) (steady : IsSteady w) (there : t < length w.places) (p2 : Place) (beside : AlikeBeside l (place_at w t) p2) (fits : FitsItsLock w p2) (rules : rules_in w l ≡ mutex) (line : 2 * l < length w.queues)
+module _ (w : State) (t l : ℕ) (steady : IsSteady w) (there : t < length w.places) (p2 : Place)
+    (beside : AlikeBeside l (place_at w t) p2) (fits : FitsItsLock w p2) (rules : rules_in w l ≡ mutex)
+    (line : 2 * l < length w.queues)
     (x : Waiter) (rest : List Waiter) (first : queue_at w (2 * l) ≡ x ∷ rest) (wants : x.want ≡ Exclusive) (stood : (station_at (place_at w x.thread) l).stands ≡ Some Main) (sleeps : SleepsAt l (place_at w x.thread)) where
   abbrev pub taken_state : State
   taken_state = put (state_after_reply (record w { queues = queues_without_first w.queues (2 * l) }) x.thread (TakenBy t)) t p2
@@ -82,8 +84,11 @@ module _ (w : State) (t l : ℕ) (steady : IsSteady w) (there : t < length w.pla
   same_one = rw (same x.thread) refl
 
   pub first_goes : (station_at (place_at w t) l).carries ≡ None → station_at p2 l ≡ record (behind_take t (member t (x ∷ [])) (station_at (place_at w t) l)) { carries = Some false }
-      → taken_at p2 l ≡ (if member t (x ∷ []) then taken_at (next_place (place_at w t) (TakenBy t)) l else taken_at (place_at w t) l) → ActsNeeded mutex (acts t (Case (TakeFirst (queued x.thread)) ∷ [])) (lock_by w l mutex)
-      → doing_on p2 l ≡ (after_acts mutex (acts t (Case (TakeFirst (queued x.thread)) ∷ [])) (lock_by w l mutex)).doing t → Goes w taken_state l (acts t (Case (TakeFirst (queued x.thread)) ∷ []))
+      → taken_at p2 l
+      ≡ (if member t (x ∷ []) then taken_at (next_place (place_at w t) (TakenBy t)) l else taken_at (place_at w t) l)
+      → ActsNeeded mutex (acts t (Case (TakeFirst (queued x.thread)) ∷ [])) (lock_by w l mutex)
+      → doing_on p2 l ≡ (after_acts mutex (acts t (Case (TakeFirst (queued x.thread)) ∷ [])) (lock_by w l mutex)).doing t
+      → Goes w taken_state l (acts t (Case (TakeFirst (queued x.thread)) ∷ []))
   first_goes bare now own_taken needed own_is = take_goes w t l steady there p2 beside fits Main (x ∷ []) rest splits
       (λ one u v h g. sym (only_member x u h) ∙ only_member x v g) bare (Some false) now mutex rules own_taken taken_state refl refl refl threads places
       (get_or-set_same w.queues (2 * l) (drop 1 (queue_at w (2 * l))) [] line ∙ ap (drop 1) first) (λ key ne. get_or-set_other w.queues (2 * l) key (drop 1 (queue_at w (2 * l))) [] ne)
@@ -92,7 +97,9 @@ module _ (w : State) (t l : ℕ) (steady : IsSteady w) (there : t < length w.pla
       (λ i. record (lock_by w l mutex).lock { queue = sym (ap (λ (q : List Waiter). drop 1 (map queued_of q)) first) i; taken = locks.taking t (record { thread = x.thread; want = wants i } ∷ []) (λ u. taken_at (place_at w u) l) })
       refl refl (sym (or-false (filled_at w l))) own_is
 
-module _ (r : Rules) (l : ℕ) (n : Base) (word : ℕ) (o : Owners) (m s : List Waiter) (p : ℕ → Place) (one : ℕ → Type 0) (hands : Hands one p) (single : one l) (mutexes : (x : ℕ) → CallsMutex l (p x)) (t u : ℕ) (alone bumps none_left : Bool) (sort : r.sort ≡ locks.Mutex) (state : IsLockState mutex (lock_seen n.shared o m s (λ x. taken_at (p x) l)))
+module _ (r : Rules) (l : ℕ) (n : Base) (word : ℕ) (o : Owners) (m s : List Waiter) (p : ℕ → Place) (one : ℕ → Type 0)
+    (hands : Hands one p) (single : one l) (mutexes : (x : ℕ) → CallsMutex l (p x)) (t u : ℕ) (alone bumps none_left : Bool)
+    (sort : r.sort ≡ locks.Mutex) (state : IsLockState mutex (lock_seen n.shared o m s (λ x. taken_at (p x) l)))
     (store : p t ≡ Mutex l (HandOff bumps (hand_off.Store true none_left))) (held : hand_at (p u) l ≡ hand t false) where
   abbrev at_store : Site
   at_store = seen l n word o m s p
@@ -136,7 +143,8 @@ module _ (r : Rules) (l : ℕ) (n : Base) (word : ℕ) (o : Owners) (m s : List 
   ]
 
   -- the store does what its deeds do
-  pub handing : (b : Bool) → none_left ≡ b → seen l n (if b then 1 else 3) (with_exclusive o (Some u)) m s handed_places ≡ after_acts r (hands_acts b) at_store
+  pub handing : (b : Bool) → none_left ≡ b
+      → seen l n (if b then 1 else 3) (with_exclusive o (Some u)) m s handed_places ≡ after_acts r (hands_acts b) at_store
   handing b f = λ i. record at_store {
     lock = (let_go_lock ∙ sym (handed_is t n o m s p l (Some u) state) ∙ same_lock b) i;
     parked = bit b i;
@@ -145,10 +153,13 @@ module _ (r : Rules) (l : ℕ) (n : Base) (word : ℕ) (o : Owners) (m s : List 
     doing = λ x. doing_then b f x i;
   }
     where
-      let_go_lock : lock_seen n.shared (with_exclusive o (Some u)) m s (λ x. taken_at (handed_places x) l) ≡ lock_seen n.shared (with_exclusive o (Some u)) m s (let_go t (λ x. taken_at (p x) l))
+      let_go_lock : lock_seen n.shared (with_exclusive o (Some u)) m s (λ x. taken_at (handed_places x) l)
+          ≡ lock_seen n.shared (with_exclusive o (Some u)) m s (let_go t (λ x. taken_at (p x) l))
       let_go_lock = λ i. lock_seen n.shared (with_exclusive o (Some u)) m s (λ x. let_go_now x i)
 
-      same_lock : (b : Bool) → locks.handed t Exclusive (heir (Some u)) (lock_seen n.shared o m s (λ x. taken_at (p x) l)) ≡ (after_acts r (hands_acts b) at_store).lock
+      same_lock : (b : Bool)
+          → locks.handed t Exclusive (heir (Some u)) (lock_seen n.shared o m s (λ x. taken_at (p x) l))
+          ≡ (after_acts r (hands_acts b) at_store).lock
       same_lock true = refl
       same_lock false = refl
 

@@ -27,7 +27,8 @@ only_exclusive Exclusive h = refl
 only_exclusive x h = absurd h
 
 -- whoever wakes the waiters of a mutex releases it, waits with it, or notifies and has seen it
-wakes_one : (sort : ℕ → Sort) (q : Option Purpose) (g : Option ℕ) (r : Recall) (l : ℕ) → sort l ≡ locks.Mutex → KnowsRights sort q → WakesWaiters locks.Mutex q g r l → WakesOne q r l
+wakes_one : (sort : ℕ → Sort) (q : Option Purpose) (g : Option ℕ) (r : Recall) (l : ℕ) → sort l ≡ locks.Mutex → KnowsRights sort q
+    → WakesWaiters locks.Mutex q g r l → WakesOne q r l
 wakes_one sort None g r l e knows h = h
 wakes_one sort (Some (Enters k x how)) g r l e knows h = absurd (let f : false ≡ true = h.2 in cc)
 wakes_one sort (Some (Releases k x fair)) g r l e knows h = (h.0, right, elim h.1 [ inl unfair ↦ unfair | inr greater ↦ absurd (let f : Exclusive ≡ Upgradable = sym right ∙ greater in cc) ])
@@ -93,7 +94,8 @@ module _ (w : State) (l : ℕ) (kept : IsKept w) (of_mutex : is_mutex (kind_at w
   owing : (t : ℕ) → IsShownToOwe w t l → IsInside w t l Main ⊎ GoesToRelease w t l
   owing t h = elim (kept.owing t l Main (shown t h)) [ inl i ↦ inl i | inr g ↦ inr (g.0, goes g.1) ]
     where
-      goes : LetsOthersIn w t l ⊎ (WakesAside (call_at w t).purpose l Main ⊎ HasReleasedIt w t l) → ReleasesLock w t l ⊎ HasReleasedIt w t l
+      goes : LetsOthersIn w t l ⊎ (WakesAside (call_at w t).purpose l Main ⊎ HasReleasedIt w t l)
+          → ReleasesLock w t l ⊎ HasReleasedIt w t l
       goes (inl lets) = inl (only_releases w l of_mutex t lets)
       goes (inr (inl aside)) = absurd aside
       goes (inr (inr released)) = inr released
@@ -119,7 +121,8 @@ mutexes_are_kept w l kept of_mutex = mutex_kept w l kept of_mutex
 
 -- ---------------------------------------------------------------- a step
 
-module _ (w v : State) (t l : ℕ) (o : Outcome) (since : OwesSince w t o v) (kept : IsKept v) (before : is_mutex (kind_at w l) ≡ true) (behind : is_mutex (kind_at v l) ≡ true) where
+module _ (w v : State) (t l : ℕ) (o : Outcome) (since : OwesSince w t o v) (kept : IsKept v)
+    (before : is_mutex (kind_at w l) ≡ true) (behind : is_mutex (kind_at v l) ≡ true) where
   seen : SeesWaiters w t l Main o v → SeesParkedBit w t l o v
   seen s = (only_releases w l before t s.0, sym (mutex_tells (call_at w t).purpose Main (word_at w l)) ∙ subst (λ x. tells_by x (call_at w t).purpose Main (word_at w l) ≡ true) (sort w l before) s.2, s.3, s.5)
 

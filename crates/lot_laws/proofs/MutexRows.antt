@@ -44,7 +44,10 @@ mutex_own l (HandOff true at) = refl
 mutex_own l (HandOff false at) = refl
 mutex_own l at = refl
 
-decides_acts : (l s : ℕ) (a b : Bool) → is_acting (if not a then act.Word l (op.TheVariants.Exchange s (s + 1)) else if b then act.Word l (op.TheVariants.Exchange 1 3) else act.Enter (One (2 * l))) ≡ true
+decides_acts : (l s : ℕ) (a b : Bool)
+    → is_acting
+    (if not a then act.Word l (op.TheVariants.Exchange s (s + 1)) else if b then act.Word l (op.TheVariants.Exchange 1 3) else act.Enter (One (2 * l)))
+    ≡ true
 decides_acts l s false b = refl
 decides_acts l s true true = refl
 decides_acts l s true false = refl
@@ -65,7 +68,8 @@ mutex_acts l (HandOff b a) = refl
 knows_exclusive : (s : locks.Sort) → s ≡ locks.Mutex → locks.Knows s Exclusive
 knows_exclusive s e = subst (λ x. locks.Knows x Exclusive) (sym e) tt
 
-mutex_known : (l : ℕ) (at : MutexPlace) (sorts : ℕ → locks.Sort) → sorts l ≡ locks.Mutex → KnowsRights sorts (Some ((mutex_row at).purpose l))
+mutex_known : (l : ℕ) (at : MutexPlace) (sorts : ℕ → locks.Sort) → sorts l ≡ locks.Mutex
+    → KnowsRights sorts (Some ((mutex_row at).purpose l))
 mutex_known l (Lock entries.Lock r at) sorts e = knows_exclusive (sorts l) e
 mutex_known l (Lock entries.LockTimed r at) sorts e = knows_exclusive (sorts l) e
 mutex_known l (Lock entries.Bump r at) sorts e = knows_exclusive (sorts l) e
@@ -99,7 +103,9 @@ shut l entries.LockTimed r at (inl h) = h
 shut l entries.Bump r at (inl h) = let f : true ≡ false = h.1 in cc
 shut l e r at (inr h) = let f = h.0 in cc
 
-owes_is : (l : ℕ) (at : MutexPlace) (m : Line) → (mutex_row at).owes ≡ Some m → ((mutex_row at).doing.inside ≡ Some m) ⊎ ((mutex_act l at ≡ act.Enter (One (key_of l m))) × LetsIn locks.Mutex l (mutex_row at))
+owes_is : (l : ℕ) (at : MutexPlace) (m : Line) → (mutex_row at).owes ≡ Some m
+    → ((mutex_row at).doing.inside ≡ Some m)
+    ⊎ ((mutex_act l at ≡ act.Enter (One (key_of l m))) × LetsIn locks.Mutex l (mutex_row at))
 owes_is l (Lock e r at) m h = inl (lock_owes (is_timed e) r at ∙ h)
 owes_is l (Unlock unlock.Subtract) m h = absurd cc
 owes_is l (Unlock unlock.Enter) Main h = inr (refl, inl refl)
@@ -123,7 +129,8 @@ inside_owes at m h = absurd cc
 apart : (l : ℕ) → act.Enter (One (2 * l)) ≡ act.Enter (One (2 * l + 1)) → ⊥
 apart l h = let e : 2 * l ≡ 2 * l + 1 = cc in omega arith
 
-entering_owes : (l : ℕ) (at : MutexPlace) (m : Line) → mutex_act l at ≡ act.Enter (One (key_of l m)) → LetsIn locks.Mutex l (mutex_row at) → (mutex_row at).owes ≡ Some m
+entering_owes : (l : ℕ) (at : MutexPlace) (m : Line) → mutex_act l at ≡ act.Enter (One (key_of l m))
+    → LetsIn locks.Mutex l (mutex_row at) → (mutex_row at).owes ≡ Some m
 entering_owes l (Lock e r at) m h lets = absurd (shut l e r at lets)
 entering_owes l (Unlock unlock.Enter) Main h lets = refl
 entering_owes l (Unlock unlock.Enter) Second h lets = absurd (apart l h)
@@ -165,12 +172,14 @@ again l e true at d = inr (refl, wants_all l e)
 again l e false at d = absurd (elim d [ inl h ↦ cc | inr h ↦ elim h [ inl k ↦ cc | inr k ↦ cc ] ])
 
 pub decided_awake : (l seen : ℕ) (is_owned is_one : Bool)
-    → (if not is_owned then act.Word l (op.TheVariants.Exchange seen (seen + 1)) else if is_one then act.Word l (op.TheVariants.Exchange 1 3) else act.Enter (One (2 * l))) ≢ Sleep
+    → (if not is_owned then act.Word l (op.TheVariants.Exchange seen (seen + 1)) else if is_one then act.Word l (op.TheVariants.Exchange 1 3) else act.Enter (One (2 * l)))
+    ≢ Sleep
 decided_awake l seen false is_one e = cc
 decided_awake l seen true true e = cc
 decided_awake l seen true false e = cc
 
-debtor_main : (l : ℕ) (at : MutexPlace) → IsDebtor locks.Mutex (mutex_row at).doing → ((mutex_row at).doing.claims ≡ Some (Has Exclusive) → ⊥) → RowLooksAfter locks.Mutex l (mutex_row at) (mutex_act l at) Main
+debtor_main : (l : ℕ) (at : MutexPlace) → IsDebtor locks.Mutex (mutex_row at).doing
+    → ((mutex_row at).doing.claims ≡ Some (Has Exclusive) → ⊥) → RowLooksAfter locks.Mutex l (mutex_row at) (mutex_act l at) Main
 debtor_main l (Lock e b lock.First) d free = record { debt = again l e b lock.First d; awake = λ h. cc; stands = refl; taken = refl }
 debtor_main l (Lock e b lock.Load) d free = record { debt = again l e b lock.Load d; awake = λ h. cc; stands = refl; taken = refl }
 debtor_main l (Lock e b (lock.Decide x)) d free = record { debt = again l e b (lock.Decide x) d; awake = decided_awake l x (is_locked x) (x == 1); stands = refl; taken = refl }
@@ -194,7 +203,8 @@ wakes_main (HandOff b hand_off.Enter) h = cc
 wakes_main (HandOff b at) h = cc
 wakes_main at h = cc
 
-debtor : (l : ℕ) (at : MutexPlace) (m : Line) → IsDebtorIn locks.Mutex (mutex_row at).doing m → ((mutex_row at).doing.claims ≡ Some (Has Exclusive) → ⊥) → RowLooksAfter locks.Mutex l (mutex_row at) (mutex_act l at) m
+debtor : (l : ℕ) (at : MutexPlace) (m : Line) → IsDebtorIn locks.Mutex (mutex_row at).doing m
+    → ((mutex_row at).doing.claims ≡ Some (Has Exclusive) → ⊥) → RowLooksAfter locks.Mutex l (mutex_row at) (mutex_act l at) m
 debtor l at Main d free = debtor_main l at d free
 debtor l at Second d free = absurd (wakes_main at d)
 
@@ -244,7 +254,8 @@ asleep l (HandOff b at) h = absurd (hand_off_awake l at h)
 asleep l at h = absurd cc
 
 -- a thread that has handed the mutex over wakes the new owner next
-tells : (l : ℕ) (at : MutexPlace) → (mutex_row at).carries ≡ Some true → (mutex_act l at ≡ act.Leave (One (2 * l)) (wakes.TheVariants.All note.HandOff)) × ((mutex_row at).doing.inside ≡ Some Main)
+tells : (l : ℕ) (at : MutexPlace) → (mutex_row at).carries ≡ Some true
+    → (mutex_act l at ≡ act.Leave (One (2 * l)) (wakes.TheVariants.All note.HandOff)) × ((mutex_row at).doing.inside ≡ Some Main)
 tells l (HandOff bumps (hand_off.Leave true)) h = (refl, refl)
 tells l (HandOff bumps (hand_off.Leave false)) h = absurd cc
 tells l (HandOff bumps (hand_off.Store true none_left)) h = absurd cc
@@ -259,7 +270,8 @@ tells l at h = absurd cc
 
 -- ---------------------------------------------------------------- being late
 
-late : (l : ℕ) (at : MutexPlace) (m : Line) → (mutex_row at).late_line ≡ Some m → RowIsLate locks.Mutex l (mutex_row at) (mutex_act l at) m
+late : (l : ℕ) (at : MutexPlace) (m : Line) → (mutex_row at).late_line ≡ Some m
+    → RowIsLate locks.Mutex l (mutex_row at) (mutex_act l at) m
 late l (Lock entries.LockTimed r lock.Asleep) m h = record { stands = h; asleep = refl; timed = (refl, refl); shut = shut l entries.LockTimed r lock.Asleep }
 late l (Lock entries.Lock r lock.Asleep) m h = absurd cc
 late l (Lock entries.Bump r lock.Asleep) m h = absurd cc
@@ -267,7 +279,8 @@ late l (Lock e r lock.First) m h = absurd cc
 late l (Lock e r at) m h = absurd cc
 late l at m h = absurd cc
 
-may_be_late : (l : ℕ) (at : MutexPlace) (m : Line) → (mutex_row at).stands ≡ Some m → mutex_act l at ≡ Sleep → IsTimed (Some ((mutex_row at).purpose l)) (mutex_row at).recalls l → (mutex_row at).late_line ≡ Some m
+may_be_late : (l : ℕ) (at : MutexPlace) (m : Line) → (mutex_row at).stands ≡ Some m → mutex_act l at ≡ Sleep
+    → IsTimed (Some ((mutex_row at).purpose l)) (mutex_row at).recalls l → (mutex_row at).late_line ≡ Some m
 may_be_late l (Lock entries.LockTimed r lock.Asleep) m h sleeps timed = h
 may_be_late l (Lock entries.Lock r at) m h sleeps timed = absurd (let e = timed.1 in cc)
 may_be_late l (Lock entries.Bump r at) m h sleeps timed = absurd timed

@@ -30,14 +30,18 @@ exclusive_wanted Exclusive k = refl
 exclusive_wanted x k = absurd k
 
 -- whom t has in hand
-pub taken_nobody : (l : ℕ) (p : ℕ → Place) (t : ℕ) (n : Base) (o : Owners) (m s : List Waiter) → ((u : ℕ) → Untaken t (taken_at (p u) l)) → HasTakenNobody (lock_seen n.shared o m s (λ u. taken_at (p u) l)) t
+pub taken_nobody : (l : ℕ) (p : ℕ → Place) (t : ℕ) (n : Base) (o : Owners) (m s : List Waiter)
+    → ((u : ℕ) → Untaken t (taken_at (p u) l)) → HasTakenNobody (lock_seen n.shared o m s (λ u. taken_at (p u) l)) t
 taken_nobody l p t n o m s none u x h = let g : keep_from t (Some (record { by = t; want = x })) ≡ Some (record { by = t; want = x }) = rw h at (none u) in let f : ◌≡◌ {A = Option Taken} None (Some (record { by = t; want = x })) = rw (same t) at g in cc
 
-module _ (l : ℕ) (n : Base) (w : ℕ) (o : Owners) (s rest : List Waiter) (x : Waiter) (p : ℕ → Place) (t : ℕ) (site : IsSite mutex (seen l n w o (x ∷ rest) s p)) where
+module _ (l : ℕ) (n : Base) (w : ℕ) (o : Owners) (s rest : List Waiter) (x : Waiter) (p : ℕ → Place) (t : ℕ)
+    (site : IsSite mutex (seen l n w o (x ∷ rest) s p)) where
   pub first_wants : x.want ≡ Exclusive
   first_wants = exclusive_wanted x.want site.state.known_queue.0
 
-  pub take_needed : (d : Doing) → doing_on (p t) l ≡ d → ((u : ℕ) → Untaken t (taken_at (p u) l)) → d.inside ≡ Some Main → d.carries ≡ false → d.wakes ≢ Some Second → ActsNeeded mutex (acts t (Case (TakeFirst (queued x.thread)) ∷ [])) (seen l n w o (x ∷ rest) s p)
+  pub take_needed : (d : Doing) → doing_on (p t) l ≡ d → ((u : ℕ) → Untaken t (taken_at (p u) l)) → d.inside ≡ Some Main
+      → d.carries ≡ false → d.wakes ≢ Some Second
+      → ActsNeeded mutex (acts t (Case (TakeFirst (queued x.thread)) ∷ [])) (seen l n w o (x ∷ rest) s p)
   take_needed d is none i c v = (
     (((map queued_of rest, λ j. (record { thread = x.thread; want = first_wants j }) ∷ map queued_of rest), taken_nobody l p t n o (x ∷ rest) s none, tt), (rw is i, rw is c, rw is v)),
     tt,
@@ -51,7 +55,10 @@ abbrev want_of : Option Queued → Want
 want_of None = Exclusive
 want_of (Some q) = q.want
 
-module _ (l : ℕ) (n : Base) (w : ℕ) (o : Owners) (m s : List Waiter) (p : ℕ → Place) (one : ℕ → Type 0) (hands : Hands one p) (single : one l) (mutexes : (x : ℕ) → CallsMutex l (p x)) (t u : ℕ) (alone bumps none_left : Bool) (store : p t ≡ Mutex l (HandOff bumps (hand_off.Store true none_left))) (held : hand_at (p u) l ≡ hand t false) (site : IsSite mutex (seen l n w o m s p)) where
+module _ (l : ℕ) (n : Base) (w : ℕ) (o : Owners) (m s : List Waiter) (p : ℕ → Place) (one : ℕ → Type 0) (hands : Hands one p)
+    (single : one l) (mutexes : (x : ℕ) → CallsMutex l (p x)) (t u : ℕ) (alone bumps none_left : Bool)
+    (store : p t ≡ Mutex l (HandOff bumps (hand_off.Store true none_left))) (held : hand_at (p u) l ≡ hand t false)
+    (site : IsSite mutex (seen l n w o m s p)) where
   d_is : doing_on (p t) l ≡ mutex_doing (HandOff bumps (hand_off.Store true none_left))
   d_is = own_doing l (p t) (HandOff bumps (hand_off.Store true none_left)) store
 
@@ -76,7 +83,10 @@ module _ (l : ℕ) (n : Base) (w : ℕ) (o : Owners) (m s : List Waiter) (p : �
     λ h. let a = only_one y x h.0 in λ j. Some (record { thread = sym a.0 j; want = sym a.1 j }),
   )
 
-  pub hands_needed : (b : Bool) → none_left ≡ b → ActsNeeded mutex (hands_acts mutex l n w o m s p one hands single mutexes t u alone bumps none_left refl site.state store held b) (seen l n w o m s p)
+  pub hands_needed : (b : Bool) → none_left ≡ b
+      → ActsNeeded mutex
+      (hands_acts mutex l n w o m s p one hands single mutexes t u alone bumps none_left refl site.state store held b)
+      (seen l n w o m s p)
   hands_needed true f = (
     ((site.held t (Has Exclusive) (ap (λ (x : Doing). x.claims) d_is), (λ h. cc), successor, tt), (rw d_is refl, rw d_is refl, rw d_is refl, rw d_is refl)),
     (rw (same t, d_is, f) refl, (ap (λ (x : LockState). x.exclusive) (handed_is t n o m s p l (Some u) site.state), tt)),

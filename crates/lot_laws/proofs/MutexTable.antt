@@ -43,21 +43,29 @@ abbrev pub parts : Base → ℕ → Owners → (main second : List Waiter) → P
 parts n word o main second = record { base = n; word = word; owners = o; main = main; second = second }
 
 -- a step of a mutex
-abbrev pub MutexSteps : (l : ℕ) → Base → (w w2 : ℕ) → (o o2 : Owners) → (m m2 s : List Waiter) → (ℕ → Place) → (t : ℕ) → Place → List Deed → Type 0
+abbrev pub MutexSteps : (l : ℕ) → Base → (w w2 : ℕ) → (o o2 : Owners) → (m m2 s : List Waiter) → (ℕ → Place) → (t : ℕ) → Place
+    → List Deed → Type 0
 MutexSteps l n w w2 o o2 m m2 s p t p2 ds = Steps mutex l (parts n w o m s) (parts n w2 o2 m2 s) p t p2 ds
 
-module _ (l : ℕ) (n : Base) (w w2 : ℕ) (o : Owners) (m s : List Waiter) (p : ℕ → Place) (t : ℕ) (p2 : Place) (site : IsSite mutex (seen l n w o m s p)) (d : Doing) (is : doing_on (p t) l ≡ d) (hand : taken_at (p t) l ≡ None) (hand2 : taken_at p2 l ≡ None) where
+module _ (l : ℕ) (n : Base) (w w2 : ℕ) (o : Owners) (m s : List Waiter) (p : ℕ → Place) (t : ℕ) (p2 : Place)
+    (site : IsSite mutex (seen l n w o m s p)) (d : Doing) (is : doing_on (p t) l ≡ d) (hand : taken_at (p t) l ≡ None)
+    (hand2 : taken_at p2 l ≡ None) where
   abbrev now : Site
   now = seen l n w o m s p
 
-  meet : (o2 : Owners) (m2 : List Waiter) (ds : List Deed) → AreSingle ds → lock_seen n.shared o2 m2 s (λ u. taken_at (p u) l) ≡ (after_acts mutex (acts t ds) now).lock → is_parked w2 ≡ (after_acts mutex (acts t ds) now).parked
-      → false ≡ (after_acts mutex (acts t ds) now).aside_parked → doing_on p2 l ≡ (after_acts mutex (acts t ds) now).doing t → seen l n w2 o2 m2 s (putting p t p2) ≡ after_acts mutex (acts t ds) now
+  meet : (o2 : Owners) (m2 : List Waiter) (ds : List Deed) → AreSingle ds
+      → lock_seen n.shared o2 m2 s (λ u. taken_at (p u) l) ≡ (after_acts mutex (acts t ds) now).lock
+      → is_parked w2 ≡ (after_acts mutex (acts t ds) now).parked
+      → false ≡ (after_acts mutex (acts t ds) now).aside_parked → doing_on p2 l ≡ (after_acts mutex (acts t ds) now).doing t
+      → seen l n w2 o2 m2 s (putting p t p2) ≡ after_acts mutex (acts t ds) now
   meet o2 m2 ds single lock bit aside own = meets mutex l (parts n w2 o2 m2 s) p t p2 (after_acts mutex (acts t ds) now) (hand ∙ sym hand2) lock bit aside (sym (same_filled mutex (acts t ds) now refl)) own (λ u ne. others_same mutex ds now t u single ne)
 
   pub looks : is_parked w2 ≡ is_parked w → doing_on p2 l ≡ d → MutexSteps l n w w2 o o m m s p t p2 []
   looks bit own = record { site = meet o m [] tt refl bit refl (own ∙ sym is); needed = tt }
 
-  pub enters : o.exclusive ≡ None → d.inside ≡ None → d.wakes ≡ None → d.carries ≡ false → (d.retries ≡ None) ⊎ (d.retries ≡ Some Exclusive) → is_parked w2 ≡ is_parked w → doing_on p2 l ≡ idle → MutexSteps l n w w2 o (with_exclusive o (Some t)) m m s p t p2 (Case (locks.Enter Exclusive) ∷ End ∷ [])
+  pub enters : o.exclusive ≡ None → d.inside ≡ None → d.wakes ≡ None → d.carries ≡ false
+      → (d.retries ≡ None) ⊎ (d.retries ≡ Some Exclusive) → is_parked w2 ≡ is_parked w → doing_on p2 l ≡ idle
+      → MutexSteps l n w w2 o (with_exclusive o (Some t)) m m s p t p2 (Case (locks.Enter Exclusive) ∷ End ∷ [])
   enters free i w c r bit own = record {
     site = meet (with_exclusive o (Some t)) m (Case (locks.Enter Exclusive) ∷ End ∷ []) (tt, (tt, tt)) refl bit refl (own ∙ rw (same t) refl);
     needed = (((((tt, free), tt), site.state.unshared (λ h. h)), rw is r), (rw (same t, is) (i, w, c, λ h. absurd cc), tt));
@@ -75,13 +83,16 @@ module _ (l : ℕ) (n : Base) (w w2 : ℕ) (o : Owners) (m s : List Waiter) (p :
     needed = ((site.held t (Has Exclusive) (ap (λ (x : Doing). x.claims) is ∙ c), ap (λ (x : Doing). x.wakes) is ∙ w), tt);
   }
 
-  pub leaves_all : is_parked w2 ≡ is_parked w → is_parked w ≡ false → d.claims ≡ Some (Has Exclusive) → d.wakes ≡ None → d.covers ≡ false → d.inside ≡ None → d.carries ≡ false → d.retries ≡ None → doing_on p2 l ≡ idle → MutexSteps l n w w2 o (with_exclusive o None) m m s p t p2 (Case (locks.Leave Exclusive) ∷ End ∷ [])
+  pub leaves_all : is_parked w2 ≡ is_parked w → is_parked w ≡ false → d.claims ≡ Some (Has Exclusive) → d.wakes ≡ None
+      → d.covers ≡ false → d.inside ≡ None → d.carries ≡ false → d.retries ≡ None → doing_on p2 l ≡ idle
+      → MutexSteps l n w w2 o (with_exclusive o None) m m s p t p2 (Case (locks.Leave Exclusive) ∷ End ∷ [])
   leaves_all bit none c w v i k r own = record {
     site = meet (with_exclusive o None) m (Case (locks.Leave Exclusive) ∷ End ∷ []) (tt, (tt, tt)) refl bit refl (own ∙ rw (same t) refl);
     needed = ((site.held t (Has Exclusive) (ap (λ (x : Doing). x.claims) is ∙ c), ap (λ (x : Doing). x.wakes) is ∙ w), (rw (same t, is, v, none) (i, refl, k, λ h. absurd (let g : counts_some locks.Mutex None ≡ true = rw r at h in cc)), tt));
   }
 
-  pub ends : is_parked w2 ≡ is_parked w → d.inside ≡ None → d.wakes ≡ None → d.carries ≡ false → d.retries ≡ None → doing_on p2 l ≡ idle → MutexSteps l n w w2 o o m m s p t p2 (End ∷ [])
+  pub ends : is_parked w2 ≡ is_parked w → d.inside ≡ None → d.wakes ≡ None → d.carries ≡ false → d.retries ≡ None
+      → doing_on p2 l ≡ idle → MutexSteps l n w w2 o o m m s p t p2 (End ∷ [])
   ends bit i w c r own = record {
     site = meet o m (End ∷ []) (tt, tt) refl bit refl (own ∙ rw (same t) refl);
     needed = (rw is (i, w, c, λ h. absurd (let g : counts_some locks.Mutex None ≡ true = rw r at h in cc)), tt);
@@ -134,8 +145,10 @@ pub own_doing : (l : ℕ) (q : Place) (at : MutexPlace) → q ≡ Mutex l at →
 own_doing l q at is = ap (λ x. doing_on x l) is ∙ ap (λ b. if b then mutex_doing at else idle) (same l)
 
 -- what a step on the word does to the lock, and that the word is the lock's
-pub record OnWord (l : ℕ) (n : Base) (w : ℕ) (o : Owners) (m s : List Waiter) (p : ℕ → Place) (t : ℕ) (at : MutexPlace) (f : Op) : Type 0 where
-  pub steps : MutexSteps l n w (apply f w) o (mutex_owners at t w o) m m s p t (next_place (Mutex l at) (Value w)) (mutex_deeds at None (Value w))
+pub record OnWord (l : ℕ) (n : Base) (w : ℕ) (o : Owners) (m s : List Waiter) (p : ℕ → Place) (t : ℕ) (at : MutexPlace)
+    (f : Op) : Type 0 where
+  pub steps : MutexSteps l n w (apply f w) o (mutex_owners at t w o) m m s p t (next_place (Mutex l at) (Value w))
+      (mutex_deeds at None (Value w))
   pub code : IsCode (apply f w) (mutex_owners at t w o).exclusive
   -- it neither goes into a section, nor out of one, nor into a line or a hand
   pub same : station (next_place (Mutex l at) (Value w)) ≡ mutex_station at
@@ -158,11 +171,14 @@ module _ (l : ℕ) (n : Base) (o : Owners) (m s : List Waiter) (p : ℕ → Plac
   none_owns (Some x) k h = absurd (omega arith)
 
   -- where nothing changes
-  stay : (w : ℕ) (at at2 : MutexPlace) → p t ≡ Mutex l at → IsSite mutex (seen l n w o m s p) → taken_at (Mutex l at) l ≡ None → taken_at (Mutex l at2) l ≡ None → mutex_doing at2 ≡ mutex_doing at → MutexSteps l n w w o o m m s p t (Mutex l at2) []
+  stay : (w : ℕ) (at at2 : MutexPlace) → p t ≡ Mutex l at → IsSite mutex (seen l n w o m s p) → taken_at (Mutex l at) l ≡ None
+      → taken_at (Mutex l at2) l ≡ None → mutex_doing at2 ≡ mutex_doing at → MutexSteps l n w w o o m m s p t (Mutex l at2) []
   stay w at at2 is site none none2 e = looks l n w w o m s p t (Mutex l at2) site (mutex_doing at) (own_doing l (p t) at is) (ap (λ x. taken_at x l) is ∙ none) none2 refl (own_doing l (Mutex l at2) at2 refl ∙ e)
 
-  takes : (w w2 : ℕ) (at : MutexPlace) → p t ≡ Mutex l at → IsSite mutex (seen l n w o m s p) → taken_at (Mutex l at) l ≡ None → o.exclusive ≡ None → (mutex_doing at).inside ≡ None → (mutex_doing at).wakes ≡ None → (mutex_doing at).carries ≡ false
-      → ((mutex_doing at).retries ≡ None) ⊎ ((mutex_doing at).retries ≡ Some Exclusive) → is_parked w2 ≡ is_parked w → MutexSteps l n w w2 o (with_exclusive o (Some t)) m m s p t Idle (Case (locks.Enter Exclusive) ∷ End ∷ [])
+  takes : (w w2 : ℕ) (at : MutexPlace) → p t ≡ Mutex l at → IsSite mutex (seen l n w o m s p) → taken_at (Mutex l at) l ≡ None
+      → o.exclusive ≡ None → (mutex_doing at).inside ≡ None → (mutex_doing at).wakes ≡ None → (mutex_doing at).carries ≡ false
+      → ((mutex_doing at).retries ≡ None) ⊎ ((mutex_doing at).retries ≡ Some Exclusive) → is_parked w2 ≡ is_parked w
+      → MutexSteps l n w w2 o (with_exclusive o (Some t)) m m s p t Idle (Case (locks.Enter Exclusive) ∷ End ∷ [])
   takes w w2 at is site none free i v c r bit = enters l n w w2 o m s p t Idle site (mutex_doing at) (own_doing l (p t) at is) (ap (λ x. taken_at x l) is ∙ none) refl free i v c r bit refl
 
   again_is : (b : Bool) → ((if b then Some Exclusive else None) ≡ None) ⊎ ((if b then Some Exclusive else None) ≡ Some Exclusive)
@@ -189,7 +205,8 @@ module _ (l : ℕ) (n : Base) (o : Owners) (m s : List Waiter) (p : ℕ → Plac
   }
 
   -- one that it saw unlocked
-  pub at_decide_free : (e : Entry) (b : Bool) (x : ℕ) → is_locked x ≡ false → (w : ℕ) → Fits w (Lock e b (lock.Decide x)) (op.Exchange x (x + 1))
+  pub at_decide_free : (e : Entry) (b : Bool) (x : ℕ) → is_locked x ≡ false → (w : ℕ)
+      → Fits w (Lock e b (lock.Decide x)) (op.Exchange x (x + 1))
   at_decide_free e b x free w = by_word (Lock e b (lock.Decide x)) (op.Exchange x (x + 1))
       (at_or 0 (λ is site code. record { steps = takes 0 1 (Lock e b (lock.Decide 0)) is site refl (none_owns o.exclusive 0 code) refl refl refl (again_is b) refl; code = refl; same = refl }))
       (at_or_never 1 refl)
@@ -197,7 +214,8 @@ module _ (l : ℕ) (n : Base) (o : Owners) (m s : List Waiter) (p : ℕ → Plac
       (at_or_never 3 refl)
       w
     where
-      at_or : (k : ℕ) → Fits k (Lock e b (lock.Decide k)) (op.Exchange k (k + 1)) → Fits k (Lock e b (lock.Decide x)) (op.Exchange x (x + 1))
+      at_or : (k : ℕ) → Fits k (Lock e b (lock.Decide k)) (op.Exchange k (k + 1))
+          → Fits k (Lock e b (lock.Decide x)) (op.Exchange x (x + 1))
       at_or k fresh = either (k == x) refl
         where
           either : (c : Bool) → (k == x) ≡ c → Fits k (Lock e b (lock.Decide x)) (op.Exchange x (x + 1))
@@ -221,8 +239,10 @@ module _ (l : ℕ) (n : Base) (o : Owners) (m s : List Waiter) (p : ℕ → Plac
       w
 
   -- the bit is cleared where nobody is left
-  wipes : (at at2 : MutexPlace) (w w2 : ℕ) → p t ≡ Mutex l at → IsSite mutex (seen l n w o m s p) → taken_at (Mutex l at) l ≡ None → taken_at (Mutex l at2) l ≡ None → is_parked w2 ≡ false → (mutex_doing at).empty ≡ Some Main
-      → mutex_doing at2 ≡ record (mutex_doing at) { empty = None; brings = false } → MutexSteps l n w w2 o o m m s p t (Mutex l at2) (Clear Main ∷ [])
+  wipes : (at at2 : MutexPlace) (w w2 : ℕ) → p t ≡ Mutex l at → IsSite mutex (seen l n w o m s p) → taken_at (Mutex l at) l ≡ None
+      → taken_at (Mutex l at2) l ≡ None → is_parked w2 ≡ false → (mutex_doing at).empty ≡ Some Main
+      → mutex_doing at2 ≡ record (mutex_doing at) { empty = None; brings = false }
+      → MutexSteps l n w w2 o o m m s p t (Mutex l at2) (Clear Main ∷ [])
   wipes at at2 w w2 is site none none2 bit e e2 = clears l n w w2 o m s p t (Mutex l at2) site (mutex_doing at) (own_doing l (p t) at is) (ap (λ x. taken_at x l) is ∙ none) none2 bit e (own_doing l (Mutex l at2) at2 refl ∙ e2)
 
   pub at_clear : (e : Entry) (b : Bool) (w : ℕ) → Fits w (Lock e b lock.Clear) (op.And NOT_PARKED)
@@ -242,7 +262,9 @@ module _ (l : ℕ) (n : Base) (o : Owners) (m s : List Waiter) (p : ℕ → Plac
       w
 
   -- a call that ends with what it has
-  rests : (w : ℕ) (at : MutexPlace) → p t ≡ Mutex l at → IsSite mutex (seen l n w o m s p) → taken_at (Mutex l at) l ≡ None → (mutex_doing at).inside ≡ None → (mutex_doing at).wakes ≡ None → (mutex_doing at).carries ≡ false → (mutex_doing at).retries ≡ None → MutexSteps l n w w o o m m s p t Idle (End ∷ [])
+  rests : (w : ℕ) (at : MutexPlace) → p t ≡ Mutex l at → IsSite mutex (seen l n w o m s p) → taken_at (Mutex l at) l ≡ None
+      → (mutex_doing at).inside ≡ None → (mutex_doing at).wakes ≡ None → (mutex_doing at).carries ≡ false
+      → (mutex_doing at).retries ≡ None → MutexSteps l n w w o o m m s p t Idle (End ∷ [])
   rests w at is site none i v c r = ends l n w w o m s p t Idle site (mutex_doing at) (own_doing l (p t) at is) (ap (λ x. taken_at x l) is ∙ none) refl refl i v c r refl
 
   pub at_try : (w : ℕ) → Fits w TryLock (op.Or 1)
@@ -254,10 +276,13 @@ module _ (l : ℕ) (n : Base) (o : Owners) (m s : List Waiter) (p : ℕ → Plac
       w
 
   -- a release needs an owner
-  owned : (w k : ℕ) (at : MutexPlace) → p t ≡ Mutex l at → IsSite mutex (seen l n w o m s p) → (mutex_doing at).claims ≡ Some (Has Exclusive) → k + 0 ≡ one_if_some o.exclusive + k → ⊥
+  owned : (w k : ℕ) (at : MutexPlace) → p t ≡ Mutex l at → IsSite mutex (seen l n w o m s p)
+      → (mutex_doing at).claims ≡ Some (Has Exclusive) → k + 0 ≡ one_if_some o.exclusive + k → ⊥
   owned w k at is site c code = let a : o.exclusive ≡ Some t = site.held t (Has Exclusive) (ap (λ (x : Doing). x.claims) (own_doing l (p t) at is) ∙ c) in let b : o.exclusive ≡ None = none_owns o.exclusive k code in cc
 
-  gives_up : (at : MutexPlace) → p t ≡ Mutex l at → IsSite mutex (seen l n 1 o m s p) → taken_at (Mutex l at) l ≡ None → mutex_doing at ≡ owner → MutexSteps l n 1 0 o (with_exclusive o None) m m s p t Idle (Case (locks.Leave Exclusive) ∷ End ∷ [])
+  gives_up : (at : MutexPlace) → p t ≡ Mutex l at → IsSite mutex (seen l n 1 o m s p) → taken_at (Mutex l at) l ≡ None
+      → mutex_doing at ≡ owner
+      → MutexSteps l n 1 0 o (with_exclusive o None) m m s p t Idle (Case (locks.Leave Exclusive) ∷ End ∷ [])
   gives_up at is site none e = leaves_all l n 1 0 o m s p t Idle site owner (own_doing l (p t) at is ∙ e) (ap (λ x. taken_at x l) is ∙ none) refl refl refl refl refl refl refl refl refl refl
 
   pub at_subtract : (w : ℕ) → Fits w (Unlock unlock.Subtract) (op.Sub 1)
@@ -285,7 +310,8 @@ module _ (l : ℕ) (n : Base) (o : Owners) (m s : List Waiter) (p : ℕ → Plac
       w
 
   -- a fair release that has taken nobody
-  pub at_store_none : {one : ℕ → Type 0} → Hands one p → (bumps none_left : Bool) (w : ℕ) → Fits w (HandOff bumps (hand_off.Store false none_left)) (op.Store 0)
+  pub at_store_none : {one : ℕ → Type 0} → Hands one p → (bumps none_left : Bool) (w : ℕ)
+      → Fits w (HandOff bumps (hand_off.Store false none_left)) (op.Store 0)
   at_store_none hands bumps none_left w is site code = record {
     steps = hands_nobody l n w 0 o m s p t (Mutex l (HandOff bumps (hand_off.Leave false))) site (mutex_doing (HandOff bumps (hand_off.Store false none_left))) (own_doing l (p t) _ is) (ap (λ x. taken_at x l) is) refl refl
         (λ u. untaken (p u) t l (λ h. let a : carried_at (p t) l ≡ Some false = hands.taken t u l false h in let b : carried_at (p t) l ≡ None = ap (λ (x : Station). x.carries) (own_stance l (p t) _ is) in cc))

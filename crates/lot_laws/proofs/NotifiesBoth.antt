@@ -41,7 +41,9 @@ use Rattle.lot_laws.proofs.LawsKept.{after_same, needed_same}
 use Rattle.lot_laws.proofs.WakesAt.{leaving_by}
 use Rattle.lot_acts.specs.Profiles.{hand}
 
-module _ (w : State) (t l m : ℕ) (all : Bool) (steady : IsSteady w) (is_there : t < length w.places) (apart : m ≢ l) (sort_l : (rules_in w l).sort ≡ locks.Condvar) (sort_m : (rules_in w m).sort ≡ locks.Mutex) (kept : IsCondvar (condvar_of w l)) (aside : WaitsAside (condvar_of w l) (site_of w m) m)
+module _ (w : State) (t l m : ℕ) (all : Bool) (steady : IsSteady w) (is_there : t < length w.places) (apart : m ≢ l)
+    (sort_l : (rules_in w l).sort ≡ locks.Condvar) (sort_m : (rules_in w m).sort ≡ locks.Mutex)
+    (kept : IsCondvar (condvar_of w l)) (aside : WaitsAside (condvar_of w l) (site_of w m) m)
     (section_l : key_of l Main < length w.sections) (section_m : key_of m Main < length w.sections) where
   abbrev notifies : NotifyAt → CondvarPlace
   notifies at = Notify all m at
@@ -76,7 +78,8 @@ module _ (w : State) (t l m : ℕ) (all : Bool) (steady : IsSteady w) (is_there 
     else_alike : (k : ℕ) → k ≢ l → k ≢ m → Alike k (place_at w t) p2
     else_alike k nl nm = subst (λ q. Alike k q p2) (sym is) (nothing_else l m apart (At (notifies at)) n refl beside k nl nm)
 
-    still : (u k : ℕ) → (u ≡ t → k ≡ l → ⊥) → (u ≡ t → k ≡ m → ⊥) → stations_of (putting (place_at w) t p2) u k ≡ stations_of (place_at w) u k
+    still : (u k : ℕ) → (u ≡ t → k ≡ l → ⊥) → (u ≡ t → k ≡ m → ⊥)
+        → stations_of (putting (place_at w) t p2) u k ≡ stations_of (place_at w) u k
     still u k nl nm = elim (cases_eq u t) [
       | inl e ↦ rw (e, put_here (place_at w) t p2) (else_alike k (nl e) (nm e)).station
       | inr nu ↦ ap (λ q. station_at q k) (put_other (place_at w) t p2 u nu)
@@ -113,7 +116,9 @@ module _ (w : State) (t l m : ℕ) (all : Bool) (steady : IsSteady w) (is_there 
     in_l : Steps (rules_in w l) l (parts_at w l) (parts_at w l) (place_at w) t (Condvar l (notifies notify.Again)) (In Main ∷ [])
     in_l = in_steps w t l m (notifies notify.Enter) steady is_there apart sort_l is refl Done refl free_l refl refl
 
-    pub goes_into_both : FitsItsLock w (Condvar l (notifies notify.Again)) → GoesAll w (put (with_both (Some t)) t (Condvar l (notifies notify.Again))) (two_at l m (acts t (In Main ∷ [])) (acts t (In Main ∷ [])))
+    pub goes_into_both : FitsItsLock w (Condvar l (notifies notify.Again))
+        → GoesAll w (put (with_both (Some t)) t (Condvar l (notifies notify.Again)))
+        (two_at l m (acts t (In Main ∷ [])) (acts t (In Main ∷ [])))
     goes_into_both fits = record {
       follows = two_follow w v steady t is_there there_then l m apart (else_alike notify.Enter is again refl) refl refl refl refl unshared_l unshared_m (In Main ∷ []) (In Main ∷ []) in_l in_m;
       stands = stands_put w v steady.stands (λ k. refl) t there_then fits (places_put w v steady t is_there there_then l m apart (else_alike notify.Enter is again refl) refl refl refl refl unshared_l unshared_m (In Main ∷ []) (In Main ∷ []) in_l in_m)

@@ -37,7 +37,9 @@ moves_deeds w t l m true false = refl
 moves_deeds w t l m false true = refl
 moves_deeds w t l m false false = refl
 
-module _ (w : State) (t l m : ℕ) (all : Bool) (steady : IsSteady w) (is_there : t < length w.places) (apart : m ≢ l) (sort_l : (rules_in w l).sort ≡ locks.Condvar) (sort_m : (rules_in w m).sort ≡ locks.Mutex) (plain : rules_in w m ≡ glue.mutex) (kept : IsCondvar (condvar_of w l)) (aside : WaitsAside (condvar_of w l) (site_of w m) m)
+module _ (w : State) (t l m : ℕ) (all : Bool) (steady : IsSteady w) (is_there : t < length w.places) (apart : m ≢ l)
+    (sort_l : (rules_in w l).sort ≡ locks.Condvar) (sort_m : (rules_in w m).sort ≡ locks.Mutex)
+    (plain : rules_in w m ≡ glue.mutex) (kept : IsCondvar (condvar_of w l)) (aside : WaitsAside (condvar_of w l) (site_of w m) m)
     (lock_l : l < length w.locks) (lock_m : m < length w.locks) (section_l : key_of l Main < length w.sections) (section_m : key_of m Main < length w.sections) (line_l : key_of l Main < length w.queues) (line_m : key_of m Main < length w.queues) where
   abbrev notifies : NotifyAt → CondvarPlace
   notifies at = Notify all m at
@@ -61,10 +63,12 @@ module _ (w : State) (t l m : ℕ) (all : Bool) (steady : IsSteady w) (is_there 
   abbrev GoesOn : NotifyAt → Type 0
   GoesOn at = FitsItsLock w (next at) → GoesAll w (put (after at) t (next at)) (two_at l m (deeds_there at) (deeds_beside at))
 
-  there : (at : NotifyAt) → deeds_beside at ≡ [] → (FitsItsLock w (next at) → Goes w (put (after at) t (next at)) l (deeds_there at)) → GoesOn at
+  there : (at : NotifyAt) → deeds_beside at ≡ []
+      → (FitsItsLock w (next at) → Goes w (put (after at) t (next at)) l (deeds_there at)) → GoesOn at
   there at none g fits = of_one w (put (after at) t (next at)) l m apart steady (deeds_there at) (deeds_beside at) none (g fits)
 
-  beside : (at : NotifyAt) → deeds_there at ≡ [] → (FitsItsLock w (next at) → Goes w (put (after at) t (next at)) m (deeds_beside at)) → GoesOn at
+  beside : (at : NotifyAt) → deeds_there at ≡ []
+      → (FitsItsLock w (next at) → Goes w (put (after at) t (next at)) m (deeds_beside at)) → GoesOn at
   beside at none g fits = of_other w (put (after at) t (next at)) l m apart steady (deeds_there at) (deeds_beside at) none (g fits)
 
   goes_on : (at : NotifyAt) → place_at w t ≡ Condvar l (notifies at) → can_do w (notify_act all l m at) ≡ true → GoesOn at
@@ -80,6 +84,8 @@ module _ (w : State) (t l m : ℕ) (all : Bool) (steady : IsSteady w) (is_there 
   goes_on (notify.Move locked) is can = λ fits. subst (λ x. GoesAll w (put (after (notify.Move locked)) t (next (notify.Move locked))) (two_at l m (acts t x.0) (acts t x.1))) (sym (moves_deeds w t l m all locked))
       (moves w t l m steady is_there apart sort_l sort_m kept aside line_l line_m all locked is fits)
 
-  pub notifies_go : (at : NotifyAt) → IsReached (notifies at) → place_at w t ≡ Condvar l (notifies at) → can_do w (notify_act all l m at) ≡ true → FitsItsLock w (next_place (place_at (after at) t) (told at))
-      → GoesAll w (put (after at) t (next_place (place_at (after at) t) (told at))) (two_at l m (deeds_there at) (deeds_beside at))
+  pub notifies_go : (at : NotifyAt) → IsReached (notifies at) → place_at w t ≡ Condvar l (notifies at)
+      → can_do w (notify_act all l m at) ≡ true → FitsItsLock w (next_place (place_at (after at) t) (told at))
+      → GoesAll w (put (after at) t (next_place (place_at (after at) t) (told at)))
+      (two_at l m (deeds_there at) (deeds_beside at))
   notifies_go at reached is can = subst (λ p. FitsItsLock w (next_place p (told at)) → GoesAll w (put (after at) t (next_place p (told at))) (two_at l m (deeds_there at) (deeds_beside at))) (sym (notifier_still w t l m all at is reached is_there)) (goes_on at is can)

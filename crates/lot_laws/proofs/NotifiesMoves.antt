@@ -75,7 +75,8 @@ threads_moved requeue.TakeOneMoveRest [] = refl
 threads_moved requeue.TakeOneMoveRest (x ∷ q) = refl
 
 -- each is taken, moved, or left
-all_counted : (how : Requeue) (q : List Waiter) (u : ℕ) → times u (gone_by how q) + times u (moved_by how q) + times u (left_behind how q) ≡ times u q
+all_counted : (how : Requeue) (q : List Waiter) (u : ℕ)
+    → times u (gone_by how q) + times u (moved_by how q) + times u (left_behind how q) ≡ times u q
 all_counted requeue.All q u = omega arith
 all_counted requeue.One [] u = refl
 all_counted requeue.One (x ∷ q) u = one_more (x.thread == u) (times u q)
@@ -90,13 +91,15 @@ all_counted requeue.TakeOneMoveRest (x ∷ q) u = one_more (x.thread == u) (time
     one_more true n = omega arith
     one_more false n = omega arith
 
-left_waits : (at : ℕ → ℕ → Station) (l : ℕ) (how : Requeue) (q : List Waiter) → AreWaiting at l Main q → AreWaiting at l Main (left_behind how q)
+left_waits : (at : ℕ → ℕ → Station) (l : ℕ) (how : Requeue) (q : List Waiter) → AreWaiting at l Main q
+    → AreWaiting at l Main (left_behind how q)
 left_waits at l requeue.All q h = tt
 left_waits at l requeue.TakeOneMoveRest q h = tt
 left_waits at l requeue.One [] h = tt
 left_waits at l requeue.One (x ∷ q) h = h.1
 
-one_taken : (how : Requeue) (q : List Waiter) (u v : ℕ) → member u (gone_by how q) ≡ true → member v (gone_by how q) ≡ true → u ≡ v
+one_taken : (how : Requeue) (q : List Waiter) (u v : ℕ) → member u (gone_by how q) ≡ true → member v (gone_by how q) ≡ true
+    → u ≡ v
 one_taken requeue.One q u v h g = absurd cc
 one_taken requeue.All q u v h g = absurd cc
 one_taken requeue.TakeOneMoveRest [] u v h g = absurd cc
@@ -132,7 +135,9 @@ is_some n h = grind (arith, nat_tests)
 
 -- ---------------------------------------------------------------- a notification at its move
 
-module _ (w : State) (t l m : ℕ) (all locked : Bool) (steady : IsSteady w) (is_there : t < length w.places) (apart : m ≢ l) (sort_l : (rules_in w l).sort ≡ locks.Condvar) (sort_m : (rules_in w m).sort ≡ locks.Mutex) (kept : IsCondvar (condvar_of w l))
+module _ (w : State) (t l m : ℕ) (all locked : Bool) (steady : IsSteady w) (is_there : t < length w.places) (apart : m ≢ l)
+    (sort_l : (rules_in w l).sort ≡ locks.Condvar) (sort_m : (rules_in w m).sort ≡ locks.Mutex)
+    (kept : IsCondvar (condvar_of w l))
     (is : place_at w t ≡ Condvar l (Notify all m (notify.Move locked))) where
   abbrev this : CondvarPlace
   this = Notify all m (notify.Move locked)
@@ -140,7 +145,10 @@ module _ (w : State) (t l m : ℕ) (all locked : Bool) (steady : IsSteady w) (is
   abbrev line : List Waiter
   line = queue_at w (key_of l Main)
 
-  module _ (told : Reply) (x : MovesWaiters (map queued_of line) this all locked told) (beside : Beside m (condvar_next this told)) (hears_it : MayHearBeside (rules_in w m) (site_of w m) (condvar_of w l) t m all (notify.Move locked) told) (fits : FitsItsLock w (condvar_goes l (condvar_next this told))) where
+  module _ (told : Reply) (x : MovesWaiters (map queued_of line) this all locked told)
+      (beside : Beside m (condvar_next this told))
+      (hears_it : MayHearBeside (rules_in w m) (site_of w m) (condvar_of w l) t m all (notify.Move locked) told)
+      (fits : FitsItsLock w (condvar_goes l (condvar_next this told))) where
     abbrev p2 : Place
     p2 = condvar_goes l (condvar_next this told)
 
@@ -176,11 +184,15 @@ module _ (w : State) (t l m : ℕ) (all locked : Bool) (steady : IsSteady w) (is
     follows : FollowsBeside (rules_in w m) (site_of w m) (condvar_of w l) t m all (notify.Move locked) told
     follows = notifiers_follow (rules_in w m) (site_of w m) (condvar_of w l) t m all (notify.Move locked) told sort_m (hears.doing_beside w t l this steady is m refl) hears_it
 
-    needed_m : ActsNeeded (rules_in w m) (acts t (Bring (taken_of locked (moved_of all (map queued_of line))) (line_of locked (moved_of all (map queued_of line))) ∷ [])) (site_of w m)
+    needed_m : ActsNeeded (rules_in w m)
+        (acts t (Bring (taken_of locked (moved_of all (map queued_of line))) (line_of locked (moved_of all (map queued_of line))) ∷ []))
+        (site_of w m)
     needed_m = subst (λ ds. ActsNeeded (rules_in w m) (acts t ds) (site_of w m)) x.deeds_beside (needed_same (rules_in w m) (beside_deeds all (map queued_of line) (notify.Move locked) told) (site_of w m) t follows.needed)
 
     -- what it does about the mutex then
-    does_m : doing_on p2 m ≡ bringing (taken_of locked (moved_of all (map queued_of line))) (line_of locked (moved_of all (map queued_of line))) (doing_on (place_at w t) m)
+    does_m : doing_on p2 m
+        ≡ bringing (taken_of locked (moved_of all (map queued_of line))) (line_of locked (moved_of all (map queued_of line)))
+        (doing_on (place_at w t) m)
     does_m = doing_beside l m apart (condvar_next this told) beside ∙ by_next (next_notify all m (notify.Move locked) told) ∙ sym follows.doing
         ∙ ap (λ ds. (laws.after_all (rules_in w m) ds (site_of w m) t).doing t) x.deeds_beside ∙ put_here (λ u. doing_on (place_at w u) m) t _
       where
@@ -189,7 +201,9 @@ module _ (w : State) (t l m : ℕ) (all locked : Bool) (steady : IsSteady w) (is
         by_next (Over answer) = refl
 
     -- by whom it takes, whom it moves, and who is left
-    module _ (gone moved left : List Waiter) (counts : (u : ℕ) → times u gone + times u moved + times u left ≡ times u line) (lefts : AreWaiting (stations_of (place_at w)) l Main left) (one_gone : (u v : ℕ) → member u gone ≡ true → member v gone ≡ true → u ≡ v)
+    module _ (gone moved left : List Waiter) (counts : (u : ℕ) → times u gone + times u moved + times u left ≡ times u line)
+        (lefts : AreWaiting (stations_of (place_at w)) l Main left)
+        (one_gone : (u v : ℕ) → member u gone ≡ true → member v gone ≡ true → u ≡ v)
         (none_gone : locked ≡ true → gone ≡ []) (some_gone : locked ≡ false → (u : ℕ) × (member u gone ≡ true))
         (left_is : map queued_of left ≡ (if all then [] else drop 1 (map queued_of line))) (gone_is : map queued_of (moved_under (key_of m Main) gone) ≡ taken_of locked (moved_of all (map queued_of line))) (moved_is : map queued_of (moved_under (key_of m Main) moved) ≡ line_of locked (moved_of all (map queued_of line))) where
       across : (u : ℕ) → 1 ≤ times u line → WaitsAcross w t l m (place_at w u)
@@ -205,7 +219,9 @@ module _ (w : State) (t l m : ℕ) (all locked : Bool) (steady : IsSteady w) (is
       behind = places_across w t l m apart steady p2 gone moved left counts lefts across one_gone out bare now_l (in_hand (not locked) false) now_m alike_t fits
 
       -- the others' calls say so: who is taken or moved knows it
-      knows : ((u : ℕ) → locks.times u (moved_of all (map queued_of line)) ≡ times u gone + times u moved) → (u : ℕ) → u ≢ t → (r : ℕ → Rights) → call_state (behind u) r ≡ befallen u (moved_of all (map queued_of line)) (call_state (place_at w u) r)
+      knows : ((u : ℕ) → locks.times u (moved_of all (map queued_of line)) ≡ times u gone + times u moved) → (u : ℕ) → u ≢ t
+          → (r : ℕ → Rights)
+          → call_state (behind u) r ≡ befallen u (moved_of all (map queued_of line)) (call_state (place_at w u) r)
       knows counted u ne r = ap (λ q. call_state q r) (put_other goes_across t p2 u ne) ∙ either (member u gone) (member u moved) refl refl
         where
           goes_across : ℕ → Place
@@ -214,10 +230,14 @@ module _ (w : State) (t l m : ℕ) (all locked : Bool) (steady : IsSteady w) (is
           known : 1 ≤ times u gone + times u moved → befallen u (moved_of all (map queued_of line)) (call_state (place_at w u) r) ≡ record (call_state (place_at w u) r) { recalls = WasMoved }
           known some = ap (λ b. if b then record (call_state (place_at w u) r) { recalls = WasMoved } else call_state (place_at w u) r) (is_some (locks.times u (moved_of all (map queued_of line))) (let a = counted u in omega arith))
 
-          unknown : times u gone + times u moved ≡ 0 → befallen u (moved_of all (map queued_of line)) (call_state (place_at w u) r) ≡ call_state (place_at w u) r
+          unknown : times u gone + times u moved ≡ 0
+              → befallen u (moved_of all (map queued_of line)) (call_state (place_at w u) r) ≡ call_state (place_at w u) r
           unknown none = ap (λ n. if nat_le 1 n then record (call_state (place_at w u) r) { recalls = WasMoved } else call_state (place_at w u) r) (counted u ∙ none)
 
-          either : (a b : Bool) → member u gone ≡ a → member u moved ≡ b → call_state (if a then next_place (place_at w u) (TakenBy t) else if b then next_place (place_at w u) (MovedTo (key_of m Main)) else place_at w u) r ≡ befallen u (moved_of all (map queued_of line)) (call_state (place_at w u) r)
+          either : (a b : Bool) → member u gone ≡ a → member u moved ≡ b
+              → call_state
+              (if a then next_place (place_at w u) (TakenBy t) else if b then next_place (place_at w u) (MovedTo (key_of m Main)) else place_at w u) r
+              ≡ befallen u (moved_of all (map queued_of line)) (call_state (place_at w u) r)
           either true b e f = let n : 1 ≤ times u gone = member_times u gone e in knows_taken w t l m steady apart sort_l all locked is kept u (let a = counts u in omega arith) r ∙ sym (known (omega arith))
           either false true e f = let n : 1 ≤ times u moved = member_times u moved f in knows_moved w t l m steady apart sort_l all locked is kept u (let a = counts u in omega arith) r ∙ sym (known (omega arith))
           either false false e f = sym (unknown (let a = stranger_times u gone e in let b = stranger_times u moved f in omega arith))
@@ -236,15 +256,19 @@ module _ (w : State) (t l m : ℕ) (all locked : Bool) (steady : IsSteady w) (is
           by_locked true f = absurd (let none : member u gone ≡ false = ap (member u) (none_gone f) in cc)
           by_locked false f = refl
 
-      module _ (v : State) (el : v.locks ≡ w.locks) (eh : v.shares ≡ w.shares) (es : v.sections ≡ w.sections) (threads : length v.places ≡ length w.places) (places : place_at v ≡ behind)
+      module _ (v : State) (el : v.locks ≡ w.locks) (eh : v.shares ≡ w.shares) (es : v.sections ≡ w.sections)
+          (threads : length v.places ≡ length w.places) (places : place_at v ≡ behind)
           (here : queue_at v (key_of l Main) ≡ left) (there_now : queue_at v (key_of m Main) ≡ queue_at w (key_of m Main) ++ moved_under (key_of m Main) moved) (others : (key : ℕ) → key ≢ key_of l Main → key ≢ key_of m Main → queue_at v key ≡ queue_at w key) where
-        moves_so : GoesAll w v (two_at l m (acts t (Send all ∷ [])) (acts t (Bring (taken_of locked (moved_of all (map queued_of line))) (line_of locked (moved_of all (map queued_of line))) ∷ [])))
+        moves_so : GoesAll w v
+            (two_at l m (acts t (Send all ∷ [])) (acts t (Bring (taken_of locked (moved_of all (map queued_of line))) (line_of locked (moved_of all (map queued_of line))) ∷ [])))
         moves_so = moves_kept w v t l m apart steady p2 gone moved left counts lefts across one_gone out bare now_l (in_hand (not locked) false) now_m alike_t fits
             el eh es threads places here there_now others same_l same_m all locked left_is gone_is moved_is does_m (ap has_readers sort_l) (ap has_readers sort_m) needed_l needed_m carries_some carries_all
 
     -- ---------------------------------------------------------------- by a requeue
 
-    module _ (how : Requeue) (line_l : key_of l Main < length w.queues) (line_m : key_of m Main < length w.queues) (none_gone : locked ≡ true → gone_by how line ≡ []) (some_gone : locked ≡ false → (u : ℕ) × (member u (gone_by how line) ≡ true))
+    module _ (how : Requeue) (line_l : key_of l Main < length w.queues) (line_m : key_of m Main < length w.queues)
+        (none_gone : locked ≡ true → gone_by how line ≡ [])
+        (some_gone : locked ≡ false → (u : ℕ) × (member u (gone_by how line) ≡ true))
         (left_is : map queued_of (left_behind how line) ≡ (if all then [] else drop 1 (map queued_of line))) (gone_is : map queued_of (moved_under (key_of m Main) (gone_by how line)) ≡ taken_of locked (moved_of all (map queued_of line))) (moved_is : map queued_of (moved_under (key_of m Main) (moved_by how line)) ≡ line_of locked (moved_of all (map queued_of line))) where
       abbrev gone : List Waiter
       gone = gone_by how line
@@ -266,7 +290,8 @@ module _ (w : State) (t l m : ℕ) (all locked : Bool) (steady : IsSteady w) (is
       abbrev taken_places : List Place
       taken_places = places_told (TakenBy t) (threads_of gone) w.places
 
-      taken_then : (u : ℕ) → get_or taken_places u Idle ≡ (if member u gone then next_place (place_at w u) (TakenBy t) else place_at w u)
+      taken_then : (u : ℕ)
+          → get_or taken_places u Idle ≡ (if member u gone then next_place (place_at w u) (TakenBy t) else place_at w u)
       taken_then u = ap (λ (f : ℕ → Place). f u) (told_places (TakenBy t) gone w.places) ∙ told_once (TakenBy t) gone (place_at w) u (let a = at_most u in omega arith)
 
       -- where each goes
@@ -297,14 +322,17 @@ module _ (w : State) (t l m : ℕ) (all locked : Bool) (steady : IsSteady w) (is
       places_now = put_places requeued t p2 (λ h. absurd (let n = told_length in omega arith)) ∙ ap (λ (f : ℕ → Place). putting f t p2) (λ i u. place_then u i)
 
       -- the others' calls say so
-      pub requeued_calls : ((u : ℕ) → locks.times u (moved_of all (map queued_of line)) ≡ times u gone + times u moved) → (u : ℕ) → u ≢ t → (r : ℕ → Rights) → call_state (place_at v u) r ≡ befallen u (moved_of all (map queued_of line)) (call_state (place_at w u) r)
+      pub requeued_calls : ((u : ℕ) → locks.times u (moved_of all (map queued_of line)) ≡ times u gone + times u moved) → (u : ℕ)
+          → u ≢ t → (r : ℕ → Rights)
+          → call_state (place_at v u) r ≡ befallen u (moved_of all (map queued_of line)) (call_state (place_at w u) r)
       requeued_calls counted u ne r = ap (λ (f : ℕ → Place). call_state (f u) r) places_now
           ∙ knows gone moved (left_behind how line) (all_counted how line) (left_waits (stations_of (place_at w)) l how line (steady.stands.waits l Main)) (one_taken how line) none_gone some_gone left_is gone_is moved_is counted u ne r
 
       abbrev others_left : List (List Waiter)
       others_left = set w.queues (2 * l) (left_behind how line)
 
-      pub requeues : GoesAll w v (two_at l m (acts t (Send all ∷ [])) (acts t (Bring (taken_of locked (moved_of all (map queued_of line))) (line_of locked (moved_of all (map queued_of line))) ∷ [])))
+      pub requeues : GoesAll w v
+          (two_at l m (acts t (Send all ∷ [])) (acts t (Bring (taken_of locked (moved_of all (map queued_of line))) (line_of locked (moved_of all (map queued_of line))) ∷ [])))
       requeues = moves_so gone moved (left_behind how line) (all_counted how line) (left_waits (stations_of (place_at w)) l how line (steady.stands.waits l Main)) (one_taken how line) none_gone some_gone left_is gone_is moved_is v refl refl refl
           (length-set requeued.places t p2 ∙ told_length)
           places_now
@@ -314,7 +342,9 @@ module _ (w : State) (t l m : ℕ) (all locked : Bool) (steady : IsSteady w) (is
 
     -- ---------------------------------------------------------------- by a take of the first
 
-    module _ (line_l : key_of l Main < length w.queues) (free : locked ≡ false) (some : (u : ℕ) × (member u (take 1 line) ≡ true)) (left_is : map queued_of (drop 1 line) ≡ (if all then [] else drop 1 (map queued_of line))) (gone_is : map queued_of (moved_under (key_of m Main) (take 1 line)) ≡ taken_of locked (moved_of all (map queued_of line)))
+    module _ (line_l : key_of l Main < length w.queues) (free : locked ≡ false) (some : (u : ℕ) × (member u (take 1 line) ≡ true))
+        (left_is : map queued_of (drop 1 line) ≡ (if all then [] else drop 1 (map queued_of line)))
+        (gone_is : map queued_of (moved_under (key_of m Main) (take 1 line)) ≡ taken_of locked (moved_of all (map queued_of line)))
         (moved_is : [] ≡ line_of locked (moved_of all (map queued_of line))) where
       abbrev without : State
       without = record w { queues = queues_without_first w.queues (2 * l) }
@@ -342,7 +372,8 @@ module _ (w : State) (t l m : ℕ) (all locked : Bool) (steady : IsSteady w) (is
       after_threads [] = refl
       after_threads (x ∷ q) = length-set w.places x.thread _
 
-      after_place : (q : List Waiter) (u : ℕ) → place_at (after q) u ≡ (if member u (take 1 q) then next_place (place_at w u) (TakenBy t) else place_at w u)
+      after_place : (q : List Waiter) (u : ℕ)
+          → place_at (after q) u ≡ (if member u (take 1 q) then next_place (place_at w u) (TakenBy t) else place_at w u)
       after_place [] u = refl
       after_place (x ∷ q) u = ap (λ (f : ℕ → Place). f u) (told_places (TakenBy t) (x ∷ []) w.places) ∙ told_once (TakenBy t) (x ∷ []) (place_at w) u (once (x.thread == u))
         where
@@ -353,7 +384,8 @@ module _ (w : State) (t l m : ℕ) (all locked : Bool) (steady : IsSteady w) (is
       counted : (q : List Waiter) (u : ℕ) → times u (take 1 q) + 0 + times u (drop 1 q) ≡ times u q
       counted q u = let a = all_counted requeue.TakeOneMoveRest q u in omega arith
 
-      left_lined : (q : List Waiter) → AreWaiting (stations_of (place_at w)) l Main q → AreWaiting (stations_of (place_at w)) l Main (drop 1 q)
+      left_lined : (q : List Waiter) → AreWaiting (stations_of (place_at w)) l Main q
+          → AreWaiting (stations_of (place_at w)) l Main (drop 1 q)
       left_lined [] h = tt
       left_lined (x ∷ q) h = h.1
 
@@ -364,20 +396,24 @@ module _ (w : State) (t l m : ℕ) (all locked : Bool) (steady : IsSteady w) (is
       abbrev taken_state : State
       taken_state = put (after line) t p2
 
-      first_places : place_at taken_state ≡ putting (λ u. if member u (take 1 line) then next_place (place_at w u) (TakenBy t) else place_at w u) t p2
+      first_places : place_at taken_state
+          ≡ putting (λ u. if member u (take 1 line) then next_place (place_at w u) (TakenBy t) else place_at w u) t p2
       first_places = put_places (after line) t p2 (λ h. absurd (let n = after_threads line in omega arith)) ∙ ap (λ (f : ℕ → Place). putting f t p2) (λ i u. after_place line u i)
 
       no_locked : locked ≡ true → take 1 line ≡ []
       no_locked e = absurd (let f : true ≡ false = sym e ∙ free in cc)
 
-      pub taken_calls : ((u : ℕ) → locks.times u (moved_of all (map queued_of line)) ≡ times u (take 1 line) + 0) → (u : ℕ) → u ≢ t → (r : ℕ → Rights) → call_state (place_at taken_state u) r ≡ befallen u (moved_of all (map queued_of line)) (call_state (place_at w u) r)
+      pub taken_calls : ((u : ℕ) → locks.times u (moved_of all (map queued_of line)) ≡ times u (take 1 line) + 0) → (u : ℕ)
+          → u ≢ t → (r : ℕ → Rights)
+          → call_state (place_at taken_state u) r ≡ befallen u (moved_of all (map queued_of line)) (call_state (place_at w u) r)
       taken_calls once u ne r = ap (λ (f : ℕ → Place). call_state (f u) r) first_places
           ∙ knows (take 1 line) [] (drop 1 line) (counted line) (left_lined line (steady.stands.waits l Main)) (one_taken requeue.TakeOneMoveRest line) no_locked (λ e. some) left_is gone_is moved_is once u ne r
 
       queue_then : (key : ℕ) → queue_at taken_state key ≡ get_or (queues_without_first w.queues (2 * l)) key []
       queue_then key = ap (λ qs. get_or qs key []) (after_queues line)
 
-      pub takes_first : GoesAll w taken_state (two_at l m (acts t (Send all ∷ [])) (acts t (Bring (taken_of locked (moved_of all (map queued_of line))) (line_of locked (moved_of all (map queued_of line))) ∷ [])))
+      pub takes_first : GoesAll w taken_state
+          (two_at l m (acts t (Send all ∷ [])) (acts t (Bring (taken_of locked (moved_of all (map queued_of line))) (line_of locked (moved_of all (map queued_of line))) ∷ [])))
       takes_first = moves_so (take 1 line) [] (drop 1 line) (counted line) (left_lined line (steady.stands.waits l Main)) (one_taken requeue.TakeOneMoveRest line) no_locked (λ e. some) left_is gone_is moved_is taken_state
           (after_locks line) (after_shares line) (after_sections line) (length-set (after line).places t p2 ∙ after_threads line)
           first_places
@@ -387,7 +423,9 @@ module _ (w : State) (t l m : ℕ) (all locked : Bool) (steady : IsSteady w) (is
 
 -- ---------------------------------------------------------------- whichever it is
 
-module _ (w : State) (t l m : ℕ) (steady : IsSteady w) (is_there : t < length w.places) (apart : m ≢ l) (sort_l : (rules_in w l).sort ≡ locks.Condvar) (sort_m : (rules_in w m).sort ≡ locks.Mutex) (kept : IsCondvar (condvar_of w l)) (aside : WaitsAside (condvar_of w l) (site_of w m) m)
+module _ (w : State) (t l m : ℕ) (steady : IsSteady w) (is_there : t < length w.places) (apart : m ≢ l)
+    (sort_l : (rules_in w l).sort ≡ locks.Condvar) (sort_m : (rules_in w m).sort ≡ locks.Mutex)
+    (kept : IsCondvar (condvar_of w l)) (aside : WaitsAside (condvar_of w l) (site_of w m) m)
     (line_l : key_of l Main < length w.queues) (line_m : key_of m Main < length w.queues) where
   abbrev moves_at : Bool → Bool → CondvarPlace
   moves_at all locked = Notify all m (notify.Move locked)
@@ -404,16 +442,19 @@ module _ (w : State) (t l m : ℕ) (steady : IsSteady w) (is_there : t < length 
   abbrev brings_of : Bool → Bool → List Deed
   brings_of all locked = Bring (taken_of locked (moved_of all (map queued_of waiting))) (line_of locked (moved_of all (map queued_of waiting))) ∷ []
 
-  heard_so : place_at w t ≡ Condvar l (moves_at false false) → MayHearBeside (rules_in w m) (site_of w m) (condvar_of w l) t m false (notify.Move false) (told_of false false)
+  heard_so : place_at w t ≡ Condvar l (moves_at false false)
+      → MayHearBeside (rules_in w m) (site_of w m) (condvar_of w l) t m false (notify.Move false) (told_of false false)
   heard_so is = notifier_hears w t l m false (notify.Move false) steady kept aside is refl
 
-  takes_so : place_at w t ≡ Condvar l (moves_at false false) → MovesWaiters (map queued_of waiting) (moves_at false false) false false (told_of false false)
+  takes_so : place_at w t ≡ Condvar l (moves_at false false)
+      → MovesWaiters (map queued_of waiting) (moves_at false false) false false (told_of false false)
   takes_so is = elim (notifies_move l m (map queued_of waiting) false (notify.Move false) tt) [
     | inl at_m ↦ absurd (apart (let e : 2 * l ≡ 2 * m = at_m.0 in omega arith))
     | inr at_l ↦ subst (λ b. MovesWaiters (map queued_of waiting) (moves_at false false) false false (Took b (length (drop 1 waiting) == 0))) (sym (heard_so is).0) (at_l.1 (length (drop 1 waiting) == 0))
   ]
 
-  first_taken : (q : List Waiter) → map queued_of (moved_under (key_of m Main) (take 1 q)) ≡ taken_of false (moved_of false (map queued_of q))
+  first_taken : (q : List Waiter)
+      → map queued_of (moved_under (key_of m Main) (take 1 q)) ≡ taken_of false (moved_of false (map queued_of q))
   first_taken [] = refl
   first_taken (x ∷ q) = refl
 
@@ -422,7 +463,8 @@ module _ (w : State) (t l m : ℕ) (steady : IsSteady w) (is_there : t < length 
   none_moved (x ∷ q) = refl
 
   pub moves : (all locked : Bool) → place_at w t ≡ Condvar l (moves_at all locked) → FitsItsLock w (next_of all locked)
-      → GoesAll w (put (state_after_act w t (Condvar l (moves_at all locked)) (move_act all locked l m)) t (next_of all locked)) (two_at l m (acts t (Send all ∷ [])) (acts t (brings_of all locked)))
+      → GoesAll w (put (state_after_act w t (Condvar l (moves_at all locked)) (move_act all locked l m)) t (next_of all locked))
+      (two_at l m (acts t (Send all ∷ [])) (acts t (brings_of all locked)))
   moves true true is fits = requeues w t l m true true steady is_there apart sort_l sort_m kept is (told_of true true) ((notifies_move l m (map queued_of waiting) true (notify.Move true) tt).2 _ _) refl
       (notifier_hears w t l m true (notify.Move true) steady kept aside is refl) fits requeue.All line_l line_m (λ e. refl) (λ e. absurd cc) refl refl (under_lined (key_of m Main) waiting)
   moves true false is fits = requeues w t l m true false steady is_there apart sort_l sort_m kept is (told_of true false) ((notifies_move l m (map queued_of waiting) true (notify.Move false) tt).2 _ _) refl
@@ -444,8 +486,11 @@ module _ (w : State) (t l m : ℕ) (steady : IsSteady w) (is_there : t < length 
   first_counted (x ∷ q) u = refl
 
   -- whoever is moved or taken knows it
-  pub moves_calls : (all locked : Bool) → place_at w t ≡ Condvar l (moves_at all locked) → FitsItsLock w (next_of all locked) → (u : ℕ) → u ≢ t → (r : ℕ → Rights)
-      → call_state (place_at (put (state_after_act w t (Condvar l (moves_at all locked)) (move_act all locked l m)) t (next_of all locked)) u) r ≡ befallen u (moved_of all (map queued_of waiting)) (call_state (place_at w u) r)
+  pub moves_calls : (all locked : Bool) → place_at w t ≡ Condvar l (moves_at all locked) → FitsItsLock w (next_of all locked)
+      → (u : ℕ) → u ≢ t → (r : ℕ → Rights)
+      → call_state
+      (place_at (put (state_after_act w t (Condvar l (moves_at all locked)) (move_act all locked l m)) t (next_of all locked)) u) r
+      ≡ befallen u (moved_of all (map queued_of waiting)) (call_state (place_at w u) r)
   moves_calls true true is fits = requeued_calls w t l m true true steady is_there apart sort_l sort_m kept is (told_of true true) ((notifies_move l m (map queued_of waiting) true (notify.Move true) tt).2 _ _) refl
       (notifier_hears w t l m true (notify.Move true) steady kept aside is refl) fits requeue.All line_l line_m (λ e. refl) (λ e. absurd cc) refl refl (under_lined (key_of m Main) waiting) (λ u. let a = queued_times u waiting in omega arith)
   moves_calls true false is fits = requeued_calls w t l m true false steady is_there apart sort_l sort_m kept is (told_of true false) ((notifies_move l m (map queued_of waiting) true (notify.Move false) tt).2 _ _) refl

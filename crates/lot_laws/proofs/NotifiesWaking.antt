@@ -50,7 +50,9 @@ use Rattle.lot_laws.proofs.WakesAt as waking
 use Rattle.lot_laws.proofs.WakesAt.{IsWokenAt, leaving_by}
 use Rattle.lot_condvar.specs.CondvarSteps.{notified}
 
-module _ (w : State) (t l m : ℕ) (all : Bool) (steady : IsSteady w) (is_there : t < length w.places) (apart : m ≢ l) (sort_l : (rules_in w l).sort ≡ locks.Condvar) (sort_m : (rules_in w m).sort ≡ locks.Mutex) (plain : rules_in w m ≡ glue.mutex) (kept : IsCondvar (condvar_of w l)) (aside : WaitsAside (condvar_of w l) (site_of w m) m)
+module _ (w : State) (t l m : ℕ) (all : Bool) (steady : IsSteady w) (is_there : t < length w.places) (apart : m ≢ l)
+    (sort_l : (rules_in w l).sort ≡ locks.Condvar) (sort_m : (rules_in w m).sort ≡ locks.Mutex)
+    (plain : rules_in w m ≡ glue.mutex) (kept : IsCondvar (condvar_of w l)) (aside : WaitsAside (condvar_of w l) (site_of w m) m)
     (section_l : key_of l Main < length w.sections) (section_m : key_of m Main < length w.sections) (number : ℕ) (is : place_at w t ≡ Condvar l (Notify all m (notify.Leave true number))) where
   abbrev leaving : NotifyAt
   leaving = notify.Leave true number
@@ -71,7 +73,8 @@ module _ (w : State) (t l m : ℕ) (all : Bool) (steady : IsSteady w) (is_there 
   station_else k nl nm = ap (λ q. station_at q k) is ∙ nothing_there l m apart (At this) refl k nl nm
 
   -- by which lock is looked at
-  by_lock : (P : ℕ → Station → Type 0) → P l (station_by (condvar_profile this)) → P m side → ((k : ℕ) → P k nowhere) → (k : ℕ) → P k (station_at (place_at w t) k)
+  by_lock : (P : ℕ → Station → Type 0) → P l (station_by (condvar_profile this)) → P m side → ((k : ℕ) → P k nowhere) → (k : ℕ)
+      → P k (station_at (place_at w t) k)
   by_lock P here beside nothing k = elim (cases_eq k l) [
     | inl e ↦ rw e (subst (P l) (sym station_l) here)
     | inr nl ↦ elim (cases_eq k m) [

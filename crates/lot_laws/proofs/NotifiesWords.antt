@@ -48,7 +48,9 @@ use Rattle.lot_laws.proofs.CondvarThere as condvar
 use Rattle.lot_laws.proofs.CondvarThere.{there_deeds, works_there}
 use Rattle.lot_laws.proofs.MutexActs.{IsOfWord, works_at}
 
-module _ (w : State) (t l m : ℕ) (all : Bool) (steady : IsSteady w) (is_there : t < length w.places) (apart : m ≢ l) (sort_l : (rules_in w l).sort ≡ locks.Condvar) (sort_m : (rules_in w m).sort ≡ locks.Mutex) (kept : IsCondvar (condvar_of w l)) where
+module _ (w : State) (t l m : ℕ) (all : Bool) (steady : IsSteady w) (is_there : t < length w.places) (apart : m ≢ l)
+    (sort_l : (rules_in w l).sort ≡ locks.Condvar) (sort_m : (rules_in w m).sort ≡ locks.Mutex)
+    (kept : IsCondvar (condvar_of w l)) where
   abbrev notifies : NotifyAt → CondvarPlace
   notifies at = Notify all m at
 
@@ -61,14 +63,17 @@ module _ (w : State) (t l m : ℕ) (all : Bool) (steady : IsSteady w) (is_there 
     abbrev KeptThere : NotifyAt → Op → Type 0
     KeptThere at f = Goes w (put (state_after_act w t (Condvar l (notifies at)) (act.Word l f)) t (goes_to at (act.Word l f))) l (acts t (there_deeds (condvar_deeds (notifies at) (Value (word_at w l)))))
 
-    module _ (at : NotifyAt) (is : place_at w t ≡ Condvar l (notifies at)) (f : Op) (acts_so : notify_act all l m at ≡ act.Word l f) where
+    module _ (at : NotifyAt) (is : place_at w t ≡ Condvar l (notifies at)) (f : Op)
+        (acts_so : notify_act all l m at ≡ act.Word l f) where
       abbrev next : Next CondvarPlace
       next = condvar_next (notifies at) (Value (word_at w l))
 
       can : can_do w (notify_act all l m at) ≡ true
       can = subst (λ a. can_do w a ≡ true) (sym acts_so) refl
 
-      works : Beside m next → SameBeside (At (notifies at)) next → station_by (row_there next) ≡ there (notifies at) → condvar.IsOfWord (condvar_deeds (notifies at) (Value (word_at w l))) → FitsItsLock w (condvar_goes l next) → KeptThere at f
+      works : Beside m next → SameBeside (At (notifies at)) next → station_by (row_there next) ≡ there (notifies at)
+          → condvar.IsOfWord (condvar_deeds (notifies at) (Value (word_at w l))) → FitsItsLock w (condvar_goes l next)
+          → KeptThere at f
       works beside same stays of_word fits = works_there w t l m (notifies at) steady is_there apart sort_l is refl (Value (word_at w l)) beside fits
           (subst (λ q. Alike m q (condvar_goes l next)) (sym is) (alike_beside l m apart (At (notifies at)) next refl beside same))
           f lock acts_so refl (word_is w t l (notifies at) steady is) stays of_word
@@ -95,7 +100,8 @@ module _ (w : State) (t l m : ℕ) (all : Bool) (steady : IsSteady w) (is_there 
     again_there false = refl
     again_there true = by_all all
       where
-        by_all : (b : Bool) → station_by (row_there (At (notifies (if b then notify.Hide else notify.Mark)))) ≡ there (notifies notify.Again)
+        by_all : (b : Bool)
+            → station_by (row_there (At (notifies (if b then notify.Hide else notify.Mark)))) ≡ there (notifies notify.Again)
         by_all true = refl
         by_all false = refl
 
@@ -103,13 +109,16 @@ module _ (w : State) (t l m : ℕ) (all : Bool) (steady : IsSteady w) (is_there 
     again_word true = tt
     again_word false = tt
 
-    pub looks_again : place_at w t ≡ Condvar l (notifies notify.Again) → FitsItsLock w (goes_to notify.Again (act.Word l op.Load)) → KeptThere notify.Again op.Load
+    pub looks_again : place_at w t ≡ Condvar l (notifies notify.Again) → FitsItsLock w (goes_to notify.Again (act.Word l op.Load))
+        → KeptThere notify.Again op.Load
     looks_again is fits = works notify.Again is op.Load refl refl (again_same (is_shown (word_at w l) m)) (again_there (is_shown (word_at w l) m)) (again_word (is_shown (word_at w l) m)) fits
 
-    pub hides : place_at w t ≡ Condvar l (notifies notify.Hide) → FitsItsLock w (goes_to notify.Hide (act.Word l (op.Store 0))) → KeptThere notify.Hide (op.Store 0)
+    pub hides : place_at w t ≡ Condvar l (notifies notify.Hide) → FitsItsLock w (goes_to notify.Hide (act.Word l (op.Store 0)))
+        → KeptThere notify.Hide (op.Store 0)
     hides is fits = works notify.Hide is (op.Store 0) refl refl (refl, refl, refl) refl tt fits
 
-    pub clears : (any : Bool) → place_at w t ≡ Condvar l (notifies (notify.Clear any)) → FitsItsLock w (goes_to (notify.Clear any) (act.Word l (op.Store 0))) → KeptThere (notify.Clear any) (op.Store 0)
+    pub clears : (any : Bool) → place_at w t ≡ Condvar l (notifies (notify.Clear any))
+        → FitsItsLock w (goes_to (notify.Clear any) (act.Word l (op.Store 0))) → KeptThere (notify.Clear any) (op.Store 0)
     clears any is fits = works (notify.Clear any) is (op.Store 0) refl refl (refl, refl, refl) refl tt fits
 
   -- ---------------------------------------------------------------- of the mutex
@@ -130,7 +139,8 @@ module _ (w : State) (t l m : ℕ) (all : Bool) (steady : IsSteady w) (is_there 
     abbrev KeptBeside : NotifyAt → Op → Type 0
     KeptBeside at f = Goes w (put (state_after_act w t (Condvar l (notifies at)) (act.Word m f)) t (goes_to at (act.Word m f))) m (acts t (does at))
 
-    module _ (at : NotifyAt) (is : place_at w t ≡ Condvar l (notifies at)) (f : Op) (acts_so : notify_act all l m at ≡ act.Word m f) where
+    module _ (at : NotifyAt) (is : place_at w t ≡ Condvar l (notifies at)) (f : Op)
+        (acts_so : notify_act all l m at ≡ act.Word m f) where
       abbrev next_at : Next NotifyAt
       next_at = next_notify all m at (Value seen)
 
@@ -147,9 +157,14 @@ module _ (w : State) (t l m : ℕ) (all : Bool) (steady : IsSteady w) (is_there 
       coded = subst (λ v. apply f v ≡ code r (laws.after_all r (beside_deeds all (condvar_of w l).waiters at (Value v)) here t)) (sym (steady.sites.word m))
           (notifiers_code r here (condvar_of w l) t l m all at f sort_m (λ e. apart (sym e)) (subst (λ v. MayHearBeside r here (condvar_of w l) t m all at (Value v)) (steady.sites.word m) hears_it) acts_so)
 
-      works_beside : Beside m then_there → station_by (row_there then_there) ≡ there (notifies at) → station_by (row_beside then_there) ≡ station_by (row_beside (At (notifies at)))
-          → taken_from (row_beside then_there).hand (row_beside then_there).wants true ≡ taken_from (row_beside (At (notifies at))).hand (row_beside (At (notifies at))).wants true
-          → (row_beside then_there).doing ≡ doing_next all m next_at → condvar_owners (notifies at) t seen (owners_at w m) ≡ owners_at w m → IsOfWord (does at) → (laws.after_all r (does at) here t).lock.exclusive ≡ here.lock.exclusive → FitsItsLock w (condvar_goes l then_there) → KeptBeside at f
+      works_beside : Beside m then_there → station_by (row_there then_there) ≡ there (notifies at)
+          → station_by (row_beside then_there) ≡ station_by (row_beside (At (notifies at)))
+          → taken_from (row_beside then_there).hand (row_beside then_there).wants true
+          ≡ taken_from (row_beside (At (notifies at))).hand (row_beside (At (notifies at))).wants true
+          → (row_beside then_there).doing ≡ doing_next all m next_at
+          → condvar_owners (notifies at) t seen (owners_at w m) ≡ owners_at w m → IsOfWord (does at)
+          → (laws.after_all r (does at) here t).lock.exclusive ≡ here.lock.exclusive → FitsItsLock w (condvar_goes l then_there)
+          → KeptBeside at f
       works_beside beside stays same same_taken does_next unowned of_word keeps fits = works_at w t m steady is_there sort_m (condvar_goes l then_there) alike fits (Condvar l (notifies at)) f lock (does at) of_word refl follows.needed
           (follows.doing ∙ sym does_next ∙ sym (doing_beside l m apart then_there beside)) (unowned ∙ sym (ap (with_exclusive (owners_at w m)) keeps)) coded
           (station_beside l m apart then_there beside ∙ same ∙ sym (station_beside l m apart (At (notifies at)) refl) ∙ sym (ap (λ q. station_at q m) is))
@@ -177,7 +192,8 @@ module _ (w : State) (t l m : ℕ) (all : Bool) (steady : IsSteady w) (is_there 
     marked_taken true v = refl
     marked_taken false v = refl
 
-    pub marks_it : place_at w t ≡ Condvar l (notifies notify.Mark) → FitsItsLock w (goes_to notify.Mark (act.Word m op.Load)) → KeptBeside notify.Mark op.Load
+    pub marks_it : place_at w t ≡ Condvar l (notifies notify.Mark) → FitsItsLock w (goes_to notify.Mark (act.Word m op.Load))
+        → KeptBeside notify.Mark op.Load
     marks_it is fits = works_beside notify.Mark is op.Load refl refl (marked_there (is_locked seen) seen) (marked_beside (is_locked seen) seen) (marked_taken (is_locked seen) seen) refl refl tt refl fits
 
     -- it is marked, or not as it was seen
@@ -196,7 +212,9 @@ module _ (w : State) (t l m : ℕ) (all : Bool) (steady : IsSteady w) (is_there 
     set_side true = refl
     set_side false = marked_beside (is_locked seen) seen
 
-    set_taken : (b : Bool) → taken_from (row_beside (in_notify all m (set_next b))).hand (row_beside (in_notify all m (set_next b))).wants true ≡ None
+    set_taken : (b : Bool)
+        → taken_from (row_beside (in_notify all m (set_next b))).hand (row_beside (in_notify all m (set_next b))).wants true
+        ≡ None
     set_taken true = refl
     set_taken false = marked_taken (is_locked seen) seen
 
@@ -212,11 +230,14 @@ module _ (w : State) (t l m : ℕ) (all : Bool) (steady : IsSteady w) (is_there 
     set_keeps true = refl
     set_keeps false = refl
 
-    pub sets_bit : (x : ℕ) → place_at w t ≡ Condvar l (notifies (notify.Set x)) → FitsItsLock w (goes_to (notify.Set x) (act.Word m (op.Exchange x 3))) → KeptBeside (notify.Set x) (op.Exchange x 3)
+    pub sets_bit : (x : ℕ) → place_at w t ≡ Condvar l (notifies (notify.Set x))
+        → FitsItsLock w (goes_to (notify.Set x) (act.Word m (op.Exchange x 3))) → KeptBeside (notify.Set x) (op.Exchange x 3)
     sets_bit x is fits = works_beside (notify.Set x) is (op.Exchange x 3) refl (set_beside (seen == x)) (set_stays (seen == x)) (set_side (seen == x)) (set_taken (seen == x)) (set_does (seen == x)) refl (set_word (seen == x)) (set_keeps (seen == x)) fits
 
     -- where it has moved some
-    pub marks_moved : (number : ℕ) → place_at w t ≡ Condvar l (notifies (notify.MarkMoved number)) → FitsItsLock w (goes_to (notify.MarkMoved number) (act.Word m (op.Or 2))) → KeptBeside (notify.MarkMoved number) (op.Or 2)
+    pub marks_moved : (number : ℕ) → place_at w t ≡ Condvar l (notifies (notify.MarkMoved number))
+        → FitsItsLock w (goes_to (notify.MarkMoved number) (act.Word m (op.Or 2)))
+        → KeptBeside (notify.MarkMoved number) (op.Or 2)
     marks_moved number is fits = works_beside (notify.MarkMoved number) is (op.Or 2) refl refl refl (rw some refl) refl refl refl tt refl fits
       where
         some : (number == 0) ≡ false

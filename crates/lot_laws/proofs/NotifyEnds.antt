@@ -30,7 +30,8 @@ shows_itself : (m : ℕ) → is_shown (shown_as m) m ≡ true
 shows_itself m = grind (arith, nat_tests)
 
 module _ (t l m : ℕ) (keeps : Keeps t) (w : State) (all : Bool) (g : GoesAlone w t l m (Look all)) where
-  looks : (P : State → Outcome → Type 0) (k : ℕ) → Behind t l m keeps w (Look all) g P k (look_next all (word_at w l)) → Leads (k + 1) w t P
+  looks : (P : State → Outcome → Type 0) (k : ℕ) → Behind t l m keeps w (Look all) g P k (look_next all (word_at w l))
+      → Leads (k + 1) w t P
   looks P k left = leads_behind t l m keeps w (Look all) g refl P k (Look all) g.place left
 
   -- nothing is shown
@@ -47,7 +48,8 @@ module _ (t l m : ℕ) (keeps : Keeps t) (w : State) (all : Bool) (g : GoesAlone
     word_then = so_then t l m keeps w (Look all) g refl (λ s. word_at s l) (λ q. refl)
         ∙ ap (λ y. y.word) (get_or-set_same w.locks l _ (unlocked kind.Mutex) (lock_there t l m keeps w (Look all) g)) ∙ shown
 
-    seen : (b : Bool) (k : ℕ) → b ≡ false → k ≡ m → Behind t l m keeps w (Look all) g Moves 8 (if b then next.End (notified all 0) else next.At (Notify all k notify.Enter))
+    seen : (b : Bool) (k : ℕ) → b ≡ false → k ≡ m
+        → Behind t l m keeps w (Look all) g Moves 8 (if b then next.End (notified all 0) else next.At (Notify all k notify.Enter))
     seen true k e f = absurd cc
     seen false k e f = λ h. inr (
       refl,
@@ -69,20 +71,24 @@ module _ (t l m : ℕ) (keeps : Keeps t) (w : State) (all : Bool) (g : GoesAlone
   shows : (o : Option ℕ) → (lock_state w l).shown ≡ o → word_at w l ≡ word_of o
   shows o e = word_is w t l (Look all) g.world.steady g.place ∙ ap word_of e
 
-  none_moved : (v : State) (o : Outcome) (q : List Queued) → q ≡ [] → Ends t l m keeps all 0 q v o → NotifiesAlone all q o (lock_state v l).queue
+  none_moved : (v : State) (o : Outcome) (q : List Queued) → q ≡ [] → Ends t l m keeps all 0 q v o
+      → NotifiesAlone all q o (lock_state v l).queue
   none_moved v o q e h = by_all all (h.0) (h.1 ∙ e) e
     where
-      by_all : (b : Bool) → o ≡ outcome.End (notified b 0) → (lock_state v l).queue ≡ [] → q ≡ [] → NotifiesAlone b q o (lock_state v l).queue
+      by_all : (b : Bool) → o ≡ outcome.End (notified b 0) → (lock_state v l).queue ≡ [] → q ≡ []
+          → NotifiesAlone b q o (lock_state v l).queue
       by_all true is left e = rw e (is, left)
       by_all false is left e = rw e is
 
-  some_moved : (v : State) (o : Outcome) (b : Bool) (q : List Queued) → q ≢ [] → Ends t l m keeps b (moved_number b q) (left_then b q) v o → NotifiesAlone b q o (lock_state v l).queue
+  some_moved : (v : State) (o : Outcome) (b : Bool) (q : List Queued) → q ≢ []
+      → Ends t l m keeps b (moved_number b q) (left_then b q) v o → NotifiesAlone b q o (lock_state v l).queue
   some_moved v o true q some h = h
   some_moved v o false [] some h = absurd (some refl)
   some_moved v o false (x ∷ q) some h = h
 
   -- where no mutex is shown, or this one
-  pub notifies_alone : (o : Option ℕ) → (lock_state w l).shown ≡ o → (o ≢ None → o ≡ Some m) → Leads 9 w t (λ v x. NotifiesAlone all (lock_state w l).queue x (lock_state v l).queue)
+  pub notifies_alone : (o : Option ℕ) → (lock_state w l).shown ≡ o → (o ≢ None → o ≡ Some m)
+      → Leads 9 w t (λ v x. NotifiesAlone all (lock_state w l).queue x (lock_state v l).queue)
   notifies_alone None e of = leads_more 1 9 w t (λ v x. NotifiesAlone all (lock_state w l).queue x (lock_state v l).queue) (omega arith) (leads_so 1 w t (Ends t l m keeps all 0 (lock_state w l).queue) (λ v x. NotifiesAlone all (lock_state w l).queue x (lock_state v l).queue)
       (λ v x h. none_moved v x (lock_state w l).queue (subst (λ s. IsSettledAt s (condvar_of w l)) e settled) h) (finds_none (shows None e)))
   notifies_alone (Some k) e of = leads_so 9 w t (Ends t l m keeps all (moved_number all (lock_state w l).queue) (left_then all (lock_state w l).queue)) (λ v x. NotifiesAlone all (lock_state w l).queue x (lock_state v l).queue)

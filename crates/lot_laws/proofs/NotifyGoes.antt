@@ -71,7 +71,8 @@ steps_on all l m (notify.Clear any) = refl
 steps_on all l m (notify.MarkMoved number) = refl
 steps_on all l m (notify.Leave any number) = refl
 
-told_so : (v : State) (t l m : ℕ) (all : Bool) (n : Next NotifyAt) → ToldSo v t (in_notify all m n) (outcome_of (condvar_does l (in_notify all m n)))
+told_so : (v : State) (t l m : ℕ) (all : Bool) (n : Next NotifyAt)
+    → ToldSo v t (in_notify all m n) (outcome_of (condvar_does l (in_notify all m n)))
 told_so v t l m all (next.At q) = (l, inl (steps_on all l m q))
 told_so v t l m all (next.End answer) = refl
 
@@ -82,14 +83,17 @@ locked_by v None (inr e) = ap is_locked e
 locked_by v (Some u) (inl e) = ap is_locked e
 locked_by v (Some u) (inr e) = ap is_locked e
 
-module _ (w v : State) (t l m : ℕ) (all : Bool) (p : NotifyAt) (steady : IsSteady w) (after : IsSteady v) (is : place_at w t ≡ Condvar l (Notify all m p)) (done : ℕ → List deeds.Act) (f : FollowAll w v done) (elsewhere : (k : ℕ) → k ≢ l → k ≢ m → done k ≡ []) where
+module _ (w v : State) (t l m : ℕ) (all : Bool) (p : NotifyAt) (steady : IsSteady w) (after : IsSteady v)
+    (is : place_at w t ≡ Condvar l (Notify all m p)) (done : ℕ → List deeds.Act) (f : FollowAll w v done)
+    (elsewhere : (k : ℕ) → k ≢ l → k ≢ m → done k ≡ []) where
   apart_m : m ≢ l
   apart_m = apart w t l (Notify all m p) steady is m refl
 
   abbrev Fits : ℕ → Option LockCase → Type 0
   Fits = Led w v t l m apart_m steady after f.kinds (others w v t l m apart_m steady after done f elsewhere)
 
-  two : (x y : Option LockCase) → Fits m x → Fits l y → (x ≡ None) ⊎ (y ≡ None) → Happens w v t (or_else (event_by m x) (event_by l y))
+  two : (x y : Option LockCase) → Fits m x → Fits l y → (x ≡ None) ⊎ (y ≡ None)
+      → Happens w v t (or_else (event_by m x) (event_by l y))
   two = happens_two w v t l m apart_m steady after f.kinds (others w v t l m apart_m steady after done f elsewhere)
 
   -- a lock that keeps as it was
@@ -107,7 +111,8 @@ module _ (w v : State) (t l m : ℕ) (all : Bool) (p : NotifyAt) (steady : IsSte
   owned_is : is_locked (word_at w m) ≡ is_some (lock_state w m).exclusive
   owned_is = locked_by (word_at w m) (lock_state w m).exclusive (coded w steady m (plain_rules (kind_at w m) ((fits_here w t l (Notify all m p) steady is).mutex m refl)))
 
-  sees_owner : (b : Bool) → b ≡ is_some (lock_state w m).exclusive → lock_state v m ≡ lock_state w m → lock_state v l ≡ lock_state w l → Happens w v t (AtLock m (SeeOwner b))
+  sees_owner : (b : Bool) → b ≡ is_some (lock_state w m).exclusive → lock_state v m ≡ lock_state w m
+      → lock_state v l ≡ lock_state w l → Happens w v t (AtLock m (SeeOwner b))
   sees_owner b owned at_m at_l = two (Some (SeeOwner b)) None (at_m, (rules_beside w t l (Notify all m p) steady is m refl, owned)) (at_l, tt) (inr refl)
 
   nothing : lock_state v m ≡ lock_state w m → lock_state v l ≡ lock_state w l → Happens w v t Nothing
@@ -120,7 +125,8 @@ module _ (w v : State) (t l m : ℕ) (all : Bool) (p : NotifyAt) (steady : IsSte
       either true e = nothing at_m at_l
       either false e = sees_owner false (sym e ∙ owned_is) at_m at_l
 
-  hides : done l ≡ acts t (Case (OfCondvar locks.Hide) ∷ []) → lock_state v m ≡ lock_state w m → Happens w v t (AtLock l (OfCondvar locks.Hide))
+  hides : done l ≡ acts t (Case (OfCondvar locks.Hide) ∷ []) → lock_state v m ≡ lock_state w m
+      → Happens w v t (AtLock l (OfCondvar locks.Hide))
   hides at_l at_m = two None (Some (OfCondvar locks.Hide)) (at_m, tt) (led_by w v t l m apart_m steady after done f elsewhere l None (Case (OfCondvar locks.Hide) ∷ []) at_l tt (λ h. nobody_there)) (inl refl)
 
   abbrev waiters : List locks.Queued
@@ -134,21 +140,25 @@ module _ (w v : State) (t l m : ℕ) (all : Bool) (p : NotifyAt) (steady : IsSte
   marks true = tt
   marks false = tt
 
-  moves : (b owned : Bool) → done l ≡ acts t (there_deeds (notify_deeds b m (notify.Move owned) (reply_to w t (move_act b owned l m)))) → done m ≡ acts t (beside_deeds b waiters (notify.Move owned) (reply_to w t (move_act b owned l m)))
+  moves : (b owned : Bool)
+      → done l ≡ acts t (there_deeds (notify_deeds b m (notify.Move owned) (reply_to w t (move_act b owned l m))))
+      → done m ≡ acts t (beside_deeds b waiters (notify.Move owned) (reply_to w t (move_act b owned l m)))
       → Happens w v t (notify_event l b m (notify.Move owned) (reply_to w t (move_act b owned l m)))
   moves true true at_l at_m = happens_sending w v t l m true true _ done steady after f (λ e. apart_m (sym e)) at_l at_m elsewhere
   moves true false at_l at_m = happens_sending w v t l m true false _ done steady after f (λ e. apart_m (sym e)) at_l at_m elsewhere
   moves false true at_l at_m = happens_sending w v t l m false true _ done steady after f (λ e. apart_m (sym e)) at_l at_m elsewhere
   moves false false at_l at_m = happens_sending w v t l m false false _ done steady after f (λ e. apart_m (sym e)) at_l at_m elsewhere
 
-  wakes : (any : Bool) → notify_carries p ≡ in_hand any false → done l ≡ acts t (Out ∷ []) → done m ≡ acts t (Out ∷ End ∷ []) → Happens w v t (if any then AtLock m Wake else Nothing)
+  wakes : (any : Bool) → notify_carries p ≡ in_hand any false → done l ≡ acts t (Out ∷ []) → done m ≡ acts t (Out ∷ End ∷ [])
+      → Happens w v t (if any then AtLock m Wake else Nothing)
   wakes true carries at_l at_m = two (Some Wake) None (led_by w v t l m apart_m steady after done f elsewhere m (Some false) (Out ∷ End ∷ []) at_m tt (λ h. absurd (h refl)))
       (led_by w v t l m apart_m steady after done f elsewhere l None (Out ∷ []) at_l tt (λ h. nobody_there)) (inr refl)
   wakes false carries at_l at_m = two None None (led_by w v t l m apart_m steady after done f elsewhere m None (Out ∷ End ∷ []) at_m tt (λ h. nobody_beside (λ e. let none : ◌≡◌ {A = Option Bool} None (Some false) = sym carries ∙ e in cc)))
       (led_by w v t l m apart_m steady after done f elsewhere l None (Out ∷ []) at_l tt (λ h. nobody_there)) (inl refl)
 
   -- at each place
-  by_place : (q : NotifyAt) → p ≡ q → done l ≡ acts t (there_deeds (notify_deeds all m q (reply_to w t (notify_act all l m q)))) → done m ≡ acts t (beside_deeds all waiters q (reply_to w t (notify_act all l m q))) → IsReached (Notify all m q)
+  by_place : (q : NotifyAt) → p ≡ q → done l ≡ acts t (there_deeds (notify_deeds all m q (reply_to w t (notify_act all l m q))))
+      → done m ≡ acts t (beside_deeds all waiters q (reply_to w t (notify_act all l m q))) → IsReached (Notify all m q)
       → Happens w v t (notify_event l all m q (reply_to w t (notify_act all l m q)))
   by_place notify.Enter e at_l at_m reached = nothing (stays m (In Main ∷ []) at_m tt) (stays l (In Main ∷ []) at_l tt)
   by_place notify.Again e at_l at_m reached = nothing (stays m [] at_m tt) (stays l _ at_l (seen_again (is_shown (word_at w l) m)))
@@ -159,7 +169,8 @@ module _ (w v : State) (t l m : ℕ) (all : Bool) (p : NotifyAt) (steady : IsSte
       same_m : lock_state v m ≡ lock_state w m
       same_m = stays m _ at_m (marks (word_at w m == expected))
 
-      either : (b : Bool) → (word_at w m == expected) ≡ b → Happens w v t (if b then AtLock m (SeeOwner true) else marked_event m (word_at w m))
+      either : (b : Bool) → (word_at w m == expected) ≡ b
+          → Happens w v t (if b then AtLock m (SeeOwner true) else marked_event m (word_at w m))
       either true g = sees_owner true (sym (ap is_locked (eqb-true (word_at w m) expected g) ∙ reached) ∙ owned_is) same_m (stays l [] at_l tt)
       either false g = marked same_m (stays l [] at_l tt)
   by_place (notify.Move owned) e at_l at_m reached = moves all owned at_l at_m
@@ -192,9 +203,11 @@ one_first (x ∷ q) some = refl
 not_among : (u : ℕ) (all : Bool) (q : List locks.Queued) → locks.times u q ≡ 0 → is_among u (moved_of all q) ≡ false
 not_among u all q none = let few = moved_fewer all u q in grind (arith, nat_tests)
 
-module _ (w : State) (t l m : ℕ) (all : Bool) (p : NotifyAt) (steady : IsSteady w) (condvar_holds : IsCondvar (condvar_of w l)) (aside : WaitsAside (condvar_of w l) (site_of w m) m) (is : place_at w t ≡ Condvar l (Notify all m p)) where
+module _ (w : State) (t l m : ℕ) (all : Bool) (p : NotifyAt) (steady : IsSteady w) (condvar_holds : IsCondvar (condvar_of w l))
+    (aside : WaitsAside (condvar_of w l) (site_of w m) m) (is : place_at w t ≡ Condvar l (Notify all m p)) where
   -- it moves waiters of this mutex, who stand nowhere there
-  may_move : (owned : Bool) → p ≡ notify.Move owned → (n : ℕ) → n ≢ 0 → n ≡ length (moved_of all (lock_state w l).queue) → MayMove (locks_of w) t l m all owned n
+  may_move : (owned : Bool) → p ≡ notify.Move owned → (n : ℕ) → n ≢ 0 → n ≡ length (moved_of all (lock_state w l).queue)
+      → MayMove (locks_of w) t l m all owned n
   may_move owned e n some number = record {
     notifies = ap (λ q. (call_state q (rights w t)).purpose) is;
     sorts = ((fits_here w t l (Notify all m p) steady is).sort, rules_beside w t l (Notify all m p) steady is m refl);
@@ -208,7 +221,8 @@ module _ (w : State) (t l m : ℕ) (all : Bool) (p : NotifyAt) (steady : IsStead
       fit : MoveFits (rules_in w m) all owned (condvar_of w l) (site_of w m) t m
       fit = fits_move w t l m all p steady condvar_holds aside is owned e
 
-      among_times : (u : ℕ) → is_among u (moved_of all (lock_state w l).queue) ≡ true → 1 ≤ locks.times u (moved_of all (lock_state w l).queue)
+      among_times : (u : ℕ) → is_among u (moved_of all (lock_state w l).queue) ≡ true
+          → 1 ≤ locks.times u (moved_of all (lock_state w l).queue)
       among_times u among = grind (arith, nat_tests)
 
       listed : (u : ℕ) → is_among u (moved_of all (lock_state w l).queue) ≡ true → 1 ≤ locks.times u (lock_state w l).queue
@@ -217,10 +231,12 @@ module _ (w : State) (t l m : ℕ) (all : Bool) (p : NotifyAt) (steady : IsStead
       names : (u : ℕ) → is_among u (moved_of all (lock_state w l).queue) ≡ true → (condvar_of w l).waits_with u ≡ Some m
       names u among = fit.of u (among_times u among)
 
-      by_waiter : (u : ℕ) → WaitsThere w u l → (condvar_of w l).waits_with u ≡ Some m → locks.standing u (lock_state w m) ≡ 0 → ((timed : Bool) × ((call_at w u).purpose ≡ Some (Waits l m timed))) × (locks.standing u (lock_state w m) ≡ 0)
+      by_waiter : (u : ℕ) → WaitsThere w u l → (condvar_of w l).waits_with u ≡ Some m → locks.standing u (lock_state w m) ≡ 0
+          → ((timed : Bool) × ((call_at w u).purpose ≡ Some (Waits l m timed))) × (locks.standing u (lock_state w m) ≡ 0)
       by_waiter u x named nowhere = (by_at x.at x.is x.listed, nowhere)
         where
-          by_at : (at : CondvarPlace) → place_at w u ≡ Condvar l at → (condvar_row at).listed ≡ true → (timed : Bool) × ((call_at w u).purpose ≡ Some (Waits l m timed))
+          by_at : (at : CondvarPlace) → place_at w u ≡ Condvar l at → (condvar_row at).listed ≡ true
+              → (timed : Bool) × ((call_at w u).purpose ≡ Some (Waits l m timed))
           by_at (Look every) there h = absurd cc
           by_at (Notify every k at) there h = absurd (let none : false ≡ true = sym (unlisted every k at) ∙ h in cc)
           by_at (Wait k timed at) there h =
@@ -234,7 +250,9 @@ abbrev moved_from : Event → Option ℕ
 moved_from (Moves c k all owned n) = Some c
 moved_from e = None
 
-module _ (w v : State) (t l m : ℕ) (all : Bool) (p : NotifyAt) (steady : IsSteady w) (after : IsSteady v) (condvar_holds : IsCondvar (condvar_of w l)) (aside : WaitsAside (condvar_of w l) (site_of w m) m) (is : place_at w t ≡ Condvar l (Notify all m p))
+module _ (w v : State) (t l m : ℕ) (all : Bool) (p : NotifyAt) (steady : IsSteady w) (after : IsSteady v)
+    (condvar_holds : IsCondvar (condvar_of w l)) (aside : WaitsAside (condvar_of w l) (site_of w m) m)
+    (is : place_at w t ≡ Condvar l (Notify all m p))
     (can : can_do w (notify_act all l m p) ≡ true) (done : ℕ → List deeds.Act) (f : FollowAll w v done) (elsewhere : (k : ℕ) → k ≢ l → k ≢ m → done k ≡ []) (at_l : done l ≡ acts t (there_deeds (notify_deeds all m p (reply_to w t (notify_act all l m p)))))
     (at_m : done m ≡ acts t (beside_deeds all (condvar_of w l).waiters p (reply_to w t (notify_act all l m p)))) where
   abbrev told : Reply
@@ -276,7 +294,9 @@ module _ (w v : State) (t l m : ℕ) (all : Bool) (p : NotifyAt) (steady : IsSte
       (doing_beside w t l (Notify all m p) steady is m refl) (may_hear w t l (Notify all m p) steady is can) (notifier_hears w t l m all p steady condvar_holds aside is can) reached
 
   -- a move is one that it may do
-  move_may : (b owned : Bool) → all ≡ b → p ≡ notify.Move owned → MayComeOfTwo l (condvar_profile (Notify b m (notify.Move owned))) (notify_event l b m (notify.Move owned) (reply_to w t (move_act b owned l m)))
+  move_may : (b owned : Bool) → all ≡ b → p ≡ notify.Move owned
+      → MayComeOfTwo l (condvar_profile (Notify b m (notify.Move owned)))
+      (notify_event l b m (notify.Move owned) (reply_to w t (move_act b owned l m)))
       → MayHappen (locks_of w) t (notify_event l b m (notify.Move owned) (reply_to w t (move_act b owned l m)))
   move_may true true e g may = may_move w t l m true p steady condvar_holds aside (is ∙ ap (λ x. Condvar l (Notify x m p)) e) true g _ may.3 (number_of true (queue_at w (2 * l)))
   move_may true false e g may = may_move w t l m true p steady condvar_holds aside (is ∙ ap (λ x. Condvar l (Notify x m p)) e) false g _ may.3 (number_of false (queue_at w (2 * l)))
@@ -286,7 +306,8 @@ module _ (w v : State) (t l m : ℕ) (all : Bool) (p : NotifyAt) (steady : IsSte
       (one_first (lock_state w l).queue (fits_move w t l m false p steady condvar_holds aside (is ∙ ap (λ x. Condvar l (Notify x m p)) e) false g).some)
 
   -- nothing else is a move, and it moves from its own
-  only_moves : (q : NotifyAt) → ((owned : Bool) → q ≡ notify.Move owned → ⊥) → IsNoMove (notify_event l all m q (reply_to w t (notify_act all l m q)))
+  only_moves : (q : NotifyAt) → ((owned : Bool) → q ≡ notify.Move owned → ⊥)
+      → IsNoMove (notify_event l all m q (reply_to w t (notify_act all l m q)))
   only_moves notify.Enter other = nothing_only
   only_moves notify.Again other = nothing_only
   only_moves notify.Hide other = at_lock_only l (OfCondvar locks.Hide)
@@ -297,7 +318,8 @@ module _ (w v : State) (t l m : ℕ) (all : Bool) (p : NotifyAt) (steady : IsSte
   only_moves (notify.MarkMoved number) other = nothing_only
   only_moves (notify.Leave any number) other = either_only any (AtLock m Wake) Nothing (at_lock_only m Wake) nothing_only
 
-  from_own : (b owned : Bool) (c k n : ℕ) (every o : Bool) → notify_event l b m (notify.Move owned) (reply_to w t (move_act b owned l m)) ≡ Moves c k every o n → l ≡ c
+  from_own : (b owned : Bool) (c k n : ℕ) (every o : Bool)
+      → notify_event l b m (notify.Move owned) (reply_to w t (move_act b owned l m)) ≡ Moves c k every o n → l ≡ c
   from_own true true c k n every o e = let both : Some l ≡ Some c = ap moved_from e in cc
   from_own true false c k n every o e = let both : Some l ≡ Some c = ap moved_from e in cc
   from_own false true c k n every o e = let both : Some l ≡ Some c = ap moved_from e in cc
@@ -325,7 +347,9 @@ module _ (w v : State) (t l m : ℕ) (all : Bool) (p : NotifyAt) (steady : IsSte
   unlisted_here = subst (IsListed (condvar_of w l) t) (unlisted all m p) (at_it w t l (Notify all m p) steady is).listed
 
   -- the step goes on by that event, where it stands then as its reply says, is in no hand of its own, and the others' calls follow
-  pub notify_goes : place_at v t ≡ condvar_goes l (condvar_next (Notify all m p) told) → ((k : ℕ) → is_taken_by t (taken_at (place_at w t) k) ≡ false) → (lock_state v l).shown ≡ shown_then → OthersFollow w v t event
+  pub notify_goes : place_at v t ≡ condvar_goes l (condvar_next (Notify all m p) told)
+      → ((k : ℕ) → is_taken_by t (taken_at (place_at w t) k) ≡ false) → (lock_state v l).shown ≡ shown_then
+      → OthersFollow w v t event
       → GoesOn (locks_of w) t (outcome_of (condvar_does l (condvar_next (Notify all m p) told))) (locks_of v)
   notify_goes there free shown others_follow = condvar_goes_on w v t l m (Notify all m p) (call_named w t l m (Notify all m p) is refl) told event notify_happened shown_then behind (condvar_next (Notify all m p) told) _
       (may_go w v t l m (Notify all m p) (call_named w t l m (Notify all m p) is refl) told event notify_happened shown_then behind follows.may (λ c k every o n e. (moving c k n every o e).0))

@@ -48,7 +48,8 @@ module _ (w : State) (t l m : ℕ) (all : Bool) where
   marked_calm true = tt
   marked_calm false = tt
 
-  set_calm : (b c : Bool) → IsCalmEvent (if b then AtLock m (locks.SeeOwner true) else if c then Nothing else AtLock m (locks.SeeOwner false))
+  set_calm : (b c : Bool)
+      → IsCalmEvent (if b then AtLock m (locks.SeeOwner true) else if c then Nothing else AtLock m (locks.SeeOwner false))
   set_calm true c = tt
   set_calm false c = marked_calm c
 
@@ -57,14 +58,16 @@ module _ (w : State) (t l m : ℕ) (all : Bool) where
   alone p p2 h calm happens = calm_follow w (behind p p2) t (event p) happens calm (lonely w t p2 (Condvar l (notifies p)) (notify_act all l m p) h)
 
   module _ (steady : IsSteady w) (apart : m ≢ l) where
-    wakes : (number : ℕ) → place_at w t ≡ Condvar l (notifies (notify.Leave true number)) → (p2 : Place) → Follow (notify.Leave true number) p2
+    wakes : (number : ℕ) → place_at w t ≡ Condvar l (notifies (notify.Leave true number)) → (p2 : Place)
+        → Follow (notify.Leave true number) p2
     wakes number is p2 h = wake_follows w t m steady (subst (CarriesAt m) (sym is) (condvar_carries l m apart this refl)) (ap (λ q. carried_at q m) is ∙ ap (λ (y : Station). y.carries) (station_beside l m apart (At this) refl)) p2 (state_with_sections w (Two (2 * l) (2 * m)) None) refl h
       where
         this : CondvarPlace
         this = notifies (notify.Leave true number)
 
 -- a move leaves each right as it was
-put_rights : (f : ℕ → LockState) (x : ℕ) (s : LockState) (u : ℕ) → rights_of s u ≡ rights_of (f x) u → (k : ℕ) → rights_of (putting f x s k) u ≡ rights_of (f k) u
+put_rights : (f : ℕ → LockState) (x : ℕ) (s : LockState) (u : ℕ) → rights_of s u ≡ rights_of (f x) u → (k : ℕ)
+    → rights_of (putting f x s k) u ≡ rights_of (f k) u
 put_rights f x s u e k = elim (cases_eq k x) [
   | inl here ↦ rw (here, put_here f x s) e
   | inr ne ↦ ap (λ y. rights_of y u) (put_other f x s k ne)
@@ -80,25 +83,31 @@ module _ (w v : State) (t l m : ℕ) (all owned : Bool) (number : ℕ) (h : Happ
       ∙ put_rights (lock_state w) l (locks.left_behind all (lock_state w l)) u (left_rights u) k
 
   -- so the others follow where whoever is moved or taken knows it
-  moves_follow : ((u : ℕ) → u ≢ t → (r : ℕ → Rights) → call_state (place_at v u) r ≡ befallen u (moved_of all (lock_state w l).queue) (call_state (place_at w u) r)) → OthersFollow w v t (Moves l m all owned number)
+  moves_follow : ((u : ℕ) → u ≢ t → (r : ℕ → Rights) → call_state (place_at v u) r ≡ befallen u (moved_of all (lock_state w l).queue) (call_state (place_at w u) r))
+      → OthersFollow w v t (Moves l m all owned number)
   moves_follow knows u ne = ap (call_state (place_at v u)) (λ i k. moved_rights u k i) ∙ knows u ne (rights w u)
 
 -- ---------------------------------------------------------------- whichever it is
 
 -- what its move is to the abstract locks
-moves_event : (w : State) (t l m : ℕ) (all locked : Bool) → (number : ℕ) × (notify_event l all m (notify.Move locked) (reply_to w t (move_act all locked l m)) ≡ Moves l m all locked number)
+moves_event : (w : State) (t l m : ℕ) (all locked : Bool)
+    → (number : ℕ)
+    × (notify_event l all m (notify.Move locked) (reply_to w t (move_act all locked l m)) ≡ Moves l m all locked number)
 moves_event w t l m true true = (_, refl)
 moves_event w t l m true false = (_, refl)
 moves_event w t l m false true = (_, refl)
 moves_event w t l m false false = (_, refl)
 
-module _ (w : State) (t l m : ℕ) (all : Bool) (steady : IsSteady w) (is_there : t < length w.places) (apart : m ≢ l) (sort_l : (rules_in w l).sort ≡ locks.Condvar) (sort_m : (rules_in w m).sort ≡ locks.Mutex) (kept : IsCondvar (condvar_of w l)) (aside : WaitsAside (condvar_of w l) (site_of w m) m)
+module _ (w : State) (t l m : ℕ) (all : Bool) (steady : IsSteady w) (is_there : t < length w.places) (apart : m ≢ l)
+    (sort_l : (rules_in w l).sort ≡ locks.Condvar) (sort_m : (rules_in w m).sort ≡ locks.Mutex)
+    (kept : IsCondvar (condvar_of w l)) (aside : WaitsAside (condvar_of w l) (site_of w m) m)
     (line_l : key_of l Main < length w.queues) (line_m : key_of m Main < length w.queues) where
   -- by where it goes
   abbrev next : NotifyAt → Place
   next p = condvar_goes l (condvar_next (Notify all m p) (reply_to w t (notify_act all l m p)))
 
-  pub notify_others : (p : NotifyAt) → place_at w t ≡ Condvar l (Notify all m p) → FitsItsLock w (next p) → Follow w t l m all p (next p)
+  pub notify_others : (p : NotifyAt) → place_at w t ≡ Condvar l (Notify all m p) → FitsItsLock w (next p)
+      → Follow w t l m all p (next p)
   notify_others notify.Enter is fits = alone w t l m all notify.Enter (next notify.Enter) tt tt
   notify_others notify.Again is fits = alone w t l m all notify.Again (next notify.Again) tt tt
   notify_others notify.Hide is fits = alone w t l m all notify.Hide (next notify.Hide) tt tt

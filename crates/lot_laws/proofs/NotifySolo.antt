@@ -52,10 +52,13 @@ module _ (t l m : ℕ) (keeps : Keeps t) where
     stays : place_at (state_after_act w t (Condvar l (Notify all m at)) (notify_act all l m at)) t ≡ Condvar l (Notify all m at)
     stays = notifier_still w t l m all at g.place (reached t l m keeps w (Notify all m at) g) g.thread
 
-    goes : (P : State → Outcome → Type 0) (k : ℕ) → can_do w (notify_act all l m at) ≡ true → Left P k (reply_to w t (notify_act all l m at)) → Leads (k + 1) w t P
+    goes : (P : State → Outcome → Type 0) (k : ℕ) → can_do w (notify_act all l m at) ≡ true
+        → Left P k (reply_to w t (notify_act all l m at)) → Leads (k + 1) w t P
     goes P k can left = leads_behind t l m keeps w (Notify all m at) g can P k (Notify all m at) stays left
 
-    queue_is : (can : can_do w (notify_act all l m at) ≡ true) → (lock_state (after w (go_of t)) l).queue ≡ (after_all (condvar_deeds (Notify all m at) (reply_to w t (notify_act all l m at))) (condvar_of w l) t).waiters
+    queue_is : (can : can_do w (notify_act all l m at) ≡ true)
+        → (lock_state (after w (go_of t)) l).queue
+        ≡ (after_all (condvar_deeds (Notify all m at) (reply_to w t (notify_act all l m at))) (condvar_of w l) t).waiters
     queue_is can = queue_then t l m keeps w (Notify all m at) g can
 
   move_steps : (all locked : Bool) → outcome_of (move_act all locked l m) ≡ outcome.Step
@@ -65,40 +68,53 @@ module _ (t l m : ℕ) (keeps : Keeps t) where
 
   -- ---------------------------------------------------------------- behind its move
 
-  leaves : (w : State) (all any : Bool) (number : ℕ) (q : List Queued) → (lock_state w l).queue ≡ q → Alone w all (notify.Leave any number) → Leads 1 w t (Ends all number q)
+  leaves : (w : State) (all any : Bool) (number : ℕ) (q : List Queued) → (lock_state w l).queue ≡ q
+      → Alone w all (notify.Leave any number) → Leads 1 w t (Ends all number q)
   leaves w all any number q e g = goes w all (notify.Leave any number) g (Ends all number q) 0 refl (refl, queue_is w all (notify.Leave any number) g refl ∙ e)
 
-  clears : (w : State) (all any : Bool) (q : List Queued) → (lock_state w l).queue ≡ q → Alone w all (notify.Clear any) → Leads 2 w t (Ends all 1 q)
+  clears : (w : State) (all any : Bool) (q : List Queued) → (lock_state w l).queue ≡ q → Alone w all (notify.Clear any)
+      → Leads 2 w t (Ends all 1 q)
   clears w all any q e g = goes w all (notify.Clear any) g (Ends all 1 q) 1 refl (λ h. inr (refl, leaves (after w (go_of t)) all any 1 q (queue_is w all (notify.Clear any) g refl ∙ e) h))
 
-  sets_bit : (w : State) (all : Bool) (number : ℕ) (q : List Queued) → (lock_state w l).queue ≡ q → Alone w all (notify.MarkMoved number) → Leads 2 w t (Ends all number q)
+  sets_bit : (w : State) (all : Bool) (number : ℕ) (q : List Queued) → (lock_state w l).queue ≡ q
+      → Alone w all (notify.MarkMoved number) → Leads 2 w t (Ends all number q)
   sets_bit w all number q e g = goes w all (notify.MarkMoved number) g (Ends all number q) 1 refl (λ h. inr (refl, leaves (after w (go_of t)) all true number q (queue_is w all (notify.MarkMoved number) g refl ∙ e) h))
 
   -- ---------------------------------------------------------------- its move
 
   -- the first is moved or taken
-  module _ (w : State) (locked : Bool) (q : List Queued) (g : Alone w false (notify.Move locked)) (left : (lock_state (after w (go_of t)) l).queue ≡ q) where
-    one_behind : (any none_left : Bool) → Behind t l m keeps w (Notify false m (notify.Move locked)) g (Ends false 1 q) 2 (next.At (Notify false m (moved_one any none_left)))
+  module _ (w : State) (locked : Bool) (q : List Queued) (g : Alone w false (notify.Move locked))
+      (left : (lock_state (after w (go_of t)) l).queue ≡ q) where
+    one_behind : (any none_left : Bool)
+        → Behind t l m keeps w (Notify false m (notify.Move locked)) g (Ends false 1 q) 2
+        (next.At (Notify false m (moved_one any none_left)))
     one_behind any true h = inr (refl, clears (after w (go_of t)) false any q left h)
     one_behind any false h = inr (refl, leads_more 1 2 (after w (go_of t)) t (Ends false 1 q) (omega arith) (leaves (after w (go_of t)) false any 1 q left h))
 
   -- or all are
-  module _ (w : State) (locked : Bool) (number : ℕ) (q : List Queued) (g : Alone w true (notify.Move locked)) (left : (lock_state (after w (go_of t)) l).queue ≡ q) where
-    all_behind : (some : Bool) → Behind t l m keeps w (Notify true m (notify.Move locked)) g (Ends true number q) 2 (next.At (Notify true m (if some then notify.MarkMoved number else notify.Leave (not locked) number)))
+  module _ (w : State) (locked : Bool) (number : ℕ) (q : List Queued) (g : Alone w true (notify.Move locked))
+      (left : (lock_state (after w (go_of t)) l).queue ≡ q) where
+    all_behind : (some : Bool)
+        → Behind t l m keeps w (Notify true m (notify.Move locked)) g (Ends true number q) 2
+        (next.At (Notify true m (if some then notify.MarkMoved number else notify.Leave (not locked) number)))
     all_behind true h = inr (refl, sets_bit (after w (go_of t)) true number q left h)
     all_behind false h = inr (refl, leads_more 1 2 (after w (go_of t)) t (Ends true number q) (omega arith) (leaves (after w (go_of t)) true (not locked) number q left h))
 
-  moves : (w : State) (all locked : Bool) (q : List Queued) → (lock_state w l).queue ≡ q → Alone w all (notify.Move locked) → Leads 3 w t (Ends all (moved_number all q) (left_then all q))
+  moves : (w : State) (all locked : Bool) (q : List Queued) → (lock_state w l).queue ≡ q → Alone w all (notify.Move locked)
+      → Leads 3 w t (Ends all (moved_number all q) (left_then all q))
   moves w false false q e g = goes w false (notify.Move false) g (Ends false 1 (drop 1 q)) 2 refl
       (one_behind w false (drop 1 q) g (queue_is w false (notify.Move false) g refl ∙ ap (drop 1) e) (is_there (first_of (queue_at w (2 * l)))) (length (drop 1 (queue_at w (2 * l))) == 0))
   moves w false true q e g = goes w false (notify.Move true) g (Ends false 1 (drop 1 q)) 2 refl
       (one_behind w true (drop 1 q) g (queue_is w false (notify.Move true) g refl ∙ ap (drop 1) e) false (length (drop 1 (queue_at w (2 * l))) == 0))
   moves w true locked q e g = all_move locked g
     where
-      number_is : (locked : Bool) → Alone w true (notify.Move locked) → (number : ℕ) (none_left : Bool) → reply_to w t (notify_act true l m (notify.Move locked)) ≡ Requeued number none_left → number ≡ length q
+      number_is : (locked : Bool) → Alone w true (notify.Move locked) → (number : ℕ) (none_left : Bool)
+          → reply_to w t (notify_act true l m (notify.Move locked)) ≡ Requeued number none_left → number ≡ length q
       number_is locked g number none_left told = subst (λ r. MayHear (condvar_of w l) t (Notify true m (notify.Move locked)) r) told (hears t l m keeps w (Notify true m (notify.Move locked)) g refl) ∙ ap length e
 
-      behind : (locked : Bool) (g : Alone w true (notify.Move locked)) (number : ℕ) → number ≡ length q → (lock_state (after w (go_of t)) l).queue ≡ [] → Left w true (notify.Move locked) g (Ends true (length q) []) 2 (Requeued number true)
+      behind : (locked : Bool) (g : Alone w true (notify.Move locked)) (number : ℕ) → number ≡ length q
+          → (lock_state (after w (go_of t)) l).queue ≡ []
+          → Left w true (notify.Move locked) g (Ends true (length q) []) 2 (Requeued number true)
       behind locked g number is left = subst (λ n. Left w true (notify.Move locked) g (Ends true (length q) []) 2 (Requeued n true)) (sym is) (all_behind w locked (length q) [] g left (not locked && nat_lt 1 (length q)))
 
       all_move : (locked : Bool) → Alone w true (notify.Move locked) → Leads 3 w t (Ends true (length q) [])
@@ -116,14 +132,19 @@ module _ (t l m : ℕ) (keeps : Keeps t) where
     sets_now w e g = goes w all (notify.Set (word_at w m)) g Moves 3 refl (rw (same (word_at w m)) (λ h. inr (move_steps all true, moves (after w (go_of t)) all true q (queue_is w all (notify.Set (word_at w m)) g refl ∙ e) h)))
 
     -- by the word that it has seen
-    marked : (w : State) (at : NotifyAt) (g : Alone w all at) (v : ℕ) → word_at (after w (go_of t)) m ≡ v → (lock_state (after w (go_of t)) l).queue ≡ q → Behind t l m keeps w (Notify all m at) g Moves 4 (next.At (Notify all m (marks v)))
+    marked : (w : State) (at : NotifyAt) (g : Alone w all at) (v : ℕ) → word_at (after w (go_of t)) m ≡ v
+        → (lock_state (after w (go_of t)) l).queue ≡ q
+        → Behind t l m keeps w (Notify all m at) g Moves 4 (next.At (Notify all m (marks v)))
     marked w at g v word left = either (is_locked v)
       where
-        either : (b : Bool) → Behind t l m keeps w (Notify all m at) g Moves 4 (next.At (Notify all m (if b then notify.Set v else notify.Move false)))
+        either : (b : Bool)
+            → Behind t l m keeps w (Notify all m at) g Moves 4
+            (next.At (Notify all m (if b then notify.Set v else notify.Move false)))
         either true h = inr (refl, sets_now (after w (go_of t)) left (subst (λ x. Alone (after w (go_of t)) all (notify.Set x)) (sym word) h))
         either false h = inr (move_steps all false, leads_more 3 4 (after w (go_of t)) t Moves (omega arith) (moves (after w (go_of t)) all false q left h))
 
-    word_of_mutex : (w : State) (at : NotifyAt) (g : Alone w all at) (x : Op) → notify_act all l m at ≡ act.Word m x → can_do w (notify_act all l m at) ≡ true → word_at (after w (go_of t)) m ≡ apply x (word_at w m)
+    word_of_mutex : (w : State) (at : NotifyAt) (g : Alone w all at) (x : Op) → notify_act all l m at ≡ act.Word m x
+        → can_do w (notify_act all l m at) ≡ true → word_at (after w (go_of t)) m ≡ apply x (word_at w m)
     word_of_mutex w at g x is can = word_then t l m keeps w (Notify all m at) g can x refl is
 
     sets : (w : State) (seen : ℕ) → (lock_state w l).queue ≡ q → Alone w all (notify.Set seen) → Leads 5 w t Moves
@@ -143,18 +164,22 @@ module _ (t l m : ℕ) (keeps : Keeps t) where
     hides w e g = goes w all notify.Hide g Moves 5 refl (λ h. inr (refl, begins_marking (after w (go_of t)) (queue_is w all notify.Hide g refl ∙ e) h))
 
     -- it looks again, and sees its mutex
-    sees : (w : State) → is_shown (word_at w l) m ≡ true → (lock_state w l).queue ≡ q → Alone w all notify.Again → Leads 7 w t Moves
+    sees : (w : State) → is_shown (word_at w l) m ≡ true → (lock_state w l).queue ≡ q → Alone w all notify.Again
+        → Leads 7 w t Moves
     sees w shown e g = goes w all notify.Again g Moves 6 refl (rw shown (either all refl))
       where
         left : (lock_state (after w (go_of t)) l).queue ≡ q
         left = queue_is w all notify.Again g refl ∙ ap (λ b. (after_all (if b then SeeAgain m ∷ [] else MissIt m ∷ []) (condvar_of w l) t).waiters) shown ∙ e
 
-        either : (b : Bool) → all ≡ b → Behind t l m keeps w (Notify all m notify.Again) g Moves 6 (next.At (Notify all m (if b then notify.Hide else notify.Mark)))
+        either : (b : Bool) → all ≡ b
+            → Behind t l m keeps w (Notify all m notify.Again) g Moves 6
+            (next.At (Notify all m (if b then notify.Hide else notify.Mark)))
         either true f h = inr (refl, hides (after w (go_of t)) left h)
         either false f h = inr (refl, leads_more 5 6 (after w (go_of t)) t Moves (omega arith) (begins_marking (after w (go_of t)) left h))
 
     -- or does not
-    misses : (w : State) → is_shown (word_at w l) m ≡ false → (lock_state w l).queue ≡ q → Alone w all notify.Again → Leads 2 w t (Ends all 0 q)
+    misses : (w : State) → is_shown (word_at w l) m ≡ false → (lock_state w l).queue ≡ q → Alone w all notify.Again
+        → Leads 2 w t (Ends all 0 q)
     misses w shown e g = goes w all notify.Again g (Ends all 0 q) 1 refl (rw shown (λ h. inr (refl, leaves (after w (go_of t)) all false 0 q left h)))
       where
         left : (lock_state (after w (go_of t)) l).queue ≡ q
@@ -172,15 +197,18 @@ module _ (t l m : ℕ) (keeps : Keeps t) where
     same_queue : (lock_state (after w (go_of t)) l).queue ≡ (lock_state w l).queue
     same_queue = queue_is w all notify.Enter g both_free
 
-    enters : (P : State → Outcome → Type 0) (k : ℕ) → (Alone (after w (go_of t)) all notify.Again → Leads k (after w (go_of t)) t P) → Leads (k + 1) w t P
+    enters : (P : State → Outcome → Type 0) (k : ℕ)
+        → (Alone (after w (go_of t)) all notify.Again → Leads k (after w (go_of t)) t P) → Leads (k + 1) w t P
     enters P k on = goes w all notify.Enter g P k both_free (λ h. inr (refl, on h))
 
-  pub enters_seeing : (w : State) (all : Bool) (q : List Queued) → is_shown (word_at w l) m ≡ true → (lock_state w l).queue ≡ q → Alone w all notify.Enter → Leads 8 w t (Ends all (moved_number all q) (left_then all q))
+  pub enters_seeing : (w : State) (all : Bool) (q : List Queued) → is_shown (word_at w l) m ≡ true → (lock_state w l).queue ≡ q
+      → Alone w all notify.Enter → Leads 8 w t (Ends all (moved_number all q) (left_then all q))
   enters_seeing w all q shown e g = enters w all g (Moves all q) 7 (sees all q (after w (go_of t)) (ap (λ v. is_shown v m) (same_word w all g) ∙ shown) (same_queue w all g ∙ e))
 
   -- ---------------------------------------------------------------- from any place
 
-  ends_rest : (k : ℕ) (w : State) (all : Bool) (number : ℕ) (q : List Queued) → k ≤ 8 → Leads k w t (Ends all number q) → Leads 8 w t (λ v o. Rests o)
+  ends_rest : (k : ℕ) (w : State) (all : Bool) (number : ℕ) (q : List Queued) → k ≤ 8 → Leads k w t (Ends all number q)
+      → Leads 8 w t (λ v o. Rests o)
   ends_rest k w all number q le h = leads_more k 8 w t (λ v o. Rests o) le (leads_so k w t (Ends all number q) (λ v o. Rests o) (λ v o e. subst Rests (sym e.0) tt) h)
 
   again_rests : (w : State) (all : Bool) → Alone w all notify.Again → Leads 7 w t (λ v o. Rests o)

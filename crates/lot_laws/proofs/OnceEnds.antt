@@ -68,7 +68,8 @@ module _ (t l : ℕ) where
   abbrev pub Answers : Answer → State → Outcome → Type 0
   Answers answer v o = o ≡ outcome.End answer
 
-  module _ (w : State) (v : ℕ) (q : Queues) (n : Next OncePlace) (c : Comes w t l (once_goes l n) (outcome_of (once_does l n)) v q) where
+  module _ (w : State) (v : ℕ) (q : Queues) (n : Next OncePlace)
+      (c : Comes w t l (once_goes l n) (outcome_of (once_does l n)) v q) where
     goes : (k : ℕ) (P : State → Outcome → Type 0) (p : OncePlace) → n ≡ next.At p → outcome_of (once_act l p) ≡ outcome.Step
         → (Alone (after w (go_of t)) p v q → Leads k (after w (go_of t)) t P) → Leads (k + 1) w t P
     goes k P p is steps on = leads_step w t P k (c.0 ∙ ap (λ x. outcome_of (once_does l x)) is ∙ steps) (on (subst (λ x. StepsAlone (after w (go_of t)) t l (once_goes l x) v q) is c.1))
@@ -87,14 +88,17 @@ module _ (t l : ℕ) where
             (ap (λ p. (doing_on p l).claims) there.place ∙ ap (λ (z : Bool). (if z then (once_profile (Run forced (run.Closure poisoned))).doing else idle).claims) (same l))
 
   module _ (c : OnceCall) where
-    leaves : (again : Bool) (v : ℕ) (w : State) (q q2 : Queues) → q2 Main ≡ q Main ++ waiter (2 * l) t (want_of c) ∷ [] → Alone w (Look c again (look.Leave true)) v q2 → Leads 1 w t (Sleeps c q)
+    leaves : (again : Bool) (v : ℕ) (w : State) (q q2 : Queues) → q2 Main ≡ q Main ++ waiter (2 * l) t (want_of c) ∷ []
+        → Alone w (Look c again (look.Leave true)) v q2 → Leads 1 w t (Sleeps c q)
     leaves again v w q q2 last f = let out = leave_comes w t l _ v q2 f Main Nobody refl in leads_rest w t (Sleeps c q) outcome.Sleep out.0 tt (refl, out.1.queue Main ∙ last)
 
-    checks : (again : Bool) (v : ℕ) (w : State) (q : Queues) → holds (check_of c) v ≡ true → Alone w (Look c again look.Check) v q → Leads 2 w t (Sleeps c q)
+    checks : (again : Bool) (v : ℕ) (w : State) (q : Queues) → holds (check_of c) v ≡ true → Alone w (Look c again look.Check) v q
+        → Leads 2 w t (Sleeps c q)
     checks again v w q h f = goes w v _ _ (park_comes w t l _ v q f (2 * l) (check_of c) (want_of c) true refl h) 1 (Sleeps c q) (Look c (again && not true) (look.Leave true)) refl refl
         (λ g. leaves (again && not true) v _ q _ (parks_last w t l _ v q f refl Main (want_of c)) g)
 
-    parks : (again : Bool) (seen v : ℕ) (w : State) (q : Queues) → once_act l (Look c again (look.Decide seen)) ≡ act.Enter (One (2 * l)) → holds (check_of c) v ≡ true
+    parks : (again : Bool) (seen v : ℕ) (w : State) (q : Queues)
+        → once_act l (Look c again (look.Decide seen)) ≡ act.Enter (One (2 * l)) → holds (check_of c) v ≡ true
         → Alone w (Look c again (look.Decide seen)) v q → Leads 3 w t (Sleeps c q)
     parks again seen v w q is h f = goes w v q _ (enter_comes w t l _ v q f Main is (finds_free w t l _ v q f refl Main)) 2 (Sleeps c q) (Look c again look.Check) refl refl (λ g. checks again v _ q h g)
 
@@ -115,24 +119,30 @@ module _ (t l : ℕ) where
     abbrev pub Deciding : OnceCall → ℕ → Type 0
     Deciding c v = Alone w (Look c again (look.Decide v)) v q
 
-    answers_again : (c : OnceCall) (v : ℕ) (answer : Answer) → once_act l (Look c again (look.Decide v)) ≡ act.Word l op.Load → once_next (Look c again (look.Decide v)) (Value v) ≡ next.End answer
+    answers_again : (c : OnceCall) (v : ℕ) (answer : Answer) → once_act l (Look c again (look.Decide v)) ≡ act.Word l op.Load
+        → once_next (Look c again (look.Decide v)) (Value v) ≡ next.End answer
         → Deciding c v → Leads 4 w t (Answers answer)
     answers_again c v answer loads on f = leads_more 1 4 w t (Answers answer) (omega arith) (ends w v q _ (word_comes w t l _ v q f op.Load loads) answer on)
 
     begins : (c : OnceCall) (v m : ℕ) (poisoned : Bool) → once_act l (Look c again (look.Decide v)) ≡ act.Word l (op.Exchange v m)
-        → once_next (Look c again (look.Decide v)) (Value v) ≡ next.At (Run (is_forced c) (run.Closure poisoned)) → Deciding c v → Leads 4 w t (Starts poisoned)
+        → once_next (Look c again (look.Decide v)) (Value v) ≡ next.At (Run (is_forced c) (run.Closure poisoned)) → Deciding c v
+        → Leads 4 w t (Starts poisoned)
     begins c v m poisoned starts_it on f = leads_more 1 4 w t (Starts poisoned) (omega arith) (starts w _ q _ (word_comes w t l _ v q f (op.Exchange v m) starts_it) (is_forced c) poisoned on)
 
-    sleeps_parked : (c : OnceCall) (v : ℕ) → once_act l (Look c again (look.Decide v)) ≡ act.Enter (One (2 * l)) → holds (check_of c) v ≡ true → Deciding c v → Leads 4 w t (Sleeps c q)
+    sleeps_parked : (c : OnceCall) (v : ℕ) → once_act l (Look c again (look.Decide v)) ≡ act.Enter (One (2 * l))
+        → holds (check_of c) v ≡ true → Deciding c v → Leads 4 w t (Sleeps c q)
     sleeps_parked c v enters h f = leads_more 3 4 w t (Sleeps c q) (omega arith) (parks c again v v w q enters h f)
 
-    sleeps_marked : (c : OnceCall) (v m : ℕ) → once_act l (Look c again (look.Decide v)) ≡ act.Word l (op.Exchange v m) → apply (op.Exchange v m) v ≡ m
-        → once_next (Look c again (look.Decide v)) (Value v) ≡ next.At (Look c again (look.Decide m)) → once_act l (Look c again (look.Decide m)) ≡ act.Enter (One (2 * l)) → holds (check_of c) m ≡ true
+    sleeps_marked : (c : OnceCall) (v m : ℕ) → once_act l (Look c again (look.Decide v)) ≡ act.Word l (op.Exchange v m)
+        → apply (op.Exchange v m) v ≡ m
+        → once_next (Look c again (look.Decide v)) (Value v) ≡ next.At (Look c again (look.Decide m))
+        → once_act l (Look c again (look.Decide m)) ≡ act.Enter (One (2 * l)) → holds (check_of c) m ≡ true
         → Deciding c v → Leads 4 w t (Sleeps c q)
     sleeps_marked c v m marks puts on enters h f = goes w _ q _ (word_comes w t l _ v q f (op.Exchange v m) marks) 3 (Sleeps c q) _ on (ap outcome_of enters)
         (λ k. parks c again m m _ q enters h (subst (λ x. Alone (after w (go_of t)) (Look c again (look.Decide m)) x q) puts k))
 
-    pub decides : (c : OnceCall) (parked : Bool) (phase : Phase) → Deciding c (words.word parked phase) → Leads 4 w t (Ended q c phase)
+    pub decides : (c : OnceCall) (parked : Bool) (phase : Phase) → Deciding c (words.word parked phase)
+        → Leads 4 w t (Ended q c phase)
     decides (CallOnce forced) true New f = begins (CallOnce forced) 8 12 false refl refl f
     decides (CallOnce forced) false New f = begins (CallOnce forced) 0 4 false refl refl f
     decides (CallOnce true) true Poisoned f = begins (CallOnce true) 10 12 true refl refl f
@@ -159,14 +169,18 @@ module _ (t l : ℕ) where
     abbrev pub Looked : OnceCall → ℕ → Type 0
     Looked c v = Comes w t l (once_goes l (in_look c again (looked c v))) (outcome_of (once_does l (in_look c again (looked c v)))) v q
 
-    answers : (c : OnceCall) (v : ℕ) (answer : Answer) → in_look c again (looked c v) ≡ next.End answer → Looked c v → Leads 5 w t (Answers answer)
+    answers : (c : OnceCall) (v : ℕ) (answer : Answer) → in_look c again (looked c v) ≡ next.End answer → Looked c v
+        → Leads 5 w t (Answers answer)
     answers c v answer is f = leads_more 1 5 w t (Answers answer) (omega arith) (ends w v q _ f answer is)
 
-    on : (c : OnceCall) (parked : Bool) (phase : Phase) → in_look c again (looked c (words.word parked phase)) ≡ next.At (Look c again (look.Decide (words.word parked phase)))
-        → outcome_of (once_act l (Look c again (look.Decide (words.word parked phase)))) ≡ outcome.Step → Looked c (words.word parked phase) → Leads 5 w t (Ended q c phase)
+    on : (c : OnceCall) (parked : Bool) (phase : Phase)
+        → in_look c again (looked c (words.word parked phase)) ≡ next.At (Look c again (look.Decide (words.word parked phase)))
+        → outcome_of (once_act l (Look c again (look.Decide (words.word parked phase)))) ≡ outcome.Step
+        → Looked c (words.word parked phase) → Leads 5 w t (Ended q c phase)
     on c parked phase is steps f = goes w (words.word parked phase) q _ f 4 (Ended q c phase) _ is steps (λ g. decides again (after w (go_of t)) q c parked phase g)
 
-    pub looks : (c : OnceCall) (parked : Bool) (phase : Phase) → Looked c (words.word parked phase) → Leads 5 w t (Ended q c phase)
+    pub looks : (c : OnceCall) (parked : Bool) (phase : Phase) → Looked c (words.word parked phase)
+        → Leads 5 w t (Ended q c phase)
     looks (CallOnce forced) true New f = on (CallOnce forced) true New refl refl f
     looks (CallOnce forced) false New f = on (CallOnce forced) false New refl refl f
     looks (CallOnce true) true Poisoned f = on (CallOnce true) true Poisoned refl refl f
@@ -188,7 +202,8 @@ module _ (t l : ℕ) where
     looks (Wait forced) true IsDone f = answers (Wait forced) 9 answer.Ok refl f
     looks (Wait forced) false IsDone f = answers (Wait forced) 1 answer.Ok refl f
 
-    pub loads : (c : OnceCall) (parked : Bool) (phase : Phase) → Alone w (Look c again look.Load) (words.word parked phase) q → Leads 5 w t (Ended q c phase)
+    pub loads : (c : OnceCall) (parked : Bool) (phase : Phase) → Alone w (Look c again look.Load) (words.word parked phase) q
+        → Leads 5 w t (Ended q c phase)
     loads c parked phase f = looks c parked phase (word_comes w t l _ (words.word parked phase) q f op.Load refl)
 
 -- a call of a `Once`, as the abstract locks see it
@@ -199,7 +214,8 @@ module _ (w : State) (t l : ℕ) (v : State) (o : Outcome) where
   asleep : (c : OnceCall) → Sleeps t l c queues v o → (o ≡ outcome.Sleep) × ((lock_state v l).queue ≡ (lock_state w l).queue ++ (record { thread = t; want = want_of c }) ∷ [])
   asleep c h = (h.0, ap (map queued_of) h.1 ∙ queued_behind (2 * l) t (want_of c) (queue_at w (2 * l)))
 
-  ended_so : (c : OnceCall) (phase : Phase) → (lock_state w l).phase ≡ phase → Ended t l queues c phase v o → EndsAlone w t (Some (once_purpose l c)) o v
+  ended_so : (c : OnceCall) (phase : Phase) → (lock_state w l).phase ≡ phase → Ended t l queues c phase v o
+      → EndsAlone w t (Some (once_purpose l c)) o v
   ended_so (CallOnce forced) New e h = rw e h
   ended_so (CallOnce true) Poisoned e h = rw e h
   ended_so (CallOnce false) Poisoned e h = rw e h
@@ -216,10 +232,12 @@ module _ (w : State) (t l : ℕ) (v : State) (o : Outcome) where
 
 module _ (w : State) (t l : ℕ) where
   -- the word says how far the lock has come
-  pub told_by_word : (p : OncePlace) (v : ℕ) (q : Line → List Waiter) → StepsAlone w t l (Once l p) v q → v ≡ words.word (site_of w l).parked (lock_state w l).phase
+  pub told_by_word : (p : OncePlace) (v : ℕ) (q : Line → List Waiter) → StepsAlone w t l (Once l p) v q
+      → v ≡ words.word (site_of w l).parked (lock_state w l).phase
   told_by_word p v q f = sym f.word ∙ f.steady.sites.word l ∙ words.coded (rules_in w l) (site_of w l) (subst (FitsItsLock w) f.place (f.steady.stands.calls t))
 
-  pub once_alone : (c : OnceCall) (n : ℕ) (last : Outcome) → 18 ≤ n → StepsAlone w t l (Once l (once_first c)) (word_at w l) (λ m. queue_at w (key_of l m))
+  pub once_alone : (c : OnceCall) (n : ℕ) (last : Outcome) → 18 ≤ n
+      → StepsAlone w t l (Once l (once_first c)) (word_at w l) (λ m. queue_at w (key_of l m))
       → EndsAlone w t (Some (once_purpose l c)) (solo n w t last).outcome (solo n w t last).state
   once_alone c n last le f = ended_so w t l (solo n w t last).state (solo n w t last).outcome c (lock_state w l).phase refl
       (loads t l false w (λ m. queue_at w (key_of l m)) c (site_of w l).parked (lock_state w l).phase

@@ -66,11 +66,13 @@ course_steps l v Marks = refl
 course_steps l v Parks = refl
 
 -- what its closure is told is how far the `Once` has come
-told_so : (r : Rules) (s : Site) (c : OnceCall) → r.sort ≡ locks.Once → course_of c (code r s) ≡ Runs → state_before (is_poisoned (code r s)) ≡ state_told s.lock.phase
+told_so : (r : Rules) (s : Site) (c : OnceCall) → r.sort ≡ locks.Once → course_of c (code r s) ≡ Runs
+    → state_before (is_poisoned (code r s)) ≡ state_told s.lock.phase
 told_so r s c sort runs = ap (λ v. state_before (is_poisoned v)) (words.coded r s sort)
     ∙ by_phase s.parked s.lock.phase (subst (λ k. words.MayGo c s.parked s.lock.phase k) (ap (course_of c) (sym (words.coded r s sort)) ∙ runs) (words.may_go c s.parked s.lock.phase)).0
   where
-    by_phase : (parked : Bool) (phase : Phase) → MayStart phase (is_forced c) → state_before (is_poisoned (words.word parked phase)) ≡ state_told phase
+    by_phase : (parked : Bool) (phase : Phase) → MayStart phase (is_forced c)
+        → state_before (is_poisoned (words.word parked phase)) ≡ state_told phase
     by_phase true New h = refl
     by_phase false New h = refl
     by_phase true Poisoned h = refl
@@ -83,13 +85,15 @@ module _ (w : LocksState) (l v : ℕ) where
   steps_on : (o : Outcome) → o ≡ outcome.Step → Begins w Nothing o
   steps_on o e = subst (Begins w Nothing) (sym e) tt
 
-  looks_on : (c : OnceCall) (again : Bool) (k : Course) → Begins w (event_by l (case_of None (looked_deeds k))) (outcome_of (once_does l (in_look c again (looked_by v k))))
+  looks_on : (c : OnceCall) (again : Bool) (k : Course)
+      → Begins w (event_by l (case_of None (looked_deeds k))) (outcome_of (once_does l (in_look c again (looked_by v k))))
   looks_on c again (Ends answer) = tt
   looks_on c again Runs = steps_on _ (course_steps l v (course_of c v))
   looks_on c again Marks = steps_on _ (course_steps l v (course_of c v))
   looks_on c again Parks = steps_on _ (course_steps l v (course_of c v))
 
-  exchanges_on : (c : OnceCall) (again won : Bool) (k : Course) → (k ≡ Runs → state_before (is_poisoned v) ≡ state_told (w.locks l).phase)
+  exchanges_on : (c : OnceCall) (again won : Bool) (k : Course)
+      → (k ≡ Runs → state_before (is_poisoned v) ≡ state_told (w.locks l).phase)
       → Begins w (event_by l (case_of None (exchanged_deeds c won k))) (outcome_of (once_does l
       (if won && is_run k then next.At (Run (is_forced c) (found (Value v))) else in_look c again (if won && is_mark k then next.At (look.Decide (marked v)) else looked_by v k))))
   exchanges_on c again true Runs told = ap outcome.Closure (told refl)
@@ -101,7 +105,9 @@ module _ (w : LocksState) (l v : ℕ) where
   exchanges_on c again false Parks told = looks_on c again Parks
   exchanges_on c again false (Ends answer) told = looks_on c again (Ends answer)
 
-  closes_on : (forced succeeded b : Bool) → Begins w (event_by l (case_of None (closes succeeded b))) (outcome_of (once_does l (in_run forced (if b then next.At (run.Enter succeeded) else next.End (ended succeeded)))))
+  closes_on : (forced succeeded b : Bool)
+      → Begins w (event_by l (case_of None (closes succeeded b)))
+      (outcome_of (once_does l (in_run forced (if b then next.At (run.Enter succeeded) else next.End (ended succeeded)))))
   closes_on forced true true = tt
   closes_on forced true false = tt
   closes_on forced false true = tt
@@ -109,7 +115,8 @@ module _ (w : LocksState) (l v : ℕ) where
 
 -- ---------------------------------------------------------------- its step
 
-module _ (w : State) (t l : ℕ) (at : OncePlace) (steady : IsSteady w) (shape : IsShaped w) (there : t < length w.places) (lt : l < length w.locks) (is : place_at w t ≡ Once l at) (can : can_do w (once_act l at) ≡ true) where
+module _ (w : State) (t l : ℕ) (at : OncePlace) (steady : IsSteady w) (shape : IsShaped w) (there : t < length w.places)
+    (lt : l < length w.locks) (is : place_at w t ≡ Once l at) (can : can_do w (once_act l at) ≡ true) where
   abbrev told : Reply
   told = reply_to w t (once_act l at)
 
@@ -161,7 +168,8 @@ module _ (w : State) (t l : ℕ) (at : OncePlace) (steady : IsSteady w) (shape :
   leads : LeadsTo behind t l (next_row (once_next at told)) (outcome_of (once_does l (once_next at told)))
   leads = by_next (once_next at told) (get_or-set_same (state_after_act w t (Once l at) (once_act l at)).places t _ Idle (rw (performed_counts w t (Once l at) (once_act l at)).0 there))
     where
-      by_next : (n : Next OncePlace) → place_at behind t ≡ once_goes l n → LeadsTo behind t l (next_row n) (outcome_of (once_does l n))
+      by_next : (n : Next OncePlace) → place_at behind t ≡ once_goes l n
+          → LeadsTo behind t l (next_row n) (outcome_of (once_does l n))
       by_next (next.At q) e = (ap lock_of e, ap profile e, rests q e, subst IsSingle (sym e) tt)
       by_next (next.End answer) e = (e, refl)
 
@@ -169,21 +177,28 @@ module _ (w : State) (t l : ℕ) (at : OncePlace) (steady : IsSteady w) (shape :
   begins : Begins (locks_of w) (event_by l case) (outcome_of (once_does l (once_next at told)))
   begins = by_place at can
     where
-      found_so : (c : OnceCall) → course_of c (word_at w l) ≡ Runs → state_before (is_poisoned (word_at w l)) ≡ state_told (lock_state w l).phase
+      found_so : (c : OnceCall) → course_of c (word_at w l) ≡ Runs
+          → state_before (is_poisoned (word_at w l)) ≡ state_told (lock_state w l).phase
       found_so c = subst (λ v. course_of c v ≡ Runs → state_before (is_poisoned v) ≡ state_told (lock_state w l).phase) (sym (steady.sites.word l)) (told_so (rules_in w l) (site_of w l) c (sort_is w t l at steady shape there lt is))
 
-      by_course : (c : OnceCall) (again : Bool) (seen : ℕ) (k : Course) → Begins (locks_of w) (event_by l (case_of None (once_deeds (Look c again (look.Decide seen)) (reply_to w t (course_act l seen k)))))
+      by_course : (c : OnceCall) (again : Bool) (seen : ℕ) (k : Course)
+          → Begins (locks_of w)
+          (event_by l (case_of None (once_deeds (Look c again (look.Decide seen)) (reply_to w t (course_act l seen k)))))
           (outcome_of (once_does l (once_next (Look c again (look.Decide seen)) (reply_to w t (course_act l seen k)))))
       by_course c again seen Parks = tt
       by_course c again seen Runs = exchanges_on (locks_of w) l (word_at w l) c again (word_at w l == seen) (course_of c (word_at w l)) (found_so c)
       by_course c again seen Marks = exchanges_on (locks_of w) l (word_at w l) c again (word_at w l == seen) (course_of c (word_at w l)) (found_so c)
       by_course c again seen (Ends answer) = exchanges_on (locks_of w) l (word_at w l) c again (word_at w l == seen) (course_of c (word_at w l)) (found_so c)
 
-      by_parked : (c : OnceCall) (again b : Bool) → Begins (locks_of w) (event_by l (case_of None (once_deeds (Look c again look.Check) (Parked b)))) (outcome_of (once_does l (once_next (Look c again look.Check) (Parked b))))
+      by_parked : (c : OnceCall) (again b : Bool)
+          → Begins (locks_of w) (event_by l (case_of None (once_deeds (Look c again look.Check) (Parked b))))
+          (outcome_of (once_does l (once_next (Look c again look.Check) (Parked b))))
       by_parked c again true = tt
       by_parked c again false = tt
 
-      by_place : (p : OncePlace) → can_do w (once_act l p) ≡ true → Begins (locks_of w) (event_by l (case_of (once_profile p).carries (once_deeds p (reply_to w t (once_act l p))))) (outcome_of (once_does l (once_next p (reply_to w t (once_act l p)))))
+      by_place : (p : OncePlace) → can_do w (once_act l p) ≡ true
+          → Begins (locks_of w) (event_by l (case_of (once_profile p).carries (once_deeds p (reply_to w t (once_act l p)))))
+          (outcome_of (once_does l (once_next p (reply_to w t (once_act l p)))))
       by_place (Look c again look.Load) h = looks_on (locks_of w) l (word_at w l) c again (course_of c (word_at w l))
       by_place (Look c again (look.Decide seen)) h = by_course c again seen (course_of c seen)
       by_place (Look c again look.Check) h = by_parked c again (holds (check_of c) (word_at w l))
@@ -206,6 +221,7 @@ module _ (w : State) (t l : ℕ) (at : OncePlace) (steady : IsSteady w) (shape :
   step_event = goes_event w behind t l case happened (Once l at) is refl tt kept.tells.may (next_row (once_next at told)) _ kept.tells.comes leads others begins
 
 -- a run that ends is told of as such
-pub closes_event : (l : ℕ) (succeeded b : Bool) → event_by l (case_of None (closes succeeded b)) ≡ AtLock l (OfOnce (end_of succeeded))
+pub closes_event : (l : ℕ) (succeeded b : Bool)
+    → event_by l (case_of None (closes succeeded b)) ≡ AtLock l (OfOnce (end_of succeeded))
 closes_event l succeeded true = refl
 closes_event l succeeded false = refl

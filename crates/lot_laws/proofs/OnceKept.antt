@@ -162,7 +162,8 @@ nobody_is (Some u) h = absurd cc
 
 -- ---------------------------------------------------------------- one thread
 
-module _ (w : State) (t l : ℕ) (at : OncePlace) (steady : IsSteady w) (shape : IsShaped w) (there : t < length w.places) (lt : l < length w.locks) (is : place_at w t ≡ Once l at) where
+module _ (w : State) (t l : ℕ) (at : OncePlace) (steady : IsSteady w) (shape : IsShaped w) (there : t < length w.places)
+    (lt : l < length w.locks) (is : place_at w t ≡ Once l at) where
   pub sort_is : (rules_in w l).sort ≡ locks.Once
   sort_is = subst (FitsItsLock w) is (steady.stands.calls t)
 
@@ -228,7 +229,8 @@ module _ (w : State) (t l : ℕ) (at : OncePlace) (steady : IsSteady w) (shape :
           let fits : FitsItsLock w (RwLock k a c) = subst (FitsItsLock w) e (steady.stands.calls u) in
           let both : true ≡ false = sym fits.0.0 ∙ ap (λ j. has_readers (rules_in w j).sort) same_lock ∙ unshared in cc
 
-      by_place : (q : Place) → place_at w u ≡ q → calls q l ≡ true → IsSleeper w t l steady there own (rules_in w l) refl (once_move at) same_row u
+      by_place : (q : Place) → place_at w u ≡ q → calls q l ≡ true
+          → IsSleeper w t l steady there own (rules_in w l) refl (once_move at) same_row u
       by_place Idle e g = absurd cc
       by_place (Condvar k c) e g = absurd (of_condvar k c e (eqb-true k l g))
       by_place (Mutex k m) e g = absurd (of_mutex k m e (eqb-true k l g))
@@ -254,7 +256,8 @@ module _ (w : State) (t l : ℕ) (at : OncePlace) (steady : IsSteady w) (shape :
 
   -- its deeds as it goes on from a place, what they make of its call, and of those of the others
   pub record GoesFrom (q : Place) (y : Act) : Type 0 where
-    pub goes : Goes w (put (state_after_act w t (Once l at) y) t (next_place q (reply_to w t y))) l (acts t (once_deeds at (reply_to w t y)))
+    pub goes : Goes w (put (state_after_act w t (Once l at) y) t (next_place q (reply_to w t y))) l
+        (acts t (once_deeds at (reply_to w t y)))
     pub tells : CallFollowsBy (rules_in w l) here t l at (reply_to w t y)
     pub others : WakesOwn ((once_profile at).carries) y (case_of ((once_profile at).carries) (once_deeds at (reply_to w t y)))
 
@@ -303,7 +306,8 @@ module _ (w : State) (t l : ℕ) (at : OncePlace) (steady : IsSteady w) (shape :
       aside : aside_in (rules_in w l).sort (apply op (word_at w l)) ≡ behind.aside_parked
       aside = ap (λ x. aside_in x (apply op (word_at w l))) sort_is ∙ sym (ap (λ x. aside_in x (word_at w l)) sort_is) ∙ sym (stays_aside (rules_in w l) here t at (word_at w l))
 
-  into : (m : Line) (keys : Keys) → keys ≡ One (key_of l m) → are_free w keys ≡ true → GoesIn (once_move at) (once_hears at) m Done → GoesFrom (place_at w t) (act.Enter keys)
+  into : (m : Line) (keys : Keys) → keys ≡ One (key_of l m) → are_free w keys ≡ true
+      → GoesIn (once_move at) (once_hears at) m Done → GoesFrom (place_at w t) (act.Enter keys)
   into m keys e free g = subst (λ k. GoesFrom (place_at w t) (act.Enter k)) (sym e) (record {
     goes = goes_in w t l steady there own (rules_in w l) refl (once_move at) same_row (once_hears at) m Done (next_place (place_at w t) Done) (section_there m) is_free_now g (λ h. followed Done h);
     tells = tells_by Done (entered_hears w t l steady there own (rules_in w l) refl (once_move at) same_row (once_hears at) m Done is_free_now g);
@@ -313,18 +317,21 @@ module _ (w : State) (t l : ℕ) (at : OncePlace) (steady : IsSteady w) (shape :
       is_free_now : section_at w (key_of l m) ≡ None
       is_free_now = nobody_is (section_at w (key_of l m)) (subst (λ k. are_free w k ≡ true) e free)
 
-  out_of : (m : Line) (keys : Keys) (wakes : Wakes) → keys ≡ One (key_of l m) → GoesOut (once_move at) (once_hears at) m wakes → GoesFrom (place_at w t) (act.Leave keys wakes)
+  out_of : (m : Line) (keys : Keys) (wakes : Wakes) → keys ≡ One (key_of l m) → GoesOut (once_move at) (once_hears at) m wakes
+      → GoesFrom (place_at w t) (act.Leave keys wakes)
   out_of m keys wakes e g = subst (λ k. GoesFrom (place_at w t) (act.Leave k wakes)) (sym e) (record {
     goes = goes_out w t l steady there own (rules_in w l) refl (once_move at) same_row (once_hears at) m wakes (next_place (place_at w t) Done) (section_there m) g (λ h. followed Done h) (wakes_one w t l steady there own (rules_in w l) refl (once_move at) same_row asleep g.any g.carries);
     tells = tells_by Done (left_hears w t l steady there own (rules_in w l) refl (once_move at) same_row (once_hears at) m wakes g);
     others = subst (λ x. WakesOwn ((once_profile at).carries) (act.Leave (One (key_of l m)) x) (case_of ((once_profile at).carries) (once_deeds at Done))) (sym g.notes) (wakes_any ((once_profile at).carries) g.any g.carries (once_deeds at Done) g.deeds);
   })
     where
-      wakes_any : (hand : Option Bool) (any : Bool) → hand ≡ in_hand any false → (ds : List Deed) → AreLeaving ds → WakesOwn hand (act.Leave (One (key_of l m)) (wakes_taken any Normal)) (case_of hand ds)
+      wakes_any : (hand : Option Bool) (any : Bool) → hand ≡ in_hand any false → (ds : List Deed) → AreLeaving ds
+          → WakesOwn hand (act.Leave (One (key_of l m)) (wakes_taken any Normal)) (case_of hand ds)
       wakes_any hand false f ds h = subst (λ x. IsCalm (case_of x ds)) (sym f) (left_calm ds h)
       wakes_any hand true f ds h = inl (f, (refl, ap (λ x. case_of x ds) f ∙ left_wakes ds h))
 
-  rested : (k key : ℕ) (check : Check) (want : Want) → k ≡ l → key ≡ key_of l Main → RestsBehind (once_move at) (once_hears at) check want → GoesFrom (place_at w t) (act.Park k key check want)
+  rested : (k key : ℕ) (check : Check) (want : Want) → k ≡ l → key ≡ key_of l Main
+      → RestsBehind (once_move at) (once_hears at) check want → GoesFrom (place_at w t) (act.Park k key check want)
   rested k key check x ke e g = subst (λ j. GoesFrom (place_at w t) (act.Park j key check x)) (sym ke) (subst (λ j. GoesFrom (place_at w t) (act.Park l j check x)) (sym e) (record {
     goes = rests_or_turns w t l steady there own (rules_in w l) refl (once_move at) same_row (once_hears at) check x line_there g (λ b h. followed (Parked b) h);
     tells = tells_by (Parked (holds check (word_at w l))) (told_so w t l steady there own (rules_in w l) refl (once_move at) same_row (once_hears at) check x line_there g (λ b h. followed (Parked b) h) (holds check (word_at w l)) refl);
@@ -335,7 +342,8 @@ module _ (w : State) (t l : ℕ) (at : OncePlace) (steady : IsSteady w) (shape :
       rests_calm true = calm_by (Case (OfOnce (Rest x g.forced)) ∷ []) g.rests tt
       rests_calm false = calm_by [] g.turns tt
 
-  took : (key : ℕ) → key ≡ key_of l Main → TakesAll (once_move at) (once_hears at) → GoesFrom (place_at w t) (act.Take key whom.All)
+  took : (key : ℕ) → key ≡ key_of l Main → TakesAll (once_move at) (once_hears at)
+      → GoesFrom (place_at w t) (act.Take key whom.All)
   took key e g = subst (λ j. GoesFrom (place_at w t) (act.Take j whom.All)) (sym e) (record {
     goes = takes_all w t l steady there own (rules_in w l) refl (once_move at) same_row asleep (once_hears at) many line_there g follows;
     tells = tells_by _ (all_hears w t l steady there own (rules_in w l) refl (once_move at) same_row asleep (once_hears at) many line_there g follows);
@@ -346,7 +354,8 @@ module _ (w : State) (t l : ℕ) (at : OncePlace) (steady : IsSteady w) (shape :
       follows any none_left h = followed (Took any none_left) h
 
   -- by any act but its closure, which another turn ends
-  by_act : (y : Act) → once_act l at ≡ y → IsOnceAct y → OnceMoves l (once_move at) (once_hears at) y → can_do w y ≡ true → GoesFrom (place_at w t) y
+  by_act : (y : Act) → once_act l at ≡ y → IsOnceAct y → OnceMoves l (once_move at) (once_hears at) y → can_do w y ≡ true
+      → GoesFrom (place_at w t) y
   by_act (act.Word k op) e h g can = subst (λ j. GoesFrom (place_at w t) (act.Word j op)) (sym g.0) (on_word op (e ∙ ap (λ j. act.Word j op) g.0) g.1)
   by_act (act.Enter keys) e h g can = into g.0 keys g.1 can g.2
   by_act (act.Park k key check want) e h g can = rested k key check want g.0 g.1 g.2
@@ -361,7 +370,8 @@ module _ (w : State) (t l : ℕ) (at : OncePlace) (steady : IsSteady w) (shape :
   goes_once can = subst (λ q. GoesFrom q (once_act l at)) is (by_act (once_act l at) refl (once_acts l at) (once_acts_move l at) can)
 
 -- its closure has answered, and it goes on behind it
-module _ (w : State) (t l : ℕ) (forced poisoned succeeded : Bool) (steady : IsSteady w) (there : t < length w.places) (is : place_at w t ≡ Once l (Run forced (run.Closure poisoned))) where
+module _ (w : State) (t l : ℕ) (forced poisoned succeeded : Bool) (steady : IsSteady w) (there : t < length w.places)
+    (is : place_at w t ≡ Once l (Run forced (run.Closure poisoned))) where
   of : IsOf l (place_at w t)
   of = rw is refl
 
@@ -382,7 +392,8 @@ module _ (w : State) (t l : ℕ) (forced poisoned succeeded : Bool) (steady : Is
 
 -- ---------------------------------------------------------------- a call begins
 
-module _ (w : State) (t l : ℕ) (c : OnceCall) (steady : IsSteady w) (there : t < length w.places) (idle_now : place_at w t ≡ Idle) (sort : (rules_in w l).sort ≡ locks.Once) where
+module _ (w : State) (t l : ℕ) (c : OnceCall) (steady : IsSteady w) (there : t < length w.places) (idle_now : place_at w t ≡ Idle)
+    (sort : (rules_in w l).sort ≡ locks.Once) where
   abbrev pub first : Place
   first = Once l (once_first c)
 

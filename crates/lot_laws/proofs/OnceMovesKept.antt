@@ -43,7 +43,8 @@ some_left : (y : Waiter) (q : List Waiter) → (length (y ∷ q) == 0) ≡ false
 some_left y q = differ (length (y ∷ q)) 0 (λ e. omega arith)
 
 -- whether anybody is taken of a line
-some_in : (b : Bool) (q : List Waiter) → in_hand (not (length q == 0)) false ≡ Some b → (b ≡ false) × ((u : ℕ) × (member u q ≡ true))
+some_in : (b : Bool) (q : List Waiter) → in_hand (not (length q == 0)) false ≡ Some b
+    → (b ≡ false) × ((u : ℕ) × (member u q ≡ true))
 some_in b [] e = absurd cc
 some_in b (y ∷ q) e = (let f : in_hand (not false) false ≡ Some b = sym (ap (λ c. in_hand (not c) false) (some_left y q)) ∙ e in let g : false ≡ b = cc in sym g, (y.thread, ap (λ c. c || member y.thread q) (same y.thread)))
 
@@ -51,7 +52,8 @@ all_in : (q : List Waiter) (u : ℕ) → member u q ≡ true → in_hand (not (l
 all_in [] u h = absurd cc
 all_in (y ∷ q) u h = ap (λ c. in_hand (not c) false) (some_left y q)
 
-module _ (w : State) (t l : ℕ) (steady : IsSteady w) (there : t < length w.places) (own : IsOf l (place_at w t)) (r : Rules) (rules : rules_in w l ≡ r) (x : Move) (same_row : profile (place_at w t) ≡ x.row) where
+module _ (w : State) (t l : ℕ) (steady : IsSteady w) (there : t < length w.places) (own : IsOf l (place_at w t)) (r : Rules)
+    (rules : rules_in w l ≡ r) (x : Move) (same_row : profile (place_at w t) ≡ x.row) where
   abbrev Followed : Reply → Place → Type 0
   Followed told p2 = IsFollowed w t l steady there own r rules x same_row None told p2
 
@@ -64,7 +66,8 @@ module _ (w : State) (t l : ℕ) (steady : IsSteady w) (there : t < length w.pla
   -- ---------------------------------------------------------------- the word
 
   -- of a lock that nobody shares
-  module _ (unshared : has_readers r.sort ≡ false) (p p2 : Place) (op : Op) (g : StaysPut x) (f : Followed (Value (word_at w l)) p2) where
+  module _ (unshared : has_readers r.sort ≡ false) (p p2 : Place) (op : Op) (g : StaysPut x)
+      (f : Followed (Value (word_at w l)) p2) where
     abbrev does : List Deed
     does = x.deeds None (Value (word_at w l))
 
@@ -79,8 +82,10 @@ module _ (w : State) (t l : ℕ) (steady : IsSteady w) (there : t < length w.pla
     full = ap (λ (y : Rules). filled_at w l || fills y (apply op (word_at w l))) rules ∙ ap (λ b. filled_at w l || (b && nat_le r.limit (count_in (apply op (word_at w l))))) unshared
         ∙ or-false (filled_at w l) ∙ sym (same_filled r (acts t does) now unshared)
 
-    pub stays_unshared : l < length w.locks → lock_in (operated w t p l op) (λ u. taken_at (place_at w u) l) ≡ behind.lock → apply op (word_at w l) ≡ code r behind
-        → parked_in r.sort (apply op (word_at w l)) ≡ behind.parked → aside_in r.sort (apply op (word_at w l)) ≡ behind.aside_parked
+    pub stays_unshared : l < length w.locks → lock_in (operated w t p l op) (λ u. taken_at (place_at w u) l) ≡ behind.lock
+        → apply op (word_at w l) ≡ code r behind
+        → parked_in r.sort (apply op (word_at w l)) ≡ behind.parked
+        → aside_in r.sort (apply op (word_at w l)) ≡ behind.aside_parked
         → Goes w (put (state_after_operation w t p l op) t p2) l (acts t does)
     stays_unshared lt owners word parked aside = word_goes w t l steady own there r rules p2 f.of f.fits p lt (rw steady.numbers.locks lt) op does
         (λ h. absurd (let e : false ≡ true = sym unshared ∙ h in cc)) steps (word ∙ sym (ap (code r) same_behind) ∙ sym (ap (code r) steps.site))
@@ -98,7 +103,8 @@ module _ (w : State) (t l : ℕ) (steady : IsSteady w) (there : t < length w.pla
   -- ---------------------------------------------------------------- the queue
 
   -- it stays where it is, and does nothing
-  rests_there : (told : Reply) (p2 : Place) (s : Station) → station (place_at w t) ≡ s → s.hand ≡ None → x.deeds None told ≡ [] → station p2 ≡ s → Followed told p2 → Goes w (put w t p2) l (acts t (x.deeds None told))
+  rests_there : (told : Reply) (p2 : Place) (s : Station) → station (place_at w t) ≡ s → s.hand ≡ None → x.deeds None told ≡ []
+      → station p2 ≡ s → Followed told p2 → Goes w (put w t p2) l (acts t (x.deeds None told))
   rests_there told p2 s was free does is_then f = subst (λ ds. Goes w (put w t p2) l (acts t ds)) (sym does)
       (place_goes w t l steady own there r rules p2 f.of f.fits [] (λ h. tt)
       (steps_by r l (parts_at w l) (parts_at w l) (place_at w) t p2 [] tt tt
@@ -107,7 +113,8 @@ module _ (w : State) (t l : ℕ) (steady : IsSteady w) (there : t < length w.pla
       (is_then ∙ sym was))
 
   -- behind the last, where it still has to wait
-  module _ (hears : Hears) (check : Check) (want : Want) (line : 2 * l < length w.queues) (g : RestsBehind x hears check want) (followed : (b : Bool) → hears r now t None (Parked b) → Followed (Parked b) (next_place (place_at w t) (Parked b))) where
+  module _ (hears : Hears) (check : Check) (want : Want) (line : 2 * l < length w.queues) (g : RestsBehind x hears check want)
+      (followed : (b : Bool) → hears r now t None (Parked b) → Followed (Parked b) (next_place (place_at w t) (Parked b))) where
     rests : Deed
     rests = Case (OfOnce (Rest want g.forced))
 
@@ -128,7 +135,9 @@ module _ (w : State) (t l : ℕ) (steady : IsSteady w) (there : t < length w.pla
         hand = free_of (place_at w t) l (of_single l (place_at w t) own) (ap (λ (y : Station). y.hand) (is_now ∙ g.was))
             ∙ sym (free_of p2 l (of_single l p2 f.of) (ap (λ (y : Station). y.hand) (there_is w t l steady there own r rules x same_row None (Parked true) p2 f ∙ g.rested)))
 
-    pub rests_or_turns : Goes w (put (state_after_park w t l (2 * l) check want) t (next_place (place_at w t) (Parked (holds check (word_at w l))))) l (acts t (x.deeds None (Parked (holds check (word_at w l)))))
+    pub rests_or_turns : Goes w
+        (put (state_after_park w t l (2 * l) check want) t (next_place (place_at w t) (Parked (holds check (word_at w l))))) l
+        (acts t (x.deeds None (Parked (holds check (word_at w l)))))
     rests_or_turns = either (holds check (word_at w l)) refl
       where
         either : (b : Bool) → holds check (word_at w l) ≡ b → Goes w (put (if b then record w { queues = queues_with_last w.queues (2 * l) t want } else w) t (next_place (place_at w t) (Parked b))) l (acts t (x.deeds None (Parked b)))
@@ -137,7 +146,8 @@ module _ (w : State) (t l : ℕ) (steady : IsSteady w) (there : t < length w.pla
             rests_there (Parked false) (next_place (place_at w t) (Parked false)) (inside_of Main) (is_now ∙ g.was) refl g.turns (there_is w t l steady there own r rules x same_row None (Parked false) (next_place (place_at w t) (Parked false)) f ∙ g.turned) f
 
   -- with all who wait in its hand
-  module _ (asleep : (u : ℕ) → SleepsIfCalls w t l steady there own r rules x same_row u) (hears : Hears) (many : TakesOne w l → ⊥) (line : 2 * l < length w.queues) (g : TakesAll x hears)
+  module _ (asleep : (u : ℕ) → SleepsIfCalls w t l steady there own r rules x same_row u) (hears : Hears)
+      (many : TakesOne w l → ⊥) (line : 2 * l < length w.queues) (g : TakesAll x hears)
       (followed : (any none_left : Bool) → hears r now t None (Took any none_left) → Followed (Took any none_left) (next_place (place_at w t) (Took any none_left))) where
     abbrev any : Bool
     any = not (length (queue_at w (2 * l)) == 0)
@@ -176,6 +186,7 @@ module _ (w : State) (t l : ℕ) (steady : IsSteady w) (there : t < length w.pla
   -- ---------------------------------------------------------------- its closure
 
   -- nothing changes but where the thread stands
-  pub closes_so : (g : Closes x) (succeeded : Bool) → Followed (Closed succeeded) (next_place (place_at w t) (Closed succeeded)) → Goes w (put w t (next_place (place_at w t) (Closed succeeded))) l (acts t (x.deeds None (Closed succeeded)))
+  pub closes_so : (g : Closes x) (succeeded : Bool) → Followed (Closed succeeded) (next_place (place_at w t) (Closed succeeded))
+      → Goes w (put w t (next_place (place_at w t) (Closed succeeded))) l (acts t (x.deeds None (Closed succeeded)))
   closes_so g succeeded f = rests_there (Closed succeeded) (next_place (place_at w t) (Closed succeeded)) _ (is_now ∙ g.was) refl (g.deeds succeeded)
       (there_is w t l steady there own r rules x same_row None (Closed succeeded) (next_place (place_at w t) (Closed succeeded)) f ∙ g.goes succeeded) f

@@ -24,7 +24,8 @@ use Rattle.lot_laws.proofs.OnceRows.{lets_nobody, look_owes}
 use Rattle.lot_laws.proofs.RowPromises.{RowOwesNext, RowOwesThen, owes_then}
 
 -- it looks nowhere first
-tells_so : (l : ℕ) (at : OncePlace) (m : Line) (v : ℕ) → tells_by locks.Once (Some ((once_profile at).purpose l)) m v ≡ tells_of locks.Once m v
+tells_so : (l : ℕ) (at : OncePlace) (m : Line) (v : ℕ)
+    → tells_by locks.Once (Some ((once_profile at).purpose l)) m v ≡ tells_of locks.Once m v
 tells_so l (Look (CallOnce forced) again at) m v = refl
 tells_so l (Look (Wait forced) again at) m v = refl
 tells_so l (Run forced at) m v = refl
@@ -49,7 +50,8 @@ RunOwes l word forced at n =
     RowOwesNext locks.Once l word (once_profile (Run forced at)) (outcome_of (once_does l (in_run forced n))) (profile (once_goes l (in_run forced n)))
 
 -- it has swapped its word in, and saw whether somebody may wait
-closes_owing : (l word : ℕ) (forced succeeded b : Bool) → is_marked word ≡ b → RunOwes l word forced (run.Close succeeded) (if b then next.At (run.Enter succeeded) else next.End (ended succeeded))
+closes_owing : (l word : ℕ) (forced succeeded b : Bool) → is_marked word ≡ b
+    → RunOwes l word forced (run.Close succeeded) (if b then next.At (run.Enter succeeded) else next.End (ended succeeded))
 closes_owing l word forced succeeded true marked = record {
   since = λ m h. let e : Main ≡ m = cc in inr ((inl (refl, refl), e, subst (λ n. tells_of locks.Once n word ≡ true) e marked), refl);
   sees = λ m s step. ap Some s.1;
@@ -57,13 +59,15 @@ closes_owing l word forced succeeded true marked = record {
 closes_owing l word forced succeeded false marked = record { since = λ m h. absurd cc; sees = λ m s step. absurd cc }
 
 -- inside the section it owes
-inside_owing : (l word : ℕ) (forced : Bool) (at to : RunAt) → (run_row to).owes ≡ Some Main → (run_row to).doing.inside ≡ Some Main → RunOwes l word forced at (next.At to)
+inside_owing : (l word : ℕ) (forced : Bool) (at to : RunAt) → (run_row to).owes ≡ Some Main
+    → (run_row to).doing.inside ≡ Some Main → RunOwes l word forced at (next.At to)
 inside_owing l word forced at to owes within = record {
   since = λ m h. inl (within ∙ sym owes ∙ h);
   sees = λ m s step. owes ∙ ap Some s.1;
 }
 
-run_owing : (w : State) (t l : ℕ) (forced : Bool) (at : RunAt) → RowOwesNext locks.Once l (word_at w l) (once_profile (Run forced at))
+run_owing : (w : State) (t l : ℕ) (forced : Bool) (at : RunAt)
+    → RowOwesNext locks.Once l (word_at w l) (once_profile (Run forced at))
     (outcome_of (once_does l (once_next (Run forced at) (reply_to w t (run_act l at))))) (profile (once_goes l (once_next (Run forced at) (reply_to w t (run_act l at)))))
 run_owing w t l forced (run.Closure poisoned) = record { since = λ m h. absurd cc; sees = λ m s step. absurd cc }
 run_owing w t l forced (run.Close succeeded) = closes_owing l (word_at w l) forced succeeded (is_marked (word_at w l)) refl

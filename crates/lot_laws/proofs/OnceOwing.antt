@@ -14,7 +14,8 @@ use Rattle.lot_steps.specs.Steps.{line_owed, next_place}
 use Rattle.lot_laws.proofs.RowPromises.{Befalls}
 
 -- whatever befalls a thread, it owes what it owed
-pub once_befallen : (l : ℕ) (at : OncePlace) (r : Reply) → Befalls r → (k : ℕ) → line_owed (next_place (Once l at) r) k ≡ line_owed (Once l at) k
+pub once_befallen : (l : ℕ) (at : OncePlace) (r : Reply) → Befalls r → (k : ℕ)
+    → line_owed (next_place (Once l at) r) k ≡ line_owed (Once l at) k
 once_befallen l (Look c again look_at.Asleep) (TakenBy t) b k = refl
 once_befallen l (Look c again look_at.Asleep) (Woken Normal) b k = refl
 once_befallen l (Look c again (look_at.Taken by)) (Woken Normal) b k = refl

@@ -80,12 +80,14 @@ look_acts : (l : ℕ) (c : OnceCall) (at : LookAt) → is_acting (look_act l c a
 look_acts l c (look.Decide seen) = course_acts l seen (course_of c seen)
 look_acts l c at = refl
 
-pub look_owes : (wanted : Option Want) (at : LookAt) (m : Line) → (look_row wanted at).owes ≡ Some m → (look_row wanted at).doing.inside ≡ Some m
+pub look_owes : (wanted : Option Want) (at : LookAt) (m : Line) → (look_row wanted at).owes ≡ Some m
+    → (look_row wanted at).doing.inside ≡ Some m
 look_owes wanted look.Check m h = h
 look_owes wanted (look.Leave parked) m h = h
 look_owes wanted at m h = absurd cc
 
-look_inside : (wanted : Option Want) (at : LookAt) (m : Line) → (look_row wanted at).doing.inside ≡ Some m → (look_row wanted at).owes ≡ Some m
+look_inside : (wanted : Option Want) (at : LookAt) (m : Line) → (look_row wanted at).doing.inside ≡ Some m
+    → (look_row wanted at).owes ≡ Some m
 look_inside wanted look.Check m h = h
 look_inside wanted (look.Leave parked) m h = h
 look_inside wanted at m h = absurd cc
@@ -107,7 +109,8 @@ look_pays wanted at Main d = elim d [ inl h ↦ cc | inr h ↦ elim h [ inl k �
 look_pays wanted look.Load Second d = cc
 look_pays wanted at Second d = cc
 
-look_asleep : (l : ℕ) (c : OnceCall) (again : Bool) (at : LookAt) → look_act l c at ≡ Sleep → IsWaiting (once_profile (Look c again at)) ⊎ WasHanded locks.Once l (once_profile (Look c again at))
+look_asleep : (l : ℕ) (c : OnceCall) (again : Bool) (at : LookAt) → look_act l c at ≡ Sleep
+    → IsWaiting (once_profile (Look c again at)) ⊎ WasHanded locks.Once l (once_profile (Look c again at))
 look_asleep l c again (look.Decide seen) h = absurd (course_awake l seen (course_of c seen) h)
 look_asleep l c again look.Asleep h = inl (inl (λ n. cc))
 look_asleep l c again (look.Taken by) h = inl (inr (λ n. cc))
@@ -117,7 +120,8 @@ look_carries : (wanted : Option Want) (at : LookAt) → (look_row wanted at).car
 look_carries wanted look.Load h = cc
 look_carries wanted at h = cc
 
-look_promises : (l : ℕ) (c : OnceCall) (again : Bool) (at : LookAt) → RowPromises locks.Once l (once_profile (Look c again at)) (look_act l c at)
+look_promises : (l : ℕ) (c : OnceCall) (again : Bool) (at : LookAt)
+    → RowPromises locks.Once l (once_profile (Look c again at)) (look_act l c at)
 look_promises l c again at = record {
   own = own_of l c;
   acts = look_acts l c at;
@@ -148,7 +152,8 @@ run_aside (run.Closure poisoned) h = cc
 run_aside at h = cc
 
 run_owes : (l : ℕ) (forced : Bool) (at : RunAt) (m : Line) → (run_row at).owes ≡ Some m
-    → ((run_row at).doing.inside ≡ Some m) ⊎ ((run_act l at ≡ act.Enter (One (key_of l m))) × LetsInAt locks.Once l (once_profile (Run forced at)) m)
+    → ((run_row at).doing.inside ≡ Some m)
+    ⊎ ((run_act l at ≡ act.Enter (One (key_of l m))) × LetsInAt locks.Once l (once_profile (Run forced at)) m)
 run_owes l forced (run.Closure poisoned) m h = absurd cc
 run_owes l forced (run.Close succeeded) m h = absurd cc
 run_owes l forced (run.Enter succeeded) Main h = inr (refl, inl (inl (refl, refl)))
@@ -173,7 +178,8 @@ run_main : (at : RunAt) → (run_row at).owes ≡ Some Second → ⊥
 run_main (run.Closure poisoned) h = cc
 run_main at h = cc
 
-run_pays : (l : ℕ) (forced : Bool) (at : RunAt) (m : Line) → IsDebtorIn locks.Once (run_row at).doing m → RowLooksAfter locks.Once l (once_profile (Run forced at)) (run_act l at) m
+run_pays : (l : ℕ) (forced : Bool) (at : RunAt) (m : Line) → IsDebtorIn locks.Once (run_row at).doing m
+    → RowLooksAfter locks.Once l (once_profile (Run forced at)) (run_act l at) m
 run_pays l forced (run.Enter succeeded) Main d = record { debt = inl (refl, refl); awake = λ h. cc; stands = refl; taken = refl }
 run_pays l forced (run.Take succeeded) Main d = record { debt = inl (refl, refl); awake = λ h. cc; stands = refl; taken = refl }
 run_pays l forced at Main d = absurd (elim d [ inl h ↦ cc | inr h ↦ elim h [ inl k ↦ cc | inr k ↦ cc ] ])

@@ -50,7 +50,8 @@ module _ (t l : ℕ) where
   RestsIn k w = Leads k w t (λ v o. Rests o)
 
   -- it goes on, and rests behind
-  goes : (k v : ℕ) (w : State) (q : Queues) (p : OncePlace) (told : Outcome) → told ≡ outcome.Step → Comes w t l (Once l p) told v q
+  goes : (k v : ℕ) (w : State) (q : Queues) (p : OncePlace) (told : Outcome) → told ≡ outcome.Step
+      → Comes w t l (Once l p) told v q
       → (Alone (after w (go_of t)) p v q → RestsIn k (after w (go_of t))) → RestsIn (k + 1) w
   goes k v w q p told steps comes on = leads_step w t (λ v o. Rests o) k (comes.0 ∙ steps) (on comes.1)
 
@@ -75,11 +76,16 @@ module _ (t l : ℕ) where
   run_closes : (forced b : Bool) (v : ℕ) (w : State) (q : Queues) → Alone w (Run forced (run.Close b)) v q → RestsIn 4 w
   run_closes forced b v w q f = either (is_marked v) (word_comes w t l _ v q f (op.Swap (word_behind b)) refl)
     where
-      either : (m : Bool) → Comes w t l (once_goes l (in_run forced (if m then next.At (run.Enter b) else next.End (ended b)))) (outcome_of (once_does l (in_run forced (if m then next.At (run.Enter b) else next.End (ended b))))) (word_behind b) q → RestsIn 4 w
+      either : (m : Bool)
+          → Comes w t l (once_goes l (in_run forced (if m then next.At (run.Enter b) else next.End (ended b))))
+          (outcome_of (once_does l (in_run forced (if m then next.At (run.Enter b) else next.End (ended b)))))
+          (word_behind b) q
+          → RestsIn 4 w
       either true c = goes 3 (word_behind b) w q (Run forced (run.Enter b)) _ refl c (λ g. run_enters forced b (word_behind b) _ q g)
       either false c = leads_more 1 4 w t (λ v o. Rests o) (omega arith) (rests w (outcome.End (ended b)) c.0 tt)
 
-  run_rests : (forced : Bool) (at : RunAt) (v : ℕ) (w : State) (q : Queues) → runs_closure (act_of (Once l (Run forced at))) ≡ false → Alone w (Run forced at) v q → RestsIn 4 w
+  run_rests : (forced : Bool) (at : RunAt) (v : ℕ) (w : State) (q : Queues)
+      → runs_closure (act_of (Once l (Run forced at))) ≡ false → Alone w (Run forced at) v q → RestsIn 4 w
   run_rests forced (run.Closure poisoned) v w q outside f = absurd cc
   run_rests forced (run.Close b) v w q outside f = run_closes forced b v w q f
   run_rests forced (run.Enter b) v w q outside f = leads_more 3 4 w t (λ v o. Rests o) (omega arith) (run_enters forced b v w q f)
@@ -117,7 +123,8 @@ module _ (t l : ℕ) where
         either false e = goes 6 v w _ (Look c (again && not false) (look.Leave false)) _ refl (park_comes w t l _ v q f (2 * l) (check_of c) (want_of c) false refl e) (λ g. leaves (again && not false) false v _ _ g)
 
     -- it has looked at the word, wherever it came from
-    looked_rests : (again : Bool) (v : ℕ) (w : State) (q : Queues) (p : OncePlace) → Alone w p v q → Looked t l again w q c v → RestsIn 5 w
+    looked_rests : (again : Bool) (v : ℕ) (w : State) (q : Queues) (p : OncePlace) → Alone w p v q → Looked t l again w q c v
+        → RestsIn 5 w
     looked_rests again v w q p f g = leads_so 5 w t (Ended t l q c (lock_state w l).phase) (λ v o. Rests o) (ended_is_rest q c (lock_state w l).phase)
         (looks t l again w q c (site_of w l).parked (lock_state w l).phase (subst (Looked t l again w q c) (told_by_word w t l p v q f) g))
 
@@ -126,7 +133,8 @@ module _ (t l : ℕ) where
         (decides t l again w q c (site_of w l).parked (lock_state w l).phase (subst (λ x. Alone w (Look c again (look.Decide x)) x q) (told_by_word w t l _ v q f) f))
 
     -- it saw another value than the word has now
-    module _ (again : Bool) (seen v : ℕ) (w : State) (q : Queues) (other : (v == seen) ≡ false) (f : Alone w (Look c again (look.Decide seen)) v q) where
+    module _ (again : Bool) (seen v : ℕ) (w : State) (q : Queues) (other : (v == seen) ≡ false)
+        (f : Alone w (Look c again (look.Decide seen)) v q) where
       sees : once_next (Look c again (look.Decide seen)) (Value v) ≡ in_look c again (looked c v)
       sees = ap (λ b. if b && is_run (course_of c v) then next.At (Run (is_forced c) (run.Closure (is_poisoned v)))
           else in_look c again (if b && is_mark (course_of c v) then next.At (look.Decide (marked v)) else looked c v)) other
@@ -146,14 +154,16 @@ module _ (t l : ℕ) where
       by_course Marks e = looks_anew (op.Exchange seen (marked seen)) (ap (course_act l seen) e) (unchanged (marked seen))
       by_course Parks e = goes 7 v w q (Look c again look.Check) _ refl (enter_comes w t l _ v q f Main (ap (course_act l seen) e) (finds_free w t l _ v q f refl Main)) (λ g. checks again v _ q g)
 
-    decides_rests : (again : Bool) (seen v : ℕ) (w : State) (q : Queues) → Alone w (Look c again (look.Decide seen)) v q → RestsIn 8 w
+    decides_rests : (again : Bool) (seen v : ℕ) (w : State) (q : Queues) → Alone w (Look c again (look.Decide seen)) v q
+        → RestsIn 8 w
     decides_rests again seen v w q f = either (v == seen) refl
       where
         either : (b : Bool) → (v == seen) ≡ b → RestsIn 8 w
         either true e = leads_more 4 8 w t (λ v o. Rests o) (omega arith) (decides_now again v w q (subst (λ x. Alone w (Look c again (look.Decide x)) v q) (sym (eqb-true v seen e)) f))
         either false e = by_course again seen v w q e f (course_of c seen) refl
 
-    look_rests : (again : Bool) (at : LookAt) (v : ℕ) (w : State) (q : Queues) → act_of (Once l (Look c again at)) ≢ act.Sleep → Alone w (Look c again at) v q → RestsIn 8 w
+    look_rests : (again : Bool) (at : LookAt) (v : ℕ) (w : State) (q : Queues) → act_of (Once l (Look c again at)) ≢ act.Sleep
+        → Alone w (Look c again at) v q → RestsIn 8 w
     look_rests again look.Load v w q up f = leads_more 5 8 w t (λ v o. Rests o) (omega arith) (loads_rest again v w q f)
     look_rests again (look.Decide seen) v w q up f = decides_rests again seen v w q f
     look_rests again look.Check v w q up f = leads_more 7 8 w t (λ v o. Rests o) (omega arith) (checks again v w q f)
@@ -162,6 +172,7 @@ module _ (t l : ℕ) where
     look_rests again (look.Taken by) v w q up f = absurd (up refl)
 
   -- from any place outside its closure, where it is awake
-  pub once_rests : (p : OncePlace) (v : ℕ) (w : State) (q : Queues) → act_of (Once l p) ≢ act.Sleep → runs_closure (act_of (Once l p)) ≡ false → Alone w p v q → RestsIn 8 w
+  pub once_rests : (p : OncePlace) (v : ℕ) (w : State) (q : Queues) → act_of (Once l p) ≢ act.Sleep
+      → runs_closure (act_of (Once l p)) ≡ false → Alone w p v q → RestsIn 8 w
   once_rests (Look c again at) v w q up outside f = look_rests c again at v w q up f
   once_rests (Run forced at) v w q up outside f = leads_more 4 8 w t (λ v o. Rests o) (omega arith) (run_rests forced at v w q outside f)

@@ -51,7 +51,8 @@ others_same_by r (Send all) s t u h ne = refl
 others_same_by r LeaveLine s t u h ne = refl
 others_same_by r (Case case) s t u h ne = put_other s.doing t _ u ne
 
-pub others_same : (r : Rules) (ds : List Deed) (s : Site) (t u : ℕ) → AreSingle ds → u ≢ t → (after_acts r (acts t ds) s).doing u ≡ s.doing u
+pub others_same : (r : Rules) (ds : List Deed) (s : Site) (t u : ℕ) → AreSingle ds → u ≢ t
+    → (after_acts r (acts t ds) s).doing u ≡ s.doing u
 others_same r [] s t u h ne = refl
 others_same r (d ∷ ds) s t u h ne = others_same r ds (after_deed r d s t) t u h.1 ne ∙ others_same_by r d s t u h.0 ne
 
@@ -63,7 +64,8 @@ acts_keep r (a ∷ more) s h n = acts_keep r more (after_deed r a.deed s a.by) (
 -- ---------------------------------------------------------------- whether the lock was full
 
 -- no deed fills a lock that nobody shares
-pub same_filled : (r : Rules) (ds : List deeds.Act) (s : Site) → has_readers r.sort ≡ false → (after_acts r ds s).filled ≡ s.filled
+pub same_filled : (r : Rules) (ds : List deeds.Act) (s : Site) → has_readers r.sort ≡ false
+    → (after_acts r ds s).filled ≡ s.filled
 same_filled r [] s h = refl
 same_filled r (a ∷ ds) s h = same_filled r ds (after_deed r a.deed s a.by) h ∙ filled_by a.deed
   where
@@ -118,14 +120,16 @@ noted r s site = either s.filled (is_full r s.lock) refl refl
     either false false e f = refl
     either false true e f = sym e ∙ site.full f
 
-pub full_then : (r : Rules) (ds : List Deed) (s : Site) (t : ℕ) → HasOneCase ds → IsSite r s → (after_acts r (acts t ds) s).filled ≡ (s.filled || is_full r (after_acts r (acts t ds) s).lock)
+pub full_then : (r : Rules) (ds : List Deed) (s : Site) (t : ℕ) → HasOneCase ds → IsSite r s
+    → (after_acts r (acts t ds) s).filled ≡ (s.filled || is_full r (after_acts r (acts t ds) s).lock)
 full_then r [] s t h site = noted r s site
 full_then r (Case case ∷ ds) s t h site =
     let a = quiet_all r ds (after_deed r (Case case) s t) t h in
     a.filled ∙ ap (λ b. s.filled || b) (sym a.full)
 full_then r (d ∷ ds) s t h site = by_deed d
   where
-    by_deed : (d : Deed) → (after_acts r (acts t (d ∷ ds)) s).filled ≡ (s.filled || is_full r (after_acts r (acts t (d ∷ ds)) s).lock)
+    by_deed : (d : Deed)
+        → (after_acts r (acts t (d ∷ ds)) s).filled ≡ (s.filled || is_full r (after_acts r (acts t (d ∷ ds)) s).lock)
     by_deed (Case case) = let a = quiet_all r ds (after_deed r (Case case) s t) t h in a.filled ∙ ap (λ b. s.filled || b) (sym a.full)
     by_deed (Mark Main) = let a = quiet_all r (Mark Main ∷ ds) s t (tt, h) in a.filled ∙ noted r s site ∙ ap (λ b. s.filled || b) (sym a.full)
     by_deed (Mark m) = let a = quiet_all r (Mark m ∷ ds) s t (tt, h) in a.filled ∙ noted r s site ∙ ap (λ b. s.filled || b) (sym a.full)
@@ -156,7 +160,8 @@ module _ (t : ℕ) where
   without_owner_count wants.Upgradable s = refl
   without_owner_count x s = refl
 
-  writing_count : (b : Bool) (s : LockState) → length (if b then locks.with_owner t wants.Exclusive s else locks.pending_for t true s).shared ≡ length s.shared
+  writing_count : (b : Bool) (s : LockState)
+      → length (if b then locks.with_owner t wants.Exclusive s else locks.pending_for t true s).shared ≡ length s.shared
   writing_count true s = refl
   writing_count false s = refl
 
@@ -187,7 +192,8 @@ module _ (t : ℕ) where
   condvar_count Hide s = refl
 
   -- as many numbers as before
-  case_count : (r : Rules) (case : LockCase) (s : LockState) → (IsHandOff case → ⊥) → length (locks.after_case r case s t).shared ≡ length s.shared
+  case_count : (r : Rules) (case : LockCase) (s : LockState) → (IsHandOff case → ⊥)
+      → length (locks.after_case r case s t).shared ≡ length s.shared
   case_count r (locks.Enter x) s other = with_owner_count x s
   case_count r (locks.Leave x) s other = without_owner_count x s
   case_count r (locks.Convert x y) s other = converted_count y (locks.without_owner t x s) ∙ without_owner_count x s
@@ -211,7 +217,8 @@ abbrev pub AreOrdinary : ℕ → List deeds.Act → Type 0
 AreOrdinary threads [] = Unit {0}
 AreOrdinary threads (a ∷ ds) = IsOrdinary threads a.by a.deed × AreOrdinary threads ds
 
-deed_limited : (r : Rules) (d : Deed) (s : Site) (t n : ℕ) → has_readers r.sort ≡ true → 1 ≤ r.limit → length s.lock.shared ≡ n → IsOrdinary n t d → IsSite r s → Needed r d s t → HasLimit r s.lock → KeepsLimit r s.lock (after_deed r d s t).lock
+deed_limited : (r : Rules) (d : Deed) (s : Site) (t n : ℕ) → has_readers r.sort ≡ true → 1 ≤ r.limit → length s.lock.shared ≡ n
+    → IsOrdinary n t d → IsSite r s → Needed r d s t → HasLimit r s.lock → KeepsLimit r s.lock (after_deed r d s t).lock
 deed_limited r (Case case) s t n readers some e o site needed h = record {
   count = case_count t r case s.lock o.1;
   limit = limit_kept r case s.lock t readers (let lt : t < n = o.0 in omega arith) some site.state h needed.0 o.1;
@@ -222,7 +229,9 @@ deed_limited r (Clear Main) s t n readers some e o site needed h = record { coun
 deed_limited r (Clear m) s t n readers some e o site needed h = record { count = refl; limit = h }
 deed_limited r d s t n readers some e o site needed h = record { count = refl; limit = record { top = h.top; normal = h.normal; falls = h.falls; falls_normal = h.falls_normal } }
 
-pub acts_limited : (r : Rules) (ds : List deeds.Act) (s : Site) (n : ℕ) → has_readers r.sort ≡ true → 1 ≤ r.limit → length s.lock.shared ≡ n → AreOrdinary n ds → IsSite r s → ActsNeeded r ds s → HasLimit r s.lock → HasLimit r (after_acts r ds s).lock
+pub acts_limited : (r : Rules) (ds : List deeds.Act) (s : Site) (n : ℕ) → has_readers r.sort ≡ true → 1 ≤ r.limit
+    → length s.lock.shared ≡ n → AreOrdinary n ds → IsSite r s → ActsNeeded r ds s → HasLimit r s.lock
+    → HasLimit r (after_acts r ds s).lock
 acts_limited r [] s n readers some e o site needed h = h
 acts_limited r (a ∷ more) s n readers some e o site needed h =
     let k = deed_limited r a.deed s a.by n readers some e o.0 site needed.0 h in
@@ -231,7 +240,9 @@ acts_limited r (a ∷ more) s n readers some e o site needed h =
 -- ---------------------------------------------------------------- words
 
 -- the word is the lock's by its owners, that of a `Once` by its phase, and that of a condition variable by the mutex that it shows
-pub same_word : (sort : Sort) (limit : ℕ) (s v : LockState) (x y : Bool) → v.exclusive ≡ s.exclusive → v.pending ≡ s.pending → v.upgradable ≡ s.upgradable → v.shared ≡ s.shared → v.phase ≡ s.phase → v.shown ≡ s.shown → word_by sort limit v x y ≡ word_by sort limit s x y
+pub same_word : (sort : Sort) (limit : ℕ) (s v : LockState) (x y : Bool) → v.exclusive ≡ s.exclusive → v.pending ≡ s.pending
+    → v.upgradable ≡ s.upgradable → v.shared ≡ s.shared → v.phase ≡ s.phase → v.shown ≡ s.shown
+    → word_by sort limit v x y ≡ word_by sort limit s x y
 same_word Mutex limit s v x y e p u n f m = λ i. locks.one_if_some (e i) + 2 * bit y
 same_word Normal limit s v x y e p u n f m = λ i. packed (sum (n i) + locks.one_if_some (u i)) (locks.one_if_some (e i) + locks.one_if_some (p i)) (locks.one_if_some (u i)) (bit x) (bit y)
 same_word Recursive limit s v x y e p u n f m = λ i. packed (sum (n i) + locks.one_if_some (u i)) (locks.one_if_some (e i) + locks.one_if_some (p i)) (locks.one_if_some (u i)) (bit x) (bit y)
@@ -242,7 +253,9 @@ same_word locks.Condvar limit s v x y e p u n f m = ap shown_code m
 -- ---------------------------------------------------------------- a site by its parts
 
 -- a site as it is seen is one that is known by its parts
-pub meets : (r : Rules) (l : ℕ) (b : Parts) (p : ℕ → Place) (t : ℕ) (p2 : Place) (v : Site) → taken_at (p t) l ≡ taken_at p2 l → lock_in b (λ u. taken_at (p u) l) ≡ v.lock → parked_in r.sort b.word ≡ v.parked → aside_in r.sort b.word ≡ v.aside_parked → b.base.filled ≡ v.filled
+pub meets : (r : Rules) (l : ℕ) (b : Parts) (p : ℕ → Place) (t : ℕ) (p2 : Place) (v : Site) → taken_at (p t) l ≡ taken_at p2 l
+    → lock_in b (λ u. taken_at (p u) l) ≡ v.lock → parked_in r.sort b.word ≡ v.parked → aside_in r.sort b.word ≡ v.aside_parked
+    → b.base.filled ≡ v.filled
     → doing_on p2 l ≡ v.doing t → ((u : ℕ) → u ≢ t → v.doing u ≡ doing_on (p u) l) → seen_in r l b (putting p t p2) ≡ v
 meets r l b p t p2 v hand lock parked aside full own others = λ i. record {
   lock = ((λ j. lock_in b (λ u. taken_same u j)) ∙ lock) i;
@@ -267,9 +280,13 @@ pub record Steps (r : Rules) (l : ℕ) (a b : Parts) (p : ℕ → Place) (t : �
   pub needed : ActsNeeded r (acts t ds) (seen_in r l a p)
 
 -- where the laws of its sort say so: what each deed makes of the lock, of its bits, and of what the thread does
-pub steps_by : (r : Rules) (l : ℕ) (a b : Parts) (p : ℕ → Place) (t : ℕ) (p2 : Place) (ds : List Deed) → ActsNeeded r (acts t ds) (seen_in r l a p) → AreSingle ds → taken_at (p t) l ≡ taken_at p2 l
-    → lock_in b (λ u. taken_at (p u) l) ≡ (after_acts r (acts t ds) (seen_in r l a p)).lock → parked_in r.sort b.word ≡ (after_acts r (acts t ds) (seen_in r l a p)).parked → aside_in r.sort b.word ≡ (after_acts r (acts t ds) (seen_in r l a p)).aside_parked
-    → b.base.filled ≡ (after_acts r (acts t ds) (seen_in r l a p)).filled → doing_on p2 l ≡ (after_acts r (acts t ds) (seen_in r l a p)).doing t → Steps r l a b p t p2 ds
+pub steps_by : (r : Rules) (l : ℕ) (a b : Parts) (p : ℕ → Place) (t : ℕ) (p2 : Place) (ds : List Deed)
+    → ActsNeeded r (acts t ds) (seen_in r l a p) → AreSingle ds → taken_at (p t) l ≡ taken_at p2 l
+    → lock_in b (λ u. taken_at (p u) l) ≡ (after_acts r (acts t ds) (seen_in r l a p)).lock
+    → parked_in r.sort b.word ≡ (after_acts r (acts t ds) (seen_in r l a p)).parked
+    → aside_in r.sort b.word ≡ (after_acts r (acts t ds) (seen_in r l a p)).aside_parked
+    → b.base.filled ≡ (after_acts r (acts t ds) (seen_in r l a p)).filled
+    → doing_on p2 l ≡ (after_acts r (acts t ds) (seen_in r l a p)).doing t → Steps r l a b p t p2 ds
 steps_by r l a b p t p2 ds needed single hand lock parked aside full own = record {
   site = meets r l b p t p2 (after_acts r (acts t ds) (seen_in r l a p)) hand lock parked aside full own (λ u ne. others_same r ds (seen_in r l a p) t u single ne);
   needed = needed;
@@ -285,7 +302,9 @@ pub queued_without : (t : ℕ) (q : List Waiter) → map queued_of (without t q)
 queued_without t [] = refl
 queued_without t (y ∷ q) = either (not (y.thread == t)) (queued_without t q)
   where
-    either : (b : Bool) → map queued_of (without t q) ≡ locks.without t (map queued_of q) → map queued_of (cond b (y ∷ without t q) (without t q)) ≡ cond b (queued_of y ∷ locks.without t (map queued_of q)) (locks.without t (map queued_of q))
+    either : (b : Bool) → map queued_of (without t q) ≡ locks.without t (map queued_of q)
+        → map queued_of (cond b (y ∷ without t q) (without t q))
+        ≡ cond b (queued_of y ∷ locks.without t (map queued_of q)) (locks.without t (map queued_of q))
     either true e = ap (λ ys. queued_of y ∷ ys) e
     either false e = e
 

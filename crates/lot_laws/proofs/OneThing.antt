@@ -46,7 +46,8 @@ use Rattle.lot_laws.specs.Refinement.{ChangesOneThing}
 use Rattle.lot_laws.specs.WorldRuns.{IsUntouched, TouchesOnlyByGoing}
 
 -- who looks at the word once more changes none
-spun_touches : (w : State) (t : ℕ) → t < length w.places → (o : Option Place) → looking (place_at w t) ≡ o → IsUntouched w (state_after_look w t o)
+spun_touches : (w : State) (t : ℕ) → t < length w.places → (o : Option Place) → looking (place_at w t) ≡ o
+    → IsUntouched w (state_after_look w t o)
 spun_touches w t there None is = (λ l. refl, λ key. refl)
 spun_touches w t there (Some q) is = looks_untouched w t there q is
 
@@ -90,7 +91,8 @@ module _ (w : State) (t : ℕ) (steady : IsSteady w) (there : t < length w.place
   left_one keys x = same_one w (state_after_wake (state_with_sections w keys None) t x) t (left_same w t keys x)
 
   -- a queue is set whose section the thread is in
-  set_at : (key : ℕ) (queues : List (List Waiter)) (q : List Waiter) → section_at w key ≡ Some t → ((k : ℕ) → (get_or queues k [] ≡ queue_at w k) ⊎ (section_at w k ≡ Some t))
+  set_at : (key : ℕ) (queues : List (List Waiter)) (q : List Waiter) → section_at w key ≡ Some t
+      → ((k : ℕ) → (get_or queues k [] ≡ queue_at w k) ⊎ (section_at w k ≡ Some t))
       → (k : ℕ) → (get_or (set queues key q) k [] ≡ queue_at w k) ⊎ (section_at w k ≡ Some t)
   set_at key queues q held others k = elim (cases_eq k key) [
     | inl e ↦ inr (rw e held)
@@ -131,13 +133,15 @@ module _ (w : State) (t : ℕ) (steady : IsSteady w) (there : t < length w.place
     act_one p (act.TheVariants.Closure state) h = stays
     act_one p (act.TheVariants.End answer) h = stays
 
-  one_gone : IsSingle (place_at w t) → (o : Option ℕ) → lock_of (place_at w t) ≡ o → ChangesOneThing w t (state_after_act w t (place_at w t) (act_of (place_at w t)))
+  one_gone : IsSingle (place_at w t) → (o : Option ℕ) → lock_of (place_at w t) ≡ o
+      → ChangesOneThing w t (state_after_act w t (place_at w t) (act_of (place_at w t)))
   one_gone single (Some l) own = act_one l (of_own l (place_at w t) single own) (place_at w t) (act_of (place_at w t)) (line_act (place_at w t) l single own)
   one_gone single None none = subst (λ p. ChangesOneThing w t (state_after_act w t p (act_of p))) (sym (calls_none (place_at w t) none)) stays
 
   -- in a call of a condition variable, by the sections that it is inside
   module _ (c : ℕ) (at : CondvarPlace) (is : place_at w t ≡ Condvar c at) (fits : FitsItsLock w (Condvar c at)) where
-    requeued_one : (from to : ℕ) (how : Requeue) → section_at w from ≡ Some t → section_at w to ≡ Some t → ChangesOneThing w t (state_after_requeue w t from to how)
+    requeued_one : (from to : ℕ) (how : Requeue) → section_at w from ≡ Some t → section_at w to ≡ Some t
+        → ChangesOneThing w t (state_after_requeue w t from to how)
     requeued_one from to how held_from held_to = inr ((λ k. refl), set_at to (set w.queues from (left_behind how (queue_at w from))) _ held_to (set_at from w.queues (left_behind how (queue_at w from)) held_from (λ k. inl refl)))
 
     act_of_two : (p : Place) (a : Act) → IsActOfTwo c at a → ChangesOneThing w t (state_after_act w t p a)
@@ -160,7 +164,8 @@ module _ (w : State) (t : ℕ) (steady : IsSteady w) (there : t < length w.place
   two_gone two = let fits = fits_two w t steady two in
       act_of_two two.lock two.at two.is fits (place_at w t) (act_of (place_at w t)) (subst (λ p. IsActOfTwo two.lock two.at (act_of p)) (sym two.is) (condvar_lines two.lock two.at fits.reached))
 
-  gone_one : (o : Option ℕ) → lock_of (place_at w t) ≡ o → ChangesOneThing w t (state_after_act w t (place_at w t) (act_of (place_at w t)))
+  gone_one : (o : Option ℕ) → lock_of (place_at w t) ≡ o
+      → ChangesOneThing w t (state_after_act w t (place_at w t) (act_of (place_at w t)))
   gone_one o e = elim (single_or_two (place_at w t)) [ inl single ↦ one_gone single o e | inr two ↦ two_gone two ]
 
   spin_one : (o : Option Place) → looking (place_at w t) ≡ o → ChangesOneThing w t (state_after_look w t o)

@@ -46,14 +46,16 @@ opening_is_site r n room = record {
 }
 
 -- a limit is no less than the number of threads, so nobody fills a lock by being there
-limit_leaves_room : (n limit : ℕ) → 1 ≤ n → (nat_le n limit && nat_le limit MOST_READERS) ≡ true → nat_le limit ((sum (replicate n 0) + 0)) ≡ true → ⊥
+limit_leaves_room : (n limit : ℕ) → 1 ≤ n → (nat_le n limit && nat_le limit MOST_READERS) ≡ true
+    → nat_le limit ((sum (replicate n 0) + 0)) ≡ true → ⊥
 limit_leaves_room n limit some h full =
     let a : n ≤ limit = leb-true n limit (both (nat_le n limit) (nat_le limit MOST_READERS) h).0 in
     let b : limit ≤ (sum (replicate n 0) + 0) = leb-true limit ((sum (replicate n 0) + 0)) full in
     let c : (sum (replicate n 0) + 0) ≡ 0 = rw (no_readers n) refl in
     omega arith
 
-limit_fits : (n limit : ℕ) → 1 ≤ n → (nat_le n limit && nat_le limit MOST_READERS) ≡ true → (1 ≤ limit) × (limit < 2 ^ 60 - 1) × (n ≤ limit)
+limit_fits : (n limit : ℕ) → 1 ≤ n → (nat_le n limit && nat_le limit MOST_READERS) ≡ true
+    → (1 ≤ limit) × (limit < 2 ^ 60 - 1) × (n ≤ limit)
 limit_fits n limit some h =
     let a : n ≤ limit = leb-true n limit (both (nat_le n limit) (nat_le limit MOST_READERS) h).0 in
     let b : limit ≤ MOST_READERS = leb-true limit MOST_READERS (both (nat_le n limit) (nat_le limit MOST_READERS) h).1 in
@@ -71,7 +73,8 @@ word_0 [] l = refl
 word_0 (x ∷ xs) zero = refl
 word_0 (x ∷ xs) (suc l) = word_0 xs l
 
-kind_is : (kinds : List Kind) (l : ℕ) → (get_or (map unlocked kinds) l (unlocked kind.TheVariants.Mutex)).kind ≡ get_or kinds l kind.TheVariants.Mutex
+kind_is : (kinds : List Kind) (l : ℕ)
+    → (get_or (map unlocked kinds) l (unlocked kind.TheVariants.Mutex)).kind ≡ get_or kinds l kind.TheVariants.Mutex
 kind_is [] l = refl
 kind_is (x ∷ xs) zero = refl
 kind_is (x ∷ xs) (suc l) = kind_is xs l

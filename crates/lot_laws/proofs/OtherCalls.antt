@@ -117,7 +117,8 @@ lonely_stay w t p a h = refl
 -- ---------------------------------------------------------------- whoever is taken of a line
 
 -- goes on in its call as it was; one that waits to be notified would know that it was moved
-taken_goes_on : (w : State) (p : Place) (t l : ℕ) (m : Line) → FitsItsLock w p → ((rules_in w l).sort ≢ locks.Condvar) → (station_at p l).stands ≡ Some m → (r : ℕ → Rights) → call_state (next_place p (TakenBy t)) r ≡ call_state p r
+taken_goes_on : (w : State) (p : Place) (t l : ℕ) (m : Line) → FitsItsLock w p → ((rules_in w l).sort ≢ locks.Condvar)
+    → (station_at p l).stands ≡ Some m → (r : ℕ → Rights) → call_state (next_place p (TakenBy t)) r ≡ call_state p r
 taken_goes_on w (Condvar k at) t l m fits plain h r = waiter_taken k at t l m (λ e. plain (ap (λ j. (rules_in w j).sort) (sym e) ∙ fits.sort)) h r
 taken_goes_on w Idle t l m fits plain h r = refl
 taken_goes_on w (Mutex k at) t l m fits plain h r = taken_call (Mutex k at) t tt r
@@ -136,7 +137,8 @@ module _ (w : State) (t l : ℕ) (m : Line) (steady : IsSteady w) (plain : (rule
   record OfLine (xs : List Waiter) : Type 0 where
     pub times : (u : ℕ) → Lines.times u xs ≤ Lines.times u (queue_at w (key_of l m))
 
-  told_calls : (xs : List Waiter) → OfLine xs → (u : ℕ) (r : ℕ → Rights) → call_state (get_or (places_told (TakenBy t) (threads_of xs) w.places) u Idle) r ≡ call_state (place_at w u) r
+  told_calls : (xs : List Waiter) → OfLine xs → (u : ℕ) (r : ℕ → Rights)
+      → call_state (get_or (places_told (TakenBy t) (threads_of xs) w.places) u Idle) r ≡ call_state (place_at w u) r
   told_calls xs of u r = ap (λ (f : ℕ → Place). call_state (f u) r) (told_places (TakenBy t) xs w.places) ∙ ap (λ p. call_state p r) (told_once (TakenBy t) xs (place_at w) u once) ∙ either (member u xs) refl
     where
       stood : Lines.times u (queue_at w (key_of l m)) ≡ stood_in (station_at (place_at w u) l).stands m
@@ -145,7 +147,8 @@ module _ (w : State) (t l : ℕ) (m : Line) (steady : IsSteady w) (plain : (rule
       once : Lines.times u xs ≤ 1
       once = let a : Lines.times u xs ≤ Lines.times u (queue_at w (key_of l m)) = of.times u in let b : Lines.times u (queue_at w (key_of l m)) ≡ stood_in (station_at (place_at w u) l).stands m = stood in let c : stood_in (station_at (place_at w u) l).stands m ≤ 1 = at_most_one (station_at (place_at w u) l).stands m in omega arith
 
-      either : (b : Bool) → member u xs ≡ b → call_state (if b then next_place (place_at w u) (TakenBy t) else place_at w u) r ≡ call_state (place_at w u) r
+      either : (b : Bool) → member u xs ≡ b
+          → call_state (if b then next_place (place_at w u) (TakenBy t) else place_at w u) r ≡ call_state (place_at w u) r
       either false e = refl
       either true e = taken_goes_on w (place_at w u) t l m (steady.stands.calls u) plain (stands_in (station_at (place_at w u) l).stands m
           (let a : 1 ≤ Lines.times u xs = member_times u xs e in let b : Lines.times u xs ≤ Lines.times u (queue_at w (key_of l m)) = of.times u in let c : Lines.times u (queue_at w (key_of l m)) ≡ stood_in (station_at (place_at w u) l).stands m = stood in omega arith)) r
@@ -164,10 +167,12 @@ module _ (w : State) (t : ℕ) (p2 : Place) where
   lonely p a h u ne r = ap (λ q. call_state q r) (stay_in (state_after_act w t p a) (lonely_stay w t p a h) u ne)
 
   -- whoever is taken goes on in its call
-  pub takes : (steady : IsSteady w) (l : ℕ) (m : Line) (plain : (rules_in w l).sort ≢ locks.Condvar) (p : Place) (key : ℕ) → key ≡ key_of l m → (x : Whom) → Stay (put (state_after_act w t p (act.Take key x)) t p2)
+  pub takes : (steady : IsSteady w) (l : ℕ) (m : Line) (plain : (rules_in w l).sort ≢ locks.Condvar) (p : Place) (key : ℕ)
+      → key ≡ key_of l m → (x : Whom) → Stay (put (state_after_act w t p (act.Take key x)) t p2)
   takes steady l m plain p key is x = subst (λ k. Stay (put (state_after_act w t p (act.Take k x)) t p2)) (sym is) (by_whom x)
     where
-      took : (b : State) (xs : List Waiter) → b.places ≡ places_told (TakenBy t) (threads_of xs) w.places → OfLine w t l m steady plain xs → Stay (put b t p2)
+      took : (b : State) (xs : List Waiter) → b.places ≡ places_told (TakenBy t) (threads_of xs) w.places
+          → OfLine w t l m steady plain xs → Stay (put b t p2)
       took b xs places of u ne r = ap (λ q. call_state q r) (get_or-set_other b.places t u p2 Idle ne ∙ ap (λ (ps : List Place). get_or ps u Idle) places) ∙ told_calls w t l m steady plain xs of u r
 
       first : (q : List Waiter) → queue_at w (key_of l m) ≡ q → Stay (put (state_after_taking (record w { queues = queues_without_first w.queues (key_of l m) }) t (Lines.first_of q)) t p2)
@@ -196,11 +201,13 @@ module _ (w : State) (t : ℕ) (p2 : Place) where
 -- ---------------------------------------------------------------- those in its hand are told
 
 -- so it is taken there by the one in whose hand it is
-pub taken_by_hand : (w : State) (p : Place) (t l : ℕ) → FitsItsLock w p → hand_at p l ≡ hand t false → is_taken_by t (taken_at p l) ≡ true
+pub taken_by_hand : (w : State) (p : Place) (t l : ℕ) → FitsItsLock w p → hand_at p l ≡ hand t false
+    → is_taken_by t (taken_at p l) ≡ true
 taken_by_hand w (Condvar k at) t l calls h = waiter_taken_by k at t l h
 taken_by_hand w (Once k at) t l calls h = either (k == l) h
   where
-    either : (b : Bool) → (if b then station (Once k at) else nowhere).hand ≡ hand t false → is_taken_by t (taken_from (once_profile at).hand (once_profile at).wants b) ≡ true
+    either : (b : Bool) → (if b then station (Once k at) else nowhere).hand ≡ hand t false
+        → is_taken_by t (taken_from (once_profile at).hand (once_profile at).wants b) ≡ true
     either true g = let x = (once_sleepers_move at).held t false g in ap (is_taken_by t) (λ i. taken_from (g i) (x.1.wants i) true) ∙ same t
     either false g = absurd cc
 taken_by_hand w Idle t l calls h = absurd (let none : hand_at Idle l ≡ None = refl in cc)
@@ -210,17 +217,20 @@ taken_by_hand w (Mutex k at) t l calls h = by_place (Mutex k at) (is_taken (Mute
     by_place p there = rw (there.is, same l) (same t)
 taken_by_hand w (RwLock k a c) t l calls h = either (k == l) h
   where
-    either : (b : Bool) → (if b then station (RwLock k a c) else nowhere).hand ≡ hand t false → is_taken_by t (taken_from (call_profile a c).hand (call_profile a c).wants b) ≡ true
+    either : (b : Bool) → (if b then station (RwLock k a c) else nowhere).hand ≡ hand t false
+        → is_taken_by t (taken_from (call_profile a c).hand (call_profile a c).wants b) ≡ true
     either true g = let x = (fair_sleepers_move a c calls.1).held t g in ap (is_taken_by t) (λ i. taken_from (g i) (x.wants i) true) ∙ same t
     either false g = absurd cc
 
 -- who was handed the lock goes on as it was
-handed_goes : (w : State) (p : Place) (t l : ℕ) → FitsItsLock w p → hand_at p l ≡ hand t true → (r : ℕ → Rights) → call_state (next_place p (Woken note.HandOff)) r ≡ call_state p r
+handed_goes : (w : State) (p : Place) (t l : ℕ) → FitsItsLock w p → hand_at p l ≡ hand t true → (r : ℕ → Rights)
+    → call_state (next_place p (Woken note.HandOff)) r ≡ call_state p r
 handed_goes w Idle t l fits h r = refl
 handed_goes w (Condvar k at) t l fits h r = waiter_told k at t l h r
 handed_goes w (Once k at) t l fits h r = either (k == l) h
   where
-    either : (b : Bool) → (if b then station (Once k at) else nowhere).hand ≡ hand t true → call_state (next_place (Once k at) (Woken note.HandOff)) r ≡ call_state (Once k at) r
+    either : (b : Bool) → (if b then station (Once k at) else nowhere).hand ≡ hand t true
+        → call_state (next_place (Once k at) (Woken note.HandOff)) r ≡ call_state (Once k at) r
     either true g = absurd (let x : true ≡ false = ((once_sleepers_move at).held t true g).0 in cc)
     either false g = absurd cc
 handed_goes w (Mutex k at) t l fits h r = by_place (Mutex k at) (is_handed (Mutex k at) t l tt h)
@@ -229,7 +239,8 @@ handed_goes w (Mutex k at) t l fits h r = by_place (Mutex k at) (is_handed (Mute
     by_place p there = rw there.is refl
 handed_goes w (RwLock k a c) t l fits h r = either (k == l) h
   where
-    by_call : (c : RwLockCallPlace) → CallStands a c → (call_profile a c).hand ≡ hand t true → call_state (next_place (RwLock k a c) (Woken note.HandOff)) r ≡ call_state (RwLock k a c) r
+    by_call : (c : RwLockCallPlace) → CallStands a c → (call_profile a c).hand ≡ hand t true
+        → call_state (next_place (RwLock k a c) (Woken note.HandOff)) r ≡ call_state (RwLock k a c) r
     by_call (Handed x how b (handed.Asleep u alone)) stands g = (fair_sleepers_hear a k (Handed x how b (handed.Asleep u alone)) stands).accepts t g (handed_woken x how b alone) r refl
     by_call (Handed x how b handed.Accept) stands g = absurd cc
     by_call (Plain p) stands g = absurd (never_given a k p.at t g)
@@ -237,45 +248,57 @@ handed_goes w (RwLock k a c) t l fits h r = either (k == l) h
     by_call (Glance x) stands g = absurd cc
     by_call (HandOver x b to) stands g = absurd cc
 
-    either : (b : Bool) → (if b then station (RwLock k a c) else nowhere).hand ≡ hand t true → call_state (next_place (RwLock k a c) (Woken note.HandOff)) r ≡ call_state (RwLock k a c) r
+    either : (b : Bool) → (if b then station (RwLock k a c) else nowhere).hand ≡ hand t true
+        → call_state (next_place (RwLock k a c) (Woken note.HandOff)) r ≡ call_state (RwLock k a c) r
     either true g = by_call c fits.1 g
     either false g = absurd cc
 
 module _ (w : State) (t l : ℕ) (steady : IsSteady w) (is_of : IsOf l (place_at w t)) (p2 : Place) where
   -- who is in its hand is so at its lock, and was handed that or not as its place says
-  in_hand_here : (h : Bool) → carried_at (place_at w t) l ≡ Some h → (u : ℕ) → is_thread t (taker (place_at w u)) ≡ true → hand_at (place_at w u) l ≡ hand t h
+  in_hand_here : (h : Bool) → carried_at (place_at w t) l ≡ Some h → (u : ℕ) → is_thread t (taker (place_at w u)) ≡ true
+      → hand_at (place_at w u) l ≡ hand t h
   in_hand_here h carries u e =
       let x : IsInHandOf (place_at w u) t = in_hand_where (place_at w u) t (aparts w steady u) e in
       let here = subst (λ k. hand_at (place_at w u) k ≡ hand t x.handed) (in_hand_at (place_at w) steady.stands.hands t l u (of_carries l (place_at w t) is_of) x) x.hand in
       let there : carried_at (place_at w t) l ≡ Some x.handed = steady.stands.hands.taken t u l x.handed here in
       here ∙ ap (hand t) (let g : Some x.handed ≡ Some h = sym there ∙ carries in let f : x.handed ≡ h = cc in f)
 
-  told_at : (b : State) (reply : Reply) → b.places ≡ w.places → (u : ℕ) → u ≢ t → place_at (put (state_after_telling b t reply) t p2) u ≡ (if is_thread t (taker (place_at w u)) then next_place (place_at w u) reply else place_at w u)
+  told_at : (b : State) (reply : Reply) → b.places ≡ w.places → (u : ℕ) → u ≢ t
+      → place_at (put (state_after_telling b t reply) t p2) u
+      ≡ (if is_thread t (taker (place_at w u)) then next_place (place_at w u) reply else place_at w u)
   told_at b reply places u ne = get_or-set_other _ t u p2 Idle ne ∙ get_or-map (place_after_telling t reply) b.places u Idle ∙ ap (λ (xs : List Place). place_after_telling t reply (get_or xs u Idle)) places
 
   -- it has taken them
-  pub befalls : (b : State) (reply : Reply) → b.places ≡ w.places → carried_at (place_at w t) l ≡ Some false → Befalls w (put (state_after_telling b t reply) t p2) t l reply
+  pub befalls : (b : State) (reply : Reply) → b.places ≡ w.places → carried_at (place_at w t) l ≡ Some false
+      → Befalls w (put (state_after_telling b t reply) t p2) t l reply
   befalls b reply places carries u ne = told_at b reply places u ne ∙ ap (λ c. if c then next_place (place_at w u) reply else place_at w u) (same_test (is_thread t (taker (place_at w u))) refl)
     where
-      same_test : (c : Bool) → is_thread t (taker (place_at w u)) ≡ c → is_thread t (taker (place_at w u)) ≡ is_taken_by t (taken_at (place_at w u) l)
+      same_test : (c : Bool) → is_thread t (taker (place_at w u)) ≡ c
+          → is_thread t (taker (place_at w u)) ≡ is_taken_by t (taken_at (place_at w u) l)
       same_test true e = e ∙ sym (taken_by_hand w (place_at w u) t l (steady.stands.calls u) (in_hand_here false carries u e))
       same_test false e = e ∙ sym (unless_held w steady t l u (λ h. let f : is_thread t (taker (place_at w u)) ≡ true = held_tells (place_at w u) t l false h in cc))
 
   -- nobody has been
-  pub befalls_nobody : (b : State) (reply : Reply) → b.places ≡ w.places → carried_at (place_at w t) l ≡ None → Befalls w (put b t p2) t l reply
+  pub befalls_nobody : (b : State) (reply : Reply) → b.places ≡ w.places → carried_at (place_at w t) l ≡ None
+      → Befalls w (put b t p2) t l reply
   befalls_nobody b reply places none u ne = get_or-set_other b.places t u p2 Idle ne ∙ ap (λ (xs : List Place). get_or xs u Idle) places
       ∙ sym (ap (λ c. if c then next_place (place_at w u) reply else place_at w u) (unless_held w steady t l u (λ h. let e = steady.stands.hands.taken t u l false h in cc)))
 
   -- it has handed them the lock: their calls are as they were
-  pub tells_handed : (b : State) → b.places ≡ w.places → carried_at (place_at w t) l ≡ Some true → (u : ℕ) → u ≢ t → (r : ℕ → Rights) → call_state (place_at (put (state_after_telling b t (Woken note.HandOff)) t p2) u) r ≡ call_state (place_at w u) r
+  pub tells_handed : (b : State) → b.places ≡ w.places → carried_at (place_at w t) l ≡ Some true → (u : ℕ) → u ≢ t
+      → (r : ℕ → Rights)
+      → call_state (place_at (put (state_after_telling b t (Woken note.HandOff)) t p2) u) r ≡ call_state (place_at w u) r
   tells_handed b places carries u ne r = ap (λ p. call_state p r) (told_at b (Woken note.HandOff) places u ne) ∙ either (is_thread t (taker (place_at w u))) refl
     where
-      either : (c : Bool) → is_thread t (taker (place_at w u)) ≡ c → call_state (if c then next_place (place_at w u) (Woken note.HandOff) else place_at w u) r ≡ call_state (place_at w u) r
+      either : (c : Bool) → is_thread t (taker (place_at w u)) ≡ c
+          → call_state (if c then next_place (place_at w u) (Woken note.HandOff) else place_at w u) r
+          ≡ call_state (place_at w u) r
       either true e = handed_goes w (place_at w u) t l (steady.stands.calls u) (in_hand_here true carries u e) r
       either false e = refl
 
   -- so the calls of the others are what its case makes of them
-  pub wakes_own : ((rules_in w l).sort ≢ locks.Condvar) → (p : Place) (a : Act) → TakesHere l a → (c : Option LockCase) → WakesOwn (carried_at (place_at w t) l) a c → Others w (put (state_after_act w t p a) t p2) t (event_by l c)
+  pub wakes_own : ((rules_in w l).sort ≢ locks.Condvar) → (p : Place) (a : Act) → TakesHere l a → (c : Option LockCase)
+      → WakesOwn (carried_at (place_at w t) l) a c → Others w (put (state_after_act w t p a) t p2) t (event_by l c)
   wakes_own plain p (act.Leave keys (wakes.All x)) here c (inl h) = subst (λ y. Others w (put (state_after_telling (state_with_sections w keys None) t (Woken x)) t p2) t (event_by l y)) (sym h.1.1)
       (wakes_others w (put (state_after_telling (state_with_sections w keys None) t (Woken x)) t p2) t l (subst (λ y. Befalls w (put (state_after_telling (state_with_sections w keys None) t (Woken y)) t p2) t l (Woken note.Normal)) (sym h.1.0) (befalls (state_with_sections w keys None) (Woken note.Normal) (sections_stay w keys None) h.0)))
   wakes_own plain p (act.Leave keys (wakes.All x)) here c (inr h) = calm w t p2 (put (state_after_telling (state_with_sections w keys None) t (Woken x)) t p2) l c h.1.1

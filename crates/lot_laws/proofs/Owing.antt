@@ -1,6 +1,5 @@
 -- Who owes a wake does so since it saw waiters, or since it entered the section.
 use Rattle.lot_acts.specs.Acts.{outcome_of}
-use Rattle.lot_laws.specs.Promises.{CallsOneLock}
 use Rattle.std.proofs.Common.{ℕ, Bool, true, false, Option, Some, None, if◌then◌else◌, ◌≡◌, ◌≢◌, ◌<◌, ◌⊎◌, ◌↔◌, inl, inr, length, refl, sym, ◌∙◌, ap, subst, get_or-set_same, nat_lt, is_some, length-set}
 use Rattle.lot_machine.specs.Machine.{closed_place}
 use Rattle.lot_laws.proofs.Looking.{alike_calls, closing_steady, like}
@@ -43,7 +42,7 @@ use Rattle.lot_acts.specs.Profiles.{Profile}
 use Rattle.lot_acts.specs.Calls.{call_by}
 use Rattle.abstract_locks.specs.Runs.{CallState, no_call}
 use Rattle.abstract_locks.specs.Purposes.{Purpose, Waits, lock_for}
-use Rattle.lot_laws.proofs.RowPromises.{RowFinds, RowLooks, releases_for, downgrades_for}
+use Rattle.lot_laws.proofs.RowPromises.{CallsOneLock, RowFinds, RowLooks, releases_for, downgrades_for}
 use Rattle.lot_laws.proofs.PlacePromises.{LetsBy, row_promises, row_calls_one, calls_one_lock, owing_is, owes_own, owed_own, inside_own, call_own, lets_in, lets_out}
 use Rattle.lot_laws.proofs.LineActs.{late_line}
 use Rattle.lot_laws.proofs.PlaceSteps.{owes_befallen, owes_next, first_owes, late_next}
@@ -67,7 +66,8 @@ idle_shut w t l none h = by_call (subst (LetsBy w t l) (call_none (place_at w t)
 lets_own : (w : State) (t l : ℕ) → IsSteady w → IsSingle (place_at w t) → LetsOthersIn w t l → lock_of (place_at w t) ≡ Some l
 lets_own w t l steady single lets = by_lock (lock_of (place_at w t)) refl
   where
-    by_row : (k : ℕ) (row : Profile) (r : ℕ → Rights) → lock_for (row.purpose k) ≡ k → CallsOneLock (Some (row.purpose k)) → LetsBy w t l (call_by k row r) → k ≡ l
+    by_row : (k : ℕ) (row : Profile) (r : ℕ → Rights) → lock_for (row.purpose k) ≡ k → CallsOneLock (Some (row.purpose k))
+        → LetsBy w t l (call_by k row r) → k ≡ l
     by_row k row r of one (inl releases) = sym of ∙ releases_for (row.purpose k) row.released l one releases
     by_row k row r of one (inr shared) = elim shared.1 [ inl less ↦ sym of ∙ downgrades_for (row.purpose k) l less | inr left ↦ gave_up_for row.gave_up k left.0 ]
       where
@@ -85,16 +85,19 @@ waits_not None one waits = waits
 waits_not (Some (Waits k n timed)) one waits = one
 waits_not (Some q) one waits = waits
 
-module _ (w v : State) (t : ℕ) (steady : IsSteady w) (behind : IsSteady v) (single : IsSingle (place_at w t)) (single_then : IsSingle (place_at v t)) where
+module _ (w v : State) (t : ℕ) (steady : IsSteady w) (behind : IsSteady v) (single : IsSingle (place_at w t))
+    (single_then : IsSingle (place_at v t)) where
   -- what it sees, by its row
-  sees_row : (l : ℕ) (m : Line) (o : Outcome) (own : lock_of (place_at w t) ≡ Some l) → SeesWaiters w t l m o v → RowFinds (sort_at w l) l (word_at w l) (profile (place_at w t)) m
+  sees_row : (l : ℕ) (m : Line) (o : Outcome) (own : lock_of (place_at w t) ≡ Some l) → SeesWaiters w t l m o v
+      → RowFinds (sort_at w l) l (word_at w l) (profile (place_at w t)) m
   sees_row l m o own s = (
     lets_in w t steady l single own s.0,
     ap (λ (c : CallState). line_let_in (sort_at w l) c.purpose) (sym (call_own w t steady l single own)) ∙ s.1,
     ap (λ (c : CallState). tells_by (sort_at w l) c.purpose m (word_at w l)) (sym (call_own w t steady l single own)) ∙ s.2,
   )
 
-  row_sees : (l : ℕ) (m : Line) (o : Outcome) (own : lock_of (place_at w t) ≡ Some l) → RowFinds (sort_at w l) l (word_at w l) (profile (place_at w t)) m → o ≡ outcome.TheVariants.Step
+  row_sees : (l : ℕ) (m : Line) (o : Outcome) (own : lock_of (place_at w t) ≡ Some l)
+      → RowFinds (sort_at w l) l (word_at w l) (profile (place_at w t)) m → o ≡ outcome.TheVariants.Step
       → act_of (place_at v t) ≡ Enter (One (key_of l m)) → SeesWaiters w t l m o v
   row_sees l m o own s step enters = (
     lets_out w t steady l single own s.0,
@@ -117,7 +120,8 @@ module _ (w v : State) (t : ℕ) (steady : IsSteady w) (behind : IsSteady v) (si
     row_then h = ap (λ p. (profile p).owes) (sym at_q) ∙ sym (owed_own (place_at v t) l (owes_own (place_at v t) l m single_then h) single_then) ∙ h
 
   -- it goes on by the reply to its act
-  go_owes : place_at v t ≡ next_place (place_at w t) (go_reply w t) → (l : ℕ) (m : Line) → Owes v t l m ↔ (IsInside v t l m ⊎ SeesWaiters w t l m (outcome_of (next_act (place_at w t) (go_reply w t))) v)
+  go_owes : place_at v t ≡ next_place (place_at w t) (go_reply w t) → (l : ℕ) (m : Line)
+      → Owes v t l m ↔ (IsInside v t l m ⊎ SeesWaiters w t l m (outcome_of (next_act (place_at w t) (go_reply w t))) v)
   go_owes at_q l m = (since, λ h. elim h [ inl i ↦ inside_then q at_q l m o i | inr s ↦ saw s ])
     where
       q : Place
@@ -162,7 +166,8 @@ module _ (w v : State) (t : ℕ) (steady : IsSteady w) (behind : IsSteady v) (si
               subst (λ (c : CallState). LooksFirst c.purpose l × (c.released ≡ false)) (sym (call_own v t behind l single_then own_then)) (subst (λ p. RowLooks l (profile p)) (sym at_q) looks)
 
   -- it owes nothing but what it is inside, and lets nobody in
-  quiet_owes : (q : Place) → place_at v t ≡ q → ((m : Line) → (profile q).owes ≡ Some m → (profile q).doing.inside ≡ Some m) → ((l : ℕ) → LetsOthersIn w t l → ⊥)
+  quiet_owes : (q : Place) → place_at v t ≡ q → ((m : Line) → (profile q).owes ≡ Some m → (profile q).doing.inside ≡ Some m)
+      → ((l : ℕ) → LetsOthersIn w t l → ⊥)
       → (l : ℕ) (m : Line) (o : Outcome) → Owes v t l m ↔ (IsInside v t l m ⊎ SeesWaiters w t l m o v)
   quiet_owes q at_q within shut l m o = (
     (λ h. inl (within_then q at_q l m o h (within m (row_then q at_q l m o h)))),
@@ -170,8 +175,10 @@ module _ (w v : State) (t : ℕ) (steady : IsSteady w) (behind : IsSteady v) (si
   )
 
 -- a thread goes on, in a call of one lock or of two
-gone_owes : (w : State) (t : ℕ) (steady : IsSteady w) (there : t < length w.places) → IsSteady (state_after_go w t) → (l : ℕ) (m : Line)
-    → Owes (state_after_go w t) t l m ↔ (IsInside (state_after_go w t) t l m ⊎ SeesWaiters w t l m (go_outcome w t) (state_after_go w t))
+gone_owes : (w : State) (t : ℕ) (steady : IsSteady w) (there : t < length w.places) → IsSteady (state_after_go w t)
+    → (l : ℕ) (m : Line)
+    → Owes (state_after_go w t) t l m
+    ↔ (IsInside (state_after_go w t) t l m ⊎ SeesWaiters w t l m (go_outcome w t) (state_after_go w t))
 gone_owes w t steady there behind l m = elim (single_or_two (place_at w t)) [
   | inl single ↦ (
       let v = state_after_go w t in
@@ -185,7 +192,9 @@ gone_owes w t steady there behind l m = elim (single_or_two (place_at w t)) [
 
 module _ (w : State) (t : ℕ) (shape : IsShaped w) (steady : IsSteady w) (there : t < length w.places) where
   -- a call begins, of one lock or of two
-  begun_owing : (c : Call) → can_begin w t c ≡ true → IsSteady (state_after_begin w t c) → (l : ℕ) (m : Line) (o : Outcome) → Owes (state_after_begin w t c) t l m ↔ (IsInside (state_after_begin w t c) t l m ⊎ SeesWaiters w t l m o (state_after_begin w t c))
+  begun_owing : (c : Call) → can_begin w t c ≡ true → IsSteady (state_after_begin w t c) → (l : ℕ) (m : Line) (o : Outcome)
+      → Owes (state_after_begin w t c) t l m
+      ↔ (IsInside (state_after_begin w t c) t l m ⊎ SeesWaiters w t l m o (state_after_begin w t c))
   begun_owing c can behind = by_call c here behind
     where
       at_rest : place_at w t ≡ Idle
@@ -197,14 +206,19 @@ module _ (w : State) (t : ℕ) (shape : IsShaped w) (steady : IsSteady w) (there
       here : place_at (state_after_begin w t c) t ≡ first_place (kind_at w (lock_in c)) c
       here = get_or-set_same w.places t (first_place (kind_at w (lock_in c)) c) Idle there
 
-      by_call : (d : Call) → place_at (state_after_begin w t d) t ≡ first_place (kind_at w (lock_in d)) d → IsSteady (state_after_begin w t d) → (l : ℕ) (m : Line) (o : Outcome)
-          → Owes (state_after_begin w t d) t l m ↔ (IsInside (state_after_begin w t d) t l m ⊎ SeesWaiters w t l m o (state_after_begin w t d))
+      by_call : (d : Call) → place_at (state_after_begin w t d) t ≡ first_place (kind_at w (lock_in d)) d
+          → IsSteady (state_after_begin w t d) → (l : ℕ) (m : Line) (o : Outcome)
+          → Owes (state_after_begin w t d) t l m
+          ↔ (IsInside (state_after_begin w t d) t l m ⊎ SeesWaiters w t l m o (state_after_begin w t d))
       by_call (call.TheVariants.Condvar k d) is after = calm_owing w (state_after_begin w t (call.TheVariants.Condvar k d)) t k (condvar_first d) after is (first_calm d) shut
       by_call d is after = quiet_owes w (state_after_begin w t d) t steady after (subst IsSingle (sym at_rest) tt) (subst IsSingle (sym is) tt) (first_place (kind_at w (lock_in d)) d) is
           (λ m h. absurd (let e : ◌≡◌ {A = Option Line} None (Some m) = sym (first_owes (kind_at w (lock_in d)) d) ∙ h in cc)) shut
 
   -- who enters the section of the line where it slept
-  late_owing : (o : Option ℕ) → late_key (place_at w t) ≡ o → is_free_under w o ≡ true → IsSteady (state_after_late_on w t o) → (l : ℕ) (m : Line) (told : Outcome) → Owes (state_after_late_on w t o) t l m ↔ (IsInside (state_after_late_on w t o) t l m ⊎ SeesWaiters w t l m told (state_after_late_on w t o))
+  late_owing : (o : Option ℕ) → late_key (place_at w t) ≡ o → is_free_under w o ≡ true → IsSteady (state_after_late_on w t o)
+      → (l : ℕ) (m : Line) (told : Outcome)
+      → Owes (state_after_late_on w t o) t l m
+      ↔ (IsInside (state_after_late_on w t o) t l m ⊎ SeesWaiters w t l m told (state_after_late_on w t o))
   late_owing None e can behind = absurd cc
   late_owing (Some key) e can behind = elim (single_or_two (place_at w t)) [
     | inl single ↦ (
@@ -226,15 +240,19 @@ module _ (w : State) (t : ℕ) (shape : IsShaped w) (steady : IsSteady w) (there
       here = get_or-set_same w.places t (next_place (place_at w t) Late) Idle there
 
   -- it looks at the word once more, and is in its call as before
-  spun_owing : (o : Option Place) → looking (place_at w t) ≡ o → is_some o ≡ true → IsSteady (state_after_look w t o) → (l : ℕ) (m : Line)
-      → Owes (state_after_look w t o) t l m ↔ (IsInside (state_after_look w t o) t l m ⊎ SeesWaiters w t l m (look_outcome w t o) (state_after_look w t o))
+  spun_owing : (o : Option Place) → looking (place_at w t) ≡ o → is_some o ≡ true → IsSteady (state_after_look w t o)
+      → (l : ℕ) (m : Line)
+      → Owes (state_after_look w t o) t l m
+      ↔ (IsInside (state_after_look w t o) t l m ⊎ SeesWaiters w t l m (look_outcome w t o) (state_after_look w t o))
   spun_owing None is can behind l m = absurd cc
   spun_owing (Some q) is can behind l m = subst (λ (c : CallState). Owes (state_after_go (put w t q) t) t l m ↔ (IsInside (state_after_go (put w t q) t) t l m ⊎ SeesBy w t l m (go_outcome (put w t q) t) (state_after_go (put w t q) t) c)) (calls_same w t there q is t)
       (gone_owes (put w t q) t (looking_steady w t there q is steady) (rw (length-set w.places t q) there) behind l m)
 
   -- its closure has answered, and it is in its call as before
-  closed_owing : (succeeded : Bool) (one : RunsOne (place_at w t)) → IsSteady (state_after_close w t succeeded) → (l : ℕ) (m : Line)
-      → Owes (state_after_close w t succeeded) t l m ↔ (IsInside (state_after_close w t succeeded) t l m ⊎ SeesWaiters w t l m (close_outcome w t succeeded) (state_after_close w t succeeded))
+  closed_owing : (succeeded : Bool) (one : RunsOne (place_at w t)) → IsSteady (state_after_close w t succeeded)
+      → (l : ℕ) (m : Line)
+      → Owes (state_after_close w t succeeded) t l m
+      ↔ (IsInside (state_after_close w t succeeded) t l m ⊎ SeesWaiters w t l m (close_outcome w t succeeded) (state_after_close w t succeeded))
   closed_owing succeeded one behind l m =
       subst (λ (c : CallState). Owes (state_after_go v t) t l m ↔ (IsInside (state_after_go v t) t l m ⊎ SeesBy w t l m (go_outcome v t) (state_after_go v t) c)) (alike_calls w t there (closed_place w t succeeded) (like w t there succeeded one) t)
       (gone_owes v t (closing_steady w t there succeeded one steady) (closing_there w t there succeeded one) behind l m)
@@ -242,7 +260,9 @@ module _ (w : State) (t : ℕ) (shape : IsShaped w) (steady : IsSteady w) (there
       v : State
       v = closing w t there succeeded one
 
-  turned_owing : (x : Turn) → can_turn w t x ≡ true → IsSteady (state_after_turn w t x) → (l : ℕ) (m : Line) → Owes (state_after_turn w t x) t l m ↔ (IsInside (state_after_turn w t x) t l m ⊎ SeesWaiters w t l m (turn_outcome w t x) (state_after_turn w t x))
+  turned_owing : (x : Turn) → can_turn w t x ≡ true → IsSteady (state_after_turn w t x) → (l : ℕ) (m : Line)
+      → Owes (state_after_turn w t x) t l m
+      ↔ (IsInside (state_after_turn w t x) t l m ⊎ SeesWaiters w t l m (turn_outcome w t x) (state_after_turn w t x))
   turned_owing (turn.TheVariants.Begin c) can behind l m = begun_owing c can behind l m outcome.TheVariants.Step
   turned_owing turn.TheVariants.Go can behind l m = gone_owes w t steady there behind l m
   turned_owing turn.TheVariants.Spin can behind l m = spun_owing (looking (place_at w t)) refl can behind l m
@@ -250,13 +270,16 @@ module _ (w : State) (t : ℕ) (shape : IsShaped w) (steady : IsSteady w) (there
   turned_owing turn.TheVariants.Ok can behind l m = closed_owing true (closes_one w t true can) behind l m
   turned_owing turn.TheVariants.Err can behind l m = closed_owing false (closes_one w t false can) behind l m
 
-pub owes_since : (w : State) (s : Step) → IsShaped w → IsSteady w → AreCounted w → AreCondvars w → OwesSince w s.thread (step_outcome w s) (after w s)
+pub owes_since : (w : State) (s : Step) → IsShaped w → IsSteady w → AreCounted w → AreCondvars w
+    → OwesSince w s.thread (step_outcome w s) (after w s)
 owes_since w s shape steady counted condvars = record {
   own = own (is_possible w s) refl (after_steady w s shape steady counted condvars);
   others = λ u l ne. others_owe w s u l ne;
 }
   where
-    own : (b : Bool) → is_possible w s ≡ b → IsSteady (if b then state_after_turn w s.thread s.turn else w) → (l : ℕ) (m : Line) → (if b then turn_outcome w s.thread s.turn else outcome.TheVariants.NotNow) ≢ outcome.TheVariants.NotNow
-        → Owes (if b then state_after_turn w s.thread s.turn else w) s.thread l m ↔ (IsInside (if b then state_after_turn w s.thread s.turn else w) s.thread l m ⊎ SeesWaiters w s.thread l m (if b then turn_outcome w s.thread s.turn else outcome.TheVariants.NotNow) (if b then state_after_turn w s.thread s.turn else w))
+    own : (b : Bool) → is_possible w s ≡ b → IsSteady (if b then state_after_turn w s.thread s.turn else w) → (l : ℕ) (m : Line)
+        → (if b then turn_outcome w s.thread s.turn else outcome.TheVariants.NotNow) ≢ outcome.TheVariants.NotNow
+        → Owes (if b then state_after_turn w s.thread s.turn else w) s.thread l m
+        ↔ (IsInside (if b then state_after_turn w s.thread s.turn else w) s.thread l m ⊎ SeesWaiters w s.thread l m (if b then turn_outcome w s.thread s.turn else outcome.TheVariants.NotNow) (if b then state_after_turn w s.thread s.turn else w))
     own true can behind l m ne = let h = both (nat_lt s.thread (length w.places)) (can_turn w s.thread s.turn) can in turned_owing w s.thread shape steady (ltb-true s.thread (length w.places) h.0) s.turn h.1 behind l m
     own false cannot behind l m ne = absurd (ne refl)

@@ -60,7 +60,10 @@ use Rattle.lot_machine.proofs.Shape.{performed_counts}
 
 -- ---------------------------------------------------------------- mutexes
 
-decides_quietly : (l s : ℕ) (a b : Bool) → tells (if not a then Word l (op.TheVariants.Exchange s (s + 1)) else if b then Word l (op.TheVariants.Exchange 1 3) else Enter (One (2 * l))) ≡ false
+decides_quietly : (l s : ℕ) (a b : Bool)
+    → tells
+    (if not a then Word l (op.TheVariants.Exchange s (s + 1)) else if b then Word l (op.TheVariants.Exchange 1 3) else Enter (One (2 * l)))
+    ≡ false
 decides_quietly l s false b = refl
 decides_quietly l s true true = refl
 decides_quietly l s true false = refl
@@ -108,7 +111,8 @@ rwlock_decides_quietly l q s decisions.Mark = refl
 rwlock_decides_quietly l q s decisions.Park = refl
 rwlock_decides_quietly l q s (decisions.Refuse answer) = refl
 
-counts_quietly : (l s : ℕ) (b : Bool) → tells (if b then Enter (One (2 * l + 1)) else Word l (op.TheVariants.Exchange s (plus s 2))) ≡ false
+counts_quietly : (l s : ℕ) (b : Bool)
+    → tells (if b then Enter (One (2 * l + 1)) else Word l (op.TheVariants.Exchange s (plus s 2))) ≡ false
 counts_quietly l s true = refl
 counts_quietly l s false = refl
 
@@ -152,14 +156,16 @@ none_given b q again m to (MovedTo key) h = refl
 none_given b q again m to r h = absurd h
 
 plain_deaf : (a : Admission) (q : RwLockPurpose) (again : Bool) (to : RwLockAt) → Wakes to → (r : Reply) → Befalls r
-    → let p : RwLockPlace = record { purpose = q; retries = again; at = to } in (call_next a (places.Plain p) r ≡ At (places.Plain p)) × (call_next a (places.Bump p) r ≡ At (places.Bump p))
+    → let p : RwLockPlace = record { purpose = q; retries = again; at = to } in (call_next a (places.Plain p) r ≡ At (places.Plain p))
+    × (call_next a (places.Bump p) r ≡ At (places.Bump p))
 plain_deaf a q again (at.Wake m to) wakes r h =
     let p : RwLockPlace = record { purpose = q; retries = again; at = at.Wake m to } in
     let same = wake_deaf p m to r h in
     ((λ i. unless_given (none_given false q again m to r h i) (plain_next (same i))), (λ i. unless_given (none_given true q again m to r h i) (bump_next q (same i))))
 plain_deaf a q again to wakes r h = absurd wakes
 
-hand_over_deaf : (a : Admission) (x : Access) (b : Bool) (to : HandOverAt) (r : Reply) → Befalls r → hand_over_next a x b to r ≡ At (places.HandOver x b to)
+hand_over_deaf : (a : Admission) (x : Access) (b : Bool) (to : HandOverAt) (r : Reply) → Befalls r
+    → hand_over_next a x b to r ≡ At (places.HandOver x b to)
 hand_over_deaf a x b handing.Load (TakenBy u) h = refl
 hand_over_deaf a x b to (TakenBy u) h = refl
 hand_over_deaf a x b handing.Load (MovedTo key) h = refl
@@ -174,7 +180,8 @@ accepts_quietly : (l : ℕ) (x : Access) → tells (accept_act l x) ≡ false
 accepts_quietly l access.Exclusive = refl
 accepts_quietly l x = refl
 
-call_deaf : (l : ℕ) (a : Admission) (c : RwLockCallPlace) → tells (call_act l a c) ≡ true → (r : Reply) → Befalls r → call_next a c r ≡ At c
+call_deaf : (l : ℕ) (a : Admission) (c : RwLockCallPlace) → tells (call_act l a c) ≡ true → (r : Reply) → Befalls r
+    → call_next a c r ≡ At c
 call_deaf l a (places.Plain p) loud r h = (plain_deaf a p.purpose p.retries p.at (rwlock_tells l a p p.at loud) r h).0
 call_deaf l a (places.Bump p) loud r h = (plain_deaf a p.purpose p.retries p.at (rwlock_tells l a p p.at loud) r h).1
 call_deaf l a (places.Glance x) loud r h = absurd cc
@@ -219,14 +226,16 @@ module _ (w : State) (t : ℕ) (p : Place) (is : place_at w t ≡ p) (single : I
   stays_there = acted_keeps (λ q. q ≡ p) w t t p (act_of p) (λ loud r b q e. ap (λ x. next_place x r) e ∙ deaf p single loud r b) is
 
   -- and goes on from there
-  pub goes_from_there : state_after_going w t p ≡ put (state_after_act w t p (act_of p)) t (next_place p (reply_to w t (act_of p)))
+  pub goes_from_there : state_after_going w t p
+      ≡ put (state_after_act w t p (act_of p)) t (next_place p (reply_to w t (act_of p)))
   goes_from_there = ap (λ q. put (state_after_act w t p (act_of p)) t (next_place q (reply_to w t (act_of p)))) stays_there
 
   pub told_from_there : going_outcome w t p ≡ outcome_of (next_act p (reply_to w t (act_of p)))
   told_from_there = ap (λ q. outcome_of (next_act q (reply_to w t (act_of p)))) stays_there
 
 module _ (w : State) (t : ℕ) (single : IsSingle (place_at w t)) where
-  pub gone : state_after_go w t ≡ put (state_after_act w t (place_at w t) (act_of (place_at w t))) t (next_place (place_at w t) (go_reply w t))
+  pub gone : state_after_go w t
+      ≡ put (state_after_act w t (place_at w t) (act_of (place_at w t))) t (next_place (place_at w t) (go_reply w t))
   gone = goes_from_there w t (place_at w t) refl single
 
   pub gone_told : go_outcome w t ≡ outcome_of (next_act (place_at w t) (go_reply w t))

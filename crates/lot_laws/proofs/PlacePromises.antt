@@ -20,7 +20,7 @@ use Rattle.lot_laws.specs.Refinement.{lock_state, call_on, call_at, taken_at}
 use Rattle.lot_laws.specs.Stations.{Station, nowhere, station, station_at, doing_on, station_by}
 use Rattle.lot_laws.specs.SitesOf.{IsSteady, FitsItsLock, key_of, stood_in, rules_in}
 use Rattle.lot_laws.specs.Owing.{Owes, IsInside, LetsOthersIn, IsDowngrade, sort_at}
-use Rattle.lot_laws.specs.Promises.{CallsOneLock, GoesToWake, HasReleased, WakesAside}
+use Rattle.lot_laws.specs.Promises.{GoesToWake, HasReleased, WakesAside}
 use Rattle.lot_laws.proofs.Counts.{none_first, first_out}
 use Rattle.lot_laws.proofs.SingleCalls.{call_here, call_none}
 use Rattle.lot_laws.proofs.CondvarPromises.{StandsAt, two_stand_main}
@@ -30,7 +30,7 @@ use Rattle.lot_laws.proofs.MutexTable.{queued_times}
 use Rattle.lot_laws.proofs.StandsMoved.{mutex_rules}
 use Rattle.lot_laws.proofs.LineActs.{IsOfLine, IsLineAct, line_act}
 use Rattle.lot_laws.proofs.MutexRows.{mutex_promises}
-use Rattle.lot_laws.proofs.RowPromises.{LetsIn, LetsInAt, IsWaiting, calls_one as purpose_of_one, taken_of, RowPromises}
+use Rattle.lot_laws.proofs.RowPromises.{CallsOneLock, LetsIn, LetsInAt, IsWaiting, calls_one as purpose_of_one, taken_of, RowPromises}
 use Rattle.lot_laws.proofs.CallEvents.{rights}
 use Rattle.lot_laws.proofs.CallRows.{call_promises}
 use Rattle.lot_rwlock_fair.specs.FairProfiles.{call_profile}
@@ -58,7 +58,9 @@ module _ (p : Place) (l : ℕ) (own : lock_of p ≡ Some l) where
   pub taken_own : taken_at p l ≡ taken_of (profile p)
   taken_own = here (is_lock l (beside_of p)) (calls p l) (called p l own)
     where
-      here : (b c : Bool) → c ≡ true → (if b && not c then taken_from (profile_beside p).hand (profile_beside p).wants true else taken_from (profile p).hand (profile p).wants c) ≡ taken_from (profile p).hand (profile p).wants true
+      here : (b c : Bool) → c ≡ true
+          → (if b && not c then taken_from (profile_beside p).hand (profile_beside p).wants true else taken_from (profile p).hand (profile p).wants c)
+          ≡ taken_from (profile p).hand (profile p).wants true
       here true true e = refl
       here false true e = refl
       here b false e = absurd cc
@@ -113,7 +115,8 @@ not_released (Some q) one released l m h = h
 
 module _ (w : State) (t : ℕ) (steady : IsSteady w) where
   -- in a call of one lock
-  pub row_promises : (l : ℕ) → IsSingle (place_at w t) → lock_of (place_at w t) ≡ Some l → RowPromises (sort_at w l) l (profile (place_at w t)) (act_of (place_at w t))
+  pub row_promises : (l : ℕ) → IsSingle (place_at w t) → lock_of (place_at w t) ≡ Some l
+      → RowPromises (sort_at w l) l (profile (place_at w t)) (act_of (place_at w t))
   row_promises l single own = by_place (place_at w t) refl own
     where
       by_place : (p : Place) → place_at w t ≡ p → lock_of p ≡ Some l → RowPromises (sort_at w l) l (profile p) (act_of p)
@@ -155,7 +158,8 @@ module _ (w : State) (t : ℕ) (steady : IsSteady w) where
           let admitted : FitsItsLock w (RwLock k a c) = rw is at (steady.stands.calls t) in
           let other : false ≡ true = sym (ap has_readers (ap (sort_at w) here ∙ is_condvar)) ∙ admitted.0.0 in cc
 
-  pub row_calls_one : (l : ℕ) → IsSingle (place_at w t) → lock_of (place_at w t) ≡ Some l → CallsOneLock (Some ((profile (place_at w t)).purpose l))
+  pub row_calls_one : (l : ℕ) → IsSingle (place_at w t) → lock_of (place_at w t) ≡ Some l
+      → CallsOneLock (Some ((profile (place_at w t)).purpose l))
   row_calls_one l single own = purpose_of_one (sort_at w l) ((profile (place_at w t)).purpose l) ((row_promises l single own).known (λ k. sort_at w l) refl) (not_condvar l single own)
 
   pub calls_one_lock : IsSingle (place_at w t) → CallsOneLock (call_at w t).purpose
@@ -204,12 +208,15 @@ module _ (w : State) (t : ℕ) (steady : IsSteady w) where
         absent : Lines.times t (queue_at w (2 * l + 1)) ≡ 0 → is_thread t (lock_state w l).aside ≡ 0
         absent none = first_out t (queue_at w (2 * l + 1)) none
 
-        by_line : (o : Option Line) → (station_at (place_at w t) l).stands ≡ o → is_thread t (lock_state w l).aside ≡ stood_in o Second
+        by_line : (o : Option Line) → (station_at (place_at w t) l).stands ≡ o
+            → is_thread t (lock_state w l).aside ≡ stood_in o Second
         by_line None e = absent (steady.stands.lines t l Second ∙ ap (λ x. stood_in x Second) e)
         by_line (Some Main) e = absent (steady.stands.lines t l Second ∙ ap (λ x. stood_in x Second) e)
         by_line (Some Second) e = ap (is_thread t) (in_second e) ∙ ap (λ b. if b then 1 else 0) (same t)
 
-    pub standing_by : standing t (lock_state w l) ≡ stood_in (station_at (place_at w t) l).stands Main + stood_in (station_at (place_at w t) l).stands Second + one_if_some (taken_at (place_at w t) l)
+    pub standing_by : standing t (lock_state w l)
+        ≡ stood_in (station_at (place_at w t) l).stands Main + stood_in (station_at (place_at w t) l).stands Second + one_if_some
+        (taken_at (place_at w t) l)
     standing_by =
         let a : locks.times t (lock_state w l).queue ≡ stood_in (station_at (place_at w t) l).stands Main = queued_times t (queue_at w (2 * l)) ∙ steady.stands.lines t l Main in
         let b = aside_by in
@@ -219,7 +226,8 @@ module _ (w : State) (t : ℕ) (steady : IsSteady w) where
     pub stands_there : 1 ≤ standing t (lock_state w l) → StandsAt (place_at w t) l
     stands_there some = by_row (station_at (place_at w t) l).stands refl (taken_at (place_at w t) l) refl
       where
-        by_row : (o : Option Line) → (station_at (place_at w t) l).stands ≡ o → (h : Option Taken) → taken_at (place_at w t) l ≡ h → StandsAt (place_at w t) l
+        by_row : (o : Option Line) → (station_at (place_at w t) l).stands ≡ o → (h : Option Taken) → taken_at (place_at w t) l ≡ h
+            → StandsAt (place_at w t) l
         by_row (Some m) e h f = inl (λ none. let g : ◌≡◌ {A = Option Line} None (Some m) = sym none ∙ e in cc)
         by_row None e (Some x) f = inr (λ none. let g : ◌≡◌ {A = Option Taken} None (Some x) = sym none ∙ f in cc)
         by_row None e None f = absurd (let n : standing t (lock_state w l) ≡ 0 = standing_by ∙ (λ i. stood_in (e i) Main + stood_in (e i) Second + one_if_some (f i)) in omega arith)
@@ -245,7 +253,8 @@ module _ (w : State) (t : ℕ) (steady : IsSteady w) where
             let n = standing_by in omega arith
 
     -- in a call of one lock it calls that one, and waits
-    pub stands_waiting : IsSingle (place_at w t) → 1 ≤ standing t (lock_state w l) → (lock_of (place_at w t) ≡ Some l) × IsWaiting (profile (place_at w t))
+    pub stands_waiting : IsSingle (place_at w t) → 1 ≤ standing t (lock_state w l)
+        → (lock_of (place_at w t) ≡ Some l) × IsWaiting (profile (place_at w t))
     stands_waiting single some = elim (calls_one (place_at w t) l) [
       | inl own ↦ (
         own,
@@ -326,12 +335,17 @@ module _ (w : State) (t : ℕ) (steady : IsSteady w) where
     ])
 
     -- on its way into the section of a line
-    lets_in_at : (m : Line) → LetsOthersIn w t l ⊎ (WakesAside (call_at w t).purpose l m ⊎ HasReleased (call_at w t).purpose (call_at w t).released l m) → LetsInAt (sort_at w l) l (profile (place_at w t)) m
+    lets_in_at : (m : Line)
+        → LetsOthersIn w t l
+        ⊎ (WakesAside (call_at w t).purpose l m ⊎ HasReleased (call_at w t).purpose (call_at w t).released l m)
+        → LetsInAt (sort_at w l) l (profile (place_at w t)) m
     lets_in_at m (inl lets) = inl (lets_in lets)
     lets_in_at m (inr (inl wakes)) = inr (subst (λ (c : CallState). WakesAside c.purpose l m) call_own wakes)
     lets_in_at m (inr (inr released)) = absurd (not_released (call_at w t).purpose (calls_one_lock single) (call_at w t).released l m released)
 
-    lets_out_at : (m : Line) → LetsInAt (sort_at w l) l (profile (place_at w t)) m → LetsOthersIn w t l ⊎ (WakesAside (call_at w t).purpose l m ⊎ HasReleased (call_at w t).purpose (call_at w t).released l m)
+    lets_out_at : (m : Line) → LetsInAt (sort_at w l) l (profile (place_at w t)) m
+        → LetsOthersIn w t l
+        ⊎ (WakesAside (call_at w t).purpose l m ⊎ HasReleased (call_at w t).purpose (call_at w t).released l m)
     lets_out_at m h = elim h [ inl lets ↦ inl (lets_out lets) | inr wakes ↦ inr (inl (subst (λ (c : CallState). WakesAside c.purpose l m) (sym call_own) wakes)) ]
 
   -- who owes a wake on a line is inside its section, or lets others in and is on its way into it
@@ -350,7 +364,8 @@ module _ (w : State) (t : ℕ) (steady : IsSteady w) where
       inside_calls o e i = doing_calls (place_at w t) l single (λ idles. let f : (station_at (place_at w t) l).inside ≡ Some m = (steady.stands.sections t l m).1 i in
           let g : ◌≡◌ {A = Option Line} None (Some m) = sym (ap (λ (d : Doing). d.inside) idles) ∙ inside_is (place_at w t) l ∙ f in cc)
 
-      entering_calls : (o : Option ℕ) → lock_of (place_at w t) ≡ o → act_of (place_at w t) ≡ Enter (One (key_of l m)) → lock_of (place_at w t) ≡ Some l
+      entering_calls : (o : Option ℕ) → lock_of (place_at w t) ≡ o → act_of (place_at w t) ≡ Enter (One (key_of l m))
+          → lock_of (place_at w t) ≡ Some l
       entering_calls None e a = absurd (let f : Rest ≡ Enter (One (key_of l m)) = sym (ap act_of (calls_none (place_at w t) e)) ∙ a in cc)
       entering_calls (Some k) e a =
           let of : IsOfLine k (key_of l m) = subst (IsLineAct k (station (place_at w t))) a (line_act (place_at w t) k single e) in

@@ -60,7 +60,8 @@ OwesAt w t sort l p =
     let told = reply_to w t (act_of p) in
     RowOwesThen sort l (word_at w l) (profile p) (outcome_of (next_act p told)) (profile (next_place p told)) (act_of (next_place p told))
 
-plain_owes : (w : State) (t k : ℕ) (a : Admission) (p : RwLockPlace) → Admits (rules_in w k) a → MayStand a p → OwesAt w t (sort_at w k) k (RwLock k a (Plain p))
+plain_owes : (w : State) (t k : ℕ) (a : Admission) (p : RwLockPlace) → Admits (rules_in w k) a → MayStand a p
+    → OwesAt w t (sort_at w k) k (RwLock k a (Plain p))
 plain_owes w t k a p admits stands =
     let none : given false p (reply_to w t (rwlock_act k a p)) ≡ None = never_given w t false p (rwlock_act k a p) in
     rw (plain_acts k a p (reply_to w t (rwlock_act k a p)) none, plain_leads k a p (reply_to w t (rwlock_act k a p)) none)
@@ -68,17 +69,20 @@ plain_owes w t k a p admits stands =
 
 -- at any place of a call of a lock that is shared
 pub call_owes : (w : State) (t k : ℕ) (a : Admission) (c : RwLockCallPlace) → Admits (rules_in w k) a → CallStands a c
-    → ((b : Bool) (seen : ℕ) → c ≡ HandOver access.Exclusive b (handing.Free seen) → IsOwners (word_at w k)) → OwesAt w t (sort_at w k) k (RwLock k a c)
+    → ((b : Bool) (seen : ℕ) → c ≡ HandOver access.Exclusive b (handing.Free seen) → IsOwners (word_at w k))
+    → OwesAt w t (sort_at w k) k (RwLock k a c)
 call_owes w t k a (Plain p) admits stands alone = plain_owes w t k a p admits stands
 call_owes w t k a c admits stands alone = leads (call_next a c (reply_to w t (call_act k a c))) (call_owes_next w t k a admits c stands tt alone)
   where
     leads : (n : Next RwLockCallPlace) → CallOwesNext (rules_in w k) a k (word_at w k) c n
-        → RowOwesThen (sort_at w k) k (word_at w k) (call_profile a c) (outcome_of (rwlock_does k a n)) (profile (rwlock_goes k a n)) (act_of (rwlock_goes k a n))
+        → RowOwesThen (sort_at w k) k (word_at w k) (call_profile a c) (outcome_of (rwlock_does k a n))
+        (profile (rwlock_goes k a n)) (act_of (rwlock_goes k a n))
     leads (next.At d) h = h
     leads (next.End answer) h = record { since = h.since; sees = λ m s step looks. absurd cc }
 
 -- the reply to its act leads a thread on, in a call of one lock
-pub owes_next : (w : State) (t l : ℕ) → IsSteady w → IsSingle (place_at w t) → lock_of (place_at w t) ≡ Some l → OwesAt w t (sort_at w l) l (place_at w t)
+pub owes_next : (w : State) (t l : ℕ) → IsSteady w → IsSingle (place_at w t) → lock_of (place_at w t) ≡ Some l
+    → OwesAt w t (sort_at w l) l (place_at w t)
 owes_next w t l steady single own = by_place (place_at w t) refl own
   where
     -- an exclusive owner knows the word but for those who wait

@@ -11,7 +11,8 @@ use Rattle.lot_laws.specs.Refinement.{call_state, lock_state, locks_of, taken_at
 use Rattle.lot_laws.proofs.CallEvents.{put_is, rights}
 
 module _ (w : State) (t : ℕ) (there : t < length w.places) where
-  pub placed : (s : List (Option ℕ)) (p p2 : Place) → place_at w t ≡ p → ((k : ℕ) → taken_at p2 k ≡ taken_at p k) → (c : CallState) → ((r : ℕ → Rights) → r ≡ rights w t → call_state p2 r ≡ c)
+  pub placed : (s : List (Option ℕ)) (p p2 : Place) → place_at w t ≡ p → ((k : ℕ) → taken_at p2 k ≡ taken_at p k)
+      → (c : CallState) → ((r : ℕ → Rights) → r ≡ rights w t → call_state p2 r ≡ c)
       → Stays (locks_of w) t c outcome.TheVariants.Step (locks_of (put (record w { sections = s }) t p2))
   placed s p p2 is stays c called = record {
     told = refl;

@@ -30,10 +30,12 @@ pub next_is : (l : ℕ) (a : Admission) (n : Next RwLockPlace) → profile (plai
 next_is l a (next.At p) = refl
 next_is l a (next.End answer) = refl
 
-pub plain_leads : (l : ℕ) (a : Admission) (p : RwLockPlace) (told : Reply) → given false p told ≡ None → next_place (RwLock l a (Plain p)) told ≡ plain_goes l a (rwlock_next a p told)
+pub plain_leads : (l : ℕ) (a : Admission) (p : RwLockPlace) (told : Reply) → given false p told ≡ None
+    → next_place (RwLock l a (Plain p)) told ≡ plain_goes l a (rwlock_next a p told)
 plain_leads l a p told none = ap (λ (o : Option RwLockCallPlace). rwlock_goes l a (unless_given o (plain_next (rwlock_next a p told)))) none
 
-pub plain_acts : (l : ℕ) (a : Admission) (p : RwLockPlace) (told : Reply) → given false p told ≡ None → next_act (RwLock l a (Plain p)) told ≡ plain_does l a (rwlock_next a p told)
+pub plain_acts : (l : ℕ) (a : Admission) (p : RwLockPlace) (told : Reply) → given false p told ≡ None
+    → next_act (RwLock l a (Plain p)) told ≡ plain_does l a (rwlock_next a p told)
 plain_acts l a p told none = ap (λ (o : Option RwLockCallPlace). rwlock_does l a (unless_given o (plain_next (rwlock_next a p told)))) none
 
 -- no act of its own is told that the thread was handed the lock

@@ -91,13 +91,15 @@ module _ (w : State) where
   can_is (Enter (One key)) can = (refl, refl, none_is (section_at w key) can)
   can_is (Enter (Two first second)) can = (refl, refl, two (is_none (section_at w first)) (is_none (section_at w second)) refl refl can)
     where
-      two : (a b : Bool) → is_none (section_at w first) ≡ a → is_none (section_at w second) ≡ b → (a && b) ≡ true → (section_at w first ≡ None) × (section_at w second ≡ None)
+      two : (a b : Bool) → is_none (section_at w first) ≡ a → is_none (section_at w second) ≡ b → (a && b) ≡ true
+          → (section_at w first ≡ None) × (section_at w second ≡ None)
       two true true ea eb can = (none_is (section_at w first) ea, none_is (section_at w second) eb)
       two true false ea eb can = absurd cc
       two false b ea eb can = absurd cc
   can_is a can = (refl, refl, tt)
 
-  can_if : (a : Act) → is_acting a ≡ true → sleeps a ≡ false → runs_closure a ≡ false → AreFree (locks_of w) (keys_entered a) → can_do w a ≡ true
+  can_if : (a : Act) → is_acting a ≡ true → sleeps a ≡ false → runs_closure a ≡ false → AreFree (locks_of w) (keys_entered a)
+      → can_do w a ≡ true
   can_if Rest acting awake outside free = absurd cc
   can_if (End answer) acting awake outside free = absurd cc
   can_if Sleep acting awake outside free = absurd cc
@@ -115,7 +117,8 @@ called_of w p r can = by_lock (beside_of p) (lock_of p) refl
     by_lock (Some m) (Some l) e = λ h. cc
     by_lock m None e = absurd (let f : can_do w Rest ≡ true = ap (λ q. can_do w (act_of q)) (sym (calls_none p e)) ∙ can in cc)
 
-acting_of : (w : State) (t : ℕ) → IsSteady w → (call_state (place_at w t) (rights w t)).purpose ≢ None → is_acting (act_of (place_at w t)) ≡ true
+acting_of : (w : State) (t : ℕ) → IsSteady w → (call_state (place_at w t) (rights w t)).purpose ≢ None
+    → is_acting (act_of (place_at w t)) ≡ true
 acting_of w t steady called = elim (single_or_two (place_at w t)) [
   | inl single ↦ by_lock single (lock_of (place_at w t)) refl
   | inr two ↦ ap (λ p. is_acting (act_of p)) two.is ∙ condvar_acts two.lock two.at
@@ -125,7 +128,8 @@ acting_of w t steady called = elim (single_or_two (place_at w t)) [
     by_lock single (Some l) e = (row_promises w t steady l single e).acts
     by_lock single None e = absurd (called (ap (λ (c : CallState). c.purpose) (call_none (place_at w t) e (rights w t))))
 
-late_two : (w : State) (t : ℕ) → IsSteady w → (two : IsOfTwo (place_at w t)) → (key : ℕ) → late_key (place_at w t) ≡ Some key → IsLate two.lock two.at key
+late_two : (w : State) (t : ℕ) → IsSteady w → (two : IsOfTwo (place_at w t)) → (key : ℕ) → late_key (place_at w t) ≡ Some key
+    → IsLate two.lock two.at key
 late_two w t steady two key e = two_late two.lock two.at (condvar_apart w two.lock two.at (fits_two w t steady two)) key (sym (ap late_key two.is) ∙ e)
 
 pub may_go : (w : State) (t : ℕ) → can_go w t ≡ true → MayGo (locks_of w) t
@@ -143,11 +147,13 @@ sleeps_is a h = absurd cc
 
 module _ (w : State) (t : ℕ) (steady : IsSteady w) where
   -- a thread in whose line the section is free may be late there
-  stands_freely : (l : ℕ) (m : Line) → (station_at (place_at w t) l).stands ≡ Some m → section_at w (key_of l m) ≡ None → StandsFreely (locks_of w) t l
+  stands_freely : (l : ℕ) (m : Line) → (station_at (place_at w t) l).stands ≡ Some m → section_at w (key_of l m) ≡ None
+      → StandsFreely (locks_of w) t l
   stands_freely l Main stands free = inl (let n : locks.times t (lock_state w l).queue ≡ 1 = queued_by w steady t l ∙ ap (λ x. stood_in x Main) stands in omega arith, free)
   stands_freely l Second stands free = inr (in_second w t steady l stands, free)
 
-  stands_free : (l : ℕ) → StandsFreely (locks_of w) t l → (m : Line) × ((station_at (place_at w t) l).stands ≡ Some m) × (is_none (section_at w (key_of l m)) ≡ true)
+  stands_free : (l : ℕ) → StandsFreely (locks_of w) t l
+      → (m : Line) × ((station_at (place_at w t) l).stands ≡ Some m) × (is_none (section_at w (key_of l m)) ≡ true)
   stands_free l (inl h) = (Main, in_main (station_at (place_at w t) l).stands (subst (λ n. 1 ≤ n) (queued_by w steady t l) h.0), ap is_none h.1)
   stands_free l (inr h) = (Second, in_line (station_at (place_at w t) l).stands (subst (λ n. 1 ≤ n) (steady.stands.lines t l Second) (first_times t (queue_at w (2 * l + 1)) h.0)), ap is_none h.1)
     where
@@ -184,7 +190,8 @@ module _ (w : State) (t : ℕ) (steady : IsSteady w) where
   pub may_be_late : is_free_under w (late_key (place_at w t)) ≡ true → MayBeLate (locks_of w) t
   may_be_late can = late_there (late_key (place_at w t)) refl can
 
-  module _ (may : MayBeLate (locks_of w) t) (n : Line) (stood : (station_at (place_at w t) may.lock).stands ≡ Some n) (free : is_none (section_at w (key_of may.lock n)) ≡ true) where
+  module _ (may : MayBeLate (locks_of w) t) (n : Line) (stood : (station_at (place_at w t) may.lock).stands ≡ Some n)
+      (free : is_none (section_at w (key_of may.lock n)) ≡ true) where
     late_one : IsSingle (place_at w t) → is_free_under w (late_key (place_at w t)) ≡ true
     late_one single =
         let own = station_calls (place_at w t) may.lock single (λ out. let e : ◌≡◌ {A = Option Line} None (Some n) = sym (ap (λ (x : Station). x.stands) out) ∙ stood in cc) in
@@ -216,26 +223,31 @@ told_act (Closure state) = ((λ h. cc), λ h. cc)
 told_act Rest = ((λ h. cc), λ h. cc)
 told_act a = ((λ h. cc), λ h. cc)
 
-told_next : (l : ℕ) (n : Next MutexPlace) → (outcome_of (mutex_does l n) ≡ outcome.TheVariants.Sleep) ↔ (sleeps (act_of (mutex_goes l n)) ≡ true)
+told_next : (l : ℕ) (n : Next MutexPlace)
+    → (outcome_of (mutex_does l n) ≡ outcome.TheVariants.Sleep) ↔ (sleeps (act_of (mutex_goes l n)) ≡ true)
 told_next l (next.At at) = told_act (mutex_act l at)
 told_next l (next.End answer) = ((λ h. cc), λ h. cc)
 
-pub told_gone : (p : Place) (r : Reply) → (outcome_of (next_act p r) ≡ outcome.TheVariants.Sleep) ↔ (sleeps (act_of (next_place p r)) ≡ true)
+pub told_gone : (p : Place) (r : Reply)
+    → (outcome_of (next_act p r) ≡ outcome.TheVariants.Sleep) ↔ (sleeps (act_of (next_place p r)) ≡ true)
 told_gone Idle r = ((λ h. cc), λ h. cc)
 told_gone (Mutex l at) r = told_next l (mutex_next at r)
 told_gone (Once l at) r = by_next (once_next at r)
   where
-    by_next : (n : Next OncePlace) → (outcome_of (once_does l n) ≡ outcome.TheVariants.Sleep) ↔ (sleeps (act_of (once_goes l n)) ≡ true)
+    by_next : (n : Next OncePlace)
+        → (outcome_of (once_does l n) ≡ outcome.TheVariants.Sleep) ↔ (sleeps (act_of (once_goes l n)) ≡ true)
     by_next (next.At q) = told_act (once_act l q)
     by_next (next.End answer) = ((λ h. cc), λ h. cc)
 told_gone (RwLock l a c) r = by_next (call_next a c r)
   where
-    by_next : (n : Next RwLockCallPlace) → (outcome_of (rwlock_does l a n) ≡ outcome.TheVariants.Sleep) ↔ (sleeps (act_of (rwlock_goes l a n)) ≡ true)
+    by_next : (n : Next RwLockCallPlace)
+        → (outcome_of (rwlock_does l a n) ≡ outcome.TheVariants.Sleep) ↔ (sleeps (act_of (rwlock_goes l a n)) ≡ true)
     by_next (next.At q) = told_act (call_act l a q)
     by_next (next.End answer) = ((λ h. cc), λ h. cc)
 told_gone (Condvar l at) r = by_next (condvar_next at r)
   where
-    by_next : (n : Next CondvarPlace) → (outcome_of (condvar_does l n) ≡ outcome.TheVariants.Sleep) ↔ (sleeps (act_of (condvar_goes l n)) ≡ true)
+    by_next : (n : Next CondvarPlace)
+        → (outcome_of (condvar_does l n) ≡ outcome.TheVariants.Sleep) ↔ (sleeps (act_of (condvar_goes l n)) ≡ true)
     by_next (next.At q) = told_act (condvar_act l q)
     by_next (next.End answer) = ((λ h. cc), λ h. cc)
 
@@ -351,13 +363,16 @@ turner_there w t x may = elim (cases_lt t (length w.places)) [
 -- ---------------------------------------------------------------- sections
 
 module _ (w : State) (t : ℕ) where
-  filled_changes : (k : ℕ) (who : Option ℕ) → k < length w.sections → SectionChanges (section_at w k) t who → (key : ℕ) → SectionChanges (section_at w key) t (section_at (state_with_sections w (One k) who) key)
+  filled_changes : (k : ℕ) (who : Option ℕ) → k < length w.sections → SectionChanges (section_at w k) t who → (key : ℕ)
+      → SectionChanges (section_at w key) t (section_at (state_with_sections w (One k) who) key)
   filled_changes k who lt changes key = elim (cases_eq key k) [
     | inl e ↦ rw (e, get_or-set_same w.sections k who None lt) changes
     | inr ne ↦ inl (get_or-set_other w.sections k key who None ne)
   ]
 
-  filled_both : (j k : ℕ) (who : Option ℕ) → j < length w.sections → k < length w.sections → SectionChanges (section_at w j) t who → SectionChanges (section_at w k) t who → (key : ℕ) → SectionChanges (section_at w key) t (section_at (state_with_sections w (Two j k) who) key)
+  filled_both : (j k : ℕ) (who : Option ℕ) → j < length w.sections → k < length w.sections → SectionChanges (section_at w j) t who
+      → SectionChanges (section_at w k) t who → (key : ℕ)
+      → SectionChanges (section_at w key) t (section_at (state_with_sections w (Two j k) who) key)
   filled_both j k who there here first second key = elim (cases_eq key k) [
     | inl e ↦ rw (e, get_or-set_same (set w.sections j who) k who None (rw (length-set w.sections j who) here)) second
     | inr ne ↦ rw (get_or-set_other (set w.sections j who) k key who None ne) (filled_changes j who there first key)
@@ -371,11 +386,13 @@ module _ (w : State) (t : ℕ) where
   took_sections queues None key = refl
   took_sections queues (Some u) key = refl
 
-  left_sections : (keys : Keys) (x : Wakes) (key : ℕ) → section_at (state_after_wake (state_with_sections w keys None) t x) key ≡ section_at (state_with_sections w keys None) key
+  left_sections : (keys : Keys) (x : Wakes) (key : ℕ)
+      → section_at (state_after_wake (state_with_sections w keys None) t x) key ≡ section_at (state_with_sections w keys None) key
   left_sections keys wakes.TheVariants.Nobody key = refl
   left_sections keys (wakes.TheVariants.All note) key = refl
 
-  given_sections : (p : Place) (k : ℕ) (op : Op) (b : Bool) (key : ℕ) → section_at (state_after_hand_over_by b w t p k op) key ≡ section_at w key
+  given_sections : (p : Place) (k : ℕ) (op : Op) (b : Bool) (key : ℕ)
+      → section_at (state_after_hand_over_by b w t p k op) key ≡ section_at w key
   given_sections p k op true key = refl
   given_sections p k op false key = refl
 
@@ -389,7 +406,8 @@ module _ (w : State) (t : ℕ) where
     there_is key h = subst (λ k. k < length w.sections) (sym h.1) (key_there w l h.0 shape lt)
 
     -- it enters or leaves the section of one line alone, and leaves it only from inside
-    act_sections : (p : Place) (a : Act) → can_do w a ≡ true → IsLineAct l (station (place_at w t)) a → (key : ℕ) → SectionChanges (section_at w key) t (section_at (state_after_act w t p a) key)
+    act_sections : (p : Place) (a : Act) → can_do w a ≡ true → IsLineAct l (station (place_at w t)) a → (key : ℕ)
+        → SectionChanges (section_at w key) t (section_at (state_after_act w t p a) key)
     act_sections p (Enter (One k)) can h key = filled_changes k (Some t) (there_is k h) (inr (inl (none_is (section_at w k) can, refl))) key
     act_sections p (Enter (Two first second)) can h key = absurd h
     act_sections p (act.Leave (One k) x) can h key = rw (left_sections (One k) x key) (filled_changes k None (there_is k (h.0, h.2)) (inr (inr (holds_line w t l steady is_of k h, refl))) key)
@@ -401,18 +419,21 @@ module _ (w : State) (t : ℕ) where
     act_sections p Rest can h key = inl refl
     act_sections p a can h key = inl refl
 
-  module _ (shape : IsShaped w) (steady : IsSteady w) (c : ℕ) (at : CondvarPlace) (is : place_at w t ≡ Condvar c at) (fits : FitsItsLock w (Condvar c at)) where
+  module _ (shape : IsShaped w) (steady : IsSteady w) (c : ℕ) (at : CondvarPlace) (is : place_at w t ≡ Condvar c at)
+      (fits : FitsItsLock w (Condvar c at)) where
     key_is : (key : ℕ) → IsItsKey c at key → key < length w.sections
     key_is key (inl h) = subst (λ k. k < length w.sections) (sym h) (key_there w c Main shape (subst (PlaceFits (length w.locks)) is (shape.places t)).0)
     key_is key (inr h) = subst (λ k. k < length w.sections) (sym h.2) (key_there w h.0 Main shape (beside_there at h.1 (subst (PlaceFits (length w.locks)) is (shape.places t))))
       where
-        beside_there : (p : CondvarPlace) → mutex_beside p ≡ Some h.0 → PlaceFits (length w.locks) (Condvar c p) → h.0 < length w.locks
+        beside_there : (p : CondvarPlace) → mutex_beside p ≡ Some h.0 → PlaceFits (length w.locks) (Condvar c p)
+            → h.0 < length w.locks
         beside_there (Wait m timed q) e held = let here : m ≡ h.0 = cc in subst (λ k. k < length w.locks) here held.1
         beside_there (Notify all m q) e held = let here : m ≡ h.0 = cc in subst (λ k. k < length w.locks) here held.1
         beside_there (Look all) e held = absurd cc
 
     -- it enters sections that are free, and leaves those that it is inside
-    two_sections : (p : Place) (a : Act) → can_do w a ≡ true → IsActOfTwo c at a → (key : ℕ) → SectionChanges (section_at w key) t (section_at (state_after_act w t p a) key)
+    two_sections : (p : Place) (a : Act) → can_do w a ≡ true → IsActOfTwo c at a → (key : ℕ)
+        → SectionChanges (section_at w key) t (section_at (state_after_act w t p a) key)
     two_sections p (Enter (One k)) can h key = filled_changes k (Some t) (key_is k h) (inr (inl (none_is (section_at w k) can, refl))) key
     two_sections p (Enter (Two first second)) can h key = let free = (can_is w (Enter (Two first second)) can).2 in
         filled_both first second (Some t) (key_is first h.0) (key_is second h.1) (inr (inl (free.0, refl))) (inr (inl (free.1, refl))) key
@@ -425,21 +446,25 @@ module _ (w : State) (t : ℕ) where
     two_sections p Rest can h key = inl refl
     two_sections p a can h key = inl refl
 
-pub gone_sections : (w : State) (t : ℕ) → IsShaped w → IsSteady w → can_go w t ≡ true → (key : ℕ) → SectionChanges (section_at w key) t (section_at (state_after_go w t) key)
+pub gone_sections : (w : State) (t : ℕ) → IsShaped w → IsSteady w → can_go w t ≡ true → (key : ℕ)
+    → SectionChanges (section_at w key) t (section_at (state_after_go w t) key)
 gone_sections w t shape steady can = elim (single_or_two (place_at w t)) [ inl single ↦ by_lock single (lock_of (place_at w t)) refl | inr two ↦ by_two two ]
   where
-    by_lock : IsSingle (place_at w t) → (o : Option ℕ) → lock_of (place_at w t) ≡ o → (key : ℕ) → SectionChanges (section_at w key) t (section_at (state_after_act w t (place_at w t) (act_of (place_at w t))) key)
+    by_lock : IsSingle (place_at w t) → (o : Option ℕ) → lock_of (place_at w t) ≡ o → (key : ℕ)
+        → SectionChanges (section_at w key) t (section_at (state_after_act w t (place_at w t) (act_of (place_at w t))) key)
     by_lock single (Some l) own key = act_sections w t shape steady l (of_own l (place_at w t) single own) (calls_there (length w.locks) (place_at w t) l own (shape.places t)) (place_at w t) (act_of (place_at w t)) can (line_act (place_at w t) l single own) key
     by_lock single None none key = absurd (let e : can_do w (act_of (place_at w t)) ≡ false = ap (λ p. can_do w (act_of p)) (calls_none (place_at w t) none) in cc)
 
-    by_two : (two : IsOfTwo (place_at w t)) → (key : ℕ) → SectionChanges (section_at w key) t (section_at (state_after_act w t (place_at w t) (act_of (place_at w t))) key)
+    by_two : (two : IsOfTwo (place_at w t)) → (key : ℕ)
+        → SectionChanges (section_at w key) t (section_at (state_after_act w t (place_at w t) (act_of (place_at w t))) key)
     by_two two key = let fits = fits_two w t steady two in
         two_sections w t shape steady two.lock two.at two.is fits (place_at w t) (act_of (place_at w t)) can (subst (λ p. IsActOfTwo two.lock two.at (act_of p)) (sym two.is) (condvar_lines two.lock two.at fits.reached)) key
 
 -- ---------------------------------------------------------------- the other turns
 
 module _ (w : State) (t : ℕ) (there : t < length w.places) where
-  pub late_awake : IsSteady w → (o : Option ℕ) → late_key (place_at w t) ≡ o → is_free_under w o ≡ true → sleeps (act_of (place_at (state_after_late_on w t o) t)) ≡ false
+  pub late_awake : IsSteady w → (o : Option ℕ) → late_key (place_at w t) ≡ o → is_free_under w o ≡ true
+      → sleeps (act_of (place_at (state_after_late_on w t o) t)) ≡ false
   late_awake steady None e can = absurd cc
   late_awake steady (Some key) e can =
       ap (λ p. sleeps (act_of p)) (get_or-set_same w.places t (next_place (place_at w t) Late) Idle there) ∙ awake_is (act_of (next_place (place_at w t) Late)) (elim (single_or_two (place_at w t)) [
@@ -449,10 +474,13 @@ module _ (w : State) (t : ℕ) (there : t < length w.places) where
 
 module _ (w : State) (t : ℕ) (shape : IsShaped w) where
   -- who is late enters the section of the line in which it sleeps
-  pub late_sections : IsSteady w → (p : Place) → place_at w t ≡ p → PlaceFits (length w.locks) p → is_free_under w (late_key p) ≡ true → (key : ℕ) → SectionChanges (section_at w key) t (section_at (state_after_late_on w t (late_key p)) key)
+  pub late_sections : IsSteady w → (p : Place) → place_at w t ≡ p → PlaceFits (length w.locks) p
+      → is_free_under w (late_key p) ≡ true → (key : ℕ)
+      → SectionChanges (section_at w key) t (section_at (state_after_late_on w t (late_key p)) key)
   late_sections steady p is fits can = by_key (late_key p) refl can
     where
-      by_key : (o : Option ℕ) → late_key p ≡ o → is_free_under w o ≡ true → (key : ℕ) → SectionChanges (section_at w key) t (section_at (state_after_late_on w t o) key)
+      by_key : (o : Option ℕ) → late_key p ≡ o → is_free_under w o ≡ true → (key : ℕ)
+          → SectionChanges (section_at w key) t (section_at (state_after_late_on w t o) key)
       by_key None e can key = absurd cc
       by_key (Some k) e can key = filled_changes w t k (Some t) (elim (single_or_two p) [
         | inl single ↦ (let of = late_line p k single e in subst (λ j. j < length w.sections) (sym of.2.2) (key_there w of.0 of.2.0 shape (calls_there (length w.locks) p of.0 of.1 fits)))

@@ -21,11 +21,11 @@ use Rattle.abstract_locks.specs.Codes.{HasLimit}
 use Rattle.abstract_locks.specs.Purposes.{Enters, Converts, Bumps, CallsOnce, Awaits, Purpose, MayWait, rules_of, Waits}
 use Rattle.lot_laws.specs.Refinement.{RunsClosure, locks_of, lock_state, lock_seen, taken_at, call_at, call_on, call_state, stance_of}
 use Rattle.lot_laws.specs.Owing.{Owes, sort_at}
-use Rattle.lot_laws.specs.Promises.{IsKept, KnowsRights, WaitsFor, WakesWaiters, IsDebtorOf, IsLookedAfter, IsOpenNow, WasNeverFull, HasOrPends, IsHandedOver, IsOwedWake, IsWithinLimit, want_of, CallsOneLock, HasReleased}
+use Rattle.lot_laws.specs.Promises.{IsKept, KnowsRights, WaitsFor, WakesWaiters, IsDebtorOf, IsLookedAfter, IsOpenNow, WasNeverFull, HasOrPends, IsHandedOver, IsOwedWake, IsWithinLimit, want_of, HasReleased}
 use Rattle.lot_laws.proofs.Closures.{runs_one}
 use Rattle.lot_laws.proofs.ShownMutex.{shows_waiters}
 use Rattle.lot_laws.proofs.SitesPromise.{not_empty}
-use Rattle.lot_laws.proofs.RowPromises.{IsDebtorIn, HasClaimed, HasDebt, WasHanded, RowLooksAfter}
+use Rattle.lot_laws.proofs.RowPromises.{CallsOneLock, IsDebtorIn, HasClaimed, HasDebt, WasHanded, RowLooksAfter}
 use Rattle.lot_laws.proofs.PlacePromises.{row_promises, station_own, doing_own, owed_own, owes_own, calls_one_lock, doing_calls, station_calls, stands_waiting, waiting_stands, call_own, inside_own}
 use Rattle.lot_laws.proofs.SingleCalls.{call_none, single_call}
 use Rattle.lot_condvar.specs.declared.places.CondvarPlace.{CondvarPlace}
@@ -59,7 +59,8 @@ one_purpose (Some (Waits j m timed)) l k one h g = absurd one
 one_purpose o l k one h g = absurd h
 
 -- who is shown to try again does
-retry_shown : (o : Option ℕ) (row : Profile) (r : ℕ → Rights) (l : ℕ) → ((row.retries && is_lock l o) ≡ true) ↔ ((call_on o row r).retries ≡ Some l)
+retry_shown : (o : Option ℕ) (row : Profile) (r : ℕ → Rights) (l : ℕ)
+    → ((row.retries && is_lock l o) ≡ true) ↔ ((call_on o row r).retries ≡ Some l)
 retry_shown None row r l = ((λ h. absurd (none row.retries h)), λ h. absurd cc)
   where
     none : (b : Bool) → (b && false) ≡ true → ⊥
@@ -81,7 +82,8 @@ unbuilt kinds.TheVariants.Condvar h = cc
 unbuilt kinds.TheVariants.Once h = cc
 
 -- where nobody bars the way, nobody owns the lock alone
-open_unowned : (sort : Sort) (s : LockState) → ((sorts.Knows sort Exclusive → ⊥) → s.exclusive ≡ None) → IsOpen sort s → s.exclusive ≡ None
+open_unowned : (sort : Sort) (s : LockState) → ((sorts.Knows sort Exclusive → ⊥) → s.exclusive ≡ None) → IsOpen sort s
+    → s.exclusive ≡ None
 open_unowned sorts.Mutex s none h = h
 open_unowned sorts.Normal s none h = h.0
 open_unowned sorts.Recursive s none h = h.0
@@ -90,7 +92,8 @@ open_unowned sorts.Condvar s none h = absurd h
 open_unowned sorts.Once s none h = none (λ k. k)
 
 -- whoever has released a mutex is in a wait with it
-released_mutex : (sort : ℕ → Sort) (q : Option Purpose) (released : Bool) (l : ℕ) → KnowsRights sort q → HasReleased q released l Main → sort l ≡ sorts.Mutex
+released_mutex : (sort : ℕ → Sort) (q : Option Purpose) (released : Bool) (l : ℕ) → KnowsRights sort q
+    → HasReleased q released l Main → sort l ≡ sorts.Mutex
 released_mutex sort (Some (Waits k n timed)) released l knows h = ap sort (sym h.0) ∙ knows.1
 released_mutex sort q released l knows h = absurd h
 
@@ -108,7 +111,9 @@ within r s shared h = by_sort r.sort refl shared
 
 module _ (w : State) (steady : IsSteady w) where
   -- in a call of one lock, or of two
-  by_call : (t : ℕ) (T : Place → Type 0) → (IsSingle (place_at w t) → T (place_at w t)) → ((k : ℕ) (at : CondvarPlace) → place_at w t ≡ Condvar k at → FitsItsLock w (Condvar k at) → T (Condvar k at)) → T (place_at w t)
+  by_call : (t : ℕ) (T : Place → Type 0) → (IsSingle (place_at w t) → T (place_at w t))
+      → ((k : ℕ) (at : CondvarPlace) → place_at w t ≡ Condvar k at → FitsItsLock w (Condvar k at) → T (Condvar k at))
+      → T (place_at w t)
   by_call t T one both = elim (single_or_two (place_at w t)) [
     | inl single ↦ one single
     | inr two ↦ subst T (sym two.is) (both two.lock two.at two.is (subst (FitsItsLock w) two.is (steady.stands.calls t)))
@@ -128,7 +133,8 @@ module _ (w : State) (steady : IsSteady w) where
       (λ single. by_lock single (lock_of (place_at w t)) refl)
       (λ k at is fits. subst (KnowsRights (sort_at w)) (sym (two_purpose k at (rights_now t))) (two_know w k at fits))
     where
-      by_lock : IsSingle (place_at w t) → (o : Option ℕ) → lock_of (place_at w t) ≡ o → KnowsRights (sort_at w) (call_at w t).purpose
+      by_lock : IsSingle (place_at w t) → (o : Option ℕ) → lock_of (place_at w t) ≡ o
+          → KnowsRights (sort_at w) (call_at w t).purpose
       by_lock single None e = subst (λ (c : CallState). KnowsRights (sort_at w) c.purpose) (sym (call_none (place_at w t) e (λ k. rights_of (lock_state w k) t))) tt
       by_lock single (Some l) e = subst (λ (c : CallState). KnowsRights (sort_at w) c.purpose) (sym (call_own w t steady l single e)) ((row_promises w t steady l single e).known (sort_at w) refl)
 
@@ -156,7 +162,8 @@ module _ (w : State) (steady : IsSteady w) where
   -- ---------------------------------------------------------------- nobody is forgotten
 
   -- who is to look after the waiters of a line does so
-  module _ (t l : ℕ) (m : Line) (single : IsSingle (place_at w t)) (debtor : IsDebtorIn (sort_at w l) (doing_on (place_at w t) l) m) (unowned : (lock_state w l).exclusive ≢ Some t) where
+  module _ (t l : ℕ) (m : Line) (single : IsSingle (place_at w t))
+      (debtor : IsDebtorIn (sort_at w l) (doing_on (place_at w t) l) m) (unowned : (lock_state w l).exclusive ≢ Some t) where
     own : lock_of (place_at w t) ≡ Some l
     own = doing_calls (place_at w t) l single (λ idles. idle_owes (sort_at w l) m (subst (λ d. IsDebtorIn (sort_at w l) d m) idles debtor))
 
@@ -180,7 +187,8 @@ module _ (w : State) (steady : IsSteady w) where
 
   -- in a call of a condition variable, beside it
   module _ (t l : ℕ) (two : IsOfTwo (place_at w t)) where
-    named_there : (m : Line) → IsDebtorIn (sort_at w l) (doing_on (place_at w t) l) m → (mutex_beside two.at ≡ Some l) × (doing_on (place_at w t) l ≡ (condvar_row two.at).doing)
+    named_there : (m : Line) → IsDebtorIn (sort_at w l) (doing_on (place_at w t) l) m
+        → (mutex_beside two.at ≡ Some l) × (doing_on (place_at w t) l ≡ (condvar_row two.at).doing)
     named_there m debtor = let b = debtor_beside (sort_at w l) two.lock two.at l m (subst (λ p. IsDebtorIn (sort_at w l) (doing_on p l) m) two.is debtor) in (b.0, ap (λ p. doing_on p l) two.is ∙ b.1)
 
     mutex_sort : mutex_beside two.at ≡ Some l → sort_at w l ≡ sorts.Mutex
@@ -196,10 +204,13 @@ module _ (w : State) (steady : IsSteady w) where
     released_two = ap (λ p. (call_state p (rights_now t)).released) two.is ∙ two_released two.lock two.at (rights_now t)
 
     module _ (names : mutex_beside two.at ≡ Some l) (looks : LooksBeside two.lock two.at l) where
+      owes_two : (condvar_row two.at).owes_mutex ≡ true → Owes w t l Main
+      owes_two owes = ap (λ p. line_owed p l) two.is ∙ two_owe two.lock two.at l names owes
+
       debt_two : IsDebtorOf w t l Main
       debt_two = elim looks.debt [
         | inl owed ↦ inl (
-          ap (λ p. line_owed p l) two.is ∙ two_owe two.lock two.at l names owed.0,
+          owes_two owed.0,
           subst (λ q. WakesWaiters (sort_at w l) q (call_at w t).gave_up (call_at w t).recalls l) (sym purpose_two)
               (subst (λ x. WakesWaiters (sort_at w l) (Some (condvar_purpose two.at two.lock)) (call_at w t).gave_up x l) (sym recalls_two) (owed.1 (sort_at w l) (call_at w t).gave_up)),
         )
@@ -209,29 +220,37 @@ module _ (w : State) (steady : IsSteady w) where
         )
       ]
 
-      nowhere_two : (k : ℕ) → (standing t (lock_state w k) ≡ 0) ⊎ HasReleased (call_at w t).purpose (call_at w t).released l Main
+      nowhere_two : (k : ℕ)
+          → (standing t (lock_state w k) ≡ 0)
+          ⊎ (HasReleased (call_at w t).purpose (call_at w t).released l Main × Owes w t l Main)
       nowhere_two k = elim looks.stands [
         | inl none ↦ inl (elim (cases_lt (standing t (lock_state w k)) 1) [
           | inl few ↦ omega arith
           | inr some ↦ absurd (none k (subst (λ p. StandsAt p k) two.is (stands_there w t steady k some)))
         ])
-        | inr released ↦ inr (subst (λ q. HasReleased q (call_at w t).released l Main) (sym purpose_two) (subst (λ b. HasReleased (Some (condvar_purpose two.at two.lock)) b l Main) (sym released_two) released))
+        | inr released ↦ inr (
+          subst (λ q. HasReleased q (call_at w t).released l Main) (sym purpose_two) (subst (λ b. HasReleased (Some (condvar_purpose two.at two.lock)) b l Main) (sym released_two) released.0),
+          owes_two released.1,
+        )
       ]
 
       looks_two : IsLookedAfter w l Main
       looks_two = record { debtor = t; debt = debt_two; awake = λ asleep. looks.awake (sym (ap act_of two.is) ∙ asleep); stands_nowhere = nowhere_two }
 
-    looked_main : IsDebtorIn (sort_at w l) (doing_on (place_at w t) l) Main → (lock_state w l).exclusive ≢ Some t → IsLookedAfter w l Main
+    looked_main : IsDebtorIn (sort_at w l) (doing_on (place_at w t) l) Main → (lock_state w l).exclusive ≢ Some t
+        → IsLookedAfter w l Main
     looked_main debtor unowned = let there = named_there Main debtor in
         looks_two there.0 (looks_beside two.lock two.at l (fits_two w t steady two).reached there.0
         (subst (λ s. IsDebtorIn s (condvar_row two.at).doing Main) (mutex_sort there.0) (subst (λ d. IsDebtorIn (sort_at w l) d Main) there.1 debtor))
         (λ claims. unowned ((steady.sites.site l).held t (Has Exclusive) (ap (λ (d : Doing). d.claims) there.1 ∙ claims))))
 
-    looked_two : (m : Line) → IsDebtorIn (sort_at w l) (doing_on (place_at w t) l) m → (lock_state w l).exclusive ≢ Some t → IsLookedAfter w l m
+    looked_two : (m : Line) → IsDebtorIn (sort_at w l) (doing_on (place_at w t) l) m → (lock_state w l).exclusive ≢ Some t
+        → IsLookedAfter w l m
     looked_two Main debtor unowned = looked_main debtor unowned
     looked_two Second debtor unowned = let there = named_there Second debtor in absurd (no_second two.at (fits_two w t steady two).reached (subst (λ d. IsDebtorIn (sort_at w l) d Second) there.1 debtor))
 
-  looked_after : (t l : ℕ) (m : Line) → IsDebtorIn (sort_at w l) (doing_on (place_at w t) l) m → (lock_state w l).exclusive ≢ Some t → IsLookedAfter w l m
+  looked_after : (t l : ℕ) (m : Line) → IsDebtorIn (sort_at w l) (doing_on (place_at w t) l) m
+      → (lock_state w l).exclusive ≢ Some t → IsLookedAfter w l m
   looked_after t l m debtor unowned = elim (single_or_two (place_at w t)) [ inl single ↦ looks_after t l m single debtor unowned | inr two ↦ looked_two t l two m debtor unowned ]
 
   unfilled : (l : ℕ) → WasNeverFull w l → filled_at w l ≡ false
@@ -242,7 +261,8 @@ module _ (w : State) (steady : IsSteady w) where
       by_sort false e = steady.sites.unfilled l e
 
   -- whoever waits in a line whose way is open
-  in_line : (l : ℕ) → (lock_state w l).queue ≢ [] → IsOpen (sort_at w l) (lock_state w l) → filled_at w l ≡ false → IsLookedAfter w l Main
+  in_line : (l : ℕ) → (lock_state w l).queue ≢ [] → IsOpen (sort_at w l) (lock_state w l) → filled_at w l ≡ false
+      → IsLookedAfter w l Main
   in_line l some now empty =
       let free = open_unowned (sort_at w l) (lock_state w l) (steady.sites.site l).state.unwritten now in
       let d = (steady.sites.site l).main (inl some) now empty in
@@ -254,7 +274,8 @@ module _ (w : State) (steady : IsSteady w) where
       in_line l (not_empty t (lock_state w l).queue waiting) now (unfilled l full)
 
   -- nobody counts as one who passes the turn of a `Once` on but who owes its waiters their wake
-  callers : (l : ℕ) → sort_at w l ≡ sorts.Once → has_caller (lock_state w l).queue ≡ true → (IsRunning (lock_state w l).phase → ⊥) → IsOwedWake w l
+  callers : (l : ℕ) → sort_at w l ≡ sorts.Once → has_caller (lock_state w l).queue ≡ true → (IsRunning (lock_state w l).phase → ⊥)
+      → IsOwedWake w l
   callers l once called rests = record { debtor = after.debtor; owes = by_debt after.debtor after.debt; awake = after.awake; stands_nowhere = rests_nowhere }
     where
       called_some : (q : List Queued) → has_caller q ≡ true → q ≢ []
@@ -268,7 +289,7 @@ module _ (w : State) (steady : IsSteady w) where
       rests_nowhere : (k : ℕ) → standing after.debtor (lock_state w k) ≡ 0
       rests_nowhere k = elim (after.stands_nowhere k) [
         | inl none ↦ none
-        | inr released ↦ absurd (let both : sorts.Once ≡ sorts.Mutex = sym once ∙ released_mutex (sort_at w) (call_at w after.debtor).purpose (call_at w after.debtor).released l (known after.debtor) released in cc)
+        | inr released ↦ absurd (let both : sorts.Once ≡ sorts.Mutex = sym once ∙ released_mutex (sort_at w) (call_at w after.debtor).purpose (call_at w after.debtor).released l (known after.debtor) released.0 in cc)
       ]
 
       counts_none : (o : Option Want) → counts_some sorts.Once o ≡ true → ⊥
@@ -301,7 +322,8 @@ module _ (w : State) (steady : IsSteady w) where
 
   module _ (t : ℕ) (asleep : act_of (place_at w t) ≡ Sleep) (nowhere : (l : ℕ) → standing t (lock_state w l) ≡ 0) where
     -- what it has, by what it claims
-    claimed_at : (l : ℕ) → lock_of (place_at w t) ≡ Some l → (x : Want) → HasClaimed (sort_at w l) (profile (place_at w t)).doing.claims x → HasOrPends (sort_at w l) (lock_state w l) t x
+    claimed_at : (l : ℕ) → lock_of (place_at w t) ≡ Some l → (x : Want)
+        → HasClaimed (sort_at w l) (profile (place_at w t)).doing.claims x → HasOrPends (sort_at w l) (lock_state w l) t x
     claimed_at l own x h = elim h [
       | inl has ↦ inl ((steady.sites.site l).held t (Has x) (claims ∙ has))
       | inr pends ↦ inr (pends.0, pends.1, subst (λ o. IsSomePending o t) (sym ((steady.sites.site l).held t (Pends pends.2.0) (claims ∙ pends.2.1))) refl)
@@ -311,7 +333,9 @@ module _ (w : State) (steady : IsSteady w) where
         claims = ap (λ (d : Doing). d.claims) (doing_own (place_at w t) l own)
 
     -- whoever hands over is inside, and wakes all whom it has in hand as it leaves
-    tells_inside : (by l : ℕ) → (station_at (place_at w by) l).carries ≡ Some true → (section_at w (2 * l) ≡ Some by) × (act_of (place_at w by) ≡ Leave (One (2 * l)) (wakes.TheVariants.All note.TheVariants.HandOff))
+    tells_inside : (by l : ℕ) → (station_at (place_at w by) l).carries ≡ Some true
+        → (section_at w (2 * l) ≡ Some by)
+        × (act_of (place_at w by) ≡ Leave (One (2 * l)) (wakes.TheVariants.All note.TheVariants.HandOff))
     tells_inside by l carries = elim (single_or_two (place_at w by)) [
       | inl single ↦ (let own = station_calls (place_at w by) l single (λ out. let e : ◌≡◌ {A = Option Bool} None (Some true) = sym (ap (λ (x : Station). x.carries) out) ∙ carries in cc) in
           let told = (row_promises w by steady l single own).tells (sym (ap (λ (x : Station). x.carries) (station_own (place_at w by) l own)) ∙ carries) in
@@ -336,7 +360,8 @@ module _ (w : State) (steady : IsSteady w) where
           wakes = told.1;
         }
 
-    handed_at : (l : ℕ) → IsSingle (place_at w t) → lock_of (place_at w t) ≡ Some l → WasHanded (sort_at w l) l (profile (place_at w t)) → IsHandedOver w t
+    handed_at : (l : ℕ) → IsSingle (place_at w t) → lock_of (place_at w t) ≡ Some l
+        → WasHanded (sort_at w l) l (profile (place_at w t)) → IsHandedOver w t
     handed_at l single own handed =
         let in_hand : (station_at (place_at w t) l).hand ≡ hand handed.by true = ap (λ (x : Station). x.hand) (station_own (place_at w t) l own) ∙ handed.in_hand in
         let carries = steady.stands.hands.taken handed.by t l true in_hand in
@@ -392,7 +417,8 @@ module _ (w : State) (steady : IsSteady w) where
 
 -- ---------------------------------------------------------------- the opening state, of the abstract locks
 
-pub opening_state : (kinds : List Kind) (threads l : ℕ) → lock_state (opening kinds threads) l ≡ opening_lock (length (opening kinds threads).places)
+pub opening_state : (kinds : List Kind) (threads l : ℕ)
+    → lock_state (opening kinds threads) l ≡ opening_lock (length (opening kinds threads).places)
 opening_state kinds threads l = λ i. lock_seen (opening_shares kinds threads l i) (nobody_owns kinds l i) (empty_at (2 * length kinds) (2 * l) i) (empty_at (2 * length kinds) (2 * l + 1) i) (λ u. taken_at (idle_at threads u i) l)
 
 pub opening_is : (kinds : List Kind) (threads : ℕ) → IsOpening (locks_of (opening kinds threads))

@@ -51,7 +51,8 @@ pub record WokeItself (t : ℕ) (s s2 : Stands) (at : UnlockAt) : Type 0 where
   pub in_hand : s ≡ stands.InHand t
   pub noted : s2 ≡ stands.Noted note.Normal
 
-module _ (w : State) (t l m : ℕ) (timed : Bool) (steady : IsSteady w) (here : t < length w.places) (apart : m ≢ l) (sort : (rules_in w m).sort ≡ locks.Mutex) (plain : rules_in w m ≡ glue.mutex)
+module _ (w : State) (t l m : ℕ) (timed : Bool) (steady : IsSteady w) (here : t < length w.places) (apart : m ≢ l)
+    (sort : (rules_in w m).sort ≡ locks.Mutex) (plain : rules_in w m ≡ glue.mutex)
     (line : key_of m Main < length w.queues) (section : key_of m Main < length w.sections) where
   abbrev pub place_of : Stands → UnlockAt → Place
   place_of s at = Condvar l (Wait m timed (releasing s at))

@@ -55,7 +55,8 @@ module _ (t l m : ℕ) (keeps : Keeps t) (timed late : Bool) where
     goes k can left = leads_behind t l m keeps w (relocks again a) g can (λ v o. Rests o) k (relocks again a) stays left
 
     -- the word of the mutex behind a step on it, and behind any other
-    word_is : (x : Op) → lock_act m a ≡ act.Word m x → can_do w (lock_act m a) ≡ true → word_at (after w (go_of t)) m ≡ apply x (word_at w m)
+    word_is : (x : Op) → lock_act m a ≡ act.Word m x → can_do w (lock_act m a) ≡ true
+        → word_at (after w (go_of t)) m ≡ apply x (word_at w m)
     word_is x is can = word_then t l m keeps w (relocks again a) g can x refl is
 
     mutex_coded : IsMutexWord (word_at w m) (owner_at w m)
@@ -70,7 +71,10 @@ module _ (t l m : ℕ) (keeps : Keeps t) (timed late : Bool) where
   checks_full w again full g = goes w again lock.Check g 1 refl (subst (λ v. Left w again lock.Check g 1 (Parked (v == 3))) (sym full) (λ h. inr (refl, sleeps (after w (go_of t)) (again && not true) h)))
 
   -- into the section, which nobody else is inside
-  enters : (w : State) (again : Bool) (seen k : ℕ) (g : Alone w again (lock.Decide seen)) → is_locked seen ≡ true → (seen == 1) ≡ false → (word_at (after w (go_of t)) m ≡ word_at w m → Alone (after w (go_of t)) again lock.Check → RestsIn k (after w (go_of t))) → RestsIn (k + 1) w
+  enters : (w : State) (again : Bool) (seen k : ℕ) (g : Alone w again (lock.Decide seen)) → is_locked seen ≡ true
+      → (seen == 1) ≡ false
+      → (word_at (after w (go_of t)) m ≡ word_at w m → Alone (after w (go_of t)) again lock.Check → RestsIn k (after w (go_of t)))
+      → RestsIn (k + 1) w
   enters w again seen k g locked marked on = goes w again (lock.Decide seen) g k can (subst (λ a. Left w again (lock.Decide seen) g k (reply_to w t a)) (sym is) (λ h. inr (refl, on same_word h)))
     where
       is : lock_act m (lock.Decide seen) ≡ act.Enter (One (2 * m))
@@ -99,12 +103,16 @@ module _ (t l m : ℕ) (keeps : Keeps t) (timed late : Bool) where
   decides_step : (v : ℕ) → outcome_of (decided m v) ≡ outcome.Step
   decides_step v = either (is_locked v) (v == 1)
     where
-      either : (a b : Bool) → outcome_of (if not a then act.Word m (op.Exchange v (v + 1)) else if b then act.Word m (op.Exchange 1 3) else act.Enter (One (2 * m))) ≡ outcome.Step
+      either : (a b : Bool)
+          → outcome_of
+          (if not a then act.Word m (op.Exchange v (v + 1)) else if b then act.Word m (op.Exchange 1 3) else act.Enter (One (2 * m)))
+          ≡ outcome.Step
       either false b = refl
       either true true = refl
       either true false = refl
 
-  looks : (w : State) (again : Bool) (v : ℕ) → word_at (after w (go_of t)) m ≡ v → Alone (after w (go_of t)) again (lock.Decide v) → RestsIn 4 (after w (go_of t))
+  looks : (w : State) (again : Bool) (v : ℕ) → word_at (after w (go_of t)) m ≡ v → Alone (after w (go_of t)) again (lock.Decide v)
+      → RestsIn 4 (after w (go_of t))
   looks w again v same h = decides_now (after w (go_of t)) again (subst (λ x. Alone (after w (go_of t)) again (lock.Decide x)) (sym same) h)
 
   loads : (w : State) (again : Bool) → Alone w again lock.Load → RestsIn 5 w
@@ -118,7 +126,9 @@ module _ (t l m : ℕ) (keeps : Keeps t) (timed late : Bool) where
   checks w again g = goes w again lock.Check g 6 refl (λ h. inr (refl, leaves (after w (go_of t)) (again && not (word_at w m == 3)) (word_at w m == 3) h))
 
   -- the exchange fails, and it decides by what it has seen
-  missed : (w : State) (again : Bool) (seen : ℕ) (x : Op) (g : Alone w again (lock.Decide seen)) → lock_act m (lock.Decide seen) ≡ act.Word m x → apply x (word_at w m) ≡ word_at w m → (word_at w m == seen) ≡ false → RestsIn 5 w
+  missed : (w : State) (again : Bool) (seen : ℕ) (x : Op) (g : Alone w again (lock.Decide seen))
+      → lock_act m (lock.Decide seen) ≡ act.Word m x → apply x (word_at w m) ≡ word_at w m → (word_at w m == seen) ≡ false
+      → RestsIn 5 w
   missed w again seen x g is unchanged other = goes w again (lock.Decide seen) g 4 can
       (subst (λ a. Left w again (lock.Decide seen) g 4 (reply_to w t a)) (sym is) (rw other (λ h. inr (decides_step (word_at w m), looks w again (word_at w m) (word_is w again (lock.Decide seen) g x is can ∙ unchanged) h))))
     where
@@ -145,7 +155,8 @@ module _ (t l m : ℕ) (keeps : Keeps t) (timed late : Bool) where
       either false e = goes w again lock.First g 5 refl (rw e (λ h. inr (refl, loads (after w (go_of t)) again h)))
 
   -- from any place where it is awake
-  pub relock_rests : (w : State) (again : Bool) (a : LockAt) → IsLockOf a → lock_act m a ≢ act.Sleep → Alone w again a → RestsIn 8 w
+  pub relock_rests : (w : State) (again : Bool) (a : LockAt) → IsLockOf a → lock_act m a ≢ act.Sleep → Alone w again a
+      → RestsIn 8 w
   relock_rests w again lock.First of up g = leads_more 6 8 w t (λ v o. Rests o) (omega arith) (tries w again g)
   relock_rests w again lock.Load of up g = leads_more 5 8 w t (λ v o. Rests o) (omega arith) (loads w again g)
   relock_rests w again (lock.Decide seen) of up g = decides_by w again seen g

@@ -22,7 +22,7 @@ use Rattle.abstract_locks.specs.Sites.{Claim, Doing, Line, Main, Second, Has, Pe
 pub use Rattle.lot_machine.proofs.Acted.{Befalls}
 use Rattle.lot_laws.specs.SitesOf.{key_of}
 use Rattle.lot_laws.specs.Owing.{IsDowngrade, LooksFirst, line_let_in, tells_by, tells_of}
-use Rattle.lot_laws.specs.Promises.{CallsOneLock, KnowsRights, WakesAside, WakesWaiters, want_of}
+use Rattle.lot_laws.specs.Promises.{KnowsRights, WakesAside, WakesWaiters, want_of}
 
 -- what a thread in a call does
 abbrev pub is_acting : Act → Bool
@@ -30,13 +30,20 @@ is_acting Rest = false
 is_acting (End answer) = false
 is_acting a = true
 
+-- a call is of one lock
+abbrev pub CallsOneLock : Option Purpose → Type 0
+CallsOneLock (Some (Waits l m timed)) = ⊥
+CallsOneLock (Some (Notifies l all)) = ⊥
+CallsOneLock purpose = Unit {0}
+
 -- a call of a lock that is no condition variable is of one lock
 pub calls_one : (sort : Sort) (q : Purpose) → KnowsRights (λ k. sort) (Some q) → sort ≢ sorts.Condvar → CallsOneLock (Some q)
 calls_one sort (Waits k m timed) knows other = other knows.0
 calls_one sort (Notifies k all) knows other = other knows
 calls_one sort q knows other = tt
 
-pub releases_for : (q : Purpose) (released : Bool) (l : ℕ) → CallsOneLock (Some q) → IsReleasing (Some q) released l → lock_for q ≡ l
+pub releases_for : (q : Purpose) (released : Bool) (l : ℕ) → CallsOneLock (Some q) → IsReleasing (Some q) released l
+    → lock_for q ≡ l
 releases_for (Enters k x how) released l one h = absurd h
 releases_for (Releases k x fair) released l one h = h
 releases_for (Converts k x y how) released l one h = absurd h
@@ -90,7 +97,8 @@ LetsInAt sort l row m = LetsIn sort l row ⊎ WakesAside (Some (row.purpose l)) 
 
 -- who owes a wake on a line is inside its section, or lets others in and is on its way into it
 pub record RowOwes (sort : Sort) (l : ℕ) (row : Profile) (a : Act) : Type 0 where
-  pub owes : (m : Line) → row.owes ≡ Some m → (row.doing.inside ≡ Some m) ⊎ ((a ≡ Enter (One (key_of l m))) × LetsInAt sort l row m)
+  pub owes : (m : Line) → row.owes ≡ Some m
+      → (row.doing.inside ≡ Some m) ⊎ ((a ≡ Enter (One (key_of l m))) × LetsInAt sort l row m)
   pub inside : (m : Line) → row.doing.inside ≡ Some m → row.owes ≡ Some m
   pub entering : (m : Line) → a ≡ Enter (One (key_of l m)) → LetsInAt sort l row m → row.owes ≡ Some m
   pub second : row.owes ≡ Some Second → has_readers sort ≡ true
@@ -132,12 +140,15 @@ pub record RowPromises (sort : Sort) (l : ℕ) (row : Profile) (a : Act) : Type 
   -- in the second line stands only who is pending
   pub aside : row.stands ≡ Some Second → (b : Bool) × (row.doing.claims ≡ Some (Pends b))
   pub owing : RowOwes sort l row a
-  pub debtor : (m : Line) → IsDebtorIn sort row.doing m → (row.doing.claims ≡ Some (Has Exclusive) → ⊥) → RowLooksAfter sort l row a m
+  pub debtor : (m : Line) → IsDebtorIn sort row.doing m → (row.doing.claims ≡ Some (Has Exclusive) → ⊥)
+      → RowLooksAfter sort l row a m
   pub asleep : a ≡ Sleep → IsWaiting row ⊎ WasHanded sort l row
   -- who has handed the lock over leaves its section next, and tells so
-  pub tells : row.carries ≡ Some true → (a ≡ Leave (One (2 * l)) (wakes.TheVariants.All note.HandOff)) × (row.doing.inside ≡ Some Main)
+  pub tells : row.carries ≡ Some true
+      → (a ≡ Leave (One (2 * l)) (wakes.TheVariants.All note.HandOff)) × (row.doing.inside ≡ Some Main)
   pub late : (m : Line) → row.late_line ≡ Some m → RowIsLate sort l row a m
-  pub may_be_late : (m : Line) → row.stands ≡ Some m → a ≡ Sleep → IsTimed (Some (row.purpose l)) row.recalls l → row.late_line ≡ Some m
+  pub may_be_late : (m : Line) → row.stands ≡ Some m → a ≡ Sleep → IsTimed (Some (row.purpose l)) row.recalls l
+      → row.late_line ≡ Some m
 
 -- ---------------------------------------------------------------- a step
 
@@ -164,7 +175,8 @@ RowLooks l row = LooksFirst (Some (row.purpose l)) l × (row.released ≡ false)
 -- and a thread that may hand its lock over, or bump, which does this next
 pub record RowOwesThen (sort : Sort) (l word : ℕ) (row : Profile) (o : Outcome) (next : Profile) (a : Act) : Type 0 where
   pub since : (m : Line) → next.owes ≡ Some m → (next.doing.inside ≡ Some m) ⊎ (RowFinds sort l word row m × (o ≡ told.Step))
-  pub sees : (m : Line) → RowFinds sort l word row m → o ≡ told.Step → (RowLooks l next → a ≡ Enter (One (key_of l m))) → next.owes ≡ Some m
+  pub sees : (m : Line) → RowFinds sort l word row m → o ≡ told.Step → (RowLooks l next → a ≡ Enter (One (key_of l m)))
+      → next.owes ≡ Some m
 
 or_none : (b : Bool) → (b || false) ≡ b
 or_none true = refl
@@ -200,7 +212,8 @@ mutex_tells (Some (Bumps l x)) m v = by_right x m
 
 -- who looks nowhere first owes since it saw waiters
 pub owes_then : {sort : Sort} {l word : ℕ} {row : Profile} {o : Outcome} {next : Profile} {a : Act}
-    → ((m : Line) → tells_by sort (Some (row.purpose l)) m word ≡ tells_of sort m word) → RowOwesNext sort l word row o next → RowOwesThen sort l word row o next a
+    → ((m : Line) → tells_by sort (Some (row.purpose l)) m word ≡ tells_of sort m word) → RowOwesNext sort l word row o next
+    → RowOwesThen sort l word row o next a
 owes_then same k = record {
   since = λ m h. elim (k.since m h) [ inl i ↦ inl i | inr s ↦ inr ((s.0.0, s.0.1, same m ∙ s.0.2), s.1) ];
   sees = λ m s step looks. k.sees m (s.0, s.1, sym (same m) ∙ s.2) step;

@@ -47,7 +47,8 @@ use Rattle.lot_laws.proofs.RowPromises.{Befalls}
 -- ---------------------------------------------------------------- how far it has come, behind an event
 
 -- a run that is on behind a case was on before, or this begins it
-begun : (c : OnceCase) (s : LockState) (u t : ℕ) → (once_after c s u).phase ≡ InProgress t → (s.phase ≡ InProgress t) ⊎ ((forced : Bool) × (c ≡ Start forced) × (t ≡ u))
+begun : (c : OnceCase) (s : LockState) (u t : ℕ) → (once_after c s u).phase ≡ InProgress t
+    → (s.phase ≡ InProgress t) ⊎ ((forced : Bool) × (c ≡ Start forced) × (t ≡ u))
 begun (Start forced) s u t e = inr (forced, refl, cc)
 begun Finish s u t e = absurd cc
 begun Fail s u t e = absurd cc
@@ -57,7 +58,8 @@ begun TakeAll s u t e = inl e
 abbrev Begun : LockState → ℕ → ℕ → LockCase → Type 0
 Begun s u t case = (s.phase ≡ InProgress t) ⊎ ((forced : Bool) × (case ≡ OfOnce (Start forced)) × (t ≡ u))
 
-by_case : (r : Rules) (case : LockCase) (s : LockState) (u t : ℕ) → (after_case r case s u).phase ≡ InProgress t → Begun s u t case
+by_case : (r : Rules) (case : LockCase) (s : LockState) (u t : ℕ) → (after_case r case s u).phase ≡ InProgress t
+    → Begun s u t case
 by_case r case s u t e = elim (phase_by r case s u) [
   | inl same ↦ inl (sym same ∙ e)
   | inr once ↦ subst (λ x. (after_case r x s u).phase ≡ InProgress t → Begun s u t x) (sym once.1) (λ f. told once.0 (begun once.0 s u t f)) e
@@ -68,11 +70,14 @@ by_case r case s u t e = elim (phase_by r case s u) [
     told c (inr now) = inr (now.0, ap OfOnce now.1, now.2)
 
 -- a notification's move changes none
-moves_phase : (w : LocksState) (u c m : ℕ) (all owned : Bool) (number l : ℕ) → (locks_after w u (Moves c m all owned number) l).phase ≡ (w.locks l).phase
+moves_phase : (w : LocksState) (u c m : ℕ) (all owned : Bool) (number l : ℕ)
+    → (locks_after w u (Moves c m all owned number) l).phase ≡ (w.locks l).phase
 moves_phase w u c m all owned number l = either (l == m) (l == c) refl refl
   where
     either : (at_mutex at_condvar : Bool) → (l == m) ≡ at_mutex → (l == c) ≡ at_condvar
-        → ◌≡◌ {A = Phase} (if at_mutex then joined_by owned u (moved_of all (w.locks c).queue) (w.locks m) else if at_condvar then left_behind all (w.locks c) else w.locks l).phase (w.locks l).phase
+        → ◌≡◌ {A = Phase}
+        (if at_mutex then joined_by owned u (moved_of all (w.locks c).queue) (w.locks m) else if at_condvar then left_behind all (w.locks c) else w.locks l).phase
+        (w.locks l).phase
     either true there e f = ap (λ k. (w.locks k).phase) (sym (eqb-true l m e))
     either false true e f = ap (λ k. (w.locks k).phase) (sym (eqb-true l c f))
     either false false e f = refl
@@ -88,7 +93,8 @@ by_event w u (AtLock k case) l t e = elim (cases_eq l k) [
   | inr ne ↦ inl (sym (ap (λ (s : LockState). s.phase) (put_other w.locks k (after_case (rules_at w k) case (w.locks k) u) l ne)) ∙ e)
 ]
   where
-    at_it : Begun (w.locks l) u t case → ((w.locks l).phase ≡ InProgress t) ⊎ ((forced : Bool) × (AtLock l case ≡ AtLock l (OfOnce (Start forced))) × (t ≡ u))
+    at_it : Begun (w.locks l) u t case
+        → ((w.locks l).phase ≡ InProgress t) ⊎ ((forced : Bool) × (AtLock l case ≡ AtLock l (OfOnce (Start forced))) × (t ≡ u))
     at_it (inl on) = inl on
     at_it (inr now) = inr (now.0, ap (AtLock l) now.1, now.2)
 
@@ -161,7 +167,10 @@ unmoved (Once l (Look c again at)) r h = looks (begins_run c at r) (begins_never
     by_next (next.At q) = outside (Once l (Look c (still_retries again r) q)) (look_runs_none l c (still_retries again r) q)
     by_next (next.End answer) = refl
 
-    looks : (b : Bool) → b ≡ false → closure_lock (once_goes l (if b then next.At (Run (is_forced c) (found r)) else in_look c (still_retries again r) (next_look c at r))) ≡ None
+    looks : (b : Bool) → b ≡ false
+        → closure_lock
+        (once_goes l (if b then next.At (Run (is_forced c) (found r)) else in_look c (still_retries again r) (next_look c at r)))
+        ≡ None
     looks true e = absurd cc
     looks false e = by_next (next_look c at r)
 
@@ -172,7 +181,8 @@ stays_inside w s t l ne h = inside (place_at (after w s) t) (others_keep_it clos
     inside : (p : Place) → closure_lock p ≡ Some l → (lock_of p ≡ Some l) × (runs_closure (act_of p) ≡ true)
     inside p e = either (runs_closure (act_of p)) refl e
       where
-        either : (b : Bool) → runs_closure (act_of p) ≡ b → (if b then lock_of p else None) ≡ Some l → (lock_of p ≡ Some l) × (runs_closure (act_of p) ≡ true)
+        either : (b : Bool) → runs_closure (act_of p) ≡ b → (if b then lock_of p else None) ≡ Some l
+            → (lock_of p ≡ Some l) × (runs_closure (act_of p) ≡ true)
         either true on own = (own, on)
         either false on own = absurd cc
 
@@ -189,7 +199,8 @@ calls_once w t l h =
     let here : one.lock ≡ l = cc in
     (one.forced, ap (λ p. (call_state p (λ k. rights_of (lock_state w k) t)).purpose) one.is ∙ ap (λ n. Some (CallsOnce n one.forced)) here)
 
-runs_its_own : (w : State) (t l : ℕ) → runs_closure (act_of (place_at w t)) ≡ true → IsCallOnce (call_at w t).purpose l → RunsClosure w t l
+runs_its_own : (w : State) (t l : ℕ) → runs_closure (act_of (place_at w t)) ≡ true → IsCallOnce (call_at w t).purpose l
+    → RunsClosure w t l
 runs_its_own w t l inside call =
     let one = runs_one (place_at w t) inside in
     let own : Some (CallsOnce one.lock one.forced) ≡ Some (CallsOnce l call.0) = sym (ap (λ p. (call_state p (λ k. rights_of (lock_state w k) t)).purpose) one.is) ∙ call.1 in
@@ -197,12 +208,14 @@ runs_its_own w t l inside call =
     (ap lock_of one.is ∙ ap Some here, inside)
 
 -- a call does to no lock but its own what a `Once` is for
-once_only : (w : LocksState) (t l : ℕ) (c : OnceCase) (purpose : Option Purpose) (m : ℕ) → MayDo w t l (OfOnce c) purpose → IsCallOnce purpose m → l ≡ m
+once_only : (w : LocksState) (t l : ℕ) (c : OnceCase) (purpose : Option Purpose) (m : ℕ) → MayDo w t l (OfOnce c) purpose
+    → IsCallOnce purpose m → l ≡ m
 once_only w t l c None m may call = absurd may
 once_only w t l c (Some (CallsOnce k forced)) m may call = let own : Some (CallsOnce k forced) ≡ Some (CallsOnce m call.0) = call.1 in let same : k ≡ m = cc in may.0.0 ∙ same
 once_only w t l c (Some purpose) m may call = absurd (let own = call.1 in cc)
 
-starts_only : (w : LocksState) (t l : ℕ) (forced : Bool) (purpose : Option Purpose) → MayDo w t l (OfOnce (Start forced)) purpose → IsCallOnce purpose l
+starts_only : (w : LocksState) (t l : ℕ) (forced : Bool) (purpose : Option Purpose) → MayDo w t l (OfOnce (Start forced)) purpose
+    → IsCallOnce purpose l
 starts_only w t l forced None may = absurd may
 starts_only w t l forced (Some (CallsOnce k own)) may = (own, ap (λ n. Some (CallsOnce n own)) (sym may.0.0))
 starts_only w t l forced (Some (Awaits k own)) may = absurd (may.0.1)
@@ -215,7 +228,8 @@ starts_only w t l forced (Some (Bumps k x)) may = absurd (elim (may.0.1) [ inl g
 
 -- ---------------------------------------------------------------- a step
 
-module _ (w : State) (s : Step) (o : Outcome) (step : IsStep (locks_of w) s o (locks_of (after w s))) (running : RunsInClosures w) where
+module _ (w : State) (s : Step) (o : Outcome) (step : IsStep (locks_of w) s o (locks_of (after w s)))
+    (running : RunsInClosures w) where
   abbrev v : State
   v = after w s
 
@@ -230,7 +244,8 @@ module _ (w : State) (s : Step) (o : Outcome) (step : IsStep (locks_of w) s o (l
   ]
 
   -- one that begins
-  starts : (l : ℕ) (forced : Bool) (g : GoesOn (locks_of w) u o (locks_of v)) → g.event ≡ AtLock l (OfOnce (Start forced)) → RunsClosure v u l
+  starts : (l : ℕ) (forced : Bool) (g : GoesOn (locks_of w) u o (locks_of v)) → g.event ≡ AtLock l (OfOnce (Start forced))
+      → RunsClosure v u l
   starts l forced g is = runs_its_own v u l inside (by_outcome o told (ap (λ (c : CallState). c.purpose) (g.calls u)))
     where
       told : o ≡ outcome.TheVariants.Closure (state_told (lock_state w l).phase)
@@ -242,13 +257,15 @@ module _ (w : State) (s : Step) (o : Outcome) (step : IsStep (locks_of w) s o (l
       may : MayDo (locks_of w) u l (OfOnce (Start forced)) (call_at w u).purpose
       may = subst (λ e. MayHappen (locks_of w) u e) is g.may
 
-      by_outcome : (x : Outcome) → x ≡ outcome.TheVariants.Closure (state_told (lock_state w l).phase) → (call_at v u).purpose ≡ (calls_after (locks_of w) u g.event o u).purpose → IsCallOnce (call_at v u).purpose l
+      by_outcome : (x : Outcome) → x ≡ outcome.TheVariants.Closure (state_told (lock_state w l).phase)
+          → (call_at v u).purpose ≡ (calls_after (locks_of w) u g.event o u).purpose → IsCallOnce (call_at v u).purpose l
       by_outcome x e same_call = subst (λ p. IsCallOnce p l) (sym (same_call ∙ kept)) (starts_only (locks_of w) u l forced (call_at w u).purpose may)
         where
           kept : (calls_after (locks_of w) u g.event o u).purpose ≡ (call_at w u).purpose
           kept = rw (is, told) (ap (λ b. (if b then record (call_at w u) { retries = None; released = true } else call_at w u).purpose) (same u))
 
-  goes : (g : GoesOn (locks_of w) u o (locks_of v)) → ((l : ℕ) → RunsClosure w u l → (lock_state v l).phase ≢ InProgress u) → RunsInClosures v
+  goes : (g : GoesOn (locks_of w) u o (locks_of v)) → ((l : ℕ) → RunsClosure w u l → (lock_state v l).phase ≢ InProgress u)
+      → RunsInClosures v
   goes g over t l e = elim (by_event (locks_of w) u g.event l t (sym (ap (λ (x : LockState). x.phase) (g.locks l)) ∙ e)) [
     | inl on ↦ elim (cases_eq t u) [
       | inl own ↦ absurd (over l (subst (λ n. RunsClosure w n l) own (running t l on)) (e ∙ ap InProgress own))
@@ -291,11 +308,13 @@ module _ (w : State) (s : Step) (o : Outcome) (step : IsStep (locks_of w) s o (l
     | inr refused ↦ unchanged refused.1.1
   ]
 
-pub running_after : (w : State) (s : Step) → IsShaped w → IsSteady w → AreCounted w → AreCondvars w → RunsInClosures w → RunsInClosures (after w s)
+pub running_after : (w : State) (s : Step) → IsShaped w → IsSteady w → AreCounted w → AreCondvars w → RunsInClosures w
+    → RunsInClosures (after w s)
 running_after w s shape steady counted condvars running = runs_on w s (step_outcome w s) (after_step w s shape steady counted condvars) running
 
 -- who stands elsewhere in its call, and in no closure, has no run on
-pub put_running : (w : State) (t : ℕ) (q : Place) → runs_closure (act_of (place_at w t)) ≡ false → RunsInClosures w → RunsInClosures (put w t q)
+pub put_running : (w : State) (t : ℕ) (q : Place) → runs_closure (act_of (place_at w t)) ≡ false → RunsInClosures w
+    → RunsInClosures (put w t q)
 put_running w t q outside_now running u l e = elim (cases_eq u t) [
   | inl own ↦ absurd (let f : true ≡ false = sym (running u l e).1 ∙ ap (λ n. runs_closure (act_of (place_at w n))) own ∙ outside_now in cc)
   | inr ne ↦ subst (λ p. (lock_of p ≡ Some l) × (runs_closure (act_of p) ≡ true)) (sym (get_or-set_other w.places t u q Idle ne)) (running u l e)

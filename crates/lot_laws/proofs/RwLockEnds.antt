@@ -109,7 +109,8 @@ module _ (w : State) (l : ℕ) (a : Admission) (steady : IsSteady w) (admits : A
   takes access.Upgradable how may = ap (λ (b : Bool). if b then decision_blocked how v else unblocked Upgradable) (free_is Upgradable may.0) ∙ ap (λ (b : Bool). if b then decisions.Refuse answer.ReadersFull else decisions.Take) (below_limit may.1)
   takes access.Exclusive how may = ap (λ (b : Bool). if b then decision_blocked how v else unblocked Exclusive) (free_is Exclusive may.0)
 
-  refuses : (x : Access) (how : Patience) → IsFull (locks_of w) l (wanted x) → decision a (wanted x) how v ≡ decisions.Refuse answer.ReadersFull
+  refuses : (x : Access) (how : Patience) → IsFull (locks_of w) l (wanted x)
+      → decision a (wanted x) how v ≡ decisions.Refuse answer.ReadersFull
   refuses access.Shared how full = ap (λ (b : Bool). if b then decision_blocked how v else unblocked Shared) (free_is Shared full.1) ∙ ap (λ (b : Bool). if b then decisions.Refuse answer.ReadersFull else decisions.Take) (at_limit full.2)
   refuses access.Upgradable how full = ap (λ (b : Bool). if b then decision_blocked how v else unblocked Upgradable) (free_is Upgradable full.1) ∙ ap (λ (b : Bool). if b then decisions.Refuse answer.ReadersFull else decisions.Take) (at_limit full.2)
   refuses access.Exclusive how full = absurd (full.0 refl)
@@ -119,7 +120,8 @@ module _ (w : State) (l : ℕ) (a : Admission) (steady : IsSteady w) (admits : A
 
 -- ---------------------------------------------------------------- a call from its beginning
 
-module _ (w : State) (t l : ℕ) (a : Admission) (steady : IsSteady w) (admits : Admits (rules_in w l) a) (v2 : State) (x : Outcome) (run : RunsAlone w t x v2) where
+module _ (w : State) (t l : ℕ) (a : Admission) (steady : IsSteady w) (admits : Admits (rules_in w l) a) (v2 : State) (x : Outcome)
+    (run : RunsAlone w t x v2) where
   small : word_at w l < 2 ^ 64
   small = word_small w l steady admits.0
 
@@ -130,20 +132,25 @@ module _ (w : State) (t l : ℕ) (a : Admission) (steady : IsSteady w) (admits :
   looking q at = place_for t l a q false at
 
   -- its answer holds
-  holds : (q : RwLockPurpose) (at : RwLockAt) → place_at w t ≡ RwLock l a (Plain (looking q at)) → (answer : Answer) → x ≡ outcome.End answer → HasAnswered t (Some (purpose_by q l)) (call_at w t).former answer (locks_of v2)
+  holds : (q : RwLockPurpose) (at : RwLockAt) → place_at w t ≡ RwLock l a (Plain (looking q at)) → (answer : Answer)
+      → x ≡ outcome.End answer → HasAnswered t (Some (purpose_by q l)) (call_at w t).former answer (locks_of v2)
   holds q at is answer e = subst (λ p. HasAnswered t p (call_at w t).former answer (locks_of v2)) called (answered run.told (locks_of w) (locks_of v2) t answer (run_refines w v2 (replicate (length run.told) (go_of t)) run.told run.run) run.goes_on (sym run.last ∙ e))
     where
       called : (call_at w t).purpose ≡ Some (purpose_by q l)
       called = ap (λ p. (call_state p (λ k. rights_of (lock_state w k) t)).purpose) is
 
   -- whoever has entered owns
-  enters_owns : (y : Access) (how : Patience) (at : RwLockAt) → place_at w t ≡ RwLock l a (Plain (looking (purpose.Enter y how) at)) → x ≡ outcome.End (entered how) → (x ≡ outcome.End (entered_answer how)) × Owns (lock_state v2 l) t (wanted y)
+  enters_owns : (y : Access) (how : Patience) (at : RwLockAt)
+      → place_at w t ≡ RwLock l a (Plain (looking (purpose.Enter y how) at)) → x ≡ outcome.End (entered how)
+      → (x ≡ outcome.End (entered_answer how)) × Owns (lock_state v2 l) t (wanted y)
   enters_owns y how at is e = (told, by_how how (holds (purpose.Enter y how) at is (entered_answer how) told))
     where
       told : x ≡ outcome.End (entered_answer how)
       told = e ∙ ap outcome.End (same_answer how)
 
-      by_how : (how : Patience) → HasAnswered t (Some (Enters l (wanted y) how)) (call_at w t).former (entered_answer how) (locks_of v2) → Owns (lock_state v2 l) t (wanted y)
+      by_how : (how : Patience)
+          → HasAnswered t (Some (Enters l (wanted y) how)) (call_at w t).former (entered_answer how) (locks_of v2)
+          → Owns (lock_state v2 l) t (wanted y)
       by_how Patient h = h.holds.0
       by_how Timed h = h.holds.0
       by_how Try h = h.holds.0
@@ -151,21 +158,31 @@ module _ (w : State) (t l : ℕ) (a : Admission) (steady : IsSteady w) (admits :
   queued : (y : Want) → queue_at v2 (2 * l) ≡ queue_at w (2 * l) ++ waiter (2 * l) t y ∷ [] → (lock_state v2 l).queue ≡ (lock_state w l).queue ++ (record { thread = t; want = y }) ∷ []
   queued y e = ap (map queued_of) e ∙ queued_behind (2 * l) t y (queue_at w (2 * l))
 
-  barred_by : (y : Access) (how : Patience) (at : RwLockAt) → Decides t l a (decision_blocked how (word_at w l)) (looking (purpose.Enter y how) at) (word_at w l) queues v2 x → WaitsAlone how (lock_state w l) t (wanted y) x (lock_state v2 l)
+  barred_by : (y : Access) (how : Patience) (at : RwLockAt)
+      → Decides t l a (decision_blocked how (word_at w l)) (looking (purpose.Enter y how) at) (word_at w l) queues v2 x
+      → WaitsAlone how (lock_state w l) t (wanted y) x (lock_state v2 l)
   barred_by y Try at h = h
   barred_by y Patient at h = either (has_parked (word_at w l)) h
     where
-      either : (b : Bool) → Decides t l a (if b then decisions.Park else decisions.Mark) (looking (purpose.Enter y Patient) at) (word_at w l) queues v2 x → WaitsAlone Patient (lock_state w l) t (wanted y) x (lock_state v2 l)
+      either : (b : Bool)
+          → Decides t l a (if b then decisions.Park else decisions.Mark) (looking (purpose.Enter y Patient) at)
+          (word_at w l) queues v2 x
+          → WaitsAlone Patient (lock_state w l) t (wanted y) x (lock_state v2 l)
       either true h = (h.0, queued (wanted y) h.1)
       either false h = (h.0, queued (wanted y) h.1)
   barred_by y Timed at h = either (has_parked (word_at w l)) h
     where
-      either : (b : Bool) → Decides t l a (if b then decisions.Park else decisions.Mark) (looking (purpose.Enter y Timed) at) (word_at w l) queues v2 x → WaitsAlone Timed (lock_state w l) t (wanted y) x (lock_state v2 l)
+      either : (b : Bool)
+          → Decides t l a (if b then decisions.Park else decisions.Mark) (looking (purpose.Enter y Timed) at)
+          (word_at w l) queues v2 x
+          → WaitsAlone Timed (lock_state w l) t (wanted y) x (lock_state v2 l)
       either true h = (h.0, queued (wanted y) h.1)
       either false h = (h.0, queued (wanted y) h.1)
 
   -- who is to share looks at the word
-  pub shares_alone : (y : Access) (how : Patience) → wanted y ≢ Exclusive → place_at w t ≡ RwLock l a (Plain (looking (purpose.Enter y how) at.Load)) → Decides t l a (decision a (wanted y) how (word_at w l)) (looking (purpose.Enter y how) at.Load) (word_at w l) queues v2 x
+  pub shares_alone : (y : Access) (how : Patience) → wanted y ≢ Exclusive
+      → place_at w t ≡ RwLock l a (Plain (looking (purpose.Enter y how) at.Load))
+      → Decides t l a (decision a (wanted y) how (word_at w l)) (looking (purpose.Enter y how) at.Load) (word_at w l) queues v2 x
       → EntersAlone (word_at w l ≡ 0) (locks_of w) t l (wanted y) how x (locks_of v2)
   shares_alone y how shared is h = record {
     owns = λ may. enters_owns y how at.Load is (takes_one y shared (subst (λ d. Decides t l a d (looking (purpose.Enter y how) at.Load) (word_at w l) queues v2 x) (takes w l a steady admits y how (may_enter y shared may)) h));
@@ -175,18 +192,22 @@ module _ (w : State) (t l : ℕ) (a : Admission) (steady : IsSteady w) (admits :
     barred = λ b. barred_by y how at.Load (subst (λ d. Decides t l a d (looking (purpose.Enter y how) at.Load) (word_at w l) queues v2 x) (waits w l a steady admits y how b) h);
   }
     where
-      may_enter : (y : Access) → wanted y ≢ Exclusive → MayEnterAtOnce (word_at w l ≡ 0) (rules_in w l) (lock_state w l) (wanted y) how → MayEnter (rules_in w l) (lock_state w l) (wanted y)
+      may_enter : (y : Access) → wanted y ≢ Exclusive
+          → MayEnterAtOnce (word_at w l ≡ 0) (rules_in w l) (lock_state w l) (wanted y) how
+          → MayEnter (rules_in w l) (lock_state w l) (wanted y)
       may_enter access.Shared ne may = may
       may_enter access.Upgradable ne may = may
       may_enter access.Exclusive ne may = absurd (ne refl)
 
-      takes_one : (y : Access) → wanted y ≢ Exclusive → Takes t l a (purpose.Enter y how) false (word_at w l) queues v2 x → x ≡ outcome.End (entered how)
+      takes_one : (y : Access) → wanted y ≢ Exclusive → Takes t l a (purpose.Enter y how) false (word_at w l) queues v2 x
+          → x ≡ outcome.End (entered how)
       takes_one access.Shared ne h = h
       takes_one access.Upgradable ne h = h
       takes_one access.Exclusive ne h = absurd (ne refl)
 
   -- a pending writer sleeps in the second line, alone
-  sleeps_aside : (y : Want) → (lock_state w l).aside ≡ None → queue_at v2 (2 * l + 1) ≡ queue_at w (2 * l + 1) ++ waiter (2 * l + 1) t y ∷ [] → (lock_state v2 l).aside ≡ Some t
+  sleeps_aside : (y : Want) → (lock_state w l).aside ≡ None
+      → queue_at v2 (2 * l + 1) ≡ queue_at w (2 * l + 1) ++ waiter (2 * l + 1) t y ∷ [] → (lock_state v2 l).aside ≡ Some t
   sleeps_aside y none e = ap first_of e ∙ first (queue_at w (2 * l + 1)) none
     where
       first : (q : List Waiter) → first_of q ≡ None → first_of (q ++ waiter (2 * l + 1) t y ∷ []) ≡ Some t
@@ -201,7 +222,8 @@ module _ (w : State) (t l : ℕ) (a : Admission) (steady : IsSteady w) (admits :
       by_aside None e = e
       by_aside (Some u) e = absurd (let p : IsSomePending (lock_state w l).pending u = (steady.sites.site l).state.aside_pending u e in let q : IsSomePending None u = subst (λ o. IsSomePending o u) none p in q)
 
-  no_writer : (sort : Sort) (limit : ℕ) → has_readers sort ≡ true → IsFreeAt sort limit (lock_state w l) Exclusive → NoWriter (lock_state w l)
+  no_writer : (sort : Sort) (limit : ℕ) → has_readers sort ≡ true → IsFreeAt sort limit (lock_state w l) Exclusive
+      → NoWriter (lock_state w l)
   no_writer Normal limit h free = free
   no_writer Recursive limit h free = free
   no_writer Mutex limit h free = absurd cc
@@ -224,8 +246,10 @@ module _ (w : State) (t l : ℕ) (a : Admission) (steady : IsSteady w) (admits :
   writer how = looking (purpose.Enter access.Exclusive how) at.First
 
   -- a writer that finds a word that isn't clear
-  module _ (how : Patience) (h : Decides t l a (decision a Exclusive how (word_at w l)) (writer how) (word_at w l) queues v2 x) where
-    settles : MayEnter (rules_in w l) (lock_state w l) Exclusive → Settles t l a (count_in (plus (word_at w l) 8) == 0) (looking (purpose.Enter access.Exclusive how) at.Look) queues v2 x
+  module _ (how : Patience)
+      (h : Decides t l a (decision a Exclusive how (word_at w l)) (writer how) (word_at w l) queues v2 x) where
+    settles : MayEnter (rules_in w l) (lock_state w l) Exclusive
+        → Settles t l a (count_in (plus (word_at w l) 8) == 0) (looking (purpose.Enter access.Exclusive how) at.Look) queues v2 x
     settles may = subst (λ d. Decides t l a d (writer how) (word_at w l) queues v2 x) (takes w l a steady admits access.Exclusive how may) h
 
     nobody_writes : MayEnter (rules_in w l) (lock_state w l) Exclusive → NoWriter (lock_state w l)
@@ -234,10 +258,12 @@ module _ (w : State) (t l : ℕ) (a : Admission) (steady : IsSteady w) (admits :
     counts : MayEnter (rules_in w l) (lock_state w l) Exclusive → count_in (plus (word_at w l) 8) ≡ readers (lock_state w l)
     counts may = as_many (free_is w l a steady admits Exclusive may.0) ∙ counted w l a steady admits ∙ no_upgradable (nobody_writes may)
 
-    settles_alone : MayEnter (rules_in w l) (lock_state w l) Exclusive → readers (lock_state w l) ≡ 0 → x ≡ outcome.End (entered how)
+    settles_alone : MayEnter (rules_in w l) (lock_state w l) Exclusive → readers (lock_state w l) ≡ 0
+        → x ≡ outcome.End (entered how)
     settles_alone may none = subst (λ (b : Bool). Settles t l a b (looking (purpose.Enter access.Exclusive how) at.Look) queues v2 x) (ap (λ n. n == 0) (counts may ∙ none)) (settles may)
 
-    settles_aside : MayEnter (rules_in w l) (lock_state w l) Exclusive → 1 ≤ readers (lock_state w l) → (x ≡ outcome.Sleep) × ((lock_state v2 l).aside ≡ Some t)
+    settles_aside : MayEnter (rules_in w l) (lock_state w l) Exclusive → 1 ≤ readers (lock_state w l)
+        → (x ≡ outcome.Sleep) × ((lock_state v2 l).aside ≡ Some t)
     settles_aside may some = let g : Sleeps t l a Second (writer how) queues v2 x = subst (λ (b : Bool). Settles t l a b (looking (purpose.Enter access.Exclusive how) at.Look) queues v2 x) left (settles may) in
         (g.0, sleeps_aside Exclusive (nobody_aside (nobody_writes may).1) g.1)
       where
@@ -252,10 +278,14 @@ module _ (w : State) (t l : ℕ) (a : Admission) (steady : IsSteady w) (admits :
   clear_free e b = let z : word_at w l ≡ 0 = eqb-true (word_at w l) 0 e in let f : false ≡ true = sym (ap (is_blocked a.recursive Exclusive) z) ∙ blocked_is w l a steady admits Exclusive b in cc
 
   -- who is to own alone tries a clear word first
-  pub writes_alone : (how : Patience) → place_at w t ≡ RwLock l a (Plain (writer how)) → Tries t l a (word_at w l == 0) how (writer how) (word_at w l) queues v2 x → EntersAlone (word_at w l ≡ 0) (locks_of w) t l Exclusive how x (locks_of v2)
+  pub writes_alone : (how : Patience) → place_at w t ≡ RwLock l a (Plain (writer how))
+      → Tries t l a (word_at w l == 0) how (writer how) (word_at w l) queues v2 x
+      → EntersAlone (word_at w l ≡ 0) (locks_of w) t l Exclusive how x (locks_of v2)
   writes_alone how is h = by_word (word_at w l == 0) refl how is h
     where
-      clear_alone : (how : Patience) → (word_at w l == 0) ≡ true → place_at w t ≡ RwLock l a (Plain (writer how)) → x ≡ outcome.End (entered how) → (1 ≤ readers (lock_state w l) → WaitsForReaders how t x (lock_state v2 l)) → EntersAlone (word_at w l ≡ 0) (locks_of w) t l Exclusive how x (locks_of v2)
+      clear_alone : (how : Patience) → (word_at w l == 0) ≡ true → place_at w t ≡ RwLock l a (Plain (writer how))
+          → x ≡ outcome.End (entered how) → (1 ≤ readers (lock_state w l) → WaitsForReaders how t x (lock_state v2 l))
+          → EntersAlone (word_at w l ≡ 0) (locks_of w) t l Exclusive how x (locks_of v2)
       clear_alone how e is h aside = record {
         owns = λ may. enters_owns access.Exclusive how at.First is h;
         pends = λ f may some. aside some;
@@ -267,7 +297,9 @@ module _ (w : State) (t l : ℕ) (a : Admission) (steady : IsSteady w) (admits :
       none_reads : {A : Type 0} → (word_at w l == 0) ≡ true → 1 ≤ readers (lock_state w l) → A
       none_reads e some = absurd (let none = clear_reads e in omega arith)
 
-      by_word : (b : Bool) → (word_at w l == 0) ≡ b → (how : Patience) → place_at w t ≡ RwLock l a (Plain (writer how)) → Tries t l a b how (writer how) (word_at w l) queues v2 x → EntersAlone (word_at w l ≡ 0) (locks_of w) t l Exclusive how x (locks_of v2)
+      by_word : (b : Bool) → (word_at w l == 0) ≡ b → (how : Patience) → place_at w t ≡ RwLock l a (Plain (writer how))
+          → Tries t l a b how (writer how) (word_at w l) queues v2 x
+          → EntersAlone (word_at w l ≡ 0) (locks_of w) t l Exclusive how x (locks_of v2)
       by_word true e how is h = clear_alone how e is h (λ some. none_reads e some)
       by_word false e Try is h = record {
         owns = λ may. absurd (let f : (0 == 0) ≡ false = rw (may.1 admits.0) at e in cc);
@@ -294,7 +326,8 @@ module _ (w : State) (t l : ℕ) (a : Admission) (steady : IsSteady w) (admits :
   -- ---------------------------------------------------------------- a right given up, or turned into another
 
   -- what the thread had of the lock as its call began
-  began : (q : RwLockPurpose) (at : RwLockAt) → place_at w t ≡ RwLock l a (Plain (looking q at)) → ((rights : ℕ → Rights) → before q at l rights ≡ rights) → (call_at w t).former ≡ (λ k. rights_of (lock_state w k) t)
+  began : (q : RwLockPurpose) (at : RwLockAt) → place_at w t ≡ RwLock l a (Plain (looking q at))
+      → ((rights : ℕ → Rights) → before q at l rights ≡ rights) → (call_at w t).former ≡ (λ k. rights_of (lock_state w k) t)
   began q at is same_rights = ap (λ p. (call_state p (λ k. rights_of (lock_state w k) t)).former) is ∙ same_rights (λ k. rights_of (lock_state w k) t)
 
   is_owner : (o : Option ℕ) → 1 ≤ is_thread t o → o ≡ Some t
@@ -316,11 +349,13 @@ module _ (w : State) (t l : ℕ) (a : Admission) (steady : IsSteady w) (admits :
       either true = omega arith
       either false = omega arith
 
-  lost_one : (y : Access) → place_at w t ≡ RwLock l a (Plain (looking (purpose.Release y) at.GiveWay)) → x ≡ outcome.End answer.Ok → with_right (wanted y) (rights_of (lock_state v2 l) t) ≡ rights_of (lock_state w l) t
+  lost_one : (y : Access) → place_at w t ≡ RwLock l a (Plain (looking (purpose.Release y) at.GiveWay)) → x ≡ outcome.End answer.Ok
+      → with_right (wanted y) (rights_of (lock_state v2 l) t) ≡ rights_of (lock_state w l) t
   lost_one y is told = let h = holds (purpose.Release y) at.GiveWay is answer.Ok told in
       sym (put_here (λ k. rights_of (lock_state v2 k) t) l (with_right (wanted y) (rights_of (lock_state v2 l) t))) ∙ h.holds l ∙ ap (λ f. f l) (h.former_is ∙ began (purpose.Release y) at.GiveWay is (λ rights. refl))
 
-  pub releases_alone : (y : Access) → place_at w t ≡ RwLock l a (Plain (looking (purpose.Release y) at.GiveWay)) → x ≡ outcome.End answer.Ok → ReleasesAlone (locks_of w) t l (wanted y) false x (locks_of v2)
+  pub releases_alone : (y : Access) → place_at w t ≡ RwLock l a (Plain (looking (purpose.Release y) at.GiveWay))
+      → x ≡ outcome.End answer.Ok → ReleasesAlone (locks_of w) t l (wanted y) false x (locks_of v2)
   releases_alone access.Shared is told = (told, lost_one access.Shared is told)
   releases_alone access.Upgradable is told = (told, lost_one access.Upgradable is told)
   releases_alone access.Exclusive is told = (told, gone, λ mutex. absurd (let f : has_readers Mutex ≡ true = sym (ap has_readers mutex) ∙ admits.0 in cc))
@@ -330,7 +365,8 @@ module _ (w : State) (t l : ℕ) (a : Admission) (steady : IsSteady w) (admits :
           let one = owner_is (lock_state v2 l).exclusive own in let most = at_most (lock_state w l).exclusive in omega arith
 
   -- a fair release, from any place where it has its right
-  lost_from : (c : RwLockCallPlace) (y : Want) (fair : Bool) → place_at w t ≡ RwLock l a c → (call_profile a c).purpose l ≡ Releases l y fair → ((rights : ℕ → Rights) → (call_profile a c).former l rights ≡ rights)
+  lost_from : (c : RwLockCallPlace) (y : Want) (fair : Bool) → place_at w t ≡ RwLock l a c
+      → (call_profile a c).purpose l ≡ Releases l y fair → ((rights : ℕ → Rights) → (call_profile a c).former l rights ≡ rights)
       → x ≡ outcome.End answer.Ok → with_right y (rights_of (lock_state v2 l) t) ≡ rights_of (lock_state w l) t
   lost_from c y fair is of same_rights told =
       let h = subst (λ p. HasAnswered t p (call_at w t).former answer.Ok (locks_of v2)) called (answered run.told (locks_of w) (locks_of v2) t answer.Ok (run_refines w v2 (replicate (length run.told) (go_of t)) run.told run.run) run.goes_on (sym run.last ∙ told)) in
@@ -345,10 +381,12 @@ module _ (w : State) (t l : ℕ) (a : Admission) (steady : IsSteady w) (admits :
   pub no_mutex : {A : Type 0} → (rules_in w l).sort ≡ Mutex → A
   no_mutex mutex = absurd (let f : has_readers Mutex ≡ true = sym (ap has_readers mutex) ∙ admits.0 in cc)
 
-  pub upgradable_released : place_at w t ≡ RwLock l a (HandOver access.Upgradable false handing.Load) → x ≡ outcome.End answer.Ok → ReleasesAlone (locks_of w) t l Upgradable true x (locks_of v2)
+  pub upgradable_released : place_at w t ≡ RwLock l a (HandOver access.Upgradable false handing.Load) → x ≡ outcome.End answer.Ok
+      → ReleasesAlone (locks_of w) t l Upgradable true x (locks_of v2)
   upgradable_released is told = (told, lost_from (HandOver access.Upgradable false handing.Load) Upgradable true is refl (λ rights. refl) told)
 
-  pub exclusive_released : place_at w t ≡ RwLock l a (HandOver access.Exclusive false (handing.Free 8)) → x ≡ outcome.End answer.Ok → ReleasesAlone (locks_of w) t l Exclusive true x (locks_of v2)
+  pub exclusive_released : place_at w t ≡ RwLock l a (HandOver access.Exclusive false (handing.Free 8))
+      → x ≡ outcome.End answer.Ok → ReleasesAlone (locks_of w) t l Exclusive true x (locks_of v2)
   exclusive_released is told = (told, gone, λ mutex. no_mutex mutex)
     where
       gone : (lock_state v2 l).exclusive ≡ Some t → ⊥
@@ -356,33 +394,42 @@ module _ (w : State) (t l : ℕ) (a : Admission) (steady : IsSteady w) (admits :
           let one = owner_is (lock_state v2 l).exclusive own in let most = at_most (lock_state w l).exclusive in omega arith
 
   -- what a conversion has made of its thread's rights
-  replaced : (q : RwLockPurpose) (at : RwLockAt) (y z : Want) (how : Patience) (answer : Answer) → place_at w t ≡ RwLock l a (Plain (looking q at)) → purpose_by q l ≡ Converts l y z how → ((rights : ℕ → Rights) → before q at l rights ≡ rights)
-      → x ≡ outcome.End answer → ((c : CallState) → AnswerHolds (Some (Converts l y z how)) (locks_of v2) t c answer → (k : ℕ) → one_more_at l y (λ j. rights_of (lock_state v2 j) t) k ≡ one_more_at l z c.former k)
+  replaced : (q : RwLockPurpose) (at : RwLockAt) (y z : Want) (how : Patience) (answer : Answer)
+      → place_at w t ≡ RwLock l a (Plain (looking q at)) → purpose_by q l ≡ Converts l y z how
+      → ((rights : ℕ → Rights) → before q at l rights ≡ rights)
+      → x ≡ outcome.End answer
+      → ((c : CallState) → AnswerHolds (Some (Converts l y z how)) (locks_of v2) t c answer → (k : ℕ) → one_more_at l y (λ j. rights_of (lock_state v2 j) t) k ≡ one_more_at l z c.former k)
       → with_right y (rights_of (lock_state v2 l) t) ≡ with_right z (rights_of (lock_state w l) t)
   replaced q at y z how answer is of same_rights told says = let h = holds q at is answer told in
       sym (put_here (λ k. rights_of (lock_state v2 k) t) l (with_right y (rights_of (lock_state v2 l) t)))
       ∙ says h.call (subst (λ p. AnswerHolds (Some p) (locks_of v2) t h.call answer) of h.holds) l
       ∙ (λ i. one_more_at l z ((h.former_is ∙ began q at is same_rights) i) l) ∙ put_here (λ k. rights_of (lock_state w k) t) l (with_right z (rights_of (lock_state w l) t))
 
-  pub downgrades_alone : (d : Downgrade) → place_at w t ≡ RwLock l a (Plain (looking (purpose.Downgrade d) at.GiveWay)) → x ≡ outcome.End answer.Ok → ConvertsAlone (lock_state w l) t (wanted (to_of d)) Patient x (lock_state v2 l)
+  pub downgrades_alone : (d : Downgrade) → place_at w t ≡ RwLock l a (Plain (looking (purpose.Downgrade d) at.GiveWay))
+      → x ≡ outcome.End answer.Ok → ConvertsAlone (lock_state w l) t (wanted (to_of d)) Patient x (lock_state v2 l)
   downgrades_alone downgrade.ToShared is told = (told, let e = ap (λ (z : Rights). z.shared) (replaced (purpose.Downgrade downgrade.ToShared) at.GiveWay Exclusive Shared Patient answer.Ok is refl (λ rights. refl) told (λ c h. h)) in omega (arith, e))
   downgrades_alone downgrade.ToUpgradable is told = (told, is_owner (lock_state v2 l).upgradable (let e = ap (λ (z : Rights). z.upgradable) (replaced (purpose.Downgrade downgrade.ToUpgradable) at.GiveWay Exclusive Upgradable Patient answer.Ok is refl (λ rights. refl) told (λ c h. h)) in omega (arith, e)))
   downgrades_alone downgrade.UpgradableToShared is told = (told, let e = ap (λ (z : Rights). z.shared) (replaced (purpose.Downgrade downgrade.UpgradableToShared) at.GiveWay Upgradable Shared Patient answer.Ok is refl (λ rights. refl) told (λ c h. h)) in omega (arith, e))
 
   -- an upgrade has the upgradable right as it begins
-  upgrades_from : (how : Patience) (at : RwLockAt) → place_at w t ≡ RwLock l a (Plain (looking (purpose.Upgrade how) at)) → (doing_at None (purpose.Upgrade how) at).claims ≡ Some (Has Upgradable) → (lock_state w l).upgradable ≡ Some t
+  upgrades_from : (how : Patience) (at : RwLockAt) → place_at w t ≡ RwLock l a (Plain (looking (purpose.Upgrade how) at))
+      → (doing_at None (purpose.Upgrade how) at).claims ≡ Some (Has Upgradable) → (lock_state w l).upgradable ≡ Some t
   upgrades_from how at is claims = (steady.sites.site l).held t (Has Upgradable) (ap (λ p. (doing_on p l).claims) is ∙ ap (λ (b : Bool). (if b then rwlock_doing (looking (purpose.Upgrade how) at) else idle).claims) (same l) ∙ claims)
 
   readers_and_one : (lock_state w l).upgradable ≡ Some t → count_in (word_at w l) ≡ readers (lock_state w l) + 1
   readers_and_one own = counted w l a steady admits ∙ ap (λ (o : Option ℕ). readers (lock_state w l) + one_if_some o) own
 
-  upgrade_owns : (how : Patience) (at : RwLockAt) → place_at w t ≡ RwLock l a (Plain (looking (purpose.Upgrade how) at)) → ((rights : ℕ → Rights) → before (purpose.Upgrade how) at l rights ≡ rights) → x ≡ outcome.End (entered how) → (x ≡ outcome.End (entered_answer how)) × ((lock_state v2 l).exclusive ≡ Some t)
+  upgrade_owns : (how : Patience) (at : RwLockAt) → place_at w t ≡ RwLock l a (Plain (looking (purpose.Upgrade how) at))
+      → ((rights : ℕ → Rights) → before (purpose.Upgrade how) at l rights ≡ rights) → x ≡ outcome.End (entered how)
+      → (x ≡ outcome.End (entered_answer how)) × ((lock_state v2 l).exclusive ≡ Some t)
   upgrade_owns how at is same_rights e = (told, is_owner (lock_state v2 l).exclusive (let g = ap (λ (z : Rights). z.exclusive) (replaced (purpose.Upgrade how) at Upgradable Exclusive how (entered_answer how) is refl same_rights told (says how)) in omega (arith, g)))
     where
       told : x ≡ outcome.End (entered_answer how)
       told = e ∙ ap outcome.End (same_answer how)
 
-      says : (how : Patience) (c : CallState) → AnswerHolds (Some (Converts l Upgradable Exclusive how)) (locks_of v2) t c (entered_answer how) → (k : ℕ) → one_more_at l Upgradable (λ j. rights_of (lock_state v2 j) t) k ≡ one_more_at l Exclusive c.former k
+      says : (how : Patience) (c : CallState)
+          → AnswerHolds (Some (Converts l Upgradable Exclusive how)) (locks_of v2) t c (entered_answer how) → (k : ℕ)
+          → one_more_at l Upgradable (λ j. rights_of (lock_state v2 j) t) k ≡ one_more_at l Exclusive c.former k
       says Patient c h = h
       says Timed c h = h
       says Try c h = h
@@ -393,16 +440,23 @@ module _ (w : State) (t l : ℕ) (a : Admission) (steady : IsSteady w) (admits :
   is_not_one : (lock_state w l).upgradable ≡ Some t → 1 ≤ readers (lock_state w l) → (count_in (word_at w l) == 1) ≡ false
   is_not_one own some = ap (λ n. n == 1) (readers_and_one own) ∙ grind (arith, nat_tests)
 
-  pub tries_upgrade : place_at w t ≡ RwLock l a (Plain (looking (purpose.Upgrade Try) at.Load)) → Decides t l a (decided a (looking (purpose.Upgrade Try) at.Load) (word_at w l)) (looking (purpose.Upgrade Try) at.Load) (word_at w l) queues v2 x → ConvertsAlone (lock_state w l) t Exclusive Try x (lock_state v2 l)
+  pub tries_upgrade : place_at w t ≡ RwLock l a (Plain (looking (purpose.Upgrade Try) at.Load))
+      → Decides t l a (decided a (looking (purpose.Upgrade Try) at.Load) (word_at w l)) (looking (purpose.Upgrade Try) at.Load)
+      (word_at w l) queues v2 x
+      → ConvertsAlone (lock_state w l) t Exclusive Try x (lock_state v2 l)
   tries_upgrade is h = (λ none. upgrade_owns Try at.Load is (λ rights. refl) (by_count true (is_one own none)), λ some. by_count false (is_not_one own some))
     where
       own : (lock_state w l).upgradable ≡ Some t
       own = upgrades_from Try at.Load is refl
 
-      by_count : (b : Bool) → (count_in (word_at w l) == 1) ≡ b → Decides t l a (if b then decisions.Take else decisions.Refuse answer.No) (looking (purpose.Upgrade Try) at.Load) (word_at w l) queues v2 x
+      by_count : (b : Bool) → (count_in (word_at w l) == 1) ≡ b
+          → Decides t l a (if b then decisions.Take else decisions.Refuse answer.No) (looking (purpose.Upgrade Try) at.Load)
+          (word_at w l) queues v2 x
       by_count b e = subst (λ (b : Bool). Decides t l a (if b then decisions.Take else decisions.Refuse answer.No) (looking (purpose.Upgrade Try) at.Load) (word_at w l) queues v2 x) e h
 
-  pub upgrades_alone : (how : Patience) → how ≢ Try → place_at w t ≡ RwLock l a (Plain (looking (purpose.Upgrade how) at.GiveWay)) → Upgrades t l a (count_in (word_at w l) == 1) how false (word_at w l) queues v2 x → ConvertsAlone (lock_state w l) t Exclusive how x (lock_state v2 l)
+  pub upgrades_alone : (how : Patience) → how ≢ Try → place_at w t ≡ RwLock l a (Plain (looking (purpose.Upgrade how) at.GiveWay))
+      → Upgrades t l a (count_in (word_at w l) == 1) how false (word_at w l) queues v2 x
+      → ConvertsAlone (lock_state w l) t Exclusive how x (lock_state v2 l)
   upgrades_alone how waits is h = (λ none. upgrade_owns how at.GiveWay is (λ rights. refl) (by_count true (is_one own none)), λ some. by_how how waits (aside some))
     where
       own : (lock_state w l).upgradable ≡ Some t
@@ -425,22 +479,27 @@ module _ (w : State) (t l : ℕ) (a : Admission) (steady : IsSteady w) (admits :
       aside some = let g : Sleeps t l a Second (looking (purpose.Upgrade how) at.Look) queues v2 x = subst (λ (b : Bool). Settles t l a b (looking (purpose.Upgrade how) at.Look) queues v2 x) (left some) (by_count false (is_not_one own some)) in
           (g.0, sleeps_aside Exclusive (nobody_aside nobody_pending) g.1)
 
-      by_how : (y : Patience) → y ≢ Try → (x ≡ outcome.Sleep) × ((lock_state v2 l).aside ≡ Some t) → WaitsForReaders y t x (lock_state v2 l)
+      by_how : (y : Patience) → y ≢ Try → (x ≡ outcome.Sleep) × ((lock_state v2 l).aside ≡ Some t)
+          → WaitsForReaders y t x (lock_state v2 l)
       by_how Try ne h = absurd (ne refl)
       by_how Patient ne h = h
       by_how Timed ne h = h
 
 -- a call that waits for a right, from its beginning
-pub enters_alone : (w : State) (t l : ℕ) (a : Admission) (x : Access) (how : Patience) (n : ℕ) (last : Outcome) → 11 ≤ n → IsSteady w → Admits (rules_in w l) a → place_at w t ≡ RwLock l a (call_first (call.Enter x how))
-    → StepsAlone w t l (RwLock l a (call_first (call.Enter x how))) (word_at w l) (λ m. queue_at w (key_of l m)) → RunsAlone w t (solo n w t last).outcome (solo n w t last).state
+pub enters_alone : (w : State) (t l : ℕ) (a : Admission) (x : Access) (how : Patience) (n : ℕ) (last : Outcome) → 11 ≤ n
+    → IsSteady w → Admits (rules_in w l) a → place_at w t ≡ RwLock l a (call_first (call.Enter x how))
+    → StepsAlone w t l (RwLock l a (call_first (call.Enter x how))) (word_at w l) (λ m. queue_at w (key_of l m))
+    → RunsAlone w t (solo n w t last).outcome (solo n w t last).state
     → EntersAlone (word_at w l ≡ 0) (locks_of w) t l (wanted x) how (solo n w t last).outcome (locks_of (solo n w t last).state)
 enters_alone w t l a x how n last le steady admits is f run = by_access x is f
   where
     small : word_at w l < 2 ^ 64
     small = word_small w l steady admits.0
 
-    by_access : (x : Access) → place_at w t ≡ RwLock l a (call_first (call.Enter x how)) → StepsAlone w t l (RwLock l a (call_first (call.Enter x how))) (word_at w l) (λ m. queue_at w (key_of l m))
-        → EntersAlone (word_at w l ≡ 0) (locks_of w) t l (wanted x) how (solo n w t last).outcome (locks_of (solo n w t last).state)
+    by_access : (x : Access) → place_at w t ≡ RwLock l a (call_first (call.Enter x how))
+        → StepsAlone w t l (RwLock l a (call_first (call.Enter x how))) (word_at w l) (λ m. queue_at w (key_of l m))
+        → EntersAlone (word_at w l ≡ 0) (locks_of w) t l (wanted x) how (solo n w t last).outcome
+        (locks_of (solo n w t last).state)
     by_access access.Exclusive is f = writes_alone w t l a steady admits (solo n w t last).state (solo n w t last).outcome run how is (first_leads t l a _ (word_at w l) w (λ m. queue_at w (key_of l m)) small f n last (omega arith))
     by_access access.Shared is f = shares_alone w t l a steady admits (solo n w t last).state (solo n w t last).outcome run access.Shared how (λ h. cc) is (load_leads t l a _ (word_at w l) w (λ m. queue_at w (key_of l m)) small f n last (omega arith))
     by_access access.Upgradable is f = shares_alone w t l a steady admits (solo n w t last).state (solo n w t last).outcome run access.Upgradable how (λ h. cc) is (load_leads t l a _ (word_at w l) w (λ m. queue_at w (key_of l m)) small f n last (omega arith))

@@ -73,7 +73,8 @@ abbrev NextAwake : Admission → ℕ → Next RwLockCallPlace → Type 0
 NextAwake a l (next.At q) = CallAwake (call_profile a q) (call_act l a q)
 NextAwake a l (next.End answer) = Unit {0}
 
-in_no_hand_now : (a : Admission) (c : RwLockCallPlace) → (call_profile a c).hand ≡ None → (u : ℕ) → (call_profile a c).hand ≡ hand u true → ⊥
+in_no_hand_now : (a : Admission) (c : RwLockCallPlace) → (call_profile a c).hand ≡ None → (u : ℕ)
+    → (call_profile a c).hand ≡ hand u true → ⊥
 in_no_hand_now a c none u h = let f : ◌≡◌ {A = Option Hand} None (hand u true) = sym none ∙ h in cc
 
 enters_again_bare : (a : Admission) (x : Access) → (call_profile a (enters_again x)).hand ≡ None
@@ -85,7 +86,8 @@ released_awake : (l : ℕ) (a : Admission) (x : Access) (b : Bool) → NextAwake
 released_awake l a x true = in_no_hand_now a (enters_again x) (enters_again_bare a x)
 released_awake l a x false = tt
 
-gives_up_awake : (l : ℕ) (a : Admission) (x : Access) (b : Bool) → NextAwake a l (if b then next.At (gives_up_at x) else next.End Ok)
+gives_up_awake : (l : ℕ) (a : Admission) (x : Access) (b : Bool)
+    → NextAwake a l (if b then next.At (gives_up_at x) else next.End Ok)
 gives_up_awake l a access.Shared true = in_no_hand_now a (gives_up_at access.Shared) refl
 gives_up_awake l a access.Upgradable true = in_no_hand_now a (gives_up_at access.Upgradable) refl
 gives_up_awake l a access.Exclusive true = in_no_hand_now a (gives_up_at access.Exclusive) refl
@@ -100,7 +102,8 @@ module _ (l : ℕ) (a : Admission) (x : Access) (b : Bool) where
   either_bare true to = released_awake l a x b
   either_bare false to = goes_bare to
 
-  hands_bare : (c : Bool) (to too : HandOverAt) → NextAwake a l (if c then next.At (HandOver x b to) else next.At (HandOver x b too))
+  hands_bare : (c : Bool) (to too : HandOverAt)
+      → NextAwake a l (if c then next.At (HandOver x b to) else next.At (HandOver x b too))
   hands_bare true to too = goes_bare to
   hands_bare false to too = goes_bare too
 
@@ -127,7 +130,8 @@ not_given b p (Woken HandOff) h = absurd h
 not_given b p (Woken Normal) h = refl
 not_given b p told h = refl
 
-own_next : (l : ℕ) (a : Admission) (c : RwLockCallPlace) (told : Reply) → IsOwn told → (call_act l a c ≡ act.Sleep → ⊥) → NextAwake a l (call_next a c told)
+own_next : (l : ℕ) (a : Admission) (c : RwLockCallPlace) (told : Reply) → IsOwn told → (call_act l a c ≡ act.Sleep → ⊥)
+    → NextAwake a l (call_next a c told)
 own_next l a (Plain p) told own awake = subst (λ (o : Option RwLockCallPlace). NextAwake a l (unless_given o (plain_next (rwlock_next a p told)))) (sym (not_given false p told own)) (by_next (rwlock_next a p told))
   where
     by_next : (n : Next RwLockPlace) → NextAwake a l (plain_next n)
@@ -165,7 +169,9 @@ own_reply w t act.Accept = tt
 own_reply w t (act.Closure state) = tt
 own_reply w t (act.End answer) = tt
 
-module _ (w : State) (t l : ℕ) (a : Admission) (c : RwLockCallPlace) (steady : IsSteady w) (shape : IsShaped w) (there : t < length w.places) (lt : l < length w.locks) (is : place_at w t ≡ RwLock l a c) (counted : AreCounted w) (can : can_do w (call_act l a c) ≡ true) where
+module _ (w : State) (t l : ℕ) (a : Admission) (c : RwLockCallPlace) (steady : IsSteady w) (shape : IsShaped w)
+    (there : t < length w.places) (lt : l < length w.locks) (is : place_at w t ≡ RwLock l a c) (counted : AreCounted w)
+    (can : can_do w (call_act l a c) ≡ true) where
   kept : GoesOnBy w t l a c (call_act l a c)
   kept = rwlock_goes_on w t l a c steady shape there lt is counted can
 
@@ -179,7 +185,9 @@ module _ (w : State) (t l : ℕ) (a : Admission) (c : RwLockCallPlace) (steady :
   happened = case_by w t l a c kept.whom (call_act l a c)
 
   -- who sleeps in a call stands about its lock
-  rests : (q : RwLockCallPlace) → place_at behind t ≡ RwLock l a q → CallAwake (call_profile a q) (call_act l a q) → (outcome_of (call_act l a q) ≡ outcome.Step) ⊎ ((outcome_of (call_act l a q) ≡ outcome.Sleep) × (1 ≤ standing t (lock_state behind l)))
+  rests : (q : RwLockCallPlace) → place_at behind t ≡ RwLock l a q → CallAwake (call_profile a q) (call_act l a q)
+      → (outcome_of (call_act l a q) ≡ outcome.Step)
+      ⊎ ((outcome_of (call_act l a q) ≡ outcome.Sleep) × (1 ≤ standing t (lock_state behind l)))
   rests q e awake = by_act (call_act l a q) (fair_acts_move l a q fits.1) promises.acts promises.asleep awake
     where
       fits : FitsItsLock behind (RwLock l a q)
@@ -188,7 +196,9 @@ module _ (w : State) (t l : ℕ) (a : Admission) (c : RwLockCallPlace) (steady :
       promises : RowPromises (rules_in behind l).sort l (call_profile a q) (call_act l a q)
       promises = call_promises (rules_in behind l) a l q fits.0 fits.1
 
-      by_act : (y : Act) → CallMoves l a.recursive (call_move a q) (call_hears a q) y → is_acting y ≡ true → (y ≡ act.Sleep → IsWaiting (call_profile a q) ⊎ WasHanded (rules_in behind l).sort l (call_profile a q)) → CallAwake (call_profile a q) y
+      by_act : (y : Act) → CallMoves l a.recursive (call_move a q) (call_hears a q) y → is_acting y ≡ true
+          → (y ≡ act.Sleep → IsWaiting (call_profile a q) ⊎ WasHanded (rules_in behind l).sort l (call_profile a q))
+          → CallAwake (call_profile a q) y
           → (outcome_of y ≡ outcome.Step) ⊎ ((outcome_of y ≡ outcome.Sleep) × (1 ≤ standing t (lock_state behind l)))
       by_act act.Sleep moves acting asleep awake = inr (
         refl,
@@ -205,7 +215,8 @@ module _ (w : State) (t l : ℕ) (a : Admission) (c : RwLockCallPlace) (steady :
   leads : LeadsTo behind t l (next_rows a (call_next a c told)) (outcome_of (rwlock_does l a (call_next a c told)))
   leads = by_next (call_next a c told) (get_or-set_same (state_after_act w t (RwLock l a c) (call_act l a c)).places t _ Idle (rw (performed_counts w t (RwLock l a c) (call_act l a c)).0 there)) (own_next l a c told (own_reply w t (call_act l a c)) (λ asleep. let f : true ≡ false = sym can ∙ ap (can_do w) asleep in cc))
     where
-      by_next : (n : Next RwLockCallPlace) → place_at behind t ≡ rwlock_goes l a n → NextAwake a l n → LeadsTo behind t l (next_rows a n) (outcome_of (rwlock_does l a n))
+      by_next : (n : Next RwLockCallPlace) → place_at behind t ≡ rwlock_goes l a n → NextAwake a l n
+          → LeadsTo behind t l (next_rows a n) (outcome_of (rwlock_does l a n))
       by_next (next.At q) e awake = (
         ap lock_of e,
         ap profile e,
@@ -234,7 +245,8 @@ module _ (w : State) (t l : ℕ) (a : Admission) (c : RwLockCallPlace) (steady :
 
 -- ---------------------------------------------------------------- a call begins
 
-pub rwlock_purpose_is : (k : Kind) (l : ℕ) (c : RwLockCall) → has_readers (rules_of k).sort ≡ true → purpose_of k (call.RwLock l c) ≡ Some (rwlock_purpose l c)
+pub rwlock_purpose_is : (k : Kind) (l : ℕ) (c : RwLockCall) → has_readers (rules_of k).sort ≡ true
+    → purpose_of k (call.RwLock l c) ≡ Some (rwlock_purpose l c)
 rwlock_purpose_is (kind.RwLock limit) l c h = refl
 rwlock_purpose_is (kind.Recursive limit) l c h = refl
 rwlock_purpose_is k l c h = absurd cc
@@ -257,7 +269,8 @@ module _ (w : State) (t l : ℕ) where
   owned access.Upgradable h = is_owner t (owners_at w l).upgradable h
   owned access.Exclusive h = is_owner t (owners_at w l).exclusive h
 
-  pub rwlock_right_held : (c : RwLockCall) → call_right c t (owners_at w l) (share_at w l t) ≡ true → HasRight (locks_of w) t (Some (rwlock_purpose l c))
+  pub rwlock_right_held : (c : RwLockCall) → call_right c t (owners_at w l) (share_at w l t) ≡ true
+      → HasRight (locks_of w) t (Some (rwlock_purpose l c))
   rwlock_right_held (rwlock_call.Enter x how) h = tt
   rwlock_right_held (rwlock_call.Release x) h = owns x h
   rwlock_right_held (rwlock_call.Downgrade d) h = owns (from_of d) h
@@ -265,7 +278,8 @@ module _ (w : State) (t l : ℕ) where
   rwlock_right_held (rwlock_call.ReleaseFair x) h = owns x h
   rwlock_right_held (rwlock_call.Bump x) h = owns x h
 
-  pub rwlock_right_needed : (c : RwLockCall) → HasRight (locks_of w) t (Some (rwlock_purpose l c)) → call_right c t (owners_at w l) (share_at w l t) ≡ true
+  pub rwlock_right_needed : (c : RwLockCall) → HasRight (locks_of w) t (Some (rwlock_purpose l c))
+      → call_right c t (owners_at w l) (share_at w l t) ≡ true
   rwlock_right_needed (rwlock_call.Enter x how) h = refl
   rwlock_right_needed (rwlock_call.Release x) h = owned x h
   rwlock_right_needed (rwlock_call.Downgrade d) h = owned (from_of d) h

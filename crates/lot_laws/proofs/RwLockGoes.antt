@@ -56,7 +56,8 @@ plain_gives : (l k : ℕ) (a : Admission) (p : RwLockPlace) (op : Op) → MaySta
 plain_gives l k a p op may e = subst (λ x. Moves l a.recursive (rwlock_move a p) (rwlock_hears a p) x) e (rwlock_acts_move l a p may)
 
 -- who hands over says whom it has in hand
-pub gives_counted : (l k : ℕ) (a : Admission) (c : RwLockCallPlace) (op : Op) → CallStands a c → call_act l a c ≡ act.HandOver k op → (n : Counted) × (in_hand_of c ≡ Some n)
+pub gives_counted : (l k : ℕ) (a : Admission) (c : RwLockCallPlace) (op : Op) → CallStands a c
+    → call_act l a c ≡ act.HandOver k op → (n : Counted) × (in_hand_of c ≡ Some n)
 gives_counted l k a (HandOver x b (handing.Store n)) op may e = (n, refl)
 gives_counted l k a (HandOver x b (handing.Exchange n seen)) op may e = (n, refl)
 gives_counted l k a (HandOver x b (handing.Look n)) op may e = (n, refl)
@@ -90,7 +91,8 @@ module _ (w : State) (t l : ℕ) (a : Admission) (c : RwLockCallPlace) where
     pub happened : Happens w (then_by y) t (event_by l (case_by whom y))
     pub others : OthersFollow w (then_by y) t (event_by l (case_by whom y))
 
-module _ (w : State) (t l : ℕ) (a : Admission) (c : RwLockCallPlace) (steady : IsSteady w) (shape : IsShaped w) (there : t < length w.places) (lt : l < length w.locks) (is : place_at w t ≡ RwLock l a c) where
+module _ (w : State) (t l : ℕ) (a : Admission) (c : RwLockCallPlace) (steady : IsSteady w) (shape : IsShaped w)
+    (there : t < length w.places) (lt : l < length w.locks) (is : place_at w t ≡ RwLock l a c) where
   of : lock_of (place_at w t) ≡ Some l
   of = ap lock_of is
 
@@ -105,7 +107,8 @@ module _ (w : State) (t l : ℕ) (a : Admission) (c : RwLockCallPlace) (steady :
   tells whom y = CallTells (rules_in w l) a (lock_by w l (rules_in w l)) t l c whom (reply_to w t y)
 
   -- nobody else claims anything
-  happens_by : (y : Act) (whom : Option ℕ) → goes whom y → tells whom y → Happens w (then_by w t l a c y) t (event_by l (case_by w t l a c whom y))
+  happens_by : (y : Act) (whom : Option ℕ) → goes whom y → tells whom y
+      → Happens w (then_by w t l a c y) t (event_by l (case_by w t l a c whom y))
   happens_by y whom went told = happens w (then_by w t l a c y) t l (call_profile a c).carries (deeds_by w t l a c whom y) [] steady (subst (Goes w (then_by w t l a c y) l) (sym (append-nil (acts t (deeds_by w t l a c whom y)))) went) tt told.one
       (λ none. in_no_hand w steady t l (λ h. none (sym carries ∙ h)))
 
@@ -126,7 +129,8 @@ module _ (w : State) (t l : ℕ) (a : Admission) (c : RwLockCallPlace) (steady :
     by_own = record { whom = from.whom; tells = from.tells; happened = own_happened; others = own_others }
 
   -- to those whom it has in hand, where its operation takes effect
-  module _ (k : Counted) (is_k : in_hand_of c ≡ Some k) (counted : AreCounted w) (op : Op) (e : call_act l a c ≡ act.HandOver l op) where
+  module _ (k : Counted) (is_k : in_hand_of c ≡ Some k) (counted : AreCounted w) (op : Op)
+      (e : call_act l a c ≡ act.HandOver l op) where
     abbrev heir : Option ℕ
     heir = whom w t l a c steady shape there lt is k is_k (counted t l a c k is is_k) op e
 

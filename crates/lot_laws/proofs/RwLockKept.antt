@@ -129,7 +129,8 @@ module _ (a : Admission) (p : RwLockPlace) where
   told_value (at.Decide seen) v h = h
   told_value to v h = h
 
-  told_late : (to : RwLockAt) (how : Patience) → patience_of p.purpose ≡ how → (m : Line) → late_line_at how to ≡ Some m → MayBeTold a p to Late
+  told_late : (to : RwLockAt) (how : Patience) → patience_of p.purpose ≡ how → (m : Line) → late_line_at how to ≡ Some m
+      → MayBeTold a p to Late
   told_late (at.Park parking.Asleep) patience.Timed e m h = subst HasDeadline (sym e) tt
   told_late (at.Aside parking.Asleep) patience.Timed e m h = subst HasDeadline (sym e) tt
   told_late (at.Park parking.Asleep) patience.Patient e m h = absurd cc
@@ -140,7 +141,8 @@ module _ (a : Admission) (p : RwLockPlace) where
   told_late (at.Aside to) how e m h = absurd cc
   told_late to how e m h = absurd cc
 
-  told_done : (r : Rules) (s : Site) (t : ℕ) (to : RwLockAt) (whom : Option ℕ) → MayHear r a s t p to whom Done → MayBeTold a p to Done
+  told_done : (r : Rules) (s : Site) (t : ℕ) (to : RwLockAt) (whom : Option ℕ) → MayHear r a s t p to whom Done
+      → MayBeTold a p to Done
   told_done r s t (at.Decide seen) whom h = h.0
   told_done r s t to whom h = tt
 
@@ -167,7 +169,8 @@ module _ (a : Admission) where
   call_told_late (HandOver x b to) m h = tt
   call_told_late (Handed x how b to) m h = tt
 
-  call_told_done : (r : Rules) (s : Site) (t : ℕ) (c : RwLockCallPlace) (whom : Option ℕ) → CallMayHear r a s t c whom Done → CallMayBeTold a c Done
+  call_told_done : (r : Rules) (s : Site) (t : ℕ) (c : RwLockCallPlace) (whom : Option ℕ) → CallMayHear r a s t c whom Done
+      → CallMayBeTold a c Done
   call_told_done r s t (Plain p) whom h = told_done a p r s t p.at whom h
   call_told_done r s t (Bump p) whom h = told_done a p r s t p.at whom h
   call_told_done r s t (Glance x) whom h = tt
@@ -177,7 +180,8 @@ module _ (a : Admission) where
 -- ---------------------------------------------------------------- words
 
 -- the word of a lock with room has 64 bits
-pub word_few : (r : Rules) (s : Site) → has_readers r.sort ≡ true → IsSite r s → r.limit < 2 ^ 60 - 1 → HasLimit r s.lock → code r s < 2 ^ 64
+pub word_few : (r : Rules) (s : Site) → has_readers r.sort ≡ true → IsSite r s → r.limit < 2 ^ 60 - 1 → HasLimit r s.lock
+    → code r s < 2 ^ 64
 word_few r s readers site room limit = by_sort r.sort refl readers
   where
     one : s.lock.exclusive ≡ None → writers s.lock ≤ 1
@@ -268,7 +272,8 @@ left_wakes ds h = absurd h
 
 -- ---------------------------------------------------------------- one thread
 
-module _ (w : State) (t l : ℕ) (a : Admission) (c : RwLockCallPlace) (steady : IsSteady w) (shape : IsShaped w) (there : t < length w.places) (lt : l < length w.locks) (is : place_at w t ≡ RwLock l a c) where
+module _ (w : State) (t l : ℕ) (a : Admission) (c : RwLockCallPlace) (steady : IsSteady w) (shape : IsShaped w)
+    (there : t < length w.places) (lt : l < length w.locks) (is : place_at w t ≡ RwLock l a c) where
   pub fits_now : FitsItsLock w (RwLock l a c)
   fits_now = subst (FitsItsLock w) is (steady.stands.calls t)
 
@@ -296,7 +301,8 @@ module _ (w : State) (t l : ℕ) (a : Admission) (c : RwLockCallPlace) (steady :
   pub at_now : IsInCall (rules_in w l) a here t c
   at_now = record { admits = admits; site = site; doing = doing_now; stands = stands; there = subst (λ n. t < n) (sym (steady.numbers.threads l)) there }
 
-  pub fits_next : (k : ℕ) (b : Admission) (n : Next RwLockCallPlace) → Admits (rules_in w k) b → CallStandsNext b n → FitsItsLock w (rwlock_goes k b n)
+  pub fits_next : (k : ℕ) (b : Admission) (n : Next RwLockCallPlace) → Admits (rules_in w k) b → CallStandsNext b n
+      → FitsItsLock w (rwlock_goes k b n)
   fits_next k b (next.At q) admitted may = (admitted, may)
   fits_next k b (next.End answer) admitted may = tt
 
@@ -304,7 +310,9 @@ module _ (w : State) (t l : ℕ) (a : Admission) (c : RwLockCallPlace) (steady :
   abbrev Followed : Option ℕ → Reply → Type 0
   Followed whom told = IsFollowed w t l steady there own (rules_in w l) refl (call_move a c) same_row whom told (next_place (place_at w t) told)
 
-  pub followed_by : (whom : Option ℕ) (told : Reply) → laws.AllNeeded (rules_in w l) (call_deeds a c whom told) here t → (laws.after_all (rules_in w l) (call_deeds a c whom told) here t).doing t ≡ call_doing_next (call_next a c told) → CallMayBeTold a c told → Followed whom told
+  pub followed_by : (whom : Option ℕ) (told : Reply) → laws.AllNeeded (rules_in w l) (call_deeds a c whom told) here t
+      → (laws.after_all (rules_in w l) (call_deeds a c whom told) here t).doing t ≡ call_doing_next (call_next a c told)
+      → CallMayBeTold a c told → Followed whom told
   followed_by whom told needed does may = record {
     of = next_of l (place_at w t) told own;
     fits = subst (λ q. FitsItsLock w (next_place q told)) (sym is) (fits_next l a (call_next a c told) admits (fair_calls_stand a c told stands may));
@@ -313,7 +321,8 @@ module _ (w : State) (t l : ℕ) (a : Admission) (c : RwLockCallPlace) (steady :
     doing = does ∙ doing_is a (call_next a c told);
   }
 
-  followed : (whom : Option ℕ) (told : Reply) → CallMayHear (rules_in w l) a here t c whom told → CallMayBeTold a c told → Followed whom told
+  followed : (whom : Option ℕ) (told : Reply) → CallMayHear (rules_in w l) a here t c whom told → CallMayBeTold a c told
+      → Followed whom told
   followed whom told hears may = let f = fair_sections_follow (rules_in w l) a here t c whom told at_now hears in followed_by whom told f.needed f.doing may
 
   -- ---------------------------------------------------------------- who else calls the lock
@@ -347,7 +356,8 @@ module _ (w : State) (t l : ℕ) (a : Admission) (c : RwLockCallPlace) (steady :
   asleep : (u : ℕ) → SleepsIfCalls w t l steady there own (rules_in w l) refl (call_move a c) same_row u
   asleep u = record { apart = not_beside w (place_at w u) l (steady.stands.calls u) many; sleeper = λ h. by_place (place_at w u) refl h }
     where
-      by_place : (q : Place) → place_at w u ≡ q → calls q l ≡ true → IsSleeper w t l steady there own (rules_in w l) refl (call_move a c) same_row u
+      by_place : (q : Place) → place_at w u ≡ q → calls q l ≡ true
+          → IsSleeper w t l steady there own (rules_in w l) refl (call_move a c) same_row u
       by_place Idle e g = absurd cc
       by_place (Condvar k at) e g = absurd (of_no_condvar u k at e (eqb-true k l g))
       by_place (Once k at) e g = absurd (of_no_once u k at e (eqb-true k l g))
@@ -371,11 +381,14 @@ module _ (w : State) (t l : ℕ) (a : Admission) (c : RwLockCallPlace) (steady :
   -- its deeds as it goes on from a place, what they make of its call, and of those of the others
   pub record GoesFrom (q : Place) (y : Act) : Type 0 where
     pub whom : Option ℕ
-    pub goes : Goes w (put (state_after_act w t (RwLock l a c) y) t (next_place q (reply_to w t y))) l (acts t (call_deeds a c whom (reply_to w t y)))
+    pub goes : Goes w (put (state_after_act w t (RwLock l a c) y) t (next_place q (reply_to w t y))) l
+        (acts t (call_deeds a c whom (reply_to w t y)))
     pub tells : CallTells (rules_in w l) a here t l c whom (reply_to w t y)
-    pub others : WakesOwn ((call_profile a c).carries) y (case_of ((call_profile a c).carries) (call_deeds a c whom (reply_to w t y)))
+    pub others : WakesOwn ((call_profile a c).carries) y
+        (case_of ((call_profile a c).carries) (call_deeds a c whom (reply_to w t y)))
 
-  tells_by : (whom : Option ℕ) (told : Reply) → IsNotLate told → CallMayHear (rules_in w l) a here t c whom told → CallTells (rules_in w l) a here t l c whom told
+  tells_by : (whom : Option ℕ) (told : Reply) → IsNotLate told → CallMayHear (rules_in w l) a here t c whom told
+      → CallTells (rules_in w l) a here t l c whom told
   tells_by whom told now hears = fair_sections_tell (rules_in w l) a here t l c whom told at_now hears now
 
   calm_by : (ds : List Deed) {x : List Deed} → x ≡ ds → AreCalm ds → IsCalm (case_of ((call_profile a c).carries) x)
@@ -428,7 +441,8 @@ module _ (w : State) (t l : ℕ) (a : Admission) (c : RwLockCallPlace) (steady :
   none_is None h = refl
   none_is (Some u) h = absurd cc
 
-  into : (m : Line) (keys : Keys) → keys ≡ One (key_of l m) → are_free w keys ≡ true → GoesIn (call_move a c) (call_hears a c) m Done → GoesFrom (place_at w t) (act.Enter keys)
+  into : (m : Line) (keys : Keys) → keys ≡ One (key_of l m) → are_free w keys ≡ true
+      → GoesIn (call_move a c) (call_hears a c) m Done → GoesFrom (place_at w t) (act.Enter keys)
   into m keys e free g = subst (λ k. GoesFrom (place_at w t) (act.Enter k)) (sym e) (record {
     whom = None;
     goes = goes_in w t l steady there own (rules_in w l) refl (call_move a c) same_row (call_hears a c) m Done (next_place (place_at w t) Done) (section_there m) is_free_now g (λ h. followed None Done h (call_told_done a (rules_in w l) here t c None h));
@@ -439,7 +453,8 @@ module _ (w : State) (t l : ℕ) (a : Admission) (c : RwLockCallPlace) (steady :
       is_free_now : section_at w (key_of l m) ≡ None
       is_free_now = none_is (section_at w (key_of l m)) (subst (λ k. are_free w k ≡ true) e free)
 
-  out_of : (m : Line) (keys : Keys) (wakes : Wakes) → keys ≡ One (key_of l m) → GoesOut (call_move a c) (call_hears a c) m wakes → GoesFrom (place_at w t) (act.Leave keys wakes)
+  out_of : (m : Line) (keys : Keys) (wakes : Wakes) → keys ≡ One (key_of l m) → GoesOut (call_move a c) (call_hears a c) m wakes
+      → GoesFrom (place_at w t) (act.Leave keys wakes)
   out_of m keys wakes e g = subst (λ k. GoesFrom (place_at w t) (act.Leave k wakes)) (sym e) (record {
     whom = None;
     goes = goes_out w t l steady there own (rules_in w l) refl (call_move a c) same_row (call_hears a c) m wakes (next_place (place_at w t) Done) (section_there m) g (λ h. followed None Done h (call_told_done a (rules_in w l) here t c None h)) (wakes_one w t l steady there own (rules_in w l) refl (call_move a c) same_row asleep g.any g.carries);
@@ -447,11 +462,13 @@ module _ (w : State) (t l : ℕ) (a : Admission) (c : RwLockCallPlace) (steady :
     others = subst (λ x. WakesOwn ((call_profile a c).carries) (act.Leave (One (key_of l m)) x) (case_of ((call_profile a c).carries) (call_deeds a c None Done))) (sym g.notes) (wakes_any ((call_profile a c).carries) g.any g.carries (call_deeds a c None Done) g.deeds);
   })
     where
-      wakes_any : (hand : Option Bool) (any : Bool) → hand ≡ in_hand any false → (ds : List Deed) → AreLeaving ds → WakesOwn hand (act.Leave (One (key_of l m)) (wakes_taken any Normal)) (case_of hand ds)
+      wakes_any : (hand : Option Bool) (any : Bool) → hand ≡ in_hand any false → (ds : List Deed) → AreLeaving ds
+          → WakesOwn hand (act.Leave (One (key_of l m)) (wakes_taken any Normal)) (case_of hand ds)
       wakes_any hand false f ds h = subst (λ x. IsCalm (case_of x ds)) (sym f) (left_calm ds h)
       wakes_any hand true f ds h = inl (f, (refl, ap (λ x. case_of x ds) f ∙ left_wakes ds h))
 
-  parked : (m : Line) (k key : ℕ) (check : Check) (want : Want) → k ≡ l → key ≡ key_of l m → Parks (call_move a c) (call_hears a c) m check want → GoesFrom (place_at w t) (act.Park k key check want)
+  parked : (m : Line) (k key : ℕ) (check : Check) (want : Want) → k ≡ l → key ≡ key_of l m
+      → Parks (call_move a c) (call_hears a c) m check want → GoesFrom (place_at w t) (act.Park k key check want)
   parked m k key check x ke e g = subst (λ j. GoesFrom (place_at w t) (act.Park j key check x)) (sym ke) (subst (λ j. GoesFrom (place_at w t) (act.Park l j check x)) (sym e) (record {
     whom = None;
     goes = parks_or_turns w t l steady there own (rules_in w l) refl (call_move a c) same_row (call_hears a c) m check x (line_there m) g (λ b h. followed None (Parked b) h (call_told_other a c (Parked b) tt));
@@ -472,12 +489,14 @@ module _ (w : State) (t l : ℕ) (a : Admission) (c : RwLockCallPlace) (steady :
       by_place (Condvar k at) e h = absurd (let none : hand_at (Condvar k at) l ≡ None = condvar_unheld k at l (beside_no_call u k at e) in let both : ◌≡◌ {A = Option Hand} None (hand t true) = sym none ∙ h in cc)
       by_place (Once k at) e h = either (k == l) refl h
         where
-          either : (b : Bool) → (k == l) ≡ b → (if b then station (Once k at) else nowhere).hand ≡ hand t true → IsWokenAt w t l HandOff (Once k at)
+          either : (b : Bool) → (k == l) ≡ b → (if b then station (Once k at) else nowhere).hand ≡ hand t true
+              → IsWokenAt w t l HandOff (Once k at)
           either true same_lock g = absurd (of_no_once u k at e (eqb-true k l same_lock))
           either false same_lock g = absurd cc
       by_place (Mutex k m) e h = either (k == l) refl h
         where
-          either : (b : Bool) → (k == l) ≡ b → (if b then station (Mutex k m) else nowhere).hand ≡ hand t true → IsWokenAt w t l HandOff (Mutex k m)
+          either : (b : Bool) → (k == l) ≡ b → (if b then station (Mutex k m) else nowhere).hand ≡ hand t true
+              → IsWokenAt w t l HandOff (Mutex k m)
           either true same_lock g = absurd (of_no_mutex u k m e (eqb-true k l same_lock))
           either false same_lock g = absurd cc
       by_place (RwLock k b q) e h = either (k == l) refl h
@@ -501,11 +520,13 @@ module _ (w : State) (t l : ℕ) (a : Admission) (c : RwLockCallPlace) (steady :
               untaken : taken_at (RwLock k b q) l ≡ None
               untaken = ap (λ o. taken_from o (call_profile b q).wants (calls (RwLock k b q) l)) g
 
-          either : (d : Bool) → (k == l) ≡ d → (if d then station (RwLock k b q) else nowhere).hand ≡ hand t true → IsWokenAt w t l HandOff (RwLock k b q)
+          either : (d : Bool) → (k == l) ≡ d → (if d then station (RwLock k b q) else nowhere).hand ≡ hand t true
+              → IsWokenAt w t l HandOff (RwLock k b q)
           either true same_lock g = at_lock (eqb-true k l same_lock) g
           either false same_lock g = absurd cc
 
-  tells_all : (keys : Keys) (wakes : Wakes) → keys ≡ One (key_of l Main) → TellsHanded (call_move a c) (call_hears a c) wakes → GoesFrom (place_at w t) (act.Leave keys wakes)
+  tells_all : (keys : Keys) (wakes : Wakes) → keys ≡ One (key_of l Main) → TellsHanded (call_move a c) (call_hears a c) wakes
+      → GoesFrom (place_at w t) (act.Leave keys wakes)
   tells_all keys wakes e g = subst (λ k. GoesFrom (place_at w t) (act.Leave k wakes)) (sym e) (record {
     whom = None;
     goes = tells_handed w t l steady there own (rules_in w l) refl admits.0 (call_move a c) same_row (call_hears a c) wakes g (next_place (place_at w t) Done) (section_there Main)
@@ -524,7 +545,8 @@ module _ (w : State) (t l : ℕ) (a : Admission) (c : RwLockCallPlace) (steady :
           carried_now : carried_at (place_at w t) l ≡ (call_profile a c).carries
           carried_now = ap (λ (y : Station). y.carries) (station_here l (place_at w t) own) ∙ ap (λ (y : Profile). y.carries) same_row
 
-          by_handed : (b : Bool) → hand_at (place_at w u) l ≡ hand t b → in_hand g.any true ≡ Some b → (any : Bool) → IsWokenAt w t l HandOff (place_at w u)
+          by_handed : (b : Bool) → hand_at (place_at w u) l ≡ hand t b → in_hand g.any true ≡ Some b → (any : Bool)
+              → IsWokenAt w t l HandOff (place_at w u)
           by_handed true h f any = hears_so u h
           by_handed false h f any = absurd (never g.any f)
             where
@@ -532,7 +554,8 @@ module _ (w : State) (t l : ℕ) (a : Admission) (c : RwLockCallPlace) (steady :
               never true f = cc
               never false f = cc
 
-      tells_any : (hand : Option Bool) (any : Bool) → hand ≡ in_hand any true → (ds : List Deed) → AreLeaving ds → WakesOwn hand (act.Leave (One (key_of l Main)) (wakes_taken any HandOff)) (case_of hand ds)
+      tells_any : (hand : Option Bool) (any : Bool) → hand ≡ in_hand any true → (ds : List Deed) → AreLeaving ds
+          → WakesOwn hand (act.Leave (One (key_of l Main)) (wakes_taken any HandOff)) (case_of hand ds)
       tells_any hand false f ds h = subst (λ x. IsCalm (case_of x ds)) (sym f) (left_calm ds h)
       tells_any hand true f ds h = inr (f, (refl, subst (λ x. IsCalm (case_of x ds)) (sym f) (handed_calm ds h)))
 
@@ -544,7 +567,8 @@ module _ (w : State) (t l : ℕ) (a : Admission) (c : RwLockCallPlace) (steady :
     others = calm_by (End ∷ []) g.deeds tt;
   }
 
-  left : (m : Line) (key : ℕ) → key ≡ key_of l m → LeavesLine (call_move a c) (call_hears a c) m → GoesFrom (place_at w t) (act.Remove key)
+  left : (m : Line) (key : ℕ) → key ≡ key_of l m → LeavesLine (call_move a c) (call_hears a c) m
+      → GoesFrom (place_at w t) (act.Remove key)
   left m key e g = subst (λ j. GoesFrom (place_at w t) (act.Remove j)) (sym e) (record {
     whom = None;
     goes = leaves_line w t l steady there own (rules_in w l) refl (call_move a c) same_row asleep (call_hears a c) m g (λ b h. followed None (Removed b) h (call_told_other a c (Removed b) tt));
@@ -552,7 +576,8 @@ module _ (w : State) (t l : ℕ) (a : Admission) (c : RwLockCallPlace) (steady :
     others = calm_by (Case locks.Late ∷ []) (g.deeds _) tt;
   })
 
-  picked : (key : ℕ) (start : Option Want) (b : Bool) → key ≡ key_of l Main → b ≡ a.recursive → Picks (call_move a c) (call_hears a c) start → GoesFrom (place_at w t) (act.Take key (whom.TheVariants.Picked start b))
+  picked : (key : ℕ) (start : Option Want) (b : Bool) → key ≡ key_of l Main → b ≡ a.recursive
+      → Picks (call_move a c) (call_hears a c) start → GoesFrom (place_at w t) (act.Take key (whom.TheVariants.Picked start b))
   picked key start b e same_rule g = subst (λ j. GoesFrom (place_at w t) (act.Take j (whom.TheVariants.Picked start b))) (sym e) (subst (λ c. GoesFrom (place_at w t) (act.Take (key_of l Main) (whom.TheVariants.Picked start c))) (admits.1 ∙ sym same_rule) (record {
     whom = None;
     goes = takes_chosen w t l steady there own (rules_in w l) refl (call_move a c) same_row asleep (call_hears a c) many (line_there Main) start g follows;
@@ -560,10 +585,12 @@ module _ (w : State) (t l : ℕ) (a : Admission) (c : RwLockCallPlace) (steady :
     others = calm_by (Case (locks.TakePicked start) ∷ []) (picked_deeds w t l steady there own (rules_in w l) refl (call_move a c) same_row asleep (call_hears a c) many (line_there Main) start g follows) tt;
   }))
     where
-      follows : (n : ℕ) (y : Option Want) (none_left : Bool) → call_hears a c (rules_in w l) here t None (Picked n y none_left) → Followed None (Picked n y none_left)
+      follows : (n : ℕ) (y : Option Want) (none_left : Bool) → call_hears a c (rules_in w l) here t None (Picked n y none_left)
+          → Followed None (Picked n y none_left)
       follows n y none_left h = followed None (Picked n y none_left) h (call_told_other a c (Picked n y none_left) tt)
 
-  took : (key : ℕ) → key ≡ key_of l Second → TakesAside (call_move a c) (call_hears a c) → GoesFrom (place_at w t) (act.Take key whom.TheVariants.First)
+  took : (key : ℕ) → key ≡ key_of l Second → TakesAside (call_move a c) (call_hears a c)
+      → GoesFrom (place_at w t) (act.Take key whom.TheVariants.First)
   took key e g = subst (λ j. GoesFrom (place_at w t) (act.Take j whom.TheVariants.First)) (sym e) (record {
     whom = here.lock.aside;
     goes = takes_whom_aside w t l steady there own (rules_in w l) refl (call_move a c) same_row asleep (call_hears a c) many (line_there Second) g (λ any none_left h. followed here.lock.aside (Took any none_left) h (call_told_other a c (Took any none_left) tt));
@@ -572,7 +599,8 @@ module _ (w : State) (t l : ℕ) (a : Admission) (c : RwLockCallPlace) (steady :
   })
 
   -- by any act that hands nothing over
-  by_act : ((k : ℕ) (op : Op) → call_act l a c ≢ act.HandOver k op) → (y : Act) → call_act l a c ≡ y → CallMoves l a.recursive (call_move a c) (call_hears a c) y → can_do w y ≡ true → GoesFrom (place_at w t) y
+  by_act : ((k : ℕ) (op : Op) → call_act l a c ≢ act.HandOver k op) → (y : Act) → call_act l a c ≡ y
+      → CallMoves l a.recursive (call_move a c) (call_hears a c) y → can_do w y ≡ true → GoesFrom (place_at w t) y
   by_act plain (act.Word k op) e g can = subst (λ j. GoesFrom (place_at w t) (act.Word j op)) (sym g.0) (on_word op (e ∙ ap (λ j. act.Word j op) g.0) g.1)
   by_act plain (act.Enter keys) e g can = into g.0 keys g.1 can g.2
   by_act plain (act.Park k key check want) e g can = parked g.0 k key check want g.1 g.2 g.3
@@ -591,12 +619,14 @@ module _ (w : State) (t l : ℕ) (a : Admission) (c : RwLockCallPlace) (steady :
   by_act plain y e g can = absurd g
 
   -- its deeds are what the place and the reply say
-  pub goes_unhanded : ((k : ℕ) (op : Op) → call_act l a c ≢ act.HandOver k op) → can_do w (call_act l a c) ≡ true → GoesFrom (RwLock l a c) (call_act l a c)
+  pub goes_unhanded : ((k : ℕ) (op : Op) → call_act l a c ≢ act.HandOver k op) → can_do w (call_act l a c) ≡ true
+      → GoesFrom (RwLock l a c) (call_act l a c)
   goes_unhanded plain can = subst (λ q. GoesFrom q (call_act l a c)) is (by_act plain (call_act l a c) refl (fair_acts_move l a c stands) can)
 
   -- ---------------------------------------------------------------- its time is up
 
-  pub rwlock_goes_late : (m : Line) → call_late_line c ≡ Some m → is_free w (key_of l m) ≡ true → Goes w (state_after_late_under w t (key_of l m)) l (acts t (call_deeds a c None Late))
+  pub rwlock_goes_late : (m : Line) → call_late_line c ≡ Some m → is_free w (key_of l m) ≡ true
+      → Goes w (state_after_late_under w t (key_of l m)) l (acts t (call_deeds a c None Late))
   rwlock_goes_late m e free = goes_in w t l steady there own (rules_in w l) refl (call_move a c) same_row (call_hears a c) m Late (next_place (place_at w t) Late) (section_there m)
       (none_is (section_at w (key_of l m)) free) (fair_late_moves a c m e) (λ h. followed None Late h (call_told_late a c m e))
 
@@ -609,10 +639,13 @@ admits_by (kinds.Recursive limit) h = (refl, refl, refl)
 admits_by k h = absurd cc
 
 -- it begins where it fits its lock
-first_fits : (w : State) (l : ℕ) (a : Admission) (c : RwLockCall) → Admits (rules_in w l) a → FitsItsLock w (RwLock l a (call_first c))
+first_fits : (w : State) (l : ℕ) (a : Admission) (c : RwLockCall) → Admits (rules_in w l) a
+    → FitsItsLock w (RwLock l a (call_first c))
 first_fits w l a c admits = (admits, (calls_open a c).stands)
 
-module _ (w : State) (t l : ℕ) (c : RwLockCall) (steady : IsSteady w) (there : t < length w.places) (idle_now : place_at w t ≡ Idle) (readers : has_readers (rules_in w l).sort ≡ true) (right : call_right c t (owners_at w l) (share_at w l t) ≡ true) where
+module _ (w : State) (t l : ℕ) (c : RwLockCall) (steady : IsSteady w) (there : t < length w.places)
+    (idle_now : place_at w t ≡ Idle) (readers : has_readers (rules_in w l).sort ≡ true)
+    (right : call_right c t (owners_at w l) (share_at w l t) ≡ true) where
   abbrev pub first : Place
   first = RwLock l (admission_of (kind_at w l)) (call_first c)
 

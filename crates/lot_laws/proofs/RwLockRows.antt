@@ -58,7 +58,8 @@ knows sorts.Recursive e access.Upgradable = tt
 knows sorts.Recursive e access.Exclusive = tt
 knows s e x = absurd cc
 
-rwlock_known : (l : ℕ) (q : RwLockPurpose) (sort_of : ℕ → Sort) → has_readers (sort_of l) ≡ true → KnowsRights sort_of (Some (purpose_by q l))
+rwlock_known : (l : ℕ) (q : RwLockPurpose) (sort_of : ℕ → Sort) → has_readers (sort_of l) ≡ true
+    → KnowsRights sort_of (Some (purpose_by q l))
 rwlock_known l (purpose.Enter x how) sort_of e = knows (sort_of l) e x
 rwlock_known l (purpose.Release x) sort_of e = knows (sort_of l) e x
 rwlock_known l (purpose.Downgrade downgrade.ToShared) sort_of e = (knows (sort_of l) e access.Exclusive, knows (sort_of l) e access.Shared)
@@ -122,7 +123,8 @@ park_acts l a x m parking.Check = refl
 park_acts l a x m (parking.Leave parked) = refl
 park_acts l a x m to = refl
 
-acts_at : (l : ℕ) (a : Admission) (p : RwLockPlace) (to : RwLockAt) → IsDecided a p.purpose to → is_acting (act_at l a p to) ≡ true
+acts_at : (l : ℕ) (a : Admission) (p : RwLockPlace) (to : RwLockAt) → IsDecided a p.purpose to
+    → is_acting (act_at l a p to) ≡ true
 acts_at l a p at.First h = refl
 acts_at l a p at.Load h = refl
 acts_at l a p (at.Decide seen) h = decided_acts l p.purpose seen (decided a p seen) h
@@ -202,7 +204,8 @@ IsParking (at.Park to) = Unit {0}
 IsParking (at.Aside to) = Unit {0}
 IsParking to = ⊥
 
-waits_at : (l : ℕ) (q : RwLockPurpose) (again : Bool) (to : RwLockAt) → StandsAt q again to → IsParking to → MayWait (Some (purpose_by q l)) l
+waits_at : (l : ℕ) (q : RwLockPurpose) (again : Bool) (to : RwLockAt) → StandsAt q again to → IsParking to
+    → MayWait (Some (purpose_by q l)) l
 waits_at l (purpose.Enter access.Exclusive how) again (at.Park to) stands h = (refl, parks_wait how to stands)
 waits_at l (purpose.Enter access.Shared how) again (at.Park to) stands h = (refl, parks_wait how to stands)
 waits_at l (purpose.Enter access.Upgradable how) again (at.Park to) stands h = (refl, parks_wait how to stands)
@@ -222,13 +225,15 @@ waits_at l (purpose.Downgrade d) again (at.Aside to) stands h = absurd stands
 waits_at l q again to stands h = absurd h
 
 -- who waits is in a line, or on its way out of it
-waiting_parks : (a : Admission) (p : RwLockPlace) (to : RwLockAt) → (stands_at to ≢ None) ⊎ (taken_from (hand_at to) (wants_for p.purpose) true ≢ None) → IsParking to
+waiting_parks : (a : Admission) (p : RwLockPlace) (to : RwLockAt)
+    → (stands_at to ≢ None) ⊎ (taken_from (hand_at to) (wants_for p.purpose) true ≢ None) → IsParking to
 waiting_parks a p (at.Park to) h = tt
 waiting_parks a p (at.Aside to) h = tt
 waiting_parks a p to h = absurd (elim h [ inl n ↦ n refl | inr n ↦ n refl ])
 
 -- only who is pending stands in the second line
-aside_claims : (again : Option Want) (q : RwLockPurpose) (to : RwLockAt) → stands_at to ≡ Some Second → (b : Bool) × ((doing_at again q to).claims ≡ Some (Pends b))
+aside_claims : (again : Option Want) (q : RwLockPurpose) (to : RwLockAt) → stands_at to ≡ Some Second
+    → (b : Bool) × ((doing_at again q to).claims ≡ Some (Pends b))
 aside_claims again q (at.Aside (parking.Leave true)) h = (falls_back q, refl)
 aside_claims again q (at.Aside parking.Asleep) h = (falls_back q, refl)
 aside_claims again q (at.Aside parking.Remove) h = (falls_back q, refl)
@@ -245,7 +250,8 @@ wants_some (purpose.Upgrade how) u h e = cc
 wants_some (purpose.Release x) u h e = h
 wants_some (purpose.Downgrade d) u h e = h
 
-asleep_at : (l : ℕ) (a : Admission) (p : RwLockPlace) (to : RwLockAt) → StandsAt p.purpose p.retries to → act_at l a p to ≡ Sleep → (stands_at to ≢ None) ⊎ (taken_from (hand_at to) (wants_for p.purpose) true ≢ None)
+asleep_at : (l : ℕ) (a : Admission) (p : RwLockPlace) (to : RwLockAt) → StandsAt p.purpose p.retries to → act_at l a p to ≡ Sleep
+    → (stands_at to ≢ None) ⊎ (taken_from (hand_at to) (wants_for p.purpose) true ≢ None)
 asleep_at l a p (at.Park parking.Asleep) stands h = inl (λ n. cc)
 asleep_at l a p (at.Aside parking.Asleep) stands h = inl (λ n. cc)
 asleep_at l a p (at.Park (parking.Taken by)) stands h = inr (wants_some p.purpose by (before_waits p.purpose p.retries (at.Park (parking.Taken by)) stands tt))
@@ -275,7 +281,8 @@ some_line n m e = cc
 
 -- ---------------------------------------------------------------- owing
 
-pub parking_inside : (m : Line) (again : Option Want) (claims : Option Claim) (to : ParkAt) → (parking_doing m again claims to).inside ≡ in_line (is_inside to) m
+pub parking_inside : (m : Line) (again : Option Want) (claims : Option Claim) (to : ParkAt)
+    → (parking_doing m again claims to).inside ≡ in_line (is_inside to) m
 parking_inside m again claims parking.Check = refl
 parking_inside m again claims (parking.Leave true) = refl
 parking_inside m again claims (parking.Leave false) = refl
@@ -314,7 +321,8 @@ before_shut (purpose.Release x) again to before h out = cc
 before_shut (purpose.Downgrade d) again to before h out = cc
 
 module _ (r : Rules) (readers : has_readers r.sort ≡ true) (a : Admission) (l : ℕ) where
-  pub shut : (q : RwLockPurpose) (again : Bool) (to : RwLockAt) → Waits q → IsShut q again to → LetsIn r.sort l (row_of a q again to) → ⊥
+  pub shut : (q : RwLockPurpose) (again : Bool) (to : RwLockAt) → Waits q → IsShut q again to
+      → LetsIn r.sort l (row_of a q again to) → ⊥
   shut (purpose.Enter x how) again to waits still (inl h) = h
   shut (purpose.Upgrade how) again to waits still (inl h) = h
   shut (purpose.Enter x how) again to waits still (inr h) = elim h.1 [ inl less ↦ less | inr left ↦ still left.0 left.1 ]
@@ -323,7 +331,8 @@ module _ (r : Rules) (readers : has_readers r.sort ≡ true) (a : Admission) (l 
   shut (purpose.Downgrade d) again to waits still h = waits
 
   -- before it gives up or gives way a call lets nobody in
-  pub shut_before : (q : RwLockPurpose) (again : Bool) (to : RwLockAt) → StandsAt q again to → IsBefore to → LetsIn r.sort l (row_of a q again to) → ⊥
+  pub shut_before : (q : RwLockPurpose) (again : Bool) (to : RwLockAt) → StandsAt q again to → IsBefore to
+      → LetsIn r.sort l (row_of a q again to) → ⊥
   shut_before q again to stands before lets = shut q again to (before_waits q again to stands before) (before_shut q again to before) lets
 
   -- and who wakes others lets them in
@@ -334,7 +343,8 @@ module _ (r : Rules) (readers : has_readers r.sort ≡ true) (a : Admission) (l 
   lets_waking (purpose.Downgrade d) again m = inr (readers, inl (refl, lesser d))
 
   owes_is : (q : RwLockPurpose) (again : Bool) (to : RwLockAt) (m : Line) → owes_at to ≡ Some m
-      → ((rwlock_doing (of q again to)).inside ≡ Some m) ⊎ ((act_at l a (of q again to) to ≡ act.Enter (One (key_of l m))) × LetsIn r.sort l (row_of a q again to))
+      → ((rwlock_doing (of q again to)).inside ≡ Some m)
+      ⊎ ((act_at l a (of q again to) to ≡ act.Enter (One (key_of l m))) × LetsIn r.sort l (row_of a q again to))
   owes_is q again (at.Park to) m h = inl (parking_inside Main _ None to ∙ h)
   owes_is q again (at.Aside to) m h = inl (parking_inside Second _ (pends q) to ∙ h)
   owes_is q again (at.Wake n waking.Enter) m h = inr (ap (λ x. act.Enter (One (key_of l x))) (some_line n m h), lets_waking q again n)
@@ -343,7 +353,8 @@ module _ (r : Rules) (readers : has_readers r.sort ≡ true) (a : Admission) (l 
   owes_is q again (at.Wake n (waking.Leave any)) m h = inl h
   owes_is q again to m h = absurd cc
 
-  inside_owes : (q : RwLockPurpose) (again : Bool) (to : RwLockAt) (m : Line) → (rwlock_doing (of q again to)).inside ≡ Some m → owes_at to ≡ Some m
+  inside_owes : (q : RwLockPurpose) (again : Bool) (to : RwLockAt) (m : Line) → (rwlock_doing (of q again to)).inside ≡ Some m
+      → owes_at to ≡ Some m
   inside_owes q again (at.Park to) m h = sym (parking_inside Main _ None to) ∙ h
   inside_owes q again (at.Aside to) m h = sym (parking_inside Second _ (pends q) to) ∙ h
   inside_owes q again (at.Wake n waking.Enter) m h = absurd cc
@@ -352,7 +363,8 @@ module _ (r : Rules) (readers : has_readers r.sort ≡ true) (a : Admission) (l 
   inside_owes q again (at.Wake n (waking.Leave any)) m h = h
   inside_owes q again to m h = absurd cc
 
-  entering_owes : (q : RwLockPurpose) (again : Bool) (to : RwLockAt) → StandsAt q again to → (m : Line) → act_at l a (of q again to) to ≡ act.Enter (One (key_of l m)) → LetsIn r.sort l (row_of a q again to) → owes_at to ≡ Some m
+  entering_owes : (q : RwLockPurpose) (again : Bool) (to : RwLockAt) → StandsAt q again to → (m : Line)
+      → act_at l a (of q again to) to ≡ act.Enter (One (key_of l m)) → LetsIn r.sort l (row_of a q again to) → owes_at to ≡ Some m
   entering_owes q again (at.Wake n waking.Enter) stands m h lets = ap Some (line_one n m h)
     where
       line_one : (n m : Line) → act.Enter (One (key_of l n)) ≡ act.Enter (One (key_of l m)) → n ≡ m
@@ -369,7 +381,8 @@ module _ (r : Rules) (readers : has_readers r.sort ≡ true) (a : Admission) (l 
 
   -- ---------------------------------------------------------------- who looks after the waiters
 
-  again_debt : (q : RwLockPurpose) (again : Bool) (to : RwLockAt) → Waits q → counts_some r.sort (again_of (of q again to)) ≡ true → HasDebt r.sort l (row_of a q again to) Main
+  again_debt : (q : RwLockPurpose) (again : Bool) (to : RwLockAt) → Waits q → counts_some r.sort (again_of (of q again to)) ≡ true
+      → HasDebt r.sort l (row_of a q again to) Main
   again_debt (purpose.Enter x how) true to waits h = inr (refl, h)
   again_debt (purpose.Upgrade how) true to waits h = inr (refl, h)
   again_debt (purpose.Release x) true to waits h = absurd waits
@@ -387,7 +400,9 @@ module _ (r : Rules) (readers : has_readers r.sort ≡ true) (a : Admission) (l 
   tries q again to waits awake stands hand Second claims d = absurd cc
 
   -- it wakes others
-  wakes_on : (q : RwLockPurpose) (again : Bool) (n m : Line) (to : WakeAt) → n ≡ m → act_at l a (of q again (at.Wake n to)) (at.Wake n to) ≢ Sleep → RowLooksAfter r.sort l (row_of a q again (at.Wake n to)) (act_at l a (of q again (at.Wake n to)) (at.Wake n to)) m
+  wakes_on : (q : RwLockPurpose) (again : Bool) (n m : Line) (to : WakeAt) → n ≡ m
+      → act_at l a (of q again (at.Wake n to)) (at.Wake n to) ≢ Sleep
+      → RowLooksAfter r.sort l (row_of a q again (at.Wake n to)) (act_at l a (of q again (at.Wake n to)) (at.Wake n to)) m
   wakes_on q again n m to same awake = record { debt = debt q m same; awake = awake; stands = refl; taken = refl }
     where
       debt : (q : RwLockPurpose) (m : Line) → n ≡ m → HasDebt r.sort l (row_of a q again (at.Wake n to)) m
@@ -397,7 +412,9 @@ module _ (r : Rules) (readers : has_readers r.sort ≡ true) (a : Admission) (l 
       debt (purpose.Downgrade d) Main e = inl (ap Some e, (refl, inl (lesser d)))
       debt q Second e = ap Some e
 
-  debtor : (q : RwLockPurpose) (again : Bool) (to : RwLockAt) → StandsAt q again to → (m : Line) → IsDebtorIn r.sort (rwlock_doing (of q again to)) m → RowLooksAfter r.sort l (row_of a q again to) (act_at l a (of q again to) to) m
+  debtor : (q : RwLockPurpose) (again : Bool) (to : RwLockAt) → StandsAt q again to → (m : Line)
+      → IsDebtorIn r.sort (rwlock_doing (of q again to)) m
+      → RowLooksAfter r.sort l (row_of a q again to) (act_at l a (of q again to) to) m
   debtor q again at.First stands m d = tries q again at.First (before_waits q again at.First stands tt) tt refl refl m None d
   debtor q again at.Load stands m d = tries q again at.Load (before_waits q again at.Load stands tt) tt refl refl m (claimed q) d
   debtor q again (at.Decide seen) stands m d = tries q again (at.Decide seen) (before_waits q again (at.Decide seen) stands tt) tt refl refl m (claimed q) d
@@ -451,7 +468,8 @@ module _ (r : Rules) (readers : has_readers r.sort ≡ true) (a : Admission) (l 
 
   -- ---------------------------------------------------------------- being late
 
-  late_by : (q : RwLockPurpose) (again : Bool) (to : RwLockAt) → StandsAt q again to → (m : Line) → late_line_at (patience_of q) to ≡ Some m → RowIsLate r.sort l (row_of a q again to) (act_at l a (of q again to) to) m
+  late_by : (q : RwLockPurpose) (again : Bool) (to : RwLockAt) → StandsAt q again to → (m : Line)
+      → late_line_at (patience_of q) to ≡ Some m → RowIsLate r.sort l (row_of a q again to) (act_at l a (of q again to) to) m
   late_by (purpose.Enter x Timed) again (at.Park parking.Asleep) stands m h = record { stands = h; asleep = refl; timed = (refl, refl); shut = shut (purpose.Enter x Timed) again (at.Park parking.Asleep) tt (before_shut (purpose.Enter x Timed) again (at.Park parking.Asleep) tt) }
   late_by (purpose.Enter x Timed) again (at.Aside parking.Asleep) stands m h = record { stands = h; asleep = refl; timed = (refl, refl); shut = shut (purpose.Enter x Timed) again (at.Aside parking.Asleep) tt (before_shut (purpose.Enter x Timed) again (at.Aside parking.Asleep) tt) }
   late_by (purpose.Upgrade Timed) again (at.Park parking.Asleep) stands m h = record { stands = h; asleep = refl; timed = (refl, refl); shut = shut (purpose.Upgrade Timed) again (at.Park parking.Asleep) tt (before_shut (purpose.Upgrade Timed) again (at.Park parking.Asleep) tt) }
@@ -472,7 +490,8 @@ module _ (r : Rules) (readers : has_readers r.sort ≡ true) (a : Admission) (l 
   late_by q again (at.Aside to) stands m h = absurd cc
   late_by q again to stands m h = absurd cc
 
-  may_be_late : (q : RwLockPurpose) (again : Bool) (to : RwLockAt) (m : Line) → stands_at to ≡ Some m → act_at l a (of q again to) to ≡ Sleep → IsTimed (Some (purpose_by q l)) Blank l → late_line_at (patience_of q) to ≡ Some m
+  may_be_late : (q : RwLockPurpose) (again : Bool) (to : RwLockAt) (m : Line) → stands_at to ≡ Some m
+      → act_at l a (of q again to) to ≡ Sleep → IsTimed (Some (purpose_by q l)) Blank l → late_line_at (patience_of q) to ≡ Some m
   may_be_late q again (at.Park parking.Asleep) m h sleeps timed = ap (λ b. in_line b Main) (timed_is q l timed) ∙ h
   may_be_late q again (at.Aside parking.Asleep) m h sleeps timed = ap (λ b. in_line b Second) (timed_is q l timed) ∙ h
   may_be_late q again (at.Park (parking.Taken by)) m h sleeps timed = absurd cc
@@ -481,7 +500,8 @@ module _ (r : Rules) (readers : has_readers r.sort ≡ true) (a : Admission) (l 
   may_be_late q again (at.Aside to) m h sleeps timed = absurd (awake_at l a (of q again (at.Aside to)) (at.Aside to) tt sleeps)
   may_be_late q again to m h sleeps timed = absurd cc
 
-  by_parts : (q : RwLockPurpose) (again : Bool) (to : RwLockAt) → MayStand a (of q again to) → RowPromises r.sort l (row_of a q again to) (act_at l a (of q again to) to)
+  by_parts : (q : RwLockPurpose) (again : Bool) (to : RwLockAt) → MayStand a (of q again to)
+      → RowPromises r.sort l (row_of a q again to) (act_at l a (of q again to) to)
   by_parts q again to stands = record {
     own = rwlock_own l q;
     acts = acts_at l a (of q again to) to stands.decided;
@@ -501,5 +521,6 @@ module _ (r : Rules) (readers : has_readers r.sort ≡ true) (a : Admission) (l 
     may_be_late = may_be_late q again to;
   }
 
-pub rwlock_promises : (r : Rules) (a : Admission) (l : ℕ) (p : RwLockPlace) → Admits r a → MayStand a p → RowPromises r.sort l (rwlock_profile a p) (rwlock_act l a p)
+pub rwlock_promises : (r : Rules) (a : Admission) (l : ℕ) (p : RwLockPlace) → Admits r a → MayStand a p
+    → RowPromises r.sort l (rwlock_profile a p) (rwlock_act l a p)
 rwlock_promises r a l p admits stands = by_parts r admits.0 a l p.purpose p.retries p.at stands

@@ -29,8 +29,10 @@ use Rattle.lot_laws.proofs.CondvarRows.{names_of, row_says, stage_of}
 abbrev pub Kept : LockState → LockState → Type 0
 Kept s s2 = (s2.shown ≡ s.shown) × (s2.queue ≡ s.queue)
 
-pub same_condvar : (w v : State) (k : ℕ) → Kept (lock_state w k) (lock_state v k) → section_at v (key_of k Main) ≡ section_at w (key_of k Main)
-    → ((u : ℕ) → (stage_of (place_at v u) k ≡ stage_of (place_at w u) k) × (names_of (place_at v u) k ≡ names_of (place_at w u) k)) → condvar_of v k ≡ condvar_of w k
+pub same_condvar : (w v : State) (k : ℕ) → Kept (lock_state w k) (lock_state v k)
+    → section_at v (key_of k Main) ≡ section_at w (key_of k Main)
+    → ((u : ℕ) → (stage_of (place_at v u) k ≡ stage_of (place_at w u) k) × (names_of (place_at v u) k ≡ names_of (place_at w u) k))
+    → condvar_of v k ≡ condvar_of w k
 same_condvar w v k lock section says = λ i. record {
   shown = lock.0 i;
   waiters = lock.1 i;
@@ -45,10 +47,14 @@ same_condvar w v k lock section says = λ i. record {
     names_now u = (row_says (place_at v u) k).1 ∙ (says u).1 ∙ sym (row_says (place_at w u) k).1
 
 -- who stands elsewhere, where its place says the same of it, leaves each as it was
-pub put_condvars : (w : State) (t : ℕ) (q : Place) → t < length w.places → ((k : ℕ) → (stage_of q k ≡ stage_of (place_at w t) k) × (names_of q k ≡ names_of (place_at w t) k)) → AreCondvars w → AreCondvars (put w t q)
+pub put_condvars : (w : State) (t : ℕ) (q : Place) → t < length w.places
+    → ((k : ℕ) → (stage_of q k ≡ stage_of (place_at w t) k) × (names_of q k ≡ names_of (place_at w t) k)) → AreCondvars w
+    → AreCondvars (put w t q)
 put_condvars w t q there says condvars k sort = subst IsCondvar (sym (same_condvar w (put w t q) k (refl, refl) refl says_now)) (condvars k sort)
   where
-    says_now : (u : ℕ) → (stage_of (place_at (put w t q) u) k ≡ stage_of (place_at w u) k) × (names_of (place_at (put w t q) u) k ≡ names_of (place_at w u) k)
+    says_now : (u : ℕ)
+        → (stage_of (place_at (put w t q) u) k ≡ stage_of (place_at w u) k)
+        × (names_of (place_at (put w t q) u) k ≡ names_of (place_at w u) k)
     says_now u = elim (cases_eq u t) [
       | inl e ↦ rw (e, get_or-set_same w.places t q Idle there) (says k)
       | inr ne ↦ let stays = get_or-set_other w.places t u q Idle ne in (ap (λ p. stage_of p k) stays, ap (λ p. names_of p k) stays)
@@ -79,7 +85,8 @@ looks_alike (Once l at) q is = by_place (once_looking at) is
     by_place (Some to) e = let there : Once l to ≡ q = cc in subst (Says (Once l at)) there (λ k. (refl, refl))
 looks_alike (Condvar l (Wait m timed (wait.Lock late (mutex.Lock e again (lock.Decide seen))))) q is = by_word (seen == 1) is
   where
-    by_word : (b : Bool) → in_condvar l (in_lock m timed late (if b then Some (mutex.Lock e again lock.Load) else None)) ≡ Some q → Says (Condvar l (Wait m timed (wait.Lock late (mutex.Lock e again (lock.Decide seen))))) q
+    by_word : (b : Bool) → in_condvar l (in_lock m timed late (if b then Some (mutex.Lock e again lock.Load) else None)) ≡ Some q
+        → Says (Condvar l (Wait m timed (wait.Lock late (mutex.Lock e again (lock.Decide seen))))) q
     by_word true f = let there : Condvar l (Wait m timed (wait.Lock late (mutex.Lock e again lock.Load))) ≡ q = cc in
         subst (Says (Condvar l (Wait m timed (wait.Lock late (mutex.Lock e again (lock.Decide seen)))))) there (λ k. (refl, refl))
     by_word false f = absurd cc
@@ -89,11 +96,13 @@ looks_alike (Condvar l (Wait m timed p)) q is = absurd cc
 looks_alike (Condvar l (Look all)) q is = absurd cc
 looks_alike (Condvar l (Notify all m p)) q is = absurd cc
 
-pub looking_condvars : (w : State) (t : ℕ) (q : Place) → t < length w.places → looking (place_at w t) ≡ Some q → AreCondvars w → AreCondvars (put w t q)
+pub looking_condvars : (w : State) (t : ℕ) (q : Place) → t < length w.places → looking (place_at w t) ≡ Some q → AreCondvars w
+    → AreCondvars (put w t q)
 looking_condvars w t q there is condvars = put_condvars w t q there (looks_alike (place_at w t) q is) condvars
 
 -- or behind its closure
-pub closing_condvars : (w : State) (t : ℕ) (there : t < length w.places) (succeeded : Bool) (one : RunsOne (place_at w t)) → AreCondvars w → AreCondvars (closing w t there succeeded one)
+pub closing_condvars : (w : State) (t : ℕ) (there : t < length w.places) (succeeded : Bool) (one : RunsOne (place_at w t))
+    → AreCondvars w → AreCondvars (closing w t there succeeded one)
 closing_condvars w t there succeeded one condvars = put_condvars w t (closed_place w t succeeded) there (λ k. (
   ap (λ q. stage_of q k) (is_behind w t there succeeded one) ∙ sym (ap (λ q. stage_of q k) one.is),
   ap (λ q. names_of q k) (is_behind w t there succeeded one) ∙ sym (ap (λ q. names_of q k) one.is),

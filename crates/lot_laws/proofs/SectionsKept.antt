@@ -21,7 +21,8 @@ use Rattle.lot_laws.proofs.SitesKept.{mutex_at, of_mutex, rules, site_l, own}
 use Rattle.lot_laws.proofs.StandsKept.{calls_of}
 use Rattle.lot_laws.proofs.ActsKept.{park_goes, remove_goes, nobody_goes}
 
-module _ (w : State) (t l : ℕ) (at : MutexPlace) (steady : IsSteady w) (is : place_at w t ≡ Mutex l at) (there : t < length w.places) (line : 2 * l < length w.queues) where
+module _ (w : State) (t l : ℕ) (at : MutexPlace) (steady : IsSteady w) (is : place_at w t ≡ Mutex l at)
+    (there : t < length w.places) (line : 2 * l < length w.queues) where
   site_here : IsSite mutex (mutex_at w l)
   site_here = site_l w t l at steady is there
 
@@ -43,8 +44,13 @@ module _ (w : State) (t l : ℕ) (at : MutexPlace) (steady : IsSteady w) (is : p
   stood_here m = steady.stands.lines t l m ∙ ap (λ (x : Station). stood_in x.stands m) (own_stance l (place_at w t) at is)
 
   -- it stands behind the last
-  pub park_keeps : (p2 : Place) → IsMutexOf l p2 → taken_at (Mutex l at) l ≡ None → taken_at p2 l ≡ None → (mutex_station at).stands ≡ None → is_parked (word_at w l) ≡ true → (owners_at w l).exclusive ≢ None → (mutex_doing at).inside ≡ Some Main → (mutex_doing at).wakes ≡ None → (mutex_doing at).covers ≡ false
-      → doing_on p2 l ≡ record (mutex_doing at) { retries = None; empty = None } → station p2 ≡ record (mutex_station at) { stands = Some Main; waits = Some Exclusive } → Goes w (put (record w { queues = queues_with_last w.queues (2 * l) t Exclusive }) t p2) l (acts t (Case (locks.Park Exclusive) ∷ []))
+  pub park_keeps : (p2 : Place) → IsMutexOf l p2 → taken_at (Mutex l at) l ≡ None → taken_at p2 l ≡ None
+      → (mutex_station at).stands ≡ None → is_parked (word_at w l) ≡ true → (owners_at w l).exclusive ≢ None
+      → (mutex_doing at).inside ≡ Some Main → (mutex_doing at).wakes ≡ None → (mutex_doing at).covers ≡ false
+      → doing_on p2 l ≡ record (mutex_doing at) { retries = None; empty = None }
+      → station p2 ≡ record (mutex_station at) { stands = Some Main; waits = Some Exclusive }
+      → Goes w (put (record w { queues = queues_with_last w.queues (2 * l) t Exclusive }) t p2) l
+      (acts t (Case (locks.Park Exclusive) ∷ []))
   park_keeps p2 of none none2 nowhere full owned i k c e s = park_goes w t l steady (own w t l at steady is there) there mutex (rules w t l at steady is there) p2 (own_of l p2 of) (fits p2 of) Main Exclusive (Case (locks.Park Exclusive) ∷ []) (λ h. absurd cc) line
       (ap (λ y. (station y).stands) is ∙ nowhere)
       (parks l (base_at w l) (word_at w l) (word_at w l) (owners_at w l) (queue_at w (2 * l)) (queue_at w (2 * l + 1)) (place_at w) t p2 site_here (mutex_doing at) (own_doing l (place_at w t) at is) (hand_none none) none2 (2 * l) refl full owned
@@ -52,8 +58,11 @@ module _ (w : State) (t l : ℕ) (at : MutexPlace) (steady : IsSteady w) (is : p
       (s ∙ sym (ap (λ y. record (station y) { stands = Some Main; waits = Some Exclusive }) is))
 
   -- it leaves the line
-  pub remove_keeps : (p2 : Place) → IsMutexOf l p2 → taken_at (Mutex l at) l ≡ None → taken_at p2 l ≡ None → (mutex_station at).stands ≡ Some Main → (mutex_doing at).inside ≡ Some Main → (mutex_doing at).carries ≡ false
-      → doing_on p2 l ≡ record (mutex_doing at) { empty = found Main (is_empty (map queued_of (without t (queue_at w (2 * l))))) } → station p2 ≡ record (mutex_station at) { stands = None; waits = None } → Goes w (put (record w { queues = queues_without w.queues t }) t p2) l (acts t (Case locks.Late ∷ []))
+  pub remove_keeps : (p2 : Place) → IsMutexOf l p2 → taken_at (Mutex l at) l ≡ None → taken_at p2 l ≡ None
+      → (mutex_station at).stands ≡ Some Main → (mutex_doing at).inside ≡ Some Main → (mutex_doing at).carries ≡ false
+      → doing_on p2 l ≡ record (mutex_doing at) { empty = found Main (is_empty (map queued_of (without t (queue_at w (2 * l))))) }
+      → station p2 ≡ record (mutex_station at) { stands = None; waits = None }
+      → Goes w (put (record w { queues = queues_without w.queues t }) t p2) l (acts t (Case locks.Late ∷ []))
   remove_keeps p2 of none none2 one i c e s = remove_goes w t l steady (own w t l at steady is there) there mutex (rules w t l at steady is there) p2 (own_of l p2 of) (fits p2 of) Main (Case locks.Late ∷ []) (λ h. absurd cc)
       (ap (λ y. (station y).stands) is ∙ one)
       (removes l (base_at w l) (word_at w l) (word_at w l) (owners_at w l) (queue_at w (2 * l)) (queue_at w (2 * l + 1)) (place_at w) t p2 site_here (mutex_doing at) (own_doing l (place_at w t) at is) (hand_none none) none2 refl
@@ -61,8 +70,12 @@ module _ (w : State) (t l : ℕ) (at : MutexPlace) (steady : IsSteady w) (is : p
       (s ∙ sym (ap (λ y. record (station y) { stands = None; waits = None }) is))
 
   -- nobody is there to be taken
-  pub nobody_keeps : (p2 : Place) → IsMutexOf l p2 → taken_at (Mutex l at) l ≡ None → taken_at p2 l ≡ None → queue_at w (2 * l) ≡ [] → (mutex_doing at).inside ≡ Some Main → (mutex_doing at).carries ≡ false → ((mutex_doing at).wakes ≡ None) ⊎ ((mutex_doing at).wakes ≡ Some Main)
-      → doing_on p2 l ≡ record (mutex_doing at) { wakes = None; carries = true; covers = true; empty = Some Main } → station p2 ≡ mutex_station at → Goes w (put (record w { queues = queues_without_first w.queues (2 * l) }) t p2) l (acts t (FindNobody Main ∷ []))
+  pub nobody_keeps : (p2 : Place) → IsMutexOf l p2 → taken_at (Mutex l at) l ≡ None → taken_at p2 l ≡ None
+      → queue_at w (2 * l) ≡ [] → (mutex_doing at).inside ≡ Some Main → (mutex_doing at).carries ≡ false
+      → ((mutex_doing at).wakes ≡ None) ⊎ ((mutex_doing at).wakes ≡ Some Main)
+      → doing_on p2 l ≡ record (mutex_doing at) { wakes = None; carries = true; covers = true; empty = Some Main }
+      → station p2 ≡ mutex_station at
+      → Goes w (put (record w { queues = queues_without_first w.queues (2 * l) }) t p2) l (acts t (FindNobody Main ∷ []))
   nobody_keeps p2 of none none2 empty i c x own_is s = nobody_goes w t l steady (own w t l at steady is there) there mutex (rules w t l at steady is there) p2 (own_of l p2 of) (fits p2 of) Main (FindNobody Main ∷ []) (λ h. tt) line empty
       (finds_nobody l (base_at w l) (word_at w l) (word_at w l) (owners_at w l) (queue_at w (2 * l)) (queue_at w (2 * l + 1)) (place_at w) t p2 site_here (mutex_doing at) (own_doing l (place_at w t) at is) (hand_none none) none2 refl empty i c x own_is)
       (s ∙ sym (ap station is))

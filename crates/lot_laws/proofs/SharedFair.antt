@@ -78,7 +78,8 @@ module _ (w : State) (t : ℕ) (p : Place) where
   locks_kept y h = refl
 
 -- an owner of more than a shared right stays one as long as the owners are as they were
-pub owner_stays : (w v : State) (l t : ℕ) (x : Want) → v.locks ≡ w.locks → x ≢ Shared → Owns (lock_state w l) t x → Owns (lock_state v l) t x
+pub owner_stays : (w v : State) (l t : ℕ) (x : Want) → v.locks ≡ w.locks → x ≢ Shared → Owns (lock_state w l) t x
+    → Owns (lock_state v l) t x
 owner_stays w v l t Exclusive e more own = ap (λ cells. (owners_at (record w { locks = cells }) l).exclusive) e ∙ own
 owner_stays w v l t Upgradable e more own = ap (λ cells. (owners_at (record w { locks = cells }) l).upgradable) e ∙ own
 owner_stays w v l t Shared e more own = absurd (more refl)
@@ -89,15 +90,19 @@ owner_stays w v l t CallOnce e more own = own
 
 -- who is handed the lock is in no deed of a step that hands nothing over
 module _ (l : ℕ) (a : Admission) (whom : Option ℕ) (v : ℕ) where
-  exchange_same : (b : Bool) (k : Counted) (expected : ℕ) (op : Op) (x : Access) (room won : Bool) → has_room a.limit k expected ≡ room
-      → call_act l a (HandOver x b (handing.Exchange k expected)) ≡ act.Word l op → (y : Want) → exchanged_deeds y k whom won (has_room a.limit k expected) ≡ exchanged_deeds y k None won (has_room a.limit k expected)
+  exchange_same : (b : Bool) (k : Counted) (expected : ℕ) (op : Op) (x : Access) (room won : Bool)
+      → has_room a.limit k expected ≡ room
+      → call_act l a (HandOver x b (handing.Exchange k expected)) ≡ act.Word l op → (y : Want)
+      → exchanged_deeds y k whom won (has_room a.limit k expected) ≡ exchanged_deeds y k None won (has_room a.limit k expected)
   exchange_same b k expected op x true won e f y = absurd (
       let g : act.HandOver l (operation.Exchange expected (with_taken x k expected)) ≡ act.Word l op =
       sym (ap (λ r. if r then act.HandOver l (operation.Exchange expected (with_taken x k expected)) else act.Word l (operation.Exchange expected (parked_as k.none_left (without x expected)))) e) ∙ f in cc)
   exchange_same b k expected op x false true e f y = ap (exchanged_deeds y k whom true) e ∙ sym (ap (exchanged_deeds y k None true) e)
   exchange_same b k expected op x false false e f y = refl
 
-  word_deeds : (c : RwLockCallPlace) (op : Op) (released : Bool) (x : Want) → call_act l a c ≡ act.Word l op → CallStands a c → IsToGive ((call_profile a c).purpose l) (call_profile a c).released x → x ≢ Shared → call_deeds a c whom (Value v) ≡ call_deeds a c None (Value v)
+  word_deeds : (c : RwLockCallPlace) (op : Op) (released : Bool) (x : Want) → call_act l a c ≡ act.Word l op → CallStands a c
+      → IsToGive ((call_profile a c).purpose l) (call_profile a c).released x → x ≢ Shared
+      → call_deeds a c whom (Value v) ≡ call_deeds a c None (Value v)
   word_deeds (Plain p) op r x e may gives more = absurd (plain_keeps l p.purpose (call_profile a (Plain p)).released x gives)
   word_deeds (Bump p) op r x e may gives more = absurd (bump_keeps a l p.purpose p.retries p.at x may.1 more gives)
   word_deeds (Handed y how b to) op r x e may gives more = absurd (handed_keeps a l y how b to x gives)
@@ -113,7 +118,8 @@ module _ (l : ℕ) (a : Admission) (whom : Option ℕ) (v : ℕ) where
 
 -- ---------------------------------------------------------------- a thread goes on
 
-module _ (w : State) (t l : ℕ) (a : Admission) (c : RwLockCallPlace) (shape : IsShaped w) (steady : IsSteady w) (counted : AreCounted w) (there : t < length w.places) (lt : l < length w.locks) (is : place_at w t ≡ RwLock l a c)
+module _ (w : State) (t l : ℕ) (a : Admission) (c : RwLockCallPlace) (shape : IsShaped w) (steady : IsSteady w)
+    (counted : AreCounted w) (there : t < length w.places) (lt : l < length w.locks) (is : place_at w t ≡ RwLock l a c)
     (x : Want) (more : x ≢ Shared) (gives : IsToGive ((call_profile a c).purpose l) (call_profile a c).released x) (owns : Owns (lock_state w l) t x) where
   abbrev r : Rules
   r = rules_in w l
@@ -128,7 +134,8 @@ module _ (w : State) (t l : ℕ) (a : Admission) (c : RwLockCallPlace) (shape : 
   may = stands w t l a c steady shape there lt is
 
   -- who gives a right up is in nobody's hand, and says whom it has in its own
-  bare : (c : RwLockCallPlace) → CallStands a c → IsToGive ((call_profile a c).purpose l) (call_profile a c).released x → (call_profile a c).hand ≡ None
+  bare : (c : RwLockCallPlace) → CallStands a c → IsToGive ((call_profile a c).purpose l) (call_profile a c).released x
+      → (call_profile a c).hand ≡ None
   bare (Plain p) may gives = absurd (plain_keeps l p.purpose (call_profile a (Plain p)).released x gives)
   bare (Bump p) may gives = absurd (bump_keeps a l p.purpose p.retries p.at x may.1 more gives)
   bare (Handed y how b to) may gives = absurd (handed_keeps a l y how b to x gives)
@@ -156,12 +163,15 @@ module _ (w : State) (t l : ℕ) (a : Admission) (c : RwLockCallPlace) (shape : 
   free = free_of (place_at w t) l (subst IsSingle (sym is) tt) (ap (λ p. (profile p).hand) is ∙ bare c may gives)
 
   -- where its deeds lead, it has come to
-  led : (y : Act) (g : GoesOnBy w t l a c y) → lock_state (then_by w t l a c y) l ≡ (after_all r (deeds_by w t l a c g.whom y) here t).lock
+  led : (y : Act) (g : GoesOnBy w t l a c y)
+      → lock_state (then_by w t l a c y) l ≡ (after_all r (deeds_by w t l a c g.whom y) here t).lock
   led y g = led_here w (then_by w t l a c y) t l (case_by w t l a c g.whom y) g.happened ∙ sym (deeds_lead r t l (call_profile a c).carries (deeds_by w t l a c g.whom y) here (λ none. in_no_hand w steady t l (λ h. none (sym (carries w t l a c steady shape there lt is) ∙ h))) g.tells.one)
 
   -- an operation of its own on the word
-  by_word : (y : Act) (op : Op) → (call_act l a c ≡ act.Word l op) ⊎ (call_act l a c ≡ act.HandOver l op) → reply_to w t y ≡ Value (word_at w l)
-      → (g : GoesOnBy w t l a c y) → call_deeds a c g.whom (Value (word_at w l)) ≡ call_deeds a c heir (Value (word_at w l)) → Comes (then_by w t l a c y)
+  by_word : (y : Act) (op : Op) → (call_act l a c ≡ act.Word l op) ⊎ (call_act l a c ≡ act.HandOver l op)
+      → reply_to w t y ≡ Value (word_at w l)
+      → (g : GoesOnBy w t l a c y) → call_deeds a c g.whom (Value (word_at w l)) ≡ call_deeds a c heir (Value (word_at w l))
+      → Comes (then_by w t l a c y)
   by_word y op acts told g same =
       subst (λ s. ComesTo r (lock_state w l) s (word_at w l) t x) (sym (led y g ∙ ap (λ reply. (after_all r (call_deeds a c g.whom reply) here t).lock) told ∙ ap (λ ds. (after_all r ds here t).lock) same))
       (subst (λ v. ComesTo r (lock_state w l) (after_all r (call_deeds a c heir (Value v)) here t).lock v t x) (sym (steady.sites.word l))

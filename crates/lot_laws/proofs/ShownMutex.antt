@@ -31,20 +31,24 @@ notifier_names all m (notify.MarkMoved number) = refl
 notifier_names all m (notify.Leave any number) = refl
 
 -- the mutex that a place names is the one with which its call waits
-named_by : (p : Place) (l m : ℕ) (r : ℕ → Rights) → names_of p l ≡ Some m → (timed : Bool) × ((call_state p r).purpose ≡ Some (Waits l m timed))
+named_by : (p : Place) (l m : ℕ) (r : ℕ → Rights) → names_of p l ≡ Some m
+    → (timed : Bool) × ((call_state p r).purpose ≡ Some (Waits l m timed))
 named_by (Condvar c (Wait k timed at)) l m r names = either (c == l) refl names
   where
-    either : (b : Bool) → (c == l) ≡ b → (if b then Some k else None) ≡ Some m → (x : Bool) × (Some (Waits c k timed) ≡ Some (Waits l m x))
+    either : (b : Bool) → (c == l) ≡ b → (if b then Some k else None) ≡ Some m
+        → (x : Bool) × (Some (Waits c k timed) ≡ Some (Waits l m x))
     either true e f = let same : k ≡ m = cc in (timed, ap (λ j. Some (Waits j k timed)) (eqb-true c l e) ∙ ap (λ j. Some (Waits l j timed)) same)
     either false e f = absurd cc
 named_by (Condvar c (Look all)) l m r names = either (c == l) names
   where
-    either : (b : Bool) → (if b then None else None) ≡ Some m → (timed : Bool) × ((call_state (Condvar c (Look all)) r).purpose ≡ Some (Waits l m timed))
+    either : (b : Bool) → (if b then None else None) ≡ Some m
+        → (timed : Bool) × ((call_state (Condvar c (Look all)) r).purpose ≡ Some (Waits l m timed))
     either true f = absurd cc
     either false f = absurd cc
 named_by (Condvar c (Notify all k p)) l m r names = either (c == l) names
   where
-    either : (b : Bool) → (if b then (notify_row all k p).waits_with else None) ≡ Some m → (timed : Bool) × ((call_state (Condvar c (Notify all k p)) r).purpose ≡ Some (Waits l m timed))
+    either : (b : Bool) → (if b then (notify_row all k p).waits_with else None) ≡ Some m
+        → (timed : Bool) × ((call_state (Condvar c (Notify all k p)) r).purpose ≡ Some (Waits l m timed))
     either true f = absurd (let none : ◌≡◌ {A = Option ℕ} None (Some m) = sym (notifier_names all k p) ∙ f in cc)
     either false f = absurd cc
 named_by Idle l m r names = absurd cc

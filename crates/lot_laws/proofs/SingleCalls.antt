@@ -13,5 +13,6 @@ single_call p single r = ap (λ m. call_on_both m (lock_of p) (profile p) (profi
 pub call_none : (p : Place) → lock_of p ≡ None → (r : ℕ → Rights) → call_state p r ≡ no_call
 call_none p none r = ap (λ q. call_state q r) (calls_none p none)
 
-pub call_here : (p : Place) (l : ℕ) → IsSingle p → lock_of p ≡ Some l → (r : ℕ → Rights) → call_state p r ≡ call_by l (profile p) r
+pub call_here : (p : Place) (l : ℕ) → IsSingle p → lock_of p ≡ Some l → (r : ℕ → Rights)
+    → call_state p r ≡ call_by l (profile p) r
 call_here p l single own r = single_call p single r ∙ ap (λ o. call_on o (profile p) r) own

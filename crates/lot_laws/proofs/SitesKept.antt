@@ -67,13 +67,15 @@ pub record Changed {A : Type 0} (f g : ℕ → A) (i : ℕ) (x : A) : Type 0 whe
   pub here : g i ≡ x
   pub other : (j : ℕ) → j ≢ i → g j ≡ f j
 
-pub changed_set : {A B : Type 0} (f : A → B) (xs : List A) (i : ℕ) (x d : A) → i < length xs → Changed (λ k. f (get_or xs k d)) (λ k. f (get_or (set xs i x) k d)) i (f x)
+pub changed_set : {A B : Type 0} (f : A → B) (xs : List A) (i : ℕ) (x d : A) → i < length xs
+    → Changed (λ k. f (get_or xs k d)) (λ k. f (get_or (set xs i x) k d)) i (f x)
 changed_set f xs i x d lt = record { here = ap f (get_or-set_same xs i x d lt); other = λ j ne. ap f (get_or-set_other xs i j x d ne) }
 
 pub unchanged : {A : Type 0} (f : ℕ → A) (l : ℕ) → Changed f f l (f l)
 unchanged f l = record { here = refl; other = λ j ne. refl }
 
-pub alike_both : (l k : ℕ) (p : ℕ → Place) (v : ℕ) (pv : Place) (t : ℕ) (p2 : Place) → AlikeBeside l (p v) pv → AlikeBeside l (p t) p2 → v ≢ t → k ≢ l → (u : ℕ) → AlikeAt k (p u) (putting (putting p v pv) t p2 u)
+pub alike_both : (l k : ℕ) (p : ℕ → Place) (v : ℕ) (pv : Place) (t : ℕ) (p2 : Place) → AlikeBeside l (p v) pv
+    → AlikeBeside l (p t) p2 → v ≢ t → k ≢ l → (u : ℕ) → AlikeAt k (p u) (putting (putting p v pv) t p2 u)
 alike_both l k p v pv t p2 hv h apart ne u =
     let a = following.alike_put l k p v pv hv ne u in
     let b = following.alike_put l k (putting p v pv) t p2 (rw (put_other p v pv t (λ e. apart (sym e))) h) ne u in
@@ -82,7 +84,8 @@ alike_both l k p v pv t p2 hv h apart ne u =
 abbrev pub mutex_at : State → ℕ → Site
 mutex_at w l = lock_by w l mutex
 
-pub same_bases : (w v : State) → v.locks ≡ w.locks → v.shares ≡ w.shares → length v.places ≡ length w.places → (k : ℕ) → base_at v k ≡ base_at w k
+pub same_bases : (w v : State) → v.locks ≡ w.locks → v.shares ≡ w.shares → length v.places ≡ length w.places → (k : ℕ)
+    → base_at v k ≡ base_at w k
 same_bases w v locks shares threads k = λ i. record { shared = get_or (shares i) k (replicate (threads i) 0); filled = (get_or (locks i) k (unlocked kind.TheVariants.Mutex)).filled }
 
 module _ (w v : State) (l : ℕ) (rules : rules_in w l ≡ mutex) (q : ℕ → Place) (word : ℕ) (o : Owners) (m : List Waiter)
@@ -90,7 +93,9 @@ module _ (w v : State) (l : ℕ) (rules : rules_in w l ≡ mutex) (q : ℕ → P
     (mains : Changed (λ k. queue_at w (2 * k)) (λ k. queue_at v (2 * k)) l m) (seconds : (k : ℕ) → queue_at v (2 * k + 1) ≡ queue_at w (2 * k + 1)) (kinds : (k : ℕ) → kind_at v k ≡ kind_at w k)
     (elsewhere : (k : ℕ) → k ≢ l → (u : ℕ) → AlikeAt k (place_at w u) (q u)) where
   -- what one mutex has been through
-  pub follow : (ds : List deeds.Act) → seen l (base_at w l) word o m (queue_at w (2 * l + 1)) q ≡ after_acts mutex ds (mutex_at w l) → ActsNeeded mutex ds (mutex_at w l) → IsCode word o.exclusive → Follows w v l ds
+  pub follow : (ds : List deeds.Act)
+      → seen l (base_at w l) word o m (queue_at w (2 * l + 1)) q ≡ after_acts mutex ds (mutex_at w l)
+      → ActsNeeded mutex ds (mutex_at w l) → IsCode word o.exclusive → Follows w v l ds
   follow ds led needed coded = follows_by w v l _ q (record {
     here = λ i. record { base = bases l i; word = words.here i; owners = owners.here i; main = mains.here i; second = seconds l i };
     others = λ k ne i. record { base = bases k i; word = words.other k ne i; owners = owners.other k ne i; main = mains.other k ne i; second = seconds k i };
@@ -114,11 +119,13 @@ pub single_at : (w : State) (t l : ℕ) (at : MutexPlace) → IsSteady w → pla
 single_at w t l at steady is = takes_one w l (mutex_rules (kind_at w l) (let c : FitsItsLock w (Mutex l at) = rw is at (steady.stands.calls t) in c))
 
 -- who calls it calls a mutex
-pub mutexes_at : (w : State) (t l : ℕ) (at : MutexPlace) → IsSteady w → place_at w t ≡ Mutex l at → (u : ℕ) → CallsMutex l (place_at w u)
+pub mutexes_at : (w : State) (t l : ℕ) (at : MutexPlace) → IsSteady w → place_at w t ≡ Mutex l at → (u : ℕ)
+    → CallsMutex l (place_at w u)
 mutexes_at w t l at steady is u = calls_mutex_at w l (place_at w u) (steady.stands.calls u) (mutex_rules (kind_at w l) (let c : FitsItsLock w (Mutex l at) = rw is at (steady.stands.calls t) in c))
 
 -- so whom it has in hand wants to own alone
-pub alone_at : (w : State) (t l : ℕ) (at : MutexPlace) → IsSteady w → place_at w t ≡ Mutex l at → (u : ℕ) → WantsAlone t (place_at w u)
+pub alone_at : (w : State) (t l : ℕ) (at : MutexPlace) → IsSteady w → place_at w t ≡ Mutex l at → (u : ℕ)
+    → WantsAlone t (place_at w u)
 alone_at w t l at steady is = held_alone (place_at w) (aparts w steady) steady.stands.hands t l (of_carries l (place_at w t) (rw is refl)) (mutexes_at w t l at steady is)
 
 -- ---------------------------------------------------------------- what the acts change
@@ -127,7 +134,8 @@ alone_at w t l at steady is = held_alone (place_at w) (aparts w steady) steady.s
 abbrev pub go_by : State → ℕ → Place → Act → State
 go_by w t p a = put (state_after_act w t p a) t (next_place p (reply_to w t a))
 
-module _ (w : State) (t l : ℕ) (at : MutexPlace) (steady : IsSteady w) (is : place_at w t ≡ Mutex l at) (there : t < length w.places) where
+module _ (w : State) (t l : ℕ) (at : MutexPlace) (steady : IsSteady w) (is : place_at w t ≡ Mutex l at)
+    (there : t < length w.places) where
   pub of_mutex : is_mutex (kind_at w l) ≡ true
   of_mutex = let c : FitsItsLock w (Mutex l at) = rw is at (steady.stands.calls t) in c
 
@@ -137,7 +145,8 @@ module _ (w : State) (t l : ℕ) (at : MutexPlace) (steady : IsSteady w) (is : p
   pub single : TakesOne w l
   single = takes_one w l rules
 
-  pub site_l : IsSite mutex (seen l (base_at w l) (word_at w l) (owners_at w l) (queue_at w (2 * l)) (queue_at w (2 * l + 1)) (place_at w))
+  pub site_l : IsSite mutex
+      (seen l (base_at w l) (word_at w l) (owners_at w l) (queue_at w (2 * l)) (queue_at w (2 * l + 1)) (place_at w))
   site_l = subst (λ r. IsSite r (lock_by w l r)) rules (steady.sites.site l)
 
   pub word_l : IsCode (word_at w l) (owners_at w l).exclusive
@@ -162,7 +171,9 @@ module _ (w : State) (t l : ℕ) (at : MutexPlace) (steady : IsSteady w) (is : p
   hand_none none = ap (λ y. taken_at y l) is ∙ none
 
   -- a step on the word
-  pub word_keeps : l < length w.locks → (f : Op) → OnWord l (base_at w l) (word_at w l) (owners_at w l) (queue_at w (2 * l)) (queue_at w (2 * l + 1)) (place_at w) t at f → Goes w (go_by w t (Mutex l at) (act.TheVariants.Word l f)) l (acts t (mutex_deeds at None (Value (word_at w l))))
+  pub word_keeps : l < length w.locks → (f : Op)
+      → OnWord l (base_at w l) (word_at w l) (owners_at w l) (queue_at w (2 * l)) (queue_at w (2 * l + 1)) (place_at w) t at f
+      → Goes w (go_by w t (Mutex l at) (act.TheVariants.Word l f)) l (acts t (mutex_deeds at None (Value (word_at w l))))
   word_keeps lt f on = word_goes w t l steady own there mutex rules p2 (own_of l p2 of) (fits p2 of) (Mutex l at) lt (rw steady.numbers.locks lt) f (mutex_deeds at None (Value (word_at w l))) (λ h. absurd (plain h))
       (record { site = (λ i. seen_in mutex l (same_parts i) (putting (place_at w) t p2)) ∙ on.steps.site; needed = on.steps.needed }) on.code (on.same ∙ sym station_is_at)
     where
@@ -173,33 +184,43 @@ module _ (w : State) (t l : ℕ) (at : MutexPlace) (steady : IsSteady w) (is : p
       of = next_mutex l l (mutex_next at (Value (word_at w l))) refl
 
       -- no mutex is ever full
-      same_parts : operated w t (Mutex l at) l f ≡ parts (base_at w l) (apply f (word_at w l)) (mutex_owners at t (word_at w l) (owners_at w l)) (queue_at w (2 * l)) (queue_at w (2 * l + 1))
+      same_parts : operated w t (Mutex l at) l f
+          ≡ parts (base_at w l) (apply f (word_at w l)) (mutex_owners at t (word_at w l) (owners_at w l)) (queue_at w (2 * l))
+          (queue_at w (2 * l + 1))
       same_parts i = record (parts (base_at w l) (apply f (word_at w l)) (mutex_owners at t (word_at w l) (owners_at w l)) (queue_at w (2 * l)) (queue_at w (2 * l + 1))) {
         base = record { shared = shares_at w l; filled = (ap (λ r. filled_at w l || fills r (apply f (word_at w l))) rules ∙ or-false (filled_at w l)) i };
       }
 
   -- a place that changes alone
   pub place_keeps : (p2 : Place) (ds : List Deed) → IsMutexOf l p2
-      → MutexSteps l (base_at w l) (word_at w l) (word_at w l) (owners_at w l) (owners_at w l) (queue_at w (2 * l)) (queue_at w (2 * l)) (queue_at w (2 * l + 1)) (place_at w) t p2 ds → station p2 ≡ mutex_station at → Goes w (put w t p2) l (acts t ds)
+      → MutexSteps l (base_at w l) (word_at w l) (word_at w l) (owners_at w l) (owners_at w l) (queue_at w (2 * l))
+      (queue_at w (2 * l)) (queue_at w (2 * l + 1)) (place_at w) t p2 ds
+      → station p2 ≡ mutex_station at → Goes w (put w t p2) l (acts t ds)
   place_keeps p2 ds of steps e = place_goes w t l steady own there mutex rules p2 (own_of l p2 of) (fits p2 of) ds (λ h. absurd (plain h)) steps (e ∙ sym station_is_at)
 
-  section_set : 2 * l < length w.sections → (who : Option ℕ) → Changed (section_at w) (section_at (state_with_sections w (One (2 * l)) who)) (2 * l) who
+  section_set : 2 * l < length w.sections → (who : Option ℕ)
+      → Changed (section_at w) (section_at (state_with_sections w (One (2 * l)) who)) (2 * l) who
   section_set line who = changed_set (λ x. x) w.sections (2 * l) who None line
 
   -- into a section that is free
   pub enter_keeps : 2 * l < length w.sections → (p2 : Place) → IsMutexOf l p2 → taken_at (Mutex l at) l ≡ None → taken_at p2 l ≡ None → section_at w (2 * l) ≡ None → (mutex_doing at).inside ≡ None → (mutex_doing at).empty ≡ None → doing_on p2 l ≡ record (mutex_doing at) { inside = Some Main }
-      → station p2 ≡ record (mutex_station at) { inside = Some Main } → Goes w (put (state_with_sections w (One (2 * l)) (Some t)) t p2) l (acts t (In Main ∷ []))
+      → station p2 ≡ record (mutex_station at) { inside = Some Main }
+      → Goes w (put (state_with_sections w (One (2 * l)) (Some t)) t p2) l (acts t (In Main ∷ []))
   enter_keeps line p2 of none none2 free i e own_is s = enter_goes w t l steady own there mutex rules p2 (own_of l p2 of) (fits p2 of) Main line free (ap (λ (x : Station). x.inside) station_is_at ∙ i)
       (goes_into l (base_at w l) (word_at w l) (word_at w l) (owners_at w l) (queue_at w (2 * l)) (queue_at w (2 * l + 1)) (place_at w) t p2 site_l (mutex_doing at) (own_doing l (place_at w t) at is) (hand_none none) none2 refl
       (nobody_inside w t l steady own there mutex rules p2 (own_of l p2 of) (fits p2 of) Main free) i e own_is)
       (s ∙ sym (ap (λ (x : Station). record x { inside = Some Main }) station_is_at))
 
-  pub out_needed : (mutex_doing at).inside ≡ Some Main → (mutex_doing at).wakes ≡ None → ActsNeeded mutex (acts t (Out ∷ [])) (mutex_at w l)
+  pub out_needed : (mutex_doing at).inside ≡ Some Main → (mutex_doing at).wakes ≡ None
+      → ActsNeeded mutex (acts t (Out ∷ [])) (mutex_at w l)
   out_needed i k = ((rw (own_doing l (place_at w t) at is) ((λ h. let g : None ≡ Some Main = sym h ∙ i in cc), k, refl)), tt)
 
   -- out of its own, where nobody is in its hand
-  pub leave_keeps : 2 * l < length w.sections → (p2 : Place) → IsMutexOf l p2 → taken_at (Mutex l at) l ≡ None → taken_at p2 l ≡ None → doing_on p2 l ≡ leaves (mutex_doing at) → (mutex_doing at).inside ≡ Some Main → (mutex_doing at).wakes ≡ None → (mutex_station at).carries ≡ None
-      → station p2 ≡ record (mutex_station at) { inside = None } → Goes w (put (state_with_sections w (One (2 * l)) None) t p2) l (acts t (Out ∷ []))
+  pub leave_keeps : 2 * l < length w.sections → (p2 : Place) → IsMutexOf l p2 → taken_at (Mutex l at) l ≡ None
+      → taken_at p2 l ≡ None → doing_on p2 l ≡ leaves (mutex_doing at) → (mutex_doing at).inside ≡ Some Main
+      → (mutex_doing at).wakes ≡ None → (mutex_station at).carries ≡ None
+      → station p2 ≡ record (mutex_station at) { inside = None }
+      → Goes w (put (state_with_sections w (One (2 * l)) None) t p2) l (acts t (Out ∷ []))
   leave_keeps line p2 of none none2 e i k nobody s = leave_goes w t l steady own there mutex rules p2 (own_of l p2 of) (fits p2 of) Main line (ap (λ (x : Station). x.inside) station_is_at ∙ i) (Out ∷ []) (λ h. tt)
       (record {
         site = leaving mutex l (base_at w l) (word_at w l) (owners_at w l) (queue_at w (2 * l)) (queue_at w (2 * l + 1)) (place_at w) _ t (hand_none none) (ap (λ y. taken_at y l) (put_here (place_at w) t p2) ∙ none2)
@@ -210,7 +231,8 @@ module _ (w : State) (t l : ℕ) (at : MutexPlace) (steady : IsSteady w) (is : p
       (s ∙ sym (ap (λ (x : Station). record x { inside = None }) station_is_at))
 
   -- what it does then
-  out_doing : (p2 : Place) → taken_at (Mutex l at) l ≡ None → doing_on p2 l ≡ leaves (mutex_doing at) → doing_on p2 l ≡ (after_acts mutex (acts t (Out ∷ [])) (mutex_at w l)).doing t
+  out_doing : (p2 : Place) → taken_at (Mutex l at) l ≡ None → doing_on p2 l ≡ leaves (mutex_doing at)
+      → doing_on p2 l ≡ (after_acts mutex (acts t (Out ∷ [])) (mutex_at w l)).doing t
   out_doing p2 none e = e ∙ sym (ap leaves (own_doing l (place_at w t) at is)) ∙ sym (ap (λ x. wakened t x (putting (λ y. doing_on (place_at w y) l) t (leaves (doing_on (place_at w t) l)) t)) (hand_none none) ∙ put_here (λ y. doing_on (place_at w y) l) t (leaves (doing_on (place_at w t) l)))
 
   -- it is in nobody's hand itself
@@ -231,8 +253,12 @@ module _ (w : State) (t l : ℕ) (at : MutexPlace) (steady : IsSteady w) (is : p
   not_both b c carries u held = let a : carried_at (place_at w t) l ≡ Some c = steady.stands.hands.taken t u l c held in let d : carried_at (place_at w t) l ≡ Some b = ap (λ (y : Station). y.carries) (own_stance l (place_at w t) at is) ∙ carries in let e : Some b ≡ Some c = sym d ∙ a in cc
 
   -- out of its own, and whom it has in hand is told
-  pub wake_keeps : 2 * l < length w.sections → (b : Bool) (x : Note) (p2 : Place) → IsMutexOf l p2 → ((u : ℕ) → hand_at (place_at w u) l ≡ hand t b → IsWokenAt w t l x (place_at w u)) → taken_at (Mutex l at) l ≡ None → taken_at p2 l ≡ None → doing_on p2 l ≡ leaves (mutex_doing at) → (mutex_doing at).inside ≡ Some Main → (mutex_doing at).wakes ≡ None
-      → mutex_station at ≡ record nowhere { inside = Some Main; carries = Some b } → station p2 ≡ nowhere → Goes w (put (state_after_telling (state_with_sections w (One (2 * l)) None) t (Woken x)) t p2) l (acts t (Out ∷ []))
+  pub wake_keeps : 2 * l < length w.sections → (b : Bool) (x : Note) (p2 : Place) → IsMutexOf l p2
+      → ((u : ℕ) → hand_at (place_at w u) l ≡ hand t b → IsWokenAt w t l x (place_at w u)) → taken_at (Mutex l at) l ≡ None
+      → taken_at p2 l ≡ None → doing_on p2 l ≡ leaves (mutex_doing at) → (mutex_doing at).inside ≡ Some Main
+      → (mutex_doing at).wakes ≡ None
+      → mutex_station at ≡ record nowhere { inside = Some Main; carries = Some b } → station p2 ≡ nowhere
+      → Goes w (put (state_after_telling (state_with_sections w (One (2 * l)) None) t (Woken x)) t p2) l (acts t (Out ∷ []))
   wake_keeps line b x p2 of woken none none2 e i k was is_p2 = wakes_at.wake_goes w t l steady there p2 (same_hands l (place_at w t) p2 beside) (fits p2 of) (holds_here w t l steady (of_carries l (place_at w t) own)) x all_woken
       (ap (λ (y : Station). y.carries) now) (unheld (wakes_at.is_told w t l steady there p2 (same_hands l (place_at w t) p2 beside) (fits p2 of) (holds_here w t l steady (of_carries l (place_at w t) own)) x all_woken t))
       beside Main line (ap (λ (y : Station). y.inside) before) (ap (λ (y : Station). y.stands) now ∙ sym (ap (λ (y : Station). y.stands) before)) (ap (λ (y : Station). y.waits) now ∙ sym (ap (λ (y : Station). y.waits) before)) (ap (λ (y : Station). y.inside) now)
@@ -261,18 +287,29 @@ module _ (w : State) (t l : ℕ) (steady : IsSteady w) (there : t < length w.pla
     one_held = steady.stands.hands.carried t l b (ap (λ (x : Station). x.carries) (own_stance l (place_at w t) at is) ∙ carries)
 
     -- it is told alone
-    pub told_it : (reply : Reply) → state_after_telling (state_with_sections w (One (2 * l)) None) t reply ≡ state_after_reply (state_with_sections w (One (2 * l)) None) one_held.0 reply
+    pub told_it : (reply : Reply)
+        → state_after_telling (state_with_sections w (One (2 * l)) None) t reply
+        ≡ state_after_reply (state_with_sections w (One (2 * l)) None) one_held.0 reply
     told_it reply = told_one (state_with_sections w (One (2 * l)) None) t l one_held.0 b reply (aparts w steady) steady.stands.hands (single w t l at steady is there) (of_carries l (place_at w t) (own w t l at steady is there)) one_held.1
 
   -- a release leaves, and wakes the one that it took
-  pub release_wakes : 2 * l < length w.sections → place_at w t ≡ Mutex l (Unlock (unlock.Leave true)) → Goes w (go_by w t (Mutex l (Unlock (unlock.Leave true))) (act.TheVariants.Leave (One (2 * l)) (wakes.TheVariants.All note.Normal))) l (acts t (Out ∷ []))
+  pub release_wakes : 2 * l < length w.sections → place_at w t ≡ Mutex l (Unlock (unlock.Leave true))
+      → Goes w
+      (go_by w t (Mutex l (Unlock (unlock.Leave true))) (act.TheVariants.Leave (One (2 * l)) (wakes.TheVariants.All note.Normal))) l
+      (acts t (Out ∷ []))
   release_wakes line is = wake_keeps w t l (Unlock (unlock.Leave true)) steady is there line false note.Normal Idle tt (woken_taken w t l (Unlock (unlock.Leave true)) steady is there) refl refl refl refl refl refl refl
 
   -- a fair one leaves, and tells the one that it handed the lock
-  pub tells : 2 * l < length w.sections → (bumps : Bool) (is : place_at w t ≡ Mutex l (HandOff bumps (hand_off.Leave true))) (p2 : Place) → IsMutexOf l p2 → taken_at p2 l ≡ None → doing_on p2 l ≡ idle → station p2 ≡ nowhere → Goes w (put (state_after_telling (state_with_sections w (One (2 * l)) None) t (Woken note.HandOff)) t p2) l (acts t (Out ∷ []))
+  pub tells : 2 * l < length w.sections
+      → (bumps : Bool) (is : place_at w t ≡ Mutex l (HandOff bumps (hand_off.Leave true))) (p2 : Place) → IsMutexOf l p2
+      → taken_at p2 l ≡ None → doing_on p2 l ≡ idle → station p2 ≡ nowhere
+      → Goes w (put (state_after_telling (state_with_sections w (One (2 * l)) None) t (Woken note.HandOff)) t p2) l
+      (acts t (Out ∷ []))
   tells line bumps is p2 of none e s = wake_keeps w t l (HandOff bumps (hand_off.Leave true)) steady is there line true note.HandOff p2 of (woken_handed w t l (HandOff bumps (hand_off.Leave true)) steady is there) refl none e refl refl refl s
 
-  module _ (lt : l < length w.locks) (bumps none_left : Bool) (u : ℕ) (is : place_at w t ≡ Mutex l (HandOff bumps (hand_off.Store true none_left))) (held : hand_at (place_at w u) l ≡ hand t false) where
+  module _ (lt : l < length w.locks) (bumps none_left : Bool) (u : ℕ)
+      (is : place_at w t ≡ Mutex l (HandOff bumps (hand_off.Store true none_left)))
+      (held : hand_at (place_at w u) l ≡ hand t false) where
     abbrev at : MutexPlace
     at = HandOff bumps (hand_off.Store true none_left)
 
@@ -314,7 +351,9 @@ module _ (w : State) (t l : ℕ) (steady : IsSteady w) (there : t < length w.pla
     fresh x b h = let a : carried_at (place_at w t) l ≡ Some b = steady.stands.hands.taken t x l b h in let c : carried_at (place_at w t) l ≡ Some false = ap (λ (y : Station). y.carries) before_t in let e : Some b ≡ Some false = sym a ∙ c in cc
 
     -- only its owner claims the mutex
-    unclaimed : (x : ℕ) → x ≢ t → (((doing_on (place_at w x) l).claims ≡ None) ⊎ ((doing_on (place_at w x) l).claims ≡ Some (Has Exclusive))) → (doing_on (place_at w x) l).claims ≡ None
+    unclaimed : (x : ℕ) → x ≢ t
+        → (((doing_on (place_at w x) l).claims ≡ None) ⊎ ((doing_on (place_at w x) l).claims ≡ Some (Has Exclusive)))
+        → (doing_on (place_at w x) l).claims ≡ None
     unclaimed x ne (inl none) = none
     unclaimed x ne (inr claims) = absurd (
         let site = site_l w t l at steady is there in
@@ -322,7 +361,8 @@ module _ (w : State) (t l : ℕ) (steady : IsSteady w) (there : t < length w.pla
         let own : (owners_at w l).exclusive ≡ Some t = site.held t (Has Exclusive) (ap (λ (d : Doing). d.claims) (own_doing l (place_at w t) at is)) in
         ne (let both : Some x ≡ Some t = sym its ∙ own in cc))
 
-    all_told : (x : ℕ) (b : Bool) → hand_at (place_at w x) l ≡ hand t b → IsToldAt w t l b (hand t true) (hand_over_told w t l) (place_at w x)
+    all_told : (x : ℕ) (b : Bool) → hand_at (place_at w x) l ≡ hand t b
+        → IsToldAt w t l b (hand t true) (hand_over_told w t l) (place_at w x)
     all_told x b h =
         let k : IsHeldThere l t (place_at w x) = held_there (place_at w x) t l (mutexes_at w t l at steady is x) (h ∙ ap (hand t) (fresh x b h)) in
         let z = k.handed (unshared_then w t l) in record { goes = z.station; alike = z.others; fits = z.fits (unclaimed x (not_own w t l at steady is there refl x b h) k.claims) w (steady.stands.calls x) }
@@ -386,7 +426,9 @@ module _ (w : State) (t l : ℕ) (steady : IsSteady w) (there : t < length w.pla
     same_kinds k = given_kinds w t (Mutex l at) l (op.Store (hand_off_word true none_left)) k
 
     -- the store that hands the lock over
-    pub hands_over : Goes w (go_by w t (Mutex l (HandOff bumps (hand_off.Store true none_left))) (act.TheVariants.HandOver l (op.Store (hand_off_word true none_left)))) l (acts t (deeds.hands_over (Some u) none_left) ++ deeds.claims_of (Some u))
+    pub hands_over : Goes w
+        (go_by w t (Mutex l (HandOff bumps (hand_off.Store true none_left))) (act.TheVariants.HandOver l (op.Store (hand_off_word true none_left)))) l
+        (acts t (deeds.hands_over (Some u) none_left) ++ deeds.claims_of (Some u))
     hands_over = record {
       follows = subst (λ (z : State). Follows w (put z t p2) l (acts t (deeds.hands_over (Some u) none_left) ++ deeds.claims_of (Some u))) (sym told) (follow w after l (rules w t l at steady is there) (putting (putting (place_at w) u pu) t p2) (if none_left then 1 else 3) (with_exclusive (owners_at w l) (Some u)) (queue_at w (2 * l)) places
           (record { threads = length-set (set w.places u pu) t p2 ∙ length-set w.places u pu; locks = length-set w.locks l _; shares = length-set w.shares l (shares_handed_over w t l) })
@@ -411,18 +453,25 @@ module _ (w : State) (t l : ℕ) (steady : IsSteady w) (there : t < length w.pla
 -- ---------------------------------------------------------------- the first of a line is taken
 
 -- the same of the main keys
-pub changed_main : {A : Type 0} (xs : List A) (l : ℕ) (x d : A) → 2 * l < length xs → Changed (λ k. get_or xs (2 * k) d) (λ k. get_or (set xs (2 * l) x) (2 * k) d) l x
+pub changed_main : {A : Type 0} (xs : List A) (l : ℕ) (x d : A) → 2 * l < length xs
+    → Changed (λ k. get_or xs (2 * k) d) (λ k. get_or (set xs (2 * l) x) (2 * k) d) l x
 changed_main xs l x d lt = record { here = get_or-set_same xs (2 * l) x d lt; other = λ j ne. get_or-set_other xs (2 * l) (2 * j) x d (λ e. ne (omega arith)) }
 
-module _ (w : State) (t l : ℕ) (at : MutexPlace) (steady : IsSteady w) (is : place_at w t ≡ Mutex l at) (there : t < length w.places) (line : 2 * l < length w.queues)
+module _ (w : State) (t l : ℕ) (at : MutexPlace) (steady : IsSteady w) (is : place_at w t ≡ Mutex l at)
+    (there : t < length w.places) (line : 2 * l < length w.queues)
     (x : Waiter) (rest : List Waiter) (first : queue_at w (2 * l) ≡ x ∷ rest) (sleeps : SleepsAt l (place_at w x.thread)) (stands_there : (station_at (place_at w x.thread) l).stands ≡ Some Main) (apart : x.thread ≢ t) where
   site_first : IsSite mutex (seen l (base_at w l) (word_at w l) (owners_at w l) (x ∷ rest) (queue_at w (2 * l + 1)) (place_at w))
   site_first = subst (λ (q : List Waiter). IsSite mutex (seen l (base_at w l) (word_at w l) (owners_at w l) q (queue_at w (2 * l + 1)) (place_at w))) first (site_l w t l at steady is there)
 
-  pub take_keeps : (p2 : Place) → IsMutexOf l p2 → taken_at (Mutex l at) l ≡ None → taken_at p2 l ≡ None → (mutex_station at).carries ≡ None → (mutex_station at).hand ≡ None → (mutex_doing at).inside ≡ Some Main → (mutex_doing at).carries ≡ false → (mutex_doing at).wakes ≢ Some Second
-      → doing_on p2 l ≡ record (mutex_doing at) { wakes = None; carries = true; covers = true; empty = found Main (is_empty (map queued_of rest)) }
+  pub take_keeps : (p2 : Place) → IsMutexOf l p2 → taken_at (Mutex l at) l ≡ None → taken_at p2 l ≡ None
+      → (mutex_station at).carries ≡ None → (mutex_station at).hand ≡ None → (mutex_doing at).inside ≡ Some Main
+      → (mutex_doing at).carries ≡ false → (mutex_doing at).wakes ≢ Some Second
+      → doing_on p2 l
+      ≡ record
+      (mutex_doing at) { wakes = None; carries = true; covers = true; empty = found Main (is_empty (map queued_of rest)) }
       → station p2 ≡ record (mutex_station at) { carries = Some false }
-      → Goes w (put (state_after_reply (record w { queues = queues_without_first w.queues (2 * l) }) x.thread (TakenBy t)) t p2) l (acts t (Case (TakeFirst (queued x.thread)) ∷ []))
+      → Goes w (put (state_after_reply (record w { queues = queues_without_first w.queues (2 * l) }) x.thread (TakenBy t)) t p2) l
+      (acts t (Case (TakeFirst (queued x.thread)) ∷ []))
   take_keeps p2 of none none2 nobody free i c v e s = first_goes w t l steady there p2 (own_alike l (place_at w t) p2 (own w t l at steady is there) (own_of l p2 of)) (fits w t l at steady is there p2 of) (rules w t l at steady is there) line
       x rest first (first_wants l (base_at w l) (word_at w l) (owners_at w l) (queue_at w (2 * l + 1)) rest x (place_at w) t site_first) stands_there sleeps
       (ap (λ (y : Station). y.carries) before ∙ nobody) (station_here l p2 (own_of l p2 of) ∙ s ∙ sym (λ j. record (behind_take t (not_self j) (before j)) { carries = Some false }))

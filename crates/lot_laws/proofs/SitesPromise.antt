@@ -43,7 +43,8 @@ module _ (w : State) (s : IsSteady w) (l : ℕ) (rules : rules_in w l ≡ mutex)
   ]
 
 -- so it implies the bit where nobody is inside the section
-pub parked_at : (w : State) → IsSteady w → (t l : ℕ) → rules_in w l ≡ mutex → section_at w (2 * l) ≡ None → 1 ≤ Lines.times t (queue_at w (2 * l)) → is_parked (word_at w l) ≡ true
+pub parked_at : (w : State) → IsSteady w → (t l : ℕ) → rules_in w l ≡ mutex → section_at w (2 * l) ≡ None
+    → 1 ≤ Lines.times t (queue_at w (2 * l)) → is_parked (word_at w l) ≡ true
 parked_at w s t l rules free h = elim (parked_or_marks w s l rules t (subst (λ n. 1 ≤ n) (sym (queued_times t (queue_at w (2 * l)))) h)) [
   | inl set ↦ set
   | inr marks ↦ absurd (let both : ◌≡◌ {A = Option ℕ} None (Some marks.0) = sym free ∙ marks_inside w s l rules marks.0 marks.1 in cc)

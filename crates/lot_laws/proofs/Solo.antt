@@ -47,7 +47,7 @@ use Rattle.lot_laws.proofs.MutexSolo.{LockEnds, UnlockEnds, bump_leads, fair_res
 use Rattle.lot_laws.proofs.MutexTable.{mutex, queued_behind}
 use Rattle.lot_laws.proofs.StandsMoved.{mutex_rules}
 use Rattle.lot_laws.proofs.MutexEvents.{free_word, owned_word}
-use Rattle.lot_laws.proofs.LockSteps.{purpose_is}
+use Rattle.lot_laws.proofs.CallBegins.{purpose_is}
 use Rattle.lot_laws.proofs.Counts.{first_times}
 use Rattle.lot_steps.specs.Steps.{is_lock}
 use Rattle.lot_laws.specs.Stations.{station_by}
@@ -74,12 +74,14 @@ use Rattle.lot_laws.proofs.SoloActs.{Facing}
 
 -- ---------------------------------------------------------------- the laws
 
-try_so : (b : Bool) (x : Outcome) → x ≡ (if b then outcome.TheVariants.End answer.TheVariants.No else outcome.TheVariants.End answer.TheVariants.Yes) → Rests x
+try_so : (b : Bool) (x : Outcome)
+    → x ≡ (if b then outcome.TheVariants.End answer.TheVariants.No else outcome.TheVariants.End answer.TheVariants.Yes) → Rests x
 try_so true x h = rw h tt
 try_so false x h = rw h tt
 
 -- nobody is in a second section of a `Once`
-never_aside : (w : State) (l : ℕ) (p : Place) → FitsItsLock w p → (rules_in w l).sort ≡ locks.Once → (station_at p l).inside ≡ Some Second → ⊥
+never_aside : (w : State) (l : ℕ) (p : Place) → FitsItsLock w p → (rules_in w l).sort ≡ locks.Once
+    → (station_at p l).inside ≡ Some Second → ⊥
 never_aside w l Idle fits sort e = absurd cc
 never_aside w l (Mutex k at) fits sort e = either (k == l) refl
   where
@@ -98,7 +100,8 @@ never_aside w l (Condvar k at) fits sort e = either (k == l) refl
     beside : is_lock l (mutex_beside at) ≡ false
     beside = not_beside w (Condvar k at) l fits (λ one. let both : locks.Mutex ≡ locks.Once = sym one ∙ sort in cc)
 
-    out : (b : Bool) → b ≡ false → (k == l) ≡ false → (if k == l then station (Condvar k at) else if b then station_by (mutex_side at) else nowhere).inside ≡ None
+    out : (b : Bool) → b ≡ false → (k == l) ≡ false
+        → (if k == l then station (Condvar k at) else if b then station_by (mutex_side at) else nowhere).inside ≡ None
     out true f h = absurd cc
     out false f h = ap (λ c. (if c then station (Condvar k at) else nowhere).inside) h
 
@@ -111,7 +114,8 @@ never_aside w l (Once k at) fits sort e = either (k == l) refl
     either true h = main_only at (sym (ap (λ b. (if b then station (Once k at) else nowhere).inside) h) ∙ e)
     either false h = let none : None ≡ Some Second = sym (ap (λ b. (if b then station (Once k at) else nowhere).inside) h) ∙ e in cc
 
-module _ (w : State) (t : ℕ) (shape : IsShaped w) (steady : IsSteady w) (counted : AreCounted w) (condvars : AreCondvars w) (running : RunsInClosures w) (there : t < length w.places) (way : HasItsWay w t) where
+module _ (w : State) (t : ℕ) (shape : IsShaped w) (steady : IsSteady w) (counted : AreCounted w) (condvars : AreCondvars w)
+    (running : RunsInClosures w) (there : t < length w.places) (way : HasItsWay w t) where
   world : IsWorld w
   world = record { shaped = shape; steady = steady; counted = counted; condvars = condvars; running = running }
 
@@ -119,24 +123,28 @@ module _ (w : State) (t : ℕ) (shape : IsShaped w) (steady : IsSteady w) (count
   stays_world : (v : State) → IsWorld v → IsWorld (after v (go_of t))
   stays_world v h = world_after v (go_of t) h
 
-  facing : (l : ℕ) (p : Place) → IsSingle p → place_at w t ≡ p → l < length w.locks → Facing w t l p (word_at w l) (owner_at w l) (section_at w (2 * l)) (queue_at w (2 * l))
+  facing : (l : ℕ) (p : Place) → IsSingle p → place_at w t ≡ p → l < length w.locks
+      → Facing w t l p (word_at w l) (owner_at w l) (section_at w (2 * l)) (queue_at w (2 * l))
   facing l p single is lt = record { single = single; shape = shape; steady = steady; counted = counted; condvars = condvars; thread = there; lock = lt; place = is; word = refl; owner = refl; section = refl; queue = refl }
 
   -- outside its section it finds it free
-  free : (l : ℕ) (p : Place) → IsSingle p → place_at w t ≡ p → lock_of p ≡ Some l → (station p).inside ≡ None → (x : Option ℕ) → section_at w (2 * l) ≡ x → x ≡ None
+  free : (l : ℕ) (p : Place) → IsSingle p → place_at w t ≡ p → lock_of p ≡ Some l → (station p).inside ≡ None → (x : Option ℕ)
+      → section_at w (2 * l) ≡ x → x ≡ None
   free l p single is own outside None e = refl
   free l p single is own outside (Some u) e = let mine : u ≡ t = way l u Main (inl (ap lock_of is ∙ own)) tt e in
       let within : (station_at (place_at w t) l).inside ≡ Some Main = (steady.stands.sections t l Main).1 (e ∙ ap Some mine) in
       let out : (station_at (place_at w t) l).inside ≡ None = nothing_at (place_at w t) l (subst IsSingle (sym is) single) (λ y. y.inside) refl (ap (λ y. (station y).inside) is ∙ outside) in absurd cc
 
-  at_first : (l : ℕ) (p : Place) → IsSingle p → place_at w t ≡ p → lock_of p ≡ Some l → (station p).inside ≡ None → l < length w.locks → Facing w t l p (word_at w l) (owner_at w l) None (queue_at w (2 * l))
+  at_first : (l : ℕ) (p : Place) → IsSingle p → place_at w t ≡ p → lock_of p ≡ Some l → (station p).inside ≡ None
+      → l < length w.locks → Facing w t l p (word_at w l) (owner_at w l) None (queue_at w (2 * l))
   at_first l p single is own outside lt = subst (λ s. Facing w t l p (word_at w l) (owner_at w l) s (queue_at w (2 * l))) (free l p single is own outside (section_at w (2 * l)) refl) (facing l p single is lt)
 
   -- at a place of a reader-writer lock
   admitted : (l : ℕ) (a : Admission) (c : RwLockCallPlace) → place_at w t ≡ RwLock l a c → FitsItsLock w (RwLock l a c)
   admitted l a c is = subst (FitsItsLock w) is (steady.stands.calls t)
 
-  steps_alone_at : (l : ℕ) (p : Place) → IsSingle p → ((m : Line) (u : ℕ) → section_at w (key_of l m) ≡ Some u → u ≡ t) → place_at w t ≡ p → l < length w.locks → StepsAlone w t l p (word_at w l) (λ m. queue_at w (key_of l m))
+  steps_alone_at : (l : ℕ) (p : Place) → IsSingle p → ((m : Line) (u : ℕ) → section_at w (key_of l m) ≡ Some u → u ≡ t)
+      → place_at w t ≡ p → l < length w.locks → StepsAlone w t l p (word_at w l) (λ m. queue_at w (key_of l m))
   steps_alone_at l p single free_way is lt = record {
     single = single;
     shape = shape;
@@ -152,7 +160,9 @@ module _ (w : State) (t : ℕ) (shape : IsShaped w) (steady : IsSteady w) (count
     way = free_way;
   }
 
-  steps_alone : (l : ℕ) (a : Admission) (c : RwLockCallPlace) → has_readers (rules_in w l).sort ≡ true → place_at w t ≡ RwLock l a c → l < length w.locks → StepsAlone w t l (RwLock l a c) (word_at w l) (λ m. queue_at w (key_of l m))
+  steps_alone : (l : ℕ) (a : Admission) (c : RwLockCallPlace) → has_readers (rules_in w l).sort ≡ true
+      → place_at w t ≡ RwLock l a c → l < length w.locks
+      → StepsAlone w t l (RwLock l a c) (word_at w l) (λ m. queue_at w (key_of l m))
   steps_alone l a c readers is lt = steps_alone_at l (RwLock l a c) tt (λ m u e. way l u m (inl (ap lock_of is)) (line m) e) is lt
     where
       line : (m : Line) → HasLine (rules_of (kind_at w l)).sort m
@@ -160,7 +170,8 @@ module _ (w : State) (t : ℕ) (shape : IsShaped w) (steady : IsSteady w) (count
       line Second = readers
 
   -- at a place of a `Once`, which has no second line
-  once_steps_alone : (l : ℕ) (at : OncePlace) → place_at w t ≡ Once l at → l < length w.locks → StepsAlone w t l (Once l at) (word_at w l) (λ m. queue_at w (key_of l m))
+  once_steps_alone : (l : ℕ) (at : OncePlace) → place_at w t ≡ Once l at → l < length w.locks
+      → StepsAlone w t l (Once l at) (word_at w l) (λ m. queue_at w (key_of l m))
   once_steps_alone l at is lt = steps_alone_at l (Once l at) tt free_way is lt
     where
       sort : (rules_in w l).sort ≡ locks.Once
@@ -170,7 +181,8 @@ module _ (w : State) (t : ℕ) (shape : IsShaped w) (steady : IsSteady w) (count
       free_way Main u e = way l u Main (inl (ap lock_of is)) tt e
       free_way Second u e = absurd (never_aside w l (place_at w u) (steady.stands.calls u) sort ((steady.stands.sections u l Second).1 e))
 
-  mutex_place_rests : (l : ℕ) (c : MutexPlace) → place_at w t ≡ Mutex l c → PlaceFits (length w.locks) (Mutex l c) → Mutex l c ≢ Idle → act_of (Mutex l c) ≢ act.TheVariants.Sleep → Leads 12 w t (λ v x. Rests x)
+  mutex_place_rests : (l : ℕ) (c : MutexPlace) → place_at w t ≡ Mutex l c → PlaceFits (length w.locks) (Mutex l c)
+      → Mutex l c ≢ Idle → act_of (Mutex l c) ≢ act.TheVariants.Sleep → Leads 12 w t (λ v x. Rests x)
   mutex_place_rests l (Lock entry retries a) is fits busy up = leads_more 8 12 w t (λ v x. Rests x) (omega arith) (lock_rests t l entry retries a (word_at w l) (owner_at w l) (section_at w (2 * l)) (queue_at w (2 * l)) w (facing l (Mutex l (Lock entry retries a)) tt is fits.0) (λ outside. free l (Mutex l (Lock entry retries a)) tt is refl outside (section_at w (2 * l)) refl) up)
   mutex_place_rests l TryLock is fits busy up = leads_more 1 12 w t (λ v x. Rests x) (omega arith)
       (leads_so 1 w t (λ v x. (x ≡ (if is_locked (word_at w l) then outcome.TheVariants.End answer.TheVariants.No else outcome.TheVariants.End answer.TheVariants.Yes)) × (owner_at v l ≡ (if is_locked (word_at w l) then owner_at w l else Some t))) (λ v x. Rests x)
@@ -180,7 +192,8 @@ module _ (w : State) (t : ℕ) (shape : IsShaped w) (steady : IsSteady w) (count
   mutex_place_rests l Bump is fits busy up = fair_rests t l 11 true (first_of (queue_at w (2 * l))) (drop 1 (queue_at w (2 * l))) w (omega arith) (bump_leads t l (queue_at w (2 * l)) (word_at w l) (owner_at w l) w (at_first l (Mutex l Bump) tt is refl refl fits.0))
   mutex_place_rests l (HandOff bumps a) is fits busy up = hand_off_rests t l bumps a (word_at w l) (owner_at w l) (section_at w (2 * l)) (queue_at w (2 * l)) w (facing l (Mutex l (HandOff bumps a)) tt is fits.0) (λ outside. free l (Mutex l (HandOff bumps a)) tt is refl outside (section_at w (2 * l)) refl)
 
-  place_rests : (p : Place) → place_at w t ≡ p → PlaceFits (length w.locks) p → p ≢ Idle → act_of p ≢ act.TheVariants.Sleep → runs_closure (act_of p) ≡ false → Leads 18 w t (λ v x. Rests x)
+  place_rests : (p : Place) → place_at w t ≡ p → PlaceFits (length w.locks) p → p ≢ Idle → act_of p ≢ act.TheVariants.Sleep
+      → runs_closure (act_of p) ≡ false → Leads 18 w t (λ v x. Rests x)
   place_rests Idle is fits busy up outside = absurd (busy refl)
   place_rests (Condvar l at) is fits busy up outside = leads_more 17 18 w t (λ v x. Rests x) (omega arith) (condvar_rests t stays_world w world there way l at is up)
   place_rests (Once l at) is fits busy up outside =
@@ -207,7 +220,8 @@ module _ (w : State) (t : ℕ) (shape : IsShaped w) (steady : IsSteady w) (count
     blocked_owned b = let m : IsBlocked mutex (lock_state w l) Exclusive = subst (λ (r : Rules). IsBlocked r (lock_state w l) Exclusive) rules b in m.1
 
     -- nobody shares a mutex
-    unshared : {A : Type 0} → Exclusive ≡ Exclusive → MayEnter (rules_at (locks_of w) l) (lock_state w l) Exclusive → 1 ≤ readers (lock_state w l) → A
+    unshared : {A : Type 0} → Exclusive ≡ Exclusive → MayEnter (rules_at (locks_of w) l) (lock_state w l) Exclusive
+        → 1 ≤ readers (lock_state w l) → A
     unshared e may some = absurd (let none : readers (lock_state w l) ≡ 0 = mutex_unshared w l steady rules in omega arith)
 
     no_sharers : {A : Type 0} → has_readers (rules_at (locks_of w) l).sort ≡ true → A
@@ -221,7 +235,8 @@ module _ (w : State) (t : ℕ) (shape : IsShaped w) (steady : IsSteady w) (count
     patience_of entries.LockTimed = Timed
     patience_of entry = Patient
 
-    lock_alone : (entry : Entry) (o : Option ℕ) → owner_at w l ≡ o → LockEnds t l entry o (queue_at w (2 * l)) v x → EntersAlone (word_at w l ≡ 0) (locks_of w) t l Exclusive (patience_of entry) x (locks_of v)
+    lock_alone : (entry : Entry) (o : Option ℕ) → owner_at w l ≡ o → LockEnds t l entry o (queue_at w (2 * l)) v x
+        → EntersAlone (word_at w l ≡ 0) (locks_of w) t l Exclusive (patience_of entry) x (locks_of v)
     lock_alone entries.LockTimed None e h = record { owns = λ may. h; pends = unshared; refused = λ shared. no_sharers shared; full = unfilled; barred = λ b. absurd (blocked_owned b e) }
     lock_alone entries.Lock None e h = record { owns = λ may. h; pends = unshared; refused = λ shared. no_sharers shared; full = unfilled; barred = λ b. absurd (blocked_owned b e) }
     lock_alone entries.Bump None e h = record { owns = λ may. h; pends = unshared; refused = λ shared. no_sharers shared; full = unfilled; barred = λ b. absurd (blocked_owned b e) }
@@ -229,7 +244,9 @@ module _ (w : State) (t : ℕ) (shape : IsShaped w) (steady : IsSteady w) (count
     lock_alone entries.Lock (Some u) e h = record { owns = λ may. absurd (let g : Some u ≡ None = sym e ∙ may_own may.0 in cc); pends = unshared; refused = λ shared. no_sharers shared; full = unfilled; barred = λ b. (h.0, ap (map queued_of) h.2 ∙ queued_behind (2 * l) t Exclusive (queue_at w (2 * l))) }
     lock_alone entries.Bump (Some u) e h = record { owns = λ may. absurd (let g : Some u ≡ None = sym e ∙ may_own may.0 in cc); pends = unshared; refused = λ shared. no_sharers shared; full = unfilled; barred = λ b. (h.0, ap (map queued_of) h.2 ∙ queued_behind (2 * l) t Exclusive (queue_at w (2 * l))) }
 
-    try_alone : (b : Bool) → is_locked (word_at w l) ≡ b → (x ≡ (if b then outcome.TheVariants.End answer.TheVariants.No else outcome.TheVariants.End answer.TheVariants.Yes)) × (owner_at v l ≡ (if b then owner_at w l else Some t))
+    try_alone : (b : Bool) → is_locked (word_at w l) ≡ b
+        → (x ≡ (if b then outcome.TheVariants.End answer.TheVariants.No else outcome.TheVariants.End answer.TheVariants.Yes))
+        × (owner_at v l ≡ (if b then owner_at w l else Some t))
         → EntersAlone (word_at w l ≡ 0) (locks_of w) t l Exclusive Try x (locks_of v)
     try_alone true e h = record { owns = λ may. absurd (owned_word (word_at w l) (owner_at w l) (words_coded w steady l rules) e (may_own may.0)); pends = unshared; refused = λ shared. no_sharers shared; full = unfilled; barred = λ b. h.0 }
     try_alone false e h = record { owns = λ may. h; pends = unshared; refused = λ shared. no_sharers shared; full = unfilled; barred = λ b. absurd (blocked_owned b (free_word (word_at w l) (owner_at w l) (words_coded w steady l rules) e)) }
@@ -241,29 +258,34 @@ module _ (w : State) (t : ℕ) (shape : IsShaped w) (steady : IsSteady w) (count
     succeeds [] = refl
     succeeds (y ∷ q) = refl
 
-    unlock_fair_alone : IsSingle (place_at w t) → (station (place_at w t)).stands ≡ None → UnlockEnds l (first_of (queue_at w (2 * l))) v x → EndsAlone w t (Some (Releases l Exclusive true)) x v
+    unlock_fair_alone : IsSingle (place_at w t) → (station (place_at w t)).stands ≡ None
+        → UnlockEnds l (first_of (queue_at w (2 * l))) v x → EndsAlone w t (Some (Releases l Exclusive true)) x v
     unlock_fair_alone single awake h = (h.0, other, λ mutex. h.1 ∙ succeeds (queue_at w (2 * l)))
       where
         other : owner_at v l ≡ Some t → ⊥
         other own = let first : first_of (queue_at w (2 * l)) ≡ Some t = sym h.1 ∙ own in
             let stood : 1 ≤ times t (queue_at w (2 * l)) = first_times t (queue_at w (2 * l)) first in let none : times t (queue_at w (2 * l)) ≡ 0 = absent w steady t single awake l in omega arith
 
-    bump_alone : LockEnds t l entries.Bump (first_of (queue_at w (2 * l))) (drop 1 (queue_at w (2 * l))) v x → EndsAlone w t (Some (Bumps l Exclusive)) x v
+    bump_alone : LockEnds t l entries.Bump (first_of (queue_at w (2 * l))) (drop 1 (queue_at w (2 * l))) v x
+        → EndsAlone w t (Some (Bumps l Exclusive)) x v
     bump_alone h = (
       (λ mutex. by_queue (queue_at w (2 * l)) h),
       λ readers. absurd (let unshared : has_readers (rules_in w l).sort ≡ false = ap (λ (r : Rules). has_readers r.sort) (mutex_rules (kind_at w l) kind) in let f : false ≡ true = sym unshared ∙ readers in cc),
     )
       where
-        by_queue : (q : List Waiter) → LockEnds t l entries.Bump (first_of q) (drop 1 q) v x → BumpsAlone t l (map queued_of q) x (lock_state v l)
+        by_queue : (q : List Waiter) → LockEnds t l entries.Bump (first_of q) (drop 1 q) v x
+            → BumpsAlone t l (map queued_of q) x (lock_state v l)
         by_queue [] g = g
         by_queue (y ∷ q) g = (g.0, g.1, ap (map queued_of) g.2 ∙ queued_behind (2 * l) t Exclusive q)
 
-  fairly : (l : ℕ) → place_at w t ≡ Mutex l UnlockFair → l < length w.locks → is_mutex (kind_at w l) ≡ true → (n : ℕ) (last : Outcome) → 12 ≤ n
+  fairly : (l : ℕ) → place_at w t ≡ Mutex l UnlockFair → l < length w.locks → is_mutex (kind_at w l) ≡ true
+      → (n : ℕ) (last : Outcome) → 12 ≤ n
       → EndsAlone w t (Some (Releases l Exclusive true)) (solo n w t last).outcome (solo n w t last).state
   fairly l is lt kind n last le = unlock_fair_alone l kind (solo n w t last).state (solo n w t last).outcome (subst IsSingle (sym is) tt) (ap (λ p. (station p).stands) is)
       (unlock_fair_leads t l (queue_at w (2 * l)) (word_at w l) (owner_at w l) w (at_first l _ tt is refl refl lt) n last (omega arith))
 
-  call_alone : (l : ℕ) (fair : Bool) (c : MutexCall) → place_at w t ≡ Mutex l (mutex_first fair c) → l < length w.locks → is_mutex (kind_at w l) ≡ true → (n : ℕ) (last : Outcome) → 12 ≤ n
+  call_alone : (l : ℕ) (fair : Bool) (c : MutexCall) → place_at w t ≡ Mutex l (mutex_first fair c) → l < length w.locks
+      → is_mutex (kind_at w l) ≡ true → (n : ℕ) (last : Outcome) → 12 ≤ n
       → EndsAlone w t (Some (mutex_purpose fair l c)) (solo n w t last).outcome (solo n w t last).state
   call_alone l fair mutex_call.TheVariants.Lock is lt kind n last le = lock_alone l kind (solo n w t last).state (solo n w t last).outcome entries.Lock (owner_at w l) refl
       (first_leads t l entries.Lock (queue_at w (2 * l)) false (word_at w l) (owner_at w l) (coded_for w steady t l _ is) w (at_first l _ tt is refl refl lt) n last (omega arith))
@@ -279,7 +301,8 @@ module _ (w : State) (t : ℕ) (shape : IsShaped w) (steady : IsSteady w) (count
       (bump_leads t l (queue_at w (2 * l)) (word_at w l) (owner_at w l) w (at_first l _ tt is refl refl lt) n last (omega arith))
 
   -- a call that begins, stepped alone
-  pub mutex_ends : (l : ℕ) (c : MutexCall) → place_at w t ≡ Mutex l (mutex_first (is_fair (kind_at w l)) c) → (n : ℕ) (last : Outcome) → 12 ≤ n
+  pub mutex_ends : (l : ℕ) (c : MutexCall) → place_at w t ≡ Mutex l (mutex_first (is_fair (kind_at w l)) c)
+      → (n : ℕ) (last : Outcome) → 12 ≤ n
       → EndsAlone w t (purpose_at (locks_of w) (call.TheVariants.Mutex l c)) (solo n w t last).outcome (solo n w t last).state
   mutex_ends l c is n last le = subst (λ o. EndsAlone w t o (solo n w t last).outcome (solo n w t last).state) (sym (purpose_is (kind_at w l) l c calls))
       (call_alone l (is_fair (kind_at w l)) c is fits.0 calls n last le)
@@ -291,16 +314,21 @@ module _ (w : State) (t : ℕ) (shape : IsShaped w) (steady : IsSteady w) (count
       fits = subst (PlaceFits (length w.locks)) is (shape.places t)
 
   pub rwlock_ends : (l : ℕ) (c : RwLockCall) → place_at w t ≡ RwLock l (admission_of (kind_at w l)) (call_first c)
-      → EndsAlone w t (purpose_at (locks_of w) (call.TheVariants.RwLock l c)) (solo 64 w t outcome.TheVariants.NotNow).outcome (solo 64 w t outcome.TheVariants.NotNow).state
+      → EndsAlone w t (purpose_at (locks_of w) (call.TheVariants.RwLock l c)) (solo 64 w t outcome.TheVariants.NotNow).outcome
+      (solo 64 w t outcome.TheVariants.NotNow).state
   rwlock_ends l c is = by_kind (kind_at w l) refl
     where
       fits : l < length w.locks
       fits = subst (PlaceFits (length w.locks)) is (shape.places t)
 
-      ends : has_readers (rules_in w l).sort ≡ true → EndsAlone w t (Some (rwlock_purpose l c)) (solo 64 w t outcome.TheVariants.NotNow).outcome (solo 64 w t outcome.TheVariants.NotNow).state
+      ends : has_readers (rules_in w l).sort ≡ true
+          → EndsAlone w t (Some (rwlock_purpose l c)) (solo 64 w t outcome.TheVariants.NotNow).outcome
+          (solo 64 w t outcome.TheVariants.NotNow).state
       ends readers = rwlock_alone w t l (admission_of (kind_at w l)) c 64 outcome.TheVariants.NotNow (omega arith) steady (admits_by (kind_at w l) readers) is (steps_alone l (admission_of (kind_at w l)) (call_first c) readers is fits) (runs_alone 64 w t world)
 
-      by_kind : (k : Kind) → kind_at w l ≡ k → EndsAlone w t (purpose_of k (call.TheVariants.RwLock l c)) (solo 64 w t outcome.TheVariants.NotNow).outcome (solo 64 w t outcome.TheVariants.NotNow).state
+      by_kind : (k : Kind) → kind_at w l ≡ k
+          → EndsAlone w t (purpose_of k (call.TheVariants.RwLock l c)) (solo 64 w t outcome.TheVariants.NotNow).outcome
+          (solo 64 w t outcome.TheVariants.NotNow).state
       by_kind kinds.Mutex e = tt
       by_kind kinds.Fair e = tt
       by_kind (kinds.RwLock limit) e = ends (ap (λ k. has_readers (rules_of k).sort) e)
@@ -308,21 +336,27 @@ module _ (w : State) (t : ℕ) (shape : IsShaped w) (steady : IsSteady w) (count
       by_kind k e = tt
 
   pub condvar_ends : (l : ℕ) (c : CondvarCall) → place_at w t ≡ Condvar l (condvar_first c)
-      → EndsAlone w t (purpose_at (locks_of w) (call.TheVariants.Condvar l c)) (solo 64 w t outcome.TheVariants.NotNow).outcome (solo 64 w t outcome.TheVariants.NotNow).state
+      → EndsAlone w t (purpose_at (locks_of w) (call.TheVariants.Condvar l c)) (solo 64 w t outcome.TheVariants.NotNow).outcome
+      (solo 64 w t outcome.TheVariants.NotNow).state
   condvar_ends l c is = by_kind (kind_at w l)
     where
-      by_kind : (k : Kind) → EndsAlone w t (purpose_of k (call.TheVariants.Condvar l c)) (solo 64 w t outcome.TheVariants.NotNow).outcome (solo 64 w t outcome.TheVariants.NotNow).state
+      by_kind : (k : Kind)
+          → EndsAlone w t (purpose_of k (call.TheVariants.Condvar l c)) (solo 64 w t outcome.TheVariants.NotNow).outcome
+          (solo 64 w t outcome.TheVariants.NotNow).state
       by_kind kinds.Condvar = condvar_alone t stays_world w world there way l c is 64 outcome.TheVariants.NotNow (omega arith)
       by_kind k = tt
 
   pub once_ends : (l : ℕ) (c : OnceCall) → place_at w t ≡ Once l (once_first c)
-      → EndsAlone w t (purpose_at (locks_of w) (call.TheVariants.Once l c)) (solo 64 w t outcome.TheVariants.NotNow).outcome (solo 64 w t outcome.TheVariants.NotNow).state
+      → EndsAlone w t (purpose_at (locks_of w) (call.TheVariants.Once l c)) (solo 64 w t outcome.TheVariants.NotNow).outcome
+      (solo 64 w t outcome.TheVariants.NotNow).state
   once_ends l c is = by_kind (kind_at w l) refl
     where
       fits : l < length w.locks
       fits = subst (PlaceFits (length w.locks)) is (shape.places t)
 
-      by_kind : (k : Kind) → kind_at w l ≡ k → EndsAlone w t (purpose_of k (call.TheVariants.Once l c)) (solo 64 w t outcome.TheVariants.NotNow).outcome (solo 64 w t outcome.TheVariants.NotNow).state
+      by_kind : (k : Kind) → kind_at w l ≡ k
+          → EndsAlone w t (purpose_of k (call.TheVariants.Once l c)) (solo 64 w t outcome.TheVariants.NotNow).outcome
+          (solo 64 w t outcome.TheVariants.NotNow).state
       by_kind kinds.Once e = once_alone w t l c 64 outcome.TheVariants.NotNow (omega arith) (once_steps_alone l (once_first c) is fits)
       by_kind k e = tt
 
@@ -339,12 +373,14 @@ first_busy k (call.TheVariants.RwLock l c) p is idle = let e : RwLock l (admissi
 first_busy k (call.TheVariants.Once l c) p is idle = let e : Once l (once_first c) ≡ Idle = sym is ∙ idle in cc
 first_busy k (call.TheVariants.Condvar l c) p is idle = let e : Condvar l (condvar_first c) ≡ Idle = sym is ∙ idle in cc
 
-module _ (w : State) (t : ℕ) (shape : IsShaped w) (steady : IsSteady w) (counted : AreCounted w) (condvars : AreCondvars w) (running : RunsInClosures w) where
+module _ (w : State) (t : ℕ) (shape : IsShaped w) (steady : IsSteady w) (counted : AreCounted w) (condvars : AreCondvars w)
+    (running : RunsInClosures w) where
   pub rests_alone : IsUnderWay w t → HasItsWay w t → Rests (solo 64 w t outcome.TheVariants.NotNow).outcome
   rests_alone up way = solo_rests w t shape steady counted condvars running (stands_there w.places t up.0) way up 64 outcome.TheVariants.NotNow (omega arith)
 
   pub ends_alone : (c : Call) → place_at w t ≡ first_place (kind_at w (lock_in c)) c → HasItsWay w t
-      → EndsAlone w t (purpose_at (locks_of w) c) (solo 64 w t outcome.TheVariants.NotNow).outcome (solo 64 w t outcome.TheVariants.NotNow).state
+      → EndsAlone w t (purpose_at (locks_of w) c) (solo 64 w t outcome.TheVariants.NotNow).outcome
+      (solo 64 w t outcome.TheVariants.NotNow).state
   ends_alone (call.TheVariants.Condvar l c) is way = condvar_ends w t shape steady counted condvars running (stands_there w.places t (first_busy (kind_at w l) (call.TheVariants.Condvar l c) (place_at w t) is)) way l c is
   ends_alone (call.TheVariants.Once l c) is way = once_ends w t shape steady counted condvars running (stands_there w.places t (first_busy (kind_at w l) (call.TheVariants.Once l c) (place_at w t) is)) way l c is
   ends_alone (call.TheVariants.Mutex l c) is way = mutex_ends w t shape steady counted condvars running (stands_there w.places t (first_busy (kind_at w l) (call.TheVariants.Mutex l c) (place_at w t) is)) way l c is 64 outcome.TheVariants.NotNow (omega arith)

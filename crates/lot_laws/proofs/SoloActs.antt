@@ -70,12 +70,15 @@ module _ (w : State) (t l : ℕ) (p : Place) (v : ℕ) (o s : Option ℕ) (q : L
   told : can_do w (act_of p) ≡ true → step_outcome w (go_of t) ≡ outcome_of (next_act p (reply_to w t (act_of p)))
   told can = ap (λ b. if b then go_outcome w t else outcome.TheVariants.NotNow) (possible can) ∙ ap (going_outcome w t) f.place ∙ told_from_there w t p f.place f.single
 
-  pub act_led : can_do w (act_of p) ≡ true → after w (go_of t) ≡ put (state_after_act w t p (act_of p)) t (next_place p (reply_to w t (act_of p)))
+  pub act_led : can_do w (act_of p) ≡ true
+      → after w (go_of t) ≡ put (state_after_act w t p (act_of p)) t (next_place p (reply_to w t (act_of p)))
   act_led can = goes can ∙ ap (state_after_going w t) f.place ∙ goes_from_there w t p f.place f.single
 
   -- what it leads to, where the act leads to b
-  faces : (b : State) (p2 : Place) (v2 : ℕ) (o2 s2 : Option ℕ) (q2 : List Waiter) → can_do w (act_of p) ≡ true → state_after_act w t p (act_of p) ≡ b → length b.places ≡ length w.places
-      → next_place p (reply_to w t (act_of p)) ≡ p2 → word_at b l ≡ v2 → owner_at b l ≡ o2 → section_at b (2 * l) ≡ s2 → queue_at b (2 * l) ≡ q2 → Facing (after w (go_of t)) t l p2 v2 o2 s2 q2
+  faces : (b : State) (p2 : Place) (v2 : ℕ) (o2 s2 : Option ℕ) (q2 : List Waiter) → can_do w (act_of p) ≡ true
+      → state_after_act w t p (act_of p) ≡ b → length b.places ≡ length w.places
+      → next_place p (reply_to w t (act_of p)) ≡ p2 → word_at b l ≡ v2 → owner_at b l ≡ o2 → section_at b (2 * l) ≡ s2
+      → queue_at b (2 * l) ≡ q2 → Facing (after w (go_of t)) t l p2 v2 o2 s2 q2
   faces b p2 v2 o2 s2 q2 can does places to word owner section queue = record {
     shape = after_shaped w (go_of t) f.shape;
     steady = after_steady w (go_of t) f.shape f.steady f.counted f.condvars;
@@ -100,7 +103,8 @@ module _ (w : State) (t l : ℕ) (p : Place) (v : ℕ) (o s : Option ℕ) (q : L
   owner_led : (x : Op) → owner_at (state_after_operation w t p l x) l ≡ owner_after p t v o
   owner_led x = ap (λ y. y.owners.exclusive) (get_or-set_same w.locks l _ (unlocked kind.TheVariants.Mutex) f.lock) ∙ exclusive-owners p t (word_at w l) (owners_at w l) ∙ (λ i. owner_after p t (f.word i) (f.owner i))
 
-  pub word_faces : (x : Op) → act_of p ≡ act.TheVariants.Word l x → Faces w t l (next_place p (Value v)) (outcome_of (next_act p (Value v))) (apply x v) (owner_after p t v o) s q
+  pub word_faces : (x : Op) → act_of p ≡ act.TheVariants.Word l x
+      → Faces w t l (next_place p (Value v)) (outcome_of (next_act p (Value v))) (apply x v) (owner_after p t v o) s q
   word_faces x is = (
     told can ∙ ap (λ r. outcome_of (next_act p r)) heard,
     faces (state_after_operation w t p l x) (next_place p (Value v)) (apply x v) (owner_after p t v o) s q can (ap (state_after_act w t p) is) refl (ap (next_place p) heard) (word_led x) (owner_led x) f.section f.queue,
@@ -112,7 +116,9 @@ module _ (w : State) (t l : ℕ) (p : Place) (v : ℕ) (o s : Option ℕ) (q : L
       heard : reply_to w t (act_of p) ≡ Value v
       heard = ap (reply_to w t) is ∙ ap Value f.word
 
-  pub hand_faces : (x : Op) (u : ℕ) → takes_effect x (word_at w l) ≡ true → act_of p ≡ act.TheVariants.HandOver l x → ((o : Owners) → owners_handed_over w t l o ≡ with_exclusive o (Some u)) → Faces w t l (next_place p (Value v)) (outcome_of (next_act p (Value v))) (apply x v) (Some u) s q
+  pub hand_faces : (x : Op) (u : ℕ) → takes_effect x (word_at w l) ≡ true → act_of p ≡ act.TheVariants.HandOver l x
+      → ((o : Owners) → owners_handed_over w t l o ≡ with_exclusive o (Some u))
+      → Faces w t l (next_place p (Value v)) (outcome_of (next_act p (Value v))) (apply x v) (Some u) s q
   hand_faces x u takes is heir = (
     told can ∙ ap (λ r. outcome_of (next_act p r)) heard,
     faces (state_after_telling (state_after_hand_over w t p l x) t (hand_over_told w t l)) (next_place p (Value v)) (apply x v) (Some u) s q can (ap (state_after_act w t p) is ∙ ap (λ b. state_after_hand_over_by b w t p l x) takes) (length-map w.places (place_after_telling t (hand_over_told w t l))) (ap (next_place p) heard)
@@ -138,7 +144,8 @@ module _ (w : State) (t l : ℕ) (p : Place) (v : ℕ) (o s : Option ℕ) (q : L
       heard : reply_to w t (act_of p) ≡ Done
       heard = ap (reply_to w t) is
 
-  pub enter_faces : act_of p ≡ act.TheVariants.Enter (One (2 * l)) → s ≡ None → Faces w t l (next_place p Done) (outcome_of (next_act p Done)) v o (Some t) q
+  pub enter_faces : act_of p ≡ act.TheVariants.Enter (One (2 * l)) → s ≡ None
+      → Faces w t l (next_place p Done) (outcome_of (next_act p Done)) v o (Some t) q
   enter_faces is free = (
     told can ∙ ap (λ r. outcome_of (next_act p r)) heard,
     faces (state_with_sections w (One (2 * l)) (Some t)) (next_place p Done) v o (Some t) q can (ap (state_after_act w t p) is) refl (ap (next_place p) heard) f.word f.owner (get_or-set_same w.sections (2 * l) (Some t) None (main_key_there w l f.shape f.lock)) f.queue,
@@ -150,7 +157,8 @@ module _ (w : State) (t l : ℕ) (p : Place) (v : ℕ) (o s : Option ℕ) (q : L
       heard : reply_to w t (act_of p) ≡ Done
       heard = ap (reply_to w t) is
 
-  pub leave_faces : act_of p ≡ act.TheVariants.Leave (One (2 * l)) wakes.TheVariants.Nobody → Faces w t l (next_place p Done) (outcome_of (next_act p Done)) v o None q
+  pub leave_faces : act_of p ≡ act.TheVariants.Leave (One (2 * l)) wakes.TheVariants.Nobody
+      → Faces w t l (next_place p Done) (outcome_of (next_act p Done)) v o None q
   leave_faces is = (
     told can ∙ ap (λ r. outcome_of (next_act p r)) heard,
     faces (state_with_sections w (One (2 * l)) None) (next_place p Done) v o None q can (ap (state_after_act w t p) is) refl (ap (next_place p) heard) f.word f.owner (get_or-set_same w.sections (2 * l) None None (main_key_there w l f.shape f.lock)) f.queue,
@@ -162,7 +170,8 @@ module _ (w : State) (t l : ℕ) (p : Place) (v : ℕ) (o s : Option ℕ) (q : L
       heard : reply_to w t (act_of p) ≡ Done
       heard = ap (reply_to w t) is
 
-  pub wake_faces : (note : Note) → act_of p ≡ act.TheVariants.Leave (One (2 * l)) (wakes.TheVariants.All note) → Faces w t l (next_place p Done) (outcome_of (next_act p Done)) v o None q
+  pub wake_faces : (note : Note) → act_of p ≡ act.TheVariants.Leave (One (2 * l)) (wakes.TheVariants.All note)
+      → Faces w t l (next_place p Done) (outcome_of (next_act p Done)) v o None q
   wake_faces note is = (
     told can ∙ ap (λ r. outcome_of (next_act p r)) heard,
     faces (state_after_telling (state_with_sections w (One (2 * l)) None) t (Woken note)) (next_place p Done) v o None q can (ap (state_after_act w t p) is) (length-map w.places (place_after_telling t (Woken note))) (ap (next_place p) heard) f.word f.owner (get_or-set_same w.sections (2 * l) None None (main_key_there w l f.shape f.lock)) f.queue,
@@ -175,7 +184,8 @@ module _ (w : State) (t l : ℕ) (p : Place) (v : ℕ) (o s : Option ℕ) (q : L
       heard = ap (reply_to w t) is
 
   pub park_faces : act_of p ≡ act.TheVariants.Park l (2 * l) (WordIs 3) Exclusive → v ≡ 3 → (station p).stands ≡ None
-      → Faces w t l (next_place p (Parked true)) (outcome_of (next_act p (Parked true))) v o s (q ++ waiter (2 * l) t Exclusive ∷ [])
+      → Faces w t l (next_place p (Parked true)) (outcome_of (next_act p (Parked true))) v o s
+      (q ++ waiter (2 * l) t Exclusive ∷ [])
   park_faces is full nowhere = (
     told can ∙ ap (λ r. outcome_of (next_act p r)) heard,
     faces (record w { queues = queues_with_last w.queues (2 * l) t Exclusive }) (next_place p (Parked true)) v o s (q ++ waiter (2 * l) t Exclusive ∷ []) can
@@ -196,7 +206,8 @@ module _ (w : State) (t l : ℕ) (p : Place) (v : ℕ) (o s : Option ℕ) (q : L
           ∙ ap (λ x. x ++ waiter (2 * l) t Exclusive ∷ []) (same_without w f.steady t (subst IsSingle (sym f.place) f.single) (ap (λ x. (station x).stands) f.place ∙ nowhere) l ∙ f.queue)
 
   -- the word was another
-  pub unparked_faces : act_of p ≡ act.TheVariants.Park l (2 * l) (WordIs 3) Exclusive → (v == 3) ≡ false → Faces w t l (next_place p (Parked false)) (outcome_of (next_act p (Parked false))) v o s q
+  pub unparked_faces : act_of p ≡ act.TheVariants.Park l (2 * l) (WordIs 3) Exclusive → (v == 3) ≡ false
+      → Faces w t l (next_place p (Parked false)) (outcome_of (next_act p (Parked false))) v o s q
   unparked_faces is other = (
     told can ∙ ap (λ r. outcome_of (next_act p r)) heard,
     faces w (next_place p (Parked false)) v o s q can (ap (state_after_act w t p) is ∙ ap (λ b. if b then record w { queues = queues_with_last w.queues (2 * l) t Exclusive } else w) is_other) refl (ap (next_place p) heard) f.word f.owner f.section f.queue,
@@ -211,7 +222,9 @@ module _ (w : State) (t l : ℕ) (p : Place) (v : ℕ) (o s : Option ℕ) (q : L
       heard : reply_to w t (act_of p) ≡ Parked false
       heard = ap (reply_to w t) is ∙ ap Parked is_other
 
-  pub remove_faces : act_of p ≡ act.TheVariants.Remove (2 * l) → Faces w t l (next_place p (Removed (length (without t q) == 0))) (outcome_of (next_act p (Removed (length (without t q) == 0)))) v o s (without t q)
+  pub remove_faces : act_of p ≡ act.TheVariants.Remove (2 * l)
+      → Faces w t l (next_place p (Removed (length (without t q) == 0)))
+      (outcome_of (next_act p (Removed (length (without t q) == 0)))) v o s (without t q)
   remove_faces is = (
     told can ∙ ap (λ r. outcome_of (next_act p r)) heard,
     faces (record w { queues = queues_without w.queues t }) (next_place p (Removed (length (without t q) == 0))) v o s (without t q) can (ap (state_after_act w t p) is) refl (ap (next_place p) heard) f.word f.owner f.section
@@ -225,7 +238,8 @@ module _ (w : State) (t l : ℕ) (p : Place) (v : ℕ) (o s : Option ℕ) (q : L
       heard = ap (reply_to w t) is ∙ ap (λ x. Removed (length (without t x) == 0)) f.queue
 
   pub take_faces : act_of p ≡ act.TheVariants.Take (2 * l) whoms.TheVariants.First
-      → Faces w t l (next_place p (Took (is_there (first_of q)) (length (drop 1 q) == 0))) (outcome_of (next_act p (Took (is_there (first_of q)) (length (drop 1 q) == 0)))) v o s (drop 1 q)
+      → Faces w t l (next_place p (Took (is_there (first_of q)) (length (drop 1 q) == 0)))
+      (outcome_of (next_act p (Took (is_there (first_of q)) (length (drop 1 q) == 0)))) v o s (drop 1 q)
   take_faces is = by_first (first_of q) refl
     where
       can : can_do w (act_of p) ≡ true
@@ -240,7 +254,9 @@ module _ (w : State) (t l : ℕ) (p : Place) (v : ℕ) (o s : Option ℕ) (q : L
       does : (x : Option ℕ) → first_of q ≡ x → state_after_act w t p (act_of p) ≡ state_after_taking (record w { queues = queues_without_first w.queues (2 * l) }) t x
       does x e = ap (state_after_act w t p) is ∙ ap (state_after_taking (record w { queues = queues_without_first w.queues (2 * l) }) t) (ap first_of f.queue ∙ e)
 
-      by_first : (x : Option ℕ) → first_of q ≡ x → Faces w t l (next_place p (Took (is_there (first_of q)) (length (drop 1 q) == 0))) (outcome_of (next_act p (Took (is_there (first_of q)) (length (drop 1 q) == 0)))) v o s (drop 1 q)
+      by_first : (x : Option ℕ) → first_of q ≡ x
+          → Faces w t l (next_place p (Took (is_there (first_of q)) (length (drop 1 q) == 0)))
+          (outcome_of (next_act p (Took (is_there (first_of q)) (length (drop 1 q) == 0)))) v o s (drop 1 q)
       by_first None e = (
         told can ∙ ap (λ r. outcome_of (next_act p r)) heard,
         faces (record w { queues = queues_without_first w.queues (2 * l) }) _ v o s (drop 1 q) can (does None e) refl (ap (next_place p) heard) f.word f.owner f.section queue,

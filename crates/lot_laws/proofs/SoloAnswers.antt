@@ -125,7 +125,8 @@ gone w v t o possible step = elim step.1 [
   | inr refused ↦ absurd (possible refused.1.0)
 ]
 
-call_then : (w v : LocksState) (t : ℕ) (g : GoesOn w t outcome.Step v) → v.calls t ≡ woken w t g.event t (going_on g.event (w.calls t))
+call_then : (w v : LocksState) (t : ℕ) (g : GoesOn w t outcome.Step v)
+    → v.calls t ≡ woken w t g.event t (going_on g.event (w.calls t))
 call_then w v t g = g.calls t ∙ ap (λ (b : Bool). if b then woken w t g.event t (going_on g.event (w.calls t)) else woken w t g.event t (w.calls t)) (same t)
 
 purpose_then : (w v : LocksState) (t : ℕ) → GoesOn w t outcome.Step v → (v.calls t).purpose ≡ (w.calls t).purpose
@@ -134,7 +135,8 @@ purpose_then w v t g = ap (λ (x : CallState). x.purpose) (call_then w v t g) �
 former_then : (w v : LocksState) (t : ℕ) → GoesOn w t outcome.Step v → (v.calls t).former ≡ (w.calls t).former
 former_then w v t g = ap (λ (x : CallState). x.former) (call_then w v t g) ∙ woken_former w t g.event (going_on g.event (w.calls t)) ∙ former_stays g.event (w.calls t)
 
-pub answered : (told : List Outcome) (w v : LocksState) (t : ℕ) (a : Answer) → IsRun w (replicate (length told) (go_of t)) told v → GoesOnUntil told → last_told told ≡ outcome.End a → HasAnswered t (w.calls t).purpose (w.calls t).former a v
+pub answered : (told : List Outcome) (w v : LocksState) (t : ℕ) (a : Answer) → IsRun w (replicate (length told) (go_of t)) told v
+    → GoesOnUntil told → last_told told ≡ outcome.End a → HasAnswered t (w.calls t).purpose (w.calls t).former a v
 answered [] w v t a run goes is = absurd cc
 answered (o ∷ []) w v t a run goes is =
     let g : GoesOn w t o run.0 = gone w run.0 t o goes run.1 in
@@ -160,7 +162,8 @@ answered (o ∷ o2 ∷ os) w v t a run goes is =
     }
 
 -- as long as it goes on, its thread owned as it began what it owned then
-pub former_kept : (n : ℕ) (w v : LocksState) (t : ℕ) → IsRun w (replicate n (go_of t)) (replicate n outcome.Step) v → (v.calls t).former ≡ (w.calls t).former
+pub former_kept : (n : ℕ) (w v : LocksState) (t : ℕ) → IsRun w (replicate n (go_of t)) (replicate n outcome.Step) v
+    → (v.calls t).former ≡ (w.calls t).former
 former_kept zero w v t run = ap (λ (x : LocksState). (x.calls t).former) run
 former_kept (suc n) w v t run =
     let g : GoesOn w t outcome.Step run.0 = gone w run.0 t outcome.Step (λ e. cc) run.1 in

@@ -46,7 +46,8 @@ own_alike l p p2 h h2 k ne = record {
 
 -- a part of a station, where one thread goes elsewhere
 module _ {A : Type 0} (g : Station → A) (l : ℕ) where
-  pub part_put : (p : ℕ → Place) (t : ℕ) (p2 : Place) → AlikeBeside l (p t) p2 → g (station_at p2 l) ≡ g (station_at (p t) l) → (u k : ℕ) → g (station_at (putting p t p2 u) k) ≡ g (station_at (p u) k)
+  pub part_put : (p : ℕ → Place) (t : ℕ) (p2 : Place) → AlikeBeside l (p t) p2 → g (station_at p2 l) ≡ g (station_at (p t) l)
+      → (u k : ℕ) → g (station_at (putting p t p2 u) k) ≡ g (station_at (p u) k)
   part_put p t p2 alike e u k = elim (cases_eq u t) [
     | inl f ↦ rw (f, put_here p t p2) (elim (cases_eq k l) [
       | inl h ↦ rw h e
@@ -56,7 +57,8 @@ module _ {A : Type 0} (g : Station → A) (l : ℕ) where
   ]
 
   -- whoever else is looked at
-  pub part_else : (p : ℕ → Place) (t : ℕ) (p2 : Place) → AlikeBeside l (p t) p2 → (u k : ℕ) → (u ≡ t → k ≡ l → ⊥) → g (station_at (putting p t p2 u) k) ≡ g (station_at (p u) k)
+  pub part_else : (p : ℕ → Place) (t : ℕ) (p2 : Place) → AlikeBeside l (p t) p2 → (u k : ℕ) → (u ≡ t → k ≡ l → ⊥)
+      → g (station_at (putting p t p2 u) k) ≡ g (station_at (p u) k)
   part_else p t p2 alike u k ne = elim (cases_eq u t) [
     | inl e ↦ rw (e, put_here p t p2) (ap g (alike k (ne e)).station)
     | inr nu ↦ rw (put_other p t p2 u nu) refl
@@ -82,15 +84,20 @@ other_line l Main Second ne e = omega arith
 other_line l Second Main ne e = omega arith
 other_line l Second Second ne e = ne refl
 
-pub sections_same : (p q : ℕ → ℕ → Station) (section : ℕ → Option ℕ) → Sections p section → ((u k : ℕ) → (q u k).inside ≡ (p u k).inside) → Sections q section
+pub sections_same : (p q : ℕ → ℕ → Station) (section : ℕ → Option ℕ) → Sections p section
+    → ((u k : ℕ) → (q u k).inside ≡ (p u k).inside) → Sections q section
 sections_same p q section s e t l m = (λ h. (s t l m).0 (sym (e t l) ∙ h), λ h. e t l ∙ (s t l m).1 h)
 
-module _ (p q : ℕ → ℕ → Station) (section after : ℕ → Option ℕ) (s : Sections p section) (t l : ℕ) (m : Line) (others : (u k : ℕ) → (u ≡ t → k ≡ l → ⊥) → (q u k).inside ≡ (p u k).inside) (elsewhere : (key : ℕ) → key ≢ key_of l m → after key ≡ section key) where
-  stays : (u k : ℕ) (n : Line) → (u ≡ t → k ≡ l → ⊥) → key_of k n ≢ key_of l m → (q u k).inside ≡ Some n ↔ after (key_of k n) ≡ Some u
+module _ (p q : ℕ → ℕ → Station) (section after : ℕ → Option ℕ) (s : Sections p section) (t l : ℕ) (m : Line)
+    (others : (u k : ℕ) → (u ≡ t → k ≡ l → ⊥) → (q u k).inside ≡ (p u k).inside)
+    (elsewhere : (key : ℕ) → key ≢ key_of l m → after key ≡ section key) where
+  stays : (u k : ℕ) (n : Line) → (u ≡ t → k ≡ l → ⊥) → key_of k n ≢ key_of l m
+      → (q u k).inside ≡ Some n ↔ after (key_of k n) ≡ Some u
   stays u k n ne nk = (λ h. elsewhere (key_of k n) nk ∙ (s u k n).0 (sym (others u k ne) ∙ h), λ h. others u k ne ∙ (s u k n).1 (sym (elsewhere (key_of k n) nk) ∙ h))
 
   -- whoever is inside the section of the line behind it
-  by_line : ((n : Line) → (q t l).inside ≡ Some n ↔ after (key_of l n) ≡ Some t) → ((u : ℕ) → u ≢ t → (p u l).inside ≢ Some m) → ((u : ℕ) → after (key_of l m) ≡ Some u → u ≡ t) → Sections q after
+  by_line : ((n : Line) → (q t l).inside ≡ Some n ↔ after (key_of l n) ≡ Some t) → ((u : ℕ) → u ≢ t → (p u l).inside ≢ Some m)
+      → ((u : ℕ) → after (key_of l m) ≡ Some u → u ≡ t) → Sections q after
   by_line own alone only u k n = elim (cases_eq k l) [
     | inl e ↦ elim (cases_eq u t) [
       | inl f ↦ rw (e, f) (own n)
@@ -110,7 +117,8 @@ module _ (p q : ℕ → ℕ → Station) (section after : ℕ → Option ℕ) (s
   was_other n ne h = (s t l n).1 (sym (elsewhere (key_of l n) (other_line l m n ne)) ∙ h)
 
   -- t enters a free one
-  pub entered : section (key_of l m) ≡ None → (p t l).inside ≡ None → (q t l).inside ≡ Some m → after (key_of l m) ≡ Some t → Sections q after
+  pub entered : section (key_of l m) ≡ None → (p t l).inside ≡ None → (q t l).inside ≡ Some m → after (key_of l m) ≡ Some t
+      → Sections q after
   entered free out within held = by_line own
       (λ u ne h. let a : section (key_of l m) ≡ Some u = (s u l m).0 h in let b : ◌≡◌ {A = Option ℕ} None (Some u) = sym free ∙ a in cc)
       (λ u h. let a : Some t ≡ Some u = sym held ∙ h in cc)
@@ -146,12 +154,16 @@ in_main (Some Main) h = refl
 in_main (Some Second) h = absurd (omega arith)
 in_main None h = absurd (omega arith)
 
-pub lines_same : (p q : ℕ → ℕ → Station) (queue after : ℕ → List Waiter) → Lines p queue → ((u k : ℕ) → (q u k).stands ≡ (p u k).stands) → ((key : ℕ) → after key ≡ queue key) → Lines q after
+pub lines_same : (p q : ℕ → ℕ → Station) (queue after : ℕ → List Waiter) → Lines p queue
+    → ((u k : ℕ) → (q u k).stands ≡ (p u k).stands) → ((key : ℕ) → after key ≡ queue key) → Lines q after
 lines_same p q queue after s e same t l m = ap (times t) (same (key_of l m)) ∙ s t l m ∙ ap (λ x. stood_in x m) (sym (e t l))
 
 -- one thread comes into a line, or goes out of it
-pub line_moved : (p q : ℕ → ℕ → Station) (queue after : ℕ → List Waiter) → Lines p queue → (t l : ℕ) (m : Line) → ((u k : ℕ) → (u ≡ t → k ≡ l → ⊥) → (q u k).stands ≡ (p u k).stands)
-    → ((key : ℕ) → key ≢ key_of l m → after key ≡ queue key) → ((u : ℕ) → u ≢ t → times u (after (key_of l m)) ≡ times u (queue (key_of l m))) → ((n : Line) → times t (after (key_of l n)) ≡ stood_in (q t l).stands n) → Lines q after
+pub line_moved : (p q : ℕ → ℕ → Station) (queue after : ℕ → List Waiter) → Lines p queue → (t l : ℕ) (m : Line)
+    → ((u k : ℕ) → (u ≡ t → k ≡ l → ⊥) → (q u k).stands ≡ (p u k).stands)
+    → ((key : ℕ) → key ≢ key_of l m → after key ≡ queue key)
+    → ((u : ℕ) → u ≢ t → times u (after (key_of l m)) ≡ times u (queue (key_of l m)))
+    → ((n : Line) → times t (after (key_of l n)) ≡ stood_in (q t l).stands n) → Lines q after
 line_moved p q queue after s t l m others elsewhere counts own u k n = elim (cases_eq k l) [
   | inl e ↦ elim (cases_eq u t) [
     | inl f ↦ rw (e, f) (own n)
@@ -165,7 +177,8 @@ line_moved p q queue after s t l m others elsewhere counts own u k n = elim (cas
     at_line ne (inr nn) = ap (times u) (elsewhere (key_of l n) (other_line l m n nn)) ∙ s u l n ∙ ap (λ x. stood_in x n) (sym (others u l (λ f g. ne f)))
 
 -- who stands there waits for the same
-pub waiting_same : (p q : ℕ → ℕ → Station) (l : ℕ) (m : Line) (xs : List Waiter) → AreWaiting p l m xs → ((u : ℕ) → 1 ≤ times u xs → (q u l).waits ≡ (p u l).waits) → AreWaiting q l m xs
+pub waiting_same : (p q : ℕ → ℕ → Station) (l : ℕ) (m : Line) (xs : List Waiter) → AreWaiting p l m xs
+    → ((u : ℕ) → 1 ≤ times u xs → (q u l).waits ≡ (p u l).waits) → AreWaiting q l m xs
 waiting_same p q l m [] h e = tt
 waiting_same p q l m (x ∷ xs) h e = ((h.0.0, e x.thread here ∙ h.0.1), waiting_same p q l m xs h.1 (λ u g. e u (more u g)))
   where
@@ -175,11 +188,13 @@ waiting_same p q l m (x ∷ xs) h e = ((h.0.0, e x.thread here ∙ h.0.1), waiti
     more : (u : ℕ) → 1 ≤ times u xs → 1 ≤ times u (x ∷ xs)
     more u g = omega arith
 
-pub waiting_behind : (q : ℕ → ℕ → Station) (l : ℕ) (m : Line) (xs : List Waiter) (x : Waiter) → AreWaiting q l m xs → (x.key ≡ key_of l m) × ((q x.thread l).waits ≡ Some x.want) → AreWaiting q l m (xs ++ x ∷ [])
+pub waiting_behind : (q : ℕ → ℕ → Station) (l : ℕ) (m : Line) (xs : List Waiter) (x : Waiter) → AreWaiting q l m xs
+    → (x.key ≡ key_of l m) × ((q x.thread l).waits ≡ Some x.want) → AreWaiting q l m (xs ++ x ∷ [])
 waiting_behind q l m [] x h k = (k, tt)
 waiting_behind q l m (y ∷ xs) x h k = (h.0, waiting_behind q l m xs x h.1 k)
 
-pub waiting_without : (q : ℕ → ℕ → Station) (l : ℕ) (m : Line) (t : ℕ) (xs : List Waiter) → AreWaiting q l m xs → AreWaiting q l m (without t xs)
+pub waiting_without : (q : ℕ → ℕ → Station) (l : ℕ) (m : Line) (t : ℕ) (xs : List Waiter) → AreWaiting q l m xs
+    → AreWaiting q l m (without t xs)
 waiting_without q l m t [] h = tt
 waiting_without q l m t (y ∷ xs) h = either (not (y.thread == t)) (waiting_without q l m t xs h.1)
   where
@@ -187,12 +202,14 @@ waiting_without q l m t (y ∷ xs) h = either (not (y.thread == t)) (waiting_wit
     either true k = (h.0, k)
     either false k = k
 
-pub waits_same : (p q : ℕ → ℕ → Station) (queue after : ℕ → List Waiter) → Waits p queue → ((u k : ℕ) → (q u k).waits ≡ (p u k).waits) → ((key : ℕ) → after key ≡ queue key) → Waits q after
+pub waits_same : (p q : ℕ → ℕ → Station) (queue after : ℕ → List Waiter) → Waits p queue
+    → ((u k : ℕ) → (q u k).waits ≡ (p u k).waits) → ((key : ℕ) → after key ≡ queue key) → Waits q after
 waits_same p q queue after h e lines l m = waiting_same p q l m (after (key_of l m)) (subst (AreWaiting p l m) (sym (lines (key_of l m))) (h l m)) (λ u g. e u l)
 
 -- ---------------------------------------------------------------- hands
 
-pub hands_same : {one : ℕ → Type 0} (p q : ℕ → ℕ → Station) → HandsBy one p → ((u k : ℕ) → (q u k).carries ≡ (p u k).carries) → ((u k : ℕ) → (q u k).hand ≡ (p u k).hand) → HandsBy one q
+pub hands_same : {one : ℕ → Type 0} (p q : ℕ → ℕ → Station) → HandsBy one p → ((u k : ℕ) → (q u k).carries ≡ (p u k).carries)
+    → ((u k : ℕ) → (q u k).hand ≡ (p u k).hand) → HandsBy one q
 hands_same p q h c n = record {
   carried = λ t l b e. let one = h.carried t l b (sym (c t l) ∙ e) in (one.0, n one.0 l ∙ one.1);
   alone = λ t l u v b d o e f. h.alone t l u v b d o (sym (n u l) ∙ e) (sym (n v l) ∙ f);
@@ -222,7 +239,9 @@ module _ (one : ℕ → Type 0) (p q : ℕ → ℕ → Station) (hands : HandsBy
   meant_here u k h f = rw f (both_true h (same l))
 
   -- t has taken them, who were in nobody's hand, and no more than one where it takes one at a time
-  module _ (single : one l → (u v : ℕ) → has u ≡ true → has v ≡ true → u ≡ v) (c : Option Bool) (in_hand : (u k : ℕ) → (q u k).hand ≡ (if meant u k then hand t false else (p u k).hand)) (carries : (i k : ℕ) → (q i k).carries ≡ (if taking i k then c else (p i k).carries))
+  module _ (single : one l → (u v : ℕ) → has u ≡ true → has v ≡ true → u ≡ v) (c : Option Bool)
+      (in_hand : (u k : ℕ) → (q u k).hand ≡ (if meant u k then hand t false else (p u k).hand))
+      (carries : (i k : ℕ) → (q i k).carries ≡ (if taking i k then c else (p i k).carries))
       (bare : (p t l).carries ≡ None) (free : (u : ℕ) → has u ≡ true → (p u l).hand ≡ None) (some : (b : Bool) → c ≡ Some b → (b ≡ false) × ((u : ℕ) × (has u ≡ true))) (full : (u : ℕ) → has u ≡ true → c ≡ Some false) where
     taken_then_many : (i u k : ℕ) (b : Bool) → (q u k).hand ≡ hand i b → (q i k).carries ≡ Some b
     taken_then_many i u k b h = by_meant (meant u k) refl (sym (in_hand u k) ∙ h)
@@ -240,7 +259,8 @@ module _ (one : ℕ → Type 0) (p q : ℕ → ℕ → Station) (hands : HandsBy
     carried_then_many : (i k : ℕ) (b : Bool) → (q i k).carries ≡ Some b → (u : ℕ) × ((q u k).hand ≡ hand i b)
     carried_then_many i k b h = by_taking (taking i k) refl (sym (carries i k) ∙ h)
       where
-        by_taking : (x : Bool) → taking i k ≡ x → (if x then c else (p i k).carries) ≡ Some b → (u : ℕ) × ((q u k).hand ≡ hand i b)
+        by_taking : (x : Bool) → taking i k ≡ x → (if x then c else (p i k).carries) ≡ Some b
+            → (u : ℕ) × ((q u k).hand ≡ hand i b)
         by_taking true e g = let at_l = taking_is i k e in let s = some b g in
             (s.1.0, in_hand s.1.0 k ∙ ap (λ x. if x then hand t false else (p s.1.0 k).hand) (meant_here s.1.0 k s.1.1 at_l.1) ∙ (λ j. hand (sym at_l.0 j) (sym s.0 j)))
         by_taking false e g = let u = hands.carried i k b g in
@@ -260,7 +280,8 @@ module _ (one : ℕ → Type 0) (p q : ℕ → ℕ → Station) (hands : HandsBy
     alone_then_many : (i k u j : ℕ) (b d : Bool) → one k → (q u k).hand ≡ hand i b → (q j k).hand ≡ hand i d → j ≡ u
     alone_then_many i k u j b d o h g = by_meant (meant u k) (meant j k) refl refl (sym (in_hand u k) ∙ h) (sym (in_hand j k) ∙ g)
       where
-        by_meant : (x y : Bool) → meant u k ≡ x → meant j k ≡ y → (if x then hand t false else (p u k).hand) ≡ hand i b → (if y then hand t false else (p j k).hand) ≡ hand i d → j ≡ u
+        by_meant : (x y : Bool) → meant u k ≡ x → meant j k ≡ y → (if x then hand t false else (p u k).hand) ≡ hand i b
+            → (if y then hand t false else (p j k).hand) ≡ hand i d → j ≡ u
         by_meant true true e f h g = let at_u = meant_is u k e in single (subst one at_u.1 o) j u (meant_is j k f).0 at_u.0
         by_meant true false e f h g = let who : t ≡ i = cc in absurd (not_before k d j (meant_is u k e).1 (subst (λ n. (p j k).hand ≡ hand n d) (sym who) g))
         by_meant false true e f h g = let who : t ≡ i = cc in absurd (not_before k b u (meant_is j k f).1 (subst (λ n. (p u k).hand ≡ hand n b) (sym who) h))
@@ -270,7 +291,8 @@ module _ (one : ℕ → Type 0) (p q : ℕ → ℕ → Station) (hands : HandsBy
     hands_taken = record { carried = carried_then_many; alone = alone_then_many; taken = taken_then_many }
 
   -- t lets go whomever it has in hand
-  module _ (in_hand : (u k : ℕ) → (q u k).hand ≡ (if meant u k then None else (p u k).hand)) (carries : (i k : ℕ) → (q i k).carries ≡ (if taking i k then None else (p i k).carries))
+  module _ (in_hand : (u k : ℕ) → (q u k).hand ≡ (if meant u k then None else (p u k).hand))
+      (carries : (i k : ℕ) → (q i k).carries ≡ (if taking i k then None else (p i k).carries))
       (mine : (u : ℕ) → has u ≡ true → (b : Bool) × ((p u l).hand ≡ hand t b)) (all : (u : ℕ) (b : Bool) → (p u l).hand ≡ hand t b → has u ≡ true) where
     -- who is in a hand behind it was so before
     was_held : (i u k : ℕ) (b : Bool) → (q u k).hand ≡ hand i b → (p u k).hand ≡ hand i b
@@ -296,13 +318,15 @@ module _ (one : ℕ → Type 0) (p q : ℕ → ℕ → Station) (hands : HandsBy
     carried_then_free : (i k : ℕ) (b : Bool) → (q i k).carries ≡ Some b → (u : ℕ) × ((q u k).hand ≡ hand i b)
     carried_then_free i k b h = by_taking (taking i k) refl (sym (carries i k) ∙ h)
       where
-        stays_held : (u : ℕ) → taking i k ≡ false → (p u k).hand ≡ hand i b → (x : Bool) → meant u k ≡ x → (if x then None else (p u k).hand) ≡ hand i b
+        stays_held : (u : ℕ) → taking i k ≡ false → (p u k).hand ≡ hand i b → (x : Bool) → meant u k ≡ x
+            → (if x then None else (p u k).hand) ≡ hand i b
         stays_held u e held false f = held
         stays_held u e held true f = absurd (let at_l = meant_is u k f in let m = mine u at_l.0 in
             let both_hands : hand t m.0 ≡ hand i b = sym m.1 ∙ subst (λ j. (p u j).hand ≡ hand i b) at_l.1 held in let who : t ≡ i = cc in
             let yes : taking i k ≡ true = taking_here i k who at_l.1 in let g : true ≡ false = sym yes ∙ e in cc)
 
-        by_taking : (x : Bool) → taking i k ≡ x → (if x then None else (p i k).carries) ≡ Some b → (u : ℕ) × ((q u k).hand ≡ hand i b)
+        by_taking : (x : Bool) → taking i k ≡ x → (if x then None else (p i k).carries) ≡ Some b
+            → (u : ℕ) × ((q u k).hand ≡ hand i b)
         by_taking true e g = absurd cc
         by_taking false e g = let u = hands.carried i k b g in (u.0, in_hand u.0 k ∙ stays_held u.0 e u.1 (meant u.0 k) refl)
 
@@ -314,13 +338,15 @@ module _ (one : ℕ → Type 0) (p q : ℕ → ℕ → Station) (hands : HandsBy
     }
 
   -- t has handed the lock over to whomever it has in hand
-  module _ (c : Option Bool) (in_hand : (u k : ℕ) → (q u k).hand ≡ (if meant u k then hand t true else (p u k).hand)) (carries : (i k : ℕ) → (q i k).carries ≡ (if taking i k then c else (p i k).carries))
+  module _ (c : Option Bool) (in_hand : (u k : ℕ) → (q u k).hand ≡ (if meant u k then hand t true else (p u k).hand))
+      (carries : (i k : ℕ) → (q i k).carries ≡ (if taking i k then c else (p i k).carries))
       (mine : (u : ℕ) → has u ≡ true → (b : Bool) × ((p u l).hand ≡ hand t b)) (all : (u : ℕ) (b : Bool) → (p u l).hand ≡ hand t b → has u ≡ true) (some : (b : Bool) → c ≡ Some b → (b ≡ true) × ((u : ℕ) × (has u ≡ true))) (full : (u : ℕ) → has u ≡ true → c ≡ Some true) where
     -- who is in a hand behind it was so before
     held_before : (i u k : ℕ) (b : Bool) → (q u k).hand ≡ hand i b → (d : Bool) × ((p u k).hand ≡ hand i d)
     held_before i u k b h = by_meant (meant u k) refl (sym (in_hand u k) ∙ h)
       where
-        by_meant : (x : Bool) → meant u k ≡ x → (if x then hand t true else (p u k).hand) ≡ hand i b → (d : Bool) × ((p u k).hand ≡ hand i d)
+        by_meant : (x : Bool) → meant u k ≡ x → (if x then hand t true else (p u k).hand) ≡ hand i b
+            → (d : Bool) × ((p u k).hand ≡ hand i d)
         by_meant true e g = let at_l = meant_is u k e in let who : t ≡ i = cc in let m = mine u at_l.0 in (m.0, subst (λ j. (p u j).hand ≡ hand i m.0) (sym at_l.1) (subst (λ j. (p u l).hand ≡ hand j m.0) who m.1))
         by_meant false e g = (b, g)
 
@@ -341,13 +367,15 @@ module _ (one : ℕ → Type 0) (p q : ℕ → ℕ → Station) (hands : HandsBy
     carried_then_given : (i k : ℕ) (b : Bool) → (q i k).carries ≡ Some b → (u : ℕ) × ((q u k).hand ≡ hand i b)
     carried_then_given i k b h = by_taking (taking i k) refl (sym (carries i k) ∙ h)
       where
-        stays_held : (u : ℕ) → taking i k ≡ false → (p u k).hand ≡ hand i b → (x : Bool) → meant u k ≡ x → (if x then hand t true else (p u k).hand) ≡ hand i b
+        stays_held : (u : ℕ) → taking i k ≡ false → (p u k).hand ≡ hand i b → (x : Bool) → meant u k ≡ x
+            → (if x then hand t true else (p u k).hand) ≡ hand i b
         stays_held u e held false f = held
         stays_held u e held true f = absurd (let at_l = meant_is u k f in let m = mine u at_l.0 in
             let both_hands : hand t m.0 ≡ hand i b = sym m.1 ∙ subst (λ j. (p u j).hand ≡ hand i b) at_l.1 held in let who : t ≡ i = cc in
             let yes : taking i k ≡ true = taking_here i k who at_l.1 in let g : true ≡ false = sym yes ∙ e in cc)
 
-        by_taking : (x : Bool) → taking i k ≡ x → (if x then c else (p i k).carries) ≡ Some b → (u : ℕ) × ((q u k).hand ≡ hand i b)
+        by_taking : (x : Bool) → taking i k ≡ x → (if x then c else (p i k).carries) ≡ Some b
+            → (u : ℕ) × ((q u k).hand ≡ hand i b)
         by_taking true e g = let at_l = taking_is i k e in let s = some b g in
             (s.1.0, in_hand s.1.0 k ∙ ap (λ x. if x then hand t true else (p s.1.0 k).hand) (meant_here s.1.0 k s.1.1 at_l.1) ∙ (λ j. hand (sym at_l.0 j) (sym s.0 j)))
         by_taking false e g = let u = hands.carried i k b g in (u.0, in_hand u.0 k ∙ stays_held u.0 e u.1 (meant u.0 k) refl)

@@ -47,7 +47,8 @@ pub there_in : (w : State) → Stands w → AreThere (TakesOne w) (stations_of (
 there_in w stands = record { sections = stands.sections; lines = stands.lines; waits = stands.waits; hands = stands.hands }
 
 -- a state by how its threads stand
-pub stands_by : (w v : State) (q : ℕ → Place) → place_at v ≡ q → ((k : ℕ) → kind_at v k ≡ kind_at w k) → AreThere (TakesOne w) (stations_of q) (section_at v) (queue_at v) → ((u : ℕ) → FitsItsLock v (q u)) → Stands v
+pub stands_by : (w v : State) (q : ℕ → Place) → place_at v ≡ q → ((k : ℕ) → kind_at v k ≡ kind_at w k)
+    → AreThere (TakesOne w) (stations_of q) (section_at v) (queue_at v) → ((u : ℕ) → FitsItsLock v (q u)) → Stands v
 stands_by w v q e kinds there c = record {
   sections = subst (λ (f : ℕ → Place). Sections (stations_of f) (section_at v)) (sym e) there.sections;
   lines = subst (λ (f : ℕ → Place). Lines (stations_of f) (queue_at v)) (sym e) there.lines;
@@ -57,7 +58,8 @@ stands_by w v q e kinds there c = record {
 }
 
 -- one thread goes elsewhere, at one lock
-module _ {one : ℕ → Type 0} (at at2 : ℕ → ℕ → Station) (section : ℕ → Option ℕ) (queue : ℕ → List Waiter) (there : AreThere one at section queue) (t l : ℕ) (others : (u k : ℕ) → (u ≡ t → k ≡ l → ⊥) → at2 u k ≡ at u k) where
+module _ {one : ℕ → Type 0} (at at2 : ℕ → ℕ → Station) (section : ℕ → Option ℕ) (queue : ℕ → List Waiter)
+    (there : AreThere one at section queue) (t l : ℕ) (others : (u k : ℕ) → (u ≡ t → k ≡ l → ⊥) → at2 u k ≡ at u k) where
   -- a part of a station that is the same
   part : {A : Type 0} (g : Station → A) → g (at2 t l) ≡ g (at t l) → (u k : ℕ) → g (at2 u k) ≡ g (at u k)
   part g e u k = elim (cases_eq u t) [
@@ -112,8 +114,11 @@ module _ {one : ℕ → Type 0} (at at2 : ℕ → ℕ → Station) (section : �
     }
 
   -- into a line, or out of it
-  pub line_changes : (m : Line) (after : ℕ → List Waiter) → ((key : ℕ) → key ≢ key_of l m → after key ≡ queue key) → ((u : ℕ) → u ≢ t → times u (after (key_of l m)) ≡ times u (queue (key_of l m)))
-      → ((n : Line) → times t (after (key_of l n)) ≡ stood_in (at2 t l).stands n) → Waits at2 after → (at2 t l).inside ≡ (at t l).inside → (at2 t l).carries ≡ (at t l).carries → (at2 t l).hand ≡ (at t l).hand → AreThere one at2 section after
+  pub line_changes : (m : Line) (after : ℕ → List Waiter) → ((key : ℕ) → key ≢ key_of l m → after key ≡ queue key)
+      → ((u : ℕ) → u ≢ t → times u (after (key_of l m)) ≡ times u (queue (key_of l m)))
+      → ((n : Line) → times t (after (key_of l n)) ≡ stood_in (at2 t l).stands n) → Waits at2 after
+      → (at2 t l).inside ≡ (at t l).inside → (at2 t l).carries ≡ (at t l).carries → (at2 t l).hand ≡ (at t l).hand
+      → AreThere one at2 section after
   line_changes m after elsewhere counts own_count waits i c n = record {
     sections = sections_stay i;
     lines = line_moved at at2 queue after there.lines t l m (other (λ x. x.stands)) elsewhere counts own_count;
@@ -123,7 +128,8 @@ module _ {one : ℕ → Type 0} (at at2 : ℕ → ℕ → Station) (section : �
 
 -- ---------------------------------------------------------------- by their places
 
-pub calls_put : (v : State) (p : ℕ → Place) (t : ℕ) (p2 : Place) → ((u : ℕ) → FitsItsLock v (p u)) → FitsItsLock v p2 → (u : ℕ) → FitsItsLock v (putting p t p2 u)
+pub calls_put : (v : State) (p : ℕ → Place) (t : ℕ) (p2 : Place) → ((u : ℕ) → FitsItsLock v (p u)) → FitsItsLock v p2 → (u : ℕ)
+    → FitsItsLock v (putting p t p2 u)
 calls_put v p t p2 c c2 u = elim (cases_eq u t) [
   | inl e ↦ rw (e, put_here p t p2) c2
   | inr ne ↦ rw (put_other p t p2 u ne) (c u)
@@ -134,11 +140,13 @@ module _ (w v : State) (stands : Stands w) (kinds : (k : ℕ) → kind_at v k �
   calls_one t p2 fits = calls_put v (place_at w) t p2 (λ u. calls_in w v (place_at w u) kinds (stands.calls u)) (calls_in w v p2 kinds fits)
 
   -- one thread stands elsewhere
-  pub stands_put : (t : ℕ) (p2 : Place) → FitsItsLock w p2 → place_at v ≡ putting (place_at w) t p2 → AreThere (TakesOne w) (stations_of (putting (place_at w) t p2)) (section_at v) (queue_at v) → Stands v
+  pub stands_put : (t : ℕ) (p2 : Place) → FitsItsLock w p2 → place_at v ≡ putting (place_at w) t p2
+      → AreThere (TakesOne w) (stations_of (putting (place_at w) t p2)) (section_at v) (queue_at v) → Stands v
   stands_put t p2 fits places there = stands_by w v (putting (place_at w) t p2) places kinds there (calls_one t p2 fits)
 
 -- where one thread goes elsewhere, nobody else does, and it doesn't at another lock
-pub others_stay : (p : ℕ → Place) (t l : ℕ) (p2 : Place) → AlikeBeside l (p t) p2 → (u k : ℕ) → (u ≡ t → k ≡ l → ⊥) → stations_of (putting p t p2) u k ≡ stations_of p u k
+pub others_stay : (p : ℕ → Place) (t l : ℕ) (p2 : Place) → AlikeBeside l (p t) p2 → (u k : ℕ) → (u ≡ t → k ≡ l → ⊥)
+    → stations_of (putting p t p2) u k ≡ stations_of p u k
 others_stay p t l p2 alike = part_else (λ x. x) l p t p2 alike
 
 -- and its own station there is that of the place

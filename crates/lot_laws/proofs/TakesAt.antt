@@ -55,20 +55,23 @@ abbrev pub told_by : Reply → List Waiter → (ℕ → Place) → ℕ → Place
 told_by reply [] p = p
 told_by reply (x ∷ xs) p = told_by reply xs (putting p x.thread (next_place (p x.thread) reply))
 
-pub told_places : (reply : Reply) (xs : List Waiter) (ps : List Place) → (λ u. get_or (places_told reply (threads_of xs) ps) u Idle) ≡ told_by reply xs (λ u. get_or ps u Idle)
+pub told_places : (reply : Reply) (xs : List Waiter) (ps : List Place)
+    → (λ u. get_or (places_told reply (threads_of xs) ps) u Idle) ≡ told_by reply xs (λ u. get_or ps u Idle)
 told_places reply [] ps = refl
 told_places reply (x ∷ xs) ps = told_places reply xs (set ps x.thread (next_place (get_or ps x.thread Idle) reply))
     ∙ ap (told_by reply xs) (λ i u. set_puts ps x.thread (next_place (get_or ps x.thread Idle) reply) Idle (λ h. ap (λ p. next_place p reply) (past_all ps x.thread Idle h)) u i)
 
 -- each is told once
-pub told_once : (reply : Reply) (xs : List Waiter) (p : ℕ → Place) (u : ℕ) → times u xs ≤ 1 → told_by reply xs p u ≡ (if member u xs then next_place (p u) reply else p u)
+pub told_once : (reply : Reply) (xs : List Waiter) (p : ℕ → Place) (u : ℕ) → times u xs ≤ 1
+    → told_by reply xs p u ≡ (if member u xs then next_place (p u) reply else p u)
 told_once reply [] p u h = refl
 told_once reply (x ∷ xs) p u h = told_once reply xs now u (omega arith) ∙ either (cases_eq x.thread u)
   where
     now : ℕ → Place
     now = putting p x.thread (next_place (p x.thread) reply)
 
-    either : ((x.thread ≡ u) ⊎ (x.thread ≢ u)) → (if member u xs then next_place (now u) reply else now u) ≡ (if member u (x ∷ xs) then next_place (p u) reply else p u)
+    either : ((x.thread ≡ u) ⊎ (x.thread ≢ u))
+        → (if member u xs then next_place (now u) reply else now u) ≡ (if member u (x ∷ xs) then next_place (p u) reply else p u)
     either (inl e) = let one : times u (x ∷ xs) ≡ 1 + times u xs = rw (e, same u) refl in
         rw (no_member u xs (omega arith), e, same u) refl
     either (inr ne) = rw (differ x.thread u ne, put_other p x.thread (next_place (p x.thread) reply) u (λ e. ne (sym e))) refl
@@ -78,14 +81,16 @@ abbrev pub AllAre : ℕ → (ℕ → Option Taken) → List Waiter → Type 0
 AllAre t v [] = Unit {0}
 AllAre t v (x ∷ xs) = (v x.thread ≡ Some (record { by = t; want = x.want })) × AllAre t v xs
 
-pub taking_is : (t : ℕ) (xs : List Waiter) (was v : ℕ → Option Taken) (u : ℕ) → AllAre t v xs → locks.taking t (map queued_of xs) was u ≡ (if member u xs then v u else was u)
+pub taking_is : (t : ℕ) (xs : List Waiter) (was v : ℕ → Option Taken) (u : ℕ) → AllAre t v xs
+    → locks.taking t (map queued_of xs) was u ≡ (if member u xs then v u else was u)
 taking_is t [] was v u h = refl
 taking_is t (x ∷ xs) was v u h = taking_is t xs now v u h.1 ∙ either (member u xs) (cases_eq x.thread u)
   where
     now : ℕ → Option Taken
     now = putting was x.thread (Some (record { by = t; want = x.want }))
 
-    either : (b : Bool) → ((x.thread ≡ u) ⊎ (x.thread ≢ u)) → (if b then v u else now u) ≡ (if (x.thread == u) || b then v u else was u)
+    either : (b : Bool) → ((x.thread ≡ u) ⊎ (x.thread ≢ u))
+        → (if b then v u else now u) ≡ (if (x.thread == u) || b then v u else was u)
     either true (inl e) = rw (e, same u) refl
     either true (inr ne) = rw (differ x.thread u ne) refl
     either false (inl e) = rw (e, same u) (sym (subst (λ j. v j ≡ Some (record { by = t; want = x.want })) e h.0))
@@ -137,7 +142,8 @@ hand_of_take : (t : ℕ) (b : Bool) (x : Station) → (behind_take t b x).hand �
 hand_of_take t true x = refl
 hand_of_take t false x = refl
 
-module _ (w : State) (t l : ℕ) (steady : IsSteady w) (there : t < length w.places) (p2 : Place) (beside : AlikeBeside l (place_at w t) p2) (fits : FitsItsLock w p2)
+module _ (w : State) (t l : ℕ) (steady : IsSteady w) (there : t < length w.places) (p2 : Place)
+    (beside : AlikeBeside l (place_at w t) p2) (fits : FitsItsLock w p2)
     (m : Line) (taken left : List Waiter) (splits : SplitsAt w t l m taken left) (single : TakesOne w l → (u v : ℕ) → member u taken ≡ true → member v taken ≡ true → u ≡ v)
     (bare : (station_at (place_at w t) l).carries ≡ None) (c : Option Bool) (now : station_at p2 l ≡ record (behind_take t (member t taken) (station_at (place_at w t) l)) { carries = c }) where
   abbrev has : ℕ → Bool
@@ -165,7 +171,8 @@ module _ (w : State) (t l : ℕ) (steady : IsSteady w) (there : t < length w.pla
   told_off u h = told_once (TakenBy t) taken (place_at w) u (once u) ∙ ap (λ b. if b then next_place (place_at w u) (TakenBy t) else place_at w u) h
 
   -- by who is looked at
-  by_thread : (P : ℕ → Place → Type 0) → P t p2 → ((u : ℕ) → u ≢ t → has u ≡ true → P u (next_place (place_at w u) (TakenBy t))) → ((u : ℕ) → u ≢ t → has u ≡ false → P u (place_at w u)) → (u : ℕ) → P u (places_now u)
+  by_thread : (P : ℕ → Place → Type 0) → P t p2 → ((u : ℕ) → u ≢ t → has u ≡ true → P u (next_place (place_at w u) (TakenBy t)))
+      → ((u : ℕ) → u ≢ t → has u ≡ false → P u (place_at w u)) → (u : ℕ) → P u (places_now u)
   by_thread P here on off u = elim (cases_eq u t) [
     | inl e ↦ rw (e, put_here told t p2) here
     | inr ne ↦ subst (P u) (sym (put_other told t p2 u ne)) (either ne (has u) refl)
@@ -212,7 +219,8 @@ module _ (w : State) (t l : ℕ) (steady : IsSteady w) (there : t < length w.pla
     | inr ne ↦ rw (differ k l ne, and-false (i == t)) (ap (λ (y : Station). y.carries) (station_there i k ne))
   ]
 
-  hands_now : ((b : Bool) → c ≡ Some b → (b ≡ false) × ((u : ℕ) × (has u ≡ true))) → ((u : ℕ) → has u ≡ true → c ≡ Some false) → Hands (TakesOne w) places_now
+  hands_now : ((b : Bool) → c ≡ Some b → (b ≡ false) × ((u : ℕ) × (has u ≡ true))) → ((u : ℕ) → has u ≡ true → c ≡ Some false)
+      → Hands (TakesOne w) places_now
   hands_now some full = hands_taken (TakesOne w) (stations_of (place_at w)) (stations_of places_now) steady.stands.hands t l has single c in_hand carries bare (λ u h. (splits.sleeps u h).unheld) some full
 
   calls_now : (u : ℕ) → FitsItsLock w (places_now u)
@@ -231,20 +239,23 @@ module _ (w : State) (t l : ℕ) (steady : IsSteady w) (there : t < length w.pla
   stood_there u n h ng = steady.stands.lines u l n ∙ ap (λ o. stood_in o n) (splits.sleeps u h).stands ∙ stood_other m n ng
 
   -- those who are left stand in the line
-  lines_now : (queue : ℕ → List Waiter) → queue (key_of l m) ≡ left → ((key : ℕ) → key ≢ key_of l m → queue key ≡ queue_at w key) → Lines (stations_of places_now) queue
+  lines_now : (queue : ℕ → List Waiter) → queue (key_of l m) ≡ left → ((key : ℕ) → key ≢ key_of l m → queue key ≡ queue_at w key)
+      → Lines (stations_of places_now) queue
   lines_now queue here others u k n = elim (cases_eq k l) [
     | inl f ↦ rw f (at_line (has u) refl (same_line n m) ∙ sym (ap (λ o. stood_in o n) (part_here (λ y. y.stands) (λ x b. refl) u ∙ stands_of_take t (has u) (was u))))
     | inr ne ↦ ap (times u) (others (key_of k n) (other_key l k m n ne)) ∙ steady.stands.lines u k n ∙ sym (ap (λ (y : Station). stood_in y.stands n) (station_there u k ne))
   ]
     where
-      at_line : (b : Bool) → has u ≡ b → ((n ≡ m) ⊎ (n ≢ m)) → times u (queue (key_of l n)) ≡ stood_in (if has u then None else (was u).stands) n
+      at_line : (b : Bool) → has u ≡ b → ((n ≡ m) ⊎ (n ≢ m))
+          → times u (queue (key_of l n)) ≡ stood_in (if has u then None else (was u).stands) n
       at_line true h (inl g) = rw (g, h, here) (none_left u h)
       at_line false h (inl g) = rw (g, h, here) (left_times u h)
       at_line true h (inr ng) = rw h (ap (times u) (others (key_of l n) (other_line l m n ng)) ∙ stood_there u n h ng)
       at_line false h (inr ng) = rw h (ap (times u) (others (key_of l n) (other_line l m n ng)) ∙ steady.stands.lines u l n)
 
   -- and wait as before
-  waits_now : (queue : ℕ → List Waiter) → queue (key_of l m) ≡ left → ((key : ℕ) → key ≢ key_of l m → queue key ≡ queue_at w key) → Waits (stations_of places_now) queue
+  waits_now : (queue : ℕ → List Waiter) → queue (key_of l m) ≡ left → ((key : ℕ) → key ≢ key_of l m → queue key ≡ queue_at w key)
+      → Waits (stations_of places_now) queue
   waits_now queue here others k n = elim (cases_eq k l) [
     | inl f ↦ rw f (elim (same_line n m) [
       | inl g ↦ rw (g, here) (waiting_same (stations_of (place_at w)) (stations_of places_now) l m left splits.lefts (λ u g. stays u (untaken_left u g)))
@@ -272,7 +283,8 @@ module _ (w : State) (t l : ℕ) (steady : IsSteady w) (there : t < length w.pla
           either true h = absurd (let a : times u (queue_at w (key_of l n)) ≡ 0 = stood_there u n h ng in omega arith)
 
   -- the lock, by those whom t has in hand then
-  module _ (r : Rules) (rules : rules_in w l ≡ r) (own_taken : taken_at p2 l ≡ (if has t then taken_at (next_place (place_at w t) (TakenBy t)) l else taken_at (place_at w t) l)) where
+  module _ (r : Rules) (rules : rules_in w l ≡ r)
+      (own_taken : taken_at p2 l ≡ (if has t then taken_at (next_place (place_at w t) (TakenBy t)) l else taken_at (place_at w t) l)) where
     abbrev pub lock_taken : Site
     lock_taken = record (seen_in r l (with_line (parts_at w l) m left) (place_at w)) {
       lock = lock_in (with_line (parts_at w l) m left) (locks.taking t (map queued_of taken) (λ u. taken_at (place_at w u) l));
@@ -284,11 +296,17 @@ module _ (w : State) (t l : ℕ) (steady : IsSteady w) (there : t < length w.pla
         (λ u nu h. sym (in_hand_by u ∙ ap (λ b. if b then taken_at (next_place (place_at w u) (TakenBy t)) l else taken_at (place_at w u) l) h))
         (λ u nu h. sym (in_hand_by u ∙ ap (λ b. if b then taken_at (next_place (place_at w u) (TakenBy t)) l else taken_at (place_at w u) l) h))
       where
-        in_hand_by : (u : ℕ) → locks.taking t (map queued_of taken) (λ u. taken_at (place_at w u) l) u ≡ (if member u taken then taken_at (next_place (place_at w u) (TakenBy t)) l else taken_at (place_at w u) l)
+        in_hand_by : (u : ℕ)
+            → locks.taking t (map queued_of taken) (λ u. taken_at (place_at w u) l) u
+            ≡ (if member u taken then taken_at (next_place (place_at w u) (TakenBy t)) l else taken_at (place_at w u) l)
         in_hand_by u = taking_is t taken (λ u. taken_at (place_at w u) l) (λ u. taken_at (next_place (place_at w u) (TakenBy t)) l) u splits.wants
 
-    take_site : (d : Deed) → AreSingle (d ∷ []) → lock_taken.lock ≡ (after_acts r (acts t (d ∷ [])) (lock_by w l r)).lock → lock_taken.parked ≡ (after_acts r (acts t (d ∷ [])) (lock_by w l r)).parked → lock_taken.aside_parked ≡ (after_acts r (acts t (d ∷ [])) (lock_by w l r)).aside_parked
-        → lock_taken.filled ≡ (after_acts r (acts t (d ∷ [])) (lock_by w l r)).filled → doing_on p2 l ≡ (after_acts r (acts t (d ∷ [])) (lock_by w l r)).doing t → seen_in r l (with_line (parts_at w l) m left) places_now ≡ after_acts r (acts t (d ∷ [])) (lock_by w l r)
+    take_site : (d : Deed) → AreSingle (d ∷ []) → lock_taken.lock ≡ (after_acts r (acts t (d ∷ [])) (lock_by w l r)).lock
+        → lock_taken.parked ≡ (after_acts r (acts t (d ∷ [])) (lock_by w l r)).parked
+        → lock_taken.aside_parked ≡ (after_acts r (acts t (d ∷ [])) (lock_by w l r)).aside_parked
+        → lock_taken.filled ≡ (after_acts r (acts t (d ∷ [])) (lock_by w l r)).filled
+        → doing_on p2 l ≡ (after_acts r (acts t (d ∷ [])) (lock_by w l r)).doing t
+        → seen_in r l (with_line (parts_at w l) m left) places_now ≡ after_acts r (acts t (d ∷ [])) (lock_by w l r)
     take_site d single lock parked aside full own_is = λ i. record {
       lock = ((λ j. lock_in (with_line (parts_at w l) m left) (λ u. taken_now u j)) ∙ lock) i;
       parked = parked i;
@@ -303,7 +321,9 @@ module _ (w : State) (t l : ℕ) (steady : IsSteady w) (there : t < length w.pla
             (λ u nu h. sym (others_same r (d ∷ []) (lock_by w l r) t u single nu))
 
     -- the deed, and what it makes of the lock
-    module _ (v : State) (el : v.locks ≡ w.locks) (eh : v.shares ≡ w.shares) (es : v.sections ≡ w.sections) (threads : length v.places ≡ length w.places) (places : place_at v ≡ places_now) (here : queue_at v (key_of l m) ≡ left) (others : (key : ℕ) → key ≢ key_of l m → queue_at v key ≡ queue_at w key) where
+    module _ (v : State) (el : v.locks ≡ w.locks) (eh : v.shares ≡ w.shares) (es : v.sections ≡ w.sections)
+        (threads : length v.places ≡ length w.places) (places : place_at v ≡ places_now) (here : queue_at v (key_of l m) ≡ left)
+        (others : (key : ℕ) → key ≢ key_of l m → queue_at v key ≡ queue_at w key) where
       same_lock : (k : ℕ) → base_at v k ≡ base_at w k
       same_lock k = λ i. record { shared = get_or (eh i) k (replicate (threads i) 0); filled = (get_or (el i) k (unlocked kind.TheVariants.Mutex)).filled }
 
@@ -347,13 +367,19 @@ module _ (w : State) (t l : ℕ) (steady : IsSteady w) (there : t < length w.pla
           same_sharers Main = refl
           same_sharers Second = refl
 
-      word_now : (n : Line) → m ≡ n → (with_line (parts_at w l) n left).word ≡ code r (seen_in r l (with_line (parts_at w l) n left) places_now)
+      word_now : (n : Line) → m ≡ n
+          → (with_line (parts_at w l) n left).word ≡ code r (seen_in r l (with_line (parts_at w l) n left) places_now)
       word_now Main e = word_by_lines w t l steady there r rules p2 beside fits left (queue_at w (2 * l + 1)) places_now
       word_now Second e = word_by_lines w t l steady there r rules p2 beside fits (queue_at w (2 * l)) left places_now
 
-      pub take_goes : ((b : Bool) → c ≡ Some b → (b ≡ false) × ((u : ℕ) × (has u ≡ true))) → ((u : ℕ) → has u ≡ true → c ≡ Some false)
-          → (d : Deed) → AreSingle (d ∷ []) → NoHandOff (d ∷ []) → ActsNeeded r (acts t (d ∷ [])) (lock_by w l r) → lock_taken.lock ≡ (after_acts r (acts t (d ∷ [])) (lock_by w l r)).lock → lock_taken.parked ≡ (after_acts r (acts t (d ∷ [])) (lock_by w l r)).parked
-          → lock_taken.aside_parked ≡ (after_acts r (acts t (d ∷ [])) (lock_by w l r)).aside_parked → lock_taken.filled ≡ (after_acts r (acts t (d ∷ [])) (lock_by w l r)).filled → doing_on p2 l ≡ (after_acts r (acts t (d ∷ [])) (lock_by w l r)).doing t → Goes w v l (acts t (d ∷ []))
+      pub take_goes : ((b : Bool) → c ≡ Some b → (b ≡ false) × ((u : ℕ) × (has u ≡ true)))
+          → ((u : ℕ) → has u ≡ true → c ≡ Some false)
+          → (d : Deed) → AreSingle (d ∷ []) → NoHandOff (d ∷ []) → ActsNeeded r (acts t (d ∷ [])) (lock_by w l r)
+          → lock_taken.lock ≡ (after_acts r (acts t (d ∷ [])) (lock_by w l r)).lock
+          → lock_taken.parked ≡ (after_acts r (acts t (d ∷ [])) (lock_by w l r)).parked
+          → lock_taken.aside_parked ≡ (after_acts r (acts t (d ∷ [])) (lock_by w l r)).aside_parked
+          → lock_taken.filled ≡ (after_acts r (acts t (d ∷ [])) (lock_by w l r)).filled
+          → doing_on p2 l ≡ (after_acts r (acts t (d ∷ [])) (lock_by w l r)).doing t → Goes w v l (acts t (d ∷ []))
       take_goes some full d single_deed plain needed lock parked aside filled own_is = record {
         follows = follows_by w v l (with_line (parts_at w l) m left) places_now moves r rules (acts t (d ∷ [])) (limited w l steady r rules (acts t (d ∷ [])) (λ h. ordinary_by (length w.places) t (d ∷ []) there plain) needed) (take_site d single_deed lock parked aside filled own_is) needed (word_now m refl);
         stands = stands_by w v places_now places moves.kinds

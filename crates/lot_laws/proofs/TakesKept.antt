@@ -53,7 +53,8 @@ taken_so w t l m p s = let here = station_here l p s.calls ∙ s.was in record {
   fits = s.fits;
 }
 
-module _ (w : State) (t l : ℕ) (steady : IsSteady w) (own : IsOf l (place_at w t)) (there : t < length w.places) (p2 : Place) (of : IsOf l p2) (fits : FitsItsLock w p2) (many : TakesOne w l → ⊥)
+module _ (w : State) (t l : ℕ) (steady : IsSteady w) (own : IsOf l (place_at w t)) (there : t < length w.places) (p2 : Place)
+    (of : IsOf l p2) (fits : FitsItsLock w p2) (many : TakesOne w l → ⊥)
     (m : Line) (taken left : List Waiter) (splits : Splits w t l m taken left) (out : (station (place_at w t)).stands ≡ None) (free : (station (place_at w t)).hand ≡ None) (bare : (station (place_at w t)).carries ≡ None) where
   was_here : station_at (place_at w t) l ≡ station (place_at w t)
   was_here = station_here l (place_at w t) own
@@ -87,10 +88,20 @@ module _ (w : State) (t l : ℕ) (steady : IsSteady w) (own : IsOf l (place_at w
     }
 
     -- the deed, and what it makes of the lock
-    module _ (v : State) (el : v.locks ≡ w.locks) (eh : v.shares ≡ w.shares) (es : v.sections ≡ w.sections) (threads : length v.places ≡ length w.places) (places : place_at v ≡ putting (told_by (TakenBy t) taken (place_at w)) t p2) (here : queue_at v (key_of l m) ≡ left) (others : (key : ℕ) → key ≢ key_of l m → queue_at v key ≡ queue_at w key) where
-      pub take_goes : (station p2).inside ≡ (station (place_at w t)).inside → (station p2).stands ≡ None → (station p2).hand ≡ None → ((b : Bool) → (station p2).carries ≡ Some b → (b ≡ false) × ((u : ℕ) × (member u taken ≡ true))) → ((u : ℕ) → member u taken ≡ true → (station p2).carries ≡ Some false)
-          → (d : Deed) → AreSingle (d ∷ []) → NoHandOff (d ∷ []) → ActsNeeded r (acts t (d ∷ [])) (lock_by w l r) → lock_taken.lock ≡ (after_acts r (acts t (d ∷ [])) (lock_by w l r)).lock → lock_taken.parked ≡ (after_acts r (acts t (d ∷ [])) (lock_by w l r)).parked
-          → lock_taken.aside_parked ≡ (after_acts r (acts t (d ∷ [])) (lock_by w l r)).aside_parked → lock_taken.filled ≡ (after_acts r (acts t (d ∷ [])) (lock_by w l r)).filled → doing_on p2 l ≡ (after_acts r (acts t (d ∷ [])) (lock_by w l r)).doing t → Goes w v l (acts t (d ∷ []))
+    module _ (v : State) (el : v.locks ≡ w.locks) (eh : v.shares ≡ w.shares) (es : v.sections ≡ w.sections)
+        (threads : length v.places ≡ length w.places)
+        (places : place_at v ≡ putting (told_by (TakenBy t) taken (place_at w)) t p2) (here : queue_at v (key_of l m) ≡ left)
+        (others : (key : ℕ) → key ≢ key_of l m → queue_at v key ≡ queue_at w key) where
+      pub take_goes : (station p2).inside ≡ (station (place_at w t)).inside → (station p2).stands ≡ None
+          → (station p2).hand ≡ None
+          → ((b : Bool) → (station p2).carries ≡ Some b → (b ≡ false) × ((u : ℕ) × (member u taken ≡ true)))
+          → ((u : ℕ) → member u taken ≡ true → (station p2).carries ≡ Some false)
+          → (d : Deed) → AreSingle (d ∷ []) → NoHandOff (d ∷ []) → ActsNeeded r (acts t (d ∷ [])) (lock_by w l r)
+          → lock_taken.lock ≡ (after_acts r (acts t (d ∷ [])) (lock_by w l r)).lock
+          → lock_taken.parked ≡ (after_acts r (acts t (d ∷ [])) (lock_by w l r)).parked
+          → lock_taken.aside_parked ≡ (after_acts r (acts t (d ∷ [])) (lock_by w l r)).aside_parked
+          → lock_taken.filled ≡ (after_acts r (acts t (d ∷ [])) (lock_by w l r)).filled
+          → doing_on p2 l ≡ (after_acts r (acts t (d ∷ [])) (lock_by w l r)).doing t → Goes w v l (acts t (d ∷ []))
       take_goes inside stands unheld = at.take_goes w t l steady there p2 (own_alike l (place_at w t) p2 own of) fits m taken left
           (record { counts = splits.counts; sleeps = λ u h. taken_so w t l m (place_at w u) (splits.sleeps u h); lefts = splits.lefts; wants = splits.wants })
           (λ one. absurd (many one)) (ap (λ (y : Station). y.carries) was_here ∙ bare) (station p2).carries (now inside stands unheld) r rules

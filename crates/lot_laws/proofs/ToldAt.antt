@@ -43,7 +43,8 @@ pub record HoldsHere (w : State) (t l : ℕ) : Type 0 where
   pub taker : (u : ℕ) (b : Bool) → hand_at (place_at w u) l ≡ hand t b → is_thread t (taker (place_at w u)) ≡ true
   pub nobody : (k : ℕ) → k ≢ l → carried_at (place_at w t) k ≡ None
 
-module _ (w : State) (t l : ℕ) (steady : IsSteady w) (p2 : Place) (beside : SameHands l (place_at w t) p2) (fits : FitsItsLock w p2) (holds : HoldsHere w t l) (reply : Reply) (after : Option Hand)
+module _ (w : State) (t l : ℕ) (steady : IsSteady w) (p2 : Place) (beside : SameHands l (place_at w t) p2)
+    (fits : FitsItsLock w p2) (holds : HoldsHere w t l) (reply : Reply) (after : Option Hand)
     (all : (u : ℕ) (b : Bool) → hand_at (place_at w u) l ≡ hand t b → IsToldAt w t l b after reply (place_at w u)) where
   -- who is told
   abbrev pub has : ℕ → Bool
@@ -82,7 +83,8 @@ module _ (w : State) (t l : ℕ) (steady : IsSteady w) (p2 : Place) (beside : Sa
   not_held u h b g = let c : true ≡ false = sym (holds.taker u b g) ∙ h in cc
 
   -- what is told of a thread: what holds of each that is in its hand, and of each other
-  pub by_told : (P : Place → Type 0) (u : ℕ) → (HeldHere u → P (next_place (place_at w u) reply)) → ((has u ≡ false) → P (place_at w u)) → P (told u)
+  pub by_told : (P : Place → Type 0) (u : ℕ) → (HeldHere u → P (next_place (place_at w u) reply))
+      → ((has u ≡ false) → P (place_at w u)) → P (told u)
   by_told P u told_so other = either (has u) refl
     where
       either : (b : Bool) → has u ≡ b → P (told u)
@@ -128,7 +130,8 @@ module _ (w : State) (t l : ℕ) (steady : IsSteady w) (p2 : Place) (beside : Sa
         at_key true e = ap (hand_at p2) (eqb-true k l e) ∙ own ∙ sym ((λ i. if and-true (has t) i then after else hand_at (place_at w t) (eqb-true k l e i)))
         at_key false e = (beside k (not_here k e)).0 ∙ sym (ap (λ b. if b then after else hand_at (place_at w t) k) (and-false (has t)))
 
-        at_told : HeldHere u → has u ≡ true → (c : Bool) → (k == l) ≡ c → hand_at (told u) k ≡ (if c then after else hand_at (place_at w u) k)
+        at_told : HeldHere u → has u ≡ true → (c : Bool) → (k == l) ≡ c
+            → hand_at (told u) k ≡ (if c then after else hand_at (place_at w u) k)
         at_told held h true e = ap (λ y. hand_at y k) (told_on u h) ∙ ap (λ j. hand_at (next_place (place_at w u) reply) j) (eqb-true k l e) ∙ ap (λ (y : Station). y.hand) (all u held.handed held.hand).goes
         at_told held h false e = ap (λ y. hand_at y k) (told_on u h) ∙ ap (λ (y : Station). y.hand) ((all u held.handed held.hand).alike k (not_here k e)).station
 
@@ -136,13 +139,15 @@ module _ (w : State) (t l : ℕ) (steady : IsSteady w) (p2 : Place) (beside : Sa
         either false h = ap (λ y. hand_at y k) (told_off u h)
         either true h = at_told (held_here u h) h (k == l) refl
 
-  pub carries : (i k : ℕ) → carried_at (places_then i) k ≡ (if (i == t) && (k == l) then (station_at p2 l).carries else carried_at (place_at w i) k)
+  pub carries : (i k : ℕ)
+      → carried_at (places_then i) k ≡ (if (i == t) && (k == l) then (station_at p2 l).carries else carried_at (place_at w i) k)
   carries i k = elim (cases_eq i t) [
     | inl e ↦ rw (e, put_here told t p2, same t) (either (k == l) refl)
     | inr ni ↦ rw (put_other told t p2 i ni, differ i t ni) (part_told (λ y. y.carries) (λ x h. refl) i k)
   ]
     where
-      either : (c : Bool) → (k == l) ≡ c → carried_at p2 k ≡ (if c then (station_at p2 l).carries else carried_at (place_at w t) k)
+      either : (c : Bool) → (k == l) ≡ c
+          → carried_at p2 k ≡ (if c then (station_at p2 l).carries else carried_at (place_at w t) k)
       either true e = ap (carried_at p2) (eqb-true k l e)
       either false e = (beside k (not_here k e)).1
 
@@ -157,6 +162,7 @@ module _ (w : State) (t l : ℕ) (steady : IsSteady w) (p2 : Place) (beside : Sa
   ]
 
   -- a state in which they stand so
-  pub places_are : (b : State) → b.places ≡ w.places → t < length w.places → place_at (put (state_after_telling b t reply) t p2) ≡ places_then
+  pub places_are : (b : State) → b.places ≡ w.places → t < length w.places
+      → place_at (put (state_after_telling b t reply) t p2) ≡ places_then
   places_are b e there = put_places (state_after_telling b t reply) t p2 (λ h. absurd (let a : length (map (place_after_telling t reply) b.places) ≡ length b.places = length-map b.places (place_after_telling t reply) in let c : length b.places ≡ length w.places = ap length e in omega arith))
       ∙ ap (λ (f : ℕ → Place). putting f t p2) ((λ i u. get_or-map (place_after_telling t reply) b.places u Idle i) ∙ (λ i u. place_after_telling t reply (get_or (e i) u Idle)))

@@ -81,7 +81,9 @@ module _ (w : State) (t : ℕ) (steady : IsSteady w) (shape : IsShaped w) (there
   }) (s ∙ sym (ap station is))
 
   -- each call of a mutex
-  calls_begin : (l : ℕ) (fair : Bool) (c : MutexCall) → is_mutex (kind_at w l) ≡ true → place_at w t ≡ Idle → mutex_right c t (owners_at w l) ≡ true → Goes w (put w t (Mutex l (mutex_first fair c))) l (acts t (begins (mutex_first fair c) ∷ []))
+  calls_begin : (l : ℕ) (fair : Bool) (c : MutexCall) → is_mutex (kind_at w l) ≡ true → place_at w t ≡ Idle
+      → mutex_right c t (owners_at w l) ≡ true
+      → Goes w (put w t (Mutex l (mutex_first fair c))) l (acts t (begins (mutex_first fair c) ∷ []))
   calls_begin l fair call.Lock of is right = begin_kept l _ None of is refl refl tt refl
   calls_begin l fair call.LockTimed of is right = begin_kept l _ None of is refl refl tt refl
   calls_begin l fair call.TryLock of is right = begin_kept l _ None of is refl refl tt refl
@@ -116,21 +118,28 @@ module _ (w : State) (t : ℕ) (steady : IsSteady w) (shape : IsShaped w) (there
   spun_kept counted condvars (Some q) is = gone_steady (put w t q) t (looking_steady w t there q is steady) (looking_shaped w t q shape is) (rw (length-set w.places t q) there) (looking_counted w t there q is counted) (looking_condvars w t q there is condvars) (looks_now w t there q is)
 
   -- its time is up, and it goes into the section of its line
-  asleep_late : (l : ℕ) (e : Entry) (r : Bool) → place_at w t ≡ Mutex l (Lock e r lock.Asleep) → l < length w.locks → is_free_under w (late_key (Mutex l (Lock e r lock.Asleep))) ≡ true → IsSteady (state_after_late_on w t (late_key (Mutex l (Lock e r lock.Asleep))))
+  asleep_late : (l : ℕ) (e : Entry) (r : Bool) → place_at w t ≡ Mutex l (Lock e r lock.Asleep) → l < length w.locks
+      → is_free_under w (late_key (Mutex l (Lock e r lock.Asleep))) ≡ true
+      → IsSteady (state_after_late_on w t (late_key (Mutex l (Lock e r lock.Asleep))))
   asleep_late l entries.LockTimed r is lt can = rw is (goes_steady w _ l _ steady (enters w t steady shape there l (Lock entries.LockTimed r lock.Asleep) (Lock entries.LockTimed r lock.Remove) is lt can refl refl refl refl refl refl))
   asleep_late l entries.Lock r is lt can = absurd cc
   asleep_late l entries.Bump r is lt can = absurd cc
 
-  lock_late : (l : ℕ) (e : Entry) (r : Bool) (a : LockAt) → place_at w t ≡ Mutex l (Lock e r a) → l < length w.locks → is_free_under w (late_key (Mutex l (Lock e r a))) ≡ true → IsSteady (state_after_late_on w t (late_key (Mutex l (Lock e r a))))
+  lock_late : (l : ℕ) (e : Entry) (r : Bool) (a : LockAt) → place_at w t ≡ Mutex l (Lock e r a) → l < length w.locks
+      → is_free_under w (late_key (Mutex l (Lock e r a))) ≡ true
+      → IsSteady (state_after_late_on w t (late_key (Mutex l (Lock e r a))))
   lock_late l e r lock.Asleep is lt can = asleep_late l e r is lt can
   lock_late l e r lock.First is lt can = absurd cc
   lock_late l e r a is lt can = absurd cc
 
-  rwlock_late : (l : ℕ) (a : Admission) (c : RwLockCallPlace) → place_at w t ≡ RwLock l a c → l < length w.locks → (m : Option Line) → call_late_line c ≡ m → is_free_under w (key_in (Some l) m) ≡ true → IsSteady (state_after_late_on w t (key_in (Some l) m))
+  rwlock_late : (l : ℕ) (a : Admission) (c : RwLockCallPlace) → place_at w t ≡ RwLock l a c → l < length w.locks
+      → (m : Option Line) → call_late_line c ≡ m → is_free_under w (key_in (Some l) m) ≡ true
+      → IsSteady (state_after_late_on w t (key_in (Some l) m))
   rwlock_late l a c is lt None e can = absurd cc
   rwlock_late l a c is lt (Some m) e can = goes_steady w _ l _ steady (rwlock_goes_late w t l a c steady shape there lt is m e can)
 
-  late_kept : (p : Place) → place_at w t ≡ p → PlaceFits (length w.locks) p → is_free_under w (late_key p) ≡ true → IsSteady (state_after_late_on w t (late_key p))
+  late_kept : (p : Place) → place_at w t ≡ p → PlaceFits (length w.locks) p → is_free_under w (late_key p) ≡ true
+      → IsSteady (state_after_late_on w t (late_key p))
   late_kept (Mutex l (Lock e r a)) is fits can = lock_late l e r a is fits.0 can
   late_kept (Mutex l TryLock) is fits can = absurd cc
   late_kept (Mutex l (Unlock a)) is fits can = absurd cc
@@ -144,12 +153,14 @@ module _ (w : State) (t : ℕ) (steady : IsSteady w) (shape : IsShaped w) (there
   late_kept (Condvar l at) is fits can = let goes = condvar_goes_late w t l shape steady there at is can in goes_steady w _ goes.0 _ steady goes.1
   late_kept (Once l at) is fits can = once_late (once_profile at).late_line refl can
     where
-      once_late : (m : Option Line) → (once_profile at).late_line ≡ m → is_free_under w (key_in (Some l) m) ≡ true → IsSteady (state_after_late_on w t (key_in (Some l) m))
+      once_late : (m : Option Line) → (once_profile at).late_line ≡ m → is_free_under w (key_in (Some l) m) ≡ true
+          → IsSteady (state_after_late_on w t (key_in (Some l) m))
       once_late None e h = absurd cc
       once_late (Some m) e h = absurd (once_never_late at m e)
 
   -- its closure has answered, and it goes on behind it
-  closed_kept : AreCounted w → AreCondvars w → (succeeded : Bool) → can_close w t succeeded ≡ true → IsSteady (state_after_close w t succeeded)
+  closed_kept : AreCounted w → AreCondvars w → (succeeded : Bool) → can_close w t succeeded ≡ true
+      → IsSteady (state_after_close w t succeeded)
   closed_kept counted condvars succeeded can =
       let one = closes_one w t succeeded can in
       gone_steady (closing w t there succeeded one) t (closing_steady w t there succeeded one steady) (closing_shaped w t there succeeded one shape) (closing_there w t there succeeded one)

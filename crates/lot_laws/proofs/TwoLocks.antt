@@ -35,7 +35,8 @@ pub record BehindIt (w v : State) (q : ℕ → Place) (l : ℕ) (ds : List deeds
   pub sharers : length parts.base.shared ≡ length (shares_at w l)
   pub unshared : has_readers (rules_in w l).sort ≡ false
 
-module _ (w v : State) (steady : IsSteady w) (q : ℕ → Place) (places : place_at v ≡ q) (kinds : (k : ℕ) → kind_at v k ≡ kind_at w k) (numbers : SameNumbers w v) (c m : ℕ)
+module _ (w v : State) (steady : IsSteady w) (q : ℕ → Place) (places : place_at v ≡ q)
+    (kinds : (k : ℕ) → kind_at v k ≡ kind_at w k) (numbers : SameNumbers w v) (c m : ℕ)
     (others : (k : ℕ) → k ≢ c → k ≢ m → (parts_at v k ≡ parts_at w k) × ((u : ℕ) → AlikeAt k (place_at w u) (q u))) where
   site_at : (l : ℕ) (ds : List deeds.Act) → BehindIt w v q l ds → site_of v l ≡ after_acts (rules_in w l) ds (site_of w l)
   site_at l ds b = (λ i. seen_in (rules_of (kinds l i)) l (b.here i) (places i)) ∙ b.led
@@ -50,9 +51,11 @@ module _ (w v : State) (steady : IsSteady w) (q : ℕ → Place) (places : place
   word_else : (k : ℕ) → k ≢ c → k ≢ m → word_at v k ≡ code (rules_in w k) (site_of v k)
   word_else k nc nm = ap (λ (a : Parts). a.word) (others k nc nm).0 ∙ steady.sites.word k ∙ sym (ap (code (rules_in w k)) (site_else k nc nm))
 
-  module _ (at_c at_m : List deeds.Act) (apart : m ≢ c) (behind_c : BehindIt w v q c at_c) (behind_m : BehindIt w v q m at_m) where
+  module _ (at_c at_m : List deeds.Act) (apart : m ≢ c) (behind_c : BehindIt w v q c at_c)
+      (behind_m : BehindIt w v q m at_m) where
     -- by which lock is looked at
-    by_lock : (P : ℕ → List deeds.Act → Type 0) → P c at_c → P m at_m → ((k : ℕ) → k ≢ c → k ≢ m → P k []) → (k : ℕ) → P k (two_at c m at_c at_m k)
+    by_lock : (P : ℕ → List deeds.Act → Type 0) → P c at_c → P m at_m → ((k : ℕ) → k ≢ c → k ≢ m → P k []) → (k : ℕ)
+        → P k (two_at c m at_c at_m k)
     by_lock P here beside else_at k = elim (cases_eq k c) [
       | inl e ↦ subst (λ j. P j (two_at c m at_c at_m j)) (sym e) (subst (P c) (sym (ap (λ b. if b then at_c else if c == m then at_m else []) (same c))) here)
       | inr nc ↦ elim (cases_eq k m) [
@@ -77,7 +80,8 @@ module _ (w v : State) (steady : IsSteady w) (q : ℕ → Place) (places : place
 -- ---------------------------------------------------------------- sections alone change, and the place of one thread
 
 -- it goes from where it stands by deeds at both locks
-module _ (w v : State) (steady : IsSteady w) (t : ℕ) (there : t < length w.places) (p2 : Place) (c m : ℕ) (apart : m ≢ c) (alike : (k : ℕ) → k ≢ c → k ≢ m → Alike k (place_at w t) p2)
+module _ (w v : State) (steady : IsSteady w) (t : ℕ) (there : t < length w.places) (p2 : Place) (c m : ℕ) (apart : m ≢ c)
+    (alike : (k : ℕ) → k ≢ c → k ≢ m → Alike k (place_at w t) p2)
     (el : v.locks ≡ w.locks) (eh : v.shares ≡ w.shares) (eq : v.queues ≡ w.queues) (ep : v.places ≡ set w.places t p2) (unshared_c : has_readers (rules_in w c).sort ≡ false) (unshared_m : has_readers (rules_in w m).sort ≡ false)
     (ds_c ds_m : List Deed) (steps_c : Steps (rules_in w c) c (parts_at w c) (parts_at w c) (place_at w) t p2 ds_c) (steps_m : Steps (rules_in w m) m (parts_at w m) (parts_at w m) (place_at w) t p2 ds_m) where
   same_parts : (k : ℕ) → parts_at v k ≡ parts_at w k
@@ -95,7 +99,9 @@ module _ (w v : State) (steady : IsSteady w) (t : ℕ) (there : t < length w.pla
   pub same_kinds : (k : ℕ) → kind_at v k ≡ kind_at w k
   same_kinds k i = (get_or (el i) k (unlocked kind.TheVariants.Mutex)).kind
 
-  behind : (l : ℕ) (ds : List Deed) → has_readers (rules_in w l).sort ≡ false → Steps (rules_in w l) l (parts_at w l) (parts_at w l) (place_at w) t p2 ds → BehindIt w v (putting (place_at w) t p2) l (acts t ds)
+  behind : (l : ℕ) (ds : List Deed) → has_readers (rules_in w l).sort ≡ false
+      → Steps (rules_in w l) l (parts_at w l) (parts_at w l) (place_at w) t p2 ds
+      → BehindIt w v (putting (place_at w) t p2) l (acts t ds)
   behind l ds unshared steps = record {
     parts = parts_at w l;
     here = same_parts l;
@@ -106,7 +112,8 @@ module _ (w v : State) (steady : IsSteady w) (t : ℕ) (there : t < length w.pla
     unshared = unshared;
   }
 
-  others : (k : ℕ) → k ≢ c → k ≢ m → (parts_at v k ≡ parts_at w k) × ((u : ℕ) → AlikeAt k (place_at w u) (putting (place_at w) t p2 u))
+  others : (k : ℕ) → k ≢ c → k ≢ m
+      → (parts_at v k ≡ parts_at w k) × ((u : ℕ) → AlikeAt k (place_at w u) (putting (place_at w) t p2 u))
   others k nc nm = (
     same_parts k,
     λ u. elim (cases_eq u t) [
@@ -128,7 +135,8 @@ with_station at t l x u k = if (u == t) && (k == l) then x else at u k
 pub station_here : (at : ℕ → ℕ → Station) (t l : ℕ) (x : Station) → with_station at t l x t l ≡ x
 station_here at t l x = ap (λ b. if b && (l == l) then x else at t l) (same t) ∙ ap (λ b. if b then x else at t l) (same l)
 
-pub station_else : (at : ℕ → ℕ → Station) (t l : ℕ) (x : Station) (u k : ℕ) → (u ≡ t → k ≡ l → ⊥) → with_station at t l x u k ≡ at u k
+pub station_else : (at : ℕ → ℕ → Station) (t l : ℕ) (x : Station) (u k : ℕ) → (u ≡ t → k ≡ l → ⊥)
+    → with_station at t l x u k ≡ at u k
 station_else at t l x u k ne = elim (cases_eq u t) [
   | inl e ↦ ap (λ b. if (u == t) && b then x else at u k) (differ k l (ne e)) ∙ ap (λ b. if b then x else at u k) (no (u == t))
   | inr nu ↦ ap (λ b. if b && (k == l) then x else at u k) (differ u t nu)
@@ -139,7 +147,8 @@ station_else at t l x u k ne = elim (cases_eq u t) [
     no false = refl
 
 -- a thread goes into two sections that are free, or out of its two
-module _ {one : ℕ → Type 0} (at at2 : ℕ → ℕ → Station) (section : ℕ → Option ℕ) (queue : ℕ → List Waiter) (there : AreThere one at section queue) (t c m : ℕ) (apart : m ≢ c)
+module _ {one : ℕ → Type 0} (at at2 : ℕ → ℕ → Station) (section : ℕ → Option ℕ) (queue : ℕ → List Waiter)
+    (there : AreThere one at section queue) (t c m : ℕ) (apart : m ≢ c)
     (others : (u k : ℕ) → (u ≡ t → k ≡ c → ⊥) → (u ≡ t → k ≡ m → ⊥) → at2 u k ≡ at u k) (after : ℕ → Option ℕ) (elsewhere : (key : ℕ) → key ≢ key_of c Main → key ≢ key_of m Main → after key ≡ section key) where
   -- once it has gone at the first
   abbrev between : ℕ → ℕ → Station
@@ -172,14 +181,17 @@ module _ {one : ℕ → Type 0} (at at2 : ℕ → ℕ → Station) (section : �
   section_m : section_between (key_of m Main) ≡ section (key_of m Main)
   section_m = put_other section (key_of c Main) (after (key_of c Main)) (key_of m Main) other_keys
 
-  pub goes_in_two : section (key_of c Main) ≡ None → section (key_of m Main) ≡ None → after (key_of c Main) ≡ Some t → after (key_of m Main) ≡ Some t → (at t c).inside ≡ None → (at t m).inside ≡ None
-      → at2 t c ≡ record (at t c) { inside = Some Main } → at2 t m ≡ record (at t m) { inside = Some Main } → AreThere one at2 after queue
+  pub goes_in_two : section (key_of c Main) ≡ None → section (key_of m Main) ≡ None → after (key_of c Main) ≡ Some t
+      → after (key_of m Main) ≡ Some t → (at t c).inside ≡ None → (at t m).inside ≡ None
+      → at2 t c ≡ record (at t c) { inside = Some Main } → at2 t m ≡ record (at t m) { inside = Some Main }
+      → AreThere one at2 after queue
   goes_in_two free_c free_m held_c held_m out_c out_m now_c now_m = goes_in between at2 section_between queue
       (goes_in at between section queue there t c (station_else at t c (at2 t c)) Main section_between (λ key ne. put_other section (key_of c Main) (after (key_of c Main)) key ne) free_c
       (put_here section (key_of c Main) (after (key_of c Main)) ∙ held_c) out_c (station_here at t c (at2 t c) ∙ now_c))
       t m second_others Main after later (section_m ∙ free_m) held_m (ap (λ (x : Station). x.inside) at_m ∙ out_m) (now_m ∙ sym (ap (λ (x : Station). record x { inside = Some Main }) at_m))
 
-  pub goes_out_two : after (key_of c Main) ≡ None → after (key_of m Main) ≡ None → (at t c).inside ≡ Some Main → (at t m).inside ≡ Some Main
+  pub goes_out_two : after (key_of c Main) ≡ None → after (key_of m Main) ≡ None → (at t c).inside ≡ Some Main
+      → (at t m).inside ≡ Some Main
       → at2 t c ≡ record (at t c) { inside = None } → at2 t m ≡ record (at t m) { inside = None } → AreThere one at2 after queue
   goes_out_two free_c free_m within_c within_m now_c now_m = goes_out between at2 section_between queue
       (goes_out at between section queue there t c (station_else at t c (at2 t c)) Main section_between (λ key ne. put_other section (key_of c Main) (after (key_of c Main)) key ne)

@@ -37,7 +37,9 @@ module _ (t l m : ℕ) (keeps : Keeps t) (timed : Bool) where
   abbrev Alone : State → WaitAt → Type 0
   Alone w at = GoesAlone w t l m (Wait m timed at)
 
-  queue_is : (w : State) (at : WaitAt) (g : Alone w at) (can : can_do w (wait_act l m at) ≡ true) (q : List Queued) → (after_all (condvar_deeds (Wait m timed at) (reply_to w t (wait_act l m at))) (condvar_of w l) t).waiters ≡ q → (lock_state (after w (go_of t)) l).queue ≡ q
+  queue_is : (w : State) (at : WaitAt) (g : Alone w at) (can : can_do w (wait_act l m at) ≡ true) (q : List Queued)
+      → (after_all (condvar_deeds (Wait m timed at) (reply_to w t (wait_act l m at))) (condvar_of w l) t).waiters ≡ q
+      → (lock_state (after w (go_of t)) l).queue ≡ q
   queue_is w at g can q e = queue_then t l m keeps w (Wait m timed at) g can ∙ e
 
   -- ---------------------------------------------------------------- from where it stands behind the last
@@ -50,7 +52,8 @@ module _ (t l m : ℕ) (keeps : Keeps t) (timed : Bool) where
     abbrev Sleeps : State → Outcome → Type 0
     Sleeps v o = (o ≡ outcome.Sleep) × LetGo v
 
-    module _ (w : State) (s : Stands) (at : UnlockAt) (g : Alone w (releasing t l m keeps timed s at)) (can : can_do w (unlock_act m at) ≡ true) where
+    module _ (w : State) (s : Stands) (at : UnlockAt) (g : Alone w (releasing t l m keeps timed s at))
+        (can : can_do w (unlock_act m at) ≡ true) where
       abbrev acted : State
       acted = state_after_act w t (Condvar l (Wait m timed (releasing t l m keeps timed s at))) (unlock_act m at)
 
@@ -60,7 +63,9 @@ module _ (t l m : ℕ) (keeps : Keeps t) (timed : Bool) where
     there : (w : State) (s : Stands) (at : UnlockAt) → Alone w (releasing t l m keeps timed s at) → m < length w.locks
     there w s at g = mutex_there t l m keeps w (Wait m timed (releasing t l m keeps timed s at)) g refl
 
-    owner_kept : (w : State) (s : Stands) (at : UnlockAt) → Alone w (releasing t l m keeps timed s at) → at ≢ unlock.Subtract → owner_at w m ≡ None → owner_at (state_after_act w t (Condvar l (Wait m timed (releasing t l m keeps timed s at))) (unlock_act m at)) m ≡ None
+    owner_kept : (w : State) (s : Stands) (at : UnlockAt) → Alone w (releasing t l m keeps timed s at) → at ≢ unlock.Subtract
+        → owner_at w m ≡ None
+        → owner_at (state_after_act w t (Condvar l (Wait m timed (releasing t l m keeps timed s at))) (unlock_act m at)) m ≡ None
     owner_kept w s unlock.Subtract g other free = absurd (other refl)
     owner_kept w s unlock.Enter g other free = free
     owner_kept w s unlock.Take g other free = by_first (first_of (queue_at w (2 * m)))
@@ -72,7 +77,8 @@ module _ (t l m : ℕ) (keeps : Keeps t) (timed : Bool) where
     owner_kept w s (unlock.Leave true) g other free = free
     owner_kept w s (unlock.Leave false) g other free = free
 
-    kept : (w : State) (s : Stands) (at : UnlockAt) → Alone w (releasing t l m keeps timed s at) → at ≢ unlock.Subtract → can_do w (unlock_act m at) ≡ true → LetGo w → LetGo (after w (go_of t))
+    kept : (w : State) (s : Stands) (at : UnlockAt) → Alone w (releasing t l m keeps timed s at) → at ≢ unlock.Subtract
+        → can_do w (unlock_act m at) ≡ true → LetGo w → LetGo (after w (go_of t))
     kept w s at g other can j = (queue_is w (releasing t l m keeps timed s at) g can q j.0, owner_then w s at g can (owner_kept w s at g other j.1))
 
     -- it stands in that queue
@@ -82,7 +88,8 @@ module _ (t l m : ℕ) (keeps : Keeps t) (timed : Bool) where
           let same : times t (lock_state v l).queue ≡ times t q = ap (times t) j.0 in omega arith
 
       finish : (v : State) (s : Stands) → LetGo v → Alone v (behind s)
-          → ((outcome_of (wait_act l m (behind s)) ≡ outcome.Sleep) × Sleeps v outcome.Sleep) ⊎ ((outcome_of (wait_act l m (behind s)) ≡ outcome.Step) × Leads 8 v t Sleeps)
+          → ((outcome_of (wait_act l m (behind s)) ≡ outcome.Sleep) × Sleeps v outcome.Sleep)
+          ⊎ ((outcome_of (wait_act l m (behind s)) ≡ outcome.Step) × Leads 8 v t Sleeps)
       finish v (stands.Noted note.Normal) j g = absurd (listed v (behind (stands.Noted note.Normal)) g j refl)
       finish v (stands.Noted note.HandOff) j g = absurd (listed v (behind (stands.Noted note.HandOff)) g j refl)
       finish v stands.Listed j g = inl (refl, (refl, j))
@@ -90,7 +97,8 @@ module _ (t l m : ℕ) (keeps : Keeps t) (timed : Bool) where
       finish v (stands.InHand by) j g = inl (refl, (refl, j))
       finish v (stands.Handed by) j g = inl (refl, (refl, j))
 
-      lets_go : (w : State) → (lock_state w l).queue ≡ q → Alone w (releasing t l m keeps timed stands.Listed unlock.Subtract) → Leads 13 w t Sleeps
+      lets_go : (w : State) → (lock_state w l).queue ≡ q → Alone w (releasing t l m keeps timed stands.Listed unlock.Subtract)
+          → Leads 13 w t Sleeps
       lets_go w e g = subtracts t l m keeps timed Sleeps LetGo kept finish w stands.Listed g (
         queue_is w (releasing t l m keeps timed stands.Listed unlock.Subtract) g refl q e,
         owner_then w stands.Listed unlock.Subtract g refl (ap (λ y. y.owners.exclusive) (get_or-set_same w.locks m _ (unlocked kind.Mutex) (there w stands.Listed unlock.Subtract g))),
@@ -109,7 +117,8 @@ module _ (t l m : ℕ) (keeps : Keeps t) (timed : Bool) where
   abbrev behind_last : List Queued → List Queued
   behind_last q = q ++ (record { thread = t; want = WaitHere }) ∷ []
 
-  stands_last : (q : List Queued) (w : State) → (lock_state w l).queue ≡ q → Alone w wait.Stand → Leads 15 w t (Sleeps (behind_last q))
+  stands_last : (q : List Queued) (w : State) → (lock_state w l).queue ≡ q → Alone w wait.Stand
+      → Leads 15 w t (Sleeps (behind_last q))
   stands_last q w e g = goes t l m keeps timed w wait.Stand g (Sleeps (behind_last q)) 14 refl refl (λ h. inr (refl, goes_out (behind_last q) (after w (go_of t)) (queue_is w wait.Stand g refl (behind_last q) (ap behind_last e)) h))
 
   abbrev Refused : State → Outcome → Type 0
@@ -162,7 +171,8 @@ module _ (t l m : ℕ) (keeps : Keeps t) (timed : Bool) where
     same_word : word_at (after w (go_of t)) l ≡ word_of shown
     same_word = so_then t l m keeps w (Wait m timed wait.Enter) g (into_section t l m keeps timed w g) (λ s. word_at s l) (λ q. refl) ∙ word_is w t l (Wait m timed wait.Enter) g.world.steady g.place
 
-    enters : (P : State → Outcome → Type 0) → (Alone (after w (go_of t)) wait.Show → Leads 16 (after w (go_of t)) t P) → Leads 17 w t P
+    enters : (P : State → Outcome → Type 0) → (Alone (after w (go_of t)) wait.Show → Leads 16 (after w (go_of t)) t P)
+        → Leads 17 w t P
     enters P on = goes t l m keeps timed w wait.Enter g P 16 refl (into_section t l m keeps timed w g) (λ h. inr (refl, on h))
 
     -- what it comes to

@@ -98,15 +98,19 @@ module _ (w : State) (t l m : ℕ) where
   word_seen true false = tt
 
   module _ (late again : Bool) where
-    locks_one : (a : LockAt) (told : Reply) → AreOneCase (waiter_deeds (wait.Lock late (mutex.Lock entry.Lock again a)) None told) → OneAtATime m (wait.Lock late (mutex.Lock entry.Lock again a)) None told
+    locks_one : (a : LockAt) (told : Reply) → AreOneCase (waiter_deeds (wait.Lock late (mutex.Lock entry.Lock again a)) None told)
+        → OneAtATime m (wait.Lock late (mutex.Lock entry.Lock again a)) None told
     locks_one a told one = record { there = (relocked_one (mutex_next (mutex.Lock entry.Lock again a) told)).0; beside = one; alone = inr (relocked_one (mutex_next (mutex.Lock entry.Lock again a) told)).1 }
 
-    decides_one : (seen : ℕ) (a b : Bool) → OneAtATime m (wait.Lock late (mutex.Lock entry.Lock again (lock.Decide seen))) None (reply_to w t (if not a then act.Word m (op.TheVariants.Exchange seen (seen + 1)) else if b then act.Word m (op.TheVariants.Exchange 1 3) else act.Enter (One (2 * m))))
+    decides_one : (seen : ℕ) (a b : Bool)
+        → OneAtATime m (wait.Lock late (mutex.Lock entry.Lock again (lock.Decide seen))) None
+        (reply_to w t (if not a then act.Word m (op.TheVariants.Exchange seen (seen + 1)) else if b then act.Word m (op.TheVariants.Exchange 1 3) else act.Enter (One (2 * m))))
     decides_one seen false b = locks_one (lock.Decide seen) (Value (word_at w m)) (word_seen (word_at w m == seen) (is_locked (word_at w m)))
     decides_one seen true true = locks_one (lock.Decide seen) (Value (word_at w m)) (word_seen (word_at w m == seen) (is_locked (word_at w m)))
     decides_one seen true false = locks_one (lock.Decide seen) Done tt
 
-    lock_one : (a : LockAt) → IsLockOf a → can_do w (lock_act m a) ≡ true → OneAtATime m (wait.Lock late (mutex.Lock entry.Lock again a)) None (reply_to w t (lock_act m a))
+    lock_one : (a : LockAt) → IsLockOf a → can_do w (lock_act m a) ≡ true
+        → OneAtATime m (wait.Lock late (mutex.Lock entry.Lock again a)) None (reply_to w t (lock_act m a))
     lock_one lock.First of can = locks_one lock.First (Value (word_at w m)) (entered (word_at w m == 0))
     lock_one lock.Load of can = locks_one lock.Load (Value (word_at w m)) tt
     lock_one (lock.Decide seen) of can = decides_one seen (is_locked seen) (seen == 1)
@@ -122,7 +126,8 @@ module _ (w : State) (t l m : ℕ) where
     lock_one lock.Accept of can = locks_one lock.Accept Done tt
     lock_one a of can = absurd of
 
-  pub wait_one : (timed : Bool) (p : WaitAt) → IsReached (Wait m timed p) → can_do w (wait_act l m p) ≡ true → OneAtATime m p (taken_by_wait w m p) (reply_to w t (wait_act l m p))
+  pub wait_one : (timed : Bool) (p : WaitAt) → IsReached (Wait m timed p) → can_do w (wait_act l m p) ≡ true
+      → OneAtATime m p (taken_by_wait w m p) (reply_to w t (wait_act l m p))
   wait_one timed wait.Enter reached can = record { there = tt; beside = tt; alone = inl refl }
   wait_one timed wait.Show reached can = record { there = shows ((word_at w l == 0) || is_shown (word_at w l) m); beside = tt; alone = inl refl }
   wait_one timed wait.Stand reached can = record { there = tt; beside = tt; alone = inl refl }
@@ -146,17 +151,21 @@ module _ (w : State) (t l m : ℕ) where
 -- ---------------------------------------------------------------- the step
 
 -- what it does at the condition variable changes nobody's rights
-pub there_rights : (ds : List CondvarDeed) (r : Rules) (s : Site) (t : ℕ) → rights_of (after_all r (there_deeds ds) s t).lock t ≡ rights_of s.lock t
+pub there_rights : (ds : List CondvarDeed) (r : Rules) (s : Site) (t : ℕ)
+    → rights_of (after_all r (there_deeds ds) s t).lock t ≡ rights_of s.lock t
 there_rights [] r s t = refl
 there_rights (Show m ∷ ds) r s t = refl
 there_rights (d ∷ ds) r s t = refl
 
-never_moves : (m l : ℕ) (x y : Option LockCase) (c k n : ℕ) (all owned : Bool) → or_else (event_by m x) (event_by l y) ≡ Moves c k all owned n → ⊥
+never_moves : (m l : ℕ) (x y : Option LockCase) (c k n : ℕ) (all owned : Bool)
+    → or_else (event_by m x) (event_by l y) ≡ Moves c k all owned n → ⊥
 never_moves m l None None c k n all owned e = cc
 never_moves m l None (Some b) c k n all owned e = cc
 never_moves m l (Some a) y c k n all owned e = cc
 
-module _ (w v : State) (t l m : ℕ) (timed : Bool) (p : WaitAt) (steady : IsSteady w) (after : IsSteady v) (condvar_holds : IsCondvar (condvar_of w l)) (is : place_at w t ≡ Condvar l (Wait m timed p)) (can : can_do w (wait_act l m p) ≡ true)
+module _ (w v : State) (t l m : ℕ) (timed : Bool) (p : WaitAt) (steady : IsSteady w) (after : IsSteady v)
+    (condvar_holds : IsCondvar (condvar_of w l)) (is : place_at w t ≡ Condvar l (Wait m timed p))
+    (can : can_do w (wait_act l m p) ≡ true)
     (all : ℕ → List deeds.Act) (f : FollowAll w v all) (elsewhere : (k : ℕ) → k ≢ l → k ≢ m → all k ≡ []) (at_l : all l ≡ acts t (there_deeds (wait_deeds m p (reply_to w t (wait_act l m p)))))
     (at_m : all m ≡ acts t (waiter_deeds p (taken_by_wait w m p) (reply_to w t (wait_act l m p)))) where
   abbrev told : Reply
@@ -222,8 +231,10 @@ module _ (w v : State) (t l m : ℕ) (timed : Bool) (p : WaitAt) (steady : IsSte
   may = may_go w v t l m (Wait m timed p) call_is told event wait_happened shown_then behind follows.may (λ c k every owned n e. absurd (never_moves m l _ _ c k n every owned e))
 
   -- the step goes on by that event, where it stands then as its reply says, isn't woken by itself, and the others' calls follow
-  pub wait_goes : place_at v t ≡ condvar_goes l (condvar_next (Wait m timed p) told) → woken (locks_of w) t event t (going_on event call) ≡ going_on event call → (lock_state v l).shown ≡ shown_then
-      → ToldSo v t (condvar_next (Wait m timed p) told) (outcome_of (condvar_does l (condvar_next (Wait m timed p) told))) → OthersFollow w v t event
+  pub wait_goes : place_at v t ≡ condvar_goes l (condvar_next (Wait m timed p) told)
+      → woken (locks_of w) t event t (going_on event call) ≡ going_on event call → (lock_state v l).shown ≡ shown_then
+      → ToldSo v t (condvar_next (Wait m timed p) told) (outcome_of (condvar_does l (condvar_next (Wait m timed p) told)))
+      → OthersFollow w v t event
       → GoesOn (locks_of w) t (outcome_of (condvar_does l (condvar_next (Wait m timed p) told))) (locks_of v)
   wait_goes there unwoken shown rests others_follow = condvar_goes_on w v t l m (Wait m timed p) call_is told event wait_happened shown_then behind (condvar_next (Wait m timed p) told) _ may
       (call_led w v t l m (Wait m timed p) call_is told event wait_happened shown_then behind (condvar_next (Wait m timed p) told) _ (unheard w t (wait_act l m p) _) unwoken
@@ -231,9 +242,12 @@ module _ (w v : State) (t l m : ℕ) (timed : Bool) (p : WaitAt) (steady : IsSte
       others_follow (begins_two (locks_of w) l (Wait m timed p) event _ follows.may (no_closure l (condvar_next (Wait m timed p) told)))
 
   -- or where its own act has befallen it: its call is then what that makes of the one that its reply says
-  pub wait_goes_told : (q q2 : WaitAt) → condvar_next (Wait m timed p) told ≡ next.At (Wait m timed q) → place_at v t ≡ Condvar l (Wait m timed q2) → (makes : CallState → CallState)
-      → ((r : ℕ → Rights) → calls.call_at l m (Wait m timed q2) r ≡ makes (calls.call_at l m (Wait m timed q) r)) → woken (locks_of w) t event t (going_on event call) ≡ makes (going_on event call)
-      → (k : ℕ) × GoesAs v t k (outcome_of (wait_act l m q2)) → OthersFollow w v t event → GoesOn (locks_of w) t (outcome_of (wait_act l m q2)) (locks_of v)
+  pub wait_goes_told : (q q2 : WaitAt) → condvar_next (Wait m timed p) told ≡ next.At (Wait m timed q)
+      → place_at v t ≡ Condvar l (Wait m timed q2) → (makes : CallState → CallState)
+      → ((r : ℕ → Rights) → calls.call_at l m (Wait m timed q2) r ≡ makes (calls.call_at l m (Wait m timed q) r))
+      → woken (locks_of w) t event t (going_on event call) ≡ makes (going_on event call)
+      → (k : ℕ) × GoesAs v t k (outcome_of (wait_act l m q2)) → OthersFollow w v t event
+      → GoesOn (locks_of w) t (outcome_of (wait_act l m q2)) (locks_of v)
   wait_goes_told q q2 says there makes made woken_so goes_as others_follow = condvar_goes_on w v t l m (Wait m timed p) call_is told event wait_happened shown_then behind (next.At (Wait m timed q2)) _ may
       (inl (call_now ∙ made (rights v t) ∙ ap makes (ap (calls.call_at l m (Wait m timed q)) (λ i k. rights_led k i) ∙ becomes (rights w t) refl ∙ ap (going_on event) (unheard w t (wait_act l m p) call)) ∙ sym woken_so, goes_as))
       others_follow (begins_two (locks_of w) l (Wait m timed p) event _ follows.may (no_closure l (next.At (Wait m timed q2))))

@@ -60,7 +60,8 @@ module _ (v : State) (t l m : ℕ) (timed : Bool) (steady : IsSteady v) where
     held : one_if_some (taken_at (place_at v t) m) ≡ 1 → 1 ≤ standing t (lock_state v m)
     held one = let by = standing_by v t steady m in omega arith
 
-  rests_at : (q : WaitAt) → place_at v t ≡ Condvar l (Wait m timed q) → IsReached (Wait m timed q) → IsSettled q → (k : ℕ) × GoesAs v t k (outcome_of (wait_act l m q))
+  rests_at : (q : WaitAt) → place_at v t ≡ Condvar l (Wait m timed q) → IsReached (Wait m timed q) → IsSettled q
+      → (k : ℕ) × GoesAs v t k (outcome_of (wait_act l m q))
   rests_at wait.Enter there reached settled = (l, inl refl)
   rests_at wait.Show there reached settled = (l, inl refl)
   rests_at wait.Stand there reached settled = (l, inl refl)
@@ -85,7 +86,10 @@ module _ (v : State) (t l m : ℕ) (timed : Bool) (steady : IsSteady v) where
   rests_at (wait.Lock late (mutex.Lock entry.Lock again lock.Load)) there reached settled = (l, inl refl)
   rests_at (wait.Lock late (mutex.Lock entry.Lock again (lock.Decide seen))) there reached settled = (l, inl (decides (is_locked seen) (seen == 1)))
     where
-      decides : (a b : Bool) → outcome_of (if not a then act.Word m (op.TheVariants.Exchange seen (seen + 1)) else if b then act.Word m (op.TheVariants.Exchange 1 3) else act.Enter (One (2 * m))) ≡ outcome.TheVariants.Step
+      decides : (a b : Bool)
+          → outcome_of
+          (if not a then act.Word m (op.TheVariants.Exchange seen (seen + 1)) else if b then act.Word m (op.TheVariants.Exchange 1 3) else act.Enter (One (2 * m)))
+          ≡ outcome.TheVariants.Step
       decides false b = refl
       decides true true = refl
       decides true false = refl
@@ -99,6 +103,7 @@ module _ (v : State) (t l m : ℕ) (timed : Bool) (steady : IsSteady v) where
   rests_at (wait.Lock late a) there reached settled = absurd reached.1
 
   -- what it is told of its step
-  pub wait_rests : (n : Next WaitAt) → place_at v t ≡ condvar_goes l (in_wait m timed n) → IsSettledNext n → ToldSo v t (in_wait m timed n) (outcome_of (condvar_does l (in_wait m timed n)))
+  pub wait_rests : (n : Next WaitAt) → place_at v t ≡ condvar_goes l (in_wait m timed n) → IsSettledNext n
+      → ToldSo v t (in_wait m timed n) (outcome_of (condvar_does l (in_wait m timed n)))
   wait_rests (next.At q) there settled = rests_at q there (fits_here v t l (Wait m timed q) steady there).reached settled
   wait_rests (next.End answer) there settled = refl

@@ -44,7 +44,8 @@ use Rattle.lot_laws.proofs.WaitRests.{IsSettled, IsSettledNext}
 -- ---------------------------------------------------------------- who has handed a mutex over
 
 -- by its place
-handed_mutex : (at : MutexPlace) → (mutex_profile at).carries ≡ Some true → (b : Bool) × (at ≡ mutex.HandOff b (hand_off.Leave true))
+handed_mutex : (at : MutexPlace) → (mutex_profile at).carries ≡ Some true
+    → (b : Bool) × (at ≡ mutex.HandOff b (hand_off.Leave true))
 handed_mutex (mutex.Lock e again a) h = absurd cc
 handed_mutex mutex.TryLock h = absurd cc
 handed_mutex mutex.UnlockFair h = absurd cc
@@ -79,36 +80,45 @@ hands_none (Notify all m (notify.Leave false number)) reached h = cc
 hands_none (Notify all m p) reached h = cc
 
 module _ (w : State) (steady : IsSteady w) (u m : ℕ) (sort : (rules_in w m).sort ≡ locks.Mutex) where
-  has_handed : carried_at (place_at w u) m ≡ Some true → (b : Bool) × (place_at w u ≡ Mutex m (mutex.HandOff b (hand_off.Leave true)))
+  has_handed : carried_at (place_at w u) m ≡ Some true
+      → (b : Bool) × (place_at w u ≡ Mutex m (mutex.HandOff b (hand_off.Leave true)))
   has_handed h = by_place (place_at w u) refl (steady.stands.calls u) h
     where
-      by_place : (p : Place) → place_at w u ≡ p → FitsItsLock w p → carried_at p m ≡ Some true → (b : Bool) × (place_at w u ≡ Mutex m (mutex.HandOff b (hand_off.Leave true)))
+      by_place : (p : Place) → place_at w u ≡ p → FitsItsLock w p → carried_at p m ≡ Some true
+          → (b : Bool) × (place_at w u ≡ Mutex m (mutex.HandOff b (hand_off.Leave true)))
       by_place Idle is fits h = absurd cc
       by_place (Mutex k at) is fits h = either (k == m) refl h
         where
-          either : (b : Bool) → (k == m) ≡ b → (if b then station (Mutex k at) else nowhere).carries ≡ Some true → (b : Bool) × (place_at w u ≡ Mutex m (mutex.HandOff b (hand_off.Leave true)))
+          either : (b : Bool) → (k == m) ≡ b → (if b then station (Mutex k at) else nowhere).carries ≡ Some true
+              → (b : Bool) × (place_at w u ≡ Mutex m (mutex.HandOff b (hand_off.Leave true)))
           either true e g = let x = handed_mutex at g in (x.0, is ∙ ap (λ j. Mutex j at) (eqb-true k m e) ∙ ap (Mutex m) x.1)
           either false e g = absurd cc
       by_place (RwLock k a c) is fits h = either (k == m) refl h
         where
-          either : (b : Bool) → (k == m) ≡ b → (if b then station (RwLock k a c) else nowhere).carries ≡ Some true → (b : Bool) × (place_at w u ≡ Mutex m (mutex.HandOff b (hand_off.Leave true)))
+          either : (b : Bool) → (k == m) ≡ b → (if b then station (RwLock k a c) else nowhere).carries ≡ Some true
+              → (b : Bool) × (place_at w u ≡ Mutex m (mutex.HandOff b (hand_off.Leave true)))
           either true e g = absurd (let both : false ≡ true = sym (ap has_readers (ap (λ j. (rules_in w j).sort) (eqb-true k m e) ∙ sort)) ∙ fits.0.0 in cc)
           either false e g = absurd cc
       by_place (Once k at) is fits h = either (k == m) refl h
         where
-          either : (b : Bool) → (k == m) ≡ b → (if b then station (Once k at) else nowhere).carries ≡ Some true → (b : Bool) × (place_at w u ≡ Mutex m (mutex.HandOff b (hand_off.Leave true)))
+          either : (b : Bool) → (k == m) ≡ b → (if b then station (Once k at) else nowhere).carries ≡ Some true
+              → (b : Bool) × (place_at w u ≡ Mutex m (mutex.HandOff b (hand_off.Leave true)))
           either true e g = absurd (let both : locks.Once ≡ locks.Mutex = sym fits ∙ ap (λ j. (rules_in w j).sort) (eqb-true k m e) ∙ sort in cc)
           either false e g = absurd cc
       by_place (Condvar k at) is fits h = either (k == m) (is_lock m (mutex_beside at)) refl h
         where
-          either : (b there : Bool) → (k == m) ≡ b → (if b then station_by (condvar_profile at) else if there then station_by (mutex_side at) else nowhere).carries ≡ Some true → (b : Bool) × (place_at w u ≡ Mutex m (mutex.HandOff b (hand_off.Leave true)))
+          either : (b there : Bool) → (k == m) ≡ b
+              → (if b then station_by (condvar_profile at) else if there then station_by (mutex_side at) else nowhere).carries
+              ≡ Some true
+              → (b : Bool) × (place_at w u ≡ Mutex m (mutex.HandOff b (hand_off.Leave true)))
           either true there e g = absurd (let both : locks.Condvar ≡ locks.Mutex = sym fits.sort ∙ ap (λ j. (rules_in w j).sort) (eqb-true k m e) ∙ sort in cc)
           either false true e g = absurd (hands_none at fits.reached g)
           either false false e g = absurd cc
 
 -- who is inside the section of its mutex, and releases it, was not handed it meanwhile
 module _ (w : State) (t l m : ℕ) (timed : Bool) (steady : IsSteady w) where
-  never_handed : (u : ℕ) (any : Bool) → place_at w t ≡ Condvar l (Wait m timed (wait.Release (stands.Handed u) (mutex.Unlock (unlock.Leave any)))) → ⊥
+  never_handed : (u : ℕ) (any : Bool)
+      → place_at w t ≡ Condvar l (Wait m timed (wait.Release (stands.Handed u) (mutex.Unlock (unlock.Leave any)))) → ⊥
   never_handed u any is =
       let here = station_beside w t l (Wait m timed (wait.Release (stands.Handed u) (mutex.Unlock (unlock.Leave any)))) steady is m refl in
       let in_hand_of : (station_at (place_at w t) m).hand ≡ hand u true = ap (λ (y : Station). y.hand) here in
@@ -139,31 +149,39 @@ module _ (w : State) (t l m : ℕ) (timed : Bool) (steady : IsSteady w) where
   leaves true = tt
   leaves false = tt
 
-  subtracts : (s : Stands) → ((u : ℕ) → s ≡ stands.Handed u → ⊥) → (b : Bool) → IsSettled (released s (in_unlock (if b then next.At unlock.Enter else next.End answer.Ok)))
+  subtracts : (s : Stands) → ((u : ℕ) → s ≡ stands.Handed u → ⊥) → (b : Bool)
+      → IsSettled (released s (in_unlock (if b then next.At unlock.Enter else next.End answer.Ok)))
   subtracts s free true = tt
   subtracts s free false = settled_behind s free
 
-  takes : (s : Stands) (any b : Bool) → IsSettled (released s (in_unlock (if b then next.At (unlock.Clear any) else next.At (unlock.Leave any))))
+  takes : (s : Stands) (any b : Bool)
+      → IsSettled (released s (in_unlock (if b then next.At (unlock.Clear any) else next.At (unlock.Leave any))))
   takes s any true = tt
   takes s any false = tt
 
   module _ (late : Bool) where
-    by_two : (b : Bool) (x y : Next LockAt) → ((again : Bool) → IsSettledNext (relocked timed late (in_lock entry.Lock again x))) → ((again : Bool) → IsSettledNext (relocked timed late (in_lock entry.Lock again y)))
+    by_two : (b : Bool) (x y : Next LockAt) → ((again : Bool) → IsSettledNext (relocked timed late (in_lock entry.Lock again x)))
+        → ((again : Bool) → IsSettledNext (relocked timed late (in_lock entry.Lock again y)))
         → (again : Bool) → IsSettledNext (relocked timed late (in_lock entry.Lock again (if b then x else y)))
     by_two true x y h k = h
     by_two false x y h k = k
 
-    sees : (seen : ℕ) (again other locked : Bool) → IsSettledNext (relocked timed late (in_lock entry.Lock again (if other then next.At (lock.Decide (word_at w m)) else if locked then next.At (lock.Decide 3) else next.End (entered entry.Lock))))
+    sees : (seen : ℕ) (again other locked : Bool)
+        → IsSettledNext
+        (relocked timed late (in_lock entry.Lock again (if other then next.At (lock.Decide (word_at w m)) else if locked then next.At (lock.Decide 3) else next.End (entered entry.Lock))))
     sees seen again true locked = tt
     sees seen again false true = tt
     sees seen again false false = tt
 
-    decides : (seen : ℕ) (again a b : Bool) → IsSettledNext (relocked timed late (mutex_next (mutex.Lock entry.Lock again (lock.Decide seen)) (reply_to w t (if not a then act.Word m (op.TheVariants.Exchange seen (seen + 1)) else if b then act.Word m (op.TheVariants.Exchange 1 3) else act.Enter (One (2 * m))))))
+    decides : (seen : ℕ) (again a b : Bool)
+        → IsSettledNext
+        (relocked timed late (mutex_next (mutex.Lock entry.Lock again (lock.Decide seen)) (reply_to w t (if not a then act.Word m (op.TheVariants.Exchange seen (seen + 1)) else if b then act.Word m (op.TheVariants.Exchange 1 3) else act.Enter (One (2 * m))))))
     decides seen again false b = sees seen again (not (word_at w m == seen)) (is_locked (word_at w m))
     decides seen again true true = sees seen again (not (word_at w m == seen)) (is_locked (word_at w m))
     decides seen again true false = tt
 
-    lock_settles : (again : Bool) (a : LockAt) → IsLockOf a → can_do w (lock_act m a) ≡ true → IsSettledNext (relocked timed late (mutex_next (mutex.Lock entry.Lock again a) (reply_to w t (lock_act m a))))
+    lock_settles : (again : Bool) (a : LockAt) → IsLockOf a → can_do w (lock_act m a) ≡ true
+        → IsSettledNext (relocked timed late (mutex_next (mutex.Lock entry.Lock again a) (reply_to w t (lock_act m a))))
     lock_settles again lock.First of can = by_two (word_at w m == 0) (next.End _) (next.At lock.Load) (λ g. tt) (λ g. tt) again
     lock_settles again lock.Load of can = tt
     lock_settles again (lock.Decide seen) of can = decides seen again (is_locked seen) (seen == 1)
@@ -175,7 +193,8 @@ module _ (w : State) (t l m : ℕ) (timed : Bool) (steady : IsSteady w) where
     lock_settles again lock.Accept of can = tt
     lock_settles again a of can = absurd of
 
-  pub wait_settles : (p : WaitAt) → place_at w t ≡ Condvar l (Wait m timed p) → IsReached (Wait m timed p) → can_do w (wait_act l m p) ≡ true → Step p
+  pub wait_settles : (p : WaitAt) → place_at w t ≡ Condvar l (Wait m timed p) → IsReached (Wait m timed p)
+      → can_do w (wait_act l m p) ≡ true → Step p
   wait_settles wait.Enter is reached can = tt
   wait_settles wait.Show is reached can = shows _
   wait_settles wait.Stand is reached can = tt

@@ -47,7 +47,8 @@ module _ (t l m : ℕ) (keeps : Keeps t) (timed : Bool) where
   abbrev InRelease : UnlockAt → Place → Type 0
   InRelease at p = (s : Stands) × (p ≡ Condvar l (Wait m timed (releasing s at)))
 
-  told_there : (at : UnlockAt) (s : Stands) (r : Reply) → Befalls r → InRelease at (next_place (Condvar l (Wait m timed (releasing s at))) r)
+  told_there : (at : UnlockAt) (s : Stands) (r : Reply) → Befalls r
+      → InRelease at (next_place (Condvar l (Wait m timed (releasing s at))) r)
   told_there at s (TakenBy u) h = (befallen s (TakenBy u), refl)
   told_there at s (MovedTo key) h = (befallen s (MovedTo key), refl)
   told_there at s (HandedBy u alone) h = (befallen s (HandedBy u alone), refl)
@@ -62,7 +63,8 @@ module _ (t l m : ℕ) (keeps : Keeps t) (timed : Bool) where
     abbrev LeftThere : (State → Outcome → Type 0) → ℕ → Reply → Type 0
     LeftThere P k r = (s2 : Stands) → Behind t l m keeps w (Wait m timed (releasing s at)) g P k (condvar_next (Wait m timed (releasing s2 at)) r)
 
-    goes_there : (P : State → Outcome → Type 0) (k : ℕ) → can_do w (unlock_act m at) ≡ true → LeftThere P k (reply_to w t (unlock_act m at)) → Leads (k + 1) w t P
+    goes_there : (P : State → Outcome → Type 0) (k : ℕ) → can_do w (unlock_act m at) ≡ true
+        → LeftThere P k (reply_to w t (unlock_act m at)) → Leads (k + 1) w t P
     goes_there P k can left = leads_behind t l m keeps w (Wait m timed (releasing s at)) g can P k (Wait m timed (releasing in_release.0 at)) in_release.1 (left in_release.0)
 
   module _ (w : State) (at : WaitAt) (g : Alone w at) where
@@ -70,7 +72,8 @@ module _ (t l m : ℕ) (keeps : Keeps t) (timed : Bool) where
     abbrev pub Left : (State → Outcome → Type 0) → ℕ → Reply → Type 0
     Left P k r = Behind t l m keeps w (Wait m timed at) g P k (condvar_next (Wait m timed at) r)
 
-    pub goes : (P : State → Outcome → Type 0) (k : ℕ) → is_release at ≡ false → can_do w (wait_act l m at) ≡ true → Left P k (reply_to w t (wait_act l m at)) → Leads (k + 1) w t P
+    pub goes : (P : State → Outcome → Type 0) (k : ℕ) → is_release at ≡ false → can_do w (wait_act l m at) ≡ true
+        → Left P k (reply_to w t (wait_act l m at)) → Leads (k + 1) w t P
     goes P k calm can left = leads_behind t l m keeps w (Wait m timed at) g can P k (Wait m timed at) (calm_waiter w t l m timed at g.place (reached t l m keeps w (Wait m timed at) g) g.thread calm) left
 
   -- ---------------------------------------------------------------- its release
@@ -89,7 +92,9 @@ module _ (t l m : ℕ) (keeps : Keeps t) (timed : Bool) where
     takes : (w : State) (s : Stands) → J w → Alone w (releasing s unlock.Take) → Leads 11 w t P
     takes w s j g = goes_there w s unlock.Take g P 10 refl (λ s2. taken s2 _ (length (drop 1 (queue_at w (2 * m))) == 0))
       where
-        taken : (s2 : Stands) (any none_left : Bool) → Behind t l m keeps w (Wait m timed (releasing s unlock.Take)) g P 10 (condvar_next (Wait m timed (releasing s2 unlock.Take)) (Took any none_left))
+        taken : (s2 : Stands) (any none_left : Bool)
+            → Behind t l m keeps w (Wait m timed (releasing s unlock.Take)) g P 10
+            (condvar_next (Wait m timed (releasing s2 unlock.Take)) (Took any none_left))
         taken s2 any true h = inr (refl, clears (after w (go_of t)) s2 any (kept w s unlock.Take g (λ e. cc) refl j) h)
         taken s2 any false h = inr (refl, leads_more 9 10 (after w (go_of t)) t P (omega arith) (wakes (after w (go_of t)) s2 any (kept w s unlock.Take g (λ e. cc) refl j) h))
 
@@ -102,17 +107,22 @@ module _ (t l m : ℕ) (keeps : Keeps t) (timed : Bool) where
     pub subtracts : (w : State) (s : Stands) (g : Alone w (releasing s unlock.Subtract)) → J (after w (go_of t)) → Leads 13 w t P
     subtracts w s g j = goes_there w s unlock.Subtract g P 12 refl (λ s2. seen s2 (word_at w m))
       where
-        seen : (s2 : Stands) (v : ℕ) → Behind t l m keeps w (Wait m timed (releasing s unlock.Subtract)) g P 12 (condvar_next (Wait m timed (releasing s2 unlock.Subtract)) (Value v))
+        seen : (s2 : Stands) (v : ℕ)
+            → Behind t l m keeps w (Wait m timed (releasing s unlock.Subtract)) g P 12
+            (condvar_next (Wait m timed (releasing s2 unlock.Subtract)) (Value v))
         seen s2 v = either (is_parked v)
           where
-            either : (b : Bool) → Behind t l m keeps w (Wait m timed (releasing s unlock.Subtract)) g P 12 (next.At (Wait m timed (released s2 (in_unlock (if b then next.At unlock.Enter else next.End answer.Ok)))))
+            either : (b : Bool)
+                → Behind t l m keeps w (Wait m timed (releasing s unlock.Subtract)) g P 12
+                (next.At (Wait m timed (released s2 (in_unlock (if b then next.At unlock.Enter else next.End answer.Ok)))))
             either true h = inr (refl, enters (after w (go_of t)) s2 j h)
             either false h = elim (finish (after w (go_of t)) s2 j h) [
               | inl asleep ↦ inl asleep
               | inr on ↦ inr (on.0, leads_more 8 12 (after w (go_of t)) t P (omega arith) on.1)
             ]
 
-    pub releases : (w : State) (s : Stands) (at : UnlockAt) → at ≢ unlock.Subtract → J w → Alone w (releasing s at) → Leads 12 w t P
+    pub releases : (w : State) (s : Stands) (at : UnlockAt) → at ≢ unlock.Subtract → J w → Alone w (releasing s at)
+        → Leads 12 w t P
     releases w s unlock.Subtract other j g = absurd (other refl)
     releases w s unlock.Enter other j g = enters w s j g
     releases w s unlock.Take other j g = leads_more 11 12 w t P (omega arith) (takes w s j g)
@@ -128,7 +138,8 @@ module _ (t l m : ℕ) (keeps : Keeps t) (timed : Bool) where
   relocks_first w late again g = relock_rests t l m keeps timed late w again lock.First tt (λ e. cc) g
 
   released_rests : (w : State) (s : Stands) → Unit {0} → Alone w (behind s)
-      → ((outcome_of (wait_act l m (behind s)) ≡ outcome.Sleep) × Rests outcome.Sleep) ⊎ ((outcome_of (wait_act l m (behind s)) ≡ outcome.Step) × RestsIn 8 w)
+      → ((outcome_of (wait_act l m (behind s)) ≡ outcome.Sleep) × Rests outcome.Sleep)
+      ⊎ ((outcome_of (wait_act l m (behind s)) ≡ outcome.Step) × RestsIn 8 w)
   released_rests w (stands.Noted note.Normal) j g = inr (refl, relocks_first w false true g)
   released_rests w (stands.Noted note.HandOff) j g = inr (refl, relock_rests t l m keeps timed false w false lock.Accept tt (λ e. cc) g)
   released_rests w stands.Listed j g = inl (refl, tt)
@@ -177,7 +188,9 @@ module _ (t l m : ℕ) (keeps : Keeps t) (timed : Bool) where
       seen : (v : ℕ) → Left w wait.Show g (λ v o. Rests o) 15 (Value v)
       seen v = either ((v == 0) || is_shown v m)
         where
-          either : (b : Bool) → Behind t l m keeps w (Wait m timed wait.Show) g (λ v o. Rests o) 15 (in_wait m timed (if b then next.At wait.Stand else next.At wait.Refuse))
+          either : (b : Bool)
+              → Behind t l m keeps w (Wait m timed wait.Show) g (λ v o. Rests o) 15
+              (in_wait m timed (if b then next.At wait.Stand else next.At wait.Refuse))
           either true = λ h. inr (refl, stands_last (after w (go_of t)) h)
           either false = λ h. inr (refl, leads_more 1 15 (after w (go_of t)) t (λ v o. Rests o) (omega arith) (refuses (after w (go_of t)) h))
 
@@ -186,7 +199,8 @@ module _ (t l m : ℕ) (keeps : Keeps t) (timed : Bool) where
   into_section w g = ap is_none (free_here t l m keeps w (Wait m timed wait.Enter) g refl)
 
   -- from any place where it is awake
-  pub wait_rests : (w : State) (at : WaitAt) → IsReached (Wait m timed at) → wait_act l m at ≢ act.Sleep → Alone w at → RestsIn 17 w
+  pub wait_rests : (w : State) (at : WaitAt) → IsReached (Wait m timed at) → wait_act l m at ≢ act.Sleep → Alone w at
+      → RestsIn 17 w
   wait_rests w wait.Enter reached up g = goes w wait.Enter g (λ v o. Rests o) 16 refl (into_section w g) (λ h. inr (refl, shows (after w (go_of t)) h))
   wait_rests w wait.Show reached up g = leads_more 16 17 w t (λ v o. Rests o) (omega arith) (shows w g)
   wait_rests w wait.Stand reached up g = leads_more 15 17 w t (λ v o. Rests o) (omega arith) (stands_last w g)

@@ -41,7 +41,8 @@ use Rattle.lot_laws.proofs.Glue.{aparts, held_tells, same, differ, mutex, taken_
 use Rattle.lot_laws.proofs.Handed.{CarriesAt, in_hand_here}
 
 -- told something by another thread, it goes to a place: what the lock l sees then, and where it may stand there
-pub record IsTold (l : ℕ) (p q : Place) (may : Type 0) (goes : Station → Station) (does : Doing → Doing) (held : Option Taken) : Type 0 where
+pub record IsTold (l : ℕ) (p q : Place) (may : Type 0) (goes : Station → Station) (does : Doing → Doing)
+    (held : Option Taken) : Type 0 where
   pub station : station_at q l ≡ goes (station_at p l)
   pub doing : doing_on q l ≡ does (doing_on p l)
   pub taken : taken_at q l ≡ held
@@ -88,9 +89,11 @@ calls_mutex_at w l Idle fits rules = tt
 
 -- ---------------------------------------------------------------- in a call of one lock
 
-module _ (l : ℕ) (at at2 : MutexPlace) (may : Type 0) (goes : Station → Station) (does : Doing → Doing) (held : Option Taken) where
+module _ (l : ℕ) (at at2 : MutexPlace) (may : Type 0) (goes : Station → Station) (does : Doing → Doing)
+    (held : Option Taken) where
   -- by its rows
-  mutex_told : mutex_station at2 ≡ goes (mutex_station at) → (mutex_row at2).doing ≡ does (mutex_row at).doing → taken_from (mutex_row at2).hand (mutex_row at2).wants true ≡ held → IsTold l (Mutex l at) (Mutex l at2) may goes does held
+  mutex_told : mutex_station at2 ≡ goes (mutex_station at) → (mutex_row at2).doing ≡ does (mutex_row at).doing
+      → taken_from (mutex_row at2).hand (mutex_row at2).wants true ≡ held → IsTold l (Mutex l at) (Mutex l at2) may goes does held
   mutex_told s d h = record {
     station = rw (same l) s;
     doing = rw (same l) d;
@@ -120,7 +123,9 @@ module _ (k l : ℕ) (apart : k ≢ l) where
     taken_beside = rw (other, of, same l) refl
 
   -- at any lock but the mutex it has the parts of its row at the condition variable, or none
-  module _ (p p2 : CondvarPlace) (of : mutex_beside p ≡ Some l) (of2 : mutex_beside p2 ≡ Some l) (stood : station_by (condvar_profile p2) ≡ station_by (condvar_profile p)) (did : (condvar_profile p2).doing ≡ (condvar_profile p).doing) where
+  module _ (p p2 : CondvarPlace) (of : mutex_beside p ≡ Some l) (of2 : mutex_beside p2 ≡ Some l)
+      (stood : station_by (condvar_profile p2) ≡ station_by (condvar_profile p))
+      (did : (condvar_profile p2).doing ≡ (condvar_profile p).doing) where
     condvar_same : (j : ℕ) → j ≢ l → Alike j (Condvar k p) (Condvar k p2)
     condvar_same j ne = either (k == j) refl
       where
@@ -132,8 +137,10 @@ module _ (k l : ℕ) (apart : k ≢ l) where
         either false e = record { station = rw (e, of, of2, elsewhere) refl; doing = rw (e, of, of2, elsewhere) refl; taken = rw (e, of, of2, elsewhere) refl }
 
     -- by its rows
-    condvar_told : (may : Type 0) (goes : Station → Station) (does : Doing → Doing) (held : Option Taken) → station_by (mutex_side p2) ≡ goes (station_by (mutex_side p)) → (mutex_side p2).doing ≡ does (mutex_side p).doing
-        → taken_from (mutex_side p2).hand (mutex_side p2).wants true ≡ held → (may → IsReached p → IsReached p2) → IsTold l (Condvar k p) (Condvar k p2) may goes does held
+    condvar_told : (may : Type 0) (goes : Station → Station) (does : Doing → Doing) (held : Option Taken)
+        → station_by (mutex_side p2) ≡ goes (station_by (mutex_side p)) → (mutex_side p2).doing ≡ does (mutex_side p).doing
+        → taken_from (mutex_side p2).hand (mutex_side p2).wants true ≡ held → (may → IsReached p → IsReached p2)
+        → IsTold l (Condvar k p) (Condvar k p2) may goes does held
     condvar_told may goes does held s d h reached = record {
       station = station_beside p2 of2 ∙ s ∙ ap goes (sym (station_beside p of));
       doing = doing_beside p2 of2 ∙ d ∙ ap does (sym (doing_beside p of));
@@ -159,7 +166,8 @@ module _ (k l : ℕ) (apart : k ≢ l) (m : ℕ) (timed : Bool) (of : mutex_besi
     taken = λ t. condvar_told k l apart (Wait m timed (wait.Release stands.Moved at)) (Wait m timed (wait.Release (stands.InHand t) at)) of of refl refl _ _ _ _ refl refl refl (λ y h. h);
   }
 
-  release_claims : (at : MutexPlace) → IsRelease at → ((mutex_profile at).doing.claims ≡ None) ⊎ ((mutex_profile at).doing.claims ≡ Some (Has Exclusive))
+  release_claims : (at : MutexPlace) → IsRelease at
+      → ((mutex_profile at).doing.claims ≡ None) ⊎ ((mutex_profile at).doing.claims ≡ Some (Has Exclusive))
   release_claims (Unlock unlock.Subtract) h = inr refl
   release_claims (Unlock at) h = inl refl
   release_claims at h = absurd h
@@ -235,7 +243,8 @@ module _ (k l : ℕ) (apart : k ≢ l) (m : ℕ) (timed : Bool) (of : mutex_besi
 -- ---------------------------------------------------------------- wherever it stands
 
 -- a notification stands in no line, and is in nobody's hand
-pub notifier_stands : (all : Bool) (m : ℕ) (at : NotifyAt) → ((notify_row all m at).moved ≡ false) × ((notify_row all m at).hand ≡ None)
+pub notifier_stands : (all : Bool) (m : ℕ) (at : NotifyAt)
+    → ((notify_row all m at).moved ≡ false) × ((notify_row all m at).hand ≡ None)
 notifier_stands all m notify.Enter = (refl, refl)
 notifier_stands all m notify.Again = (refl, refl)
 notifier_stands all m notify.Hide = (refl, refl)
@@ -276,7 +285,8 @@ module _ (k l : ℕ) (apart : k ≢ l) (m : ℕ) (timed : Bool) (of : mutex_besi
   wait_stands (wait.Lock late (Lock e r lock.Remove)) h = inl refl
   wait_stands at h = absurd cc
 
-  wait_held : (t : ℕ) (at : WaitAt) → IsReached (Wait m timed at) → (side at).hand ≡ hand t false → IsHeldThere l t (Condvar k (Wait m timed at))
+  wait_held : (t : ℕ) (at : WaitAt) → IsReached (Wait m timed at) → (side at).hand ≡ hand t false
+      → IsHeldThere l t (Condvar k (Wait m timed at))
   wait_held t (wait.Release (stands.InHand by) at) reached h = let who : by ≡ t = cc in rw who (release_held k l apart m timed of t at reached.0)
   wait_held t (wait.Release s at) reached h = absurd cc
   wait_held t (wait.Asleep (stands.InHand by)) reached h = let who : by ≡ t = cc in rw who (asleep_held k l apart m timed of t)
@@ -294,7 +304,8 @@ module _ (k l : ℕ) (apart : k ≢ l) (m : ℕ) (timed : Bool) (of : mutex_besi
 
 -- at the mutex that it calls
 module _ (l : ℕ) where
-  mutex_stands : (at : MutexPlace) → (mutex_station at).stands ≡ Some Main → ((mutex_station at).inside ≡ Some Main) ⊎ SleepsAt l (Mutex l at)
+  mutex_stands : (at : MutexPlace) → (mutex_station at).stands ≡ Some Main
+      → ((mutex_station at).inside ≡ Some Main) ⊎ SleepsAt l (Mutex l at)
   mutex_stands (Lock e r (lock.Leave true)) h = inl refl
   mutex_stands (Lock e r lock.Asleep) h = inr (record {
     free = ap (λ b. (if b then mutex_station (Lock e r lock.Asleep) else nowhere).hand) (same l);
@@ -345,7 +356,8 @@ module _ (l : ℕ) (T : Place → Type 0) {A : Type 0} (g : Station → A) (x : 
       by_call (Notify all m at) reached named f = notifies k of.0 all m at named f
 
 -- who stands in the line of the mutex is inside its section, or sleeps there
-pub stands_or_sleeps : (p : Place) (l : ℕ) → CallsMutex l p → (station_at p l).stands ≡ Some Main → ((station_at p l).inside ≡ Some Main) ⊎ SleepsAt l p
+pub stands_or_sleeps : (p : Place) (l : ℕ) → CallsMutex l p → (station_at p l).stands ≡ Some Main
+    → ((station_at p l).inside ≡ Some Main) ⊎ SleepsAt l p
 stands_or_sleeps p l = by_row l (λ q. ((station_at q l).inside ≡ Some Main) ⊎ SleepsAt l q) (λ (s : Station). s.stands) (Some Main) (λ h. cc)
     (λ at h. elim (mutex_stands l at h) [
       | inl within ↦ inl (ap (λ b. (if b then mutex_station at else nowhere).inside) (same l) ∙ within)
@@ -371,7 +383,8 @@ mutex_wanted : (at : MutexPlace) (t : ℕ) (b : Bool) → (mutex_station at).han
 mutex_wanted (Lock e r at) t b h = refl
 mutex_wanted at t b h = absurd cc
 
-wait_wanted : (m : ℕ) (timed : Bool) (at : WaitAt) (t : ℕ) (b : Bool) → (mutex_side (Wait m timed at)).hand ≡ hand t b → (mutex_side (Wait m timed at)).wants ≡ Some Exclusive
+wait_wanted : (m : ℕ) (timed : Bool) (at : WaitAt) (t : ℕ) (b : Bool) → (mutex_side (Wait m timed at)).hand ≡ hand t b
+    → (mutex_side (Wait m timed at)).wants ≡ Some Exclusive
 wait_wanted m timed (wait.Release stands.Listed at) t b h = absurd cc
 wait_wanted m timed (wait.Release s at) t b h = refl
 wait_wanted m timed (wait.Asleep stands.Listed) t b h = absurd cc
@@ -390,7 +403,8 @@ held_wants p t l b = by_row l (λ q. wants q ≡ Some Exclusive) (λ (s : Statio
     (λ k apart all m at of h. absurd (let f : ◌≡◌ {A = Option Hand} None (hand t b) = sym (notifier_stands all m at).1 ∙ h in cc)) p
 
 -- so does each whom t has in hand, where it has nobody in hand elsewhere
-pub held_alone : {one : ℕ → Type 0} (p : ℕ → Place) → ((u : ℕ) → IsApart (p u)) → Hands one p → (t l : ℕ) → CarriesAt l (p t) → ((u : ℕ) → CallsMutex l (p u)) → (u : ℕ) → WantsAlone t (p u)
+pub held_alone : {one : ℕ → Type 0} (p : ℕ → Place) → ((u : ℕ) → IsApart (p u)) → Hands one p → (t l : ℕ) → CarriesAt l (p t)
+    → ((u : ℕ) → CallsMutex l (p u)) → (u : ℕ) → WantsAlone t (p u)
 held_alone p apart hands t l here mutexes u h = let x = in_hand_where (p u) t (apart u) h in
     held_wants (p u) t l x.handed (mutexes u) (subst (λ k. hand_at (p u) k ≡ hand t x.handed) (in_hand_here p hands t l u here x) x.hand)
 

@@ -55,26 +55,31 @@ module _ (w : State) (steady : IsSteady w) (l : ℕ) (sort : (rules_in w l).sort
     by_place Idle is fits some = absurd (omega arith)
     by_place (Mutex k at) is fits some = either (k == l) refl some
       where
-        either : (b : Bool) → (k == l) ≡ b → 1 ≤ stood_in (if b then station (Mutex k at) else nowhere).stands Main → WaitsThere w u l
+        either : (b : Bool) → (k == l) ≡ b → 1 ≤ stood_in (if b then station (Mutex k at) else nowhere).stands Main
+            → WaitsThere w u l
         either true e h = absurd (no_mutex (sort_at k locks.Mutex e (ap (λ (r : Rules). r.sort) (mutex_rules (kind_at w k) fits))))
         either false e h = absurd (omega arith)
     by_place (RwLock k a c) is fits some = either (k == l) refl some
       where
-        either : (b : Bool) → (k == l) ≡ b → 1 ≤ stood_in (if b then station (RwLock k a c) else nowhere).stands Main → WaitsThere w u l
+        either : (b : Bool) → (k == l) ≡ b → 1 ≤ stood_in (if b then station (RwLock k a c) else nowhere).stands Main
+            → WaitsThere w u l
         either true e h = absurd (let none : false ≡ true = sym (ap has_readers (ap (λ j. (rules_in w j).sort) (eqb-true k l e) ∙ sort)) ∙ fits.0.0 in cc)
         either false e h = absurd (omega arith)
     by_place (Once k at) is fits some = either (k == l) refl some
       where
-        either : (b : Bool) → (k == l) ≡ b → 1 ≤ stood_in (if b then station (Once k at) else nowhere).stands Main → WaitsThere w u l
+        either : (b : Bool) → (k == l) ≡ b → 1 ≤ stood_in (if b then station (Once k at) else nowhere).stands Main
+            → WaitsThere w u l
         either true e h = absurd (no_once (sort_at k locks.Once e fits))
         either false e h = absurd (omega arith)
     by_place (Condvar k at) is fits some = either (k == l) refl some
       where
-        beside : (o : Option ℕ) → mutex_beside at ≡ o → 1 ≤ stood_in (if is_lock l o then station_by (mutex_side at) else nowhere).stands Main → WaitsThere w u l
+        beside : (o : Option ℕ) → mutex_beside at ≡ o
+            → 1 ≤ stood_in (if is_lock l o then station_by (mutex_side at) else nowhere).stands Main → WaitsThere w u l
         beside None e h = absurd (omega arith)
         beside (Some m) e h = here (m == l) refl h
           where
-            here : (b : Bool) → (m == l) ≡ b → 1 ≤ stood_in (if b then station_by (mutex_side at) else nowhere).stands Main → WaitsThere w u l
+            here : (b : Bool) → (m == l) ≡ b → 1 ≤ stood_in (if b then station_by (mutex_side at) else nowhere).stands Main
+                → WaitsThere w u l
             here true f g = absurd (no_mutex (sort_at m locks.Mutex f (plain_sort (kind_at w m) (fits.mutex m e))))
             here false f g = absurd (omega arith)
 
@@ -82,7 +87,11 @@ module _ (w : State) (steady : IsSteady w) (l : ℕ) (sort : (rules_in w l).sort
         listed true h = refl
         listed false h = absurd (omega arith)
 
-        either : (b : Bool) → (k == l) ≡ b → 1 ≤ stood_in (if b then station_by (condvar_profile at) else if is_lock l (mutex_beside at) then station_by (mutex_side at) else nowhere).stands Main → WaitsThere w u l
+        either : (b : Bool) → (k == l) ≡ b
+            → 1
+            ≤ stood_in
+            (if b then station_by (condvar_profile at) else if is_lock l (mutex_beside at) then station_by (mutex_side at) else nowhere).stands Main
+            → WaitsThere w u l
         either true e h = record { at = at; is = is ∙ ap (λ j. Condvar j at) (eqb-true k l e); listed = listed (condvar_row at).listed h }
         either false e h = beside (mutex_beside at) refl h
 
@@ -92,7 +101,8 @@ module _ (w : State) (steady : IsSteady w) (l : ℕ) (sort : (rules_in w l).sort
   pub waits_aside : (m : ℕ) → WaitsAside (condvar_of w l) (site_of w m) m
   waits_aside m u some names = let x = waits_there u some in by_at x.at x.is x.listed
     where
-      by_at : (at : CondvarPlace) → place_at w u ≡ Condvar l at → (condvar_row at).listed ≡ true → (standing u (lock_state w m) ≡ 0) × ((doing_on (place_at w u) m).retries ≡ None)
+      by_at : (at : CondvarPlace) → place_at w u ≡ Condvar l at → (condvar_row at).listed ≡ true
+          → (standing u (lock_state w m) ≡ 0) × ((doing_on (place_at w u) m).retries ≡ None)
       by_at (Look all) is listed = absurd cc
       by_at (Notify all k at) is listed = absurd (let none : false ≡ true = sym (unlisted all k at) ∙ listed in cc)
       by_at (Wait k timed at) is listed = subst Nowhere named (standing_none, doing_none)

@@ -53,7 +53,8 @@ use Rattle.lot_laws.proofs.CondvarHears.{taken_by_wait, waiter_hears}
 use Rattle.lot_laws.proofs.MutexActs.{IsOfWord, works_at}
 use Rattle.lot_acts.specs.declared.acts.Act.{Act}
 
-module _ (w : State) (t l m : ℕ) (timed : Bool) (steady : IsSteady w) (is_there : t < length w.places) (apart : m ≢ l) (sort : (rules_in w m).sort ≡ locks.Mutex) where
+module _ (w : State) (t l m : ℕ) (timed : Bool) (steady : IsSteady w) (is_there : t < length w.places) (apart : m ≢ l)
+    (sort : (rules_in w m).sort ≡ locks.Mutex) where
   abbrev waits : WaitAt → CondvarPlace
   waits at = Wait m timed at
 
@@ -82,21 +83,24 @@ module _ (w : State) (t l m : ℕ) (timed : Bool) (steady : IsSteady w) (is_ther
     pub station_then : station_at (condvar_goes l n) m ≡ station_by (row_beside n)
     station_then = station_beside l m apart n stays.0
 
-    pub taken_was : taken_at (place_at w t) m ≡ taken_from (row_beside (At (waits at))).hand (row_beside (At (waits at))).wants true
+    pub taken_was : taken_at (place_at w t) m
+        ≡ taken_from (row_beside (At (waits at))).hand (row_beside (At (waits at))).wants true
     taken_was = ap (λ q. taken_at q m) is ∙ taken_beside l m apart (At (waits at)) refl
 
     pub taken_then : taken_at (condvar_goes l n) m ≡ taken_from (row_beside n).hand (row_beside n).wants true
     taken_then = taken_beside l m apart n stays.0
 
   -- what it does about the mutex at the next place
-  pub does_next : (n : Next WaitAt) → (beside : Beside m (in_wait m timed n)) → doing_on (condvar_goes l (in_wait m timed n)) m ≡ waiter_next m n
+  pub does_next : (n : Next WaitAt) → (beside : Beside m (in_wait m timed n))
+      → doing_on (condvar_goes l (in_wait m timed n)) m ≡ waiter_next m n
   does_next n beside = doing_beside l m apart (in_wait m timed n) beside ∙ by_next n
     where
       by_next : (n : Next WaitAt) → (row_beside (in_wait m timed n)).doing ≡ waiter_next m n
       by_next (At at) = refl
       by_next (Over answer) = refl
 
-  pub follows : (at : WaitAt) → place_at w t ≡ Condvar l (waits at) → (whom : Option ℕ) (told : Reply) → MayHearWaiter r here t at whom told → WaiterFollows r here t m timed at whom told
+  pub follows : (at : WaitAt) → place_at w t ≡ Condvar l (waits at) → (whom : Option ℕ) (told : Reply)
+      → MayHearWaiter r here t at whom told → WaiterFollows r here t m timed at whom told
   follows at is whom told may = waiters_follow r here t m timed at whom told sort (steady.sites.site m) (hears.doing_beside w t l (waits at) steady is m refl) may
 
   -- ---------------------------------------------------------------- the word
@@ -124,7 +128,8 @@ module _ (w : State) (t l m : ℕ) (timed : Bool) (steady : IsSteady w) (is_ther
       (station_by (row_beside n) ≡ station_by (row_beside (At (waits at))))
       × (taken_from (row_beside n).hand (row_beside n).wants true ≡ taken_from (row_beside (At (waits at))).hand (row_beside (At (waits at))).wants true)
 
-  module _ (at : WaitAt) (is : place_at w t ≡ Condvar l (waits at)) (op : Op) (acts_so : wait_act l m at ≡ act.Word m op) (can : can_do w (wait_act l m at) ≡ true) (lt : m < length w.locks) (nobody : taken_by_wait w m at ≡ None) where
+  module _ (at : WaitAt) (is : place_at w t ≡ Condvar l (waits at)) (op : Op) (acts_so : wait_act l m at ≡ act.Word m op)
+      (can : can_do w (wait_act l m at) ≡ true) (lt : m < length w.locks) (nobody : taken_by_wait w m at ≡ None) where
     abbrev does : List Deed
     does = waiter_deeds at None (Value (word_at w m))
 
@@ -141,8 +146,10 @@ module _ (w : State) (t l m : ℕ) (timed : Bool) (steady : IsSteady w) (is_ther
     leaves = waiters_code r here t l m timed at op (owners_at w m) sort (λ e. apart (sym e)) (steady.sites.site m) (hears.doing_beside w t l (waits at) steady is m refl)
         (subst (λ v. MayHearWaiter r here t at None (Value v)) (steady.sites.word m) may_hear) acts_so refl
 
-    pub works : StaysThere at (in_wait m timed next) → StaysBeside at (in_wait m timed next) → FitsItsLock w (condvar_goes l (in_wait m timed next)) → IsOfWord does → KeepsOthers at
-        → Goes w (put (state_after_operation w t (Condvar l (waits at)) m op) t (condvar_goes l (in_wait m timed next))) m (acts t does)
+    pub works : StaysThere at (in_wait m timed next) → StaysBeside at (in_wait m timed next)
+        → FitsItsLock w (condvar_goes l (in_wait m timed next)) → IsOfWord does → KeepsOthers at
+        → Goes w (put (state_after_operation w t (Condvar l (waits at)) m op) t (condvar_goes l (in_wait m timed next))) m
+        (acts t does)
     works stays same fits of_word others = works_at w t m steady is_there sort (condvar_goes l (in_wait m timed next)) (alike at is (in_wait m timed next) stays) fits (Condvar l (waits at)) op lt does of_word refl f.needed
         (f.doing ∙ unwoken does (waiter_next m next) of_word ∙ sym (does_next next stays.0))
         (others ∙ ap (with_exclusive (owners_at w m)) (subst (λ v. (condvar_owners (waits at) t v (owners_at w m)).exclusive ≡ (laws.after_all r (waiter_deeds at None (Value v)) here t).lock.exclusive) (sym (steady.sites.word m)) leaves.owner))
@@ -201,11 +208,15 @@ module _ (w : State) (t l m : ℕ) (timed : Bool) (steady : IsSteady w) (is_ther
       subtracts_word true = tt
       subtracts_word false = tt
 
-      pub subtracts : place_at w t ≡ Condvar l (waits (releasing s unlock.Subtract)) → FitsNext (releasing s unlock.Subtract) (act.Word m (op.Sub 1)) → Kept (releasing s unlock.Subtract) (act.Word m (op.Sub 1))
+      pub subtracts : place_at w t ≡ Condvar l (waits (releasing s unlock.Subtract))
+          → FitsNext (releasing s unlock.Subtract) (act.Word m (op.Sub 1))
+          → Kept (releasing s unlock.Subtract) (act.Word m (op.Sub 1))
       subtracts is fits = works (releasing s unlock.Subtract) is (op.Sub 1) refl refl lt refl (subtracted_there (is_parked seen)) (subtracted_beside (is_parked seen)) fits (subtracts_word (is_parked seen)) refl
 
       -- the bit, where nobody was left
-      pub clears : (any : Bool) → place_at w t ≡ Condvar l (waits (releasing s (unlock.Clear any))) → FitsNext (releasing s (unlock.Clear any)) (unlock_act m (unlock.Clear any)) → Kept (releasing s (unlock.Clear any)) (unlock_act m (unlock.Clear any))
+      pub clears : (any : Bool) → place_at w t ≡ Condvar l (waits (releasing s (unlock.Clear any)))
+          → FitsNext (releasing s (unlock.Clear any)) (unlock_act m (unlock.Clear any))
+          → Kept (releasing s (unlock.Clear any)) (unlock_act m (unlock.Clear any))
       clears any is fits = works (releasing s (unlock.Clear any)) is _ refl refl lt refl (refl, refl) (refl, refl) fits tt refl
 
     -- it locks it again
@@ -213,7 +224,8 @@ module _ (w : State) (t l m : ℕ) (timed : Bool) (steady : IsSteady w) (is_ther
       abbrev locked : Bool → LockAt → Next CondvarPlace
       locked b at = in_wait m timed (relocked timed late (in_lock entry.Lock retries (if b then Over answer.Ok else At at)))
 
-      locked_there : (b : Bool) (at : LockAt) → (p : LockAt) → there (waits (relocks late retries p)) ≡ nowhere → there (waits (relocks late retries at)) ≡ nowhere → StaysThere (relocks late retries p) (locked b at)
+      locked_there : (b : Bool) (at : LockAt) → (p : LockAt) → there (waits (relocks late retries p)) ≡ nowhere
+          → there (waits (relocks late retries at)) ≡ nowhere → StaysThere (relocks late retries p) (locked b at)
       locked_there true at p e f = (tt, sym e)
       locked_there false at p e f = (refl, f ∙ sym e)
 
@@ -225,14 +237,19 @@ module _ (w : State) (t l m : ℕ) (timed : Bool) (steady : IsSteady w) (is_ther
       tries_word true = tt
       tries_word false = tt
 
-      one_owner : (o : Owners) (x : Option ℕ) (b : Bool) → (if b then with_exclusive o x else o) ≡ with_exclusive o (if b then with_exclusive o x else o).exclusive
+      one_owner : (o : Owners) (x : Option ℕ) (b : Bool)
+          → (if b then with_exclusive o x else o) ≡ with_exclusive o (if b then with_exclusive o x else o).exclusive
       one_owner o x true = refl
       one_owner o x false = refl
 
-      pub tries : place_at w t ≡ Condvar l (waits (relocks late retries lock.First)) → FitsNext (relocks late retries lock.First) (act.Word m (op.Exchange 0 1)) → Kept (relocks late retries lock.First) (act.Word m (op.Exchange 0 1))
+      pub tries : place_at w t ≡ Condvar l (waits (relocks late retries lock.First))
+          → FitsNext (relocks late retries lock.First) (act.Word m (op.Exchange 0 1))
+          → Kept (relocks late retries lock.First) (act.Word m (op.Exchange 0 1))
       tries is fits = works (relocks late retries lock.First) is (op.Exchange 0 1) refl refl lt refl (locked_there (seen == 0) lock.Load lock.First refl refl) (tries_beside (seen == 0)) fits (tries_word (seen == 0)) (one_owner (owners_at w m) (Some t) (seen == 0))
 
-      pub loads : place_at w t ≡ Condvar l (waits (relocks late retries lock.Load)) → FitsNext (relocks late retries lock.Load) (act.Word m op.Load) → Kept (relocks late retries lock.Load) (act.Word m op.Load)
+      pub loads : place_at w t ≡ Condvar l (waits (relocks late retries lock.Load))
+          → FitsNext (relocks late retries lock.Load) (act.Word m op.Load)
+          → Kept (relocks late retries lock.Load) (act.Word m op.Load)
       loads is fits = works (relocks late retries lock.Load) is op.Load refl refl lt refl (refl, refl) (refl, refl) fits tt refl
 
       -- it has seen the word before: its exchange finds it so, or not
@@ -244,7 +261,8 @@ module _ (w : State) (t l m : ℕ) (timed : Bool) (steady : IsSteady w) (is_ther
       decided_there x true true = (refl, refl)
       decided_there x true false = (tt, refl)
 
-      decided_beside : (x : ℕ) (same locked : Bool) → StaysBeside (relocks late retries (lock.Decide x)) (decided_next same locked)
+      decided_beside : (x : ℕ) (same locked : Bool)
+          → StaysBeside (relocks late retries (lock.Decide x)) (decided_next same locked)
       decided_beside x false locked = (refl, refl)
       decided_beside x true true = (refl, refl)
       decided_beside x true false = (refl, refl)
@@ -254,6 +272,9 @@ module _ (w : State) (t l m : ℕ) (timed : Bool) (steady : IsSteady w) (is_ther
       decides_word true true = tt
       decides_word true false = tt
 
-      pub decides : (x : ℕ) (f : Op) → place_at w t ≡ Condvar l (waits (relocks late retries (lock.Decide x))) → wait_act l m (relocks late retries (lock.Decide x)) ≡ act.Word m f → FitsNext (relocks late retries (lock.Decide x)) (act.Word m f) → Kept (relocks late retries (lock.Decide x)) (act.Word m f)
+      pub decides : (x : ℕ) (f : Op) → place_at w t ≡ Condvar l (waits (relocks late retries (lock.Decide x)))
+          → wait_act l m (relocks late retries (lock.Decide x)) ≡ act.Word m f
+          → FitsNext (relocks late retries (lock.Decide x)) (act.Word m f)
+          → Kept (relocks late retries (lock.Decide x)) (act.Word m f)
       decides x f is acts_so fits = works (relocks late retries (lock.Decide x)) is f acts_so (subst (λ a. can_do w a ≡ true) (sym acts_so) refl) lt refl (decided_there x (seen == x) (is_locked seen)) (decided_beside x (seen == x) (is_locked seen)) fits
           (decides_word (seen == x) (is_locked seen)) (one_owner (owners_at w m) (Some t) ((seen == x) && not (is_locked seen)))

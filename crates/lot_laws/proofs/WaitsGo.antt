@@ -75,7 +75,9 @@ module _ (w v : State) (l m : ℕ) (apart : m ≢ l) (steady : IsSteady w) where
           either true false e f = refl
           either false b e f = refl
 
-module _ (w : State) (t l m : ℕ) (timed : Bool) (steady : IsSteady w) (is_there : t < length w.places) (apart : m ≢ l) (sort_l : (rules_in w l).sort ≡ locks.Condvar) (sort_m : (rules_in w m).sort ≡ locks.Mutex) (plain : rules_in w m ≡ glue.mutex) (condvar : IsCondvar (condvar_of w l))
+module _ (w : State) (t l m : ℕ) (timed : Bool) (steady : IsSteady w) (is_there : t < length w.places) (apart : m ≢ l)
+    (sort_l : (rules_in w l).sort ≡ locks.Condvar) (sort_m : (rules_in w m).sort ≡ locks.Mutex)
+    (plain : rules_in w m ≡ glue.mutex) (condvar : IsCondvar (condvar_of w l))
     (lock_l : l < length w.locks) (lock_m : m < length w.locks) (section_l : key_of l Main < length w.sections) (section_m : key_of m Main < length w.sections) (line_l : key_of l Main < length w.queues) (line_m : key_of m Main < length w.queues) where
   abbrev waits : WaitAt → CondvarPlace
   waits at = Wait m timed at
@@ -89,20 +91,27 @@ module _ (w : State) (t l m : ℕ) (timed : Bool) (steady : IsSteady w) (is_ther
 
   abbrev GoesOnBy : WaitAt → Act → Type 0
   GoesOnBy at a = FitsItsLock w (next_place (place_at (after at a) t) (told a))
-      → GoesAll w (put (after at a) t (next_place (place_at (after at a) t) (told a))) (two_at l m (acts t (there_deeds (wait_deeds m at (told a)))) (acts t (waiter_deeds at (taken_by_wait w m at) (told a))))
+      → GoesAll w (put (after at a) t (next_place (place_at (after at a) t) (told a)))
+      (two_at l m (acts t (there_deeds (wait_deeds m at (told a)))) (acts t (waiter_deeds at (taken_by_wait w m at) (told a))))
 
   -- of an act that befalls nobody, it goes on from where it stands
-  module _ (at : WaitAt) (a : Act) (is : place_at w t ≡ Condvar l (waits at)) (still : place_at (after at a) t ≡ place_at w t) where
+  module _ (at : WaitAt) (a : Act) (is : place_at w t ≡ Condvar l (waits at))
+      (still : place_at (after at a) t ≡ place_at w t) where
     abbrev next : Place
     next = next_place (Condvar l (waits at)) (told a)
 
-    from_there : (ds : ℕ → List deeds.Act) → (FitsItsLock w next → GoesAll w (put (after at a) t next) ds) → FitsItsLock w (next_place (place_at (after at a) t) (told a)) → GoesAll w (put (after at a) t (next_place (place_at (after at a) t) (told a))) ds
+    from_there : (ds : ℕ → List deeds.Act) → (FitsItsLock w next → GoesAll w (put (after at a) t next) ds)
+        → FitsItsLock w (next_place (place_at (after at a) t) (told a))
+        → GoesAll w (put (after at a) t (next_place (place_at (after at a) t) (told a))) ds
     from_there ds g = subst (λ p. FitsItsLock w (next_place p (told a)) → GoesAll w (put (after at a) t (next_place p (told a))) ds) (sym (still ∙ is)) g
 
-    there : waiter_deeds at (taken_by_wait w m at) (told a) ≡ [] → (FitsItsLock w next → Goes w (put (after at a) t next) l (acts t (there_deeds (wait_deeds m at (told a))))) → GoesOnBy at a
+    there : waiter_deeds at (taken_by_wait w m at) (told a) ≡ []
+        → (FitsItsLock w next → Goes w (put (after at a) t next) l (acts t (there_deeds (wait_deeds m at (told a)))))
+        → GoesOnBy at a
     there none g = from_there _ (λ fits. of_one w (put (after at a) t next) l m apart steady (acts t (there_deeds (wait_deeds m at (told a)))) (acts t (waiter_deeds at (taken_by_wait w m at) (told a))) (ap (acts t) none) (g fits))
 
-    beside : there_deeds (wait_deeds m at (told a)) ≡ [] → taken_by_wait w m at ≡ None → (FitsItsLock w next → Goes w (put (after at a) t next) m (acts t (waiter_deeds at None (told a)))) → GoesOnBy at a
+    beside : there_deeds (wait_deeds m at (told a)) ≡ [] → taken_by_wait w m at ≡ None
+        → (FitsItsLock w next → Goes w (put (after at a) t next) m (acts t (waiter_deeds at None (told a)))) → GoesOnBy at a
     beside none nobody g = from_there _ (λ fits. of_other w (put (after at a) t next) l m apart steady (acts t (there_deeds (wait_deeds m at (told a)))) (acts t (waiter_deeds at (taken_by_wait w m at) (told a))) (ap (acts t) none)
         (subst (λ o. Goes w (put (after at a) t next) m (acts t (waiter_deeds at o (told a)))) (sym nobody) (g fits)))
 
@@ -111,7 +120,8 @@ module _ (w : State) (t l m : ℕ) (timed : Bool) (steady : IsSteady w) (is_ther
   abbrev releasing : Stands → UnlockAt → WaitAt
   releasing s at = wait.Release s (mutex.Unlock at)
 
-  release_goes : (s : Stands) (at : UnlockAt) → place_at w t ≡ Condvar l (waits (releasing s at)) → can_do w (unlock_act m at) ≡ true → GoesOnBy (releasing s at) (unlock_act m at)
+  release_goes : (s : Stands) (at : UnlockAt) → place_at w t ≡ Condvar l (waits (releasing s at))
+      → can_do w (unlock_act m at) ≡ true → GoesOnBy (releasing s at) (unlock_act m at)
   release_goes s unlock.Subtract is can = beside (releasing s unlock.Subtract) (unlock_act m unlock.Subtract) is refl refl refl (subtracts w t l m timed steady is_there apart sort_m lock_m s is)
   release_goes s unlock.Enter is can = beside (releasing s unlock.Enter) (unlock_act m unlock.Enter) is refl refl refl (enters_to_release w t l m timed steady is_there apart sort_m section_m line_m s is can)
   release_goes s unlock.Take is can = λ fits. of_other w _ l m apart steady [] _ refl (takes w t l m timed steady is_there apart sort_m plain line_m s is fits)
@@ -132,13 +142,16 @@ module _ (w : State) (t l m : ℕ) (timed : Bool) (steady : IsSteady w) (is_ther
   none_there : (late retries : Bool) (at : LockAt) (a : Act) → there_deeds (wait_deeds m (relocks late retries at) (told a)) ≡ []
   none_there late retries at a = no_deeds (mutex_next (mutex.Lock entry.Lock retries at) (told a))
 
-  decided_goes : (late retries : Bool) (x : ℕ) (is : place_at w t ≡ Condvar l (waits (relocks late retries (lock.Decide x)))) (a b : Bool) → (act_is : wait_act l m (relocks late retries (lock.Decide x)) ≡ decided_by m x a b) → can_do w (decided_by m x a b) ≡ true
+  decided_goes : (late retries : Bool) (x : ℕ) (is : place_at w t ≡ Condvar l (waits (relocks late retries (lock.Decide x))))
+      (a b : Bool)
+      → (act_is : wait_act l m (relocks late retries (lock.Decide x)) ≡ decided_by m x a b) → can_do w (decided_by m x a b) ≡ true
       → GoesOnBy (relocks late retries (lock.Decide x)) (decided_by m x a b)
   decided_goes late retries x is false b act_is can = beside (relocks late retries (lock.Decide x)) (act.Word m (op.Exchange x (x + 1))) is refl (none_there late retries (lock.Decide x) (act.Word m (op.Exchange x (x + 1)))) refl (decides w t l m timed steady is_there apart sort_m lock_m late retries x (op.Exchange x (x + 1)) is act_is)
   decided_goes late retries x is true true act_is can = beside (relocks late retries (lock.Decide x)) (act.Word m (op.Exchange 1 3)) is refl (none_there late retries (lock.Decide x) (act.Word m (op.Exchange 1 3))) refl (decides w t l m timed steady is_there apart sort_m lock_m late retries x (op.Exchange 1 3) is act_is)
   decided_goes late retries x is true false act_is can = beside (relocks late retries (lock.Decide x)) (act.Enter (One (2 * m))) is refl (none_there late retries (lock.Decide x) (act.Enter (One (2 * m)))) refl (enters_to_park w t l m timed steady is_there apart sort_m section_m line_m late retries x is act_is can)
 
-  relock_goes : (late retries : Bool) (at : LockAt) → IsLockOf at → place_at w t ≡ Condvar l (waits (relocks late retries at)) → can_do w (lock_act m at) ≡ true → GoesOnBy (relocks late retries at) (lock_act m at)
+  relock_goes : (late retries : Bool) (at : LockAt) → IsLockOf at → place_at w t ≡ Condvar l (waits (relocks late retries at))
+      → can_do w (lock_act m at) ≡ true → GoesOnBy (relocks late retries at) (lock_act m at)
   relock_goes late retries lock.First of is can = beside (relocks late retries lock.First) (lock_act m lock.First) is refl (none_there late retries lock.First (lock_act m lock.First)) refl (tries w t l m timed steady is_there apart sort_m lock_m late retries is)
   relock_goes late retries lock.Load of is can = beside (relocks late retries lock.Load) (lock_act m lock.Load) is refl (none_there late retries lock.Load (lock_act m lock.Load)) refl (loads w t l m timed steady is_there apart sort_m lock_m late retries is)
   relock_goes late retries (lock.Decide x) of is can = decided_goes late retries x is (is_locked x) (x == 1) refl can
@@ -159,11 +172,14 @@ module _ (w : State) (t l m : ℕ) (timed : Bool) (steady : IsSteady w) (is_ther
 
   -- ---------------------------------------------------------------- whatever it does
 
-  at_condvar : (at : WaitAt) → IsAtCondvar at → place_at w t ≡ Condvar l (waits at) → can_do w (wait_act l m at) ≡ true → FitsItsLock w (condvar_goes l (condvar_next (waits at) (reply_to w t (wait_act l m at))))
-      → Goes w (put (after at (wait_act l m at)) t (next_place (Condvar l (waits at)) (told (wait_act l m at)))) l (acts t (there_deeds (wait_deeds m at (told (wait_act l m at)))))
+  at_condvar : (at : WaitAt) → IsAtCondvar at → place_at w t ≡ Condvar l (waits at) → can_do w (wait_act l m at) ≡ true
+      → FitsItsLock w (condvar_goes l (condvar_next (waits at) (reply_to w t (wait_act l m at))))
+      → Goes w (put (after at (wait_act l m at)) t (next_place (Condvar l (waits at)) (told (wait_act l m at)))) l
+      (acts t (there_deeds (wait_deeds m at (told (wait_act l m at)))))
   at_condvar = waits_there w t l m timed steady is_there apart sort_l condvar lock_l section_l line_l
 
-  pub waits_go : (at : WaitAt) → IsReached (waits at) → place_at w t ≡ Condvar l (waits at) → can_do w (wait_act l m at) ≡ true → GoesOnBy at (wait_act l m at)
+  pub waits_go : (at : WaitAt) → IsReached (waits at) → place_at w t ≡ Condvar l (waits at) → can_do w (wait_act l m at) ≡ true
+      → GoesOnBy at (wait_act l m at)
   waits_go wait.Enter reached is can = there wait.Enter (wait_act l m wait.Enter) is refl refl (at_condvar wait.Enter tt is can)
   waits_go wait.Show reached is can = there wait.Show (wait_act l m wait.Show) is refl refl (at_condvar wait.Show tt is can)
   waits_go wait.Stand reached is can = there wait.Stand (wait_act l m wait.Stand) is refl refl (at_condvar wait.Stand tt is can)

@@ -52,7 +52,9 @@ use Rattle.lot_laws.proofs.OneStep.{steps_by}
 use Rattle.lot_laws.proofs.Glue.{parts_at}
 use Rattle.lot_laws.proofs.CondvarParts.{nothing_there, station_there}
 
-module _ (w : State) (t l m : ℕ) (timed : Bool) (steady : IsSteady w) (is_there : t < length w.places) (apart : m ≢ l) (sort : (rules_in w m).sort ≡ locks.Mutex) (section : key_of m Main < length w.sections) (line : key_of m Main < length w.queues) where
+module _ (w : State) (t l m : ℕ) (timed : Bool) (steady : IsSteady w) (is_there : t < length w.places) (apart : m ≢ l)
+    (sort : (rules_in w m).sort ≡ locks.Mutex) (section : key_of m Main < length w.sections)
+    (line : key_of m Main < length w.queues) where
   abbrev waits : WaitAt → CondvarPlace
   waits at = Wait m timed at
 
@@ -69,7 +71,9 @@ module _ (w : State) (t l m : ℕ) (timed : Bool) (steady : IsSteady w) (is_ther
   FitsNext at a = FitsItsLock w (condvar_goes l (condvar_next (waits at) (reply_to w t a)))
 
   -- what it does, by the laws of its place, where it takes nobody
-  module _ (at : WaitAt) (is : place_at w t ≡ Condvar l (waits at)) (a : Act) (acts_so : wait_act l m at ≡ a) (can : can_do w a ≡ true) (nobody : taken_by_wait w m at ≡ None) (ds : List Deed) (does : waiter_deeds at None (reply_to w t a) ≡ ds) where
+  module _ (at : WaitAt) (is : place_at w t ≡ Condvar l (waits at)) (a : Act) (acts_so : wait_act l m at ≡ a)
+      (can : can_do w a ≡ true) (nobody : taken_by_wait w m at ≡ None) (ds : List Deed)
+      (does : waiter_deeds at None (reply_to w t a) ≡ ds) where
     abbrev told : Reply
     told = reply_to w t a
 
@@ -132,7 +136,8 @@ module _ (w : State) (t l m : ℕ) (timed : Bool) (steady : IsSteady w) (is_ther
   -- ---------------------------------------------------------------- the section
 
   -- to release it, with somebody to wake
-  pub enters_to_release : (s : Stands) → place_at w t ≡ Condvar l (waits (releasing s unlock.Enter)) → can_do w enter ≡ true → FitsNext (releasing s unlock.Enter) enter → Kept (releasing s unlock.Enter) enter
+  pub enters_to_release : (s : Stands) → place_at w t ≡ Condvar l (waits (releasing s unlock.Enter)) → can_do w enter ≡ true
+      → FitsNext (releasing s unlock.Enter) enter → Kept (releasing s unlock.Enter) enter
   enters_to_release s is can fits = goes_in_at w t m steady is_there sort (condvar_goes l (condvar_next (waits at) Done)) (alike at is enter refl can refl (In Main ∷ []) refl (refl, refl)) fits section (none_so (section_at w (2 * m)) can)
       (ap (λ (y : Station). y.inside) (station_was at is enter refl can refl (In Main ∷ []) refl (refl, refl))) (needed at is enter refl can refl (In Main ∷ []) refl)
       (behind at is enter refl can refl (In Main ∷ []) refl ∙ sym (does_next at is enter refl can refl (In Main ∷ []) refl (refl, refl)))
@@ -143,7 +148,9 @@ module _ (w : State) (t l m : ℕ) (timed : Bool) (steady : IsSteady w) (is_ther
       at = releasing s unlock.Enter
 
   -- to stand in its line
-  pub enters_to_park : (late retries : Bool) (x : ℕ) → place_at w t ≡ Condvar l (waits (relocks late retries (lock.Decide x))) → wait_act l m (relocks late retries (lock.Decide x)) ≡ enter → can_do w enter ≡ true → FitsNext (relocks late retries (lock.Decide x)) enter → Kept (relocks late retries (lock.Decide x)) enter
+  pub enters_to_park : (late retries : Bool) (x : ℕ) → place_at w t ≡ Condvar l (waits (relocks late retries (lock.Decide x)))
+      → wait_act l m (relocks late retries (lock.Decide x)) ≡ enter → can_do w enter ≡ true
+      → FitsNext (relocks late retries (lock.Decide x)) enter → Kept (relocks late retries (lock.Decide x)) enter
   enters_to_park late retries x is acts_so can fits = goes_in_at w t m steady is_there sort (condvar_goes l (condvar_next (waits at) Done)) (alike at is enter acts_so can refl (In Main ∷ []) refl (refl, refl)) fits section (none_so (section_at w (2 * m)) can)
       (ap (λ (y : Station). y.inside) (station_was at is enter acts_so can refl (In Main ∷ []) refl (refl, refl))) (needed at is enter acts_so can refl (In Main ∷ []) refl)
       (behind at is enter acts_so can refl (In Main ∷ []) refl ∙ sym (does_next at is enter acts_so can refl (In Main ∷ []) refl (refl, refl)))
@@ -158,7 +165,8 @@ module _ (w : State) (t l m : ℕ) (timed : Bool) (steady : IsSteady w) (is_ther
     abbrev parked_next : Bool → Next CondvarPlace
     parked_next b = in_wait m timed (relocked timed late (in_lock entry.Lock retries (if b then At lock.Asleep else At lock.Load)))
 
-    parked_there : (b : Bool) → StaysThere w t l m timed steady is_there apart sort (relocks late retries (lock.Leave b)) (parked_next b)
+    parked_there : (b : Bool)
+        → StaysThere w t l m timed steady is_there apart sort (relocks late retries (lock.Leave b)) (parked_next b)
     parked_there true = (refl, refl)
     parked_there false = (refl, refl)
 
@@ -170,7 +178,8 @@ module _ (w : State) (t l m : ℕ) (timed : Bool) (steady : IsSteady w) (is_ther
     parked_taken true = refl
     parked_taken false = refl
 
-    pub leaves_parked : (b : Bool) → place_at w t ≡ Condvar l (waits (relocks late retries (lock.Leave b))) → FitsNext (relocks late retries (lock.Leave b)) leave → Kept (relocks late retries (lock.Leave b)) leave
+    pub leaves_parked : (b : Bool) → place_at w t ≡ Condvar l (waits (relocks late retries (lock.Leave b)))
+        → FitsNext (relocks late retries (lock.Leave b)) leave → Kept (relocks late retries (lock.Leave b)) leave
     leaves_parked b is fits = goes_out_at w t m steady is_there sort (condvar_goes l (condvar_next (waits at) Done)) (alike at is leave refl refl refl (Out ∷ []) refl (parked_there b)) fits section
         (ap (λ (y : Station). y.inside) (station_was at is leave refl refl refl (Out ∷ []) refl (parked_there b))) (ap (λ (y : Station). y.carries) (station_was at is leave refl refl refl (Out ∷ []) refl (parked_there b)))
         (Out ∷ []) tt (needed at is leave refl refl refl (Out ∷ []) refl)
@@ -185,7 +194,8 @@ module _ (w : State) (t l m : ℕ) (timed : Bool) (steady : IsSteady w) (is_ther
         untaken = taken_was at is leave refl refl refl (Out ∷ []) refl (parked_there b)
 
   -- late, and out of its line
-  pub leaves_late : (none_left : Bool) → place_at w t ≡ Condvar l (waits (wait.GiveUpMoved none_left)) → FitsNext (wait.GiveUpMoved none_left) leave → Kept (wait.GiveUpMoved none_left) leave
+  pub leaves_late : (none_left : Bool) → place_at w t ≡ Condvar l (waits (wait.GiveUpMoved none_left))
+      → FitsNext (wait.GiveUpMoved none_left) leave → Kept (wait.GiveUpMoved none_left) leave
   leaves_late none_left is fits = goes_out_at w t m steady is_there sort (condvar_goes l (condvar_next (waits at) Done)) (alike at is leave refl refl refl (Out ∷ []) refl (refl, refl)) fits section
       (ap (λ (y : Station). y.inside) (station_was at is leave refl refl refl (Out ∷ []) refl (refl, refl))) (ap (λ (y : Station). y.carries) (station_was at is leave refl refl refl (Out ∷ []) refl (refl, refl)))
       (Out ∷ []) tt (needed at is leave refl refl refl (Out ∷ []) refl)
@@ -200,7 +210,8 @@ module _ (w : State) (t l m : ℕ) (timed : Bool) (steady : IsSteady w) (is_ther
       untaken = taken_was at is leave refl refl refl (Out ∷ []) refl (refl, refl)
 
   -- it was handed the mutex, and its call is over
-  pub accepts : (late retries : Bool) → place_at w t ≡ Condvar l (waits (relocks late retries lock.Accept)) → FitsNext (relocks late retries lock.Accept) act.Accept → Kept (relocks late retries lock.Accept) act.Accept
+  pub accepts : (late retries : Bool) → place_at w t ≡ Condvar l (waits (relocks late retries lock.Accept))
+      → FitsNext (relocks late retries lock.Accept) act.Accept → Kept (relocks late retries lock.Accept) act.Accept
   accepts late retries is fits = accepts_at w t m steady is_there sort (condvar_goes l (condvar_next (waits at) Done)) (alike at is act.Accept refl refl refl (End ∷ []) refl (tt, refl)) fits
       (needed at is act.Accept refl refl refl (End ∷ []) refl) (behind at is act.Accept refl refl refl (End ∷ []) refl ∙ sym (does_next at is act.Accept refl refl refl (End ∷ []) refl (tt, refl)))
       (station_then at is act.Accept refl refl refl (End ∷ []) refl (tt, refl) ∙ sym (station_was at is act.Accept refl refl refl (End ∷ []) refl (tt, refl)))
@@ -212,14 +223,16 @@ module _ (w : State) (t l m : ℕ) (timed : Bool) (steady : IsSteady w) (is_ther
   -- ---------------------------------------------------------------- the line
 
   -- it stands in no other line
-  stands_out : (at : WaitAt) → place_at w t ≡ Condvar l (waits at) → (there (waits at)).stands ≡ None → (k : ℕ) → k ≢ m → (station_at (place_at w t) k).stands ≡ None
+  stands_out : (at : WaitAt) → place_at w t ≡ Condvar l (waits at) → (there (waits at)).stands ≡ None → (k : ℕ) → k ≢ m
+      → (station_at (place_at w t) k).stands ≡ None
   stands_out at is out k ne = ap (λ q. (station_at q k).stands) is ∙ elim (cases_eq k l) [
     | inl e ↦ subst (λ j. (station_at (Condvar l (waits at)) j).stands ≡ None) (sym e) (ap (λ (y : Station). y.stands) (station_there l m apart (At (waits at)) refl) ∙ out)
     | inr nl ↦ ap (λ (y : Station). y.stands) (nothing_there l m apart (At (waits at)) refl k nl ne)
   ]
 
   -- its time is up, and it leaves the line to which it was moved
-  pub leaves_line : place_at w t ≡ Condvar l (waits wait.RemoveMoved) → FitsNext wait.RemoveMoved (act.Remove (2 * m)) → Kept wait.RemoveMoved (act.Remove (2 * m))
+  pub leaves_line : place_at w t ≡ Condvar l (waits wait.RemoveMoved) → FitsNext wait.RemoveMoved (act.Remove (2 * m))
+      → Kept wait.RemoveMoved (act.Remove (2 * m))
   leaves_line is fits = leaves_line_at w t m steady is_there sort (condvar_goes l (condvar_next (waits at) told_it)) (alike at is remove refl refl refl gives_up refl (refl, refl)) fits line (stands_out at is refl)
       (ap (λ (y : Station). y.stands) (station_was at is remove refl refl refl gives_up refl (refl, refl))) (needed at is remove refl refl refl gives_up refl)
       (behind at is remove refl refl refl gives_up refl ∙ sym (does_next at is remove refl refl refl gives_up refl (refl, refl)))
@@ -264,7 +277,8 @@ module _ (w : State) (t l m : ℕ) (timed : Bool) (steady : IsSteady w) (is_ther
         (beside.station_then w t l m timed steady is_there apart sort check is (checks true) (refl, refl) ∙ sym (ap (λ (y : Station). record y { stands = Some Main; waits = Some Exclusive }) (beside.station_was w t l m timed steady is_there apart sort check is (checks true) (refl, refl))))
         (beside.taken_was w t l m timed steady is_there apart sort check is (checks true) (refl, refl) ∙ sym (beside.taken_then w t l m timed steady is_there apart sort check is (checks true) (refl, refl)))
 
-    turns : ParkedSo false → FitsItsLock w (condvar_goes l (checks false)) → Goes w (put w t (condvar_goes l (checks false))) m (acts t [])
+    turns : ParkedSo false → FitsItsLock w (condvar_goes l (checks false))
+        → Goes w (put w t (condvar_goes l (checks false))) m (acts t [])
     turns e fits = place_goes w t m steady is_there r refl (condvar_goes l (checks false)) (beside.alike w t l m timed steady is_there apart sort check is (checks false) (refl, refl)) fits [] (λ h. tt)
         (steps_by r m (parts_at w m) (parts_at w m) (place_at w) t (condvar_goes l (checks false)) [] tt tt
         (beside.taken_was w t l m timed steady is_there apart sort check is (checks false) (refl, refl) ∙ sym (beside.taken_then w t l m timed steady is_there apart sort check is (checks false) (refl, refl)))

@@ -29,7 +29,8 @@ use Rattle.lot_laws.proofs.CondvarHears.{waiter_hears}
 use Rattle.lot_laws.proofs.CondvarThere.{out_steps, then_is, was}
 use Rattle.lot_laws.proofs.WaitsBeside as beside
 
-module _ (w : State) (t l m : ℕ) (timed : Bool) (steady : IsSteady w) (is_there : t < length w.places) (apart : m ≢ l) (sort_l : (rules_in w l).sort ≡ locks.Condvar) (sort_m : (rules_in w m).sort ≡ locks.Mutex)
+module _ (w : State) (t l m : ℕ) (timed : Bool) (steady : IsSteady w) (is_there : t < length w.places) (apart : m ≢ l)
+    (sort_l : (rules_in w l).sort ≡ locks.Condvar) (sort_m : (rules_in w m).sort ≡ locks.Mutex)
     (section : key_of l Main < length w.sections) (is : place_at w t ≡ Condvar l (Wait m timed wait.Refuse)) where
   abbrev this : CondvarPlace
   this = Wait m timed wait.Refuse

@@ -50,7 +50,8 @@ use Rattle.lot_laws.proofs.Waiters.{SleepsAt, calls_mutex_at, release_sleeps, st
 use Rattle.lot_laws.proofs.WaitsBeside as beside
 use Rattle.lot_laws.proofs.WaitsBeside.{StaysThere}
 
-module _ (w : State) (t l m : ℕ) (timed : Bool) (steady : IsSteady w) (here : t < length w.places) (apart : m ≢ l) (sort : (rules_in w m).sort ≡ locks.Mutex) (plain : rules_in w m ≡ glue.mutex) (line : key_of m Main < length w.queues) where
+module _ (w : State) (t l m : ℕ) (timed : Bool) (steady : IsSteady w) (here : t < length w.places) (apart : m ≢ l)
+    (sort : (rules_in w m).sort ≡ locks.Mutex) (plain : rules_in w m ≡ glue.mutex) (line : key_of m Main < length w.queues) where
   abbrev waits : WaitAt → CondvarPlace
   waits at = Wait m timed at
 
@@ -96,14 +97,17 @@ module _ (w : State) (t l m : ℕ) (timed : Bool) (steady : IsSteady w) (here : 
     taken_was : taken_at (place_at w t) m ≡ taken_of (taking s)
     taken_was = ap (λ q. taken_at q m) is ∙ taken_beside l m apart (At (waits (taking s))) refl
 
-    follows : WaiterFollows (rules_in w m) lock t m timed (taking s) (first_thread (map queued_of (queue_at w (2 * m)))) (told (queue_at w (2 * m)))
+    follows : WaiterFollows (rules_in w m) lock t m timed (taking s) (first_thread (map queued_of (queue_at w (2 * m))))
+        (told (queue_at w (2 * m)))
     follows = beside.follows w t l m timed steady here apart sort (taking s) is (first_thread (map queued_of (queue_at w (2 * m)))) (told (queue_at w (2 * m))) (waiter_hears w t l m timed (taking s) steady is refl)
 
-    follows_by : (q : List Waiter) → queue_at w (2 * m) ≡ q → WaiterFollows (rules_in w m) lock t m timed (taking s) (first_thread (map queued_of q)) (told q)
+    follows_by : (q : List Waiter) → queue_at w (2 * m) ≡ q
+        → WaiterFollows (rules_in w m) lock t m timed (taking s) (first_thread (map queued_of q)) (told q)
     follows_by q e = subst (λ q. WaiterFollows (rules_in w m) lock t m timed (taking s) (first_thread (map queued_of q)) (told q)) e follows
 
     -- where it goes on, as it stands then
-    module _ (s2 : Stands) (any none_left : Bool) (stays : station_by (row_there (At (waits (goes_to s2 any none_left)))) ≡ there (waits (taking s))) where
+    module _ (s2 : Stands) (any none_left : Bool)
+        (stays : station_by (row_there (At (waits (goes_to s2 any none_left)))) ≡ there (waits (taking s))) where
       abbrev then_at : Place
       then_at = Condvar l (waits (goes_to s2 any none_left))
 
@@ -146,7 +150,8 @@ module _ (w : State) (t l m : ℕ) (timed : Bool) (steady : IsSteady w) (here : 
       needed : ActsNeeded glue.mutex (acts t takes_it) (lock_by w m glue.mutex)
       needed = subst (λ y. ActsNeeded y (acts t takes_it) (lock_by w m y)) plain (needed_same (rules_in w m) takes_it lock t follows_first.needed)
 
-      does : (after_acts glue.mutex (acts t takes_it) (lock_by w m glue.mutex)).doing t ≡ (wait_row m (goes_to s true none_left)).doing
+      does : (after_acts glue.mutex (acts t takes_it) (lock_by w m glue.mutex)).doing t
+          ≡ (wait_row m (goes_to s true none_left)).doing
       does = subst (λ y. (after_acts y (acts t takes_it) (lock_by w m y)).doing t ≡ (wait_row m (goes_to s true none_left)).doing) plain (ap (λ (y : Site). y.doing t) (after_same (rules_in w m) takes_it lock t) ∙ follows_first.doing)
 
       wants : x.want ≡ Exclusive
@@ -199,7 +204,8 @@ module _ (w : State) (t l m : ℕ) (timed : Bool) (steady : IsSteady w) (here : 
   moved_so (stands.Handed by) h = absurd cc
   moved_so (stands.Noted by) h = absurd cc
 
-  module _ (is : place_at w t ≡ Condvar l (waits (taking stands.Moved))) (x : Waiter) (rest : List Waiter) (first : queue_at w (2 * m) ≡ x ∷ rest) (itself : x.thread ≡ t) where
+  module _ (is : place_at w t ≡ Condvar l (waits (taking stands.Moved))) (x : Waiter) (rest : List Waiter)
+      (first : queue_at w (2 * m) ≡ x ∷ rest) (itself : x.thread ≡ t) where
     abbrev nobody_left : Bool
     nobody_left = length rest == 0
 
@@ -215,7 +221,8 @@ module _ (w : State) (t l m : ℕ) (timed : Bool) (steady : IsSteady w) (here : 
     own_member : member t (x ∷ []) ≡ true
     own_member = rw (itself, same t) refl
 
-    own_there : (b : Bool) → station_by (row_there (At (waits (goes_to (stands.InHand t) true b)))) ≡ there (waits (taking stands.Moved))
+    own_there : (b : Bool)
+        → station_by (row_there (At (waits (goes_to (stands.InHand t) true b)))) ≡ there (waits (taking stands.Moved))
     own_there true = refl
     own_there false = refl
 
@@ -227,7 +234,8 @@ module _ (w : State) (t l m : ℕ) (timed : Bool) (steady : IsSteady w) (here : 
     own_taken true = refl
     own_taken false = refl
 
-    own_does : (b : Bool) → (wait_row m (goes_to (stands.InHand t) true b)).doing ≡ (wait_row m (goes_to stands.Moved true b)).doing
+    own_does : (b : Bool)
+        → (wait_row m (goes_to (stands.InHand t) true b)).doing ≡ (wait_row m (goes_to stands.Moved true b)).doing
     own_does true = refl
     own_does false = refl
 
@@ -241,12 +249,14 @@ module _ (w : State) (t l m : ℕ) (timed : Bool) (steady : IsSteady w) (here : 
         ∙ sym (ap (λ q. taken_at q m) taken_place) ∙ sym (ap (λ b. if b then taken_at (next_place (place_at w t) (TakenBy t)) m else taken_at (place_at w t) m) own_member))
         (needed stands.Moved is x rest first) (does_then stands.Moved is (stands.InHand t) true nobody_left (own_there nobody_left) ∙ own_does nobody_left ∙ sym (does stands.Moved is x rest first))) fits
 
-  pub moved_first : (s : Stands) → place_at w t ≡ Condvar l (waits (taking s)) → (x : Waiter) (rest : List Waiter) → queue_at w (2 * m) ≡ x ∷ rest → x.thread ≡ t → s ≡ stands.Moved
+  pub moved_first : (s : Stands) → place_at w t ≡ Condvar l (waits (taking s)) → (x : Waiter) (rest : List Waiter)
+      → queue_at w (2 * m) ≡ x ∷ rest → x.thread ≡ t → s ≡ stands.Moved
   moved_first s is x rest e itself = moved_so s (sym (ap (λ (y : Station). y.stands) (station_was s is)) ∙ sym (ap (λ u. (station_at (place_at w u) m).stands) itself) ∙ stood s is x rest e)
 
   -- ---------------------------------------------------------------- whoever it takes
 
-  pub takes : (s : Stands) → place_at w t ≡ Condvar l (waits (taking s)) → FitsBy (queue_at w (2 * m)) → KeptBy (queue_at w (2 * m)) s
+  pub takes : (s : Stands) → place_at w t ≡ Condvar l (waits (taking s)) → FitsBy (queue_at w (2 * m))
+      → KeptBy (queue_at w (2 * m)) s
   takes s is fits = by_line (queue_at w (2 * m)) refl fits
     where
       by_line : (q : List Waiter) → queue_at w (2 * m) ≡ q → FitsBy q → KeptBy q s
@@ -256,5 +266,6 @@ module _ (w : State) (t l m : ℕ) (timed : Bool) (steady : IsSteady w) (here : 
         | inl itself ↦ by_stand s is (moved_first s is x rest e itself) itself
       ]
         where
-          by_stand : (s : Stands) → place_at w t ≡ Condvar l (waits (taking s)) → s ≡ stands.Moved → x.thread ≡ t → KeptBy (x ∷ rest) s
+          by_stand : (s : Stands) → place_at w t ≡ Condvar l (waits (taking s)) → s ≡ stands.Moved → x.thread ≡ t
+              → KeptBy (x ∷ rest) s
           by_stand s is f itself = subst (λ z. KeptBy (x ∷ rest) z) (sym f) (takes_itself (subst (λ z. place_at w t ≡ Condvar l (waits (taking z))) f is) x rest e itself fits)

@@ -41,7 +41,8 @@ IsAtCondvar wait.Hide = Unit {0}
 IsAtCondvar wait.GiveUp = Unit {0}
 IsAtCondvar at = ⊥
 
-module _ (w : State) (t l m : ℕ) (timed : Bool) (steady : IsSteady w) (is_there : t < length w.places) (apart : m ≢ l) (sort : (rules_in w l).sort ≡ locks.Condvar) (condvar : IsCondvar (condvar_of w l))
+module _ (w : State) (t l m : ℕ) (timed : Bool) (steady : IsSteady w) (is_there : t < length w.places) (apart : m ≢ l)
+    (sort : (rules_in w l).sort ≡ locks.Condvar) (condvar : IsCondvar (condvar_of w l))
     (lock : l < length w.locks) (section : key_of l Main < length w.sections) (line : key_of l Main < length w.queues) where
   abbrev waits : WaitAt → CondvarPlace
   waits at = Wait m timed at
@@ -54,14 +55,17 @@ module _ (w : State) (t l m : ℕ) (timed : Bool) (steady : IsSteady w) (is_ther
   FitsNext at = FitsItsLock w (condvar_goes l (condvar_next (waits at) (reply_to w t (wait_act l m at))))
 
   -- what a step leaves as it was at the mutex
-  same_beside : (at : WaitAt) → place_at w t ≡ Condvar l (waits at) → (n : Next CondvarPlace) → Beside m n → SameBeside (At (waits at)) n → Alike m (place_at w t) (condvar_goes l n)
+  same_beside : (at : WaitAt) → place_at w t ≡ Condvar l (waits at) → (n : Next CondvarPlace) → Beside m n
+      → SameBeside (At (waits at)) n → Alike m (place_at w t) (condvar_goes l n)
   same_beside at is n beside e = subst (λ q. Alike m q (condvar_goes l n)) (sym is) (alike_beside l m apart (At (waits at)) n refl beside e)
 
   -- it stands in no line there
-  outside : (at : WaitAt) → place_at w t ≡ Condvar l (waits at) → (station_by (row_beside (At (waits at)))).stands ≡ None → (station_at (place_at w t) m).stands ≡ None
+  outside : (at : WaitAt) → place_at w t ≡ Condvar l (waits at) → (station_by (row_beside (At (waits at)))).stands ≡ None
+      → (station_at (place_at w t) m).stands ≡ None
   outside at is e = ap (λ q. (station_at q m).stands) is ∙ ap (λ (y : Station). y.stands) (station_beside l m apart (At (waits at)) refl) ∙ e
 
-  enters : place_at w t ≡ Condvar l (waits wait.Enter) → can_do w (wait_act l m wait.Enter) ≡ true → FitsNext wait.Enter → Kept wait.Enter
+  enters : place_at w t ≡ Condvar l (waits wait.Enter) → can_do w (wait_act l m wait.Enter) ≡ true → FitsNext wait.Enter
+      → Kept wait.Enter
   enters is can fits = enters_there w t l m (waits wait.Enter) steady is_there apart sort is refl Done refl fits (same_beside wait.Enter is (At (waits wait.Show)) refl (refl, refl, refl))
       section (none_so (section_at w (2 * l)) can) refl refl
 
@@ -83,7 +87,8 @@ module _ (w : State) (t l m : ℕ) (timed : Bool) (steady : IsSteady w) (is_ther
   removed_same true = (refl, refl, refl)
   removed_same false = (refl, refl, refl)
 
-  removed_there : (b : Bool) → station_by (row_there (in_wait m timed (if b then At wait.Hide else At wait.GiveUp))) ≡ inside_of Main
+  removed_there : (b : Bool)
+      → station_by (row_there (in_wait m timed (if b then At wait.Hide else At wait.GiveUp))) ≡ inside_of Main
   removed_there true = refl
   removed_there false = refl
 
@@ -103,7 +108,8 @@ module _ (w : State) (t l m : ℕ) (timed : Bool) (steady : IsSteady w) (is_ther
   shows_same true = (refl, refl, refl)
   shows_same false = (refl, refl, refl)
 
-  shows_there : (b : Bool) → station_by (row_there (in_wait m timed (if b then At wait.Stand else At wait.Refuse))) ≡ there (waits wait.Show)
+  shows_there : (b : Bool)
+      → station_by (row_there (in_wait m timed (if b then At wait.Stand else At wait.Refuse))) ≡ there (waits wait.Show)
   shows_there true = refl
   shows_there false = refl
 
@@ -111,7 +117,8 @@ module _ (w : State) (t l m : ℕ) (timed : Bool) (steady : IsSteady w) (is_ther
   shows_deeds true = tt
   shows_deeds false = tt
 
-  shows : place_at w t ≡ Condvar l (waits wait.Show) → can_do w (wait_act l m wait.Show) ≡ true → FitsNext wait.Show → Kept wait.Show
+  shows : place_at w t ≡ Condvar l (waits wait.Show) → can_do w (wait_act l m wait.Show) ≡ true → FitsNext wait.Show
+      → Kept wait.Show
   shows is can fits = works_there w t l m (waits wait.Show) steady is_there apart sort is refl (Value seen) (shows_next (sees seen)) fits (same_beside wait.Show is (condvar_next (waits wait.Show) (Value seen)) (shows_next (sees seen)) (shows_same (sees seen)))
       (op.Exchange 0 (shown_as m)) lock refl refl (word_is w t l (waits wait.Show) steady is) (shows_there (sees seen)) (shows_deeds (sees seen))
       (condvar_steps_follow (condvar_of w l) t (waits wait.Show) (Value seen) condvar (at_it w t l (waits wait.Show) steady is) (may_hear w t l (waits wait.Show) steady is can))
@@ -122,12 +129,14 @@ module _ (w : State) (t l m : ℕ) (timed : Bool) (steady : IsSteady w) (is_ther
       sees : ℕ → Bool
       sees v = (v == 0) || is_shown v m
 
-  hides : place_at w t ≡ Condvar l (waits wait.Hide) → can_do w (wait_act l m wait.Hide) ≡ true → FitsNext wait.Hide → Kept wait.Hide
+  hides : place_at w t ≡ Condvar l (waits wait.Hide) → can_do w (wait_act l m wait.Hide) ≡ true → FitsNext wait.Hide
+      → Kept wait.Hide
   hides is can fits = works_there w t l m (waits wait.Hide) steady is_there apart sort is refl (Value (word_at w l)) refl fits (same_beside wait.Hide is (At (waits wait.GiveUp)) refl (refl, refl, refl))
       (op.Store 0) lock refl refl (word_is w t l (waits wait.Hide) steady is) refl tt
       (condvar_steps_follow (condvar_of w l) t (waits wait.Hide) (Value (word_at w l)) condvar (at_it w t l (waits wait.Hide) steady is) (may_hear w t l (waits wait.Hide) steady is can))
 
-  pub waits_there : (at : WaitAt) → IsAtCondvar at → place_at w t ≡ Condvar l (waits at) → can_do w (wait_act l m at) ≡ true → FitsNext at → Kept at
+  pub waits_there : (at : WaitAt) → IsAtCondvar at → place_at w t ≡ Condvar l (waits at) → can_do w (wait_act l m at) ≡ true
+      → FitsNext at → Kept at
   waits_there wait.Enter h is can fits = enters is can fits
   waits_there wait.Show h is can fits = shows is can fits
   waits_there wait.Stand h is can fits = stands is fits

@@ -59,7 +59,9 @@ unwoken t (Some x) d h = either (x.by == t) h
     either true e = absurd cc
     either false e = refl
 
-module _ (w : State) (t l m : ℕ) (timed : Bool) (steady : IsSteady w) (is_there : t < length w.places) (apart : m ≢ l) (sort : (rules_in w m).sort ≡ locks.Mutex) (plain : rules_in w m ≡ glue.mutex) (section : key_of m Main < length w.sections) where
+module _ (w : State) (t l m : ℕ) (timed : Bool) (steady : IsSteady w) (is_there : t < length w.places) (apart : m ≢ l)
+    (sort : (rules_in w m).sort ≡ locks.Mutex) (plain : rules_in w m ≡ glue.mutex)
+    (section : key_of m Main < length w.sections) where
   abbrev waits : WaitAt → CondvarPlace
   waits at = Wait m timed at
 
@@ -91,7 +93,8 @@ module _ (w : State) (t l m : ℕ) (timed : Bool) (steady : IsSteady w) (is_ther
     side : beside_of (behind s2) ≡ record (beside_of (leaving any s)) { inside = None; carries = None; hand = (if is_thread t (taker_of s) then None else hand_of s) }
     taken : taken_of (behind s2) ≡ keep_from t (taken_of (leaving any s))
     doing : (wait_row m (behind s2)).doing ≡ wakened t (taken_of (leaving any s)) (wait_row m (behind s)).doing
-    told : next_place (place_after_telling t (Woken note.Normal) (Condvar l (waits (leaving any s)))) Done ≡ Condvar l (waits (behind s2))
+    told : next_place (place_after_telling t (Woken note.Normal) (Condvar l (waits (leaving any s)))) Done
+        ≡ Condvar l (waits (behind s2))
 
   goes_on : (any : Bool) (s : Stands) → (hand_of s ≡ hand t true → ⊥) → (s2 : Stands) × GoesOn any s s2
   goes_on any stands.Listed h = (stands.Listed, record { stays = refl; side = refl; taken = refl; doing = refl; told = refl })
@@ -173,7 +176,8 @@ module _ (w : State) (t l m : ℕ) (timed : Bool) (steady : IsSteady w) (is_ther
         taken_only : Some false ≡ Some b
         taken_only = sym (ap (λ (y : Station). y.carries) (station_was true s is)) ∙ steady.stands.hands.taken t u m b held
 
-        by_hand : (b : Bool) → hand_at (place_at w u) m ≡ hand t b → Some false ≡ Some b → IsWokenAt w t m note.Normal (place_at w u)
+        by_hand : (b : Bool) → hand_at (place_at w u) m ≡ hand t b → Some false ≡ Some b
+            → IsWokenAt w t m note.Normal (place_at w u)
         by_hand false held e = let k : IsHeldThere m t (place_at w u) = held_there (place_at w u) t m (calls_mutex_at w m (place_at w u) (steady.stands.calls u) plain) held in
             record { lets = tries m t (place_at w u) k; goes = k.woken.station; alike = k.woken.others; fits = k.woken.fits tt w (steady.stands.calls u) }
         by_hand true held e = absurd cc
@@ -184,7 +188,8 @@ module _ (w : State) (t l m : ℕ) (timed : Bool) (steady : IsSteady w) (is_ther
     told_place : next_place (place_at told_state t) Done ≡ then_at
     told_place = ap (λ q. next_place q Done) (get_or-map (place_after_telling t (Woken note.Normal)) w.places t Idle ∙ ap (place_after_telling t (Woken note.Normal)) is) ∙ (goes true s is).1.told
 
-    own_hand : (station_at then_at m).hand ≡ (if is_thread t (taker (place_at w t)) then None else (station_at (place_at w t) m).hand)
+    own_hand : (station_at then_at m).hand
+        ≡ (if is_thread t (taker (place_at w t)) then None else (station_at (place_at w t) m).hand)
     own_hand = ap (λ (y : Station). y.hand) (side true s is) ∙ sym (ap (λ q. if is_thread t (taker q) then None else (station_at (place_at w t) m).hand) is ∙ ap (λ o. if is_thread t o then None else (station_at (place_at w t) m).hand) (taker_is s)
         ∙ ap (λ (y : Station). if is_thread t (taker_of s) then None else y.hand) (station_was true s is))
       where

@@ -25,17 +25,20 @@ use Rattle.lot_laws.proofs.StandsMoved.{AreThere, stands_by}
 
 -- ---------------------------------------------------------------- leaving a section, whoever is woken by it
 
-module _ (r : Rules) (l : ℕ) (a : Parts) (p q : ℕ → Place) (t : ℕ) (own_taken : taken_at (q t) l ≡ keep_from t (taken_at (p t) l)) (others : (u : ℕ) → u ≢ t → LetGo t l (p u) (q u)) where
+module _ (r : Rules) (l : ℕ) (a : Parts) (p q : ℕ → Place) (t : ℕ) (own_taken : taken_at (q t) l ≡ keep_from t (taken_at (p t) l))
+    (others : (u : ℕ) → u ≢ t → LetGo t l (p u) (q u)) where
   taken_now : (u : ℕ) → taken_at (q u) l ≡ keep_from t (taken_at (p u) l)
   taken_now u = elim (cases_eq u t) [
     | inl e ↦ rw e own_taken
     | inr ne ↦ (others u ne).taken
   ]
 
-  out_of : (u : ℕ) → u ≢ t → doing_on (q u) l ≡ wakened t (taken_at (p u) l) (putting (λ x. doing_on (p x) l) t (leaves (doing_on (p t) l)) u)
+  out_of : (u : ℕ) → u ≢ t
+      → doing_on (q u) l ≡ wakened t (taken_at (p u) l) (putting (λ x. doing_on (p x) l) t (leaves (doing_on (p t) l)) u)
   out_of u ne = (others u ne).doing ∙ sym (ap (wakened t (taken_at (p u) l)) (put_other (λ y. doing_on (p y) l) t (leaves (doing_on (p t) l)) u ne))
 
-  pub leaving_by : (ds : List Deed) → AreLeaving ds → doing_on (q t) l ≡ (after_acts r (acts t ds) (seen_in r l a p)).doing t → seen_in r l a q ≡ after_acts r (acts t ds) (seen_in r l a p)
+  pub leaving_by : (ds : List Deed) → AreLeaving ds → doing_on (q t) l ≡ (after_acts r (acts t ds) (seen_in r l a p)).doing t
+      → seen_in r l a q ≡ after_acts r (acts t ds) (seen_in r l a p)
   leaving_by (Out ∷ []) h own = λ i. record (seen_in r l a q) { lock = lock_in a (λ u. taken_now u i); doing = λ u. doing_now u i }
     where
       doing_now : (u : ℕ) → doing_on (q u) l ≡ (after_acts r (acts t (Out ∷ [])) (seen_in r l a p)).doing u
@@ -64,7 +67,8 @@ pub record IsWokenAt (w : State) (t l : ℕ) (x : Note) (p : Place) : Type 0 whe
   pub alike : AlikeBeside l p (next_place p (Woken x))
   pub fits : FitsItsLock w (next_place p (Woken x))
 
-module _ (w : State) (t l : ℕ) (steady : IsSteady w) (there : t < length w.places) (p2 : Place) (beside : SameHands l (place_at w t) p2) (fits : FitsItsLock w p2) (holds : HoldsHere w t l) (x : Note)
+module _ (w : State) (t l : ℕ) (steady : IsSteady w) (there : t < length w.places) (p2 : Place)
+    (beside : SameHands l (place_at w t) p2) (fits : FitsItsLock w p2) (holds : HoldsHere w t l) (x : Note)
     (woken : (u : ℕ) (b : Bool) → hand_at (place_at w u) l ≡ hand t b → IsWokenAt w t l x (place_at w u)) where
   pub all_told : (u : ℕ) (b : Bool) → hand_at (place_at w u) l ≡ hand t b → IsToldAt w t l b None (Woken x) (place_at w u)
   all_told u b held = let k = woken u b held in record { goes = k.goes; alike = k.alike; fits = k.fits }
@@ -100,7 +104,10 @@ module _ (w : State) (t l : ℕ) (steady : IsSteady w) (there : t < length w.pla
         (λ u h. let held = held_here w t l steady p2 beside fits holds (Woken x) None all_told u h in (held.handed, held.hand)) (λ u b h. holds.taker u b h)
 
     -- how the threads stand, by the sections behind it
-    pub there_then : (after : ℕ → Option ℕ) → Sections (stations_of behind) after → ((k : ℕ) → (station_at p2 k).stands ≡ (station_at (place_at w t) k).stands) → ((k : ℕ) → (station_at p2 k).waits ≡ (station_at (place_at w t) k).waits) → AreThere (TakesOne w) (stations_of behind) after (queue_at w)
+    pub there_then : (after : ℕ → Option ℕ) → Sections (stations_of behind) after
+        → ((k : ℕ) → (station_at p2 k).stands ≡ (station_at (place_at w t) k).stands)
+        → ((k : ℕ) → (station_at p2 k).waits ≡ (station_at (place_at w t) k).waits)
+        → AreThere (TakesOne w) (stations_of behind) after (queue_at w)
     there_then after sections stood waited = record {
       sections = sections;
       lines = lines_same (stations_of (place_at w)) (stations_of behind) (queue_at w) (queue_at w) steady.stands.lines (all_parts w t l steady p2 beside fits holds (Woken x) None all_told (λ y. y.stands) (λ y h. refl) stood) (λ key. refl);
@@ -113,7 +120,9 @@ module _ (w : State) (t l : ℕ) (steady : IsSteady w) (there : t < length w.pla
     others_inside = other_parts w t l steady p2 beside fits holds (Woken x) None all_told (λ y. y.inside) (λ y h. refl)
 
     -- out of a section of the lock
-    module _ (alike_there : AlikeBeside l (place_at w t) p2) (m : Line) (line : key_of l m < length w.sections) (within : was.inside ≡ Some m) (stood : is.stands ≡ was.stands) (waited : is.waits ≡ was.waits) (out : is.inside ≡ None) where
+    module _ (alike_there : AlikeBeside l (place_at w t) p2) (m : Line) (line : key_of l m < length w.sections)
+        (within : was.inside ≡ Some m) (stood : is.stands ≡ was.stands) (waited : is.waits ≡ was.waits)
+        (out : is.inside ≡ None) where
       abbrev pub v : State
       v = put (state_after_telling (state_with_sections w (One (key_of l m)) None) t (Woken x)) t p2
 
@@ -133,7 +142,9 @@ module _ (w : State) (t l : ℕ) (steady : IsSteady w) (there : t < length w.pla
         | inr nu ↦ others_inside u k nu
       ]
 
-      pub wake_goes : (r : Rules) → rules_in w l ≡ r → taken_at p2 l ≡ keep_from t (taken_at (place_at w t) l) → (ds : List Deed) → AreLeaving ds → ActsNeeded r (acts t ds) (lock_by w l r) → doing_on p2 l ≡ (after_acts r (acts t ds) (lock_by w l r)).doing t → Goes w v l (acts t ds)
+      pub wake_goes : (r : Rules) → rules_in w l ≡ r → taken_at p2 l ≡ keep_from t (taken_at (place_at w t) l) → (ds : List Deed)
+          → AreLeaving ds → ActsNeeded r (acts t ds) (lock_by w l r)
+          → doing_on p2 l ≡ (after_acts r (acts t ds) (lock_by w l r)).doing t → Goes w v l (acts t ds)
       wake_goes r rules own_taken ds leaving needed e = record {
         follows = follows_by w v l (parts_at w l) behind (record {
           here = λ i. record (parts_at w l) { base = record { shared = get_or w.shares l (replicate (threads i) 0); filled = filled_at w l } };

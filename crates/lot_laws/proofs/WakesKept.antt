@@ -23,8 +23,10 @@ use Rattle.lot_laws.proofs.WakesAt.{IsWokenAt}
 use Rattle.lot_laws.proofs.WakesAt as at
 
 -- leaving a section, whoever is woken by it
-module _ (r : Rules) (l : ℕ) (a : Parts) (p q : ℕ → Place) (t : ℕ) (none : taken_at (p t) l ≡ None) (none2 : taken_at (q t) l ≡ None) (others : (u : ℕ) → u ≢ t → LetGo t l (p u) (q u)) where
-  pub leaving_by : (ds : List Deed) → AreLeaving ds → doing_on (q t) l ≡ (after_acts r (acts t ds) (seen_in r l a p)).doing t → seen_in r l a q ≡ after_acts r (acts t ds) (seen_in r l a p)
+module _ (r : Rules) (l : ℕ) (a : Parts) (p q : ℕ → Place) (t : ℕ) (none : taken_at (p t) l ≡ None)
+    (none2 : taken_at (q t) l ≡ None) (others : (u : ℕ) → u ≢ t → LetGo t l (p u) (q u)) where
+  pub leaving_by : (ds : List Deed) → AreLeaving ds → doing_on (q t) l ≡ (after_acts r (acts t ds) (seen_in r l a p)).doing t
+      → seen_in r l a q ≡ after_acts r (acts t ds) (seen_in r l a p)
   leaving_by = at.leaving_by r l a p q t (none2 ∙ sym (ap (keep_from t) none)) others
 
 -- who calls the lock, and was in a hand, is in nobody's
@@ -36,7 +38,8 @@ woken_of w t l x p handed of lets was free fits = record {
   fits = fits;
 }
 
-module _ (w : State) (t l : ℕ) (steady : IsSteady w) (own : IsOf l (place_at w t)) (there : t < length w.places) (p2 : Place) (of : IsOf l p2) (fits : FitsItsLock w p2) (x : Note)
+module _ (w : State) (t l : ℕ) (steady : IsSteady w) (own : IsOf l (place_at w t)) (there : t < length w.places) (p2 : Place)
+    (of : IsOf l p2) (fits : FitsItsLock w p2) (x : Note)
     (woken : (u : ℕ) (b : Bool) → hand_at (place_at w u) l ≡ hand t b → IsWokenAt w t l x (place_at w u)) (free : (station (place_at w t)).hand ≡ None) where
   abbrev holds : HoldsHere w t l
   holds = holds_here w t l steady (of_carries l (place_at w t) own)
@@ -47,8 +50,12 @@ module _ (w : State) (t l : ℕ) (steady : IsSteady w) (own : IsOf l (place_at w
   is_here : station_at p2 l ≡ station p2
   is_here = station_here l p2 of
 
-  pub wake_goes : (station p2).carries ≡ None → (station p2).hand ≡ None → (m : Line) → (line : key_of l m < length w.sections) → (station (place_at w t)).inside ≡ Some m → (station p2).stands ≡ (station (place_at w t)).stands → (station p2).waits ≡ (station (place_at w t)).waits → (station p2).inside ≡ None
-      → (r : Rules) → rules_in w l ≡ r → taken_at (place_at w t) l ≡ None → taken_at p2 l ≡ None → (ds : List Deed) → AreLeaving ds → ActsNeeded r (acts t ds) (lock_by w l r) → doing_on p2 l ≡ (after_acts r (acts t ds) (lock_by w l r)).doing t
+  pub wake_goes : (station p2).carries ≡ None → (station p2).hand ≡ None → (m : Line) → (line : key_of l m < length w.sections)
+      → (station (place_at w t)).inside ≡ Some m → (station p2).stands ≡ (station (place_at w t)).stands
+      → (station p2).waits ≡ (station (place_at w t)).waits → (station p2).inside ≡ None
+      → (r : Rules) → rules_in w l ≡ r → taken_at (place_at w t) l ≡ None → taken_at p2 l ≡ None → (ds : List Deed)
+      → AreLeaving ds → ActsNeeded r (acts t ds) (lock_by w l r)
+      → doing_on p2 l ≡ (after_acts r (acts t ds) (lock_by w l r)).doing t
       → Goes w (put (state_after_telling (state_with_sections w (One (key_of l m)) None) t (Woken x)) t p2) l (acts t ds)
   wake_goes bare unheld m line within stood waited out r rules none none2 = at.wake_goes w t l steady there p2 (same_hands l (place_at w t) p2 beside) fits holds x woken
       (ap (λ (y : Station). y.carries) is_here ∙ bare) (unheld_then (at.is_told w t l steady there p2 (same_hands l (place_at w t) p2 beside) fits holds x woken t))

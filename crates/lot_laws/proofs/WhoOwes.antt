@@ -72,7 +72,8 @@ notifier_owes all m (notify.Leave any number) = either (number == 0)
     either false = refl
 notifier_owes all m at = refl
 
-locker_owes : (m : ℕ) (timed late retries : Bool) (at : LockAt) → IsLockOf at → OwesInside (Wait m timed (wait.Lock late (mutex.Lock entry.Lock retries at)))
+locker_owes : (m : ℕ) (timed late retries : Bool) (at : LockAt) → IsLockOf at
+    → OwesInside (Wait m timed (wait.Lock late (mutex.Lock entry.Lock retries at)))
 locker_owes m timed late retries lock.Remove of = absurd of
 locker_owes m timed late retries lock.Clear of = absurd of
 locker_owes m timed late retries lock.GiveUp of = absurd of
@@ -152,16 +153,19 @@ module _ (k : ℕ) (at : CondvarPlace) (apart : (l : ℕ) → mutex_beside at �
     entering_outside = (λ i. inside_by (other i) (beside i)) ∙ (owes_outside at enters.2).inside
 
 -- it does so by its act, in a wait that has released its mutex
-entering_acts : (k : ℕ) (at : CondvarPlace) (l : ℕ) (m : Line) → EntersAt at l m → act_of (Condvar k at) ≡ Enter (One (key_of l m))
+entering_acts : (k : ℕ) (at : CondvarPlace) (l : ℕ) (m : Line) → EntersAt at l m
+    → act_of (Condvar k at) ≡ Enter (One (key_of l m))
 entering_acts k (Wait n timed (wait.Release s (mutex.Unlock unlock.Enter))) l m e = let here : n ≡ l = cc in ap (λ j. Enter (One (key_of j Main))) here ∙ ap (λ x. Enter (One (key_of l x))) (sym e.1)
 entering_acts k at l m e = absurd e.2
 
-entering_released : (k : ℕ) (at : CondvarPlace) (l : ℕ) (m : Line) → EntersAt at l m → (r : ℕ → Rights) → HasReleased (call_state (Condvar k at) r).purpose (call_state (Condvar k at) r).released l m
+entering_released : (k : ℕ) (at : CondvarPlace) (l : ℕ) (m : Line) → EntersAt at l m → (r : ℕ → Rights)
+    → HasReleased (call_state (Condvar k at) r).purpose (call_state (Condvar k at) r).released l m
 entering_released k (Wait n timed (wait.Release s (mutex.Unlock unlock.Enter))) l m e r = let here : n ≡ l = cc in subst (HasReleased (Some (Waits k n timed)) true l) (sym e.1) (here, refl)
 entering_released k at l m e r = absurd e.2
 
 -- who enters the section of one lock alone does so in a wait
-enters_waiting : (k : ℕ) (at : CondvarPlace) (key : ℕ) → act_of (Condvar k at) ≡ Enter (One key) → (r : ℕ → Rights) → IsWait (call_state (Condvar k at) r).purpose
+enters_waiting : (k : ℕ) (at : CondvarPlace) (key : ℕ) → act_of (Condvar k at) ≡ Enter (One key) → (r : ℕ → Rights)
+    → IsWait (call_state (Condvar k at) r).purpose
 enters_waiting k (Wait n timed at) key e r = tt
 enters_waiting k (Look all) key e r = absurd cc
 enters_waiting k (Notify all n at) key e r = absurd (notifies at e)

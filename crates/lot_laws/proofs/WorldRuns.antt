@@ -45,7 +45,8 @@ world_step w s h = record {
 }
 
 -- what holds of each step of the abstract locks holds of each step of the world
-pub of_step : {law : LocksState → LocksState → Type 0} → OfEachStep law → (w : State) (s : Step) → IsWorld w → law (locks_of w) (locks_of (after w s))
+pub of_step : {law : LocksState → LocksState → Type 0} → OfEachStep law → (w : State) (s : Step) → IsWorld w
+    → law (locks_of w) (locks_of (after w s))
 of_step each w s h = each (locks_of w) (locks_of (after w s)) s (step_outcome w s) (world_kept w h).state (after_step w s h.shaped h.steady h.counted h.condvars)
 
 pub world_run : (w : State) (ss : List Step) → IsWorld w → IsWorldRun w ss (step_outcomes w ss) (after_steps w ss)
@@ -53,7 +54,8 @@ world_run w [] h = refl
 world_run w (s ∷ ss) h = (after w s, world_step w s h, world_run (after w s) ss (world_after w s h))
 
 -- a run of the world is a run of the abstract locks
-pub run_refines : (w v : State) (ss : List Step) (os : List Outcome) → IsWorldRun w ss os v → IsRun (locks_of w) ss os (locks_of v)
+pub run_refines : (w v : State) (ss : List Step) (os : List Outcome) → IsWorldRun w ss os v
+    → IsRun (locks_of w) ss os (locks_of v)
 run_refines w v [] [] h = ap locks_of h
 run_refines w v [] (o ∷ os) h = absurd h
 run_refines w v (s ∷ ss) [] h = absurd h
@@ -61,7 +63,8 @@ run_refines w v (s ∷ ss) (o ∷ os) h = (locks_of h.0, h.1.refines, run_refine
 
 -- ---------------------------------------------------------------- what was told stands behind what was there
 
-module _ (w v : State) (ss : List Step) (before now : List Outcome) (h : IsWorld w) (led : v ≡ after_steps w ss) (answers : now ≡ before ++ step_outcomes w ss) where
+module _ (w v : State) (ss : List Step) (before now : List Outcome) (h : IsWorld w) (led : v ≡ after_steps w ss)
+    (answers : now ≡ before ++ step_outcomes w ss) where
   pub tells_run : Tells before now (λ told. IsWorldRun w ss told v)
   tells_run = (step_outcomes w ss, answers, subst (IsWorldRun w ss (step_outcomes w ss)) (sym led) (world_run w ss h))
 
@@ -82,13 +85,18 @@ goes_more : (o : Outcome) (told : List Outcome) → o ≡ outcome.TheVariants.St
 goes_more o [] e h = λ f. let g : outcome.TheVariants.Step ≡ outcome.TheVariants.NotNow = sym e ∙ f in cc
 goes_more o (x ∷ told) e h = (e, h)
 
-goes_for : (n : ℕ) (w : State) (t : ℕ) (last : Outcome) → IsWorld w → GoesFor n w t last (solo n w t last).outcome (solo n w t last).state
+goes_for : (n : ℕ) (w : State) (t : ℕ) (last : Outcome) → IsWorld w
+    → GoesFor n w t last (solo n w t last).outcome (solo n w t last).state
 unfolding solo
 goes_for zero w t last h = record { told = []; few = omega arith; run = refl; goes_on = tt; result_is = refl }
 goes_for (suc n) w t last h = by_outcome (step_outcome w (go_of t)) refl (goes_for n (after w (go_of t)) t outcome.TheVariants.Step (world_after w (go_of t) h))
   where
-    by_outcome : (o : Outcome) → step_outcome w (go_of t) ≡ o → GoesFor n (after w (go_of t)) t outcome.TheVariants.Step (solo n (after w (go_of t)) t outcome.TheVariants.Step).outcome (solo n (after w (go_of t)) t outcome.TheVariants.Step).state
-        → GoesFor (suc n) w t last (alone_after o w (after w (go_of t)) last (solo n (after w (go_of t)) t outcome.TheVariants.Step)).outcome (alone_after o w (after w (go_of t)) last (solo n (after w (go_of t)) t outcome.TheVariants.Step)).state
+    by_outcome : (o : Outcome) → step_outcome w (go_of t) ≡ o
+        → GoesFor n (after w (go_of t)) t outcome.TheVariants.Step (solo n (after w (go_of t)) t outcome.TheVariants.Step).outcome
+        (solo n (after w (go_of t)) t outcome.TheVariants.Step).state
+        → GoesFor (suc n) w t last
+        (alone_after o w (after w (go_of t)) last (solo n (after w (go_of t)) t outcome.TheVariants.Step)).outcome
+        (alone_after o w (after w (go_of t)) last (solo n (after w (go_of t)) t outcome.TheVariants.Step)).state
     by_outcome outcome.TheVariants.NotNow e more = record { told = []; few = omega arith; run = refl; goes_on = tt; result_is = refl }
     by_outcome outcome.TheVariants.Step e more = record {
       told = outcome.TheVariants.Step ∷ more.told;
@@ -112,14 +120,17 @@ pub record RunsAlone (w : State) (t : ℕ) (result : Outcome) (v : State) : Type
   pub goes_on : GoesOnUntil told
   pub last : result ≡ last_told told
 
-last_is : (result : Outcome) (told : List Outcome) → result ≡ last_told (outcome.TheVariants.NotNow ∷ told) → result ≡ last_told told
+last_is : (result : Outcome) (told : List Outcome) → result ≡ last_told (outcome.TheVariants.NotNow ∷ told)
+    → result ≡ last_told told
 last_is result [] e = e
 last_is result (o ∷ told) e = e
 
-pub runs_alone : (n : ℕ) (w : State) (t : ℕ) → IsWorld w → RunsAlone w t (solo n w t outcome.TheVariants.NotNow).outcome (solo n w t outcome.TheVariants.NotNow).state
+pub runs_alone : (n : ℕ) (w : State) (t : ℕ) → IsWorld w
+    → RunsAlone w t (solo n w t outcome.TheVariants.NotNow).outcome (solo n w t outcome.TheVariants.NotNow).state
 runs_alone n w t h = let g = goes_for n w t outcome.TheVariants.NotNow h in
     record { told = g.told; run = g.run; goes_on = g.goes_on; last = last_is (solo n w t outcome.TheVariants.NotNow).outcome g.told g.result_is }
 
-pub solo_runs : (w : State) (t : ℕ) → IsWorld w → IsSoloRun w t (solo 64 w t outcome.TheVariants.NotNow).outcome (solo 64 w t outcome.TheVariants.NotNow).state
+pub solo_runs : (w : State) (t : ℕ) → IsWorld w
+    → IsSoloRun w t (solo 64 w t outcome.TheVariants.NotNow).outcome (solo 64 w t outcome.TheVariants.NotNow).state
 solo_runs w t h = let g = goes_for 64 w t outcome.TheVariants.NotNow h in
     record { told = g.told; few = g.few; run = g.run; goes_on = g.goes_on; last = last_is (solo 64 w t outcome.TheVariants.NotNow).outcome g.told g.result_is }

@@ -33,13 +33,13 @@ abbrev pub HasReleasedIt : State → ℕ → ℕ → Type 0
 HasReleasedIt w t l = HasReleased (call_at w t).purpose (call_at w t).released l Main
 
 -- some thread, which is awake, owes a wake on the mutex in such a call, or was woken on it and is about to try again; it stands in no queue and
--- isn't taken, but for a wait, which may be moved or taken while it still releases the mutex
+-- isn't taken, but for a wait that has released the mutex and owes, which may be moved or taken
 pub record HasDebtor (w : State) (l : ℕ) : Type 0 where
   pub debtor : ℕ
   pub debt : (Owes w debtor l Main × WakesOne (call_at w debtor).purpose (call_at w debtor).recalls l)
       ⊎ ((call_at w debtor).retries ≡ Some l)
   pub awake : act_of (place_at w debtor) ≢ Sleep
-  pub stands_nowhere : (k : ℕ) → (standing debtor (lock_state w k) ≡ 0) ⊎ HasReleasedIt w debtor l
+  pub stands_nowhere : (k : ℕ) → (standing debtor (lock_state w k) ≡ 0) ⊎ (HasReleasedIt w debtor l × Owes w debtor l Main)
 
 -- a thread is shown to owe a wake on a lock
 abbrev pub IsShownToOwe : State → ℕ → ℕ → Type 0

@@ -112,12 +112,14 @@ IsDebtorOf w t l Main =
     ⊎ (((call_at w t).retries ≡ Some l) × (counts_some (sort_at w l) (want_of (call_at w t).purpose) ≡ true))
 IsDebtorOf w t l Second = Owes w t l Second
 
--- some thread, which is awake, stands in no queue and isn't taken, is such a debtor; a wait may stand in one while it still releases its mutex
+-- some thread, which is awake, stands in no queue and isn't taken, is such a debtor; but a wait that has released its mutex and owes a wake there may
+-- stand in one, or be taken
 pub record IsLookedAfter (w : State) (l : ℕ) (m : Line) : Type 0 where
   pub debtor : ℕ
   pub debt : IsDebtorOf w debtor l m
   pub awake : act_of (place_at w debtor) ≢ Sleep
-  pub stands_nowhere : (k : ℕ) → (standing debtor (lock_state w k) ≡ 0) ⊎ HasReleased (call_at w debtor).purpose (call_at w debtor).released l m
+  pub stands_nowhere : (k : ℕ) → (standing debtor (lock_state w k) ≡ 0)
+      ⊎ (HasReleased (call_at w debtor).purpose (call_at w debtor).released l m × Owes w debtor l m)
 
 -- nobody bars the way of who stands first in the main line: nobody owns the mutex, no writer is there, or a permit is free
 abbrev pub IsOpenNow : Rules → LockState → Type 0
@@ -167,13 +169,8 @@ IsWithinLimit r s = (count s ≤ r.limit) ⊎ ((r.sort ≡ Recursive) × (count 
 -- a condition variable shows a mutex exactly while somebody waits for it, each in a call that waits with that mutex
 pub record ShowsItsWaiters (w : State) (l : ℕ) : Type 0 where
   pub shows : ((lock_state w l).shown ≡ None) ↔ ((lock_state w l).queue ≡ [])
-  pub one : (t m : ℕ) → (lock_state w l).shown ≡ Some m → WaitsFor w t l → (timed : Bool) × ((call_at w t).purpose ≡ Some (Waits l m timed))
-
--- a call is of one lock
-abbrev pub CallsOneLock : Option Purpose → Type 0
-CallsOneLock (Some (Waits l m timed)) = ⊥
-CallsOneLock (Some (Notifies l all)) = ⊥
-CallsOneLock purpose = Unit {0}
+  pub one : (t m : ℕ) → (lock_state w l).shown ≡ Some m → WaitsFor w t l
+      → (timed : Bool) × ((call_at w t).purpose ≡ Some (Waits l m timed))
 
 pub record IsKept (w : State) : Type 0 where
   -- owners exclude each other, and a thread stands at most once in the queue of a lock, aside of it or taken from it

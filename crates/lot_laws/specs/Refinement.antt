@@ -25,7 +25,8 @@ taken_at p l =
     else taken_from (profile p).hand (profile p).wants (calls p l)
 
 abbrev pub lock_state : State → ℕ → LockState
-lock_state w l = lock_seen (shares_at w l) (owners_at w l) (queue_at w (2 * l)) (queue_at w (2 * l + 1)) (λ u. taken_at (place_at w u) l)
+lock_state w l =
+    lock_seen (shares_at w l) (owners_at w l) (queue_at w (2 * l)) (queue_at w (2 * l + 1)) (λ u. taken_at (place_at w u) l)
 
 abbrev pub owner_at : State → ℕ → Option ℕ
 owner_at w l = (owners_at w l).exclusive

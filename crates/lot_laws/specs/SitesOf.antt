@@ -158,11 +158,14 @@ pub record IsSteady (w : State) : Type 0 where
 pub record IsCounted (w : State) (t : ℕ) (k : Counted) : Type 0 where
   pub number : sharers t w.places ≡ k.sharers
   pub more : want_of_successor (successor_from t 0 w.places) ≡ k.successor
-  pub one : (u v : ℕ) (x y : Want) → wants_more_in_hand t (held (place_at w u)) ≡ Some x → wants_more_in_hand t (held (place_at w v)) ≡ Some y → u ≡ v
+  pub one : (u v : ℕ) (x y : Want) → wants_more_in_hand t (held (place_at w u)) ≡ Some x
+      → wants_more_in_hand t (held (place_at w v)) ≡ Some y → u ≡ v
 
 -- a call that is to hand its lock over has counted those whom it has in hand
 abbrev pub AreCounted : State → Type 0
-AreCounted w = (t l : ℕ) (a : Admission) (c : RwLockCallPlace) (k : Counted) → place_at w t ≡ OfRwLock l a c → in_hand_of c ≡ Some k → IsCounted w t k
+AreCounted w =
+    (t l : ℕ) (a : Admission) (c : RwLockCallPlace) (k : Counted) → place_at w t ≡ OfRwLock l a c → in_hand_of c ≡ Some k
+    → IsCounted w t k
 
 -- ---------------------------------------------------------------- condition variables
 

@@ -83,12 +83,15 @@ WaitsAlone Try s t x o s2 = o ≡ outcome.TheVariants.End answer.TheVariants.No
 WaitsAlone how s t x o s2 = SleepsLast s t x o s2
 
 -- what a call comes to that waits for a right; clear says that no bit of the word is set
-pub record EntersAlone (clear : Type 0) (w : LocksState) (t l : ℕ) (x : Want) (how : Patience) (o : Outcome) (v : LocksState) : Type 0 where
+pub record EntersAlone (clear : Type 0) (w : LocksState) (t l : ℕ) (x : Want) (how : Patience) (o : Outcome)
+    (v : LocksState) : Type 0 where
   pub owns : MayEnterAtOnce clear (rules_at w l) (w.locks l) x how
       → (o ≡ outcome.TheVariants.End (entered_answer how)) × Owns (v.locks l) t x
-  pub pends : x ≡ Exclusive → MayEnter (rules_at w l) (w.locks l) x → 1 ≤ readers (w.locks l) → WaitsForReaders how t o (v.locks l)
+  pub pends : x ≡ Exclusive → MayEnter (rules_at w l) (w.locks l) x → 1 ≤ readers (w.locks l)
+      → WaitsForReaders how t o (v.locks l)
   -- a writer's try at a lock that is shared fails wherever the word isn't clear
-  pub refused : has_readers (rules_at w l).sort ≡ true → x ≡ Exclusive → how ≡ Try → (clear → ⊥) → o ≡ outcome.TheVariants.End answer.TheVariants.No
+  pub refused : has_readers (rules_at w l).sort ≡ true → x ≡ Exclusive → how ≡ Try → (clear → ⊥)
+      → o ≡ outcome.TheVariants.End answer.TheVariants.No
   pub full : IsFull w l x → o ≡ outcome.TheVariants.End answer.TheVariants.ReadersFull
   pub barred : IsBlocked (rules_at w l) (w.locks l) x → WaitsAlone how (w.locks l) t x o (v.locks l)
 

@@ -1,7 +1,6 @@
 //! Worked schedules, as lines in and lines out.
 #![tactic(auto)]
 
-pub mod condvars;
 pub mod fair;
 pub mod malformed;
 pub mod mutexes;

@@ -1,11 +1,16 @@
 //! Inputs through `start`: what they answer, and what a broken device leaves.
 mod devices;
 
+use condvar_rows::lates::LATE_ROWS;
+use condvar_rows::meanwhile::MEANWHILE_ROWS;
+use condvar_rows::moves::MOVE_ROWS;
+use condvar_rows::mutexes::MUTEX_ROWS;
+use condvar_rows::refused::REFUSED_ROWS;
+use condvar_rows::releases::RELEASE_ROWS;
 use devices::{Pieces, Short};
 use lot_base::ListQueues;
 use lot_replay::start::start;
 use lot_world::{Answer, Call, Kind, MutexCall, Outcome, Step, Turn, World};
-use replay_rows::condvars::CONDVAR_ROWS;
 use replay_rows::fair::FAIR_ROWS;
 use replay_rows::malformed::MALFORMED;
 use replay_rows::mutexes::{ROWS, TWO_TRIES};
@@ -56,11 +61,21 @@ fn answers_inputs_of_onces(rt: HostRuntime) {
 
 #[test]
 fn answers_inputs_of_condition_variables(rt: HostRuntime) {
-    for row in &CONDVAR_ROWS {
-        let (input, want) = *row;
-        let (text, ended) = replayed(rt.alloc(), input);
-        assert_eq!(rt; text.as_slice(), want);
-        assert_eq!(rt; ended, 0);
+    let subjects: [&[(&[u8], &[u8])]; 6] = [
+        &RELEASE_ROWS,
+        &MOVE_ROWS,
+        &MEANWHILE_ROWS,
+        &MUTEX_ROWS,
+        &LATE_ROWS,
+        &REFUSED_ROWS,
+    ];
+    for rows in subjects {
+        for row in rows {
+            let (input, want) = *row;
+            let (text, ended) = replayed(rt.alloc(), input);
+            assert_eq!(rt; text.as_slice(), want);
+            assert_eq!(rt; ended, 0);
+        }
     }
 }
 

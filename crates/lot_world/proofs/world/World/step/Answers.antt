@@ -3,7 +3,7 @@ use Rattle.lot_machine.proofs.Shape.{after_size}
 use Rattle.lot_laws.proofs.LockSteps.{after_step}
 use Rattle.lot_laws.proofs.OneThing.{one_thing, touches}
 use Rattle.lot_laws.proofs.Fair.{is_fair}
-use Rattle.lot_laws.proofs.NobodyWakes.{nobody_wakes}
+use Rattle.abstract_locks.proofs.NobodyWakes.{nobody_wakes}
 use Rattle.lot_laws.proofs.Owing.{owes_since}
 use Rattle.lot_laws.proofs.WorldRuns.{of_step, world_after, world_step}
 use Rattle.abstract_locks.proofs.UserLaws.{readers_stay_out, rereaders_pass, upgrades_hold, downgrades_hold}
