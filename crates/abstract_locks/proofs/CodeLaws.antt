@@ -9,7 +9,7 @@ use Rattle.abstract_locks.specs.Locks.{Sort, Mutex, Normal, Recursive, Semaphore
 use Rattle.abstract_locks.specs.Sites.{Site, IsSite, Case, Needed, after_deed, has_readers}
 use Rattle.abstract_locks.specs.Codes.{bit, writers, code_of, rw_code, count_in, has_writer, has_upgradable, has_aside, has_parked, is_blocked, lost, rolled, IsHandOff, WordFollows, WordsTellTrue}
 use Rattle.abstract_locks.proofs.Seen.{packed_count, packed_writer, packed_upgradable, packed_aside, packed_parked}
-use Rattle.abstract_locks.proofs.SiteKeeps.{fewer_share}
+use Rattle.abstract_locks.proofs.SiteFacts.{fewer_share}
 
 pub one_more : (xs : List ℕ) (t : ℕ) → t < length xs → sum (slice_set xs t (slice_index xs t + 1)) ≡ sum xs + 1
 one_more xs t lt = let e = sum_by-set (λ (n : ℕ). n) xs t (slice_index xs t + 1) 0 lt in omega arith

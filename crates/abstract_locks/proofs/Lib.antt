@@ -7,6 +7,12 @@ pub mod Laws
 pub mod Turns
 pub mod Hands
 pub mod Wakes
+pub mod SiteFacts
+pub mod SiteBits
+pub mod SiteTakes
+pub mod SiteHands
+pub mod SiteOnces
+pub mod SiteMoves
 pub mod SiteKeeps
 pub mod OnceLaws
 pub mod Seen

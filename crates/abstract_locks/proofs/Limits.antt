@@ -6,7 +6,7 @@ use Rattle.abstract_locks.specs.Locks.{LockState, Pending, Rules, Normal, LockCa
 use Rattle.abstract_locks.specs.Onces.{OnceCase, Start, Finish, Fail, Rest, TakeAll}
 use Rattle.abstract_locks.specs.Locks as locks
 use Rattle.abstract_locks.specs.Codes.{HasLimit, LimitKept, IsHandOff}
-use Rattle.abstract_locks.proofs.SiteKeeps.{fewer_share}
+use Rattle.abstract_locks.proofs.SiteFacts.{fewer_share}
 use Rattle.abstract_locks.proofs.CodeLaws.{one_more}
 
 module _ (r : Rules) (s : LockState) (t : ℕ) (there : t < length s.shared) (some : 1 ≤ r.limit) (c : IsLockState r s) (h : HasLimit r s) where

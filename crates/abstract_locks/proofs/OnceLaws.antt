@@ -7,7 +7,7 @@ use Rattle.abstract_locks.specs.Locks.{LockCase, LockState, Needs, Pending, Rule
 use Rattle.abstract_locks.specs.Sites.{Main, Doing, IsOpen, IsDebtor}
 use Rattle.abstract_locks.specs.OnceLaws.{NothingLeavesDone, CallersAreLookedAfter}
 use Rattle.abstract_locks.proofs.Hands.{is_handed}
-use Rattle.abstract_locks.proofs.SiteKeeps.{callers_stand}
+use Rattle.abstract_locks.proofs.SiteFacts.{callers_stand}
 
 -- owners have no phase
 given : (t : ℕ) (x : Want) (s : LockState) → (with_owner t x s).phase ≡ s.phase

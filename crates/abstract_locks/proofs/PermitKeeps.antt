@@ -13,7 +13,7 @@ use Rattle.abstract_locks.specs.Permits.{total, debt, debts, HasPermits, EachDee
 use Rattle.abstract_locks.specs.Locks as locks
 use Rattle.abstract_locks.proofs.LockKeeps.{no_aside, times_append}
 use Rattle.abstract_locks.proofs.Hands.{without_fewer, kept_few}
-use Rattle.abstract_locks.proofs.SiteKeeps.{fewer_share}
+use Rattle.abstract_locks.proofs.SiteFacts.{fewer_share}
 use Rattle.abstract_locks.proofs.Turns.{Changed}
 
 -- ---------------------------------------------------------------- sums

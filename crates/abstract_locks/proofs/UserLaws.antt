@@ -19,7 +19,7 @@ use Rattle.abstract_locks.specs.Runs.{LocksState, Event, Nothing, AtLock, Moves,
 use Rattle.abstract_locks.specs.UserLaws.{ReadersStayOut, RereadersPass, UpgradesLetNobodyWrite, DowngradesOwn, OfEachStep, IsFirstWriter, waits_to_share}
 use Rattle.abstract_locks.specs.Condvars.{moved_of}
 use Rattle.abstract_locks.specs.Sites.{has_readers}
-use Rattle.abstract_locks.proofs.SiteKeeps.{fewer_share}
+use Rattle.abstract_locks.proofs.SiteFacts.{fewer_share}
 use Rattle.abstract_locks.proofs.Rights.{others_keep}
 use Rattle.abstract_locks.proofs.Hands.{sharing_more}
 use Rattle.abstract_locks.proofs.Runs.{needs_of, step_keeps}

@@ -29,7 +29,8 @@ impl<K, V: InnerMut> DerefMut for Held<K, V> {
 
     #[inline]
     fn deref_mut(&mut self) -> &mut V::Value
-        ensures* writes_back { sem 𝓛 (Lends (the_row K.row V.row) V.Value.row self.entry result (λ value. record self.old { value = V.written self.old.value value })) }
+        ensures* writes_back { sem 𝓛 (Lends (the_row K.row V.row) V.Value.row self.entry result
+            (λ value. record self.old { value = V.written self.old.value value })) }
         ensures shows { result.now ≡ V.shown self.old.value }
     {
         self.value.show_mut()

@@ -73,7 +73,8 @@ pub trait RawCondvar {
         ensures token { Self.RawMutex.is_token_of (lot_of self.now) token.new × Self.RawMutex.stays token.old token.new }
         ensures looked { looked self.now result token.old token.new }
         ensures one { result ≡ 0 → notified self.now false No token.old token.new × moved self.now false 0 token.old token.new }
-        ensures all { result ≡ 0 → notified self.now true (Number 0) token.old token.new × moved self.now true 0 token.old token.new };
+        ensures all { result ≡ 0 → notified self.now true (Number 0) token.old token.new
+            × moved self.now true 0 token.old token.new };
 
     /// The rest of a notification of the first who waits, whose first step saw this. Whether anybody did.
     fn notify_one_behind<R: Wait>(

@@ -450,7 +450,8 @@ pub trait RawRwLockUpgradeTimed: RawRwLockUpgrade {
         ensures path { Self.RawRwLock.walked self.now (Enter access.Upgradable Timed)
             (counted_answer result) token.old token.new }
         ensures full { IfErr result (λ _. Self.RawRwLock.saw_full self.now access.Upgradable token.old token.new) }
-        ensures left { IfOk result (λ entered. IfNone entered (Self.RawRwLock.gave_up self.now (Enter access.Upgradable Timed) token.new)) }
+        ensures left { IfOk result
+            (λ entered. IfNone entered (Self.RawRwLock.gave_up self.now (Enter access.Upgradable Timed) token.new)) }
         ensures late { IfOk result (λ entered. IfNone entered (HasElapsed (C.tells clock.now) (as_nanos timeout))) };
 
     /// The same, up to a deadline. None only where the clock had come to it.
@@ -472,7 +473,8 @@ pub trait RawRwLockUpgradeTimed: RawRwLockUpgrade {
         ensures path { Self.RawRwLock.walked self.now (Enter access.Upgradable Timed)
             (counted_answer result) token.old token.new }
         ensures full { IfErr result (λ _. Self.RawRwLock.saw_full self.now access.Upgradable token.old token.new) }
-        ensures left { IfOk result (λ entered. IfNone entered (Self.RawRwLock.gave_up self.now (Enter access.Upgradable Timed) token.new)) }
+        ensures left { IfOk result
+            (λ entered. IfNone entered (Self.RawRwLock.gave_up self.now (Enter access.Upgradable Timed) token.new)) }
         ensures late { IfOk result (λ entered. IfNone entered (HasPassed (C.tells clock.now) deadline)) };
 
     /// Upgrades, and gives up once so much time, in nanoseconds of the clock, had passed, and not before.

@@ -55,7 +55,8 @@ pub trait Queues {
     /// Takes those under a key whom a picker picks, and pushes them to `out` in their order. The others keep theirs.
     fn take_by<P: Picker + Drop>(&mut self, key: Key, picker: P, out: &mut Vec<usize>)
         requires { vec_len out.old + capacity self.old ≤ vec_capacity out.old }
-        ensures taken { out.new.items ≡ out.old.items ++ threads_of (picked P.answer P.next picker (line key (waiting self.old))) }
+        ensures taken { out.new.items ≡ out.old.items
+            ++ threads_of (picked P.answer P.next picker (line key (waiting self.old))) }
         ensures room { vec_capacity out.new ≡ vec_capacity out.old }
         ensures lines { lines (waiting self.new) ≡ lines (without_picked P.answer P.next picker key (waiting self.old)) }
         ensures capacity { capacity self.new ≡ capacity self.old };

@@ -31,7 +31,7 @@ use Rattle.abstract_locks.specs.Runs.{LocksState, IsRun, one_more_at, rules_at}
 use Rattle.abstract_locks.specs.Sites.{Doing, Has, IsSite, Main, has_readers}
 use Rattle.abstract_locks.proofs.CodeLaws.{rw_is, words_tell_true}
 use Rattle.abstract_locks.proofs.Seen.{packed_writer}
-use Rattle.abstract_locks.proofs.SiteKeeps.{fewer_share}
+use Rattle.abstract_locks.proofs.SiteFacts.{fewer_share}
 use Rattle.lot_steps.specs.declared.places.Place.TheVariants.{RwLock}
 use Rattle.lot_machine.specs.Machine.{Alone as Ran, State, after, after_steps, alone_after, go_of, place_at, queue_at, section_at, solo, step_outcome, step_outcomes, word_at}
 use Rattle.lot_laws.specs.Refinement.{call_at, call_state, lock_state, locks_of}

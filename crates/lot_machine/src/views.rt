@@ -34,7 +34,8 @@ impl<'a> Model for OwnersOf<'a> {
 
     ghost Value = { List (Owner × ℕ) };
 
-    ghost view = { λ o. owners_listed o.left ++ (replicate o.rights (Shared, o.sharer) ++ sharers_listed o.behind (drop o.behind o.shares.now)) };
+    ghost view = { λ o. owners_listed o.left
+        ++ (replicate o.rights (Shared, o.sharer) ++ sharers_listed o.behind (drop o.behind o.shares.now)) };
 }
 
 impl<'a> OwnersOf<'a> {
@@ -55,7 +56,9 @@ impl<'a> OwnersOf<'a> {
 fn find_sharer(shares: &[usize], from: usize) -> Option<usize>
     ensures within { IfSome result (λ thread. (thread < length shares.now) × (0 < slice_index_or shares.now thread 0)) }
     ensures found { MatchOption result (sharers_listed from (drop from shares.now) ≡ [])
-        (λ thread. sharers_listed from (drop from shares.now) ≡ replicate (slice_index_or shares.now thread 0) (Owner.Shared, thread) ++ sharers_listed (thread + 1) (drop (thread + 1) shares.now)) }
+        (λ thread. sharers_listed from (drop from shares.now)
+        ≡ replicate (slice_index_or shares.now thread 0) (Owner.Shared, thread)
+        ++ sharers_listed (thread + 1) (drop (thread + 1) shares.now)) }
 {
     for thread in from..shares.len() {
         if shares[thread] != 0 {
@@ -183,7 +186,8 @@ impl<'a> Model for Debts<'a> {
 
     ghost Value = { List (Debt × ℕ) };
 
-    ghost view = { λ s. debtors Owes s.lock s.owes (drop s.owes s.places.now) ++ debtors Retries s.lock s.retries (drop s.retries s.places.now) };
+    ghost view = { λ s. debtors Owes s.lock s.owes (drop s.owes s.places.now)
+        ++ debtors Retries s.lock s.retries (drop s.retries s.places.now) };
 }
 
 impl<'a> Debts<'a> {
@@ -230,7 +234,8 @@ fn first_debtor(places: &[Place], lock: usize) -> usize
 fn find_debtor(places: &[Place], from: usize, debt: Debt, lock: usize) -> Option<usize>
     ensures within { IfSome result (λ thread. thread < length places.now) }
     ensures found { MatchOption result (debtors debt lock from (drop from places.now) ≡ [])
-        (λ thread. debtors debt lock from (drop from places.now) ≡ (debt, thread) ∷ debtors debt lock (thread + 1) (drop (thread + 1) places.now)) }
+        (λ thread. debtors debt lock from (drop from places.now)
+        ≡ (debt, thread) ∷ debtors debt lock (thread + 1) (drop (thread + 1) places.now)) }
 {
     for thread in from..places.len() {
         if has_debt(places[thread], debt, lock) {

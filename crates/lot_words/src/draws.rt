@@ -19,7 +19,8 @@ impl LotWords {
         requires own { IsSeatOf self.now seat.old }
         requires kinds { (K.kinds ≡ kinds.now) × (0 < length kinds.now) }
         ensures own { IsSeatOf self.now seat.new × (seat.new.me.1 ≡ seat.old.me.1) × (seat.new.me.0.owns ≡ seat.old.me.0.owns) }
-        ensures drawn { MatchOption result (IsDrawRefused self.now.count (length kinds.now) seat.old.me.0 seat.new.me.0) (λ number. IsDrawn self.now.count kinds.now number seat.old.me.0 seat.new.me.0) }
+        ensures drawn { MatchOption result (IsDrawRefused self.now.count (length kinds.now) seat.old.me.0 seat.new.me.0)
+            (λ number. IsDrawn self.now.count kinds.now number seat.old.me.0 seat.new.me.0) }
     {
         let (words, needed) = (self.count as u64, kinds.len() as u64);
         let counter = &self.table.shared;

@@ -123,7 +123,8 @@ impl<Q: Queues + Drop> World<Q> {
 
         // And from its beginning: it enters where it may, else sleeps as the last of the queue, or aside where it waits for readers;
         // a try ends; a release ends without its right, and a downgrade with the lesser one.
-        ensures ends { (call : Call) → place_at self.old thread ≡ first_place (kind_at self.old (lock_in call)) call → HasItsWay self.old thread
+        ensures ends { (call : Call) → place_at self.old thread ≡ first_place (kind_at self.old (lock_in call)) call
+            → HasItsWay self.old thread
             → EndsAlone self.old thread (purpose_at (locks_of self.old) call) result self.new }
         ensures same_size { SameSize self.old self.new }
     {
@@ -163,7 +164,8 @@ impl<Q: Queues + Drop> World<Q> {
 
         // In it nobody is forgotten, before, between and after its steps, and each step holds what is promised of steps.
         ensures kept_before { IsKept self.old }
-        ensures run { OnOk result (Tells outcomes.old.items outcomes.new.items (λ told. IsWorldRun self.old steps.now told self.new)) }
+        ensures run { OnOk result (Tells outcomes.old.items outcomes.new.items
+            (λ told. IsWorldRun self.old steps.now told self.new)) }
 
         // The same of the steps that were taken, where memory for an outcome was refused.
         ensures stopped_refines { IfErr result (λ stopped. Tells outcomes.old.items outcomes.new.items
@@ -174,7 +176,8 @@ impl<Q: Queues + Drop> World<Q> {
         ensures outcomes { OnOk result (outcomes.new.items ≡ outcomes.old.items ++ step_outcomes self.old steps.now) }
         ensures taken { IfErr result (λ stopped. stopped.taken < length steps.now) }
         ensures stopped { IfErr result (λ stopped. self.new ≡ after_steps self.old (take stopped.taken steps.now)) }
-        ensures stopped_outcomes { IfErr result (λ stopped. outcomes.new.items ≡ outcomes.old.items ++ step_outcomes self.old (take stopped.taken steps.now)) }
+        ensures stopped_outcomes { IfErr result
+            (λ stopped. outcomes.new.items ≡ outcomes.old.items ++ step_outcomes self.old (take stopped.taken steps.now)) }
     {
         // The proof reads the world's invariant here.
         let _ = &self.machine;

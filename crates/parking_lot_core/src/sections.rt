@@ -319,7 +319,8 @@ impl<'a> Section<'a> {
         ensures own { IsSameThread self.old.lot.now token.old token.new × (last_of token.new ≡ last_of token.old) }
         ensures left { view_of token.new
             ≡ left_over (named_by word (owner_at word left (wants_in self.old) place)) (view_of token.old) }
-        ensures rightless { rightless_in self.new ≡ filter (λ x. not (x == slice_index (taken_in self.old) place)) (rightless_in self.old) }
+        ensures rightless { rightless_in self.new ≡ filter
+            (λ x. not (x == slice_index (taken_in self.old) place)) (rightless_in self.old) }
         ensures same { StaysIn self.old self.new × TookAs self.old self.new × (waiting_in self.new ≡ waiting_in self.old) }
     {
         let owner = Owner::given(word.kind(), left, self.queueing.wants()[place]);

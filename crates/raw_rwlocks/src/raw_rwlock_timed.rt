@@ -32,7 +32,8 @@ impl<const RECURSIVE: bool> RawRwLock<RECURSIVE> {
             (λ fault. fault ≡ Fault.ReadersFull) }
         ensures path { HasWalkedRwLock (word_of self.now).number (admission_of self.now) (Enter access.Shared Timed)
             (counted_answer result) token.old token.new }
-        ensures full { IfErr result (λ _. SawFull (word_of self.now).number (admission_of self.now) access.Shared token.old token.new) }
+        ensures full { IfErr result
+            (λ _. SawFull (word_of self.now).number (admission_of self.now) access.Shared token.old token.new) }
         ensures left { IfOk result (λ entered. IfNone entered
             (GaveUp (word_of self.now).number (admission_of self.now) (Enter access.Shared Timed) token.new)) }
         ensures late { IfOk result (λ entered. IfNone entered (IsUp C.tells limit.entry)) }
@@ -60,7 +61,8 @@ impl<const RECURSIVE: bool> RawRwLock<RECURSIVE> {
             (λ fault. fault ≡ Fault.ReadersFull) }
         ensures path { HasWalkedRwLock (word_of self.now).number (admission_of self.now) (Enter access.Upgradable Timed)
             (counted_answer result) token.old token.new }
-        ensures full { IfErr result (λ _. SawFull (word_of self.now).number (admission_of self.now) access.Upgradable token.old token.new) }
+        ensures full { IfErr result
+            (λ _. SawFull (word_of self.now).number (admission_of self.now) access.Upgradable token.old token.new) }
         ensures left { IfOk result (λ entered. IfNone entered
             (GaveUp (word_of self.now).number (admission_of self.now) (Enter access.Upgradable Timed) token.new)) }
         ensures late { IfOk result (λ entered. IfNone entered (IsUp C.tells limit.entry)) }

@@ -144,7 +144,8 @@ impl LotRwLock {
             (entry_answer patience result) token.old token.new }
         ensures late { IfOk result (λ entered. IfNone entered (MayGiveUp (IsUp C.tells limit.now) patience)) }
         ensures counted { IfErr result (λ fault. IsCounted access) }
-        ensures full { IfErr result (λ fault. SawFull (word_in self.now).number (admission_in self.now) access token.old token.new) }
+        ensures full { IfErr result
+            (λ fault. SawFull (word_in self.now).number (admission_in self.now) access token.old token.new) }
         ensures left { IfOk result (λ entered. IfNone entered
             (GaveUp (word_in self.now).number (admission_in self.now) (Enter access patience) token.new)) }
     {
@@ -207,7 +208,8 @@ impl LotRwLock {
         requires token { IsTokenOf (lot_in self.now) token.old }
         requires right { IsRwLockRight (lot_in self.now) (word_in self.now) (owner_for Exclusive) right }
         ensures token { IsTokenOf (lot_in self.now) token.new × StaysBeside (word_in self.now).number token.old token.new }
-        ensures path { HasWalkedCall (word_in self.now).number (admission_in self.now) (fair_calls.ReleaseFair access.Exclusive) ok token.old token.new }
+        ensures path { HasWalkedCall (word_in self.now).number (admission_in self.now)
+            (fair_calls.ReleaseFair access.Exclusive) ok token.old token.new }
         ensures record { ReleasesFairly (word_in self.now).number (admission_in self.now) access.Exclusive token.old token.new }
     {
         self.join(token, Want::Exclusive, right);
@@ -219,7 +221,8 @@ impl LotRwLock {
         requires token { IsTokenOf (lot_in self.now) token.old }
         requires right { IsRwLockRight (lot_in self.now) (word_in self.now) (owner_for Upgradable) right }
         ensures token { IsTokenOf (lot_in self.now) token.new × StaysBeside (word_in self.now).number token.old token.new }
-        ensures path { HasWalkedCall (word_in self.now).number (admission_in self.now) (fair_calls.ReleaseFair access.Upgradable) ok token.old token.new }
+        ensures path { HasWalkedCall (word_in self.now).number (admission_in self.now)
+            (fair_calls.ReleaseFair access.Upgradable) ok token.old token.new }
         ensures record { ReleasesFairly (word_in self.now).number (admission_in self.now) access.Upgradable token.old token.new }
     {
         self.join(token, Want::Upgradable, right);
@@ -244,10 +247,11 @@ impl LotRwLock {
         ensures token { IsTokenOf (lot_in self.now) token.new × StaysBeside (word_in self.now).number token.old token.new }
         ensures right { MatchResult result (IsRwLockRight (lot_in self.now) (word_in self.now) (owner_for (wanted access)))
             (λ fault. fault ≡ Fault.ReadersFull) }
-        ensures path { HasWalkedCall (word_in self.now).number (admission_in self.now) (fair_calls.Bump access) (reading_answer result)
-            token.old token.new }
+        ensures path { HasWalkedCall (word_in self.now).number (admission_in self.now) (fair_calls.Bump access)
+            (reading_answer result) token.old token.new }
         ensures counted { IfErr result (λ fault. IsCounted access) }
-        ensures full { IfErr result (λ fault. SawFull (word_in self.now).number (admission_in self.now) access token.old token.new) }
+        ensures full { IfErr result
+            (λ fault. SawFull (word_in self.now).number (admission_in self.now) access token.old token.new) }
     {
         self.join(token, wanted(access), right);
         match bump(rt, &self.lot, token, &self.word, &self.admission, access) {
@@ -269,9 +273,10 @@ impl LotRwLock {
         requires right { IsRwLockRight (lot_in self.now) (word_in self.now) (owner_for (wanted (from_of downgrade))) right }
         ensures token { IsTokenOf (lot_in self.now) token.new × StaysBeside (word_in self.now).number token.old token.new }
         ensures right { IsRwLockRight (lot_in self.now) (word_in self.now) (owner_for (wanted (to_of downgrade))) result }
-        ensures path { HasWalkedRwLock (word_in self.now).number (admission_in self.now) (purposes_of.Downgrade downgrade) ok token.old
-            token.new }
-        ensures record { WakesBy (word_in self.now).number (admission_in self.now) (purposes_of.Downgrade downgrade) token.old token.new }
+        ensures path { HasWalkedRwLock (word_in self.now).number (admission_in self.now)
+            (purposes_of.Downgrade downgrade) ok token.old token.new }
+        ensures record { WakesBy (word_in self.now).number (admission_in self.now)
+            (purposes_of.Downgrade downgrade) token.old token.new }
     {
         self.join(token, greater(downgrade), right);
         call(
@@ -308,7 +313,8 @@ impl LotRwLock {
         ensures path { HasWalkedRwLock (word_in self.now).number (admission_in self.now) (Upgrade patience)
             (turn_answer patience result) token.old token.new }
         ensures late { IfErr result (λ right. MayGiveUp (IsUp C.tells limit.now) patience) }
-        ensures left { IfErr result (λ right. GaveUp (word_in self.now).number (admission_in self.now) (Upgrade patience) token.new) }
+        ensures left { IfErr result (λ right. GaveUp (word_in self.now).number (admission_in self.now)
+            (Upgrade patience) token.new) }
     {
         self.join(token, Want::Upgradable, right);
         let answer = call(
