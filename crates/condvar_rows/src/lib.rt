@@ -5,5 +5,4 @@ pub mod lates;
 pub mod meanwhile;
 pub mod moves;
 pub mod mutexes;
-pub mod refused;
 pub mod releases;

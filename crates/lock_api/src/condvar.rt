@@ -97,7 +97,7 @@ impl<R: RawCondvar> Condvar<R> {
         ensures path { R.notified self.now false (notifying_answer result) token.old token.new }
         ensures record { R.moved self.now false (moved_first result) token.old token.new }
     {
-        // Where nobody waits it is over with a step that doesn't wait: no flag is tested behind a call that may.
+        // As `notify_one` of the raw one. It isn't called, since behind each call that may wait a flag is tested.
         let seen = self.raw.begin_notify(token);
         if seen == 0 {
             return false;

@@ -5,4 +5,5 @@ pub mod fair;
 pub mod malformed;
 pub mod mutexes;
 pub mod onces;
+pub mod refused;
 pub mod rwlocks;
