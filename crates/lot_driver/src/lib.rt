@@ -8,5 +8,6 @@ pub mod driver;
 pub mod fair_calls;
 pub mod once_calls;
 pub mod rwlock_calls;
+mod sleepers;
 mod taking;
 mod words;
