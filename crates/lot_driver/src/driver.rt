@@ -57,10 +57,10 @@ pub const FOR_EVER: &Option<(&'static NoClock, u64)> = &None;
 
 /// What a run of a call comes to.
 #[derive(Drop)]
-pub(crate) enum Stop {
+pub enum Stop {
     /// The call is over.
     Ended(Answer),
-    /// The closure of the call is to run, with this state. The call goes on behind the place.
+    /// The closure of the call is to run, with this state. The call goes on behind the place, by a run of its own.
     Paused { place: Place, state: OnceState },
 }
 
@@ -73,7 +73,8 @@ fn closure_of(act: Act) -> Option<OnceState>
     }
 }
 
-pub(crate) fn answer_of(act: Act) -> Option<Answer>
+/// What a call answers whose act this is, if it is over.
+pub fn answer_of(act: Act) -> Option<Answer>
     ensures { result ≡ answer_of act }
 {
     match act {
@@ -158,10 +159,12 @@ fn turn<'a, R: Wait, C: Clock>(
     perform(rt, lot, token, words, limit, section, place, act)
 }
 
-/// Runs a call from a place to its answer or its closure, up to a deadline where the call is timed.
+/// Runs a call from a place to its answer or its closure, up to a deadline where the call is timed: any other pays no heed to it.
+///
+/// The thread sleeps where its call waits, until another one wakes it. A closure is left to the caller to run.
 #[cold]
 #[inline(never)]
-pub(crate) fn run<R: Wait, C: Clock>(
+pub fn run<R: Wait, C: Clock>(
     rt: &R,
     lot: &ParkingLot,
     token: &mut Token,
