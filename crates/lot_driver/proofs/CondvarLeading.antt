@@ -58,7 +58,7 @@ use Rattle.lot_driver.specs.Fitting.{AreWordsBeside, Fits, Looks, Reached, Reach
 use Rattle.lot_driver.specs.MutexFitting.{FitsMutex, Outside, Within, enters, held, releases}
 use Rattle.lot_driver.specs.Paths.{at_mutex, condvar_at, mutex_at, mutexes}
 use Rattle.lot_driver.specs.Stages.{ActNeeds, Awoke, Became, HasKey, Inside, IsCounted, IsFresh, MayLeave, Stage, Stepped, entered_now, having_taken, listed, moving, note_of, stage, took_as}
-use Rattle.lot_driver.specs.declared.acting.Sleeper.{Sleeper}
+use Rattle.lot_driver.specs.declared.sleepers.Sleeper.{Sleeper}
 
 -- what is known of a mutex's places
 abbrev pub MutexPlacesLead : Type 0 → Type 0

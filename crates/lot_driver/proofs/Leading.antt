@@ -39,7 +39,7 @@ use Rattle.parking_lot_core.specs.declared.tokens.Did.TheVariants.{TakeFirst}
 use Rattle.lot_driver.specs.Fitting.{AreWordsFor, Fits, PlacesLead, Looks, Reached, aim_of, sleeper_at}
 use Rattle.lot_driver.specs.MutexFitting.{GaveUp, FitsLock, FitsUnlock, FitsMutex, Within, Outside, beside, held}
 use Rattle.lot_driver.specs.Paths.{GoesFrom, mutex_at, mutexes, at_mutex, rwlocks, at_rwlock, onces, at_once}
-use Rattle.lot_driver.specs.declared.acting.Sleeper.{Sleeper}
+use Rattle.lot_driver.specs.declared.sleepers.Sleeper.{Sleeper}
 use Rattle.lot_driver.specs.Stages.{Stage, Inside, ActNeeds, Became, HasKey, IsFresh, MayLeave, IsLeft, took_as, listed, entered_now, stage, stepped}
 use Rattle.lot_driver.proofs.HandingOver.{hand_off_needs, hand_off_leads}
 use Rattle.lot_driver.proofs.CondvarLeading.{condvar_place_leads}

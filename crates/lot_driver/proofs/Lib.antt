@@ -17,9 +17,6 @@ pub mod CondvarLeading
 pub mod Leading
 pub mod RwLockBeginning
 pub mod Turning
-pub mod OnceCalling
-pub mod CondvarCalling
-pub mod CondvarNotifying
 pub mod RwLockCalling
 pub mod RwLockCourses
 pub mod RwLockTakes

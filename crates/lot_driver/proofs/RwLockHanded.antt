@@ -42,7 +42,7 @@ use Rattle.lot_rwlock_fair.specs.declared.places.RwLockCallPlace.TheVariants.{Pl
 use Rattle.lot_rwlock_fair.specs.FairSteps.{call_next, given}
 use Rattle.lot_words.specs.declared.owners.Ownership.{Ownership}
 use Rattle.lot_words.specs.declared.words.WordKind.{WordKind}
-use Rattle.lot_driver.specs.declared.acting.Sleeper.{Sleeper}
+use Rattle.lot_driver.specs.declared.sleepers.Sleeper.{Sleeper}
 use Rattle.lot_driver.specs.Fitting.{ReachedBy, answer_of, sleeper_at}
 use Rattle.lot_driver.specs.Paths.{rwlocks, at_rwlock}
 use Rattle.lot_driver.specs.RwLockFitting.{FitsRwLock}

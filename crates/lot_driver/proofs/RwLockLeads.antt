@@ -54,7 +54,7 @@ use Rattle.lot_words.proofs.RwLockOwning.{fits}
 use Rattle.lot_driver.specs.Fitting.{sleeper_at}
 use Rattle.lot_driver.specs.Paths.{rwlock_at, rwlocks, at_rwlock}
 use Rattle.lot_driver.specs.RwLockFitting.{Answers, FitsRwLock, HasGivenWay, HasSeen, IsBeside, IsCounted, IsRwLockOver, IsWithin, LeftAlone, MayGiveUp, OwnsBeside, OwnsRight, TookWoken, did_wake, woken_line}
-use Rattle.lot_driver.specs.declared.acting.Sleeper.{Sleeper}
+use Rattle.lot_driver.specs.declared.sleepers.Sleeper.{Sleeper}
 use Rattle.lot_driver.specs.Stages.{Stage, Inside, Became, IsLeft, Stepped, entered_now, listed, stage, took_as}
 use Rattle.lot_driver.proofs.RwLockDeciding.{marks, marks_aside, marks_clear, refuses, takes_shared, takes_upgradable, takes_exclusive, upgrades}
 use Rattle.lot_driver.proofs.RwLockKeeping as keeping

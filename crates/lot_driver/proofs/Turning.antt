@@ -38,7 +38,7 @@ use Rattle.parking_lot_core.specs.declared.tokens.Token.{Token}
 use Rattle.lot_driver.specs.Fitting.{AreWordsFor, answer_of}
 use Rattle.lot_driver.specs.Paths.{Brings, Told, closure_of, step, word, hands, parks, other, is_wordless, is_valueless}
 use Rattle.lot_driver.specs.Stages.{Stage, Became, Stepped, Adds, stage, stage_of, inside_of}
-use Rattle.lot_driver.specs.declared.acting.Sleeper.{Sleeper}
+use Rattle.lot_driver.specs.declared.sleepers.Sleeper.{Sleeper}
 
 wordless : (at : ℕ → ℕ) (p : Place) (a : Act) (reply : Reply) (before behind : List WordStep) → act_of p ≡ a → is_wordless a ≡ true → is_valueless reply ≡ true → behind ≡ before → Told at p reply before behind
 wordless at p a reply before behind is quiet valueless e = ([], e ∙ sym (append-nil before), other p reply (ap is_wordless is ∙ quiet) valueless)

@@ -30,7 +30,7 @@ use Rattle.parking_lot_core.specs.declared.tokens.Did.TheVariants as did
 use Rattle.parking_lot_core.specs.declared.tokens.SectionRecord.{SectionRecord}
 use Rattle.lot_driver.specs.MutexFitting.{FitsLock, FitsUnlock, Outside, Within, held}
 use Rattle.lot_driver.specs.Stages.{Stage, entered_now, having_taken}
-use Rattle.lot_driver.specs.declared.acting.Sleeper.{Sleeper}
+use Rattle.lot_driver.specs.declared.sleepers.Sleeper.{Sleeper}
 
 -- a thread that waits sleeps for its mutex, and may be moved to the queue of that meanwhile
 abbrev pub condvar_sleeper : ℕ → CondvarPlace → Sleeper

@@ -35,7 +35,7 @@ use Rattle.lot_driver.specs.RwLockFitting.{FitsCall, IsFairlyOver, IsRwLockOver,
 use Rattle.lot_driver.specs.OnceFitting.{FitsOnce, IsLookOver, IsRunOver}
 use Rattle.lot_driver.specs.Paths.{mutexes, at_mutex, rwlocks, at_rwlock, onces, at_once, condvar_at, mutex_at}
 use Rattle.lot_driver.specs.Stages.{Stage, ActNeeds, Became}
-use Rattle.lot_driver.specs.declared.acting.Sleeper.{Sleeper}
+use Rattle.lot_driver.specs.declared.sleepers.Sleeper.{Sleeper}
 use Rattle.lot_driver.specs.declared.driver.Stop.{Stop}
 use Rattle.lot_driver.specs.declared.driver.Stop.TheVariants.{Ended, Paused}
 

@@ -6,12 +6,10 @@ pub mod Telling
 pub mod MutexFitting
 pub mod OnceFitting
 pub mod CondvarFitting
-pub mod OnceCalls
 pub mod RwLockFitting
 pub mod RwLockRefusals
 pub mod Fitting
 pub mod Calls
-pub mod CondvarCalls
 pub mod RwLockCalls
 pub mod Courses
 pub mod Drawing

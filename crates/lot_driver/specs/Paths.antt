@@ -1,5 +1,5 @@
 -- The word steps of a call are a path of its transitions.
-use Rattle.std.specs.Prelude.{ℕ, ◌≡◌, Bool, true, false, Option, Some, None, List, [], ◌∷◌, ◌++◌, ◌⊎◌, ◌==◌, cond}
+use Rattle.std.specs.Prelude.{ℕ, ◌≡◌, Bool, true, false, Option, Some, None, List, [], ◌∷◌, ◌++◌, ◌⊎◌}
 use Rattle.lot_base.specs.declared.ops.Op.{Op}
 use Rattle.lot_base.specs.declared.ops.Op.TheVariants.{Load}
 use Rattle.lot_base.specs.declared.wants.Want.{Want}
@@ -53,9 +53,6 @@ at_once number lock = once_at number
 -- where the word of a condition variable stands, on which its calls step, and on that of a mutex beside it
 abbrev pub condvar_at : ℕ → ℕ
 condvar_at number = word_index number kinds.TheVariants.Condvar
-
-abbrev pub at_condvar : ℕ → ℕ → ℕ → ℕ
-at_condvar number mutex lock = cond (mutex == lock) (mutex_at mutex) (condvar_at number)
 
 -- one step on the word at a place, and what it saw
 abbrev pub step : ℕ → Op → ℕ → List WordStep

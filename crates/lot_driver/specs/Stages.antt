@@ -41,7 +41,7 @@ use Rattle.parking_lot_core.specs.declared.tokens.Token.{Token}
 use Rattle.lot_queues.specs.Wants.{wants_of}
 use Rattle.lot_driver.specs.Paths.{step}
 use Rattle.lot_driver.specs.Takes.{more_in, sharers_in, successor_in}
-use Rattle.lot_driver.specs.declared.acting.Sleeper.{Sleeper}
+use Rattle.lot_driver.specs.declared.sleepers.Sleeper.{Sleeper}
 
 -- a section that a thread is inside: what it did there, whom it took, what each of them wants, which of them have no right yet, and
 -- how many it moved to another queue

@@ -17,7 +17,7 @@ ghost use Rattle.lot_driver.specs.Telling.{AreWaiting, HasStepped, MayFind, MayT
 ghost use Rattle.lot_driver.specs.Words.{AreWordsOf, word_in, kind_in, at_in};
 ghost use Rattle.lot_driver.specs.Stages.{Adds, Awoke, AwokeLate, HandsEach, HasKey, IsCounted, IsFresh, IsUngiven, MayLeave, IsIn, IsLeft, TookBy, handed, note_of, inside_of, stage_of, waiting_of, wanted_in, entered_now, ActNeeds, Became};
 
-use crate::driver::sleeper;
+use crate::sleepers::{Sleeper, sleeper_at};
 use crate::taking::{requeue, take_all, take_first, take_picked, tell_wants};
 use crate::words::Words;
 use lot_acts::takes_effect;
@@ -77,8 +77,8 @@ fn stand(lot: &ParkingLot, token: &Token, section: &mut Option<Section>, key: Ke
     }
 }
 
-// One step on the word, with which the lock goes to those who were taken. The right that each of them wants is laid in its record.
-// Where an exchange finds another value nothing is handed over.
+// One step on the word, with which the lock goes to those who were taken. The right that each of them wants is laid in its
+// record. Where an exchange finds another value nothing is handed over.
 fn hand_over<R: Wait>(
     rt: &R,
     lot: &ParkingLot,
@@ -198,17 +198,6 @@ fn take(lot: &ParkingLot, section: &mut Option<Section>, key: Key, whom: Whom) -
     }
 }
 
-/// What a thread waits for where it sleeps, the key under which it may be late, and the key to which it may be moved meanwhile.
-#[derive(Clone, Copy)]
-pub(crate) struct Sleeper {
-    pub lock: usize,
-    pub want: Want,
-    pub late: Option<Key>,
-    pub moved: Option<Key>,
-    /// Whether it goes on where it is handed the lock.
-    pub takes_over: bool,
-}
-
 // The time of a sleeper is up, and it is inside the section of the key where it stands.
 fn awake_late<'a, R: Wait>(
     rt: &R,
@@ -326,7 +315,7 @@ pub(crate) fn perform<'a, R: Wait, C: Clock>(
             Reply::Done
         }
         Act::Sleep => {
-            let sleeper = sleeper(place);
+            let sleeper = sleeper_at(place);
             sleep(
                 rt,
                 lot,

@@ -1,37 +1,26 @@
 //! One driver for all calls: it does the act of a place on the real lot, and `advance` leads on.
-ghost use Rattle.std.specs.Prelude.{◌≡◌, ◌++◌, ℕ, List, None};
+ghost use Rattle.std.specs.Prelude.{◌≡◌, ◌++◌, List, None};
 ghost use Rattle.lot_base.specs.Clocks.{IsUp};
-ghost use Rattle.lot_base.specs.declared.ops.Op.TheVariants.{Load};
-ghost use Rattle.lot_steps.specs.Steps.{act_of, next_place, HasKeys};
+ghost use Rattle.lot_steps.specs.Steps.{act_of, next_place};
 ghost use Rattle.lot_acts.specs.declared.acts.Reply.TheVariants.{Value};
-ghost use Rattle.lot_words.specs.Lots.{IsWordOf};
-ghost use Rattle.lot_words.specs.Indices.{word_index};
 ghost use Rattle.lot_words.specs.Steps.{MayStep, CodesWith, after_step};
 ghost use Rattle.lot_words.specs.declared.owners.Ownership.{Ownership};
 ghost use Rattle.lot_words.specs.declared.views.WordStep.{WordStep};
 ghost use Rattle.lot_words.specs.declared.words.WordKind.TheVariants.{Mutex};
 ghost use Rattle.parking_lot_core.specs.Tokens.{IsTokenOf, IsSameThread, view_of, last_of};
 ghost use Rattle.lot_driver.specs.Calls.{MeetAt, beginning, purpose_in, IsUnfinished, WalksBehind};
-ghost use Rattle.lot_driver.specs.Fitting.{PlacesLead, AreWordsFor, AreWordsAfter, Fits, IsStopped, Reached, answer_of, aim_of, sleeper_at};
+ghost use Rattle.lot_driver.specs.Fitting.{PlacesLead, AreWordsFor, AreWordsAfter, Fits, IsStopped, Reached, answer_of, aim_of};
 ghost use Rattle.lot_driver.specs.MutexFitting.{IsMutexOver};
-ghost use Rattle.lot_driver.specs.CondvarFitting.{condvar_sleeper};
-ghost use Rattle.lot_driver.specs.RwLockFitting.{may_be_handed};
-ghost use Rattle.lot_steps.specs.declared.places.Place.TheVariants.{Condvar};
-ghost use Rattle.lot_driver.specs.Paths.{closure_of, mutex_at, at_mutex, GoesFrom, Runs, Told};
+ghost use Rattle.lot_driver.specs.Paths.{closure_of, mutex_at, GoesFrom, Runs, Told};
 ghost use Rattle.lot_driver.specs.Words.{AreWordsOf, kind_in, at_in};
 ghost use Rattle.lot_driver.specs.Stages.{IsIn, stage_of};
-ghost use Rattle.lot_driver.specs.Telling.{HasStepped, MayFind, MayTake, owns_of, steps_of};
+ghost use Rattle.lot_driver.specs.Telling.{owns_of, steps_of};
 
-use crate::acting::{Sleeper, end, perform};
+use crate::acting::{end, perform};
 use crate::words::Words;
-use lot_base::main_key;
 use lot_calls::{Answer, MutexCall, OnceState};
-use lot_condvar::{CondvarPlace, WaitAt};
-use lot_rwlock::park::ParkAt;
-use lot_rwlock::places::RwLockAt;
-use lot_rwlock_fair::RwLockCallPlace;
 use lot_steps::{Act, MutexPlace, Place, Reply};
-use parking_lot_core::{Clock, Op, ParkingLot, Section, Token, Want, Word};
+use parking_lot_core::{Clock, Op, ParkingLot, Section, Token, Word};
 use std::hint::spin_loop;
 use std::sync::Wait;
 use std::thread::yield_now;
@@ -68,10 +57,10 @@ pub const FOR_EVER: &Option<(&'static NoClock, u64)> = &None;
 
 /// What a run of a call comes to.
 #[derive(Drop)]
-pub(crate) enum Stop {
+pub enum Stop {
     /// The call is over.
     Ended(Answer),
-    /// The closure of the call is to run, with this state. The call goes on behind the place.
+    /// The closure of the call is to run, with this state. The call goes on behind the place, by a run of its own.
     Paused { place: Place, state: OnceState },
 }
 
@@ -84,7 +73,8 @@ fn closure_of(act: Act) -> Option<OnceState>
     }
 }
 
-pub(crate) fn answer_of(act: Act) -> Option<Answer>
+/// What a call answers whose act this is, if it is over.
+pub fn answer_of(act: Act) -> Option<Answer>
     ensures { result ≡ answer_of act }
 {
     match act {
@@ -143,76 +133,6 @@ pub(crate) fn places_lead<C: Clock>(_limit: Option<(&C, u64)>)
     ensures { PlacesLead (IsUp C.tells _limit.entry) }
 {}
 
-// Whether a thread sleeps in the main queue, where it may be handed the lock.
-fn may_be_handed(at: RwLockCallPlace) -> bool
-    ensures { result ≡ may_be_handed at }
-{
-    match at {
-        RwLockCallPlace::Plain(place) | RwLockCallPlace::Bump(place) => {
-            matches!(place.at, RwLockAt::Park(ParkAt::Asleep))
-        }
-        _ => false,
-    }
-}
-
-// For what a thread sleeps in a call of a condition variable: for its mutex, to the queue of which it may be moved meanwhile.
-fn condvar_sleeper(lock: usize, at: CondvarPlace) -> Sleeper
-    requires { HasKeys (Condvar lock at) }
-    ensures { result ≡ condvar_sleeper lock at }
-{
-    let (lock, late, moved, takes_over) = match at {
-        CondvarPlace::Wait {
-            mutex,
-            at: WaitAt::Lock { at, .. },
-            ..
-        } => (
-            mutex,
-            Place::Mutex { lock: mutex, at }.late_key(),
-            None,
-            true,
-        ),
-        CondvarPlace::Wait { mutex, .. } => {
-            (mutex, at.late_key(lock), Some(main_key(mutex)), true)
-        }
-        _ => (lock, None, None, false),
-    };
-    Sleeper {
-        lock,
-        want: Want::Exclusive,
-        late,
-        moved,
-        takes_over,
-    }
-}
-
-// For what a thread sleeps in its call.
-pub(crate) fn sleeper(place: Place) -> Sleeper
-    requires { HasKeys place }
-    ensures { result ≡ sleeper_at place }
-{
-    let (lock, want, takes_over) = match place {
-        Place::Idle => (0, Want::Exclusive, false),
-        Place::Mutex { lock, .. } => (lock, Want::Exclusive, true),
-        Place::RwLock { lock, at, .. } => {
-            (
-                lock,
-                at.wants().unwrap_or(Want::Exclusive),
-                may_be_handed(at),
-            )
-        }
-        // Nobody hands a `Once` over.
-        Place::Once { lock, at } => (lock, at.wants().unwrap_or(Want::Exclusive), false),
-        Place::Condvar { lock, at } => return condvar_sleeper(lock, at),
-    };
-    Sleeper {
-        lock,
-        want,
-        late: place.late_key(),
-        moved: None,
-        takes_over,
-    }
-}
-
 // One turn of a call: the act of its place. Whatever fitted there leads on to what fits.
 fn turn<'a, R: Wait, C: Clock>(
     rt: &R,
@@ -239,10 +159,12 @@ fn turn<'a, R: Wait, C: Clock>(
     perform(rt, lot, token, words, limit, section, place, act)
 }
 
-/// Runs a call from a place to its answer or its closure, up to a deadline where the call is timed.
+/// Runs a call from a place to its answer or its closure, up to a deadline where the call is timed: any other pays no heed to it.
+///
+/// The thread sleeps where its call waits, until another one wakes it. A closure is left to the caller to run.
 #[cold]
 #[inline(never)]
-pub(crate) fn run<R: Wait, C: Clock>(
+pub fn run<R: Wait, C: Clock>(
     rt: &R,
     lot: &ParkingLot,
     token: &mut Token,

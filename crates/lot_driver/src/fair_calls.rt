@@ -47,7 +47,8 @@ fn rest<R: Wait>(
     requires own { MeetsAt lot.now token.old word.now admission.now }
     requires fits { (base : List Ownership) × Fits ⊥ base (RwLock word.now.number admission.now at) (stage_of token.old None) }
     ensures own { IsSameThread lot.now token.old token.new }
-    ensures path { Walks (at_rwlock word.now.number) (RwLock word.now.number admission.now at) (steps_of token.old) (steps_of token.new) result }
+    ensures path { Walks (at_rwlock word.now.number) (RwLock word.now.number admission.now at)
+        (steps_of token.old) (steps_of token.new) result }
     ensures over { (base : List Ownership) → Fits ⊥ base (RwLock word.now.number admission.now at) (stage_of token.old None)
         → IsOver ⊥ base (aim_of (RwLock word.now.number admission.now at)) result (stage_of token.new None) }
 {

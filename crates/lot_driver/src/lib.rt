@@ -2,11 +2,10 @@
 #![tactic(auto)]
 
 mod acting;
-pub mod condvar_calls;
 pub mod courses;
 pub mod driver;
 pub mod fair_calls;
-pub mod once_calls;
 pub mod rwlock_calls;
+mod sleepers;
 mod taking;
-mod words;
+pub mod words;

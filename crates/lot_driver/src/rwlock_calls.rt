@@ -97,7 +97,8 @@ fn behind<R: Wait, C: Clock>(
     requires fits { (base : List Ownership) × Fits (IsUp C.tells limit.now) base
         (next_place (rwlock_begin word.now.number admission.now purpose) (Value seen)) (stage_of token.old None) }
     ensures own { IsSameThread lot.now token.old token.new }
-    ensures path { Walks (at_rwlock word.now.number) (next_place (rwlock_begin word.now.number admission.now purpose) (Value seen))
+    ensures path { Walks (at_rwlock word.now.number)
+        (next_place (rwlock_begin word.now.number admission.now purpose) (Value seen))
         (steps_of token.old) (steps_of token.new) result }
     ensures over { (base : List Ownership) → Fits (IsUp C.tells limit.now) base
         (next_place (rwlock_begin word.now.number admission.now purpose) (Value seen)) (stage_of token.old None)
@@ -126,11 +127,13 @@ fn missed<R: Wait, C: Clock>(
     requires reached { (base : List Ownership) × Reached (IsUp C.tells limit.now) base
         (rwlock_deciding word.now.number admission.now purpose expected) (Value found) (stage_of token.old None) }
     ensures own { IsSameThread lot.now token.old token.new }
-    ensures path { Rests (at_rwlock word.now.number) (rwlock_deciding word.now.number admission.now purpose expected) (Value found)
+    ensures path { Rests (at_rwlock word.now.number)
+        (rwlock_deciding word.now.number admission.now purpose expected) (Value found)
         (steps_of token.old) (steps_of token.new) result }
     ensures over { (base : List Ownership) → Reached (IsUp C.tells limit.now) base
         (rwlock_deciding word.now.number admission.now purpose expected) (Value found) (stage_of token.old None)
-        → IsOver (IsUp C.tells limit.now) base (of_rwlock word.now.number admission.now purpose) result (stage_of token.new None) }
+        → IsOver (IsUp C.tells limit.now) base (of_rwlock word.now.number admission.now purpose) result
+        (stage_of token.new None) }
 {
     let place = deciding(word.number(), *admission, purpose, expected);
     let (next, act) = advance(place, Reply::Value(found));
@@ -157,7 +160,8 @@ fn take_right<R: Wait, C: Clock>(
     requires fits { (base : List Ownership) × Fits (IsUp C.tells limit.now) base
         (next_place (rwlock_begin word.now.number admission.now purpose) (Value seen)) (stage_of token.old None) }
     ensures own { IsSameThread lot.now token.old token.new }
-    ensures path { Walks (at_rwlock word.now.number) (next_place (rwlock_begin word.now.number admission.now purpose) (Value seen))
+    ensures path { Walks (at_rwlock word.now.number)
+        (next_place (rwlock_begin word.now.number admission.now purpose) (Value seen))
         (steps_of token.old) (steps_of token.new) result }
     ensures over { (base : List Ownership) → Fits (IsUp C.tells limit.now) base
         (next_place (rwlock_begin word.now.number admission.now purpose) (Value seen)) (stage_of token.old None)

@@ -6,13 +6,14 @@ use parking_lot_core::Word;
 
 /// The word of a lock, and where a call steps on the word of a second lock, that one too.
 #[derive(Clone, Copy)]
-pub(crate) struct Words {
+pub struct Words {
     one: Word,
     other: Option<Word>,
 }
 
 impl Words {
-    pub(crate) fn alone(word: Word) -> Words
+    /// Those of a call that steps on one word: it stands for any lock's.
+    pub fn alone(word: Word) -> Words
         ensures { result ≡ alone word }
     {
         Words {
@@ -21,7 +22,8 @@ impl Words {
         }
     }
 
-    pub(crate) fn both(word: Word, other: Word) -> Words
+    /// Those of a call that steps on two: the second where its own lock's number is asked for, and else the first.
+    pub fn both(word: Word, other: Word) -> Words
         ensures { result ≡ both word other }
     {
         Words {

@@ -1,1 +1,3 @@
+pub mod CondvarCalling
+pub mod CondvarNotifying
 pub mod CondvarAnswers

@@ -1,18 +1,91 @@
--- What the calls of a raw condition variable did.
-use Rattle.std.specs.Prelude.{ℕ, ◌≡◌, ◌⊎◌, ◌*◌, Bool, true, false, List, Some, Ok, Err}
+-- What the calls of a condition variable did.
+use Rattle.std.specs.Prelude.{ℕ, ◌≡◌, ◌≢◌, ◌<◌, ◌==◌, ◌*◌, ◌+◌, ◌++◌, ◌⊎◌, Bool, true, false, cond, List, Option, Some, Ok, Err, if◌then◌else◌}
 use Rattle.std.specs.declared.result.Result.{Result}
 use Rattle.lot_base.specs.declared.faults.Fault.{Fault}
 use Rattle.lot_base.specs.declared.faults.Fault.TheVariants as faults
-use Rattle.lot_condvar.specs.CondvarSteps.{waited}
+use Rattle.lot_base.specs.declared.ops.Op.TheVariants.{Load}
 use Rattle.lot_calls.specs.declared.outcomes.Answer.{Answer}
-use Rattle.lot_calls.specs.declared.outcomes.Answer.TheVariants.{TimedOut, TwoMutexes}
+use Rattle.lot_calls.specs.declared.outcomes.Answer.TheVariants.{Number, TimedOut, TwoMutexes, Yes}
+use Rattle.lot_condvar.specs.CondvarSteps.{notified, waited}
+use Rattle.lot_condvar.specs.declared.notify.NotifyAt.TheVariants as notify
+use Rattle.lot_condvar.specs.declared.places.CondvarPlace.TheVariants.{Wait, Look, Notify}
+use Rattle.lot_condvar.specs.declared.wait.WaitAt.TheVariants as wait
+use Rattle.lot_steps.specs.declared.places.Place.{Place}
+use Rattle.lot_steps.specs.declared.places.Place.TheVariants.{Condvar}
+use Rattle.lot_words.specs.Lots.{IsWordOf}
 use Rattle.lot_words.specs.declared.views.WordStep.{WordStep}
-use Rattle.parking_lot_core.specs.Tokens.{last_of}
+use Rattle.lot_words.specs.declared.words.Word.{Word}
+use Rattle.lot_words.specs.declared.words.WordKind.TheVariants as kind
+use Rattle.parking_lot_core.specs.Tokens.{IsTokenOf, last_of}
+use Rattle.parking_lot_core.specs.declared.lot.ParkingLot.{ParkingLot}
+use Rattle.parking_lot_core.specs.declared.tokens.SectionRecord.{SectionRecord}
 use Rattle.parking_lot_core.specs.declared.tokens.Token.{Token}
-use Rattle.lot_driver.specs.CondvarCalls.{HasWaited}
+use Rattle.lot_driver.specs.Calls.{MeetAt}
 use Rattle.lot_driver.specs.CondvarFitting.{move_did}
+use Rattle.lot_driver.specs.Paths.{Walks, condvar_at, mutex_at, step}
+use Rattle.lot_driver.specs.Telling.{owns_of, steps_of}
 
--- the steps of a wait lead to its answer; a mutex of the condition variable's own number, which nobody draws, is refused at once
+-- a thread of the lot, a mutex of it, and a condition variable of it of another number, whose keys are numbers
+abbrev pub MeetBeside : ParkingLot → Token → Word → Word → Type 0
+MeetBeside lot token condvar mutex = MeetAt lot token mutex × IsWordOf lot.words condvar
+    × (condvar.kind ≡ kind.Condvar) × (condvar.number < 9223372036854775808) × (condvar.number ≢ mutex.number)
+
+-- where the word of each lock of such a call stands
+abbrev pub at_condvar : ℕ → ℕ → ℕ → ℕ
+at_condvar number mutex lock = cond (mutex == lock) (mutex_at mutex) (condvar_at number)
+
+-- where a wait begins
+abbrev pub wait_begin : ℕ → ℕ → Bool → Place
+wait_begin c m timed = Condvar c (Wait m timed wait.Enter)
+
+-- the steps that were added to a list lead from the beginning of a wait to its answer, on the words of the condition variable and
+-- of the mutex
+abbrev pub HasWaited : ℕ → ℕ → Bool → Answer → List WordStep → List WordStep → Type 0
+HasWaited c m timed answer old new = Walks (at_condvar c m) (wait_begin c m timed) old new answer
+
+-- and where a notification goes on that has seen a mutex
+abbrev pub notify_behind : ℕ → ℕ → Bool → Place
+notify_behind c m all = Condvar c (Notify all m notify.Enter)
+
+abbrev pub HasNotified : ℕ → ℕ → Bool → Answer → List WordStep → List WordStep → Type 0
+HasNotified c m all answer old new = Walks (at_condvar c m) (notify_behind c m all) old new answer
+
+-- a thread of the lot, and a condition variable of it whose keys are numbers
+abbrev pub MeetsCondvar : ParkingLot → Token → Word → Type 0
+MeetsCondvar lot token condvar = IsTokenOf lot token × IsWordOf lot.words condvar
+    × (condvar.kind ≡ kind.Condvar) × (condvar.number < 9223372036854775808)
+
+-- a value that shows no mutex beside this condition variable, in a lot of so many words. Nobody makes a word show that, and the rule of the
+-- lot doesn't say so
+abbrev pub IsStray : ℕ → ℕ → ℕ → Type 0
+IsStray words c seen = (words < seen) ⊎ (seen ≡ c + 1)
+
+abbrev pub notify_begin : ℕ → Bool → Place
+notify_begin c all = Condvar c (Look all)
+
+-- its thread loaded the word once and found this
+abbrev pub HasLooked : ℕ → ℕ → Token → Token → Type 0
+HasLooked c seen old new = (steps_of new ≡ steps_of old ++ step (condvar_at c) Load seen) × (owns_of new ≡ owns_of old)
+
+-- behind that step the rest leads to its answer; a stray value is answered as where nobody waits
+abbrev pub NotifiesBehind : ℕ → ℕ → Bool → ℕ → Answer → List WordStep → List WordStep → Type 0
+NotifiesBehind words c all seen answer old new =
+    ((m : ℕ) × (m ≢ c) × (seen ≡ m + 1) × HasNotified c m all answer old new)
+    ⊎ (IsStray words c seen × (answer ≡ notified all 0) × (new ≡ old))
+
+-- the steps of a notification lead to its answer, beside the mutex that it saw, if any
+abbrev pub Notifies : ℕ → ℕ → Bool → Answer → List WordStep → List WordStep → Type 0
+Notifies words c all answer old new = ((m : ℕ) × Walks (at_condvar c m) (notify_begin c all) old new answer)
+    ⊎ ((seen : ℕ) × IsStray words c seen × (answer ≡ notified all 0) × (new ≡ old ++ step (condvar_at c) Load seen))
+
+-- one that has moved some left both sections, with a record of that; who notifies all tells its number
+abbrev pub TellsMoved : ℕ → Bool → Answer → Option SectionRecord → Type 0
+TellsMoved c all answer last = (answer ≡ notified all 0) ⊎ ((m : ℕ) × (locked : Bool) × (number : ℕ)
+    × (answer ≡ (if all then Number number else Yes))
+    × (last ≡ Some (record { key = 2 * c; did = move_did all locked c m; number = number })))
+
+-- the steps of a raw wait lead to its answer; a mutex of the condition variable's own number, which nobody draws, is refused at
+-- once
 abbrev pub WaitsBy : ℕ → ℕ → Bool → Answer → List WordStep → List WordStep → Type 0
 WaitsBy c m timed answer old new =
     HasWaited c m timed answer old new ⊎ ((c ≡ m) × (answer ≡ TwoMutexes) × (new ≡ old))

@@ -17,16 +17,16 @@ use Rattle.lot_calls.specs.declared.calls.OnceCall.TheVariants.{CallOnce, Wait}
 use Rattle.lot_calls.specs.declared.outcomes.OnceState.{OnceState}
 use Rattle.lot_steps.specs.Steps.{next_place}
 use Rattle.lot_driver.specs.Fitting.{ReachedBy, aim_of, answer_of}
-use Rattle.lot_driver.specs.OnceCalls.{Closes, ComesTo, EndsRun, HasSeen, LookOwns, LooksBy, in_closure, once_begin}
 use Rattle.lot_driver.specs.OnceFitting.{LooksAnswer, OwnsBehind, OwnsKnowing, OwnsRun, knowing}
 use Rattle.lot_driver.specs.Paths.{once_at}
 use Rattle.lot_driver.specs.Stages.{stage_of}
 use Rattle.lot_driver.specs.Telling.{owns_of, steps_of}
-use Rattle.lot_driver.specs.declared.once_calls.Look.TheVariants.{Ended}
-use Rattle.lot_driver.proofs.OnceCalling.{done_ends, looks_ended}
+use Rattle.run_once.specs.OnceCalls.{Closes, ComesTo, EndsRun, HasSeen, LookOwns, LooksBy, in_closure, once_begin}
+use Rattle.run_once.specs.declared.once_calls.Look.TheVariants.{Ended}
 use Rattle.run_once.specs.Looks.{Began, CameTo, FoundDone, Tells, is_ok}
 use Rattle.run_once.specs.Ran.{HasLooked, HasRun}
 use Rattle.run_once.specs.declared.once.Came.TheVariants.{Done, Poisoned}
+use Rattle.run_once.proofs.OnceCalling.{done_ends, looks_ended}
 
 module _ (n : ℕ) where
   abbrev run : Ownership

@@ -1,1 +1,2 @@
+pub mod OnceCalling
 pub mod Knowing

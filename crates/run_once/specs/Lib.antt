@@ -1,3 +1,4 @@
 pub mod Users
+pub mod OnceCalls
 pub mod Ran
 pub mod Looks

@@ -7,9 +7,9 @@ use Rattle.lot_calls.specs.declared.outcomes.Answer.TheVariants as answers
 use Rattle.lot_calls.specs.declared.outcomes.OnceState.{OnceState}
 use Rattle.lot_once.specs.OnceSteps.{is_forced, state_before}
 use Rattle.parking_lot_core.specs.declared.tokens.Token.{Token}
-use Rattle.lot_driver.specs.OnceCalls.{ComesTo, in_closure, once_begin}
 use Rattle.lot_driver.specs.OnceFitting.{KnowsIt, OwnsRun}
 use Rattle.lot_driver.specs.Telling.{owns_of, steps_of}
+use Rattle.run_once.specs.OnceCalls.{ComesTo, in_closure, once_begin}
 use Rattle.run_once.specs.Ran.{HasLooked, StaysKnowing}
 use Rattle.run_once.specs.declared.once.Came.{Came}
 use Rattle.run_once.specs.declared.once.Came.TheVariants.{Done, Poisoned, Runs}

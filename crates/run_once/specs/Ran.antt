@@ -15,10 +15,10 @@ use Rattle.lot_once.specs.OnceSteps.{state_before}
 use Rattle.lot_words.specs.declared.views.WordStep.{WordStep}
 use Rattle.parking_lot_core.specs.Tokens.{last_of}
 use Rattle.parking_lot_core.specs.declared.tokens.Token.{Token}
-use Rattle.lot_driver.specs.OnceCalls.{Closes, ComesTo, EndsRun, in_closure, once_begin}
 use Rattle.lot_driver.specs.OnceFitting.{KnowsIt, OwnsKnowing}
 use Rattle.lot_driver.specs.Paths.{Walks, at_once, once_at, step}
 use Rattle.lot_driver.specs.Telling.{owns_of, steps_of}
+use Rattle.run_once.specs.OnceCalls.{Closes, ComesTo, EndsRun, in_closure, once_begin}
 use Rattle.run_once.specs.declared.once.OnceFault.{OnceFault}
 use Rattle.run_once.specs.declared.once.OnceFault.TheVariants.{Refused, Failed}
 

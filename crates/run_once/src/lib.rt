@@ -2,6 +2,7 @@
 #![tactic(auto)]
 
 pub mod once;
+mod once_calls;
 pub mod once_cell;
 
 pub use lot_calls::OnceState;

@@ -9,16 +9,16 @@ ghost use Rattle.lot_words.specs.Lots.{IsWordOf};
 ghost use Rattle.lot_words.specs.declared.words.WordKind.TheVariants as kinds;
 ghost use Rattle.lot_words.specs.declared.owners.Ownership.{Ownership};
 ghost use Rattle.parking_lot_core.specs.Tokens.{IsTokenOf, last_of, view_of};
-ghost use Rattle.lot_driver.specs.OnceCalls.{Closes, EndsRun, HasSeen};
 ghost use Rattle.lot_driver.specs.OnceFitting.{OwnsBehind, OwnsKnowing, OwnsRun};
 ghost use Rattle.lot_driver.specs.Telling.{owns_of, steps_of};
 ghost use Rattle.parking_lot_core.specs.declared.tokens.Token.{Token};
+ghost use Rattle.run_once.specs.OnceCalls.{Closes, EndsRun, HasSeen};
 ghost use Rattle.run_once.specs.Looks.{CameTo, FoundDone, is_ok};
 
+use crate::once_calls::{Look, begin, begin_behind, close};
 use lot_acts::bits::{is_done, is_poisoned, is_running};
 use lot_base::main_key;
 use lot_calls::{Answer, OnceCall, OnceState};
-use lot_driver::once_calls::{Look, begin, begin_behind, close};
 use lot_once::{DONE, RUNNING};
 use lot_words::laws::once_may_step;
 use parking_lot_core::{Fault, Key, Op, ParkingLot, Token, Word, WordKind};

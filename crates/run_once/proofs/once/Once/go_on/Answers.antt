@@ -1,8 +1,8 @@
 use Rattle.std.proofs.Common.{◌≡◌, ◌∙◌, false, true, rules, subst}
-use Rattle.lot_driver.specs.OnceCalls.{LookOwns, LooksBy}
 use Rattle.lot_driver.specs.Telling.{owns_of, steps_of}
-use Rattle.lot_driver.specs.declared.once_calls.Look.{Look}
 use Rattle.parking_lot_core.specs.declared.tokens.Token.{Token}
+use Rattle.run_once.specs.OnceCalls.{LookOwns, LooksBy}
+use Rattle.run_once.specs.declared.once_calls.Look.{Look}
 use Rattle.run_once.specs.Looks.{is_ok}
 use Rattle.run_once.proofs.Knowing.{came_done, came_poisoned}
 use Rattle.run_once.proofs.once.Once.go_on.Goals as goal

@@ -12,9 +12,9 @@ use Rattle.lot_steps.specs.Steps.{condvar_goes, next_act, next_place}
 use Rattle.lot_steps.specs.declared.places.Place.{Place}
 use Rattle.lot_steps.specs.declared.places.Place.TheVariants.{Condvar}
 use Rattle.lot_words.specs.declared.views.WordStep.{WordStep}
-use Rattle.lot_driver.specs.CondvarCalls.{Notifies, NotifiesBehind, notify_begin, notify_behind}
-use Rattle.lot_driver.specs.Paths.{Walks, at_condvar, condvar_at, mutex_at, step}
+use Rattle.lot_driver.specs.Paths.{Walks, condvar_at, mutex_at, step}
 use Rattle.lot_driver.proofs.Paths.{ends_at_once, goes_on}
+use Rattle.raw_mutexes.specs.CondvarCalls.{Notifies, NotifiesBehind, at_condvar, notify_begin, notify_behind}
 
 -- beside another mutex the word of the condition variable stands at its own place
 own_word : (n m : ℕ) → m ≢ n → at_condvar n m n ≡ condvar_at n

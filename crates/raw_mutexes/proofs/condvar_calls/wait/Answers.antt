@@ -1,7 +1,6 @@
 use Rattle.std.proofs.Common.{◌∙◌, ℕ, None, refl, subst, ap, sym}
 use Rattle.lot_base.specs.Clocks.{IsUp}
 use Rattle.lot_steps.specs.declared.places.Place.{Place}
-use Rattle.lot_driver.specs.CondvarCalls.{wait_begin}
 use Rattle.lot_driver.specs.Fitting.{AreWordsFor, Fits, IsOver, IsStopped, aim_of}
 use Rattle.lot_driver.specs.Paths.{Runs, Walks}
 use Rattle.lot_driver.specs.Stages.{stage_of}
@@ -10,8 +9,9 @@ use Rattle.lot_driver.specs.Words.{AreWordsOf, at_in, both, kind_in}
 use Rattle.lot_driver.specs.declared.driver.Stop.{Stop}
 use Rattle.lot_driver.specs.declared.driver.Stop.TheVariants.{Paused}
 use Rattle.lot_driver.specs.declared.words.Words.{Words}
-use Rattle.lot_driver.proofs.CondvarCalling.{at_both, both_of, wait_never_pauses, words_beside}
-use Rattle.lot_driver.proofs.condvar_calls.wait.Goals as goal
+use Rattle.raw_mutexes.specs.CondvarCalls.{wait_begin}
+use Rattle.raw_mutexes.proofs.CondvarCalling.{at_both, both_of, wait_never_pauses, words_beside}
+use Rattle.raw_mutexes.proofs.condvar_calls.wait.Goals as goal
 
 pub run-requires-clause-own : goal.run-requires-clause-own
 run-requires-clause-own g c = (c.requires.own.0.0, subst (AreWordsOf c.args.lot.now) (sym c.both.ensures) (both_of c.args.lot.now.words c.args.condvar c.args.mutex c.requires.own.1 c.requires.own.0.1))

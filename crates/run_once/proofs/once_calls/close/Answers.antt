@@ -13,12 +13,12 @@ use Rattle.lot_words.specs.declared.words.WordKind.{WordKind}
 use Rattle.lot_words.specs.declared.words.WordKind.TheVariants.{Once}
 use Rattle.lot_words.proofs.OnceSteps.{once_steps}
 use Rattle.parking_lot_core.specs.Tokens.{last_of}
-use Rattle.lot_driver.specs.OnceCalls.{WokeIfMarked}
 use Rattle.lot_driver.specs.OnceFitting.{OwnsBehind}
 use Rattle.lot_driver.specs.Paths.{once_at, step}
 use Rattle.lot_driver.specs.Telling.{owns_of, steps_of}
-use Rattle.lot_driver.proofs.OnceCalling.{closes_at_once, closes_on, runs_found, swapped, word_left}
-use Rattle.lot_driver.proofs.once_calls.close.Goals as goal
+use Rattle.run_once.specs.OnceCalls.{WokeIfMarked}
+use Rattle.run_once.proofs.OnceCalling.{closes_at_once, closes_on, runs_found, swapped, word_left}
+use Rattle.run_once.proofs.once_calls.close.Goals as goal
 
 pub word-seen-requires-clause-may : goal.word-seen-requires-clause-may
 word-seen-requires-clause-may g c = let n = c.args.word.number in

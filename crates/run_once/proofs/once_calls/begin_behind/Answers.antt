@@ -4,7 +4,6 @@ use Rattle.lot_steps.specs.Steps.{next_act, next_place}
 use Rattle.lot_steps.specs.declared.places.Place.{Place}
 use Rattle.parking_lot_core.specs.declared.tokens.Token.{Token}
 use Rattle.lot_driver.specs.Fitting.{Aim, Fits, IsStopped, aim_of, answer_of}
-use Rattle.lot_driver.specs.OnceCalls.{in_closure, once_begin}
 use Rattle.lot_driver.specs.Paths.{Runs, Walks}
 use Rattle.lot_driver.specs.Stages.{stage_of}
 use Rattle.lot_driver.specs.Telling.{owns_of, steps_of}
@@ -12,8 +11,9 @@ use Rattle.lot_driver.specs.Words.{at_in}
 use Rattle.lot_driver.specs.declared.driver.Stop.{Stop}
 use Rattle.lot_driver.specs.declared.driver.Stop.TheVariants.{Paused}
 use Rattle.lot_driver.proofs.Ending.{end_of}
-use Rattle.lot_driver.proofs.OnceCalling.{comes_by, looks_ended, looks_on, looks_to, on_aim, once_alone, paused}
-use Rattle.lot_driver.proofs.once_calls.begin_behind.Goals as goal
+use Rattle.run_once.specs.OnceCalls.{in_closure, once_begin}
+use Rattle.run_once.proofs.OnceCalling.{comes_by, looks_ended, looks_on, looks_to, on_aim, once_alone, paused}
+use Rattle.run_once.proofs.once_calls.begin_behind.Goals as goal
 
 pub returns-in-Some-clause-path : goal.returns-in-Some-clause-path
 returns-in-Some-clause-path g c = let n = c.args.word.number in let call = c.args.call in

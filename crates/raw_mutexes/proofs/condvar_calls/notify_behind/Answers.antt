@@ -1,8 +1,8 @@
 use Rattle.parking_lot_core.specs.declared.tokens.Token.{Token}
-use Rattle.lot_driver.specs.CondvarCalls.{HasLooked}
 use Rattle.lot_driver.specs.Telling.{steps_of}
-use Rattle.lot_driver.proofs.CondvarNotifying.{some_wait}
-use Rattle.lot_driver.proofs.condvar_calls.notify_behind.Goals as goal
+use Rattle.raw_mutexes.specs.CondvarCalls.{HasLooked}
+use Rattle.raw_mutexes.proofs.CondvarNotifying.{some_wait}
+use Rattle.raw_mutexes.proofs.condvar_calls.notify_behind.Goals as goal
 
 pub returns-clause-path : goal.returns-clause-path
 returns-clause-path g c = λ (before : Token) (looked : HasLooked c.args.condvar.number c.args.seen before c.args.token.now).

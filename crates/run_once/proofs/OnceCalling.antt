@@ -32,7 +32,6 @@ use Rattle.lot_words.specs.declared.words.Word.{Word}
 use Rattle.lot_words.specs.declared.words.WordKind as kinds
 use Rattle.lot_words.proofs.Trades.{owned_some}
 use Rattle.lot_driver.specs.Fitting.{IsStopped, Reached, ReachedBy, answer_of, of_once, of_run}
-use Rattle.lot_driver.specs.OnceCalls.{ComesTo, EndsRun, in_closure, once_begin, run_end}
 use Rattle.lot_driver.specs.OnceFitting.{OwnsBehind, OwnsRun}
 use Rattle.lot_driver.specs.Paths.{Brings, Path, Walks, at_once, once_at, onces, step, word}
 use Rattle.lot_driver.specs.Stages.{Stage, stage}
@@ -41,6 +40,7 @@ use Rattle.lot_driver.specs.declared.driver.Stop.TheVariants.{Paused}
 use Rattle.lot_driver.proofs.OnceLeading.{each_once_code, lands}
 use Rattle.lot_driver.proofs.Paths.{comes_here, comes_then, comes_on, ends_at_once, goes_on}
 use Rattle.lot_driver.proofs.RwLockLeading.{rwlock_no_closure}
+use Rattle.run_once.specs.OnceCalls.{ComesTo, EndsRun, in_closure, once_begin, run_end}
 
 -- a look runs no closure
 no_course : (n seen : ℕ) (course : Course) (state : OnceState) → course_act n seen course ≡ act.TheVariants.Closure state → ⊥

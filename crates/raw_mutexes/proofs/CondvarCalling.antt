@@ -25,12 +25,13 @@ use Rattle.lot_words.specs.declared.words.Word.{Word}
 use Rattle.lot_words.specs.declared.words.WordKind.TheVariants as kind
 use Rattle.lot_driver.specs.CondvarFitting.{FitsWait, apart}
 use Rattle.lot_driver.specs.Fitting.{AreWordsBeside, IsStopped, of_notify, of_once, of_run, of_wait}
-use Rattle.lot_driver.specs.Paths.{at_condvar, condvar_at, mutex_at}
+use Rattle.lot_driver.specs.Paths.{condvar_at, mutex_at}
 use Rattle.lot_driver.specs.Stages.{Stage}
 use Rattle.lot_driver.specs.Words.{at_in, both, kind_in, word_in}
 use Rattle.lot_driver.specs.declared.driver.Stop.TheVariants.{Paused}
 use Rattle.lot_driver.proofs.Ending.{no_closure}
 use Rattle.lot_driver.proofs.RwLockLeading.{rwlock_no_closure}
+use Rattle.raw_mutexes.specs.CondvarCalls.{at_condvar}
 
 -- no wait runs a closure
 wait_no_closure : (c m : ℕ) (timed : Bool) (state : OnceState) (up : Type 0) (base : List Ownership) (w : WaitAt) (st : Stage) → FitsWait up c m timed base w st → wait_act c m w ≡ act.TheVariants.Closure state → ⊥

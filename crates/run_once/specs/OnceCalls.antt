@@ -24,8 +24,8 @@ use Rattle.lot_driver.specs.OnceFitting.{LooksAnswer, OwnsRun, WokeAll}
 use Rattle.lot_driver.specs.Paths.{Path, Walks, at_once, once_at, step}
 use Rattle.lot_driver.specs.Stages.{stage_of}
 use Rattle.lot_driver.specs.Telling.{owns_of, steps_of}
-use Rattle.lot_driver.specs.declared.once_calls.Look.{Look}
-use Rattle.lot_driver.specs.declared.once_calls.Look.TheVariants.{Ended, Runs}
+use Rattle.run_once.specs.declared.once_calls.Look.{Look}
+use Rattle.run_once.specs.declared.once_calls.Look.TheVariants.{Ended, Runs}
 
 -- a thread of the lot, and a `Once` of it whose keys are numbers
 abbrev pub MeetsOnce : ParkingLot → Token → Word → Type 0

@@ -8,9 +8,9 @@ use Rattle.lot_words.specs.declared.words.WordKind.{WordKind}
 use Rattle.lot_driver.specs.Paths.{step}
 use Rattle.lot_driver.specs.Stages.{stage_of, stepped}
 use Rattle.lot_driver.specs.Telling.{owns_of, steps_of}
-use Rattle.lot_driver.proofs.OnceCalling.{begins_by}
 use Rattle.lot_driver.proofs.Turning.{by_stage}
-use Rattle.lot_driver.proofs.once_calls.begin.Goals as goal
+use Rattle.run_once.proofs.OnceCalling.{begins_by}
+use Rattle.run_once.proofs.once_calls.begin.Goals as goal
 
 pub returns-clause-seen : goal.returns-clause-seen
 returns-clause-seen c = let n = c.args.word.number in let w = c.word in

@@ -7,8 +7,8 @@ use Rattle.lot_words.specs.declared.words.WordKind.{WordKind}
 use Rattle.lot_words.specs.declared.views.View.{View}
 use Rattle.lot_driver.specs.Paths.{condvar_at, step}
 use Rattle.lot_driver.specs.Telling.{owns_of, steps_of}
-use Rattle.lot_driver.proofs.CondvarNotifying.{nobody_waits}
-use Rattle.lot_driver.proofs.condvar_calls.begin_notify.Goals as goal
+use Rattle.raw_mutexes.proofs.CondvarNotifying.{nobody_waits}
+use Rattle.raw_mutexes.proofs.condvar_calls.begin_notify.Goals as goal
 
 pub returns-clause-looked : goal.returns-clause-looked
 returns-clause-looked c = (

@@ -4,16 +4,16 @@ ghost use Rattle.lot_base.specs.Clocks.{IsUp};
 ghost use Rattle.parking_lot_core.specs.Tokens.{IsSameThread, last_of};
 ghost use Rattle.parking_lot_core.specs.declared.tokens.Token.{Token};
 ghost use Rattle.lot_condvar.specs.CondvarSteps.{notified};
-ghost use Rattle.lot_driver.specs.CondvarCalls as calls;
-ghost use Rattle.lot_driver.specs.CondvarCalls.{HasLooked, HasNotified, HasWaited, MeetBeside, MeetsCondvar, Notifies, NotifiesBehind, TellsMoved, wait_begin};
 ghost use Rattle.lot_driver.specs.CondvarFitting.{IsNotifyOver, IsWaitOver, OwnsIt};
 ghost use Rattle.lot_driver.specs.Stages.{stage_of};
 ghost use Rattle.lot_driver.specs.Telling.{owns_of, steps_of};
+ghost use Rattle.raw_mutexes.specs.CondvarCalls as calls;
+ghost use Rattle.raw_mutexes.specs.CondvarCalls.{HasLooked, HasNotified, HasWaited, MeetBeside, MeetsCondvar, Notifies, NotifiesBehind, TellsMoved, wait_begin};
 
-use crate::driver::{NO_LIMIT, Stop, run};
-use crate::words::Words;
 use lot_calls::Answer;
 use lot_condvar::{CondvarPlace, NotifyAt, WaitAt};
+use lot_driver::driver::{NO_LIMIT, Stop, run};
+use lot_driver::words::Words;
 use lot_steps::Place;
 use lot_words::laws::condvar_may_step;
 use parking_lot_core::{Clock, Op, ParkingLot, Token, Word};
@@ -33,12 +33,12 @@ fn begins(condvar: Word, mutex: Word, timed: bool) -> Place
     }
 }
 
-/// Releases a mutex, which the thread owns, and locks it again once the thread is notified, or where its time is up in a timed wait.
-/// It answers with the mutex: that another one is shown, and this one was not released; that the thread was notified; or that its
-/// time was up before.
+/// Releases a mutex, which the thread owns, and locks it again once the thread is notified, or where its time is up in a timed
+/// wait. It answers with the mutex: that another one is shown, and this one was not released; that the thread was notified; or
+/// that its time was up before.
 #[cold]
 #[inline(never)]
-pub fn wait<R: Wait, C: Clock>(
+pub(crate) fn wait<R: Wait, C: Clock>(
     rt: &R,
     lot: &ParkingLot,
     token: &mut Token,
@@ -51,7 +51,8 @@ pub fn wait<R: Wait, C: Clock>(
     requires owned { OwnsIt mutex.number (owns_of token.old) }
     ensures own { IsSameThread lot.now token.old token.new }
     ensures path { HasWaited condvar.number mutex.number timed result (steps_of token.old) (steps_of token.new) }
-    ensures over { IsWaitOver (IsUp C.tells limit.entry) mutex.number timed (owns_of token.old) result (stage_of token.new None) }
+    ensures over { IsWaitOver (IsUp C.tells limit.entry) mutex.number timed (owns_of token.old) result
+        (stage_of token.new None) }
 {
     let start = begins(condvar, mutex, timed);
     match run(rt, lot, token, Words::both(condvar, mutex), limit, start) {
@@ -75,11 +76,11 @@ fn notifies(condvar: Word, mutex: Word, all: bool) -> Place
     }
 }
 
-/// The rest of a notification whose first step saw this mutex: it wakes the first who waits with it, or all, or moves them to its
-/// queue.
+// The rest of a notification whose first step saw this mutex: it wakes the first who waits with it, or all, or moves them to its
+// queue.
 #[cold]
 #[inline(never)]
-pub fn notify_shown<R: Wait>(
+fn notify_shown<R: Wait>(
     rt: &R,
     lot: &ParkingLot,
     token: &mut Token,
@@ -131,10 +132,10 @@ fn notify_seen<R: Wait>(
     }
 }
 
-/// The step with which each notification begins, as all callers make it themselves. It answers what it sees of the condition variable:
-/// where that is 0 nobody waits, and the notification is over.
+/// The step with which each notification begins, as all callers make it themselves. It answers what it sees of the condition
+/// variable: where that is 0 nobody waits, and the notification is over.
 #[inline]
-pub fn begin_notify(lot: &ParkingLot, token: &mut Token, condvar: Word) -> u64
+pub(crate) fn begin_notify(lot: &ParkingLot, token: &mut Token, condvar: Word) -> u64
     requires own { MeetsCondvar lot.now token.old condvar }
     ensures own { IsSameThread lot.now token.old token.new }
     ensures looked { HasLooked condvar.number result token.old token.new }
@@ -146,11 +147,11 @@ pub fn begin_notify(lot: &ParkingLot, token: &mut Token, condvar: Word) -> u64
 }
 
 /// The rest of a notification whose first step saw that a mutex is shown. It wakes the first who waits, or all: those whose mutex
-/// somebody owns it moves to the queue of that, but for the first where nobody owns it. It answers how many it took and moved, of the
-/// first whether there was one.
+/// somebody owns it moves to the queue of that, but for the first where nobody owns it. It answers how many it took and moved, of
+/// the first whether there was one.
 #[cold]
 #[inline(never)]
-pub fn notify_behind<R: Wait>(
+pub(crate) fn notify_behind<R: Wait>(
     rt: &R,
     lot: &ParkingLot,
     token: &mut Token,

@@ -10,23 +10,23 @@ ghost use Rattle.lot_words.specs.declared.owners.Owner.TheVariants.{Runner};
 ghost use Rattle.lot_words.specs.declared.owners.Ownership.{Ownership};
 ghost use Rattle.parking_lot_core.specs.Tokens.{IsSameThread, last_of};
 ghost use Rattle.parking_lot_core.specs.declared.tokens.Token.{Token};
-ghost use Rattle.lot_driver.specs.OnceCalls.{Closes, EndsRun, HasSeen, LookOwns, LooksBy, MeetsOnce};
 ghost use Rattle.lot_driver.specs.OnceFitting.{IsRunOver, OwnsBehind};
 ghost use Rattle.lot_driver.specs.Paths.{Walks, at_once, once_at};
 ghost use Rattle.lot_driver.specs.Stages.{stage_of};
 ghost use Rattle.lot_driver.specs.Telling.{owns_of, steps_of};
+ghost use Rattle.run_once.specs.OnceCalls.{Closes, EndsRun, HasSeen, LookOwns, LooksBy, MeetsOnce};
 
-use crate::driver::{NO_LIMIT, Stop, answer_of, run};
-use crate::words::Words;
 use lot_acts::bits::is_marked;
 use lot_calls::{Answer, OnceCall, OnceState};
+use lot_driver::driver::{NO_LIMIT, Stop, answer_of, run};
+use lot_driver::words::Words;
 use lot_once::{DONE, OncePlace, POISONED, RunAt};
 use lot_steps::{Place, Reply, advance};
 use parking_lot_core::{Op, ParkingLot, Token, Word};
 use std::sync::Wait;
 
 /// What a call of a `Once` comes to.
-pub enum Look {
+pub(crate) enum Look {
     /// It is over, and ran nothing.
     Ended(Answer),
     /// Its closure is to run, with this state, and [`close`] ends its run.
@@ -35,7 +35,7 @@ pub enum Look {
 
 /// The step with which each call begins, as all callers make it themselves: where it sees DONE the call is over.
 #[inline]
-pub fn begin(lot: &ParkingLot, token: &mut Token, word: Word) -> u64
+pub(crate) fn begin(lot: &ParkingLot, token: &mut Token, word: Word) -> u64
     requires own { MeetsOnce lot.now token.old word }
     ensures own { IsSameThread lot.now token.old token.new }
     ensures seen { HasSeen word.number result token.old token.new }
@@ -46,7 +46,7 @@ pub fn begin(lot: &ParkingLot, token: &mut Token, word: Word) -> u64
 /// The rest of a call whose first step saw this, up to its closure.
 #[cold]
 #[inline(never)]
-pub fn begin_behind<R: Wait>(
+pub(crate) fn begin_behind<R: Wait>(
     rt: &R,
     lot: &ParkingLot,
     token: &mut Token,
@@ -116,7 +116,7 @@ fn word_behind(succeeded: bool) -> u64
 }
 
 /// Ends the run of a `Once` whose closure succeeded, or failed, and wakes all who wait.
-pub fn close<R: Wait>(
+pub(crate) fn close<R: Wait>(
     rt: &R,
     lot: &ParkingLot,
     token: &mut Token,
