@@ -1,74 +1,18 @@
 //! Raw reader-writer locks of one thread.
-mod fair;
 mod mixes;
 mod timed;
-mod waits;
 
-ghost use Rattle.std.specs.Prelude.{◌≡◌, ◌≤◌, ◌<◌, All, IfOk, IfSome};
-ghost use Rattle.std.specs.Arc.{arc_value};
-ghost use Rattle.parking_lot_core.specs.Tokens.{IsTicketOf, IsTokenOf};
+ghost use Rattle.parking_lot_core.specs.Tokens.{IsTokenOf};
 ghost use Rattle.parking_lot.specs.RwLockUsers.{lot_of};
 
 use parking_lot::lock_raw::{
     RawRwLock as RawLock, RawRwLockDowngrade, RawRwLockUpgrade, RawRwLockUpgradeDowngrade,
 };
-use parking_lot::{Fault, ParkingLot, RawRwLock, Ticket, Token};
+use parking_lot::{Fault, RawRwLock, Token};
+use raw_rwlock_fixtures::lock_alone;
 use std::alloc::Global;
-use std::sync::{Arc, Wait};
+use std::sync::Wait;
 use std::test::Fail;
-
-// A lock of a lot, made by the thread of a ticket.
-fn lock_by<const RECURSIVE: bool>(
-    lot: &Arc<ParkingLot>,
-    ticket: Ticket,
-    limit: u64,
-) -> Result<RawRwLock<RECURSIVE>, Fault>
-    requires { IsTicketOf (arc_value lot.now) ticket × (limit ≤ 1000) }
-    ensures { IfOk result (λ lock. lot_of lock ≡ arc_value lot.now) }
-{
-    let mut token = ticket.enter();
-    RawRwLock::<RECURSIVE>::with_limit(lot, &mut token, limit)
-}
-
-// A lot with so many threads and one more, which has made a lock of it that so many may share.
-fn seats<const RECURSIVE: bool>(
-    alloc: Global,
-    threads: usize,
-    limit: u64,
-) -> Result<(Arc<ParkingLot>, RawRwLock<RECURSIVE>, Vec<Ticket>), Fault>
-    requires { (threads < 100) × (limit ≤ 1000) }
-    ensures { IfOk result (λ made. (lot_of made.1 ≡ arc_value made.0) × All (IsTicketOf (arc_value made.0)) made.2.items) }
-{
-    let (lot, mut tickets) = ParkingLot::new(alloc, 1, threads + 1)?;
-    let Some(ticket) = tickets.pop() else {
-        return Err(Fault::NoMemory);
-    };
-    let lock = lock_by(&lot, ticket, limit)?;
-    Ok((lot, lock, tickets))
-}
-
-fn next_of(lot: &ParkingLot, tickets: &mut Vec<Ticket>) -> Option<Ticket>
-    requires { All (IsTicketOf lot.now) tickets.old.items }
-    ensures left { All (IsTicketOf lot.now) tickets.new.items }
-    ensures one { IfSome result (IsTicketOf lot.now) }
-{
-    tickets.pop()
-}
-
-// A lock that one thread has for itself.
-fn lock_alone<const RECURSIVE: bool>(
-    alloc: Global,
-    limit: u64,
-) -> Result<(RawRwLock<RECURSIVE>, Token), Fault>
-    requires { limit ≤ 1000 }
-    ensures { IfOk result (λ made. IsTokenOf (lot_of made.0) made.1) }
-{
-    let (lot, lock, mut tickets) = seats(alloc, 1, limit)?;
-    let Some(ticket) = next_of(&lot, &mut tickets) else {
-        return Err(Fault::NoMemory);
-    };
-    Ok((lock, ticket.enter()))
-}
 
 // Whether a try to read gets the lock.
 fn reads<const RECURSIVE: bool, R: Wait>(

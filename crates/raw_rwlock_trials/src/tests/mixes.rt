@@ -4,7 +4,6 @@ ghost use Rattle.parking_lot_core.specs.Tokens.{IsTicketOf, IsTokenOf};
 ghost use Rattle.parking_lot.specs.RwLockGuards.{IsExclusiveOf, IsSharedOf, IsUpgradableOf};
 ghost use Rattle.parking_lot.specs.RwLockUsers.{lot_of, word_of};
 
-use super::seats;
 use parking_lot::lock_raw::{
     RawRwLock as RawLock, RawRwLockDowngrade, RawRwLockFair, RawRwLockTimed, RawRwLockUpgrade,
     RawRwLockUpgradeDowngrade, RawRwLockUpgradeFair, RawRwLockUpgradeTimed,
@@ -13,69 +12,17 @@ use parking_lot::{
     Fault, RawExclusiveGuard, RawRwLock, RawSharedGuard, RawUpgradableGuard, TickClock, Ticket,
     Token,
 };
+use raw_rwlock_fixtures::{Inside, seats};
 use std::alloc::Global;
 use std::sync::Wait;
 use std::sync::atomic::AtomicUsize;
 use std::sync::atomic::Ordering::SeqCst;
 use std::test::Fail;
-use std::thread::{Threads, map_vec, yield_now};
+use std::thread::{Threads, map_vec};
 
 const ROUNDS: usize = 300;
 
 const THREADS: usize = 6;
-
-/// Who is inside a lock, as its threads told it, and how often somebody found whom nobody may find there.
-#[derive(Drop)]
-pub(super) struct Inside {
-    readers: AtomicUsize,
-    upgradables: AtomicUsize,
-    writers: AtomicUsize,
-    wrongs: AtomicUsize,
-}
-
-impl Inside {
-    pub(super) fn new() -> Inside {
-        Inside {
-            readers: AtomicUsize::new(0),
-            upgradables: AtomicUsize::new(0),
-            writers: AtomicUsize::new(0),
-            wrongs: AtomicUsize::new(0),
-        }
-    }
-
-    pub(super) fn wrongs(&self) -> usize {
-        self.wrongs.load(SeqCst)
-    }
-
-    fn expect(&self, right: bool) {
-        if !right {
-            self.wrongs.fetch_add(1, SeqCst);
-        }
-    }
-
-    pub(super) fn read(&self) {
-        self.readers.fetch_add(1, SeqCst);
-        self.expect(self.writers.load(SeqCst) == 0);
-        yield_now();
-        self.expect(self.writers.load(SeqCst) == 0);
-        self.readers.fetch_sub(1, SeqCst);
-    }
-
-    pub(super) fn read_upgradable(&self) {
-        let others = self.upgradables.fetch_add(1, SeqCst);
-        self.expect(others == 0);
-        self.read();
-        self.upgradables.fetch_sub(1, SeqCst);
-    }
-
-    pub(super) fn write(&self) {
-        let others = self.writers.fetch_add(1, SeqCst);
-        self.expect(others == 0 && self.readers.load(SeqCst) == 0);
-        yield_now();
-        self.expect(self.upgradables.load(SeqCst) == 0 && self.readers.load(SeqCst) == 0);
-        self.writers.fetch_sub(1, SeqCst);
-    }
-}
 
 // Reads where it came in, and goes.
 fn read_by<const RECURSIVE: bool, R: Wait>(

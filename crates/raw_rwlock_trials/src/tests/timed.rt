@@ -4,16 +4,16 @@ ghost use Rattle.std.specs.Arc.{arc_value};
 ghost use Rattle.parking_lot_core.specs.Tokens.{IsTicketOf, IsTokenOf};
 ghost use Rattle.parking_lot.specs.RwLockUsers.{lot_of};
 
-use super::waits::{comes_to, queue_up};
-use super::{FREE, READ, UPGRADABLE, WRITTEN, look, next_of, seats};
+use super::{FREE, READ, UPGRADABLE, WRITTEN, look};
 use parking_lot::lock_raw::{
     RawRwLock as RawLock, RawRwLockTimed, RawRwLockUpgrade, RawRwLockUpgradeTimed,
 };
 use parking_lot::{Clock, Fault, ParkingLot, RawRwLock, TickClock, Ticket, Token};
+use raw_rwlock_fixtures::{await_flag, comes_to, lock_alone, next_of, queue_up, seats};
 use std::alloc::Global;
+use std::sync::Wait;
 use std::sync::atomic::Ordering::SeqCst;
 use std::sync::atomic::{AtomicBool, AtomicUsize};
-use std::sync::{Arc, Wait};
 use std::test::Fail;
 use std::thread::{Threads, join, yield_now};
 use std::time::Duration;
@@ -135,7 +135,7 @@ fn upgrades_beside_a_reader<const RECURSIVE: bool, R: Wait>(
 }
 
 fn all_give_up<const RECURSIVE: bool>(rt: &impl Wait, alloc: Global) -> Result<bool, Fault> {
-    let (lock, mut token) = super::lock_alone::<RECURSIVE>(alloc, 10)?;
+    let (lock, mut token) = lock_alone::<RECURSIVE>(alloc, 10)?;
     let given_up = gives_up_beside_a_writer(rt, &lock, &mut token)
         && gives_up_beside_a_reader(rt, &lock, &mut token);
     Ok(given_up && upgrades_beside_a_reader(rt, &lock, &mut token))
@@ -224,12 +224,7 @@ fn give_up<R: Wait>(
 ) -> bool
     requires { IsTicketOf (lot_of lock.now) ticket }
 {
-    for _ in rt.forever() {
-        if told.held.load(SeqCst) {
-            break;
-        }
-        yield_now();
-    }
+    await_flag(rt, &told.held);
     let mut token = ticket.enter();
     let clock = FlagClock(&told.up);
     if upgrades {
