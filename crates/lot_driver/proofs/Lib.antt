@@ -17,6 +17,7 @@ pub mod CondvarLeading
 pub mod Leading
 pub mod RwLockBeginning
 pub mod Turning
+pub mod TurnsOn
 pub mod RwLockCalling
 pub mod RwLockCourses
 pub mod RwLockTakes

@@ -9,6 +9,7 @@ pub mod CondvarFitting
 pub mod RwLockFitting
 pub mod RwLockRefusals
 pub mod Fitting
+pub mod Turns
 pub mod Calls
 pub mod RwLockCalls
 pub mod Courses

@@ -25,7 +25,7 @@ use lot_steps::{Act, Check, Place, Reply, Wakes, Whom};
 use parking_lot_core::{Clock, Key, Keys, Note, Op, ParkingLot, Section, Slept, Token, Want, Word};
 use std::sync::Wait;
 
-fn note_of(wakes: Wakes) -> Note
+pub(crate) fn note_of(wakes: Wakes) -> Note
     ensures { result ≡ note_of wakes }
 {
     match wakes {
@@ -66,7 +66,13 @@ fn park(
 }
 
 // Stands behind the last of the queue.
-fn stand(lot: &ParkingLot, token: &Token, section: &mut Option<Section>, key: Key, want: Want)
+pub(crate) fn stand(
+    lot: &ParkingLot,
+    token: &Token,
+    section: &mut Option<Section>,
+    key: Key,
+    want: Want,
+)
     requires { IsTokenOf lot.now token.now × IsIn lot.now section.old × HasKey key (inside_of section.old) }
     ensures same { IsIn lot.now section.new × (inside_of section.new ≡ inside_of section.old) }
     ensures stands { StandsLast key token.now.number want section.old section.new }
@@ -126,7 +132,7 @@ fn remove(_lot: &ParkingLot, section: &mut Option<Section>, key: Key, thread: us
 }
 
 // The thread goes into a section from outside all.
-fn enter<'a, R: Wait>(
+pub(crate) fn enter<'a, R: Wait>(
     rt: &R,
     lot: &'a ParkingLot,
     token: &mut Token,
@@ -144,7 +150,7 @@ fn enter<'a, R: Wait>(
 }
 
 /// A thread that is outside all sections has none to leave.
-pub(crate) fn end(section: Option<Section>)
+pub fn end(section: Option<Section>)
     requires { inside_of section ≡ None }
 {
     match section {
@@ -153,7 +159,7 @@ pub(crate) fn end(section: Option<Section>)
     }
 }
 
-fn leave<R: Wait>(
+pub(crate) fn leave<R: Wait>(
     rt: &R,
     lot: &ParkingLot,
     token: &mut Token,
@@ -232,7 +238,7 @@ fn awake_late<'a, R: Wait>(
 }
 
 // Sleeps until another thread has taken this one, or its time is up. What was handed over is the token's then.
-fn sleep<'a, R: Wait, C: Clock>(
+pub(crate) fn sleep<'a, R: Wait, C: Clock>(
     rt: &R,
     lot: &'a ParkingLot,
     token: &mut Token,

@@ -160,8 +160,51 @@ fn turn<'a, R: Wait, C: Clock>(
 }
 
 /// Runs a call from a place to its answer or its closure, up to a deadline where the call is timed: any other pays no heed to it.
+/// The thread may be inside a section there.
 ///
 /// The thread sleeps where its call waits, until another one wakes it. A closure is left to the caller to run.
+#[cold]
+#[inline(never)]
+pub fn run_from<'a, R: Wait, C: Clock>(
+    rt: &R,
+    lot: &'a ParkingLot,
+    token: &mut Token,
+    words: Words,
+    limit: Option<(&C, u64)>,
+    inside: Option<Section<'a>>,
+    start: Place,
+) -> Stop
+    requires own { IsTokenOf lot.now token.old × AreWordsOf lot.now words × IsIn lot.now inside }
+    requires words { AreWordsFor start (kind_in words) (at_in words) }
+    requires start { (base : List Ownership) × Fits (IsUp C.tells limit) base start (stage_of token.old inside) }
+    ensures own { IsSameThread lot.now token.old token.new }
+    ensures path { Runs (at_in words) start (steps_of token.old) (steps_of token.new) result }
+    ensures stopped { (base : List Ownership)
+        → Fits (IsUp C.tells limit.entry) base start (stage_of token.old inside.entry)
+        → IsStopped (IsUp C.tells limit.entry) base (aim_of start) result (stage_of token.new None) }
+    ensures words { AreWordsAfter result (kind_in words) (at_in words) }
+{
+    let mut place = start;
+    let mut act = start.act();
+    let mut section = inside;
+    let mut loads = 0;
+    for _ in rt.forever() {
+        if let Some(state) = closure_of(act) {
+            end(section);
+            return Stop::Paused { place, state };
+        }
+        let reply = turn(rt, lot, token, words, limit, &mut section, place, act);
+        act = place.go_on(reply);
+        if let Some(answer) = answer_of(act) {
+            end(section);
+            return Stop::Ended(answer);
+        }
+        act = go_from(words, &mut place, act, &mut loads);
+    }
+    unreachable!()
+}
+
+/// The same of a thread that is outside all sections.
 #[cold]
 #[inline(never)]
 pub fn run<R: Wait, C: Clock>(
@@ -182,24 +225,7 @@ pub fn run<R: Wait, C: Clock>(
         → IsStopped (IsUp C.tells limit.entry) base (aim_of start) result (stage_of token.new None) }
     ensures words { AreWordsAfter result (kind_in words) (at_in words) }
 {
-    let mut place = start;
-    let mut act = start.act();
-    let mut section = None;
-    let mut loads = 0;
-    for _ in rt.forever() {
-        if let Some(state) = closure_of(act) {
-            end(section);
-            return Stop::Paused { place, state };
-        }
-        let reply = turn(rt, lot, token, words, limit, &mut section, place, act);
-        act = place.go_on(reply);
-        if let Some(answer) = answer_of(act) {
-            end(section);
-            return Stop::Ended(answer);
-        }
-        act = go_from(words, &mut place, act, &mut loads);
-    }
-    unreachable!()
+    run_from(rt, lot, token, words, limit, None, start)
 }
 
 // Where a call goes on whose first step saw this.

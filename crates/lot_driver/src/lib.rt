@@ -8,4 +8,5 @@ pub mod fair_calls;
 pub mod rwlock_calls;
 mod sleepers;
 mod taking;
+pub mod turns;
 pub mod words;

@@ -1,4 +1,5 @@
 pub mod MutexGuards
 pub mod Words
 pub mod CondvarCalls
+pub mod CondvarCourses
 pub mod CondvarWords

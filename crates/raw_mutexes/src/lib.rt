@@ -2,6 +2,7 @@
 #![tactic(auto)]
 
 mod condvar_calls;
+mod condvar_courses;
 pub mod guards;
 pub mod raw_condvar;
 pub mod raw_fair_mutex;

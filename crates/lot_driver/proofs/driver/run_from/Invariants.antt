@@ -7,7 +7,7 @@ use Rattle.lot_driver.specs.Fitting.{AreWordsFor, Fits, aim_of}
 use Rattle.lot_driver.specs.Stages.{IsIn, stage_of}
 use Rattle.lot_driver.specs.Words.{kind_in, at_in}
 use Rattle.lot_driver.proofs.Paths.{Comes}
-use Rattle.lot_driver.proofs.driver.run.Given as goal
+use Rattle.lot_driver.proofs.driver.run_from.Given as goal
 
 abbrev pub invariant-loop : goal.invariant-loop
 invariant-loop g l = record {
@@ -15,7 +15,7 @@ invariant-loop g l = record {
   own : IsSameThread l.lot l.fn.token l.token × IsIn l.lot l.section;
   path : Comes (at_in l.words) l.fn.start (view_of l.fn.token).steps (view_of l.token).steps l.place;
   words : AreWordsFor l.place (kind_in l.words) (at_in l.words);
-  fits : (base : List Ownership) → Fits (IsUp g.C.Clock.tells l.limit) base l.fn.start (stage_of l.fn.token None) → Fits (IsUp g.C.Clock.tells l.limit) base l.place (stage_of l.token l.section);
+  fits : (base : List Ownership) → Fits (IsUp g.C.Clock.tells l.limit) base l.fn.start (stage_of l.fn.token l.fn.inside) → Fits (IsUp g.C.Clock.tells l.limit) base l.place (stage_of l.token l.section);
   act : l.act ≡ act_of l.place;
   aim : aim_of l.place ≡ aim_of l.fn.start;
 }

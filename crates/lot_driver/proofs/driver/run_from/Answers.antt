@@ -13,7 +13,7 @@ use Rattle.lot_driver.proofs.Ending.{closed, closes_outside, end_of, ended, outs
 use Rattle.lot_driver.proofs.Leading.{places_lead, fits_from, words_from}
 use Rattle.lot_driver.proofs.Paths.{comes_here, comes_on, comes_from, comes_to_end}
 use Rattle.lot_driver.proofs.Turning.{does_next, shows_keys, words_on}
-use Rattle.lot_driver.proofs.driver.run.Goals as goal
+use Rattle.lot_driver.proofs.driver.run_from.Goals as goal
 
 pub loop-init : goal.loop-init
 loop-init g c = record {
@@ -30,10 +30,10 @@ pub loop-preserved : goal.loop-preserved
 loop-preserved g c = let p = c.loop.place in let t = c.turn-reply in let reply = t.result in let new = t.new.token in
     let before = c.loop.invariant in let next = c.go_on-act.ensures.place in let from = c.go_from-act.ensures.place in
     let none : answer_of (next_act c.loop.place c.turn-reply.result) ≡ None = search rules in
-    let reached : (base : List Ownership) → Fits (IsUp g.C.Clock.tells c.args.limit) base c.args.start (stage_of c.args.token.now None) → ReachedBy (IsUp g.C.Clock.tells c.args.limit) base (aim_of c.loop.place) (next_place c.loop.place c.turn-reply.result) None (stage_of c.turn-reply.new.token c.turn-reply.new.section)
+    let reached : (base : List Ownership) → Fits (IsUp g.C.Clock.tells c.args.limit) base c.args.start (stage_of c.args.token.now c.args.inside) → ReachedBy (IsUp g.C.Clock.tells c.args.limit) base (aim_of c.loop.place) (next_place c.loop.place c.turn-reply.result) None (stage_of c.turn-reply.new.token c.turn-reply.new.section)
     = λ (base : List Ownership) fits. subst (λ (o : Option Answer). ReachedBy (IsUp g.C.Clock.tells c.args.limit) base (aim_of c.loop.place) (next_place c.loop.place c.turn-reply.result) o (stage_of c.turn-reply.new.token c.turn-reply.new.section)) none (t.ensures.reached base (before.fits base fits)) in
     let words_then = subst (λ (q : Place). AreWordsFor q (kind_in c.args.words) (at_in c.args.words)) (sym next) (words_on p reply (kind_in c.args.words) (at_in c.args.words) before.words) in
-    let goes_from : (base : List Ownership) → Fits (IsUp g.C.Clock.tells c.args.limit) base c.args.start (stage_of c.args.token.now None) → Fits (IsUp g.C.Clock.tells c.args.limit) base c.go_from-act.new.place (stage_of c.turn-reply.new.token c.turn-reply.new.section) × (aim_of c.go_from-act.new.place ≡ aim_of c.go_on-act.new.self)
+    let goes_from : (base : List Ownership) → Fits (IsUp g.C.Clock.tells c.args.limit) base c.args.start (stage_of c.args.token.now c.args.inside) → Fits (IsUp g.C.Clock.tells c.args.limit) base c.go_from-act.new.place (stage_of c.turn-reply.new.token c.turn-reply.new.section) × (aim_of c.go_from-act.new.place ≡ aim_of c.go_on-act.new.self)
     = λ (base : List Ownership) fits. fits_from (IsUp g.C.Clock.tells c.args.limit) (kind_in c.args.words) (at_in c.args.words) base c.go_on-act.new.self c.go_from-act.new.place (stage_of new t.new.section) from words_then
     (subst (λ (q : Place). Fits (IsUp g.C.Clock.tells c.args.limit) base q (stage_of c.turn-reply.new.token c.turn-reply.new.section)) (sym next) (reached base fits).0) in record {
       turns = (tt, tt);
