@@ -1,3 +1,4 @@
 pub mod CondvarCalling
 pub mod CondvarNotifying
 pub mod CondvarAnswers
+pub mod CondvarGoing

@@ -7,29 +7,23 @@ ghost use Rattle.lot_condvar.specs.CondvarSteps.{notified};
 ghost use Rattle.lot_driver.specs.CondvarFitting.{IsNotifyOver, IsWaitOver, OwnsIt};
 ghost use Rattle.lot_driver.specs.Stages.{stage_of};
 ghost use Rattle.lot_driver.specs.Telling.{owns_of, steps_of};
-ghost use Rattle.raw_mutexes.specs.CondvarCalls as calls;
-ghost use Rattle.raw_mutexes.specs.CondvarCalls.{HasLooked, HasNotified, HasWaited, MeetBeside, MeetsCondvar, Notifies, NotifiesBehind, TellsMoved, wait_begin};
+ghost use Rattle.lot_driver.specs.Words.{both};
+ghost use Rattle.raw_mutexes.specs.CondvarCalls.{HasLooked, HasNotified, HasWaited, MeetBeside, MeetsCondvar, Notifies, NotifiesBehind, TellsMoved};
 
+use crate::condvar_courses::{Pair, notify_through, wait_through};
 use lot_calls::Answer;
-use lot_condvar::{CondvarPlace, NotifyAt, WaitAt};
-use lot_driver::driver::{NO_LIMIT, Stop, run};
 use lot_driver::words::Words;
-use lot_steps::Place;
 use lot_words::laws::condvar_may_step;
 use parking_lot_core::{Clock, Op, ParkingLot, Token, Word};
 use std::sync::Wait;
 
-// Where a wait begins.
-fn begins(condvar: Word, mutex: Word, timed: bool) -> Place
-    ensures { result ≡ wait_begin condvar.number mutex.number timed }
+fn pair_of(condvar: Word, mutex: Word) -> Pair
+    ensures { result ≡ record { words = both condvar mutex; condvar = condvar.number; mutex = mutex.number } }
 {
-    Place::Condvar {
-        lock: condvar.number(),
-        at: CondvarPlace::Wait {
-            mutex: mutex.number(),
-            timed,
-            at: WaitAt::Enter,
-        },
+    Pair {
+        words: Words::both(condvar, mutex),
+        condvar: condvar.number(),
+        mutex: mutex.number(),
     }
 }
 
@@ -54,26 +48,7 @@ pub(crate) fn wait<R: Wait, C: Clock>(
     ensures over { IsWaitOver (IsUp C.tells limit.entry) mutex.number timed (owns_of token.old) result
         (stage_of token.new None) }
 {
-    let start = begins(condvar, mutex, timed);
-    match run(rt, lot, token, Words::both(condvar, mutex), limit, start) {
-        Stop::Ended(answer) => answer,
-        // No wait runs a closure.
-        Stop::Paused { .. } => unreachable!(),
-    }
-}
-
-// Where a notification goes on that has seen this mutex.
-fn notifies(condvar: Word, mutex: Word, all: bool) -> Place
-    ensures { result ≡ calls.notify_behind condvar.number mutex.number all }
-{
-    Place::Condvar {
-        lock: condvar.number(),
-        at: CondvarPlace::Notify {
-            all,
-            mutex: mutex.number(),
-            at: NotifyAt::Enter,
-        },
-    }
+    wait_through(rt, lot, token, pair_of(condvar, mutex), limit, timed)
 }
 
 // The rest of a notification whose first step saw this mutex: it wakes the first who waits with it, or all, or moves them to its
@@ -93,12 +68,7 @@ fn notify_shown<R: Wait>(
     ensures path { HasNotified condvar.number mutex.number all result (steps_of token.old) (steps_of token.new) }
     ensures over { IsNotifyOver condvar.number mutex.number all (owns_of token.old) result (stage_of token.new None) }
 {
-    let start = notifies(condvar, mutex, all);
-    match run(rt, lot, token, Words::both(condvar, mutex), NO_LIMIT, start) {
-        Stop::Ended(answer) => answer,
-        // No notification runs a closure.
-        Stop::Paused { .. } => unreachable!(),
-    }
+    notify_through(rt, lot, token, pair_of(condvar, mutex), all)
 }
 
 // What a notification answers where nobody waits.

@@ -1,0 +1,49 @@
+use Rattle.std.proofs.Common.{ℕ, ◌*◌, nat_lt, ◌≡◌, Bool, true, false, None, Some, refl, sym, ap, ◌∙◌, subst, rules, arith, if◌then◌else◌}
+use Rattle.lot_base.specs.Clocks.{IsUp}
+use Rattle.lot_base.specs.declared.keys.Keys.TheVariants.{One, Two}
+use Rattle.lot_base.specs.declared.notes.Note.TheVariants.{Normal}
+use Rattle.lot_base.specs.declared.ops.Op.TheVariants.{Exchange}
+use Rattle.lot_base.specs.declared.requeues.Requeue.TheVariants as requeues
+use Rattle.lot_acts.specs.declared.acts.Act as act
+use Rattle.lot_acts.specs.declared.acts.Reply.{Reply}
+use Rattle.lot_acts.specs.declared.acts.Reply.TheVariants.{Done, Requeued, Took, Value, Woken}
+use Rattle.lot_acts.specs.declared.acts.Wakes.{Wakes}
+use Rattle.lot_acts.specs.Acts.{wakes_taken}
+use Rattle.lot_acts.specs.declared.acts.Whom as whom
+use Rattle.lot_calls.specs.declared.outcomes.Answer.{Answer}
+use Rattle.lot_condvar.specs.CondvarSteps.{is_shown, moved_one, notified, waited}
+use Rattle.lot_condvar.specs.declared.notify.NotifyAt.TheVariants as notify
+use Rattle.lot_condvar.specs.declared.wait.Stands.TheVariants.{Listed}
+use Rattle.lot_condvar.specs.declared.wait.WaitAt.TheVariants as wait
+use Rattle.lot_mutex.specs.MutexSteps.{is_locked, is_parked}
+use Rattle.lot_mutex.specs.declared.lock.LockAt.TheVariants as lock
+use Rattle.lot_mutex.specs.declared.unlock.UnlockAt.TheVariants as unlock
+use Rattle.lot_steps.specs.Steps.{act_of, next_act, next_place}
+use Rattle.lot_steps.specs.declared.places.Place.{Place}
+use Rattle.lot_driver.specs.Fitting.{answer_of}
+use Rattle.lot_driver.specs.Turns.{HasEnded, HasTurned, IsAt, MayDo}
+use Rattle.lot_driver.proofs.TurnsOn.{turn_ends, turn_leads, turn_then}
+use Rattle.raw_mutexes.specs.CondvarCourses.{IsOfCondvar, locks_at, notify_at, releases_at, wait_at}
+use Rattle.raw_mutexes.proofs.CondvarGoing.{again_on, hides_on, keyed, looks_on, locks_on, marks_on, one_moved, one_taken, released_on, releases_on, rest_moved, set_again, set_on, shows_on, sleeps_on, turn_outside}
+use Rattle.raw_mutexes.proofs.condvar_courses.mark_and_move.Goals as goal
+
+pub move_some-requires : goal.move_some-requires
+move_some-requires g c = turn_leads ⊥ c.args.lot.now c.args.pair.words (notify_at c.args.pair.condvar c.args.pair.mutex c.args.all notify.Mark) (Value c.turn_word-seen.result) c.args.token.now c.turn_word-seen.new.token c.args.section c.args.section (c.turn_word-seen.ensures (notify_at c.args.pair.condvar c.args.pair.mutex c.args.all notify.Mark) c.requires refl) c.requires (notify_at c.args.pair.condvar c.args.pair.mutex c.args.all (notify.Move false)) ((marks_on c.args.pair.condvar c.args.pair.mutex c.args.all c.turn_word-seen.result false (let e : is_locked c.turn_word-seen.result ≡ false = search rules in e)).0) ((marks_on c.args.pair.condvar c.args.pair.mutex c.args.all c.turn_word-seen.result false (let e : is_locked c.turn_word-seen.result ≡ false = search rules in e)).1)
+
+pub returns-then-not-is_locked : goal.returns-then-not-is_locked
+returns-then-not-is_locked g c = turn_then ⊥ c.args.lot.now c.args.pair.words (notify_at c.args.pair.condvar c.args.pair.mutex c.args.all notify.Mark) (Value c.turn_word-seen.result) c.args.token.now c.turn_word-seen.new.token c.args.section c.args.section (c.turn_word-seen.ensures (notify_at c.args.pair.condvar c.args.pair.mutex c.args.all notify.Mark) c.requires refl) (notify_at c.args.pair.condvar c.args.pair.mutex c.args.all (notify.Move false)) ((marks_on c.args.pair.condvar c.args.pair.mutex c.args.all c.turn_word-seen.result false (let e : is_locked c.turn_word-seen.result ≡ false = search rules in e)).0) ((marks_on c.args.pair.condvar c.args.pair.mutex c.args.all c.turn_word-seen.result false (let e : is_locked c.turn_word-seen.result ≡ false = search rules in e)).1) c.move_some.result c.move_some.new.token (c.move_some.ensures)
+
+pub turn_word-found-requires : goal.turn_word-found-requires
+turn_word-found-requires g c = ((notify_at c.args.pair.condvar c.args.pair.mutex c.args.all (notify.Set c.turn_word-seen.result)), (turn_leads ⊥ c.args.lot.now c.args.pair.words (notify_at c.args.pair.condvar c.args.pair.mutex c.args.all notify.Mark) (Value c.turn_word-seen.result) c.args.token.now c.turn_word-seen.new.token c.args.section c.args.section (c.turn_word-seen.ensures (notify_at c.args.pair.condvar c.args.pair.mutex c.args.all notify.Mark) c.requires refl) c.requires (notify_at c.args.pair.condvar c.args.pair.mutex c.args.all (notify.Set c.turn_word-seen.result)) ((marks_on c.args.pair.condvar c.args.pair.mutex c.args.all c.turn_word-seen.result true (let e : is_locked c.turn_word-seen.result ≡ true = search rules in e)).0) ((marks_on c.args.pair.condvar c.args.pair.mutex c.args.all c.turn_word-seen.result true (let e : is_locked c.turn_word-seen.result ≡ true = search rules in e)).1)), refl)
+
+pub move_some-requires-then-found-seen : goal.move_some-requires-then-found-seen
+move_some-requires-then-found-seen g c = turn_leads ⊥ c.args.lot.now c.args.pair.words (notify_at c.args.pair.condvar c.args.pair.mutex c.args.all (notify.Set c.turn_word-seen.result)) (Value c.turn_word-found.result) c.turn_word-seen.new.token c.turn_word-found.new.token c.args.section c.args.section (c.turn_word-found.ensures (notify_at c.args.pair.condvar c.args.pair.mutex c.args.all (notify.Set c.turn_word-seen.result)) (turn_leads ⊥ c.args.lot.now c.args.pair.words (notify_at c.args.pair.condvar c.args.pair.mutex c.args.all notify.Mark) (Value c.turn_word-seen.result) c.args.token.now c.turn_word-seen.new.token c.args.section c.args.section (c.turn_word-seen.ensures (notify_at c.args.pair.condvar c.args.pair.mutex c.args.all notify.Mark) c.requires refl) c.requires (notify_at c.args.pair.condvar c.args.pair.mutex c.args.all (notify.Set c.turn_word-seen.result)) ((marks_on c.args.pair.condvar c.args.pair.mutex c.args.all c.turn_word-seen.result true (let e : is_locked c.turn_word-seen.result ≡ true = search rules in e)).0) ((marks_on c.args.pair.condvar c.args.pair.mutex c.args.all c.turn_word-seen.result true (let e : is_locked c.turn_word-seen.result ≡ true = search rules in e)).1)) refl) (turn_leads ⊥ c.args.lot.now c.args.pair.words (notify_at c.args.pair.condvar c.args.pair.mutex c.args.all notify.Mark) (Value c.turn_word-seen.result) c.args.token.now c.turn_word-seen.new.token c.args.section c.args.section (c.turn_word-seen.ensures (notify_at c.args.pair.condvar c.args.pair.mutex c.args.all notify.Mark) c.requires refl) c.requires (notify_at c.args.pair.condvar c.args.pair.mutex c.args.all (notify.Set c.turn_word-seen.result)) ((marks_on c.args.pair.condvar c.args.pair.mutex c.args.all c.turn_word-seen.result true (let e : is_locked c.turn_word-seen.result ≡ true = search rules in e)).0) ((marks_on c.args.pair.condvar c.args.pair.mutex c.args.all c.turn_word-seen.result true (let e : is_locked c.turn_word-seen.result ≡ true = search rules in e)).1)) (notify_at c.args.pair.condvar c.args.pair.mutex c.args.all (notify.Move true)) ((set_on c.args.pair.condvar c.args.pair.mutex c.args.all c.turn_word-seen.result c.turn_word-found.result c.if-found-seen.true).0) ((set_on c.args.pair.condvar c.args.pair.mutex c.args.all c.turn_word-seen.result c.turn_word-found.result c.if-found-seen.true).1)
+
+pub returns-then-found-seen : goal.returns-then-found-seen
+returns-then-found-seen g c = turn_then ⊥ c.args.lot.now c.args.pair.words (notify_at c.args.pair.condvar c.args.pair.mutex c.args.all notify.Mark) (Value c.turn_word-seen.result) c.args.token.now c.turn_word-seen.new.token c.args.section c.args.section (c.turn_word-seen.ensures (notify_at c.args.pair.condvar c.args.pair.mutex c.args.all notify.Mark) c.requires refl) (notify_at c.args.pair.condvar c.args.pair.mutex c.args.all (notify.Set c.turn_word-seen.result)) ((marks_on c.args.pair.condvar c.args.pair.mutex c.args.all c.turn_word-seen.result true (let e : is_locked c.turn_word-seen.result ≡ true = search rules in e)).0) ((marks_on c.args.pair.condvar c.args.pair.mutex c.args.all c.turn_word-seen.result true (let e : is_locked c.turn_word-seen.result ≡ true = search rules in e)).1) c.move_some-then-found-seen.result c.move_some-then-found-seen.new.token (turn_then ⊥ c.args.lot.now c.args.pair.words (notify_at c.args.pair.condvar c.args.pair.mutex c.args.all (notify.Set c.turn_word-seen.result)) (Value c.turn_word-found.result) c.turn_word-seen.new.token c.turn_word-found.new.token c.args.section c.args.section (c.turn_word-found.ensures (notify_at c.args.pair.condvar c.args.pair.mutex c.args.all (notify.Set c.turn_word-seen.result)) (turn_leads ⊥ c.args.lot.now c.args.pair.words (notify_at c.args.pair.condvar c.args.pair.mutex c.args.all notify.Mark) (Value c.turn_word-seen.result) c.args.token.now c.turn_word-seen.new.token c.args.section c.args.section (c.turn_word-seen.ensures (notify_at c.args.pair.condvar c.args.pair.mutex c.args.all notify.Mark) c.requires refl) c.requires (notify_at c.args.pair.condvar c.args.pair.mutex c.args.all (notify.Set c.turn_word-seen.result)) ((marks_on c.args.pair.condvar c.args.pair.mutex c.args.all c.turn_word-seen.result true (let e : is_locked c.turn_word-seen.result ≡ true = search rules in e)).0) ((marks_on c.args.pair.condvar c.args.pair.mutex c.args.all c.turn_word-seen.result true (let e : is_locked c.turn_word-seen.result ≡ true = search rules in e)).1)) refl) (notify_at c.args.pair.condvar c.args.pair.mutex c.args.all (notify.Move true)) ((set_on c.args.pair.condvar c.args.pair.mutex c.args.all c.turn_word-seen.result c.turn_word-found.result c.if-found-seen.true).0) ((set_on c.args.pair.condvar c.args.pair.mutex c.args.all c.turn_word-seen.result c.turn_word-found.result c.if-found-seen.true).1) c.move_some-then-found-seen.result c.move_some-then-found-seen.new.token (c.move_some-then-found-seen.ensures))
+
+pub rest-requires-clause-at : goal.rest-requires-clause-at
+rest-requires-clause-at g c = subst (λ (q : Place). IsAt ⊥ c.args.lot.now c.args.pair.words q c.turn_word-found.new.token c.args.section) (sym (c.after-next.ensures ∙ ap (λ (p : Place). next_place p (Value c.turn_word-found.result)) c.notifies-place.ensures)) (turn_leads ⊥ c.args.lot.now c.args.pair.words (notify_at c.args.pair.condvar c.args.pair.mutex c.args.all (notify.Set c.turn_word-seen.result)) (Value c.turn_word-found.result) c.turn_word-seen.new.token c.turn_word-found.new.token c.args.section c.args.section (c.turn_word-found.ensures (notify_at c.args.pair.condvar c.args.pair.mutex c.args.all (notify.Set c.turn_word-seen.result)) (turn_leads ⊥ c.args.lot.now c.args.pair.words (notify_at c.args.pair.condvar c.args.pair.mutex c.args.all notify.Mark) (Value c.turn_word-seen.result) c.args.token.now c.turn_word-seen.new.token c.args.section c.args.section (c.turn_word-seen.ensures (notify_at c.args.pair.condvar c.args.pair.mutex c.args.all notify.Mark) c.requires refl) c.requires (notify_at c.args.pair.condvar c.args.pair.mutex c.args.all (notify.Set c.turn_word-seen.result)) ((marks_on c.args.pair.condvar c.args.pair.mutex c.args.all c.turn_word-seen.result true (let e : is_locked c.turn_word-seen.result ≡ true = search rules in e)).0) ((marks_on c.args.pair.condvar c.args.pair.mutex c.args.all c.turn_word-seen.result true (let e : is_locked c.turn_word-seen.result ≡ true = search rules in e)).1)) refl) (turn_leads ⊥ c.args.lot.now c.args.pair.words (notify_at c.args.pair.condvar c.args.pair.mutex c.args.all notify.Mark) (Value c.turn_word-seen.result) c.args.token.now c.turn_word-seen.new.token c.args.section c.args.section (c.turn_word-seen.ensures (notify_at c.args.pair.condvar c.args.pair.mutex c.args.all notify.Mark) c.requires refl) c.requires (notify_at c.args.pair.condvar c.args.pair.mutex c.args.all (notify.Set c.turn_word-seen.result)) ((marks_on c.args.pair.condvar c.args.pair.mutex c.args.all c.turn_word-seen.result true (let e : is_locked c.turn_word-seen.result ≡ true = search rules in e)).0) ((marks_on c.args.pair.condvar c.args.pair.mutex c.args.all c.turn_word-seen.result true (let e : is_locked c.turn_word-seen.result ≡ true = search rules in e)).1)) (next_place (notify_at c.args.pair.condvar c.args.pair.mutex c.args.all (notify.Set c.turn_word-seen.result)) (Value c.turn_word-found.result)) (refl) (set_again c.args.pair.condvar c.args.pair.mutex c.args.all c.turn_word-seen.result c.turn_word-found.result (is_locked c.turn_word-found.result) c.if-found-seen.false refl))
+
+pub returns : goal.returns
+returns g c = turn_then ⊥ c.args.lot.now c.args.pair.words (notify_at c.args.pair.condvar c.args.pair.mutex c.args.all notify.Mark) (Value c.turn_word-seen.result) c.args.token.now c.turn_word-seen.new.token c.args.section c.args.section (c.turn_word-seen.ensures (notify_at c.args.pair.condvar c.args.pair.mutex c.args.all notify.Mark) c.requires refl) (notify_at c.args.pair.condvar c.args.pair.mutex c.args.all (notify.Set c.turn_word-seen.result)) ((marks_on c.args.pair.condvar c.args.pair.mutex c.args.all c.turn_word-seen.result true (let e : is_locked c.turn_word-seen.result ≡ true = search rules in e)).0) ((marks_on c.args.pair.condvar c.args.pair.mutex c.args.all c.turn_word-seen.result true (let e : is_locked c.turn_word-seen.result ≡ true = search rules in e)).1) c.rest.result c.rest.new.token (turn_then ⊥ c.args.lot.now c.args.pair.words (notify_at c.args.pair.condvar c.args.pair.mutex c.args.all (notify.Set c.turn_word-seen.result)) (Value c.turn_word-found.result) c.turn_word-seen.new.token c.turn_word-found.new.token c.args.section c.args.section (c.turn_word-found.ensures (notify_at c.args.pair.condvar c.args.pair.mutex c.args.all (notify.Set c.turn_word-seen.result)) (turn_leads ⊥ c.args.lot.now c.args.pair.words (notify_at c.args.pair.condvar c.args.pair.mutex c.args.all notify.Mark) (Value c.turn_word-seen.result) c.args.token.now c.turn_word-seen.new.token c.args.section c.args.section (c.turn_word-seen.ensures (notify_at c.args.pair.condvar c.args.pair.mutex c.args.all notify.Mark) c.requires refl) c.requires (notify_at c.args.pair.condvar c.args.pair.mutex c.args.all (notify.Set c.turn_word-seen.result)) ((marks_on c.args.pair.condvar c.args.pair.mutex c.args.all c.turn_word-seen.result true (let e : is_locked c.turn_word-seen.result ≡ true = search rules in e)).0) ((marks_on c.args.pair.condvar c.args.pair.mutex c.args.all c.turn_word-seen.result true (let e : is_locked c.turn_word-seen.result ≡ true = search rules in e)).1)) refl) (next_place (notify_at c.args.pair.condvar c.args.pair.mutex c.args.all (notify.Set c.turn_word-seen.result)) (Value c.turn_word-found.result)) (refl) (set_again c.args.pair.condvar c.args.pair.mutex c.args.all c.turn_word-seen.result c.turn_word-found.result (is_locked c.turn_word-found.result) c.if-found-seen.false refl) c.rest.result c.rest.new.token (subst (λ (q : Place). HasEnded ⊥ c.args.lot.now c.args.pair.words q c.rest.result c.turn_word-found.new.token c.args.section c.rest.new.token) (c.after-next.ensures ∙ ap (λ (p : Place). next_place p (Value c.turn_word-found.result)) c.notifies-place.ensures) c.rest.ensures))
