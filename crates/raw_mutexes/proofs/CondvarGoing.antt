@@ -1,12 +1,12 @@
 -- The straight course of a wait and of a notification: where each turn leads, and that it ends no call.
-use Rattle.std.proofs.Common.{ℕ, ◌≡◌, ◌≢◌, ◌==◌, ◌<◌, ◌||◌, ◌+◌, Bool, true, false, List, Option, None, Some, refl, sym, ap, subst, if◌then◌else◌, ne_eqb, eq-eqb, arith}
-use Rattle.std.specs.Prelude.{◌*◌, ◌^◌, not, ◌&&◌, nat_lt}
+use Rattle.std.proofs.Common.{ℕ, ◌≡◌, ◌≢◌, ◌==◌, ◌<◌, ◌||◌, ◌+◌, Bool, true, false, List, Option, None, Some, refl, subst, if◌then◌else◌, ne_eqb, eq-eqb, arith}
+use Rattle.std.specs.Prelude.{◌*◌, ◌^◌, not, nat_lt}
 use Rattle.lot_acts.specs.declared.acts.Reply.{Reply}
 use Rattle.lot_acts.specs.declared.acts.Reply.TheVariants.{Done, Value, Parked, Took, Picked, Requeued, Removed, TakenBy, MovedTo, HandedBy, Late, Woken, Closed}
 use Rattle.lot_base.specs.declared.notes.Note.TheVariants.{Normal, HandOff}
 use Rattle.lot_calls.specs.declared.outcomes.Answer.{Answer}
 use Rattle.lot_calls.specs.declared.outcomes.OnceState.{OnceState}
-use Rattle.lot_condvar.specs.CondvarSteps.{again_next, is_shown, marks, moved_all, moved_one}
+use Rattle.lot_condvar.specs.CondvarSteps.{is_shown}
 use Rattle.lot_condvar.specs.declared.notify.NotifyAt.TheVariants as notify
 use Rattle.lot_condvar.specs.declared.places.CondvarPlace.TheVariants.{Wait, Look, Notify}
 use Rattle.lot_condvar.specs.declared.wait.Stands.TheVariants.{Listed}

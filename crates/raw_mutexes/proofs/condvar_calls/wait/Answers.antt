@@ -1,50 +1,27 @@
-use Rattle.std.proofs.Common.{◌∙◌, ℕ, None, refl, subst, ap, sym}
+use Rattle.std.proofs.Common.{ℕ, None, refl, subst, sym}
 use Rattle.lot_base.specs.Clocks.{IsUp}
-use Rattle.lot_steps.specs.declared.places.Place.{Place}
-use Rattle.lot_driver.specs.Fitting.{AreWordsFor, Fits, IsOver, IsStopped, aim_of}
-use Rattle.lot_driver.specs.Paths.{Runs, Walks}
-use Rattle.lot_driver.specs.Stages.{stage_of}
+use Rattle.lot_condvar.specs.declared.wait.WaitAt.TheVariants as wait
+use Rattle.lot_driver.specs.Paths.{Walks}
 use Rattle.lot_driver.specs.Telling.{owns_of, steps_of}
-use Rattle.lot_driver.specs.Words.{AreWordsOf, at_in, both, kind_in}
-use Rattle.lot_driver.specs.declared.driver.Stop.{Stop}
-use Rattle.lot_driver.specs.declared.driver.Stop.TheVariants.{Paused}
-use Rattle.lot_driver.specs.declared.words.Words.{Words}
+use Rattle.lot_driver.specs.Turns.{HasEnded, IsAt}
 use Rattle.raw_mutexes.specs.CondvarCalls.{wait_begin}
-use Rattle.raw_mutexes.proofs.CondvarCalling.{at_both, both_of, wait_never_pauses, words_beside}
+use Rattle.raw_mutexes.specs.CondvarCourses.{wait_at}
+use Rattle.raw_mutexes.specs.declared.condvar_courses.Pair.{Pair}
+use Rattle.raw_mutexes.proofs.CondvarCalling.{at_both, both_of, words_beside}
 use Rattle.raw_mutexes.proofs.condvar_calls.wait.Goals as goal
 
-pub run-requires-clause-own : goal.run-requires-clause-own
-run-requires-clause-own g c = (c.requires.own.0.0, subst (AreWordsOf c.args.lot.now) (sym c.both.ensures) (both_of c.args.lot.now.words c.args.condvar c.args.mutex c.requires.own.1 c.requires.own.0.1))
+pub wait_through-requires : goal.wait_through-requires
+wait_through-requires g c = let own = c.requires.own in
+    subst (λ (pair : Pair). IsAt (IsUp g.C.Clock.tells c.args.limit) c.args.lot.now pair.words (wait_at pair.condvar pair.mutex c.args.timed wait.Enter) c.args.token.now None) (sym c.pair_of.ensures)
+    (own.0.0, both_of c.args.lot.now.words c.args.condvar c.args.mutex own.1 own.0.1, tt, ((own.3, own.0.3), words_beside c.args.condvar c.args.mutex own.4 own.2 own.0.2), (owns_of c.args.token.now, (c.requires.owned, (refl, refl))))
 
-pub run-requires-clause-words : goal.run-requires-clause-words
-run-requires-clause-words g c = let own = c.requires.own in
-    subst (λ (words : Words). AreWordsFor c.begins-start.result (kind_in words) (at_in words)) (sym c.both.ensures)
-    (subst (λ (p : Place). AreWordsFor p (kind_in (both c.args.condvar c.args.mutex)) (at_in (both c.args.condvar c.args.mutex))) (sym c.begins-start.ensures)
-    ((own.3, own.0.3), words_beside c.args.condvar c.args.mutex own.4 own.2 own.0.2))
-
-pub run-requires-clause-start : goal.run-requires-clause-start
-run-requires-clause-start g c = (
-  owns_of c.args.token.now,
-  subst (λ (p : Place). Fits (IsUp g.C.Clock.tells c.args.limit) (owns_of c.args.token.now) p (stage_of c.args.token.now None)) (sym c.begins-start.ensures) (c.requires.owned, (refl, refl)),
-)
+pub returns-clause-own : goal.returns-clause-own
+returns-clause-own g c = (subst (λ (pair : Pair). HasEnded (IsUp g.C.Clock.tells c.args.limit) c.args.lot.now pair.words (wait_at pair.condvar pair.mutex c.args.timed wait.Enter) c.wait_through.result c.args.token.now None c.wait_through.new.token) c.pair_of.ensures c.wait_through.ensures).0
 
 pub returns-clause-path : goal.returns-clause-path
 returns-clause-path g c = let own = c.requires.own in
-    let at = ap at_in c.both.ensures ∙ at_both c.args.condvar c.args.mutex own.4 own.2 own.0.2 in
-    let walks : Walks (at_in c.both.result) c.begins-start.result (steps_of c.args.token.now) (steps_of c.run.new.token) c.in-Ended.answer
-    = subst (Runs (at_in c.both.result) c.begins-start.result (steps_of c.args.token.now) (steps_of c.run.new.token)) c.in-Ended.is c.run.ensures.path in
-    subst (λ (at : ℕ → ℕ). Walks at (wait_begin c.args.condvar.number c.args.mutex.number c.args.timed) (steps_of c.args.token.now) (steps_of c.run.new.token) c.in-Ended.answer) at
-    (subst (λ (p : Place). Walks (at_in c.both.result) p (steps_of c.args.token.now) (steps_of c.run.new.token) c.in-Ended.answer) c.begins-start.ensures walks)
+    let ended = (subst (λ (pair : Pair). HasEnded (IsUp g.C.Clock.tells c.args.limit) c.args.lot.now pair.words (wait_at pair.condvar pair.mutex c.args.timed wait.Enter) c.wait_through.result c.args.token.now None c.wait_through.new.token) c.pair_of.ensures c.wait_through.ensures) in
+    subst (λ (at : ℕ → ℕ). Walks at (wait_begin c.args.condvar.number c.args.mutex.number c.args.timed) (steps_of c.args.token.now) (steps_of c.wait_through.new.token) c.wait_through.result) (at_both c.args.condvar c.args.mutex own.4 own.2 own.0.2) ended.1
 
 pub returns-clause-over : goal.returns-clause-over
-returns-clause-over g c = let owns = owns_of c.args.token.now in
-    let fits = subst (λ (p : Place). Fits (IsUp g.C.Clock.tells c.args.limit) (owns_of c.args.token.now) p (stage_of c.args.token.now None)) (sym c.begins-start.ensures) (c.requires.owned, (refl, refl)) in
-    let stopped = subst (λ (stop : Stop). IsStopped (IsUp g.C.Clock.tells c.args.limit) (owns_of c.args.token.now) (aim_of c.begins-start.result) stop (stage_of c.run.new.token None)) c.in-Ended.is (c.run.ensures.stopped owns fits) in
-    subst (λ (p : Place). IsOver (IsUp g.C.Clock.tells c.args.limit) (owns_of c.args.token.now) (aim_of p) c.in-Ended.answer (stage_of c.run.new.token None)) c.begins-start.ensures stopped
-
-pub unreachable-requires : goal.unreachable-requires
-unreachable-requires g c = let owns = owns_of c.args.token.now in
-    let fits = subst (λ (p : Place). Fits (IsUp g.C.Clock.tells c.args.limit) (owns_of c.args.token.now) p (stage_of c.args.token.now None)) (sym c.begins-start.ensures) (c.requires.owned, (refl, refl)) in
-    let stopped = subst (λ (stop : Stop). IsStopped (IsUp g.C.Clock.tells c.args.limit) (owns_of c.args.token.now) (aim_of c.begins-start.result) stop (stage_of c.run.new.token None)) c.in-Paused.is (c.run.ensures.stopped owns fits) in
-    wait_never_pauses (IsUp g.C.Clock.tells c.args.limit) owns c.args.condvar.number c.args.mutex.number c.args.timed c.in-Paused.place c.in-Paused.state (stage_of c.run.new.token None)
-    (subst (λ (p : Place). IsStopped (IsUp g.C.Clock.tells c.args.limit) (owns_of c.args.token.now) (aim_of p) (Paused c.in-Paused.place c.in-Paused.state) (stage_of c.run.new.token None)) c.begins-start.ensures stopped)
+returns-clause-over g c = (subst (λ (pair : Pair). HasEnded (IsUp g.C.Clock.tells c.args.limit) c.args.lot.now pair.words (wait_at pair.condvar pair.mutex c.args.timed wait.Enter) c.wait_through.result c.args.token.now None c.wait_through.new.token) c.pair_of.ensures c.wait_through.ensures).2 (owns_of c.args.token.now) (c.requires.owned, (refl, refl))

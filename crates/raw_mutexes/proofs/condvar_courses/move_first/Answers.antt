@@ -1,30 +1,14 @@
-use Rattle.std.proofs.Common.{ℕ, ◌*◌, nat_lt, ◌≡◌, Bool, true, false, None, Some, refl, sym, ap, ◌∙◌, subst, rules, arith, if◌then◌else◌}
-use Rattle.lot_base.specs.Clocks.{IsUp}
-use Rattle.lot_base.specs.declared.keys.Keys.TheVariants.{One, Two}
-use Rattle.lot_base.specs.declared.notes.Note.TheVariants.{Normal}
-use Rattle.lot_base.specs.declared.ops.Op.TheVariants.{Exchange}
+use Rattle.std.proofs.Common.{ℕ, ◌*◌, ◌≡◌, Bool, true, false, refl, sym, ap, ◌∙◌, subst, rules}
 use Rattle.lot_base.specs.declared.requeues.Requeue.TheVariants as requeues
 use Rattle.lot_acts.specs.declared.acts.Act as act
-use Rattle.lot_acts.specs.declared.acts.Reply.{Reply}
-use Rattle.lot_acts.specs.declared.acts.Reply.TheVariants.{Done, Requeued, Took, Value, Woken}
-use Rattle.lot_acts.specs.declared.acts.Wakes.{Wakes}
-use Rattle.lot_acts.specs.Acts.{wakes_taken}
+use Rattle.lot_acts.specs.declared.acts.Reply.TheVariants.{Requeued, Took}
 use Rattle.lot_acts.specs.declared.acts.Whom as whom
-use Rattle.lot_calls.specs.declared.outcomes.Answer.{Answer}
-use Rattle.lot_condvar.specs.CondvarSteps.{is_shown, moved_one, notified, waited}
+use Rattle.lot_condvar.specs.CondvarSteps.{moved_one}
 use Rattle.lot_condvar.specs.declared.notify.NotifyAt.TheVariants as notify
-use Rattle.lot_condvar.specs.declared.wait.Stands.TheVariants.{Listed}
-use Rattle.lot_condvar.specs.declared.wait.WaitAt.TheVariants as wait
-use Rattle.lot_mutex.specs.MutexSteps.{is_locked, is_parked}
-use Rattle.lot_mutex.specs.declared.lock.LockAt.TheVariants as lock
-use Rattle.lot_mutex.specs.declared.unlock.UnlockAt.TheVariants as unlock
-use Rattle.lot_steps.specs.Steps.{act_of, next_act, next_place}
-use Rattle.lot_steps.specs.declared.places.Place.{Place}
-use Rattle.lot_driver.specs.Fitting.{answer_of}
-use Rattle.lot_driver.specs.Turns.{HasEnded, HasTurned, IsAt, MayDo}
-use Rattle.lot_driver.proofs.TurnsOn.{turn_ends, turn_leads, turn_then}
-use Rattle.raw_mutexes.specs.CondvarCourses.{IsOfCondvar, locks_at, notify_at, releases_at, wait_at}
-use Rattle.raw_mutexes.proofs.CondvarGoing.{again_on, hides_on, keyed, looks_on, locks_on, marks_on, one_moved, one_taken, released_on, releases_on, rest_moved, set_again, set_on, shows_on, sleeps_on, turn_outside}
+use Rattle.lot_driver.specs.Turns.{HasEnded, IsAt}
+use Rattle.lot_driver.proofs.TurnsOn.{turn_leads, turn_then}
+use Rattle.raw_mutexes.specs.CondvarCourses.{notify_at}
+use Rattle.raw_mutexes.proofs.CondvarGoing.{one_moved, one_taken}
 use Rattle.raw_mutexes.proofs.condvar_courses.move_first.Goals as goal
 
 pub turn_requeue-none_left-requires : goal.turn_requeue-none_left-requires
