@@ -114,7 +114,7 @@ impl<const RECURSIVE: bool> lock_raw::RawRwLock for RawRwLock<RECURSIVE> {
         Ok(RawRwLock { lock })
     }
 
-    #[inline]
+    #[inline(always)]
     fn lock_shared<R: Wait>(&self, rt: &R, token: &mut Token) -> Result<RawSharedGuard, Fault> {
         match self
             .lock
