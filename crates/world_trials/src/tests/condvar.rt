@@ -1,5 +1,5 @@
 //! Worlds of condition variables.
-use super::scripts::{Does, Shown, look, rests, surprise};
+use super::scripts::{Does, Shown, plays, rests, shows, surprise};
 use lot_base::{ListQueues, Want};
 use lot_calls::CondvarCall;
 use lot_world::{Answer, Call, Debt, Kind, MutexCall, Outcome, Owner, Turn, World};
@@ -112,35 +112,35 @@ fn a_wait_ends_once_it_is_notified(rt: HostRuntime) -> Result<(), Fail> {
         (1, notifies(true), told(0)),
         (0, waits(), Outcome::NotNow),
     ];
-    assert_eq!(rt; surprise(&mut world, &unheard), None);
+    plays(&rt, &mut world, &unheard);
     assert!(rt; all_wait(&mut world, 1));
-    assert_eq!(rt; look(&world, MUTEX), rests(0, None));
+    shows(&rt, &world, MUTEX, rests(0, None));
     let waiting = Shown {
         word: 1,
         owner: None,
         waiter: Some((0, Want::Wait)),
         debt: None,
     };
-    assert_eq!(rt; look(&world, CONDVAR), Some(waiting));
+    shows(&rt, &world, CONDVAR, Some(waiting));
     let notified = [
         (0, Does::GoesOn, Outcome::NotNow),
         (1, notifies(false), Outcome::End(Answer::Yes)),
     ];
-    assert_eq!(rt; surprise(&mut world, &notified), None);
+    plays(&rt, &mut world, &notified);
     let woken = Shown {
         word: 0,
         owner: None,
         waiter: None,
         debt: Some((Debt::Retries, 0)),
     };
-    assert_eq!(rt; look(&world, MUTEX), Some(woken));
-    assert_eq!(rt; look(&world, CONDVAR), rests(0, None));
+    shows(&rt, &world, MUTEX, Some(woken));
+    shows(&rt, &world, CONDVAR, rests(0, None));
     let ends = [
         (0, Does::GoesOn, DONE),
         (1, notifies(false), Outcome::End(Answer::No)),
     ];
-    assert_eq!(rt; surprise(&mut world, &ends), None);
-    assert_eq!(rt; look(&world, MUTEX), rests(1, Some((Owner::Exclusive, 0))));
+    plays(&rt, &mut world, &ends);
+    shows(&rt, &world, MUTEX, rests(1, Some((Owner::Exclusive, 0))));
     Ok(())
 }
 
@@ -157,32 +157,32 @@ fn a_wait_takes_and_wakes_itself(rt: HostRuntime) -> Result<(), Fail> {
         (0, GO, Outcome::Step),
         (1, notifies(false), Outcome::End(Answer::Yes)),
     ];
-    assert_eq!(rt; surprise(&mut world, &moved), None);
-    assert_eq!(rt; look(&world, MUTEX), Some(wanted(3, Some(0), 0)));
-    assert_eq!(rt; look(&world, CONDVAR), rests(0, None));
+    plays(&rt, &mut world, &moved);
+    shows(&rt, &world, MUTEX, Some(wanted(3, Some(0), 0)));
+    shows(&rt, &world, CONDVAR, rests(0, None));
     // It subtracts, enters the section, takes itself, clears the bit, and wakes itself.
     let releases = [(0, GO, Outcome::Step), (0, GO, Outcome::Step)];
-    assert_eq!(rt; surprise(&mut world, &releases), None);
+    plays(&rt, &mut world, &releases);
     let owing = Shown {
         debt: Some((Debt::Owes, 0)),
         ..wanted(2, None, 0)
     };
-    assert_eq!(rt; look(&world, MUTEX), Some(owing));
+    shows(&rt, &world, MUTEX, Some(owing));
     let wakes = [
         (0, GO, Outcome::Step),
         (0, GO, Outcome::Step),
         (0, GO, Outcome::Step),
     ];
-    assert_eq!(rt; surprise(&mut world, &wakes), None);
+    plays(&rt, &mut world, &wakes);
     let woken = Shown {
         word: 0,
         owner: None,
         waiter: None,
         debt: Some((Debt::Retries, 0)),
     };
-    assert_eq!(rt; look(&world, MUTEX), Some(woken));
-    assert_eq!(rt; surprise(&mut world, &[(0, GO, DONE)]), None);
-    assert_eq!(rt; look(&world, MUTEX), rests(1, Some((Owner::Exclusive, 0))));
+    shows(&rt, &world, MUTEX, Some(woken));
+    plays(&rt, &mut world, &[(0, GO, DONE)]);
+    shows(&rt, &world, MUTEX, rests(1, Some((Owner::Exclusive, 0))));
     Ok(())
 }
 
@@ -196,9 +196,9 @@ fn a_timed_wait_gives_up_in_the_queue_where_it_stands(rt: HostRuntime) -> Result
         (0, LATE, Outcome::NotNow),
         (0, Does::GoesOn, TIMED_OUT),
     ];
-    assert_eq!(rt; surprise(&mut world, &gives_up), None);
-    assert_eq!(rt; look(&world, CONDVAR), rests(0, None));
-    assert_eq!(rt; look(&world, MUTEX), rests(1, Some((Owner::Exclusive, 0))));
+    plays(&rt, &mut world, &gives_up);
+    shows(&rt, &world, CONDVAR, rests(0, None));
+    shows(&rt, &world, MUTEX, rests(1, Some((Owner::Exclusive, 0))));
     // In the queue of its mutex it was notified.
     let moved = [
         (0, waits_timed(), Outcome::Sleep),
@@ -207,16 +207,16 @@ fn a_timed_wait_gives_up_in_the_queue_where_it_stands(rt: HostRuntime) -> Result
         (2, mutex(MutexCall::Lock), DONE),
         (2, notifies(true), told(2)),
     ];
-    assert_eq!(rt; surprise(&mut world, &moved), None);
-    assert_eq!(rt; look(&world, MUTEX), Some(wanted(3, Some(2), 0)));
+    plays(&rt, &mut world, &moved);
+    shows(&rt, &world, MUTEX, Some(wanted(3, Some(2), 0)));
     let late = [
         (1, LATE, Outcome::NotNow),
         (0, LATE, Outcome::Step),
         (0, Does::GoesOn, Outcome::Sleep),
         (0, LATE, Outcome::NotNow),
     ];
-    assert_eq!(rt; surprise(&mut world, &late), None);
-    assert_eq!(rt; look(&world, MUTEX), Some(wanted(3, Some(2), 1)));
+    plays(&rt, &mut world, &late);
+    shows(&rt, &world, MUTEX, Some(wanted(3, Some(2), 1)));
     let ends = [
         (2, mutex(MutexCall::Unlock), DONE),
         (1, Does::GoesOn, DONE),
@@ -224,9 +224,9 @@ fn a_timed_wait_gives_up_in_the_queue_where_it_stands(rt: HostRuntime) -> Result
         (0, Does::GoesOn, NOTIFIED),
         (0, mutex(MutexCall::Unlock), DONE),
     ];
-    assert_eq!(rt; surprise(&mut world, &ends), None);
-    assert_eq!(rt; look(&world, MUTEX), rests(0, None));
-    assert_eq!(rt; look(&world, CONDVAR), rests(0, None));
+    plays(&rt, &mut world, &ends);
+    shows(&rt, &world, MUTEX, rests(0, None));
+    shows(&rt, &world, CONDVAR, rests(0, None));
     Ok(())
 }
 
@@ -238,9 +238,9 @@ fn beside_a_locked_mutex_all_are_moved(rt: HostRuntime) -> Result<(), Fail> {
         (3, mutex(MutexCall::Lock), DONE),
         (3, notifies(true), told(3)),
     ];
-    assert_eq!(rt; surprise(&mut world, &notified), None);
-    assert_eq!(rt; look(&world, MUTEX), Some(wanted(3, Some(3), 0)));
-    assert_eq!(rt; look(&world, CONDVAR), rests(0, None));
+    plays(&rt, &mut world, &notified);
+    shows(&rt, &world, MUTEX, Some(wanted(3, Some(3), 0)));
+    shows(&rt, &world, CONDVAR, rests(0, None));
     // The release wakes the first alone.
     let releases = [
         (0, Does::GoesOn, Outcome::NotNow),
@@ -248,14 +248,14 @@ fn beside_a_locked_mutex_all_are_moved(rt: HostRuntime) -> Result<(), Fail> {
         (1, Does::GoesOn, Outcome::NotNow),
         (2, Does::GoesOn, Outcome::NotNow),
     ];
-    assert_eq!(rt; surprise(&mut world, &releases), None);
+    plays(&rt, &mut world, &releases);
     let woken = Shown {
         debt: Some((Debt::Retries, 0)),
         ..wanted(2, None, 1)
     };
-    assert_eq!(rt; look(&world, MUTEX), Some(woken));
+    shows(&rt, &world, MUTEX, Some(woken));
     assert!(rt; all_leave(&mut world, 3));
-    assert_eq!(rt; look(&world, MUTEX), rests(0, None));
+    shows(&rt, &world, MUTEX, rests(0, None));
     Ok(())
 }
 
@@ -265,15 +265,15 @@ fn beside_an_unlocked_mutex_the_first_is_woken_and_the_rest_are_moved(
 ) -> Result<(), Fail> {
     let mut world = World::<ListQueues>::new(rt.alloc(), &[Kind::Mutex, Kind::Condvar], 5)?;
     assert!(rt; all_wait(&mut world, 3));
-    assert_eq!(rt; surprise(&mut world, &[(3, notifies(true), told(3))]), None);
+    plays(&rt, &mut world, &[(3, notifies(true), told(3))]);
     let woken = Shown {
         debt: Some((Debt::Retries, 0)),
         ..wanted(2, None, 1)
     };
-    assert_eq!(rt; look(&world, MUTEX), Some(woken));
-    assert_eq!(rt; look(&world, CONDVAR), rests(0, None));
+    shows(&rt, &world, MUTEX, Some(woken));
+    shows(&rt, &world, CONDVAR, rests(0, None));
     assert!(rt; all_leave(&mut world, 3));
-    assert_eq!(rt; look(&world, MUTEX), rests(0, None));
+    shows(&rt, &world, MUTEX, rests(0, None));
     // Another locks the mutex first: who was woken sleeps behind the rest.
     assert!(rt; all_wait(&mut world, 3));
     let overtaken = [
@@ -281,8 +281,8 @@ fn beside_an_unlocked_mutex_the_first_is_woken_and_the_rest_are_moved(
         (4, mutex(MutexCall::Lock), DONE),
         (0, Does::GoesOn, Outcome::Sleep),
     ];
-    assert_eq!(rt; surprise(&mut world, &overtaken), None);
-    assert_eq!(rt; look(&world, MUTEX), Some(wanted(3, Some(4), 1)));
+    plays(&rt, &mut world, &overtaken);
+    shows(&rt, &world, MUTEX, Some(wanted(3, Some(4), 1)));
     let ends = [
         (4, mutex(MutexCall::Unlock), DONE),
         (1, Does::GoesOn, DONE),
@@ -292,8 +292,8 @@ fn beside_an_unlocked_mutex_the_first_is_woken_and_the_rest_are_moved(
         (0, Does::GoesOn, DONE),
         (0, mutex(MutexCall::Unlock), DONE),
     ];
-    assert_eq!(rt; surprise(&mut world, &ends), None);
-    assert_eq!(rt; look(&world, MUTEX), rests(0, None));
+    plays(&rt, &mut world, &ends);
+    shows(&rt, &world, MUTEX, rests(0, None));
     Ok(())
 }
 
@@ -310,21 +310,21 @@ fn a_second_mutex_is_refused(rt: HostRuntime) -> Result<(), Fail> {
         (1, waits_with(4), Outcome::NotNow),
         (1, waits_with(2), Outcome::End(Answer::TwoMutexes)),
     ];
-    assert_eq!(rt; surprise(&mut world, &refused), None);
-    assert_eq!(rt; look(&world, 2), rests(1, Some((Owner::Exclusive, 1))));
+    plays(&rt, &mut world, &refused);
+    shows(&rt, &world, 2, rests(1, Some((Owner::Exclusive, 1))));
     let shows_another = [
         (1, notifies(true), told(1)),
         (1, waits_with(2), Outcome::Sleep),
         (0, Does::GoesOn, DONE),
     ];
-    assert_eq!(rt; surprise(&mut world, &shows_another), None);
+    plays(&rt, &mut world, &shows_another);
     let waiting = Shown {
         word: 3,
         owner: None,
         waiter: Some((1, Want::Wait)),
         debt: None,
     };
-    assert_eq!(rt; look(&world, CONDVAR), Some(waiting));
+    shows(&rt, &world, CONDVAR, Some(waiting));
     Ok(())
 }
 
@@ -332,13 +332,10 @@ fn a_second_mutex_is_refused(rt: HostRuntime) -> Result<(), Fail> {
 fn all_of_600_waiters_have_the_mutex_in_their_order(rt: HostRuntime) -> Result<(), Fail> {
     let mut world = World::<ListQueues>::new(rt.alloc(), &[Kind::Mutex, Kind::Condvar], 601)?;
     assert!(rt; all_wait(&mut world, 600));
-    assert_eq!(rt;
-        surprise(&mut world, &[(600, notifies(true), told(600))]),
-        None
-    );
-    assert_eq!(rt; look(&world, CONDVAR), rests(0, None));
+    plays(&rt, &mut world, &[(600, notifies(true), told(600))]);
+    shows(&rt, &world, CONDVAR, rests(0, None));
     assert!(rt; all_leave(&mut world, 600));
-    assert_eq!(rt; look(&world, MUTEX), rests(0, None));
+    shows(&rt, &world, MUTEX, rests(0, None));
     // And where somebody owns it meanwhile.
     assert!(rt; all_wait(&mut world, 600));
     let notified = [
@@ -346,8 +343,8 @@ fn all_of_600_waiters_have_the_mutex_in_their_order(rt: HostRuntime) -> Result<(
         (600, notifies(true), told(600)),
         (600, mutex(MutexCall::Unlock), DONE),
     ];
-    assert_eq!(rt; surprise(&mut world, &notified), None);
+    plays(&rt, &mut world, &notified);
     assert!(rt; all_leave(&mut world, 600));
-    assert_eq!(rt; look(&world, MUTEX), rests(0, None));
+    shows(&rt, &world, MUTEX, rests(0, None));
     Ok(())
 }

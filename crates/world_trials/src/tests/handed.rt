@@ -1,5 +1,5 @@
 //! Reader-writer locks that are handed over.
-use super::scripts::{Does, Shown, look, rests, surprise};
+use super::scripts::{Does, Shown, plays, rests, shows};
 use lot_base::{ListQueues, Want};
 use lot_calls::{Access, Patience, RwLockCall};
 use lot_world::{Answer, Call, Kind, Outcome, Owner, World};
@@ -41,9 +41,9 @@ fn a_fair_release_hands_the_lock_to_readers_and_the_writer_behind_them(
         (1, releases(Access::Shared), Outcome::NotNow),
         (0, releases(Access::Exclusive), DONE),
     ];
-    assert_eq!(rt; surprise(&mut world, &hands_over), None);
+    plays(&rt, &mut world, &hands_over);
     // Two readers, and the writer behind them, which waits for them.
-    assert_eq!(rt; look(&world, 0), rests(40, Some((Owner::Pending, 3))));
+    shows(&rt, &world, 0, rests(40, Some((Owner::Pending, 3))));
     let owners: Vec<(Owner, usize)> = if world.locks() == 1 {
         world.owners(0).collect(rt.alloc())?
     } else {
@@ -59,8 +59,8 @@ fn a_fair_release_hands_the_lock_to_readers_and_the_writer_behind_them(
         (2, releases(Access::Shared), DONE),
         (3, Does::GoesOn, DONE),
     ];
-    assert_eq!(rt; surprise(&mut world, &follows), None);
-    assert_eq!(rt; look(&world, 0), rests(8, Some((Owner::Exclusive, 3))));
+    plays(&rt, &mut world, &follows);
+    shows(&rt, &world, 0, rests(8, Some((Owner::Exclusive, 3))));
     Ok(())
 }
 
@@ -74,24 +74,24 @@ fn a_bump_enters_again_behind_those_to_whom_it_gave_way(rt: HostRuntime) -> Resu
         (0, bumps(Access::Exclusive), Outcome::Sleep),
         (1, Does::GoesOn, DONE),
     ];
-    assert_eq!(rt; surprise(&mut world, &gives_way), None);
+    plays(&rt, &mut world, &gives_way);
     let first = Shown {
         word: 21,
         owner: Some((Owner::Upgradable, 1)),
         waiter: Some((2, Want::Exclusive)),
         debt: None,
     };
-    assert_eq!(rt; look(&world, 0), Some(first));
+    shows(&rt, &world, 0, Some(first));
     // Another fair release, of the lesser right: the next writer has it at once.
     let next = [(1, releases(Access::Upgradable), DONE)];
-    assert_eq!(rt; surprise(&mut world, &next), None);
+    plays(&rt, &mut world, &next);
     let second = Shown {
         word: 9,
         owner: Some((Owner::Exclusive, 2)),
         waiter: Some((0, Want::Exclusive)),
         debt: None,
     };
-    assert_eq!(rt; look(&world, 0), Some(second));
+    shows(&rt, &world, 0, Some(second));
     Ok(())
 }
 
@@ -104,8 +104,8 @@ fn a_fair_release_that_nobody_waits_for_lets_the_lock_go(rt: HostRuntime) -> Res
             (0, bumps(access), DONE),
             (0, releases(access), DONE),
         ];
-        assert_eq!(rt; surprise(&mut world, &script), None);
-        assert_eq!(rt; look(&world, 0), rests(0, None));
+        plays(&rt, &mut world, &script);
+        shows(&rt, &world, 0, rests(0, None));
     }
     Ok(())
 }

@@ -1,5 +1,5 @@
 //! Worlds of mutexes.
-use super::scripts::{Does, Shown, look, rests, surprise};
+use super::scripts::{Does, Shown, plays, rests, shows};
 use lot_base::{ListQueues, Want};
 use lot_steps::Owners;
 use lot_world::{
@@ -42,37 +42,37 @@ fn a_waiter_is_woken_by_the_release(rt: HostRuntime) -> Result<(), Fail> {
         (1, GO, Outcome::Sleep),
         (1, GO, Outcome::NotNow),
     ];
-    assert_eq!(rt; surprise(&mut world, &waits), None);
+    plays(&rt, &mut world, &waits);
     let owned = Shown {
         word: 3,
         owner: Some((Owner::Exclusive, 0)),
         waiter: Some((1, Want::Exclusive)),
         debt: None,
     };
-    assert_eq!(rt; look(&world, 0), Some(owned));
+    shows(&rt, &world, 0, Some(owned));
     let releases = [
         (1, begins(MutexCall::Unlock), Outcome::NotNow),
         (0, begins(MutexCall::Unlock), Outcome::Step),
         (0, GO, Outcome::Step),
     ];
-    assert_eq!(rt; surprise(&mut world, &releases), None);
+    plays(&rt, &mut world, &releases);
     let owes = Shown {
         word: 2,
         owner: None,
         debt: Some((Debt::Owes, 0)),
         ..owned
     };
-    assert_eq!(rt; look(&world, 0), Some(owes));
-    assert_eq!(rt; surprise(&mut world, &[(0, Does::GoesOn, DONE)]), None);
+    shows(&rt, &world, 0, Some(owes));
+    plays(&rt, &mut world, &[(0, Does::GoesOn, DONE)]);
     let retries = Shown {
         word: 0,
         owner: None,
         waiter: None,
         debt: Some((Debt::Retries, 1)),
     };
-    assert_eq!(rt; look(&world, 0), Some(retries));
-    assert_eq!(rt; surprise(&mut world, &[(1, Does::GoesOn, DONE)]), None);
-    assert_eq!(rt; look(&world, 0), rests(1, Some((Owner::Exclusive, 1))));
+    shows(&rt, &world, 0, Some(retries));
+    plays(&rt, &mut world, &[(1, Does::GoesOn, DONE)]);
+    shows(&rt, &world, 0, rests(1, Some((Owner::Exclusive, 1))));
     Ok(())
 }
 
@@ -110,28 +110,28 @@ fn a_fair_mutex_is_handed_to_the_first_waiter(rt: HostRuntime) -> Result<(), Fai
         (1, GO, Outcome::NotNow),
         (1, begins(MutexCall::Unlock), Outcome::NotNow),
     ];
-    assert_eq!(rt; surprise(&mut world, &hands_over), None);
+    plays(&rt, &mut world, &hands_over);
     let handed = Shown {
         word: 3,
         owner: Some((Owner::Exclusive, 1)),
         waiter: Some((2, Want::Exclusive)),
         debt: Some((Debt::Owes, 0)),
     };
-    assert_eq!(rt; look(&world, 0), Some(handed));
+    shows(&rt, &world, 0, Some(handed));
     // The one behind it is next.
     let bumps = [
         (0, GO, DONE),
         (1, GO, DONE),
         (1, calls(MutexCall::Bump), Outcome::Sleep),
     ];
-    assert_eq!(rt; surprise(&mut world, &bumps), None);
+    plays(&rt, &mut world, &bumps);
     let bumped = Shown {
         word: 3,
         owner: Some((Owner::Exclusive, 2)),
         waiter: Some((1, Want::Exclusive)),
         debt: None,
     };
-    assert_eq!(rt; look(&world, 0), Some(bumped));
+    shows(&rt, &world, 0, Some(bumped));
     Ok(())
 }
 
@@ -167,8 +167,8 @@ fn a_run_is_its_steps(rt: HostRuntime) -> Result<(), Fail> {
     assert_eq!(rt; (world.threads(), world.locks()), (3, 2));
     assert_eq!(rt; world.kind(1), Kind::Mutex);
     assert_eq!(rt; world.place(2), Place::Idle);
-    assert_eq!(rt; look(&world, 1), rests(0, None));
+    shows(&rt, &world, 1, rests(0, None));
     let stranger = [(9, Does::GoesOn, Outcome::NotNow)];
-    assert_eq!(rt; surprise(&mut world, &stranger), None);
+    plays(&rt, &mut world, &stranger);
     Ok(())
 }

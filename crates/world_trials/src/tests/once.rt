@@ -1,5 +1,5 @@
 //! Worlds of a `Once`.
-use super::scripts::{Does, Shown, look, rests, surprise};
+use super::scripts::{Does, Shown, plays, rests, shows};
 use lot_base::{Keys, ListQueues, Note, Want};
 use lot_calls::{OnceCall, OnceState};
 use lot_steps::lot_once::{LookAt, OncePlace, RunAt};
@@ -95,23 +95,23 @@ fn who_waits_for_a_run_tries_again_when_woken(rt: HostRuntime) {
 fn a_run_that_fails_poisons_until_one_is_forced(rt: HostRuntime) -> Result<(), Fail> {
     let mut world = World::<ListQueues>::new(rt.alloc(), &[Kind::Once], 1)?;
     let begins = [(0, calls(RUN), RUNS_NEW)];
-    assert_eq!(rt; surprise(&mut world, &begins), None);
-    assert_eq!(rt; look(&world, 0), rests(4, Some((Owner::Running, 0))));
+    plays(&rt, &mut world, &begins);
+    shows(&rt, &world, 0, rests(4, Some((Owner::Running, 0))));
     let fails = [
         (0, ERR, Outcome::End(Answer::Failed)),
         (0, calls(RUN), POISONED),
         (0, calls(WAIT), POISONED),
     ];
-    assert_eq!(rt; surprise(&mut world, &fails), None);
-    assert_eq!(rt; look(&world, 0), rests(2, None));
+    plays(&rt, &mut world, &fails);
+    shows(&rt, &world, 0, rests(2, None));
     let succeeds = [
         (0, calls(RUN_FORCED), RUNS_POISONED),
         (0, OK, DONE),
         (0, calls(RUN), DONE),
         (0, calls(WAIT), DONE),
     ];
-    assert_eq!(rt; surprise(&mut world, &succeeds), None);
-    assert_eq!(rt; look(&world, 0), rests(1, None));
+    plays(&rt, &mut world, &succeeds);
+    shows(&rt, &world, 0, rests(1, None));
     Ok(())
 }
 
@@ -119,33 +119,33 @@ fn a_run_that_fails_poisons_until_one_is_forced(rt: HostRuntime) -> Result<(), F
 fn who_waits_before_the_run_sees_it_done(rt: HostRuntime) -> Result<(), Fail> {
     let mut world = World::<ListQueues>::new(rt.alloc(), &[Kind::Once], 2)?;
     let waits = [(0, calls(WAIT), Outcome::Sleep)];
-    assert_eq!(rt; surprise(&mut world, &waits), None);
+    plays(&rt, &mut world, &waits);
     let waiting = Shown {
         word: 8,
         owner: None,
         waiter: Some((0, Want::Wait)),
         debt: None,
     };
-    assert_eq!(rt; look(&world, 0), Some(waiting));
+    shows(&rt, &world, 0, Some(waiting));
     let begins = [(1, calls(RUN), RUNS_NEW)];
-    assert_eq!(rt; surprise(&mut world, &begins), None);
+    plays(&rt, &mut world, &begins);
     let running = Shown {
         word: 12,
         owner: Some((Owner::Running, 1)),
         ..waiting
     };
-    assert_eq!(rt; look(&world, 0), Some(running));
+    shows(&rt, &world, 0, Some(running));
     let closes = [(1, OK, Outcome::Step)];
-    assert_eq!(rt; surprise(&mut world, &closes), None);
+    plays(&rt, &mut world, &closes);
     let owing = Shown {
         word: 1,
         debt: Some((Debt::Owes, 1)),
         ..waiting
     };
-    assert_eq!(rt; look(&world, 0), Some(owing));
+    shows(&rt, &world, 0, Some(owing));
     let ends = [(1, Does::GoesOn, DONE), (0, Does::GoesOn, DONE)];
-    assert_eq!(rt; surprise(&mut world, &ends), None);
-    assert_eq!(rt; look(&world, 0), rests(1, None));
+    plays(&rt, &mut world, &ends);
+    shows(&rt, &world, 0, rests(1, None));
     Ok(())
 }
 
@@ -162,10 +162,10 @@ fn only_its_end_takes_a_thread_out_of_its_closure(rt: HostRuntime) -> Result<(),
         (1, OK, Outcome::NotNow),
         (1, ERR, Outcome::NotNow),
     ];
-    assert_eq!(rt; surprise(&mut world, &stays), None);
-    assert_eq!(rt; look(&world, 0), rests(4, Some((Owner::Running, 0))));
+    plays(&rt, &mut world, &stays);
+    shows(&rt, &world, 0, rests(4, Some((Owner::Running, 0))));
     let ends = [(0, OK, DONE), (0, ERR, Outcome::NotNow)];
-    assert_eq!(rt; surprise(&mut world, &ends), None);
+    plays(&rt, &mut world, &ends);
     Ok(())
 }
 
@@ -180,43 +180,43 @@ fn a_failed_run_wakes_all_and_a_forced_one_begins(rt: HostRuntime) -> Result<(),
         (4, calls(RUN_FORCED), Outcome::Sleep),
         (0, ERR, Outcome::Step),
     ];
-    assert_eq!(rt; surprise(&mut world, &fails), None);
+    plays(&rt, &mut world, &fails);
     let owing = Shown {
         word: 2,
         owner: None,
         waiter: Some((1, Want::CallOnce)),
         debt: Some((Debt::Owes, 0)),
     };
-    assert_eq!(rt; look(&world, 0), Some(owing));
+    shows(&rt, &world, 0, Some(owing));
     let wakes = [(0, Does::GoesOn, Outcome::End(Answer::Failed))];
-    assert_eq!(rt; surprise(&mut world, &wakes), None);
+    plays(&rt, &mut world, &wakes);
     let woken = Shown {
         waiter: None,
         debt: Some((Debt::Retries, 1)),
         ..owing
     };
-    assert_eq!(rt; look(&world, 0), Some(woken));
+    shows(&rt, &world, 0, Some(woken));
     let begins = [
         (1, Does::GoesOn, POISONED),
         (2, Does::GoesOn, POISONED),
         (4, Does::GoesOn, RUNS_POISONED),
         (3, Does::GoesOn, Outcome::Sleep),
     ];
-    assert_eq!(rt; surprise(&mut world, &begins), None);
+    plays(&rt, &mut world, &begins);
     let running = Shown {
         word: 12,
         owner: Some((Owner::Running, 4)),
         waiter: Some((3, Want::Wait)),
         debt: None,
     };
-    assert_eq!(rt; look(&world, 0), Some(running));
+    shows(&rt, &world, 0, Some(running));
     let ends = [
         (4, OK, Outcome::Step),
         (4, Does::GoesOn, DONE),
         (3, Does::GoesOn, DONE),
     ];
-    assert_eq!(rt; surprise(&mut world, &ends), None);
-    assert_eq!(rt; look(&world, 0), rests(1, None));
+    plays(&rt, &mut world, &ends);
+    shows(&rt, &world, 0, rests(1, None));
     Ok(())
 }
 
@@ -236,20 +236,20 @@ fn a_run_beside_nine_waiters_wakes_them_all(rt: HostRuntime) -> Result<(), Fail>
         (9, calls(RUN), Outcome::Sleep),
         (0, OK, Outcome::Step),
     ];
-    assert_eq!(rt; surprise(&mut world, &beside), None);
+    plays(&rt, &mut world, &beside);
     let owing = Shown {
         word: 1,
         owner: None,
         waiter: Some((1, Want::CallOnce)),
         debt: Some((Debt::Owes, 0)),
     };
-    assert_eq!(rt; look(&world, 0), Some(owing));
+    shows(&rt, &world, 0, Some(owing));
     let wakes = [(0, Does::GoesOn, DONE)];
-    assert_eq!(rt; surprise(&mut world, &wakes), None);
+    plays(&rt, &mut world, &wakes);
     for thread in 1..10 {
         let ends = [(thread, Does::GoesOn, DONE)];
-        assert_eq!(rt; surprise(&mut world, &ends), None);
+        plays(&rt, &mut world, &ends);
     }
-    assert_eq!(rt; look(&world, 0), rests(1, None));
+    shows(&rt, &world, 0, rests(1, None));
     Ok(())
 }

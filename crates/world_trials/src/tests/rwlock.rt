@@ -4,6 +4,7 @@ use lot_acts::{Act, Next, Reply};
 use lot_base::Keys;
 use lot_calls::{Access, Answer, Downgrade, Patience};
 use lot_rwlock::{Admission, RwLockAt, RwLockPlace, RwLockPurpose};
+use std::process::Abort;
 
 const NORMAL: Admission = Admission {
     recursive: false,
@@ -55,6 +56,11 @@ fn gives(purpose: RwLockPurpose, word: u64) -> (u64, Act) {
     alone(NORMAL, purpose, RwLockAt::GiveWay, word)
 }
 
+// The word that a call leaves, and its first act that is no operation on it.
+fn told(rt: &impl Abort, found: (u64, Act), wanted: (u64, Act)) {
+    assert_eq!(rt; found, wanted);
+}
+
 const OK: Act = Act::End(Answer::Ok);
 
 const FULL: Act = Act::End(Answer::ReadersFull);
@@ -65,38 +71,44 @@ const SECOND: Act = Act::Enter(Keys::One(1));
 
 #[test]
 fn who_is_not_kept_out_enters(rt: HostRuntime) {
-    assert_eq!(rt; enters(NORMAL, Access::Exclusive, 0), (8, OK));
-    assert_eq!(rt; enters(NORMAL, Access::Shared, 16), (32, OK));
-    assert_eq!(rt; enters(NORMAL, Access::Upgradable, 16), (36, OK));
-    assert_eq!(rt; enters(NORMAL, Access::Shared, 32), (32, FULL));
+    told(&rt, enters(NORMAL, Access::Exclusive, 0), (8, OK));
+    told(&rt, enters(NORMAL, Access::Shared, 16), (32, OK));
+    told(&rt, enters(NORMAL, Access::Upgradable, 16), (36, OK));
+    told(&rt, enters(NORMAL, Access::Shared, 32), (32, FULL));
     // A stale bit alone keeps no writer out that doesn't try.
-    assert_eq!(rt; enters(NORMAL, Access::Exclusive, 1), (9, OK));
+    told(&rt, enters(NORMAL, Access::Exclusive, 1), (9, OK));
 }
 
 #[test]
 fn who_is_kept_out_goes_into_the_main_queue(rt: HostRuntime) {
-    assert_eq!(rt; enters(NORMAL, Access::Shared, 8), (9, MAIN));
-    assert_eq!(rt; enters(NORMAL, Access::Exclusive, 21), (21, MAIN));
-    assert_eq!(rt; enters(NORMAL, Access::Shared, 24), (25, MAIN));
-    assert_eq!(rt; enters(RECURSIVE, Access::Shared, 24), (40, OK));
-    assert_eq!(rt; enters(RECURSIVE, Access::Shared, 8), (9, MAIN));
+    told(&rt, enters(NORMAL, Access::Shared, 8), (9, MAIN));
+    told(&rt, enters(NORMAL, Access::Exclusive, 21), (21, MAIN));
+    told(&rt, enters(NORMAL, Access::Shared, 24), (25, MAIN));
+    told(&rt, enters(RECURSIVE, Access::Shared, 24), (40, OK));
+    told(&rt, enters(RECURSIVE, Access::Shared, 8), (9, MAIN));
 }
 
 #[test]
 fn a_writer_waits_aside_for_the_last_reader(rt: HostRuntime) {
-    assert_eq!(rt; enters(NORMAL, Access::Exclusive, 16), (26, SECOND));
+    told(&rt, enters(NORMAL, Access::Exclusive, 16), (26, SECOND));
     let shared = RwLockPurpose::Release(Access::Shared);
-    assert_eq!(rt; gives(shared, 42), (26, OK));
-    assert_eq!(rt; gives(shared, 26), (10, SECOND));
+    told(&rt, gives(shared, 42), (26, OK));
+    told(&rt, gives(shared, 26), (10, SECOND));
     let writing = entering(Access::Exclusive, Patience::Timed);
-    assert_eq!(rt;
+    told(
+        &rt,
         alone(NORMAL, writing, RwLockAt::Look, 10),
-        (10, Act::End(Answer::Yes))
+        (10, Act::End(Answer::Yes)),
     );
-    assert_eq!(rt; alone(NORMAL, writing, RwLockAt::RollBack, 25), (17, MAIN));
-    assert_eq!(rt;
+    told(
+        &rt,
+        alone(NORMAL, writing, RwLockAt::RollBack, 25),
+        (17, MAIN),
+    );
+    told(
+        &rt,
         alone(NORMAL, writing, RwLockAt::RollBack, 24),
-        (16, Act::End(Answer::No))
+        (16, Act::End(Answer::No)),
     );
 }
 
@@ -106,37 +118,45 @@ fn tries_answer_by_the_word(rt: HostRuntime) {
     let reading = entering(Access::Shared, Patience::Try);
     let no = Act::End(Answer::No);
     let yes = Act::End(Answer::Yes);
-    assert_eq!(rt; alone(NORMAL, writing, RwLockAt::First, 0), (8, yes));
-    assert_eq!(rt; alone(NORMAL, writing, RwLockAt::First, 1), (1, no));
-    assert_eq!(rt; alone(NORMAL, reading, RwLockAt::Load, 8), (8, no));
-    assert_eq!(rt; alone(NORMAL, reading, RwLockAt::Load, 32), (32, FULL));
-    assert_eq!(rt; alone(NORMAL, reading, RwLockAt::Load, 21), (37, yes));
+    told(&rt, alone(NORMAL, writing, RwLockAt::First, 0), (8, yes));
+    told(&rt, alone(NORMAL, writing, RwLockAt::First, 1), (1, no));
+    told(&rt, alone(NORMAL, reading, RwLockAt::Load, 8), (8, no));
+    told(&rt, alone(NORMAL, reading, RwLockAt::Load, 32), (32, FULL));
+    told(&rt, alone(NORMAL, reading, RwLockAt::Load, 21), (37, yes));
 }
 
 #[test]
 fn rights_are_converted(rt: HostRuntime) {
     let downgrade = |to: Downgrade| RwLockPurpose::Downgrade(to);
-    assert_eq!(rt; gives(downgrade(Downgrade::ToShared), 8), (16, OK));
-    assert_eq!(rt; gives(downgrade(Downgrade::ToUpgradable), 9), (21, MAIN));
-    assert_eq!(rt;
+    told(&rt, gives(downgrade(Downgrade::ToShared), 8), (16, OK));
+    told(
+        &rt,
+        gives(downgrade(Downgrade::ToUpgradable), 9),
+        (21, MAIN),
+    );
+    told(
+        &rt,
         gives(downgrade(Downgrade::UpgradableToShared), 20),
-        (16, OK)
+        (16, OK),
     );
     let upgrade = RwLockPurpose::Upgrade(Patience::Patient);
-    assert_eq!(rt; gives(upgrade, 20), (8, OK));
-    assert_eq!(rt; gives(upgrade, 36), (26, SECOND));
+    told(&rt, gives(upgrade, 20), (8, OK));
+    told(&rt, gives(upgrade, 36), (26, SECOND));
     let tries = RwLockPurpose::Upgrade(Patience::Try);
-    assert_eq!(rt;
+    told(
+        &rt,
         alone(NORMAL, tries, RwLockAt::Load, 20),
-        (8, Act::End(Answer::Yes))
+        (8, Act::End(Answer::Yes)),
     );
-    assert_eq!(rt;
+    told(
+        &rt,
         alone(NORMAL, tries, RwLockAt::Load, 36),
-        (36, Act::End(Answer::No))
+        (36, Act::End(Answer::No)),
     );
     let late = RwLockPurpose::Upgrade(Patience::Timed);
-    assert_eq!(rt;
+    told(
+        &rt,
         alone(RECURSIVE, late, RwLockAt::RollBack, 24),
-        (36, Act::End(Answer::No))
+        (36, Act::End(Answer::No)),
     );
 }

@@ -1,6 +1,7 @@
 //! Scripts: what threads do one after another, and what each of them is told.
 use lot_base::{ListQueues, Want};
 use lot_world::{Call, Debt, Outcome, Owner, Step, Turn, World};
+use std::process::Abort;
 
 /// What a thread does in a line of a script.
 #[derive(Clone, Copy, Debug, PartialEq, Eq)]
@@ -74,4 +75,14 @@ pub fn look(world: &World<ListQueues>, lock: usize) -> Option<Shown> {
             .map(|waiter| (waiter.thread, waiter.want)),
         debt: world.debt(lock).next(),
     })
+}
+
+/// Each line of the script is told what stands beside it. All scripts share this one assertion, since each is proved where it stands.
+pub fn plays(rt: &impl Abort, world: &mut World<ListQueues>, script: &[(usize, Does, Outcome)]) {
+    assert_eq!(rt; surprise(world, script), None);
+}
+
+/// A lock shows this.
+pub fn shows(rt: &impl Abort, world: &World<ListQueues>, lock: usize, wanted: Option<Shown>) {
+    assert_eq!(rt; look(world, lock), wanted);
 }
