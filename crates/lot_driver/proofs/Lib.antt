@@ -9,7 +9,6 @@ pub mod RwLockHands
 pub mod RwLockHanding
 pub mod RwLockGoing
 pub mod RwLockHanded
-pub mod RwLockBumpFull
 pub mod RwLockBumping
 pub mod RwLockLeading
 pub mod OnceLeading
@@ -18,11 +17,5 @@ pub mod Leading
 pub mod RwLockBeginning
 pub mod Turning
 pub mod TurnsOn
-pub mod RwLockCalling
-pub mod RwLockCourses
-pub mod RwLockTakes
-pub mod RwLockFull
-pub mod RwLockRights
 pub mod TakesFew
 pub mod Behind
-pub mod RwLockFairCalls

@@ -7,10 +7,8 @@ pub mod MutexFitting
 pub mod OnceFitting
 pub mod CondvarFitting
 pub mod RwLockFitting
-pub mod RwLockRefusals
 pub mod Fitting
 pub mod Turns
 pub mod Calls
 pub mod RwLockCalls
-pub mod Courses
 pub mod Drawing

@@ -2,10 +2,7 @@
 #![tactic(auto)]
 
 mod acting;
-pub mod courses;
 pub mod driver;
-pub mod fair_calls;
-pub mod rwlock_calls;
 mod sleepers;
 mod taking;
 pub mod turns;

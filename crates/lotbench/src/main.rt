@@ -1,14 +1,7 @@
 //! Times many operations on one lock, by one thread or by several that share them.
 #![tactic(auto)]
 
-mod condvars;
-mod plans;
-mod runs;
-mod rwlocks;
-mod shares;
 mod start;
-#[cfg(test)]
-mod tests;
 
 use std::process::ExitCode;
 use std::rt::Env;

@@ -1,6 +1,6 @@
 //! What the program does for its arguments.
-use crate::plans::{Plan, plan_of};
-use crate::runs::{Figures, carry_out};
+use bench_runs::plans::{Plan, plan_of};
+use bench_runs::runs::{Figures, carry_out};
 use parking_lot::Fault;
 use std::alloc::Global;
 use std::io;

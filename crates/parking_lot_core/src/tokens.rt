@@ -1,5 +1,5 @@
 //! Who steps in the lot.
-ghost use Rattle.std.specs.Prelude.{◌≡◌};
+ghost use Rattle.std.specs.Prelude.{◌≡◌, None};
 
 use crossbeam_utils::sync::Parker;
 use lot_base::{Key, Requeue, Want};
@@ -55,7 +55,7 @@ pub struct Token {
     pub(crate) seat: Seat,
     pub(crate) number: usize,
     pub(crate) parker: Parker,
-    // What it did in the section that it left last, if it has taken no step since. Apart, so that a step writes one byte.
+    // What it did in the section that it left last, if it has taken no step since.
     pub(crate) record: SectionRecord,
     pub(crate) is_recorded: bool,
     here: PhantomData<*const ()>,
@@ -120,6 +120,17 @@ impl Token {
         ensures { result ≡ self.now.number }
     {
         self.number
+    }
+
+    // The thread steps. It writes only where a section is told: a locked instruction waits until every write before it is done.
+    #[inline]
+    pub(crate) fn forget_section(&mut self)
+        ensures same { (self.new.seat ≡ self.old.seat) × (self.new.number ≡ self.old.number) }
+        ensures forgotten { last_of self.new ≡ None }
+    {
+        if self.is_recorded {
+            self.is_recorded = false;
+        }
     }
 
     /// What the thread did in the section that it left last. None once it has stepped on a word since.

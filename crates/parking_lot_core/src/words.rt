@@ -31,7 +31,7 @@ impl ParkingLot {
             ≡ after_step word.kind (word_index word.number word.kind) op result (view_of token.old) }
         ensures coded { CodesWith word.kind (word_index word.number word.kind) result (view_of token.old).owns }
     {
-        token.is_recorded = false;
+        token.forget_section();
         self.words.step(&mut token.seat, word, op)
     }
 
@@ -87,7 +87,7 @@ impl ParkingLot {
             (λ word. IsDrawn self.now.words.count (kind ∷ []) word.number (view_of token.old) (view_of token.new))
             (λ fault. (fault ≡ Fault.LotFull) × IsDrawRefused self.now.words.count 1 (view_of token.old) (view_of token.new)) }
     {
-        token.is_recorded = false;
+        token.forget_section();
         self.words.new_word(&mut token.seat, kind)
     }
 
@@ -106,7 +106,7 @@ impl ParkingLot {
             (view_of token.new))
             (λ fault. (fault ≡ Fault.LotFull) × IsDrawRefused self.now.words.count 2 (view_of token.old) (view_of token.new)) }
     {
-        token.is_recorded = false;
+        token.forget_section();
         self.words.new_pair(&mut token.seat)
     }
 

@@ -3,7 +3,7 @@ ghost use Rattle.std.specs.Prelude.{◌≡◌, ◌⊎◌, ◌≤◌, ◌+◌, �
 ghost use Rattle.std.specs.Arc.{arc_value};
 ghost use Rattle.parking_lot_core.specs.Tokens.{IsTokenOf};
 ghost use Rattle.lot_driver.specs.RwLockCalls.{HasWalkedCall, SeesBy, StaysSettled, StaysSettled-on, WakesByCall, is_held, is_held_alone};
-ghost use Rattle.lot_driver.specs.RwLockRefusals.{GaveUpCall, SawFull};
+ghost use Rattle.rwlock_driver.specs.RwLockRefusals.{GaveUpCall, SawFull};
 ghost use Rattle.lock_raw.specs.Answers.{IsRefusal};
 ghost use Rattle.lot_words.specs.declared.words.WordKind.TheVariants.{RwLock};
 ghost use Rattle.lot_driver.specs.Drawing.{Drew, FoundFull};

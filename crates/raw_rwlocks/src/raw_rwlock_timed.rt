@@ -15,7 +15,7 @@ impl<const RECURSIVE: bool> RawRwLock<RECURSIVE> {
     ghost use Rattle.lot_rwlock.specs.declared.purposes.RwLockPurpose.TheVariants.{Enter, Upgrade};
     ghost use Rattle.parking_lot_core.specs.Tokens.{IsTokenOf};
     ghost use Rattle.lot_driver.specs.RwLockCalls.{HasWalkedRwLock, StaysSettled};
-    ghost use Rattle.lot_driver.specs.RwLockRefusals.{GaveUp, SawFull};
+    ghost use Rattle.rwlock_driver.specs.RwLockRefusals.{GaveUp, SawFull};
     ghost use Rattle.raw_rwlocks.specs.RwLockGuards.{IsExclusiveOf, IsSharedOf, IsUpgradableOf};
     ghost use Rattle.raw_rwlocks.specs.RwLockUsers.{admission_of, lot_of, word_of};
 

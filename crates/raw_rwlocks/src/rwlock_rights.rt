@@ -23,19 +23,19 @@ ghost use Rattle.parking_lot_core.specs.Tokens.{IsTokenOf, IsSameThread, view_of
 ghost use Rattle.lot_driver.specs.Paths.{rwlock_at, step};
 ghost use Rattle.lot_driver.specs.RwLockCalls.{Exclude, HasWalkedCall, HasWalkedRwLock, IsRwLockRight, ReleasesFairly, StaysBeside, WakesBy, entry_answer, turn_answer};
 ghost use Rattle.lot_driver.specs.RwLockFitting.{IsCounted, MayGiveUp};
-ghost use Rattle.lot_driver.specs.RwLockRefusals.{GaveUp, SawFull};
+ghost use Rattle.rwlock_driver.specs.RwLockRefusals.{GaveUp, SawFull};
 ghost use Rattle.lot_driver.specs.Telling.{owns_of, steps_of};
 
 use lot_base::{main_key, second_key};
 use lot_calls::{Access, Answer, Downgrade, Patience};
-use lot_driver::courses::{greater, lesser};
 use lot_driver::driver::FOR_EVER;
-use lot_driver::fair_calls::{bump, release_exclusive, release_upgradable};
-use lot_driver::rwlock_calls::call;
 use lot_rwlock::places::WRITER;
 use lot_rwlock::purposes::wanted;
 use lot_rwlock::{Admission, RwLockPurpose};
 use parking_lot_core::{Clock, Fault, Held, Key, Op, ParkingLot, Token, Want, Word, WordKind};
+use rwlock_driver::calls::call;
+use rwlock_driver::courses::{greater, lesser};
+use rwlock_driver::fair_calls::{bump, release_exclusive, release_upgradable};
 use std::sync::{Arc, Wait};
 
 // Takes a word that is 0.

@@ -13,9 +13,9 @@ use Rattle.lot_words.specs.declared.views.WordStep.{WordStep}
 use Rattle.parking_lot_core.specs.Tokens.{view_of}
 use Rattle.lot_driver.specs.Paths.{Walks, at_rwlock, rwlock_at}
 use Rattle.lot_driver.specs.Stages.{stage_of}
-use Rattle.lot_driver.proofs.RwLockBumpFull.{bump_sees_full}
-use Rattle.lot_driver.proofs.RwLockCalling.{entered_right}
-use Rattle.lot_driver.proofs.RwLockFairCalls.{bump_full}
+use Rattle.rwlock_driver.proofs.RwLockBumpFull.{bump_sees_full}
+use Rattle.rwlock_driver.proofs.RwLockCalling.{entered_right}
+use Rattle.rwlock_driver.proofs.RwLockFairCalls.{bump_full}
 use Rattle.lot_driver.proofs.RwLockNeeds.{has_right, left_beside}
 use Rattle.raw_rwlocks.proofs.rwlock_rights.LotRwLock.bump.Goals as goal
 

@@ -14,7 +14,7 @@ use Rattle.lot_driver.specs.Paths.{Walks, at_rwlock, rwlock_at}
 use Rattle.lot_driver.specs.RwLockCalls.{rwlock_begin}
 use Rattle.lot_driver.specs.RwLockFitting.{IsBeside}
 use Rattle.lot_driver.proofs.RwLockNeeds.{has_right, left_beside}
-use Rattle.lot_driver.proofs.RwLockRights.{joined_beside}
+use Rattle.rwlock_driver.proofs.RwLockRights.{joined_beside}
 use Rattle.raw_rwlocks.proofs.rwlock_rights.LotRwLock.downgrade.Goals as goal
 
 pub split-requires-clause-held : goal.split-requires-clause-held

@@ -13,8 +13,8 @@ use Rattle.parking_lot_core.specs.Tokens.{view_of}
 use Rattle.lot_driver.specs.Paths.{Walks, at_rwlock, rwlock_at}
 use Rattle.lot_driver.specs.RwLockCalls.{rwlock_begin}
 use Rattle.lot_driver.specs.Stages.{stage_of}
-use Rattle.lot_driver.proofs.RwLockCalling.{begins_entering, entered_right, found_full, gave_up_left, gave_up_may}
-use Rattle.lot_driver.proofs.RwLockFull.{sees_full}
+use Rattle.rwlock_driver.proofs.RwLockCalling.{begins_entering, entered_right, found_full, gave_up_left, gave_up_may}
+use Rattle.rwlock_driver.proofs.RwLockFull.{sees_full}
 use Rattle.lot_driver.proofs.RwLockNeeds.{has_right}
 use Rattle.raw_rwlocks.proofs.rwlock_rights.LotRwLock.enter.Goals as goal
 

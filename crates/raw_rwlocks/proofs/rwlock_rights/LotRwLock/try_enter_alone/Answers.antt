@@ -10,7 +10,7 @@ use Rattle.parking_lot_core.specs.Tokens.{view_of}
 use Rattle.lot_driver.specs.Paths.{Walks, at_rwlock}
 use Rattle.lot_driver.specs.RwLockCalls.{rwlock_begin}
 use Rattle.lot_driver.proofs.RwLockNeeds.{has_right, left_beside}
-use Rattle.lot_driver.proofs.RwLockRights.{took, tried}
+use Rattle.rwlock_driver.proofs.RwLockRights.{took, tried}
 use Rattle.raw_rwlocks.proofs.rwlock_rights.LotRwLock.try_enter_alone.Goals as goal
 
 pub split-requires-clause-held : goal.split-requires-clause-held

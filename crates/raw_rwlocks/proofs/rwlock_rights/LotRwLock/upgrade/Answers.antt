@@ -8,12 +8,12 @@ use Rattle.lot_words.specs.declared.views.View.{View}
 use Rattle.lot_words.specs.declared.views.WordStep.{WordStep}
 use Rattle.parking_lot_core.specs.Tokens.{view_of}
 use Rattle.parking_lot_core.specs.declared.tokens.SectionRecord.{SectionRecord}
-use Rattle.lot_driver.specs.RwLockRefusals.{LeftBy}
+use Rattle.rwlock_driver.specs.RwLockRefusals.{LeftBy}
 use Rattle.lot_driver.specs.Paths.{Walks, at_rwlock}
 use Rattle.lot_driver.specs.RwLockCalls.{rwlock_begin}
 use Rattle.lot_driver.specs.Stages.{stage_of}
 use Rattle.lot_driver.proofs.RwLockNeeds.{has_right, left_beside}
-use Rattle.lot_driver.proofs.RwLockRights.{begins_upgrading, fell_back, fell_back_left, upgraded}
+use Rattle.rwlock_driver.proofs.RwLockRights.{begins_upgrading, fell_back, fell_back_left, upgraded}
 use Rattle.raw_rwlocks.proofs.rwlock_rights.LotRwLock.upgrade.Goals as goal
 
 pub split-requires-clause-held : goal.split-requires-clause-held

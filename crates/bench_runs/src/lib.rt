@@ -1,0 +1,8 @@
+//! Runs of many operations on one lock, by one thread or by several that share them.
+#![tactic(auto)]
+
+mod condvars;
+pub mod plans;
+pub mod runs;
+mod rwlocks;
+mod shares;

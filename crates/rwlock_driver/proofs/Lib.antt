@@ -1,0 +1,7 @@
+pub mod RwLockBumpFull
+pub mod RwLockCalling
+pub mod RwLockCourses
+pub mod RwLockTakes
+pub mod RwLockFull
+pub mod RwLockRights
+pub mod RwLockFairCalls

@@ -1,0 +1,2 @@
+pub mod RwLockRefusals
+pub mod Courses

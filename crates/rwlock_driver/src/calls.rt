@@ -1,0 +1,348 @@
+//! The calls of a reader-writer lock, each from its first step to its answer.
+ghost use Rattle.std.specs.Prelude.{◌≡◌, List, None};
+ghost use Rattle.lot_acts.specs.declared.acts.Reply.TheVariants.{Value};
+ghost use Rattle.lot_base.specs.Clocks.{IsUp};
+ghost use Rattle.lot_rwlock.specs.declared.purposes.RwLockPurpose.TheVariants.{Enter};
+ghost use Rattle.lot_steps.specs.Steps.{next_place};
+ghost use Rattle.lot_words.specs.Lots.{IsWordOf};
+ghost use Rattle.lot_words.specs.declared.owners.Ownership.{Ownership};
+ghost use Rattle.lot_words.specs.declared.words.WordKind.TheVariants.{RwLock};
+ghost use Rattle.parking_lot_core.specs.Tokens.{IsTokenOf, IsSameThread};
+ghost use Rattle.rwlock_driver.specs.Courses.{course_of};
+ghost use Rattle.rwlock_driver.specs.declared.courses.Course.TheVariants.{Takes};
+ghost use Rattle.lot_driver.specs.Fitting.{AreWordsFor, Fits, IsOver, Reached, aim_of, of_rwlock};
+ghost use Rattle.lot_driver.specs.Paths.{Rests, Walks, at_rwlock};
+ghost use Rattle.lot_driver.specs.RwLockCalls.{AnswersCall, BeginsWith, HasWalkedRwLock, MeetsAt, WakesBy, rwlock_begin, rwlock_deciding};
+ghost use Rattle.lot_driver.specs.Stages.{stage_of};
+ghost use Rattle.lot_driver.specs.Telling.{owns_of, steps_of};
+ghost use Rattle.lot_driver.specs.Words.{alone, kind_in, at_in};
+
+use crate::courses::{Course, answer_with, course_of, opening};
+use lot_calls::{Access, Answer, Downgrade, Patience};
+use lot_driver::driver::{Stop, answer_of, run};
+use lot_driver::words::Words;
+use lot_rwlock::places::{RwLockAt, RwLockPlace};
+use lot_rwlock::{Admission, RwLockPurpose};
+use lot_rwlock_fair::RwLockCallPlace;
+use lot_steps::{Place, Reply, advance};
+use parking_lot_core::{Clock, Op, ParkingLot, Token, Word};
+use std::sync::Wait;
+
+/// Runs a call that steps on one word from a place to its answer.
+pub(crate) fn run_out<R: Wait, C: Clock>(
+    rt: &R,
+    lot: &ParkingLot,
+    token: &mut Token,
+    word: Word,
+    limit: Option<(&C, u64)>,
+    start: Place,
+) -> Answer
+    requires own { IsTokenOf lot.now token.old × IsWordOf lot.now.words word }
+    requires words { AreWordsFor start (kind_in (alone word)) (at_in (alone word)) }
+    requires kind { word.kind ≡ RwLock }
+    requires fits { (base : List Ownership) × Fits (IsUp C.tells limit) base start (stage_of token.old None) }
+    ensures own { IsSameThread lot.now token.old token.new }
+    ensures path { Walks (at_in (alone word)) start (steps_of token.old) (steps_of token.new) result }
+    ensures over { (base : List Ownership)
+        → Fits (IsUp C.tells limit.entry) base start (stage_of token.old None)
+        → IsOver (IsUp C.tells limit.entry) base (aim_of start) result (stage_of token.new None) }
+{
+    match run(rt, lot, token, Words::alone(word), limit, start) {
+        Stop::Ended(answer) => answer,
+        // No call of a lock runs a closure.
+        Stop::Paused { .. } => unreachable!(),
+    }
+}
+
+// Where a call goes on whose first step saw this.
+fn place_behind(lock: usize, admission: Admission, purpose: RwLockPurpose, seen: u64) -> Place
+    ensures { result ≡ next_place (rwlock_begin lock admission purpose) (Value seen) }
+{
+    let first = Place::RwLock {
+        lock,
+        admission,
+        at: RwLockCallPlace::begin(purpose),
+    };
+    first.after(Reply::Value(seen))
+}
+
+// Where a call decides by what its first step saw.
+fn deciding(lock: usize, admission: Admission, purpose: RwLockPurpose, seen: u64) -> Place
+    ensures { result ≡ rwlock_deciding lock admission purpose seen }
+{
+    Place::RwLock {
+        lock,
+        admission,
+        at: RwLockCallPlace::Plain(RwLockPlace {
+            purpose,
+            retries: false,
+            at: RwLockAt::Decide(seen),
+        }),
+    }
+}
+
+// A purpose to enter, where it lasts.
+#[inline(always)]
+fn entering(access: Access, patience: Patience) -> &'static RwLockPurpose
+    ensures { result.now ≡ Enter access patience }
+{
+    use Access::{Exclusive, Shared, Upgradable};
+    use Patience::{Patient, Timed, Try};
+    use RwLockPurpose::Enter;
+    match (access, patience) {
+        (Shared, Patient) => &Enter {
+            access: Shared,
+            patience: Patient,
+        },
+        (Shared, Timed) => &Enter {
+            access: Shared,
+            patience: Timed,
+        },
+        (Shared, Try) => &Enter {
+            access: Shared,
+            patience: Try,
+        },
+        (Upgradable, Patient) => &Enter {
+            access: Upgradable,
+            patience: Patient,
+        },
+        (Upgradable, Timed) => &Enter {
+            access: Upgradable,
+            patience: Timed,
+        },
+        (Upgradable, Try) => &Enter {
+            access: Upgradable,
+            patience: Try,
+        },
+        (Exclusive, Patient) => &Enter {
+            access: Exclusive,
+            patience: Patient,
+        },
+        (Exclusive, Timed) => &Enter {
+            access: Exclusive,
+            patience: Timed,
+        },
+        (Exclusive, Try) => &Enter {
+            access: Exclusive,
+            patience: Try,
+        },
+    }
+}
+
+// The same purpose, where it lasts.
+#[inline(always)]
+fn lasting(purpose: RwLockPurpose) -> &'static RwLockPurpose
+    ensures { result.now ≡ purpose }
+{
+    use RwLockPurpose::{Downgrade as Lessen, Enter, Release, Upgrade};
+    match purpose {
+        Enter { access, patience } => entering(access, patience),
+        Release(Access::Shared) => &Release(Access::Shared),
+        Release(Access::Upgradable) => &Release(Access::Upgradable),
+        Release(Access::Exclusive) => &Release(Access::Exclusive),
+        Lessen(Downgrade::ToShared) => &Lessen(Downgrade::ToShared),
+        Lessen(Downgrade::ToUpgradable) => &Lessen(Downgrade::ToUpgradable),
+        Lessen(Downgrade::UpgradableToShared) => &Lessen(Downgrade::UpgradableToShared),
+        Upgrade(Patience::Patient) => &Upgrade(Patience::Patient),
+        Upgrade(Patience::Timed) => &Upgrade(Patience::Timed),
+        Upgrade(Patience::Try) => &Upgrade(Patience::Try),
+    }
+}
+
+// The same by reference: what a cold call is given by value lies in a local of its caller, which every call would set to zero.
+#[cold]
+#[inline(never)]
+fn rest_behind<R: Wait, C: Clock>(
+    rt: &R,
+    lot: &ParkingLot,
+    token: &mut Token,
+    word: &Word,
+    admission: &Admission,
+    limit: &Option<(&C, u64)>,
+    purpose: &RwLockPurpose,
+    seen: u64,
+) -> Answer
+    requires own { MeetsAt lot.now token.old word.now admission.now }
+    requires fits { (base : List Ownership) × Fits (IsUp C.tells limit.now) base
+        (next_place (rwlock_begin word.now.number admission.now purpose.now) (Value seen)) (stage_of token.old None) }
+    ensures own { IsSameThread lot.now token.old token.new }
+    ensures path { Walks (at_rwlock word.now.number)
+        (next_place (rwlock_begin word.now.number admission.now purpose.now) (Value seen))
+        (steps_of token.old) (steps_of token.new) result }
+    ensures over { (base : List Ownership) → Fits (IsUp C.tells limit.now) base
+        (next_place (rwlock_begin word.now.number admission.now purpose.now) (Value seen)) (stage_of token.old None)
+        → IsOver (IsUp C.tells limit.now) base
+        (aim_of (next_place (rwlock_begin word.now.number admission.now purpose.now) (Value seen))) result (stage_of token.new None) }
+{
+    let start = place_behind(word.number(), *admission, *purpose, seen);
+    run_out(rt, lot, token, *word, *limit, start)
+}
+
+// The rest of a call whose first step saw this.
+#[inline(always)]
+fn behind<R: Wait, C: Clock>(
+    rt: &R,
+    lot: &ParkingLot,
+    token: &mut Token,
+    word: &Word,
+    admission: &Admission,
+    limit: &Option<(&C, u64)>,
+    purpose: RwLockPurpose,
+    seen: u64,
+) -> Answer
+    requires own { MeetsAt lot.now token.old word.now admission.now }
+    requires fits { (base : List Ownership) × Fits (IsUp C.tells limit.now) base
+        (next_place (rwlock_begin word.now.number admission.now purpose) (Value seen)) (stage_of token.old None) }
+    ensures own { IsSameThread lot.now token.old token.new }
+    ensures path { Walks (at_rwlock word.now.number)
+        (next_place (rwlock_begin word.now.number admission.now purpose) (Value seen))
+        (steps_of token.old) (steps_of token.new) result }
+    ensures over { (base : List Ownership) → Fits (IsUp C.tells limit.now) base
+        (next_place (rwlock_begin word.now.number admission.now purpose) (Value seen)) (stage_of token.old None)
+        → IsOver (IsUp C.tells limit.now) base
+        (aim_of (next_place (rwlock_begin word.now.number admission.now purpose) (Value seen))) result (stage_of token.new None) }
+{
+    rest_behind(
+        rt,
+        lot,
+        token,
+        word,
+        admission,
+        limit,
+        lasting(purpose),
+        seen,
+    )
+}
+
+// The same by reference.
+#[cold]
+#[inline(never)]
+fn rest_missed<R: Wait, C: Clock>(
+    rt: &R,
+    lot: &ParkingLot,
+    token: &mut Token,
+    word: &Word,
+    admission: &Admission,
+    limit: &Option<(&C, u64)>,
+    purpose: &RwLockPurpose,
+    expected: u64,
+    found: u64,
+) -> Answer
+    requires own { MeetsAt lot.now token.old word.now admission.now }
+    requires reached { (base : List Ownership) × Reached (IsUp C.tells limit.now) base
+        (rwlock_deciding word.now.number admission.now purpose.now expected) (Value found) (stage_of token.old None) }
+    ensures own { IsSameThread lot.now token.old token.new }
+    ensures path { Rests (at_rwlock word.now.number)
+        (rwlock_deciding word.now.number admission.now purpose.now expected) (Value found)
+        (steps_of token.old) (steps_of token.new) result }
+    ensures over { (base : List Ownership) → Reached (IsUp C.tells limit.now) base
+        (rwlock_deciding word.now.number admission.now purpose.now expected) (Value found) (stage_of token.old None)
+        → IsOver (IsUp C.tells limit.now) base (of_rwlock word.now.number admission.now purpose.now) result
+        (stage_of token.new None) }
+{
+    let place = deciding(word.number(), *admission, *purpose, expected);
+    let (next, act) = advance(place, Reply::Value(found));
+    match answer_of(act) {
+        Some(answer) => answer,
+        None => run_out(rt, lot, token, *word, *limit, next),
+    }
+}
+
+// The rest of a call whose exchange expected one value and found this one.
+#[inline(always)]
+fn missed<R: Wait, C: Clock>(
+    rt: &R,
+    lot: &ParkingLot,
+    token: &mut Token,
+    word: &Word,
+    admission: &Admission,
+    limit: &Option<(&C, u64)>,
+    purpose: RwLockPurpose,
+    expected: u64,
+    found: u64,
+) -> Answer
+    requires own { MeetsAt lot.now token.old word.now admission.now }
+    requires reached { (base : List Ownership) × Reached (IsUp C.tells limit.now) base
+        (rwlock_deciding word.now.number admission.now purpose expected) (Value found) (stage_of token.old None) }
+    ensures own { IsSameThread lot.now token.old token.new }
+    ensures path { Rests (at_rwlock word.now.number)
+        (rwlock_deciding word.now.number admission.now purpose expected) (Value found)
+        (steps_of token.old) (steps_of token.new) result }
+    ensures over { (base : List Ownership) → Reached (IsUp C.tells limit.now) base
+        (rwlock_deciding word.now.number admission.now purpose expected) (Value found) (stage_of token.old None)
+        → IsOver (IsUp C.tells limit.now) base (of_rwlock word.now.number admission.now purpose) result
+        (stage_of token.new None) }
+{
+    rest_missed(
+        rt,
+        lot,
+        token,
+        word,
+        admission,
+        limit,
+        lasting(purpose),
+        expected,
+        found,
+    )
+}
+
+// The rest of a call that may take its right: where nobody comes between, that is one exchange.
+#[inline(always)]
+fn take_right<R: Wait, C: Clock>(
+    rt: &R,
+    lot: &ParkingLot,
+    token: &mut Token,
+    word: &Word,
+    admission: &Admission,
+    limit: &Option<(&C, u64)>,
+    purpose: RwLockPurpose,
+    seen: u64,
+) -> Answer
+    requires own { MeetsAt lot.now token.old word.now admission.now }
+    requires takes { course_of admission.now purpose seen ≡ Takes }
+    requires fits { (base : List Ownership) × Fits (IsUp C.tells limit.now) base
+        (next_place (rwlock_begin word.now.number admission.now purpose) (Value seen)) (stage_of token.old None) }
+    ensures own { IsSameThread lot.now token.old token.new }
+    ensures path { Walks (at_rwlock word.now.number)
+        (next_place (rwlock_begin word.now.number admission.now purpose) (Value seen))
+        (steps_of token.old) (steps_of token.new) result }
+    ensures over { (base : List Ownership) → Fits (IsUp C.tells limit.now) base
+        (next_place (rwlock_begin word.now.number admission.now purpose) (Value seen)) (stage_of token.old None)
+        → IsOver (IsUp C.tells limit.now) base
+        (aim_of (next_place (rwlock_begin word.now.number admission.now purpose) (Value seen))) result (stage_of token.new None) }
+{
+    let to = purpose.taken(seen);
+    let found = lot.word(token, *word, Op::Exchange { from: seen, to });
+    if found == seen {
+        return answer_with(purpose);
+    }
+    missed(rt, lot, token, word, admission, limit, purpose, seen, found)
+}
+
+/// A whole call of who has the right that it needs. Where it meets nobody it is a step or two, with no further call.
+#[inline(always)]
+pub fn call<R: Wait, C: Clock>(
+    rt: &R,
+    lot: &ParkingLot,
+    token: &mut Token,
+    word: &Word,
+    admission: &Admission,
+    limit: &Option<(&C, u64)>,
+    purpose: RwLockPurpose,
+) -> Answer
+    requires own { MeetsAt lot.now token.old word.now admission.now }
+    requires right { (base : List Ownership) × BeginsWith word.now.number purpose base (owns_of token.old) }
+    ensures own { IsSameThread lot.now token.old token.new }
+    ensures path { HasWalkedRwLock word.now.number admission.now purpose result token.old token.new }
+    ensures over { (base : List Ownership) → BeginsWith word.now.number purpose base (owns_of token.old)
+        → AnswersCall (IsUp C.tells limit.now) word.now.number base admission.now purpose result
+        (stage_of token.new None) }
+    ensures record { WakesBy word.now.number admission.now purpose token.old token.new }
+{
+    let seen = lot.word(token, *word, opening(purpose));
+    match course_of(*admission, purpose, seen) {
+        Course::Ends(answer) => answer,
+        Course::Takes => take_right(rt, lot, token, word, admission, limit, purpose, seen),
+        Course::GoesOn => behind(rt, lot, token, word, admission, limit, purpose, seen),
+    }
+}

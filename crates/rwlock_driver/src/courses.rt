@@ -1,0 +1,147 @@
+//! How a call of a reader-writer lock begins, and what it does about the value that its first step saw. The fast half of each
+//! call is made of these, so they are inlined, with what they read in a word.
+ghost use Rattle.std.specs.Prelude.{◌≡◌};
+ghost use Rattle.lot_rwlock.specs.RwLockSteps as steps;
+ghost use Rattle.rwlock_driver.specs.Courses as courses;
+ghost use Rattle.lot_driver.specs.RwLockCalls.{first_op};
+
+use lot_acts::bits::{count_in, has_aside, has_parked};
+use lot_base::{Op, Want};
+use lot_calls::{Access, Answer, Downgrade, Patience};
+use lot_rwlock::places::WRITER;
+use lot_rwlock::purposes::{self, entered, wanted};
+use lot_rwlock::{Admission, RwLockPurpose};
+
+/// What a call does behind its first step.
+#[derive(Clone, Copy)]
+pub(crate) enum Course {
+    Ends(Answer),
+    /// It takes its right by an exchange.
+    Takes,
+    GoesOn,
+}
+
+/// What who has the greater right of a downgrade wants.
+#[inline(always)]
+pub fn greater(downgrade: Downgrade) -> Want
+    ensures { result ≡ steps.wanted (steps.from_of downgrade) }
+{
+    wanted(purposes::greater(downgrade))
+}
+
+/// What who has the lesser one wants, which its thread keeps.
+#[inline(always)]
+pub fn lesser(downgrade: Downgrade) -> Want
+    ensures { result ≡ steps.wanted (steps.to_of downgrade) }
+{
+    wanted(purposes::lesser(downgrade))
+}
+
+/// What a call answers with its right.
+#[inline(always)]
+pub(crate) fn answer_with(purpose: RwLockPurpose) -> Answer
+    ensures { result ≡ steps.entered (steps.patience_of purpose) }
+{
+    entered(purpose.patience())
+}
+
+/// The operation with which a call begins.
+#[inline(always)]
+pub(crate) fn opening(purpose: RwLockPurpose) -> Op
+    ensures { result ≡ first_op purpose }
+{
+    match purpose {
+        RwLockPurpose::Enter {
+            access: Access::Exclusive,
+            ..
+        } => Op::Exchange {
+            from: 0,
+            to: WRITER,
+        },
+        RwLockPurpose::Enter { .. } | RwLockPurpose::Upgrade(Patience::Try) => Op::Load,
+        _ => purpose.give_op(),
+    }
+}
+
+// Who may not come in goes on to wait, but for one that only tries.
+#[inline(always)]
+fn kept_out(patience: Patience) -> Course
+    ensures { result ≡ courses.kept_out patience }
+{
+    match patience {
+        Patience::Try => Course::Ends(Answer::No),
+        Patience::Patient | Patience::Timed => Course::GoesOn,
+    }
+}
+
+#[inline(always)]
+fn writing(patience: Patience, seen: u64) -> Course
+    ensures { result ≡ courses.writing patience seen }
+{
+    if seen == 0 {
+        return Course::Ends(entered(patience));
+    }
+    kept_out(patience)
+}
+
+#[inline(always)]
+fn reading(admission: Admission, patience: Patience, blocked: bool, seen: u64) -> Course
+    ensures { result ≡ courses.reading admission patience blocked seen }
+{
+    if blocked {
+        return kept_out(patience);
+    }
+    if admission.limit <= count_in(seen) {
+        return Course::Ends(Answer::ReadersFull);
+    }
+    Course::Takes
+}
+
+#[inline(always)]
+fn entering(admission: Admission, access: Access, patience: Patience, seen: u64) -> Course
+    ensures { result ≡ courses.entering admission access patience seen }
+{
+    match access {
+        Access::Shared | Access::Upgradable => {
+            reading(admission, patience, admission.blocks(access, seen), seen)
+        }
+        Access::Exclusive => writing(patience, seen),
+    }
+}
+
+#[inline(always)]
+fn upgrading(patience: Patience, seen: u64) -> Course
+    ensures { result ≡ courses.upgrading patience seen }
+{
+    match patience {
+        Patience::Try if count_in(seen) == 1 => Course::Takes,
+        Patience::Try => Course::Ends(Answer::No),
+        _ if count_in(seen) == 1 => Course::Ends(entered(patience)),
+        _ => Course::GoesOn,
+    }
+}
+
+// Who gives a right up goes on to wake others, where there may be some.
+#[inline(always)]
+fn leaving(waited_for: bool) -> Course
+    ensures { result ≡ courses.leaving waited_for }
+{
+    if waited_for {
+        Course::GoesOn
+    } else {
+        Course::Ends(Answer::Ok)
+    }
+}
+
+/// What a call does whose first step saw this.
+#[inline(always)]
+pub(crate) fn course_of(admission: Admission, purpose: RwLockPurpose, seen: u64) -> Course
+    ensures { result ≡ courses.course_of admission purpose seen }
+{
+    match purpose {
+        RwLockPurpose::Enter { access, patience } => entering(admission, access, patience, seen),
+        RwLockPurpose::Upgrade(patience) => upgrading(patience, seen),
+        RwLockPurpose::Release(Access::Shared) => leaving(has_aside(seen) && count_in(seen) == 1),
+        RwLockPurpose::Release(_) | RwLockPurpose::Downgrade(_) => leaving(has_parked(seen)),
+    }
+}
