@@ -88,6 +88,36 @@ impl<R: RawRwLock, T> RwLock<R, T> {
         }
     }
 
+    // The inner lock, opened under a right to read. A try gets it: nobody has it to write.
+    #[inline(always)]
+    fn read_inner<W: Wait>(&self, rt: &W) -> sync::RwLockReadGuard<'_, T> {
+        match self.inner.try_read() {
+            Some(value) => value,
+            None => self.await_inner(rt),
+        }
+    }
+
+    #[cold]
+    #[inline(never)]
+    fn await_inner<W: Wait>(&self, rt: &W) -> sync::RwLockReadGuard<'_, T> {
+        self.inner.read(rt)
+    }
+
+    // The same under the right to write: nobody else has it.
+    #[inline(always)]
+    fn write_inner<W: Wait>(&self, rt: &W) -> sync::RwLockWriteGuard<'_, T> {
+        match self.inner.try_write() {
+            Some(value) => value,
+            None => self.await_inner_alone(rt),
+        }
+    }
+
+    #[cold]
+    #[inline(never)]
+    fn await_inner_alone<W: Wait>(&self, rt: &W) -> sync::RwLockWriteGuard<'_, T> {
+        self.inner.write(rt)
+    }
+
     // The guard of who has the raw one.
     #[inline]
     pub(crate) fn open_shared<W: Wait>(
@@ -100,7 +130,7 @@ impl<R: RawRwLock, T> RwLock<R, T> {
     {
         Held {
             right: Reading::new(self, raw),
-            value: self.inner.read(rt),
+            value: self.read_inner(rt),
         }
     }
 
@@ -115,7 +145,7 @@ impl<R: RawRwLock, T> RwLock<R, T> {
     {
         Held {
             right: Writing::new(self, raw),
-            value: self.inner.write(rt),
+            value: self.write_inner(rt),
         }
     }
 
@@ -227,7 +257,7 @@ impl<R: RawRwLockUpgrade, T> RwLock<R, T> {
     {
         Held {
             right: Upgrading::new(self, raw),
-            value: self.inner.read(rt),
+            value: self.read_inner(rt),
         }
     }
 
