@@ -71,7 +71,7 @@ pub(crate) fn write_raw<L: RawLock, R: Wait>(rt: &R, lock: &L, token: &mut L::To
     }
 }
 
-#[inline]
+#[inline(always)]
 fn read_once<L: RawLock, R: Wait>(rt: &R, lock: &lock_api_rw::RwLock<L, u64>, token: &mut L::Token)
     requires { L.is_token_of (L.lot_of lock.now) token.old }
     ensures { L.is_token_of (L.lot_of lock.now) token.new }
@@ -82,7 +82,7 @@ fn read_once<L: RawLock, R: Wait>(rt: &R, lock: &lock_api_rw::RwLock<L, u64>, to
     }
 }
 
-#[inline]
+#[inline(always)]
 fn write_once<L: RawLock, R: Wait>(rt: &R, lock: &lock_api_rw::RwLock<L, u64>, token: &mut L::Token)
     requires { L.is_token_of (L.lot_of lock.now) token.old }
     ensures { L.is_token_of (L.lot_of lock.now) token.new }
