@@ -7,7 +7,7 @@ use Rattle.lock_raw.specs.Answers.{GivesBack, GivesBackTimed, IsLate, timed_answ
 use Rattle.lot_words.specs.declared.owners.Ownership.{Ownership}
 use Rattle.lot_driver.specs.CondvarFitting.{IsWaitOver, LateIf}
 use Rattle.lot_driver.specs.Stages.{Stage}
-use Rattle.raw_mutexes.specs.CondvarCalls.{AnswersWait, ended, given_back}
+use Rattle.mutex_driver.specs.CondvarCalls.{AnswersWait, ended, given_back}
 
 module _ {G : Type 0} (guard : G) where
   pub waits_so : (answer : Answer) → AnswersWait false answer → waiting_answer (given_back answer guard) ≡ answer

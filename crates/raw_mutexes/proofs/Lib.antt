@@ -1,4 +1,1 @@
-pub mod CondvarCalling
-pub mod CondvarNotifying
 pub mod CondvarAnswers
-pub mod CondvarGoing

@@ -1,5 +1,3 @@
 pub mod MutexGuards
 pub mod Words
-pub mod CondvarCalls
-pub mod CondvarCourses
 pub mod CondvarWords

@@ -1,8 +1,6 @@
 //! Mutexes of real threads, without a value. Each call runs the steps that the simulated world runs.
 #![tactic(auto)]
 
-mod condvar_calls;
-mod condvar_courses;
 pub mod guards;
 pub mod raw_condvar;
 pub mod raw_fair_mutex;

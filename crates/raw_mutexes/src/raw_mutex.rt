@@ -3,7 +3,8 @@ ghost use Rattle.std.specs.Prelude.{◌≡◌, ◌<◌, ◌*◌, ◌⊎◌, ◌+
 ghost use Rattle.std.specs.Arc.{arc_value};
 ghost use Rattle.lot_base.specs.Clocks.{IsUp};
 ghost use Rattle.lock_raw.specs.Answers.{answer_by};
-ghost use Rattle.lot_calls.specs.declared.calls.MutexCall.TheVariants.{LockTimed};
+ghost use Rattle.lot_calls.specs.declared.calls.MutexCall.TheVariants.{LockTimed, Unlock};
+ghost use Rattle.lot_calls.specs.declared.outcomes.Answer.TheVariants.{Ok as ok};
 ghost use Rattle.lot_words.specs.Lots.{IsWordOf};
 ghost use Rattle.lot_words.specs.Plays.{piece, left_over, takes_in};
 ghost use Rattle.lot_words.specs.Steps.{has};
@@ -13,7 +14,7 @@ ghost use Rattle.lot_words.specs.declared.views.WordStep.{WordStep};
 ghost use Rattle.lot_driver.specs.Calls.{MeetAt, purpose_in, IsUnfinished, HasWalked, Sees, Releases, WalksBehind};
 ghost use Rattle.lot_driver.specs.Drawing.{Drew, FoundFull};
 ghost use Rattle.raw_mutexes.specs.MutexGuards.{IsGuardOf, IsGuardOf-prop, IsOpenGuardOf, IsOpenGuardOf-prop, permit_in, StaysAs, StaysAs-on};
-ghost use Rattle.lot_driver.specs.MutexFitting.{IsMutexOver, held};
+ghost use Rattle.lot_driver.specs.MutexFitting.{IsMutexOver, held, releases};
 ghost use Rattle.lot_driver.specs.Paths.{mutex_at, at_mutex, Walks};
 ghost use Rattle.lot_driver.specs.Paths.{step as seen_step};
 ghost use Rattle.lot_driver.specs.Stages.{stage_of};
@@ -23,7 +24,8 @@ use crate::guards::{OpenGuard, RawGuard};
 use lot_base::main_key;
 use lot_calls::{Answer, MutexCall};
 use lot_driver::driver::{NO_LIMIT, behind, step};
-use lot_mutex::{LOCKED, PARKED, is_locked, is_parked};
+use lot_mutex::{LOCKED, is_locked, is_parked};
+use mutex_driver::unlocks::unlock_behind;
 use parking_lot_core::{
     Clock, Fault, Key, Op, ParkingLot, Permit, Token, Want, Word, WordKind, to_deadline,
 };
@@ -140,6 +142,20 @@ impl RawMutex {
         behind(rt, &self.lot, token, self.word, NO_LIMIT, call, seen)
     }
 
+    // The slow half of an unlock, whose first step saw a waiter.
+    #[cold]
+    #[inline(never)]
+    fn wake_first<R: Wait>(&self, rt: &R, token: &mut Token)
+        requires own { MeetAt (lot_of self.now) token.old (word_of self.now) }
+        ensures own { IsSameThread (lot_of self.now) token.old token.new }
+        ensures path { WalksBehind (word_of self.now).number Unlock 3 token.old token.new ok }
+        ensures rest { (more : List WordStep) × (steps_of token.new ≡ steps_of token.old ++ more) }
+        ensures over { IsMutexOver ⊥ (word_of self.now).number (owns_of token.old) releases ok
+            (stage_of token.new None) }
+    {
+        unlock_behind(rt, &self.lot, token, self.word);
+    }
+
     #[inline]
     fn lock_timed<R: Wait, C: Clock>(
         &self,
@@ -240,7 +256,7 @@ impl lock_raw::RawMutex for RawMutex {
         let seen = step(lot, token, self.word, Op::Sub(LOCKED));
         // An owner finds one of two values. The flags of the subtraction tell them apart, so the value isn't asked for.
         if seen != LOCKED {
-            self.go_on(rt, token, MutexCall::Unlock, LOCKED | PARKED);
+            self.wake_first(rt, token);
         }
     }
 
@@ -284,7 +300,7 @@ impl lock_raw::RawMutex for RawMutex {
         let seen = step(lot, token, word, Op::Sub(LOCKED));
         // Two values, told apart as in `unlock`.
         if seen != LOCKED {
-            self.go_on(rt, token, MutexCall::Unlock, LOCKED | PARKED);
+            self.wake_first(rt, token);
         }
     }
 

@@ -57,7 +57,7 @@ fn gives(purpose: RwLockPurpose, word: u64) -> (u64, Act) {
 }
 
 // The word that a call leaves, and its first act that is no operation on it.
-fn told(rt: &impl Abort, found: (u64, Act), wanted: (u64, Act)) {
+fn comes_to(rt: &impl Abort, found: (u64, Act), wanted: (u64, Act)) {
     assert_eq!(rt; found, wanted);
 }
 
@@ -71,41 +71,41 @@ const SECOND: Act = Act::Enter(Keys::One(1));
 
 #[test]
 fn who_is_not_kept_out_enters(rt: HostRuntime) {
-    told(&rt, enters(NORMAL, Access::Exclusive, 0), (8, OK));
-    told(&rt, enters(NORMAL, Access::Shared, 16), (32, OK));
-    told(&rt, enters(NORMAL, Access::Upgradable, 16), (36, OK));
-    told(&rt, enters(NORMAL, Access::Shared, 32), (32, FULL));
+    comes_to(&rt, enters(NORMAL, Access::Exclusive, 0), (8, OK));
+    comes_to(&rt, enters(NORMAL, Access::Shared, 16), (32, OK));
+    comes_to(&rt, enters(NORMAL, Access::Upgradable, 16), (36, OK));
+    comes_to(&rt, enters(NORMAL, Access::Shared, 32), (32, FULL));
     // A stale bit alone keeps no writer out that doesn't try.
-    told(&rt, enters(NORMAL, Access::Exclusive, 1), (9, OK));
+    comes_to(&rt, enters(NORMAL, Access::Exclusive, 1), (9, OK));
 }
 
 #[test]
 fn who_is_kept_out_goes_into_the_main_queue(rt: HostRuntime) {
-    told(&rt, enters(NORMAL, Access::Shared, 8), (9, MAIN));
-    told(&rt, enters(NORMAL, Access::Exclusive, 21), (21, MAIN));
-    told(&rt, enters(NORMAL, Access::Shared, 24), (25, MAIN));
-    told(&rt, enters(RECURSIVE, Access::Shared, 24), (40, OK));
-    told(&rt, enters(RECURSIVE, Access::Shared, 8), (9, MAIN));
+    comes_to(&rt, enters(NORMAL, Access::Shared, 8), (9, MAIN));
+    comes_to(&rt, enters(NORMAL, Access::Exclusive, 21), (21, MAIN));
+    comes_to(&rt, enters(NORMAL, Access::Shared, 24), (25, MAIN));
+    comes_to(&rt, enters(RECURSIVE, Access::Shared, 24), (40, OK));
+    comes_to(&rt, enters(RECURSIVE, Access::Shared, 8), (9, MAIN));
 }
 
 #[test]
 fn a_writer_waits_aside_for_the_last_reader(rt: HostRuntime) {
-    told(&rt, enters(NORMAL, Access::Exclusive, 16), (26, SECOND));
+    comes_to(&rt, enters(NORMAL, Access::Exclusive, 16), (26, SECOND));
     let shared = RwLockPurpose::Release(Access::Shared);
-    told(&rt, gives(shared, 42), (26, OK));
-    told(&rt, gives(shared, 26), (10, SECOND));
+    comes_to(&rt, gives(shared, 42), (26, OK));
+    comes_to(&rt, gives(shared, 26), (10, SECOND));
     let writing = entering(Access::Exclusive, Patience::Timed);
-    told(
+    comes_to(
         &rt,
         alone(NORMAL, writing, RwLockAt::Look, 10),
         (10, Act::End(Answer::Yes)),
     );
-    told(
+    comes_to(
         &rt,
         alone(NORMAL, writing, RwLockAt::RollBack, 25),
         (17, MAIN),
     );
-    told(
+    comes_to(
         &rt,
         alone(NORMAL, writing, RwLockAt::RollBack, 24),
         (16, Act::End(Answer::No)),
@@ -118,43 +118,43 @@ fn tries_answer_by_the_word(rt: HostRuntime) {
     let reading = entering(Access::Shared, Patience::Try);
     let no = Act::End(Answer::No);
     let yes = Act::End(Answer::Yes);
-    told(&rt, alone(NORMAL, writing, RwLockAt::First, 0), (8, yes));
-    told(&rt, alone(NORMAL, writing, RwLockAt::First, 1), (1, no));
-    told(&rt, alone(NORMAL, reading, RwLockAt::Load, 8), (8, no));
-    told(&rt, alone(NORMAL, reading, RwLockAt::Load, 32), (32, FULL));
-    told(&rt, alone(NORMAL, reading, RwLockAt::Load, 21), (37, yes));
+    comes_to(&rt, alone(NORMAL, writing, RwLockAt::First, 0), (8, yes));
+    comes_to(&rt, alone(NORMAL, writing, RwLockAt::First, 1), (1, no));
+    comes_to(&rt, alone(NORMAL, reading, RwLockAt::Load, 8), (8, no));
+    comes_to(&rt, alone(NORMAL, reading, RwLockAt::Load, 32), (32, FULL));
+    comes_to(&rt, alone(NORMAL, reading, RwLockAt::Load, 21), (37, yes));
 }
 
 #[test]
 fn rights_are_converted(rt: HostRuntime) {
     let downgrade = |to: Downgrade| RwLockPurpose::Downgrade(to);
-    told(&rt, gives(downgrade(Downgrade::ToShared), 8), (16, OK));
-    told(
+    comes_to(&rt, gives(downgrade(Downgrade::ToShared), 8), (16, OK));
+    comes_to(
         &rt,
         gives(downgrade(Downgrade::ToUpgradable), 9),
         (21, MAIN),
     );
-    told(
+    comes_to(
         &rt,
         gives(downgrade(Downgrade::UpgradableToShared), 20),
         (16, OK),
     );
     let upgrade = RwLockPurpose::Upgrade(Patience::Patient);
-    told(&rt, gives(upgrade, 20), (8, OK));
-    told(&rt, gives(upgrade, 36), (26, SECOND));
+    comes_to(&rt, gives(upgrade, 20), (8, OK));
+    comes_to(&rt, gives(upgrade, 36), (26, SECOND));
     let tries = RwLockPurpose::Upgrade(Patience::Try);
-    told(
+    comes_to(
         &rt,
         alone(NORMAL, tries, RwLockAt::Load, 20),
         (8, Act::End(Answer::Yes)),
     );
-    told(
+    comes_to(
         &rt,
         alone(NORMAL, tries, RwLockAt::Load, 36),
         (36, Act::End(Answer::No)),
     );
     let late = RwLockPurpose::Upgrade(Patience::Timed);
-    told(
+    comes_to(
         &rt,
         alone(RECURSIVE, late, RwLockAt::RollBack, 24),
         (36, Act::End(Answer::No)),

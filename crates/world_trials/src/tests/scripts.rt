@@ -62,7 +62,7 @@ pub fn surprise(
 }
 
 /// What a lock that is there shows.
-pub fn look(world: &World<ListQueues>, lock: usize) -> Option<Shown> {
+fn look(world: &World<ListQueues>, lock: usize) -> Option<Shown> {
     if lock >= world.locks() {
         return None;
     }

@@ -2,7 +2,7 @@ use Rattle.std.proofs.Common.{false, inl, refl, subst, true}
 use Rattle.lot_calls.specs.declared.outcomes.Answer.TheVariants.{No, Number}
 use Rattle.parking_lot_core.specs.declared.lot.ParkingLot.{ParkingLot}
 use Rattle.lot_driver.specs.Telling.{steps_of}
-use Rattle.raw_mutexes.specs.CondvarCalls.{Notifies}
+use Rattle.mutex_driver.specs.CondvarCalls.{Notifies}
 use Rattle.raw_mutexes.proofs.raw_condvar.RawCondvarRawCondvar.begin_notify.Goals as goal
 
 pub returns-clause-one : goal.returns-clause-one

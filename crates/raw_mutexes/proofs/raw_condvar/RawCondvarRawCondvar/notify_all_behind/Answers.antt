@@ -4,7 +4,7 @@ use Rattle.lot_calls.specs.declared.outcomes.Answer.TheVariants.{Number}
 use Rattle.parking_lot_core.specs.declared.lot.ParkingLot.{ParkingLot}
 use Rattle.parking_lot_core.specs.declared.tokens.Token.{Token}
 use Rattle.lot_driver.specs.Telling.{steps_of}
-use Rattle.raw_mutexes.specs.CondvarCalls.{HasLooked, HasMoved, Notifies}
+use Rattle.mutex_driver.specs.CondvarCalls.{HasLooked, HasMoved, Notifies}
 use Rattle.raw_mutexes.proofs.raw_condvar.RawCondvarRawCondvar.notify_all_behind.Goals as goal
 
 pub returns-clause-path : goal.returns-clause-path

@@ -1,0 +1,4 @@
+pub mod CondvarCalling
+pub mod CondvarNotifying
+pub mod CondvarGoing
+pub mod MutexGoing

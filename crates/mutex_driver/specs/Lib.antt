@@ -1,0 +1,3 @@
+pub mod CondvarCalls
+pub mod MutexCourses
+pub mod CondvarCourses

@@ -1,0 +1,96 @@
+//! The straight course of an unlock that saw a waiter: it takes the first who waits, and wakes it.
+ghost use Rattle.std.specs.Prelude.{◌≡◌, ◌<◌, ◌++◌, None, List};
+ghost use Rattle.lot_base.specs.Clocks.{IsUp};
+ghost use Rattle.lot_calls.specs.declared.calls.MutexCall.TheVariants.{Unlock};
+ghost use Rattle.lot_calls.specs.declared.outcomes.Answer.TheVariants.{Ok as ok};
+ghost use Rattle.lot_driver.specs.Calls.{MeetAt, WalksBehind};
+ghost use Rattle.lot_driver.specs.MutexFitting.{IsMutexOver, releases};
+ghost use Rattle.lot_driver.specs.Stages.{stage_of};
+ghost use Rattle.lot_driver.specs.Telling.{owns_of, steps_of};
+ghost use Rattle.lot_driver.specs.Turns.{HasEnded, IsAt};
+ghost use Rattle.lot_mutex.specs.declared.unlock.UnlockAt.TheVariants as unlock;
+ghost use Rattle.lot_words.specs.declared.views.WordStep.{WordStep};
+ghost use Rattle.parking_lot_core.specs.Tokens.{IsSameThread};
+ghost use Rattle.mutex_driver.specs.MutexCourses.{taken_on, unlocks_at};
+
+use lot_base::main_key;
+use lot_driver::driver::NO_LIMIT;
+use lot_driver::turns::{end, turn_enter, turn_leave, turn_take_first, turn_word};
+use lot_driver::words::Words;
+use lot_mutex::PARKED;
+use lot_steps::Wakes;
+use parking_lot_core::{Keys, Note, Op, ParkingLot, Section, Token, Word};
+use std::sync::Wait;
+
+// Leaves the section, and wakes the one that it took there, if any.
+fn leave_and_wake<'a, R: Wait>(
+    rt: &R,
+    lot: &'a ParkingLot,
+    token: &mut Token,
+    words: Words,
+    mutex: usize,
+    section: Option<Section<'a>>,
+    any: bool,
+)
+    requires { IsAt ⊥ lot.now words (unlocks_at mutex (unlock.Leave any)) token.old section }
+    ensures { HasEnded ⊥ lot.now words (unlocks_at mutex (unlock.Leave any)) ok token.old section.entry token.new }
+{
+    let mut section = section;
+    let keys = Keys::One(main_key(mutex));
+    let wakes = Wakes::taken(any, Note::Normal);
+    turn_leave(rt, lot, token, words, NO_LIMIT, &mut section, keys, wakes);
+    end(section);
+}
+
+// Behind its take: where none is left, nobody waits any more.
+fn clear_and_wake<'a, R: Wait>(
+    rt: &R,
+    lot: &'a ParkingLot,
+    token: &mut Token,
+    words: Words,
+    mutex: usize,
+    section: Option<Section<'a>>,
+    any: bool,
+    none_left: bool,
+)
+    requires { IsAt ⊥ lot.now words (unlocks_at mutex (taken_on any none_left)) token.old section }
+    ensures { HasEnded ⊥ lot.now words (unlocks_at mutex (taken_on any none_left)) ok token.old section.entry token.new }
+{
+    if none_left {
+        let op = Op::And(!PARKED);
+        turn_word(lot, token, words, NO_LIMIT, &section, mutex, op);
+        return leave_and_wake(rt, lot, token, words, mutex, section, any);
+    }
+    leave_and_wake(rt, lot, token, words, mutex, section, any);
+}
+
+// An unlock, from where it has seen a waiter to its end.
+fn unlock_through<R: Wait>(rt: &R, lot: &ParkingLot, token: &mut Token, words: Words, mutex: usize)
+    requires { IsAt ⊥ lot.now words (unlocks_at mutex unlock.Enter) token.old None }
+    ensures { HasEnded ⊥ lot.now words (unlocks_at mutex unlock.Enter) ok token.old None token.new }
+{
+    let mut section = None;
+    let key = main_key(mutex);
+    turn_enter(
+        rt,
+        lot,
+        token,
+        words,
+        NO_LIMIT,
+        &mut section,
+        Keys::One(key),
+    );
+    let (any, none_left) = turn_take_first(lot, token, words, NO_LIMIT, &mut section, key);
+    clear_and_wake(rt, lot, token, words, mutex, section, any, none_left);
+}
+
+/// The rest of an unlock whose first step saw a waiter.
+pub fn unlock_behind<R: Wait>(rt: &R, lot: &ParkingLot, token: &mut Token, word: Word)
+    requires own { MeetAt lot.now token.old word }
+    ensures own { IsSameThread lot.now token.old token.new }
+    ensures path { WalksBehind word.number Unlock 3 token.old token.new ok }
+    ensures rest { (more : List WordStep) × (steps_of token.new ≡ steps_of token.old ++ more) }
+    ensures over { IsMutexOver ⊥ word.number (owns_of token.old) releases ok (stage_of token.new None) }
+{
+    unlock_through(rt, lot, token, Words::alone(word), word.number());
+}
