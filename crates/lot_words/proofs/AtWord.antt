@@ -50,28 +50,28 @@ at_mutex word = word_index word.number Mutex
 mutex_index : (word : Word) (at : ℕ) → word.kind ≡ Mutex → at ≡ word_index word.number word.kind → at ≡ at_mutex word
 mutex_index word at is there = there ∙ ap (λ (k : WordKind). word_index word.number k) is
 
--- a load with which the owner of a mutex takes its permit out
-pub table_opens : (lot : LotWords) (seat : Seat PermitSlot View) (word : Word) (family at : ℕ) → family ≡ lot.table.shared.key.1.family → IsSeatOf lot seat × IsWordOf lot word → word.kind ≡ Mutex
-    → seat.me.0 ≡ piece (owning (word_index word.number word.kind) Exclusive) → at ≡ word_index word.number word.kind
-    → IsSeatOf lot seat × (at < lot.table.shared.table_id.words) × Allows (LotRule lot.table.shared.key.0 lot.table.shared.key.1.family) lot.table.shared.table_id.slots seat.id seat.me at (λ n. n) (opens family (step lot.table.shared.table_id.slots at 0 0 none) seat.me)
-table_opens lot seat word family at same own is owns there = let sized = lot.sized in (
+-- a load of the counter with which the owner of a mutex takes its permit out
+pub table_opens : (lot : LotWords) (seat : Seat PermitSlot View) (word : Word) (family at : ℕ) → family ≡ lot.table.shared.key.1.family → at ≡ word_index word.number word.kind → IsSeatOf lot seat × IsWordOf lot word → word.kind ≡ Mutex
+    → seat.me.0 ≡ piece (owning (word_index word.number word.kind) Exclusive)
+    → IsSeatOf lot seat × (0 < lot.table.shared.table_id.words) × Allows (LotRule lot.table.shared.key.0 lot.table.shared.key.1.family) lot.table.shared.table_id.slots seat.id seat.me 0 (λ n. n) (opens family at (step lot.table.shared.table_id.slots 0 0 0 none) seat.me)
+table_opens lot seat word family at same there own is owns = let sized = lot.sized in (
   own.0,
-  omega (arith, rank_lt word.kind, sized.0, sized.1, own.1.1),
-  subst (λ (f : ℕ). Allows (LotRule lot.table.shared.key.0 lot.table.shared.key.1.family) lot.table.shared.table_id.slots seat.id seat.me at (λ n. n) (opens f (step lot.table.shared.table_id.slots at 0 0 none) seat.me)) (sym same)
-      (subst (λ (i : ℕ). Allows (LotRule lot.table.shared.key.0 lot.table.shared.key.1.family) lot.table.shared.table_id.slots seat.id seat.me i (λ n. n) (opens lot.table.shared.key.1.family (step lot.table.shared.table_id.slots i 0 0 none) seat.me)) (sym (mutex_index word at is there))
+  omega (arith, sized.0, sized.1, own.1.1),
+  subst (λ (f : ℕ). Allows (LotRule lot.table.shared.key.0 lot.table.shared.key.1.family) lot.table.shared.table_id.slots seat.id seat.me 0 (λ n. n) (opens f at (step lot.table.shared.table_id.slots 0 0 0 none) seat.me)) (sym same)
+      (subst (λ (i : ℕ). Allows (LotRule lot.table.shared.key.0 lot.table.shared.key.1.family) lot.table.shared.table_id.slots seat.id seat.me 0 (λ n. n) (opens lot.table.shared.key.1.family i (step lot.table.shared.table_id.slots 0 0 0 none) seat.me)) (sym (mutex_index word at is there))
       (opens_allowed lot.table.shared.key.0 lot.table.shared.key.1.family lot.table.shared.table_id.slots seat.id seat.me word.number (omega (arith, sized.1, own.1.1)) (owns ∙ ap (λ (k : WordKind). piece (owning (word_index word.number k) Exclusive)) is))),
 )
 
 -- and one with which it lays it back
-pub table_closes : (lot : LotWords) (seat : Seat PermitSlot View) (word : Word) (at : ℕ) → IsSeatOf lot seat × IsWordOf lot word → word.kind ≡ Mutex
-    → seat.me ≡ (piece (owning (word_index word.number word.kind) Opened), (word_index word.number word.kind, slot_at lot.table.shared.key.1.family (word_index word.number word.kind)) ∷ []) → at ≡ word_index word.number word.kind
-    → IsSeatOf lot seat × (at < lot.table.shared.table_id.words) × Allows (LotRule lot.table.shared.key.0 lot.table.shared.key.1.family) lot.table.shared.table_id.slots seat.id seat.me at (λ n. n) (closes (step lot.table.shared.table_id.slots at 0 0 none) seat.me)
-table_closes lot seat word at own is held there = let sized = lot.sized in
+pub table_closes : (lot : LotWords) (seat : Seat PermitSlot View) (word : Word) (at : ℕ) → at ≡ word_index word.number word.kind → IsSeatOf lot seat × IsWordOf lot word → word.kind ≡ Mutex
+    → seat.me ≡ (piece (owning (word_index word.number word.kind) Opened), (word_index word.number word.kind, slot_at lot.table.shared.key.1.family (word_index word.number word.kind)) ∷ [])
+    → IsSeatOf lot seat × (0 < lot.table.shared.table_id.words) × Allows (LotRule lot.table.shared.key.0 lot.table.shared.key.1.family) lot.table.shared.table_id.slots seat.id seat.me 0 (λ n. n) (closes at (step lot.table.shared.table_id.slots 0 0 0 none) seat.me)
+table_closes lot seat word at there own is held = let sized = lot.sized in
     let family : ℕ = lot.table.shared.key.1.family in
     let me : seat.me ≡ (piece (owning (at_mutex word) Opened), (at_mutex word, slot_at family (at_mutex word)) ∷ []) = held ∙ ap (λ (k : WordKind). (piece (owning (word_index word.number k) Opened), (word_index word.number k, slot_at family (word_index word.number k)) ∷ [])) is in (
       own.0,
-      omega (arith, rank_lt word.kind, sized.0, sized.1, own.1.1),
-      subst (λ (i : ℕ). Allows (LotRule lot.table.shared.key.0 family) lot.table.shared.table_id.slots seat.id seat.me i (λ n. n) (closes (step lot.table.shared.table_id.slots i 0 0 none) seat.me)) (sym (mutex_index word at is there))
+      omega (arith, sized.0, sized.1, own.1.1),
+      subst (λ (i : ℕ). Allows (LotRule lot.table.shared.key.0 family) lot.table.shared.table_id.slots seat.id seat.me 0 (λ n. n) (closes i (step lot.table.shared.table_id.slots 0 0 0 none) seat.me)) (sym (mutex_index word at is there))
           (closes_allowed lot.table.shared.key.0 family lot.table.shared.table_id.slots seat.id seat.me word.number (omega (arith, sized.1, own.1.1)) (ap (λ (m : Me PermitSlot View). m.0) me)
           (ap (λ (m : Me PermitSlot View). m.1) me ∙ ap (λ (m : Me PermitSlot View). (at_mutex word, slot_at family (at_mutex word)) ∷ rest m.1) (sym me))),
     )

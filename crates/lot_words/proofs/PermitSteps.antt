@@ -96,7 +96,7 @@ loaded words family s i homes views o = subst (λ (xs : List ℕ). LotRule words
 
 -- the owner of a mutex takes its permit out
 pub opens_allowed : (words family slots id : ℕ) (me : Me PermitSlot View) (number : ℕ) → number < words → me.0 ≡ piece (owning (word_index number Mutex) Exclusive)
-    → Allows (LotRule words family) slots id me (word_index number Mutex) (λ n. n) (opens family (step slots (word_index number Mutex) 0 0 none) me)
+    → Allows (LotRule words family) slots id me 0 (λ n. n) (opens family (word_index number Mutex) (step slots 0 0 0 none) me)
 opens_allowed words family slots id me number below owns s o wide at fits =
     let i : ℕ = word_index number Mutex in let v = piece (owning i Exclusive) in
     let at' : get_elem? s.views id ≡ some v = at ∙ ap some owns in
@@ -107,20 +107,20 @@ opens_allowed words family slots id me number below owns s o wide at fits =
       piece (owning i Opened),
       takes i (slot_at family i),
       o.permits number below shut,
-      loaded words family s i _ _ (reopened words family s o number id Exclusive Opened none below at' refl refl (λ e. absurd (omega arith))),
+      loaded words family s 0 _ _ (reopened words family s o number id Exclusive Opened none below at' refl refl (λ e. absurd (omega arith))),
       refl,
     )
 
 -- and lays it back
 pub closes_allowed : (words family slots id : ℕ) (me : Me PermitSlot View) (number : ℕ) → number < words → me.0 ≡ piece (owning (word_index number Mutex) Opened)
     → me.1 ≡ (word_index number Mutex, slot_at family (word_index number Mutex)) ∷ rest me.1
-    → Allows (LotRule words family) slots id me (word_index number Mutex) (λ n. n) (closes (step slots (word_index number Mutex) 0 0 none) me)
+    → Allows (LotRule words family) slots id me 0 (λ n. n) (closes (word_index number Mutex) (step slots 0 0 0 none) me)
 closes_allowed words family slots id me number below owns holds s o wide at fits =
     let i : ℕ = word_index number Mutex in (
       piece (owning i Exclusive),
       gives,
       tt,
-      loaded words family s i _ _ (subst (λ (c : List (ℕ × PermitSlot)). LotRule words family (record { words = s.words; homes = put_back s.homes c; views = set s.views id (piece (owning i Exclusive)) })) (sym holds)
+      loaded words family s 0 _ _ (subst (λ (c : List (ℕ × PermitSlot)). LotRule words family (record { words = s.words; homes = put_back s.homes c; views = set s.views id (piece (owning i Exclusive)) })) (sym holds)
           (reopened words family s o number id Opened Exclusive (some (slot_at family i)) below (at ∙ ap some owns) refl refl (λ e. refl))),
       refl,
     )

@@ -85,10 +85,9 @@ piece x = view [] (x ∷ []) [] 0
 abbrev pub takes_in : View → View → View
 takes_in v w = view v.steps (w.owns ++ v.owns) v.drawn v.saw
 
--- who owns a mutex, and nothing else, takes its permit out, or lays it back
-abbrev pub opens : ℕ → Play PermitSlot
-opens family st me found after =
-    after ≡ (piece (owning st.word Opened), (st.word, slot_at family st.word) ∷ me.1)
+-- who owns the mutex of this word, and nothing else, takes its permit out, or lays it back, by a load of any word
+abbrev pub opens : ℕ → ℕ → Play PermitSlot
+opens family at st me found after = after ≡ (piece (owning at Opened), (at, slot_at family at) ∷ me.1)
 
-abbrev pub closes : Play PermitSlot
-closes st me found after = after ≡ (piece (owning st.word Exclusive), rest me.1)
+abbrev pub closes : ℕ → Play PermitSlot
+closes at st me found after = after ≡ (piece (owning at Exclusive), rest me.1)

@@ -9,7 +9,7 @@ ghost use Rattle.lot_words.specs.declared.owners.Owner.TheVariants.{Exclusive, O
 ghost use Rattle.lot_words.specs.declared.words.WordKind.TheVariants.{Mutex};
 
 use crate::owners::Owner;
-use crate::plays::{Closes, Family, Opens};
+use crate::plays::{Closes, Opens, PermitPick};
 use crate::rights::Held;
 use crate::table::{LotWords, Seat};
 use crate::words::Word;
@@ -25,10 +25,11 @@ impl LotWords {
     ghost use Rattle.lot_words.specs.Lots.{IsSeatOf, IsWordOf, permit_of};
     ghost use Rattle.lot_words.specs.RightsOf.{IsHeldOf, IsOpenOf};
 
-    // The seat is that of a right.
+    // The seat is that of a right. It steps by a load of the counter: one of the mutex's own word, just written, would wait for it.
     #[inline]
-    fn take_permit<F: Family>(&self, seat: &mut Seat, word: Word) -> Permit
-        requires own { (F.family ≡ self.now.table.shared.key.1.family) × IsSeatOf self.now seat.old × IsWordOf self.now word }
+    fn take_permit<P: PermitPick>(&self, seat: &mut Seat, word: Word) -> Permit
+        requires pick { (P.family ≡ self.now.table.shared.key.1.family) × (P.at ≡ word_index word.number word.kind) }
+        requires own { IsSeatOf self.now seat.old × IsWordOf self.now word }
         requires owner { (word.kind ≡ Mutex) × (seat.old.me ≡ (piece_of word Exclusive, [])) }
         ensures own { IsSeatOf self.now seat.new }
         ensures opened { seat.new.me ≡ (piece_of word Opened, (word_index word.number word.kind, bare) ∷ []) }
@@ -36,11 +37,26 @@ impl LotWords {
     {
         let at = word.index();
         let words = &self.table.shared;
-        words.load::<Opens<F>>(seat, at);
+        words.load::<Opens<P>>(seat, 0);
         words.exchange(seat, at, PermitSlot::empty()).into_permit()
     }
 
-    /// Takes the permit out of the value that a mutex guards, for who owns the mutex. It loads the word, which is no step of a call.
+    // Lays it back, in the same way.
+    #[inline]
+    fn lay_permit<P: PermitPick>(&self, seat: &mut Seat, word: Word, permit: Permit)
+        requires pick { P.at ≡ word_index word.number word.kind }
+        requires own { IsSeatOf self.now seat.old × IsWordOf self.now word × (permit.id ≡ permit_of self.now word) }
+        requires opened { (word.kind ≡ Mutex) × (seat.old.me ≡ (piece_of word Opened, (word_index word.number word.kind, bare) ∷ [])) }
+        ensures own { IsSeatOf self.now seat.new }
+        ensures closed { seat.new.me ≡ (piece_of word Exclusive, []) }
+    {
+        let at = word.index();
+        let words = &self.table.shared;
+        drop(words.exchange(seat, at, permit.into_slot()));
+        words.load::<Closes<P>>(seat, 0);
+    }
+
+    /// Takes the permit out of the value that a mutex guards, for who owns the mutex. It loads a word, which is no step of a call.
     #[inline]
     pub fn open_held(&self, word: Word, held: Held) -> (OpenHeld, Permit)
         requires mutex { IsWordOf self.now word × (word.kind ≡ Mutex) }
@@ -53,7 +69,7 @@ impl LotWords {
         (OpenHeld { seat }, permit)
     }
 
-    /// Lays the permit back. It loads the word, which is no step of a call.
+    /// Lays the permit back. It loads a word, which is no step of a call.
     #[inline]
     pub fn close_held(&self, word: Word, opened: OpenHeld, permit: Permit) -> Held
         requires mutex { IsWordOf self.now word × (word.kind ≡ Mutex) }
@@ -61,10 +77,7 @@ impl LotWords {
         ensures { IsHeldOf self.now word Exclusive result }
     {
         let OpenHeld { mut seat } = opened;
-        let at = word.index();
-        let words = &self.table.shared;
-        drop(words.exchange(&mut seat, at, permit.into_slot()));
-        words.load::<Closes>(&mut seat, at);
+        self.lay_permit::<Brand>(&mut seat, word, permit);
         Held { seat }
     }
 }

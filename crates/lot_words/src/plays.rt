@@ -148,27 +148,33 @@ impl Split<View> for SeatsAnother {
     ghost right = { λ _. blank };
 }
 
-/// Where permits come from, picked at each call.
-pub trait Family {
+/// Which permit, picked at each call: where it comes from, and beside which word it lies.
+pub trait PermitPick {
     ghost family: { ℕ };
+
+    ghost at: { ℕ };
 }
 
-impl Family for Brand {
+impl PermitPick for Brand {
     ghost family = { 0 };
+
+    ghost at = { 0 };
 }
 
 /// A permit is taken out of the slot beside its mutex.
-pub struct Opens<F: Family> {
-    family: PhantomData<F>,
+pub struct Opens<P: PermitPick> {
+    pick: PhantomData<P>,
 }
 
-impl<F: Family> Play<PermitSlot, View> for Opens<F> {
-    ghost then = { opens F.family };
+impl<P: PermitPick> Play<PermitSlot, View> for Opens<P> {
+    ghost then = { opens P.family P.at };
 }
 
 /// It is laid back.
-pub struct Closes;
+pub struct Closes<P: PermitPick> {
+    pick: PhantomData<P>,
+}
 
-impl Play<PermitSlot, View> for Closes {
-    ghost then = { closes };
+impl<P: PermitPick> Play<PermitSlot, View> for Closes<P> {
+    ghost then = { closes P.at };
 }
