@@ -1,4 +1,4 @@
-use Rattle.std.proofs.Common.{ℕ, ◌≡◌, Bool, true, false, None, refl, sym, ap}
+use Rattle.std.proofs.Common.{ℕ, None, refl, sym, ap}
 use Rattle.lot_acts.specs.declared.acts.Act.TheVariants.{Enter, Take}
 use Rattle.lot_acts.specs.declared.acts.Reply.TheVariants.{Done, Took}
 use Rattle.lot_acts.specs.declared.acts.Whom.TheVariants.{First}

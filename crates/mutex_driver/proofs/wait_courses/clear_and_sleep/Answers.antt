@@ -1,14 +1,6 @@
-use Rattle.std.proofs.Common.{ℕ, ◌≡◌, Bool, true, false, refl, sym, ap, ◌∙◌, subst, rules}
+use Rattle.std.proofs.Common.{◌≡◌, Bool, true, false, refl, sym, subst, rules}
 use Rattle.lot_base.specs.Clocks.{IsUp}
-use Rattle.lot_acts.specs.Acts.{wakes_taken}
-use Rattle.lot_acts.specs.declared.acts.Act.TheVariants.{Enter, Leave, Take}
-use Rattle.lot_acts.specs.declared.acts.Reply.TheVariants.{Done, Took, Value}
-use Rattle.lot_acts.specs.declared.acts.Wakes.{Wakes}
-use Rattle.lot_acts.specs.declared.acts.Whom.TheVariants.{First}
-use Rattle.lot_base.specs.declared.keys.Keys.TheVariants.{One}
-use Rattle.lot_base.specs.declared.notes.Note.TheVariants.{Normal}
-use Rattle.lot_condvar.specs.declared.wait.Stands.TheVariants.{Listed}
-use Rattle.lot_condvar.specs.declared.wait.WaitAt.TheVariants as wait
+use Rattle.lot_acts.specs.declared.acts.Reply.TheVariants.{Value}
 use Rattle.lot_mutex.specs.declared.unlock.UnlockAt.TheVariants as unlock
 use Rattle.lot_driver.specs.Turns.{HasEnded, IsAt}
 use Rattle.lot_driver.proofs.TurnsOn.{turn_leads, turn_then}

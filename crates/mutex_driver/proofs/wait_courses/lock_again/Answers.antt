@@ -1,13 +1,7 @@
-use Rattle.std.proofs.Common.{ℕ, ◌≡◌, ◌≢◌, Bool, true, false, Some, refl, sym, ap, ◌∙◌, subst, rules}
+use Rattle.std.proofs.Common.{ℕ, ◌≡◌, Some, refl, sym, ap, subst}
 use Rattle.lot_base.specs.Clocks.{IsUp}
-use Rattle.lot_acts.specs.declared.acts.Act.TheVariants.{Word}
 use Rattle.lot_acts.specs.declared.acts.Reply.TheVariants.{Value}
-use Rattle.lot_base.specs.declared.ops.Op.TheVariants.{Exchange}
-use Rattle.lot_mutex.specs.MutexSteps.{is_locked}
 use Rattle.lot_mutex.specs.declared.lock.LockAt.TheVariants as lock
-use Rattle.lot_steps.specs.Steps.{act_of, next_place}
-use Rattle.lot_steps.specs.declared.places.Place.{Place}
-use Rattle.lot_driver.specs.Turns.{HasEnded, IsAt}
 use Rattle.lot_driver.proofs.TurnsOn.{turn_ends, turn_leads, turn_then}
 use Rattle.mutex_driver.specs.CondvarCourses.{locks_at, wait_at}
 use Rattle.lot_driver.specs.Fitting.{answer_of}

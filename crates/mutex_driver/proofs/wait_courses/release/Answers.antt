@@ -1,12 +1,10 @@
-use Rattle.std.proofs.Common.{◌≡◌, true, false, refl, sym, subst, rules}
+use Rattle.std.proofs.Common.{◌≡◌, true, false, refl, rules}
 use Rattle.lot_base.specs.Clocks.{IsUp}
 use Rattle.lot_acts.specs.declared.acts.Reply.TheVariants.{Value}
 use Rattle.lot_condvar.specs.declared.wait.Stands.TheVariants.{Listed}
 use Rattle.lot_condvar.specs.declared.wait.WaitAt.TheVariants as wait
 use Rattle.lot_mutex.specs.MutexSteps.{is_parked}
 use Rattle.lot_mutex.specs.declared.unlock.UnlockAt.TheVariants as unlock
-use Rattle.lot_steps.specs.declared.places.Place.{Place}
-use Rattle.lot_driver.specs.Turns.{HasEnded, IsAt}
 use Rattle.lot_driver.proofs.TurnsOn.{turn_leads, turn_then}
 use Rattle.mutex_driver.specs.CondvarCourses.{releases_at, wait_at}
 use Rattle.mutex_driver.proofs.CondvarGoing.{released_on, releases_on}

@@ -1,20 +1,14 @@
-use Rattle.std.proofs.Common.{ℕ, ◌≡◌, Bool, true, false, refl, sym, ap, ◌∙◌, subst, rules}
+use Rattle.std.proofs.Common.{ℕ, refl, sym, ap}
 use Rattle.lot_base.specs.Clocks.{IsUp}
-use Rattle.lot_acts.specs.Acts.{wakes_taken}
-use Rattle.lot_acts.specs.declared.acts.Act.TheVariants.{Enter, Leave, Take}
-use Rattle.lot_acts.specs.declared.acts.Reply.TheVariants.{Done, Took, Value}
-use Rattle.lot_acts.specs.declared.acts.Wakes.{Wakes}
+use Rattle.lot_acts.specs.declared.acts.Act.TheVariants.{Enter, Take}
+use Rattle.lot_acts.specs.declared.acts.Reply.TheVariants.{Done, Took}
 use Rattle.lot_acts.specs.declared.acts.Whom.TheVariants.{First}
 use Rattle.lot_base.specs.declared.keys.Keys.TheVariants.{One}
-use Rattle.lot_base.specs.declared.notes.Note.TheVariants.{Normal}
-use Rattle.lot_condvar.specs.declared.wait.Stands.TheVariants.{Listed}
-use Rattle.lot_condvar.specs.declared.wait.WaitAt.TheVariants as wait
 use Rattle.lot_mutex.specs.declared.unlock.UnlockAt.TheVariants as unlock
-use Rattle.lot_driver.specs.Turns.{HasEnded, IsAt}
 use Rattle.lot_driver.proofs.TurnsOn.{turn_leads, turn_then}
 use Rattle.mutex_driver.specs.CondvarCourses.{releases_at, wait_at}
 use Rattle.mutex_driver.specs.MutexCourses.{taken_on}
-use Rattle.mutex_driver.proofs.CondvarGoing.{keyed, took_on}
+use Rattle.mutex_driver.proofs.CondvarGoing.{took_on}
 use Rattle.mutex_driver.proofs.wait_courses.wake_first_and_sleep.Goals as goal
 
 pub turn_enter-requires : goal.turn_enter-requires
