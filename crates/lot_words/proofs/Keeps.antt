@@ -117,7 +117,7 @@ module _ (words family : ℕ) (s : State PermitSlot View) (o : LotRule words fam
   }
 
 -- a weight of views stays as a seat's view is cut in two
-cut : (f : View → ℕ) (views : List View) (j : ℕ) (v w u : View) → get_elem? views j ≡ some v → f w + f u ≡ f v → total f (set views j w ++ u ∷ []) ≡ total f views
+pub cut : (f : View → ℕ) (views : List View) (j : ℕ) (v w u : View) → get_elem? views j ≡ some v → f w + f u ≡ f v → total f (set views j w ++ u ∷ []) ≡ total f views
 cut f views j v w u me parts = omega (arith, total-append f (set views j w) (u ∷ []), total-set f views j v w me)
 
 -- one seat more, which knows nothing
@@ -129,7 +129,7 @@ seats_another words family id v s o me = reseated words family s o (set s.views 
     (λ weight. cut (drew weight) s.views id v v blank me (omega arith))
     (λ q u e. ⊎_elim (λ e₂. ⊎_elim (λ t. let old = o.saw id v me in omega (arith, ap (λ (y : View). y.saw) t.1)) (λ t. o.saw q u t.1) (at_set s.views id q v u e₂)) (λ (t : blank ≡ u). omega (arith, ap (λ (y : View). y.saw) t)) (at_snoc (set s.views id v) blank u q e))
 
-steps_more : (v : View) (at found r : ℕ) (op : Op) → total (λ (step : WordStep). cond (eqb step.at r) 1 0) (listed v at op found) ≡ steps_at r v + cond (eqb at r) 1 0
+pub steps_more : (v : View) (at found r : ℕ) (op : Op) → total (λ (step : WordStep). cond (eqb step.at r) 1 0) (listed v at op found) ≡ steps_at r v + cond (eqb at r) 1 0
 steps_more v at found r op = omega (arith, total-append (λ (step : WordStep). cond (eqb step.at r) 1 0) v.steps (record { at = at; op = op; seen = found } ∷ []))
 
 -- what a step does to ownerships, by any weight of owners, and to what is said of count words
@@ -258,7 +258,7 @@ steps_at_word words family slots id me number kind at op op' same there below ma
     let may' : MayStep kind (word_index number kind) op' me.0.owns = subst (λ (x : Op). MayStep kind (word_index number kind) x me.0.owns) same may in
     subst (λ (i : ℕ). Allows (LotRule words family) slots id me i (apply op') (TakesStep i op' me)) (sym there) (steps words family slots id me number kind op' below may')
 
-set_elem : {A : Type 0} (xs : List A) (j : ℕ) (x : A) → get_elem? xs j ≡ some x → set xs j x ≡ xs
+pub set_elem : {A : Type 0} (xs : List A) (j : ℕ) (x : A) → get_elem? xs j ≡ some x → set xs j x ≡ xs
 set_elem [] j x e = refl
 set_elem (y ∷ ys) zero x e = ap (λ z. z ∷ ys) (sym (some-injective y x e))
 set_elem (y ∷ ys) (suc j) x e = ap (λ zs. y ∷ zs) (set_elem ys j x e)
@@ -290,7 +290,7 @@ splits_off words family id v x there s o me = reseated words family s o (set s.v
     (λ q u e. ⊎_elim (λ e₂. ⊎_elim (λ t. let old = o.saw id v me in omega (arith, ap (λ (y : View). y.saw) t.1)) (λ t. o.saw q u t.1) (at_set s.views id q (left_over x v) u e₂)) (λ (t : piece x ≡ u). omega (arith, ap (λ (y : View). y.saw) t)) (at_snoc (set s.views id (left_over x v)) (piece x) u q e))
 
 -- a weight of views stays as a seat takes in what another owns
-paste : (f : View → ℕ) (views : List View) (j k : ℕ) (v w b z : View) → get_elem? views j ≡ some v → get_elem? (set views j b) k ≡ some w → f b + f z ≡ f v + f w → total f (set (set views j b) k z) ≡ total f views
+pub paste : (f : View → ℕ) (views : List View) (j k : ℕ) (v w b z : View) → get_elem? views j ≡ some v → get_elem? (set views j b) k ≡ some w → f b + f z ≡ f v + f w → total f (set (set views j b) k z) ≡ total f views
 paste f views j k v w b z me them parts = omega (arith, total-set f (set views j b) k w z them, total-set f views j v b me)
 
 -- an ownership comes back

@@ -5,6 +5,7 @@ pub mod Trades
 mod Counts
 pub mod Keeps
 pub mod PermitSteps
+pub mod OpenSteps
 pub mod MutexSteps
 pub mod RwLockSteps
 pub mod RwLockKinds

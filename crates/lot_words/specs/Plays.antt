@@ -1,5 +1,5 @@
 -- What each step tells who takes it: of the step, the seat before, the value found and the seat after.
-use Rattle.std.specs.Prelude.{◌≡◌, ◌≢◌, bit_or, ℕ, ◌+◌, ◌<◌, List, [], ◌∷◌, ◌++◌}
+use Rattle.std.specs.Prelude.{◌≡◌, ◌≢◌, ◌⊎◌, bit_or, ℕ, ◌+◌, ◌<◌, List, [], ◌∷◌, ◌++◌}
 use Rattle.atomic_table.specs.Table.{Me, Step, rest}
 use Rattle.lot_base.specs.declared.ops.Op.{Op}
 use Rattle.lot_base.specs.declared.ops.Op.TheVariants.{Load, Store, Swap, Add, Sub, Or, And, Exchange}
@@ -81,9 +81,31 @@ left_over x v = view v.steps (without x v.owns) v.drawn v.saw
 abbrev pub piece : Ownership → View
 piece x = view [] (x ∷ []) [] 0
 
+-- all but what it owns first
+abbrev pub others : List Ownership → List Ownership
+others [] = []
+others (x ∷ xs) = xs
+
+abbrev pub behind_first : View → View
+behind_first v = view v.steps (others v.owns) v.drawn v.saw
+
 -- a view takes in what another owns
 abbrev pub takes_in : View → View → View
 takes_in v w = view v.steps (w.owns ++ v.owns) v.drawn v.saw
+
+-- a view with one step more, which trades nothing
+abbrev pub stepping : View → ℕ → Op → ℕ → View
+stepping v at op found = view (listed v at op found) v.owns v.drawn v.saw
+
+-- who enters a mutex that nobody has takes its permit out with that step. An exchange that misses is no more than a step
+abbrev pub enters_open : ℕ → ℕ → Play PermitSlot
+enters_open family at st me found after = let v = stepping me.0 at (Exchange 0 1) found in
+    (found ≡ 0 → after ≡ (takes_in v (piece (owning at Opened)), (at, slot_at family at) ∷ me.1)) × (found ≢ 0 → after ≡ (v, me.1))
+
+-- who owns a mutex first, whose permit is out, lays it back with the step that gives the mutex up
+abbrev pub leaves_open : ℕ → Play PermitSlot
+leaves_open at st me found after = ((found ≡ 1) ⊎ (found ≡ 3))
+    × (after ≡ (stepping (behind_first me.0) at (Sub 1) found, rest me.1))
 
 -- who owns the mutex of this word, and nothing else, takes its permit out, or lays it back, by a load of any word
 abbrev pub opens : ℕ → ℕ → Play PermitSlot

@@ -1,10 +1,10 @@
 //! The rule of the lot's table, and the names of its steps.
 ghost use Rattle.std.specs.Prelude.{ℕ, [], List};
 ghost use Rattle.lot_words.specs.Rule.{LotRule};
-ghost use Rattle.lot_words.specs.Views.{blank};
-ghost use Rattle.lot_words.specs.Plays.{loads, stores, swaps, adds, subs, ors, saw_set, ands, exchanges, looks, draws, left_over, piece, takes_in, opens, closes};
+ghost use Rattle.lot_words.specs.Views.{blank, owning};
+ghost use Rattle.lot_words.specs.Plays.{loads, stores, swaps, adds, subs, ors, saw_set, ands, exchanges, looks, draws, left_over, behind_first, piece, takes_in, opens, closes, enters_open, leaves_open};
 ghost use Rattle.lot_words.specs.declared.owners.Ownership.{Ownership};
-ghost use Rattle.lot_words.specs.declared.owners.Owner.TheVariants.{Exclusive};
+ghost use Rattle.lot_words.specs.declared.owners.Owner.TheVariants.{Exclusive, Opened};
 ghost use Rattle.lot_words.specs.declared.words.WordKind.{WordKind};
 
 use crate::views::View;
@@ -177,4 +177,42 @@ pub struct Closes<P: PermitPick> {
 
 impl<P: PermitPick> Play<PermitSlot, View> for Closes<P> {
     ghost then = { closes P.at };
+}
+
+/// Who enters a mutex takes its permit out with that step.
+pub struct EntersOpen<P: PermitPick> {
+    pick: PhantomData<P>,
+}
+
+impl<P: PermitPick> Play<PermitSlot, View> for EntersOpen<P> {
+    ghost then = { enters_open P.family P.at };
+}
+
+/// Who leaves it lays it back.
+pub struct LeavesOpen<P: PermitPick> {
+    pick: PhantomData<P>,
+}
+
+impl<P: PermitPick> Play<PermitSlot, View> for LeavesOpen<P> {
+    ghost then = { leaves_open P.at };
+}
+
+/// A seat keeps the mutex whose permit it took out, and another goes on with all else.
+pub struct KeepsOpen<P: PermitPick> {
+    pick: PhantomData<P>,
+}
+
+impl<P: PermitPick> Split<View> for KeepsOpen<P> {
+    ghost left = { λ _. piece (owning P.at Opened) };
+
+    ghost right = { behind_first };
+}
+
+/// A seat takes in all that another has done and owns.
+pub struct GoesOn;
+
+impl Join<View> for GoesOn {
+    ghost both = { λ v w. takes_in w v };
+
+    ghost spent = { blank };
 }

@@ -9,11 +9,12 @@ use Rattle.parking_lot_core.specs.declared.tokens.SectionRecord.{SectionRecord}
 use Rattle.parking_lot_core.specs.declared.tokens.Ticket.{Ticket}
 use Rattle.parking_lot_core.specs.declared.tokens.Token.{Token}
 
+-- a thread has no permit of a value with it: its guards have them
 abbrev pub IsTicketOf : ParkingLot → Ticket → Type 0
-IsTicketOf lot ticket = IsSeatOf lot.words ticket.seat × (ticket.number < lot.records.count)
+IsTicketOf lot ticket = IsSeatOf lot.words ticket.seat × (ticket.number < lot.records.count) × (ticket.seat.me.1 ≡ [])
 
 abbrev pub IsTokenOf : ParkingLot → Token → Type 0
-IsTokenOf lot token = IsSeatOf lot.words token.seat × (token.number < lot.records.count)
+IsTokenOf lot token = IsSeatOf lot.words token.seat × (token.number < lot.records.count) × (token.seat.me.1 ≡ [])
 
 -- what a thread has done, and what it owns
 abbrev pub view_of : Token → View

@@ -1,16 +1,16 @@
 //! Steps on words, draws and rights, by tokens.
-ghost use Rattle.std.specs.Prelude.{◌≡◌, ℕ, ◌+◌, ◌<◌, ◌⊎◌, ◌∷◌, [], true, None, IfOk, MatchOption, MatchResult};
+ghost use Rattle.std.specs.Prelude.{◌≡◌, ◌≢◌, ℕ, ◌+◌, ◌<◌, ◌⊎◌, ◌∷◌, [], true, None, IfOk, MatchOption, MatchResult};
 ghost use Rattle.lot_words.specs.Indices.{word_index};
 ghost use Rattle.lot_words.specs.Codes.{IsCountCode};
 ghost use Rattle.lot_words.specs.Steps.{MayStep, CodesWith, after_step, has};
 ghost use Rattle.lot_words.specs.Draws.{IsDrawn, IsDrawRefused};
 ghost use Rattle.lot_words.specs.Lots.{IsWordOf, permit_of};
-ghost use Rattle.lot_words.specs.Plays.{left_over, takes_in};
+ghost use Rattle.lot_words.specs.Plays.{left_over, stepping, takes_in};
 ghost use Rattle.lot_words.specs.Rights.{named_by, owner_for, piece_of, OwnsWith};
 ghost use Rattle.lot_words.specs.RightsOf.{IsHeldOf, IsOpenOf, IsRightOf};
 ghost use Rattle.lot_words.specs.declared.owners.Owner.TheVariants.{Exclusive};
 ghost use Rattle.lot_words.specs.declared.words.WordKind.TheVariants.{Mutex, Condvar, Count};
-ghost use Rattle.lot_base.specs.declared.ops.Op.TheVariants.{Add, Exchange};
+ghost use Rattle.lot_base.specs.declared.ops.Op.TheVariants.{Add, Exchange, Sub};
 ghost use Rattle.parking_lot_core.specs.Tokens.{IsTokenOf, IsSameThread, view_of, last_of};
 
 use crate::lot::ParkingLot;
@@ -168,7 +168,36 @@ impl ParkingLot {
         self.words.join_right(&mut token.seat, right);
     }
 
-    /// Takes out the permit of the value that a mutex guards, for who owns the mutex. It loads the word, which is no step of a call.
+    /// Takes a mutex that nobody has, and the permit of its value with the same step. Else it answers what the step saw.
+    #[inline]
+    pub fn enter_open(&self, token: &mut Token, word: Word) -> Result<(OpenHeld, Permit), u64>
+        requires { IsTokenOf self.now token.old × IsWordOf self.now.words word × (word.kind ≡ Mutex) }
+        ensures own { IsSameThread self.now token.old token.new × (last_of token.new ≡ None) }
+        ensures stepped { MatchResult result
+            (λ _. view_of token.new ≡ stepping (view_of token.old) (word_index word.number word.kind) (Exchange 0 1) 0)
+            (λ seen. (seen ≢ 0)
+            × (view_of token.new ≡ stepping (view_of token.old) (word_index word.number word.kind) (Exchange 0 1) seen)) }
+        ensures opened { IfOk result (λ taken. IsOpenOf self.now.words word taken.0
+            × (taken.1.id ≡ permit_of self.now.words word)) }
+    {
+        token.forget_section();
+        self.words.enter_open(&mut token.seat, word)
+    }
+
+    /// Gives a mutex up, and lays the permit of its value back with the same step. It answers the value before.
+    #[inline]
+    pub fn leave_open(&self, token: &mut Token, word: Word, opened: OpenHeld, permit: Permit) -> u64
+        requires own { IsTokenOf self.now token.old × IsWordOf self.now.words word × (word.kind ≡ Mutex) }
+        requires opened { IsOpenOf self.now.words word opened × (permit.id ≡ permit_of self.now.words word) }
+        ensures own { IsSameThread self.now token.old token.new × (last_of token.new ≡ None) }
+        ensures stepped { view_of token.new ≡ stepping (view_of token.old) (word_index word.number word.kind) (Sub 1) result }
+        ensures coded { (result ≡ 1) ⊎ (result ≡ 3) }
+    {
+        token.forget_section();
+        self.words.leave_open(&mut token.seat, word, opened, permit)
+    }
+
+    /// Takes out the permit of the value that a mutex guards, for who owns the mutex. It loads a word, which is no step of a call.
     #[inline]
     pub fn open_held(&self, word: Word, held: Held) -> (OpenHeld, Permit)
         requires mutex { IsWordOf self.now.words word × (word.kind ≡ Mutex) }
@@ -179,7 +208,7 @@ impl ParkingLot {
         self.words.open_held(word, held)
     }
 
-    /// Lays it back. It loads the word, which is no step of a call.
+    /// Lays it back. It loads a word, which is no step of a call.
     #[inline]
     pub fn close_held(&self, word: Word, opened: OpenHeld, permit: Permit) -> Held
         requires mutex { IsWordOf self.now.words word × (word.kind ≡ Mutex) }

@@ -1,4 +1,4 @@
-use Rattle.std.proofs.Common.{sym, arith}
+use Rattle.std.proofs.Common.{arith}
 use Rattle.lot_queues.proofs.Picked.{room_for_want}
 use Rattle.lot_queues.proofs.wants.note_wants.Goals as goal
 
