@@ -51,7 +51,10 @@ impl<'a, R: RawMutex, T> Guarded<Taken<'a, R, T>, Open<'a, T>> {
     {
         let Guarded { taken, value } = self;
         let (mutex, opened, permit) = taken.part(value);
-        mutex.raw().unlock_open(rt, token, opened, permit);
+        let raw = mutex.raw();
+        if let Some(seen) = raw.begin_unlock_open(token, opened, permit) {
+            raw.unlock_behind(rt, token, seen);
+        }
     }
 
     /// Two guards of one mutex exclude each other: nobody ever has both, so this can't be called.

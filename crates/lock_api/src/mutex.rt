@@ -83,7 +83,10 @@ impl<R: RawMutex, T> Mutex<R, T> {
         ensures guard { lock_of result ≡ self.now }
         ensures path { R.walked self.now Lock answers.Ok token.old token.new }
     {
-        let (opened, permit) = self.raw.lock_open(rt, token);
+        let (opened, permit) = match self.raw.begin_lock_open(token) {
+            Ok(taken) => taken,
+            Err(seen) => self.raw.lock_open_behind(rt, token, seen),
+        };
         MutexGuard::new(self, opened, self.place.open(permit))
     }
 

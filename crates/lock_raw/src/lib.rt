@@ -5,7 +5,7 @@ pub mod condvar;
 pub mod rwlock;
 pub mod rwlock_fair;
 
-ghost use Rattle.std.specs.Prelude.{◌≡◌, Bool, MatchResult, IfNone, IfOk, IfSome};
+ghost use Rattle.std.specs.Prelude.{◌≡◌, ℕ, Bool, MatchResult, IfErr, IfNone, IfOk, IfSome};
 ghost use Rattle.std.specs.Arc.{arc_value};
 ghost use Rattle.std.specs.Duration.{as_nanos};
 ghost use Rattle.lot_base.specs.Clocks.{HasElapsed, HasPassed};
@@ -64,6 +64,8 @@ pub trait RawMutex {
     ghost walked: { Self → MutexCall → Answer → Self.Token → Self.Token → Type 0 };
     // Between them it gave the mutex up by this call, and took the first who waits where it saw a waiter.
     ghost released: { Self → MutexCall → Self.Token → Self.Token → Type 0 };
+    // Between them it took the first step of this call, which saw this, and the call has more to do.
+    ghost begun: { Self → MutexCall → ℕ → Self.Token → Self.Token → Type 0 };
     // Between them it took one step, which saw the mutex locked or not.
     ghost looked: { Self → Bool → Self.Token → Self.Token → Type 0 };
 
@@ -117,26 +119,54 @@ pub trait RawMutex {
         requires { is_opened_of self.now opened × (permit.id ≡ permit_of self.now) }
         ensures { is_guard_of self.now result };
 
-    /// `lock` and then `open_value`, which find the lot and the word once for both.
-    fn lock_open<R: Wait>(&self, rt: &R, token: &mut Self::Token) -> (Self::Opened, Permit)
+    /// The first step of `lock`, with which a mutex that nobody has is taken and its value's permit with it: then that was all.
+    ///
+    /// # Errors
+    ///
+    /// What the step saw, where somebody has the mutex. `lock_open_behind` is the rest of the call then.
+    fn begin_lock_open(&self, token: &mut Self::Token) -> Result<(Self::Opened, Permit), u64>
         requires { is_token_of (lot_of self.now) token.old }
-        ensures token { is_token_of (lot_of self.now) token.new × stays token.old token.new }
-        ensures opened { is_opened_of self.now result.0 × (result.1.id ≡ permit_of self.now) }
-        ensures path { walked self.now Lock answers.Ok token.old token.new };
+        ensures token { is_token_of (lot_of self.now) token.new }
+        ensures over { IfOk result (λ taken. stays token.old token.new × walked self.now Lock answers.Ok token.old token.new
+            × is_opened_of self.now taken.0 × (taken.1.id ≡ permit_of self.now)) }
+        ensures begun { IfErr result (λ seen. begun self.now Lock seen token.old token.new) };
 
-    /// `close_value` and then `unlock`, in the same way.
-    fn unlock_open<R: Wait>(
+    /// The rest of a `lock` whose first step saw this.
+    fn lock_open_behind<R: Wait>(
         &self,
         rt: &R,
         token: &mut Self::Token,
+        seen: u64,
+    ) -> (Self::Opened, Permit)
+        requires token { is_token_of (lot_of self.now) token.old }
+        requires begun { (before : Self.Token) × begun self.now Lock seen before token.old }
+        ensures token { is_token_of (lot_of self.now) token.new }
+        ensures opened { is_opened_of self.now result.0 × (result.1.id ≡ permit_of self.now) }
+        ensures over { (before : Self.Token) → begun self.now Lock seen before token.old
+            → stays before token.new × walked self.now Lock answers.Ok before token.new };
+
+    /// The first step of `unlock`, with which the permit is laid back. It answers what it saw where the call has more to do, which is
+    /// `unlock_behind`.
+    fn begin_unlock_open(
+        &self,
+        token: &mut Self::Token,
         opened: Self::Opened,
         permit: Permit,
-    )
+    ) -> Option<u64>
         requires token { is_token_of (lot_of self.now) token.old }
         requires opened { is_opened_of self.now opened × (permit.id ≡ permit_of self.now) }
-        ensures token { is_token_of (lot_of self.now) token.new × stays token.old token.new }
-        ensures path { walked self.now Unlock answers.Ok token.old token.new }
-        ensures record { released self.now Unlock token.old token.new };
+        ensures token { is_token_of (lot_of self.now) token.new }
+        ensures over { IfNone result (stays token.old token.new × walked self.now Unlock answers.Ok token.old token.new
+            × released self.now Unlock token.old token.new) }
+        ensures begun { IfSome result (λ seen. begun self.now Unlock seen token.old token.new) };
+
+    /// The rest of an `unlock` whose first step saw this.
+    fn unlock_behind<R: Wait>(&self, rt: &R, token: &mut Self::Token, seen: u64)
+        requires token { is_token_of (lot_of self.now) token.old }
+        requires begun { (before : Self.Token) × begun self.now Unlock seen before token.old }
+        ensures token { is_token_of (lot_of self.now) token.new }
+        ensures over { (before : Self.Token) → begun self.now Unlock seen before token.old → stays before token.new
+            × walked self.now Unlock answers.Ok before token.new × released self.now Unlock before token.new };
 
     /// Two guards of one mutex exclude each other: nobody ever has both, so this can't be called.
     fn has_two_guards(&self, token: &mut Self::Token, one: Self::Guard, other: Self::Guard) -> !

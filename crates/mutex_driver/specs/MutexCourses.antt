@@ -6,6 +6,10 @@ use Rattle.lot_mutex.specs.declared.unlock.UnlockAt.TheVariants as unlock
 use Rattle.lot_steps.specs.declared.places.Place.{Place}
 use Rattle.lot_steps.specs.declared.places.Place.TheVariants.{Mutex}
 
+-- what an owner finds of a mutex on which somebody may wait
+abbrev pub locked_and_parked : ℕ
+locked_and_parked = 3
+
 -- where a thread stands that unlocks a mutex
 abbrev pub unlocks_at : ℕ → UnlockAt → Place
 unlocks_at m at = Mutex m (mutex.Unlock at)

@@ -11,7 +11,7 @@ ghost use Rattle.lot_driver.specs.Turns.{HasEnded, IsAt};
 ghost use Rattle.lot_mutex.specs.declared.unlock.UnlockAt.TheVariants as unlock;
 ghost use Rattle.lot_words.specs.declared.views.WordStep.{WordStep};
 ghost use Rattle.parking_lot_core.specs.Tokens.{IsSameThread};
-ghost use Rattle.mutex_driver.specs.MutexCourses.{taken_on, unlocks_at};
+ghost use Rattle.mutex_driver.specs.MutexCourses.{locked_and_parked, taken_on, unlocks_at};
 
 use lot_base::main_key;
 use lot_driver::driver::NO_LIMIT;
@@ -88,7 +88,7 @@ fn unlock_through<R: Wait>(rt: &R, lot: &ParkingLot, token: &mut Token, words: W
 pub fn unlock_behind<R: Wait>(rt: &R, lot: &ParkingLot, token: &mut Token, word: Word)
     requires own { MeetAt lot.now token.old word }
     ensures own { IsSameThread lot.now token.old token.new }
-    ensures path { WalksBehind word.number Unlock 3 token.old token.new ok }
+    ensures path { WalksBehind word.number Unlock locked_and_parked token.old token.new ok }
     ensures rest { (more : List WordStep) × (steps_of token.new ≡ steps_of token.old ++ more) }
     ensures over { IsMutexOver ⊥ word.number (owns_of token.old) releases ok (stage_of token.new None) }
 {

@@ -1,3 +1,4 @@
 pub mod MutexGuards
 pub mod Words
 pub mod CondvarWords
+pub mod Begun

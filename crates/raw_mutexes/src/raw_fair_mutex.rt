@@ -5,6 +5,7 @@ ghost use Rattle.parking_lot_core.specs.Tokens.{IsTokenOf, view_of, last_of};
 ghost use Rattle.lot_driver.specs.Calls.{fairly, HasWalked, Sees, Releases};
 ghost use Rattle.lot_words.specs.declared.words.WordKind.TheVariants.{Mutex};
 ghost use Rattle.lot_driver.specs.Drawing.{Drew, FoundFull};
+ghost use Rattle.raw_mutexes.specs.Begun.{HasBegun};
 ghost use Rattle.raw_mutexes.specs.MutexGuards.{IsGuardOf, IsGuardOf-prop, IsOpenGuardOf, IsOpenGuardOf-prop, permit_in, StaysAs, StaysAs-on};
 ghost use Rattle.lot_driver.specs.Telling.{steps_of};
 
@@ -79,6 +80,8 @@ impl lock_raw::RawMutex for RawFairMutex {
     ghost released = { λ mutex call old new.
         Releases mutex.word.number (fairly call) (steps_of old) (steps_of new) (last_of new) };
 
+    ghost begun = { λ mutex call seen old new. HasBegun mutex.word.number (fairly call) seen old new };
+
     ghost looked = { λ mutex locked old new. Sees mutex.word.number locked (steps_of old) (steps_of new) };
 
     fn new(lot: &Arc<ParkingLot>, token: &mut Token) -> Result<RawFairMutex, Fault> {
@@ -117,14 +120,31 @@ impl lock_raw::RawMutex for RawFairMutex {
     }
 
     #[inline]
-    fn lock_open<R: Wait>(&self, rt: &R, token: &mut Token) -> (OpenGuard, Permit) {
-        lock_raw::RawMutex::lock_open(&self.raw, rt, token)
+    fn begin_lock_open(&self, token: &mut Token) -> Result<(OpenGuard, Permit), u64> {
+        lock_raw::RawMutex::begin_lock_open(&self.raw, token)
+    }
+
+    fn lock_open_behind<R: Wait>(
+        &self,
+        rt: &R,
+        token: &mut Token,
+        seen: u64,
+    ) -> (OpenGuard, Permit) {
+        lock_raw::RawMutex::lock_open_behind(&self.raw, rt, token, seen)
     }
 
     #[inline]
-    fn unlock_open<R: Wait>(&self, rt: &R, token: &mut Token, opened: OpenGuard, permit: Permit) {
-        let guard = lock_raw::RawMutex::close_value(&self.raw, opened, permit);
-        self.raw.unlock_fair(rt, token, guard);
+    fn begin_unlock_open(
+        &self,
+        token: &mut Token,
+        opened: OpenGuard,
+        permit: Permit,
+    ) -> Option<u64> {
+        self.raw.begin_unlock_fair_open(token, opened, permit)
+    }
+
+    fn unlock_behind<R: Wait>(&self, rt: &R, token: &mut Token, seen: u64) {
+        self.raw.unlock_fair_behind(rt, token, seen);
     }
 
     fn has_two_guards(&self, token: &mut Token, one: RawGuard, other: RawGuard) -> ! {

@@ -3,13 +3,16 @@ ghost use Rattle.std.specs.Prelude.{◌≡◌, ◌<◌, ◌*◌, ◌⊎◌, ◌+
 ghost use Rattle.std.specs.Arc.{arc_value};
 ghost use Rattle.lot_base.specs.Clocks.{IsUp};
 ghost use Rattle.lock_raw.specs.Answers.{answer_by};
-ghost use Rattle.lot_calls.specs.declared.calls.MutexCall.TheVariants.{LockTimed, Unlock};
+ghost use Rattle.lot_calls.specs.declared.calls.MutexCall.TheVariants.{LockTimed, Unlock, UnlockFair};
 ghost use Rattle.lot_calls.specs.declared.outcomes.Answer.TheVariants.{Ok as ok};
 ghost use Rattle.lot_words.specs.Lots.{IsWordOf};
 ghost use Rattle.lot_words.specs.Plays.{piece, left_over, takes_in};
 ghost use Rattle.lot_words.specs.Steps.{has};
 ghost use Rattle.lot_words.specs.declared.words.WordKind.TheVariants.{Mutex};
 ghost use Rattle.parking_lot_core.specs.Tokens.{IsTokenOf, IsSameThread, view_of, last_of};
+ghost use Rattle.parking_lot_core.specs.declared.tokens.Token.{Token};
+ghost use Rattle.mutex_driver.specs.MutexCourses.{locked_and_parked};
+ghost use Rattle.raw_mutexes.specs.Begun.{HasBegun};
 ghost use Rattle.lot_words.specs.declared.views.WordStep.{WordStep};
 ghost use Rattle.lot_driver.specs.Calls.{MeetAt, purpose_in, IsUnfinished, HasWalked, Sees, Releases, WalksBehind};
 ghost use Rattle.lot_driver.specs.Drawing.{Drew, FoundFull};
@@ -24,7 +27,7 @@ use crate::guards::{OpenGuard, RawGuard};
 use lot_base::main_key;
 use lot_calls::{Answer, MutexCall};
 use lot_driver::driver::{NO_LIMIT, behind, step};
-use lot_mutex::{LOCKED, is_locked, is_parked};
+use lot_mutex::{LOCKED, PARKED, is_locked, is_parked};
 use mutex_driver::unlocks::unlock_behind;
 use parking_lot_core::{
     Clock, Fault, Key, Op, ParkingLot, Permit, Token, Want, Word, WordKind, to_deadline,
@@ -89,10 +92,8 @@ impl RawMutex {
         lot.join_held(token, self.word, Want::Exclusive, held);
     }
 
-    // The same, of who opens the value too. It takes the word as well, so that all of a call find it once.
-    #[inline]
-    fn split_open(&self, lot: &ParkingLot, token: &mut Token, word: Word) -> (OpenGuard, Permit)
-        requires lot { (lot.now ≡ lot_of self.now) × (word ≡ word_of self.now) }
+    // The same, of who opens the value too.
+    fn split_open(&self, token: &mut Token) -> (OpenGuard, Permit)
         requires own { IsTokenOf (lot_of self.now) token.old }
         requires held { has (held (word_of self.now).number) (view_of token.old).owns ≡ true }
         ensures own { IsSameThread (lot_of self.now) token.old token.new × (last_of token.new ≡ last_of token.old) }
@@ -100,31 +101,49 @@ impl RawMutex {
         ensures opened { IsOpenGuardOf (lot_of self.now) (word_of self.now) result.0
             × (result.1.id ≡ permit_in (lot_of self.now) (word_of self.now)) }
     {
-        let held = lot.split_held(token, word, Want::Exclusive);
-        let (opened, permit) = lot.open_held(word, held);
+        let held = self.lot.split_held(token, self.word, Want::Exclusive);
+        let (opened, permit) = self.lot.open_held(self.word, held);
         (OpenGuard { opened }, permit)
     }
 
-    // Closes the value, and spends the guard.
+    // Closes the value, and takes the first step of a fair release. What it saw, where the thread still owns the mutex.
     #[inline]
-    fn join_open(
+    pub(crate) fn begin_unlock_fair_open(
         &self,
-        lot: &ParkingLot,
         token: &mut Token,
-        word: Word,
         opened: OpenGuard,
         permit: Permit,
-    )
-        requires lot { (lot.now ≡ lot_of self.now) × (word ≡ word_of self.now) }
+    ) -> Option<u64>
         requires own { IsTokenOf (lot_of self.now) token.old }
         requires opened { IsOpenGuardOf (lot_of self.now) (word_of self.now) opened
             × (permit.id ≡ permit_in (lot_of self.now) (word_of self.now)) }
-        ensures own { IsSameThread (lot_of self.now) token.old token.new × (last_of token.new ≡ last_of token.old) }
-        ensures joined { view_of token.new ≡ takes_in (view_of token.old) (piece (held (word_of self.now).number)) }
+        ensures token { IsTokenOf (lot_of self.now) token.new }
+        ensures over { IfNone result (StaysAs token.old token.new
+            × HasWalked (word_of self.now).number UnlockFair ok token.old token.new
+            × Releases (word_of self.now).number UnlockFair (steps_of token.old) (steps_of token.new) (last_of token.new)) }
+        ensures begun { IfSome result (λ seen. HasBegun (word_of self.now).number UnlockFair seen token.old token.new) }
     {
+        let lot: &ParkingLot = &self.lot;
         let OpenGuard { opened } = opened;
-        let held = lot.close_held(word, opened, permit);
-        lot.join_held(token, word, Want::Exclusive, held);
+        let held = lot.close_held(self.word, opened, permit);
+        lot.join_held(token, self.word, Want::Exclusive, held);
+        let seen = step(lot, token, self.word, LEAVE);
+        if seen == LOCKED {
+            return None;
+        }
+        Some(seen)
+    }
+
+    // The rest of a fair release.
+    pub(crate) fn unlock_fair_behind<R: Wait>(&self, rt: &R, token: &mut Token, seen: u64)
+        requires token { IsTokenOf (lot_of self.now) token.old }
+        requires begun { (before : Token) × HasBegun (word_of self.now).number UnlockFair seen before token.old }
+        ensures token { IsTokenOf (lot_of self.now) token.new }
+        ensures over { (before : Token) → HasBegun (word_of self.now).number UnlockFair seen before token.old
+            → StaysAs before token.new × HasWalked (word_of self.now).number UnlockFair ok before token.new
+            × Releases (word_of self.now).number UnlockFair (steps_of before) (steps_of token.new) (last_of token.new) }
+    {
+        self.go_on(rt, token, MutexCall::UnlockFair, seen);
     }
 
     // The slow half of a call without a limit. It takes the mutex by its address, so that the fast half copies nothing.
@@ -148,7 +167,7 @@ impl RawMutex {
     fn wake_first<R: Wait>(&self, rt: &R, token: &mut Token)
         requires own { MeetAt (lot_of self.now) token.old (word_of self.now) }
         ensures own { IsSameThread (lot_of self.now) token.old token.new }
-        ensures path { WalksBehind (word_of self.now).number Unlock 3 token.old token.new ok }
+        ensures path { WalksBehind (word_of self.now).number Unlock locked_and_parked token.old token.new ok }
         ensures rest { (more : List WordStep) × (steps_of token.new ≡ steps_of token.old ++ more) }
         ensures over { IsMutexOver ⊥ (word_of self.now).number (owns_of token.old) releases ok
             (stage_of token.new None) }
@@ -218,6 +237,8 @@ impl lock_raw::RawMutex for RawMutex {
     ghost released = { λ mutex call old new.
         Releases mutex.word.number call (steps_of old) (steps_of new) (last_of new) };
 
+    ghost begun = { λ mutex call seen old new. HasBegun mutex.word.number call seen old new };
+
     ghost looked = { λ mutex locked old new. Sees mutex.word.number locked (steps_of old) (steps_of new) };
 
     fn new(lot: &Arc<ParkingLot>, token: &mut Token) -> Result<RawMutex, Fault> {
@@ -281,27 +302,41 @@ impl lock_raw::RawMutex for RawMutex {
     }
 
     #[inline]
-    fn lock_open<R: Wait>(&self, rt: &R, token: &mut Token) -> (OpenGuard, Permit) {
-        let lot: &ParkingLot = &self.lot;
-        let word = self.word;
-        let seen = step(lot, token, word, ENTER);
-        if seen != 0 {
-            self.go_on(rt, token, MutexCall::Lock, seen);
-            return self.split_open(lot, token, word);
+    fn begin_lock_open(&self, token: &mut Token) -> Result<(OpenGuard, Permit), u64> {
+        match self.lot.enter_open(token, self.word) {
+            Ok((opened, permit)) => Ok((OpenGuard { opened }, permit)),
+            Err(seen) => Err(seen),
         }
-        self.split_open(lot, token, word)
+    }
+
+    fn lock_open_behind<R: Wait>(
+        &self,
+        rt: &R,
+        token: &mut Token,
+        seen: u64,
+    ) -> (OpenGuard, Permit) {
+        self.go_on(rt, token, MutexCall::Lock, seen);
+        self.split_open(token)
     }
 
     #[inline]
-    fn unlock_open<R: Wait>(&self, rt: &R, token: &mut Token, opened: OpenGuard, permit: Permit) {
-        let lot: &ParkingLot = &self.lot;
-        let word = self.word;
-        self.join_open(lot, token, word, opened, permit);
-        let seen = step(lot, token, word, Op::Sub(LOCKED));
+    fn begin_unlock_open(
+        &self,
+        token: &mut Token,
+        opened: OpenGuard,
+        permit: Permit,
+    ) -> Option<u64> {
+        let OpenGuard { opened } = opened;
         // Two values, told apart as in `unlock`.
-        if seen != LOCKED {
-            self.wake_first(rt, token);
+        if self.lot.leave_open(token, self.word, opened, permit) == LOCKED {
+            return None;
         }
+        Some(LOCKED | PARKED)
+    }
+
+    fn unlock_behind<R: Wait>(&self, rt: &R, token: &mut Token, seen: u64) {
+        let _parked = seen;
+        self.wake_first(rt, token);
     }
 
     // A step of who owns the mutex twice would find a word that says so, and there is none.
