@@ -26,6 +26,7 @@ use lot_rwlock::{Admission, RwLockPurpose};
 use lot_rwlock_fair::RwLockCallPlace;
 use lot_steps::{Place, Reply, advance};
 use parking_lot_core::{Clock, Op, ParkingLot, Token, Word};
+use std::hint::spin_loop;
 use std::sync::Wait;
 
 /// Runs a call that steps on one word from a place to its answer.
@@ -214,6 +215,16 @@ fn behind<R: Wait, C: Clock>(
     )
 }
 
+// Whose exchange missed met another thread, and would meet it again at once. So it pauses, for so many rounds: meanwhile the other
+// keeps the word's cache line, and takes many turns as if it were alone.
+const PAUSE: u32 = 64;
+
+fn pause() {
+    for _ in 0..PAUSE {
+        spin_loop();
+    }
+}
+
 // The same by reference.
 #[cold]
 #[inline(never)]
@@ -244,7 +255,10 @@ fn rest_missed<R: Wait, C: Clock>(
     let (next, act) = advance(place, Reply::Value(found));
     match answer_of(act) {
         Some(answer) => answer,
-        None => run_out(rt, lot, token, *word, *limit, next),
+        None => {
+            pause();
+            run_out(rt, lot, token, *word, *limit, next)
+        }
     }
 }
 
