@@ -18,16 +18,25 @@ use std::thread::{Threads, join, yield_now};
 
 const TURNS: usize = 1_000_000;
 
-// Three of the tickets of a lot.
+// One of the tickets of a lot.
+fn one_of(lot: &ParkingLot, tickets: &mut Vec<Ticket>) -> Option<Ticket>
+    requires { All (IsTicketOf lot.now) tickets.old.items }
+    ensures left { All (IsTicketOf lot.now) tickets.new.items }
+    ensures one { IfSome result (IsTicketOf lot.now) }
+{
+    tickets.pop()
+}
+
+// And three.
 fn three_of(lot: &ParkingLot, tickets: &mut Vec<Ticket>) -> Option<(Ticket, Ticket, Ticket)>
     requires { All (IsTicketOf lot.now) tickets.old.items }
     ensures left { All (IsTicketOf lot.now) tickets.new.items }
     ensures three { IfSome result (λ three. IsTicketOf lot.now three.0 × IsTicketOf lot.now three.1
         × IsTicketOf lot.now three.2) }
 {
-    let one = tickets.pop()?;
-    let other = tickets.pop()?;
-    let third = tickets.pop()?;
+    let one = one_of(lot, tickets)?;
+    let other = one_of(lot, tickets)?;
+    let third = one_of(lot, tickets)?;
     Some((one, other, third))
 }
 
