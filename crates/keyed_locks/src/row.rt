@@ -1,5 +1,5 @@
 //! The row, and the hold of a value that is out of it.
-ghost use Rattle.std.specs.Prelude.{◌≡◌, ◌<◌, None, [], ◌∷◌, IfOk, All, length};
+ghost use Rattle.std.specs.Prelude.{◌≡◌, ◌≢◌, ◌<◌, None, [], ◌∷◌, IfOk, All, length};
 ghost use Rattle.keyed_locks.specs.Guards.{Guards, HasTaken, HasValue};
 
 use atomic_table::{Play, Refused, Seat, Table, TableRule};
@@ -13,7 +13,14 @@ pub trait Keyed<K> {
     ghost fits: { K → Self → Type 0 };
 }
 
-/// Each word is 0 while its value is at home, and then the value fits the key.
+// What a word says: the value is at home, it is out, or it is at home and who gave it back has marked it.
+const FREE: u64 = 0;
+
+const TAKEN: u64 = 1;
+
+const MARKED: u64 = 2;
+
+/// While a word isn't `TAKEN` its value is at home and fits the key.
 pub struct RowRule<K, T> {
     marker: PhantomData<(K, T)>,
 }
@@ -25,9 +32,9 @@ impl<K, T: Keyed<K>> TableRule<Option<T>, K, K> for RowRule<K, T> {
     ghost first = { λ key. key };
 }
 
-/// A swap of 1 for 0 takes the value.
+/// A swap that finds anything else takes the value.
 impl<K, T: Keyed<K>> Play<Option<T>, K> for RowRule<K, T> {
-    ghost then = { λ step before found after. found ≡ 0 → HasTaken (T.fits before.0) step.word after };
+    ghost then = { λ step before found after. found ≢ 1 → HasTaken (T.fits before.0) step.word after };
 }
 
 struct Released;
@@ -62,7 +69,7 @@ impl<K, T: Keyed<K> + Drop> KeyedLocks<K, T> {
         ensures { IfOk result (λ row. (row.table.shared.key ≡ key.now) × (row.count ≡ length values.items)) }
     {
         let count = values.len();
-        let unlocked = Vec::from_elem(alloc, 0u64, count)?;
+        let unlocked = Vec::from_elem(alloc, FREE, count)?;
         match Table::new(alloc, unlocked.as_slice(), values, key) {
             Ok((table, _)) => Ok(KeyedLocks { table, count }),
             Err(Refused { slots: _ }) => Err(AllocError),
@@ -83,8 +90,8 @@ impl<K, T: Keyed<K> + Drop> KeyedLocks<K, T> {
     {
         let locks = &self.table.shared;
         for _ in rt.forever() {
-            let (found, mut seat) = locks.swap_new_seat::<RowRule<K, T>>(at, 1);
-            if found == 0 {
+            let (found, mut seat) = locks.swap_new_seat::<RowRule<K, T>>(at, TAKEN);
+            if found != TAKEN {
                 let value = locks.exchange(&mut seat, at, None).unwrap();
                 return (value, Held { seat, at });
             }
@@ -93,14 +100,39 @@ impl<K, T: Keyed<K> + Drop> KeyedLocks<K, T> {
         unreachable!()
     }
 
+    /// Whether the value was marked as it was given back last. It takes nothing, and may have changed by the time that it is told.
+    #[inline]
+    pub fn is_marked(&self, at: usize) -> bool
+        requires { at < self.now.count }
+    {
+        self.table.shared.peek(at) == MARKED
+    }
+
     /// Gives a value back, which fits the key.
     pub fn give_back(&self, value: T, held: Held<K, T>)
         requires fits { T.fits self.now.table.shared.key value }
         requires held { (held.seat.table_id ≡ self.now.table.shared.table_id) × (held.at < self.now.count) }
     {
+        self.put(value, held, FREE);
+    }
+
+    /// The same, and marks it until somebody takes it.
+    pub fn give_back_marked(&self, value: T, held: Held<K, T>)
+        requires fits { T.fits self.now.table.shared.key value }
+        requires held { (held.seat.table_id ≡ self.now.table.shared.table_id) × (held.at < self.now.count) }
+    {
+        self.put(value, held, MARKED);
+    }
+
+    #[inline]
+    fn put(&self, value: T, held: Held<K, T>, word: u64)
+        requires fits { T.fits self.now.table.shared.key value }
+        requires held { (held.seat.table_id ≡ self.now.table.shared.table_id) × (held.at < self.now.count) }
+        requires home { word ≢ 1 }
+    {
         let Held { mut seat, at } = held;
         let locks = &self.table.shared;
         drop(locks.exchange(&mut seat, at, Some(value)));
-        locks.store::<Released>(&mut seat, at, 0);
+        locks.store::<Released>(&mut seat, at, word);
     }
 }

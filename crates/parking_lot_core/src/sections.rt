@@ -110,7 +110,7 @@ impl ParkingLot {
         if thread < self.records.len() {
             let (mut wake_record, held) = self.records.take(rt, thread);
             wake_record.note = Some(note);
-            self.records.give_back(wake_record, held);
+            self.records.give_back_marked(wake_record, held);
         }
         if let Some(unparker) = self.unparkers.get(thread) {
             unparker.unpark();

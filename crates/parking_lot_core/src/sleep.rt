@@ -11,14 +11,14 @@ use std::hint::spin_loop;
 use std::sync::Wait;
 use std::thread::yield_now;
 
-// How often a thread looks at its note before it sleeps. Together that takes about as long as to fall asleep and be woken, so it
+// How often a thread polls its note before it sleeps. Together that takes about as long as to fall asleep and be woken, so it
 // never costs more than twice what the better of both would have.
-const LOOKS: u32 = 80;
+const POLLS: u32 = 100;
 
-// Before so many of them it pauses, for so many rounds; before a later one it lets others run, who may be about to wake it.
-const PAUSED_LOOKS: u32 = 16;
+// Behind so many of them it pauses, for so many rounds; behind a later one it lets others run, who may be about to wake it.
+const PAUSED_POLLS: u32 = 40;
 
-const PAUSE: u32 = 12;
+const PAUSE: u32 = 6;
 
 /// How a sleep ended.
 pub enum Slept<'a> {
@@ -30,9 +30,9 @@ pub enum Slept<'a> {
     Late(Section<'a>, Key),
 }
 
-// Lets time pass between two looks.
-fn linger(looks: u32) {
-    if looks >= PAUSED_LOOKS {
+// Lets time pass.
+fn pause(polls: u32) {
+    if polls >= PAUSED_POLLS {
         return yield_now();
     }
     for _ in 0..PAUSE {
@@ -43,6 +43,18 @@ fn linger(looks: u32) {
 impl ParkingLot {
     ghost use Rattle.parking_lot_core.specs.Tokens.{IsTokenOf, IsSameThread};
     ghost use Rattle.parking_lot_core.specs.Sleeps.{IsWoken, IsLate, IsSlept, WasLate};
+
+    // Waits a while, or until the thread may have been told something.
+    fn linger(&self, thread: usize)
+        requires { thread < self.now.records.count }
+    {
+        for polls in 0..POLLS {
+            if self.records.is_marked(thread) {
+                return;
+            }
+            pause(polls);
+        }
+    }
 
     // What the thread was told, if anything. The right is looked at only once there is a note: whoever gives a right
     // writes the note after it, and a note that came later would wake the next sleep.
@@ -101,15 +113,10 @@ impl ParkingLot {
         ensures late { WasLate result → IsUp C.tells limit.entry }
     {
         let mut limit = limit;
-        let mut looks = 0;
+        self.linger(token.number);
         for _ in rt.forever() {
             if let Some(told) = self.look(rt, token.number, word, want) {
                 return told;
-            }
-            if looks < LOOKS {
-                linger(looks);
-                looks += 1;
-                continue;
             }
             match limit {
                 None => token.parker.park(rt),

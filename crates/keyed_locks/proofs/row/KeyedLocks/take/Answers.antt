@@ -9,5 +9,5 @@ swap_new_seat-found-requires g c = let row = c.args.self.now in let sized = row.
     (below, seizes (g.T.Keyed.fits row.table.shared.key) row.table.shared.table_id.slots c.args.at row.table.shared.key (omega arith))
 
 pub exchange-requires : goal.exchange-requires
-exchange-requires g c = let t = c.swap_new_seat-found.ensures.1 c.if-found-eq0.true in
+exchange-requires g c = let t = c.swap_new_seat-found.ensures.1 c.if-found-ne-TAKEN.true in
     (c.swap_new_seat-found.ensures.0, (Some t.0, t.1 ∙ ap (λ l. (c.args.at, Some t.0) ∷ rest l) (sym t.1)))
