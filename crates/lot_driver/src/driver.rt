@@ -29,7 +29,7 @@ use std::thread::yield_now;
 const MOST_LOADS: u32 = 6;
 
 // So many come before the thread lets others run.
-const PATIENT_LOADS: u32 = 3;
+const PATIENT_LOADS: u32 = 1;
 
 // The rounds of the pause before the first load, and how often it doubles.
 const SHORTEST_PAUSE: u32 = 64;

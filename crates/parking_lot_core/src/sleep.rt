@@ -13,10 +13,10 @@ use std::thread::yield_now;
 
 // How often a thread polls its note before it sleeps. Together that takes about as long as to fall asleep and be woken, so it
 // never costs more than twice what the better of both would have.
-const POLLS: u32 = 100;
+const POLLS: u32 = 80;
 
 // Behind so many of them it pauses, for so many rounds; behind a later one it lets others run, who may be about to wake it.
-const PAUSED_POLLS: u32 = 40;
+const PAUSED_POLLS: u32 = 12;
 
 const PAUSE: u32 = 6;
 
