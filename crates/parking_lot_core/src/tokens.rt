@@ -129,8 +129,18 @@ impl Token {
         ensures forgotten { last_of self.new ≡ None }
     {
         if self.is_recorded {
-            self.is_recorded = false;
+            self.clear_record();
         }
+    }
+
+    // Out of the way, so that a step which has nothing to forget takes no jump.
+    #[cold]
+    #[inline(never)]
+    fn clear_record(&mut self)
+        ensures same { (self.new.seat ≡ self.old.seat) × (self.new.number ≡ self.old.number) }
+        ensures forgotten { last_of self.new ≡ None }
+    {
+        self.is_recorded = false;
     }
 
     /// What the thread did in the section that it left last. None once it has stepped on a word since.
