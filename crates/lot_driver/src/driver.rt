@@ -26,7 +26,7 @@ use std::sync::Wait;
 use std::thread::yield_now;
 
 // The most loads in place of an act that leads to sleep, in one call.
-const MOST_LOADS: u32 = 6;
+const MOST_LOADS: u32 = 10;
 
 // So many come before the thread lets others run.
 const PATIENT_LOADS: u32 = 1;
