@@ -77,8 +77,9 @@ impl<'a, R: RawMutexFair, T> Guarded<Taken<'a, R, T>, Open<'a, T>> {
         ensures path { R.walked (lock_of self.entry) UnlockFair answers.Ok token.old token.new }
         ensures record { R.released (lock_of self.entry) UnlockFair token.old token.new }
     {
-        let (mutex, guard) = self.close();
-        mutex.raw().unlock_fair(rt, token, guard);
+        let Guarded { taken, value } = self;
+        let (mutex, opened, permit) = taken.part(value);
+        mutex.raw().unlock_fair_open(rt, token, opened, permit);
     }
 
     /// Hands the mutex to the first who waits for it, and waits to take it again. Where nobody waits, keeps it.

@@ -108,8 +108,8 @@ impl<R: RawMutex, T> Mutex<R, T> {
         ensures guard { IfSome result (λ guard. lock_of guard ≡ self.now) }
         ensures path { R.walked self.now TryLock (answer_by result) token.old token.new }
     {
-        let raw = self.raw.try_lock(token)?;
-        Some(self.open(raw))
+        let (opened, permit) = self.raw.try_lock_open(token)?;
+        Some(MutexGuard::new(self, opened, self.place.open(permit)))
     }
 
     /// Whether somebody has the mutex.

@@ -145,6 +145,13 @@ pub trait RawMutex {
         ensures over { (before : Self.Token) → begun self.now Lock seen before token.old
             → stays before token.new × walked self.now Lock answers.Ok before token.new };
 
+    /// `try_lock`, of which the step that takes the mutex takes its value's permit with it.
+    fn try_lock_open(&self, token: &mut Self::Token) -> Option<(Self::Opened, Permit)>
+        requires { is_token_of (lot_of self.now) token.old }
+        ensures token { is_token_of (lot_of self.now) token.new × stays token.old token.new }
+        ensures opened { IfSome result (λ taken. is_opened_of self.now taken.0 × (taken.1.id ≡ permit_of self.now)) }
+        ensures path { walked self.now TryLock (answer_by result) token.old token.new };
+
     /// The first step of `unlock`, with which the permit is laid back. It answers what it saw where the call has more to do, which is
     /// `unlock_behind`.
     fn begin_unlock_open(
@@ -180,6 +187,20 @@ pub trait RawMutexFair: RawMutex {
     fn unlock_fair<R: Wait>(&self, rt: &R, token: &mut Self::Token, guard: Self::Guard)
         requires token { Self.is_token_of (Self.lot_of self.now) token.old }
         requires guard { Self.is_guard_of self.now guard }
+        ensures token { Self.is_token_of (Self.lot_of self.now) token.new × Self.stays token.old token.new }
+        ensures path { Self.walked self.now UnlockFair answers.Ok token.old token.new }
+        ensures record { Self.released self.now UnlockFair token.old token.new };
+
+    /// The same of who has the permit of its value out, which is laid back.
+    fn unlock_fair_open<R: Wait>(
+        &self,
+        rt: &R,
+        token: &mut Self::Token,
+        opened: Self::Opened,
+        permit: Permit,
+    )
+        requires token { Self.is_token_of (Self.lot_of self.now) token.old }
+        requires opened { Self.is_opened_of self.now opened × (permit.id ≡ Self.permit_of self.now) }
         ensures token { Self.is_token_of (Self.lot_of self.now) token.new × Self.stays token.old token.new }
         ensures path { Self.walked self.now UnlockFair answers.Ok token.old token.new }
         ensures record { Self.released self.now UnlockFair token.old token.new };

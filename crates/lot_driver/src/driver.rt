@@ -20,8 +20,8 @@ use crate::acting::{end, perform};
 use crate::words::Words;
 use lot_calls::{Answer, MutexCall, OnceState};
 use lot_steps::{Act, MutexPlace, Place, Reply};
+use parking_lot_core::pauses::{SHORT_PAUSE, pause};
 use parking_lot_core::{Clock, Op, ParkingLot, Section, Token, Word};
-use std::hint::spin_loop;
 use std::sync::Wait;
 use std::thread::yield_now;
 
@@ -31,9 +31,7 @@ const MOST_LOADS: u32 = 10;
 // So many come before the thread lets others run.
 const PATIENT_LOADS: u32 = 1;
 
-// The rounds of the pause before the first load, and how often it doubles.
-const SHORTEST_PAUSE: u32 = 64;
-
+// How often the pause before a load doubles.
 const DOUBLINGS: u32 = 3;
 
 /// The clock of who waits without a limit.
@@ -97,10 +95,8 @@ pub fn step(lot: &ParkingLot, token: &mut Token, word: Word, op: Op) -> u64
 
 // Each load takes the word's cache line from its owner, whom that slows. So a thread pauses before it loads, the longer the
 // more often it has loaded: the owner meanwhile takes many turns as if it were alone.
-fn pause(loads: u32) {
-    for _ in 0..SHORTEST_PAUSE << loads.min(DOUBLINGS) {
-        spin_loop();
-    }
+fn pause_before(loads: u32) {
+    pause(SHORT_PAUSE << loads.min(DOUBLINGS));
 }
 
 // Where a call goes on, and what it does there. In place of an act that leads to sleep it looks at the word once more, after a
@@ -116,7 +112,7 @@ fn go_from(words: Words, place: &mut Place, act: Act, loads: &mut u32) -> Act
     }
     match place.looking() {
         Some(looking) => {
-            pause(*loads);
+            pause_before(*loads);
             if *loads >= PATIENT_LOADS {
                 yield_now();
             }

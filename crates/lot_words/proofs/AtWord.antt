@@ -14,12 +14,12 @@ use Rattle.lot_words.specs.declared.views.View.{View}
 use Rattle.lot_words.specs.declared.words.Word.{Word}
 use Rattle.lot_base.specs.Words.{apply}
 use Rattle.lot_base.specs.declared.ops.Op.{Op}
-use Rattle.lot_base.specs.declared.ops.Op.TheVariants.{Or, Exchange, Sub}
+use Rattle.lot_base.specs.declared.ops.Op.TheVariants.{Or}
 use Rattle.lot_words.proofs.Keeps.{steps_at_word, sees_set}
 use Rattle.lot_words.proofs.PermitSteps.{opens_allowed, closes_allowed}
-use Rattle.lot_words.proofs.OpenSteps.{enters_allowed, leaves_allowed}
+use Rattle.lot_words.proofs.OpenSteps.{Entering, Leaving, enters_allowed, sees_locked_allowed, leaves_allowed}
 use Rattle.lot_words.specs.Permits.{slot_at}
-use Rattle.lot_words.specs.Plays.{piece, takes_in, opens, closes, enters_open, leaves_open}
+use Rattle.lot_words.specs.Plays.{piece, takes_in, opens, closes, enters_open, sees_locked, leaves_open}
 use Rattle.lot_words.specs.Views.{owning}
 use Rattle.lot_words.specs.declared.owners.Owner.TheVariants.{Exclusive, Opened}
 use Rattle.lot_words.specs.declared.words.WordKind.{WordKind}
@@ -77,30 +77,50 @@ table_closes lot seat word at there own is held = let sized = lot.sized in
           (ap (λ (m : Me PermitSlot View). m.1) me ∙ ap (λ (m : Me PermitSlot View). (at_mutex word, slot_at family (at_mutex word)) ∷ rest m.1) (sym me))),
     )
 
--- the step that enters a mutex takes its permit out
-pub table_enters : (lot : LotWords) (seat : Seat PermitSlot View) (word : Word) (family at i : ℕ) → family ≡ lot.table.shared.key.1.family → at ≡ word_index word.number word.kind → i ≡ word_index word.number word.kind
+-- a step on the word of a mutex is allowed to a seat that goes on by this
+abbrev pub AllowedAt : LotWords → Seat PermitSlot View → ℕ → (ℕ → ℕ) → (ℕ → Me PermitSlot View → Type 0) → Type 0
+AllowedAt lot seat i change then = IsSeatOf lot seat × (i < lot.table.shared.table_id.words)
+    × Allows (LotRule lot.table.shared.key.0 lot.table.shared.key.1.family) lot.table.shared.table_id.slots seat.id seat.me i change then
+
+-- a step that enters a mutex takes its permit out
+pub table_enters : (lot : LotWords) (seat : Seat PermitSlot View) (word : Word) (family at i : ℕ) (op : Op) (IsFree : ℕ → Type 0) → Entering op IsFree
+    → family ≡ lot.table.shared.key.1.family → at ≡ word_index word.number word.kind → i ≡ word_index word.number word.kind
     → IsSeatOf lot seat × IsWordOf lot word → word.kind ≡ Mutex
-    → IsSeatOf lot seat × (i < lot.table.shared.table_id.words) × Allows (LotRule lot.table.shared.key.0 lot.table.shared.key.1.family) lot.table.shared.table_id.slots seat.id seat.me i (apply (Exchange 0 1)) (enters_open family at (step lot.table.shared.table_id.slots i 0 1 none) seat.me)
-table_enters lot seat word family at i same there here own is = let sized = lot.sized in let key : ℕ = lot.table.shared.key.1.family in
-    let Goal : ℕ → ℕ → ℕ → Type 0 = λ f a j. Allows (LotRule lot.table.shared.key.0 key) lot.table.shared.table_id.slots seat.id seat.me j (apply (Exchange 0 1)) (enters_open f a (step lot.table.shared.table_id.slots j 0 1 none) seat.me) in
+    → AllowedAt lot seat i (apply op) (enters_open family at op IsFree (step lot.table.shared.table_id.slots i 0 0 none) seat.me)
+table_enters lot seat word family at i op IsFree entering same there here own is = let sized = lot.sized in let key : ℕ = lot.table.shared.key.1.family in
+    let Goal : ℕ → ℕ → ℕ → Type 0 = λ f a j. Allows (LotRule lot.table.shared.key.0 key) lot.table.shared.table_id.slots seat.id seat.me j (apply op) (enters_open f a op IsFree (step lot.table.shared.table_id.slots j 0 0 none) seat.me) in
     let i≡ = mutex_index word i is here in (
       own.0,
       omega (arith, sized.0, sized.1, own.1.1, i≡),
       subst (λ (f : ℕ). Goal f at i) (sym same) (subst (λ (a : ℕ). Goal key a i) (sym (mutex_index word at is there)) (subst (λ (j : ℕ). Goal key (at_mutex word) j) (sym i≡)
-          (enters_allowed lot.table.shared.key.0 key lot.table.shared.table_id.slots seat.id seat.me word.number (omega (arith, sized.1, own.1.1))))),
+          (enters_allowed lot.table.shared.key.0 key lot.table.shared.table_id.slots seat.id seat.me word.number op IsFree entering (omega (arith, sized.1, own.1.1))))),
     )
 
--- and the step that leaves it lays it back
-pub table_leaves : (lot : LotWords) (seat : Seat PermitSlot View) (word : Word) (at i : ℕ) (v : View) → at ≡ word_index word.number word.kind → i ≡ word_index word.number word.kind
+-- a load in place of a try
+pub table_sees_locked : (lot : LotWords) (seat : Seat PermitSlot View) (word : Word) (at i : ℕ) → at ≡ word_index word.number word.kind → i ≡ word_index word.number word.kind
+    → IsSeatOf lot seat × IsWordOf lot word → word.kind ≡ Mutex
+    → AllowedAt lot seat i (λ n. n) (sees_locked at (step lot.table.shared.table_id.slots i 0 0 none) seat.me)
+table_sees_locked lot seat word at i there here own is = let sized = lot.sized in let key : ℕ = lot.table.shared.key.1.family in
+    let Goal : ℕ → ℕ → Type 0 = λ a j. Allows (LotRule lot.table.shared.key.0 key) lot.table.shared.table_id.slots seat.id seat.me j (λ n. n) (sees_locked a (step lot.table.shared.table_id.slots j 0 0 none) seat.me) in
+    let i≡ = mutex_index word i is here in (
+      own.0,
+      omega (arith, sized.0, sized.1, own.1.1, i≡),
+      subst (λ (a : ℕ). Goal a i) (sym (mutex_index word at is there)) (subst (λ (j : ℕ). Goal (at_mutex word) j) (sym i≡)
+          (sees_locked_allowed lot.table.shared.key.0 key lot.table.shared.table_id.slots seat.id seat.me word.number (omega (arith, sized.1, own.1.1)))),
+    )
+
+-- and a step that leaves it lays it back
+pub table_leaves : (lot : LotWords) (seat : Seat PermitSlot View) (word : Word) (at i : ℕ) (v : View) (op : Op) (IsLast : ℕ → Type 0) → Leaving op IsLast
+    → at ≡ word_index word.number word.kind → i ≡ word_index word.number word.kind
     → IsSeatOf lot seat × IsWordOf lot word → word.kind ≡ Mutex
     → seat.me ≡ (takes_in v (piece (owning (word_index word.number word.kind) Opened)), (word_index word.number word.kind, slot_at lot.table.shared.key.1.family (word_index word.number word.kind)) ∷ [])
-    → IsSeatOf lot seat × (i < lot.table.shared.table_id.words) × Allows (LotRule lot.table.shared.key.0 lot.table.shared.key.1.family) lot.table.shared.table_id.slots seat.id seat.me i (apply (Sub 1)) (leaves_open at (step lot.table.shared.table_id.slots i 1 0 none) seat.me)
-table_leaves lot seat word at i v there here own is held = let sized = lot.sized in let key : ℕ = lot.table.shared.key.1.family in
-    let Goal : ℕ → ℕ → Me PermitSlot View → Type 0 = λ a j me. Allows (LotRule lot.table.shared.key.0 key) lot.table.shared.table_id.slots seat.id me j (apply (Sub 1)) (leaves_open a (step lot.table.shared.table_id.slots j 1 0 none) me) in
+    → AllowedAt lot seat i (apply op) (leaves_open at op IsLast (step lot.table.shared.table_id.slots i 0 0 none) seat.me)
+table_leaves lot seat word at i v op IsLast leaving there here own is held = let sized = lot.sized in let key : ℕ = lot.table.shared.key.1.family in
+    let Goal : ℕ → ℕ → Me PermitSlot View → Type 0 = λ a j me. Allows (LotRule lot.table.shared.key.0 key) lot.table.shared.table_id.slots seat.id me j (apply op) (leaves_open a op IsLast (step lot.table.shared.table_id.slots j 0 0 none) me) in
     let i≡ = mutex_index word i is here in
     let me : seat.me ≡ (takes_in v (piece (owning (at_mutex word) Opened)), (at_mutex word, slot_at key (at_mutex word)) ∷ []) = held ∙ ap (λ (k : WordKind). (takes_in v (piece (owning (word_index word.number k) Opened)), (word_index word.number k, slot_at key (word_index word.number k)) ∷ [])) is in (
       own.0,
       omega (arith, sized.0, sized.1, own.1.1, i≡),
       subst (λ (a : ℕ). Goal a i seat.me) (sym (mutex_index word at is there)) (subst (λ (j : ℕ). Goal (at_mutex word) j seat.me) (sym i≡) (subst (λ (m : Me PermitSlot View). Goal (at_mutex word) (at_mutex word) m) (sym me)
-          (leaves_allowed lot.table.shared.key.0 key lot.table.shared.table_id.slots seat.id word.number v.owns v [] (omega (arith, sized.1, own.1.1))))),
+          (leaves_allowed lot.table.shared.key.0 key lot.table.shared.table_id.slots seat.id word.number v.owns v [] op IsLast leaving (omega (arith, sized.1, own.1.1))))),
     )

@@ -1,19 +1,20 @@
 -- Who enters a mutex takes its permit out with that step, and who leaves it lays it back.
-use Rattle.std.proofs.Common.{◌≡◌, ◌≢◌, ℕ, zero, suc, ◌+◌, ◌%◌, ◌<◌, ◌≤◌, ◌⊎◌, ⊎_elim, inl, inr, cond, List, [], ◌∷◌, ◌++◌, get_or, set, sym, refl, ap, ◌∙◌, subst, arith, eq-eqb, ne_eqb}
+use Rattle.std.proofs.Common.{◌≡◌, ◌≢◌, ℕ, zero, suc, ◌+◌, ◌%◌, ◌<◌, ◌≤◌, ◌⊎◌, ⊎_elim, inl, inr, List, [], ◌∷◌, ◌++◌, get_or, set, sym, refl, ap, ◌∙◌, subst, arith}
 use mathlib.Core.Logic.{dite}
 use mathlib.Core.Option.{Option, some, none}
 use native.Mathlib.Decide.{ℕ_discrete}
 use lib.ListN.{get_elem?}
-use Rattle.atomic_table.specs.Table.{State, Me, Act, step, takes, gives, keeps, Valid, carried_after, stepped, Allows, Splits, Joins}
+use Rattle.atomic_table.specs.Table.{State, Me, step, takes, gives, keeps, Allows, Splits, Joins}
 use Rattle.atomic_table.proofs.Lists.{at_set, at_snoc}
+use Rattle.std.proofs.lemmas.List.{set-get_or}
 use Rattle.lot_base.specs.Words.{apply}
 use Rattle.lot_base.specs.declared.ops.Op.{Op}
-use Rattle.lot_base.specs.declared.ops.Op.TheVariants.{Exchange, Sub}
+use Rattle.lot_base.specs.declared.ops.Op.TheVariants.{Exchange, Or, Sub}
 use Rattle.lot_words.specs.Indices.{word_index}
 use Rattle.lot_words.specs.Views.{view, blank, owned, owning, named, counted, steps_at, drew}
 use Rattle.lot_words.specs.Codes.{Owners, IsMutexCode, everyone, exclusive, opened}
 use Rattle.lot_words.specs.Permits.{slot_at}
-use Rattle.lot_words.specs.Plays.{piece, takes_in, stepping, enters_open, leaves_open}
+use Rattle.lot_words.specs.Plays.{piece, takes_in, stepping, enters_open, leaves_open, sees_locked, IsZero, IsEven, IsAny, IsOne}
 use Rattle.lot_words.specs.Rule.{LotRule}
 use Rattle.lot_words.specs.Steps.{listed}
 use Rattle.lot_words.specs.declared.owners.Owner.{Owner}
@@ -22,7 +23,8 @@ use Rattle.lot_words.specs.declared.owners.Ownership.{Ownership}
 use Rattle.lot_words.specs.declared.views.View.{View}
 use Rattle.lot_words.specs.declared.words.WordKind.TheVariants.{Mutex}
 use Rattle.value_place.specs.declared.slot.PermitSlot.{PermitSlot}
-use Rattle.lot_words.proofs.Keeps.{turned, reseated, steps_more, cut, paste}
+use Rattle.lot_words.proofs.MutexSteps.{each_code}
+use Rattle.lot_words.proofs.Keeps.{set_elem, turned, reseated, steps_more, cut, paste}
 use Rattle.lot_words.proofs.PermitSteps.{set_here, set_else, has_index, first, first_owns, first_elsewhere, first_counts, reopened}
 use Rattle.lot_words.proofs.Totals.{term_le, cond_same}
 
@@ -36,69 +38,157 @@ abbrev at_hand : List ℕ → List (Option PermitSlot) → List View → State P
 at_hand words homes views = record { words = words; homes = homes; views = views }
 
 -- who steps on a mutex's word lists that step, and owns others beside the same ones
-module _ (words family : ℕ) (s : State PermitSlot View) (o : LotRule words family s) where
-  stepped_so : (number id m : ℕ) (op : Op) (v : View) (owns : List Ownership) → number < words → get_elem? s.views id ≡ some v
-      → let i = word_index number Mutex in
-      ((r : ℕ) → r ≢ i → (weight : Owner → ℕ) → owned r weight owns ≡ owned r weight v.owns)
-      → ((after : Owners) → ((weight : Owner → ℕ) → after weight + owned i weight v.owns ≡ named i weight s.views + owned i weight owns) → IsMutexCode m after)
-      → ((r : ℕ) → counted r owns ≡ counted r v.owns) → owned i opened owns ≡ owned i opened v.owns
-      → LotRule words family (at_hand (set s.words i m) s.homes (set s.views id (view (listed v i op (get_or s.words i 0)) owns v.drawn v.saw)))
-  stepped_so number id m op v owns below at others codes counts same_open =
-      let i : ℕ = word_index number Mutex in let n : ℕ = get_or s.words i 0 in let w = view (listed v i op n) owns v.drawn v.saw in
-      turned words family s o number Mutex id m v w at below others codes tt (λ r ne. counts r) (λ is. same_open) refl refl
-      (omega (arith, steps_more v i n i op, cond_same i i 1 refl)) (λ r. omega (arith, steps_more v i n r op))
+module _ (words family : ℕ) (s : State PermitSlot View) (o : LotRule words family s) (number : ℕ) (below : number < words) where
+  abbrev here : ℕ
+  here = word_index number Mutex
 
--- the exchange that enters a mutex
-pub enters_allowed : (words family slots id : ℕ) (me : Me PermitSlot View) (number : ℕ) → number < words
-    → let i = word_index number Mutex in Allows (LotRule words family) slots id me i (apply (Exchange 0 1)) (enters_open family i (step slots i 0 1 none) me)
-enters_allowed words family slots id me number below s o wide at fits =
-    let i : ℕ = word_index number Mutex in let n : ℕ = get_or s.words i 0 in let v = me.0 in let v₁ = stepping v i (Exchange 0 1) n in
-    let code : IsMutexCode n (λ weight. named i weight s.views) = o.coded number Mutex below in let small : n < 4 = code.0 in let code₁ = code.1 in let code₂ = code.2 in
-    let Goal : ℕ → Type 0 = λ m. (w : View) × (a : Act PermitSlot) × Valid s.homes me.1 a × LotRule words family (stepped s i m id me.1 w a) × enters_open family i (step slots i 0 1 none) me n (w, carried_after me.1 a) in
-    dite (ℕ_discrete n 0)
-    (λ e. subst (λ b. Goal (cond b 1 n)) (sym (eq-eqb n 0 e)) (
-    let w = first (owning i Opened) v.owns v₁ in let wx = first (owning i Exclusive) v.owns v₁ in
-    let shut : named i opened s.views ≡ 0 = omega arith in
-    let locked : LotRule words family (at_hand (set s.words i 1) s.homes (set s.views id wx)) = stepped_so words family s o number id 1 (Exchange 0 1) v (owning i Exclusive ∷ v.owns) below at
-    (λ r ne weight. first_elsewhere i r Exclusive v.owns weight ne)
-    (λ after same. (omega arith, omega (arith, same everyone, first_owns i Exclusive v.owns everyone), omega (arith, same exclusive, same opened, first_owns i Exclusive v.owns exclusive, first_owns i Exclusive v.owns opened)))
-    (λ r. first_counts i r Exclusive v.owns) (omega (arith, first_owns i Exclusive v.owns opened)) in
-    let out : LotRule words family (at_hand (set s.words i 1) (set s.homes i none) (set (set s.views id wx) id w)) =
-    reopened words family (at_hand (set s.words i 1) s.homes (set s.views id wx)) locked number id Exclusive Opened none v.owns v₁ below (set_here s.views id wx (has_index s.views id v at)) refl refl (λ e. absurd (omega arith)) in
-    (w, takes i (slot_at family i), o.permits number below shut, subst (λ vs. LotRule words family (at_hand (set s.words i 1) (set s.homes i none) vs)) (set_again s.views id wx w) out, ((λ _. refl), λ ne. absurd (ne e)))))
-    (λ ne. subst (λ b. Goal (cond b 1 n)) (sym (ne_eqb n 0 ne)) (
-      v₁,
+  abbrev found : ℕ
+  found = get_or s.words here 0
+
+  -- a seat with this view views that instead, and the word is this
+  abbrev stepped_to : ℕ → ℕ → View → List (Option PermitSlot) → State PermitSlot View
+  stepped_to id m w homes = at_hand (set s.words here m) homes (set s.views id w)
+
+  -- a view that owned these and lists the step
+  abbrev listing : Op → View → List Ownership → View
+  listing op v owns = view (listed v here op found) owns v.drawn v.saw
+
+  stepped_so : (id m : ℕ) (op : Op) (v : View) (owns : List Ownership) → get_elem? s.views id ≡ some v
+      → ((r : ℕ) → r ≢ here → (weight : Owner → ℕ) → owned r weight owns ≡ owned r weight v.owns)
+      → ((after : Owners) → ((weight : Owner → ℕ) → after weight + owned here weight v.owns
+      ≡ named here weight s.views + owned here weight owns) → IsMutexCode m after)
+      → ((r : ℕ) → counted r owns ≡ counted r v.owns) → owned here opened owns ≡ owned here opened v.owns
+      → LotRule words family (stepped_to id m (listing op v owns) s.homes)
+  stepped_so id m op v owns at others codes counts same_open =
+      turned words family s o number Mutex id m v (listing op v owns) at below others codes tt (λ r ne. counts r) (λ is. same_open)
+      refl refl (omega (arith, steps_more v here found here op, cond_same here here 1 refl))
+      (λ r. omega (arith, steps_more v here found r op))
+
+  code : IsMutexCode found (λ weight. named here weight s.views)
+  code = o.coded number Mutex below
+
+  -- a step that leaves the word as it was, and what its seat owns
+  unchanged : (id : ℕ) (op : Op) (v : View) → get_elem? s.views id ≡ some v
+      → LotRule words family (stepped_to id found (listing op v v.owns) s.homes)
+  unchanged id op v at = let small = code.0 in let all = code.1 in let alone = code.2 in
+      stepped_so id found op v v.owns at (λ r ne weight. refl)
+      (λ after same. (small, omega (arith, same everyone), omega (arith, same exclusive, same opened))) (λ r. refl) refl
+
+  -- a step that locks the mutex
+  locked : (id m : ℕ) (op : Op) (v : View) → get_elem? s.views id ≡ some v → found % 2 ≡ 0 → m < 4 → m % 2 ≡ 1
+      → LotRule words family (stepped_to id m (listing op v (owning here Exclusive ∷ v.owns)) s.homes)
+  locked id m op v at even small odd = let all = code.1 in let alone = code.2 in
+      stepped_so id m op v (owning here Exclusive ∷ v.owns) at (λ r ne weight. first_elsewhere here r Exclusive v.owns weight ne)
+      (λ after same. (
+        small,
+        omega (arith, same everyone, first_owns here Exclusive v.owns everyone),
+        omega (arith, same exclusive, same opened, first_owns here Exclusive v.owns exclusive, first_owns here Exclusive v.owns opened),
+      ))
+      (λ r. first_counts here r Exclusive v.owns) (omega (arith, first_owns here Exclusive v.owns opened))
+
+  -- a step that unlocks it
+  unlocked : (id m : ℕ) (op : Op) (owns : List Ownership) (u : View)
+      → get_elem? s.views id ≡ some (first (owning here Exclusive) owns u) → found % 2 ≡ 1 → m < 4 → m % 2 ≡ 0
+      → LotRule words family (stepped_to id m (listing op (first (owning here Exclusive) owns u) owns) s.homes)
+  unlocked id m op owns u at odd small even = let all = code.1 in let alone = code.2 in
+      stepped_so id m op (first (owning here Exclusive) owns u) owns at
+      (λ r ne weight. sym (first_elsewhere here r Exclusive owns weight ne))
+      (λ after same. (
+        small,
+        omega (arith, same everyone, first_owns here Exclusive owns everyone),
+        omega (arith, same exclusive, same opened, first_owns here Exclusive owns exclusive, first_owns here Exclusive owns opened),
+      ))
+      (λ r. sym (first_counts here r Exclusive owns)) (omega (arith, first_owns here Exclusive owns opened))
+
+-- each code either is free, and the step locks it, or stays as it is
+abbrev pub Entering : Op → (ℕ → Type 0) → Type 0
+Entering op IsFree = (n : ℕ) → n < 4
+    → (IsFree n × (n % 2 ≡ 0) × (apply op n < 4) × (apply op n % 2 ≡ 1)) ⊎ ((IsFree n → ⊥) × (apply op n ≡ n))
+
+pub exchange_enters : Entering (Exchange 0 1) IsZero
+exchange_enters = each_code (λ n. (IsZero n × (n % 2 ≡ 0) × (apply (Exchange 0 1) n < 4) × (apply (Exchange 0 1) n % 2 ≡ 1)) ⊎ ((IsZero n → ⊥) × (apply (Exchange 0 1) n ≡ n)))
+    (inl (refl, refl, omega arith, refl)) (inr ((λ e. absurd (omega arith)), refl)) (inr ((λ e. absurd (omega arith)), refl)) (inr ((λ e. absurd (omega arith)), refl))
+
+pub or_enters : Entering (Or 1) IsEven
+or_enters = each_code (λ n. (IsEven n × (n % 2 ≡ 0) × (apply (Or 1) n < 4) × (apply (Or 1) n % 2 ≡ 1)) ⊎ ((IsEven n → ⊥) × (apply (Or 1) n ≡ n)))
+    (inl (refl, refl, omega arith, refl)) (inr ((λ e. absurd (omega arith)), refl)) (inl (refl, refl, omega arith, refl)) (inr ((λ e. absurd (omega arith)), refl))
+
+-- each code of a locked mutex either is the last, and the step unlocks it, or stays as it is
+abbrev pub Leaving : Op → (ℕ → Type 0) → Type 0
+Leaving op IsLast = (n : ℕ) → n < 4 → n % 2 ≡ 1
+    → (IsLast n × (apply op n < 4) × (apply op n % 2 ≡ 0)) ⊎ ((IsLast n → ⊥) × (apply op n ≡ n))
+
+pub subtraction_leaves : Leaving (Sub 1) IsAny
+subtraction_leaves = each_code (λ n. n % 2 ≡ 1 → (IsAny n × (apply (Sub 1) n < 4) × (apply (Sub 1) n % 2 ≡ 0)) ⊎ ((IsAny n → ⊥) × (apply (Sub 1) n ≡ n)))
+    (λ odd. absurd (omega arith)) (λ odd. inl (tt, omega arith, refl)) (λ odd. absurd (omega arith)) (λ odd. inl (tt, omega arith, refl))
+
+pub exchange_leaves : Leaving (Exchange 1 0) IsOne
+exchange_leaves = each_code (λ n. n % 2 ≡ 1 → (IsOne n × (apply (Exchange 1 0) n < 4) × (apply (Exchange 1 0) n % 2 ≡ 0)) ⊎ ((IsOne n → ⊥) × (apply (Exchange 1 0) n ≡ n)))
+    (λ odd. absurd (omega arith)) (λ odd. inl (refl, omega arith, refl)) (λ odd. absurd (omega arith)) (λ odd. inr ((λ e. absurd (omega arith)), refl))
+
+-- a step that enters a mutex
+pub enters_allowed : (words family slots id : ℕ) (me : Me PermitSlot View) (number : ℕ) (op : Op) (IsFree : ℕ → Type 0) → Entering op IsFree → number < words
+    → let i = word_index number Mutex in Allows (LotRule words family) slots id me i (apply op) (enters_open family i op IsFree (step slots i 0 0 none) me)
+enters_allowed words family slots id me number op IsFree entering below s o wide at fits =
+    let i : ℕ = word_index number Mutex in let n : ℕ = get_or s.words i 0 in let v = me.0 in let w = stepping v i op n in
+    let codes = code words family s o number below in let small = codes.0 in let all = codes.1 in let alone = codes.2 in
+    ⊎_elim (λ enters. (
+    let m : ℕ = apply op n in let even = enters.1 in let wx = first (owning i Exclusive) v.owns w in let shut : named i opened s.views ≡ 0 = omega arith in
+    let mine : LotRule words family (at_hand (set s.words i m) s.homes (set s.views id wx)) = locked words family s o number below id m op v at even enters.2 enters.3 in
+    let out : LotRule words family (at_hand (set s.words i m) (set s.homes i none) (set (set s.views id wx) id (first (owning i Opened) v.owns w))) =
+    reopened words family (at_hand (set s.words i m) s.homes (set s.views id wx)) mine number id Exclusive Opened none v.owns w below (set_here s.views id wx (has_index s.views id v at)) refl refl (λ e. absurd (omega arith)) in (
+      first (owning i Opened) v.owns w,
+      takes i (slot_at family i),
+      o.permits number below shut,
+      subst (λ vs. LotRule words family (at_hand (set s.words i m) (set s.homes i none) vs)) (set_again s.views id wx (first (owning i Opened) v.owns w)) out,
+      ((λ _. refl), λ not. absurd (not enters.0)),
+    )))
+    (λ stays. (
+      w,
       keeps,
       tt,
-      stepped_so words family s o number id n (Exchange 0 1) v v.owns below at (λ r ne weight. refl)
-          (λ after same. (small, omega (arith, same everyone), omega (arith, same exclusive, same opened))) (λ r. refl) refl,
-      ((λ e. absurd (ne e)), λ _. refl),
+      subst (λ (k : ℕ). LotRule words family (at_hand (set s.words i k) s.homes (set s.views id w))) (sym stays.1) (unchanged words family s o number below id op v at),
+      ((λ free. absurd (stays.0 free)), λ _. refl),
     ))
+    (entering n small)
 
--- the subtraction that leaves a mutex
-pub leaves_allowed : (words family slots id : ℕ) (number : ℕ) (owns : List Ownership) (u : View) (c : List (ℕ × PermitSlot)) → number < words
+-- a load that is a try where it finds the mutex locked
+pub sees_locked_allowed : (words family slots id : ℕ) (me : Me PermitSlot View) (number : ℕ) → number < words
+    → let i = word_index number Mutex in Allows (LotRule words family) slots id me i (λ n. n) (sees_locked i (step slots i 0 0 none) me)
+sees_locked_allowed words family slots id me number below s o wide at fits =
+    let i : ℕ = word_index number Mutex in let n : ℕ = get_or s.words i 0 in let v = me.0 in let w = stepping v i (Or 1) n in
+    dite (ℕ_discrete (n % 2) 0)
+    (λ even. (
+      v,
+      keeps,
+      tt,
+      subst (λ (xs : List ℕ). LotRule words family (at_hand xs s.homes (set s.views id v))) (sym (set-get_or s.words i 0))
+          (subst (λ (vs : List View). LotRule words family (at_hand s.words s.homes vs)) (sym (set_elem s.views id v at)) o),
+      ((λ _. refl), λ not. absurd (not even)),
+    ))
+    (λ odd. (w, keeps, tt, unchanged words family s o number below id (Or 1) v at, ((λ even. absurd (odd even)), λ _. refl)))
+
+-- a step that leaves a mutex
+pub leaves_allowed : (words family slots id : ℕ) (number : ℕ) (owns : List Ownership) (u : View) (c : List (ℕ × PermitSlot)) (op : Op) (IsLast : ℕ → Type 0) → Leaving op IsLast → number < words
     → let i = word_index number Mutex in let me : Me PermitSlot View = (first (owning i Opened) owns u, (i, slot_at family i) ∷ c) in
-    Allows (LotRule words family) slots id me i (apply (Sub 1)) (leaves_open i (step slots i 1 0 none) me)
-leaves_allowed words family slots id number owns u c below s o wide at fits =
+    Allows (LotRule words family) slots id me i (apply op) (leaves_open i op IsLast (step slots i 0 0 none) me)
+leaves_allowed words family slots id number owns u c op IsLast leaving below s o wide at fits =
     let i : ℕ = word_index number Mutex in let n : ℕ = get_or s.words i 0 in let slot = slot_at family i in
     let v = first (owning i Opened) owns u in let vx = first (owning i Exclusive) owns u in
-    let me : Me PermitSlot View = (v, (i, slot) ∷ c) in let w = view (listed v i (Sub 1) n) owns u.drawn u.saw in
-    let code : IsMutexCode n (λ weight. named i weight s.views) = o.coded number Mutex below in let small : n < 4 = code.0 in let code₁ = code.1 in let code₂ = code.2 in
+    let codes = code words family s o number below in let small = codes.0 in let all = codes.1 in let alone = codes.2 in
     let mine : owned i everyone v.owns ≤ named i everyone s.views = term_le (λ (u : View). owned i everyone u.owns) s.views id v at in
     let odd : n % 2 ≡ 1 = omega (arith, first_owns i Opened owns everyone) in
     let s₁ = at_hand s.words (set s.homes i (some slot)) (set s.views id vx) in
     let shut : LotRule words family s₁ = reopened words family s o number id Opened Exclusive (some slot) owns u below at refl refl (λ e. refl) in
-    let shut_code : IsMutexCode n (λ weight. named i weight s₁.views) = shut.coded number Mutex below in let shut₁ = shut_code.1 in let shut₂ = shut_code.2 in
-    let Goal : ℕ → Type 0 = λ m. (w : View) × (a : Act PermitSlot) × Valid s.homes me.1 a × LotRule words family (stepped s i m id me.1 w a) × leaves_open i (step slots i 1 0 none) me n (w, carried_after me.1 a) in
-    let left : (m : ℕ) → m < 4 → m % 2 ≡ 0 → (n ≡ 1) ⊎ (n ≡ 3) → Goal m = λ m less even which. (
-    let out : LotRule words family (at_hand (set s.words i m) (set s.homes i (some slot)) (set (set s.views id vx) id w)) = stepped_so words family s₁ shut number id m (Sub 1) vx owns below (set_here s.views id vx (has_index s.views id v at))
-    (λ r ne weight. sym (first_elsewhere i r Exclusive owns weight ne))
-    (λ after same. (less, omega (arith, same everyone, first_owns i Exclusive owns everyone), omega (arith, same exclusive, same opened, first_owns i Exclusive owns exclusive, first_owns i Exclusive owns opened)))
-    (λ r. sym (first_counts i r Exclusive owns)) (omega (arith, first_owns i Exclusive owns opened)) in
-    (w, gives, tt, subst (λ vs. LotRule words family (at_hand (set s.words i m) (set s.homes i (some slot)) vs)) (set_again s.views id vx w) out, (which, refl))) in
-    dite (ℕ_discrete n 1)
-    (λ e. left (apply (Sub 1) n) (subst (λ (k : ℕ). apply (Sub 1) k < 4) (sym e) (omega arith)) (subst (λ (k : ℕ). apply (Sub 1) k % 2 ≡ 0) (sym e) refl) (inl e))
-    (λ ne. let e : n ≡ 3 = omega arith in left (apply (Sub 1) n) (subst (λ (k : ℕ). apply (Sub 1) k < 4) (sym e) (omega arith)) (subst (λ (k : ℕ). apply (Sub 1) k % 2 ≡ 0) (sym e) refl) (inr e))
+    let at₁ = set_here s.views id vx (has_index s.views id v at) in let which : (n ≡ 1) ⊎ (n ≡ 3) = dite (ℕ_discrete n 1) (λ e. inl e) (λ ne. inr (omega arith)) in
+    let Rule : ℕ → List View → Type 0 = λ k vs. LotRule words family (at_hand (set s.words i k) (set s.homes i (some slot)) vs) in
+    ⊎_elim (λ last. (
+    let w = view (listed v i op n) owns u.drawn u.saw in let out : Rule (apply op n) (set (set s.views id vx) id w) = unlocked words family s₁ shut number below id (apply op n) op owns u at₁ odd last.1 last.2 in
+    (w, gives, tt, subst (λ vs. Rule (apply op n) vs) (set_again s.views id vx w) out, (which, ((λ _. refl), λ not. absurd (not last.0))))))
+    (λ stays. (
+    let w = view (listed v i op n) (owning i Exclusive ∷ owns) u.drawn u.saw in let still : Rule n (set (set s.views id vx) id w) = unchanged words family s₁ shut number below id op vx at₁ in
+    (w, gives, tt, subst (λ (k : ℕ). Rule k (set s.views id w)) (sym stays.1) (subst (λ vs. Rule n vs) (set_again s.views id vx w) still), (which, ((λ is. absurd (stays.0 is)), λ _. refl)))))
+    (leaving n small odd)
 
 -- a seat keeps what it owns first, and all else goes to a seat of its own
 pub keeps_first : (words family id : ℕ) (x : Ownership) (v : View) → Splits (LotRule words family) id (takes_in v (piece x)) (piece x) v

@@ -1,5 +1,5 @@
 -- What each step tells who takes it: of the step, the seat before, the value found and the seat after.
-use Rattle.std.specs.Prelude.{◌≡◌, ◌≢◌, ◌⊎◌, bit_or, ℕ, ◌+◌, ◌<◌, List, [], ◌∷◌, ◌++◌}
+use Rattle.std.specs.Prelude.{◌≡◌, ◌≢◌, ◌⊎◌, bit_or, ℕ, ◌+◌, ◌%◌, ◌<◌, List, [], ◌∷◌, ◌++◌}
 use Rattle.atomic_table.specs.Table.{Me, Step, rest}
 use Rattle.lot_base.specs.declared.ops.Op.{Op}
 use Rattle.lot_base.specs.declared.ops.Op.TheVariants.{Load, Store, Swap, Add, Sub, Or, And, Exchange}
@@ -81,13 +81,13 @@ left_over x v = view v.steps (without x v.owns) v.drawn v.saw
 abbrev pub piece : Ownership → View
 piece x = view [] (x ∷ []) [] 0
 
--- all but what it owns first
-abbrev pub others : List Ownership → List Ownership
-others [] = []
-others (x ∷ xs) = xs
+abbrev pub all_but_front : List Ownership → List Ownership
+all_but_front [] = []
+all_but_front (x ∷ xs) = xs
 
-abbrev pub behind_first : View → View
-behind_first v = view v.steps (others v.owns) v.drawn v.saw
+-- a view without what it owns first
+abbrev pub without_front : View → View
+without_front v = view v.steps (all_but_front v.owns) v.drawn v.saw
 
 -- a view takes in what another owns
 abbrev pub takes_in : View → View → View
@@ -97,15 +97,36 @@ takes_in v w = view v.steps (w.owns ++ v.owns) v.drawn v.saw
 abbrev pub stepping : View → ℕ → Op → ℕ → View
 stepping v at op found = view (listed v at op found) v.owns v.drawn v.saw
 
--- who enters a mutex that nobody has takes its permit out with that step. An exchange that misses is no more than a step
-abbrev pub enters_open : ℕ → ℕ → Play PermitSlot
-enters_open family at st me found after = let v = stepping me.0 at (Exchange 0 1) found in
-    (found ≡ 0 → after ≡ (takes_in v (piece (owning at Opened)), (at, slot_at family at) ∷ me.1)) × (found ≢ 0 → after ≡ (v, me.1))
+-- who enters a mutex takes its permit out with that step: by a step of a kind that enters where it finds this. Any other is no more than a
+-- step
+abbrev pub enters_open : ℕ → ℕ → Op → (ℕ → Type 0) → Play PermitSlot
+enters_open family at op IsFree st me found after = let v = stepping me.0 at op found in
+    (IsFree found → after ≡ (takes_in v (piece (owning at Opened)), (at, slot_at family at) ∷ me.1)) × ((IsFree found → ⊥) → after ≡ (v, me.1))
 
--- who owns a mutex first, whose permit is out, lays it back with the step that gives the mutex up
-abbrev pub leaves_open : ℕ → Play PermitSlot
-leaves_open at st me found after = ((found ≡ 1) ⊎ (found ≡ 3))
-    × (after ≡ (stepping (behind_first me.0) at (Sub 1) found, rest me.1))
+-- the exchange of an unlocked mutex's word, and the or of a try
+abbrev pub IsZero : ℕ → Type 0
+IsZero n = n ≡ 0
+
+abbrev pub IsEven : ℕ → Type 0
+IsEven n = n % 2 ≡ 0
+
+-- a load that finds a mutex locked is a try, and any other is no step
+abbrev pub sees_locked : {S : Type 0} → ℕ → Play S
+sees_locked at st me found after = (IsEven found → after ≡ me) × ((IsEven found → ⊥) → after ≡ (stepping me.0 at (Or 1) found, me.1))
+
+-- who owns a mutex first, whose permit is out, lays it back with a step that gives the mutex up where it finds this. Where it finds something
+-- else it owns the mutex still, and the permit lies in its slot
+abbrev pub leaves_open : ℕ → Op → (ℕ → Type 0) → Play PermitSlot
+leaves_open at op IsLast st me found after = let v = without_front me.0 in ((found ≡ 1) ⊎ (found ≡ 3))
+    × ((IsLast found → after ≡ (stepping v at op found, rest me.1))
+    × ((IsLast found → ⊥) → after ≡ (stepping (takes_in v (piece (owning at Exclusive))) at op found, rest me.1)))
+
+-- the subtraction, which gives the mutex up whatever it finds, and the exchange, which does so where nobody waits
+abbrev pub IsAny : ℕ → Type 0
+IsAny n = Unit {0}
+
+abbrev pub IsOne : ℕ → Type 0
+IsOne n = n ≡ 1
 
 -- who owns the mutex of this word, and nothing else, takes its permit out, or lays it back, by a load of any word
 abbrev pub opens : ℕ → ℕ → Play PermitSlot

@@ -1,9 +1,10 @@
 -- What a right names.
-use Rattle.std.specs.Prelude.{◌≡◌, ◌⊎◌, ◌/◌, ◌==◌, ℕ, List, cond, map, true}
+use Rattle.std.specs.Prelude.{◌≡◌, ◌⊎◌, ◌/◌, ◌==◌, ℕ, List, [], ◌∷◌, cond, map, true}
 use Rattle.lot_words.specs.Indices.{word_index}
 use Rattle.lot_words.specs.Views.{owning, owning_with}
 use Rattle.lot_words.specs.Steps.{has}
-use Rattle.lot_words.specs.Plays.{piece}
+use Rattle.lot_words.specs.Permits.{bare}
+use Rattle.lot_words.specs.Plays.{piece, stepping, takes_in}
 use Rattle.lot_words.specs.declared.owners.Owner.{Owner}
 use Rattle.lot_words.specs.declared.owners.Owner.TheVariants.{Exclusive, Opened, Pending, Upgrading, Upgradable, Shared, Runner, Witness}
 use Rattle.lot_words.specs.declared.owners.Ownership.{Ownership}
@@ -11,7 +12,10 @@ use Rattle.lot_words.specs.declared.views.View.{View}
 use Rattle.lot_words.specs.declared.words.Word.{Word}
 use Rattle.lot_words.specs.declared.words.WordKind.{WordKind}
 use Rattle.lot_words.specs.declared.words.WordKind.TheVariants.{Mutex, RwLock}
+use Rattle.lot_base.specs.declared.ops.Op.TheVariants.{Exchange}
 use Rattle.lot_base.specs.declared.wants.Want as wants
+use Rattle.value_place.specs.PermitIds.{PermitId}
+use Rattle.value_place.specs.declared.slot.PermitSlot.{PermitSlot}
 
 -- who has what was wanted owns the word so
 abbrev pub owner_for : wants.Want → Owner
@@ -58,3 +62,21 @@ piece_of word owner = piece (named_by word owner)
 -- it owns a mutex, and says this of its count word
 abbrev pub OwnsWith : Word → ℕ → View → Type 0
 OwnsWith mutex count v = has (owning_with (word_index mutex.number Mutex) count) v.owns ≡ true
+
+-- who is handed a mutex is handed the permit of its value with it, and its slot stays bare
+abbrev pub owner_handed : WordKind → Owner → Owner
+owner_handed Mutex Exclusive = Opened
+owner_handed _ owner = owner
+
+abbrev pub slots_handed : ℕ → WordKind → Owner → List (ℕ × PermitSlot)
+slots_handed at Mutex Exclusive = (at, bare) ∷ []
+slots_handed at _ owner = []
+
+abbrev pub permits_handed : PermitId → WordKind → Owner → List PermitId
+permits_handed permit Mutex Exclusive = permit ∷ []
+permits_handed permit _ owner = []
+
+-- what a view is behind the exchange that leaves a mutex where nobody waits, which saw this: where it missed, the mutex is owned still
+abbrev pub leaving_alone : View → Word → ℕ → View
+leaving_alone v word seen = let at = word_index word.number word.kind in
+    cond (seen == 1) (stepping v at (Exchange 1 0) seen) (stepping (takes_in v (piece_of word Exclusive)) at (Exchange 1 0) seen)

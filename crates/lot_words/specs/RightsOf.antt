@@ -1,9 +1,9 @@
 -- Rights of a lot.
 use Rattle.std.specs.Prelude.{◌≡◌, [], ◌∷◌}
 use Rattle.lot_words.specs.Indices.{word_index}
-use Rattle.lot_words.specs.Lots.{IsSeatOf, IsWordOf}
+use Rattle.lot_words.specs.Lots.{IsSeatOf, IsWordOf, permit_of}
 use Rattle.lot_words.specs.Permits.{bare}
-use Rattle.lot_words.specs.Rights.{MayHand, piece_of}
+use Rattle.lot_words.specs.Rights.{MayHand, permits_handed, piece_of}
 use Rattle.lot_words.specs.declared.owners.Owner.{Owner}
 use Rattle.lot_words.specs.declared.owners.Owner.TheVariants.{Opened}
 use Rattle.lot_words.specs.declared.table.LotWords.{LotWords}
@@ -17,8 +17,10 @@ use Rattle.lot_base.specs.declared.wants.Want.{Want}
 abbrev pub IsHeldOf : LotWords → Word → Owner → Held → Type 0
 IsHeldOf lot word owner held = IsSeatOf lot held.seat × (held.seat.me ≡ (piece_of word owner, []))
 
+-- a right of the lot: where a mutex is handed over, the permit of its value goes along
 abbrev pub IsRightOf : LotWords → Right → Type 0
 IsRightOf lot right = IsSeatOf lot right.seat × IsWordOf lot right.word
+    × (right.permit.holds ≡ permits_handed (permit_of lot right.word) right.word.kind right.owner)
 
 -- it names a word, and an owner whom a want may be handed
 abbrev pub IsFor : Word → Want → Right → Type 0

@@ -1,17 +1,20 @@
 //! The permits of the values that mutexes guard: each lies beside the word of its mutex, and who owns that takes it out.
-ghost use Rattle.std.specs.Prelude.{◌≡◌, ◌≢◌, ◌⊎◌, [], ◌∷◌, IfOk, MatchResult};
-ghost use Rattle.lot_base.specs.declared.ops.Op.TheVariants.{Exchange, Sub};
+ghost use Rattle.std.specs.Prelude.{◌≡◌, ◌≢◌, ◌⊎◌, ◌%◌, [], ◌∷◌, IfOk, MatchOption, MatchResult};
+ghost use Rattle.lot_base.specs.declared.ops.Op.TheVariants.{Exchange, Or, Sub};
 ghost use Rattle.lot_words.specs.Indices.{word_index};
 ghost use Rattle.lot_words.specs.Permits.{bare, slot_at};
-ghost use Rattle.lot_words.specs.Plays.{behind_first, piece, stepping, takes_in};
-ghost use Rattle.lot_words.specs.Rights.{piece_of};
+ghost use Rattle.lot_words.specs.Plays.{piece, stepping, takes_in, without_front};
+ghost use Rattle.lot_words.specs.Rights.{leaving_alone, piece_of};
 ghost use Rattle.lot_words.specs.Views.{owning};
 ghost use Rattle.lot_words.specs.declared.owners.Owner.TheVariants.{Exclusive, Opened};
 ghost use Rattle.lot_words.specs.declared.views.View.{View};
 ghost use Rattle.lot_words.specs.declared.words.WordKind.TheVariants.{Mutex};
 
 use crate::owners::Owner;
-use crate::plays::{Closes, EntersOpen, GoesOn, KeepsOpen, LeavesOpen, Opens, PermitPick};
+use crate::plays::{
+    Closes, EntersOpen, GoesOn, KeepsOpen, LeavesAlone, LeavesOpen, Opens, PermitPick, SeesLocked,
+    TriesOpen,
+};
 use crate::rights::Held;
 use crate::table::{LotWords, Seat};
 use crate::words::Word;
@@ -30,7 +33,7 @@ impl LotWords {
 
     // The seat is that of a right. It steps by a load of the counter: one of the mutex's own word, just written, would wait for it.
     #[inline]
-    fn take_permit<P: PermitPick>(&self, seat: &mut Seat, word: Word) -> Permit
+    pub(crate) fn take_permit<P: PermitPick>(&self, seat: &mut Seat, word: Word) -> Permit
         requires pick { (P.family ≡ self.now.table.shared.key.1.family) × (P.at ≡ word_index word.number word.kind) }
         requires own { IsSeatOf self.now seat.old × IsWordOf self.now word }
         requires owner { (word.kind ≡ Mutex) × (seat.old.me ≡ (piece_of word Exclusive, [])) }
@@ -46,7 +49,7 @@ impl LotWords {
 
     // Lays it back, in the same way.
     #[inline]
-    fn lay_permit<P: PermitPick>(&self, seat: &mut Seat, word: Word, permit: Permit)
+    pub(crate) fn lay_permit<P: PermitPick>(&self, seat: &mut Seat, word: Word, permit: Permit)
         requires pick { P.at ≡ word_index word.number word.kind }
         requires own { IsSeatOf self.now seat.old × IsWordOf self.now word × (permit.id ≡ permit_of self.now word) }
         requires opened { (word.kind ≡ Mutex) × (seat.old.me ≡ (piece_of word Opened, (word_index word.number word.kind, bare) ∷ [])) }
@@ -59,7 +62,41 @@ impl LotWords {
         words.load::<Closes<P>>(seat, 0);
     }
 
-    // The step that enters, in which the pick says whose permit it takes.
+    // Of a seat that has just entered: it keeps the mutex, and another goes on with all else.
+    #[inline]
+    fn keep_open<P: PermitPick>(&self, seat: &mut Seat, word: Word) -> (OpenHeld, Permit)
+        requires pick { (P.family ≡ self.now.table.shared.key.1.family) × (P.at ≡ word_index word.number word.kind) }
+        requires own { IsSeatOf self.now seat.old × IsWordOf self.now word }
+        requires entered { (v : View) × (seat.old.me ≡ (takes_in v (piece (owning P.at Opened)), (P.at, slot_at P.family P.at) ∷ [])) }
+        ensures own { IsSeatOf self.now seat.new }
+        ensures left { seat.new.me ≡ (without_front seat.old.me.0, []) }
+        ensures opened { IsOpenOf self.now word result.0 × (result.1.id ≡ permit_of self.now word) }
+    {
+        let words = &self.table.shared;
+        let slot = words.exchange(seat, word.index(), PermitSlot::empty());
+        let next = words.split_seat::<KeepsOpen<P>>(seat);
+        let opened = mem::replace(seat, next);
+        (OpenHeld { seat: opened }, slot.into_permit())
+    }
+
+    // Of a seat that is about to leave: it takes in all that the thread's other seat has done and owns, and the permit lies in the slot.
+    #[inline]
+    fn lay_open(&self, seat: &mut Seat, word: Word, opened: OpenHeld, permit: Permit)
+        requires own { IsSeatOf self.now seat.old × IsWordOf self.now word × (seat.old.me.1 ≡ []) }
+        requires opened { IsOpenOf self.now word opened × (permit.id ≡ permit_of self.now word) }
+        ensures { IsSeatOf self.now seat.new × (seat.new.me ≡ (
+          takes_in seat.old.me.0 (piece_of word Opened),
+          (word_index word.number word.kind, slot_at self.now.table.shared.key.1.family (word_index word.number word.kind)) ∷ [],
+        )) }
+    {
+        let OpenHeld { seat: owner } = opened;
+        let other = mem::replace(seat, owner);
+        let words = &self.table.shared;
+        words.join_seat::<GoesOn>(seat, other);
+        drop(words.exchange(seat, word.index(), permit.into_slot()));
+    }
+
+    // The steps that enter and leave, in which the pick says whose permit it is.
     #[inline]
     fn enter_picked<P: PermitPick>(
         &self,
@@ -74,33 +111,72 @@ impl LotWords {
             (λ seen. (seen ≢ 0) × (seat.new.me.0 ≡ stepping seat.old.me.0 (word_index word.number word.kind) (Exchange 0 1) seen)) }
         ensures opened { IfOk result (λ taken. IsOpenOf self.now word taken.0 × (taken.1.id ≡ permit_of self.now word)) }
     {
-        let at = word.index();
         let words = &self.table.shared;
-        let seen = words.compare_exchange::<EntersOpen<P>>(seat, at, 0, 1);
+        let seen = words.compare_exchange::<EntersOpen<P>>(seat, word.index(), 0, 1);
         if seen != 0 {
             return Err(seen);
         }
-        let slot = words.exchange(seat, at, PermitSlot::empty());
-        let next = words.split_seat::<KeepsOpen<P>>(seat);
-        let opened = mem::replace(seat, next);
-        Ok((OpenHeld { seat: opened }, slot.into_permit()))
+        Ok(self.keep_open::<P>(seat, word))
     }
 
-    // The step that leaves, of a seat that has taken in all that another has done and owns.
     #[inline]
-    fn leave_picked<P: PermitPick>(&self, seat: &mut Seat, word: Word, permit: Permit) -> u64
-        requires pick { P.at ≡ word_index word.number word.kind }
-        requires own { IsSeatOf self.now seat.old × IsWordOf self.now word × (word.kind ≡ Mutex) × (permit.id ≡ permit_of self.now word) }
-        requires opened { (v : View) × (seat.old.me ≡ (takes_in v (piece_of word Opened), (word_index word.number word.kind, bare) ∷ [])) }
+    fn try_enter_picked<P: PermitPick>(
+        &self,
+        seat: &mut Seat,
+        word: Word,
+    ) -> (u64, Option<(OpenHeld, Permit)>)
+        requires pick { (P.family ≡ self.now.table.shared.key.1.family) × (P.at ≡ word_index word.number word.kind) }
+        requires own { IsSeatOf self.now seat.old × IsWordOf self.now word × (word.kind ≡ Mutex) × (seat.old.me.1 ≡ []) }
         ensures own { IsSeatOf self.now seat.new × (seat.new.me.1 ≡ []) }
-        ensures stepped { seat.new.me.0 ≡ stepping (behind_first seat.old.me.0) (word_index word.number word.kind) (Sub 1) result }
-        ensures coded { (result ≡ 1) ⊎ (result ≡ 3) }
+        ensures stepped { seat.new.me.0 ≡ stepping seat.old.me.0 (word_index word.number word.kind) (Or 1) result.0 }
+        ensures opened { MatchOption result.1 (result.0 % 2 ≢ 0)
+            (λ taken. (result.0 % 2 ≡ 0) × IsOpenOf self.now word taken.0 × (taken.1.id ≡ permit_of self.now word)) }
     {
         let at = word.index();
         let words = &self.table.shared;
-        let slot = permit.into_slot();
-        drop(words.exchange(seat, at, slot));
-        words.fetch_sub::<LeavesOpen<P>>(seat, at, 1)
+        let looked = words.load::<SeesLocked<P>>(seat, at);
+        if looked % 2 != 0 {
+            return (looked, None);
+        }
+        let seen = words.fetch_or::<TriesOpen<P>>(seat, at, 1);
+        if seen % 2 != 0 {
+            return (seen, None);
+        }
+        (seen, Some(self.keep_open::<P>(seat, word)))
+    }
+
+    #[inline]
+    fn leave_picked<P: PermitPick>(&self, seat: &mut Seat, word: Word) -> u64
+        requires pick { P.at ≡ word_index word.number word.kind }
+        requires own { IsSeatOf self.now seat.old × IsWordOf self.now word × (word.kind ≡ Mutex) }
+        requires laid { (v : View) × (seat.old.me ≡ (
+          takes_in v (piece_of word Opened),
+          (word_index word.number word.kind, slot_at self.now.table.shared.key.1.family (word_index word.number word.kind)) ∷ [],
+        )) }
+        ensures own { IsSeatOf self.now seat.new × (seat.new.me.1 ≡ []) }
+        ensures stepped { seat.new.me.0 ≡ stepping (without_front seat.old.me.0) (word_index word.number word.kind) (Sub 1) result }
+        ensures coded { (result ≡ 1) ⊎ (result ≡ 3) }
+    {
+        self.table
+            .shared
+            .fetch_sub::<LeavesOpen<P>>(seat, word.index(), 1)
+    }
+
+    #[inline]
+    fn leave_alone_picked<P: PermitPick>(&self, seat: &mut Seat, word: Word) -> u64
+        requires pick { P.at ≡ word_index word.number word.kind }
+        requires own { IsSeatOf self.now seat.old × IsWordOf self.now word × (word.kind ≡ Mutex) }
+        requires laid { (v : View) × (seat.old.me ≡ (
+          takes_in v (piece_of word Opened),
+          (word_index word.number word.kind, slot_at self.now.table.shared.key.1.family (word_index word.number word.kind)) ∷ [],
+        )) }
+        ensures own { IsSeatOf self.now seat.new × (seat.new.me.1 ≡ []) }
+        ensures stepped { seat.new.me.0 ≡ leaving_alone (without_front seat.old.me.0) word result }
+        ensures coded { (result ≡ 1) ⊎ (result ≡ 3) }
+    {
+        self.table
+            .shared
+            .compare_exchange::<LeavesAlone<P>>(seat, word.index(), 1, 0)
     }
 
     /// Takes a mutex that nobody has, and the permit of its value with the same step. Else it answers what the step saw.
@@ -116,6 +192,18 @@ impl LotWords {
         self.enter_picked::<Brand>(seat, word)
     }
 
+    /// The same where others may wait. It answers what the step saw, and writes nothing to a mutex that it sees locked.
+    #[inline]
+    pub fn try_enter_open(&self, seat: &mut Seat, word: Word) -> (u64, Option<(OpenHeld, Permit)>)
+        requires own { IsSeatOf self.now seat.old × IsWordOf self.now word × (word.kind ≡ Mutex) × (seat.old.me.1 ≡ []) }
+        ensures own { IsSeatOf self.now seat.new × (seat.new.me.1 ≡ []) }
+        ensures stepped { seat.new.me.0 ≡ stepping seat.old.me.0 (word_index word.number word.kind) (Or 1) result.0 }
+        ensures opened { MatchOption result.1 (result.0 % 2 ≢ 0)
+            (λ taken. (result.0 % 2 ≡ 0) × IsOpenOf self.now word taken.0 × (taken.1.id ≡ permit_of self.now word)) }
+    {
+        self.try_enter_picked::<Brand>(seat, word)
+    }
+
     /// Gives a mutex up, and lays the permit of its value back with the same step. It answers the value before.
     #[inline]
     pub fn leave_open(&self, seat: &mut Seat, word: Word, opened: OpenHeld, permit: Permit) -> u64
@@ -125,10 +213,27 @@ impl LotWords {
         ensures stepped { seat.new.me.0 ≡ stepping seat.old.me.0 (word_index word.number word.kind) (Sub 1) result }
         ensures coded { (result ≡ 1) ⊎ (result ≡ 3) }
     {
-        let OpenHeld { seat: owner } = opened;
-        let other = mem::replace(seat, owner);
-        self.table.shared.join_seat::<GoesOn>(seat, other);
-        self.leave_picked::<Brand>(seat, word, permit)
+        self.lay_open(seat, word, opened, permit);
+        self.leave_picked::<Brand>(seat, word)
+    }
+
+    /// The same where nobody waits. Where somebody does, the seat owns the mutex, closed.
+    #[inline]
+    pub fn leave_open_alone(
+        &self,
+        seat: &mut Seat,
+        word: Word,
+        opened: OpenHeld,
+        permit: Permit,
+    ) -> u64
+        requires own { IsSeatOf self.now seat.old × IsWordOf self.now word × (word.kind ≡ Mutex) × (seat.old.me.1 ≡ []) }
+        requires opened { IsOpenOf self.now word opened × (permit.id ≡ permit_of self.now word) }
+        ensures own { IsSeatOf self.now seat.new × (seat.new.me.1 ≡ []) }
+        ensures stepped { seat.new.me.0 ≡ leaving_alone seat.old.me.0 word result }
+        ensures coded { (result ≡ 1) ⊎ (result ≡ 3) }
+    {
+        self.lay_open(seat, word, opened, permit);
+        self.leave_alone_picked::<Brand>(seat, word)
     }
 
     /// Takes the permit out of the value that a mutex guards, for who owns the mutex. It loads a word, which is no step of a call.

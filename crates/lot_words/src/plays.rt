@@ -2,7 +2,8 @@
 ghost use Rattle.std.specs.Prelude.{ℕ, [], List};
 ghost use Rattle.lot_words.specs.Rule.{LotRule};
 ghost use Rattle.lot_words.specs.Views.{blank, owning};
-ghost use Rattle.lot_words.specs.Plays.{loads, stores, swaps, adds, subs, ors, saw_set, ands, exchanges, looks, draws, left_over, behind_first, piece, takes_in, opens, closes, enters_open, leaves_open};
+ghost use Rattle.lot_words.specs.Plays.{loads, stores, swaps, adds, subs, ors, saw_set, ands, exchanges, looks, draws, left_over, without_front, piece, takes_in, opens, closes, enters_open, IsAny, IsEven, IsOne, IsZero, leaves_open, sees_locked};
+ghost use Rattle.lot_base.specs.declared.ops.Op.TheVariants.{Exchange, Or, Sub};
 ghost use Rattle.lot_words.specs.declared.owners.Ownership.{Ownership};
 ghost use Rattle.lot_words.specs.declared.owners.Owner.TheVariants.{Exclusive, Opened};
 ghost use Rattle.lot_words.specs.declared.words.WordKind.{WordKind};
@@ -185,7 +186,25 @@ pub struct EntersOpen<P: PermitPick> {
 }
 
 impl<P: PermitPick> Play<PermitSlot, View> for EntersOpen<P> {
-    ghost then = { enters_open P.family P.at };
+    ghost then = { enters_open P.family P.at (Exchange 0 1) IsZero };
+}
+
+/// A load in place of a try, which is that try where it finds the mutex locked, and else no step of a call.
+pub struct SeesLocked<P: PermitPick> {
+    pick: PhantomData<P>,
+}
+
+impl<P: PermitPick> Play<PermitSlot, View> for SeesLocked<P> {
+    ghost then = { sees_locked P.at };
+}
+
+/// Who tries to enter a mutex takes its permit out with that step where it enters.
+pub struct TriesOpen<P: PermitPick> {
+    pick: PhantomData<P>,
+}
+
+impl<P: PermitPick> Play<PermitSlot, View> for TriesOpen<P> {
+    ghost then = { enters_open P.family P.at (Or 1) IsEven };
 }
 
 /// Who leaves it lays it back.
@@ -194,7 +213,16 @@ pub struct LeavesOpen<P: PermitPick> {
 }
 
 impl<P: PermitPick> Play<PermitSlot, View> for LeavesOpen<P> {
-    ghost then = { leaves_open P.at };
+    ghost then = { leaves_open P.at (Sub 1) IsAny };
+}
+
+/// Who leaves it where nobody waits lays it back, whether it leaves or not.
+pub struct LeavesAlone<P: PermitPick> {
+    pick: PhantomData<P>,
+}
+
+impl<P: PermitPick> Play<PermitSlot, View> for LeavesAlone<P> {
+    ghost then = { leaves_open P.at (Exchange 1 0) IsOne };
 }
 
 /// A seat keeps the mutex whose permit it took out, and another goes on with all else.
@@ -205,7 +233,7 @@ pub struct KeepsOpen<P: PermitPick> {
 impl<P: PermitPick> Split<View> for KeepsOpen<P> {
     ghost left = { λ _. piece (owning P.at Opened) };
 
-    ghost right = { behind_first };
+    ghost right = { without_front };
 }
 
 /// A seat takes in all that another has done and owns.

@@ -1,13 +1,17 @@
 //! Ownerships that are split off a seat.
 ghost use Rattle.std.specs.Prelude.{◌≡◌, ◌↔◌, IsTrue, [], true};
-ghost use Rattle.lot_words.specs.Rights.{named_by, piece_of, want_of};
+ghost use Rattle.lot_words.specs.Indices.{word_index};
+ghost use Rattle.lot_words.specs.Rights.{named_by, owner_handed, permits_handed, piece_of, slots_handed, want_of};
+ghost use Rattle.lot_words.specs.declared.owners.Owner.TheVariants.{Exclusive};
+ghost use Rattle.lot_words.specs.declared.words.WordKind.TheVariants.{Mutex};
 
 use crate::owners::Owner;
 use crate::plays::{Piece, SplitsOff, TakesIn};
 use crate::table::{LotWords, Seat};
-use crate::words::Word;
+use crate::words::{Word, WordKind};
 use lot_base::Want;
 use std::marker::Brand;
+use value_place::PermitSlot;
 
 /// An ownership, split off the view of a seat, as who knows its word keeps it. It borrows nothing, and takes no memory.
 ///
@@ -16,12 +20,14 @@ pub struct Held {
     pub(crate) seat: Seat,
 }
 
-/// The same with its word and owner, as it goes to a thread that is to be told them.
+/// The same with its word and owner, as it goes to a thread that is to be told them. Who is handed a mutex is handed the permit of its
+/// value with it.
 pub struct Right {
     seat: Seat,
     word: Word,
     owner: Owner,
-    ghost names: { seat.me ≡ (piece_of word owner, []) },
+    permit: PermitSlot,
+    ghost names: { seat.me ≡ (piece_of word (owner_handed word.kind owner), slots_handed (word_index word.number word.kind) word.kind owner) },
 }
 
 impl Right {
@@ -61,13 +67,15 @@ impl Right {
             seat,
             word: _,
             owner: _,
+            permit,
         } = self;
         drop(seat);
+        drop(permit);
     }
 }
 
 impl LotWords {
-    ghost use Rattle.lot_words.specs.Lots.{IsSeatOf, IsWordOf};
+    ghost use Rattle.lot_words.specs.Lots.{IsSeatOf, IsWordOf, permit_of};
     ghost use Rattle.lot_words.specs.RightsOf.{IsHeldOf, IsRightOf};
     ghost use Rattle.lot_words.specs.Plays.{left_over, piece, takes_in};
     ghost use Rattle.lot_words.specs.Steps.{has};
@@ -108,6 +116,38 @@ impl LotWords {
         self.table.shared.join_seat::<TakesIn>(seat, other);
     }
 
+    // The permit that goes with what is handed, of a seat that owns this and nothing else.
+    #[inline]
+    fn take_along(&self, seat: &mut Seat, word: Word, owner: Owner) -> PermitSlot
+        requires own { IsSeatOf self.now seat.old × IsWordOf self.now word × (seat.old.me ≡ (piece_of word owner, [])) }
+        ensures own { IsSeatOf self.now seat.new }
+        ensures handed { seat.new.me ≡ (piece_of word (owner_handed word.kind owner), slots_handed (word_index word.number word.kind) word.kind owner) }
+        ensures permit { result.holds ≡ permits_handed (permit_of self.now word) word.kind owner }
+    {
+        match (word.kind(), owner) {
+            (WordKind::Mutex, Owner::Exclusive) => {
+                self.take_permit::<Brand>(seat, word).into_slot()
+            }
+            _ => PermitSlot::empty(),
+        }
+    }
+
+    // Lays it back.
+    #[inline]
+    fn lay_along(&self, seat: &mut Seat, word: Word, owner: Owner, permit: PermitSlot)
+        requires own { IsSeatOf self.now seat.old × IsWordOf self.now word }
+        requires handed { seat.old.me ≡ (piece_of word (owner_handed word.kind owner), slots_handed (word_index word.number word.kind) word.kind owner) }
+        requires permit { permit.holds ≡ permits_handed (permit_of self.now word) word.kind owner }
+        ensures { IsSeatOf self.now seat.new × (seat.new.me ≡ (piece_of word owner, [])) }
+    {
+        match (word.kind(), owner) {
+            (WordKind::Mutex, Owner::Exclusive) => {
+                self.lay_permit::<Brand>(seat, word, permit.into_permit());
+            }
+            _ => drop(permit),
+        }
+    }
+
     /// The same with its word and owner.
     #[inline]
     pub fn split_right(&self, seat: &mut Seat, word: Word, owner: Owner) -> Right
@@ -117,8 +157,14 @@ impl LotWords {
             × (seat.new.me ≡ (left_over (named_by word owner) seat.old.me.0, seat.old.me.1)) }
         ensures right { IsRightOf self.now result × (result.word ≡ word) × (result.owner ≡ owner) }
     {
-        let seat = self.split_off::<Brand>(seat, word, owner);
-        Right { seat, word, owner }
+        let mut seat = self.split_off::<Brand>(seat, word, owner);
+        let permit = self.take_along(&mut seat, word, owner);
+        Right {
+            seat,
+            word,
+            owner,
+            permit,
+        }
     }
 
     /// Gives an ownership back to a seat. The right is spent. It loads a word, which is no step of a call.
@@ -129,10 +175,12 @@ impl LotWords {
             × (seat.new.me ≡ (takes_in seat.old.me.0 (piece_of right.word right.owner), seat.old.me.1)) }
     {
         let Right {
-            seat: other,
-            word: _,
-            owner: _,
+            seat: mut other,
+            word,
+            owner,
+            permit,
         } = right;
+        self.lay_along(&mut other, word, owner, permit);
         self.table.shared.join_seat::<TakesIn>(seat, other);
     }
 }

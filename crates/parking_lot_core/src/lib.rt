@@ -2,6 +2,7 @@
 #![tactic(auto)]
 
 pub mod lot;
+pub mod pauses;
 pub mod sections;
 pub mod sleep;
 pub mod tokens;

@@ -3,16 +3,16 @@ ghost use Rattle.std.specs.Prelude.{◌≡◌, ◌<◌, IfSome, None};
 ghost use Rattle.lot_base.specs.Clocks.{IsUp};
 
 use crate::lot::ParkingLot;
+use crate::pauses::pause;
 use crate::sections::Section;
 use crate::tokens::Token;
 use lot_base::{Clock, Key, Keys, Note, Want};
 use lot_words::{Right, Word};
-use std::hint::spin_loop;
 use std::sync::Wait;
 use std::thread::yield_now;
 
-// How often a thread polls its note before it sleeps. Together that takes about as long as to fall asleep and be woken, so it
-// never costs more than twice what the better of both would have.
+// How often a thread polls its note before it sleeps. Where nobody else wants the processor that takes about as long as to fall
+// asleep and be woken.
 const POLLS: u32 = 80;
 
 // Behind so many of them it pauses, for so many rounds; behind a later one it lets others run, who may be about to wake it.
@@ -30,14 +30,12 @@ pub enum Slept<'a> {
     Late(Section<'a>, Key),
 }
 
-// Lets time pass.
-fn pause(polls: u32) {
+// Lets time pass behind a poll.
+fn pass(polls: u32) {
     if polls >= PAUSED_POLLS {
         return yield_now();
     }
-    for _ in 0..PAUSE {
-        spin_loop();
-    }
+    pause(PAUSE);
 }
 
 impl ParkingLot {
@@ -52,7 +50,7 @@ impl ParkingLot {
             if self.records.is_marked(thread) {
                 return;
             }
-            pause(polls);
+            pass(polls);
         }
     }
 

@@ -1,16 +1,16 @@
 //! Steps on words, draws and rights, by tokens.
-ghost use Rattle.std.specs.Prelude.{◌≡◌, ◌≢◌, ℕ, ◌+◌, ◌<◌, ◌⊎◌, ◌∷◌, [], true, None, IfOk, MatchOption, MatchResult};
+ghost use Rattle.std.specs.Prelude.{◌≡◌, ◌≢◌, ℕ, ◌+◌, ◌%◌, ◌<◌, ◌⊎◌, ◌∷◌, [], true, None, IfOk, MatchOption, MatchResult};
 ghost use Rattle.lot_words.specs.Indices.{word_index};
 ghost use Rattle.lot_words.specs.Codes.{IsCountCode};
 ghost use Rattle.lot_words.specs.Steps.{MayStep, CodesWith, after_step, has};
 ghost use Rattle.lot_words.specs.Draws.{IsDrawn, IsDrawRefused};
 ghost use Rattle.lot_words.specs.Lots.{IsWordOf, permit_of};
 ghost use Rattle.lot_words.specs.Plays.{left_over, stepping, takes_in};
-ghost use Rattle.lot_words.specs.Rights.{named_by, owner_for, piece_of, OwnsWith};
+ghost use Rattle.lot_words.specs.Rights.{leaving_alone, named_by, owner_for, piece_of, OwnsWith};
 ghost use Rattle.lot_words.specs.RightsOf.{IsHeldOf, IsOpenOf, IsRightOf};
 ghost use Rattle.lot_words.specs.declared.owners.Owner.TheVariants.{Exclusive};
 ghost use Rattle.lot_words.specs.declared.words.WordKind.TheVariants.{Mutex, Condvar, Count};
-ghost use Rattle.lot_base.specs.declared.ops.Op.TheVariants.{Add, Exchange, Sub};
+ghost use Rattle.lot_base.specs.declared.ops.Op.TheVariants.{Add, Exchange, Or, Sub};
 ghost use Rattle.parking_lot_core.specs.Tokens.{IsTokenOf, IsSameThread, view_of, last_of};
 
 use crate::lot::ParkingLot;
@@ -184,6 +184,19 @@ impl ParkingLot {
         self.words.enter_open(&mut token.seat, word)
     }
 
+    /// The same where others may wait. It answers what the step saw, and writes nothing to a mutex that it sees locked.
+    #[inline]
+    pub fn try_enter_open(&self, token: &mut Token, word: Word) -> (u64, Option<(OpenHeld, Permit)>)
+        requires { IsTokenOf self.now token.old × IsWordOf self.now.words word × (word.kind ≡ Mutex) }
+        ensures own { IsSameThread self.now token.old token.new × (last_of token.new ≡ None) }
+        ensures stepped { view_of token.new ≡ stepping (view_of token.old) (word_index word.number word.kind) (Or 1) result.0 }
+        ensures opened { MatchOption result.1 (result.0 % 2 ≢ 0) (λ taken. (result.0 % 2 ≡ 0)
+            × IsOpenOf self.now.words word taken.0 × (taken.1.id ≡ permit_of self.now.words word)) }
+    {
+        token.forget_section();
+        self.words.try_enter_open(&mut token.seat, word)
+    }
+
     /// Gives a mutex up, and lays the permit of its value back with the same step. It answers the value before.
     #[inline]
     pub fn leave_open(&self, token: &mut Token, word: Word, opened: OpenHeld, permit: Permit) -> u64
@@ -195,6 +208,26 @@ impl ParkingLot {
     {
         token.forget_section();
         self.words.leave_open(&mut token.seat, word, opened, permit)
+    }
+
+    /// The same where nobody waits. Where somebody does, the thread owns the mutex, closed.
+    #[inline]
+    pub fn leave_open_alone(
+        &self,
+        token: &mut Token,
+        word: Word,
+        opened: OpenHeld,
+        permit: Permit,
+    ) -> u64
+        requires own { IsTokenOf self.now token.old × IsWordOf self.now.words word × (word.kind ≡ Mutex) }
+        requires opened { IsOpenOf self.now.words word opened × (permit.id ≡ permit_of self.now.words word) }
+        ensures own { IsSameThread self.now token.old token.new × (last_of token.new ≡ None) }
+        ensures stepped { view_of token.new ≡ leaving_alone (view_of token.old) word result }
+        ensures coded { (result ≡ 1) ⊎ (result ≡ 3) }
+    {
+        token.forget_section();
+        self.words
+            .leave_open_alone(&mut token.seat, word, opened, permit)
     }
 
     /// Takes out the permit of the value that a mutex guards, for who owns the mutex. It loads a word, which is no step of a call.

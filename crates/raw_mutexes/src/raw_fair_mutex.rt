@@ -134,6 +134,11 @@ impl lock_raw::RawMutex for RawFairMutex {
     }
 
     #[inline]
+    fn try_lock_open(&self, token: &mut Token) -> Option<(OpenGuard, Permit)> {
+        lock_raw::RawMutex::try_lock_open(&self.raw, token)
+    }
+
+    #[inline]
     fn begin_unlock_open(
         &self,
         token: &mut Token,
@@ -156,6 +161,17 @@ impl RawMutexFair for RawFairMutex {
     #[inline]
     fn unlock_fair<R: Wait>(&self, rt: &R, token: &mut Token, guard: RawGuard) {
         self.raw.unlock_fair(rt, token, guard);
+    }
+
+    #[inline]
+    fn unlock_fair_open<R: Wait>(
+        &self,
+        rt: &R,
+        token: &mut Token,
+        opened: OpenGuard,
+        permit: Permit,
+    ) {
+        self.raw.unlock_fair_open(rt, token, opened, permit);
     }
 
     #[inline]

@@ -106,7 +106,7 @@ impl RawMutex {
         (OpenGuard { opened }, permit)
     }
 
-    // Closes the value, and takes the first step of a fair release. What it saw, where the thread still owns the mutex.
+    // The first step of a fair release, with which the permit is laid back. What it saw, where the thread still owns the mutex.
     #[inline]
     pub(crate) fn begin_unlock_fair_open(
         &self,
@@ -123,11 +123,8 @@ impl RawMutex {
             × Releases (word_of self.now).number UnlockFair (steps_of token.old) (steps_of token.new) (last_of token.new)) }
         ensures begun { IfSome result (λ seen. HasBegun (word_of self.now).number UnlockFair seen token.old token.new) }
     {
-        let lot: &ParkingLot = &self.lot;
         let OpenGuard { opened } = opened;
-        let held = lot.close_held(self.word, opened, permit);
-        lot.join_held(token, self.word, Want::Exclusive, held);
-        let seen = step(lot, token, self.word, LEAVE);
+        let seen = self.lot.leave_open_alone(token, self.word, opened, permit);
         if seen == LOCKED {
             return None;
         }
@@ -320,6 +317,15 @@ impl lock_raw::RawMutex for RawMutex {
     }
 
     #[inline]
+    fn try_lock_open(&self, token: &mut Token) -> Option<(OpenGuard, Permit)> {
+        let (_, taken) = self.lot.try_enter_open(token, self.word);
+        match taken {
+            Some((opened, permit)) => Some((OpenGuard { opened }, permit)),
+            None => None,
+        }
+    }
+
+    #[inline]
     fn begin_unlock_open(
         &self,
         token: &mut Token,
@@ -334,8 +340,7 @@ impl lock_raw::RawMutex for RawMutex {
         Some(LOCKED | PARKED)
     }
 
-    fn unlock_behind<R: Wait>(&self, rt: &R, token: &mut Token, seen: u64) {
-        let _parked = seen;
+    fn unlock_behind<R: Wait>(&self, rt: &R, token: &mut Token, _seen: u64) {
         self.wake_first(rt, token);
     }
 
@@ -357,6 +362,19 @@ impl lock_raw::RawMutexFair for RawMutex {
         let seen = step(lot, token, self.word, LEAVE);
         if seen != LOCKED {
             self.go_on(rt, token, MutexCall::UnlockFair, seen);
+        }
+    }
+
+    #[inline]
+    fn unlock_fair_open<R: Wait>(
+        &self,
+        rt: &R,
+        token: &mut Token,
+        opened: OpenGuard,
+        permit: Permit,
+    ) {
+        if let Some(seen) = self.begin_unlock_fair_open(token, opened, permit) {
+            self.unlock_fair_behind(rt, token, seen);
         }
     }
 

@@ -25,8 +25,8 @@ use lot_rwlock::places::{RwLockAt, RwLockPlace};
 use lot_rwlock::{Admission, RwLockPurpose};
 use lot_rwlock_fair::RwLockCallPlace;
 use lot_steps::{Place, Reply, advance};
+use parking_lot_core::pauses::{SHORT_PAUSE, pause};
 use parking_lot_core::{Clock, Op, ParkingLot, Token, Word};
-use std::hint::spin_loop;
 use std::sync::Wait;
 
 /// Runs a call that steps on one word from a place to its answer.
@@ -215,17 +215,8 @@ fn behind<R: Wait, C: Clock>(
     )
 }
 
-// Whose exchange missed met another thread, and would meet it again at once. So it pauses, for so many rounds: meanwhile the other
-// keeps the word's cache line, and takes many turns as if it were alone.
-const PAUSE: u32 = 64;
-
-fn pause() {
-    for _ in 0..PAUSE {
-        spin_loop();
-    }
-}
-
-// The same by reference.
+// The same by reference. Whose exchange missed met another thread, and would meet it again at once. So it pauses: meanwhile the
+// other keeps the word's cache line, and takes many turns as if it were alone.
 #[cold]
 #[inline(never)]
 fn rest_missed<R: Wait, C: Clock>(
@@ -256,7 +247,7 @@ fn rest_missed<R: Wait, C: Clock>(
     match answer_of(act) {
         Some(answer) => answer,
         None => {
-            pause();
+            pause(SHORT_PAUSE);
             run_out(rt, lot, token, *word, *limit, next)
         }
     }

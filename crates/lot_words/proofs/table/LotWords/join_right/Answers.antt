@@ -4,5 +4,6 @@ use Rattle.lot_words.proofs.Keeps.{takes_back_from}
 use Rattle.lot_words.proofs.table.LotWords.join_right.Goals as goal
 
 pub join_seat-requires : goal.join_seat-requires
-join_seat-requires c = let sized = c.args.self.now.sized in let sized₀ = sized.0 in let right = c.args.right in
-    (c.requires.0, c.requires.1.0, ap (λ m. m.1) right.names, omega arith, takes_back_from c.args.self.now.table.shared.key.0 c.args.self.now.table.shared.key.1.family c.args.seat.now.id c.args.seat.now.me.0 right.seat.id (named_by right.word right.owner) right.seat.me.0 (ap (λ m. m.0) right.names))
+join_seat-requires c = let lot = c.args.self.now in let sized = lot.sized in let sized₀ = sized.0 in let right = c.args.right in
+    let other = c.lay_along.new.seat in let laid = c.lay_along.ensures in
+    (c.requires.0, laid.0, ap (λ m. m.1) laid.1, omega arith, takes_back_from lot.table.shared.key.0 lot.table.shared.key.1.family c.args.seat.now.id c.args.seat.now.me.0 other.id (named_by right.word right.owner) other.me.0 (ap (λ m. m.0) laid.1))

@@ -1,18 +1,31 @@
-use Rattle.std.proofs.Common.{◌∙◌, ◌++◌, ap, rules}
+use Rattle.std.proofs.Common.{◌≡◌, ◌∙◌, ◌++◌, [], append-nil, cond, not, eq-eqb, ap, sym, subst, refl, rules}
 use Rattle.lot_base.specs.declared.ops.Op.TheVariants.{Exchange}
-use Rattle.lot_driver.specs.Calls.{Releases}
+use Rattle.lot_driver.specs.Calls.{Releases, TookIfParked}
 use Rattle.lot_driver.specs.Paths.{mutex_at, step}
 use Rattle.lot_driver.specs.Telling.{steps_of}
 use Rattle.lot_calls.specs.declared.calls.MutexCall.TheVariants.{UnlockFair}
+use Rattle.lot_words.specs.Indices.{word_index}
+use Rattle.lot_words.specs.Plays.{stepping, takes_in}
+use Rattle.lot_words.specs.Rights.{piece_of}
+use Rattle.lot_words.specs.declared.owners.Owner.TheVariants.{Exclusive}
 use Rattle.lot_words.specs.declared.views.View.{View}
+use Rattle.lot_words.specs.declared.words.WordKind.{WordKind}
 use Rattle.parking_lot_core.specs.Tokens.{last_of, view_of}
 use Rattle.lot_driver.proofs.Behind.{path_at_once}
 use Rattle.raw_mutexes.specs.MutexGuards.{StaysAs}
 use Rattle.raw_mutexes.proofs.raw_mutex.RawMutex.begin_unlock_fair_open.Goals as goal
 
 pub returns-then-seen-eq-LOCKED-clause-over : goal.returns-then-seen-eq-LOCKED-clause-over
-returns-then-seen-eq-LOCKED-clause-over c = let n = c.args.self.now.word.number in let new = c.step-seen.new.token in let one = c.if-seen-eq-LOCKED.true in
-    let added = ap (λ (v : View). v.steps) c.step-seen.ensures.stepped ∙ ap (λ (v : View). v.steps ++ step (mutex_at n) (Exchange 1 0) c.step-seen.result) c.join_held.ensures.joined in
-    let stays : StaysAs c.args.token.now new = search rules in
-    let released : Releases n UnlockFair (steps_of c.args.token.now) (steps_of new) (last_of new) = search rules in
-    (stays, path_at_once n UnlockFair c.step-seen.result (view_of c.args.token.now).steps (view_of new).steps one added, released)
+returns-then-seen-eq-LOCKED-clause-over c = let mutex = c.args.self.now in let n = mutex.word.number in let old = c.args.token.now in let v = view_of old in
+    let new = c.leave_open_alone-seen.new.token in let seen = c.leave_open_alone-seen.result in let one = c.if-seen-eq-LOCKED.true in let at = word_index n mutex.word.kind in
+    let left : view_of new ≡ stepping v at (Exchange 1 0) seen = c.leave_open_alone-seen.ensures.stepped
+    ∙ ap (λ b. cond b (stepping v at (Exchange 1 0) seen) (stepping (takes_in v (piece_of mutex.word Exclusive)) at (Exchange 1 0) seen)) (eq-eqb seen 1 one) in
+    let added = ap (λ (v : View). v.steps) left ∙ ap (λ (k : WordKind). v.steps ++ step (word_index n k) (Exchange 1 0) seen) mutex.drawn.1 in
+    let stays : StaysAs old new = search rules in
+    let released : Releases n UnlockFair (steps_of old) (steps_of new) (last_of new) = (
+      seen,
+      [],
+      added ∙ sym (append-nil (steps_of old ++ step (mutex_at n) (Exchange 1 0) seen)),
+      subst (λ b. TookIfParked n (not b) [] (last_of new)) (sym (eq-eqb seen 1 one)) (refl, c.leave_open_alone-seen.ensures.own.1),
+    ) in
+    (stays, path_at_once n UnlockFair seen v.steps (view_of new).steps one added, released)

@@ -1,0 +1,13 @@
+//! Pauses of a thread that waits for others without sleep.
+
+use std::hint::spin_loop;
+
+/// The rounds of a pause in which another thread can take its turn with a lock.
+pub const SHORT_PAUSE: u32 = 64;
+
+/// Lets so many rounds pass, each of which tells the processor that its thread only waits.
+pub fn pause(rounds: u32) {
+    for _ in 0..rounds {
+        spin_loop();
+    }
+}
