@@ -1,5 +1,6 @@
 //! Each call of the lot once, and threads that meet in its queues.
 mod clocks;
+mod many;
 mod mutexes;
 mod several;
 mod single;

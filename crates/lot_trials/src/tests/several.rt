@@ -91,8 +91,8 @@ fn take_three<R: Wait>(
     given
 }
 
-// What a thread that was taken is told. It sleeps until it is.
-fn told<R: Wait>(rt: &R, lot: &ParkingLot, ticket: Ticket, word: Word) -> Note
+/// What a thread that was taken is told. It sleeps until it is.
+pub fn told<R: Wait>(rt: &R, lot: &ParkingLot, ticket: Ticket, word: Word) -> Note
     requires { IsTicketOf lot.now ticket }
 {
     let mut token = ticket.enter();

@@ -1,0 +1,181 @@
+//! As many threads as a lot has: whatever its number, a thread that was taken gets its note and its right.
+ghost use Rattle.std.specs.Prelude.{◌≡◌, ◌<◌, All, IfOk, IfSome};
+ghost use Rattle.std.specs.Arc.{arc_value};
+ghost use Rattle.lot_words.specs.Lots.{IsWordOf};
+ghost use Rattle.lot_words.specs.RightsOf.{IsRightOf};
+ghost use Rattle.lot_words.specs.declared.owners.Owner.TheVariants.{Exclusive};
+ghost use Rattle.lot_words.specs.declared.words.WordKind.TheVariants.{Mutex};
+ghost use Rattle.parking_lot_core.specs.Tokens.{IsNewTicketOf, IsSameThread, IsTicketOf, IsTokenOf};
+
+use super::mutexes::{try_lock, unlock};
+use super::several::told;
+use parking_lot_core::{
+    Fault, Key, Keys, Note, ParkingLot, Right, Slept, TickClock, Ticket, Token, Want, Word,
+    WordKind,
+};
+use std::alloc::Global;
+use std::sync::{Arc, Wait};
+use std::test::Fail;
+
+const KEY: Key = 0;
+
+const THREADS: usize = 1024;
+
+// The last of the threads is at hand, and the others wait to be tried.
+#[derive(Drop)]
+struct Crowd {
+    server: Ticket,
+    others: Vec<Ticket>,
+    word: Word,
+}
+
+fn seat_crowd(alloc: Global) -> Result<(Arc<ParkingLot>, Crowd), Fault>
+    ensures { IfOk result (λ made. IsTicketOf (arc_value made.0) made.1.server
+        × All (IsNewTicketOf (arc_value made.0)) made.1.others.items
+        × IsWordOf (arc_value made.0).words made.1.word × (made.1.word.kind ≡ Mutex)
+        × ((arc_value made.0).records.count ≡ 1024)) }
+{
+    let (lot, mut others) = ParkingLot::new(alloc, 1, THREADS)?;
+    let Some(server) = others.pop() else {
+        return Err(Fault::NoMemory);
+    };
+    let mut token = server.enter();
+    let word = lot.new_word(&mut token, WordKind::Mutex)?;
+    let server = token.leave();
+    let made = Crowd {
+        server,
+        others,
+        word,
+    };
+    Ok((lot, made))
+}
+
+// All but the last stand in one line, and are taken together.
+fn take_all<R: Wait>(rt: &R, lot: &ParkingLot, token: &mut Token)
+    requires { IsTokenOf lot.now token.old × (lot.now.records.count ≡ 1024) }
+    ensures { IsSameThread lot.now token.old token.new }
+{
+    let mut section = lot.enter(rt, token, Keys::One(KEY));
+    for thread in 0..THREADS - 1 {
+        section.append(KEY, thread, Want::Exclusive);
+    }
+    section.take_all(KEY);
+    section.leave(rt, token, Note::Normal);
+}
+
+// How many were told to try again, each of whom sleeps until it is told something.
+fn count_woken<R: Wait>(rt: &R, lot: &ParkingLot, tickets: Vec<Ticket>, word: Word) -> usize
+    requires { All (IsNewTicketOf lot.now) tickets.items }
+{
+    let mut tickets = tickets;
+    let mut woken = 0;
+    for turn in 0..THREADS {
+        let Some(ticket) = tickets.pop() else {
+            break;
+        };
+        if told(rt, lot, ticket, word) == Note::Normal {
+            woken = turn + 1;
+        }
+    }
+    woken
+}
+
+#[test]
+fn one_leave_wakes_1023_threads(rt: HostRuntime) -> Result<(), Fail> {
+    let (lot, crowd) = seat_crowd(rt.alloc())?;
+    let Crowd {
+        server,
+        others,
+        word,
+    } = crowd;
+    let mut token = server.enter();
+    take_all(&rt, &lot, &mut token);
+    assert_eq!(rt; count_woken(&rt, &lot, others, word), THREADS - 1);
+    Ok(())
+}
+
+// Hands a right over to one thread, which stands in line alone.
+fn hand_over<R: Wait>(rt: &R, lot: &ParkingLot, token: &mut Token, thread: usize, right: Right)
+    requires own { IsTokenOf lot.now token.old × (thread < lot.now.records.count) }
+    requires right { IsRightOf lot.now.words right }
+    ensures { IsSameThread lot.now token.old token.new }
+{
+    let mut section = lot.enter(rt, token, Keys::One(KEY));
+    section.append(KEY, thread, Want::Exclusive);
+    match section.take_first(KEY) {
+        Some(first) => {
+            section.give(rt, first, right);
+            section.leave(rt, token, Note::HandOff);
+        }
+        None => {
+            right.forget();
+            section.leave(rt, token, Note::Normal);
+        }
+    }
+}
+
+// Locks the mutex, and hands it over to a thread, which unlocks it. Whether it got the mutex.
+fn serve<R: Wait>(rt: &R, lot: &ParkingLot, server: &mut Token, ticket: Ticket, word: Word) -> bool
+    requires own { IsTokenOf lot.now server.old × IsTicketOf lot.now ticket }
+    requires word { IsWordOf lot.now.words word × (word.kind ≡ Mutex) }
+    ensures { IsSameThread lot.now server.old server.new }
+{
+    let mut token = ticket.enter();
+    let Some(right) = try_lock(lot, server, word) else {
+        drop(token.leave());
+        return false;
+    };
+    hand_over(rt, lot, server, token.number(), right);
+    let slept = lot.sleep(
+        rt,
+        &mut token,
+        word,
+        Want::Exclusive,
+        None::<(&TickClock, u64)>,
+    );
+    let handed = match slept {
+        Slept::Handed(right) => {
+            unlock(lot, &mut token, right);
+            true
+        }
+        Slept::Woken => false,
+        Slept::Late(section, _) => {
+            section.leave(rt, &mut token, Note::Normal);
+            false
+        }
+    };
+    drop(token.leave());
+    handed
+}
+
+// How many got the mutex, one after another.
+fn count_served<R: Wait>(rt: &R, lot: &ParkingLot, crowd: Crowd) -> usize
+    requires tickets { IsTicketOf lot.now crowd.server × All (IsNewTicketOf lot.now) crowd.others.items }
+    requires word { IsWordOf lot.now.words crowd.word × (crowd.word.kind ≡ Mutex) }
+{
+    let Crowd {
+        server,
+        others,
+        word,
+    } = crowd;
+    let mut tickets = others;
+    let mut server = server.enter();
+    let mut served = 0;
+    for turn in 0..THREADS {
+        let Some(ticket) = tickets.pop() else {
+            break;
+        };
+        if serve(rt, lot, &mut server, ticket, word) {
+            served = turn + 1;
+        }
+    }
+    drop(server.leave());
+    served
+}
+
+#[test]
+fn a_right_goes_to_each_of_1023_threads(rt: HostRuntime) -> Result<(), Fail> {
+    let (lot, crowd) = seat_crowd(rt.alloc())?;
+    assert_eq!(rt; count_served(&rt, &lot, crowd), THREADS - 1);
+    Ok(())
+}
