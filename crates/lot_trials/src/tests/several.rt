@@ -1,5 +1,5 @@
 //! Several threads that are taken together.
-ghost use Rattle.std.specs.Prelude.{◌≡◌, ◌<◌, [], All, IfOk, IfSome};
+ghost use Rattle.std.specs.Prelude.{◌≡◌, ◌≤◌, ◌<◌, [], All, IfOk, IfSome};
 ghost use Rattle.std.specs.Arc.{arc_value};
 ghost use Rattle.lot_words.specs.RightsOf.{IsRightOf};
 ghost use Rattle.parking_lot_core.specs.Sections.{StaysIn, rightless_in};
@@ -16,6 +16,8 @@ use std::test::Fail;
 use std::thread::{Threads, join, yield_now};
 
 const KEY: Key = 0;
+
+const TURNS: usize = 2000;
 
 // The right of a mutex that is drawn for it. The mutex is pushed to those that were given.
 fn some_right(lot: &ParkingLot, token: &mut Token, given: &mut Vec<Word>) -> Option<Right>
@@ -119,7 +121,7 @@ pub fn told<R: Wait>(rt: &R, lot: &ParkingLot, ticket: Ticket, word: Word) -> No
 
 // What each of three is told that are taken together.
 fn notes_of_three<R: Wait>(rt: &R, alloc: Global, way: Way) -> Result<[Note; 3], Fault> {
-    let (lot, seats) = seat_four(alloc)?;
+    let (lot, seats) = seat_four(alloc, 4)?;
     let Four {
         one,
         two,
@@ -178,7 +180,14 @@ fn sleep_in_line<R: Wait>(rt: &R, lot: &ParkingLot, ticket: Ticket, word: Word) 
     woken
 }
 
-// Takes all once three stand in the line. It answers how many it took.
+// Lets others run for longer than a thread polls before it sleeps.
+fn let_them_sleep() {
+    for _ in 0..TURNS {
+        yield_now();
+    }
+}
+
+// Takes all once three stand in the line, and have had time to fall asleep. It answers how many it took.
 fn wake_three<R: Wait>(rt: &R, lot: &ParkingLot, ticket: Ticket) -> usize
     requires { IsTicketOf lot.now ticket }
 {
@@ -187,6 +196,7 @@ fn wake_three<R: Wait>(rt: &R, lot: &ParkingLot, ticket: Ticket) -> usize
         let mut section = lot.enter(rt, &mut token, Keys::One(KEY));
         let number = section.count(KEY);
         if number == 3 {
+            let_them_sleep();
             section.take_all(KEY);
             section.leave(rt, &mut token, Note::Normal);
             drop(token.leave());
@@ -232,7 +242,7 @@ fn one_sleeps<R: Threads + Wait + Sync>(
     woken
 }
 
-// Four seats of a lot, and a word of it.
+// The last four seats of a lot, and a word of it.
 #[derive(Drop)]
 struct Four {
     one: Ticket,
@@ -252,12 +262,13 @@ fn pop_pair(lot: &ParkingLot, tickets: &mut Vec<Ticket>) -> Option<(Ticket, Tick
     Some((one, other))
 }
 
-fn seat_four(alloc: Global) -> Result<(Arc<ParkingLot>, Four), Fault>
+fn seat_four(alloc: Global, most: usize) -> Result<(Arc<ParkingLot>, Four), Fault>
+    requires { (4 ≤ most) × (most ≤ 1024) }
     ensures { IfOk result (λ made. IsTicketOf (arc_value made.0) made.1.one × IsTicketOf (arc_value made.0) made.1.two
         × IsTicketOf (arc_value made.0) made.1.three × IsTicketOf (arc_value made.0) made.1.four
-        × ((arc_value made.0).records.count ≡ 4)) }
+        × ((arc_value made.0).records.count ≡ most)) }
 {
-    let (lot, mut tickets) = ParkingLot::new(alloc, 8, 4)?;
+    let (lot, mut tickets) = ParkingLot::new(alloc, 8, most)?;
     let Some((one, two)) = pop_pair(&lot, &mut tickets) else {
         return Err(Fault::NoMemory);
     };
@@ -300,8 +311,8 @@ fn all_four<R: Threads + Wait + Sync>(rt: &R, lot: &ParkingLot, seats: Four) -> 
 }
 
 #[test]
-fn three_sleepers_wake_together(rt: HostRuntime) -> Result<(), Fail> {
-    let (lot, seats) = seat_four(rt.alloc())?;
+fn the_last_three_sleepers_wake_together(rt: HostRuntime) -> Result<(), Fail> {
+    let (lot, seats) = seat_four(rt.alloc(), 1024)?;
     assert_eq!(rt; all_four(&rt, &lot, seats), 3);
     Ok(())
 }
