@@ -97,8 +97,8 @@ takes_in v w = view v.steps (w.owns ++ v.owns) v.drawn v.saw
 abbrev pub stepping : View → ℕ → Op → ℕ → View
 stepping v at op found = view (listed v at op found) v.owns v.drawn v.saw
 
--- who enters a mutex takes its permit out with that step: by a step of a kind that enters where it finds this. Any other is no more than a
--- step
+-- a step that enters a mutex where it finds this takes the permit out with it. Where it finds something else it is a step that changes
+-- no owner
 abbrev pub enters_open : ℕ → ℕ → Op → (ℕ → Type 0) → Play PermitSlot
 enters_open family at op IsFree st me found after = let v = stepping me.0 at op found in
     (IsFree found → after ≡ (takes_in v (piece (owning at Opened)), (at, slot_at family at) ∷ me.1)) × ((IsFree found → ⊥) → after ≡ (v, me.1))

@@ -1,5 +1,5 @@
 -- What a right names.
-use Rattle.std.specs.Prelude.{◌≡◌, ◌⊎◌, ◌/◌, ◌==◌, ℕ, List, [], ◌∷◌, cond, map, true}
+use Rattle.std.specs.Prelude.{◌≡◌, ◌⊎◌, ◌/◌, ◌==◌, ℕ, List, [], ◌∷◌, Bool, cond, map, true, false}
 use Rattle.lot_words.specs.Indices.{word_index}
 use Rattle.lot_words.specs.Views.{owning, owning_with}
 use Rattle.lot_words.specs.Steps.{has}
@@ -63,18 +63,20 @@ piece_of word owner = piece (named_by word owner)
 abbrev pub OwnsWith : Word → ℕ → View → Type 0
 OwnsWith mutex count v = has (owning_with (word_index mutex.number Mutex) count) v.owns ≡ true
 
--- who is handed a mutex is handed the permit of its value with it, and its slot stays bare
+-- whether the permit of its value goes along with an ownership that is handed to another thread: it does with a mutex
+abbrev pub takes_permit : WordKind → Owner → Bool
+takes_permit Mutex Exclusive = true
+takes_permit _ owner = false
+
+-- how it is owned then, the slots that are out with it, and the permits that lie beside it
 abbrev pub owner_handed : WordKind → Owner → Owner
-owner_handed Mutex Exclusive = Opened
-owner_handed _ owner = owner
+owner_handed kind owner = cond (takes_permit kind owner) Opened owner
 
 abbrev pub slots_handed : ℕ → WordKind → Owner → List (ℕ × PermitSlot)
-slots_handed at Mutex Exclusive = (at, bare) ∷ []
-slots_handed at _ owner = []
+slots_handed at kind owner = cond (takes_permit kind owner) ((at, bare) ∷ []) []
 
 abbrev pub permits_handed : PermitId → WordKind → Owner → List PermitId
-permits_handed permit Mutex Exclusive = permit ∷ []
-permits_handed permit _ owner = []
+permits_handed permit kind owner = cond (takes_permit kind owner) (permit ∷ []) []
 
 -- what a view is behind the exchange that leaves a mutex where nobody waits, which saw this: where it missed, the mutex is owned still
 abbrev pub leaving_alone : View → Word → ℕ → View

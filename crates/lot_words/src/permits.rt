@@ -29,7 +29,7 @@ pub struct OpenHeld {
 
 impl LotWords {
     ghost use Rattle.lot_words.specs.Lots.{IsSeatOf, IsWordOf, permit_of};
-    ghost use Rattle.lot_words.specs.RightsOf.{IsHeldOf, IsOpenOf};
+    ghost use Rattle.lot_words.specs.RightsOf.{HasAtHand, IsHeldOf, IsOpenOf};
 
     // The seat is that of a right. It steps by a load of the counter: one of the mutex's own word, just written, would wait for it.
     #[inline]
@@ -149,10 +149,7 @@ impl LotWords {
     fn leave_picked<P: PermitPick>(&self, seat: &mut Seat, word: Word) -> u64
         requires pick { P.at ≡ word_index word.number word.kind }
         requires own { IsSeatOf self.now seat.old × IsWordOf self.now word × (word.kind ≡ Mutex) }
-        requires laid { (v : View) × (seat.old.me ≡ (
-          takes_in v (piece_of word Opened),
-          (word_index word.number word.kind, slot_at self.now.table.shared.key.1.family (word_index word.number word.kind)) ∷ [],
-        )) }
+        requires laid { HasAtHand self.now word seat.old }
         ensures own { IsSeatOf self.now seat.new × (seat.new.me.1 ≡ []) }
         ensures stepped { seat.new.me.0 ≡ stepping (without_front seat.old.me.0) (word_index word.number word.kind) (Sub 1) result }
         ensures coded { (result ≡ 1) ⊎ (result ≡ 3) }
@@ -166,10 +163,7 @@ impl LotWords {
     fn leave_alone_picked<P: PermitPick>(&self, seat: &mut Seat, word: Word) -> u64
         requires pick { P.at ≡ word_index word.number word.kind }
         requires own { IsSeatOf self.now seat.old × IsWordOf self.now word × (word.kind ≡ Mutex) }
-        requires laid { (v : View) × (seat.old.me ≡ (
-          takes_in v (piece_of word Opened),
-          (word_index word.number word.kind, slot_at self.now.table.shared.key.1.family (word_index word.number word.kind)) ∷ [],
-        )) }
+        requires laid { HasAtHand self.now word seat.old }
         ensures own { IsSeatOf self.now seat.new × (seat.new.me.1 ≡ []) }
         ensures stepped { seat.new.me.0 ≡ leaving_alone (without_front seat.old.me.0) word result }
         ensures coded { (result ≡ 1) ⊎ (result ≡ 3) }
