@@ -107,6 +107,7 @@ pub(crate) fn done_at(desk: Desk) -> u64 {
 }
 
 /// Notifies the first of nobody, so many times.
+#[inline(never)]
 pub(crate) fn notify_nobody<R: Wait>(rt: &R, condvar: &Condvar, token: &mut Token, times: u64)
     requires { IsTokenOf (condvar_lot condvar.now) token.old }
     ensures { IsTokenOf (condvar_lot condvar.now) token.new }

@@ -1,4 +1,6 @@
 //! Plans, carried out by threads.
+//!
+//! Each loop of operations is a function of its own, which is inlined nowhere: so what stands beside it has no part in its time.
 ghost use Rattle.std.specs.Prelude.{◌≡◌, ◌≤◌, IfOk, IfSome, All};
 ghost use Rattle.std.specs.Arc.{arc_value};
 ghost use Rattle.parking_lot.specs.CondvarUsers.{lot_of as condvar_lot};
@@ -144,6 +146,7 @@ fn guard_by_tries<'a, M: RawLock, R: Wait>(
     unreachable!()
 }
 
+#[inline(never)]
 fn lock_raw<M: RawLock, R: Wait>(rt: &R, mutex: &M, token: &mut M::Token, times: u64)
     requires { M.is_token_of (M.lot_of mutex.now) token.old }
     ensures { M.is_token_of (M.lot_of mutex.now) token.new }
@@ -154,6 +157,7 @@ fn lock_raw<M: RawLock, R: Wait>(rt: &R, mutex: &M, token: &mut M::Token, times:
     }
 }
 
+#[inline(never)]
 fn try_raw<M: RawLock, R: Wait>(rt: &R, mutex: &M, token: &mut M::Token, times: u64)
     requires { M.is_token_of (M.lot_of mutex.now) token.old }
     ensures { M.is_token_of (M.lot_of mutex.now) token.new }
@@ -164,6 +168,7 @@ fn try_raw<M: RawLock, R: Wait>(rt: &R, mutex: &M, token: &mut M::Token, times: 
     }
 }
 
+#[inline(never)]
 fn lock_value<M: RawLock, R: Wait>(
     rt: &R,
     mutex: &lock_api::Mutex<M, u64>,
@@ -180,6 +185,7 @@ fn lock_value<M: RawLock, R: Wait>(
     }
 }
 
+#[inline(never)]
 fn try_value<M: RawLock, R: Wait>(
     rt: &R,
     mutex: &lock_api::Mutex<M, u64>,
@@ -197,6 +203,7 @@ fn try_value<M: RawLock, R: Wait>(
 }
 
 // Calls it so many times.
+#[inline(never)]
 fn call_once<R: Wait>(rt: &R, once: &Once, token: &mut Token, times: u64)
     requires { IsTokenOf (once_lot once.now) token.old }
     ensures { IsTokenOf (once_lot once.now) token.new }

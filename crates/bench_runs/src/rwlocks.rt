@@ -50,6 +50,7 @@ pub(crate) fn value_in(locks: RwLocks) -> u64 {
 }
 
 /// Comes in to read and leaves, so many times.
+#[inline(never)]
 pub(crate) fn read_raw<L: RawLock, R: Wait>(rt: &R, lock: &L, token: &mut L::Token, times: u64)
     requires { L.is_token_of (L.lot_of lock.now) token.old }
     ensures { L.is_token_of (L.lot_of lock.now) token.new }
@@ -61,6 +62,7 @@ pub(crate) fn read_raw<L: RawLock, R: Wait>(rt: &R, lock: &L, token: &mut L::Tok
     }
 }
 
+#[inline(never)]
 pub(crate) fn write_raw<L: RawLock, R: Wait>(rt: &R, lock: &L, token: &mut L::Token, times: u64)
     requires { L.is_token_of (L.lot_of lock.now) token.old }
     ensures { L.is_token_of (L.lot_of lock.now) token.new }
@@ -93,6 +95,7 @@ fn write_once<L: RawLock, R: Wait>(rt: &R, lock: &lock_api_rw::RwLock<L, u64>, t
 }
 
 /// Reads the value.
+#[inline(never)]
 pub(crate) fn read_value<L: RawLock, R: Wait>(
     rt: &R,
     lock: &lock_api_rw::RwLock<L, u64>,
@@ -108,6 +111,7 @@ pub(crate) fn read_value<L: RawLock, R: Wait>(
 }
 
 /// Adds 1 to the value.
+#[inline(never)]
 pub(crate) fn write_value<L: RawLock, R: Wait>(
     rt: &R,
     lock: &lock_api_rw::RwLock<L, u64>,
@@ -123,6 +127,7 @@ pub(crate) fn write_value<L: RawLock, R: Wait>(
 }
 
 /// Reads the value, and adds 1 to it now and then.
+#[inline(never)]
 pub(crate) fn mix_value<L: RawLock, R: Wait>(
     rt: &R,
     lock: &lock_api_rw::RwLock<L, u64>,
@@ -142,6 +147,7 @@ pub(crate) fn mix_value<L: RawLock, R: Wait>(
 }
 
 /// Comes in to read and perhaps write, and leaves.
+#[inline(never)]
 pub(crate) fn come_upgradable<L: RawRwLockUpgrade, R: Wait>(
     rt: &R,
     lock: &lock_api_rw::RwLock<L, u64>,
@@ -160,6 +166,7 @@ pub(crate) fn come_upgradable<L: RawRwLockUpgrade, R: Wait>(
 }
 
 /// Comes in to read, upgrades, and adds 1 to the value.
+#[inline(never)]
 pub(crate) fn upgrade_value<L: RawRwLockUpgrade, R: Wait>(
     rt: &R,
     lock: &lock_api_rw::RwLock<L, u64>,
@@ -179,6 +186,7 @@ pub(crate) fn upgrade_value<L: RawRwLockUpgrade, R: Wait>(
 }
 
 /// Adds 1 to the value, and reads on.
+#[inline(never)]
 pub(crate) fn downgrade_value<L: RawRwLockDowngrade, R: Wait>(
     rt: &R,
     lock: &lock_api_rw::RwLock<L, u64>,

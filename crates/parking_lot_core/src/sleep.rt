@@ -13,7 +13,7 @@ use std::thread::yield_now;
 
 // How often a thread polls its note before it sleeps. Where nobody else wants the processor that takes about as long as to fall
 // asleep and be woken.
-const POLLS: u32 = 80;
+const POLLS: u32 = 36;
 
 // Behind so many of them it pauses, for so many rounds; behind a later one it lets others run, who may be about to wake it.
 const PAUSED_POLLS: u32 = 12;
