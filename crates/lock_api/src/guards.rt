@@ -49,10 +49,9 @@ impl<'a, R: RawMutex, T> Guarded<Taken<'a, R, T>, Open<'a, T>> {
         ensures path { R.walked (lock_of self.entry) Unlock answers.Ok token.old token.new }
         ensures record { R.released (lock_of self.entry) Unlock token.old token.new }
     {
-        let Guarded { taken, value } = self;
-        let (mutex, opened, permit) = taken.part(value);
+        let (mutex, guard) = self.close();
         let raw = mutex.raw();
-        if let Some(seen) = raw.begin_unlock_open(token, opened, permit) {
+        if let Some(seen) = raw.begin_unlock(token, guard) {
             raw.unlock_behind(rt, token, seen);
         }
     }
@@ -77,9 +76,8 @@ impl<'a, R: RawMutexFair, T> Guarded<Taken<'a, R, T>, Open<'a, T>> {
         ensures path { R.walked (lock_of self.entry) UnlockFair answers.Ok token.old token.new }
         ensures record { R.released (lock_of self.entry) UnlockFair token.old token.new }
     {
-        let Guarded { taken, value } = self;
-        let (mutex, opened, permit) = taken.part(value);
-        mutex.raw().unlock_fair_open(rt, token, opened, permit);
+        let (mutex, guard) = self.close();
+        mutex.raw().unlock_fair(rt, token, guard);
     }
 
     /// Hands the mutex to the first who waits for it, and waits to take it again. Where nobody waits, keeps it.

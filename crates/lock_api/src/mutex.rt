@@ -83,11 +83,12 @@ impl<R: RawMutex, T> Mutex<R, T> {
         ensures guard { lock_of result ≡ self.now }
         ensures path { R.walked self.now Lock answers.Ok token.old token.new }
     {
-        let (opened, permit) = match self.raw.begin_lock_open(token) {
-            Ok(taken) => taken,
-            Err(seen) => self.raw.lock_open_behind(rt, token, seen),
+        // As `lock` of the raw one. It isn't called, since behind each call that may wait a flag is tested.
+        let raw = match self.raw.begin_lock(token) {
+            Ok(raw) => raw,
+            Err(seen) => self.raw.lock_behind(rt, token, seen),
         };
-        MutexGuard::new(self, opened, self.place.open(permit))
+        self.open(raw)
     }
 
     // The guard of who has the raw one.
@@ -108,8 +109,8 @@ impl<R: RawMutex, T> Mutex<R, T> {
         ensures guard { IfSome result (λ guard. lock_of guard ≡ self.now) }
         ensures path { R.walked self.now TryLock (answer_by result) token.old token.new }
     {
-        let (opened, permit) = self.raw.try_lock_open(token)?;
-        Some(MutexGuard::new(self, opened, self.place.open(permit)))
+        let raw = self.raw.try_lock(token)?;
+        Some(self.open(raw))
     }
 
     /// Whether somebody has the mutex.

@@ -5,7 +5,7 @@ use crate::mutex::Mutex;
 use crate::shows::Keeps;
 use lock_raw::RawMutex;
 use std::marker::Model;
-use value_place::{Open, Permit};
+use value_place::Open;
 
 /// A mutex, with the raw guard of who has taken it. The raw guard comes out only for a value that is closed then.
 pub struct Taken<'a, R: RawMutex, T> {
@@ -36,22 +36,12 @@ impl<'a, R: RawMutex, T> Taken<'a, R, T> {
 
     // Closes the value, and only then gives up what says that it is open.
     #[inline]
-    pub(crate) fn part(self, value: Open<'_, T>) -> (&'a Mutex<R, T>, R::Opened, Permit)
-        requires { value.id ≡ R.permit_of self }
-        ensures { (result.0.now ≡ self.entry) × R.is_opened_of self.entry result.1
-            × (result.2.id ≡ R.permit_of self.entry) }
-    {
-        let Taken { mutex, opened } = self;
-        (mutex, opened, value.close())
-    }
-
-    // The same, and gives the raw guard.
-    #[inline]
     pub(crate) fn close(self, value: Open<'_, T>) -> (&'a Mutex<R, T>, R::Guard)
         requires { value.id ≡ R.permit_of self }
         ensures { (result.0.now ≡ self.entry) × R.is_guard_of self.entry result.1 }
     {
-        let (mutex, opened, permit) = self.part(value);
+        let Taken { mutex, opened } = self;
+        let permit = value.close();
         (mutex, mutex.raw().close_value(opened, permit))
     }
 }

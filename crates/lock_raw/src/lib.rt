@@ -33,9 +33,9 @@ pub trait RawMutex {
     type Lot;
     /// A thread of a lot.
     type Token;
-    /// The ownership of a mutex. It borrows nothing.
+    /// The ownership of a mutex, with the permit of the value that this guards. It borrows nothing.
     type Guard;
-    /// The ownership of a mutex whose value is open.
+    /// The same without the permit, which opens the value.
     type Opened;
 
     // The lot of a mutex.
@@ -109,59 +109,42 @@ pub trait RawMutex {
         ensures token { is_token_of (lot_of self.now) token.new × stays token.old token.new }
         ensures seen { looked self.now result token.old token.new };
 
-    /// Takes out the permit of the value that the mutex guards. It is no step.
+    /// Takes the permit of the value out of a guard. It does nothing at run time.
     fn open_value(&self, guard: Self::Guard) -> (Self::Opened, Permit)
         requires { is_guard_of self.now guard }
         ensures { is_opened_of self.now result.0 × (result.1.id ≡ permit_of self.now) };
 
-    /// Lays it back.
+    /// Lays it back, as little at run time.
     fn close_value(&self, opened: Self::Opened, permit: Permit) -> Self::Guard
         requires { is_opened_of self.now opened × (permit.id ≡ permit_of self.now) }
         ensures { is_guard_of self.now result };
 
-    /// The first step of `lock`, with which a mutex that nobody has is taken and its value's permit with it: then that was all.
+    /// The first step of `lock`, with which a mutex that nobody has is taken: then that was all.
     ///
     /// # Errors
     ///
-    /// What the step saw, where somebody has the mutex. `lock_open_behind` is the rest of the call then.
-    fn begin_lock_open(&self, token: &mut Self::Token) -> Result<(Self::Opened, Permit), u64>
+    /// What the step saw, where somebody has the mutex. `lock_behind` is the rest of the call then.
+    fn begin_lock(&self, token: &mut Self::Token) -> Result<Self::Guard, u64>
         requires { is_token_of (lot_of self.now) token.old }
         ensures token { is_token_of (lot_of self.now) token.new }
-        ensures over { IfOk result (λ taken. stays token.old token.new × walked self.now Lock answers.Ok token.old token.new
-            × is_opened_of self.now taken.0 × (taken.1.id ≡ permit_of self.now)) }
+        ensures over { IfOk result (λ guard. stays token.old token.new × walked self.now Lock answers.Ok token.old token.new
+            × is_guard_of self.now guard) }
         ensures begun { IfErr result (λ seen. begun self.now Lock seen token.old token.new) };
 
     /// The rest of a `lock` whose first step saw this.
-    fn lock_open_behind<R: Wait>(
-        &self,
-        rt: &R,
-        token: &mut Self::Token,
-        seen: u64,
-    ) -> (Self::Opened, Permit)
+    fn lock_behind<R: Wait>(&self, rt: &R, token: &mut Self::Token, seen: u64) -> Self::Guard
         requires token { is_token_of (lot_of self.now) token.old }
         requires begun { (before : Self.Token) × begun self.now Lock seen before token.old }
         ensures token { is_token_of (lot_of self.now) token.new }
-        ensures opened { is_opened_of self.now result.0 × (result.1.id ≡ permit_of self.now) }
+        ensures guard { is_guard_of self.now result }
         ensures over { (before : Self.Token) → begun self.now Lock seen before token.old
             → stays before token.new × walked self.now Lock answers.Ok before token.new };
 
-    /// `try_lock`, of which the step that takes the mutex takes its value's permit with it.
-    fn try_lock_open(&self, token: &mut Self::Token) -> Option<(Self::Opened, Permit)>
-        requires { is_token_of (lot_of self.now) token.old }
-        ensures token { is_token_of (lot_of self.now) token.new × stays token.old token.new }
-        ensures opened { IfSome result (λ taken. is_opened_of self.now taken.0 × (taken.1.id ≡ permit_of self.now)) }
-        ensures path { walked self.now TryLock (answer_by result) token.old token.new };
-
-    /// The first step of `unlock`, with which the permit is laid back. It answers what it saw where the call has more to do, which is
+    /// The first step of `unlock`, which spends the guard. It answers what it saw where the call has more to do, which is
     /// `unlock_behind`.
-    fn begin_unlock_open(
-        &self,
-        token: &mut Self::Token,
-        opened: Self::Opened,
-        permit: Permit,
-    ) -> Option<u64>
+    fn begin_unlock(&self, token: &mut Self::Token, guard: Self::Guard) -> Option<u64>
         requires token { is_token_of (lot_of self.now) token.old }
-        requires opened { is_opened_of self.now opened × (permit.id ≡ permit_of self.now) }
+        requires guard { is_guard_of self.now guard }
         ensures token { is_token_of (lot_of self.now) token.new }
         ensures over { IfNone result (stays token.old token.new × walked self.now Unlock answers.Ok token.old token.new
             × released self.now Unlock token.old token.new) }
@@ -187,20 +170,6 @@ pub trait RawMutexFair: RawMutex {
     fn unlock_fair<R: Wait>(&self, rt: &R, token: &mut Self::Token, guard: Self::Guard)
         requires token { Self.is_token_of (Self.lot_of self.now) token.old }
         requires guard { Self.is_guard_of self.now guard }
-        ensures token { Self.is_token_of (Self.lot_of self.now) token.new × Self.stays token.old token.new }
-        ensures path { Self.walked self.now UnlockFair answers.Ok token.old token.new }
-        ensures record { Self.released self.now UnlockFair token.old token.new };
-
-    /// The same of who has the permit of its value out, which is laid back.
-    fn unlock_fair_open<R: Wait>(
-        &self,
-        rt: &R,
-        token: &mut Self::Token,
-        opened: Self::Opened,
-        permit: Permit,
-    )
-        requires token { Self.is_token_of (Self.lot_of self.now) token.old }
-        requires opened { Self.is_opened_of self.now opened × (permit.id ≡ Self.permit_of self.now) }
         ensures token { Self.is_token_of (Self.lot_of self.now) token.new × Self.stays token.old token.new }
         ensures path { Self.walked self.now UnlockFair answers.Ok token.old token.new }
         ensures record { Self.released self.now UnlockFair token.old token.new };

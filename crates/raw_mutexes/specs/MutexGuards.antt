@@ -3,8 +3,7 @@ use Rattle.std.specs.Prelude.{◌≡◌}
 use Rattle.std.proofs.Props.{props}
 use Rattle.std.proofs.Common.{◌∙◌}
 use Rattle.lot_words.specs.Lots.{permit_of}
-use Rattle.lot_words.specs.RightsOf.{IsHeldOf, IsOpenOf}
-use Rattle.lot_words.specs.declared.owners.Owner.TheVariants.{Exclusive}
+use Rattle.lot_words.specs.RightsOf.{IsOpenOf}
 use Rattle.lot_words.specs.declared.words.Word.{Word}
 use Rattle.raw_mutexes.specs.declared.guards.OpenGuard.{OpenGuard}
 use Rattle.raw_mutexes.specs.declared.guards.RawGuard.{RawGuard}
@@ -13,15 +12,15 @@ use Rattle.parking_lot_core.specs.Tokens.{view_of}
 use Rattle.parking_lot_core.specs.declared.lot.ParkingLot.{ParkingLot}
 use Rattle.parking_lot_core.specs.declared.tokens.Token.{Token}
 
--- a guard of a mutex: the right of who owns it alone
+-- a guard of a mutex: the right of who owns it alone, and the permit of its value
 abbrev pub IsGuardOf : ParkingLot → Word → RawGuard → Type 0
-IsGuardOf lot word guard = IsHeldOf lot.words word Exclusive guard.held
+IsGuardOf lot word guard = IsOpenOf lot.words word guard.opened × (guard.permit.id ≡ permit_of lot.words word)
 
 -- that a guard is a mutex's has one proof at most
 pub IsGuardOf-prop : (lot : ParkingLot) (word : Word) (guard : RawGuard) → IsProp (IsGuardOf lot word guard)
 IsGuardOf-prop lot word guard = Prim.hlevel props
 
--- the same of a mutex whose value is open
+-- the same without the permit
 abbrev pub IsOpenGuardOf : ParkingLot → Word → OpenGuard → Type 0
 IsOpenGuardOf lot word guard = IsOpenOf lot.words word guard.opened
 

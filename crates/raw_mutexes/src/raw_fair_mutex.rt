@@ -120,32 +120,17 @@ impl lock_raw::RawMutex for RawFairMutex {
     }
 
     #[inline]
-    fn begin_lock_open(&self, token: &mut Token) -> Result<(OpenGuard, Permit), u64> {
-        lock_raw::RawMutex::begin_lock_open(&self.raw, token)
+    fn begin_lock(&self, token: &mut Token) -> Result<RawGuard, u64> {
+        lock_raw::RawMutex::begin_lock(&self.raw, token)
     }
 
-    fn lock_open_behind<R: Wait>(
-        &self,
-        rt: &R,
-        token: &mut Token,
-        seen: u64,
-    ) -> (OpenGuard, Permit) {
-        lock_raw::RawMutex::lock_open_behind(&self.raw, rt, token, seen)
+    fn lock_behind<R: Wait>(&self, rt: &R, token: &mut Token, seen: u64) -> RawGuard {
+        lock_raw::RawMutex::lock_behind(&self.raw, rt, token, seen)
     }
 
     #[inline]
-    fn try_lock_open(&self, token: &mut Token) -> Option<(OpenGuard, Permit)> {
-        lock_raw::RawMutex::try_lock_open(&self.raw, token)
-    }
-
-    #[inline]
-    fn begin_unlock_open(
-        &self,
-        token: &mut Token,
-        opened: OpenGuard,
-        permit: Permit,
-    ) -> Option<u64> {
-        self.raw.begin_unlock_fair_open(token, opened, permit)
+    fn begin_unlock(&self, token: &mut Token, guard: RawGuard) -> Option<u64> {
+        self.raw.begin_unlock_fair(token, guard)
     }
 
     fn unlock_behind<R: Wait>(&self, rt: &R, token: &mut Token, seen: u64) {
@@ -161,17 +146,6 @@ impl RawMutexFair for RawFairMutex {
     #[inline]
     fn unlock_fair<R: Wait>(&self, rt: &R, token: &mut Token, guard: RawGuard) {
         self.raw.unlock_fair(rt, token, guard);
-    }
-
-    #[inline]
-    fn unlock_fair_open<R: Wait>(
-        &self,
-        rt: &R,
-        token: &mut Token,
-        opened: OpenGuard,
-        permit: Permit,
-    ) {
-        self.raw.unlock_fair_open(rt, token, opened, permit);
     }
 
     #[inline]

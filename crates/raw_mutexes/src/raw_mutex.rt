@@ -3,7 +3,7 @@ ghost use Rattle.std.specs.Prelude.{◌≡◌, ◌<◌, ◌*◌, ◌⊎◌, ◌+
 ghost use Rattle.std.specs.Arc.{arc_value};
 ghost use Rattle.lot_base.specs.Clocks.{IsUp};
 ghost use Rattle.lock_raw.specs.Answers.{answer_by};
-ghost use Rattle.lot_calls.specs.declared.calls.MutexCall.TheVariants.{LockTimed, Unlock, UnlockFair};
+ghost use Rattle.lot_calls.specs.declared.calls.MutexCall.TheVariants.{Bump, LockTimed, Unlock, UnlockFair};
 ghost use Rattle.lot_calls.specs.declared.outcomes.Answer.TheVariants.{Ok as ok};
 ghost use Rattle.lot_words.specs.Lots.{IsWordOf};
 ghost use Rattle.lot_words.specs.Plays.{piece, left_over, takes_in};
@@ -35,18 +35,6 @@ use parking_lot_core::{
 use std::sync::{Arc, Wait};
 use std::time::Duration;
 
-// Takes a word that is 0.
-const ENTER: Op = Op::Exchange {
-    from: 0,
-    to: LOCKED,
-};
-
-// Leaves a word that says that nobody waits.
-const LEAVE: Op = Op::Exchange {
-    from: LOCKED,
-    to: 0,
-};
-
 /// A mutex of a lot. Its word is 1 where it is locked, and 2 where a thread may be parked, or the sum of these.
 #[derive(Drop)]
 pub struct RawMutex {
@@ -65,8 +53,7 @@ impl RawMutex {
         main_key(self.word.number())
     }
 
-    // The guard of who owns the mutex. It takes the lot from its caller, who has it at hand: behind an atomic step it would be loaded anew.
-    #[inline]
+    // The guard of who has waited for the mutex, and owns it.
     pub(crate) fn split(&self, lot: &ParkingLot, token: &mut Token) -> RawGuard
         requires lot { lot.now ≡ lot_of self.now }
         requires own { IsTokenOf (lot_of self.now) token.old }
@@ -75,55 +62,34 @@ impl RawMutex {
         ensures left { view_of token.new ≡ left_over (held (word_of self.now).number) (view_of token.old) }
         ensures guard { IsGuardOf (lot_of self.now) (word_of self.now) result }
     {
-        RawGuard {
-            held: lot.split_held(token, self.word, Want::Exclusive),
-        }
+        let held = lot.split_held(token, self.word, Want::Exclusive);
+        let (opened, permit) = lot.open_held(self.word, held);
+        RawGuard { opened, permit }
     }
 
     // Spends a guard: the token owns the mutex then.
-    #[inline]
     pub(crate) fn join(&self, lot: &ParkingLot, token: &mut Token, guard: RawGuard)
         requires lot { lot.now ≡ lot_of self.now }
         requires own { IsTokenOf (lot_of self.now) token.old × IsGuardOf (lot_of self.now) (word_of self.now) guard }
         ensures own { IsSameThread (lot_of self.now) token.old token.new × (last_of token.new ≡ last_of token.old) }
         ensures joined { view_of token.new ≡ takes_in (view_of token.old) (piece (held (word_of self.now).number)) }
     {
-        let RawGuard { held } = guard;
+        let RawGuard { opened, permit } = guard;
+        let held = lot.close_held(self.word, opened, permit);
         lot.join_held(token, self.word, Want::Exclusive, held);
     }
 
-    // The same, of who opens the value too.
-    fn split_open(&self, token: &mut Token) -> (OpenGuard, Permit)
-        requires own { IsTokenOf (lot_of self.now) token.old }
-        requires held { has (held (word_of self.now).number) (view_of token.old).owns ≡ true }
-        ensures own { IsSameThread (lot_of self.now) token.old token.new × (last_of token.new ≡ last_of token.old) }
-        ensures left { view_of token.new ≡ left_over (held (word_of self.now).number) (view_of token.old) }
-        ensures opened { IsOpenGuardOf (lot_of self.now) (word_of self.now) result.0
-            × (result.1.id ≡ permit_in (lot_of self.now) (word_of self.now)) }
-    {
-        let held = self.lot.split_held(token, self.word, Want::Exclusive);
-        let (opened, permit) = self.lot.open_held(self.word, held);
-        (OpenGuard { opened }, permit)
-    }
-
-    // The first step of a fair release, with which the permit is laid back. What it saw, where the thread still owns the mutex.
+    // The first step of a fair release. What it saw, where the thread still owns the mutex.
     #[inline]
-    pub(crate) fn begin_unlock_fair_open(
-        &self,
-        token: &mut Token,
-        opened: OpenGuard,
-        permit: Permit,
-    ) -> Option<u64>
-        requires own { IsTokenOf (lot_of self.now) token.old }
-        requires opened { IsOpenGuardOf (lot_of self.now) (word_of self.now) opened
-            × (permit.id ≡ permit_in (lot_of self.now) (word_of self.now)) }
+    pub(crate) fn begin_unlock_fair(&self, token: &mut Token, guard: RawGuard) -> Option<u64>
+        requires own { IsTokenOf (lot_of self.now) token.old × IsGuardOf (lot_of self.now) (word_of self.now) guard }
         ensures token { IsTokenOf (lot_of self.now) token.new }
         ensures over { IfNone result (StaysAs token.old token.new
             × HasWalked (word_of self.now).number UnlockFair ok token.old token.new
             × Releases (word_of self.now).number UnlockFair (steps_of token.old) (steps_of token.new) (last_of token.new)) }
         ensures begun { IfSome result (λ seen. HasBegun (word_of self.now).number UnlockFair seen token.old token.new) }
     {
-        let OpenGuard { opened } = opened;
+        let RawGuard { opened, permit } = guard;
         let seen = self.lot.leave_open_alone(token, self.word, opened, permit);
         if seen == LOCKED {
             return None;
@@ -158,6 +124,21 @@ impl RawMutex {
         behind(rt, &self.lot, token, self.word, NO_LIMIT, call, seen)
     }
 
+    // The rest of a bump, whose first step saw a waiter. The thread owns the mutex.
+    #[cold]
+    #[inline(never)]
+    fn bump_behind<R: Wait>(&self, rt: &R, token: &mut Token, seen: u64) -> RawGuard
+        requires token { IsTokenOf (lot_of self.now) token.old }
+        requires begun { (before : Token) × HasBegun (word_of self.now).number Bump seen before token.old }
+        ensures token { IsTokenOf (lot_of self.now) token.new }
+        ensures guard { IsGuardOf (lot_of self.now) (word_of self.now) result }
+        ensures over { (before : Token) → HasBegun (word_of self.now).number Bump seen before token.old
+            → StaysAs before token.new × HasWalked (word_of self.now).number Bump ok before token.new }
+    {
+        self.go_on(rt, token, MutexCall::Bump, seen);
+        self.split(&self.lot, token)
+    }
+
     // The slow half of an unlock, whose first step saw a waiter.
     #[cold]
     #[inline(never)]
@@ -185,11 +166,31 @@ impl RawMutex {
         ensures path { HasWalked (word_of self.now).number LockTimed (answer_by result) token.old token.new }
         ensures late { IfNone result (IsUp C.tells limit.entry) }
     {
-        let lot: &ParkingLot = &self.lot;
-        let seen = step(lot, token, self.word, ENTER);
-        if seen == 0 {
-            return Some(self.split(lot, token));
+        match self.lot.enter_open(token, self.word) {
+            Ok((opened, permit)) => Some(RawGuard { opened, permit }),
+            Err(seen) => self.go_on_timed(rt, token, limit, seen),
         }
+    }
+
+    // The slow half of a call with a limit.
+    #[cold]
+    #[inline(never)]
+    fn go_on_timed<R: Wait, C: Clock>(
+        &self,
+        rt: &R,
+        token: &mut Token,
+        limit: Option<(&C, u64)>,
+        seen: u64,
+    ) -> Option<RawGuard>
+        requires token { IsTokenOf (lot_of self.now) token.old }
+        requires begun { (before : Token) × HasBegun (word_of self.now).number LockTimed seen before token.old }
+        ensures token { IsTokenOf (lot_of self.now) token.new }
+        ensures guard { IfSome result (IsGuardOf (lot_of self.now) (word_of self.now)) }
+        ensures over { (before : Token) → HasBegun (word_of self.now).number LockTimed seen before token.old
+            → StaysAs before token.new × HasWalked (word_of self.now).number LockTimed (answer_by result) before token.new }
+        ensures late { IfNone result (IsUp C.tells limit.entry) }
+    {
+        let lot: &ParkingLot = &self.lot;
         let answer = behind(rt, lot, token, self.word, limit, MutexCall::LockTimed, seen);
         if matches!(answer, Answer::No) {
             return None;
@@ -248,33 +249,25 @@ impl lock_raw::RawMutex for RawMutex {
 
     #[inline]
     fn lock<R: Wait>(&self, rt: &R, token: &mut Token) -> RawGuard {
-        let lot: &ParkingLot = &self.lot;
-        let seen = step(lot, token, self.word, ENTER);
-        if seen != 0 {
-            self.go_on(rt, token, MutexCall::Lock, seen);
-            return self.split(lot, token);
+        match self.begin_lock(token) {
+            Ok(guard) => guard,
+            Err(seen) => self.lock_behind(rt, token, seen),
         }
-        self.split(lot, token)
     }
 
     #[inline]
     fn try_lock(&self, token: &mut Token) -> Option<RawGuard> {
-        let lot: &ParkingLot = &self.lot;
-        let seen = step(lot, token, self.word, Op::Or(LOCKED));
-        if is_locked(seen) {
-            return None;
+        let (_, taken) = self.lot.try_enter_open(token, self.word);
+        match taken {
+            Some((opened, permit)) => Some(RawGuard { opened, permit }),
+            None => None,
         }
-        Some(self.split(lot, token))
     }
 
     #[inline]
     fn unlock<R: Wait>(&self, rt: &R, token: &mut Token, guard: RawGuard) {
-        let lot: &ParkingLot = &self.lot;
-        self.join(lot, token, guard);
-        let seen = step(lot, token, self.word, Op::Sub(LOCKED));
-        // An owner finds one of two values. The flags of the subtraction tell them apart, so the value isn't asked for.
-        if seen != LOCKED {
-            self.wake_first(rt, token);
+        if let Some(seen) = self.begin_unlock(token, guard) {
+            self.unlock_behind(rt, token, seen);
         }
     }
 
@@ -285,55 +278,35 @@ impl lock_raw::RawMutex for RawMutex {
 
     #[inline]
     fn open_value(&self, guard: RawGuard) -> (OpenGuard, Permit) {
-        let RawGuard { held } = guard;
-        let (opened, permit) = self.lot.open_held(self.word, held);
+        let RawGuard { opened, permit } = guard;
         (OpenGuard { opened }, permit)
     }
 
     #[inline]
     fn close_value(&self, opened: OpenGuard, permit: Permit) -> RawGuard {
         let OpenGuard { opened } = opened;
-        RawGuard {
-            held: self.lot.close_held(self.word, opened, permit),
-        }
+        RawGuard { opened, permit }
     }
 
     #[inline]
-    fn begin_lock_open(&self, token: &mut Token) -> Result<(OpenGuard, Permit), u64> {
+    fn begin_lock(&self, token: &mut Token) -> Result<RawGuard, u64> {
         match self.lot.enter_open(token, self.word) {
-            Ok((opened, permit)) => Ok((OpenGuard { opened }, permit)),
+            Ok((opened, permit)) => Ok(RawGuard { opened, permit }),
             Err(seen) => Err(seen),
         }
     }
 
-    fn lock_open_behind<R: Wait>(
-        &self,
-        rt: &R,
-        token: &mut Token,
-        seen: u64,
-    ) -> (OpenGuard, Permit) {
+    #[cold]
+    #[inline(never)]
+    fn lock_behind<R: Wait>(&self, rt: &R, token: &mut Token, seen: u64) -> RawGuard {
         self.go_on(rt, token, MutexCall::Lock, seen);
-        self.split_open(token)
+        self.split(&self.lot, token)
     }
 
     #[inline]
-    fn try_lock_open(&self, token: &mut Token) -> Option<(OpenGuard, Permit)> {
-        let (_, taken) = self.lot.try_enter_open(token, self.word);
-        match taken {
-            Some((opened, permit)) => Some((OpenGuard { opened }, permit)),
-            None => None,
-        }
-    }
-
-    #[inline]
-    fn begin_unlock_open(
-        &self,
-        token: &mut Token,
-        opened: OpenGuard,
-        permit: Permit,
-    ) -> Option<u64> {
-        let OpenGuard { opened } = opened;
-        // Two values, told apart as in `unlock`.
+    fn begin_unlock(&self, token: &mut Token, guard: RawGuard) -> Option<u64> {
+        let RawGuard { opened, permit } = guard;
+        // An owner finds one of two values. The flags of the subtraction tell them apart, so the value isn't asked for.
         if self.lot.leave_open(token, self.word, opened, permit) == LOCKED {
             return None;
         }
@@ -357,37 +330,19 @@ impl lock_raw::RawMutex for RawMutex {
 impl lock_raw::RawMutexFair for RawMutex {
     #[inline]
     fn unlock_fair<R: Wait>(&self, rt: &R, token: &mut Token, guard: RawGuard) {
-        let lot: &ParkingLot = &self.lot;
-        self.join(lot, token, guard);
-        let seen = step(lot, token, self.word, LEAVE);
-        if seen != LOCKED {
-            self.go_on(rt, token, MutexCall::UnlockFair, seen);
-        }
-    }
-
-    #[inline]
-    fn unlock_fair_open<R: Wait>(
-        &self,
-        rt: &R,
-        token: &mut Token,
-        opened: OpenGuard,
-        permit: Permit,
-    ) {
-        if let Some(seen) = self.begin_unlock_fair_open(token, opened, permit) {
+        if let Some(seen) = self.begin_unlock_fair(token, guard) {
             self.unlock_fair_behind(rt, token, seen);
         }
     }
 
     #[inline]
     fn bump<R: Wait>(&self, rt: &R, token: &mut Token, guard: RawGuard) -> RawGuard {
-        let lot: &ParkingLot = &self.lot;
-        self.join(lot, token, guard);
-        let seen = step(lot, token, self.word, Op::Load);
-        if is_parked(seen) {
-            self.go_on(rt, token, MutexCall::Bump, seen);
-            return self.split(lot, token);
+        let seen = step(&self.lot, token, self.word, Op::Load);
+        if !is_parked(seen) {
+            return guard;
         }
-        self.split(lot, token)
+        self.join(&self.lot, token, guard);
+        self.bump_behind(rt, token, seen)
     }
 }
 

@@ -1,10 +1,22 @@
-use Rattle.std.proofs.Common.{◌≡◌, ◌∙◌, ap, rules}
+use Rattle.std.proofs.Common.{◌≡◌, ◌∙◌, ◌++◌, ap, arith, refl, rules}
+use Rattle.lot_base.specs.declared.ops.Op.TheVariants.{Exchange}
 use Rattle.lot_calls.specs.declared.calls.MutexCall.TheVariants.{LockTimed}
+use Rattle.lot_driver.specs.Paths.{step}
+use Rattle.lot_words.specs.Indices.{word_index}
 use Rattle.lot_words.specs.declared.views.View.{View}
+use Rattle.lot_words.specs.declared.words.WordKind.{WordKind}
 use Rattle.parking_lot_core.specs.Tokens.{view_of}
 use Rattle.lot_driver.proofs.Behind.{path_at_once}
 use Rattle.raw_mutexes.proofs.raw_mutex.RawMutex.lock_timed.Goals as goal
 
-pub returns-then-seen-eq0-clause-path : goal.returns-then-seen-eq0-clause-path
-returns-then-seen-eq0-clause-path g c = let zero : c.step-seen.result ≡ 0 = search rules in
-    path_at_once c.args.self.now.word.number LockTimed c.step-seen.result (view_of c.args.token.now).steps (view_of c.split.new.token).steps zero (ap (λ (v : View). v.steps) c.split.ensures.left ∙ ap (λ (v : View). v.steps) c.step-seen.ensures.stepped)
+pub returns-in-Ok-clause-path : goal.returns-in-Ok-clause-path
+returns-in-Ok-clause-path g c = let mutex = c.args.self.now in let n = mutex.word.number in let old = c.args.token.now in let new = c.enter_open.new.token in
+    let added = ap (λ (v : View). v.steps) c.in-Ok.ensures.stepped ∙ ap (λ (k : WordKind). (view_of old).steps ++ step (word_index n k) (Exchange 0 1) 0) mutex.drawn.1 in
+    path_at_once n LockTimed 0 (view_of old).steps (view_of new).steps refl added
+
+pub go_on_timed-requires-clause-begun : goal.go_on_timed-requires-clause-begun
+go_on_timed-requires-clause-begun g c = let mutex = c.args.self.now in let n = mutex.word.number in let old = c.args.token.now in let new = c.enter_open.new.token in let seen = c.in-Err.seen in
+    let number : new.number ≡ old.number = search rules in
+    let stepped = c.in-Err.ensures.stepped in let some = stepped.0 in
+    let steps = ap (λ (v : View). v.steps) stepped.1 ∙ ap (λ (k : WordKind). (view_of old).steps ++ step (word_index n k) (Exchange 0 1) seen) mutex.drawn.1 in
+    (old, (number, steps, ap (λ (v : View). v.owns) stepped.1, omega (arith, some)))

@@ -1,14 +1,22 @@
-use Rattle.std.proofs.Common.{◌≡◌, ◌∙◌, true, false, ap, rules}
+use Rattle.std.proofs.Common.{◌≡◌, ◌∙◌, ◌++◌, true, false, ap, rules}
+use Rattle.lot_base.specs.declared.ops.Op.TheVariants.{Or}
+use Rattle.lot_driver.specs.Paths.{step}
 use Rattle.lot_mutex.specs.MutexSteps.{is_locked}
+use Rattle.lot_words.specs.Indices.{word_index}
 use Rattle.lot_words.specs.declared.views.View.{View}
+use Rattle.lot_words.specs.declared.words.WordKind.{WordKind}
 use Rattle.parking_lot_core.specs.Tokens.{view_of}
 use Rattle.lot_driver.proofs.Behind.{path_of_try}
 use Rattle.raw_mutexes.proofs.raw_mutex.RawMutexRawMutex.try_lock.Goals as goal
 
-pub returns-then-is_locked-clause-path : goal.returns-then-is_locked-clause-path
-returns-then-is_locked-clause-path c = let locked : is_locked c.step-seen.result ≡ true = search rules in
-    path_of_try c.args.self.now.word.number true c.step-seen.result (view_of c.args.token.now).steps (view_of c.step-seen.new.token).steps locked (ap (λ (v : View). v.steps) c.step-seen.ensures.stepped)
+pub returns-in-Some-clause-path : goal.returns-in-Some-clause-path
+returns-in-Some-clause-path c = let mutex = c.args.self.now in let n = mutex.word.number in let steps = (view_of c.args.token.now).steps in
+    let tried = c.try_enter_open-taken in let seen = tried.result.0 in let free : is_locked seen ≡ false = search rules in
+    path_of_try n false seen steps (view_of tried.new.token).steps free
+    (ap (λ (v : View). v.steps) tried.ensures.stepped ∙ ap (λ (k : WordKind). steps ++ step (word_index n k) (Or 1) seen) mutex.drawn.1)
 
-pub returns-clause-path : goal.returns-clause-path
-returns-clause-path c = let free : is_locked c.step-seen.result ≡ false = search rules in
-    path_of_try c.args.self.now.word.number false c.step-seen.result (view_of c.args.token.now).steps (view_of c.split.new.token).steps free (ap (λ (v : View). v.steps) c.split.ensures.left ∙ ap (λ (v : View). v.steps) c.step-seen.ensures.stepped)
+pub returns-in-None-clause-path : goal.returns-in-None-clause-path
+returns-in-None-clause-path c = let mutex = c.args.self.now in let n = mutex.word.number in let steps = (view_of c.args.token.now).steps in
+    let tried = c.try_enter_open-taken in let seen = tried.result.0 in let locked : is_locked seen ≡ true = search rules in
+    path_of_try n true seen steps (view_of tried.new.token).steps locked
+    (ap (λ (v : View). v.steps) tried.ensures.stepped ∙ ap (λ (k : WordKind). steps ++ step (word_index n k) (Or 1) seen) mutex.drawn.1)

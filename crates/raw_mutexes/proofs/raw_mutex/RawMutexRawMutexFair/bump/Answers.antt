@@ -1,14 +1,25 @@
-use Rattle.std.proofs.Common.{◌≡◌, ◌∙◌, ◌++◌, false, ap, rules}
+use Rattle.std.proofs.Common.{◌≡◌, ◌∙◌, ◌++◌, ◌∷◌, true, false, ap, sym, subst, rules}
 use Rattle.lot_base.specs.declared.ops.Op.TheVariants.{Load}
 use Rattle.lot_mutex.specs.MutexSteps.{is_parked}
+use Rattle.lot_driver.specs.MutexFitting.{held}
 use Rattle.lot_driver.specs.Paths.{mutex_at, step}
 use Rattle.lot_calls.specs.declared.calls.MutexCall.TheVariants.{Bump}
+use Rattle.lot_words.specs.Steps.{has}
 use Rattle.lot_words.specs.declared.views.View.{View}
 use Rattle.parking_lot_core.specs.Tokens.{view_of}
 use Rattle.lot_driver.proofs.Behind.{path_at_once}
 use Rattle.raw_mutexes.proofs.raw_mutex.RawMutexRawMutexFair.bump.Goals as goal
 
-pub returns-clause-path : goal.returns-clause-path
-returns-clause-path g c = let none : is_parked c.step-seen.result ≡ false = search rules in
-    let added = ap (λ (v : View). v.steps) c.step-seen.ensures.stepped ∙ ap (λ (v : View). v.steps ++ step (mutex_at c.args.self.now.word.number) (Load) c.step-seen.result) c.join.ensures.joined in
-    path_at_once c.args.self.now.word.number Bump c.step-seen.result (view_of c.args.token.now).steps (view_of c.split-2.new.token).steps none (ap (λ (v : View). v.steps) c.split-2.ensures.left ∙ added)
+pub returns-then-not-is_parked-clause-path : goal.returns-then-not-is_parked-clause-path
+returns-then-not-is_parked-clause-path g c = let none : is_parked c.step-seen.result ≡ false = search rules in
+    path_at_once c.args.self.now.word.number Bump c.step-seen.result (view_of c.args.token.now).steps (view_of c.step-seen.new.token).steps none (ap (λ (v : View). v.steps) c.step-seen.ensures.stepped)
+
+pub bump_behind-requires-clause-begun : goal.bump_behind-requires-clause-begun
+bump_behind-requires-clause-begun g c = let n = c.args.self.now.word.number in let old = c.args.token.now in let mid = c.step-seen.new.token in let new = c.join.new.token in let seen = c.step-seen.result in
+    let parked : is_parked seen ≡ true = search rules in
+    let stays : (view_of mid).owns ≡ (view_of old).owns = search rules in
+    let number : new.number ≡ old.number = search rules in
+    let steps : (view_of new).steps ≡ (view_of old).steps ++ step (mutex_at n) Load seen = ap (λ (v : View). v.steps) c.join.ensures.joined ∙ ap (λ (v : View). v.steps) c.step-seen.ensures.stepped in
+    let owns : (view_of new).owns ≡ held n ∷ (view_of old).owns = ap (λ (v : View). v.owns) c.join.ensures.joined ∙ ap (λ os. held n ∷ os) stays in
+    let has_it : has (held n) (held n ∷ (view_of old).owns) ≡ true = search rules in
+    (old, (number, steps, owns, (parked, subst (λ os. has (held n) os ≡ true) (sym owns) has_it)))

@@ -13,7 +13,7 @@ use Rattle.lot_words.specs.declared.words.WordKind.{WordKind}
 use Rattle.parking_lot_core.specs.Tokens.{last_of, view_of}
 use Rattle.lot_driver.proofs.Behind.{path_at_once}
 use Rattle.raw_mutexes.specs.MutexGuards.{StaysAs}
-use Rattle.raw_mutexes.proofs.raw_mutex.RawMutex.begin_unlock_fair_open.Goals as goal
+use Rattle.raw_mutexes.proofs.raw_mutex.RawMutex.begin_unlock_fair.Goals as goal
 
 pub returns-then-seen-eq-LOCKED-clause-over : goal.returns-then-seen-eq-LOCKED-clause-over
 returns-then-seen-eq-LOCKED-clause-over c = let mutex = c.args.self.now in let n = mutex.word.number in let old = c.args.token.now in let v = view_of old in

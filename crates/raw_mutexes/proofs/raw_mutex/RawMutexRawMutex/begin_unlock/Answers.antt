@@ -11,7 +11,7 @@ use Rattle.lot_words.specs.declared.words.WordKind.{WordKind}
 use Rattle.parking_lot_core.specs.Tokens.{last_of, view_of}
 use Rattle.lot_driver.proofs.Behind.{path_at_once}
 use Rattle.raw_mutexes.specs.MutexGuards.{StaysAs}
-use Rattle.raw_mutexes.proofs.raw_mutex.RawMutexRawMutex.begin_unlock_open.Goals as goal
+use Rattle.raw_mutexes.proofs.raw_mutex.RawMutexRawMutex.begin_unlock.Goals as goal
 
 pub returns-then-leave_open-eq-LOCKED-clause-over : goal.returns-then-leave_open-eq-LOCKED-clause-over
 returns-then-leave_open-eq-LOCKED-clause-over c = let mutex = c.args.self.now in let n = mutex.word.number in let old = c.args.token.now in let new = c.leave_open.new.token in let seen = c.leave_open.result in
