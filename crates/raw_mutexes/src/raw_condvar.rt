@@ -1,9 +1,8 @@
 //! The condition variable, with whose guards of raw mutexes threads wait.
-ghost use Rattle.std.specs.Prelude.{◌≡◌, ◌<◌, ◌*◌, Bool, MatchResult};
+ghost use Rattle.std.specs.Prelude.{◌≡◌, ◌<◌, ◌*◌};
 ghost use Rattle.std.specs.Arc.{arc_value};
 ghost use Rattle.std.specs.Duration.{as_nanos};
 ghost use Rattle.lot_base.specs.Clocks.{HasElapsed, IsUp};
-ghost use Rattle.lock_raw.specs.Answers.{GivesBack, IsRefusedWith};
 ghost use Rattle.lot_calls.specs.declared.outcomes.Answer.{Answer};
 ghost use Rattle.lot_words.specs.Lots.{IsWordOf};
 ghost use Rattle.lot_words.specs.declared.words.WordKind.TheVariants.{Condvar};

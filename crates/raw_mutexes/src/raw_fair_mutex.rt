@@ -1,7 +1,7 @@
 //! The mutex whose `unlock` hands it over, without a value.
 ghost use Rattle.std.specs.Prelude.{◌≡◌};
 ghost use Rattle.std.specs.Arc.{arc_value};
-ghost use Rattle.parking_lot_core.specs.Tokens.{IsTokenOf, view_of, last_of};
+ghost use Rattle.parking_lot_core.specs.Tokens.{IsTokenOf, last_of};
 ghost use Rattle.lot_driver.specs.Calls.{fairly, HasWalked, Sees, Releases};
 ghost use Rattle.lot_words.specs.declared.words.WordKind.TheVariants.{Mutex};
 ghost use Rattle.lot_driver.specs.Drawing.{Drew, FoundFull};
