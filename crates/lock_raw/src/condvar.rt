@@ -84,6 +84,7 @@ pub trait RawCondvar {
         seen: u64,
     ) -> bool
         requires token { Self.RawMutex.is_token_of (lot_of self.now) token.old }
+        requires looked { (before : Self.RawMutex.Token) × looked self.now seen before token.old }
         requires some { seen ≢ 0 }
         ensures token { Self.RawMutex.is_token_of (lot_of self.now) token.new × Self.RawMutex.stays token.old token.new }
         ensures path { (before : Self.RawMutex.Token) → looked self.now seen before token.old
@@ -98,6 +99,7 @@ pub trait RawCondvar {
         seen: u64,
     ) -> usize
         requires token { Self.RawMutex.is_token_of (lot_of self.now) token.old }
+        requires looked { (before : Self.RawMutex.Token) × looked self.now seen before token.old }
         requires some { seen ≢ 0 }
         ensures token { Self.RawMutex.is_token_of (lot_of self.now) token.new × Self.RawMutex.stays token.old token.new }
         ensures path { (before : Self.RawMutex.Token) → looked self.now seen before token.old

@@ -204,7 +204,7 @@ module _ (up : Type 0) (c m : ℕ) (kinds : ℕ → WordKind) (at : ℕ → ℕ)
 
       wait_needs : (w : WaitAt) → FitsWait up c m timed base w st → ActNeeds kinds at st (wait_act c m w)
       wait_needs wait.Enter f = (tt, f.1.1)
-      wait_needs wait.Show f = may_here (Exchange 0 (m + 1)) st.owns ((condvar_steps (condvar_at c) st.owns).show m (subst (λ (o : List Ownership). has (held m) o ≡ true) (sym f.1.0) f.0))
+      wait_needs wait.Show f = may_here (Exchange 0 (m + 1)) st.owns ((condvar_steps (condvar_at c) st.owns).show m (λ e. words.0 (omega (arith, e))) (subst (λ (o : List Ownership). has (held m) o ≡ true) (sym f.1.0) f.0))
       wait_needs wait.Stand f = subst (HasKey (2 * c)) (sym f.1.1) refl
       wait_needs wait.Leave f = subst (MayLeave Normal) (sym f.1.1) refl
       wait_needs wait.Refuse f = subst (MayLeave Normal) (sym f.1.1) refl

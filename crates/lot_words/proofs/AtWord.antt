@@ -16,14 +16,15 @@ use Rattle.lot_base.specs.Words.{apply}
 use Rattle.lot_base.specs.declared.ops.Op.{Op}
 use Rattle.lot_base.specs.declared.ops.Op.TheVariants.{Or}
 use Rattle.lot_words.proofs.Keeps.{steps_at_word, sees_set}
+use Rattle.lot_words.proofs.TiedSteps.{sees_shown_allowed}
 use Rattle.lot_words.proofs.PermitSteps.{opens_allowed, closes_allowed}
 use Rattle.lot_words.proofs.OpenSteps.{Entering, Leaving, enters_allowed, sees_locked_allowed, leaves_allowed}
 use Rattle.lot_words.specs.Permits.{slot_at}
-use Rattle.lot_words.specs.Plays.{piece, takes_in, opens, closes, enters_open, sees_locked, leaves_open}
+use Rattle.lot_words.specs.Plays.{piece, takes_in, opens, closes, enters_open, sees_locked, sees_shown, leaves_open}
 use Rattle.lot_words.specs.Views.{owning}
 use Rattle.lot_words.specs.declared.owners.Owner.TheVariants.{Exclusive, Opened}
 use Rattle.lot_words.specs.declared.words.WordKind.{WordKind}
-use Rattle.lot_words.specs.declared.words.WordKind.TheVariants.{Mutex}
+use Rattle.lot_words.specs.declared.words.WordKind.TheVariants.{Mutex, Condvar}
 use Rattle.lot_words.proofs.Indices.{rank_lt}
 
 -- by the index that was computed and the operation that was matched
@@ -43,6 +44,19 @@ table_allows_load lot seat word bits {at} own may there = let sized = lot.sized 
   subst (λ (i : ℕ). Allows (LotRule lot.table.shared.key.0 lot.table.shared.key.1.family) lot.table.shared.table_id.slots seat.id seat.me i (λ n. n) (saw_set bits (step lot.table.shared.table_id.slots i 0 0 none) seat.me)) (sym there)
       (sees_set lot.table.shared.key.0 lot.table.shared.key.1.family lot.table.shared.table_id.slots seat.id seat.me word.number word.kind bits (omega (arith, sized.1, own.1.1)) may),
 )
+
+-- a load of a condition variable's word, which tells what it may show
+pub table_sees_shown : (lot : LotWords) (seat : Seat PermitSlot View) (word : Word) (words number at : ℕ) → words ≡ lot.count → number ≡ word.number → at ≡ word_index word.number word.kind
+    → IsSeatOf lot seat × IsWordOf lot word → word.kind ≡ Condvar
+    → IsSeatOf lot seat × (at < lot.table.shared.table_id.words) × Allows (LotRule lot.table.shared.key.0 lot.table.shared.key.1.family) lot.table.shared.table_id.slots seat.id seat.me at (λ n. n) (sees_shown words number (step lot.table.shared.table_id.slots at 0 0 none) seat.me)
+table_sees_shown lot seat word words number at most is_it there own is = let sized = lot.sized in let key : ℕ = lot.table.shared.key.0 in let family : ℕ = lot.table.shared.key.1.family in
+    let Goal : ℕ → ℕ → ℕ → Type 0 = λ w n i. Allows (LotRule key family) lot.table.shared.table_id.slots seat.id seat.me i (λ m. m) (sees_shown w n (step lot.table.shared.table_id.slots i 0 0 none) seat.me) in
+    let here : at ≡ word_index word.number Condvar = there ∙ ap (λ (k : WordKind). word_index word.number k) is in (
+      own.0,
+      omega (arith, sized.0, sized.1, own.1.1, here),
+      subst (λ (w : ℕ). Goal w number at) (sized.1 ∙ sym most) (subst (λ (n : ℕ). Goal key n at) (sym is_it) (subst (λ (i : ℕ). Goal key word.number i) (sym here)
+          (sees_shown_allowed key family lot.table.shared.table_id.slots seat.id seat.me word.number (omega (arith, sized.1, own.1.1))))),
+    )
 
 -- the index of a mutex
 abbrev pub at_mutex : Word → ℕ

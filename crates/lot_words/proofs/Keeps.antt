@@ -11,7 +11,7 @@ use Rattle.atomic_table.proofs.Lists.{at_set, at_snoc}
 use Rattle.lot_words.specs.Indices.{word_index, counter, mutex_of_count}
 use Rattle.lot_words.specs.Views.{view, blank, total, total_below, owned, owning, owning_with, named, counted, steps_at, drew}
 use Rattle.lot_words.specs.Codes.{Owners, Codes, Shows, IsCountCode, everyone, exclusive, opened}
-use Rattle.lot_words.specs.Rule.{LotRule}
+use Rattle.lot_words.specs.Rule.{LotRule, MayBeShown}
 use Rattle.value_place.specs.declared.slot.PermitSlot.{PermitSlot}
 use Rattle.lot_base.specs.Words.{apply}
 use Rattle.lot_base.specs.declared.ops.Op.{Op}
@@ -31,21 +31,28 @@ use Rattle.lot_words.proofs.Counts.{counted-where}
 use Rattle.lot_words.proofs.Totals.{total-append, total-set, term_le, total_below-suc, cond_same, cond_other}
 use Rattle.lot_words.proofs.Indices.{rank_lt, word_kind_at-index, index-number, index-kind}
 
-shows_more : (P Q : ℕ → Type 0) (n : ℕ) → ((k : ℕ) → P k → Q k) → Shows P n → Shows Q n
+pub shows_more : (P Q : ℕ → Type 0) (n : ℕ) → ((k : ℕ) → P k → Q k) → Shows P n → Shows Q n
 shows_more P Q n more h = ⊎_elim (λ z. inl z) (λ t. inr (t.0, t.1, more t.0 t.2)) h
 
+-- what was shown may be shown still, as views list more steps
+pub shown_still : (words number : ℕ) (old new : List View) (n : ℕ)
+    → ((mutex : ℕ) → total (steps_at (word_index mutex Mutex)) old ≤ total (steps_at (word_index mutex Mutex)) new)
+    → Shows (MayBeShown words number old) n → Shows (MayBeShown words number new) n
+shown_still words number old new n more = shows_more (MayBeShown words number old) (MayBeShown words number new) n
+    (λ k h. let stepped = h.2 in (h.0, h.1, omega (arith, more k)))
+
 -- what ties the value of a word to the word of a mutex
-abbrev pub Tied : WordKind → ℕ → ℕ → List View → Type 0
-Tied Condvar number n views = Shows (λ mutex. 0 < total (steps_at (word_index mutex Mutex)) views) n
-Tied Count number n views = IsCountCode n × (n ≡ total (λ (v : View). counted (mutex_of_count (word_index number Count)) v.owns) views)
-Tied _ number n views = Unit {0}
+abbrev pub Tied : ℕ → WordKind → ℕ → ℕ → List View → Type 0
+Tied words Condvar number n views = Shows (MayBeShown words number views) n
+Tied words Count number n views = IsCountCode n × (n ≡ total (λ (v : View). counted (mutex_of_count (word_index number Count)) v.owns) views)
+Tied words _ number n views = Unit {0}
 
 module _ (words family : ℕ) (s : State PermitSlot View) (o : LotRule words family s) where
   -- the law of all steps on words: what is owned of this word changes, and its code with that
   pub turned : (number : ℕ) (kind : WordKind) (j m : ℕ) (v w : View) → get_elem? s.views j ≡ some v → number < words
       → ((r : ℕ) → r ≢ word_index number kind → (weight : Owner → ℕ) → owned r weight w.owns ≡ owned r weight v.owns)
       → ((after : Owners) → ((weight : Owner → ℕ) → after weight + owned (word_index number kind) weight v.owns ≡ named (word_index number kind) weight s.views + owned (word_index number kind) weight w.owns) → Codes kind m after)
-      → Tied kind number m (set s.views j w)
+      → Tied words kind number m (set s.views j w)
       → ((r : ℕ) → (kind ≡ Count → r ≢ mutex_of_count (word_index number kind)) → counted r w.owns ≡ counted r v.owns)
       → (kind ≡ Mutex → owned (word_index number kind) opened w.owns ≡ owned (word_index number kind) opened v.owns)
       → w.drawn ≡ v.drawn → w.saw ≡ v.saw → 0 < steps_at (word_index number kind) w → ((r : ℕ) → steps_at r v ≤ steps_at r w)
@@ -57,9 +64,9 @@ module _ (words family : ℕ) (s : State PermitSlot View) (o : LotRule words fam
       let here : get_or (set s.words i m) i 0 ≡ m = get_or-set_same s.words i m 0 near in
       let count-here : get_or (set s.words i m) counter 0 ≡ get_or s.words counter 0 = get_or-set_other s.words i counter m 0 (λ e. omega arith) in
       let sum : (r : ℕ) (weight : Owner → ℕ) → named r weight vs + owned r weight v.owns ≡ named r weight s.views + owned r weight w.owns = λ r weight. total-set (λ (u : View). owned r weight u.owns) s.views j v w me in
-      let tied_here : (number' : ℕ) (kind' : WordKind) → word_index number' kind' ≡ i → Tied kind' number' (get_or (set s.words i m) (word_index number' kind') 0) vs =
-      λ number' kind' e. subst (λ (x : ℕ). Tied kind' number' x vs) (sym (ap (λ (r : ℕ). get_or (set s.words i m) r 0) e ∙ here))
-      (subst (λ (k : WordKind). Tied k number' m vs) (sym (index-kind number' number kind' kind e)) (subst (λ (n : ℕ). Tied kind n m vs) (sym (index-number number' number kind' kind e)) tied)) in
+      let tied_here : (number' : ℕ) (kind' : WordKind) → word_index number' kind' ≡ i → Tied words kind' number' (get_or (set s.words i m) (word_index number' kind') 0) vs =
+      λ number' kind' e. subst (λ (x : ℕ). Tied words kind' number' x vs) (sym (ap (λ (r : ℕ). get_or (set s.words i m) r 0) e ∙ here))
+      (subst (λ (k : WordKind). Tied words k number' m vs) (sym (index-kind number' number kind' kind e)) (subst (λ (n : ℕ). Tied words kind n m vs) (sym (index-number number' number kind' kind e)) tied)) in
       let still : (r : ℕ) → r ≢ i → get_or (set s.words i m) r 0 ≡ get_or s.words r 0 = λ r ne. get_or-set_other s.words i r m 0 ne in
       let stepped-more : (r : ℕ) → total (steps_at r) s.views ≤ total (steps_at r) vs = λ r. omega (arith, total-set (steps_at r) s.views j v w me, more r) in
       record {
@@ -73,8 +80,8 @@ module _ (words family : ℕ) (s : State PermitSlot View) (o : LotRule words fam
             subst (λ (x : ℕ). Codes kind' x (λ weight. named r weight vs)) (sym (get_or-set_other s.words i r m 0 ne))
             (subst (Codes kind' (get_or s.words r 0)) (λ k weight. same weight k) (o.coded number' kind' below')));
         shows = λ number' below'. dite (ℕ_discrete (word_index number' Condvar) i) (tied_here number' Condvar)
-            (λ ne. subst (Shows (λ mutex. 0 < total (steps_at (word_index mutex Mutex)) vs)) (sym (still (word_index number' Condvar) ne))
-            (shows_more (λ mutex. 0 < total (steps_at (word_index mutex Mutex)) s.views) (λ mutex. 0 < total (steps_at (word_index mutex Mutex)) vs) (get_or s.words (word_index number' Condvar) 0) (λ k h. omega (arith, stepped-more (word_index k Mutex))) (o.shows number' below')));
+            (λ ne. subst (Shows (MayBeShown words number' vs)) (sym (still (word_index number' Condvar) ne))
+            (shown_still words number' s.views vs (get_or s.words (word_index number' Condvar) 0) (λ k. stepped-more (word_index k Mutex)) (o.shows number' below')));
         counts = λ number' below'. dite (ℕ_discrete (word_index number' Count) i) (tied_here number' Count)
             (λ ne. let old = o.counts number' below' in let same = still (word_index number' Count) ne in let r : ℕ = mutex_of_count (word_index number' Count) in (
               subst IsCountCode (sym same) old.0,
@@ -105,7 +112,7 @@ module _ (words family : ℕ) (s : State PermitSlot View) (o : LotRule words fam
   reseated vs same-named same-counts same-steps same-drawn saw = record {
     size = o.size;
     coded = λ number' kind' below. subst (Codes kind' (get_or s.words (word_index number' kind') 0)) (λ k weight. sym (same-named (word_index number' kind') weight) k) (o.coded number' kind' below);
-    shows = λ number' below. shows_more (λ mutex. 0 < total (steps_at (word_index mutex Mutex)) s.views) (λ mutex. 0 < total (steps_at (word_index mutex Mutex)) vs) (get_or s.words (word_index number' Condvar) 0) (λ k h. omega (arith, same-steps (word_index k Mutex))) (o.shows number' below);
+    shows = λ number' below. shown_still words number' s.views vs (get_or s.words (word_index number' Condvar) 0) (λ k. omega (arith, same-steps (word_index k Mutex))) (o.shows number' below);
     counts = λ number' below. let old = o.counts number' below in (old.0, old.1 ∙ sym (same-counts (mutex_of_count (word_index number' Count))));
     owned = λ r weight some. o.owned r weight (omega (arith, same-named r weight));
     untouched = λ r above h none. o.untouched r above h (omega (arith, same-steps r));
@@ -190,14 +197,15 @@ module _ (words family : ℕ) (s : State PermitSlot View) (o : LotRule words fam
   tied_after : (number : ℕ) (kind : WordKind) (op : Op) (id : ℕ) (v : View) → get_elem? s.views id ≡ some v → number < words
       → MayTie kind (word_index number kind) (get_or s.words (word_index number kind) 0) (apply op (get_or s.words (word_index number kind) 0)) v.owns
       → ((r : ℕ) → steps_at r v ≤ steps_at r (after_step kind (word_index number kind) op (get_or s.words (word_index number kind) 0) v))
-      → Tied kind number (apply op (get_or s.words (word_index number kind) 0)) (set s.views id (after_step kind (word_index number kind) op (get_or s.words (word_index number kind) 0) v))
+      → Tied words kind number (apply op (get_or s.words (word_index number kind) 0)) (set s.views id (after_step kind (word_index number kind) op (get_or s.words (word_index number kind) 0) v))
   tied_after number Condvar op id v at below tie more =
       let n : ℕ = get_or s.words (word_index number Condvar) 0 in let w = after_step Condvar (word_index number Condvar) op n v in
-      let New : ℕ → Type 0 = λ mutex. 0 < total (steps_at (word_index mutex Mutex)) (set s.views id w) in
-      let grown : (k : ℕ) → 0 < total (steps_at (word_index k Mutex)) s.views → New k = λ k h. omega (arith, total-set (steps_at (word_index k Mutex)) s.views id v w at, more (word_index k Mutex)) in
-      ⊎_elim (λ e. subst (Shows New) (sym e) (shows_more (λ mutex. 0 < total (steps_at (word_index mutex Mutex)) s.views) New n grown (o.shows number below)))
-      (λ t. shows_more (λ mutex. has (owning (word_index mutex Mutex) Exclusive) v.owns ≡ true) New (apply op n)
-      (λ k there. let i : ℕ = word_index k Mutex in grown k (owned_mutex k (omega (arith, term_le (λ (u : View). owned i exclusive u.owns) s.views id v at, owned_some i Exclusive v.owns there exclusive (omega arith)))).2) t) tie
+      let vs = set s.views id w in let New : ℕ → Type 0 = MayBeShown words number vs in
+      let grown : (r : ℕ) → total (steps_at r) s.views ≤ total (steps_at r) vs = λ r. omega (arith, total-set (steps_at r) s.views id v w at, more r) in
+      ⊎_elim (λ e. subst (Shows New) (sym e) (shown_still words number s.views vs n (λ k. grown (word_index k Mutex)) (o.shows number below)))
+      (λ t. shows_more (λ mutex. (word_index number Condvar ≢ word_index mutex Condvar) × (has (owning (word_index mutex Mutex) Exclusive) v.owns ≡ true)) New (apply op n)
+      (λ k there. let i : ℕ = word_index k Mutex in let real = owned_mutex k (omega (arith, term_le (λ (u : View). owned i exclusive u.owns) s.views id v at, owned_some i Exclusive v.owns there.1 exclusive (omega arith))) in let stepped = real.2 in
+      (real.0, (λ e. there.0 (ap (λ q. word_index q Condvar) (sym e))), omega (arith, grown i))) t) tie
   tied_after number Count op id v at below tie more =
       let n : ℕ = get_or s.words (word_index number Count) 0 in let m : ℕ = apply op n in let i : ℕ = word_index number Count in let r : ℕ = mutex_of_count i in let w = after_step Count i op n v in
       let old = o.counts number below in let old₁ = old.1 in (
@@ -322,8 +330,8 @@ count_turned words family s o j m v w me up fits same-owns saw same-steps same-d
       size = length-set s.words counter m ∙ size;
       coded = λ number' kind' below. subst (λ (x : ℕ). Codes kind' x (λ weight. named (word_index number' kind') weight vs)) (sym (there (word_index number' kind') (omega arith)))
           (subst (Codes kind' (get_or s.words (word_index number' kind') 0)) (λ k weight. same-named (word_index number' kind') weight k) (o.coded number' kind' below));
-      shows = λ number' below. subst (Shows (λ mutex. 0 < total (steps_at (word_index mutex Mutex)) vs)) (sym (there (word_index number' Condvar) (omega arith)))
-          (shows_more (λ mutex. 0 < total (steps_at (word_index mutex Mutex)) s.views) (λ mutex. 0 < total (steps_at (word_index mutex Mutex)) vs) (get_or s.words (word_index number' Condvar) 0) (λ k h. omega (arith, stepped (word_index k Mutex) (omega arith))) (o.shows number' below));
+      shows = λ number' below. subst (Shows (MayBeShown words number' vs)) (sym (there (word_index number' Condvar) (omega arith)))
+          (shown_still words number' s.views vs (get_or s.words (word_index number' Condvar) 0) (λ k. omega (arith, stepped (word_index k Mutex) (omega arith))) (o.shows number' below));
       counts = λ number' below. let old = o.counts number' below in let old₁ = old.1 in let same = there (word_index number' Count) (omega arith) in let r : ℕ = mutex_of_count (word_index number' Count) in
           (subst IsCountCode (sym same) old.0, omega (arith, total-set (λ (u : View). counted r u.owns) s.views j v w me, ap (counted r) same-owns));
       owned = λ r weight some. let old = o.owned r weight (omega (arith, same-named r weight)) in let old₁ = old.1 in (old.0, omega (arith, length-set s.words counter m));

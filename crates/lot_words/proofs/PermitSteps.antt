@@ -9,7 +9,7 @@ use Rattle.atomic_table.specs.Table.{State, Me, step, takes, gives, rest, put_ba
 use Rattle.atomic_table.proofs.Lists.{at_set}
 use Rattle.lot_words.specs.Indices.{word_index, counter, mutex_of_count, table_size}
 use Rattle.lot_words.specs.Views.{view, blank, total, total_below, owned, owning, named, counted, steps_at, drew}
-use Rattle.lot_words.specs.Codes.{Codes, Shows, IsMutexCode, everyone, exclusive, opened}
+use Rattle.lot_words.specs.Codes.{Codes, IsMutexCode, everyone, exclusive, opened}
 use Rattle.lot_words.specs.Permits.{slot_at, laid}
 use Rattle.lot_words.specs.Plays.{piece, opens, closes}
 use Rattle.lot_words.specs.Rule.{LotRule}
@@ -20,6 +20,7 @@ use Rattle.lot_words.specs.declared.views.View.{View}
 use Rattle.lot_words.specs.declared.words.WordKind.{WordKind}
 use Rattle.lot_words.specs.declared.words.WordKind.TheVariants.{Mutex, RwLock, Condvar, Once, Count}
 use Rattle.value_place.specs.declared.slot.PermitSlot.{PermitSlot}
+use Rattle.lot_words.proofs.Keeps.{shown_still}
 use Rattle.lot_words.proofs.Totals.{total-set, term_le, cond_same, cond_other}
 use Rattle.lot_words.proofs.Indices.{rank_lt, index-number, index-kind}
 
@@ -79,7 +80,7 @@ module _ (words family : ℕ) (s : State PermitSlot View) (o : LotRule words fam
             let Goal : ℕ → WordKind → Type 0 = λ n k. Codes k (get_or s.words (word_index n k) 0) (λ weight. named (word_index n k) weight vs) in
             subst (λ (k : WordKind). Goal number' k) (sym k≡) (subst (λ (n : ℕ). Goal n Mutex) (sym n≡) (code.0, omega (arith, here everyone), omega (arith, here exclusive, here opened))))
             (λ ne. subst (Codes kind' (get_or s.words (word_index number' kind') 0)) (λ k weight. sym (there (word_index number' kind') ne weight) k) (o.coded number' kind' below'));
-        shows = λ number' below'. subst (λ (f : ℕ → ℕ). Shows (λ mutex. 0 < f (word_index mutex Mutex)) (get_or s.words (word_index number' Condvar) 0)) (λ k r. sym (steps r) k) (o.shows number' below');
+        shows = λ number' below'. shown_still words number' s.views vs (get_or s.words (word_index number' Condvar) 0) (λ k. omega (arith, steps (word_index k Mutex))) (o.shows number' below');
         counts = λ number' below'. let old = o.counts number' below' in let r : ℕ = mutex_of_count (word_index number' Count) in
             (old.0, old.1 ∙ omega (arith, total-set (λ (u : View). counted r u.owns) s.views id v w me, first_counts i r x os, first_counts i r y os));
         owned = λ r weight some. dite (ℕ_discrete r i) (λ e. (omega arith, omega arith)) (λ ne. o.owned r weight (omega (arith, there r ne weight)));

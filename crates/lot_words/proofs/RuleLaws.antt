@@ -4,7 +4,7 @@ use mathlib.Core.Logic.{dite}
 use native.Mathlib.Decide.{ℕ_discrete}
 use Rattle.lot_words.specs.Indices.{word_index, mutex_of_count}
 use Rattle.lot_words.specs.Views.{total, total_below, counted}
-use Rattle.lot_words.specs.RuleLaws.{DrawnOnce, NeverFalls, UntouchedIs0, ShownWasStepped, CountsAnOwner, RunsOneAtATime}
+use Rattle.lot_words.specs.RuleLaws.{DrawnOnce, NeverFalls, UntouchedIs0, ShownIsAMutex, CountsAnOwner, RunsOneAtATime}
 use Rattle.lot_words.specs.declared.views.View.{View}
 use Rattle.lot_words.specs.declared.words.WordKind.TheVariants.{Mutex, Once, Count}
 use Rattle.lot_words.proofs.Counts.{no_counts}
@@ -31,8 +31,8 @@ never_falls words family s rule = rule.saw
 pub untouched_is_0 : UntouchedIs0
 untouched_is_0 words family s rule = rule.untouched
 
-pub shown_was_stepped : ShownWasStepped
-shown_was_stepped words family s rule = rule.shows
+pub shown_is_a_mutex : ShownIsAMutex
+shown_is_a_mutex words family s rule = rule.shows
 
 pub counts_an_owner : CountsAnOwner
 counts_an_owner words family s rule number below = let here = rule.counts (number + 1) below in let same = here.1 in let there : mutex_of_count (word_index (number + 1) Count) ≡ word_index number Mutex = omega arith in

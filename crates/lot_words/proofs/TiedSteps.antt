@@ -1,17 +1,24 @@
 -- The kinds of step on words that are tied to the word of a mutex.
-use Rattle.std.proofs.Common.{◌≡◌, inl, inr, ℕ, ◌+◌, ◌^◌, ◌<◌, List, true, cond, sym, refl, ap, subst, arith, eq-eqb, ne_eqb}
+use Rattle.std.proofs.Common.{◌≡◌, ◌≢◌, inl, inr, ℕ, ◌+◌, ◌^◌, ◌<◌, List, get_or, true, cond, sym, refl, ap, subst, arith, eq-eqb, ne_eqb}
 use mathlib.Core.Logic.{dite}
+use mathlib.Core.Option.{none}
 use native.Mathlib.Decide.{ℕ_discrete}
+use Rattle.atomic_table.specs.Table.{Me, Allows, step}
 use Rattle.lot_base.specs.Words.{apply}
 use Rattle.lot_base.specs.declared.ops.Op.{Op}
 use Rattle.lot_base.specs.declared.ops.Op.TheVariants.{Load, Store, Add, Sub, Exchange}
 use Rattle.lot_words.specs.Indices.{word_index, mutex_of_count}
 use Rattle.lot_words.specs.Views.{owning_with}
-use Rattle.lot_words.specs.Codes.{IsCountCode}
+use Rattle.lot_words.specs.Codes.{IsCountCode, Shows}
+use Rattle.lot_words.specs.Plays.{sees_shown}
+use Rattle.lot_words.specs.Rule.{LotRule, MayBeShown}
 use Rattle.lot_words.specs.Steps.{has, MayTie, MayStep}
 use Rattle.lot_words.specs.Laws.{CondvarMaySteps, CountMaySteps}
 use Rattle.lot_words.specs.declared.owners.Ownership.{Ownership}
+use Rattle.lot_words.specs.declared.views.View.{View}
 use Rattle.lot_words.specs.declared.words.WordKind.TheVariants.{Mutex, Condvar, Count}
+use Rattle.value_place.specs.declared.slot.PermitSlot.{PermitSlot}
+use Rattle.lot_words.proofs.Keeps.{steps, shows_more}
 
 -- the law of steps on a condition variable's word
 condvar_step : (at : ℕ) (op : Op) (owns : List Ownership) → ((n : ℕ) → MayTie Condvar at n (apply op n) owns) → MayStep Condvar at op owns
@@ -20,8 +27,8 @@ condvar_step at op owns ok n owners fits code mine agrees = (tt, (λ after same.
 pub condvar_steps : CondvarMaySteps
 condvar_steps at owns = record {
   load = condvar_step at Load owns (λ n. inl refl);
-  show = λ mutex there. condvar_step at (Exchange 0 (mutex + 1)) owns (λ n. dite (ℕ_discrete n 0)
-      (λ e. inr (inr (mutex, ap (λ b. cond b (mutex + 1) n) (eq-eqb n 0 e), there)))
+  show = λ mutex other there. condvar_step at (Exchange 0 (mutex + 1)) owns (λ n. dite (ℕ_discrete n 0)
+      (λ e. inr (inr (mutex, ap (λ b. cond b (mutex + 1) n) (eq-eqb n 0 e), (other, there))))
       (λ ne. inl (ap (λ b. cond b (mutex + 1) n) (ne_eqb n 0 ne))));
   hide = condvar_step at (Store 0) owns (λ n. inr (inl refl));
 }
@@ -39,9 +46,18 @@ pub count_steps : CountMaySteps
 count_steps mutex owns = record {
   load = λ n owners fits code mine agrees. (tt, (λ after same. tt), inl refl);
   raise = λ count there code. count_step mutex owns (Add 1) count there (λ fits. elim code [
-    | inl none ↦ absurd (omega arith)
+    | inl nothing ↦ absurd (omega arith)
     | inr (thread, times, e, some, few) ↦ inr (thread, times, omega arith, some, few)
   ]);
   lower = λ count there code. count_step mutex owns (Sub 1) (count + 1) there (λ fits. subst IsCountCode (omega arith) code);
   store = λ count m there code. count_step mutex owns (Store m) count there (λ fits. code);
 }
+
+-- a load of a condition variable's word, which tells what it may show
+pub sees_shown_allowed : (words family slots id : ℕ) (me : Me PermitSlot View) (number : ℕ) → number < words
+    → let i = word_index number Condvar in Allows (LotRule words family) slots id me i (λ n. n) (sees_shown words number (step slots i 0 0 none) me)
+sees_shown_allowed words family slots id me number below s o wide at fits =
+    let t = steps words family slots id me number Condvar Load below ((condvar_steps (word_index number Condvar) me.0.owns).load) s o wide at fits in
+    let n : ℕ = get_or s.words (word_index number Condvar) 0 in
+    let shown : Shows (λ mutex. (mutex < words) × (mutex ≢ number)) n = shows_more (MayBeShown words number s.views) (λ mutex. (mutex < words) × (mutex ≢ number)) n (λ k h. (h.0, h.1)) (o.shows number below) in
+    (t.0, t.1, t.2, t.3, (t.4, shown))

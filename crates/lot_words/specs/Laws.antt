@@ -107,8 +107,8 @@ OnceIsKnown = (at : ℕ) (owns : List Ownership) → OnceKnowledge at owns
 -- the kinds of step on a condition variable's word
 pub record CondvarSteps (at : ℕ) (owns : List Ownership) : Type 0 where
   pub load : MayStep Condvar at Load owns
-  -- who owns a mutex shows it, where none is shown
-  pub show : (mutex : ℕ) → has (owning (word_index mutex Mutex) Exclusive) owns ≡ true
+  -- who owns a mutex of another number shows it, where none is shown
+  pub show : (mutex : ℕ) → at ≢ word_index mutex Condvar → has (owning (word_index mutex Mutex) Exclusive) owns ≡ true
       → MayStep Condvar at (Exchange 0 (mutex + 1)) owns
   pub hide : MayStep Condvar at (Store 0) owns
 

@@ -4,6 +4,7 @@ use Rattle.atomic_table.specs.Table.{Me, Step, rest}
 use Rattle.lot_base.specs.declared.ops.Op.{Op}
 use Rattle.lot_base.specs.declared.ops.Op.TheVariants.{Load, Store, Swap, Add, Sub, Or, And, Exchange}
 use Rattle.lot_words.specs.Indices.{counter, word_kind_at}
+use Rattle.lot_words.specs.Codes.{Shows}
 use Rattle.lot_words.specs.Views.{view, owning}
 use Rattle.lot_words.specs.Permits.{slot_at}
 use Rattle.lot_words.specs.declared.owners.Owner.TheVariants.{Exclusive, Opened}
@@ -44,6 +45,11 @@ ors st me found after = TakesStep st.word (Or st.first) me found after
 abbrev pub saw_set : {S : Type 0} → ℕ → Play S
 saw_set bits st me found after = (bit_or found bits ≡ found → TakesStep st.word (Or bits) me found after)
     × (bit_or found bits ≢ found → after ≡ me)
+
+-- a load of a condition variable's word, of this number and in a lot of so many words, which tells what it may show
+abbrev pub sees_shown : {S : Type 0} → ℕ → ℕ → Play S
+sees_shown words number st me found after = TakesStep st.word Load me found after
+    × Shows (λ mutex. (mutex < words) × (mutex ≢ number)) found
 
 abbrev pub ands : {S : Type 0} → Play S
 ands st me found after = TakesStep st.word (And st.first) me found after

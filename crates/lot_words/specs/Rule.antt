@@ -1,5 +1,5 @@
 -- The ownership rule: what holds of a lot's words and of all views between any two steps.
-use Rattle.std.specs.Prelude.{◌≡◌, ℕ, ◌<◌, ◌≤◌, length, slice_index}
+use Rattle.std.specs.Prelude.{◌≡◌, ◌≢◌, ℕ, ◌<◌, ◌≤◌, List, length, slice_index}
 use mathlib.Core.Option.{some}
 use lib.ListN.{get_elem?}
 use Rattle.atomic_table.specs.Table.{State}
@@ -13,6 +13,12 @@ use Rattle.lot_words.specs.declared.views.View.{View}
 use Rattle.lot_words.specs.declared.words.WordKind.{WordKind}
 use Rattle.lot_words.specs.declared.words.WordKind.TheVariants.{Mutex, Condvar, Count}
 
+-- what a condition variable of this number may show, in a lot of so many words: a mutex of the lot, of another number, on which somebody
+-- has stepped
+abbrev pub MayBeShown : ℕ → ℕ → List View → ℕ → Type 0
+MayBeShown words number views mutex =
+    (mutex < words) × (mutex ≢ number) × (0 < total (steps_at (word_index mutex Mutex)) views)
+
 -- of a lot of so many words, whose permits come from one source
 pub record LotRule (words family : ℕ) (s : State PermitSlot View) : Type 0 where
   pub size : length s.words ≡ table_size words
@@ -20,9 +26,9 @@ pub record LotRule (words family : ℕ) (s : State PermitSlot View) : Type 0 whe
   pub coded : (number : ℕ) (kind : WordKind) → number < words
       → Codes kind (slice_index s.words (word_index number kind))
       (λ weight. named (word_index number kind) weight s.views)
-  -- a condition variable shows a mutex on which somebody has stepped, or none
+  -- a condition variable shows such a mutex, or none
   pub shows : (number : ℕ) → number < words
-      → Shows (λ mutex. 0 < total (steps_at (word_index mutex Mutex)) s.views) (slice_index s.words (word_index number Condvar))
+      → Shows (MayBeShown words number s.views) (slice_index s.words (word_index number Condvar))
   -- a count word is what the owner of the mutex before it says
   pub counts : (number : ℕ) → number < words → IsCountCode (slice_index s.words (word_index number Count))
       × (slice_index s.words (word_index number Count)

@@ -6,7 +6,7 @@ use Rattle.atomic_table.specs.Table.{State}
 use Rattle.lot_words.specs.Indices.{counter, word_index}
 use Rattle.lot_words.specs.Views.{total, drew, steps_at, named}
 use Rattle.lot_words.specs.Codes.{everyone, runner, witness, IsCountCode, Shows}
-use Rattle.lot_words.specs.Rule.{LotRule}
+use Rattle.lot_words.specs.Rule.{LotRule, MayBeShown}
 use Rattle.value_place.specs.declared.slot.PermitSlot.{PermitSlot}
 use Rattle.lot_words.specs.declared.views.View.{View}
 use Rattle.lot_words.specs.declared.words.WordKind.TheVariants.{Mutex, Once, Condvar, Count}
@@ -31,10 +31,10 @@ abbrev pub UntouchedIs0 : Type 0
 UntouchedIs0 = (words family : ℕ) (s : State PermitSlot View) → LotRule words family s → (at : ℕ) → 0 < at → at < length s.words
     → total (steps_at at) s.views ≡ 0 → slice_index s.words at ≡ 0
 
--- a condition variable shows no mutex, or one on which somebody stepped
-abbrev pub ShownWasStepped : Type 0
-ShownWasStepped = (words family : ℕ) (s : State PermitSlot View) → LotRule words family s → (number : ℕ) → number < words →
-    Shows (λ mutex. 0 < total (steps_at (word_index mutex Mutex)) s.views) (slice_index s.words (word_index number Condvar))
+-- a condition variable shows no mutex, or one of the lot, of another number, on which somebody stepped
+abbrev pub ShownIsAMutex : Type 0
+ShownIsAMutex = (words family : ℕ) (s : State PermitSlot View) → LotRule words family s → (number : ℕ) → number < words →
+    Shows (MayBeShown words number s.views) (slice_index s.words (word_index number Condvar))
 
 -- a count word is 0, or a thread with how often it locked the mutex before, and 0 where nobody owns that
 abbrev pub CountsAnOwner : Type 0

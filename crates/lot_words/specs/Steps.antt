@@ -1,5 +1,5 @@
 -- What a step on a word does to who owns it.
-use Rattle.std.specs.Prelude.{◌≡◌, ℕ, ◌+◌, ◌%◌, ◌^◌, ◌<◌, ◌≤◌, ◌⊎◌, zero, suc, ◌-◌, ◌/◌, List, [], ◌∷◌, ◌++◌, Bool, true, false, cond, ◌==◌, ◌&&◌, ◌||◌, not, map}
+use Rattle.std.specs.Prelude.{◌≡◌, ◌≢◌, ℕ, ◌+◌, ◌%◌, ◌^◌, ◌<◌, ◌≤◌, ◌⊎◌, zero, suc, ◌-◌, ◌/◌, List, [], ◌∷◌, ◌++◌, Bool, true, false, cond, ◌==◌, ◌&&◌, ◌||◌, not, map}
 use Rattle.lot_base.specs.Words.{apply}
 use Rattle.lot_base.specs.declared.ops.Op.{Op}
 use Rattle.lot_base.specs.declared.ops.Op.TheVariants.{Load, Sub, Exchange}
@@ -132,10 +132,11 @@ abbrev pub CountAgrees : WordKind → ℕ → ℕ → List Ownership → Type 0
 CountAgrees Count at n owns = IsCountCode n × ((count : ℕ) → has (owning_with (mutex_of_count at) count) owns ≡ true → count ≡ n)
 CountAgrees _ at n owns = Unit {0}
 
--- who changes what a condition variable shows hides it, or shows a mutex that it owns. Who changes a count word owns its mutex
+-- who changes what a condition variable shows hides it, or shows a mutex of another number that it owns. Who changes a count word owns
+-- its mutex
 abbrev pub MayTie : WordKind → ℕ → ℕ → ℕ → List Ownership → Type 0
 MayTie Condvar at found left owns = (left ≡ found)
-    ⊎ Shows (λ mutex. has (owning (word_index mutex Mutex) Exclusive) owns ≡ true) left
+    ⊎ Shows (λ mutex. (at ≢ word_index mutex Condvar) × (has (owning (word_index mutex Mutex) Exclusive) owns ≡ true)) left
 MayTie Count at found left owns = (left ≡ found) ⊎ (IsCountCode left × (has (owning_with (mutex_of_count at) found) owns ≡ true))
 MayTie _ at found left owns = Unit {0}
 

@@ -68,16 +68,4 @@ impl LotWords {
             None => Err(Fault::LotFull),
         }
     }
-
-    /// The mutex that a condition variable shows by this value, by one more than its number. None where it shows none, or a number that no
-    /// word of the lot has.
-    pub fn mutex_shown(&self, seen: u64) -> Option<Word>
-        ensures { MatchOption result ((seen ≡ 0) ⊎ (self.now.count < seen))
-            (λ word. IsWordOf self.now word × (word.kind ≡ Mutex) × (seen ≡ word.number + 1)) }
-    {
-        if seen == 0 || seen > self.count as u64 {
-            return None;
-        }
-        Some(Word::new((seen - 1) as usize, WordKind::Mutex, self.tag))
-    }
 }

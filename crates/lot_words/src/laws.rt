@@ -1,6 +1,6 @@
 //! What the rule says to who takes a step, whoever else takes steps.
 ghost use Rattle.lot_words.specs.Laws.{CondvarMaySteps, CountMaySteps, ExclusiveIsAlone, MutexMaySteps, OnceIsKnown, OnceMaySteps, RwLockMaySteps};
-ghost use Rattle.lot_words.specs.RuleLaws.{CountsAnOwner, DrawnOnce, NeverFalls, RunsOneAtATime, ShownWasStepped, UntouchedIs0};
+ghost use Rattle.lot_words.specs.RuleLaws.{CountsAnOwner, DrawnOnce, NeverFalls, RunsOneAtATime, ShownIsAMutex, UntouchedIs0};
 
 /// In every word of a mutex or a reader-writer lock that a step can find, an exclusive owner stands beside no other owner.
 pub fn exclusive_is_alone()
@@ -58,8 +58,8 @@ pub fn untouched_word_is_0()
 {}
 
 /// A condition variable shows no mutex, or one on which somebody stepped.
-pub fn shown_mutex_was_stepped_on()
-    ensures { ShownWasStepped }
+pub fn shown_is_a_mutex_of_the_lot()
+    ensures { ShownIsAMutex }
 {}
 
 /// A count word is 0, or a thread with how often it locked the mutex before. It is 0 where nobody owns that mutex.

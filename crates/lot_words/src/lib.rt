@@ -7,6 +7,7 @@ pub mod owners;
 pub mod permits;
 pub mod plays;
 pub mod rights;
+pub mod shown;
 pub mod table;
 pub mod views;
 pub mod words;

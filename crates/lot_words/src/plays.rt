@@ -2,7 +2,7 @@
 ghost use Rattle.std.specs.Prelude.{ℕ, [], List};
 ghost use Rattle.lot_words.specs.Rule.{LotRule};
 ghost use Rattle.lot_words.specs.Views.{blank, owning};
-ghost use Rattle.lot_words.specs.Plays.{loads, stores, swaps, adds, subs, ors, saw_set, ands, exchanges, looks, draws, left_over, without_front, piece, takes_in, opens, closes, enters_open, IsAny, IsEven, IsOne, IsZero, leaves_open, sees_locked};
+ghost use Rattle.lot_words.specs.Plays.{loads, stores, swaps, adds, subs, ors, saw_set, sees_shown, ands, exchanges, looks, draws, left_over, without_front, piece, takes_in, opens, closes, enters_open, IsAny, IsEven, IsOne, IsZero, leaves_open, sees_locked};
 ghost use Rattle.lot_base.specs.declared.ops.Op.TheVariants.{Exchange, Or, Sub};
 ghost use Rattle.lot_words.specs.declared.owners.Ownership.{Ownership};
 ghost use Rattle.lot_words.specs.declared.owners.Owner.TheVariants.{Exclusive, Opened};
@@ -74,6 +74,28 @@ pub struct SawSet<B: Bits> {
 
 impl<S, B: Bits> Play<S, View> for SawSet<B> {
     ghost then = { saw_set B.bits };
+}
+
+/// A condition variable of a lot, picked at each call: how many words the lot has, and its number.
+pub trait CondvarPick {
+    ghost words: { ℕ };
+
+    ghost number: { ℕ };
+}
+
+impl CondvarPick for Brand {
+    ghost words = { 0 };
+
+    ghost number = { 0 };
+}
+
+/// A load of its word, which tells what it may show.
+pub struct SeesShown<P: CondvarPick> {
+    pick: PhantomData<P>,
+}
+
+impl<S, P: CondvarPick> Play<S, View> for SeesShown<P> {
+    ghost then = { sees_shown P.words P.number };
 }
 
 pub struct Ands;

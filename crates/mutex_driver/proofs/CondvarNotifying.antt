@@ -1,5 +1,5 @@
 -- The first step of a notification, and the rest behind it.
-use Rattle.std.proofs.Common.{ℕ, false, ◌≡◌, ◌≢◌, ◌==◌, ◌+◌, ◌-◌, ◌++◌, Bool, List, inl, inr, if◌then◌else◌, sym, refl, ap, ◌∙◌, subst, ne_eqb, arith}
+use Rattle.std.proofs.Common.{ℕ, false, ◌≡◌, ◌≢◌, ◌==◌, ◌+◌, ◌-◌, ◌++◌, Bool, List, if◌then◌else◌, sym, refl, ap, ◌∙◌, subst, ne_eqb, arith}
 use Rattle.lot_base.specs.declared.ops.Op.TheVariants.{Load}
 use Rattle.lot_acts.specs.declared.acts.Act.TheVariants.{End}
 use Rattle.lot_acts.specs.declared.acts.Next.TheVariants.{At, End as Over}
@@ -20,13 +20,13 @@ use Rattle.mutex_driver.specs.CondvarCalls.{Notifies, NotifiesBehind, at_condvar
 own_word : (n m : ℕ) → m ≢ n → at_condvar n m n ≡ condvar_at n
 own_word n m ne = ap (λ (b : Bool). if b then mutex_at m else condvar_at n) (ne_eqb m n ne)
 
-module _ (words n : ℕ) (all : Bool) (seen : ℕ) (answer : Answer) (old mid : List WordStep) (added : mid ≡ old ++ step (condvar_at n) Load seen) where
+module _ (n : ℕ) (all : Bool) (seen : ℕ) (answer : Answer) (old mid : List WordStep) (added : mid ≡ old ++ step (condvar_at n) Load seen) where
   beside : (m : ℕ) → m ≢ n → mid ≡ old ++ step (at_condvar n m n) Load seen
   beside m ne = added ∙ ap (λ i. old ++ step i Load seen) (sym (own_word n m ne))
 
   -- it saw that nobody waits
-  pub nobody_waits : seen ≡ 0 → answer ≡ notified all 0 → Notifies words n all answer old mid
-  nobody_waits zero told = inl (
+  pub nobody_waits : seen ≡ 0 → answer ≡ notified all 0 → Notifies n all answer old mid
+  nobody_waits zero told = (
     n + 1,
     ends_at_once (at_condvar n (n + 1)) (notify_begin n all) n Load seen old mid answer refl (beside (n + 1) (λ e. omega arith))
         (subst (λ v. next_act (notify_begin n all) (Value v) ≡ End answer) (sym zero) (ap End (sym told))),
@@ -40,10 +40,9 @@ module _ (words n : ℕ) (all : Bool) (seen : ℕ) (answer : Answer) (old mid : 
       ∙ ap (λ k. Condvar n (Notify all k notify.Enter)) back
 
   -- or that a mutex is shown
-  pub some_wait : (new : List WordStep) → NotifiesBehind words n all seen answer mid new → Notifies words n all answer old new
-  some_wait new (inl b) = inl (
+  pub some_wait : (new : List WordStep) → NotifiesBehind n all seen answer mid new → Notifies n all answer old new
+  some_wait new b = (
     b.0,
     goes_on (at_condvar n b.0) (notify_begin n all) n Load seen old mid new answer refl (beside b.0 b.1)
         (subst (λ (p : Place). Walks (at_condvar n b.0) p mid new answer) (sym (leads b.0 b.2)) b.3),
   )
-  some_wait new (inr b) = inr (seen, b.0, b.1, b.2 ∙ added)

@@ -12,6 +12,7 @@ use Rattle.lot_condvar.specs.declared.places.CondvarPlace.TheVariants.{Wait, Loo
 use Rattle.lot_condvar.specs.declared.wait.WaitAt.TheVariants as wait
 use Rattle.lot_steps.specs.declared.places.Place.{Place}
 use Rattle.lot_steps.specs.declared.places.Place.TheVariants.{Condvar}
+use Rattle.lot_words.specs.Codes.{Shows}
 use Rattle.lot_words.specs.Lots.{IsWordOf}
 use Rattle.lot_words.specs.declared.views.WordStep.{WordStep}
 use Rattle.lot_words.specs.declared.words.Word.{Word}
@@ -55,28 +56,25 @@ abbrev pub MeetsCondvar : ParkingLot → Token → Word → Type 0
 MeetsCondvar lot token condvar = IsTokenOf lot token × IsWordOf lot.words condvar
     × (condvar.kind ≡ kind.Condvar) × (condvar.number < 9223372036854775808)
 
--- a value that shows no mutex beside this condition variable, in a lot of so many words. Nobody makes a word show that, and the rule of the
--- lot doesn't say so
-abbrev pub IsStray : ℕ → ℕ → ℕ → Type 0
-IsStray words c seen = (words < seen) ⊎ (seen ≡ c + 1)
+-- the value of a condition variable's word, of this number and in a lot of so many words: it shows nothing, or a mutex of the lot beside it
+abbrev pub ShowsBeside : ℕ → ℕ → ℕ → Type 0
+ShowsBeside words c seen = Shows (λ m. (m < words) × (m ≢ c)) seen
 
 abbrev pub notify_begin : ℕ → Bool → Place
 notify_begin c all = Condvar c (Look all)
 
 -- its thread loaded the word once and found this
-abbrev pub HasLooked : ℕ → ℕ → Token → Token → Type 0
-HasLooked c seen old new = (steps_of new ≡ steps_of old ++ step (condvar_at c) Load seen) × (owns_of new ≡ owns_of old)
+abbrev pub HasLooked : ℕ → ℕ → ℕ → Token → Token → Type 0
+HasLooked words c seen old new = (steps_of new ≡ steps_of old ++ step (condvar_at c) Load seen) × (owns_of new ≡ owns_of old)
+    × ShowsBeside words c seen
 
--- behind that step the rest leads to its answer; a stray value is answered as where nobody waits
-abbrev pub NotifiesBehind : ℕ → ℕ → Bool → ℕ → Answer → List WordStep → List WordStep → Type 0
-NotifiesBehind words c all seen answer old new =
-    ((m : ℕ) × (m ≢ c) × (seen ≡ m + 1) × HasNotified c m all answer old new)
-    ⊎ (IsStray words c seen × (answer ≡ notified all 0) × (new ≡ old))
+-- behind that step, which saw a mutex beside it, the rest leads to its answer
+abbrev pub NotifiesBehind : ℕ → Bool → ℕ → Answer → List WordStep → List WordStep → Type 0
+NotifiesBehind c all seen answer old new = (m : ℕ) × (m ≢ c) × (seen ≡ m + 1) × HasNotified c m all answer old new
 
 -- the steps of a notification lead to its answer, beside the mutex that it saw, if any
-abbrev pub Notifies : ℕ → ℕ → Bool → Answer → List WordStep → List WordStep → Type 0
-Notifies words c all answer old new = ((m : ℕ) × Walks (at_condvar c m) (notify_begin c all) old new answer)
-    ⊎ ((seen : ℕ) × IsStray words c seen × (answer ≡ notified all 0) × (new ≡ old ++ step (condvar_at c) Load seen))
+abbrev pub Notifies : ℕ → Bool → Answer → List WordStep → List WordStep → Type 0
+Notifies c all answer old new = (m : ℕ) × Walks (at_condvar c m) (notify_begin c all) old new answer
 
 -- one that has moved some left both sections, with a record of that; who notifies all tells its number
 abbrev pub TellsMoved : ℕ → Bool → Answer → Option SectionRecord → Type 0

@@ -8,15 +8,14 @@ ghost use Rattle.lot_driver.specs.CondvarFitting.{IsNotifyOver, IsWaitOver, Owns
 ghost use Rattle.lot_driver.specs.Stages.{stage_of};
 ghost use Rattle.lot_driver.specs.Telling.{owns_of, steps_of};
 ghost use Rattle.lot_driver.specs.Words.{both};
-ghost use Rattle.mutex_driver.specs.CondvarCalls.{HasLooked, HasNotified, HasWaited, MeetBeside, MeetsCondvar, Notifies, NotifiesBehind, TellsMoved};
+ghost use Rattle.mutex_driver.specs.CondvarCalls.{HasLooked, HasNotified, HasWaited, MeetBeside, MeetsCondvar, Notifies, NotifiesBehind, ShowsBeside, TellsMoved};
 
 use crate::condvar_courses::Pair;
 use crate::notify_courses::notify_through;
 use crate::wait_courses::wait_through;
 use lot_calls::Answer;
 use lot_driver::words::Words;
-use lot_words::laws::condvar_may_step;
-use parking_lot_core::{Clock, Op, ParkingLot, Token, Word};
+use parking_lot_core::{Clock, ParkingLot, Token, Word};
 use std::sync::Wait;
 
 fn pair_of(condvar: Word, mutex: Word) -> Pair
@@ -73,13 +72,6 @@ fn notify_shown<R: Wait>(
     notify_through(rt, lot, token, pair_of(condvar, mutex), all)
 }
 
-// What a notification answers where nobody waits.
-fn nobody(all: bool) -> Answer
-    ensures { result ≡ notified all 0 }
-{
-    if all { Answer::Number(0) } else { Answer::No }
-}
-
 // From behind the first step of a notification, which saw that a mutex is shown.
 fn notify_seen<R: Wait>(
     rt: &R,
@@ -90,17 +82,17 @@ fn notify_seen<R: Wait>(
     seen: u64,
 ) -> Answer
     requires own { MeetsCondvar lot.now token.old condvar }
+    requires shown { ShowsBeside lot.now.words.count condvar.number seen }
     requires some { seen ≢ 0 }
     ensures own { IsSameThread lot.now token.old token.new }
-    ensures path { NotifiesBehind lot.now.words.count condvar.number all seen result (steps_of token.old) (steps_of token.new) }
+    ensures path { NotifiesBehind condvar.number all seen result (steps_of token.old) (steps_of token.new) }
     ensures owns { owns_of token.new ≡ owns_of token.old }
     ensures record { TellsMoved condvar.number all result (last_of token.new) }
 {
     match lot.mutex_shown(seen) {
-        Some(mutex) if mutex.number() != condvar.number() => {
-            notify_shown(rt, lot, token, condvar, mutex, all)
-        }
-        _ => nobody(all),
+        Some(mutex) => notify_shown(rt, lot, token, condvar, mutex, all),
+        // What isn't 0 shows a mutex.
+        None => unreachable!(),
     }
 }
 
@@ -110,12 +102,11 @@ fn notify_seen<R: Wait>(
 pub fn begin_notify(lot: &ParkingLot, token: &mut Token, condvar: Word) -> u64
     requires own { MeetsCondvar lot.now token.old condvar }
     ensures own { IsSameThread lot.now token.old token.new }
-    ensures looked { HasLooked condvar.number result token.old token.new }
+    ensures looked { HasLooked lot.now.words.count condvar.number result token.old token.new }
     ensures nobody { result ≡ 0 → (all : Bool)
-        → Notifies lot.now.words.count condvar.number all (notified all 0) (steps_of token.old) (steps_of token.new) }
+        → Notifies condvar.number all (notified all 0) (steps_of token.old) (steps_of token.new) }
 {
-    condvar_may_step();
-    lot.word(token, condvar, Op::Load)
+    lot.look_shown(token, condvar)
 }
 
 /// The rest of a notification whose first step saw that a mutex is shown. It wakes the first who waits, or all: those whose mutex
@@ -132,10 +123,11 @@ pub fn notify_behind<R: Wait>(
     seen: u64,
 ) -> Answer
     requires own { MeetsCondvar lot.now token.old condvar }
+    requires looked { (before : Token) × HasLooked lot.now.words.count condvar.number seen before token.old }
     requires some { seen ≢ 0 }
     ensures own { IsSameThread lot.now token.old token.new }
-    ensures path { (before : Token) → HasLooked condvar.number seen before token.old
-        → Notifies lot.now.words.count condvar.number all result (steps_of before) (steps_of token.new) }
+    ensures path { (before : Token) → HasLooked lot.now.words.count condvar.number seen before token.old
+        → Notifies condvar.number all result (steps_of before) (steps_of token.new) }
     ensures owns { owns_of token.new ≡ owns_of token.old }
     ensures record { TellsMoved condvar.number all result (last_of token.new) }
 {

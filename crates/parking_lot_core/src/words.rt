@@ -1,7 +1,7 @@
 //! Steps on words, draws and rights, by tokens.
 ghost use Rattle.std.specs.Prelude.{◌≡◌, ◌≢◌, ℕ, ◌+◌, ◌%◌, ◌<◌, ◌⊎◌, ◌∷◌, [], true, None, IfOk, MatchOption, MatchResult};
 ghost use Rattle.lot_words.specs.Indices.{word_index};
-ghost use Rattle.lot_words.specs.Codes.{IsCountCode};
+ghost use Rattle.lot_words.specs.Codes.{IsCountCode, Shows};
 ghost use Rattle.lot_words.specs.Steps.{MayStep, CodesWith, after_step, has};
 ghost use Rattle.lot_words.specs.Draws.{IsDrawn, IsDrawRefused};
 ghost use Rattle.lot_words.specs.Lots.{IsWordOf, permit_of};
@@ -10,7 +10,7 @@ ghost use Rattle.lot_words.specs.Rights.{leaving_alone, named_by, owner_for, pie
 ghost use Rattle.lot_words.specs.RightsOf.{IsHeldOf, IsOpenOf, IsRightOf};
 ghost use Rattle.lot_words.specs.declared.owners.Owner.TheVariants.{Exclusive};
 ghost use Rattle.lot_words.specs.declared.words.WordKind.TheVariants.{Mutex, Condvar, Count};
-ghost use Rattle.lot_base.specs.declared.ops.Op.TheVariants.{Add, Exchange, Or, Sub};
+ghost use Rattle.lot_base.specs.declared.ops.Op.TheVariants.{Add, Exchange, Load, Or, Sub};
 ghost use Rattle.parking_lot_core.specs.Tokens.{IsTokenOf, IsSameThread, view_of, last_of};
 
 use crate::lot::ParkingLot;
@@ -39,7 +39,7 @@ impl ParkingLot {
     /// before: 0, or one more than the number of the mutex that is shown.
     pub fn show_mutex(&self, token: &mut Token, condvar: Word, mutex: Word) -> u64
         requires own { IsTokenOf self.now token.old × IsWordOf self.now.words condvar × IsWordOf self.now.words mutex }
-        requires kinds { (condvar.kind ≡ Condvar) × (mutex.kind ≡ Mutex) }
+        requires kinds { (condvar.kind ≡ Condvar) × (mutex.kind ≡ Mutex) × (condvar.number ≢ mutex.number) }
         requires owned { has (named_by mutex Exclusive) (view_of token.old).owns ≡ true }
         ensures own { IsSameThread self.now token.old token.new × (last_of token.new ≡ None) }
         ensures stepped { view_of token.new
@@ -48,6 +48,20 @@ impl ParkingLot {
         condvar_may_step();
         let to = mutex.number() as u64 + 1;
         self.word(token, condvar, Op::Exchange { from: 0, to })
+    }
+
+    /// Looks what a condition variable shows, by one load of its word. It answers 0 where that is nothing, and else one more than the number of
+    /// a mutex of the lot.
+    #[inline]
+    pub fn look_shown(&self, token: &mut Token, condvar: Word) -> u64
+        requires { IsTokenOf self.now token.old × IsWordOf self.now.words condvar × (condvar.kind ≡ Condvar) }
+        ensures own { IsSameThread self.now token.old token.new × (last_of token.new ≡ None) }
+        ensures stepped { view_of token.new
+            ≡ after_step Condvar (word_index condvar.number Condvar) Load result (view_of token.old) }
+        ensures shown { Shows (λ mutex. (mutex < self.now.words.count) × (mutex ≢ condvar.number)) result }
+    {
+        token.forget_section();
+        self.words.look_shown(&mut token.seat, condvar)
     }
 
     /// The mutex that a condition variable of this lot shows by this value. None where it shows none, or a number that no word of the lot has.

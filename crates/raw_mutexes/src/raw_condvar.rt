@@ -1,15 +1,16 @@
 //! The condition variable, with whose guards of raw mutexes threads wait.
-ghost use Rattle.std.specs.Prelude.{◌≡◌, ◌<◌, ◌*◌};
+ghost use Rattle.std.specs.Prelude.{◌≡◌, ◌≢◌, ◌<◌, ◌*◌};
 ghost use Rattle.std.specs.Arc.{arc_value};
 ghost use Rattle.std.specs.Duration.{as_nanos};
 ghost use Rattle.lot_base.specs.Clocks.{HasElapsed, IsUp};
 ghost use Rattle.lot_calls.specs.declared.outcomes.Answer.{Answer};
 ghost use Rattle.lot_words.specs.Lots.{IsWordOf};
 ghost use Rattle.lot_words.specs.declared.words.WordKind.TheVariants.{Condvar};
-ghost use Rattle.parking_lot_core.specs.Tokens.{IsTokenOf};
+ghost use Rattle.parking_lot_core.specs.Tokens.{IsTokenOf, last_of};
+ghost use Rattle.parking_lot_core.specs.declared.tokens.Token.{Token};
 ghost use Rattle.lot_driver.specs.Drawing.{Drew};
 ghost use Rattle.lot_driver.specs.Telling.{steps_of};
-ghost use Rattle.mutex_driver.specs.CondvarCalls.{AnswersWait, HasLooked, HasMoved, Notifies, WaitsBy};
+ghost use Rattle.mutex_driver.specs.CondvarCalls.{AnswersWait, HasLooked, HasMoved, Notifies, TellsMoved, WaitsBy};
 ghost use Rattle.mutex_driver.specs.CondvarCalls as answers;
 ghost use Rattle.raw_mutexes.specs.MutexGuards.{IsGuardOf, StaysAs};
 ghost use Rattle.raw_mutexes.specs.Words as mutexes;
@@ -97,6 +98,21 @@ impl RawCondvar {
         let answer = wait(rt, lot, token, self.word, mutex.word, limit, timed);
         (answer, mutex.split(lot, token))
     }
+
+    // The rest of a notification of the first, or of all, whose first step saw this.
+    #[cold]
+    #[inline(never)]
+    fn notify_rest<R: Wait>(&self, rt: &R, token: &mut Token, all: bool, seen: u64) -> Answer
+        requires token { IsTokenOf (lot_of self.now) token.old }
+        requires looked { (before : Token) × HasLooked (lot_of self.now).words.count (word_of self.now).number seen before token.old }
+        requires some { seen ≢ 0 }
+        ensures token { IsTokenOf (lot_of self.now) token.new × StaysAs token.old token.new }
+        ensures path { (before : Token) → HasLooked (lot_of self.now).words.count (word_of self.now).number seen before token.old
+            → Notifies (word_of self.now).number all result (steps_of before) (steps_of token.new) }
+        ensures record { TellsMoved (word_of self.now).number all result (last_of token.new) }
+    {
+        notify_behind(rt, &self.lot, token, self.word, all, seen)
+    }
 }
 
 impl lock_raw::RawCondvar for RawCondvar {
@@ -110,9 +126,9 @@ impl lock_raw::RawCondvar for RawCondvar {
         WaitsBy condvar.word.number mutex.word.number timed answer (steps_of old) (steps_of new) };
 
     ghost notified = { λ condvar all answer old new.
-        Notifies (arc_value condvar.lot).words.count condvar.word.number all answer (steps_of old) (steps_of new) };
+        Notifies condvar.word.number all answer (steps_of old) (steps_of new) };
 
-    ghost looked = { λ condvar seen old new. HasLooked condvar.word.number seen old new };
+    ghost looked = { λ condvar seen old new. HasLooked (arc_value condvar.lot).words.count condvar.word.number seen old new };
 
     ghost moved = { λ condvar all number old new. HasMoved condvar.word.number all number new };
 
@@ -140,17 +156,13 @@ impl lock_raw::RawCondvar for RawCondvar {
         begin_notify(&self.lot, token, self.word)
     }
 
-    #[cold]
-    #[inline(never)]
     fn notify_one_behind<R: Wait>(&self, rt: &R, token: &mut Token, seen: u64) -> bool {
-        let answer = notify_behind(rt, &self.lot, token, self.word, false, seen);
+        let answer = self.notify_rest(rt, token, false, seen);
         matches!(answer, Answer::Yes)
     }
 
-    #[cold]
-    #[inline(never)]
     fn notify_all_behind<R: Wait>(&self, rt: &R, token: &mut Token, seen: u64) -> usize {
-        match notify_behind(rt, &self.lot, token, self.word, true, seen) {
+        match self.notify_rest(rt, token, true, seen) {
             Answer::Number(number) => number,
             // Who notifies all answers a number.
             _ => unreachable!(),

@@ -1,0 +1,53 @@
+//! What condition variables show.
+ghost use Rattle.std.specs.Prelude.{◌≡◌, ◌≢◌, ◌+◌, ◌<◌, ◌⊎◌, MatchOption};
+ghost use Rattle.lot_base.specs.declared.ops.Op.TheVariants.{Load};
+ghost use Rattle.lot_words.specs.Codes.{Shows};
+ghost use Rattle.lot_words.specs.Indices.{word_index};
+ghost use Rattle.lot_words.specs.Steps.{after_step};
+ghost use Rattle.lot_words.specs.declared.words.WordKind.TheVariants.{Condvar, Mutex};
+
+use crate::plays::{CondvarPick, SeesShown};
+use crate::table::{LotWords, Seat};
+use crate::words::{Word, WordKind};
+use std::marker::Brand;
+
+impl LotWords {
+    ghost use Rattle.lot_words.specs.Lots.{IsSeatOf, IsWordOf};
+
+    #[inline]
+    fn look_picked<P: CondvarPick>(&self, seat: &mut Seat, condvar: Word) -> u64
+        requires pick { (P.words ≡ self.now.count) × (P.number ≡ condvar.number) }
+        requires own { IsSeatOf self.now seat.old × IsWordOf self.now condvar × (condvar.kind ≡ Condvar) }
+        ensures own { IsSeatOf self.now seat.new × (seat.new.me.1 ≡ seat.old.me.1) }
+        ensures stepped { seat.new.me.0 ≡ after_step Condvar (word_index condvar.number Condvar) Load result seat.old.me.0 }
+        ensures shown { Shows (λ mutex. (mutex < self.now.count) × (mutex ≢ condvar.number)) result }
+    {
+        self.table
+            .shared
+            .load::<SeesShown<P>>(seat, condvar.index())
+    }
+
+    /// Looks what a condition variable shows, by one load of its word: 0 where it shows nothing, and else one more than the number of a mutex
+    /// of the lot, which is not its own number.
+    #[inline]
+    pub fn look_shown(&self, seat: &mut Seat, condvar: Word) -> u64
+        requires { IsSeatOf self.now seat.old × IsWordOf self.now condvar × (condvar.kind ≡ Condvar) }
+        ensures own { IsSeatOf self.now seat.new × (seat.new.me.1 ≡ seat.old.me.1) }
+        ensures stepped { seat.new.me.0 ≡ after_step Condvar (word_index condvar.number Condvar) Load result seat.old.me.0 }
+        ensures shown { Shows (λ mutex. (mutex < self.now.count) × (mutex ≢ condvar.number)) result }
+    {
+        self.look_picked::<Brand>(seat, condvar)
+    }
+
+    /// The mutex that a condition variable shows by this value, by one more than its number. None where it shows none, or a number that no
+    /// word of the lot has.
+    pub fn mutex_shown(&self, seen: u64) -> Option<Word>
+        ensures { MatchOption result ((seen ≡ 0) ⊎ (self.now.count < seen))
+            (λ word. IsWordOf self.now word × (word.kind ≡ Mutex) × (seen ≡ word.number + 1)) }
+    {
+        if seen == 0 || seen > self.count as u64 {
+            return None;
+        }
+        Some(Word::new((seen - 1) as usize, WordKind::Mutex, self.tag))
+    }
+}
