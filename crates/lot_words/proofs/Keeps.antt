@@ -6,10 +6,10 @@ use Rattle.std.proofs.lemmas.List.{set-get_or}
 use native.Mathlib.Decide.{ℕ_discrete}
 use lib.ListN.{get_elem?}
 use prog.Atomic.{either}
-use Rattle.atomic_table.specs.Table.{State, Me, step, Act, keeps, Valid, carried_after, stepped, Allows, Splits, Joins}
-use Rattle.atomic_table.proofs.Lists.{at_set, at_snoc}
+use Rattle.atomic_table.specs.Table.{State, Me, step, Act, keeps, Valid, carried_after, stepped, Allows}
+use Rattle.atomic_table.proofs.Lists.{at_set}
 use Rattle.lot_words.specs.Indices.{word_index, counter, mutex_of_count}
-use Rattle.lot_words.specs.Views.{view, blank, total, total_below, owned, owning, owning_with, named, counted, steps_at, drew}
+use Rattle.lot_words.specs.Views.{view, total, total_below, owned, owning, owning_with, named, counted, steps_at, drew}
 use Rattle.lot_words.specs.Codes.{Owners, Codes, Shows, IsCountCode, everyone, exclusive, opened}
 use Rattle.lot_words.specs.Rule.{LotRule, MayBeShown}
 use Rattle.value_place.specs.declared.slot.PermitSlot.{PermitSlot}
@@ -17,7 +17,7 @@ use Rattle.lot_base.specs.Words.{apply}
 use Rattle.lot_base.specs.declared.ops.Op.{Op}
 use Rattle.lot_base.specs.declared.ops.Op.TheVariants.{Load, Or, Exchange}
 use Rattle.lot_words.specs.Steps.{has, HasAll, trade, trading, CountAgrees, MayTie, MayStep, owns_after_step, listed, after_step}
-use Rattle.lot_words.specs.Plays.{TakesStepOf, TakesStep, saw_set, looks, draws, numbered, left_over, piece, takes_in}
+use Rattle.lot_words.specs.Plays.{TakesStepOf, TakesStep, saw_set, looks, draws, numbered}
 use Rattle.lot_words.specs.declared.owners.Ownership.{Ownership}
 use Rattle.lot_words.specs.declared.views.WordStep.{WordStep}
 use Rattle.lot_words.proofs.Trades.{total-without, traded_here, traded_elsewhere, traded_counts, said_total, owned_some}
@@ -122,19 +122,6 @@ module _ (words family : ℕ) (s : State PermitSlot View) (o : LotRule words fam
     homes = o.homes;
     permits = λ number' below none. o.permits number' below (sym (same-named (word_index number' Mutex) opened) ∙ none);
   }
-
--- a weight of views stays as a seat's view is cut in two
-pub cut : (f : View → ℕ) (views : List View) (j : ℕ) (v w u : View) → get_elem? views j ≡ some v → f w + f u ≡ f v → total f (set views j w ++ u ∷ []) ≡ total f views
-cut f views j v w u me parts = omega (arith, total-append f (set views j w) (u ∷ []), total-set f views j v w me)
-
--- one seat more, which knows nothing
-pub seats_another : (words family id : ℕ) (v : View) → Splits (LotRule words family) id v v blank
-seats_another words family id v s o me = reseated words family s o (set s.views id v ++ blank ∷ [])
-    (λ r weight. cut (λ (u : View). owned r weight u.owns) s.views id v v blank me (omega arith))
-    (λ r. cut (λ (u : View). counted r u.owns) s.views id v v blank me (omega arith))
-    (λ r. cut (steps_at r) s.views id v v blank me (omega arith))
-    (λ weight. cut (drew weight) s.views id v v blank me (omega arith))
-    (λ q u e. ⊎_elim (λ e₂. ⊎_elim (λ t. let old = o.saw id v me in omega (arith, ap (λ (y : View). y.saw) t.1)) (λ t. o.saw q u t.1) (at_set s.views id q v u e₂)) (λ (t : blank ≡ u). omega (arith, ap (λ (y : View). y.saw) t)) (at_snoc (set s.views id v) blank u q e))
 
 pub steps_more : (v : View) (at found r : ℕ) (op : Op) → total (λ (step : WordStep). cond (eqb step.at r) 1 0) (listed v at op found) ≡ steps_at r v + cond (eqb at r) 1 0
 steps_more v at found r op = omega (arith, total-append (λ (step : WordStep). cond (eqb step.at r) 1 0) v.steps (record { at = at; op = op; seen = found } ∷ []))
@@ -287,33 +274,6 @@ sees_set words family slots id me number kind bits below may s o wide at fits =
           (subst (λ (vs : List View). LotRule words family (record { words = s.words; homes = s.homes; views = vs })) (sym (set_elem s.views id me.0 at)) o),
       ((λ e. absurd (ne e)), λ _. refl),
     ))
-
--- one ownership goes to a seat of its own
-pub splits_off : (words family id : ℕ) (v : View) (x : Ownership) → has x v.owns ≡ true → Splits (LotRule words family) id v (left_over x v) (piece x)
-splits_off words family id v x there s o me = reseated words family s o (set s.views id (left_over x v) ++ piece x ∷ [])
-    (λ r weight. cut (λ (u : View). owned r weight u.owns) s.views id v (left_over x v) (piece x) me (omega (arith, total-without (λ (y : Ownership). cond (eqb y.at r) (weight y.owner) 0) x v.owns there)))
-    (λ r. cut (λ (u : View). counted r u.owns) s.views id v (left_over x v) (piece x) me (omega (arith, total-without (λ (y : Ownership). cond (eqb y.at r) y.count 0) x v.owns there)))
-    (λ r. cut (steps_at r) s.views id v (left_over x v) (piece x) me (omega arith))
-    (λ weight. cut (drew weight) s.views id v (left_over x v) (piece x) me (omega arith))
-    (λ q u e. ⊎_elim (λ e₂. ⊎_elim (λ t. let old = o.saw id v me in omega (arith, ap (λ (y : View). y.saw) t.1)) (λ t. o.saw q u t.1) (at_set s.views id q (left_over x v) u e₂)) (λ (t : piece x ≡ u). omega (arith, ap (λ (y : View). y.saw) t)) (at_snoc (set s.views id (left_over x v)) (piece x) u q e))
-
--- a weight of views stays as a seat takes in what another owns
-pub paste : (f : View → ℕ) (views : List View) (j k : ℕ) (v w b z : View) → get_elem? views j ≡ some v → get_elem? (set views j b) k ≡ some w → f b + f z ≡ f v + f w → total f (set (set views j b) k z) ≡ total f views
-paste f views j k v w b z me them parts = omega (arith, total-set f (set views j b) k w z them, total-set f views j v b me)
-
--- an ownership comes back
-pub takes_back : (words family id : ℕ) (v : View) (other : ℕ) (x : Ownership) → Joins (LotRule words family) id v other (piece x) (takes_in v (piece x)) blank
-takes_back words family id v other x s o me apart them = let b = takes_in v (piece x) in
-    reseated words family s o (set (set s.views id b) other blank)
-    (λ r weight. paste (λ (u : View). owned r weight u.owns) s.views id other v (piece x) b blank me them (omega arith))
-    (λ r. paste (λ (u : View). counted r u.owns) s.views id other v (piece x) b blank me them (omega arith))
-    (λ r. paste (steps_at r) s.views id other v (piece x) b blank me them (omega arith))
-    (λ weight. paste (drew weight) s.views id other v (piece x) b blank me them (omega arith))
-    (λ q u e. ⊎_elim (λ t. omega (arith, ap (λ (y : View). y.saw) t.1)) (λ t. ⊎_elim (λ t₂. let old = o.saw id v me in omega (arith, ap (λ (y : View). y.saw) t₂.1)) (λ t₂. o.saw q u t₂.1) (at_set s.views id q b u t.1)) (at_set (set s.views id b) other q blank u e))
-
--- the same, by the view that a right has
-pub takes_back_from : (words family id : ℕ) (v : View) (other : ℕ) (x : Ownership) (w : View) → w ≡ piece x → Joins (LotRule words family) id v other w (takes_in v w) blank
-takes_back_from words family id v other x w is = subst (λ (u : View). Joins (LotRule words family) id v other u (takes_in v u) blank) (sym is) (takes_back words family id v other x)
 
 -- the law of steps on the counter, which only adds to it
 count_turned : (words family : ℕ) (s : State PermitSlot View) (o : LotRule words family s) (j m : ℕ) (v w : View) → get_elem? s.views j ≡ some v → get_or s.words counter 0 ≤ m → m ≤ words

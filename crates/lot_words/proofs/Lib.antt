@@ -6,6 +6,7 @@ mod Counts
 pub mod Keeps
 pub mod PermitSteps
 pub mod OpenSteps
+mod Seats
 pub mod MutexSteps
 pub mod RwLockSteps
 pub mod RwLockKinds

@@ -1,20 +1,19 @@
 -- Who enters a mutex takes its permit out with that step, and who leaves it lays it back.
-use Rattle.std.proofs.Common.{◌≡◌, ◌≢◌, ℕ, zero, suc, ◌+◌, ◌%◌, ◌<◌, ◌≤◌, ◌⊎◌, ⊎_elim, inl, inr, List, [], ◌∷◌, ◌++◌, get_or, set, sym, refl, ap, ◌∙◌, subst, arith}
+use Rattle.std.proofs.Common.{◌≡◌, ◌≢◌, ℕ, zero, suc, ◌+◌, ◌%◌, ◌<◌, ◌≤◌, ◌⊎◌, ⊎_elim, inl, inr, List, [], ◌∷◌, get_or, set, sym, refl, ap, subst, arith}
 use mathlib.Core.Logic.{dite}
 use mathlib.Core.Option.{Option, some, none}
 use native.Mathlib.Decide.{ℕ_discrete}
 use lib.ListN.{get_elem?}
-use Rattle.atomic_table.specs.Table.{State, Me, step, takes, gives, keeps, Allows, Splits, Joins}
-use Rattle.atomic_table.proofs.Lists.{at_set, at_snoc}
+use Rattle.atomic_table.specs.Table.{State, Me, step, takes, gives, keeps, Allows}
 use Rattle.std.proofs.lemmas.List.{set-get_or}
 use Rattle.lot_base.specs.Words.{apply}
 use Rattle.lot_base.specs.declared.ops.Op.{Op}
 use Rattle.lot_base.specs.declared.ops.Op.TheVariants.{Exchange, Or, Sub}
 use Rattle.lot_words.specs.Indices.{word_index}
-use Rattle.lot_words.specs.Views.{view, blank, owned, owning, named, counted, steps_at, drew}
+use Rattle.lot_words.specs.Views.{view, owned, owning, named, counted}
 use Rattle.lot_words.specs.Codes.{Owners, IsMutexCode, everyone, exclusive, opened}
 use Rattle.lot_words.specs.Permits.{slot_at}
-use Rattle.lot_words.specs.Plays.{piece, takes_in, stepping, enters_open, leaves_open, sees_locked, IsZero, IsEven, IsAny, IsOne}
+use Rattle.lot_words.specs.Plays.{stepping, enters_open, leaves_open, sees_locked, IsZero, IsEven, IsAny, IsOne}
 use Rattle.lot_words.specs.Rule.{LotRule}
 use Rattle.lot_words.specs.Steps.{listed}
 use Rattle.lot_words.specs.declared.owners.Owner.{Owner}
@@ -24,8 +23,8 @@ use Rattle.lot_words.specs.declared.views.View.{View}
 use Rattle.lot_words.specs.declared.words.WordKind.TheVariants.{Mutex}
 use Rattle.value_place.specs.declared.slot.PermitSlot.{PermitSlot}
 use Rattle.lot_words.proofs.MutexSteps.{each_code}
-use Rattle.lot_words.proofs.Keeps.{set_elem, turned, reseated, steps_more, cut, paste}
-use Rattle.lot_words.proofs.PermitSteps.{set_here, set_else, has_index, first, first_owns, first_elsewhere, first_counts, reopened}
+use Rattle.lot_words.proofs.Keeps.{set_elem, turned, steps_more}
+use Rattle.lot_words.proofs.PermitSteps.{set_here, has_index, first, first_owns, first_elsewhere, first_counts, reopened}
 use Rattle.lot_words.proofs.Totals.{term_le, cond_same}
 
 set_again : {A : Type 0} (l : List A) (i : ℕ) (a b : A) → set (set l i a) i b ≡ set l i b
@@ -189,25 +188,3 @@ leaves_allowed words family slots id number owns u c op IsLast leaving below s o
     let w = view (listed v i op n) (owning i Exclusive ∷ owns) u.drawn u.saw in let still : Rule n (set (set s.views id vx) id w) = unchanged words family s₁ shut number below id op vx at₁ in
     (w, gives, tt, subst (λ (k : ℕ). Rule k (set s.views id w)) (sym stays.1) (subst (λ vs. Rule n vs) (set_again s.views id vx w) still), (which, ((λ is. absurd (stays.0 is)), λ _. refl)))))
     (leaving n small odd)
-
--- a seat keeps what it owns first, and all else goes to a seat of its own
-pub keeps_first : (words family id : ℕ) (x : Ownership) (v : View) → Splits (LotRule words family) id (takes_in v (piece x)) (piece x) v
-keeps_first words family id x v s o me = let b = takes_in v (piece x) in reseated words family s o (set s.views id (piece x) ++ v ∷ [])
-    (λ r weight. cut (λ (u : View). owned r weight u.owns) s.views id b (piece x) v me (omega arith))
-    (λ r. cut (λ (u : View). counted r u.owns) s.views id b (piece x) v me (omega arith))
-    (λ r. cut (steps_at r) s.views id b (piece x) v me (omega arith))
-    (λ weight. cut (drew weight) s.views id b (piece x) v me (omega arith))
-    (λ q u e. ⊎_elim (λ e₂. ⊎_elim (λ t. omega (arith, ap (λ (y : View). y.saw) t.1)) (λ t. o.saw q u t.1) (at_set s.views id q (piece x) u e₂)) (λ (t : v ≡ u). let old = o.saw id b me in omega (arith, ap (λ (y : View). y.saw) t)) (at_snoc (set s.views id (piece x)) v u q e))
-
--- and takes in what another seat has done and owns
-pub takes_all : (words family id : ℕ) (x : Ownership) (other : ℕ) (v : View) → Joins (LotRule words family) id (piece x) other v (takes_in v (piece x)) blank
-takes_all words family id x other v s o me apart them = let b = takes_in v (piece x) in
-    reseated words family s o (set (set s.views id b) other blank)
-    (λ r weight. paste (λ (u : View). owned r weight u.owns) s.views id other (piece x) v b blank me them (omega arith))
-    (λ r. paste (λ (u : View). counted r u.owns) s.views id other (piece x) v b blank me them (omega arith))
-    (λ r. paste (steps_at r) s.views id other (piece x) v b blank me them (omega arith))
-    (λ weight. paste (drew weight) s.views id other (piece x) v b blank me them (omega arith))
-    (λ q u e. ⊎_elim (λ t. omega (arith, ap (λ (y : View). y.saw) t.1)) (λ t. ⊎_elim (λ t₂. let theirs = seen_by s.views id other b v apart them in let old = o.saw other v theirs in omega (arith, ap (λ (y : View). y.saw) t₂.1)) (λ t₂. o.saw q u t₂.1) (at_set s.views id q b u t.1)) (at_set (set s.views id b) other q blank u e))
-  where
-    seen_by : (l : List View) (i j : ℕ) (b v : View) → ¬ (j ≡ i) → get_elem? (set l i b) j ≡ some v → get_elem? l j ≡ some v
-    seen_by l i j b v apart e = sym (set_else l i j b apart) ∙ e

@@ -9,7 +9,7 @@ use Rattle.lot_base.specs.declared.ops.Op.{Op}
 use Rattle.lot_base.specs.declared.ops.Op.TheVariants.{Load, Store, Add, Sub, Exchange}
 use Rattle.lot_words.specs.Indices.{word_index, mutex_of_count}
 use Rattle.lot_words.specs.Views.{owning_with}
-use Rattle.lot_words.specs.Codes.{IsCountCode, Shows}
+use Rattle.lot_words.specs.Codes.{IsCountCode, ShowsBeside}
 use Rattle.lot_words.specs.Plays.{sees_shown}
 use Rattle.lot_words.specs.Rule.{LotRule, MayBeShown}
 use Rattle.lot_words.specs.Steps.{has, MayTie, MayStep}
@@ -59,5 +59,5 @@ pub sees_shown_allowed : (words family slots id : ℕ) (me : Me PermitSlot View)
 sees_shown_allowed words family slots id me number below s o wide at fits =
     let t = steps words family slots id me number Condvar Load below ((condvar_steps (word_index number Condvar) me.0.owns).load) s o wide at fits in
     let n : ℕ = get_or s.words (word_index number Condvar) 0 in
-    let shown : Shows (λ mutex. (mutex < words) × (mutex ≢ number)) n = shows_more (MayBeShown words number s.views) (λ mutex. (mutex < words) × (mutex ≢ number)) n (λ k h. (h.0, h.1)) (o.shows number below) in
+    let shown : ShowsBeside words number n = shows_more (MayBeShown words number s.views) (λ mutex. (mutex < words) × (mutex ≢ number)) n (λ k h. (h.0, h.1)) (o.shows number below) in
     (t.0, t.1, t.2, t.3, (t.4, shown))

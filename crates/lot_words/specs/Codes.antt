@@ -1,5 +1,5 @@
 -- What a lock word says of its owners.
-use Rattle.std.specs.Prelude.{◌≡◌, ℕ, ◌+◌, ◌*◌, ◌/◌, ◌%◌, ◌^◌, ◌<◌, ◌≤◌, ◌⊎◌}
+use Rattle.std.specs.Prelude.{◌≡◌, ◌≢◌, ℕ, ◌+◌, ◌*◌, ◌/◌, ◌%◌, ◌^◌, ◌<◌, ◌≤◌, ◌⊎◌}
 use Rattle.lot_words.specs.declared.owners.Owner.{Owner}
 use Rattle.lot_words.specs.declared.owners.Owner.TheVariants.{Exclusive, Opened, Pending, Upgrading, Upgradable, Shared, Runner, Witness}
 use Rattle.lot_words.specs.declared.words.WordKind.{WordKind}
@@ -74,6 +74,10 @@ Codes Count n owners = Unit {0}
 -- a condition variable's word: 0, or one more than the number of a mutex
 abbrev pub Shows : (ℕ → Type 0) → ℕ → Type 0
 Shows is_mutex n = (n ≡ 0) ⊎ ((number : ℕ) × (n ≡ number + 1) × is_mutex number)
+
+-- what a thread may find in that of this number, in a lot of so many words: it shows nothing, or a mutex of the lot beside it
+abbrev pub ShowsBeside : ℕ → ℕ → ℕ → Type 0
+ShowsBeside words condvar = Shows (λ mutex. (mutex < words) × (mutex ≢ condvar))
 
 -- a count word: 0, or the number of a thread with how often it locked the mutex
 abbrev pub IsCountCode : ℕ → Type 0

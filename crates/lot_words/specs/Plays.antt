@@ -4,7 +4,7 @@ use Rattle.atomic_table.specs.Table.{Me, Step, rest}
 use Rattle.lot_base.specs.declared.ops.Op.{Op}
 use Rattle.lot_base.specs.declared.ops.Op.TheVariants.{Load, Store, Swap, Add, Sub, Or, And, Exchange}
 use Rattle.lot_words.specs.Indices.{counter, word_kind_at}
-use Rattle.lot_words.specs.Codes.{Shows}
+use Rattle.lot_words.specs.Codes.{ShowsBeside}
 use Rattle.lot_words.specs.Views.{view, owning}
 use Rattle.lot_words.specs.Permits.{slot_at}
 use Rattle.lot_words.specs.declared.owners.Owner.TheVariants.{Exclusive, Opened}
@@ -49,7 +49,7 @@ saw_set bits st me found after = (bit_or found bits ≡ found → TakesStep st.w
 -- a load of a condition variable's word, of this number and in a lot of so many words, which tells what it may show
 abbrev pub sees_shown : {S : Type 0} → ℕ → ℕ → Play S
 sees_shown words number st me found after = TakesStep st.word Load me found after
-    × Shows (λ mutex. (mutex < words) × (mutex ≢ number)) found
+    × ShowsBeside words number found
 
 abbrev pub ands : {S : Type 0} → Play S
 ands st me found after = TakesStep st.word (And st.first) me found after

@@ -57,7 +57,7 @@ pub fn untouched_word_is_0()
     ensures { UntouchedIs0 }
 {}
 
-/// A condition variable shows no mutex, or one on which somebody stepped.
+/// A condition variable shows no mutex, or one of the lot, of another number than its own, on which somebody stepped.
 pub fn shown_is_a_mutex_of_the_lot()
     ensures { ShownIsAMutex }
 {}

@@ -1,7 +1,7 @@
 //! What condition variables show.
-ghost use Rattle.std.specs.Prelude.{◌≡◌, ◌≢◌, ◌+◌, ◌<◌, ◌⊎◌, MatchOption};
+ghost use Rattle.std.specs.Prelude.{◌≡◌, ◌≢◌, ◌+◌, ◌≤◌};
 ghost use Rattle.lot_base.specs.declared.ops.Op.TheVariants.{Load};
-ghost use Rattle.lot_words.specs.Codes.{Shows};
+ghost use Rattle.lot_words.specs.Codes.{ShowsBeside};
 ghost use Rattle.lot_words.specs.Indices.{word_index};
 ghost use Rattle.lot_words.specs.Steps.{after_step};
 ghost use Rattle.lot_words.specs.declared.words.WordKind.TheVariants.{Condvar, Mutex};
@@ -20,7 +20,7 @@ impl LotWords {
         requires own { IsSeatOf self.now seat.old × IsWordOf self.now condvar × (condvar.kind ≡ Condvar) }
         ensures own { IsSeatOf self.now seat.new × (seat.new.me.1 ≡ seat.old.me.1) }
         ensures stepped { seat.new.me.0 ≡ after_step Condvar (word_index condvar.number Condvar) Load result seat.old.me.0 }
-        ensures shown { Shows (λ mutex. (mutex < self.now.count) × (mutex ≢ condvar.number)) result }
+        ensures shown { ShowsBeside self.now.count condvar.number result }
     {
         self.table
             .shared
@@ -34,20 +34,16 @@ impl LotWords {
         requires { IsSeatOf self.now seat.old × IsWordOf self.now condvar × (condvar.kind ≡ Condvar) }
         ensures own { IsSeatOf self.now seat.new × (seat.new.me.1 ≡ seat.old.me.1) }
         ensures stepped { seat.new.me.0 ≡ after_step Condvar (word_index condvar.number Condvar) Load result seat.old.me.0 }
-        ensures shown { Shows (λ mutex. (mutex < self.now.count) × (mutex ≢ condvar.number)) result }
+        ensures shown { ShowsBeside self.now.count condvar.number result }
     {
         self.look_picked::<Brand>(seat, condvar)
     }
 
-    /// The mutex that a condition variable shows by this value, by one more than its number. None where it shows none, or a number that no
-    /// word of the lot has.
-    pub fn mutex_shown(&self, seen: u64) -> Option<Word>
-        ensures { MatchOption result ((seen ≡ 0) ⊎ (self.now.count < seen))
-            (λ word. IsWordOf self.now word × (word.kind ≡ Mutex) × (seen ≡ word.number + 1)) }
+    /// The mutex that a condition variable shows by this value, by one more than its number.
+    pub fn mutex_shown(&self, seen: u64) -> Word
+        requires shown { (seen ≢ 0) × (seen ≤ self.now.count) }
+        ensures { IsWordOf self.now result × (result.kind ≡ Mutex) × (seen ≡ result.number + 1) }
     {
-        if seen == 0 || seen > self.count as u64 {
-            return None;
-        }
-        Some(Word::new((seen - 1) as usize, WordKind::Mutex, self.tag))
+        Word::new((seen - 1) as usize, WordKind::Mutex, self.tag)
     }
 }

@@ -14,7 +14,7 @@ use Rattle.lot_steps.specs.declared.places.Place.TheVariants.{Condvar}
 use Rattle.lot_words.specs.declared.views.WordStep.{WordStep}
 use Rattle.lot_driver.specs.Paths.{Walks, condvar_at, mutex_at, step}
 use Rattle.lot_driver.proofs.Paths.{ends_at_once, goes_on}
-use Rattle.mutex_driver.specs.CondvarCalls.{Notifies, NotifiesBehind, at_condvar, notify_begin, notify_behind}
+use Rattle.mutex_driver.specs.CondvarCalls.{HasNotified, Notifies, at_condvar, notify_begin, notify_behind}
 
 -- beside another mutex the word of the condition variable stands at its own place
 own_word : (n m : ℕ) → m ≢ n → at_condvar n m n ≡ condvar_at n
@@ -40,9 +40,9 @@ module _ (n : ℕ) (all : Bool) (seen : ℕ) (answer : Answer) (old mid : List W
       ∙ ap (λ k. Condvar n (Notify all k notify.Enter)) back
 
   -- or that a mutex is shown
-  pub some_wait : (new : List WordStep) → NotifiesBehind n all seen answer mid new → Notifies n all answer old new
-  some_wait new b = (
-    b.0,
-    goes_on (at_condvar n b.0) (notify_begin n all) n Load seen old mid new answer refl (beside b.0 b.1)
-        (subst (λ (p : Place). Walks (at_condvar n b.0) p mid new answer) (sym (leads b.0 b.2)) b.3),
+  pub some_wait : (m : ℕ) → m ≢ n → seen ≡ m + 1 → (new : List WordStep) → HasNotified n m all answer mid new → Notifies n all answer old new
+  some_wait m ne shown new behind = (
+    m,
+    goes_on (at_condvar n m) (notify_begin n all) n Load seen old mid new answer refl (beside m ne)
+        (subst (λ (p : Place). Walks (at_condvar n m) p mid new answer) (sym (leads m shown)) behind),
   )

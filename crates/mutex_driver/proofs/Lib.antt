@@ -1,4 +1,5 @@
 pub mod CondvarCalling
 pub mod CondvarNotifying
+pub mod Coming
 pub mod CondvarGoing
 pub mod MutexGoing

@@ -1,5 +1,5 @@
 -- What the calls of a condition variable did.
-use Rattle.std.specs.Prelude.{ℕ, ◌≡◌, ◌≢◌, ◌<◌, ◌==◌, ◌*◌, ◌+◌, ◌++◌, ◌⊎◌, Bool, true, false, cond, List, Option, Some, Ok, Err, if◌then◌else◌}
+use Rattle.std.specs.Prelude.{ℕ, ◌≡◌, ◌≢◌, ◌<◌, ◌==◌, ◌*◌, ◌++◌, ◌⊎◌, Bool, true, false, cond, List, Option, Some, Ok, Err, if◌then◌else◌}
 use Rattle.std.specs.declared.result.Result.{Result}
 use Rattle.lot_base.specs.declared.faults.Fault.{Fault}
 use Rattle.lot_base.specs.declared.faults.Fault.TheVariants as faults
@@ -12,7 +12,7 @@ use Rattle.lot_condvar.specs.declared.places.CondvarPlace.TheVariants.{Wait, Loo
 use Rattle.lot_condvar.specs.declared.wait.WaitAt.TheVariants as wait
 use Rattle.lot_steps.specs.declared.places.Place.{Place}
 use Rattle.lot_steps.specs.declared.places.Place.TheVariants.{Condvar}
-use Rattle.lot_words.specs.Codes.{Shows}
+use Rattle.lot_words.specs.Codes.{ShowsBeside}
 use Rattle.lot_words.specs.Lots.{IsWordOf}
 use Rattle.lot_words.specs.declared.views.WordStep.{WordStep}
 use Rattle.lot_words.specs.declared.words.Word.{Word}
@@ -56,10 +56,6 @@ abbrev pub MeetsCondvar : ParkingLot → Token → Word → Type 0
 MeetsCondvar lot token condvar = IsTokenOf lot token × IsWordOf lot.words condvar
     × (condvar.kind ≡ kind.Condvar) × (condvar.number < 9223372036854775808)
 
--- the value of a condition variable's word, of this number and in a lot of so many words: it shows nothing, or a mutex of the lot beside it
-abbrev pub ShowsBeside : ℕ → ℕ → ℕ → Type 0
-ShowsBeside words c seen = Shows (λ m. (m < words) × (m ≢ c)) seen
-
 abbrev pub notify_begin : ℕ → Bool → Place
 notify_begin c all = Condvar c (Look all)
 
@@ -67,10 +63,6 @@ notify_begin c all = Condvar c (Look all)
 abbrev pub HasLooked : ℕ → ℕ → ℕ → Token → Token → Type 0
 HasLooked words c seen old new = (steps_of new ≡ steps_of old ++ step (condvar_at c) Load seen) × (owns_of new ≡ owns_of old)
     × ShowsBeside words c seen
-
--- behind that step, which saw a mutex beside it, the rest leads to its answer
-abbrev pub NotifiesBehind : ℕ → Bool → ℕ → Answer → List WordStep → List WordStep → Type 0
-NotifiesBehind c all seen answer old new = (m : ℕ) × (m ≢ c) × (seen ≡ m + 1) × HasNotified c m all answer old new
 
 -- the steps of a notification lead to its answer, beside the mutex that it saw, if any
 abbrev pub Notifies : ℕ → Bool → Answer → List WordStep → List WordStep → Type 0

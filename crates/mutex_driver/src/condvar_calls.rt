@@ -8,7 +8,7 @@ ghost use Rattle.lot_driver.specs.CondvarFitting.{IsNotifyOver, IsWaitOver, Owns
 ghost use Rattle.lot_driver.specs.Stages.{stage_of};
 ghost use Rattle.lot_driver.specs.Telling.{owns_of, steps_of};
 ghost use Rattle.lot_driver.specs.Words.{both};
-ghost use Rattle.mutex_driver.specs.CondvarCalls.{HasLooked, HasNotified, HasWaited, MeetBeside, MeetsCondvar, Notifies, NotifiesBehind, ShowsBeside, TellsMoved};
+ghost use Rattle.mutex_driver.specs.CondvarCalls.{HasLooked, HasNotified, HasWaited, MeetBeside, MeetsCondvar, Notifies, TellsMoved};
 
 use crate::condvar_courses::Pair;
 use crate::notify_courses::notify_through;
@@ -72,30 +72,6 @@ fn notify_shown<R: Wait>(
     notify_through(rt, lot, token, pair_of(condvar, mutex), all)
 }
 
-// From behind the first step of a notification, which saw that a mutex is shown.
-fn notify_seen<R: Wait>(
-    rt: &R,
-    lot: &ParkingLot,
-    token: &mut Token,
-    condvar: Word,
-    all: bool,
-    seen: u64,
-) -> Answer
-    requires own { MeetsCondvar lot.now token.old condvar }
-    requires shown { ShowsBeside lot.now.words.count condvar.number seen }
-    requires some { seen ≢ 0 }
-    ensures own { IsSameThread lot.now token.old token.new }
-    ensures path { NotifiesBehind condvar.number all seen result (steps_of token.old) (steps_of token.new) }
-    ensures owns { owns_of token.new ≡ owns_of token.old }
-    ensures record { TellsMoved condvar.number all result (last_of token.new) }
-{
-    match lot.mutex_shown(seen) {
-        Some(mutex) => notify_shown(rt, lot, token, condvar, mutex, all),
-        // What isn't 0 shows a mutex.
-        None => unreachable!(),
-    }
-}
-
 /// The step with which each notification begins, as all callers make it themselves. It answers what it sees of the condition
 /// variable: where that is 0 nobody waits, and the notification is over.
 #[inline]
@@ -131,5 +107,6 @@ pub fn notify_behind<R: Wait>(
     ensures owns { owns_of token.new ≡ owns_of token.old }
     ensures record { TellsMoved condvar.number all result (last_of token.new) }
 {
-    notify_seen(rt, lot, token, condvar, all, seen)
+    let mutex = lot.mutex_shown(seen);
+    notify_shown(rt, lot, token, condvar, mutex, all)
 }

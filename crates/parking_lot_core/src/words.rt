@@ -1,7 +1,7 @@
 //! Steps on words, draws and rights, by tokens.
-ghost use Rattle.std.specs.Prelude.{◌≡◌, ◌≢◌, ℕ, ◌+◌, ◌%◌, ◌<◌, ◌⊎◌, ◌∷◌, [], true, None, IfOk, MatchOption, MatchResult};
+ghost use Rattle.std.specs.Prelude.{◌≡◌, ◌≢◌, ℕ, ◌+◌, ◌%◌, ◌<◌, ◌≤◌, ◌⊎◌, ◌∷◌, [], true, None, IfOk, MatchOption, MatchResult};
 ghost use Rattle.lot_words.specs.Indices.{word_index};
-ghost use Rattle.lot_words.specs.Codes.{IsCountCode, Shows};
+ghost use Rattle.lot_words.specs.Codes.{IsCountCode, ShowsBeside};
 ghost use Rattle.lot_words.specs.Steps.{MayStep, CodesWith, after_step, has};
 ghost use Rattle.lot_words.specs.Draws.{IsDrawn, IsDrawRefused};
 ghost use Rattle.lot_words.specs.Lots.{IsWordOf, permit_of};
@@ -35,6 +35,20 @@ impl ParkingLot {
         self.words.step(&mut token.seat, word, op)
     }
 
+    /// One load of a word, as a step: what `word` does with `Op::Load`, for who does no more than look.
+    #[inline]
+    pub fn load(&self, token: &mut Token, word: Word) -> u64
+        requires own { IsTokenOf self.now token.old × IsWordOf self.now.words word }
+        requires may { MayStep word.kind (word_index word.number word.kind) Load (view_of token.old).owns }
+        ensures own { IsSameThread self.now token.old token.new × (last_of token.new ≡ None) }
+        ensures stepped { view_of token.new
+            ≡ after_step word.kind (word_index word.number word.kind) Load result (view_of token.old) }
+        ensures coded { CodesWith word.kind (word_index word.number word.kind) result (view_of token.old).owns }
+    {
+        token.forget_at_once();
+        self.words.step(&mut token.seat, word, Op::Load)
+    }
+
     /// Shows a mutex that the thread owns on the word of a condition variable, where that shows none. It answers the value
     /// before: 0, or one more than the number of the mutex that is shown.
     pub fn show_mutex(&self, token: &mut Token, condvar: Word, mutex: Word) -> u64
@@ -58,16 +72,16 @@ impl ParkingLot {
         ensures own { IsSameThread self.now token.old token.new × (last_of token.new ≡ None) }
         ensures stepped { view_of token.new
             ≡ after_step Condvar (word_index condvar.number Condvar) Load result (view_of token.old) }
-        ensures shown { Shows (λ mutex. (mutex < self.now.words.count) × (mutex ≢ condvar.number)) result }
+        ensures shown { ShowsBeside self.now.words.count condvar.number result }
     {
-        token.forget_section();
+        token.forget_at_once();
         self.words.look_shown(&mut token.seat, condvar)
     }
 
-    /// The mutex that a condition variable of this lot shows by this value. None where it shows none, or a number that no word of the lot has.
-    pub fn mutex_shown(&self, seen: u64) -> Option<Word>
-        ensures { MatchOption result ((seen ≡ 0) ⊎ (self.now.words.count < seen))
-            (λ word. IsWordOf self.now.words word × (word.kind ≡ Mutex) × (seen ≡ word.number + 1)) }
+    /// The mutex that a condition variable of this lot shows by this value, by one more than its number.
+    pub fn mutex_shown(&self, seen: u64) -> Word
+        requires shown { (seen ≢ 0) × (seen ≤ self.now.words.count) }
+        ensures { IsWordOf self.now.words result × (result.kind ≡ Mutex) × (seen ≡ result.number + 1) }
     {
         self.words.mutex_shown(seen)
     }

@@ -138,7 +138,7 @@ impl Once {
         ensures done { is_done result ≡ true → SawDone (number_of self.now) token.old token.new }
     {
         once_may_step();
-        self.lot.word(token, self.word, Op::Load)
+        self.lot.load(token, self.word)
     }
 
     /// How far it has come.

@@ -40,7 +40,7 @@ pub(crate) fn begin(lot: &ParkingLot, token: &mut Token, word: Word) -> u64
     ensures own { IsSameThread lot.now token.old token.new }
     ensures seen { HasSeen word.number result token.old token.new }
 {
-    lot.word(token, word, Op::Load)
+    lot.load(token, word)
 }
 
 /// The rest of a call whose first step saw this, up to its closure.

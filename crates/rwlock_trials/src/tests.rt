@@ -2,6 +2,7 @@
 mod crowds;
 mod fair;
 mod guards;
+mod timed;
 
 ghost use Rattle.std.specs.Prelude.{◌≡◌, ◌<◌, All, IfOk, IfSome};
 ghost use Rattle.std.specs.Arc.{arc_value};

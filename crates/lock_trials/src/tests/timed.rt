@@ -2,8 +2,8 @@
 ghost use Rattle.parking_lot_core.specs.Tokens.{IsTokenOf};
 ghost use Rattle.parking_lot.specs.Users.{lot_of};
 
-use super::pair;
-use parking_lot::{Clock, Mutex, TickClock, Token, lock_api, lock_raw};
+use super::{lone, mutex_alone, pair};
+use parking_lot::{Clock, FairMutex, Mutex, TickClock, Token, lock_api, lock_raw};
 use std::sync::Wait;
 use std::test::Fail;
 use std::time::Duration;
@@ -61,9 +61,14 @@ fn far_clock() -> TickClock {
 
 // Waits in vain, for a time and up to a deadline. Whether it gave up each time, no sooner than it was to, and the first time
 // no later than the deadline.
-fn gives_up<R: Wait>(rt: &R, mutex: &Mutex<u8>, token: &mut Token, clock: &TickClock) -> bool
-    requires { IsTokenOf (lot_of mutex.now) token.old }
-    ensures { IsTokenOf (lot_of mutex.now) token.new }
+fn gives_up<M: lock_raw::RawMutexTimed, R: Wait>(
+    rt: &R,
+    mutex: &lock_api::Mutex<M, u8>,
+    token: &mut M::Token,
+    clock: &TickClock,
+) -> bool
+    requires { M.is_token_of (M.lot_of mutex.now) token.old }
+    ensures { M.is_token_of (M.lot_of mutex.now) token.new }
 {
     let got = gets_within(rt, mutex, token, clock, 5);
     let first = clock.now();
@@ -72,21 +77,42 @@ fn gives_up<R: Wait>(rt: &R, mutex: &Mutex<u8>, token: &mut Token, clock: &TickC
     !got && !got_later && FAR + 5 < first && first < FAR + 40 && FAR + 40 < second
 }
 
-// Whether it gets a mutex in time that is free before and afterwards.
-fn gets_free_one<R: Wait>(rt: &R, mutex: &Mutex<u8>, token: &mut Token, clock: &TickClock) -> bool
-    requires { IsTokenOf (lot_of mutex.now) token.old }
+// Whether it gives up beside who holds the mutex, and gets it in time once that is free.
+fn gives_up_and_gets<M: lock_raw::RawMutexTimed, R: Wait>(
+    rt: &R,
+    mutex: &lock_api::Mutex<M, u8>,
+    token: &mut M::Token,
+) -> [bool; 3]
+    requires { M.is_token_of (M.lot_of mutex.now) token.old }
 {
-    !mutex.is_locked(token) && gets_within(rt, mutex, token, clock, 5) && !mutex.is_locked(token)
+    let clock = far_clock();
+    let guard = mutex.lock(rt, token);
+    let gave_up = gives_up(rt, mutex, token, &clock);
+    guard.unlock(rt, token);
+    let got = gets_within(rt, mutex, token, &clock, 5);
+    [gave_up, got, mutex.is_locked(token)]
 }
 
 #[test]
 fn who_waits_gives_up_in_time(rt: HostRuntime) -> Result<(), Fail> {
-    let (_lot, mutex, mut holder, mut waiter) = pair(rt.alloc())?;
-    let clock = far_clock();
-    let guard = mutex.lock(&rt, &mut holder);
-    assert!(rt; gives_up(&rt, &mutex, &mut waiter, &clock));
-    guard.unlock(&rt, &mut holder);
-    assert!(rt; gets_free_one(&rt, &mutex, &mut waiter, &clock));
+    let (mutex, mut token) = mutex_alone(rt.alloc(), 0u8)?;
+    assert_eq!(rt;
+        gives_up_and_gets(&rt, &mutex, &mut token),
+        [true, true, false]
+    );
+    Ok(())
+}
+
+#[test]
+fn who_waits_for_a_fair_mutex_gives_up_in_time(rt: HostRuntime) -> Result<(), Fail> {
+    let (lot, mut token) = lone(rt.alloc())?;
+    let Ok(mutex) = FairMutex::new(&lot, &mut token, 0u8) else {
+        return Err("the mutex was refused".into());
+    };
+    assert_eq!(rt;
+        gives_up_and_gets(&rt, &mutex, &mut token),
+        [true, true, false]
+    );
     Ok(())
 }
 

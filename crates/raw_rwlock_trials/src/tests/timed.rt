@@ -18,38 +18,101 @@ use std::test::Fail;
 use std::thread::{Threads, join, yield_now};
 use std::time::Duration;
 
-// Whether the waits for each right end without it.
-fn waits_in_vain<const RECURSIVE: bool, R: Wait>(
+// A deadline that is come to soon, on a clock that begins at 0.
+const EARLY: u64 = 20;
+
+fn soon() -> Duration {
+    Duration::from_nanos(5)
+}
+
+// Whether a reader that waits gets in.
+fn reads_in_time<const RECURSIVE: bool, R: Wait>(
     rt: &R,
     lock: &RawRwLock<RECURSIVE>,
     token: &mut Token,
+    until: bool,
 ) -> bool
     requires { IsTokenOf (lot_of lock.now) token.old }
     ensures { IsTokenOf (lot_of lock.now) token.new }
 {
     let clock = TickClock::new();
-    let read = match lock.try_lock_shared_until(rt, token, &clock, 20) {
+    let taken = if until {
+        lock.try_lock_shared_until(rt, token, &clock, EARLY)
+    } else {
+        lock.try_lock_shared_for(rt, token, &clock, soon())
+    };
+    match taken {
         Ok(Some(guard)) => {
             lock.unlock_shared(rt, token, guard);
             true
         }
         _ => false,
+    }
+}
+
+// The same of an upgradable reader.
+fn comes_upgradable_in_time<const RECURSIVE: bool, R: Wait>(
+    rt: &R,
+    lock: &RawRwLock<RECURSIVE>,
+    token: &mut Token,
+    until: bool,
+) -> bool
+    requires { IsTokenOf (lot_of lock.now) token.old }
+    ensures { IsTokenOf (lot_of lock.now) token.new }
+{
+    let clock = TickClock::new();
+    let taken = if until {
+        lock.try_lock_upgradable_until(rt, token, &clock, EARLY)
+    } else {
+        lock.try_lock_upgradable_for(rt, token, &clock, soon())
     };
-    let soon = Duration::from_nanos(5);
-    let read_upgradable = match lock.try_lock_upgradable_for(rt, token, &clock, soon) {
+    match taken {
         Ok(Some(guard)) => {
             lock.unlock_upgradable(rt, token, guard);
             true
         }
         _ => false,
+    }
+}
+
+// The same of a writer.
+fn writes_in_time<const RECURSIVE: bool, R: Wait>(
+    rt: &R,
+    lock: &RawRwLock<RECURSIVE>,
+    token: &mut Token,
+    until: bool,
+) -> bool
+    requires { IsTokenOf (lot_of lock.now) token.old }
+    ensures { IsTokenOf (lot_of lock.now) token.new }
+{
+    let clock = TickClock::new();
+    let taken = if until {
+        lock.try_lock_exclusive_until(rt, token, &clock, EARLY)
+    } else {
+        lock.try_lock_exclusive_for(rt, token, &clock, soon())
     };
-    let written = match lock.try_lock_exclusive_for(rt, token, &clock, soon) {
+    match taken {
         Some(guard) => {
             lock.unlock_exclusive(rt, token, guard);
             true
         }
         None => false,
-    };
+    }
+}
+
+// Whether the waits for each right end without it.
+fn waits_in_vain<const RECURSIVE: bool, R: Wait>(
+    rt: &R,
+    lock: &RawRwLock<RECURSIVE>,
+    token: &mut Token,
+    until: bool,
+) -> bool
+    requires { IsTokenOf (lot_of lock.now) token.old }
+    ensures { IsTokenOf (lot_of lock.now) token.new }
+{
+    let read = reads_in_time(rt, lock, token, until);
+    let read_upgradable = comes_upgradable_in_time(rt, lock, token, until);
+    let written = writes_in_time(rt, lock, token, until);
     !read && !read_upgradable && !written
 }
 
@@ -63,10 +126,11 @@ fn gives_up_beside_a_writer<const RECURSIVE: bool, R: Wait>(
     ensures { IsTokenOf (lot_of lock.now) token.new }
 {
     let guard = lock.lock_exclusive(rt, token);
-    let in_vain = waits_in_vain(rt, lock, token);
+    let in_vain = waits_in_vain(rt, lock, token, false);
+    let until_in_vain = waits_in_vain(rt, lock, token, true);
     let beside = look(rt, lock, token);
     lock.unlock_exclusive(rt, token, guard);
-    in_vain && beside == WRITTEN && look(rt, lock, token) == FREE
+    in_vain && until_in_vain && beside == WRITTEN && look(rt, lock, token) == FREE
 }
 
 // Whether a writer that waits beside a reader gives up, and readers come in then.
@@ -82,7 +146,7 @@ fn gives_up_beside_a_reader<const RECURSIVE: bool, R: Wait>(
     let Ok(guard) = lock.lock_shared(rt, token) else {
         return false;
     };
-    let written = match lock.try_lock_exclusive_until(rt, token, &clock, 20) {
+    let written = match lock.try_lock_exclusive_until(rt, token, &clock, EARLY) {
         Some(writer) => lock.has_writer_and_reader(token, writer, guard),
         None => false,
     };
@@ -104,7 +168,7 @@ fn upgrades_in_time<const RECURSIVE: bool, R: Wait>(
     let Ok(guard) = lock.lock_upgradable(rt, token) else {
         return None;
     };
-    match lock.try_upgrade_for(rt, token, guard, &clock, Duration::from_nanos(5)) {
+    match lock.try_upgrade_for(rt, token, guard, &clock, soon()) {
         Ok(guard) => {
             let seen = look(rt, lock, token);
             lock.unlock_exclusive(rt, token, guard);

@@ -1,4 +1,4 @@
-use Rattle.std.proofs.Common.{◌≡◌, None, List}
+use Rattle.std.proofs.Common.{◌≡◌, List}
 use Rattle.lot_base.specs.Clocks.{IsUp}
 use Rattle.lot_steps.specs.Steps.{act_of}
 use Rattle.lot_words.specs.declared.owners.Ownership.{Ownership}

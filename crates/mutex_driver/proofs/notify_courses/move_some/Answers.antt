@@ -5,7 +5,11 @@ use Rattle.mutex_driver.specs.CondvarCourses.{notify_at}
 use Rattle.mutex_driver.proofs.notify_courses.move_some.Goals as goal
 
 pub returns-then-all : goal.returns-then-all
-returns-then-all g c = subst (λ (b : Bool). HasEnded ⊥ c.args.lot.now c.args.pair.words (notify_at c.args.pair.condvar c.args.pair.mutex b (notify.Move c.args.locked)) c.move_all.result c.args.token.now c.args.section c.move_all.new.token) (sym (let e : c.args.all ≡ true = search rules in e)) c.move_all.ensures
+returns-then-all g c = let pair = c.args.pair in let all : c.args.all ≡ true = search rules in
+    subst (λ (b : Bool). HasEnded ⊥ c.args.lot.now pair.words (notify_at pair.condvar pair.mutex b (notify.Move c.args.locked)) c.move_all.result
+    c.args.token.now c.args.section c.move_all.new.token) (sym all) c.move_all.ensures
 
 pub returns : goal.returns
-returns g c = subst (λ (b : Bool). HasEnded ⊥ c.args.lot.now c.args.pair.words (notify_at c.args.pair.condvar c.args.pair.mutex b (notify.Move c.args.locked)) c.move_first.result c.args.token.now c.args.section c.move_first.new.token) (sym (let e : c.args.all ≡ false = search rules in e)) c.move_first.ensures
+returns g c = let pair = c.args.pair in let one : c.args.all ≡ false = search rules in
+    subst (λ (b : Bool). HasEnded ⊥ c.args.lot.now pair.words (notify_at pair.condvar pair.mutex b (notify.Move c.args.locked)) c.move_first.result
+    c.args.token.now c.args.section c.move_first.new.token) (sym one) c.move_first.ensures

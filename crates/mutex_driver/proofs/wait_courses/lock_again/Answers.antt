@@ -2,27 +2,29 @@ use Rattle.std.proofs.Common.{ℕ, ◌≡◌, Some, refl, sym, ap, subst}
 use Rattle.lot_base.specs.Clocks.{IsUp}
 use Rattle.lot_acts.specs.declared.acts.Reply.TheVariants.{Value}
 use Rattle.lot_mutex.specs.declared.lock.LockAt.TheVariants as lock
-use Rattle.lot_driver.proofs.TurnsOn.{turn_ends, turn_leads, turn_then}
-use Rattle.mutex_driver.specs.CondvarCourses.{locks_at, wait_at}
-use Rattle.lot_driver.specs.Fitting.{answer_of}
 use Rattle.lot_steps.specs.Steps.{next_act}
+use Rattle.lot_driver.specs.Fitting.{answer_of}
+use Rattle.mutex_driver.specs.CondvarCourses.{locks_at, wait_at}
+use Rattle.mutex_driver.proofs.Coming.{begins, comes, over}
 use Rattle.mutex_driver.proofs.CondvarGoing.{locks_on}
 use Rattle.mutex_driver.proofs.wait_courses.lock_again.Goals as goal
 
 pub returns-then-seen-eq0 : goal.returns-then-seen-eq0
-returns-then-seen-eq0 g c = let pair = c.args.pair in let up = IsUp g.C.Clock.tells c.args.limit in
-    let p = wait_at pair.condvar pair.mutex c.args.timed (locks_at lock.First) in
-    turn_ends up c.args.lot.now pair.words p (Value c.turn_word-seen.result) c.args.token.now c.turn_word-seen.new.token c.args.section c.args.section (c.turn_word-seen.ensures p c.requires refl) c.notified_answer.result
-    (subst (λ (n : ℕ). answer_of (next_act p (Value n)) ≡ Some c.notified_answer.result) (sym c.if-seen-eq0.true) (ap Some (sym c.notified_answer.ensures)))
+returns-then-seen-eq0 g c = let pair = c.args.pair in let at = wait_at pair.condvar pair.mutex c.args.timed in
+    let here = begins (IsUp g.C.Clock.tells c.args.limit) c.args.lot.now pair.words (at (locks_at lock.First)) c.args.token.now c.args.section c.requires in
+    over here (Value c.turn_word-seen.result) c.turn_word-seen.new.token c.args.section c.turn_word-seen.ensures refl c.notified_answer.result
+    (subst (λ (n : ℕ). answer_of (next_act (at (locks_at lock.First)) (Value n)) ≡ Some c.notified_answer.result) (sym c.if-seen-eq0.true) (ap Some (sym c.notified_answer.ensures)))
 
 pub lock_seen-requires : goal.lock_seen-requires
-lock_seen-requires g c = let pair = c.args.pair in let up = IsUp g.C.Clock.tells c.args.limit in
-    let p = wait_at pair.condvar pair.mutex c.args.timed (locks_at lock.First) in let q = wait_at pair.condvar pair.mutex c.args.timed (locks_at lock.Load) in
-    let on = locks_on pair.condvar pair.mutex c.args.timed c.turn_word-seen.result c.if-seen-eq0.false in
-    turn_leads up c.args.lot.now pair.words p (Value c.turn_word-seen.result) c.args.token.now c.turn_word-seen.new.token c.args.section c.args.section (c.turn_word-seen.ensures p c.requires refl) c.requires q on.0 on.1
+lock_seen-requires g c = let pair = c.args.pair in let at = wait_at pair.condvar pair.mutex c.args.timed in
+    let here = begins (IsUp g.C.Clock.tells c.args.limit) c.args.lot.now pair.words (at (locks_at lock.First)) c.args.token.now c.args.section c.requires in
+    let looked = comes here (Value c.turn_word-seen.result) c.turn_word-seen.new.token c.args.section c.turn_word-seen.ensures refl (at (locks_at lock.Load))
+    (locks_on pair.condvar pair.mutex c.args.timed c.turn_word-seen.result c.if-seen-eq0.false) in
+    looked.at
 
 pub returns : goal.returns
-returns g c = let pair = c.args.pair in let up = IsUp g.C.Clock.tells c.args.limit in
-    let p = wait_at pair.condvar pair.mutex c.args.timed (locks_at lock.First) in let q = wait_at pair.condvar pair.mutex c.args.timed (locks_at lock.Load) in
-    let on = locks_on pair.condvar pair.mutex c.args.timed c.turn_word-seen.result c.if-seen-eq0.false in
-    turn_then up c.args.lot.now pair.words p (Value c.turn_word-seen.result) c.args.token.now c.turn_word-seen.new.token c.args.section c.args.section (c.turn_word-seen.ensures p c.requires refl) q on.0 on.1 c.lock_seen.result c.lock_seen.new.token c.lock_seen.ensures
+returns g c = let pair = c.args.pair in let at = wait_at pair.condvar pair.mutex c.args.timed in
+    let here = begins (IsUp g.C.Clock.tells c.args.limit) c.args.lot.now pair.words (at (locks_at lock.First)) c.args.token.now c.args.section c.requires in
+    let looked = comes here (Value c.turn_word-seen.result) c.turn_word-seen.new.token c.args.section c.turn_word-seen.ensures refl (at (locks_at lock.Load))
+    (locks_on pair.condvar pair.mutex c.args.timed c.turn_word-seen.result c.if-seen-eq0.false) in
+    looked.ends c.lock_seen.result c.lock_seen.new.token c.lock_seen.ensures

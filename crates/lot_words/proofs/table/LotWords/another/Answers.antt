@@ -1,5 +1,5 @@
 use Rattle.std.proofs.Common.{arith}
-use Rattle.lot_words.proofs.Keeps.{seats_another}
+use Rattle.lot_words.proofs.Seats.{seats_another}
 use Rattle.lot_words.proofs.table.LotWords.another.Goals as goal
 
 pub split_seat-requires : goal.split_seat-requires

@@ -7,7 +7,7 @@ use Rattle.lot_words.specs.Rule.{LotRule}
 use Rattle.lot_words.specs.Views.{owning}
 use Rattle.lot_words.specs.declared.owners.Owner.TheVariants.{Opened}
 use Rattle.lot_words.specs.declared.views.View.{View}
-use Rattle.lot_words.proofs.OpenSteps.{keeps_first}
+use Rattle.lot_words.proofs.Seats.{keeps_first}
 use Rattle.lot_words.proofs.table.LotWords.keep_open.Goals as goal
 
 pub exchange-slot-requires : goal.exchange-slot-requires

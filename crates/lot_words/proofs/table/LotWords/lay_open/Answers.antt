@@ -8,7 +8,7 @@ use Rattle.lot_words.specs.Rule.{LotRule}
 use Rattle.lot_words.specs.Views.{blank}
 use Rattle.lot_words.specs.declared.owners.Owner.TheVariants.{Opened}
 use Rattle.lot_words.specs.declared.views.View.{View}
-use Rattle.lot_words.proofs.OpenSteps.{takes_all}
+use Rattle.lot_words.proofs.Seats.{takes_all}
 use Rattle.lot_words.specs.Permits.{bare}
 use Rattle.lot_words.proofs.table.LotWords.lay_open.Goals as goal
 

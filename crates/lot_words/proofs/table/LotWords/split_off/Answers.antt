@@ -1,5 +1,5 @@
 use Rattle.std.proofs.Common.{arith}
-use Rattle.lot_words.proofs.Keeps.{splits_off}
+use Rattle.lot_words.proofs.Seats.{splits_off}
 use Rattle.lot_words.proofs.table.LotWords.split_off.Goals as goal
 
 pub split_seat-requires : goal.split_seat-requires

@@ -1,0 +1,173 @@
+//! Calls of a reader-writer lock with a value that give up in time.
+ghost use Rattle.parking_lot_core.specs.Tokens.{IsTokenOf};
+ghost use Rattle.parking_lot.specs.RwLockUsers.{lot_of};
+
+use super::lock_alone;
+use parking_lot::{RwLock, TickClock, Token};
+use std::sync::Wait;
+use std::test::Fail;
+use std::time::Duration;
+
+// A deadline that is come to soon, on a clock that begins at 0.
+const EARLY: u64 = 20;
+
+fn soon() -> Duration {
+    Duration::from_nanos(5)
+}
+
+// Whether a reader that waits comes in.
+fn reads_in_time<R: Wait>(rt: &R, lock: &RwLock<u64>, token: &mut Token, until: bool) -> bool
+    requires { IsTokenOf (lot_of lock.now) token.old }
+    ensures { IsTokenOf (lot_of lock.now) token.new }
+{
+    let clock = TickClock::new();
+    let taken = if until {
+        lock.try_read_until(rt, token, &clock, EARLY)
+    } else {
+        lock.try_read_for(rt, token, &clock, soon())
+    };
+    match taken {
+        Ok(Some(guard)) => {
+            guard.unlock(rt, token);
+            true
+        }
+        _ => false,
+    }
+}
+
+// The same of an upgradable reader.
+fn comes_upgradable_in_time<R: Wait>(
+    rt: &R,
+    lock: &RwLock<u64>,
+    token: &mut Token,
+    until: bool,
+) -> bool
+    requires { IsTokenOf (lot_of lock.now) token.old }
+    ensures { IsTokenOf (lot_of lock.now) token.new }
+{
+    let clock = TickClock::new();
+    let taken = if until {
+        lock.try_upgradable_read_until(rt, token, &clock, EARLY)
+    } else {
+        lock.try_upgradable_read_for(rt, token, &clock, soon())
+    };
+    match taken {
+        Ok(Some(guard)) => {
+            guard.unlock(rt, token);
+            true
+        }
+        _ => false,
+    }
+}
+
+// The same of a writer.
+fn writes_in_time<R: Wait>(rt: &R, lock: &RwLock<u64>, token: &mut Token, until: bool) -> bool
+    requires { IsTokenOf (lot_of lock.now) token.old }
+    ensures { IsTokenOf (lot_of lock.now) token.new }
+{
+    let clock = TickClock::new();
+    let taken = if until {
+        lock.try_write_until(rt, token, &clock, EARLY)
+    } else {
+        lock.try_write_for(rt, token, &clock, soon())
+    };
+    match taken {
+        Some(guard) => {
+            guard.unlock(rt, token);
+            true
+        }
+        None => false,
+    }
+}
+
+// Who comes in beside a writer: a reader, an upgradable one, another writer.
+fn come_beside_a_writer<R: Wait>(
+    rt: &R,
+    lock: &RwLock<u64>,
+    token: &mut Token,
+    until: bool,
+) -> [bool; 3]
+    requires { IsTokenOf (lot_of lock.now) token.old }
+    ensures { IsTokenOf (lot_of lock.now) token.new }
+{
+    let guard = lock.write(rt, token);
+    let came = [
+        reads_in_time(rt, lock, token, until),
+        comes_upgradable_in_time(rt, lock, token, until),
+        writes_in_time(rt, lock, token, until),
+    ];
+    guard.unlock(rt, token);
+    came
+}
+
+// Whether an upgrade becomes the writer.
+fn upgrades_in_time<R: Wait>(
+    rt: &R,
+    lock: &RwLock<u64>,
+    token: &mut Token,
+    until: bool,
+) -> Option<bool>
+    requires { IsTokenOf (lot_of lock.now) token.old }
+    ensures { IsTokenOf (lot_of lock.now) token.new }
+{
+    let clock = TickClock::new();
+    let Ok(guard) = lock.upgradable_read(rt, token) else {
+        return None;
+    };
+    let upgraded = if until {
+        guard.try_upgrade_until(rt, token, &clock, EARLY)
+    } else {
+        guard.try_upgrade_for(rt, token, &clock, soon())
+    };
+    match upgraded {
+        Ok(guard) => {
+            guard.unlock(rt, token);
+            Some(true)
+        }
+        Err(guard) => {
+            guard.unlock(rt, token);
+            Some(false)
+        }
+    }
+}
+
+// What upgrades come to beside a reader, of both forms, and then without one.
+fn upgrades_beside_a_reader<R: Wait>(
+    rt: &R,
+    lock: &RwLock<u64>,
+    token: &mut Token,
+) -> [Option<bool>; 4]
+    requires { IsTokenOf (lot_of lock.now) token.old }
+{
+    let Ok(guard) = lock.read(rt, token) else {
+        return [None; 4];
+    };
+    let within = upgrades_in_time(rt, lock, token, false);
+    let until = upgrades_in_time(rt, lock, token, true);
+    guard.unlock(rt, token);
+    [
+        within,
+        until,
+        upgrades_in_time(rt, lock, token, false),
+        upgrades_in_time(rt, lock, token, true),
+    ]
+}
+
+#[test]
+fn who_waits_gives_up_in_time(rt: HostRuntime) -> Result<(), Fail> {
+    let (lock, mut token) = lock_alone(rt.alloc(), 0u64)?;
+    assert_eq!(rt;
+        come_beside_a_writer(&rt, &lock, &mut token, false),
+        [false; 3]
+    );
+    assert_eq!(rt;
+        come_beside_a_writer(&rt, &lock, &mut token, true),
+        [false; 3]
+    );
+    let upgraded = upgrades_beside_a_reader(&rt, &lock, &mut token);
+    assert_eq!(rt;
+        upgraded,
+        [Some(false), Some(false), Some(true), Some(true)]
+    );
+    Ok(())
+}
