@@ -37,7 +37,13 @@ abbrev pub condvar_sleeper : ℕ → CondvarPlace → Sleeper
 condvar_sleeper c (Wait m timed (wait.Lock timed_out at)) =
     record { lock = m; want = wants.Exclusive; late = late_key (Mutex m at); moved = None; takes_over = true }
 condvar_sleeper c (Wait m timed at) =
-    record { lock = m; want = wants.Exclusive; late = condvar_late_key c (Wait m timed at); moved = Some (2 * m); takes_over = true }
+    record {
+      lock = m;
+      want = wants.Exclusive;
+      late = condvar_late_key c (Wait m timed at);
+      moved = Some (2 * m);
+      takes_over = true;
+    }
 condvar_sleeper c p = record { lock = c; want = wants.Exclusive; late = None; moved = None; takes_over = false }
 
 -- who waits owned its mutex as the call began
@@ -66,7 +72,9 @@ TellsNumber false number counted = number ≡ 1
 -- it has moved waiters there, and took one of them or none
 abbrev pub HasMoved : ℕ → ℕ → Bool → ℕ → List Ownership → Stage → Type 0
 HasMoved c m all number owns st = (st.owns ≡ owns) × (locked : Bool) × (waiters : List Waiter) × (moved : ℕ)
-    × (st.inside ≡ Some (record (having_taken (Two (2 * c) (2 * m)) (move_did all locked c m) waiters (threads_of waiters)) { moved = moved }))
+    × (st.inside ≡ Some (record (having_taken (Two (2 * c) (2 * m)) (move_did all locked c m) waiters (threads_of waiters)) {
+      moved = moved;
+    }))
     × TellsNumber all number (length (threads_of waiters) + moved)
 
 abbrev pub FitsNotify : ℕ → ℕ → Bool → List Ownership → NotifyAt → Stage → Type 0

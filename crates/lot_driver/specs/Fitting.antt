@@ -97,7 +97,13 @@ sleeper_at Idle = record { lock = 0; want = Exclusive; late = None; moved = None
 sleeper_at (Mutex l at) =
     record { lock = l; want = Exclusive; late = late_key (Mutex l at); moved = None; takes_over = true }
 sleeper_at (RwLock l a c) =
-    record { lock = l; want = unwrap_or (call_wants c) Exclusive; late = late_key (RwLock l a c); moved = None; takes_over = may_be_handed c }
+    record {
+      lock = l;
+      want = unwrap_or (call_wants c) Exclusive;
+      late = late_key (RwLock l a c);
+      moved = None;
+      takes_over = may_be_handed c;
+    }
 sleeper_at (Once l at) =
     record { lock = l; want = unwrap_or (once_wants at) Exclusive; late = late_key (Once l at); moved = None; takes_over = false }
 sleeper_at (Condvar l at) = condvar_sleeper l at

@@ -132,8 +132,9 @@ Exclude one other = ⊥
 
 -- ---------------------------------------------------------------- fair releases
 
--- who shares releases as ever, and an upgradable owner takes those to whom it hands the lock, or frees a word that tells of nobody. An exclusive owner tries first
--- the word that tells of nobody else: it takes those to whom it hands the lock where it finds another, and else there is no further step
+-- who shares releases as ever, and an upgradable owner takes those to whom it hands the lock, or frees a word that tells of nobody. An
+-- exclusive owner tries first the word that tells of nobody else: it takes those to whom it hands the lock where it finds another, and
+-- else there is no further step
 abbrev pub TookUnlessFree : ℕ → Admission → Bool → List WordStep → Option SectionRecord → Type 0
 TookUnlessFree l a true more last = (more ≡ []) × (last ≡ None)
 TookUnlessFree l a false more last = TookWoken l a (purpose.Release accesses.Exclusive) last

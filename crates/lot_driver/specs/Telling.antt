@@ -1,7 +1,16 @@
 -- Words for what a clause of the driver says of tokens and sections.
-use Rattle.std.specs.Prelude.{ℕ, ◌≡◌, ◌==◌, ◌++◌, ◌∷◌, [], Bool, List, Option, length}
-use Rattle.lot_base.specs.Lines.{line, lines, waiter, without}
+use Rattle.std.specs.Prelude.{ℕ, ◌≡◌, ◌==◌, ◌+◌, ◌++◌, ◌∷◌, [], not, Bool, List, Option, length, MatchBool}
+use Rattle.lot_acts.specs.declared.acts.Act.{Act}
+use Rattle.lot_acts.specs.declared.acts.Act as act
+use Rattle.lot_acts.specs.declared.acts.Reply.{Reply}
+use Rattle.lot_acts.specs.declared.acts.Reply.TheVariants.{Done, Parked, Took, Picked, Requeued, Removed}
+use Rattle.lot_acts.specs.declared.acts.Whom.{Whom}
+use Rattle.lot_acts.specs.declared.acts.Whom as whom
+use Rattle.lot_base.specs.Lines.{line, lines, waiter, without, without_first, without_key}
+use Rattle.lot_base.specs.Picks.{lock_picked, without_lock_picked}
+use Rattle.lot_base.specs.Requeues.{moved_by, requeued}
 use Rattle.lot_base.specs.declared.ops.Op.{Op}
+use Rattle.lot_base.specs.declared.requeues.Requeue.{Requeue}
 use Rattle.lot_base.specs.declared.wants.Waiter.{Waiter}
 use Rattle.lot_base.specs.declared.wants.Want.{Want}
 use Rattle.lot_words.specs.Indices.{word_index}
@@ -14,7 +23,9 @@ use Rattle.parking_lot_core.specs.declared.lot.ParkingLot.{ParkingLot}
 use Rattle.parking_lot_core.specs.declared.sections.Section.{Section}
 use Rattle.parking_lot_core.specs.declared.tokens.Did.{Did}
 use Rattle.parking_lot_core.specs.declared.tokens.Token.{Token}
-use Rattle.lot_driver.specs.Stages.{HasKey, IsFresh, IsIn, inside_of, took_as, waiting_of}
+use Rattle.lot_queues.specs.Wants.{wants_of}
+use Rattle.lot_driver.specs.Stages.{HasKey, IsFresh, IsIn, first_in, inside_of, is_there, listed, taken_of, took_as, waiting_of}
+use Rattle.lot_driver.specs.Takes.{sharers_in, successor_in}
 
 -- what a thread owns, and the steps that it took
 abbrev pub owns_of : Token → List Ownership
@@ -61,3 +72,35 @@ MayTakeAt lot key section = IsIn lot section × HasKey key (inside_of section) �
 -- these were taken there
 abbrev pub HasTaken : ParkingLot → Did → List Waiter → Option Section → Option Section → Type 0
 HasTaken lot did waiters old new = IsIn lot new × (inside_of new ≡ took_as did waiters (inside_of old))
+
+-- what a take tells of the line under its key, and what it leaves of it
+abbrev pub TellsTake : ℕ → Whom → Reply → Option Section → Option Section → Type 0
+TellsTake key whom.TheVariants.First (Took any none_left) old new =
+    (any ≡ is_there (first_in (line_in key old)))
+    × AreWaiting (without_first key (waiting_of old)) new × (none_left ≡ is_empty_at key new)
+TellsTake key whom.TheVariants.All (Took any none_left) old new =
+    (any ≡ not (is_empty_at key old))
+    × AreWaiting (without_key key (waiting_of old)) new × (none_left ≡ is_empty_at key new)
+TellsTake key (whom.TheVariants.Picked start recursive) (Picked sharers successor none_left) old new =
+    (sharers ≡ sharers_in (wants_of (lock_picked start recursive (line_in key old))))
+    × (successor ≡ successor_in (wants_of (lock_picked start recursive (line_in key old))))
+    × AreWaiting (without_lock_picked start recursive key (waiting_of old)) new × (none_left ≡ is_empty_at key new)
+TellsTake key whom reply old new = ⊥
+
+-- what a requeue does
+abbrev pub TellsRequeue : ℕ → ℕ → Requeue → ℕ → Bool → Option Section → Option Section → Type 0
+TellsRequeue from to how number none_left old new =
+    (number ≡ length (listed (taken_of how (line_in from old))) + length (moved_by how (line_in from old)))
+    × AreWaiting (requeued how from to (waiting_of old)) new × (none_left ≡ is_empty_at from new)
+
+-- what an act of this thread tells of the queues is so, and it leaves them as it says
+abbrev pub TellsQueues : Act → Reply → ℕ → Option Section → Option Section → Type 0
+TellsQueues (act.TheVariants.Park lock key check want) (Parked parked) me old new =
+    MatchBool parked (StandsLast key me want old new) (waiting_of new ≡ waiting_of old)
+TellsQueues (act.TheVariants.Stand key want) Done me old new = StandsLast key me want old new
+TellsQueues (act.TheVariants.Take key whom) reply me old new = TellsTake key whom reply old new
+TellsQueues (act.TheVariants.Requeue from to how) (Requeued number none_left) me old new =
+    TellsRequeue from to how number none_left old new
+TellsQueues (act.TheVariants.Remove key) (Removed none_left) me old new =
+    AreWaiting (without me (waiting_of old)) new × (none_left ≡ is_empty_at key new)
+TellsQueues a reply me old new = Unit {0}

@@ -13,7 +13,7 @@ ghost use Rattle.parking_lot_core.specs.Keys.{AreKeys};
 ghost use Rattle.parking_lot_core.specs.Tokens.{IsTokenOf, IsSameThread, view_of, last_of};
 ghost use Rattle.lot_driver.specs.Fitting.{sleeper_at};
 ghost use Rattle.lot_driver.specs.Paths.{closure_of, step};
-ghost use Rattle.lot_driver.specs.Telling.{AreWaiting, HasStepped, MayFind, MayTake, MayTakeAt, StandsLast, index_of, is_empty_at, owns_of, steps_of};
+ghost use Rattle.lot_driver.specs.Telling.{AreWaiting, HasStepped, MayFind, MayTake, MayTakeAt, StandsLast, TellsQueues, TellsTake, index_of, is_empty_at, owns_of, steps_of};
 ghost use Rattle.lot_driver.specs.Words.{AreWordsOf, word_in, kind_in, at_in};
 ghost use Rattle.lot_driver.specs.Stages.{Adds, Awoke, AwokeLate, HandsEach, HasKey, IsCounted, IsFresh, IsUngiven, MayLeave, IsIn, IsLeft, TookBy, handed, note_of, inside_of, stage_of, waiting_of, wanted_in, entered_now, ActNeeds, Became};
 
@@ -180,8 +180,9 @@ pub(crate) fn leave<R: Wait>(
 #[tactic(auto, using(crate::proofs::TakesFew::picked_few, crate::proofs::TakesFew::few_waiters))]
 fn take(lot: &ParkingLot, section: &mut Option<Section>, key: Key, whom: Whom) -> Reply
     requires { MayTakeAt lot.now key section.old }
-    ensures { IsIn lot.now section.new
+    ensures took { IsIn lot.now section.new
         × TookBy key whom result (inside_of section.old) (inside_of section.new) }
+    ensures told { TellsTake key whom result section.old section.new }
 {
     match whom {
         Whom::First => {
@@ -288,6 +289,7 @@ pub(crate) fn perform<'a, R: Wait, C: Clock>(
     ensures became { Became (IsUp C.tells limit.entry) (kind_in words) (at_in words) (sleeper_at place)
         (stage_of token.old section.old) act result (stage_of token.new section.new) }
     ensures adds { Adds (at_in words) act result (steps_of token.old) (steps_of token.new) }
+    ensures queues { TellsQueues act result token.old.number section.old section.new }
 {
     match act {
         Act::Word { lock, op } => Reply::Value(lot.word(token, words.of(lock), op)),

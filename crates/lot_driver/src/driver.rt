@@ -14,7 +14,7 @@ ghost use Rattle.lot_driver.specs.MutexFitting.{IsMutexOver};
 ghost use Rattle.lot_driver.specs.Paths.{closure_of, mutex_at, GoesFrom, Runs, Told};
 ghost use Rattle.lot_driver.specs.Words.{AreWordsOf, kind_in, at_in};
 ghost use Rattle.lot_driver.specs.Stages.{IsIn, stage_of};
-ghost use Rattle.lot_driver.specs.Telling.{owns_of, steps_of};
+ghost use Rattle.lot_driver.specs.Telling.{TellsQueues, owns_of, steps_of};
 
 use crate::acting::{end, perform};
 use crate::words::Words;
@@ -148,6 +148,7 @@ fn turn<'a, R: Wait, C: Clock>(
     requires no_closure { closure_of (act_of place) ≡ None }
     ensures own { IsSameThread lot.now token.old token.new × IsIn lot.now section.new }
     ensures told { Told (at_in words) place result (steps_of token.old) (steps_of token.new) }
+    ensures queues { TellsQueues act result token.old.number section.old section.new }
     ensures reached { (base : List Ownership)
         → Fits (IsUp C.tells limit.entry) base place (stage_of token.old section.old)
         → Reached (IsUp C.tells limit.entry) base place result (stage_of token.new section.new) }

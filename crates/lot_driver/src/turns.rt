@@ -5,6 +5,7 @@ ghost use Rattle.lot_acts.specs.declared.acts.Reply.TheVariants.{Done, Requeued,
 ghost use Rattle.lot_acts.specs.declared.acts.Whom.TheVariants as whom;
 ghost use Rattle.std.specs.Prelude.{◌≡◌};
 ghost use Rattle.lot_steps.specs.Steps.{act_of};
+ghost use Rattle.lot_driver.specs.Telling.{StandsLast, TellsRequeue, TellsTake};
 ghost use Rattle.lot_driver.specs.Turns.{HasDone, HasTurned, IsAt, MayDo};
 
 pub use crate::acting::end;
@@ -64,8 +65,9 @@ pub fn turn_stand<C: Clock>(
     want: Want,
 )
     requires { MayDo (IsUp C.tells _limit) lot.now _words (acts.Stand key want) token.now section.old }
-    ensures { HasDone (IsUp C.tells _limit.entry) lot.now _words (acts.Stand key want) Done
+    ensures done { HasDone (IsUp C.tells _limit.entry) lot.now _words (acts.Stand key want) Done
         token.now section.old token.now section.new }
+    ensures stands { StandsLast key token.now.number want section.old section.new }
 {
     stand(lot, token, section, key, want);
 }
@@ -81,8 +83,9 @@ pub fn turn_take_first<C: Clock>(
     key: Key,
 ) -> (bool, bool)
     requires { MayDo (IsUp C.tells _limit) lot.now _words (acts.Take key whom.First) _token.now section.old }
-    ensures { HasDone (IsUp C.tells _limit.entry) lot.now _words (acts.Take key whom.First) (Took result.0 result.1)
+    ensures done { HasDone (IsUp C.tells _limit.entry) lot.now _words (acts.Take key whom.First) (Took result.0 result.1)
         _token.now section.old _token.now section.new }
+    ensures told { TellsTake key whom.First (Took result.0 result.1) section.old section.new }
 {
     take_first(lot, section, key)
 }
@@ -101,8 +104,9 @@ pub fn turn_requeue<C: Clock>(
     how: Requeue,
 ) -> (usize, bool)
     requires { MayDo (IsUp C.tells _limit) lot.now _words (acts.Requeue from to how) _token.now section.old }
-    ensures { HasDone (IsUp C.tells _limit.entry) lot.now _words (acts.Requeue from to how) (Requeued result.0 result.1)
+    ensures done { HasDone (IsUp C.tells _limit.entry) lot.now _words (acts.Requeue from to how) (Requeued result.0 result.1)
         _token.now section.old _token.now section.new }
+    ensures told { TellsRequeue from to how result.0 result.1 section.old section.new }
 {
     requeue(lot, section, from, to, how)
 }

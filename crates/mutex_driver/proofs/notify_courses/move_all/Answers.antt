@@ -20,7 +20,7 @@ leave_both-requires g c = let pair = c.args.pair in let at = notify_at pair.cond
     let there = named here (ap (λ (b : Bool). at (notify.Move b)) owned) in
     let number = c.turn_requeue-number.result.0 in let none = c.turn_requeue-number.result.1 in
     let moved = comes there (Requeued number none) c.args.token.now c.turn_requeue-number.new.section
-    c.turn_requeue-number.ensures (moves c.main_key-from.ensures c.main_key-to.ensures) (at (notify.Leave false number)) (refl, refl) in
+    c.turn_requeue-number.ensures.done (moves c.main_key-from.ensures c.main_key-to.ensures) (at (notify.Leave false number)) (refl, refl) in
     moved.at
 
 pub returns-then-locked : goal.returns-then-locked
@@ -30,7 +30,7 @@ returns-then-locked g c = let pair = c.args.pair in let at = notify_at pair.cond
     let there = named here (ap (λ (b : Bool). at (notify.Move b)) owned) in
     let number = c.turn_requeue-number.result.0 in let none = c.turn_requeue-number.result.1 in
     let moved = comes there (Requeued number none) c.args.token.now c.turn_requeue-number.new.section
-    c.turn_requeue-number.ensures (moves c.main_key-from.ensures c.main_key-to.ensures) (at (notify.Leave false number)) (refl, refl) in
+    c.turn_requeue-number.ensures.done (moves c.main_key-from.ensures c.main_key-to.ensures) (at (notify.Leave false number)) (refl, refl) in
     moved.ends c.leave_both.result c.leave_both.new.token c.leave_both.ensures
 
 pub turn_requeue-number-requires-2 : goal.turn_requeue-number-requires-2
@@ -48,7 +48,7 @@ turn_word-requires g c = let pair = c.args.pair in let at = notify_at pair.condv
     let many : nat_lt 1 c.turn_requeue-number-2.result.0 ≡ true = search rules in
     let number = c.turn_requeue-number-2.result.0 in let none = c.turn_requeue-number-2.result.1 in
     let moved = comes there (Requeued number none) c.args.token.now c.turn_requeue-number-2.new.section
-    c.turn_requeue-number-2.ensures (moves c.main_key-from.ensures c.main_key-to.ensures) (at (notify.MarkMoved number)) (rest_moved pair.condvar pair.mutex number none true many) in
+    c.turn_requeue-number-2.ensures.done (moves c.main_key-from.ensures c.main_key-to.ensures) (at (notify.MarkMoved number)) (rest_moved pair.condvar pair.mutex number none true many) in
     may_do moved refl
 
 pub leave_both-requires-then-number-gt1 : goal.leave_both-requires-then-number-gt1
@@ -59,7 +59,7 @@ leave_both-requires-then-number-gt1 g c = let pair = c.args.pair in let at = not
     let many : nat_lt 1 c.turn_requeue-number-2.result.0 ≡ true = search rules in
     let number = c.turn_requeue-number-2.result.0 in let none = c.turn_requeue-number-2.result.1 in
     let moved = comes there (Requeued number none) c.args.token.now c.turn_requeue-number-2.new.section
-    c.turn_requeue-number-2.ensures (moves c.main_key-from.ensures c.main_key-to.ensures) (at (notify.MarkMoved number)) (rest_moved pair.condvar pair.mutex number none true many) in
+    c.turn_requeue-number-2.ensures.done (moves c.main_key-from.ensures c.main_key-to.ensures) (at (notify.MarkMoved number)) (rest_moved pair.condvar pair.mutex number none true many) in
     let marked = comes moved (Value c.turn_word.result) c.turn_word.new.token c.turn_requeue-number-2.new.section
     c.turn_word.ensures refl (at (notify.Leave true number)) (refl, refl) in
     marked.at
@@ -72,7 +72,7 @@ returns-then-number-gt1 g c = let pair = c.args.pair in let at = notify_at pair.
     let many : nat_lt 1 c.turn_requeue-number-2.result.0 ≡ true = search rules in
     let number = c.turn_requeue-number-2.result.0 in let none = c.turn_requeue-number-2.result.1 in
     let moved = comes there (Requeued number none) c.args.token.now c.turn_requeue-number-2.new.section
-    c.turn_requeue-number-2.ensures (moves c.main_key-from.ensures c.main_key-to.ensures) (at (notify.MarkMoved number)) (rest_moved pair.condvar pair.mutex number none true many) in
+    c.turn_requeue-number-2.ensures.done (moves c.main_key-from.ensures c.main_key-to.ensures) (at (notify.MarkMoved number)) (rest_moved pair.condvar pair.mutex number none true many) in
     let marked = comes moved (Value c.turn_word.result) c.turn_word.new.token c.turn_requeue-number-2.new.section
     c.turn_word.ensures refl (at (notify.Leave true number)) (refl, refl) in
     marked.ends c.leave_both-then-number-gt1.result c.leave_both-then-number-gt1.new.token c.leave_both-then-number-gt1.ensures
@@ -85,7 +85,7 @@ leave_both-requires-2 g c = let pair = c.args.pair in let at = notify_at pair.co
     let many : nat_lt 1 c.turn_requeue-number-2.result.0 ≡ false = search rules in
     let number = c.turn_requeue-number-2.result.0 in let none = c.turn_requeue-number-2.result.1 in
     let moved = comes there (Requeued number none) c.args.token.now c.turn_requeue-number-2.new.section
-    c.turn_requeue-number-2.ensures (moves c.main_key-from.ensures c.main_key-to.ensures) (at (notify.Leave true number)) (rest_moved pair.condvar pair.mutex number none false many) in
+    c.turn_requeue-number-2.ensures.done (moves c.main_key-from.ensures c.main_key-to.ensures) (at (notify.Leave true number)) (rest_moved pair.condvar pair.mutex number none false many) in
     moved.at
 
 pub returns : goal.returns
@@ -96,5 +96,5 @@ returns g c = let pair = c.args.pair in let at = notify_at pair.condvar pair.mut
     let many : nat_lt 1 c.turn_requeue-number-2.result.0 ≡ false = search rules in
     let number = c.turn_requeue-number-2.result.0 in let none = c.turn_requeue-number-2.result.1 in
     let moved = comes there (Requeued number none) c.args.token.now c.turn_requeue-number-2.new.section
-    c.turn_requeue-number-2.ensures (moves c.main_key-from.ensures c.main_key-to.ensures) (at (notify.Leave true number)) (rest_moved pair.condvar pair.mutex number none false many) in
+    c.turn_requeue-number-2.ensures.done (moves c.main_key-from.ensures c.main_key-to.ensures) (at (notify.Leave true number)) (rest_moved pair.condvar pair.mutex number none false many) in
     moved.ends c.leave_both-2.result c.leave_both-2.new.token c.leave_both-2.ensures

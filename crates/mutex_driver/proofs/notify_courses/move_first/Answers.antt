@@ -21,7 +21,7 @@ clear_and_leave-requires g c = let pair = c.args.pair in let at = notify_at pair
     let there = named here (ap (λ (b : Bool). at (notify.Move b)) owned) in
     let none = c.turn_requeue-none_left.result.1 in
     let moved = comes there (Requeued c.turn_requeue-none_left.result.0 none) c.args.token.now c.turn_requeue-none_left.new.section
-    c.turn_requeue-none_left.ensures (moves c.main_key-from.ensures c.main_key-to.ensures) (at (moved_one false none))
+    c.turn_requeue-none_left.ensures.done (moves c.main_key-from.ensures c.main_key-to.ensures) (at (moved_one false none))
     (refl, one_moved pair.condvar pair.mutex c.turn_requeue-none_left.result.0 none) in
     moved.at
 
@@ -32,7 +32,7 @@ returns-then-locked g c = let pair = c.args.pair in let at = notify_at pair.cond
     let there = named here (ap (λ (b : Bool). at (notify.Move b)) owned) in
     let none = c.turn_requeue-none_left.result.1 in
     let moved = comes there (Requeued c.turn_requeue-none_left.result.0 none) c.args.token.now c.turn_requeue-none_left.new.section
-    c.turn_requeue-none_left.ensures (moves c.main_key-from.ensures c.main_key-to.ensures) (at (moved_one false none))
+    c.turn_requeue-none_left.ensures.done (moves c.main_key-from.ensures c.main_key-to.ensures) (at (moved_one false none))
     (refl, one_moved pair.condvar pair.mutex c.turn_requeue-none_left.result.0 none) in
     moved.ends c.clear_and_leave.result c.clear_and_leave.new.token c.clear_and_leave.ensures
 
@@ -50,7 +50,7 @@ clear_and_leave-requires-2 g c = let pair = c.args.pair in let at = notify_at pa
     let there = named here (ap (λ (b : Bool). at (notify.Move b)) owned) in
     let any = c.turn_take_first-any.result.0 in let none = c.turn_take_first-any.result.1 in
     let took = comes there (Took any none) c.args.token.now c.turn_take_first-any.new.section
-    c.turn_take_first-any.ensures (takes_first c.main_key-from.ensures) (at (moved_one any none))
+    c.turn_take_first-any.ensures.done (takes_first c.main_key-from.ensures) (at (moved_one any none))
     (refl, one_taken pair.condvar pair.mutex any none) in
     took.at
 
@@ -61,6 +61,6 @@ returns g c = let pair = c.args.pair in let at = notify_at pair.condvar pair.mut
     let there = named here (ap (λ (b : Bool). at (notify.Move b)) owned) in
     let any = c.turn_take_first-any.result.0 in let none = c.turn_take_first-any.result.1 in
     let took = comes there (Took any none) c.args.token.now c.turn_take_first-any.new.section
-    c.turn_take_first-any.ensures (takes_first c.main_key-from.ensures) (at (moved_one any none))
+    c.turn_take_first-any.ensures.done (takes_first c.main_key-from.ensures) (at (moved_one any none))
     (refl, one_taken pair.condvar pair.mutex any none) in
     took.ends c.clear_and_leave-2.result c.clear_and_leave-2.new.token c.clear_and_leave-2.ensures

@@ -24,7 +24,7 @@ clear_and_wake-requires g c = let first = unlocks_at c.args.mutex unlock.Enter i
     let any = c.turn_take_first-any.result.0 in let none = c.turn_take_first-any.result.1 in
     let entered = c.turn_enter.ensures first c.requires (ap (λ (k : ℕ). Enter (One k)) (sym c.main_key-key.ensures)) in
     let at = turn_leads ⊥ c.args.lot.now c.args.words first Done c.args.token.now c.turn_enter.new.token None c.turn_enter.new.section entered c.requires second refl refl in
-    turn_leads ⊥ c.args.lot.now c.args.words second (Took any none) c.turn_enter.new.token c.turn_enter.new.token c.turn_enter.new.section c.turn_take_first-any.new.section (c.turn_take_first-any.ensures second at (ap (λ (k : ℕ). Take k First) (sym c.main_key-key.ensures))) at
+    turn_leads ⊥ c.args.lot.now c.args.words second (Took any none) c.turn_enter.new.token c.turn_enter.new.token c.turn_enter.new.section c.turn_take_first-any.new.section (c.turn_take_first-any.ensures.done second at (ap (λ (k : ℕ). Take k First) (sym c.main_key-key.ensures))) at
     (unlocks_at c.args.mutex (taken_on any none)) (taken_here c.args.mutex any none) (taken_goes_on c.args.mutex any none)
 
 pub returns : goal.returns
@@ -33,5 +33,5 @@ returns g c = let first = unlocks_at c.args.mutex unlock.Enter in let second = u
     let entered = c.turn_enter.ensures first c.requires (ap (λ (k : ℕ). Enter (One k)) (sym c.main_key-key.ensures)) in
     let at = turn_leads ⊥ c.args.lot.now c.args.words first Done c.args.token.now c.turn_enter.new.token None c.turn_enter.new.section entered c.requires second refl refl in
     turn_then ⊥ c.args.lot.now c.args.words first Done c.args.token.now c.turn_enter.new.token None c.turn_enter.new.section entered second refl refl Ok last
-    (turn_then ⊥ c.args.lot.now c.args.words second (Took any none) c.turn_enter.new.token c.turn_enter.new.token c.turn_enter.new.section c.turn_take_first-any.new.section (c.turn_take_first-any.ensures second at (ap (λ (k : ℕ). Take k First) (sym c.main_key-key.ensures)))
+    (turn_then ⊥ c.args.lot.now c.args.words second (Took any none) c.turn_enter.new.token c.turn_enter.new.token c.turn_enter.new.section c.turn_take_first-any.new.section (c.turn_take_first-any.ensures.done second at (ap (λ (k : ℕ). Take k First) (sym c.main_key-key.ensures)))
     (unlocks_at c.args.mutex (taken_on any none)) (taken_here c.args.mutex any none) (taken_goes_on c.args.mutex any none) Ok last c.clear_and_wake.ensures)

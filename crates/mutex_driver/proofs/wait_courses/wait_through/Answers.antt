@@ -61,7 +61,7 @@ turn_leave-requires g c = let pair = c.args.pair in let at = wait_at pair.condva
     let shown = comes entered (Value c.turn_word-seen.result) c.turn_word-seen.new.token c.turn_enter.new.section c.turn_word-seen.ensures
     (ap (λ (v : ℕ). Word pair.condvar (Exchange 0 v)) (sym c.shown.ensures)) (at wait.Stand)
     (shows_on pair.condvar pair.mutex c.args.timed c.turn_word-seen.result true (sym c.may_show.ensures ∙ may)) in
-    let stood = comes shown Done c.turn_word-seen.new.token c.turn_stand.new.section c.turn_stand.ensures
+    let stood = comes shown Done c.turn_word-seen.new.token c.turn_stand.new.section c.turn_stand.ensures.done
     (ap (λ (k : ℕ). Stand k Wait) (sym c.main_key-key.ensures)) (at wait.Leave) (refl, refl) in
     may_do stood (leaves_one c.main_key-key.ensures refl)
 
@@ -73,7 +73,7 @@ release-requires g c = let pair = c.args.pair in let at = wait_at pair.condvar p
     let shown = comes entered (Value c.turn_word-seen.result) c.turn_word-seen.new.token c.turn_enter.new.section c.turn_word-seen.ensures
     (ap (λ (v : ℕ). Word pair.condvar (Exchange 0 v)) (sym c.shown.ensures)) (at wait.Stand)
     (shows_on pair.condvar pair.mutex c.args.timed c.turn_word-seen.result true (sym c.may_show.ensures ∙ may)) in
-    let stood = comes shown Done c.turn_word-seen.new.token c.turn_stand.new.section c.turn_stand.ensures
+    let stood = comes shown Done c.turn_word-seen.new.token c.turn_stand.new.section c.turn_stand.ensures.done
     (ap (λ (k : ℕ). Stand k Wait) (sym c.main_key-key.ensures)) (at wait.Leave) (refl, refl) in
     let left = comes stood Done c.turn_leave.new.token c.turn_leave.new.section c.turn_leave.ensures
     (leaves_one c.main_key-key.ensures refl) (at (releases_at unlock.Subtract)) (refl, refl) in
@@ -87,7 +87,7 @@ returns g c = let pair = c.args.pair in let at = wait_at pair.condvar pair.mutex
     let shown = comes entered (Value c.turn_word-seen.result) c.turn_word-seen.new.token c.turn_enter.new.section c.turn_word-seen.ensures
     (ap (λ (v : ℕ). Word pair.condvar (Exchange 0 v)) (sym c.shown.ensures)) (at wait.Stand)
     (shows_on pair.condvar pair.mutex c.args.timed c.turn_word-seen.result true (sym c.may_show.ensures ∙ may)) in
-    let stood = comes shown Done c.turn_word-seen.new.token c.turn_stand.new.section c.turn_stand.ensures
+    let stood = comes shown Done c.turn_word-seen.new.token c.turn_stand.new.section c.turn_stand.ensures.done
     (ap (λ (k : ℕ). Stand k Wait) (sym c.main_key-key.ensures)) (at wait.Leave) (refl, refl) in
     let left = comes stood Done c.turn_leave.new.token c.turn_leave.new.section c.turn_leave.ensures
     (leaves_one c.main_key-key.ensures refl) (at (releases_at unlock.Subtract)) (refl, refl) in

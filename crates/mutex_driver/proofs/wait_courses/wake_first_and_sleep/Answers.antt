@@ -26,7 +26,7 @@ clear_and_sleep-requires g c = let pair = c.args.pair in let at = wait_at pair.c
     let entered = comes here Done c.turn_enter.new.token c.turn_enter.new.section c.turn_enter.ensures (enters_one c.main_key-key.ensures)
     (at (releases_at unlock.Take)) (refl, refl) in
     let any = c.turn_take_first-any.result.0 in let none = c.turn_take_first-any.result.1 in
-    let took = comes entered (Took any none) c.turn_enter.new.token c.turn_take_first-any.new.section c.turn_take_first-any.ensures
+    let took = comes entered (Took any none) c.turn_enter.new.token c.turn_take_first-any.new.section c.turn_take_first-any.ensures.done
     (takes_first c.main_key-key.ensures) (at (releases_at (taken_on any none))) (took_on pair.condvar pair.mutex c.args.timed any none) in
     took.at
 
@@ -36,6 +36,6 @@ returns g c = let pair = c.args.pair in let at = wait_at pair.condvar pair.mutex
     let entered = comes here Done c.turn_enter.new.token c.turn_enter.new.section c.turn_enter.ensures (enters_one c.main_key-key.ensures)
     (at (releases_at unlock.Take)) (refl, refl) in
     let any = c.turn_take_first-any.result.0 in let none = c.turn_take_first-any.result.1 in
-    let took = comes entered (Took any none) c.turn_enter.new.token c.turn_take_first-any.new.section c.turn_take_first-any.ensures
+    let took = comes entered (Took any none) c.turn_enter.new.token c.turn_take_first-any.new.section c.turn_take_first-any.ensures.done
     (takes_first c.main_key-key.ensures) (at (releases_at (taken_on any none))) (took_on pair.condvar pair.mutex c.args.timed any none) in
     took.ends c.clear_and_sleep.result c.clear_and_sleep.new.token c.clear_and_sleep.ensures
