@@ -2,6 +2,7 @@
 mod clocks;
 mod many;
 mod mutexes;
+mod rights;
 mod several;
 mod single;
 mod threads;

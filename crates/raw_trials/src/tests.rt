@@ -1,5 +1,6 @@
 //! Threads that meet at one raw mutex.
 mod live;
+mod moved;
 mod timed;
 
 ghost use Rattle.std.specs.Prelude.{◌≡◌, All, IfOk, IfSome};
