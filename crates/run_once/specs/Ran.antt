@@ -1,10 +1,10 @@
 -- What the calls of a `Once` did.
-use Rattle.std.specs.Prelude.{ℕ, ◌≡◌, ◌⊎◌, ◌++◌, Bool, true, false, List, Ok, Err, if◌then◌else◌}
+use Rattle.std.specs.Prelude.{ℕ, ◌≡◌, ◌≢◌, ◌⊎◌, ◌++◌, Bool, true, false, List, Ok, Err, if◌then◌else◌}
 use Rattle.std.specs.declared.result.Result.{Result}
 use Rattle.abstract_locks.specs.Codes.{is_done, is_poisoned, is_running}
 use Rattle.lot_base.specs.declared.faults.Fault.{Fault}
 use Rattle.lot_base.specs.declared.faults.Fault.TheVariants as faults
-use Rattle.lot_base.specs.declared.ops.Op.TheVariants.{Load}
+use Rattle.lot_base.specs.declared.ops.Op.TheVariants.{Exchange, Load}
 use Rattle.lot_calls.specs.declared.calls.OnceCall.{OnceCall}
 use Rattle.lot_calls.specs.declared.calls.OnceCall.TheVariants.{CallOnce, Wait}
 use Rattle.lot_calls.specs.declared.outcomes.Answer.{Answer}
@@ -12,8 +12,9 @@ use Rattle.lot_calls.specs.declared.outcomes.Answer.TheVariants as answers
 use Rattle.lot_calls.specs.declared.outcomes.OnceState.{OnceState}
 use Rattle.lot_calls.specs.declared.outcomes.OnceState.TheVariants as states
 use Rattle.lot_once.specs.OnceSteps.{state_before}
+use Rattle.lot_words.specs.Draws.{IsDrawRefused}
 use Rattle.lot_words.specs.declared.views.WordStep.{WordStep}
-use Rattle.parking_lot_core.specs.Tokens.{last_of}
+use Rattle.parking_lot_core.specs.Tokens.{last_of, view_of}
 use Rattle.parking_lot_core.specs.declared.tokens.Token.{Token}
 use Rattle.lot_driver.specs.OnceFitting.{KnowsIt, OwnsKnowing}
 use Rattle.lot_driver.specs.Paths.{Walks, at_once, once_at, step}
@@ -29,6 +30,15 @@ StaysKnowing n old new = (new.number ≡ old.number) × OwnsKnowing n (owns_of o
 -- it knows that the `Once` is done
 abbrev pub SawDone : ℕ → Token → Token → Type 0
 SawDone n old new = KnowsIt n (owns_of old) (owns_of new)
+
+-- the last step was the one that begins a run, and saw that somebody had stepped on the word before
+abbrev pub FoundSteps : ℕ → Token → Type 0
+FoundSteps n new = (before : List WordStep) × (seen : ℕ) × (seen ≢ 0)
+    × (steps_of new ≡ before ++ step (once_at n) (Exchange 0 4) seen)
+
+-- in a lot of so many words none was left, or it was not new
+abbrev pub FoundNone : ℕ → Token → Token → Type 0
+FoundNone words old new = IsDrawRefused words 1 (view_of old) (view_of new) ⊎ ((n : ℕ) × FoundSteps n new)
 
 -- how far it has come, by its word
 abbrev pub state_of : ℕ → OnceState

@@ -57,7 +57,7 @@ fn is_ok(answer: Answer) -> bool
 }
 
 impl Once {
-    ghost use Rattle.run_once.specs.Ran.{CalledOnce, HasLooked, Loaded, SawDone, StaysKnowing, Waited, state_of};
+    ghost use Rattle.run_once.specs.Ran.{CalledOnce, FoundNone, FoundSteps, HasLooked, Loaded, SawDone, StaysKnowing, Waited, state_of};
     ghost use Rattle.run_once.specs.Users.{lot_of, number_of};
 
     /// A `Once` that has run nothing.
@@ -89,6 +89,8 @@ impl Once {
         requires { IsTokenOf (lot_of self.now) token.old }
         ensures token { IsTokenOf (lot_of self.now) token.new × (token.new.number ≡ token.old.number) }
         ensures done { result ≡ true → SawDone (number_of self.now) token.old token.new }
+        ensures beaten { result ≡ false → FoundSteps (number_of self.now) token.new
+            × OwnsKnowing (number_of self.now) (owns_of token.old) (owns_of token.new) }
     {
         let start = Op::Exchange {
             from: 0,
@@ -112,7 +114,9 @@ impl Once {
         ensures token { IsTokenOf (arc_value lot.now) token.new × (token.new.number ≡ token.old.number) }
         ensures made { MatchResult result
             (λ once. (lot_of once ≡ arc_value lot.now) × SawDone (number_of once) token.old token.new)
-            (λ fault. (fault ≡ Fault.NoMemory) ⊎ (fault ≡ Fault.LotFull)) }
+            (λ fault. ((fault ≡ Fault.NoMemory) × (token.new ≡ token.old)) ⊎ ((fault ≡ Fault.LotFull)
+            × FoundNone (arc_value lot.now).words.count token.old token.new)) }
+        ensures stays { (number : ℕ) × StaysKnowing number token.old token.new }
     {
         let once = Once::new(lot, token)?;
         if once.complete(token) {

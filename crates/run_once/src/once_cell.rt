@@ -1,7 +1,9 @@
 //! `OnceCell`: a value that the first who asks for it makes.
-ghost use Rattle.std.specs.Prelude.{◌≡◌, ◌⊎◌, Ok, Err, MatchResult};
+ghost use Rattle.std.specs.Prelude.{◌≡◌, ◌⊎◌, ◌∷◌, [], Ok, Err, MatchResult};
 ghost use Rattle.std.specs.Arc.{arc_value};
-ghost use Rattle.parking_lot_core.specs.Tokens.{IsTokenOf};
+ghost use Rattle.lot_words.specs.Draws.{IsDrawn, IsDrawRefused};
+ghost use Rattle.lot_words.specs.declared.words.WordKind.TheVariants as kinds;
+ghost use Rattle.parking_lot_core.specs.Tokens.{IsTokenOf, view_of};
 
 use crate::once::{Once, OnceFault};
 use parking_lot_core::{Fault, ParkingLot, Token};
@@ -42,6 +44,11 @@ impl<T: Drop> OnceCell<T> {
         ensures token { IsTokenOf (arc_value lot.now) token.new }
         ensures made { MatchResult result (λ cell. lot_of cell ≡ arc_value lot.now)
             (λ fault. (fault ≡ Fault.NoMemory) ⊎ (fault ≡ Fault.LotFull)) }
+        ensures drawn { MatchResult result
+            (λ cell. IsDrawn (arc_value lot.now).words.count (kinds.Once ∷ []) (number_of cell) (view_of token.old)
+            (view_of token.new))
+            (λ fault. ((fault ≡ Fault.NoMemory) × (token.new ≡ token.old)) ⊎ ((fault ≡ Fault.LotFull)
+            × IsDrawRefused (arc_value lot.now).words.count 1 (view_of token.old) (view_of token.new))) }
     {
         let made = Once::new(lot, token)?;
         Ok(OnceCell {
