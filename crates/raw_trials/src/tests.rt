@@ -9,7 +9,7 @@ ghost use Rattle.parking_lot_core.specs.Tokens.{IsTicketOf, IsTokenOf};
 ghost use Rattle.parking_lot.specs.Users.{lot_of};
 
 use parking_lot::lock_raw::RawMutex as RawLock;
-use parking_lot::{Fault, ParkingLot, RawMutex, Ticket};
+use parking_lot::{Fault, ParkingLot, RawMutex, Ticket, Token};
 use std::alloc::Global;
 use std::sync::atomic::Ordering::SeqCst;
 use std::sync::atomic::{AtomicBool, AtomicUsize};
@@ -129,6 +129,29 @@ fn one_of_two_tries_gets_a_free_mutex(rt: HostRuntime) -> Result<(), Fail> {
     Ok(())
 }
 
+fn await_flag<R: Wait>(rt: &R, flag: &AtomicBool) {
+    for _ in rt.forever() {
+        if flag.load(SeqCst) {
+            break;
+        }
+        yield_now();
+    }
+}
+
+// Whether somebody comes to wait for the mutex.
+fn sees_waiter<R: Wait>(rt: &R, lot: &ParkingLot, token: &mut Token, mutex: &RawMutex) -> bool
+    requires { IsTokenOf lot.now token.old }
+    ensures { IsTokenOf lot.now token.new }
+{
+    for _ in 0..TURNS {
+        if lot.queued(rt, token, mutex.key()) == 1 {
+            return true;
+        }
+        yield_now();
+    }
+    false
+}
+
 // Holds the mutex until somebody waits for it. Whether that was seen.
 fn hold<R: Wait>(
     rt: &R,
@@ -142,14 +165,7 @@ fn hold<R: Wait>(
     let mut token = ticket.enter();
     let guard = mutex.lock(rt, &mut token);
     held.store(true, SeqCst);
-    let mut seen = false;
-    for _ in 0..TURNS {
-        if lot.queued(rt, &mut token, mutex.key()) == 1 {
-            seen = true;
-            break;
-        }
-        yield_now();
-    }
+    let seen = sees_waiter(rt, lot, &mut token, mutex);
     mutex.unlock(rt, &mut token, guard);
     drop(token.leave());
     seen
@@ -159,12 +175,7 @@ fn lock_held<R: Wait>(rt: &R, mutex: &RawMutex, ticket: Ticket, held: &AtomicBoo
     requires { IsTicketOf (lot_of mutex.now) ticket }
 {
     let mut token = ticket.enter();
-    for _ in rt.forever() {
-        if held.load(SeqCst) {
-            break;
-        }
-        yield_now();
-    }
+    await_flag(rt, held);
     let guard = mutex.lock(rt, &mut token);
     let locked = mutex.is_locked(&mut token);
     mutex.unlock(rt, &mut token, guard);

@@ -12,10 +12,13 @@ use Rattle.lot_calls.specs.declared.outcomes.Answer.TheVariants as answers
 use Rattle.lot_calls.specs.declared.outcomes.OnceState.{OnceState}
 use Rattle.lot_calls.specs.declared.outcomes.OnceState.TheVariants as states
 use Rattle.lot_once.specs.OnceSteps.{state_before}
-use Rattle.lot_words.specs.Draws.{IsDrawRefused}
 use Rattle.lot_words.specs.declared.views.WordStep.{WordStep}
-use Rattle.parking_lot_core.specs.Tokens.{last_of, view_of}
+use Rattle.lot_words.specs.declared.words.Word.{Word}
+use Rattle.lot_words.specs.declared.words.WordKind as kinds
+use Rattle.parking_lot_core.specs.Tokens.{last_of}
+use Rattle.parking_lot_core.specs.declared.lot.ParkingLot.{ParkingLot}
 use Rattle.parking_lot_core.specs.declared.tokens.Token.{Token}
+use Rattle.lot_driver.specs.Drawing.{Drew}
 use Rattle.lot_driver.specs.OnceFitting.{KnowsIt, OwnsKnowing}
 use Rattle.lot_driver.specs.Paths.{Walks, at_once, once_at, step}
 use Rattle.lot_driver.specs.Telling.{owns_of, steps_of}
@@ -31,14 +34,13 @@ StaysKnowing n old new = (new.number ≡ old.number) × OwnsKnowing n (owns_of o
 abbrev pub SawDone : ℕ → Token → Token → Type 0
 SawDone n old new = KnowsIt n (owns_of old) (owns_of new)
 
--- the last step was the one that begins a run, and saw that somebody had stepped on the word before
-abbrev pub FoundSteps : ℕ → Token → Type 0
-FoundSteps n new = (before : List WordStep) × (seen : ℕ) × (seen ≢ 0)
-    × (steps_of new ≡ before ++ step (once_at n) (Exchange 0 4) seen)
+-- its one step, which begins a run, saw that somebody had stepped on the word before
+abbrev pub MissedStart : ℕ → Token → Token → Type 0
+MissedStart n old new = (seen : ℕ) × (seen ≢ 0) × (steps_of new ≡ steps_of old ++ step (once_at n) (Exchange 0 4) seen)
 
--- in a lot of so many words none was left, or it was not new
-abbrev pub FoundNone : ℕ → Token → Token → Type 0
-FoundNone words old new = IsDrawRefused words 1 (view_of old) (view_of new) ⊎ ((n : ℕ) × FoundSteps n new)
+-- a word was drawn, and the one step on it saw that
+abbrev pub DrewUsed : ParkingLot → Token → Token → Type 0
+DrewUsed lot old new = (word : Word) × (mid : Token) × Drew kinds.TheVariants.Once lot word old mid × MissedStart word.number mid new
 
 -- how far it has come, by its word
 abbrev pub state_of : ℕ → OnceState

@@ -9,6 +9,7 @@ ghost use Rattle.lot_words.specs.Lots.{IsWordOf};
 ghost use Rattle.lot_words.specs.declared.words.WordKind.TheVariants as kinds;
 ghost use Rattle.lot_words.specs.declared.owners.Ownership.{Ownership};
 ghost use Rattle.parking_lot_core.specs.Tokens.{IsTokenOf, last_of, view_of};
+ghost use Rattle.lot_driver.specs.Drawing.{FoundFull};
 ghost use Rattle.lot_driver.specs.OnceFitting.{OwnsBehind, OwnsKnowing, OwnsRun};
 ghost use Rattle.lot_driver.specs.Telling.{owns_of, steps_of};
 ghost use Rattle.parking_lot_core.specs.declared.tokens.Token.{Token};
@@ -57,7 +58,7 @@ fn is_ok(answer: Answer) -> bool
 }
 
 impl Once {
-    ghost use Rattle.run_once.specs.Ran.{CalledOnce, FoundNone, FoundSteps, HasLooked, Loaded, SawDone, StaysKnowing, Waited, state_of};
+    ghost use Rattle.run_once.specs.Ran.{CalledOnce, DrewUsed, HasLooked, Loaded, MissedStart, SawDone, StaysKnowing, Waited, state_of};
     ghost use Rattle.run_once.specs.Users.{lot_of, number_of};
 
     /// A `Once` that has run nothing.
@@ -89,7 +90,7 @@ impl Once {
         requires { IsTokenOf (lot_of self.now) token.old }
         ensures token { IsTokenOf (lot_of self.now) token.new × (token.new.number ≡ token.old.number) }
         ensures done { result ≡ true → SawDone (number_of self.now) token.old token.new }
-        ensures beaten { result ≡ false → FoundSteps (number_of self.now) token.new
+        ensures missed { result ≡ false → MissedStart (number_of self.now) token.old token.new
             × OwnsKnowing (number_of self.now) (owns_of token.old) (owns_of token.new) }
     {
         let start = Op::Exchange {
@@ -115,7 +116,7 @@ impl Once {
         ensures made { MatchResult result
             (λ once. (lot_of once ≡ arc_value lot.now) × SawDone (number_of once) token.old token.new)
             (λ fault. ((fault ≡ Fault.NoMemory) × (token.new ≡ token.old)) ⊎ ((fault ≡ Fault.LotFull)
-            × FoundNone (arc_value lot.now).words.count token.old token.new)) }
+            × (FoundFull (arc_value lot.now) token.old token.new ⊎ DrewUsed (arc_value lot.now) token.old token.new))) }
         ensures stays { (number : ℕ) × StaysKnowing number token.old token.new }
     {
         let once = Once::new(lot, token)?;

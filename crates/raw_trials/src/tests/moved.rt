@@ -3,7 +3,7 @@ ghost use Rattle.std.specs.Prelude.{◌≡◌};
 ghost use Rattle.parking_lot_core.specs.Tokens.{IsTicketOf, IsTokenOf};
 ghost use Rattle.parking_lot.specs.Users.{lot_of};
 
-use super::{TURNS, three_seats};
+use super::{await_flag, sees_waiter, three_seats};
 use parking_lot::lock_raw::{RawMutex as RawLock, RawMutexTimed as RawTimedLock};
 use parking_lot::{Clock, Key, Keys, Note, ParkingLot, RawMutex, Requeue, Ticket, Token};
 use std::sync::Wait;
@@ -37,15 +37,6 @@ struct Told {
     held: AtomicBool,
     up: AtomicBool,
     gone: AtomicBool,
-}
-
-fn await_flag<R: Wait>(rt: &R, flag: &AtomicBool) {
-    for _ in rt.forever() {
-        if flag.load(SeqCst) {
-            break;
-        }
-        yield_now();
-    }
 }
 
 // Waits for the mutex until the time is up. Whether it got it.
@@ -89,14 +80,7 @@ fn hold_and_move<R: Wait>(
     let mut token = ticket.enter();
     let guard = mutex.lock(rt, &mut token);
     told.held.store(true, SeqCst);
-    let mut came = false;
-    for _ in 0..TURNS {
-        if lot.queued(rt, &mut token, mutex.key()) == 1 {
-            came = true;
-            break;
-        }
-        yield_now();
-    }
+    let came = sees_waiter(rt, lot, &mut token, mutex);
     move_away(rt, lot, mutex, &mut token);
     mutex.unlock(rt, &mut token, guard);
     told.up.store(true, SeqCst);

@@ -1,4 +1,5 @@
-use Rattle.std.proofs.Common.{suc, ◌∙◌, ap}
+use Rattle.std.specs.Prelude.{inr}
+use Rattle.std.proofs.Common.{suc, ◌∙◌, ap, refl}
 use Rattle.lot_driver.specs.OnceFitting.{knowing}
 use Rattle.run_once.proofs.once.Once.new_completed.Goals as goal
 
@@ -6,3 +7,7 @@ pub returns-then-complete-clause-stays : goal.returns-then-complete-clause-stays
 returns-then-complete-clause-stays c = let n = c.in_ok-once.once.word.number in let drawn = c.new.ensures.token in
     let done = c.complete.ensures.done c.if-complete.true in
     (n, (c.complete.ensures.token.1 ∙ drawn.1, (suc done.0, done.1 ∙ ap (knowing n (suc done.0)) drawn.2)))
+
+pub returns-else-complete-clause-made : goal.returns-else-complete-clause-made
+returns-else-complete-clause-made c = let missed = c.complete.ensures.missed c.if-complete.false in
+    inr (refl, inr (c.in_ok-once.once.word, c.new.new.token, c.in_ok-once.ensures.drawn, missed.0))
