@@ -5,12 +5,14 @@ use lib.ListN.{get_elem?}
 use Rattle.atomic_table.specs.Table.{Splits, Joins}
 use Rattle.atomic_table.proofs.Lists.{at_set, at_snoc}
 use Rattle.lot_words.specs.Views.{blank, total, owned, counted, steps_at, drew}
-use Rattle.lot_words.specs.Plays.{left_over, piece, takes_in}
+use Rattle.lot_words.specs.Plays.{goes_on_with, left_over, piece, takes_in}
 use Rattle.lot_words.specs.Rule.{LotRule}
 use Rattle.lot_words.specs.Steps.{has}
 use Rattle.lot_words.specs.declared.owners.Owner.{Owner}
 use Rattle.lot_words.specs.declared.owners.Ownership.{Ownership}
+use Rattle.lot_words.specs.declared.views.Drawn.{Drawn}
 use Rattle.lot_words.specs.declared.views.View.{View}
+use Rattle.lot_words.specs.declared.views.WordStep.{WordStep}
 use Rattle.lot_words.proofs.Keeps.{reseated}
 use Rattle.lot_words.proofs.PermitSteps.{set_else}
 use Rattle.lot_words.proofs.Totals.{total-append, total-set}
@@ -82,7 +84,11 @@ takes_back words family id v other x w is = subst (λ (u : View). Joins (LotRule
     (joins words family id v other (piece x) (takes_in v (piece x))
     (record { names = λ r weight. omega arith; says = λ r. omega arith; did = λ r. omega arith; drawn = λ weight. omega arith }) (inl (omega arith)))
 
--- the seat of an ownership takes in all that another has done and owns
-pub takes_all : (words family id : ℕ) (x : Ownership) (other : ℕ) (v : View) → Joins (LotRule words family) id (piece x) other v (takes_in v (piece x)) blank
-takes_all words family id x other v = joins words family id (piece x) other v (takes_in v (piece x))
-    (record { names = λ r weight. omega arith; says = λ r. omega arith; did = λ r. omega arith; drawn = λ weight. omega arith }) (inr (omega arith))
+-- what another seat, which drew nothing, has done and owns comes to a seat
+pub goes_on : (words family id : ℕ) (v : View) (other : ℕ) (w : View) → w.drawn ≡ [] → Joins (LotRule words family) id v other w (goes_on_with v w) blank
+goes_on words family id v other w none = joins words family id v other w (goes_on_with v w) (record {
+  names = λ r weight. omega (arith, total-append (λ (y : Ownership). cond (eqb y.at r) (weight y.owner) 0) w.owns v.owns);
+  says = λ r. omega (arith, total-append (λ (y : Ownership). cond (eqb y.at r) y.count 0) w.owns v.owns);
+  did = λ r. sym (total-append (λ (step : WordStep). cond (eqb step.at r) 1 0) v.steps w.steps);
+  drawn = λ weight. omega (arith, ap (total (λ (word : Drawn). weight word.number)) none);
+}) (inl (omega arith))

@@ -99,6 +99,10 @@ without_front v = view v.steps (all_but_front v.owns) v.drawn v.saw
 abbrev pub takes_in : View → View → View
 takes_in v w = view v.steps (w.owns ++ v.owns) v.drawn v.saw
 
+-- a view goes on with what another, which drew nothing, has done and owns
+abbrev pub goes_on_with : View → View → View
+goes_on_with v w = view (v.steps ++ w.steps) (w.owns ++ v.owns) v.drawn v.saw
+
 -- a view with one step more, which trades nothing
 abbrev pub stepping : View → ℕ → Op → ℕ → View
 stepping v at op found = view (listed v at op found) v.owns v.drawn v.saw

@@ -4,7 +4,6 @@ use Rattle.lot_words.specs.Indices.{word_index}
 use Rattle.lot_words.specs.Lots.{IsSeatOf, IsWordOf, permit_of}
 use Rattle.atomic_table.specs.declared.shared.Seat.{Seat}
 use Rattle.lot_words.specs.Permits.{bare, slot_at}
-use Rattle.lot_words.specs.Plays.{takes_in}
 use Rattle.lot_words.specs.Rights.{MayHand, permits_handed, piece_of}
 use Rattle.lot_words.specs.declared.owners.Owner.{Owner}
 use Rattle.lot_words.specs.declared.owners.Owner.TheVariants.{Opened}
@@ -35,7 +34,7 @@ abbrev pub IsOpenOf : LotWords → Word → OpenHeld → Type 0
 IsOpenOf lot word opened =
     IsSeatOf lot opened.seat × (opened.seat.me ≡ (piece_of word Opened, (word_index word.number word.kind, bare) ∷ []))
 
--- a seat that owns a mutex of the lot first, whose permit lies in the slot that is out with it
+-- the seat of a mutex's owner, whose permit lies in the slot that is out with it
 abbrev pub HasAtHand : LotWords → Word → Seat PermitSlot View → Type 0
 HasAtHand lot word seat = let at = word_index word.number word.kind in
-    (v : View) × (seat.me ≡ (takes_in v (piece_of word Opened), (at, slot_at lot.table.shared.key.1.family at) ∷ []))
+    seat.me ≡ (piece_of word Opened, (at, slot_at lot.table.shared.key.1.family at) ∷ [])

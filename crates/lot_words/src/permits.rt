@@ -3,9 +3,9 @@ ghost use Rattle.std.specs.Prelude.{◌≡◌, ◌≢◌, ◌⊎◌, ◌%◌, []
 ghost use Rattle.lot_base.specs.declared.ops.Op.TheVariants.{Exchange, Or, Sub};
 ghost use Rattle.lot_words.specs.Indices.{word_index};
 ghost use Rattle.lot_words.specs.Permits.{bare, slot_at};
-ghost use Rattle.lot_words.specs.Plays.{piece, stepping, takes_in, without_front};
+ghost use Rattle.lot_words.specs.Plays.{goes_on_with, piece, stepping, takes_in, without_front};
 ghost use Rattle.lot_words.specs.Rights.{leaving_alone, piece_of};
-ghost use Rattle.lot_words.specs.Views.{owning};
+ghost use Rattle.lot_words.specs.Views.{blank, owning};
 ghost use Rattle.lot_words.specs.declared.owners.Owner.TheVariants.{Exclusive, Opened};
 ghost use Rattle.lot_words.specs.declared.views.View.{View};
 ghost use Rattle.lot_words.specs.declared.words.WordKind.TheVariants.{Mutex};
@@ -79,21 +79,26 @@ impl LotWords {
         (OpenHeld { seat: opened }, slot.into_permit())
     }
 
-    // Of a seat that is about to leave: it takes in all that the thread's other seat has done and owns, and the permit lies in the slot.
+    // Of an owner that is about to leave: the permit lies in the slot that is out with its seat.
     #[inline]
-    fn lay_open(&self, seat: &mut Seat, word: Word, opened: OpenHeld, permit: Permit)
-        requires own { IsSeatOf self.now seat.old × IsWordOf self.now word × (seat.old.me.1 ≡ []) }
-        requires opened { IsOpenOf self.now word opened × (permit.id ≡ permit_of self.now word) }
-        ensures { IsSeatOf self.now seat.new × (seat.new.me ≡ (
-          takes_in seat.old.me.0 (piece_of word Opened),
-          (word_index word.number word.kind, slot_at self.now.table.shared.key.1.family (word_index word.number word.kind)) ∷ [],
-        )) }
+    fn lay_open(&self, owner: &mut Seat, word: Word, permit: Permit)
+        requires own { IsSeatOf self.now owner.old × IsWordOf self.now word × (permit.id ≡ permit_of self.now word) }
+        requires opened { owner.old.me ≡ (piece_of word Opened, (word_index word.number word.kind, bare) ∷ []) }
+        ensures { IsSeatOf self.now owner.new × HasAtHand self.now word owner.new }
     {
-        let OpenHeld { seat: owner } = opened;
-        let other = mem::replace(seat, owner);
         let words = &self.table.shared;
-        words.join_seat::<GoesOn>(seat, other);
-        drop(words.exchange(seat, word.index(), permit.into_slot()));
+        drop(words.exchange(owner, word.index(), permit.into_slot()));
+    }
+
+    // The owner has left by a step of its own seat. What that has done, and owns still, goes to the thread: behind the step, so that
+    // it doesn't wait for the load.
+    #[inline]
+    fn go_on(&self, seat: &mut Seat, owner: Seat)
+        requires own { IsSeatOf self.now seat.old × IsSeatOf self.now owner × (seat.old.me.1 ≡ []) × (owner.me.1 ≡ []) }
+        requires left { owner.me.0.drawn ≡ [] }
+        ensures { IsSeatOf self.now seat.new × (seat.new.me ≡ (goes_on_with seat.old.me.0 owner.me.0, [])) }
+    {
+        self.table.shared.join_seat::<GoesOn>(seat, owner);
     }
 
     // The steps that enter and leave, in which the pick says whose permit it is.
@@ -146,31 +151,31 @@ impl LotWords {
     }
 
     #[inline]
-    fn leave_picked<P: PermitPick>(&self, seat: &mut Seat, word: Word) -> u64
+    fn leave_picked<P: PermitPick>(&self, owner: &mut Seat, word: Word) -> u64
         requires pick { P.at ≡ word_index word.number word.kind }
-        requires own { IsSeatOf self.now seat.old × IsWordOf self.now word × (word.kind ≡ Mutex) }
-        requires laid { HasAtHand self.now word seat.old }
-        ensures own { IsSeatOf self.now seat.new × (seat.new.me.1 ≡ []) }
-        ensures stepped { seat.new.me.0 ≡ stepping (without_front seat.old.me.0) (word_index word.number word.kind) (Sub 1) result }
+        requires own { IsSeatOf self.now owner.old × IsWordOf self.now word × (word.kind ≡ Mutex) }
+        requires laid { HasAtHand self.now word owner.old }
+        ensures own { IsSeatOf self.now owner.new }
+        ensures left { owner.new.me ≡ (stepping blank (word_index word.number word.kind) (Sub 1) result, []) }
         ensures coded { (result ≡ 1) ⊎ (result ≡ 3) }
     {
         self.table
             .shared
-            .fetch_sub::<LeavesOpen<P>>(seat, word.index(), 1)
+            .fetch_sub::<LeavesOpen<P>>(owner, word.index(), 1)
     }
 
     #[inline]
-    fn leave_alone_picked<P: PermitPick>(&self, seat: &mut Seat, word: Word) -> u64
+    fn leave_alone_picked<P: PermitPick>(&self, owner: &mut Seat, word: Word) -> u64
         requires pick { P.at ≡ word_index word.number word.kind }
-        requires own { IsSeatOf self.now seat.old × IsWordOf self.now word × (word.kind ≡ Mutex) }
-        requires laid { HasAtHand self.now word seat.old }
-        ensures own { IsSeatOf self.now seat.new × (seat.new.me.1 ≡ []) }
-        ensures stepped { seat.new.me.0 ≡ leaving_alone (without_front seat.old.me.0) word result }
+        requires own { IsSeatOf self.now owner.old × IsWordOf self.now word × (word.kind ≡ Mutex) }
+        requires laid { HasAtHand self.now word owner.old }
+        ensures own { IsSeatOf self.now owner.new }
+        ensures left { owner.new.me ≡ (leaving_alone blank word result, []) }
         ensures coded { (result ≡ 1) ⊎ (result ≡ 3) }
     {
         self.table
             .shared
-            .compare_exchange::<LeavesAlone<P>>(seat, word.index(), 1, 0)
+            .compare_exchange::<LeavesAlone<P>>(owner, word.index(), 1, 0)
     }
 
     /// Takes a mutex that nobody has, and the permit of its value with the same step. Else it answers what the step saw.
@@ -207,8 +212,11 @@ impl LotWords {
         ensures stepped { seat.new.me.0 ≡ stepping seat.old.me.0 (word_index word.number word.kind) (Sub 1) result }
         ensures coded { (result ≡ 1) ⊎ (result ≡ 3) }
     {
-        self.lay_open(seat, word, opened, permit);
-        self.leave_picked::<Brand>(seat, word)
+        let OpenHeld { seat: mut owner } = opened;
+        self.lay_open(&mut owner, word, permit);
+        let seen = self.leave_picked::<Brand>(&mut owner, word);
+        self.go_on(seat, owner);
+        seen
     }
 
     /// The same where nobody waits. Where somebody does, the seat owns the mutex, closed.
@@ -226,8 +234,11 @@ impl LotWords {
         ensures stepped { seat.new.me.0 ≡ leaving_alone seat.old.me.0 word result }
         ensures coded { (result ≡ 1) ⊎ (result ≡ 3) }
     {
-        self.lay_open(seat, word, opened, permit);
-        self.leave_alone_picked::<Brand>(seat, word)
+        let OpenHeld { seat: mut owner } = opened;
+        self.lay_open(&mut owner, word, permit);
+        let seen = self.leave_alone_picked::<Brand>(&mut owner, word);
+        self.go_on(seat, owner);
+        seen
     }
 
     /// Takes the permit out of the value that a mutex guards, for who owns the mutex. It loads a word, which is no step of a call.

@@ -2,7 +2,7 @@
 ghost use Rattle.std.specs.Prelude.{ℕ, [], List};
 ghost use Rattle.lot_words.specs.Rule.{LotRule};
 ghost use Rattle.lot_words.specs.Views.{blank, owning};
-ghost use Rattle.lot_words.specs.Plays.{loads, stores, swaps, adds, subs, ors, saw_set, sees_shown, ands, exchanges, looks, draws, left_over, without_front, piece, takes_in, opens, closes, enters_open, IsAny, IsEven, IsOne, IsZero, leaves_open, sees_locked};
+ghost use Rattle.lot_words.specs.Plays.{loads, stores, swaps, adds, subs, ors, saw_set, sees_shown, ands, exchanges, looks, draws, left_over, without_front, piece, takes_in, goes_on_with, opens, closes, enters_open, IsAny, IsEven, IsOne, IsZero, leaves_open, sees_locked};
 ghost use Rattle.lot_base.specs.declared.ops.Op.TheVariants.{Exchange, Or, Sub};
 ghost use Rattle.lot_words.specs.declared.owners.Ownership.{Ownership};
 ghost use Rattle.lot_words.specs.declared.owners.Owner.TheVariants.{Exclusive, Opened};
@@ -258,11 +258,11 @@ impl<P: PermitPick> Split<View> for KeepsOpen<P> {
     ghost right = { without_front };
 }
 
-/// A seat takes in all that another has done and owns.
+/// A seat goes on with what another has done and owns.
 pub struct GoesOn;
 
 impl Join<View> for GoesOn {
-    ghost both = { λ v w. takes_in w v };
+    ghost both = { goes_on_with };
 
     ghost spent = { blank };
 }
