@@ -82,10 +82,10 @@ impl<R: RawCondvar> Condvar<R> {
         ensures guard { GivesBack result (λ back. lock_of back ≡ lock_of guard.entry) }
         ensures path { R.waited self.now (lock_of guard.entry) false (waiting_answer result) token.old token.new }
     {
-        let (mutex, guard) = guard.close();
+        let (mutex, lot, guard) = guard.close();
         match self.raw.wait(rt, token, mutex.raw(), guard) {
-            Ok(guard) => Ok(mutex.open(guard)),
-            Err((fault, guard)) => Err((fault, mutex.open(guard))),
+            Ok(guard) => Ok(mutex.open(lot, guard)),
+            Err((fault, guard)) => Err((fault, mutex.open(lot, guard))),
         }
     }
 

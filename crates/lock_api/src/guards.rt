@@ -20,22 +20,24 @@ impl<'a, R: RawMutex, T> Guarded<Taken<'a, R, T>, Open<'a, T>> {
     #[inline]
     pub(crate) fn new(
         mutex: &'a Mutex<R, T>,
+        lot: &'a R::Lot,
         opened: R::Opened,
         value: Open<'a, T>,
     ) -> MutexGuard<'a, R, T>
-        requires { R.is_opened_of mutex.now opened × (value.id ≡ R.permit_of mutex.now) }
+        requires { R.is_opened_of mutex.now opened × (lot.now ≡ R.lot_of mutex.now) × (value.id ≡ R.permit_of mutex.now) }
         ensures { lock_of result ≡ mutex.now }
     {
         Guarded {
-            taken: Taken::new(mutex, opened),
+            taken: Taken::new(mutex, lot, opened),
             value,
         }
     }
 
     // The value is closed, and the mutex is still taken.
     #[inline]
-    pub(crate) fn close(self) -> (&'a Mutex<R, T>, R::Guard)
-        ensures { (result.0.now ≡ lock_of self.entry) × R.is_guard_of (lock_of self.entry) result.1 }
+    pub(crate) fn close(self) -> (&'a Mutex<R, T>, &'a R::Lot, R::Guard)
+        ensures { (result.0.now ≡ lock_of self.entry) × (result.1.now ≡ R.lot_of (lock_of self.entry))
+            × R.is_guard_of (lock_of self.entry) result.2 }
     {
         let Guarded { taken, value } = self;
         taken.close(value)
@@ -49,9 +51,9 @@ impl<'a, R: RawMutex, T> Guarded<Taken<'a, R, T>, Open<'a, T>> {
         ensures path { R.walked (lock_of self.entry) Unlock answers.Ok token.old token.new }
         ensures record { R.released (lock_of self.entry) Unlock token.old token.new }
     {
-        let (mutex, guard) = self.close();
+        let (mutex, lot, guard) = self.close();
         let raw = mutex.raw();
-        if let Some(seen) = raw.begin_unlock(token, guard) {
+        if let Some(seen) = raw.begin_unlock(lot, token, guard) {
             raw.unlock_behind(rt, token, seen);
         }
     }
@@ -61,8 +63,8 @@ impl<'a, R: RawMutex, T> Guarded<Taken<'a, R, T>, Open<'a, T>> {
         requires token { R.is_token_of (R.lot_of (lock_of self)) token.old }
         requires mutex { lock_of other ≡ lock_of self }
     {
-        let (mutex, one) = self.close();
-        let (_, other) = other.close();
+        let (mutex, _, one) = self.close();
+        let (_, _, other) = other.close();
         mutex.raw().has_two_guards(token, one, other)
     }
 }
@@ -76,7 +78,7 @@ impl<'a, R: RawMutexFair, T> Guarded<Taken<'a, R, T>, Open<'a, T>> {
         ensures path { R.walked (lock_of self.entry) UnlockFair answers.Ok token.old token.new }
         ensures record { R.released (lock_of self.entry) UnlockFair token.old token.new }
     {
-        let (mutex, guard) = self.close();
+        let (mutex, _, guard) = self.close();
         mutex.raw().unlock_fair(rt, token, guard);
     }
 
@@ -88,8 +90,8 @@ impl<'a, R: RawMutexFair, T> Guarded<Taken<'a, R, T>, Open<'a, T>> {
         ensures guard { lock_of result ≡ lock_of self.entry }
         ensures path { R.walked (lock_of self.entry) Bump answers.Ok token.old token.new }
     {
-        let (mutex, guard) = self.close();
+        let (mutex, lot, guard) = self.close();
         let guard = mutex.raw().bump(rt, token, guard);
-        mutex.open(guard)
+        mutex.open(lot, guard)
     }
 }

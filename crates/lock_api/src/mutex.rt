@@ -83,22 +83,23 @@ impl<R: RawMutex, T> Mutex<R, T> {
         ensures guard { lock_of result ≡ self.now }
         ensures path { R.walked self.now Lock answers.Ok token.old token.new }
     {
+        let lot = self.raw.lot();
         // As `lock` of the raw one. It isn't called, since behind each call that may wait a flag is tested.
         let raw = match self.raw.begin_lock(token) {
             Ok(raw) => raw,
             Err(seen) => self.raw.lock_behind(rt, token, seen),
         };
-        self.open(raw)
+        self.open(lot, raw)
     }
 
     // The guard of who has the raw one.
     #[inline]
-    pub(crate) fn open(&self, raw: R::Guard) -> MutexGuard<'_, R, T>
-        requires { R.is_guard_of self.now raw }
+    pub(crate) fn open<'a>(&'a self, lot: &'a R::Lot, raw: R::Guard) -> MutexGuard<'a, R, T>
+        requires { R.is_guard_of self.now raw × (lot.now ≡ R.lot_of self.now) }
         ensures { lock_of result ≡ self.now }
     {
         let (opened, permit) = self.raw.open_value(raw);
-        MutexGuard::new(self, opened, self.place.open(permit))
+        MutexGuard::new(self, lot, opened, self.place.open(permit))
     }
 
     /// Takes the mutex where nobody has it.
@@ -109,8 +110,9 @@ impl<R: RawMutex, T> Mutex<R, T> {
         ensures guard { IfSome result (λ guard. lock_of guard ≡ self.now) }
         ensures path { R.walked self.now TryLock (answer_by result) token.old token.new }
     {
+        let lot = self.raw.lot();
         let raw = self.raw.try_lock(token)?;
-        Some(self.open(raw))
+        Some(self.open(lot, raw))
     }
 
     /// Whether somebody has the mutex.
@@ -176,8 +178,9 @@ impl<R: RawMutexTimed, T> Mutex<R, T> {
         ensures path { R.walked self.now LockTimed (answer_by result) token.old token.new }
         ensures late { IfNone result (HasElapsed (C.tells clock.now) (as_nanos timeout)) }
     {
+        let lot = self.raw.lot();
         let raw = self.raw.try_lock_for(rt, token, clock, timeout)?;
-        Some(self.open(raw))
+        Some(self.open(lot, raw))
     }
 
     /// Waits until nobody has the mutex, and takes it. None only where the clock, in nanoseconds, had come to the deadline.
@@ -195,8 +198,9 @@ impl<R: RawMutexTimed, T> Mutex<R, T> {
         ensures path { R.walked self.now LockTimed (answer_by result) token.old token.new }
         ensures late { IfNone result (HasPassed (C.tells clock.now) deadline) }
     {
+        let lot = self.raw.lot();
         let raw = self.raw.try_lock_until(rt, token, clock, deadline)?;
-        Some(self.open(raw))
+        Some(self.open(lot, raw))
     }
 }
 

@@ -10,7 +10,10 @@ use value_place::Open;
 /// A mutex, with the raw guard of who has taken it. The raw guard comes out only for a value that is closed then.
 pub struct Taken<'a, R: RawMutex, T> {
     mutex: &'a Mutex<R, T>,
+    // That of the mutex. It is kept, so that the atomic step which gives the mutex up doesn't wait until it is found.
+    lot: &'a R::Lot,
     opened: R::Opened,
+    ghost met: { lot.now ≡ R.lot_of mutex.now },
     ghost owned: { R.is_opened_of mutex.now opened } by { R.opened_once mutex.now opened },
 }
 
@@ -27,21 +30,21 @@ impl<R: RawMutex, T> Keeps for Taken<'_, R, T> {
 
 impl<'a, R: RawMutex, T> Taken<'a, R, T> {
     #[inline]
-    pub(crate) fn new(mutex: &'a Mutex<R, T>, opened: R::Opened) -> Taken<'a, R, T>
-        requires { R.is_opened_of mutex.now opened }
+    pub(crate) fn new(mutex: &'a Mutex<R, T>, lot: &'a R::Lot, opened: R::Opened) -> Taken<'a, R, T>
+        requires { R.is_opened_of mutex.now opened × (lot.now ≡ R.lot_of mutex.now) }
         ensures { result ≡ mutex.now }
     {
-        Taken { mutex, opened }
+        Taken { mutex, lot, opened }
     }
 
     // Closes the value, and only then gives up what says that it is open.
     #[inline]
-    pub(crate) fn close(self, value: Open<'_, T>) -> (&'a Mutex<R, T>, R::Guard)
+    pub(crate) fn close(self, value: Open<'_, T>) -> (&'a Mutex<R, T>, &'a R::Lot, R::Guard)
         requires { value.id ≡ R.permit_of self }
-        ensures { (result.0.now ≡ self.entry) × R.is_guard_of self.entry result.1 }
+        ensures { (result.0.now ≡ self.entry) × (result.1.now ≡ R.lot_of self.entry) × R.is_guard_of self.entry result.2 }
     {
-        let Taken { mutex, opened } = self;
+        let Taken { mutex, lot, opened } = self;
         let permit = value.close();
-        (mutex, mutex.raw().close_value(opened, permit))
+        (mutex, lot, mutex.raw().close_value(opened, permit))
     }
 }

@@ -109,13 +109,13 @@ impl<R: RawCondvarTimed> Condvar<R> {
         ensures path { R.waited self.now (lock_of guard.entry) true (timed_answer result) token.old token.new }
         ensures late { IsLate result (HasElapsed (C.tells clock.now) (as_nanos timeout)) }
     {
-        let (mutex, guard) = guard.close();
+        let (mutex, lot, guard) = guard.close();
         match self
             .raw()
             .wait_for(rt, token, mutex.raw(), guard, clock, timeout)
         {
-            Ok((guard, timed_out)) => Ok((mutex.open(guard), WaitTimeoutResult { timed_out })),
-            Err((fault, guard)) => Err((fault, mutex.open(guard))),
+            Ok((guard, timed_out)) => Ok((mutex.open(lot, guard), WaitTimeoutResult { timed_out })),
+            Err((fault, guard)) => Err((fault, mutex.open(lot, guard))),
         }
     }
 
@@ -140,13 +140,13 @@ impl<R: RawCondvarTimed> Condvar<R> {
         ensures path { R.waited self.now (lock_of guard.entry) true (timed_answer result) token.old token.new }
         ensures late { IsLate result (HasPassed (C.tells clock.now) deadline) }
     {
-        let (mutex, guard) = guard.close();
+        let (mutex, lot, guard) = guard.close();
         match self
             .raw()
             .wait_until(rt, token, mutex.raw(), guard, clock, deadline)
         {
-            Ok((guard, timed_out)) => Ok((mutex.open(guard), WaitTimeoutResult { timed_out })),
-            Err((fault, guard)) => Err((fault, mutex.open(guard))),
+            Ok((guard, timed_out)) => Ok((mutex.open(lot, guard), WaitTimeoutResult { timed_out })),
+            Err((fault, guard)) => Err((fault, mutex.open(lot, guard))),
         }
     }
 

@@ -140,9 +140,21 @@ pub trait RawMutex {
         ensures over { (before : Self.Token) → begun self.now Lock seen before token.old
             → stays before token.new × walked self.now Lock answers.Ok before token.new };
 
+    /// The lot of the mutex.
+    fn lot(&self) -> &Self::Lot
+        ensures { result.now ≡ lot_of self.now };
+
     /// The first step of `unlock`, which spends the guard. It answers what it saw where the call has more to do, which is
     /// `unlock_behind`.
-    fn begin_unlock(&self, token: &mut Self::Token, guard: Self::Guard) -> Option<u64>
+    ///
+    /// The lot is that of the mutex: who has kept it since the mutex was taken needn't look for it behind an atomic step.
+    fn begin_unlock(
+        &self,
+        lot: &Self::Lot,
+        token: &mut Self::Token,
+        guard: Self::Guard,
+    ) -> Option<u64>
+        requires lot { lot.now ≡ lot_of self.now }
         requires token { is_token_of (lot_of self.now) token.old }
         requires guard { is_guard_of self.now guard }
         ensures token { is_token_of (lot_of self.now) token.new }

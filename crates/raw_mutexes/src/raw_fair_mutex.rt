@@ -129,8 +129,13 @@ impl lock_raw::RawMutex for RawFairMutex {
     }
 
     #[inline]
-    fn begin_unlock(&self, token: &mut Token, guard: RawGuard) -> Option<u64> {
-        self.raw.begin_unlock_fair(token, guard)
+    fn lot(&self) -> &ParkingLot {
+        lock_raw::RawMutex::lot(&self.raw)
+    }
+
+    #[inline]
+    fn begin_unlock(&self, lot: &ParkingLot, token: &mut Token, guard: RawGuard) -> Option<u64> {
+        self.raw.begin_unlock_fair(lot, token, guard)
     }
 
     fn unlock_behind<R: Wait>(&self, rt: &R, token: &mut Token, seen: u64) {

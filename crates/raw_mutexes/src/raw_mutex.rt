@@ -79,7 +79,13 @@ impl RawMutex {
 
     // The first step of a fair release. What it saw, where the thread still owns the mutex.
     #[inline]
-    pub(crate) fn begin_unlock_fair(&self, token: &mut Token, guard: RawGuard) -> Option<u64>
+    pub(crate) fn begin_unlock_fair(
+        &self,
+        lot: &ParkingLot,
+        token: &mut Token,
+        guard: RawGuard,
+    ) -> Option<u64>
+        requires lot { lot.now ≡ lot_of self.now }
         requires own { IsTokenOf (lot_of self.now) token.old × IsGuardOf (lot_of self.now) (word_of self.now) guard }
         ensures token { IsTokenOf (lot_of self.now) token.new }
         ensures over { IfNone result (StaysAs token.old token.new
@@ -88,7 +94,7 @@ impl RawMutex {
         ensures begun { IfSome result (λ seen. HasBegun (word_of self.now).number UnlockFair seen token.old token.new) }
     {
         let RawGuard { opened, permit } = guard;
-        let seen = self.lot.leave_open_alone(token, self.word, opened, permit);
+        let seen = lot.leave_open_alone(token, self.word, opened, permit);
         if seen == LOCKED {
             return None;
         }
@@ -264,7 +270,7 @@ impl lock_raw::RawMutex for RawMutex {
 
     #[inline]
     fn unlock<R: Wait>(&self, rt: &R, token: &mut Token, guard: RawGuard) {
-        if let Some(seen) = self.begin_unlock(token, guard) {
+        if let Some(seen) = self.begin_unlock(&self.lot, token, guard) {
             self.unlock_behind(rt, token, seen);
         }
     }
@@ -302,10 +308,15 @@ impl lock_raw::RawMutex for RawMutex {
     }
 
     #[inline]
-    fn begin_unlock(&self, token: &mut Token, guard: RawGuard) -> Option<u64> {
+    fn lot(&self) -> &ParkingLot {
+        &self.lot
+    }
+
+    #[inline]
+    fn begin_unlock(&self, lot: &ParkingLot, token: &mut Token, guard: RawGuard) -> Option<u64> {
         let RawGuard { opened, permit } = guard;
         // An owner finds one of two values. The flags of the subtraction tell them apart, so the value isn't asked for.
-        if self.lot.leave_open(token, self.word, opened, permit) == LOCKED {
+        if lot.leave_open(token, self.word, opened, permit) == LOCKED {
             return None;
         }
         Some(LOCKED | PARKED)
@@ -328,7 +339,7 @@ impl lock_raw::RawMutex for RawMutex {
 impl lock_raw::RawMutexFair for RawMutex {
     #[inline]
     fn unlock_fair<R: Wait>(&self, rt: &R, token: &mut Token, guard: RawGuard) {
-        if let Some(seen) = self.begin_unlock_fair(token, guard) {
+        if let Some(seen) = self.begin_unlock_fair(&self.lot, token, guard) {
             self.unlock_fair_behind(rt, token, seen);
         }
     }
