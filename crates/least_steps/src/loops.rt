@@ -18,15 +18,46 @@ fn wait<R: Wait>(rt: &R, lock: &LeastLock) {
     }
 }
 
-/// Looks at the word, as a completed `Once` is called.
+// As a `Once` is called that is done. It may wait, as each of these may.
+#[inline]
+fn look<R: Wait>(rt: &R, lock: &LeastLock, seat: &mut Seat<(), ()>)
+    requires { IsSeatOf lock.now seat.old }
+    ensures { IsSeatOf lock.now seat.new }
+{
+    if lock.load(seat) != 0 {
+        wait(rt, lock);
+    }
+}
+
+// As a lock is taken.
+#[inline]
+fn take<R: Wait>(rt: &R, lock: &LeastLock, seat: &mut Seat<(), ()>)
+    requires { IsSeatOf lock.now seat.old }
+    ensures { IsSeatOf lock.now seat.new }
+{
+    if !lock.take(seat) {
+        wait(rt, lock);
+    }
+}
+
+// And given up.
+#[inline]
+fn give<R: Wait>(rt: &R, lock: &LeastLock, seat: &mut Seat<(), ()>)
+    requires { IsSeatOf lock.now seat.old }
+    ensures { IsSeatOf lock.now seat.new }
+{
+    if !lock.give(seat) {
+        wait(rt, lock);
+    }
+}
+
+/// Looks at the word.
 #[inline(never)]
 pub(crate) fn look_often<R: Wait>(rt: &R, lock: &LeastLock, seat: &mut Seat<(), ()>, times: u64)
     requires { IsSeatOf lock.now seat.old }
 {
     for _ in 0..times {
-        if lock.load(seat) != 0 {
-            wait(rt, lock);
-        }
+        look(rt, lock, seat);
     }
 }
 
@@ -36,28 +67,20 @@ pub(crate) fn take_often<R: Wait>(rt: &R, lock: &LeastLock, seat: &mut Seat<(), 
     requires { IsSeatOf lock.now seat.old }
 {
     for _ in 0..times {
-        if !lock.take(seat) {
-            wait(rt, lock);
-        }
-        if !lock.give(seat) {
-            wait(rt, lock);
-        }
+        take(rt, lock, seat);
+        give(rt, lock, seat);
     }
 }
 
-/// Takes the lock, as what its guard has apart from the thread, and gives it up.
+/// The same, and what the guard has apart from its thread is split off and joined.
 #[inline(never)]
 pub(crate) fn hold_often<R: Wait>(rt: &R, lock: &LeastLock, seat: &mut Seat<(), ()>, times: u64)
     requires { IsSeatOf lock.now seat.old }
 {
     for _ in 0..times {
-        if !lock.take(seat) {
-            wait(rt, lock);
-        }
+        take(rt, lock, seat);
         let owner = lock.split(seat);
+        give(rt, lock, seat);
         lock.join(seat, owner);
-        if !lock.give(seat) {
-            wait(rt, lock);
-        }
     }
 }
