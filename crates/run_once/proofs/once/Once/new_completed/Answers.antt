@@ -1,5 +1,4 @@
-use Rattle.std.specs.Prelude.{inr}
-use Rattle.std.proofs.Common.{suc, ◌∙◌, ap, refl}
+use Rattle.std.proofs.Common.{suc, ◌∙◌, ap, inr, refl}
 use Rattle.lot_driver.specs.OnceFitting.{knowing}
 use Rattle.run_once.proofs.once.Once.new_completed.Goals as goal
 
