@@ -98,7 +98,8 @@ impl LotRwLock {
     }
 
     #[inline(always)]
-    fn split(&self, token: &mut Token, want: Want) -> Held
+    fn split(&self, lot: &ParkingLot, token: &mut Token, want: Want) -> Held
+        requires lot { lot.now ≡ lot_in self.now }
         requires own { IsTokenOf (lot_in self.now) token.old }
         requires held { has (owning (rwlock_at (word_in self.now).number) (owner_for want)) (owns_of token.old) ≡ true }
         ensures own { IsSameThread (lot_in self.now) token.old token.new × (last_of token.new ≡ last_of token.old) }
@@ -106,19 +107,20 @@ impl LotRwLock {
             ≡ left_over (owning (rwlock_at (word_in self.now).number) (owner_for want)) (view_of token.old) }
         ensures right { IsRwLockRight (lot_in self.now) (word_in self.now) (owner_for want) result }
     {
-        self.lot.split_held(token, self.word, want)
+        lot.split_held(token, self.word, want)
     }
 
     // Spends a right: the token owns it then.
     #[inline(always)]
-    fn join(&self, token: &mut Token, want: Want, right: Held)
+    fn join(&self, lot: &ParkingLot, token: &mut Token, want: Want, right: Held)
+        requires lot { lot.now ≡ lot_in self.now }
         requires own { IsTokenOf (lot_in self.now) token.old }
         requires right { IsRwLockRight (lot_in self.now) (word_in self.now) (owner_for want) right }
         ensures own { IsSameThread (lot_in self.now) token.old token.new × (last_of token.new ≡ last_of token.old) }
         ensures joined { view_of token.new
             ≡ takes_in (view_of token.old) (piece (owning (rwlock_at (word_in self.now).number) (owner_for want))) }
     {
-        self.lot.join_held(token, self.word, want, right);
+        lot.join_held(token, self.word, want, right);
     }
 
     /// Waits for a right: for ever, up to the limit, or not at all. None only where a try finds the lock blocked, or the time is up.
@@ -149,9 +151,10 @@ impl LotRwLock {
         ensures left { IfOk result (λ entered. IfNone entered
             (GaveUp (word_in self.now).number (admission_in self.now) (Enter access patience) token.new)) }
     {
+        let lot: &ParkingLot = &self.lot;
         let answer = call(
             rt,
-            &self.lot,
+            lot,
             token,
             &self.word,
             &self.admission,
@@ -159,7 +162,7 @@ impl LotRwLock {
             RwLockPurpose::Enter { access, patience },
         );
         match answer {
-            Answer::Ok | Answer::Yes => Ok(Some(self.split(token, wanted(access)))),
+            Answer::Ok | Answer::Yes => Ok(Some(self.split(lot, token, wanted(access)))),
             Answer::No => Ok(None),
             _ => Err(Fault::ReadersFull),
         }
@@ -174,9 +177,10 @@ impl LotRwLock {
         ensures path { HasWalkedRwLock (word_in self.now).number (admission_in self.now) (Enter access.Exclusive Try)
             (answer_by result) token.old token.new }
     {
-        let seen = self.lot.word(token, self.word, ENTER);
+        let lot: &ParkingLot = &self.lot;
+        let seen = lot.word(token, self.word, ENTER);
         if seen == 0 {
-            return Some(self.split(token, Want::Exclusive));
+            return Some(self.split(lot, token, Want::Exclusive));
         }
         None
     }
@@ -190,10 +194,11 @@ impl LotRwLock {
         ensures path { HasWalkedRwLock (word_in self.now).number (admission_in self.now) (Release access) ok token.old token.new }
         ensures record { WakesBy (word_in self.now).number (admission_in self.now) (Release access) token.old token.new }
     {
-        self.join(token, wanted(access), right);
+        let lot: &ParkingLot = &self.lot;
+        self.join(lot, token, wanted(access), right);
         call(
             rt,
-            &self.lot,
+            lot,
             token,
             &self.word,
             &self.admission,
@@ -212,8 +217,9 @@ impl LotRwLock {
             (fair_calls.ReleaseFair access.Exclusive) ok token.old token.new }
         ensures record { ReleasesFairly (word_in self.now).number (admission_in self.now) access.Exclusive token.old token.new }
     {
-        self.join(token, Want::Exclusive, right);
-        release_exclusive(rt, &self.lot, token, &self.word, &self.admission);
+        let lot: &ParkingLot = &self.lot;
+        self.join(lot, token, Want::Exclusive, right);
+        release_exclusive(rt, lot, token, &self.word, &self.admission);
     }
 
     /// Gives the upgradable right up, and hands the lock to those who wait.
@@ -225,8 +231,9 @@ impl LotRwLock {
             (fair_calls.ReleaseFair access.Upgradable) ok token.old token.new }
         ensures record { ReleasesFairly (word_in self.now).number (admission_in self.now) access.Upgradable token.old token.new }
     {
-        self.join(token, Want::Upgradable, right);
-        release_upgradable(rt, &self.lot, token, &self.word, &self.admission);
+        let lot: &ParkingLot = &self.lot;
+        self.join(lot, token, Want::Upgradable, right);
+        release_upgradable(rt, lot, token, &self.word, &self.admission);
     }
 
     /// Gives a right up where others wait for it, and waits for it again.
@@ -253,9 +260,10 @@ impl LotRwLock {
         ensures full { IfErr result
             (λ fault. SawFull (word_in self.now).number (admission_in self.now) access token.old token.new) }
     {
-        self.join(token, wanted(access), right);
-        match bump(rt, &self.lot, token, &self.word, &self.admission, access) {
-            Answer::Ok => Ok(self.split(token, wanted(access))),
+        let lot: &ParkingLot = &self.lot;
+        self.join(lot, token, wanted(access), right);
+        match bump(rt, lot, token, &self.word, &self.admission, access) {
+            Answer::Ok => Ok(self.split(lot, token, wanted(access))),
             _ => Err(Fault::ReadersFull),
         }
     }
@@ -278,17 +286,18 @@ impl LotRwLock {
         ensures record { WakesBy (word_in self.now).number (admission_in self.now)
             (purposes_of.Downgrade downgrade) token.old token.new }
     {
-        self.join(token, greater(downgrade), right);
+        let lot: &ParkingLot = &self.lot;
+        self.join(lot, token, greater(downgrade), right);
         call(
             rt,
-            &self.lot,
+            lot,
             token,
             &self.word,
             &self.admission,
             FOR_EVER,
             RwLockPurpose::Downgrade(downgrade),
         );
-        self.split(token, lesser(downgrade))
+        self.split(lot, token, lesser(downgrade))
     }
 
     /// Turns the upgradable right into the exclusive one: for ever, up to the limit, or not at all.
@@ -316,10 +325,11 @@ impl LotRwLock {
         ensures left { IfErr result (λ right. GaveUp (word_in self.now).number (admission_in self.now)
             (Upgrade patience) token.new) }
     {
-        self.join(token, Want::Upgradable, right);
+        let lot: &ParkingLot = &self.lot;
+        self.join(lot, token, Want::Upgradable, right);
         let answer = call(
             rt,
-            &self.lot,
+            lot,
             token,
             &self.word,
             &self.admission,
@@ -327,8 +337,8 @@ impl LotRwLock {
             RwLockPurpose::Upgrade(patience),
         );
         match answer {
-            Answer::No => Err(self.split(token, Want::Upgradable)),
-            _ => Ok(self.split(token, Want::Exclusive)),
+            Answer::No => Err(self.split(lot, token, Want::Upgradable)),
+            _ => Ok(self.split(lot, token, Want::Exclusive)),
         }
     }
 
@@ -357,8 +367,9 @@ impl LotRwLock {
         requires other { IsRwLockRight (lot_in self.now) (word_in self.now) (owner_for other_want) other }
         requires exclude { Exclude (owner_for want) (owner_for other_want) }
     {
-        self.join(token, want, one);
-        self.join(token, other_want, other);
+        let lot: &ParkingLot = &self.lot;
+        self.join(lot, token, want, one);
+        self.join(lot, token, other_want, other);
         self.load(token);
         unreachable!()
     }
