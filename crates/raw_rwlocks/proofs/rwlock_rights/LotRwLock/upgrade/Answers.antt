@@ -25,6 +25,7 @@ pub split-requires-in_default : goal.split-requires-in_default
 split-requires-in_default g c = let n = c.args.self.now.word.number in let owns = (view_of c.args.token.now).owns in
     let over = c.call-answer.ensures.over owns (begins_upgrading n c.args.patience owns (view_of c.join.new.token).owns (owners.Upgradable, owns, refl, (λ settled. refl), ap (λ (v : View). v.owns) c.join.ensures.joined)) in
     record {
+      lot = search rules;
       own = search rules;
       held = has_right n owners.Exclusive owns (view_of c.call-answer.new.token).owns (upgraded (IsUp g.C.Clock.tells c.args.limit.now) n owns c.args.self.now.admission c.args.patience c.call-answer.result (stage_of c.call-answer.new.token None) over c.in_default.not-No).1;
     }
