@@ -17,7 +17,12 @@ from locks import COLLECTED, OURS, THEIRS, build
 CRATE = os.path.join(os.path.dirname(os.path.abspath(__file__)), "..", "crates", "least_steps")
 LEAST = os.path.join(CRATE, "out", "least_steps")
 # Each loop, and the modes of `lotbench` that it is held against.
-LOOPS = {"look": ["once", "std_once", "notify"], "take": ["raw_mutex"], "hold": ["raw_mutex", "raw_write"]}
+LOOPS = {
+    "look": ["once", "std_once", "notify"],
+    "hold": ["raw_mutex", "mutex", "raw_write"],
+    "inner_read": ["read"],
+    "inner_write": ["write"],
+}
 # Ours has another name where the Rust program has two.
 OUR_NAME = {"std_once": "once"}
 

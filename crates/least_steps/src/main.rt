@@ -1,6 +1,7 @@
 //! Times the least that a lock over the kit's table of words can take, by one thread: what `lotbench` tells is held against it.
 #![tactic(auto)]
 
+mod inner;
 mod least;
 mod loops;
 mod start;

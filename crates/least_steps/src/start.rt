@@ -1,9 +1,10 @@
 //! What the program does for its arguments.
+use crate::inner::{read_often, write_often};
 use crate::least::LeastLock;
 use crate::loops::{hold_often, look_often, take_often};
 use std::alloc::Global;
 use std::io;
-use std::sync::Wait;
+use std::sync::{RwLock, Wait};
 use std::time::{Clock, Instant};
 
 /// The loop was timed, or there was none to time.
@@ -18,7 +19,7 @@ pub(crate) const NO_MEMORY: u8 = 3;
 /// The clock, a read or a write failed.
 pub(crate) const BROKEN: u8 = 4;
 
-const USAGE: &str = "usage: least_steps look|take|hold N";
+const USAGE: &str = "usage: least_steps look|take|hold|inner_read|inner_write N";
 
 // What a loop does so many times.
 #[derive(Clone, Copy)]
@@ -26,6 +27,8 @@ enum Mode {
     Look,
     Take,
     Hold,
+    InnerRead,
+    InnerWrite,
 }
 
 impl Mode {
@@ -34,6 +37,8 @@ impl Mode {
             "look" => Some(Mode::Look),
             "take" => Some(Mode::Take),
             "hold" => Some(Mode::Hold),
+            "inner_read" => Some(Mode::InnerRead),
+            "inner_write" => Some(Mode::InnerWrite),
             _ => None,
         }
     }
@@ -65,11 +70,14 @@ pub(crate) fn start<R: Wait + Clock + Print + Eprint>(
         eprintln!(rt; "least_steps: no memory")?;
         return Ok(NO_MEMORY);
     };
+    let inner = RwLock::new(0);
     let started = Instant::now(rt)?;
     match mode {
         Mode::Look => look_often(rt, &lock, &mut seat, times),
         Mode::Take => take_often(rt, &lock, &mut seat, times),
         Mode::Hold => hold_often(rt, &lock, &mut seat, times),
+        Mode::InnerRead => read_often(&inner, times),
+        Mode::InnerWrite => write_often(&inner, times),
     }
     let nanos = started.elapsed(rt)?.as_nanos();
     println!(rt; "{nanos}")?;
