@@ -19,7 +19,8 @@ LEAST = os.path.join(CRATE, "out", "least_steps")
 # Each loop, and the modes of `lotbench` that it is held against.
 LOOPS = {
     "look": ["once", "std_once", "notify"],
-    "hold": ["raw_mutex", "mutex", "raw_write"],
+    "hold": ["raw_mutex"],
+    "hold_told": ["raw_mutex", "mutex", "raw_write"],
     "inner_read": ["read"],
     "inner_write": ["write"],
 }

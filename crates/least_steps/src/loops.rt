@@ -51,6 +51,28 @@ fn give<R: Wait>(rt: &R, lock: &LeastLock, seat: &mut Seat<(), ()>)
     }
 }
 
+/// What a thread tells of its last section, until it steps again.
+#[derive(Drop)]
+pub(crate) struct Told {
+    pub(crate) is_told: bool,
+}
+
+impl Told {
+    // As a token forgets its last section.
+    #[inline]
+    fn forget(&mut self) {
+        if self.is_told {
+            self.clear();
+        }
+    }
+
+    #[cold]
+    #[inline(never)]
+    fn clear(&mut self) {
+        self.is_told = false;
+    }
+}
+
 /// Looks at the word.
 #[inline(never)]
 pub(crate) fn look_often<R: Wait>(rt: &R, lock: &LeastLock, seat: &mut Seat<(), ()>, times: u64)
@@ -80,6 +102,27 @@ pub(crate) fn hold_often<R: Wait>(rt: &R, lock: &LeastLock, seat: &mut Seat<(), 
     for _ in 0..times {
         take(rt, lock, seat);
         let owner = lock.split(seat);
+        give(rt, lock, seat);
+        lock.join(seat, owner);
+    }
+}
+
+/// The same, and each step asks whether a section is told.
+#[inline(never)]
+pub(crate) fn hold_told<R: Wait>(
+    rt: &R,
+    lock: &LeastLock,
+    seat: &mut Seat<(), ()>,
+    told: &mut Told,
+    times: u64,
+)
+    requires { IsSeatOf lock.now seat.old }
+{
+    for _ in 0..times {
+        told.forget();
+        take(rt, lock, seat);
+        let owner = lock.split(seat);
+        told.forget();
         give(rt, lock, seat);
         lock.join(seat, owner);
     }

@@ -1,7 +1,7 @@
 //! What the program does for its arguments.
 use crate::inner::{read_often, write_often};
 use crate::least::LeastLock;
-use crate::loops::{hold_often, look_often, take_often};
+use crate::loops::{Told, hold_often, hold_told, look_often, take_often};
 use std::alloc::Global;
 use std::io;
 use std::sync::{RwLock, Wait};
@@ -19,7 +19,7 @@ pub(crate) const NO_MEMORY: u8 = 3;
 /// The clock, a read or a write failed.
 pub(crate) const BROKEN: u8 = 4;
 
-const USAGE: &str = "usage: least_steps look|take|hold|inner_read|inner_write N";
+const USAGE: &str = "usage: least_steps look|take|hold|hold_told|inner_read|inner_write N";
 
 // What a loop does so many times.
 #[derive(Clone, Copy)]
@@ -27,6 +27,7 @@ enum Mode {
     Look,
     Take,
     Hold,
+    HoldTold,
     InnerRead,
     InnerWrite,
 }
@@ -37,6 +38,7 @@ impl Mode {
             "look" => Some(Mode::Look),
             "take" => Some(Mode::Take),
             "hold" => Some(Mode::Hold),
+            "hold_told" => Some(Mode::HoldTold),
             "inner_read" => Some(Mode::InnerRead),
             "inner_write" => Some(Mode::InnerWrite),
             _ => None,
@@ -70,12 +72,16 @@ pub(crate) fn start<R: Wait + Clock + Print + Eprint>(
         eprintln!(rt; "least_steps: no memory")?;
         return Ok(NO_MEMORY);
     };
+    let mut told = Told {
+        is_told: times == 0,
+    };
     let inner = RwLock::new(0);
     let started = Instant::now(rt)?;
     match mode {
         Mode::Look => look_often(rt, &lock, &mut seat, times),
         Mode::Take => take_often(rt, &lock, &mut seat, times),
         Mode::Hold => hold_often(rt, &lock, &mut seat, times),
+        Mode::HoldTold => hold_told(rt, &lock, &mut seat, &mut told, times),
         Mode::InnerRead => read_often(&inner, times),
         Mode::InnerWrite => write_often(&inner, times),
     }
