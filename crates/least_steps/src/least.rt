@@ -1,5 +1,5 @@
 //! A lock that is one word of a table that is shared, under no rule.
-ghost use Rattle.std.specs.Prelude.{◌≡◌, ◌<◌, [], IfOk};
+ghost use Rattle.std.specs.Prelude.{◌≡◌, ◌<◌, [], IfOk, IfSome};
 ghost use Rattle.std.specs.Arc.{arc_value};
 
 use atomic_table::{Join, Play, Seat, Split, Table, TableRule};
@@ -99,12 +99,34 @@ impl LeastLock {
         self.words.shared.split_seat::<Same>(seat)
     }
 
+    // Takes the word, and what its owner has apart from its thread: none where the word was not 0. The table is found once.
     #[inline]
-    pub(crate) fn join(&self, seat: &mut Seat<(), ()>, owner: Seat<(), ()>)
+    pub(crate) fn enter(&self, seat: &mut Seat<(), ()>) -> Option<Seat<(), ()>>
+        requires { IsSeatOf self.now seat.old }
+        ensures seat { IsSeatOf self.now seat.new }
+        ensures owner { IfSome result (λ owner. IsSeatOf self.now owner × (owner.me.1 ≡ [])) }
+    {
+        let words: &Words = &self.words;
+        if words
+            .shared
+            .compare_exchange::<AnyStep>(seat, self.at, 0, 1)
+            != 0
+        {
+            return None;
+        }
+        Some(words.shared.split_seat::<Same>(seat))
+    }
+
+    // Gives it up, and joins that. Whether the word was 1.
+    #[inline]
+    pub(crate) fn leave(&self, seat: &mut Seat<(), ()>, owner: Seat<(), ()>) -> bool
         requires { IsSeatOf self.now seat.old × IsSeatOf self.now owner × (owner.me.1 ≡ []) }
         ensures { IsSeatOf self.now seat.new }
     {
-        self.words.shared.join_seat::<Same>(seat, owner);
+        let words: &Words = &self.words;
+        let last = words.shared.fetch_sub::<AnyStep>(seat, self.at, 1);
+        words.shared.join_seat::<Same>(seat, owner);
+        last == 1
     }
 
     // Whether the word is 0, for who has no seat.

@@ -1,4 +1,5 @@
 //! The loops over a lock, each a function of its own, which is inlined nowhere.
+ghost use Rattle.std.specs.Prelude.{◌≡◌, []};
 ghost use Rattle.least_steps.specs.Seats.{IsSeatOf};
 
 use crate::least::LeastLock;
@@ -47,6 +48,39 @@ fn give<R: Wait>(rt: &R, lock: &LeastLock, seat: &mut Seat<(), ()>)
     ensures { IsSeatOf lock.now seat.new }
 {
     if !lock.give(seat) {
+        wait(rt, lock);
+    }
+}
+
+#[cold]
+#[inline(never)]
+fn enter_behind<R: Wait>(rt: &R, lock: &LeastLock, seat: &mut Seat<(), ()>) -> Seat<(), ()>
+    requires { IsSeatOf lock.now seat.old }
+    ensures { IsSeatOf lock.now seat.new × IsSeatOf lock.now result × (result.me.1 ≡ []) }
+{
+    wait(rt, lock);
+    lock.split(seat)
+}
+
+// As a lock is taken by who owns it apart from its thread.
+#[inline]
+fn enter<R: Wait>(rt: &R, lock: &LeastLock, seat: &mut Seat<(), ()>) -> Seat<(), ()>
+    requires { IsSeatOf lock.now seat.old }
+    ensures { IsSeatOf lock.now seat.new × IsSeatOf lock.now result × (result.me.1 ≡ []) }
+{
+    match lock.enter(seat) {
+        Some(owner) => owner,
+        None => enter_behind(rt, lock, seat),
+    }
+}
+
+// And given up.
+#[inline]
+fn leave<R: Wait>(rt: &R, lock: &LeastLock, seat: &mut Seat<(), ()>, owner: Seat<(), ()>)
+    requires { IsSeatOf lock.now seat.old × IsSeatOf lock.now owner × (owner.me.1 ≡ []) }
+    ensures { IsSeatOf lock.now seat.new }
+{
+    if !lock.leave(seat, owner) {
         wait(rt, lock);
     }
 }
@@ -100,10 +134,8 @@ pub(crate) fn hold_often<R: Wait>(rt: &R, lock: &LeastLock, seat: &mut Seat<(), 
     requires { IsSeatOf lock.now seat.old }
 {
     for _ in 0..times {
-        take(rt, lock, seat);
-        let owner = lock.split(seat);
-        give(rt, lock, seat);
-        lock.join(seat, owner);
+        let owner = enter(rt, lock, seat);
+        leave(rt, lock, seat, owner);
     }
 }
 
@@ -120,10 +152,8 @@ pub(crate) fn hold_told<R: Wait>(
 {
     for _ in 0..times {
         told.forget();
-        take(rt, lock, seat);
-        let owner = lock.split(seat);
+        let owner = enter(rt, lock, seat);
         told.forget();
-        give(rt, lock, seat);
-        lock.join(seat, owner);
+        leave(rt, lock, seat, owner);
     }
 }
