@@ -11,10 +11,22 @@ ghost use Rattle.parking_lot.specs.Users.{IsTicketOf, IsTokenOf, lot_of};
 
 use parking_lot::{Condvar, Fault, Mutex, ParkingLot, Ticket, Token};
 use std::alloc::Global;
+use std::fmt::Debug;
+use std::process::Abort;
 use std::sync::atomic::AtomicBool;
 use std::sync::atomic::Ordering::SeqCst;
 use std::sync::{Arc, Wait};
 use std::thread::yield_now;
+
+// What was found is what was wanted. All tests share this one assertion, since each is proved where it stands.
+fn same<T: PartialEq + Debug + Drop>(rt: &impl Abort, found: T, wanted: T) {
+    assert_eq!(rt; found, wanted);
+}
+
+// What a test asks for holds.
+fn holds(rt: &impl Abort, truth: bool) {
+    assert!(rt; truth);
+}
 
 const TURNS: usize = 1_000_000;
 

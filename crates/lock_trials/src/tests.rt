@@ -10,7 +10,19 @@ ghost use Rattle.parking_lot.specs.Users.{lot_of};
 
 use parking_lot::{Fault, Mutex, ParkingLot, Token};
 use std::alloc::Global;
+use std::fmt::Debug;
+use std::process::Abort;
 use std::sync::Arc;
+
+// What was found is what was wanted. All tests share this one assertion, since each is proved where it stands.
+fn same<T: PartialEq + Debug + Drop>(rt: &impl Abort, found: T, wanted: T) {
+    assert_eq!(rt; found, wanted);
+}
+
+// What a test asks for holds.
+fn holds(rt: &impl Abort, truth: bool) {
+    assert!(rt; truth);
+}
 
 // A lot of one word, with its one thread.
 fn lone(alloc: Global) -> Result<(Arc<ParkingLot>, Token), Fault>

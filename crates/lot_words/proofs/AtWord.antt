@@ -1,5 +1,5 @@
 -- A step on a word of a lot, as the lot's table wants it.
-use Rattle.std.proofs.Common.{◌≡◌, ℕ, ◌<◌, [], ◌∷◌, ◌∙◌, ap, arith, sym, subst}
+use Rattle.std.proofs.Common.{◌≡◌, ℕ, ◌+◌, ◌%◌, ◌<◌, [], ◌∷◌, ◌∙◌, ap, arith, sym, subst}
 use mathlib.Core.Option.{none}
 use Rattle.atomic_table.specs.Table.{Allows, Me, step, rest}
 use Rattle.atomic_table.specs.declared.shared.Seat.{Seat}
@@ -14,13 +14,13 @@ use Rattle.lot_words.specs.declared.views.View.{View}
 use Rattle.lot_words.specs.declared.words.Word.{Word}
 use Rattle.lot_base.specs.Words.{apply}
 use Rattle.lot_base.specs.declared.ops.Op.{Op}
-use Rattle.lot_base.specs.declared.ops.Op.TheVariants.{Or}
+use Rattle.lot_base.specs.declared.ops.Op.TheVariants.{Exchange, Or}
 use Rattle.lot_words.proofs.Keeps.{steps_at_word, sees_set}
 use Rattle.lot_words.proofs.TiedSteps.{sees_shown_allowed}
 use Rattle.lot_words.proofs.PermitSteps.{opens_allowed, closes_allowed}
-use Rattle.lot_words.proofs.OpenSteps.{Entering, Leaving, enters_allowed, sees_locked_allowed, leaves_allowed}
+use Rattle.lot_words.proofs.OpenSteps.{Entering, Leaving, enters_allowed, sees_locked_allowed, tries_seen_allowed, leaves_allowed}
 use Rattle.lot_words.specs.Permits.{slot_at}
-use Rattle.lot_words.specs.Plays.{piece, takes_in, opens, closes, enters_open, sees_locked, sees_shown, leaves_open}
+use Rattle.lot_words.specs.Plays.{piece, takes_in, opens, closes, enters_open, sees_locked, sees_shown, tries_seen, leaves_open}
 use Rattle.lot_words.specs.Views.{owning}
 use Rattle.lot_words.specs.declared.owners.Owner.TheVariants.{Exclusive, Opened}
 use Rattle.lot_words.specs.declared.words.WordKind.{WordKind}
@@ -121,6 +121,20 @@ table_sees_locked lot seat word at i there here own is = let sized = lot.sized i
       omega (arith, sized.0, sized.1, own.1.1, i≡),
       subst (λ (a : ℕ). Goal a i) (sym (mutex_index word at is there)) (subst (λ (j : ℕ). Goal (at_mutex word) j) (sym i≡)
           (sees_locked_allowed lot.table.shared.key.0 key lot.table.shared.table_id.slots seat.id seat.me word.number (omega (arith, sized.1, own.1.1)))),
+    )
+
+-- and an exchange
+pub table_tries_seen : (lot : LotWords) (seat : Seat PermitSlot View) (word : Word) (family at i seen : ℕ) → seen % 2 ≡ 0
+    → family ≡ lot.table.shared.key.1.family → at ≡ word_index word.number word.kind → i ≡ word_index word.number word.kind
+    → IsSeatOf lot seat × IsWordOf lot word → word.kind ≡ Mutex
+    → AllowedAt lot seat i (apply (Exchange seen (seen + 1))) (tries_seen family at (step lot.table.shared.table_id.slots i seen (seen + 1) none) seat.me)
+table_tries_seen lot seat word family at i seen even same there here own is = let sized = lot.sized in let key : ℕ = lot.table.shared.key.1.family in
+    let Goal : ℕ → ℕ → ℕ → Type 0 = λ f a j. Allows (LotRule lot.table.shared.key.0 key) lot.table.shared.table_id.slots seat.id seat.me j (apply (Exchange seen (seen + 1))) (tries_seen f a (step lot.table.shared.table_id.slots j seen (seen + 1) none) seat.me) in
+    let i≡ = mutex_index word i is here in (
+      own.0,
+      omega (arith, sized.0, sized.1, own.1.1, i≡),
+      subst (λ (f : ℕ). Goal f at i) (sym same) (subst (λ (a : ℕ). Goal key a i) (sym (mutex_index word at is there)) (subst (λ (j : ℕ). Goal key (at_mutex word) j) (sym i≡)
+          (tries_seen_allowed lot.table.shared.key.0 key lot.table.shared.table_id.slots seat.id seat.me word.number seen even (omega (arith, sized.1, own.1.1))))),
     )
 
 -- and a step that leaves it lays it back

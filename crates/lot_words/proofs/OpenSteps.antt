@@ -1,10 +1,11 @@
 -- Who enters a mutex takes its permit out with that step, and who leaves it lays it back.
-use Rattle.std.proofs.Common.{◌≡◌, ◌≢◌, ℕ, zero, suc, ◌+◌, ◌%◌, ◌<◌, ◌≤◌, ◌⊎◌, ⊎_elim, inl, inr, List, [], ◌∷◌, get_or, set, sym, refl, ap, subst, arith}
+use Rattle.std.proofs.Common.{◌≡◌, ◌≢◌, if◌then◌else◌, ℕ, zero, suc, ◌+◌, ◌%◌, ◌<◌, ◌≤◌, ◌⊎◌, ⊎_elim, inl, inr, List, [], ◌∷◌, get_or, set, sym, refl, ap, subst, arith}
 use mathlib.Core.Logic.{dite}
 use mathlib.Core.Option.{Option, some, none}
 use native.Mathlib.Decide.{ℕ_discrete}
 use lib.ListN.{get_elem?}
 use Rattle.atomic_table.specs.Table.{State, Me, step, takes, gives, keeps, Allows}
+use Rattle.std.proofs.lemmas.Bool.{eq-eqb, ne_eqb}
 use Rattle.std.proofs.lemmas.List.{set-get_or}
 use Rattle.lot_base.specs.Words.{apply}
 use Rattle.lot_base.specs.declared.ops.Op.{Op}
@@ -13,7 +14,7 @@ use Rattle.lot_words.specs.Indices.{word_index}
 use Rattle.lot_words.specs.Views.{view, owned, owning, named, counted}
 use Rattle.lot_words.specs.Codes.{Owners, IsMutexCode, everyone, exclusive, opened}
 use Rattle.lot_words.specs.Permits.{slot_at}
-use Rattle.lot_words.specs.Plays.{stepping, enters_open, leaves_open, sees_locked, IsZero, IsEven, IsAny, IsOne}
+use Rattle.lot_words.specs.Plays.{stepping, enters_open, leaves_open, sees_locked, tries_seen, IsZero, IsEven, IsAny, IsOne}
 use Rattle.lot_words.specs.Rule.{LotRule}
 use Rattle.lot_words.specs.Steps.{listed}
 use Rattle.lot_words.specs.declared.owners.Owner.{Owner}
@@ -85,6 +86,25 @@ module _ (words family : ℕ) (s : State PermitSlot View) (o : LotRule words fam
       ))
       (λ r. first_counts here r Exclusive v.owns) (omega (arith, first_owns here Exclusive v.owns opened))
 
+  -- and takes its permit out
+  entered : (id m : ℕ) (op : Op) (v : View) → get_elem? s.views id ≡ some v → found % 2 ≡ 0 → m < 4 → m % 2 ≡ 1
+      → (get_elem? s.homes here ≡ some (some (slot_at family here)))
+      × LotRule words family (at_hand (set s.words here m) (set s.homes here none) (set s.views id (first (owning here Opened) v.owns (stepping v here op found))))
+  entered id m op v at even small odd =
+      let all = code.1 in let alone = code.2 in
+      let w = stepping v here op found in let wx = first (owning here Exclusive) v.owns w in let shut : named here opened s.views ≡ 0 = omega arith in
+      let mine : LotRule words family (at_hand (set s.words here m) s.homes (set s.views id wx)) = locked id m op v at even small odd in
+      let out : LotRule words family (at_hand (set s.words here m) (set s.homes here none) (set (set s.views id wx) id (first (owning here Opened) v.owns w))) =
+      reopened words family (at_hand (set s.words here m) s.homes (set s.views id wx)) mine number id Exclusive Opened none v.owns w below (set_here s.views id wx (has_index s.views id v at)) refl refl (λ e. absurd (omega arith)) in (
+        o.permits number below shut,
+        subst (λ vs. LotRule words family (at_hand (set s.words here m) (set s.homes here none) vs)) (set_again s.views id wx (first (owning here Opened) v.owns w)) out,
+      )
+
+  -- one that leaves all as it was, and is told to nobody
+  silent : (id : ℕ) (v : View) → get_elem? s.views id ≡ some v → LotRule words family (at_hand (set s.words here found) s.homes (set s.views id v))
+  silent id v at = subst (λ (xs : List ℕ). LotRule words family (at_hand xs s.homes (set s.views id v))) (sym (set-get_or s.words here 0))
+      (subst (λ (vs : List View). LotRule words family (at_hand s.words s.homes vs)) (sym (set_elem s.views id v at)) o)
+
   -- a step that unlocks it
   unlocked : (id m : ℕ) (op : Op) (owns : List Ownership) (u : View)
       → get_elem? s.views id ≡ some (first (owning here Exclusive) owns u) → found % 2 ≡ 1 → m < 4 → m % 2 ≡ 0
@@ -130,18 +150,14 @@ pub enters_allowed : (words family slots id : ℕ) (me : Me PermitSlot View) (nu
     → let i = word_index number Mutex in Allows (LotRule words family) slots id me i (apply op) (enters_open family i op IsFree (step slots i 0 0 none) me)
 enters_allowed words family slots id me number op IsFree entering below s o wide at fits =
     let i : ℕ = word_index number Mutex in let n : ℕ = get_or s.words i 0 in let v = me.0 in let w = stepping v i op n in
-    let codes = code words family s o number below in let small = codes.0 in let all = codes.1 in let alone = codes.2 in
-    ⊎_elim (λ enters. (
-    let m : ℕ = apply op n in let even = enters.1 in let wx = first (owning i Exclusive) v.owns w in let shut : named i opened s.views ≡ 0 = omega arith in
-    let mine : LotRule words family (at_hand (set s.words i m) s.homes (set s.views id wx)) = locked words family s o number below id m op v at even enters.2 enters.3 in
-    let out : LotRule words family (at_hand (set s.words i m) (set s.homes i none) (set (set s.views id wx) id (first (owning i Opened) v.owns w))) =
-    reopened words family (at_hand (set s.words i m) s.homes (set s.views id wx)) mine number id Exclusive Opened none v.owns w below (set_here s.views id wx (has_index s.views id v at)) refl refl (λ e. absurd (omega arith)) in (
+    let codes = code words family s o number below in let small = codes.0 in
+    ⊎_elim (λ enters. let e = entered words family s o number below id (apply op n) op v at enters.1 enters.2 enters.3 in (
       first (owning i Opened) v.owns w,
       takes i (slot_at family i),
-      o.permits number below shut,
-      subst (λ vs. LotRule words family (at_hand (set s.words i m) (set s.homes i none) vs)) (set_again s.views id wx (first (owning i Opened) v.owns w)) out,
+      e.0,
+      e.1,
       ((λ _. refl), λ not. absurd (not enters.0)),
-    )))
+    ))
     (λ stays. (
       w,
       keeps,
@@ -161,11 +177,47 @@ sees_locked_allowed words family slots id me number below s o wide at fits =
       v,
       keeps,
       tt,
-      subst (λ (xs : List ℕ). LotRule words family (at_hand xs s.homes (set s.views id v))) (sym (set-get_or s.words i 0))
-          (subst (λ (vs : List View). LotRule words family (at_hand s.words s.homes vs)) (sym (set_elem s.views id v at)) o),
+      silent words family s o number below id v at,
       ((λ _. refl), λ not. absurd (not even)),
     ))
     (λ odd. (w, keeps, tt, unchanged words family s o number below id (Or 1) v at, ((λ even. absurd (odd even)), λ _. refl)))
+
+-- what an exchange leaves of a word that was seen so, and of any other
+meets : (n seen : ℕ) → n ≡ seen → apply (Exchange seen (seen + 1)) n ≡ seen + 1
+meets n seen is = ap (λ b. if b then seen + 1 else n) (eq-eqb n seen is)
+
+misses : (n seen : ℕ) → n ≢ seen → apply (Exchange seen (seen + 1)) n ≡ n
+misses n seen ne = ap (λ b. if b then seen + 1 else n) (ne_eqb n seen ne)
+
+-- an exchange in place of a try, of a mutex that was seen unlocked
+pub tries_seen_allowed : (words family slots id : ℕ) (me : Me PermitSlot View) (number seen : ℕ) → seen % 2 ≡ 0 → number < words
+    → let i = word_index number Mutex in Allows (LotRule words family) slots id me i (apply (Exchange seen (seen + 1))) (tries_seen family i (step slots i seen (seen + 1) none) me)
+tries_seen_allowed words family slots id me number seen even below s o wide at fits =
+    let i : ℕ = word_index number Mutex in let n : ℕ = get_or s.words i 0 in let v = me.0 in let w = stepping v i (Or 1) n in
+    let codes = code words family s o number below in let small = codes.0 in
+    dite (ℕ_discrete n seen)
+    (λ is. let e = entered words family s o number below id (seen + 1) (Or 1) v at (omega arith) (omega arith) (omega arith) in (
+      first (owning i Opened) v.owns w,
+      takes i (slot_at family i),
+      e.0,
+      subst (λ (k : ℕ). LotRule words family (at_hand (set s.words i k) (set s.homes i none) (set s.views id (first (owning i Opened) v.owns w)))) (sym (meets n seen is)) e.1,
+      ((λ _. refl), ((λ ne. absurd (ne is)), λ odd. absurd (odd (omega arith)))),
+    ))
+    (λ ne. dite (ℕ_discrete (n % 2) 0)
+    (λ free. (
+      v,
+      keeps,
+      tt,
+      subst (λ (k : ℕ). LotRule words family (at_hand (set s.words i k) s.homes (set s.views id v))) (sym (misses n seen ne)) (silent words family s o number below id v at),
+      ((λ is. absurd (ne is)), ((λ _ _. refl), λ odd. absurd (odd free))),
+    ))
+    (λ odd. (
+      w,
+      keeps,
+      tt,
+      subst (λ (k : ℕ). LotRule words family (at_hand (set s.words i k) s.homes (set s.views id w))) (sym (misses n seen ne)) (unchanged words family s o number below id (Or 1) v at),
+      ((λ is. absurd (ne is)), ((λ _ free. absurd (odd free)), λ _. refl)),
+    )))
 
 -- a step that leaves a mutex
 pub leaves_allowed : (words family slots id : ℕ) (number : ℕ) (owns : List Ownership) (u : View) (c : List (ℕ × PermitSlot)) (op : Op) (IsLast : ℕ → Type 0) → Leaving op IsLast → number < words

@@ -124,6 +124,13 @@ IsEven n = n % 2 ≡ 0
 abbrev pub sees_locked : {S : Type 0} → ℕ → Play S
 sees_locked at st me found after = (IsEven found → after ≡ me) × ((IsEven found → ⊥) → after ≡ (stepping me.0 at (Or 1) found, me.1))
 
+-- an exchange in place of a try, of a mutex that was seen unlocked. Where it finds what was seen it is the try, which enters and takes the permit
+-- out; where it finds the mutex locked it is the try too; and any other is no step
+abbrev pub tries_seen : ℕ → ℕ → Play PermitSlot
+tries_seen family at st me found after = let v = stepping me.0 at (Or 1) found in
+    (found ≡ st.first → after ≡ (takes_in v (piece (owning at Opened)), (at, slot_at family at) ∷ me.1))
+    × ((found ≢ st.first → IsEven found → after ≡ me) × ((IsEven found → ⊥) → after ≡ (v, me.1)))
+
 -- who owns a mutex first, whose permit is out, lays it back with a step that gives the mutex up where it finds this. Where it finds something
 -- else it owns the mutex still, and the permit lies in its slot
 abbrev pub leaves_open : ℕ → Op → (ℕ → Type 0) → Play PermitSlot

@@ -13,7 +13,7 @@ ghost use Rattle.lot_words.specs.declared.words.WordKind.TheVariants.{Mutex};
 use crate::owners::Owner;
 use crate::plays::{
     Closes, EntersOpen, GoesOn, KeepsOpen, LeavesAlone, LeavesOpen, Opens, PermitPick, SeesLocked,
-    TriesOpen,
+    TriesOpen, TriesSeen,
 };
 use crate::rights::Held;
 use crate::table::{LotWords, Seat};
@@ -124,6 +124,29 @@ impl LotWords {
         Ok(self.keep_open::<P>(seat, word))
     }
 
+    // A try where the parked bit has changed since the word was seen unlocked.
+    #[cold]
+    #[inline(never)]
+    fn try_again<P: PermitPick>(
+        &self,
+        seat: &mut Seat,
+        word: Word,
+    ) -> (u64, Option<(OpenHeld, Permit)>)
+        requires pick { (P.family ≡ self.now.table.shared.key.1.family) × (P.at ≡ word_index word.number word.kind) }
+        requires own { IsSeatOf self.now seat.old × IsWordOf self.now word × (word.kind ≡ Mutex) × (seat.old.me.1 ≡ []) }
+        ensures own { IsSeatOf self.now seat.new × (seat.new.me.1 ≡ []) }
+        ensures stepped { seat.new.me.0 ≡ stepping seat.old.me.0 (word_index word.number word.kind) (Or 1) result.0 }
+        ensures opened { MatchOption result.1 (result.0 % 2 ≢ 0)
+            (λ taken. (result.0 % 2 ≡ 0) × IsOpenOf self.now word taken.0 × (taken.1.id ≡ permit_of self.now word)) }
+    {
+        let words = &self.table.shared;
+        let seen = words.fetch_or::<TriesOpen<P>>(seat, word.index(), 1);
+        if seen % 2 != 0 {
+            return (seen, None);
+        }
+        (seen, Some(self.keep_open::<P>(seat, word)))
+    }
+
     #[inline]
     fn try_enter_picked<P: PermitPick>(
         &self,
@@ -143,11 +166,14 @@ impl LotWords {
         if looked % 2 != 0 {
             return (looked, None);
         }
-        let seen = words.fetch_or::<TriesOpen<P>>(seat, at, 1);
+        let seen = words.compare_exchange::<TriesSeen<P>>(seat, at, looked, looked + 1);
+        if seen == looked {
+            return (seen, Some(self.keep_open::<P>(seat, word)));
+        }
         if seen % 2 != 0 {
             return (seen, None);
         }
-        (seen, Some(self.keep_open::<P>(seat, word)))
+        self.try_again::<P>(seat, word)
     }
 
     #[inline]

@@ -2,7 +2,7 @@
 ghost use Rattle.std.specs.Prelude.{ℕ, [], List};
 ghost use Rattle.lot_words.specs.Rule.{LotRule};
 ghost use Rattle.lot_words.specs.Views.{blank, owning};
-ghost use Rattle.lot_words.specs.Plays.{loads, stores, swaps, adds, subs, ors, saw_set, sees_shown, ands, exchanges, looks, draws, left_over, without_front, piece, takes_in, goes_on_with, opens, closes, enters_open, IsAny, IsEven, IsOne, IsZero, leaves_open, sees_locked};
+ghost use Rattle.lot_words.specs.Plays.{loads, stores, swaps, adds, subs, ors, saw_set, sees_shown, ands, exchanges, looks, draws, left_over, without_front, piece, takes_in, goes_on_with, opens, closes, enters_open, IsAny, IsEven, IsOne, IsZero, leaves_open, sees_locked, tries_seen};
 ghost use Rattle.lot_base.specs.declared.ops.Op.TheVariants.{Exchange, Or, Sub};
 ghost use Rattle.lot_words.specs.declared.owners.Ownership.{Ownership};
 ghost use Rattle.lot_words.specs.declared.owners.Owner.TheVariants.{Exclusive, Opened};
@@ -218,6 +218,16 @@ pub struct SeesLocked<P: PermitPick> {
 
 impl<P: PermitPick> Play<PermitSlot, View> for SeesLocked<P> {
     ghost then = { sees_locked P.at };
+}
+
+/// An exchange in place of a try, where the mutex was seen unlocked: that try where it finds the same, or finds the mutex locked, and else
+/// no step of a call.
+pub struct TriesSeen<P: PermitPick> {
+    pick: PhantomData<P>,
+}
+
+impl<P: PermitPick> Play<PermitSlot, View> for TriesSeen<P> {
+    ghost then = { tries_seen P.family P.at };
 }
 
 /// Who tries to enter a mutex takes its permit out with that step where it enters.

@@ -10,11 +10,23 @@ ghost use Rattle.run_once.specs.Users.{IsTicketOf, IsTokenOf, lot_of};
 use parking_lot_core::{Fault, ParkingLot, Ticket, Token};
 use run_once::{Once, OnceFault, OnceState};
 use std::alloc::Global;
+use std::fmt::Debug;
+use std::process::Abort;
 use std::sync::atomic::Ordering::SeqCst;
 use std::sync::atomic::{AtomicBool, AtomicUsize};
 use std::sync::{Arc, Wait};
 use std::test::Fail;
 use std::thread::{Threads, map_vec};
+
+/// What was found is what was wanted. The tests share this one assertion, since each is proved where it stands.
+fn same<T: PartialEq + Debug + Drop>(rt: &impl Abort, found: T, wanted: T) {
+    assert_eq!(rt; found, wanted);
+}
+
+/// The same of what is true.
+fn holds(rt: &impl Abort, truth: bool) {
+    assert!(rt; truth);
+}
 
 // A lot of one word with so many threads, the token of the first, and the tickets of the others.
 fn seats(alloc: Global, threads: usize) -> Result<(Arc<ParkingLot>, Token, Vec<Ticket>), Fault>
@@ -55,15 +67,15 @@ fn who_calls_first_runs(rt: HostRuntime) -> Result<(), Fail> {
     let (lot, mut token, _others) = seats(rt.alloc(), 1)?;
     let once = Once::new(&lot, &mut token)?;
     let runs = AtomicUsize::new(0);
-    assert_eq!(rt; once.state(&mut token), OnceState::New);
-    assert!(rt; !once.is_completed(&mut token));
-    assert_eq!(rt; count_run(&rt, &once, &mut token, &runs), "ok");
-    assert_eq!(rt; once.state(&mut token), OnceState::Done);
-    assert_eq!(rt; count_run(&rt, &once, &mut token, &runs), "ok");
-    assert!(rt; once.wait(&rt, &mut token).is_ok());
+    same(&rt, once.state(&mut token), OnceState::New);
+    holds(&rt, !once.is_completed(&mut token));
+    same(&rt, count_run(&rt, &once, &mut token, &runs), "ok");
+    same(&rt, once.state(&mut token), OnceState::Done);
+    same(&rt, count_run(&rt, &once, &mut token, &runs), "ok");
+    holds(&rt, once.wait(&rt, &mut token).is_ok());
     once.wait_force(&rt, &mut token);
-    assert!(rt; once.is_completed(&mut token));
-    assert_eq!(rt; runs.load(SeqCst), 1);
+    holds(&rt, once.is_completed(&mut token));
+    same(&rt, runs.load(SeqCst), 1);
     Ok(())
 }
 
@@ -72,9 +84,9 @@ fn what_is_made_done_runs_nothing(rt: HostRuntime) -> Result<(), Fail> {
     let (lot, mut token, _others) = seats(rt.alloc(), 1)?;
     let once = Once::new_completed(&lot, &mut token)?;
     let runs = AtomicUsize::new(0);
-    assert_eq!(rt; once.state(&mut token), OnceState::Done);
-    assert_eq!(rt; count_run(&rt, &once, &mut token, &runs), "ok");
-    assert_eq!(rt; runs.load(SeqCst), 0);
+    same(&rt, once.state(&mut token), OnceState::Done);
+    same(&rt, count_run(&rt, &once, &mut token, &runs), "ok");
+    same(&rt, runs.load(SeqCst), 0);
     Ok(())
 }
 
@@ -108,16 +120,19 @@ fn a_failed_run_poisons(rt: HostRuntime) -> Result<(), Fail> {
     let once = Once::new(&lot, &mut token)?;
     let runs = AtomicUsize::new(0);
     let poisoned = AtomicBool::new(false);
-    assert_eq!(rt; fail(&rt, &once, &mut token), "failed");
-    assert_eq!(rt; once.state(&mut token), OnceState::Poisoned);
-    assert_eq!(rt; count_run(&rt, &once, &mut token, &runs), "poisoned");
-    assert_eq!(rt; runs.load(SeqCst), 0);
-    assert!(rt; matches!(once.wait(&rt, &mut token), Err(Fault::Poisoned)));
-    assert_eq!(rt; mend(&rt, &once, &mut token, &poisoned), "ok");
-    assert!(rt; poisoned.load(SeqCst));
-    assert_eq!(rt; once.state(&mut token), OnceState::Done);
-    assert_eq!(rt; count_run(&rt, &once, &mut token, &runs), "ok");
-    assert_eq!(rt; runs.load(SeqCst), 0);
+    same(&rt, fail(&rt, &once, &mut token), "failed");
+    same(&rt, once.state(&mut token), OnceState::Poisoned);
+    same(&rt, count_run(&rt, &once, &mut token, &runs), "poisoned");
+    same(&rt, runs.load(SeqCst), 0);
+    holds(
+        &rt,
+        matches!(once.wait(&rt, &mut token), Err(Fault::Poisoned)),
+    );
+    same(&rt, mend(&rt, &once, &mut token, &poisoned), "ok");
+    holds(&rt, poisoned.load(SeqCst));
+    same(&rt, once.state(&mut token), OnceState::Done);
+    same(&rt, count_run(&rt, &once, &mut token, &runs), "ok");
+    same(&rt, runs.load(SeqCst), 0);
     Ok(())
 }
 
@@ -159,8 +174,8 @@ fn ten_threads_come_at_once(rt: HostRuntime) -> Result<(), Fail> {
     let (lot, mut token, others) = seats(rt.alloc(), 11)?;
     let once = Once::new(&lot, &mut token)?;
     let runs = AtomicUsize::new(0);
-    assert!(rt; stampede(&rt, &once, others, &runs));
-    assert_eq!(rt; runs.load(SeqCst), 1);
-    assert!(rt; once.is_completed(&mut token));
+    holds(&rt, stampede(&rt, &once, others, &runs));
+    same(&rt, runs.load(SeqCst), 1);
+    holds(&rt, once.is_completed(&mut token));
     Ok(())
 }

@@ -11,8 +11,14 @@ use parking_lot::lock_raw::{
 use parking_lot::{Fault, RawRwLock, Token};
 use raw_rwlock_fixtures::lock_alone;
 use std::alloc::Global;
+use std::process::Abort;
 use std::sync::Wait;
 use std::test::Fail;
+
+// What a test asks for holds.
+fn holds(rt: &impl Abort, truth: bool) {
+    assert!(rt; truth);
+}
 
 // Whether a try to read gets the lock.
 fn reads<const RECURSIVE: bool, R: Wait>(
@@ -220,8 +226,8 @@ fn sees_all<const RECURSIVE: bool>(rt: &impl Wait, alloc: Global) -> Result<bool
 
 #[test]
 fn rights_keep_out_whom_they_are_to(rt: HostRuntime) -> Result<(), Fail> {
-    assert!(rt; sees_all::<false>(&rt, rt.alloc())?);
-    assert!(rt; sees_all::<true>(&rt, rt.alloc())?);
+    holds(&rt, sees_all::<false>(&rt, rt.alloc())?);
+    holds(&rt, sees_all::<true>(&rt, rt.alloc())?);
     Ok(())
 }
 
@@ -264,7 +270,7 @@ fn fills<R: Wait>(rt: &R, lock: &RawRwLock<false>, token: &mut Token) -> bool
 #[test]
 fn a_full_lock_refuses_readers(rt: HostRuntime) -> Result<(), Fail> {
     let (lock, mut token) = lock_alone(rt.alloc(), 2)?;
-    assert!(rt; fills(&rt, &lock, &mut token));
-    assert!(rt; look(&rt, &lock, &mut token) == FREE);
+    holds(&rt, fills(&rt, &lock, &mut token));
+    holds(&rt, look(&rt, &lock, &mut token) == FREE);
     Ok(())
 }

@@ -15,9 +15,16 @@ use parking_lot::{Fault, ParkingLot, RawRwLock, Ticket};
 use raw_rwlock_fixtures::{next_of, seats};
 use scenes::{Scene, Told};
 use std::alloc::Global;
+use std::fmt::Debug;
+use std::process::Abort;
 use std::sync::Wait;
 use std::sync::atomic::Ordering::SeqCst;
 use std::thread::{Threads, join};
+
+// What was found is what was wanted. All tests share this one assertion, since each is proved where it stands.
+fn same<T: PartialEq + Debug + Drop>(rt: &impl Abort, found: T, wanted: T) {
+    assert_eq!(rt; found, wanted);
+}
 
 fn hold_and_come<const RECURSIVE: bool, R: Threads + Wait + Sync>(
     rt: &R,

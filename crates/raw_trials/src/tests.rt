@@ -11,11 +11,23 @@ ghost use Rattle.parking_lot.specs.Users.{lot_of};
 use parking_lot::lock_raw::RawMutex as RawLock;
 use parking_lot::{Fault, ParkingLot, RawMutex, Ticket, Token};
 use std::alloc::Global;
+use std::fmt::Debug;
+use std::process::Abort;
 use std::sync::atomic::Ordering::SeqCst;
 use std::sync::atomic::{AtomicBool, AtomicUsize};
 use std::sync::{Arc, Wait};
 use std::test::Fail;
 use std::thread::{Threads, join, yield_now};
+
+// What was found is what was wanted. All tests share this one assertion, since each is proved where it stands.
+fn same<T: PartialEq + Debug + Drop>(rt: &impl Abort, found: T, wanted: T) {
+    assert_eq!(rt; found, wanted);
+}
+
+// What a test asks for holds.
+fn holds(rt: &impl Abort, truth: bool) {
+    assert!(rt; truth);
+}
 
 const TURNS: usize = 1_000_000;
 
@@ -124,8 +136,8 @@ fn try_alone<R: Wait>(rt: &R, mutex: &RawMutex, ticket: Ticket) -> bool
 fn one_of_two_tries_gets_a_free_mutex(rt: HostRuntime) -> Result<(), Fail> {
     let (_lot, mutex, (one, other, third)) = three_seats(rt.alloc())?;
     let (first, second) = both_try(&rt, &mutex, one, other);
-    assert!(rt; first != second);
-    assert!(rt; try_alone(&rt, &mutex, third));
+    holds(&rt, first != second);
+    holds(&rt, try_alone(&rt, &mutex, third));
     Ok(())
 }
 
@@ -205,6 +217,6 @@ fn hold_and_wait<R: Threads + Wait + Sync>(
 fn a_release_wakes_who_waits(rt: HostRuntime) -> Result<(), Fail> {
     let (lot, mutex, (one, other, _third)) = three_seats(rt.alloc())?;
     let ended = hold_and_wait(&rt, &lot, &mutex, one, other);
-    assert_eq!(rt; ended, (true, true));
+    same(&rt, ended, (true, true));
     Ok(())
 }

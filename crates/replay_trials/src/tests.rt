@@ -17,8 +17,15 @@ use replay_rows::onces::ONCE_ROWS;
 use replay_rows::refused::REFUSED_ROWS;
 use replay_rows::rwlocks::RWLOCK_ROWS;
 use std::alloc::{AllocError, Global};
+use std::fmt::Debug;
 use std::io::BufRead;
+use std::process::Abort;
 use std::test::Fail;
+
+// What was found is what was wanted. All tests share this one assertion, since each is proved where it stands.
+fn same<T: PartialEq + Debug + Drop>(rt: &impl Abort, found: T, wanted: T) {
+    assert_eq!(rt; found, wanted);
+}
 
 /// What an input leads to.
 fn replayed<R: BufRead>(alloc: Global, mut reader: R) -> (Vec<u8>, u8)
@@ -36,8 +43,8 @@ where
 fn answers_inputs(rt: HostRuntime) {
     for (input, want, status) in ROWS {
         let (text, ended) = replayed(rt.alloc(), input);
-        assert_eq!(rt; text.as_slice(), want);
-        assert_eq!(rt; ended, status);
+        same(&rt, text.as_slice(), want);
+        same(&rt, ended, status);
     }
 }
 
@@ -45,8 +52,8 @@ fn answers_inputs(rt: HostRuntime) {
 fn answers_inputs_of_reader_writer_locks(rt: HostRuntime) {
     for (input, want) in RWLOCK_ROWS {
         let (text, ended) = replayed(rt.alloc(), input);
-        assert_eq!(rt; text.as_slice(), want);
-        assert_eq!(rt; ended, 0);
+        same(&rt, text.as_slice(), want);
+        same(&rt, ended, 0);
     }
 }
 
@@ -54,8 +61,8 @@ fn answers_inputs_of_reader_writer_locks(rt: HostRuntime) {
 fn answers_inputs_of_onces(rt: HostRuntime) {
     for (input, want) in ONCE_ROWS {
         let (text, ended) = replayed(rt.alloc(), input);
-        assert_eq!(rt; text.as_slice(), want);
-        assert_eq!(rt; ended, 0);
+        same(&rt, text.as_slice(), want);
+        same(&rt, ended, 0);
     }
 }
 
@@ -73,8 +80,8 @@ fn answers_inputs_of_condition_variables(rt: HostRuntime) {
         for row in rows {
             let (input, want) = *row;
             let (text, ended) = replayed(rt.alloc(), input);
-            assert_eq!(rt; text.as_slice(), want);
-            assert_eq!(rt; ended, 0);
+            same(&rt, text.as_slice(), want);
+            same(&rt, ended, 0);
         }
     }
 }
@@ -83,8 +90,8 @@ fn answers_inputs_of_condition_variables(rt: HostRuntime) {
 fn answers_inputs_of_fair_releases_and_bumps(rt: HostRuntime) {
     for (input, want) in FAIR_ROWS {
         let (text, ended) = replayed(rt.alloc(), input);
-        assert_eq!(rt; text.as_slice(), want);
-        assert_eq!(rt; ended, 0);
+        same(&rt, text.as_slice(), want);
+        same(&rt, ended, 0);
     }
 }
 
@@ -131,7 +138,8 @@ show
 "
             .as_slice(),
     );
-    assert_eq!(rt;
+    same(
+        &rt,
         text.as_slice(),
         b"1023 end ok
 1024 not now
@@ -140,9 +148,9 @@ show
 9999999999999999999 not now
 abcdefghijklmno9 1 own=1023x
 "
-            .as_slice()
+            .as_slice(),
     );
-    assert_eq!(rt; status, 0);
+    same(&rt, status, 0);
 }
 
 /// An input that declares this many locks, and what `show` prints of them.
@@ -161,12 +169,12 @@ fn many_locks(alloc: Global, count: u32) -> Result<(String, String), AllocError>
 fn takes_256_locks(rt: HostRuntime) -> Result<(), Fail> {
     let (input, shown) = many_locks(rt.alloc(), 256)?;
     let (text, status) = replayed(rt.alloc(), input.as_bytes());
-    assert_eq!(rt; text.as_slice(), shown.as_bytes());
-    assert_eq!(rt; status, 0);
+    same(&rt, text.as_slice(), shown.as_bytes());
+    same(&rt, status, 0);
     let (input, _) = many_locks(rt.alloc(), 257)?;
     let (text, status) = replayed(rt.alloc(), input.as_bytes());
-    assert_eq!(rt; text.as_slice(), b"line 258 malformed\n".as_slice());
-    assert_eq!(rt; status, 2);
+    same(&rt, text.as_slice(), b"line 258 malformed\n".as_slice());
+    same(&rt, status, 2);
     Ok(())
 }
 
@@ -189,8 +197,8 @@ fn gets_each_lock_once(rt: HostRuntime) -> Result<(), Fail> {
     for count in [4, 256] {
         let (input, told) = many_tries(rt.alloc(), count)?;
         let (text, status) = replayed(rt.alloc(), input.as_bytes());
-        assert_eq!(rt; text.as_slice(), told.as_bytes());
-        assert_eq!(rt; status, 0);
+        same(&rt, text.as_slice(), told.as_bytes());
+        same(&rt, status, 0);
     }
     Ok(())
 }
@@ -199,8 +207,8 @@ fn gets_each_lock_once(rt: HostRuntime) -> Result<(), Fail> {
 fn answers_100_000_lines(rt: HostRuntime) -> Result<(), Fail> {
     let (input, shown) = many_looks(rt.alloc(), 99_998)?;
     let (text, status) = replayed(rt.alloc(), input.as_bytes());
-    assert_eq!(rt; text.as_slice(), shown.as_bytes());
-    assert_eq!(rt; status, 0);
+    same(&rt, text.as_slice(), shown.as_bytes());
+    same(&rt, status, 0);
     Ok(())
 }
 
@@ -224,8 +232,9 @@ fn runs_the_steps_of_an_input(rt: HostRuntime) -> Result<(), Fail> {
         go,
     ];
     let mut outcomes = Vec::new(rt.alloc());
-    assert_eq!(rt; world.run(&steps, &mut outcomes), Ok(()));
-    assert_eq!(rt;
+    same(&rt, world.run(&steps, &mut outcomes), Ok(()));
+    same(
+        &rt,
         outcomes.as_slice(),
         [
             Outcome::Step,
@@ -235,7 +244,7 @@ fn runs_the_steps_of_an_input(rt: HostRuntime) -> Result<(), Fail> {
             Outcome::Step,
             Outcome::End(Answer::Ok),
         ]
-        .as_slice()
+        .as_slice(),
     );
     Ok(())
 }
@@ -253,8 +262,8 @@ fn a_failing_read_leaves_the_lines_before(rt: HostRuntime) {
                 looks: 0,
             },
         );
-        assert_eq!(rt; text.as_slice(), b"0 step\n".as_slice());
-        assert_eq!(rt; status, 4);
+        same(&rt, text.as_slice(), b"0 step\n".as_slice());
+        same(&rt, status, 4);
     }
 }
 
@@ -313,8 +322,8 @@ fn a_slow_write_loses_nothing(rt: HostRuntime) {
             &mut writer,
             &mut errors,
         );
-        assert_eq!(rt; writer.taken.as_slice(), want);
-        assert_eq!(rt; ended, status);
+        same(&rt, writer.taken.as_slice(), want);
+        same(&rt, ended, status);
     }
 }
 

@@ -13,11 +13,23 @@ use parking_lot::{
     Fault, ParkingLot, RawRwLock, RecursiveRwLock, RwLock, TickClock, Ticket, Token, lock_api_rw,
 };
 use std::alloc::Global;
+use std::fmt::Debug;
+use std::process::Abort;
 use std::sync::atomic::AtomicUsize;
 use std::sync::atomic::Ordering::SeqCst;
 use std::sync::{Arc, Wait};
 use std::test::Fail;
 use std::thread::{Threads, map_vec, yield_now};
+
+// What was found is what was wanted. All tests share this one assertion, since each is proved where it stands.
+fn same<T: PartialEq + Debug + Drop>(rt: &impl Abort, found: T, wanted: T) {
+    assert_eq!(rt; found, wanted);
+}
+
+// What a test asks for holds.
+fn holds(rt: &impl Abort, truth: bool) {
+    assert!(rt; truth);
+}
 
 const TIMES: u64 = 100;
 
@@ -99,11 +111,11 @@ fn what_was_written_is_read(rt: HostRuntime) -> Result<(), Fail> {
         *value = 7;
         before
     });
-    assert_eq!(rt; before, 5);
+    same(&rt, before, 5);
     let read = lock.with_read(&rt, &mut token, |value: &u64| *value);
-    assert_eq!(rt; read.ok(), Some(7));
+    same(&rt, read.ok(), Some(7));
     *lock.get_mut() = 20;
-    assert_eq!(rt; lock.into_inner(), 20);
+    same(&rt, lock.into_inner(), 20);
     Ok(())
 }
 
@@ -186,9 +198,10 @@ fn a_downgrade_lets_more_in(rt: HostRuntime) -> Result<(), Fail> {
     let seen = tries_beside(&rt, &lock, &mut token);
     let writer = [false, false, false];
     let upgradable = [true, false, false];
-    assert_eq!(rt;
+    same(
+        &rt,
         seen,
-        [writer, upgradable, [true, true, false], [true, true, true]]
+        [writer, upgradable, [true, true, false], [true, true, true]],
     );
     Ok(())
 }
@@ -230,7 +243,7 @@ fn a_reader_of_a_recursive_lock_reads_again(rt: HostRuntime) -> Result<(), Fail>
     let Ok(lock) = RecursiveRwLock::new(&lot, &mut token, 3) else {
         return Err("the lock was refused".into());
     };
-    assert!(rt; reads_again(&rt, &lock, &mut token));
+    holds(&rt, reads_again(&rt, &lock, &mut token));
     Ok(())
 }
 
@@ -280,7 +293,7 @@ fn all_downgrade<R: Threads + Wait + Sync>(rt: &R, alloc: Global) -> Result<(u64
 
 #[test]
 fn eight_threads_read_what_they_wrote(rt: HostRuntime) -> Result<(), Fail> {
-    assert_eq!(rt; all_downgrade(&rt, rt.alloc())?, (8 * TIMES, 0));
+    same(&rt, all_downgrade(&rt, rt.alloc())?, (8 * TIMES, 0));
     Ok(())
 }
 
@@ -329,6 +342,6 @@ fn all_upgrade<R: Threads + Wait + Sync>(rt: &R, alloc: Global) -> Result<u64, F
 
 #[test]
 fn upgrades_let_nobody_write_between(rt: HostRuntime) -> Result<(), Fail> {
-    assert_eq!(rt; all_upgrade(&rt, rt.alloc())?, 6 * TIMES);
+    same(&rt, all_upgrade(&rt, rt.alloc())?, 6 * TIMES);
     Ok(())
 }

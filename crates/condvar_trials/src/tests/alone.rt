@@ -1,7 +1,7 @@
 //! One thread, which nobody notifies.
 ghost use Rattle.parking_lot.specs.Users.{IsTokenOf, lock_of, lot_of};
 
-use super::{Room, room_for};
+use super::{Room, holds, room_for, same};
 use parking_lot::{Clock, MutexGuard, TickClock, Token, WaitTimeoutResult};
 use std::sync::Wait;
 use std::test::Fail;
@@ -12,8 +12,8 @@ const FAR: u64 = 1000;
 #[test]
 fn nobody_is_notified_where_nobody_waits(rt: HostRuntime) -> Result<(), Fail> {
     let (_lot, room, mut token, _others) = room_for(rt.alloc(), 1, 0u32)?;
-    assert!(rt; !room.condvar.notify_one(&rt, &mut token));
-    assert_eq!(rt; room.condvar.notify_all(&rt, &mut token), 0);
+    holds(&rt, !room.condvar.notify_one(&rt, &mut token));
+    same(&rt, room.condvar.notify_all(&rt, &mut token), 0);
     Ok(())
 }
 
@@ -44,7 +44,7 @@ fn wait_for_nothing<R: Wait>(rt: &R, room: &Room<u32>, token: &mut Token) -> Opt
 #[test]
 fn a_condition_that_does_not_hold_is_called_once(rt: HostRuntime) -> Result<(), Fail> {
     let (_lot, room, mut token, _others) = room_for(rt.alloc(), 1, 0u32)?;
-    assert_eq!(rt; wait_for_nothing(&rt, &room, &mut token), Some(1));
+    same(&rt, wait_for_nothing(&rt, &room, &mut token), Some(1));
     Ok(())
 }
 
@@ -100,8 +100,16 @@ fn calls_until<R: Wait>(
 #[test]
 fn a_condition_is_called_again_where_the_time_is_up(rt: HostRuntime) -> Result<(), Fail> {
     let (_lot, room, mut token, _others) = room_for(rt.alloc(), 1, 0u32)?;
-    assert_eq!(rt; calls_until(&rt, &room, &mut token, 1, 0), Some((2, false)));
-    assert_eq!(rt; calls_until(&rt, &room, &mut token, 9, 40), Some((4, true)));
+    same(
+        &rt,
+        calls_until(&rt, &room, &mut token, 1, 0),
+        Some((2, false)),
+    );
+    same(
+        &rt,
+        calls_until(&rt, &room, &mut token, 9, 40),
+        Some((4, true)),
+    );
     Ok(())
 }
 
@@ -142,8 +150,8 @@ fn a_condition_that_holds_times_out(rt: HostRuntime) -> Result<(), Fail> {
     let (_lot, room, mut token, _others) = room_for(rt.alloc(), 1, 0u32)?;
     let clock = TickClock::starting_at(FAR);
     let told = calls_within(&rt, &room, &mut token, &clock, 30);
-    assert_eq!(rt; told, Some((2, true)));
-    assert!(rt; clock.now() >= FAR + 30);
+    same(&rt, told, Some((2, true)));
+    holds(&rt, clock.now() >= FAR + 30);
     Ok(())
 }
 
@@ -172,18 +180,19 @@ fn gives_up<R: Wait>(rt: &R, room: &Room<u32>, token: &mut Token, clock: &TickCl
 fn who_waits_gives_up_in_time(rt: HostRuntime) -> Result<(), Fail> {
     let (_lot, room, mut token, _others) = room_for(rt.alloc(), 1, 0u32)?;
     let clock = TickClock::starting_at(FAR);
-    assert!(rt; gives_up(&rt, &room, &mut token, &clock));
-    assert!(rt; clock.now() >= FAR + 20);
-    assert!(rt; !room.condvar.notify_one(&rt, &mut token));
+    holds(&rt, gives_up(&rt, &room, &mut token, &clock));
+    holds(&rt, clock.now() >= FAR + 20);
+    holds(&rt, !room.condvar.notify_one(&rt, &mut token));
     Ok(())
 }
 
 #[test]
 fn tells_that_it_is_a_condition_variable(rt: HostRuntime) -> Result<(), Fail> {
     let (_lot, room, _token, _others) = room_for(rt.alloc(), 1, 0u32)?;
-    assert_eq!(rt;
+    same(
+        &rt,
         format!(in rt.alloc(); "{:?}", room.condvar)?.as_str(),
-        "Condvar { .. }"
+        "Condvar { .. }",
     );
     Ok(())
 }

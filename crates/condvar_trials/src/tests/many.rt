@@ -3,7 +3,7 @@ ghost use Rattle.std.specs.Prelude.{◌≡◌, ◌<◌, ◌≤◌, All, IfSome};
 ghost use Rattle.std.specs.Fork.{AcceptsJobs};
 ghost use Rattle.parking_lot.specs.Users.{IsTicketOf, IsTokenOf, lock_of, lot_of};
 
-use super::{Room, TURNS, look, next_of, room_for};
+use super::{Room, TURNS, look, next_of, room_for, same};
 use parking_lot::{Fault, MutexGuard, ParkingLot, TickClock, Ticket, Token};
 use std::alloc::Global;
 use std::sync::Wait;
@@ -180,28 +180,28 @@ fn meet<R: Threads + Wait + Sync>(
 #[test]
 fn two_who_wait_are_notified_under_the_mutex(rt: HostRuntime) -> Result<(), Fail> {
     let told = meet(&rt, rt.alloc(), 2, Notifies::AllUnderMutex)?;
-    assert_eq!(rt; told, (true, (2, 0)));
+    same(&rt, told, (true, (2, 0)));
     Ok(())
 }
 
 #[test]
 fn ten_who_wait_are_notified_under_the_mutex(rt: HostRuntime) -> Result<(), Fail> {
     let told = meet(&rt, rt.alloc(), 10, Notifies::AllUnderMutex)?;
-    assert_eq!(rt; told, (true, (10, 0)));
+    same(&rt, told, (true, (10, 0)));
     Ok(())
 }
 
 #[test]
 fn ten_who_wait_are_notified_where_nobody_has_the_mutex(rt: HostRuntime) -> Result<(), Fail> {
     let told = meet(&rt, rt.alloc(), 10, Notifies::AllFree)?;
-    assert_eq!(rt; told, (true, (10, 0)));
+    same(&rt, told, (true, (10, 0)));
     Ok(())
 }
 
 #[test]
 fn a_notification_is_passed_on(rt: HostRuntime) -> Result<(), Fail> {
     let told = meet(&rt, rt.alloc(), 4, Notifies::One)?;
-    assert_eq!(rt; told, (true, (1, 0)));
+    same(&rt, told, (true, (1, 0)));
     Ok(())
 }
 
@@ -282,6 +282,6 @@ fn turns_of<R: Threads + Wait + Sync>(rt: &R, alloc: Global) -> Result<(bool, bo
 
 #[test]
 fn a_condition_is_called_after_each_wait(rt: HostRuntime) -> Result<(), Fail> {
-    assert_eq!(rt; turns_of(&rt, rt.alloc())?, (true, true, 5));
+    same(&rt, turns_of(&rt, rt.alloc())?, (true, true, 5));
     Ok(())
 }

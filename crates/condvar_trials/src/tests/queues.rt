@@ -4,7 +4,7 @@ ghost use Rattle.std.specs.Arc.{arc_value};
 ghost use Rattle.parking_lot.specs.CondvarUsers.{lot_of as condvar_lot};
 ghost use Rattle.parking_lot.specs.Users.{IsTicketOf, IsTokenOf, lock_of, lot_of};
 
-use super::seats;
+use super::{holds, seats};
 use parking_lot::{Condvar, Fault, Mutex, MutexGuard, ParkingLot, TickClock, Ticket, Token};
 use std::alloc::Global;
 use std::sync::{Arc, Wait};
@@ -294,48 +294,48 @@ fn passes<R: Threads + Wait + Sync>(
 
 #[test]
 fn one_sends_to_one_through_one_place(rt: HostRuntime) -> Result<(), Fail> {
-    assert!(rt; passes(&rt, rt.alloc(), (1, 1), 1, Style::All)?);
+    holds(&rt, passes(&rt, rt.alloc(), (1, 1), 1, Style::All)?);
     Ok(())
 }
 
 #[test]
 fn one_sends_to_one_in_bounded_waits(rt: HostRuntime) -> Result<(), Fail> {
-    assert!(rt; passes(&rt, rt.alloc(), (1, 1), 1, Style::Bounded)?);
+    holds(&rt, passes(&rt, rt.alloc(), (1, 1), 1, Style::Bounded)?);
     Ok(())
 }
 
 #[test]
 fn one_sends_to_five(rt: HostRuntime) -> Result<(), Fail> {
-    assert!(rt; passes(&rt, rt.alloc(), (1, 5), 1, Style::All)?);
+    holds(&rt, passes(&rt, rt.alloc(), (1, 5), 1, Style::All)?);
     Ok(())
 }
 
 #[test]
 fn one_sends_to_one_through_a_hundred_places(rt: HostRuntime) -> Result<(), Fail> {
-    assert!(rt; passes(&rt, rt.alloc(), (1, 1), 100, Style::All)?);
+    holds(&rt, passes(&rt, rt.alloc(), (1, 1), 100, Style::All)?);
     Ok(())
 }
 
 #[test]
 fn ten_send_to_one(rt: HostRuntime) -> Result<(), Fail> {
-    assert!(rt; passes(&rt, rt.alloc(), (10, 1), 1, Style::All)?);
+    holds(&rt, passes(&rt, rt.alloc(), (10, 1), 1, Style::All)?);
     Ok(())
 }
 
 #[test]
 fn ten_send_to_ten_and_notify_all(rt: HostRuntime) -> Result<(), Fail> {
-    assert!(rt; passes(&rt, rt.alloc(), (10, 10), 1, Style::All)?);
+    holds(&rt, passes(&rt, rt.alloc(), (10, 10), 1, Style::All)?);
     Ok(())
 }
 
 #[test]
 fn ten_send_to_ten_and_notify_one(rt: HostRuntime) -> Result<(), Fail> {
-    assert!(rt; passes(&rt, rt.alloc(), (10, 10), 1, Style::One)?);
+    holds(&rt, passes(&rt, rt.alloc(), (10, 10), 1, Style::One)?);
     Ok(())
 }
 
 #[test]
 fn ten_send_to_ten_in_bounded_waits(rt: HostRuntime) -> Result<(), Fail> {
-    assert!(rt; passes(&rt, rt.alloc(), (10, 10), 5, Style::Bounded)?);
+    holds(&rt, passes(&rt, rt.alloc(), (10, 10), 5, Style::Bounded)?);
     Ok(())
 }

@@ -3,7 +3,7 @@ ghost use Rattle.std.specs.Prelude.{◌≡◌};
 ghost use Rattle.parking_lot.specs.CondvarUsers.{lot_of as condvar_lot};
 ghost use Rattle.parking_lot.specs.Users.{IsTicketOf, IsTokenOf, lock_of, lot_of};
 
-use super::{Room, await_flag, look, next_of, room_for, seats, stand_under};
+use super::{Room, await_flag, holds, look, next_of, room_for, same, seats, stand_under};
 use parking_lot::{Condvar, Fault, Mutex, MutexGuard, ParkingLot, TickClock, Ticket, Token};
 use std::alloc::Global;
 use std::sync::Wait;
@@ -161,25 +161,25 @@ fn meet<R: Threads + Wait + Sync>(rt: &R, alloc: Global, way: Way) -> Result<boo
 
 #[test]
 fn who_waits_is_notified_under_the_mutex(rt: HostRuntime) -> Result<(), Fail> {
-    assert!(rt; meet(&rt, rt.alloc(), Way::UnderMutex)?);
+    holds(&rt, meet(&rt, rt.alloc(), Way::UnderMutex)?);
     Ok(())
 }
 
 #[test]
 fn who_waits_is_notified_where_nobody_has_the_mutex(rt: HostRuntime) -> Result<(), Fail> {
-    assert!(rt; meet(&rt, rt.alloc(), Way::Free)?);
+    holds(&rt, meet(&rt, rt.alloc(), Way::Free)?);
     Ok(())
 }
 
 #[test]
 fn who_waits_lets_in_who_waited_for_the_mutex(rt: HostRuntime) -> Result<(), Fail> {
-    assert!(rt; meet(&rt, rt.alloc(), Way::InLine)?);
+    holds(&rt, meet(&rt, rt.alloc(), Way::InLine)?);
     Ok(())
 }
 
 #[test]
 fn who_waits_with_a_limit_is_notified_in_time(rt: HostRuntime) -> Result<(), Fail> {
-    assert!(rt; meet(&rt, rt.alloc(), Way::Timed)?);
+    holds(&rt, meet(&rt, rt.alloc(), Way::Timed)?);
     Ok(())
 }
 
@@ -230,7 +230,7 @@ fn who_waits_is_moved_to_a_mutex_that_is_held(rt: HostRuntime) -> Result<(), Fai
     let (Some(one), Some(other)) = (next_of(&lot, &mut others), next_of(&lot, &mut others)) else {
         return Err(Fail::from(Fault::NoMemory));
     };
-    assert!(rt; wait_beside_bumps(&rt, &lot, &room, one, other));
+    holds(&rt, wait_beside_bumps(&rt, &lot, &room, one, other));
     Ok(())
 }
 
@@ -340,6 +340,10 @@ fn two_mutexes<R: Threads + Wait + Sync>(
 
 #[test]
 fn those_who_wait_at_a_time_have_one_mutex(rt: HostRuntime) -> Result<(), Fail> {
-    assert_eq!(rt; two_mutexes(&rt, rt.alloc())?, (true, (true, true, true)));
+    same(
+        &rt,
+        two_mutexes(&rt, rt.alloc())?,
+        (true, (true, true, true)),
+    );
     Ok(())
 }

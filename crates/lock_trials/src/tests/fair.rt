@@ -4,7 +4,7 @@ ghost use Rattle.std.specs.Arc.{arc_value};
 ghost use Rattle.parking_lot_core.specs.Tokens.{IsTicketOf, IsTokenOf};
 ghost use Rattle.parking_lot.specs.Users.{lot_of};
 
-use super::pair;
+use super::{pair, same};
 use parking_lot::{FairMutex, Fault, Mutex, ParkingLot, Ticket, Token};
 use std::alloc::Global;
 use std::sync::atomic::AtomicBool;
@@ -211,7 +211,7 @@ fn who_waits_gets_the_mutex_by_a_release(rt: HostRuntime) -> Result<(), Fail> {
         other.leave(),
         GivesUp::Plain,
     );
-    assert_eq!(rt; gave, (true, true));
+    same(&rt, gave, (true, true));
     Ok(())
 }
 
@@ -219,7 +219,7 @@ fn who_waits_gets_the_mutex_by_a_release(rt: HostRuntime) -> Result<(), Fail> {
 fn who_waits_is_handed_the_mutex(rt: HostRuntime) -> Result<(), Fail> {
     let (lot, mutex, one, other) = pair(rt.alloc())?;
     let gave = hold_and_give_up(&rt, &lot, &mutex, one.leave(), other.leave(), GivesUp::Fair);
-    assert_eq!(rt; gave, (true, true));
+    same(&rt, gave, (true, true));
     Ok(())
 }
 
@@ -227,7 +227,7 @@ fn who_waits_is_handed_the_mutex(rt: HostRuntime) -> Result<(), Fail> {
 fn who_waits_has_the_mutex_during_a_bump(rt: HostRuntime) -> Result<(), Fail> {
     let (lot, mutex, one, other) = pair(rt.alloc())?;
     let gave = hold_and_give_up(&rt, &lot, &mutex, one.leave(), other.leave(), GivesUp::Bump);
-    assert_eq!(rt; gave, (true, true));
+    same(&rt, gave, (true, true));
     Ok(())
 }
 
@@ -283,16 +283,16 @@ fn all_add<R: Threads + Wait + Sync>(
 #[test]
 fn six_threads_add_under_one_fair_mutex(rt: HostRuntime) -> Result<(), Fail> {
     let (mutex, tickets) = six_fair_seats(rt.alloc(), 0)?;
-    assert_eq!(rt; tickets.len(), 6);
-    assert_eq!(rt; all_add(&rt, mutex, tickets)?, 6 * TIMES);
+    same(&rt, tickets.len(), 6);
+    same(&rt, all_add(&rt, mutex, tickets)?, 6 * TIMES);
     Ok(())
 }
 
 #[test]
 fn the_value_of_a_fair_mutex_comes_out(rt: HostRuntime) -> Result<(), Fail> {
     let (mut mutex, _tickets) = six_fair_seats(rt.alloc(), 10)?;
-    assert_eq!(rt; *mutex.get_mut(), 10);
+    same(&rt, *mutex.get_mut(), 10);
     *mutex.get_mut() = 20;
-    assert_eq!(rt; mutex.into_inner(), 20);
+    same(&rt, mutex.into_inner(), 20);
     Ok(())
 }

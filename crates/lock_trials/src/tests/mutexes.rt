@@ -4,7 +4,7 @@ ghost use Rattle.std.specs.Arc.{arc_value};
 ghost use Rattle.parking_lot_core.specs.Tokens.{IsTicketOf, IsTokenOf};
 ghost use Rattle.parking_lot.specs.Users.{lock_of, lot_of, value_of};
 
-use super::{lone, mutex_alone};
+use super::{holds, lone, mutex_alone, same};
 use parking_lot::{Fault, Mutex, MutexGuard, ParkingLot, Ticket, Token, lock_api, lock_raw};
 use std::alloc::{AllocError, Global};
 use std::mem;
@@ -56,7 +56,7 @@ fn what_was_written_is_there(rt: HostRuntime) -> Result<(), Fail> {
         clear(&rt, &mutex, &mut token),
         replace(&rt, &mutex, &mut token, 1),
     ];
-    assert_eq!(rt; seen, [5, 7, 0]);
+    same(&rt, seen, [5, 7, 0]);
     Ok(())
 }
 
@@ -75,8 +75,8 @@ fn push<R: Wait>(rt: &R, mutex: &Mutex<Vec<u8>>, token: &mut Token) -> Result<bo
 #[test]
 fn a_guard_lends_its_value(rt: HostRuntime) -> Result<(), Fail> {
     let (mutex, mut token) = mutex_alone(rt.alloc(), Vec::new(rt.alloc()))?;
-    assert!(rt; push(&rt, &mutex, &mut token)?);
-    assert_eq!(rt; mutex.into_inner().as_slice(), [3].as_slice());
+    holds(&rt, push(&rt, &mutex, &mut token)?);
+    same(&rt, mutex.into_inner().as_slice(), [3].as_slice());
     Ok(())
 }
 
@@ -109,17 +109,21 @@ fn look<R: Wait>(rt: &R, mutex: &Mutex<u8>, token: &mut Token) -> (bool, bool)
 fn a_try_gets_a_free_mutex_alone(rt: HostRuntime) -> Result<(), Fail> {
     let (mutex, mut token) = mutex_alone(rt.alloc(), 0)?;
     let seen = tries(&rt, &mutex, &mut token);
-    assert_eq!(rt; seen, Some([(false, true), (true, false), (false, true)]));
+    same(
+        &rt,
+        seen,
+        Some([(false, true), (true, false), (false, true)]),
+    );
     Ok(())
 }
 
 #[test]
 fn the_value_comes_out(rt: HostRuntime) -> Result<(), Fail> {
     let (mut mutex, mut token) = mutex_alone(rt.alloc(), 10)?;
-    assert_eq!(rt; replace(&rt, &mutex, &mut token, 15), 10);
-    assert_eq!(rt; *mutex.get_mut(), 15);
+    same(&rt, replace(&rt, &mutex, &mut token, 15), 10);
+    same(&rt, *mutex.get_mut(), 15);
     *mutex.get_mut() = 20;
-    assert_eq!(rt; mutex.into_inner(), 20);
+    same(&rt, mutex.into_inner(), 20);
     Ok(())
 }
 
@@ -145,7 +149,7 @@ fn drops_of(alloc: Global, drops: &AtomicUsize) -> Result<(usize, usize), Fault>
 #[test]
 fn the_value_is_dropped_once(rt: HostRuntime) -> Result<(), Fail> {
     let drops = AtomicUsize::new(0);
-    assert_eq!(rt; drops_of(rt.alloc(), &drops)?, (0, 1));
+    same(&rt, drops_of(rt.alloc(), &drops)?, (0, 1));
     Ok(())
 }
 
@@ -160,7 +164,7 @@ fn drops_with_mutex(alloc: Global, drops: &AtomicUsize) -> Result<(usize, usize)
 #[test]
 fn the_value_is_dropped_with_its_mutex(rt: HostRuntime) -> Result<(), Fail> {
     let drops = AtomicUsize::new(0);
-    assert_eq!(rt; drops_with_mutex(rt.alloc(), &drops)?, (0, 1));
+    same(&rt, drops_with_mutex(rt.alloc(), &drops)?, (0, 1));
     Ok(())
 }
 
@@ -184,9 +188,9 @@ fn drops_by_writing<'d, R: Wait>(
 fn a_value_that_is_replaced_is_dropped_once(rt: HostRuntime) -> Result<(), Fail> {
     let drops = AtomicUsize::new(0);
     let (mutex, mut token) = mutex_alone(rt.alloc(), Counts(&drops))?;
-    assert_eq!(rt; drops_by_writing(&rt, &mutex, &mut token, &drops), 1);
+    same(&rt, drops_by_writing(&rt, &mutex, &mut token, &drops), 1);
     drop(mutex);
-    assert_eq!(rt; drops.load(SeqCst), 2);
+    same(&rt, drops.load(SeqCst), 2);
     Ok(())
 }
 
@@ -195,8 +199,8 @@ fn a_full_lot_gives_the_value_back(rt: HostRuntime) -> Result<(), Fail> {
     let (lot, mut token) = lone(rt.alloc())?;
     let mutex = Mutex::new(&lot, &mut token, 8)?;
     let refused = Mutex::new(&lot, &mut token, 9).err();
-    assert_eq!(rt; refused, Some((Fault::LotFull, 9)));
-    assert_eq!(rt; mutex.into_inner(), 8);
+    same(&rt, refused, Some((Fault::LotFull, 9)));
+    same(&rt, mutex.into_inner(), 8);
     Ok(())
 }
 
@@ -247,8 +251,8 @@ fn double_inside<R: Wait>(rt: &R, mutex: &Mutex<Room>, token: &mut Token) -> u64
 #[test]
 fn a_mutex_stands_inside_another(rt: HostRuntime) -> Result<(), Fail> {
     let (mutex, mut token) = mutex_alone(rt.alloc(), Room::new(rt.alloc())?)?;
-    assert_eq!(rt; double_inside(&rt, &mutex, &mut token), 2);
-    assert_eq!(rt; double_inside(&rt, &mutex, &mut token), 4);
+    same(&rt, double_inside(&rt, &mutex, &mut token), 2);
+    same(&rt, double_inside(&rt, &mutex, &mut token), 4);
     Ok(())
 }
 
@@ -316,7 +320,7 @@ fn all_add<R: Threads + Wait + Sync>(
 #[test]
 fn six_threads_add_under_one_mutex(rt: HostRuntime) -> Result<(), Fail> {
     let (mutex, tickets) = six_seats(rt.alloc())?;
-    assert_eq!(rt; tickets.len(), 6);
-    assert_eq!(rt; all_add(&rt, mutex, tickets)?, 6 * TIMES);
+    same(&rt, tickets.len(), 6);
+    same(&rt, all_add(&rt, mutex, tickets)?, 6 * TIMES);
     Ok(())
 }

@@ -2,7 +2,7 @@
 ghost use Rattle.parking_lot_core.specs.Tokens.{IsTokenOf};
 ghost use Rattle.parking_lot.specs.Users.{lot_of};
 
-use super::{lone, mutex_alone, pair};
+use super::{lone, mutex_alone, pair, same};
 use parking_lot::{Clock, FairMutex, Mutex, TickClock, Token, lock_api, lock_raw};
 use std::sync::Wait;
 use std::test::Fail;
@@ -96,9 +96,10 @@ fn gives_up_and_gets<M: lock_raw::RawMutexTimed, R: Wait>(
 #[test]
 fn who_waits_gives_up_in_time(rt: HostRuntime) -> Result<(), Fail> {
     let (mutex, mut token) = mutex_alone(rt.alloc(), 0u8)?;
-    assert_eq!(rt;
+    same(
+        &rt,
         gives_up_and_gets(&rt, &mutex, &mut token),
-        [true, true, false]
+        [true, true, false],
     );
     Ok(())
 }
@@ -109,9 +110,10 @@ fn who_waits_for_a_fair_mutex_gives_up_in_time(rt: HostRuntime) -> Result<(), Fa
     let Ok(mutex) = FairMutex::new(&lot, &mut token, 0u8) else {
         return Err("the mutex was refused".into());
     };
-    assert_eq!(rt;
+    same(
+        &rt,
         gives_up_and_gets(&rt, &mutex, &mut token),
-        [true, true, false]
+        [true, true, false],
     );
     Ok(())
 }
@@ -137,6 +139,6 @@ fn tries_in_turn<R: Wait>(
 fn a_free_mutex_is_got_past_the_deadline(rt: HostRuntime) -> Result<(), Fail> {
     let (_lot, mutex, mut holder, mut waiter) = pair(rt.alloc())?;
     let got = tries_in_turn(&rt, &mutex, &mut holder, &mut waiter);
-    assert_eq!(rt; got, [true, false, true]);
+    same(&rt, got, [true, false, true]);
     Ok(())
 }

@@ -1,8 +1,8 @@
 //! Clocks, and sleepers whose time is up.
 ghost use Rattle.parking_lot_core.specs.Tokens.{IsTokenOf, IsSameThread};
 
-use super::line_up;
 use super::single::one_mutex;
+use super::{line_up, same};
 use lot_base::TickClock;
 use parking_lot_core::{Clock, Key, Note, ParkingLot, Slept, Token, Want, Word};
 use std::sync::Wait;
@@ -42,7 +42,11 @@ fn who_is_not_woken_is_late(rt: HostRuntime) -> Result<(), Fail> {
     line_up(&rt, &lot, &mut token, KEY);
     let clock = TickClock::starting_at(1000);
     let late = sleep_until(&rt, &lot, &mut token, word, (&clock, 1005));
-    assert_eq!(rt; late, Some((KEY, Some(KEY))));
-    assert_eq!(rt; (lot.queued(&rt, &mut token, KEY), clock.now()), (0, 1006));
+    same(&rt, late, Some((KEY, Some(KEY))));
+    same(
+        &rt,
+        (lot.queued(&rt, &mut token, KEY), clock.now()),
+        (0, 1006),
+    );
     Ok(())
 }

@@ -8,6 +8,7 @@ ghost use Rattle.lot_words.specs.declared.words.WordKind.TheVariants.{Mutex};
 ghost use Rattle.parking_lot_core.specs.Tokens.{IsNewTicketOf, IsSameThread, IsTicketOf, IsTokenOf};
 
 use super::mutexes::{try_lock, unlock};
+use super::same;
 use super::several::told;
 use parking_lot_core::{
     Fault, Key, Keys, Note, ParkingLot, Right, Slept, TickClock, Ticket, Token, Want, Word,
@@ -90,7 +91,7 @@ fn one_leave_wakes_1023_threads(rt: HostRuntime) -> Result<(), Fail> {
     } = crowd;
     let mut token = server.enter();
     take_all(&rt, &lot, &mut token);
-    assert_eq!(rt; count_woken(&rt, &lot, others, word), THREADS - 1);
+    same(&rt, count_woken(&rt, &lot, others, word), THREADS - 1);
     Ok(())
 }
 
@@ -176,6 +177,6 @@ fn count_served<R: Wait>(rt: &R, lot: &ParkingLot, crowd: Crowd) -> usize
 #[test]
 fn a_right_goes_to_each_of_1023_threads(rt: HostRuntime) -> Result<(), Fail> {
     let (lot, crowd) = seat_crowd(rt.alloc())?;
-    assert_eq!(rt; count_served(&rt, &lot, crowd), THREADS - 1);
+    same(&rt, count_served(&rt, &lot, crowd), THREADS - 1);
     Ok(())
 }

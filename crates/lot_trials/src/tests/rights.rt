@@ -6,8 +6,8 @@ ghost use Rattle.lot_words.specs.RightsOf.{IsRightOf};
 ghost use Rattle.lot_words.specs.declared.words.WordKind.TheVariants.{Mutex};
 ghost use Rattle.parking_lot_core.specs.Tokens.{IsTokenOf, IsSameThread};
 
-use super::line_up;
 use super::mutexes::try_lock;
+use super::{holds, line_up};
 use lot_base::TickClock;
 use parking_lot_core::{
     Fault, Key, Keys, Note, ParkingLot, Right, Slept, Token, Want, Word, WordKind,
@@ -81,7 +81,7 @@ fn a_right_to_another_mutex_wakes_nobody(rt: HostRuntime) -> Result<(), Fail> {
     let Some(right) = try_lock(&lot, &mut token, other) else {
         return Err("the mutex is locked".into());
     };
-    assert!(rt; hand_to_itself(&rt, &lot, &mut token, right));
-    assert!(rt; sleeps_on(&rt, &lot, &mut token, one));
+    holds(&rt, hand_to_itself(&rt, &lot, &mut token, right));
+    holds(&rt, sleeps_on(&rt, &lot, &mut token, one));
     Ok(())
 }

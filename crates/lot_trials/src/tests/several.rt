@@ -6,6 +6,7 @@ ghost use Rattle.parking_lot_core.specs.Sections.{StaysIn, rightless_in};
 ghost use Rattle.parking_lot_core.specs.Tokens.{IsNewTicketOf, IsTicketOf, IsTokenOf, IsSameThread};
 
 use super::mutexes::try_lock;
+use super::same;
 use parking_lot_core::{
     Fault, Key, Keys, Note, ParkingLot, Right, Section, Slept, TickClock, Ticket, Token, Want,
     Word, WordKind,
@@ -146,7 +147,11 @@ fn each_of_three_gets_its_note(rt: HostRuntime) -> Result<(), Fail> {
         (Way::TakePicked, Note::Normal),
         (Way::HandOff, Note::HandOff),
     ] {
-        assert_eq!(rt; notes_of_three(&rt, rt.alloc(), way)?, [note, note, note]);
+        same(
+            &rt,
+            notes_of_three(&rt, rt.alloc(), way)?,
+            [note, note, note],
+        );
     }
     Ok(())
 }
@@ -313,6 +318,6 @@ fn all_four<R: Threads + Wait + Sync>(rt: &R, lot: &ParkingLot, seats: Four) -> 
 #[test]
 fn the_last_three_sleepers_wake_together(rt: HostRuntime) -> Result<(), Fail> {
     let (lot, seats) = seat_four(rt.alloc(), 1024)?;
-    assert_eq!(rt; all_four(&rt, &lot, seats), 3);
+    same(&rt, all_four(&rt, &lot, seats), 3);
     Ok(())
 }

@@ -7,6 +7,7 @@ ghost use Rattle.lot_words.specs.declared.words.WordKind.TheVariants.{Mutex};
 ghost use Rattle.parking_lot_core.specs.Tokens.{IsTokenOf, IsSameThread};
 
 use super::mutexes::{try_lock, unlock};
+use super::{holds, same};
 use lot_words::laws::mutex_may_step;
 use parking_lot_core::{
     Did, Fault, Key, Keys, Note, Op, ParkingLot, Requeue, Section, SectionRecord, Ticket, Token,
@@ -73,9 +74,9 @@ fn is_new(ticket: Ticket, number: usize) -> bool {
 #[test]
 fn seats_are_numbered(rt: HostRuntime) -> Result<(), Fail> {
     let (_lot, tickets) = ParkingLot::new(rt.alloc(), 1, 1024)?;
-    assert_eq!(rt; tickets.len(), 1024);
+    same(&rt, tickets.len(), 1024);
     for (number, ticket) in tickets.into_iter().enumerate() {
-        assert!(rt; is_new(ticket, number));
+        holds(&rt, is_new(ticket, number));
     }
     Ok(())
 }
@@ -84,8 +85,8 @@ fn seats_are_numbered(rt: HostRuntime) -> Result<(), Fail> {
 #[test]
 fn a_lot_is_made_or_refused(rt: HostRuntime) {
     match ParkingLot::new(rt.alloc(), 2, 2) {
-        Ok((_, tickets)) => assert_eq!(rt; tickets.len(), 2),
-        Err(fault) => assert_eq!(rt; fault, Fault::NoMemory),
+        Ok((_, tickets)) => same(&rt, tickets.len(), 2),
+        Err(fault) => same(&rt, fault, Fault::NoMemory),
     }
 }
 
@@ -120,7 +121,7 @@ fn lock_once(
 fn a_mutex_is_locked_once(rt: HostRuntime) -> Result<(), Fail> {
     let (lot, mut token, word) = one_mutex(rt.alloc())?;
     let locked = lock_once(&lot, &mut token, word);
-    assert_eq!(rt; locked, Some((word, Want::Exclusive, false, [1, 0])));
+    same(&rt, locked, Some((word, Want::Exclusive, false, [1, 0])));
     Ok(())
 }
 
@@ -144,7 +145,7 @@ fn found_by_each(lot: &ParkingLot, token: &mut Token, word: Word) -> [u64; 6]
 fn each_operation_changes_the_word(rt: HostRuntime) -> Result<(), Fail> {
     let (lot, mut token, word) = one_mutex(rt.alloc())?;
     let found = found_by_each(&lot, &mut token, word);
-    assert_eq!(rt; found, [0, 1, 3, 3, 1, 1]);
+    same(&rt, found, [0, 1, 3, 3, 1, 1]);
     Ok(())
 }
 
@@ -165,7 +166,7 @@ fn found_by_a_store(lot: &ParkingLot, token: &mut Token, word: Word) -> [u64; 4]
 fn an_owner_may_store(rt: HostRuntime) -> Result<(), Fail> {
     let (lot, mut token, word) = one_mutex(rt.alloc())?;
     let found = found_by_a_store(&lot, &mut token, word);
-    assert_eq!(rt; found, [0, 3, 1, 1]);
+    same(&rt, found, [0, 3, 1, 1]);
     Ok(())
 }
 
@@ -221,10 +222,10 @@ fn words_are_drawn_once(rt: HostRuntime) -> Result<(), Fail> {
         Ok((2, WordKind::Mutex)),
         Ok((3, WordKind::Count)),
     ];
-    assert_eq!(rt; draw_four(&lot, &mut token), four);
+    same(&rt, draw_four(&lot, &mut token), four);
     let full = Err(Fault::LotFull);
     let last = [full, full, Ok((4, WordKind::Once)), full];
-    assert_eq!(rt; draw_the_last(&lot, &mut token), last);
+    same(&rt, draw_the_last(&lot, &mut token), last);
     Ok(())
 }
 
@@ -263,14 +264,14 @@ fn line_up_twice<R: Wait>(
 fn a_section_takes_in_order(rt: HostRuntime) -> Result<(), Fail> {
     let (lot, mut token) = one_seat(rt.alloc(), 1)?;
     let seen = line_up_twice(&rt, &lot, &mut token);
-    assert_eq!(rt; seen, ([(1, 0, Some(6)), (0, 1, Some(7))], 0, true));
+    same(&rt, seen, ([(1, 0, Some(6)), (0, 1, Some(7))], 0, true));
     let record = SectionRecord {
         key: 6,
         did: Did::TakeAll(7),
         number: 1,
     };
-    assert_eq!(rt; token.last_section(), Some(record));
-    assert_eq!(rt; lot.queued(&rt, &mut token, 7), 0);
+    same(&rt, token.last_section(), Some(record));
+    same(&rt, lot.queued(&rt, &mut token, 7), 0);
     Ok(())
 }
 
@@ -294,7 +295,7 @@ fn pick_of_three<R: Wait>(rt: &R, lot: &ParkingLot, token: &mut Token) -> (bool,
 #[test]
 fn a_section_takes_who_is_picked(rt: HostRuntime) -> Result<(), Fail> {
     let (lot, mut token) = one_of(rt.alloc(), 1, 3)?;
-    assert_eq!(rt; pick_of_three(&rt, &lot, &mut token), (true, true, 1));
+    same(&rt, pick_of_three(&rt, &lot, &mut token), (true, true, 1));
     let did = Did::TakePicked {
         key: 6,
         start: None,
@@ -305,7 +306,7 @@ fn a_section_takes_who_is_picked(rt: HostRuntime) -> Result<(), Fail> {
         did,
         number: 2,
     };
-    assert_eq!(rt; token.last_section(), Some(record));
+    same(&rt, token.last_section(), Some(record));
     Ok(())
 }
 
@@ -348,8 +349,8 @@ fn a_section_requeues(rt: HostRuntime) -> Result<(), Fail> {
         (Requeue::All, ((None, 3), None, [0, 3]), 3),
         (Requeue::TakeOneMoveRest, ((Some(2), 2), Some(2), [0, 2]), 3),
     ] {
-        assert_eq!(rt; requeue_three(&rt, &lot, &mut token, op), seen);
-        assert_eq!(rt; token.last_section(), record_of(op, number));
+        same(&rt, requeue_three(&rt, &lot, &mut token, op), seen);
+        same(&rt, token.last_section(), record_of(op, number));
     }
     Ok(())
 }
@@ -367,14 +368,14 @@ fn take_nobody<R: Wait>(rt: &R, lot: &ParkingLot, token: &mut Token) -> Option<u
 #[test]
 fn a_step_forgets_the_last_section(rt: HostRuntime) -> Result<(), Fail> {
     let (lot, mut token, word) = one_mutex(rt.alloc())?;
-    assert_eq!(rt; take_nobody(&rt, &lot, &mut token), None);
+    same(&rt, take_nobody(&rt, &lot, &mut token), None);
     let record = SectionRecord {
         key: 0,
         did: Did::TakeFirst(0),
         number: 0,
     };
-    assert_eq!(rt; token.last_section(), Some(record));
+    same(&rt, token.last_section(), Some(record));
     lot.word(&mut token, word, Op::Load);
-    assert_eq!(rt; token.last_section(), None);
+    same(&rt, token.last_section(), None);
     Ok(())
 }

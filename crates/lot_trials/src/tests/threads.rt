@@ -7,8 +7,8 @@ ghost use Rattle.lot_words.specs.declared.words.WordKind.TheVariants.{Mutex};
 ghost use Rattle.lot_words.specs.declared.owners.Owner.TheVariants.{Exclusive};
 ghost use Rattle.parking_lot_core.specs.Tokens.{IsTicketOf, IsTokenOf, IsSameThread};
 
-use super::line_up;
 use super::mutexes::{try_lock, unlock};
+use super::{line_up, same};
 use lot_base::TickClock;
 use parking_lot_core::{
     Fault, Key, Keys, Note, ParkingLot, Right, Slept, Ticket, Token, Want, Word, WordKind,
@@ -150,7 +150,7 @@ fn both_serve<R: Threads + Wait + Sync>(
 fn a_right_goes_round(rt: HostRuntime) -> Result<(), Fail> {
     let (lot, one, other, word) = two_seats(rt.alloc())?;
     let rounds = both_serve(&rt, &lot, one, other, word);
-    assert_eq!(rt; rounds, (ROUNDS, ROUNDS));
+    same(&rt, rounds, (ROUNDS, ROUNDS));
     Ok(())
 }
 
@@ -256,7 +256,7 @@ fn both_wake<R: Threads + Wait + Sync>(
 #[test]
 fn an_early_parker_loses_and_doubles_no_wake(rt: HostRuntime) -> Result<(), Fail> {
     let (lot, one, other, word) = two_seats(rt.alloc())?;
-    assert_eq!(rt; both_wake(&rt, &lot, one, other, word), SLOW_ROUNDS);
+    same(&rt, both_wake(&rt, &lot, one, other, word), SLOW_ROUNDS);
     Ok(())
 }
 
@@ -337,6 +337,10 @@ fn both_hurry<R: Threads + Wait + Sync>(
 fn who_was_taken_is_woken_and_not_late(rt: HostRuntime) -> Result<(), Fail> {
     let (lot, one, other, word) = two_seats(rt.alloc())?;
     let ((woken, late), taken) = both_hurry(&rt, &lot, one, other, word);
-    assert_eq!(rt; (woken as u64, woken.saturating_add(late)), (taken, ROUNDS));
+    same(
+        &rt,
+        (woken as u64, woken.saturating_add(late)),
+        (taken, ROUNDS),
+    );
     Ok(())
 }

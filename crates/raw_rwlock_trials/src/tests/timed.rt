@@ -4,7 +4,7 @@ ghost use Rattle.std.specs.Arc.{arc_value};
 ghost use Rattle.parking_lot_core.specs.Tokens.{IsTicketOf, IsTokenOf};
 ghost use Rattle.parking_lot.specs.RwLockUsers.{lot_of};
 
-use super::{FREE, READ, UPGRADABLE, WRITTEN, look};
+use super::{FREE, READ, UPGRADABLE, WRITTEN, holds, look};
 use parking_lot::lock_raw::{
     RawRwLock as RawLock, RawRwLockTimed, RawRwLockUpgrade, RawRwLockUpgradeTimed,
 };
@@ -207,8 +207,8 @@ fn all_give_up<const RECURSIVE: bool>(rt: &impl Wait, alloc: Global) -> Result<b
 
 #[test]
 fn who_waits_gives_up_in_time(rt: HostRuntime) -> Result<(), Fail> {
-    assert!(rt; all_give_up::<false>(&rt, rt.alloc())?);
-    assert!(rt; all_give_up::<true>(&rt, rt.alloc())?);
+    holds(&rt, all_give_up::<false>(&rt, rt.alloc())?);
+    holds(&rt, all_give_up::<true>(&rt, rt.alloc())?);
     Ok(())
 }
 
@@ -411,12 +411,12 @@ fn lets_readers_in<R: Threads + Wait + Sync>(
 
 #[test]
 fn a_writer_that_gives_up_lets_readers_in(rt: HostRuntime) -> Result<(), Fail> {
-    assert!(rt; lets_readers_in(&rt, rt.alloc(), false)?);
+    holds(&rt, lets_readers_in(&rt, rt.alloc(), false)?);
     Ok(())
 }
 
 #[test]
 fn an_upgrade_that_gives_up_lets_readers_in(rt: HostRuntime) -> Result<(), Fail> {
-    assert!(rt; lets_readers_in(&rt, rt.alloc(), true)?);
+    holds(&rt, lets_readers_in(&rt, rt.alloc(), true)?);
     Ok(())
 }

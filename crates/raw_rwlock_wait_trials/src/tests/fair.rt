@@ -3,7 +3,7 @@ ghost use Rattle.parking_lot_core.specs.Tokens.{IsTokenOf};
 ghost use Rattle.parking_lot.specs.RwLockUsers.{lot_of};
 
 use super::scenes::{ALL, Coming, Manner, READERS, Scene, WRITERS};
-use super::{play, play_within};
+use super::{play, play_within, same};
 use parking_lot::lock_raw::{
     RawRwLock as RawLock, RawRwLockFair, RawRwLockUpgrade, RawRwLockUpgradeFair,
 };
@@ -118,6 +118,6 @@ fn goes_alone<const RECURSIVE: bool, R: Wait>(
 #[test]
 fn who_is_alone_keeps_its_right_as_it_bumps(rt: HostRuntime) -> Result<(), Fail> {
     let (lock, mut token) = lock_alone::<false>(rt.alloc(), 1)?;
-    assert_eq!(rt; goes_alone(&rt, &lock, &mut token), [true, true, true]);
+    same(&rt, goes_alone(&rt, &lock, &mut token), [true, true, true]);
     Ok(())
 }

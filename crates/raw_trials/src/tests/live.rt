@@ -1,4 +1,5 @@
 //! What is written, and how it ends where nothing more can be.
+use super::same;
 use lot_live::{BROKEN, DONE, live};
 use std::test::Fail;
 
@@ -6,10 +7,11 @@ use std::test::Fail;
 fn three_lines(rt: HostRuntime) -> Result<(), Fail> {
     let mut text = Vec::<u8>::new(rt.alloc());
     let status = live(&rt, rt.alloc(), &mut text);
-    assert_eq!(rt; status, DONE);
-    assert_eq!(rt;
+    same(&rt, status, DONE);
+    same(
+        &rt,
         text.as_slice(),
-        b"readers met\nread 7\ncount 6000\n".as_slice()
+        b"readers met\nread 7\ncount 6000\n".as_slice(),
     );
     Ok(())
 }
@@ -18,7 +20,7 @@ fn three_lines(rt: HostRuntime) -> Result<(), Fail> {
 fn a_full_device(rt: HostRuntime) -> Result<(), Fail> {
     let mut none = [0u8; 3];
     let mut left = none.as_mut_slice();
-    assert_eq!(rt; live(&rt, rt.alloc(), &mut left), BROKEN);
-    assert_eq!(rt; none.as_slice(), b"rea".as_slice());
+    same(&rt, live(&rt, rt.alloc(), &mut left), BROKEN);
+    same(&rt, none.as_slice(), b"rea".as_slice());
     Ok(())
 }

@@ -3,7 +3,7 @@ ghost use Rattle.std.specs.Prelude.{◌≡◌};
 ghost use Rattle.parking_lot_core.specs.Tokens.{IsTicketOf, IsTokenOf};
 ghost use Rattle.parking_lot.specs.Users.{lot_of};
 
-use super::{await_flag, sees_waiter, three_seats};
+use super::{await_flag, same, sees_waiter, three_seats};
 use parking_lot::lock_raw::{RawMutex as RawLock, RawMutexTimed as RawTimedLock};
 use parking_lot::{Clock, Key, Keys, Note, ParkingLot, RawMutex, Requeue, Ticket, Token};
 use std::sync::Wait;
@@ -113,6 +113,6 @@ fn both<R: Threads + Wait + Sync>(
 #[test]
 fn who_was_moved_elsewhere_and_is_late_leaves_that_queue(rt: HostRuntime) -> Result<(), Fail> {
     let (lot, mutex, (one, other, _third)) = three_seats(rt.alloc())?;
-    assert_eq!(rt; both(&rt, &lot, &mutex, one, other), (true, true));
+    same(&rt, both(&rt, &lot, &mutex, one, other), (true, true));
     Ok(())
 }

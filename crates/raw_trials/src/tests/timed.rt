@@ -4,7 +4,7 @@ ghost use Rattle.std.specs.Arc.{arc_value};
 ghost use Rattle.parking_lot_core.specs.Tokens.{IsTicketOf, IsTokenOf};
 ghost use Rattle.parking_lot.specs.Users.{lot_of};
 
-use super::{hold, three_seats};
+use super::{hold, holds, same, three_seats};
 use parking_lot::lock_raw::{RawMutex as RawLock, RawMutexTimed as RawTimedLock};
 use parking_lot::{Fault, ParkingLot, RawMutex, TickClock, Ticket, Token, lock_raw};
 use std::alloc::Global;
@@ -40,11 +40,11 @@ fn who_holds_a_mutex_waits_for_it_in_vain(rt: HostRuntime) -> Result<(), Fail> {
             Some(other) => mutex.has_two_guards(&mut token, guard, other),
             None => {}
         }
-        assert!(rt; mutex.is_locked(&mut token));
-        assert_eq!(rt; lot.queued(&rt, &mut token, mutex.key()), 0);
+        holds(&rt, mutex.is_locked(&mut token));
+        same(&rt, lot.queued(&rt, &mut token, mutex.key()), 0);
     }
     mutex.unlock(&rt, &mut token, guard);
-    assert!(rt; !mutex.is_locked(&mut token));
+    holds(&rt, !mutex.is_locked(&mut token));
     Ok(())
 }
 
@@ -89,7 +89,7 @@ fn takes_a_free_one<M: lock_raw::RawMutexTimed, R: Wait>(
 #[test]
 fn a_free_mutex_is_taken_though_the_time_is_up(rt: HostRuntime) -> Result<(), Fail> {
     let (_lot, mutex, mut token) = one_seat(rt.alloc())?;
-    assert!(rt; takes_a_free_one(&rt, &mutex, &mut token));
+    holds(&rt, takes_a_free_one(&rt, &mutex, &mut token));
     Ok(())
 }
 
@@ -142,7 +142,7 @@ fn a_release_wakes_who_waits_with_a_limit(rt: HostRuntime) -> Result<(), Fail> {
     for deadline in [Some(u64::MAX), None] {
         let (lot, mutex, (one, other, _third)) = three_seats(rt.alloc())?;
         let ended = hold_and_wait(&rt, &lot, &mutex, one, other, deadline);
-        assert_eq!(rt; ended, (true, true));
+        same(&rt, ended, (true, true));
     }
     Ok(())
 }
@@ -194,10 +194,10 @@ fn deadlines_race_releases(rt: HostRuntime) -> Result<(), Fail> {
     let (lot, mutex, (one, other, third)) = three_seats(rt.alloc())?;
     let hits = AtomicU64::new(0);
     let (here, there) = both_race(&rt, &mutex, one, other, &hits);
-    assert!(rt; here + there > 0);
-    assert_eq!(rt; hits.load(SeqCst), here + there);
+    holds(&rt, here + there > 0);
+    same(&rt, hits.load(SeqCst), here + there);
     let mut token = third.enter();
-    assert!(rt; !mutex.is_locked(&mut token));
-    assert_eq!(rt; lot.queued(&rt, &mut token, mutex.key()), 0);
+    holds(&rt, !mutex.is_locked(&mut token));
+    same(&rt, lot.queued(&rt, &mut token, mutex.key()), 0);
     Ok(())
 }

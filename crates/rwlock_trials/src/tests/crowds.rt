@@ -3,7 +3,7 @@ ghost use Rattle.std.specs.Prelude.{◌≡◌, ◌<◌};
 ghost use Rattle.parking_lot_core.specs.Tokens.{IsTicketOf, IsTokenOf};
 ghost use Rattle.parking_lot.specs.RwLockUsers.{lot_of};
 
-use super::seats;
+use super::{holds, same, seats};
 use parking_lot::{Fault, RawRwLock, RwLock, Ticket, Token, lock_api_rw};
 use std::alloc::Global;
 use std::sync::Wait;
@@ -90,11 +90,11 @@ fn all_come<const RECURSIVE: bool, R: Threads + Wait + Sync>(
 #[test]
 fn ten_threads_read_and_write(rt: HostRuntime) -> Result<(), Fail> {
     let (times, value) = all_come::<false, HostRuntime>(&rt, rt.alloc())?;
-    assert!(rt; 500 < times);
-    assert_eq!(rt; value, times);
+    holds(&rt, 500 < times);
+    same(&rt, value, times);
     let (times, value) = all_come::<true, HostRuntime>(&rt, rt.alloc())?;
-    assert!(rt; 500 < times);
-    assert_eq!(rt; value, times);
+    holds(&rt, 500 < times);
+    same(&rt, value, times);
     Ok(())
 }
 
@@ -225,12 +225,12 @@ fn tear_and_look<R: Threads + Wait + Sync>(
 
 #[test]
 fn readers_find_no_writer_in_the_act(rt: HostRuntime) -> Result<(), Fail> {
-    assert_eq!(rt; tear_and_look(&rt, rt.alloc(), 0)?, (true, 10));
+    same(&rt, tear_and_look(&rt, rt.alloc(), 0)?, (true, 10));
     Ok(())
 }
 
 #[test]
 fn upgraders_find_no_writer_in_the_act(rt: HostRuntime) -> Result<(), Fail> {
-    assert_eq!(rt; tear_and_look(&rt, rt.alloc(), 5)?, (true, 15));
+    same(&rt, tear_and_look(&rt, rt.alloc(), 5)?, (true, 15));
     Ok(())
 }

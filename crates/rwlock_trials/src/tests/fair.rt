@@ -4,7 +4,7 @@ ghost use Rattle.parking_lot_core.specs.Tokens.{IsTicketOf, IsTokenOf};
 ghost use Rattle.parking_lot.specs.RwLockUsers.{lot_of};
 
 use super::guards::{is_waited_for, write_later};
-use super::{next_of, seats};
+use super::{holds, next_of, seats};
 use parking_lot::{Fault, ParkingLot, RwLock, Ticket, Token};
 use std::alloc::Global;
 use std::sync::Wait;
@@ -174,7 +174,7 @@ fn gives_to_a_writer<R: Threads + Wait + Sync>(
 #[test]
 fn who_waits_is_handed_the_lock(rt: HostRuntime) -> Result<(), Fail> {
     for giver in [Giver::Reader, Giver::Upgradable, Giver::Writer] {
-        assert!(rt; gives_to_a_writer(&rt, rt.alloc(), giver, false)?);
+        holds(&rt, gives_to_a_writer(&rt, rt.alloc(), giver, false)?);
     }
     Ok(())
 }
@@ -182,7 +182,7 @@ fn who_waits_is_handed_the_lock(rt: HostRuntime) -> Result<(), Fail> {
 #[test]
 fn who_waits_has_the_lock_during_a_bump(rt: HostRuntime) -> Result<(), Fail> {
     for giver in [Giver::Reader, Giver::Upgradable, Giver::Writer] {
-        assert!(rt; gives_to_a_writer(&rt, rt.alloc(), giver, true)?);
+        holds(&rt, gives_to_a_writer(&rt, rt.alloc(), giver, true)?);
     }
     Ok(())
 }

@@ -3,7 +3,7 @@ ghost use Rattle.std.specs.Prelude.{◌≡◌, ◌≤◌};
 ghost use Rattle.parking_lot_core.specs.Tokens.{IsTicketOf, IsTokenOf};
 ghost use Rattle.parking_lot.specs.RwLockUsers.{lot_of};
 
-use super::{lock_alone, lone, next_of, reads, seats, tries};
+use super::{lock_alone, lone, next_of, reads, same, seats, tries};
 use parking_lot::{Fault, ParkingLot, RawRwLock, RwLock, Ticket, Token, lock_api_rw};
 use std::alloc::Global;
 use std::sync::Wait;
@@ -81,12 +81,12 @@ const WANTED: [Beside; 3] = [
 #[test]
 fn guards_keep_tries_out(rt: HostRuntime) -> Result<(), Fail> {
     let (lock, mut token) = lock_alone(rt.alloc(), 0u64)?;
-    assert_eq!(rt; look_beside_each(&rt, &lock, &mut token), Some(WANTED));
+    same(&rt, look_beside_each(&rt, &lock, &mut token), Some(WANTED));
     let (lot, mut token) = lone(rt.alloc())?;
     let Ok(lock) = RwLock::with_limit(&lot, &mut token, 0u64, 1024) else {
         return Err("the lock was refused".into());
     };
-    assert_eq!(rt; look_beside_each(&rt, &lock, &mut token), Some(WANTED));
+    same(&rt, look_beside_each(&rt, &lock, &mut token), Some(WANTED));
     Ok(())
 }
 
@@ -195,7 +195,7 @@ fn beside_waiting_writer<const RECURSIVE: bool, R: Threads + Wait + Sync>(
 #[test]
 fn a_waiting_writer_keeps_a_reader_out(rt: HostRuntime) -> Result<(), Fail> {
     let seen = beside_waiting_writer::<false, HostRuntime>(&rt, rt.alloc())?;
-    assert_eq!(rt; seen, (Some((true, false)), 7));
+    same(&rt, seen, (Some((true, false)), 7));
     Ok(())
 }
 
@@ -204,6 +204,6 @@ fn who_reads_a_recursive_lock_reads_again_beside_a_waiting_writer(
     rt: HostRuntime,
 ) -> Result<(), Fail> {
     let seen = beside_waiting_writer::<true, HostRuntime>(&rt, rt.alloc())?;
-    assert_eq!(rt; seen, (Some((true, true)), 7));
+    same(&rt, seen, (Some((true, true)), 7));
     Ok(())
 }

@@ -2,7 +2,7 @@
 ghost use Rattle.parking_lot_core.specs.Tokens.{IsTokenOf};
 ghost use Rattle.parking_lot.specs.RwLockUsers.{lot_of};
 
-use super::lock_alone;
+use super::{lock_alone, same};
 use parking_lot::{RwLock, TickClock, Token};
 use std::sync::Wait;
 use std::test::Fail;
@@ -156,18 +156,21 @@ fn upgrades_beside_a_reader<R: Wait>(
 #[test]
 fn who_waits_gives_up_in_time(rt: HostRuntime) -> Result<(), Fail> {
     let (lock, mut token) = lock_alone(rt.alloc(), 0u64)?;
-    assert_eq!(rt;
+    same(
+        &rt,
         come_beside_a_writer(&rt, &lock, &mut token, false),
-        [false; 3]
+        [false; 3],
     );
-    assert_eq!(rt;
+    same(
+        &rt,
         come_beside_a_writer(&rt, &lock, &mut token, true),
-        [false; 3]
+        [false; 3],
     );
     let upgraded = upgrades_beside_a_reader(&rt, &lock, &mut token);
-    assert_eq!(rt;
+    same(
+        &rt,
         upgraded,
-        [Some(false), Some(false), Some(true), Some(true)]
+        [Some(false), Some(false), Some(true), Some(true)],
     );
     Ok(())
 }

@@ -1,17 +1,19 @@
 //! Deadlines at their bounds, and the clock of the system.
+use super::{holds, same};
 use lot_base::{Clock, SystemClock, TickClock, to_deadline};
 use std::process::Abort;
 use std::time::Duration;
 
 #[test]
 fn deadlines_are_sums(rt: HostRuntime) {
-    assert_eq!(rt; to_deadline(5, Duration::from_micros(2)), Some(2_005));
-    assert_eq!(rt;
+    same(&rt, to_deadline(5, Duration::from_micros(2)), Some(2_005));
+    same(
+        &rt,
         to_deadline(0, Duration::from_nanos(u64::MAX)),
-        Some(u64::MAX)
+        Some(u64::MAX),
     );
-    assert_eq!(rt; to_deadline(1, Duration::from_nanos(u64::MAX)), None);
-    assert_eq!(rt; to_deadline(0, Duration::from_secs(u64::MAX)), None);
+    same(&rt, to_deadline(1, Duration::from_nanos(u64::MAX)), None);
+    same(&rt, to_deadline(0, Duration::from_secs(u64::MAX)), None);
 }
 
 #[test]
@@ -20,15 +22,15 @@ fn the_system_clock_goes_on(rt: HostRuntime) {
     let before = clock.now();
     clock.pause(u64::MAX);
     clock.pause(20_000);
-    assert!(rt; clock.now().saturating_sub(before) >= 20_000);
+    holds(&rt, clock.now().saturating_sub(before) >= 20_000);
 }
 
 #[test]
 fn a_look_takes_a_nanosecond(rt: HostRuntime) {
     let clock = TickClock::new();
-    assert_eq!(rt; (clock.now(), clock.now()), (0, 1));
+    same(&rt, (clock.now(), clock.now()), (0, 1));
     clock.pause(u64::MAX);
-    assert_eq!(rt; clock.now(), 2);
+    same(&rt, clock.now(), 2);
     clock.restart();
-    assert_eq!(rt; clock.now(), 0);
+    same(&rt, clock.now(), 0);
 }

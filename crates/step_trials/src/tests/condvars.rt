@@ -1,6 +1,7 @@
 //! Calls of a condition variable alone, by the values that words would have.
 ghost use Rattle.lot_condvar.specs.CondvarSteps.{HasMutexKey};
 
+use super::{holds, same};
 use lot_acts::{Act, Next, Reply, Wakes, Whom};
 use lot_base::{Keys, Note, Op, Requeue, Want};
 use lot_calls::{Answer, CondvarCall, Outcome};
@@ -60,21 +61,21 @@ fn notifies(rt: &impl Abort, all: bool) -> CondvarPlace
 #[test]
 fn a_wait_shows_its_mutex_stands_and_releases(rt: HostRuntime) {
     let enters = CondvarPlace::first(WAIT);
-    assert_eq!(rt; enters.act(3), Act::Enter(Keys::One(6)));
-    assert!(rt; !enters.owes_on(3, 3));
+    same(&rt, enters.act(3), Act::Enter(Keys::One(6)));
+    holds(&rt, !enters.owes_on(3, 3));
     let shows = onward(&rt, enters, Reply::Done);
     let op = Op::Exchange { from: 0, to: 6 };
-    assert_eq!(rt; shows.act(3), Act::Word { lock: 3, op });
-    assert!(rt; shows.owes_on(3, 3) && !shows.owes_on(3, 5));
+    same(&rt, shows.act(3), Act::Word { lock: 3, op });
+    holds(&rt, shows.owes_on(3, 3) && !shows.owes_on(3, 5));
     let stands = onward(&rt, shows, Reply::Value(6));
     let want = Want::Wait;
-    assert_eq!(rt; stands.act(3), Act::Stand { key: 6, want });
+    same(&rt, stands.act(3), Act::Stand { key: 6, want });
     let releases = twice(&rt, stands, Reply::Done, Reply::Done);
     let op = Op::Sub(1);
-    assert_eq!(rt; releases.act(3), Act::Word { lock: 5, op });
+    same(&rt, releases.act(3), Act::Word { lock: 5, op });
     let asleep = onward(&rt, releases, Reply::Value(1));
-    assert_eq!(rt; asleep.outcome(), Outcome::Sleep);
-    assert!(rt; asleep.late_key(3).is_none());
+    same(&rt, asleep.outcome(), Outcome::Sleep);
+    holds(&rt, asleep.late_key(3).is_none());
 }
 
 #[test]
@@ -84,42 +85,46 @@ fn a_wait_beside_another_mutex_is_refused(rt: HostRuntime) {
         keys: Keys::One(6),
         wakes: Wakes::Nobody,
     };
-    assert_eq!(rt; refused.act(3), act);
-    assert_eq!(rt; refused.next(Reply::Done), Next::End(Answer::TwoMutexes));
+    same(&rt, refused.act(3), act);
+    same(
+        &rt,
+        refused.next(Reply::Done),
+        Next::End(Answer::TwoMutexes),
+    );
 }
 
 #[test]
 fn who_is_woken_locks_its_mutex_again(rt: HostRuntime) {
     let taken = onward(&rt, asleep(&rt, WAIT), Reply::TakenBy(2));
-    assert_eq!(rt; taken.taker(), Some(2));
-    assert_eq!(rt; taken.wants(), Some(Want::Exclusive));
+    same(&rt, taken.taker(), Some(2));
+    same(&rt, taken.wants(), Some(Want::Exclusive));
     let locks = onward(&rt, taken, Reply::Woken(Note::Normal));
-    assert!(rt; locks.retries());
+    holds(&rt, locks.retries());
     let op = Op::Exchange { from: 0, to: 1 };
-    assert_eq!(rt; locks.act(3), Act::Word { lock: 5, op });
-    assert_eq!(rt; locks.next(Reply::Value(0)), Next::End(Answer::Ok));
+    same(&rt, locks.act(3), Act::Word { lock: 5, op });
+    same(&rt, locks.next(Reply::Value(0)), Next::End(Answer::Ok));
     let decides = twice(&rt, locks, Reply::Value(1), Reply::Value(1));
-    assert!(rt; decides.looking().is_some());
+    holds(&rt, decides.looking().is_some());
 }
 
 #[test]
 fn who_is_moved_may_be_handed_its_mutex(rt: HostRuntime) {
     let moved = onward(&rt, asleep(&rt, WAIT_TIMED), Reply::MovedTo(10));
-    assert_eq!(rt; moved.late_key(3), Some(10));
+    same(&rt, moved.late_key(3), Some(10));
     let handed = Reply::HandedBy { by: 1, alone: true };
     let has = twice(&rt, moved, Reply::TakenBy(1), handed);
-    assert_eq!(rt; has.outcome(), Outcome::Sleep);
+    same(&rt, has.outcome(), Outcome::Sleep);
     let accepts = onward(&rt, has, Reply::Woken(Note::HandOff));
-    assert_eq!(rt; accepts.act(3), Act::Accept);
-    assert!(rt; !accepts.retries());
-    assert_eq!(rt; accepts.next(Reply::Done), Next::End(Answer::Notified));
+    same(&rt, accepts.act(3), Act::Accept);
+    holds(&rt, !accepts.retries());
+    same(&rt, accepts.next(Reply::Done), Next::End(Answer::Notified));
 }
 
 #[test]
 fn a_notification_may_come_beside_the_release(rt: HostRuntime) {
     let moved = onward(&rt, releases(&rt, WAIT), Reply::MovedTo(10));
     let takes = twice(&rt, moved, Reply::Value(3), Reply::Done);
-    assert!(rt; takes.owes_on(3, 5));
+    holds(&rt, takes.owes_on(3, 5));
     // It is the first of that queue, and takes itself.
     let took = Reply::Took {
         any: true,
@@ -128,57 +133,69 @@ fn a_notification_may_come_beside_the_release(rt: HostRuntime) {
     let leaves = twice(&rt, takes, Reply::TakenBy(0), took);
     let wakes = Wakes::All(Note::Normal);
     let keys = Keys::One(10);
-    assert_eq!(rt; leaves.act(3), Act::Leave { keys, wakes });
+    same(&rt, leaves.act(3), Act::Leave { keys, wakes });
     let locks = twice(&rt, leaves, Reply::Woken(Note::Normal), Reply::Done);
-    assert!(rt; locks.retries());
-    assert_eq!(rt; locks.next(Reply::Value(0)), Next::End(Answer::Ok));
+    holds(&rt, locks.retries());
+    same(&rt, locks.next(Reply::Value(0)), Next::End(Answer::Ok));
 }
 
 #[test]
 fn a_timed_wait_leaves_the_queue_in_which_it_stands(rt: HostRuntime) {
     let late = asleep(&rt, WAIT_TIMED);
-    assert_eq!(rt; late.late_key(3), Some(6));
+    same(&rt, late.late_key(3), Some(6));
     let removes = onward(&rt, late, Reply::Late);
-    assert_eq!(rt; removes.act(3), Act::Remove(6));
+    same(&rt, removes.act(3), Act::Remove(6));
     let hides = onward(&rt, removes, Reply::Removed { none_left: true });
     let op = Op::Store(0);
-    assert_eq!(rt; hides.act(3), Act::Word { lock: 3, op });
+    same(&rt, hides.act(3), Act::Word { lock: 3, op });
     let locks = twice(&rt, hides, Reply::Value(6), Reply::Done);
-    assert!(rt; !locks.retries());
-    assert_eq!(rt; locks.next(Reply::Value(0)), Next::End(Answer::TimedOut));
+    holds(&rt, !locks.retries());
+    same(
+        &rt,
+        locks.next(Reply::Value(0)),
+        Next::End(Answer::TimedOut),
+    );
     let moved = twice(&rt, late, Reply::MovedTo(10), Reply::Late);
-    assert_eq!(rt; moved.act(3), Act::Remove(10));
+    same(&rt, moved.act(3), Act::Remove(10));
     let locks = twice(&rt, moved, Reply::Removed { none_left: true }, Reply::Done);
-    assert_eq!(rt; locks.next(Reply::Value(0)), Next::End(Answer::Notified));
+    same(
+        &rt,
+        locks.next(Reply::Value(0)),
+        Next::End(Answer::Notified),
+    );
 }
 
 #[test]
 fn nobody_is_notified_where_nobody_waits(rt: HostRuntime) {
     for (all, none) in [(false, Answer::No), (true, Answer::Number(0))] {
         let looks = CondvarPlace::first(CondvarCall::Notify { all });
-        assert!(rt; looks.mutex().is_none());
-        assert_eq!(rt; looks.next(Reply::Value(0)), Next::End(none));
+        holds(&rt, looks.mutex().is_none());
+        same(&rt, looks.next(Reply::Value(0)), Next::End(none));
         let missed = onward(&rt, notifies(&rt, all), Reply::Value(8));
-        assert_eq!(rt; missed.next(Reply::Done), Next::End(none));
+        same(&rt, missed.next(Reply::Done), Next::End(none));
     }
 }
 
 #[test]
 fn the_first_is_moved_to_an_owned_mutex(rt: HostRuntime) {
     let again = notifies(&rt, false);
-    assert!(rt; again.owes_on(3, 3) && again.owes_on(3, 5) && !again.owes_on(3, 4));
+    holds(
+        &rt,
+        again.owes_on(3, 3) && again.owes_on(3, 5) && !again.owes_on(3, 4),
+    );
     let sets = twice(&rt, again, Reply::Value(6), Reply::Value(1));
     let op = Op::Exchange { from: 1, to: 3 };
-    assert_eq!(rt; sets.act(3), Act::Word { lock: 5, op });
+    same(&rt, sets.act(3), Act::Word { lock: 5, op });
     let moves = onward(&rt, sets, Reply::Value(1));
     let how = Requeue::One;
-    assert_eq!(rt;
+    same(
+        &rt,
         moves.act(3),
         Act::Requeue {
             from: 6,
             to: 10,
-            how
-        }
+            how,
+        },
     );
     let moved = Reply::Requeued {
         number: 1,
@@ -186,12 +203,12 @@ fn the_first_is_moved_to_an_owned_mutex(rt: HostRuntime) {
     };
     let clears = onward(&rt, moves, moved);
     let op = Op::Store(0);
-    assert_eq!(rt; clears.act(3), Act::Word { lock: 3, op });
+    same(&rt, clears.act(3), Act::Word { lock: 3, op });
     let leaves = onward(&rt, clears, Reply::Value(6));
     let wakes = Wakes::Nobody;
     let keys = Keys::Two(6, 10);
-    assert_eq!(rt; leaves.act(3), Act::Leave { keys, wakes });
-    assert_eq!(rt; leaves.next(Reply::Done), Next::End(Answer::Yes));
+    same(&rt, leaves.act(3), Act::Leave { keys, wakes });
+    same(&rt, leaves.next(Reply::Done), Next::End(Answer::Yes));
 }
 
 #[test]
@@ -199,7 +216,7 @@ fn the_first_is_woken_where_the_mutex_is_free(rt: HostRuntime) {
     let marks = onward(&rt, notifies(&rt, false), Reply::Value(6));
     let takes = twice(&rt, marks, Reply::Value(1), Reply::Value(0));
     let whom = Whom::First;
-    assert_eq!(rt; takes.act(3), Act::Take { key: 6, whom });
+    same(&rt, takes.act(3), Act::Take { key: 6, whom });
     let took = Reply::Took {
         any: true,
         none_left: false,
@@ -207,24 +224,25 @@ fn the_first_is_woken_where_the_mutex_is_free(rt: HostRuntime) {
     let leaves = onward(&rt, takes, took);
     let wakes = Wakes::All(Note::Normal);
     let keys = Keys::Two(6, 10);
-    assert_eq!(rt; leaves.act(3), Act::Leave { keys, wakes });
-    assert_eq!(rt; leaves.next(Reply::Done), Next::End(Answer::Yes));
+    same(&rt, leaves.act(3), Act::Leave { keys, wakes });
+    same(&rt, leaves.next(Reply::Done), Next::End(Answer::Yes));
 }
 
 #[test]
 fn all_are_moved_and_one_is_woken_where_the_mutex_is_free(rt: HostRuntime) {
     let hides = onward(&rt, notifies(&rt, true), Reply::Value(6));
     let op = Op::Store(0);
-    assert_eq!(rt; hides.act(3), Act::Word { lock: 3, op });
+    same(&rt, hides.act(3), Act::Word { lock: 3, op });
     let moves = twice(&rt, hides, Reply::Value(6), Reply::Value(0));
     let how = Requeue::TakeOneMoveRest;
-    assert_eq!(rt;
+    same(
+        &rt,
         moves.act(3),
         Act::Requeue {
             from: 6,
             to: 10,
-            how
-        }
+            how,
+        },
     );
     let moved = Reply::Requeued {
         number: 3,
@@ -232,12 +250,12 @@ fn all_are_moved_and_one_is_woken_where_the_mutex_is_free(rt: HostRuntime) {
     };
     let marks = onward(&rt, moves, moved);
     let op = Op::Or(2);
-    assert_eq!(rt; marks.act(3), Act::Word { lock: 5, op });
+    same(&rt, marks.act(3), Act::Word { lock: 5, op });
     let leaves = onward(&rt, marks, Reply::Value(0));
     let wakes = Wakes::All(Note::Normal);
     let keys = Keys::Two(6, 10);
-    assert_eq!(rt; leaves.act(3), Act::Leave { keys, wakes });
-    assert_eq!(rt; leaves.next(Reply::Done), Next::End(Answer::Number(3)));
+    same(&rt, leaves.act(3), Act::Leave { keys, wakes });
+    same(&rt, leaves.next(Reply::Done), Next::End(Answer::Number(3)));
 }
 
 #[test]
@@ -245,18 +263,19 @@ fn all_are_moved_to_an_owned_mutex(rt: HostRuntime) {
     let marks = twice(&rt, notifies(&rt, true), Reply::Value(6), Reply::Value(6));
     let moves = twice(&rt, marks, Reply::Value(3), Reply::Value(3));
     let how = Requeue::All;
-    assert_eq!(rt;
+    same(
+        &rt,
         moves.act(3),
         Act::Requeue {
             from: 6,
             to: 10,
-            how
-        }
+            how,
+        },
     );
     let moved = Reply::Requeued {
         number: 2,
         none_left: true,
     };
     let leaves = onward(&rt, moves, moved);
-    assert_eq!(rt; leaves.next(Reply::Done), Next::End(Answer::Number(2)));
+    same(&rt, leaves.next(Reply::Done), Next::End(Answer::Number(2)));
 }

@@ -1,5 +1,6 @@
 //! Words and notes of hand-overs, against tables worked out by hand.
 
+use super::holds;
 use lot_acts::{Act, Next, Reply, Wakes};
 use lot_base::{Note, Op, Want};
 use lot_calls::{Access, RwLockCall};
@@ -45,10 +46,19 @@ fn an_exclusive_owner_stores_the_rights_of_those_it_took(rt: HostRuntime) {
         lock: 0,
         op: Op::Store(word),
     };
-    assert!(rt; stores(taken(1, Some(Want::Exclusive), false)) == stored(25));
-    assert!(rt; stores(taken(2, Some(Want::Exclusive), true)) == stored(40));
-    assert!(rt; stores(taken(2, Some(Want::Upgradable), true)) == stored(52));
-    assert!(rt; stores(taken(0, None, true)) == stored(0));
+    holds(
+        &rt,
+        stores(taken(1, Some(Want::Exclusive), false)) == stored(25),
+    );
+    holds(
+        &rt,
+        stores(taken(2, Some(Want::Exclusive), true)) == stored(40),
+    );
+    holds(
+        &rt,
+        stores(taken(2, Some(Want::Upgradable), true)) == stored(52),
+    );
+    holds(&rt, stores(taken(0, None, true)) == stored(0));
 }
 
 #[test]
@@ -62,9 +72,15 @@ fn an_upgradable_owner_hands_over_where_there_is_room(rt: HostRuntime) {
         op: Op::Exchange { from, to },
     };
     let upgradable = Some(Want::Upgradable);
-    assert!(rt; exchanges(taken(0, upgradable, false), 21) == handed(21, 21));
-    assert!(rt; exchanges(taken(0, upgradable, true), 69) == released(69, 48));
-    assert!(rt; exchanges(taken(0, None, true), 69) == handed(69, 48));
+    holds(
+        &rt,
+        exchanges(taken(0, upgradable, false), 21) == handed(21, 21),
+    );
+    holds(
+        &rt,
+        exchanges(taken(0, upgradable, true), 69) == released(69, 48),
+    );
+    holds(&rt, exchanges(taken(0, None, true), 69) == handed(69, 48));
 }
 
 #[test]
@@ -83,8 +99,8 @@ fn who_is_not_handed_the_lock_hears_a_normal_note(rt: HostRuntime) {
         },
         Next::End(_) => None,
     };
-    assert!(rt; wakes(69) == Some(Wakes::All(Note::Normal)));
-    assert!(rt; wakes(53).is_none());
+    holds(&rt, wakes(69) == Some(Wakes::All(Note::Normal)));
+    holds(&rt, wakes(53).is_none());
 }
 
 #[test]
@@ -94,8 +110,9 @@ fn a_bump_begins_with_a_look(rt: HostRuntime) {
         op: Op::Load,
     };
     for access in [Access::Shared, Access::Upgradable, Access::Exclusive] {
-        assert!(rt;
-            RwLockCallPlace::first(RwLockCall::Bump(access)).act(0, admission(false)) == load
+        holds(
+            &rt,
+            RwLockCallPlace::first(RwLockCall::Bump(access)).act(0, admission(false)) == load,
         );
     }
     let glance = RwLockCallPlace::first(RwLockCall::Bump(Access::Shared));
@@ -105,7 +122,8 @@ fn a_bump_begins_with_a_look(rt: HostRuntime) {
             Next::At(_)
         )
     };
-    assert!(rt;
-        goes_on(false, 41) && !goes_on(true, 41) && goes_on(true, 25) && !goes_on(false, 33)
+    holds(
+        &rt,
+        goes_on(false, 41) && !goes_on(true, 41) && goes_on(true, 25) && !goes_on(false, 33),
     );
 }

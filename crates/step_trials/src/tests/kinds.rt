@@ -1,4 +1,5 @@
 //! Kinds and what they have.
+use super::{holds, same};
 use lot_calls::{
     Access, Call, CondvarCall, Downgrade, Kind, MutexCall, OnceCall, Patience, RwLockCall,
 };
@@ -16,7 +17,7 @@ fn a_limit_fits_from_the_threads_to_the_greatest(rt: HostRuntime) {
         assert_eq!(rt; Kind::Recursive { limit }.fits(2), fits, "limit {limit}");
     }
     for kind in [Kind::Mutex, Kind::Fair, Kind::Condvar, Kind::Once] {
-        assert!(rt; kind.fits(1024));
+        holds(&rt, kind.fits(1024));
     }
 }
 
@@ -34,9 +35,12 @@ fn both_mutexes_have_the_calls_of_a_mutex(rt: HostRuntime) {
             lock: 3,
             call: name,
         };
-        assert_eq!(rt; call.lock(), 3);
-        assert!(rt; Kind::Mutex.has_call(call) && Kind::Fair.has_call(call));
-        assert!(rt; !Kind::Once.has_call(call) && !Kind::Condvar.has_call(call));
+        same(&rt, call.lock(), 3);
+        holds(&rt, Kind::Mutex.has_call(call) && Kind::Fair.has_call(call));
+        holds(
+            &rt,
+            !Kind::Once.has_call(call) && !Kind::Condvar.has_call(call),
+        );
     }
 }
 
@@ -50,9 +54,12 @@ fn a_once_has_its_calls(rt: HostRuntime) {
             lock: 3,
             call: name,
         };
-        assert_eq!(rt; call.lock(), 3);
-        assert!(rt; Kind::Once.has_call(call));
-        assert!(rt; !Kind::Mutex.has_call(call) && !Kind::Condvar.has_call(call));
+        same(&rt, call.lock(), 3);
+        holds(&rt, Kind::Once.has_call(call));
+        holds(
+            &rt,
+            !Kind::Mutex.has_call(call) && !Kind::Condvar.has_call(call),
+        );
     }
 }
 
@@ -65,18 +72,27 @@ fn a_wait_needs_a_right_to_its_mutex(rt: HostRuntime) {
             timed: true,
         },
     };
-    assert_eq!(rt; (wait.lock(), wait.mutex()), (3, Some(5)));
-    assert_eq!(rt; wait.needs_right_to(), 5);
+    same(&rt, (wait.lock(), wait.mutex()), (3, Some(5)));
+    same(&rt, wait.needs_right_to(), 5);
     let notify = Call::Condvar {
         lock: 3,
         call: CondvarCall::Notify { all: true },
     };
-    assert_eq!(rt; (notify.lock(), notify.mutex()), (3, None));
-    assert_eq!(rt; notify.needs_right_to(), 3);
-    assert!(rt; Kind::Condvar.has_call(wait) && Kind::Condvar.has_call(notify));
-    assert!(rt; !Kind::Mutex.has_call(wait) && !Kind::Once.has_call(notify));
-    assert!(rt; Kind::Mutex.is_plain_mutex() && !Kind::Fair.is_plain_mutex());
-    assert!(rt; Kind::Condvar.is_condvar() && !Kind::Once.is_condvar());
+    same(&rt, (notify.lock(), notify.mutex()), (3, None));
+    same(&rt, notify.needs_right_to(), 3);
+    holds(
+        &rt,
+        Kind::Condvar.has_call(wait) && Kind::Condvar.has_call(notify),
+    );
+    holds(
+        &rt,
+        !Kind::Mutex.has_call(wait) && !Kind::Once.has_call(notify),
+    );
+    holds(
+        &rt,
+        Kind::Mutex.is_plain_mutex() && !Kind::Fair.is_plain_mutex(),
+    );
+    holds(&rt, Kind::Condvar.is_condvar() && !Kind::Once.is_condvar());
 }
 
 #[test]
@@ -96,9 +112,12 @@ fn both_reader_writer_locks_have_their_calls(rt: HostRuntime) {
             lock: 3,
             call: name,
         };
-        assert_eq!(rt; call.lock(), 3);
-        assert!(rt; Kind::RwLock { limit: 1 }.has_call(call));
-        assert!(rt; Kind::Recursive { limit: 1 }.has_call(call));
-        assert!(rt; !Kind::Mutex.has_call(call) && !Kind::Condvar.has_call(call));
+        same(&rt, call.lock(), 3);
+        holds(&rt, Kind::RwLock { limit: 1 }.has_call(call));
+        holds(&rt, Kind::Recursive { limit: 1 }.has_call(call));
+        holds(
+            &rt,
+            !Kind::Mutex.has_call(call) && !Kind::Condvar.has_call(call),
+        );
     }
 }

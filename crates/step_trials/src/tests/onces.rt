@@ -1,4 +1,5 @@
 //! Calls of a `Once` alone, by the values that their word would have.
+use super::{holds, same};
 use lot_acts::{Act, Next, Reply, Wakes};
 use lot_base::{Keys, Note, Op, Want};
 use lot_calls::{Answer, OnceCall, OnceState, Outcome};
@@ -16,34 +17,37 @@ fn onward(rt: &impl Abort, place: OncePlace, reply: Reply) -> OncePlace {
 #[test]
 fn a_call_runs_its_closure_and_wakes_who_waits(rt: HostRuntime) {
     let loads = OncePlace::first(OnceCall::CallOnce { forced: false });
-    assert_eq!(rt;
+    same(
+        &rt,
         loads.act(3),
         Act::Word {
             lock: 3,
-            op: Op::Load
-        }
+            op: Op::Load,
+        },
     );
     let decides = onward(&rt, loads, Reply::Value(8));
     let starts = Op::Exchange { from: 8, to: 12 };
-    assert_eq!(rt;
+    same(
+        &rt,
         decides.act(3),
         Act::Word {
             lock: 3,
-            op: starts
-        }
+            op: starts,
+        },
     );
     let runs = onward(&rt, decides, Reply::Value(8));
-    assert_eq!(rt; runs.outcome(), Outcome::Closure(OnceState::New));
+    same(&rt, runs.outcome(), Outcome::Closure(OnceState::New));
     let closes = onward(&rt, runs, Reply::Closed { succeeded: true });
-    assert_eq!(rt;
+    same(
+        &rt,
         closes.act(3),
         Act::Word {
             lock: 3,
-            op: Op::Swap(1)
-        }
+            op: Op::Swap(1),
+        },
     );
     let enters = onward(&rt, closes, Reply::Value(12));
-    assert_eq!(rt; enters.act(3), Act::Enter(Keys::One(6)));
+    same(&rt, enters.act(3), Act::Enter(Keys::One(6)));
     let takes = onward(&rt, enters, Reply::Done);
     let took = Reply::Took {
         any: true,
@@ -51,14 +55,15 @@ fn a_call_runs_its_closure_and_wakes_who_waits(rt: HostRuntime) {
     };
     let leaves = onward(&rt, takes, took);
     let wakes = Wakes::All(Note::Normal);
-    assert_eq!(rt;
+    same(
+        &rt,
         leaves.act(3),
         Act::Leave {
             keys: Keys::One(6),
-            wakes
-        }
+            wakes,
+        },
     );
-    assert_eq!(rt; leaves.next(Reply::Done), Next::End(Answer::Ok));
+    same(&rt, leaves.next(Reply::Done), Next::End(Answer::Ok));
 }
 
 #[test]
@@ -66,7 +71,7 @@ fn a_call_of_a_poisoned_once_goes_on_by_force_alone(rt: HostRuntime) {
     for (forced, ends) in [(false, true), (true, false)] {
         for call in [OnceCall::CallOnce { forced }, OnceCall::Wait { forced }] {
             let next = OncePlace::first(call).next(Reply::Value(2));
-            assert_eq!(rt; next == Next::End(Answer::Poisoned), ends);
+            same(&rt, next == Next::End(Answer::Poisoned), ends);
         }
     }
     let decides = onward(
@@ -75,9 +80,9 @@ fn a_call_of_a_poisoned_once_goes_on_by_force_alone(rt: HostRuntime) {
         Reply::Value(2),
     );
     let runs = onward(&rt, decides, Reply::Value(2));
-    assert_eq!(rt; runs.outcome(), Outcome::Closure(OnceState::Poisoned));
+    same(&rt, runs.outcome(), Outcome::Closure(OnceState::Poisoned));
     let closes = onward(&rt, runs, Reply::Closed { succeeded: false });
-    assert_eq!(rt; closes.next(Reply::Value(4)), Next::End(Answer::Failed));
+    same(&rt, closes.next(Reply::Value(4)), Next::End(Answer::Failed));
 }
 
 #[test]
@@ -88,19 +93,20 @@ fn who_waits_sleeps_until_it_is_woken(rt: HostRuntime) {
         Reply::Value(4),
     );
     let marks = Op::Exchange { from: 4, to: 12 };
-    assert_eq!(rt; decides.act(0), Act::Word { lock: 0, op: marks });
-    assert_eq!(rt;
+    same(&rt, decides.act(0), Act::Word { lock: 0, op: marks });
+    same(
+        &rt,
         decides.looking(),
-        Some(OncePlace::first(OnceCall::Wait { forced: false }))
+        Some(OncePlace::first(OnceCall::Wait { forced: false })),
     );
     let enters = onward(&rt, decides, Reply::Value(4));
-    assert_eq!(rt; enters.act(0), Act::Enter(Keys::One(0)));
+    same(&rt, enters.act(0), Act::Enter(Keys::One(0)));
     let checks = onward(&rt, enters, Reply::Done);
-    assert_eq!(rt; checks.wants(), Some(Want::Wait));
+    same(&rt, checks.wants(), Some(Want::Wait));
     let leaves = onward(&rt, checks, Reply::Parked(true));
     let asleep = onward(&rt, leaves, Reply::Done);
-    assert_eq!(rt; asleep.outcome(), Outcome::Sleep);
+    same(&rt, asleep.outcome(), Outcome::Sleep);
     let again = onward(&rt, asleep, Reply::Woken(Note::Normal));
-    assert!(rt; again.retries());
-    assert_eq!(rt; again.next(Reply::Value(1)), Next::End(Answer::Ok));
+    holds(&rt, again.retries());
+    same(&rt, again.next(Reply::Value(1)), Next::End(Answer::Ok));
 }

@@ -1,6 +1,7 @@
 //! The texts, and each call once with ample memory.
 ghost use Rattle.std.specs.Prelude.{◌≡◌, ◌<◌, IfOk, length};
 
+use super::same;
 use lot_base::{
     Fault, ListQueues, LockPicker, Op, Pick, Picker, Queues, Requeue, Waiter, Want, main_key,
     second_key,
@@ -25,9 +26,10 @@ fn two_lines<Q: Queues + Drop>(alloc: Global) -> Result<Q, Fault>
 #[test]
 fn first_in_first_out(rt: HostRuntime) -> Result<(), Fail> {
     let mut queues: ListQueues = two_lines(rt.alloc())?;
-    assert_eq!(rt;
+    same(
+        &rt,
         (queues.count(6), queues.count(7), queues.count(8)),
-        (3, 2, 0)
+        (3, 2, 0),
     );
     for (key, want) in [
         (6, Some(0)),
@@ -39,21 +41,22 @@ fn first_in_first_out(rt: HostRuntime) -> Result<(), Fail> {
     ] {
         assert_eq!(rt; queues.take_first(key), want, "under {key}");
     }
-    assert_eq!(rt; (queues.count(6), queues.count(7)), (1, 0));
+    same(&rt, (queues.count(6), queues.count(7)), (1, 0));
     Ok(())
 }
 
 #[test]
 fn a_thread_stands_at_most_once(rt: HostRuntime) -> Result<(), Fail> {
     let mut queues: ListQueues = two_lines(rt.alloc())?;
-    assert_eq!(rt;
+    same(
+        &rt,
         (queues.key_of(0), queues.key_of(3), queues.key_of(5)),
-        (Some(6), Some(7), None)
+        (Some(6), Some(7), None),
     );
     queues.append(7, 0, Want::Wait);
     queues.append(6, 2, Want::Shared);
     queues.remove(3);
-    assert_eq!(rt; (queues.key_of(0), queues.key_of(3)), (Some(7), None));
+    same(&rt, (queues.key_of(0), queues.key_of(3)), (Some(7), None));
     for (key, want) in [
         (6, Some(4)),
         (6, Some(2)),
@@ -73,8 +76,8 @@ fn takes_all_behind_what_was_taken(rt: HostRuntime) -> Result<(), Fail> {
     let mut out = Vec::with_capacity(rt.alloc(), 9)?;
     out.push_reserved(7);
     queues.take_all(6, &mut out);
-    assert_eq!(rt; out.as_slice(), [7, 0, 2, 4].as_slice());
-    assert_eq!(rt; (queues.count(6), queues.count(7)), (0, 2));
+    same(&rt, out.as_slice(), [7, 0, 2, 4].as_slice());
+    same(&rt, (queues.count(6), queues.count(7)), (0, 2));
     Ok(())
 }
 
@@ -107,8 +110,12 @@ fn picks<A: Abort>(
 ) -> Result<(), Fail>
     requires { length wants.now < 8 }
 {
-    assert_eq!(rt; taken_by(alloc, wants, start, false)?.as_slice(), normal);
-    assert_eq!(rt; taken_by(alloc, wants, start, true)?.as_slice(), recursive);
+    same(rt, taken_by(alloc, wants, start, false)?.as_slice(), normal);
+    same(
+        rt,
+        taken_by(alloc, wants, start, true)?.as_slice(),
+        recursive,
+    );
     Ok(())
 }
 
@@ -128,7 +135,7 @@ fn takes_by_turns_and_keeps_the_order(rt: HostRuntime) -> Result<(), Fail> {
     let mut out = Vec::with_capacity(rt.alloc(), 9)?;
     out.push_reserved(7);
     queues.take_by(6, LockPicker::Readers, &mut out);
-    assert_eq!(rt; out.as_slice(), [7, 2].as_slice());
+    same(&rt, out.as_slice(), [7, 2].as_slice());
     for (key, want) in [
         (6, Some(0)),
         (6, Some(4)),
@@ -151,17 +158,17 @@ fn lines_after<A: Abort>(
     to: &[(usize, Want)],
 ) -> Result<(), Fail> {
     let mut queues: ListQueues = two_lines(alloc)?;
-    assert_eq!(rt; queues.requeue(6, 7, op), answer);
+    same(rt, queues.requeue(6, 7, op), answer);
     for (key, line) in [(6, from), (7, to)] {
-        assert_eq!(rt; queues.count(key), line.len());
+        same(rt, queues.count(key), line.len());
         let mut place = 0;
         for (thread, want) in line {
             let (waiter, next) = queues.find(key, place).ok_or("the line is too short")?;
-            assert_eq!(rt; (waiter.thread, waiter.want), (*thread, *want));
+            same(rt, (waiter.thread, waiter.want), (*thread, *want));
             place = next;
         }
     }
-    assert_eq!(rt; queues.requeue(8, 7, op), (None, 0));
+    same(rt, queues.requeue(8, 7, op), (None, 0));
     Ok(())
 }
 
@@ -205,25 +212,27 @@ fn walks_a_line(rt: HostRuntime) -> Result<(), Fail> {
         (4, Want::Upgradable),
     ] {
         let (waiter, next) = queues.find(6, place).ok_or("the line is too short")?;
-        assert_eq!(rt;
+        same(
+            &rt,
             waiter,
             Waiter {
                 key: 6,
                 thread,
-                want
-            }
+                want,
+            },
         );
         place = next;
     }
-    assert_eq!(rt; queues.find(6, place), None);
+    same(&rt, queues.find(6, place), None);
     Ok(())
 }
 
 #[test]
 fn refuses_too_much_memory(rt: HostRuntime) {
-    assert_eq!(rt;
+    same(
+        &rt,
         ListQueues::with_capacity(rt.alloc(), usize::MAX).err(),
-        Some(Fault::NoMemory)
+        Some(Fault::NoMemory),
     );
 }
 
@@ -243,7 +252,7 @@ fn tells_faults(rt: HostRuntime) -> Result<(), Fail> {
         ),
         (Fault::LockCountFull, "ReentrantMutex lock count overflow"),
     ] {
-        assert_eq!(rt; fault.to_string(rt.alloc())?.as_str(), text);
+        same(&rt, fault.to_string(rt.alloc())?.as_str(), text);
     }
     Ok(())
 }
@@ -269,6 +278,6 @@ fn applies_operations(rt: HostRuntime) {
 
 #[test]
 fn numbers_keys(rt: HostRuntime) {
-    assert_eq!(rt; (main_key(0), second_key(0)), (0, 1));
-    assert_eq!(rt; (main_key(3), second_key(3)), (6, 7));
+    same(&rt, (main_key(0), second_key(0)), (0, 1));
+    same(&rt, (main_key(3), second_key(3)), (6, 7));
 }

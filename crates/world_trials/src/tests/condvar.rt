@@ -1,4 +1,5 @@
 //! Worlds of condition variables.
+use super::holds;
 use super::scripts::{Does, Shown, plays, rests, shows, surprise};
 use lot_base::{ListQueues, Want};
 use lot_calls::CondvarCall;
@@ -113,7 +114,7 @@ fn a_wait_ends_once_it_is_notified(rt: HostRuntime) -> Result<(), Fail> {
         (0, waits(), Outcome::NotNow),
     ];
     plays(&rt, &mut world, &unheard);
-    assert!(rt; all_wait(&mut world, 1));
+    holds(&rt, all_wait(&mut world, 1));
     shows(&rt, &world, MUTEX, rests(0, None));
     let waiting = Shown {
         word: 1,
@@ -233,7 +234,7 @@ fn a_timed_wait_gives_up_in_the_queue_where_it_stands(rt: HostRuntime) -> Result
 #[test]
 fn beside_a_locked_mutex_all_are_moved(rt: HostRuntime) -> Result<(), Fail> {
     let mut world = World::<ListQueues>::new(rt.alloc(), &[Kind::Mutex, Kind::Condvar], 4)?;
-    assert!(rt; all_wait(&mut world, 3));
+    holds(&rt, all_wait(&mut world, 3));
     let notified = [
         (3, mutex(MutexCall::Lock), DONE),
         (3, notifies(true), told(3)),
@@ -254,7 +255,7 @@ fn beside_a_locked_mutex_all_are_moved(rt: HostRuntime) -> Result<(), Fail> {
         ..wanted(2, None, 1)
     };
     shows(&rt, &world, MUTEX, Some(woken));
-    assert!(rt; all_leave(&mut world, 3));
+    holds(&rt, all_leave(&mut world, 3));
     shows(&rt, &world, MUTEX, rests(0, None));
     Ok(())
 }
@@ -264,7 +265,7 @@ fn beside_an_unlocked_mutex_the_first_is_woken_and_the_rest_are_moved(
     rt: HostRuntime,
 ) -> Result<(), Fail> {
     let mut world = World::<ListQueues>::new(rt.alloc(), &[Kind::Mutex, Kind::Condvar], 5)?;
-    assert!(rt; all_wait(&mut world, 3));
+    holds(&rt, all_wait(&mut world, 3));
     plays(&rt, &mut world, &[(3, notifies(true), told(3))]);
     let woken = Shown {
         debt: Some((Debt::Retries, 0)),
@@ -272,10 +273,10 @@ fn beside_an_unlocked_mutex_the_first_is_woken_and_the_rest_are_moved(
     };
     shows(&rt, &world, MUTEX, Some(woken));
     shows(&rt, &world, CONDVAR, rests(0, None));
-    assert!(rt; all_leave(&mut world, 3));
+    holds(&rt, all_leave(&mut world, 3));
     shows(&rt, &world, MUTEX, rests(0, None));
     // Another locks the mutex first: who was woken sleeps behind the rest.
-    assert!(rt; all_wait(&mut world, 3));
+    holds(&rt, all_wait(&mut world, 3));
     let overtaken = [
         (3, notifies(true), told(3)),
         (4, mutex(MutexCall::Lock), DONE),
@@ -301,7 +302,7 @@ fn beside_an_unlocked_mutex_the_first_is_woken_and_the_rest_are_moved(
 fn a_second_mutex_is_refused(rt: HostRuntime) -> Result<(), Fail> {
     let kinds = [Kind::Mutex, Kind::Condvar, Kind::Mutex, Kind::Fair];
     let mut world = World::<ListQueues>::new(rt.alloc(), &kinds, 2)?;
-    assert!(rt; all_wait(&mut world, 1));
+    holds(&rt, all_wait(&mut world, 1));
     let refused = [
         (1, locks(2), DONE),
         (1, locks(3), DONE),
@@ -331,20 +332,20 @@ fn a_second_mutex_is_refused(rt: HostRuntime) -> Result<(), Fail> {
 #[test]
 fn all_of_600_waiters_have_the_mutex_in_their_order(rt: HostRuntime) -> Result<(), Fail> {
     let mut world = World::<ListQueues>::new(rt.alloc(), &[Kind::Mutex, Kind::Condvar], 601)?;
-    assert!(rt; all_wait(&mut world, 600));
+    holds(&rt, all_wait(&mut world, 600));
     plays(&rt, &mut world, &[(600, notifies(true), told(600))]);
     shows(&rt, &world, CONDVAR, rests(0, None));
-    assert!(rt; all_leave(&mut world, 600));
+    holds(&rt, all_leave(&mut world, 600));
     shows(&rt, &world, MUTEX, rests(0, None));
     // And where somebody owns it meanwhile.
-    assert!(rt; all_wait(&mut world, 600));
+    holds(&rt, all_wait(&mut world, 600));
     let notified = [
         (600, mutex(MutexCall::Lock), DONE),
         (600, notifies(true), told(600)),
         (600, mutex(MutexCall::Unlock), DONE),
     ];
     plays(&rt, &mut world, &notified);
-    assert!(rt; all_leave(&mut world, 600));
+    holds(&rt, all_leave(&mut world, 600));
     shows(&rt, &world, MUTEX, rests(0, None));
     Ok(())
 }

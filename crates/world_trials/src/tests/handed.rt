@@ -1,4 +1,5 @@
 //! Reader-writer locks that are handed over.
+use super::same;
 use super::scripts::{Does, Shown, plays, rests, shows};
 use lot_base::{ListQueues, Want};
 use lot_calls::{Access, Patience, RwLockCall};
@@ -50,7 +51,7 @@ fn a_fair_release_hands_the_lock_to_readers_and_the_writer_behind_them(
         Vec::new(rt.alloc())
     };
     let wanted = [(Owner::Pending, 3), (Owner::Shared, 1), (Owner::Shared, 2)];
-    assert_eq!(rt; owners.as_slice(), wanted.as_slice());
+    same(&rt, owners.as_slice(), wanted.as_slice());
     let follows = [
         (3, Does::GoesOn, Outcome::Sleep),
         (1, Does::GoesOn, DONE),

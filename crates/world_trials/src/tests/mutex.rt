@@ -1,4 +1,5 @@
 //! Worlds of mutexes.
+use super::same;
 use super::scripts::{Does, Shown, plays, rests, shows};
 use lot_base::{ListQueues, Want};
 use lot_steps::Owners;
@@ -90,7 +91,7 @@ fn who_shares_is_listed_behind_the_owners(rt: HostRuntime) -> Result<(), Fail> {
         (Owner::Shared, 1),
         (Owner::Shared, 1),
     ];
-    assert_eq!(rt; listed.as_slice(), wanted.as_slice());
+    same(&rt, listed.as_slice(), wanted.as_slice());
     Ok(())
 }
 
@@ -153,7 +154,7 @@ fn a_run_is_its_steps(rt: HostRuntime) -> Result<(), Fail> {
     ];
     let mut outcomes = Vec::new(rt.alloc());
     outcomes.push(Outcome::Sleep).map_err(AllocError::from)?;
-    assert_eq!(rt; world.run(&steps, &mut outcomes), Ok(()));
+    same(&rt, world.run(&steps, &mut outcomes), Ok(()));
     let wanted = [
         Outcome::Sleep,
         Outcome::Step,
@@ -163,10 +164,10 @@ fn a_run_is_its_steps(rt: HostRuntime) -> Result<(), Fail> {
         Outcome::NotNow,
         Outcome::NotNow,
     ];
-    assert_eq!(rt; outcomes.as_slice(), wanted.as_slice());
-    assert_eq!(rt; (world.threads(), world.locks()), (3, 2));
-    assert_eq!(rt; world.kind(1), Kind::Mutex);
-    assert_eq!(rt; world.place(2), Place::Idle);
+    same(&rt, outcomes.as_slice(), wanted.as_slice());
+    same(&rt, (world.threads(), world.locks()), (3, 2));
+    same(&rt, world.kind(1), Kind::Mutex);
+    same(&rt, world.place(2), Place::Idle);
     shows(&rt, &world, 1, rests(0, None));
     let stranger = [(9, Does::GoesOn, Outcome::NotNow)];
     plays(&rt, &mut world, &stranger);

@@ -1,5 +1,6 @@
 //! Worlds of a `Once`.
 use super::scripts::{Does, Shown, plays, rests, shows};
+use super::{holds, same};
 use lot_base::{Keys, ListQueues, Note, Want};
 use lot_calls::{OnceCall, OnceState};
 use lot_steps::lot_once::{LookAt, OncePlace, RunAt};
@@ -38,22 +39,23 @@ fn calls(call: OnceCall) -> Does {
 
 #[test]
 fn a_call_of_a_once_begins_with_a_look(rt: HostRuntime) {
-    assert!(rt; has_right(CALL, 0, Owners::NOBODY, 0));
+    holds(&rt, has_right(CALL, 0, Owners::NOBODY, 0));
     let start = Place::first(Kind::Once, CALL);
-    assert!(rt; !start.is_idle());
-    assert_eq!(rt;
+    holds(&rt, !start.is_idle());
+    same(
+        &rt,
         start.act(),
         Act::Word {
             lock: 3,
-            op: Op::Load
-        }
+            op: Op::Load,
+        },
     );
     let (_, act) = advance(start, Reply::Value(0));
     let op = Op::Exchange { from: 0, to: 4 };
-    assert_eq!(rt; act, Act::Word { lock: 3, op });
+    same(&rt, act, Act::Word { lock: 3, op });
     let (end, act) = advance(start, Reply::Value(1));
-    assert_eq!(rt; act, Act::End(Answer::Ok));
-    assert!(rt; end.is_idle());
+    same(&rt, act, Act::End(Answer::Ok));
+    holds(&rt, end.is_idle());
 }
 
 #[test]
@@ -66,12 +68,12 @@ fn the_end_of_a_run_owes_a_wake_to_who_waits(rt: HostRuntime) {
         },
     };
     let running = Owners::NOBODY.with_phase(Phase::InProgress(1));
-    assert_eq!(rt; close.owners_after(1, 12, running).phase, Phase::Done);
+    same(&rt, close.owners_after(1, 12, running).phase, Phase::Done);
     let (enter, act) = advance(close, Reply::Value(12));
-    assert_eq!(rt; act, Act::Enter(Keys::One(6)));
-    assert!(rt; enter.owes_on(3) && !enter.owes_on(2));
+    same(&rt, act, Act::Enter(Keys::One(6)));
+    holds(&rt, enter.owes_on(3) && !enter.owes_on(2));
     let (_, act) = advance(close, Reply::Value(4));
-    assert_eq!(rt; act, Act::End(Answer::Ok));
+    same(&rt, act, Act::End(Answer::Ok));
 }
 
 #[test]
@@ -84,11 +86,11 @@ fn who_waits_for_a_run_tries_again_when_woken(rt: HostRuntime) {
             at: LookAt::Taken { by: 2 },
         },
     };
-    assert_eq!(rt; taken.taker(), Some(2));
-    assert_eq!(rt; taken.wants(), Some(Want::Wait));
-    assert!(rt; taken.late_key().is_none());
+    same(&rt, taken.taker(), Some(2));
+    same(&rt, taken.wants(), Some(Want::Wait));
+    holds(&rt, taken.late_key().is_none());
     let again = taken.after(Reply::Woken(Note::Normal));
-    assert!(rt; again.retries_on(3) && again.looking().is_none());
+    holds(&rt, again.retries_on(3) && again.looking().is_none());
 }
 
 #[test]

@@ -1,4 +1,5 @@
 //! Scripts: what threads do one after another, and what each of them is told.
+use super::same;
 use lot_base::{ListQueues, Want};
 use lot_world::{Call, Debt, Outcome, Owner, Step, Turn, World};
 use std::process::Abort;
@@ -79,10 +80,10 @@ fn look(world: &World<ListQueues>, lock: usize) -> Option<Shown> {
 
 /// Each line of the script is told what stands beside it. All scripts share this one assertion, since each is proved where it stands.
 pub fn plays(rt: &impl Abort, world: &mut World<ListQueues>, script: &[(usize, Does, Outcome)]) {
-    assert_eq!(rt; surprise(world, script), None);
+    same(rt, surprise(world, script), None);
 }
 
 /// A lock shows this.
 pub fn shows(rt: &impl Abort, world: &World<ListQueues>, lock: usize, wanted: Option<Shown>) {
-    assert_eq!(rt; look(world, lock), wanted);
+    same(rt, look(world, lock), wanted);
 }

@@ -2,6 +2,7 @@
 ghost use Rattle.std.specs.Prelude.{◌≤◌, ◌≡◌, true};
 ghost use Rattle.lot_calls.specs.Kinds.{fits};
 
+use super::same;
 use lot_base::ListQueues;
 use lot_world::{Answer, Call, Kind, MutexCall, Outcome, Step, Turn, World};
 use std::alloc::{AllocError, Global};
@@ -56,22 +57,23 @@ fn goes_from_one_to_the_next<A: Abort>(
     let mut world = World::<ListQueues>::new(alloc, &[kind, Kind::Mutex], threads)?;
     let last = threads - 1;
     let owns = Outcome::End(Answer::Ok);
-    assert_eq!(rt; done(&mut world, last, 0, MutexCall::Lock), owns);
+    same(rt, done(&mut world, last, 0, MutexCall::Lock), owns);
     for thread in 0..last {
-        assert_eq!(rt;
+        same(
+            rt,
             done(&mut world, thread, 0, MutexCall::Lock),
-            Outcome::Sleep
+            Outcome::Sleep,
         );
     }
-    assert_eq!(rt; first_waiter(&world, 0), Some(0));
+    same(rt, first_waiter(&world, 0), Some(0));
     let mut owner = last;
     for thread in 0..last {
-        assert_eq!(rt; done(&mut world, owner, 0, MutexCall::Unlock), owns);
-        assert_eq!(rt; world.solo(thread), owns);
+        same(rt, done(&mut world, owner, 0, MutexCall::Unlock), owns);
+        same(rt, world.solo(thread), owns);
         owner = thread;
     }
-    assert_eq!(rt; done(&mut world, owner, 0, MutexCall::Unlock), owns);
-    assert_eq!(rt; word_of(&world, 0), Some(0));
+    same(rt, done(&mut world, owner, 0, MutexCall::Unlock), owns);
+    same(rt, word_of(&world, 0), Some(0));
     Ok(())
 }
 
@@ -111,8 +113,8 @@ fn a_run_of_100_000_steps_goes_to_its_end(rt: HostRuntime) -> Result<(), Fail> {
     let steps = rounds(rt.alloc(), 25_000)?;
     let mut world = World::<ListQueues>::new(rt.alloc(), &[Kind::Mutex], 2)?;
     let mut outcomes = Vec::new(rt.alloc());
-    assert_eq!(rt; world.run(&steps, &mut outcomes), Ok(()));
-    assert_eq!(rt; outcomes.len(), 100_000);
+    same(&rt, world.run(&steps, &mut outcomes), Ok(()));
+    same(&rt, outcomes.len(), 100_000);
     for (index, outcome) in outcomes.iter().enumerate() {
         let wanted = if index % 2 == 0 {
             Outcome::Step
@@ -121,6 +123,6 @@ fn a_run_of_100_000_steps_goes_to_its_end(rt: HostRuntime) -> Result<(), Fail> {
         };
         assert_eq!(rt; *outcome, wanted, "step {index}");
     }
-    assert_eq!(rt; word_of(&world, 0), Some(0));
+    same(&rt, word_of(&world, 0), Some(0));
     Ok(())
 }

@@ -1,5 +1,6 @@
 ghost use Rattle.std.specs.Prelude.{◌≡◌};
 
+use super::{holds, same};
 use lot_base::{Keys, Note};
 use lot_steps::{
     Act, Answer, Call, Entry, HandOffAt, Kind, LockAt, MutexCall, MutexPlace, Op, Outcome, Owners,
@@ -22,36 +23,37 @@ fn a_call_says_what_it_needs(rt: HostRuntime) {
         (MutexCall::UnlockFair, true, false),
         (MutexCall::Bump, true, false),
     ] {
-        assert_eq!(rt; has_right(call(name), 1, owned, 0), owner_may);
-        assert_eq!(rt; has_right(call(name), 0, owned, 0), other_may);
+        same(&rt, has_right(call(name), 1, owned, 0), owner_may);
+        same(&rt, has_right(call(name), 0, owned, 0), other_may);
     }
 }
 
 #[test]
 fn a_release_wakes_the_one_that_it_took(rt: HostRuntime) {
     let start = Place::first(Kind::Mutex, call(MutexCall::Unlock));
-    assert!(rt; !start.is_idle());
-    assert_eq!(rt;
+    holds(&rt, !start.is_idle());
+    same(
+        &rt,
         start.act(),
         Act::Word {
             lock: 3,
-            op: Op::Sub(1)
-        }
+            op: Op::Sub(1),
+        },
     );
     let (enter, act) = advance(start, Reply::Value(3));
-    assert_eq!(rt; act, Act::Enter(Keys::One(6)));
-    assert!(rt; enter.owes_on(3));
+    same(&rt, act, Act::Enter(Keys::One(6)));
+    holds(&rt, enter.owes_on(3));
     let owners = start.owners_after(1, 3, Owners::NOBODY.with_exclusive(Some(1)));
-    assert_eq!(rt; owners, Owners::NOBODY);
+    same(&rt, owners, Owners::NOBODY);
     let (_, act) = advance(start, Reply::Value(1));
-    assert_eq!(rt; act.outcome(), Outcome::End(Answer::Ok));
+    same(&rt, act.outcome(), Outcome::End(Answer::Ok));
     let leave = Place::Mutex {
         lock: 3,
         at: MutexPlace::Unlock(UnlockAt::Leave { any: true }),
     };
     let (end, act) = advance(leave, Reply::Done);
-    assert_eq!(rt; act, Act::End(Answer::Ok));
-    assert!(rt; end.is_idle());
+    same(&rt, act, Act::End(Answer::Ok));
+    holds(&rt, end.is_idle());
 }
 
 #[test]
@@ -64,29 +66,30 @@ fn a_woken_thread_retries(rt: HostRuntime) {
             at: LockAt::Taken { by: 1 },
         },
     };
-    assert_eq!(rt; taken.act().outcome(), Outcome::Sleep);
+    same(&rt, taken.act().outcome(), Outcome::Sleep);
     let woken = taken.after(Reply::Woken(Note::Normal));
-    assert!(rt; woken.retries_on(3));
-    assert_eq!(rt;
+    holds(&rt, woken.retries_on(3));
+    same(
+        &rt,
         woken.act(),
         Act::Word {
             lock: 3,
-            op: Op::Load
-        }
+            op: Op::Load,
+        },
     );
     let saw = woken.after(Reply::Value(1));
-    assert_eq!(rt; saw.looking(), Some(woken));
-    assert_eq!(rt; woken.after(Reply::Value(3)).looking(), None);
+    same(&rt, saw.looking(), Some(woken));
+    same(&rt, woken.after(Reply::Value(3)).looking(), None);
 }
 
 #[test]
 fn a_bump_hands_the_mutex_over_and_enters_again(rt: HostRuntime) {
     let start = Place::first(Kind::Mutex, call(MutexCall::Bump));
     let (_, act) = advance(start, Reply::Value(1));
-    assert_eq!(rt; act, Act::End(Answer::Ok));
+    same(&rt, act, Act::End(Answer::Ok));
     let (enter, act) = advance(start, Reply::Value(3));
-    assert_eq!(rt; act, Act::Enter(Keys::One(6)));
-    assert!(rt; enter.owes_on(3));
+    same(&rt, act, Act::Enter(Keys::One(6)));
+    holds(&rt, enter.owes_on(3));
     let (take, _) = advance(enter, Reply::Done);
     let took = Reply::Took {
         any: true,
@@ -97,32 +100,33 @@ fn a_bump_hands_the_mutex_over_and_enters_again(rt: HostRuntime) {
         lock: 3,
         op: Op::Store(3),
     };
-    assert_eq!(rt; act, hands_over);
+    same(&rt, act, hands_over);
     let owners = store.owners_after(1, 3, Owners::NOBODY.with_exclusive(Some(1)));
-    assert_eq!(rt; owners.exclusive, None);
+    same(&rt, owners.exclusive, None);
     let (leave, act) = advance(store, Reply::Value(3));
     let wakes = Wakes::All(Note::HandOff);
     let leaves = Act::Leave {
         keys: Keys::One(6),
         wakes,
     };
-    assert_eq!(rt; act, leaves);
+    same(&rt, act, leaves);
     let (again, act) = advance(leave, Reply::Done);
-    assert_eq!(rt; act.outcome(), Outcome::Step);
-    assert!(rt; !again.owes_on(3));
+    same(&rt, act.outcome(), Outcome::Step);
+    holds(&rt, !again.owes_on(3));
     let (_, act) = advance(again, Reply::Value(0));
-    assert_eq!(rt; act, Act::End(Answer::Ok));
+    same(&rt, act, Act::End(Answer::Ok));
 }
 
 #[test]
 fn a_fair_release_beside_nobody_lets_go(rt: HostRuntime) {
     let start = Place::first(Kind::Fair, call(MutexCall::Unlock));
-    assert_eq!(rt;
+    same(
+        &rt,
         start,
-        Place::first(Kind::Mutex, call(MutexCall::UnlockFair))
+        Place::first(Kind::Mutex, call(MutexCall::UnlockFair)),
     );
     let (_, act) = advance(start, Reply::Value(1));
-    assert_eq!(rt; act, Act::End(Answer::Ok));
+    same(&rt, act, Act::End(Answer::Ok));
     let store = Place::Mutex {
         lock: 3,
         at: MutexPlace::HandOff {
@@ -137,7 +141,7 @@ fn a_fair_release_beside_nobody_lets_go(rt: HostRuntime) {
         lock: 3,
         op: Op::Store(0),
     };
-    assert_eq!(rt; store.act(), lets_go);
+    same(&rt, store.act(), lets_go);
 }
 
 #[test]
@@ -151,10 +155,10 @@ fn a_thread_accepts_what_it_was_handed(rt: HostRuntime) {
         },
     };
     let handed = taken.after(Reply::HandedBy { by: 1, alone: true });
-    assert_eq!(rt; handed.act(), Act::Sleep);
+    same(&rt, handed.act(), Act::Sleep);
     let woken = handed.after(Reply::Woken(Note::HandOff));
-    assert_eq!(rt; woken.act(), Act::Accept);
-    assert!(rt; !woken.retries_on(3));
+    same(&rt, woken.act(), Act::Accept);
+    holds(&rt, !woken.retries_on(3));
     let (_, act) = advance(woken, Reply::Done);
-    assert_eq!(rt; act, Act::End(Answer::Yes));
+    same(&rt, act, Act::End(Answer::Yes));
 }
