@@ -1,5 +1,6 @@
 //! Which lines have a meaning and which have none, how lines are read, and how outcomes are printed.
 
+use super::{holds, same};
 use arrayvec::ArrayVec;
 use lot_calls::{
     Access, Answer, Downgrade, Kind, MutexCall, OnceCall, OnceState, Outcome, Patience, RwLockCall,
@@ -7,6 +8,7 @@ use lot_calls::{
 use lot_text::{
     Command, LINE_LEN, Name, NamedCall, NamedTurn, Page, Reading, meaning, print_turn, read_line,
 };
+use std::process::Abort;
 
 /// Outcomes, as they are printed.
 const OUTCOMES: [(Outcome, &str); 18] = [
@@ -37,7 +39,7 @@ const OUTCOMES: [(Outcome, &str); 18] = [
 ];
 
 /// Lines without a meaning.
-const MALFORMED: [&str; 71] = [
+const MALFORMED: &[&str] = &[
     // Blanks.
     "",
     " ",
@@ -272,106 +274,82 @@ const ONCE_CALLS: [(&str, OnceCall); 4] = [
     ("3 begin wait_force m", OnceCall::Wait { forced: true }),
 ];
 
+// A line has this meaning, or none. All tests here share this one assertion, since each is proved where it stands.
+fn means(rt: &impl Abort, line: &str, wanted: Option<Command>) {
+    assert_eq!(rt; meaning(line.as_bytes()), wanted, "of {line:?}");
+}
+
+// The lock m, of this kind.
+fn locks(kind: Kind) -> Option<Command> {
+    let name = Name::from_word(b"m")?;
+    Some(Command::Lock { name, kind })
+}
+
+// A thread takes this turn.
+fn turns(thread: usize, turn: NamedTurn) -> Option<Command> {
+    Some(Command::Turn { thread, turn })
+}
+
+// It begins this call of the lock m.
+fn begins(thread: usize, call: NamedCall) -> Option<Command> {
+    let name = Name::from_word(b"m")?;
+    turns(thread, NamedTurn::Begin { call, name })
+}
+
+// And makes it alone.
+fn does(thread: usize, call: NamedCall) -> Option<Command> {
+    let name = Name::from_word(b"m")?;
+    turns(thread, NamedTurn::Do { call, name })
+}
+
 #[test]
 fn malformed_lines_mean_nothing(rt: HostRuntime) {
-    for line in MALFORMED {
-        assert_eq!(rt; meaning(line.as_bytes()), None, "for {line:?}");
+    for line in MALFORMED.iter() {
+        means(&rt, line, None);
     }
 }
 
 #[test]
 fn each_form_has_its_meaning(rt: HostRuntime) {
-    let m = Name::from_word(b"m");
-    assert!(rt; m.is_some());
-    let lock = m.map(|name| Command::Lock {
-        name,
-        kind: Kind::Mutex,
-    });
-    assert_eq!(rt; meaning(b"lock m mutex"), lock);
-    assert_eq!(rt; meaning(b"threads 1024"), Some(Command::Threads(1024)));
-    assert_eq!(rt;
-        meaning(b"threads 9999999999999999999"),
-        Some(Command::Threads(9_999_999_999_999_999_999))
-    );
-    assert_eq!(rt; meaning(b"show"), Some(Command::Show));
+    holds(&rt, locks(Kind::Mutex).is_some());
+    means(&rt, "lock m mutex", locks(Kind::Mutex));
+    means(&rt, "threads 1024", Some(Command::Threads(1024)));
+    let many = Command::Threads(9_999_999_999_999_999_999);
+    means(&rt, "threads 9999999999999999999", Some(many));
+    means(&rt, "show", Some(Command::Show));
     for (line, turn) in TURNS {
-        let thread = 7;
-        assert_eq!(rt;
-            meaning(line.as_bytes()),
-            Some(Command::Turn { thread, turn })
-        );
+        means(&rt, line, turns(7, turn));
     }
     for (begin, alone, call) in CALLS {
-        let thread = 1023;
-        let call = NamedCall::Mutex(call);
-        let begun = m.map(|name| Command::Turn {
-            thread,
-            turn: NamedTurn::Begin { call, name },
-        });
-        assert_eq!(rt; meaning(begin.as_bytes()), begun);
-        let done = m.map(|name| Command::Turn {
-            thread,
-            turn: NamedTurn::Do { call, name },
-        });
-        assert_eq!(rt; meaning(alone.as_bytes()), done);
+        means(&rt, begin, begins(1023, NamedCall::Mutex(call)));
+        means(&rt, alone, does(1023, NamedCall::Mutex(call)));
     }
 }
 
 #[test]
 fn limits_belong_to_reader_writer_locks(rt: HostRuntime) {
-    let m = Name::from_word(b"m");
-    assert!(rt; m.is_some());
-    let greatest = m.map(|name| Command::Lock {
-        name,
-        kind: Kind::RwLock {
-            limit: 1152921504606846974,
-        },
-    });
-    assert_eq!(rt; meaning(b"lock m rwlock"), greatest);
-    let limited = m.map(|name| Command::Lock {
-        name,
-        kind: Kind::RwLock { limit: 0 },
-    });
-    assert_eq!(rt; meaning(b"lock m rwlock 0"), limited);
-    let recursive = m.map(|name| Command::Lock {
-        name,
-        kind: Kind::Recursive { limit: 7 },
-    });
-    assert_eq!(rt; meaning(b"lock m recursive 7"), recursive);
+    let limit = 1152921504606846974;
+    means(&rt, "lock m rwlock", locks(Kind::RwLock { limit }));
+    means(&rt, "lock m rwlock 0", locks(Kind::RwLock { limit: 0 }));
+    means(
+        &rt,
+        "lock m recursive 7",
+        locks(Kind::Recursive { limit: 7 }),
+    );
 }
 
 #[test]
 fn reader_writer_calls_have_their_meaning(rt: HostRuntime) {
-    let m = Name::from_word(b"m");
-    assert!(rt; m.is_some());
     for (line, call) in RWLOCK_CALLS {
-        let thread = 3;
-        let call = NamedCall::RwLock(call);
-        let begun = m.map(|name| Command::Turn {
-            thread,
-            turn: NamedTurn::Begin { call, name },
-        });
-        assert_eq!(rt; meaning(line.as_bytes()), begun);
+        means(&rt, line, begins(3, NamedCall::RwLock(call)));
     }
 }
 
 #[test]
 fn calls_of_a_once_have_their_meaning(rt: HostRuntime) {
-    let m = Name::from_word(b"m");
-    assert!(rt; m.is_some());
-    let lock = m.map(|name| Command::Lock {
-        name,
-        kind: Kind::Once,
-    });
-    assert_eq!(rt; meaning(b"lock m once"), lock);
+    means(&rt, "lock m once", locks(Kind::Once));
     for (line, call) in ONCE_CALLS {
-        let thread = 3;
-        let call = NamedCall::Once(call);
-        let begun = m.map(|name| Command::Turn {
-            thread,
-            turn: NamedTurn::Begin { call, name },
-        });
-        assert_eq!(rt; meaning(line.as_bytes()), begun);
+        means(&rt, line, begins(3, NamedCall::Once(call)));
     }
 }
 
@@ -382,11 +360,8 @@ fn calls_of_a_condition_variable_have_their_meaning(rt: HostRuntime) {
     let (Some(name), Some(mutex)) = (c, m) else {
         return;
     };
-    let lock = Some(Command::Lock {
-        name,
-        kind: Kind::Condvar,
-    });
-    assert_eq!(rt; meaning(b"lock c condvar"), lock);
+    let kind = Kind::Condvar;
+    means(&rt, "lock c condvar", Some(Command::Lock { name, kind }));
     for (line, call) in [
         ("3 begin notify_one c", NamedCall::Notify { all: false }),
         ("3 begin notify_all c", NamedCall::Notify { all: true }),
@@ -402,11 +377,7 @@ fn calls_of_a_condition_variable_have_their_meaning(rt: HostRuntime) {
             NamedCall::Wait { mutex, timed: true },
         ),
     ] {
-        let begun = Command::Turn {
-            thread: 3,
-            turn: NamedTurn::Begin { call, name },
-        };
-        assert_eq!(rt; meaning(line.as_bytes()), Some(begun));
+        means(&rt, line, turns(3, NamedTurn::Begin { call, name }));
     }
     // Only a wait has a second name, and a timed one always has.
     for line in [
@@ -419,7 +390,7 @@ fn calls_of_a_condition_variable_have_their_meaning(rt: HostRuntime) {
         "3 begin wait_timed c",
         "3 go c m x y",
     ] {
-        assert_eq!(rt; meaning(line.as_bytes()), None, "for {line:?}");
+        means(&rt, line, None);
     }
 }
 
@@ -438,15 +409,15 @@ fn reads_lines(rt: HostRuntime) {
     let mut line = ArrayVec::<u8, LINE_LEN>::new();
     let mut reader = b"show\n\n0 go".as_slice();
     for want in [b"show".as_slice(), b"", b"0 go"] {
-        assert_eq!(rt; read_line(&mut reader, &mut line), Reading::Line);
-        assert_eq!(rt; line.as_slice(), want);
+        same(&rt, read_line(&mut reader, &mut line), Reading::Line);
+        same(&rt, line.as_slice(), want);
     }
-    assert_eq!(rt; read_line(&mut reader, &mut line), Reading::End);
+    same(&rt, read_line(&mut reader, &mut line), Reading::End);
     let long = [b'x'; LINE_LEN + 1];
     let mut reader = &long[..LINE_LEN];
-    assert_eq!(rt; read_line(&mut reader, &mut line), Reading::Line);
+    same(&rt, read_line(&mut reader, &mut line), Reading::Line);
     let mut reader = long.as_slice();
-    assert_eq!(rt; read_line(&mut reader, &mut line), Reading::TooLong);
+    same(&rt, read_line(&mut reader, &mut line), Reading::TooLong);
 }
 
 #[test]
@@ -456,6 +427,6 @@ fn prints_outcomes(rt: HostRuntime) {
         let mut text = Vec::new(rt.alloc());
         print_turn(&mut page, &mut text, 7, outcome);
         page.finish(&mut text);
-        assert_eq!(rt; text.as_slice(), want.as_bytes());
+        same(&rt, text.as_slice(), want.as_bytes());
     }
 }

@@ -1,0 +1,86 @@
+/* What a lock and an unlock by one thread take, by the instructions between the two that are locked, and by where these lie.
+
+   Each loop is what a compiler makes of such a pair, at sixteen positions four bytes apart. Build and run it with
+   gcc -O2 -o pairs pairs.c && ./pairs; it prints the mean, the least and the greatest nanoseconds of each loop. */
+#include <stdint.h>
+#include <stdio.h>
+#include <stdlib.h>
+#include <time.h>
+
+struct table { uint64_t key; uint64_t *words; };
+struct lock { struct table *table; uint64_t index; };
+struct token { uint8_t told; };
+
+/* As the flag that is tested behind each call that may wait. */
+volatile uint8_t flag;
+
+/* The exchange of 1 for 0, and the subtraction of 1, of a word that is found through the lock's table. */
+#define LOCK "mov (%[lock]),%%rcx\n mov 8(%[lock]),%%rdx\n mov 8(%%rcx),%%rsi\n" \
+             "mov $1,%%edi\n xor %%eax,%%eax\n lock cmpxchg %%rdi,(%%rsi,%%rdx,8)\n jne 9f\n"
+#define UNLOCK "mov (%[lock]),%%rax\n mov 8(%[lock]),%%rcx\n mov 8(%%rax),%%rdx\n lock decq (%%rdx,%%rcx,8)\n"
+#define FLAG "cmpb $0,flag(%%rip)\n jne 9f\n"
+/* The owner's seat is split off the thread's by a load, and joined to it by another. */
+#define SPLIT "mov 8(%%rcx),%%rax\n mov (%%rax),%%rax\n"
+#define JOIN "mov 8(%%rax),%%rax\n mov (%%rax),%%rax\n"
+/* Whether a section is told. */
+#define TOLD "cmpb $1,(%[token])\n je 9f\n"
+
+#define LOOP(name, at, body) \
+    __attribute__((noinline)) static void name##_##at(struct lock *lock, struct token *token, uint64_t n) { \
+        __asm__ volatile(".p2align 6\n .rept " #at "\n nop\n .endr\n 1:\n" body "dec %[n]\n jne 1b\n 9:\n" \
+                         : [n] "+r"(n) : [lock] "r"(lock), [token] "r"(token) \
+                         : "rax", "rcx", "rdx", "rsi", "rdi", "memory", "cc"); \
+    }
+#define BARE "xor %%eax,%%eax\n mov $1,%%ecx\n lock cmpxchg %%cl,(%[token])\n jne 9f\n" \
+             "mov $1,%%al\n xor %%ecx,%%ecx\n lock cmpxchg %%cl,(%[token])\n jne 9f\n"
+
+#define AT(at) \
+    LOOP(bare, at, BARE) \
+    LOOP(take, at, LOCK FLAG UNLOCK "jne 9f\n" FLAG) \
+    LOOP(hold, at, LOCK SPLIT FLAG UNLOCK JOIN "jne 9f\n" FLAG) \
+    LOOP(told, at, TOLD LOCK SPLIT FLAG TOLD UNLOCK JOIN "jne 9f\n" FLAG)
+AT(0) AT(4) AT(8) AT(12) AT(16) AT(20) AT(24) AT(28) AT(32) AT(36) AT(40) AT(44) AT(48) AT(52) AT(56) AT(60)
+
+typedef void (*loop)(struct lock *, struct token *, uint64_t);
+enum { POSITIONS = 16, LOOPS = 4, RUNS = 25, PAIRS = 300000 };
+static const char *names[LOOPS] = {"a byte, in a register", "a word of a table", "and an owner apart", "and a told section"};
+#define ROW(at) {bare_##at, take_##at, hold_##at, told_##at}
+static const loop loops[POSITIONS][LOOPS] = {ROW(0), ROW(4), ROW(8), ROW(12), ROW(16), ROW(20), ROW(24), ROW(28),
+    ROW(32), ROW(36), ROW(40), ROW(44), ROW(48), ROW(52), ROW(56), ROW(60)};
+
+static double now(void) {
+    struct timespec t;
+    clock_gettime(CLOCK_MONOTONIC, &t);
+    return 1e9 * t.tv_sec + t.tv_nsec;
+}
+
+int main(void) {
+    static double best[POSITIONS][LOOPS];
+    struct table *table = aligned_alloc(64, 64);
+    struct lock *lock = aligned_alloc(64, 64);
+    struct token *token = aligned_alloc(64, 64);
+    table->words = aligned_alloc(64, 4096);
+    lock->table = table;
+    lock->index = 8;
+    for (int run = 0; run < RUNS; run++)
+        for (int at = 0; at < POSITIONS; at++)
+            for (int which = 0; which < LOOPS; which++) {
+                table->words[8] = 0;
+                token->told = 0;
+                double start = now();
+                loops[at][which](lock, token, PAIRS);
+                double taken = (now() - start) / PAIRS;
+                if (run == 0 || taken < best[at][which]) best[at][which] = taken;
+            }
+    for (int which = 0; which < LOOPS; which++) {
+        double sum = 0, least = best[0][which], most = least;
+        for (int at = 0; at < POSITIONS; at++) {
+            double taken = best[at][which];
+            sum += taken;
+            if (taken < least) least = taken;
+            if (taken > most) most = taken;
+        }
+        printf("%-22s %6.2f %6.2f %6.2f\n", names[which], sum / POSITIONS, least, most);
+    }
+    return 0;
+}
