@@ -1,5 +1,5 @@
 -- Seats are split and joined: what is named, done and drawn in all stays as it was.
-use Rattle.std.proofs.Common.{◌≡◌, ℕ, ◌+◌, ◌≤◌, ◌⊎◌, true, cond, eqb, [], ◌∷◌, ◌++◌, ⊎_elim, inl, inr, List, set, sym, ◌∙◌, ap, subst, refl, arith}
+use Rattle.std.proofs.Common.{◌≡◌, ℕ, ◌+◌, ◌≤◌, ◌⊎◌, true, cond, eqb, [], ◌∷◌, ◌++◌, ⊎_elim, inl, List, set, sym, ◌∙◌, ap, subst, refl, arith}
 use mathlib.Core.Option.{some}
 use lib.ListN.{get_elem?}
 use Rattle.atomic_table.specs.Table.{Splits, Joins}
