@@ -1,6 +1,6 @@
-/* What a lock and an unlock by one thread take, by the instructions between the two that are locked, and by where these lie.
+/* What a lock and an unlock by one thread take, and a look at a word, by their instructions and by where these lie.
 
-   Each loop is what a compiler makes of such a pair, at sixteen positions four bytes apart. Build and run it with
+   Each loop is what a compiler makes of such a pair or look, at sixteen positions four bytes apart. Build and run it with
    gcc -O2 -o pairs pairs.c && ./pairs; it prints the mean, the least and the greatest nanoseconds of each loop. */
 #include <stdint.h>
 #include <stdio.h>
@@ -34,7 +34,15 @@ volatile uint8_t flag;
 #define BARE "xor %%eax,%%eax\n mov $1,%%ecx\n lock cmpxchg %%cl,(%[token])\n jne 9f\n" \
              "mov $1,%%al\n xor %%ecx,%%ecx\n lock cmpxchg %%cl,(%[token])\n jne 9f\n"
 
+/* A look, that of a notification where nobody waits: at a word whose address is in a register, and through a table, which forgets
+   what section is told. */
+#define GLANCE "mov (%[lock]),%%rcx\n test %%rcx,%%rcx\n je 9f\n"
+#define LOOK "mov (%[lock]),%%rax\n mov 8(%[lock]),%%rcx\n movb $0,(%[token])\n mov 8(%%rax),%%rax\n" \
+             "mov (%%rax,%%rcx,8),%%rcx\n test %%rcx,%%rcx\n jne 9f\n"
+
 #define AT(at) \
+    LOOP(glance, at, GLANCE) \
+    LOOP(look, at, LOOK FLAG) \
     LOOP(bare, at, BARE) \
     LOOP(take, at, LOCK FLAG UNLOCK "jne 9f\n" FLAG) \
     LOOP(hold, at, LOCK SPLIT FLAG UNLOCK JOIN "jne 9f\n" FLAG) \
@@ -42,9 +50,10 @@ volatile uint8_t flag;
 AT(0) AT(4) AT(8) AT(12) AT(16) AT(20) AT(24) AT(28) AT(32) AT(36) AT(40) AT(44) AT(48) AT(52) AT(56) AT(60)
 
 typedef void (*loop)(struct lock *, struct token *, uint64_t);
-enum { POSITIONS = 16, LOOPS = 4, RUNS = 25, PAIRS = 300000 };
-static const char *names[LOOPS] = {"a byte, in a register", "a word of a table", "and an owner apart", "and a told section"};
-#define ROW(at) {bare_##at, take_##at, hold_##at, told_##at}
+enum { POSITIONS = 16, LOOPS = 6, RUNS = 25, PAIRS = 300000 };
+static const char *names[LOOPS] = {"a look in a register", "a look through a table", "a pair in a register", "a pair through a table",
+    "with an owner apart", "with a told section"};
+#define ROW(at) {glance_##at, look_##at, bare_##at, take_##at, hold_##at, told_##at}
 static const loop loops[POSITIONS][LOOPS] = {ROW(0), ROW(4), ROW(8), ROW(12), ROW(16), ROW(20), ROW(24), ROW(28),
     ROW(32), ROW(36), ROW(40), ROW(44), ROW(48), ROW(52), ROW(56), ROW(60)};
 
@@ -56,10 +65,12 @@ static double now(void) {
 
 int main(void) {
     static double best[POSITIONS][LOOPS];
-    struct table *table = aligned_alloc(64, 64);
-    struct lock *lock = aligned_alloc(64, 64);
-    struct token *token = aligned_alloc(64, 64);
-    table->words = aligned_alloc(64, 4096);
+    /* Each at another place of its page: a load waits for a store before it whose address ends alike. */
+    char *page = aligned_alloc(4096, 4096);
+    struct table *table = (struct table *)page;
+    struct lock *lock = (struct lock *)(page + 1024);
+    struct token *token = (struct token *)(page + 2048);
+    table->words = (uint64_t *)(page + 3072);
     lock->table = table;
     lock->index = 8;
     for (int run = 0; run < RUNS; run++)
