@@ -204,9 +204,10 @@ impl<'a> Debts<'a> {
     }
 }
 
-/// Whether a thread at this place has the debt.
-fn has_debt(place: Place, debt: Debt, lock: usize) -> bool
-    ensures { result ≡ has_debt place debt lock }
+/// Whether a thread at this place has the debt. A place is looked at where it stands: a copy of it would take most of the time.
+#[inline]
+fn has_debt(place: &Place, debt: Debt, lock: usize) -> bool
+    ensures { result ≡ has_debt place.now debt lock }
 {
     match debt {
         Debt::Owes => place.owes_on(lock),
@@ -221,8 +222,8 @@ fn first_debtor(places: &[Place], lock: usize) -> usize
     ensures retries { debtors Debt.Retries lock 0 places.now ≡ debtors Debt.Retries lock result (drop result places.now) }
 {
     for thread in 0..places.len() {
-        if has_debt(places[thread], Debt::Owes, lock)
-            || has_debt(places[thread], Debt::Retries, lock)
+        if has_debt(&places[thread], Debt::Owes, lock)
+            || has_debt(&places[thread], Debt::Retries, lock)
         {
             return thread;
         }
@@ -238,7 +239,7 @@ fn find_debtor(places: &[Place], from: usize, debt: Debt, lock: usize) -> Option
         ≡ (debt, thread) ∷ debtors debt lock (thread + 1) (drop (thread + 1) places.now)) }
 {
     for thread in from..places.len() {
-        if has_debt(places[thread], debt, lock) {
+        if has_debt(&places[thread], debt, lock) {
             return Some(thread);
         }
     }
