@@ -204,7 +204,7 @@ impl<'a> Debts<'a> {
     }
 }
 
-/// Whether a thread at this place has the debt. A place is looked at where it stands: a copy of it would take most of the time.
+/// Whether a thread at this place has the debt. A place is looked at where it stands, and not copied.
 #[inline]
 fn has_debt(place: &Place, debt: Debt, lock: usize) -> bool
     ensures { result ≡ has_debt place.now debt lock }
