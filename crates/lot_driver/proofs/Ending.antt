@@ -104,27 +104,12 @@ module _ (up : Type 0) (base owns : List Ownership) where
 
 -- no call of a mutex runs a closure
 pub no_closure : (n : ℕ) (state : OnceState) (up : Type 0) (base : List Ownership) (at : MutexPlace) (st : Stage) → FitsMutex up n base at st → mutex_act n at ≡ act.TheVariants.Closure state → ⊥
-no_closure n state up base (at_mutex_place.Lock e retries lock.TheVariants.First) st f is = cc
-no_closure n state up base (at_mutex_place.Lock e retries lock.TheVariants.Load) st f is = cc
 no_closure n state up base (at_mutex_place.Lock e retries (lock.TheVariants.Decide seen)) st f is =
     each_code (λ s. decided n s ≡ act.TheVariants.Closure state → ⊥) (λ is. cc) (λ is. cc) (λ is. cc) (λ is. cc) seen f.0 is
-no_closure n state up base (at_mutex_place.Lock e retries lock.TheVariants.Check) st f is = cc
-no_closure n state up base (at_mutex_place.Lock e retries (lock.TheVariants.Leave parked)) st f is = cc
-no_closure n state up base (at_mutex_place.Lock e retries lock.TheVariants.Asleep) st f is = cc
-no_closure n state up base (at_mutex_place.Lock e retries lock.TheVariants.Accept) st f is = cc
-no_closure n state up base (at_mutex_place.Lock e retries lock.TheVariants.Remove) st f is = cc
-no_closure n state up base (at_mutex_place.Lock e retries lock.TheVariants.Clear) st f is = cc
-no_closure n state up base (at_mutex_place.Lock e retries lock.TheVariants.GiveUp) st f is = cc
-no_closure n state up base (at_mutex_place.Unlock unlock.TheVariants.Enter) st f is = cc
 no_closure n state up base (at_mutex_place.Unlock unlock.TheVariants.Take) st f is = cc
-no_closure n state up base (at_mutex_place.Unlock (unlock.TheVariants.Clear any)) st f is = cc
-no_closure n state up base (at_mutex_place.Unlock (unlock.TheVariants.Leave any)) st f is = cc
-no_closure n state up base (at_mutex_place.HandOff bumps hand_off.TheVariants.Enter) st f is = cc
-no_closure n state up base (at_mutex_place.HandOff bumps hand_off.TheVariants.Take) st f is = cc
 no_closure n state up base (at_mutex_place.HandOff bumps (hand_off.TheVariants.Store true none_left)) st f is = cc
 no_closure n state up base (at_mutex_place.HandOff bumps (hand_off.TheVariants.Store false none_left)) st f is = cc
-no_closure n state up base (at_mutex_place.HandOff bumps (hand_off.TheVariants.Leave any)) st f is = cc
-no_closure n state up base at st f is = absurd f
+no_closure n state up base at st f is = cc
 
 -- a call that runs its closure is of a `Once`
 once_runs : (l n : ℕ) (purpose : Purpose) (at : OncePlace) → aim_of (Once l at) ≡ of_mutex n purpose → ⊥

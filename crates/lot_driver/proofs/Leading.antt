@@ -29,6 +29,7 @@ use Rattle.lot_mutex.specs.declared.unlock.UnlockAt.{UnlockAt}
 use Rattle.lot_mutex.specs.declared.unlock.UnlockAt as unlock
 use Rattle.lot_steps.specs.declared.places.Place.{Place}
 use Rattle.lot_steps.specs.declared.places.Place.TheVariants.{Idle, Mutex, RwLock, Once, Condvar}
+use Rattle.lot_words.specs.Steps.{owns_after_step}
 use Rattle.lot_words.specs.Views.{owning}
 use Rattle.lot_words.specs.declared.owners.Owner.{Owner}
 use Rattle.lot_words.specs.declared.owners.Ownership.{Ownership}
@@ -37,7 +38,7 @@ use Rattle.lot_words.specs.declared.words.WordKind as kinds
 use Rattle.lot_words.proofs.MutexSteps.{mutex_steps, each_code}
 use Rattle.parking_lot_core.specs.declared.tokens.Did.TheVariants.{TakeFirst}
 use Rattle.lot_driver.specs.Fitting.{AreWordsFor, Fits, PlacesLead, Looks, Reached, aim_of, sleeper_at}
-use Rattle.lot_driver.specs.MutexFitting.{GaveUp, FitsLock, FitsUnlock, FitsMutex, Within, Outside, beside, held}
+use Rattle.lot_driver.specs.MutexFitting.{FitsLock, FitsUnlock, FitsMutex, Within, Outside, beside, held}
 use Rattle.lot_driver.specs.Paths.{GoesFrom, mutex_at, mutexes, at_mutex, rwlocks, at_rwlock, onces, at_once}
 use Rattle.lot_driver.specs.declared.sleepers.Sleeper.{Sleeper}
 use Rattle.lot_driver.specs.Stages.{Stage, Inside, ActNeeds, Became, HasKey, IsFresh, MayLeave, IsLeft, took_as, listed, entered_now, stage, stepped}
@@ -59,6 +60,16 @@ module _ (up : Type 0) (n : ℕ) (base : List Ownership) (st : Stage) where
   decide_needs seen owns = each_code (λ s. Outside owns st → Can (decided n s))
       (λ f. (mutex_steps (mutex_at n) st.owns).enter 0 (omega arith) refl) (λ f. (mutex_steps (mutex_at n) st.owns).set_parked)
       (λ f. (mutex_steps (mutex_at n) st.owns).enter 2 (omega arith) refl) (λ f. (tt, f.1)) seen
+
+  -- a load, and a step that clears the parked bit, change no owner
+  abbrev IsQuiet : Op → ℕ → Type 0
+  IsQuiet op seen = owns_after_step kinds.TheVariants.Mutex (mutex_at n) op seen st.owns ≡ st.owns
+
+  load_quiet : (seen : ℕ) → seen < 4 → IsQuiet Load seen
+  load_quiet = each_code (IsQuiet Load) refl refl refl refl
+
+  clear_quiet : (seen : ℕ) → seen < 4 → IsQuiet (And 18446744073709551613) seen
+  clear_quiet = each_code (IsQuiet (And 18446744073709551613)) refl refl refl refl
 
   -- a section in which nobody was taken is left
   leaves : (owns : List Ownership) → Within n owns st → MayLeave Normal st.inside
@@ -150,17 +161,11 @@ module _ (up : Type 0) (n : ℕ) (base : List Ownership) (st : Stage) where
           (λ x. ((omega arith, outside_still f _ x refl refl), refl)) (λ x. ((omega arith, outside_still f _ x refl refl), refl))
           (λ x. inl (refl, has_it f _ x refl refl)) (λ x. ((omega arith, outside_still f _ x refl refl), refl))
 
-      clears : GaveUp up e × Within n rest st → (seen : ℕ) → seen < 4 → Saw lock.TheVariants.Clear (And 18446744073709551613) seen
-      clears f = each_code (Saw lock.TheVariants.Clear (And 18446744073709551613))
-          (λ x. ((f.0, stays rest _ _ x refl refl f.1), refl)) (λ x. ((f.0, stays rest _ _ x refl refl f.1), refl))
-          (λ x. ((f.0, stays rest _ _ x refl refl f.1), refl)) (λ x. ((f.0, stays rest _ _ x refl refl f.1), refl))
-
       nobody_moves : {key : ℕ} → None ≡ Some key → ⊥
       nobody_moves e = cc
 
       checks : Within n rest st → (seen : ℕ) → seen < 4 → new ≡ stepped kinds.TheVariants.Mutex (mutex_at n) Load seen st → Within n rest new
-      checks f = each_code (λ s. new ≡ stepped kinds.TheVariants.Mutex (mutex_at n) Load s st → Within n rest new)
-          (λ x. stays rest _ _ x refl refl f) (λ x. stays rest _ _ x refl refl f) (λ x. stays rest _ _ x refl refl f) (λ x. stays rest _ _ x refl refl f)
+      checks f seen small x = stays rest _ _ x (load_quiet seen small) refl f
 
       enter_reply : (P : Reply → Type 0) (keys : Keys) → (new ≡ stage st.owns (entered_now keys) st.last → P Done) → (reply : Reply) → Became up mutexes (at_mutex n) (sleeper_at (place lock.TheVariants.First)) st (act.TheVariants.Enter keys) reply new → P reply
       enter_reply P keys h Done b = h b
@@ -186,7 +191,7 @@ module _ (up : Type 0) (n : ℕ) (base : List Ownership) (st : Stage) where
       lock_leads lock.TheVariants.Asleep f (MovedTo key) b = absurd (nobody_moves b.0.1)
       lock_leads lock.TheVariants.Remove f (Removed true) b = ((f.0, stays rest _ _ b refl refl f.1), refl)
       lock_leads lock.TheVariants.Remove f (Removed false) b = ((f.0, stays rest _ _ b refl refl f.1), refl)
-      lock_leads lock.TheVariants.Clear f (Value seen) b = clears f seen b.0.1.0 b.1
+      lock_leads lock.TheVariants.Clear f (Value seen) b = ((f.0, stays rest _ _ b.1 (clear_quiet seen b.0.1.0) refl f.1), refl)
       lock_leads lock.TheVariants.GiveUp f Done b = inr (refl, f.0, (b.0 ∙ f.1.0, b.1))
       lock_leads lock.TheVariants.Accept f Done b = inl (refl, (owns_of _ b ∙ f.0, inside_of _ b ∙ f.1))
       lock_leads (lock.TheVariants.Taken by) f reply b = absurd f
@@ -199,8 +204,7 @@ module _ (up : Type 0) (n : ℕ) (base : List Ownership) (st : Stage) where
     unlock_leads unlock.TheVariants.Enter f Done b = ((owns_of _ b ∙ f.0, inside_of _ b), refl)
     unlock_leads unlock.TheVariants.Take f (Took any true) b = ((b.0.0, b.0.1, (b.1 ∙ f.0, b.0.2 ∙ ap (took_as (TakeFirst (2 * n)) (listed b.0.0)) f.1)), refl)
     unlock_leads unlock.TheVariants.Take f (Took any false) b = ((b.0.0, b.0.1, (b.1 ∙ f.0, b.0.2 ∙ ap (took_as (TakeFirst (2 * n)) (listed b.0.0)) f.1)), refl)
-    unlock_leads (unlock.TheVariants.Clear any) f (Value seen) b = each_code (λ s. new ≡ stepped kinds.TheVariants.Mutex (mutex_at n) (And 18446744073709551613) s st → Reached up base (Mutex n (at_mutex_place.Unlock (unlock.TheVariants.Clear any))) (Value s) new)
-        (λ x. ((f.0, f.1, stays base _ _ x refl refl f.2), refl)) (λ x. ((f.0, f.1, stays base _ _ x refl refl f.2), refl)) (λ x. ((f.0, f.1, stays base _ _ x refl refl f.2), refl)) (λ x. ((f.0, f.1, stays base _ _ x refl refl f.2), refl)) seen b.0.1.0 b.1
+    unlock_leads (unlock.TheVariants.Clear any) f (Value seen) b = ((f.0, f.1, stays base _ _ b.1 (clear_quiet seen b.0.1.0) refl f.2), refl)
     unlock_leads (unlock.TheVariants.Leave any) f Done b = (refl, (b.0 ∙ f.2.0, b.1), subst (λ (i : Option Inside). IsLeft i new.last) f.2.1 b.2)
     unlock_leads unlock.TheVariants.Take f reply b = absurd b.0
     unlock_leads at f reply b = absurd b

@@ -80,8 +80,6 @@ mutex_known l at sorts e = knows_exclusive (sorts l) e
 never_aside : (at : MutexPlace) → (mutex_row at).stands ≢ Some Second
 never_aside (Lock e r (lock.Leave true)) h = cc
 never_aside (Lock e r (lock.Leave false)) h = cc
-never_aside (Lock e r lock.Asleep) h = cc
-never_aside (Lock e r lock.Remove) h = cc
 never_aside (Lock e r at) h = cc
 never_aside at h = cc
 
@@ -285,8 +283,6 @@ may_be_late l (Lock entries.LockTimed r lock.Asleep) m h sleeps timed = h
 may_be_late l (Lock entries.Lock r at) m h sleeps timed = absurd (let e = timed.1 in cc)
 may_be_late l (Lock entries.Bump r at) m h sleeps timed = absurd timed
 may_be_late l (Lock entries.LockTimed r (lock.Leave b)) m h sleeps timed = absurd cc
-may_be_late l (Lock entries.LockTimed r lock.Remove) m h sleeps timed = absurd cc
-may_be_late l (Lock entries.LockTimed r lock.First) m h sleeps timed = absurd cc
 may_be_late l (Lock entries.LockTimed r at) m h sleeps timed = absurd cc
 may_be_late l at m h sleeps timed = absurd cc
 

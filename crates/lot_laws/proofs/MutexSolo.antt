@@ -114,38 +114,35 @@ module _ (t l : ℕ) (entry : Entry) (q : List Waiter) where
       → Leads 5 w t Resting
   load_rests retries v o w f = leads_so 5 w t (LockEnds t l entry o q) Resting (rests_so o) (load_leads retries v o w f)
 
-  gives_up_rests : (retries : Bool) (v : ℕ) (o s : Option ℕ) (w : State)
-      → Facing w t l (Mutex l (Lock entry retries GiveUp)) v o s q → Leads 1 w t Resting
-  gives_up_rests retries v o s w f = let h = leave_faces w t l _ v o s q f refl in leads_rest w t Resting (outcome.TheVariants.End answer.TheVariants.No) h.0 tt tt
-
-  clear_rests : (retries : Bool) (v : ℕ) (o s : Option ℕ) (w : State) → Facing w t l (Mutex l (Lock entry retries Clear)) v o s q
-      → Leads 2 w t Resting
-  clear_rests retries v o s w f = let h = word_faces w t l _ v o s q f (op.TheVariants.And NOT_PARKED) refl in leads_step w t Resting 1 h.0 (gives_up_rests retries _ o s _ h.1)
-
 module _ (t l : ℕ) (entry : Entry) where
-  leave_rests : (retries b : Bool) (v : ℕ) (o s : Option ℕ) (q : List Waiter) (w : State)
-      → Facing w t l (Mutex l (Lock entry retries (Leave b))) v o s q → Leads 6 w t (λ x y. Rests y)
-  leave_rests retries true v o s q w f = let h = leave_faces w t l _ v o s q f refl in leads_more 1 6 w t (λ x y. Rests y) (omega arith) (leads_rest w t (λ x y. Rests y) outcome.TheVariants.Sleep h.0 tt tt)
-  leave_rests retries false v o s q w f = let h = leave_faces w t l _ v o s q f refl in leads_step w t (λ x y. Rests y) 5 h.0 (load_rests t l entry q retries v o _ h.1)
+  -- from this place it rests within so many steps
+  abbrev RestsFrom : LockAt → ℕ → Type 0
+  RestsFrom at steps = (retries : Bool) (v : ℕ) (o s : Option ℕ) (q : List Waiter) (w : State)
+      → Facing w t l (Mutex l (Lock entry retries at)) v o s q → Leads steps w t (λ x y. Rests y)
 
-  check_rests : (retries : Bool) (v : ℕ) (o s : Option ℕ) (q : List Waiter) (w : State)
-      → Facing w t l (Mutex l (Lock entry retries Check)) v o s q → Leads 7 w t (λ x y. Rests y)
+  leave_rests : (b : Bool) → RestsFrom (Leave b) 6
+  leave_rests true retries v o s q w f = let h = leave_faces w t l _ v o s q f refl in leads_more 1 6 w t (λ x y. Rests y) (omega arith) (leads_rest w t (λ x y. Rests y) outcome.TheVariants.Sleep h.0 tt tt)
+  leave_rests false retries v o s q w f = let h = leave_faces w t l _ v o s q f refl in leads_step w t (λ x y. Rests y) 5 h.0 (load_rests t l entry q retries v o _ h.1)
+
+  check_rests : RestsFrom Check 7
   check_rests retries v o s q w f = either (v == 3) refl
     where
       either : (b : Bool) → (v == 3) ≡ b → Leads 7 w t (λ x y. Rests y)
-      either true e = let h = park_faces w t l _ v o s q f refl (eqb-true v 3 e) refl in leads_step w t (λ x y. Rests y) 6 h.0 (leave_rests (retries && not true) true v o s _ _ h.1)
-      either false e = let h = unparked_faces w t l _ v o s q f refl e in leads_step w t (λ x y. Rests y) 6 h.0 (leave_rests (retries && not false) false v o s q _ h.1)
+      either true e = let h = park_faces w t l _ v o s q f refl (eqb-true v 3 e) refl in leads_step w t (λ x y. Rests y) 6 h.0 (leave_rests true (retries && not true) v o s _ _ h.1)
+      either false e = let h = unparked_faces w t l _ v o s q f refl e in leads_step w t (λ x y. Rests y) 6 h.0 (leave_rests false (retries && not false) v o s q _ h.1)
 
-  remove_rests : (retries : Bool) (v : ℕ) (o s : Option ℕ) (q : List Waiter) (w : State)
-      → Facing w t l (Mutex l (Lock entry retries Remove)) v o s q → Leads 3 w t (λ x y. Rests y)
+  gives_up_rests : RestsFrom GiveUp 1
+  gives_up_rests retries v o s q w f = leads_rest w t (λ x y. Rests y) (outcome.TheVariants.End answer.TheVariants.No) (leave_faces w t l _ v o s q f refl).0 tt tt
+
+  clear_rests : RestsFrom Clear 2
+  clear_rests retries v o s q w f = let h = word_faces w t l _ v o s q f (op.TheVariants.And NOT_PARKED) refl in leads_step w t (λ x y. Rests y) 1 h.0 (gives_up_rests retries _ o s q _ h.1)
+
+  remove_rests : RestsFrom Remove 3
   remove_rests retries v o s q w f = either (length (without t q) == 0) (remove_faces w t l (Mutex l (Lock entry retries Remove)) v o s q f refl)
     where
-      either : (b : Bool)
-          → Faces w t l (next_place (Mutex l (Lock entry retries Remove)) (Removed b))
-          (outcome_of (next_act (Mutex l (Lock entry retries Remove)) (Removed b))) v o s (without t q)
-          → Leads 3 w t (λ x y. Rests y)
-      either true h = leads_step w t (λ x y. Rests y) 2 h.0 (clear_rests t l entry (without t q) retries v o s _ h.1)
-      either false h = leads_more 2 3 w t (λ x y. Rests y) (omega arith) (leads_step w t (λ x y. Rests y) 1 h.0 (gives_up_rests t l entry (without t q) retries v o s _ h.1))
+      either : (b : Bool) → Faces w t l (next_place (Mutex l (Lock entry retries Remove)) (Removed b)) (outcome_of (next_act (Mutex l (Lock entry retries Remove)) (Removed b))) v o s (without t q) → Leads 3 w t (λ x y. Rests y)
+      either true h = leads_step w t (λ x y. Rests y) 2 h.0 (clear_rests retries v o s _ _ h.1)
+      either false h = leads_more 2 3 w t (λ x y. Rests y) (omega arith) (leads_step w t (λ x y. Rests y) 1 h.0 (gives_up_rests retries v o s _ _ h.1))
 
   -- it decides by a value that the word has no longer, or still
   decide_rests : (retries : Bool) (x v : ℕ) (o : Option ℕ) (q : List Waiter) (w : State)
@@ -197,14 +194,14 @@ module _ (t l : ℕ) (entry : Entry) where
   lock_rests retries Load v o s q w f way up = leads_more 5 8 w t (λ c y. Rests y) (omega arith) (load_rests t l entry q retries v o w (subst (λ x. Facing w t l (Mutex l (Lock entry retries Load)) v o x q) (way refl) f))
   lock_rests retries (Decide x) v o s q w f way up = decide_rests retries x v o q w (subst (λ y. Facing w t l (Mutex l (Lock entry retries (Decide x))) v o y q) (way refl) f)
   lock_rests retries Check v o s q w f way up = leads_more 7 8 w t (λ c y. Rests y) (omega arith) (check_rests retries v o s q w f)
-  lock_rests retries (Leave b) v o s q w f way up = leads_more 6 8 w t (λ c y. Rests y) (omega arith) (leave_rests retries b v o s q w f)
+  lock_rests retries (Leave b) v o s q w f way up = leads_more 6 8 w t (λ c y. Rests y) (omega arith) (leave_rests b retries v o s q w f)
   lock_rests retries Asleep v o s q w f way up = absurd (up refl)
   lock_rests retries (Taken by) v o s q w f way up = absurd (up refl)
   lock_rests retries (Handed by) v o s q w f way up = absurd (up refl)
   lock_rests retries Accept v o s q w f way up = let h = accept_faces w t l (Mutex l (Lock entry retries Accept)) v o s q f refl in leads_more 1 8 w t (λ c y. Rests y) (omega arith) (leads_rest w t (λ c y. Rests y) (outcome.TheVariants.End (entered entry)) h.0 tt tt)
   lock_rests retries Remove v o s q w f way up = leads_more 3 8 w t (λ c y. Rests y) (omega arith) (remove_rests retries v o s q w f)
-  lock_rests retries Clear v o s q w f way up = leads_more 2 8 w t (λ c y. Rests y) (omega arith) (clear_rests t l entry q retries v o s w f)
-  lock_rests retries GiveUp v o s q w f way up = leads_more 1 8 w t (λ c y. Rests y) (omega arith) (gives_up_rests t l entry q retries v o s w f)
+  lock_rests retries Clear v o s q w f way up = leads_more 2 8 w t (λ c y. Rests y) (omega arith) (clear_rests retries v o s q w f)
+  lock_rests retries GiveUp v o s q w f way up = leads_more 1 8 w t (λ c y. Rests y) (omega arith) (gives_up_rests retries v o s q w f)
 
 -- ---------------------------------------------------------------- try_lock and unlock
 

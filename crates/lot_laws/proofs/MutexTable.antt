@@ -22,7 +22,7 @@ use Rattle.lot_acts.specs.declared.acts.Reply.TheVariants.{Value}
 use Rattle.lot_mutex.specs.MutexSteps.{is_parked, is_locked, mutex_owners}
 use Rattle.lot_acts.specs.Owners.{with_exclusive}
 use Rattle.lot_steps.specs.Steps.{next_place}
-use Rattle.abstract_locks.specs.Locks.{LockState, Taken, Queued, Rules, IsTaken, keep_from, one_if_some, is_thread, putting}
+use Rattle.abstract_locks.specs.Locks.{Taken, Queued, IsTaken, keep_from, one_if_some, is_thread, putting}
 use Rattle.abstract_locks.specs.Locks as locks
 use Rattle.abstract_locks.specs.Sites.{Doing, Has, Site, IsSite, Deed, Main, End, In, Mark, Clear, FindNobody, Case, idle, found, is_empty, seen_main, counts_some}
 use Rattle.abstract_locks.specs.Codes as codes
@@ -157,14 +157,18 @@ module _ (l : ℕ) (n : Base) (o : Owners) (m s : List Waiter) (p : ℕ → Plac
   abbrev pub Fits : ℕ → MutexPlace → Op → Type 0
   Fits w at f = p t ≡ Mutex l at → IsSite mutex (seen l n w o m s p) → IsCode w o.exclusive → OnWord l n w o m s p t at f
 
-  by_word : (at : MutexPlace) (f : Op) → Fits 0 at f → Fits 1 at f → Fits 2 at f → Fits 3 at f → (w : ℕ) → Fits w at f
-  by_word at f a b c d w is site code = either o.exclusive (is_parked w) code
+  -- of the four codes
+  by_code : (P : ℕ → Type 0) → P 0 → P 1 → P 2 → P 3 → (w : ℕ) → IsCode w o.exclusive → P w
+  by_code P a b c d w code = either o.exclusive (is_parked w) code
     where
-      either : (e : Option ℕ) (x : Bool) → w ≡ one_if_some e + 2 * codes.bit x → OnWord l n w o m s p t at f
-      either None false h = let g : w ≡ 0 = h in rw g (a is (rw g at site) (rw g at code))
-      either (Some x) false h = let g : w ≡ 1 = h in rw g (b is (rw g at site) (rw g at code))
-      either None true h = let g : w ≡ 2 = h in rw g (c is (rw g at site) (rw g at code))
-      either (Some x) true h = let g : w ≡ 3 = h in rw g (d is (rw g at site) (rw g at code))
+      either : (e : Option ℕ) (x : Bool) → w ≡ one_if_some e + 2 * codes.bit x → P w
+      either None false h = subst P (sym h) a
+      either (Some x) false h = subst P (sym h) b
+      either None true h = subst P (sym h) c
+      either (Some x) true h = subst P (sym h) d
+
+  by_word : (at : MutexPlace) (f : Op) → Fits 0 at f → Fits 1 at f → Fits 2 at f → Fits 3 at f → (w : ℕ) → Fits w at f
+  by_word at f a b c d w is site code = by_code (λ w. Fits w at f) a b c d w code is site code
 
   none_owns : (e : Option ℕ) (k : ℕ) → k + 0 ≡ one_if_some e + k → e ≡ None
   none_owns None k h = refl
@@ -239,27 +243,25 @@ module _ (l : ℕ) (n : Base) (o : Owners) (m s : List Waiter) (p : ℕ → Plac
       w
 
   -- the bit is cleared where nobody is left
-  wipes : (at at2 : MutexPlace) (w w2 : ℕ) → p t ≡ Mutex l at → IsSite mutex (seen l n w o m s p) → taken_at (Mutex l at) l ≡ None
-      → taken_at (Mutex l at2) l ≡ None → is_parked w2 ≡ false → (mutex_doing at).empty ≡ Some Main
-      → mutex_doing at2 ≡ record (mutex_doing at) { empty = None; brings = false }
-      → MutexSteps l n w w2 o o m m s p t (Mutex l at2) (Clear Main ∷ [])
-  wipes at at2 w w2 is site none none2 bit e e2 = clears l n w w2 o m s p t (Mutex l at2) site (mutex_doing at) (own_doing l (p t) at is) (ap (λ x. taken_at x l) is ∙ none) none2 bit e (own_doing l (Mutex l at2) at2 refl ∙ e2)
+  abbrev Wiped : MutexPlace → ℕ → Type 0
+  Wiped at2 w = MutexSteps l n w (apply (op.And NOT_PARKED) w) o o m m s p t (Mutex l at2) (Clear Main ∷ []) × IsCode (apply (op.And NOT_PARKED) w) o.exclusive
+
+  wipes : (at at2 : MutexPlace) → p t ≡ Mutex l at → taken_at (Mutex l at) l ≡ None → taken_at (Mutex l at2) l ≡ None
+      → (mutex_doing at).empty ≡ Some Main → mutex_doing at2 ≡ record (mutex_doing at) { empty = None; brings = false }
+      → (w : ℕ) → IsSite mutex (seen l n w o m s p) → IsCode w o.exclusive → Wiped at2 w
+  wipes at at2 is none none2 e e2 w site code = by_code (λ w. IsSite mutex (seen l n w o m s p) → IsCode w o.exclusive → Wiped at2 w)
+      (λ site code. (cleared 0 0 site refl, code)) (λ site code. (cleared 1 1 site refl, code))
+      (λ site code. (cleared 2 0 site refl, omega (arith, code))) (λ site code. (cleared 3 1 site refl, omega (arith, code))) w code site code
+    where
+      cleared : (w w2 : ℕ) → IsSite mutex (seen l n w o m s p) → is_parked w2 ≡ false
+          → MutexSteps l n w w2 o o m m s p t (Mutex l at2) (Clear Main ∷ [])
+      cleared w w2 site bit = clears l n w w2 o m s p t (Mutex l at2) site (mutex_doing at) (own_doing l (p t) at is) (ap (λ x. taken_at x l) is ∙ none) none2 bit e (own_doing l (Mutex l at2) at2 refl ∙ e2)
 
   pub at_clear : (e : Entry) (b : Bool) (w : ℕ) → Fits w (Lock e b lock.Clear) (op.And NOT_PARKED)
-  at_clear e b w = by_word (Lock e b lock.Clear) (op.And NOT_PARKED)
-      (λ is site code. record { steps = wipes (Lock e b lock.Clear) (Lock e b lock.GiveUp) 0 0 is site refl refl refl refl refl; code = code; same = refl })
-      (λ is site code. record { steps = wipes (Lock e b lock.Clear) (Lock e b lock.GiveUp) 1 1 is site refl refl refl refl refl; code = code; same = refl })
-      (λ is site code. record { steps = wipes (Lock e b lock.Clear) (Lock e b lock.GiveUp) 2 0 is site refl refl refl refl refl; code = omega (arith, code); same = refl })
-      (λ is site code. record { steps = wipes (Lock e b lock.Clear) (Lock e b lock.GiveUp) 3 1 is site refl refl refl refl refl; code = omega (arith, code); same = refl })
-      w
+  at_clear e b w is site code = let h = wipes (Lock e b lock.Clear) (Lock e b lock.GiveUp) is refl refl refl refl w site code in record { steps = h.0; code = h.1; same = refl }
 
   pub at_release_clear : (any : Bool) (w : ℕ) → Fits w (Unlock (unlock.Clear any)) (op.And NOT_PARKED)
-  at_release_clear any w = by_word (Unlock (unlock.Clear any)) (op.And NOT_PARKED)
-      (λ is site code. record { steps = wipes (Unlock (unlock.Clear any)) (Unlock (unlock.Leave any)) 0 0 is site refl refl refl refl refl; code = code; same = refl })
-      (λ is site code. record { steps = wipes (Unlock (unlock.Clear any)) (Unlock (unlock.Leave any)) 1 1 is site refl refl refl refl refl; code = code; same = refl })
-      (λ is site code. record { steps = wipes (Unlock (unlock.Clear any)) (Unlock (unlock.Leave any)) 2 0 is site refl refl refl refl refl; code = omega (arith, code); same = refl })
-      (λ is site code. record { steps = wipes (Unlock (unlock.Clear any)) (Unlock (unlock.Leave any)) 3 1 is site refl refl refl refl refl; code = omega (arith, code); same = refl })
-      w
+  at_release_clear any w is site code = let h = wipes (Unlock (unlock.Clear any)) (Unlock (unlock.Leave any)) is refl refl refl refl w site code in record { steps = h.0; code = h.1; same = refl }
 
   -- a call that ends with what it has
   rests : (w : ℕ) (at : MutexPlace) → p t ≡ Mutex l at → IsSite mutex (seen l n w o m s p) → taken_at (Mutex l at) l ≡ None

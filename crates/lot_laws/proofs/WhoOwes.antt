@@ -74,11 +74,7 @@ notifier_owes all m at = refl
 
 locker_owes : (m : ℕ) (timed late retries : Bool) (at : LockAt) → IsLockOf at
     → OwesInside (Wait m timed (wait.Lock late (mutex.Lock entry.Lock retries at)))
-locker_owes m timed late retries lock.Remove of = absurd of
-locker_owes m timed late retries lock.Clear of = absurd of
-locker_owes m timed late retries lock.GiveUp of = absurd of
 locker_owes m timed late retries lock.Check of = refl
-locker_owes m timed late retries (lock.Leave parked) of = refl
 locker_owes m timed late retries at of = refl
 
 owes_beside : (at : CondvarPlace) → IsReached at → OwesInside at ⊎ IsEntering at
