@@ -8,3 +8,4 @@ pub mod KindsStay
 pub mod Suits
 pub mod Shown
 pub mod Shape
+pub mod DebtLemmas

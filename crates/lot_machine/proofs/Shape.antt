@@ -547,18 +547,22 @@ lated_shaped w t s = by_place (place_at w t) refl
 closing_can : (w : State) (t : ℕ) (succeeded : Bool) → runs_closure (act_of (place_at w t)) ≡ true → can_close w t succeeded ≡ true
 closing_can w t succeeded runs = rw (runs, closes_freely w w t succeeded runs) refl
 
+-- and from there it goes on
+goes_closed : (w : State) (t : ℕ) (succeeded : Bool) (q : Place) → t < length w.places → runs_closure (act_of (place_at w t)) ≡ true → q ≡ closed_place w t succeeded
+    → can_go (put w t q) t ≡ true
+goes_closed w t succeeded q lt runs is =
+    subst (λ p. can_do (put w t q) (act_of p) ≡ true) (sym is ∙ sym (get_or-set_same w.places t q Idle lt)) (closes_freely w (put w t q) t succeeded runs)
+
 pub closed : (w v : State) (t : ℕ) (succeeded : Bool) (q : Place) → t < length w.places → runs_closure (act_of (place_at w t)) ≡ true → q ≡ closed_place w t succeeded
-    → v ≡ (if can_do (put w t q) (act_of q) then state_after_going (put w t q) t q else put w t q) → v ≡ (if can_close w t succeeded then state_after_close w t succeeded else w)
+    → v ≡ (if can_go (put w t q) t then state_after_go (put w t q) t else put w t q) → v ≡ (if can_close w t succeeded then state_after_close w t succeeded else w)
 closed w v t succeeded q lt runs is e = rw (closing_can w t succeeded runs) (subst (λ p. v ≡ state_after_go (put w t p) t) is
-    (e ∙ ap (λ b. if b then state_after_going (put w t q) t q else put w t q) (subst (λ p. can_do (put w t q) (act_of p) ≡ true) (sym is) (closes_freely w (put w t q) t succeeded runs))
-    ∙ ap (state_after_going (put w t q) t) (sym (get_or-set_same w.places t q Idle lt))))
+    (e ∙ ap (λ b. if b then state_after_go (put w t q) t else put w t q) (goes_closed w t succeeded q lt runs is)))
 
 pub closed_told : {v w : State} → v ≡ w → (t : ℕ) (succeeded : Bool) (q : Place) (told : Outcome) → t < length v.places → runs_closure (act_of (place_at v t)) ≡ true → q ≡ closed_place v t succeeded
-    → told ≡ (if can_do (put v t q) (act_of q) then going_outcome (put v t q) t q else outcome.TheVariants.NotNow) → told ≡ (if can_close w t succeeded then close_outcome w t succeeded else outcome.TheVariants.NotNow)
+    → told ≡ (if can_go (put v t q) t then go_outcome (put v t q) t else outcome.TheVariants.NotNow) → told ≡ (if can_close w t succeeded then close_outcome w t succeeded else outcome.TheVariants.NotNow)
 closed_told {v} same t succeeded q told lt runs is e = subst (λ (w : State). told ≡ (if can_close w t succeeded then close_outcome w t succeeded else outcome.TheVariants.NotNow)) same
     (rw (closing_can v t succeeded runs) (subst (λ p. told ≡ go_outcome (put v t p) t) is
-    (e ∙ ap (λ b. if b then going_outcome (put v t q) t q else outcome.TheVariants.NotNow) (subst (λ p. can_do (put v t q) (act_of p) ≡ true) (sym is) (closes_freely v (put v t q) t succeeded runs))
-    ∙ ap (going_outcome (put v t q) t) (sym (get_or-set_same v.places t q Idle lt)))))
+    (e ∙ ap (λ b. if b then go_outcome (put v t q) t else outcome.TheVariants.NotNow) (goes_closed v t succeeded q lt runs is))))
 
 closed_shaped : (w : State) (t : ℕ) (succeeded : Bool) → IsShaped w → t < length w.places → IsShaped (state_after_close w t succeeded)
 closed_shaped w t succeeded s lt =

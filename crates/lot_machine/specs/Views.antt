@@ -1,11 +1,12 @@
 -- What the views of a lock show, in the order of a printed line.
-use Rattle.std.specs.Prelude.{ℕ, Bool, Option, Some, None, if◌then◌else◌, ◌+◌, ◌*◌, List, [], ◌∷◌, ◌++◌, replicate, ◌≡◌, All}
+use Rattle.std.specs.Prelude.{ℕ, Bool, false, Option, Some, None, if◌then◌else◌, ◌+◌, ◌*◌, ◌==◌, ◌||◌, List, [], ◌∷◌, ◌++◌, replicate, slice_index_or, ◌≡◌, All}
 use Rattle.lot_acts.specs.declared.owners.Owner.{Owner}
 use Rattle.lot_acts.specs.declared.owners.Owner.TheVariants.{Exclusive, Pending, Upgradable, Running, Shared}
 use Rattle.lot_acts.specs.declared.owners.Owners.{Owners}
 use Rattle.lot_acts.specs.declared.owners.Pending as pending
 use Rattle.lot_acts.specs.Owners.{runner}
 use Rattle.lot_steps.specs.declared.places.Place.{Place}
+use Rattle.lot_steps.specs.declared.places.Place.TheVariants.{Idle}
 use Rattle.lot_steps.specs.Steps.{owes_on, retries_on}
 use Rattle.lot_base.specs.declared.wants.Waiter.{Waiter}
 use Rattle.lot_machine.specs.declared.views.Debt.{Debt}
@@ -57,3 +58,19 @@ debtors debt l t (p ∷ ps) =
 -- who owes a wake on a lock, then who tries again
 abbrev pub debts_of : State → ℕ → List (Debt × ℕ)
 debts_of w l = debtors Owes l 0 w.places ++ debtors Retries l 0 w.places
+
+-- what a tag of 16 bits says of a thread: that it may have a debt on a lock, which is the one that the tag names, or any
+abbrev pub may_have : ℕ → ℕ → Bool
+may_have tag l = (tag == l) || (tag == 65535)
+
+-- a tag tells of a place where the place has no debt on the locks that the tag leaves out
+abbrev pub Tells : ℕ → Place → Type 0
+Tells tag p = (debt : Debt) (l : ℕ) → may_have tag l ≡ false → has_debt p debt l ≡ false
+
+-- each of some tags tells of the place beside it
+abbrev pub TellAll : List ℕ → List Place → Type 0
+TellAll tags places = (t : ℕ) → Tells (slice_index_or tags t 65535) (slice_index_or places t Idle)
+
+-- a place has no debts but on one lock
+abbrev pub HasDebtsOnlyOn : ℕ → Place → Type 0
+HasDebtsOnlyOn own p = (debt : Debt) (l : ℕ) → (own == l) ≡ false → has_debt p debt l ≡ false

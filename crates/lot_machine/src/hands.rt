@@ -12,14 +12,12 @@ pub struct Successor {
     pub want: Want,
 }
 
-/// Where something leads that is told to all whom a thread has in hand.
-pub(crate) fn place_after_telling(thread: usize, reply: Reply, place: Place) -> Place
-    ensures { result ≡ place_after_telling thread reply place }
+/// Tells something to this one, where a thread has it in hand.
+fn tell_if_taken(place: &mut Place, thread: usize, reply: Reply)
+    ensures { place.new ≡ place_after_telling thread reply place.old }
 {
     if place.taker() == Some(thread) {
-        place.after(reply)
-    } else {
-        place
+        place.arrive(reply);
     }
 }
 
@@ -27,7 +25,7 @@ pub(crate) fn tell_taken(places: &mut [Place], thread: usize, reply: Reply)
     ensures { places.new ≡ map (place_after_telling thread reply) places.old }
 {
     for place in places.iter_mut() {
-        *place = place_after_telling(thread, reply, *place);
+        tell_if_taken(place, thread, reply);
     }
 }
 
@@ -37,7 +35,7 @@ pub(crate) fn tell_each(places: &mut [Place], threads: &[usize], reply: Reply)
 {
     for thread in threads {
         if *thread < places.len() {
-            places[*thread] = places[*thread].after(reply);
+            places[*thread].arrive(reply);
         }
     }
 }
@@ -78,8 +76,8 @@ pub(crate) fn keep_moved(whom: &mut Vec<usize>, how: Requeue)
 }
 
 /// Whether a thread has this one in hand, and it wants to share.
-pub(crate) fn shares_in_hand(thread: usize, place: Place) -> bool
-    ensures { result ≡ shares_in_hand thread (held place) }
+pub(crate) fn shares_in_hand(thread: usize, place: &Place) -> bool
+    ensures { result ≡ shares_in_hand thread (held place.now) }
 {
     place.taker() == Some(thread) && place.wants() == Some(Want::Shared)
 }
@@ -90,13 +88,13 @@ pub(crate) fn sharers(thread: usize, places: &[Place]) -> usize
 {
     places
         .iter()
-        .filter(|place| shares_in_hand(thread, **place))
+        .filter(|place| shares_in_hand(thread, place))
         .count()
 }
 
 /// What this one wants, where a thread has it in hand and it wants more than to share.
-pub(crate) fn wants_more_in_hand(thread: usize, place: Place) -> Option<Want>
-    ensures { result ≡ wants_more_in_hand thread (held place) }
+pub(crate) fn wants_more_in_hand(thread: usize, place: &Place) -> Option<Want>
+    ensures { result ≡ wants_more_in_hand thread (held place.now) }
 {
     match (place.taker(), place.wants()) {
         (Some(by), Some(want)) if by == thread && want != Want::Shared => Some(want),
@@ -109,7 +107,7 @@ pub(crate) fn find_successor(places: &[Place], thread: usize) -> Option<Successo
     ensures { result ≡ successor_from thread 0 places.now }
 {
     for other in 0..places.len() {
-        if let Some(want) = wants_more_in_hand(thread, places[other]) {
+        if let Some(want) = wants_more_in_hand(thread, &places[other]) {
             return Some(Successor {
                 thread: other,
                 want,

@@ -10,4 +10,4 @@ pub mod views;
 pub use hands::Successor;
 pub use locks::Lock;
 pub use machine::Machine;
-pub use views::{Debt, Debts, OwnersOf, QueueOf};
+pub use views::{Debt, DebtBook, Debts, OwnersOf, QueueOf};

@@ -43,7 +43,7 @@ pub(crate) fn give_shares(shares: &mut [usize], places: &[Place], thread: usize)
     ensures { shares.new ≡ shares_given thread places.now shares.old }
 {
     for other in 0..shares.len().min(places.len()) {
-        shares[other] = with_share(shares_in_hand(thread, places[other]), shares[other]);
+        shares[other] = with_share(shares_in_hand(thread, &places[other]), shares[other]);
     }
 }
 

@@ -1,7 +1,7 @@
 //! What a world shows of a lock: named iterators in the order of a printed line, without memory.
 ghost use Rattle.std.specs.Prelude.{◌≡◌, ◌<◌, ◌^◌, ◌+◌, ◌*◌, ◌++◌, ◌∷◌, [], MatchOption, IfSome, length, drop, replicate, slice_index_or};
 ghost use Rattle.std.specs.Iterator.{YieldsFirst, item_count};
-ghost use Rattle.lot_machine.specs.Views.{owners_listed, sharers_listed, has_debt, debtors};
+ghost use Rattle.lot_machine.specs.Views.{owners_listed, sharers_listed, has_debt, debtors, may_have, Tells, TellAll, HasDebtsOnlyOn};
 
 use lot_base::{Queues, Waiter, main_key, second_key};
 use lot_steps::{Owner, Owners, Pending, Phase, Place};
@@ -169,10 +169,107 @@ impl<Q: Queues> Iterator for QueueOf<'_, Q> {
     }
 }
 
+/// The tag of a thread without a debt.
+const NOWHERE: u16 = 65534;
+
+/// The tag of a thread that may have debts on any locks.
+const ANYWHERE: u16 = 65535;
+
+/// How many threads a book has tags for. It looks at the places of those behind them.
+const TAGGED: usize = 1024;
+
+/// Who has a debt: all places, and for each thread a tag of the lock on which it has one. Who looks a lock up in it
+/// reads the tags, and few of the places.
+#[derive(Drop)]
+pub struct DebtBook<'a> {
+    places: &'a [Place],
+    tags: [u16; TAGGED],
+}
+
+impl<'a> Model for DebtBook<'a> {
+    ghost use Rattle.std.specs.Prelude.{List};
+    ghost use Rattle.lot_steps.specs.declared.places.Place.{Place};
+    ghost use Rattle.lot_machine.specs.Views.{TellAll};
+
+    ghost Value = { List Place };
+
+    ghost view = { λ b. b.places.now };
+
+    ghost invariant = { λ b. TellAll b.tags b.places.now };
+}
+
+impl<'a> DebtBook<'a> {
+    pub fn new(places: &'a [Place]) -> DebtBook<'a>
+        ensures { result ≡ places.now }
+    {
+        let mut tags = [ANYWHERE; TAGGED];
+        for thread in 0..TAGGED.min(places.len()) {
+            tags[thread] = tag_of(&places[thread]);
+        }
+        DebtBook { places, tags }
+    }
+
+    /// The threads that owe a wake on a lock, then those that try again, each by their numbers.
+    pub fn on(&self, lock: usize) -> Debts<'_>
+        ensures { result ≡ debtors Debt.Owes lock 0 self.now ++ debtors Debt.Retries lock 0 self.now }
+    {
+        Debts::by_tags(self.places, &self.tags, lock)
+    }
+}
+
+/// The tag of a thread at this place.
+fn tag_of(place: &Place) -> u16
+    ensures { Tells result place.now }
+{
+    match place {
+        Place::Idle => NOWHERE,
+        Place::Condvar { .. } => ANYWHERE,
+        Place::Mutex { lock, .. } | Place::RwLock { lock, .. } | Place::Once { lock, .. } => {
+            tag_at(place, *lock)
+        }
+    }
+}
+
+/// The tag of a thread that has no debts but on this lock.
+fn tag_at(place: &Place, lock: usize) -> u16
+    requires { HasDebtsOnlyOn lock place.now }
+    ensures { Tells result place.now }
+{
+    if lock >= NOWHERE as usize {
+        return ANYWHERE;
+    }
+    if has_debt(place, Debt::Owes, lock) || has_debt(place, Debt::Retries, lock) {
+        lock as u16
+    } else {
+        NOWHERE
+    }
+}
+
+/// The tag of a thread. One that has none may have debts on any locks.
+#[inline]
+fn tag_in(tags: &[u16], thread: usize) -> u16
+    ensures { result ≡ slice_index_or tags.now thread 65535 }
+{
+    if thread < tags.len() {
+        tags[thread]
+    } else {
+        ANYWHERE
+    }
+}
+
+/// Whether a thread may have a debt on a lock, by its tag.
+#[inline]
+fn may_have(tag: u16, lock: usize) -> bool
+    ensures { result ≡ may_have tag lock }
+{
+    tag as usize == lock || tag == ANYWHERE
+}
+
 /// The threads that owe a wake on a lock, then those that try again, each by their numbers.
 #[derive(Drop)]
 pub struct Debts<'a> {
     places: &'a [Place],
+    tags: &'a [u16],
     lock: usize,
     owes: usize,
     retries: usize,
@@ -182,21 +279,31 @@ impl<'a> Model for Debts<'a> {
     ghost use Rattle.std.specs.Prelude.{List, ℕ, ◌++◌, drop};
     ghost use Rattle.lot_machine.specs.declared.views.Debt.{Debt};
     ghost use Rattle.lot_machine.specs.declared.views.Debt.TheVariants.{Owes, Retries};
-    ghost use Rattle.lot_machine.specs.Views.{debtors};
+    ghost use Rattle.lot_machine.specs.Views.{debtors, TellAll};
 
     ghost Value = { List (Debt × ℕ) };
 
     ghost view = { λ s. debtors Owes s.lock s.owes (drop s.owes s.places.now)
         ++ debtors Retries s.lock s.retries (drop s.retries s.places.now) };
+
+    ghost invariant = { λ s. TellAll s.tags.now s.places.now };
 }
 
 impl<'a> Debts<'a> {
     pub fn new(places: &'a [Place], lock: usize) -> Debts<'a>
         ensures { result ≡ debtors Debt.Owes lock 0 places.now ++ debtors Debt.Retries lock 0 places.now }
     {
-        let first = first_debtor(places, lock);
+        Debts::by_tags(places, &[], lock)
+    }
+
+    fn by_tags(places: &'a [Place], tags: &'a [u16], lock: usize) -> Debts<'a>
+        requires { TellAll tags.now places.now }
+        ensures { result ≡ debtors Debt.Owes lock 0 places.now ++ debtors Debt.Retries lock 0 places.now }
+    {
+        let first = first_debtor(places, tags, lock);
         Debts {
             places,
+            tags,
             lock,
             owes: first,
             retries: first,
@@ -215,15 +322,26 @@ fn has_debt(place: &Place, debt: Debt, lock: usize) -> bool
     }
 }
 
+/// Whether a thread has the debt. Its place is looked at only where its tag doesn't leave the lock out.
+#[inline]
+fn is_debtor(place: &Place, tag: u16, debt: Debt, lock: usize) -> bool
+    requires { Tells tag place.now }
+    ensures { result ≡ has_debt place.now debt lock }
+{
+    may_have(tag, lock) && has_debt(place, debt, lock)
+}
+
 /// The first thread with a debt on the lock, or the number of threads. On most locks nobody has one, and
 /// this is then the only way through all threads.
-fn first_debtor(places: &[Place], lock: usize) -> usize
+fn first_debtor(places: &[Place], tags: &[u16], lock: usize) -> usize
+    requires { TellAll tags.now places.now }
     ensures owes { debtors Debt.Owes lock 0 places.now ≡ debtors Debt.Owes lock result (drop result places.now) }
     ensures retries { debtors Debt.Retries lock 0 places.now ≡ debtors Debt.Retries lock result (drop result places.now) }
 {
     for thread in 0..places.len() {
-        if has_debt(&places[thread], Debt::Owes, lock)
-            || has_debt(&places[thread], Debt::Retries, lock)
+        let tag = tag_in(tags, thread);
+        if is_debtor(&places[thread], tag, Debt::Owes, lock)
+            || is_debtor(&places[thread], tag, Debt::Retries, lock)
         {
             return thread;
         }
@@ -232,14 +350,21 @@ fn first_debtor(places: &[Place], lock: usize) -> usize
 }
 
 /// The first thread from one on that has the debt.
-fn find_debtor(places: &[Place], from: usize, debt: Debt, lock: usize) -> Option<usize>
+fn find_debtor(
+    places: &[Place],
+    tags: &[u16],
+    from: usize,
+    debt: Debt,
+    lock: usize,
+) -> Option<usize>
+    requires { TellAll tags.now places.now }
     ensures within { IfSome result (λ thread. thread < length places.now) }
     ensures found { MatchOption result (debtors debt lock from (drop from places.now) ≡ [])
         (λ thread. debtors debt lock from (drop from places.now)
         ≡ (debt, thread) ∷ debtors debt lock (thread + 1) (drop (thread + 1) places.now)) }
 {
     for thread in from..places.len() {
-        if has_debt(&places[thread], debt, lock) {
+        if is_debtor(&places[thread], tag_in(tags, thread), debt, lock) {
             return Some(thread);
         }
     }
@@ -254,12 +379,24 @@ impl Iterator for Debts<'_> {
     ghost remaining = { item_count (λ debts. debts) };
 
     fn next(&mut self) -> Option<(Debt, usize)> {
-        if let Some(thread) = find_debtor(self.places, self.owes, Debt::Owes, self.lock) {
+        if let Some(thread) = find_debtor(
+            self.places,
+            self.tags,
+            self.owes,
+            Debt::Owes,
+            self.lock,
+        ) {
             self.owes = thread + 1;
             return Some((Debt::Owes, thread));
         }
         self.owes = self.places.len();
-        match find_debtor(self.places, self.retries, Debt::Retries, self.lock) {
+        match find_debtor(
+            self.places,
+            self.tags,
+            self.retries,
+            Debt::Retries,
+            self.lock,
+        ) {
             Some(thread) => {
                 self.retries = thread + 1;
                 Some((Debt::Retries, thread))

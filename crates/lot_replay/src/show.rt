@@ -6,7 +6,7 @@ ghost use Rattle.lot_replay.specs.Shows.{owner_letter, want_letter, owners_text,
 
 use lot_base::{ListQueues, Waiter, Want, main_key};
 use lot_text::{Name, Page};
-use lot_world::{Debt, Debts, MOST_LOCKS, Owner, OwnersOf, QueueOf, World};
+use lot_world::{Debt, DebtBook, Debts, MOST_LOCKS, Owner, OwnersOf, QueueOf, World};
 use std::io::Write;
 
 /// Prints a line for each lock.
@@ -20,8 +20,9 @@ pub fn show_locks<W: Write>(
     requires few { length names.now ≤ MOST_LOCKS }
     ensures { Puts (W.contents writer.old) (W.contents writer.new) page.old page.new (show_lines world.now 0 names.now) }
 {
+    let debts = world.debts();
     for (lock, name) in names.iter().enumerate() {
-        show_lock(page, writer, *name, world, lock);
+        show_lock(page, writer, *name, world, &debts, lock);
     }
 }
 
@@ -30,8 +31,10 @@ fn show_lock<W: Write>(
     writer: &mut W,
     name: Name,
     world: &World<ListQueues>,
+    debts: &DebtBook<'_>,
     lock: usize,
 )
+    requires debts { debts.now ≡ world.now.places }
     requires is_there { lock < length world.now.locks }
     requires few { lock < MOST_LOCKS }
     ensures { Puts (W.contents writer.old) (W.contents writer.new) page.old page.new (show_line world.now lock name) }
@@ -41,7 +44,7 @@ fn show_lock<W: Write>(
     page.put_number(writer, world.word(lock));
     print_owners(page, writer, world.owners(lock));
     print_waiters(page, writer, world.queue(lock), lock);
-    print_debtors(page, writer, world.debt(lock));
+    print_debtors(page, writer, debts.on(lock));
     page.put(writer, b"\n");
 }
 

@@ -61,8 +61,8 @@ impl Place {
         }
     }
 
-    pub fn is_idle(self) -> bool
-        ensures { result ≡ is_idle self }
+    pub fn is_idle(&self) -> bool
+        ensures { result ≡ is_idle self.now }
     {
         matches!(self, Place::Idle)
     }
@@ -127,18 +127,65 @@ impl Place {
                 Next::End(answer) => answer,
             },
         };
-        *self = Place::Idle;
+        self.end();
         Act::End(answer)
     }
 
+    /// The call is over.
+    fn end(&mut self)
+        ensures { self.new ≡ Place.Idle }
+    {
+        *self = Place::Idle;
+    }
+
+    /// The step of `arrive`, of a place that is kept.
+    pub fn arrive(&mut self, reply: Reply) -> Outcome
+        ensures place { self.new ≡ next_place self.old reply }
+        ensures outcome { result ≡ outcome_of (next_act self.old reply) }
+    {
+        let answer = match self {
+            Place::Idle => return Outcome::Step,
+            Place::Mutex { at, .. } => match at.next(reply) {
+                Next::At(next) => {
+                    *at = next;
+                    return next.outcome();
+                }
+                Next::End(answer) => answer,
+            },
+            Place::RwLock { admission, at, .. } => match at.next(*admission, reply) {
+                Next::At(next) => {
+                    *at = next;
+                    return next.outcome(*admission);
+                }
+                Next::End(answer) => answer,
+            },
+            Place::Once { at, .. } => match at.next(reply) {
+                Next::At(next) => {
+                    *at = next;
+                    return next.outcome();
+                }
+                Next::End(answer) => answer,
+            },
+            Place::Condvar { at, .. } => match at.next(reply) {
+                Next::At(next) => {
+                    *at = next;
+                    return next.outcome();
+                }
+                Next::End(answer) => answer,
+            },
+        };
+        self.end();
+        Outcome::End(answer)
+    }
+
     /// What a thread is told that comes here.
-    pub fn outcome(self) -> Outcome
-        ensures { result ≡ outcome_of (act_of self) }
+    pub fn outcome(&self) -> Outcome
+        ensures { result ≡ outcome_of (act_of self.now) }
     {
         match self {
             Place::Idle => Outcome::Step,
             Place::Mutex { at, .. } => at.outcome(),
-            Place::RwLock { admission, at, .. } => at.outcome(admission),
+            Place::RwLock { admission, at, .. } => at.outcome(*admission),
             Place::Once { at, .. } => at.outcome(),
             Place::Condvar { at, .. } => at.outcome(),
         }
@@ -153,14 +200,14 @@ impl Place {
 
     /// Who owns the lock after the thread's operation on its word, which saw this value. Those to whom the
     /// operation hands the lock are told so, and own it too.
-    pub fn owners_after(self, thread: usize, seen: u64, owners: Owners) -> Owners
-        ensures { result ≡ owners_after self thread seen owners }
+    pub fn owners_after(&self, thread: usize, seen: u64, owners: Owners) -> Owners
+        ensures { result ≡ owners_after self.now thread seen owners }
     {
         match self {
             Place::Idle => owners,
             Place::Mutex { at, .. } => at.owners_after(thread, seen, owners),
             Place::RwLock { admission, at, .. } => {
-                at.owners_after(admission, thread, seen, owners)
+                at.owners_after(*admission, thread, seen, owners)
             }
             Place::Once { at, .. } => at.owners_after(thread, seen, owners),
             Place::Condvar { at, .. } => at.owners_after(thread, seen, owners),
@@ -169,18 +216,18 @@ impl Place {
 
     /// How many shared rights of the lock the thread has after its operation on the word, which saw this value.
     /// None where their number stays.
-    pub fn shares_after(self, seen: u64, shares: usize) -> Option<usize>
-        ensures { result ≡ shares_after self seen shares }
+    pub fn shares_after(&self, seen: u64, shares: usize) -> Option<usize>
+        ensures { result ≡ shares_after self.now seen shares }
     {
         match self {
             Place::Idle | Place::Mutex { .. } | Place::Once { .. } | Place::Condvar { .. } => None,
-            Place::RwLock { admission, at, .. } => at.shares_after(admission, seen, shares),
+            Place::RwLock { admission, at, .. } => at.shares_after(*admission, seen, shares),
         }
     }
 
     /// What the thread wants, where it waits.
-    pub fn wants(self) -> Option<Want>
-        ensures { result ≡ wants self }
+    pub fn wants(&self) -> Option<Want>
+        ensures { result ≡ wants self.now }
     {
         match self {
             Place::Idle => None,
@@ -192,8 +239,8 @@ impl Place {
     }
 
     /// The thread that took this one from its queue, and has not left its section yet.
-    pub fn taker(self) -> Option<usize>
-        ensures { result ≡ taker self }
+    pub fn taker(&self) -> Option<usize>
+        ensures { result ≡ taker self.now }
     {
         match self {
             Place::Idle => None,
@@ -258,28 +305,28 @@ impl Place {
 
     /// Whether the thread owes a wake on a lock: from the step that saw waiters of one of its queues, or
     /// from entering the section, until it leaves that section.
-    pub fn owes_on(self, lock: usize) -> bool
-        ensures { result ≡ owes_on self lock }
+    pub fn owes_on(&self, lock: usize) -> bool
+        ensures { result ≡ owes_on self.now lock }
     {
         match self {
             Place::Idle => false,
-            Place::Mutex { lock: own, at } => own == lock && at.owes().is_some(),
-            Place::RwLock { lock: own, at, .. } => own == lock && at.owes().is_some(),
-            Place::Once { lock: own, at } => own == lock && at.owes().is_some(),
-            Place::Condvar { lock: own, at } => at.owes_on(own, lock),
+            Place::Mutex { lock: own, at } => *own == lock && at.owes().is_some(),
+            Place::RwLock { lock: own, at, .. } => *own == lock && at.owes().is_some(),
+            Place::Once { lock: own, at } => *own == lock && at.owes().is_some(),
+            Place::Condvar { lock: own, at } => at.owes_on(*own, lock),
         }
     }
 
     /// Whether the thread was woken and tries again on a lock: from the wake note until it stands in
     /// a queue again, owns what it waited for, or its call ends.
-    pub fn retries_on(self, lock: usize) -> bool
-        ensures { result ≡ retries_on self lock }
+    pub fn retries_on(&self, lock: usize) -> bool
+        ensures { result ≡ retries_on self.now lock }
     {
         match self {
             Place::Idle => false,
-            Place::Mutex { lock: own, at } => own == lock && at.retries(),
-            Place::RwLock { lock: own, at, .. } => own == lock && at.retries(),
-            Place::Once { lock: own, at } => own == lock && at.retries(),
+            Place::Mutex { lock: own, at } => *own == lock && at.retries(),
+            Place::RwLock { lock: own, at, .. } => *own == lock && at.retries(),
+            Place::Once { lock: own, at } => *own == lock && at.retries(),
             Place::Condvar { at, .. } => at.mutex() == Some(lock) && at.retries(),
         }
     }
@@ -302,36 +349,9 @@ pub fn arrive(place: Place, reply: Reply) -> (Place, Outcome)
     ensures place { result.0 ≡ next_place place reply }
     ensures outcome { result.1 ≡ outcome_of (next_act place reply) }
 {
-    match place {
-        Place::Idle => (Place::Idle, Outcome::Step),
-        Place::Mutex { lock, at } => match at.next(reply) {
-            Next::At(at) => (Place::Mutex { lock, at }, at.outcome()),
-            Next::End(answer) => (Place::Idle, Outcome::End(answer)),
-        },
-        Place::RwLock {
-            lock,
-            admission,
-            at,
-        } => match at.next(admission, reply) {
-            Next::At(at) => {
-                let next = Place::RwLock {
-                    lock,
-                    admission,
-                    at,
-                };
-                (next, at.outcome(admission))
-            }
-            Next::End(answer) => (Place::Idle, Outcome::End(answer)),
-        },
-        Place::Once { lock, at } => match at.next(reply) {
-            Next::At(at) => (Place::Once { lock, at }, at.outcome()),
-            Next::End(answer) => (Place::Idle, Outcome::End(answer)),
-        },
-        Place::Condvar { lock, at } => match at.next(reply) {
-            Next::At(at) => (Place::Condvar { lock, at }, at.outcome()),
-            Next::End(answer) => (Place::Idle, Outcome::End(answer)),
-        },
-    }
+    let mut next = place;
+    let outcome = next.arrive(reply);
+    (next, outcome)
 }
 
 /// The same step, with what the thread does next in place of what it is told.

@@ -43,7 +43,8 @@ impl Page {
         self.is_lost
     }
 
-    /// Adds a text, and sends what has no room.
+    /// Adds a text, and sends what has no room. Most texts are literals, which are short moves where this is inlined.
+    #[inline]
     pub fn put<W: Write>(&mut self, writer: &mut W, text: &[u8])
         ensures { Puts (W.contents writer.old) (W.contents writer.new) self.old self.new text.now }
     {

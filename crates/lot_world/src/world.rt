@@ -17,7 +17,7 @@ ghost use Rattle.lot_laws.specs.Solo.{IsUnderWay, HasItsWay, Rests, EndsAlone, I
 ghost use Rattle.lot_machine.specs.Views.{StandUnder, owners_of, queue_of, debts_of};
 
 use lot_base::{Fault, Queues};
-use lot_machine::{Debts, Machine, OwnersOf, QueueOf};
+use lot_machine::{DebtBook, Debts, Machine, OwnersOf, QueueOf};
 use lot_steps::{Call, Kind, Outcome, Place, Step, Turn};
 use std::alloc::Global;
 use std::marker::Model;
@@ -244,6 +244,13 @@ impl<Q: Queues + Drop> World<Q> {
         ensures aside { StandUnder (2 * lock + 1) (queue_at self.now (2 * lock + 1)) }
     {
         self.machine.queue(lock)
+    }
+
+    /// Who has debts, for whoever asks about many locks.
+    pub fn debts(&self) -> DebtBook<'_>
+        ensures { result ≡ self.now.places }
+    {
+        DebtBook::new(self.machine.places())
     }
 
     /// Which threads owe a wake on a lock, then which were woken and try again, by their numbers.

@@ -23,4 +23,4 @@ returns g c =
     (puts_then _ _ _ c.put_number.new.self c.print_owners.new.page c.put-3.new.self owners (waiters ++ (debts ++ end)) (rw c.owners.ensures at c.print_owners.ensures)
     (puts_then _ _ _ c.print_owners.new.page c.print_waiters.new.page c.put-3.new.self waiters (debts ++ end) (c.print_waiters.ensures (queue_at w (2 * l)) (queue_at w (2 * l + 1)) c.queue.ensures.waiters c.queue.ensures.main c.queue.ensures.aside)
     (puts_then _ _ _ c.print_waiters.new.page c.print_debtors.new.page c.put-3.new.self debts end
-    (c.print_debtors.ensures (debtors Owes l 0 w.places) (debtors Retries l 0 w.places) c.debt.ensures (debtors_owe Owes l 0 w.places) (debtors_owe Retries l 0 w.places)) c.put-3.ensures)))))
+    (c.print_debtors.ensures (debtors Owes l 0 w.places) (debtors Retries l 0 w.places) (rw c.requires.debts at c.on.ensures) (debtors_owe Owes l 0 w.places) (debtors_owe Retries l 0 w.places)) c.put-3.ensures)))))
