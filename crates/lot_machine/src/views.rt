@@ -169,11 +169,13 @@ impl<Q: Queues> Iterator for QueueOf<'_, Q> {
     }
 }
 
-/// The tag of a thread without a debt.
-const NOWHERE: u16 = 65534;
-
-/// The tag of a thread that may have debts on any locks.
-const ANYWHERE: u16 = 65535;
+/// On which locks a thread may have debts.
+#[derive(Clone, Copy)]
+pub enum Tag {
+    Nowhere,
+    On(u16),
+    Anywhere,
+}
 
 /// How many threads a book has tags for. It looks at the places of those behind them.
 const TAGGED: usize = 1024;
@@ -183,7 +185,7 @@ const TAGGED: usize = 1024;
 #[derive(Drop)]
 pub struct DebtBook<'a> {
     places: &'a [Place],
-    tags: [u16; TAGGED],
+    tags: [Tag; TAGGED],
 }
 
 impl<'a> Model for DebtBook<'a> {
@@ -202,7 +204,7 @@ impl<'a> DebtBook<'a> {
     pub fn new(places: &'a [Place]) -> DebtBook<'a>
         ensures { result ≡ places.now }
     {
-        let mut tags = [ANYWHERE; TAGGED];
+        let mut tags = [Tag::Anywhere; TAGGED];
         for thread in 0..TAGGED.min(places.len()) {
             tags[thread] = tag_of(&places[thread]);
         }
@@ -218,12 +220,12 @@ impl<'a> DebtBook<'a> {
 }
 
 /// The tag of a thread at this place.
-fn tag_of(place: &Place) -> u16
+fn tag_of(place: &Place) -> Tag
     ensures { Tells result place.now }
 {
     match place {
-        Place::Idle => NOWHERE,
-        Place::Condvar { .. } => ANYWHERE,
+        Place::Idle => Tag::Nowhere,
+        Place::Condvar { .. } => Tag::Anywhere,
         Place::Mutex { lock, .. } | Place::RwLock { lock, .. } | Place::Once { lock, .. } => {
             tag_at(place, *lock)
         }
@@ -231,45 +233,48 @@ fn tag_of(place: &Place) -> u16
 }
 
 /// The tag of a thread that has no debts but on this lock.
-fn tag_at(place: &Place, lock: usize) -> u16
+fn tag_at(place: &Place, lock: usize) -> Tag
     requires { HasDebtsOnlyOn lock place.now }
     ensures { Tells result place.now }
 {
-    if lock >= NOWHERE as usize {
-        return ANYWHERE;
+    if !has_debt(place, Debt::Owes, lock) && !has_debt(place, Debt::Retries, lock) {
+        return Tag::Nowhere;
     }
-    if has_debt(place, Debt::Owes, lock) || has_debt(place, Debt::Retries, lock) {
-        lock as u16
-    } else {
-        NOWHERE
+    match u16::try_from(lock) {
+        Ok(lock) => Tag::On(lock),
+        Err(_) => Tag::Anywhere,
     }
 }
 
 /// The tag of a thread. One that has none may have debts on any locks.
 #[inline]
-fn tag_in(tags: &[u16], thread: usize) -> u16
-    ensures { result ≡ slice_index_or tags.now thread 65535 }
+fn tag_in(tags: &[Tag], thread: usize) -> Tag
+    ensures { result ≡ slice_index_or tags.now thread Tag.Anywhere }
 {
     if thread < tags.len() {
         tags[thread]
     } else {
-        ANYWHERE
+        Tag::Anywhere
     }
 }
 
 /// Whether a thread may have a debt on a lock, by its tag.
 #[inline]
-fn may_have(tag: u16, lock: usize) -> bool
+fn may_have(tag: Tag, lock: usize) -> bool
     ensures { result ≡ may_have tag lock }
 {
-    tag as usize == lock || tag == ANYWHERE
+    match tag {
+        Tag::Nowhere => false,
+        Tag::On(own) => own as usize == lock,
+        Tag::Anywhere => true,
+    }
 }
 
 /// The threads that owe a wake on a lock, then those that try again, each by their numbers.
 #[derive(Drop)]
 pub struct Debts<'a> {
     places: &'a [Place],
-    tags: &'a [u16],
+    tags: &'a [Tag],
     lock: usize,
     owes: usize,
     retries: usize,
@@ -296,7 +301,7 @@ impl<'a> Debts<'a> {
         Debts::by_tags(places, &[], lock)
     }
 
-    fn by_tags(places: &'a [Place], tags: &'a [u16], lock: usize) -> Debts<'a>
+    fn by_tags(places: &'a [Place], tags: &'a [Tag], lock: usize) -> Debts<'a>
         requires { TellAll tags.now places.now }
         ensures { result ≡ debtors Debt.Owes lock 0 places.now ++ debtors Debt.Retries lock 0 places.now }
     {
@@ -324,7 +329,7 @@ fn has_debt(place: &Place, debt: Debt, lock: usize) -> bool
 
 /// Whether a thread has the debt. Its place is looked at only where its tag doesn't leave the lock out.
 #[inline]
-fn is_debtor(place: &Place, tag: u16, debt: Debt, lock: usize) -> bool
+fn is_debtor(place: &Place, tag: Tag, debt: Debt, lock: usize) -> bool
     requires { Tells tag place.now }
     ensures { result ≡ has_debt place.now debt lock }
 {
@@ -333,7 +338,7 @@ fn is_debtor(place: &Place, tag: u16, debt: Debt, lock: usize) -> bool
 
 /// The first thread with a debt on the lock, or the number of threads. On most locks nobody has one, and
 /// this is then the only way through all threads.
-fn first_debtor(places: &[Place], tags: &[u16], lock: usize) -> usize
+fn first_debtor(places: &[Place], tags: &[Tag], lock: usize) -> usize
     requires { TellAll tags.now places.now }
     ensures owes { debtors Debt.Owes lock 0 places.now ≡ debtors Debt.Owes lock result (drop result places.now) }
     ensures retries { debtors Debt.Retries lock 0 places.now ≡ debtors Debt.Retries lock result (drop result places.now) }
@@ -352,7 +357,7 @@ fn first_debtor(places: &[Place], tags: &[u16], lock: usize) -> usize
 /// The first thread from one on that has the debt.
 fn find_debtor(
     places: &[Place],
-    tags: &[u16],
+    tags: &[Tag],
     from: usize,
     debt: Debt,
     lock: usize,
