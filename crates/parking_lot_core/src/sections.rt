@@ -23,7 +23,7 @@ use std::sync::{MutexGuard, Wait};
 // How often a thread tries to enter a section before it sleeps until it may, and for how many rounds it pauses behind a try.
 const TRIES: u32 = 40;
 
-const PAUSE: u32 = 2;
+const PAUSE: u32 = 12;
 
 /// What a thread may do to the queues of its keys while nobody else does anything to them.
 ///
