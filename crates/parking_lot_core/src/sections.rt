@@ -12,12 +12,18 @@ ghost use Rattle.parking_lot_core.specs.Keys.{AreKeys, IsKeyOf, first_key};
 ghost use Rattle.parking_lot_core.specs.declared.tokens.Did.TheVariants.{Nothing, TakeFirst, TakeAll, TakePicked};
 
 use crate::lot::ParkingLot;
+use crate::pauses::pause;
 use crate::tokens::{Did, SectionRecord, Token};
 use lot_base::{Key, Keys, Note, Requeue, Want};
 use lot_queues::Queueing;
 use lot_words::{Owner, Right, Word};
 use std::sync::atomic::Ordering::SeqCst;
 use std::sync::{MutexGuard, Wait};
+
+// How often a thread tries to enter a section before it sleeps until it may, and for how many rounds it pauses behind a try.
+const TRIES: u32 = 40;
+
+const PAUSE: u32 = 12;
 
 /// What a thread may do to the queues of its keys while nobody else does anything to them.
 ///
@@ -57,11 +63,26 @@ impl ParkingLot {
     ghost use Rattle.parking_lot_core.specs.Sections.{IsUntouched};
     ghost use Rattle.parking_lot_core.specs.Tokens.{IsTokenOf, IsSameThread};
 
+    // Takes the lock of the queues, unless others have it all the while. A section is short, so that falling asleep for one mostly
+    // takes longer than the wait, and costs the thread that is inside as well, which has to wake the sleeper.
+    fn try_queues(&self) -> Option<MutexGuard<'_, Queueing>> {
+        for _ in 0..TRIES {
+            if let Some(queueing) = self.queueing.try_lock() {
+                return Some(queueing);
+            }
+            pause(PAUSE);
+        }
+        None
+    }
+
     // The queues, with nobody taken.
     pub(crate) fn locked<'a, R: Wait>(&'a self, rt: &R, keys: Keys) -> Section<'a>
         ensures { (result.lot.now ≡ self.now) × (result.keys ≡ keys) × IsUntouched result }
     {
-        let mut queueing = self.queueing.lock(rt);
+        let mut queueing = match self.try_queues() {
+            Some(queueing) => queueing,
+            None => self.queueing.lock(rt),
+        };
         queueing.begin();
         if queueing.seats() != self.records.len() {
             never(rt)

@@ -11,9 +11,9 @@ use lot_words::{Right, Word};
 use std::sync::Wait;
 use std::thread::yield_now;
 
-// How often a thread polls its note before it sleeps. Where nobody else wants the processor that takes about as long as to fall
-// asleep and be woken.
-const POLLS: u32 = 36;
+// How often a thread polls its note before it sleeps. Where nobody else wants the processor that takes some three times as long as
+// to fall asleep and be woken, so that who is one of several in a queue is mostly told meanwhile.
+const POLLS: u32 = 64;
 
 // Behind so many of them it pauses, for so many rounds; behind a later one it lets others run, who may be about to wake it.
 const PAUSED_POLLS: u32 = 12;
