@@ -7,9 +7,10 @@ mod several;
 mod single;
 mod threads;
 
-ghost use Rattle.parking_lot_core.specs.Tokens.{IsTokenOf, IsSameThread};
+ghost use Rattle.std.specs.Prelude.{All, IfSome};
+ghost use Rattle.parking_lot_core.specs.Tokens.{IsNewTicketOf, IsSameThread, IsTicketOf, IsTokenOf};
 
-use parking_lot_core::{Key, Keys, Note, ParkingLot, Token, Want};
+use parking_lot_core::{Key, Keys, Note, ParkingLot, Ticket, Token, Want};
 use std::fmt::Debug;
 use std::process::Abort;
 use std::sync::Wait;
@@ -22,6 +23,15 @@ fn same<T: PartialEq + Debug + Drop>(rt: &impl Abort, found: T, wanted: T) {
 // What a test asks for holds.
 fn holds(rt: &impl Abort, truth: bool) {
     assert!(rt; truth);
+}
+
+// A ticket of those that are left.
+fn next_of(lot: &ParkingLot, tickets: &mut Vec<Ticket>) -> Option<Ticket>
+    requires { All (IsNewTicketOf lot.now) tickets.old.items }
+    ensures one { IfSome result (IsTicketOf lot.now) }
+    ensures left { All (IsNewTicketOf lot.now) tickets.new.items }
+{
+    tickets.pop()
 }
 
 // The thread stands behind the last under a key.

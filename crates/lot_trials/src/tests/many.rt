@@ -1,5 +1,5 @@
 //! As many threads as a lot has: whatever its number, a thread that was taken gets its note and its right.
-ghost use Rattle.std.specs.Prelude.{◌≡◌, ◌<◌, All, IfOk, IfSome};
+ghost use Rattle.std.specs.Prelude.{◌≡◌, ◌≤◌, ◌<◌, All, IfOk, IfSome};
 ghost use Rattle.std.specs.Arc.{arc_value};
 ghost use Rattle.lot_words.specs.Lots.{IsWordOf};
 ghost use Rattle.lot_words.specs.RightsOf.{IsRightOf};
@@ -8,8 +8,8 @@ ghost use Rattle.lot_words.specs.declared.words.WordKind.TheVariants.{Mutex};
 ghost use Rattle.parking_lot_core.specs.Tokens.{IsNewTicketOf, IsSameThread, IsTicketOf, IsTokenOf};
 
 use super::mutexes::{try_lock, unlock};
-use super::same;
 use super::several::told;
+use super::{next_of, same};
 use parking_lot_core::{
     Fault, Key, Keys, Note, ParkingLot, Right, Slept, TickClock, Ticket, Token, Want, Word,
     WordKind,
@@ -30,13 +30,14 @@ struct Crowd {
     word: Word,
 }
 
-fn seat_crowd(alloc: Global) -> Result<(Arc<ParkingLot>, Crowd), Fault>
+fn seat_crowd(alloc: Global, threads: usize) -> Result<(Arc<ParkingLot>, Crowd), Fault>
+    requires { (0 < threads) × (threads ≤ 1024) }
     ensures { IfOk result (λ made. IsTicketOf (arc_value made.0) made.1.server
         × All (IsNewTicketOf (arc_value made.0)) made.1.others.items
         × IsWordOf (arc_value made.0).words made.1.word × (made.1.word.kind ≡ Mutex)
-        × ((arc_value made.0).records.count ≡ 1024)) }
+        × ((arc_value made.0).records.count ≡ threads)) }
 {
-    let (lot, mut others) = ParkingLot::new(alloc, 1, THREADS)?;
+    let (lot, mut others) = ParkingLot::new(alloc, 1, threads)?;
     let Some(server) = others.pop() else {
         return Err(Fault::NoMemory);
     };
@@ -52,12 +53,12 @@ fn seat_crowd(alloc: Global) -> Result<(Arc<ParkingLot>, Crowd), Fault>
 }
 
 // All but the last stand in one line, and are taken together.
-fn take_all<R: Wait>(rt: &R, lot: &ParkingLot, token: &mut Token)
-    requires { IsTokenOf lot.now token.old × (lot.now.records.count ≡ 1024) }
+fn take_all<R: Wait>(rt: &R, lot: &ParkingLot, token: &mut Token, threads: usize)
+    requires { IsTokenOf lot.now token.old × (threads ≤ lot.now.records.count) }
     ensures { IsSameThread lot.now token.old token.new }
 {
     let mut section = lot.enter(rt, token, Keys::One(KEY));
-    for thread in 0..THREADS - 1 {
+    for thread in 0..threads {
         section.append(KEY, thread, Want::Exclusive);
     }
     section.take_all(KEY);
@@ -69,13 +70,13 @@ fn count_woken<R: Wait>(rt: &R, lot: &ParkingLot, tickets: Vec<Ticket>, word: Wo
     requires { All (IsNewTicketOf lot.now) tickets.items }
 {
     let mut tickets = tickets;
-    let mut woken = 0;
-    for turn in 0..THREADS {
-        let Some(ticket) = tickets.pop() else {
+    let mut woken = 0usize;
+    for _ in 0..tickets.len() {
+        let Some(ticket) = next_of(lot, &mut tickets) else {
             break;
         };
         if told(rt, lot, ticket, word) == Note::Normal {
-            woken = turn + 1;
+            woken = woken.wrapping_add(1);
         }
     }
     woken
@@ -83,14 +84,14 @@ fn count_woken<R: Wait>(rt: &R, lot: &ParkingLot, tickets: Vec<Ticket>, word: Wo
 
 #[test]
 fn one_leave_wakes_1023_threads(rt: HostRuntime) -> Result<(), Fail> {
-    let (lot, crowd) = seat_crowd(rt.alloc())?;
+    let (lot, crowd) = seat_crowd(rt.alloc(), THREADS)?;
     let Crowd {
         server,
         others,
         word,
     } = crowd;
     let mut token = server.enter();
-    take_all(&rt, &lot, &mut token);
+    take_all(&rt, &lot, &mut token, THREADS - 1);
     same(&rt, count_woken(&rt, &lot, others, word), THREADS - 1);
     Ok(())
 }
@@ -161,13 +162,13 @@ fn count_served<R: Wait>(rt: &R, lot: &ParkingLot, crowd: Crowd) -> usize
     } = crowd;
     let mut tickets = others;
     let mut server = server.enter();
-    let mut served = 0;
-    for turn in 0..THREADS {
-        let Some(ticket) = tickets.pop() else {
+    let mut served = 0usize;
+    for _ in 0..tickets.len() {
+        let Some(ticket) = next_of(lot, &mut tickets) else {
             break;
         };
         if serve(rt, lot, &mut server, ticket, word) {
-            served = turn + 1;
+            served = served.wrapping_add(1);
         }
     }
     drop(server.leave());
@@ -176,7 +177,7 @@ fn count_served<R: Wait>(rt: &R, lot: &ParkingLot, crowd: Crowd) -> usize
 
 #[test]
 fn a_right_goes_to_each_of_1023_threads(rt: HostRuntime) -> Result<(), Fail> {
-    let (lot, crowd) = seat_crowd(rt.alloc())?;
+    let (lot, crowd) = seat_crowd(rt.alloc(), THREADS)?;
     same(&rt, count_served(&rt, &lot, crowd), THREADS - 1);
     Ok(())
 }

@@ -6,7 +6,7 @@ ghost use Rattle.parking_lot_core.specs.Sections.{StaysIn, rightless_in};
 ghost use Rattle.parking_lot_core.specs.Tokens.{IsNewTicketOf, IsTicketOf, IsTokenOf, IsSameThread};
 
 use super::mutexes::try_lock;
-use super::same;
+use super::{next_of, same};
 use parking_lot_core::{
     Fault, Key, Keys, Note, ParkingLot, Right, Section, Slept, TickClock, Ticket, Token, Want,
     Word, WordKind,
@@ -262,8 +262,8 @@ fn pop_pair(lot: &ParkingLot, tickets: &mut Vec<Ticket>) -> Option<(Ticket, Tick
     ensures pair { IfSome result (λ pair. IsTicketOf lot.now pair.0 × IsTicketOf lot.now pair.1) }
     ensures others { All (IsNewTicketOf lot.now) tickets.new.items }
 {
-    let one = tickets.pop()?;
-    let other = tickets.pop()?;
+    let one = next_of(lot, tickets)?;
+    let other = next_of(lot, tickets)?;
     Some((one, other))
 }
 

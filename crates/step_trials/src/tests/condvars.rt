@@ -35,6 +35,18 @@ fn twice(rt: &impl Abort, place: CondvarPlace, first: Reply, second: Reply) -> C
     onward(rt, onward(rt, place, first), second)
 }
 
+/// This is what it does, of a call of the condition variable 3.
+fn does(rt: &impl Abort, place: CondvarPlace, act: Act)
+    requires { HasMutexKey place }
+{
+    same(rt, place.act(3), act);
+}
+
+/// So its call ends by a reply.
+fn ends(rt: &impl Abort, place: CondvarPlace, reply: Reply, answer: Answer) {
+    same(rt, place.next(reply), Next::End(answer));
+}
+
 /// A thread that waits and has left the section, before its release.
 fn releases(rt: &impl Abort, call: CondvarCall) -> CondvarPlace
     ensures { HasMutexKey result }
@@ -61,18 +73,18 @@ fn notifies(rt: &impl Abort, all: bool) -> CondvarPlace
 #[test]
 fn a_wait_shows_its_mutex_stands_and_releases(rt: HostRuntime) {
     let enters = CondvarPlace::first(WAIT);
-    same(&rt, enters.act(3), Act::Enter(Keys::One(6)));
+    does(&rt, enters, Act::Enter(Keys::One(6)));
     holds(&rt, !enters.owes_on(3, 3));
     let shows = onward(&rt, enters, Reply::Done);
     let op = Op::Exchange { from: 0, to: 6 };
-    same(&rt, shows.act(3), Act::Word { lock: 3, op });
+    does(&rt, shows, Act::Word { lock: 3, op });
     holds(&rt, shows.owes_on(3, 3) && !shows.owes_on(3, 5));
     let stands = onward(&rt, shows, Reply::Value(6));
     let want = Want::Wait;
-    same(&rt, stands.act(3), Act::Stand { key: 6, want });
+    does(&rt, stands, Act::Stand { key: 6, want });
     let releases = twice(&rt, stands, Reply::Done, Reply::Done);
     let op = Op::Sub(1);
-    same(&rt, releases.act(3), Act::Word { lock: 5, op });
+    does(&rt, releases, Act::Word { lock: 5, op });
     let asleep = onward(&rt, releases, Reply::Value(1));
     same(&rt, asleep.outcome(), Outcome::Sleep);
     holds(&rt, asleep.late_key(3).is_none());
@@ -85,12 +97,8 @@ fn a_wait_beside_another_mutex_is_refused(rt: HostRuntime) {
         keys: Keys::One(6),
         wakes: Wakes::Nobody,
     };
-    same(&rt, refused.act(3), act);
-    same(
-        &rt,
-        refused.next(Reply::Done),
-        Next::End(Answer::TwoMutexes),
-    );
+    does(&rt, refused, act);
+    ends(&rt, refused, Reply::Done, Answer::TwoMutexes);
 }
 
 #[test]
@@ -101,8 +109,8 @@ fn who_is_woken_locks_its_mutex_again(rt: HostRuntime) {
     let locks = onward(&rt, taken, Reply::Woken(Note::Normal));
     holds(&rt, locks.retries());
     let op = Op::Exchange { from: 0, to: 1 };
-    same(&rt, locks.act(3), Act::Word { lock: 5, op });
-    same(&rt, locks.next(Reply::Value(0)), Next::End(Answer::Ok));
+    does(&rt, locks, Act::Word { lock: 5, op });
+    ends(&rt, locks, Reply::Value(0), Answer::Ok);
     let decides = twice(&rt, locks, Reply::Value(1), Reply::Value(1));
     holds(&rt, decides.looking().is_some());
 }
@@ -115,9 +123,9 @@ fn who_is_moved_may_be_handed_its_mutex(rt: HostRuntime) {
     let has = twice(&rt, moved, Reply::TakenBy(1), handed);
     same(&rt, has.outcome(), Outcome::Sleep);
     let accepts = onward(&rt, has, Reply::Woken(Note::HandOff));
-    same(&rt, accepts.act(3), Act::Accept);
+    does(&rt, accepts, Act::Accept);
     holds(&rt, !accepts.retries());
-    same(&rt, accepts.next(Reply::Done), Next::End(Answer::Notified));
+    ends(&rt, accepts, Reply::Done, Answer::Notified);
 }
 
 #[test]
@@ -133,10 +141,10 @@ fn a_notification_may_come_beside_the_release(rt: HostRuntime) {
     let leaves = twice(&rt, takes, Reply::TakenBy(0), took);
     let wakes = Wakes::All(Note::Normal);
     let keys = Keys::One(10);
-    same(&rt, leaves.act(3), Act::Leave { keys, wakes });
+    does(&rt, leaves, Act::Leave { keys, wakes });
     let locks = twice(&rt, leaves, Reply::Woken(Note::Normal), Reply::Done);
     holds(&rt, locks.retries());
-    same(&rt, locks.next(Reply::Value(0)), Next::End(Answer::Ok));
+    ends(&rt, locks, Reply::Value(0), Answer::Ok);
 }
 
 #[test]
@@ -144,25 +152,17 @@ fn a_timed_wait_leaves_the_queue_in_which_it_stands(rt: HostRuntime) {
     let late = asleep(&rt, WAIT_TIMED);
     same(&rt, late.late_key(3), Some(6));
     let removes = onward(&rt, late, Reply::Late);
-    same(&rt, removes.act(3), Act::Remove(6));
+    does(&rt, removes, Act::Remove(6));
     let hides = onward(&rt, removes, Reply::Removed { none_left: true });
     let op = Op::Store(0);
-    same(&rt, hides.act(3), Act::Word { lock: 3, op });
+    does(&rt, hides, Act::Word { lock: 3, op });
     let locks = twice(&rt, hides, Reply::Value(6), Reply::Done);
     holds(&rt, !locks.retries());
-    same(
-        &rt,
-        locks.next(Reply::Value(0)),
-        Next::End(Answer::TimedOut),
-    );
+    ends(&rt, locks, Reply::Value(0), Answer::TimedOut);
     let moved = twice(&rt, late, Reply::MovedTo(10), Reply::Late);
-    same(&rt, moved.act(3), Act::Remove(10));
+    does(&rt, moved, Act::Remove(10));
     let locks = twice(&rt, moved, Reply::Removed { none_left: true }, Reply::Done);
-    same(
-        &rt,
-        locks.next(Reply::Value(0)),
-        Next::End(Answer::Notified),
-    );
+    ends(&rt, locks, Reply::Value(0), Answer::Notified);
 }
 
 #[test]
@@ -170,9 +170,9 @@ fn nobody_is_notified_where_nobody_waits(rt: HostRuntime) {
     for (all, none) in [(false, Answer::No), (true, Answer::Number(0))] {
         let looks = CondvarPlace::first(CondvarCall::Notify { all });
         holds(&rt, looks.mutex().is_none());
-        same(&rt, looks.next(Reply::Value(0)), Next::End(none));
+        ends(&rt, looks, Reply::Value(0), none);
         let missed = onward(&rt, notifies(&rt, all), Reply::Value(8));
-        same(&rt, missed.next(Reply::Done), Next::End(none));
+        ends(&rt, missed, Reply::Done, none);
     }
 }
 
@@ -185,12 +185,12 @@ fn the_first_is_moved_to_an_owned_mutex(rt: HostRuntime) {
     );
     let sets = twice(&rt, again, Reply::Value(6), Reply::Value(1));
     let op = Op::Exchange { from: 1, to: 3 };
-    same(&rt, sets.act(3), Act::Word { lock: 5, op });
+    does(&rt, sets, Act::Word { lock: 5, op });
     let moves = onward(&rt, sets, Reply::Value(1));
     let how = Requeue::One;
-    same(
+    does(
         &rt,
-        moves.act(3),
+        moves,
         Act::Requeue {
             from: 6,
             to: 10,
@@ -203,12 +203,12 @@ fn the_first_is_moved_to_an_owned_mutex(rt: HostRuntime) {
     };
     let clears = onward(&rt, moves, moved);
     let op = Op::Store(0);
-    same(&rt, clears.act(3), Act::Word { lock: 3, op });
+    does(&rt, clears, Act::Word { lock: 3, op });
     let leaves = onward(&rt, clears, Reply::Value(6));
     let wakes = Wakes::Nobody;
     let keys = Keys::Two(6, 10);
-    same(&rt, leaves.act(3), Act::Leave { keys, wakes });
-    same(&rt, leaves.next(Reply::Done), Next::End(Answer::Yes));
+    does(&rt, leaves, Act::Leave { keys, wakes });
+    ends(&rt, leaves, Reply::Done, Answer::Yes);
 }
 
 #[test]
@@ -216,7 +216,7 @@ fn the_first_is_woken_where_the_mutex_is_free(rt: HostRuntime) {
     let marks = onward(&rt, notifies(&rt, false), Reply::Value(6));
     let takes = twice(&rt, marks, Reply::Value(1), Reply::Value(0));
     let whom = Whom::First;
-    same(&rt, takes.act(3), Act::Take { key: 6, whom });
+    does(&rt, takes, Act::Take { key: 6, whom });
     let took = Reply::Took {
         any: true,
         none_left: false,
@@ -224,20 +224,20 @@ fn the_first_is_woken_where_the_mutex_is_free(rt: HostRuntime) {
     let leaves = onward(&rt, takes, took);
     let wakes = Wakes::All(Note::Normal);
     let keys = Keys::Two(6, 10);
-    same(&rt, leaves.act(3), Act::Leave { keys, wakes });
-    same(&rt, leaves.next(Reply::Done), Next::End(Answer::Yes));
+    does(&rt, leaves, Act::Leave { keys, wakes });
+    ends(&rt, leaves, Reply::Done, Answer::Yes);
 }
 
 #[test]
 fn all_are_moved_and_one_is_woken_where_the_mutex_is_free(rt: HostRuntime) {
     let hides = onward(&rt, notifies(&rt, true), Reply::Value(6));
     let op = Op::Store(0);
-    same(&rt, hides.act(3), Act::Word { lock: 3, op });
+    does(&rt, hides, Act::Word { lock: 3, op });
     let moves = twice(&rt, hides, Reply::Value(6), Reply::Value(0));
     let how = Requeue::TakeOneMoveRest;
-    same(
+    does(
         &rt,
-        moves.act(3),
+        moves,
         Act::Requeue {
             from: 6,
             to: 10,
@@ -250,12 +250,12 @@ fn all_are_moved_and_one_is_woken_where_the_mutex_is_free(rt: HostRuntime) {
     };
     let marks = onward(&rt, moves, moved);
     let op = Op::Or(2);
-    same(&rt, marks.act(3), Act::Word { lock: 5, op });
+    does(&rt, marks, Act::Word { lock: 5, op });
     let leaves = onward(&rt, marks, Reply::Value(0));
     let wakes = Wakes::All(Note::Normal);
     let keys = Keys::Two(6, 10);
-    same(&rt, leaves.act(3), Act::Leave { keys, wakes });
-    same(&rt, leaves.next(Reply::Done), Next::End(Answer::Number(3)));
+    does(&rt, leaves, Act::Leave { keys, wakes });
+    ends(&rt, leaves, Reply::Done, Answer::Number(3));
 }
 
 #[test]
@@ -263,9 +263,9 @@ fn all_are_moved_to_an_owned_mutex(rt: HostRuntime) {
     let marks = twice(&rt, notifies(&rt, true), Reply::Value(6), Reply::Value(6));
     let moves = twice(&rt, marks, Reply::Value(3), Reply::Value(3));
     let how = Requeue::All;
-    same(
+    does(
         &rt,
-        moves.act(3),
+        moves,
         Act::Requeue {
             from: 6,
             to: 10,
@@ -277,5 +277,5 @@ fn all_are_moved_to_an_owned_mutex(rt: HostRuntime) {
         none_left: true,
     };
     let leaves = onward(&rt, moves, moved);
-    same(&rt, leaves.next(Reply::Done), Next::End(Answer::Number(2)));
+    ends(&rt, leaves, Reply::Done, Answer::Number(2));
 }

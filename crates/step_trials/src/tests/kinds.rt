@@ -13,8 +13,11 @@ fn a_limit_fits_from_the_threads_to_the_greatest(rt: HostRuntime) {
         (1152921504606846974, true),
         (1152921504606846975, false),
     ] {
-        assert_eq!(rt; Kind::RwLock { limit }.fits(2), fits, "limit {limit}");
-        assert_eq!(rt; Kind::Recursive { limit }.fits(2), fits, "limit {limit}");
+        let found = (
+            Kind::RwLock { limit }.fits(2),
+            Kind::Recursive { limit }.fits(2),
+        );
+        same(&rt, (limit, found), (limit, (fits, fits)));
     }
     for kind in [Kind::Mutex, Kind::Fair, Kind::Condvar, Kind::Once] {
         holds(&rt, kind.fits(1024));
