@@ -58,14 +58,22 @@ impl Page {
     }
 
     /// Adds a number, which is mostly a short one.
+    #[inline]
     pub fn put_number<W: Write>(&mut self, writer: &mut W, n: u64)
         ensures { Puts (W.contents writer.old) (W.contents writer.new) self.old self.new (decimal n) }
     {
         if n < 10 {
             self.put(writer, &[b'0' + n as u8]);
         } else {
-            self.put(writer, Buffer::new().format(n).as_bytes());
+            self.put_long(writer, n);
         }
+    }
+
+    #[inline(never)]
+    fn put_long<W: Write>(&mut self, writer: &mut W, n: u64)
+        ensures { Puts (W.contents writer.old) (W.contents writer.new) self.old self.new (decimal n) }
+    {
+        self.put(writer, Buffer::new().format(n).as_bytes());
     }
 
     /// Sends all that is held.
