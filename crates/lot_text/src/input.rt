@@ -33,7 +33,7 @@ pub enum Piece {
 pub fn read_line<R: BufRead>(reader: &mut R, line: &mut ArrayVec<u8, LINE_LEN>) -> Reading
     ensures { ReadsLine (R.remaining reader.old) (R.remaining reader.new) result line.new.items }
 {
-    line.clear();
+    *line = ArrayVec::new();
     for _ in 0..u64::MAX {
         match take_piece(reader, line) {
             Piece::More => {}
