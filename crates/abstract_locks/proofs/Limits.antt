@@ -2,7 +2,7 @@
 use Rattle.std.proofs.Common.{ℕ, Bool, true, false, Option, Some, None, if◌then◌else◌, ◌==◌, ◌≡◌, ◌≤◌, ◌<◌, refl, length, arith}
 use Rattle.std.proofs.lemmas.Bool.Decides.{nat_tests}
 use Rattle.lot_base.specs.declared.wants.Want.TheVariants.{Exclusive, Upgradable, Shared}
-use Rattle.abstract_locks.specs.Locks.{LockState, Pending, Rules, Normal, LockCase, OfOnce, once_after, Enter, Pend, Settle, Leave, Convert, Park, Aside, TakeFirst, TakeAside, TakePicked, Wake, HandOff, Late, Rollback, Needs, IsLockState, Knows, count, readers, OfCondvar, SeeOwner, Look, Show, Hide}
+use Rattle.abstract_locks.specs.Locks.{LockState, Pending, Rules, LockCase, OfOnce, once_after, Enter, Pend, Settle, Leave, Convert, HandOff, Rollback, Needs, IsLockState, readers}
 use Rattle.abstract_locks.specs.Onces.{OnceCase, Start, Finish, Fail, Rest, TakeAll}
 use Rattle.abstract_locks.specs.Locks as locks
 use Rattle.abstract_locks.specs.Codes.{HasLimit, LimitKept, IsHandOff}

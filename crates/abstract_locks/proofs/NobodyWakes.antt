@@ -7,7 +7,7 @@ use Rattle.lot_calls.specs.declared.outcomes.Outcome.{Outcome}
 use Rattle.lot_calls.specs.declared.outcomes.Outcome.TheVariants as outcome
 use Rattle.abstract_locks.specs.Condvars.{moved_of}
 use Rattle.abstract_locks.specs.Locks as locks
-use Rattle.abstract_locks.specs.Locks.{CondvarCase, LockCase, Queued, Taken, times}
+use Rattle.abstract_locks.specs.Locks.{CondvarCase, LockCase, Queued, times}
 use Rattle.abstract_locks.specs.Onces.{OnceCase}
 use Rattle.abstract_locks.specs.Onces as onces
 use Rattle.abstract_locks.specs.Purposes.{Blank, HasMoved, Notifies, Recall, Saw, SawOwner, Waits, WasMoved, WasNotified}

@@ -6,7 +6,7 @@ use Rattle.std.specs.Prelude.{zero, suc, length, slice_index}
 use Rattle.std.proofs.lemmas.List.Sums.{sum_by-set}
 use Rattle.lot_base.specs.declared.wants.Want.{Want}
 use Rattle.lot_base.specs.declared.wants.Want.TheVariants.{Exclusive, Upgradable, Shared}
-use Rattle.abstract_locks.specs.Locks.{LockState, Queued, Taken, Sort, Mutex, Normal, Recursive, Semaphore, Once, Rules, LockCase, OfOnce, Enter, Pend, Settle, Leave, Convert, Park, Aside, TakeFirst, TakeAside, TakePicked, Wake, HandOff, Late, Rollback, Knows, IsLockState, IsBlocked, readers, standing, times, is_thread, one_if_some, putting, let_go, OfCondvar, SeeOwner, Look, Show, Hide, Condvar}
+use Rattle.abstract_locks.specs.Locks.{Queued, Taken, Sort, Mutex, Normal, Recursive, Semaphore, Once, Rules, LockCase, OfOnce, Enter, Pend, Settle, Leave, Convert, Park, Aside, TakeFirst, TakeAside, TakePicked, Wake, HandOff, Late, Rollback, Knows, IsBlocked, readers, standing, times, is_thread, one_if_some, putting, OfCondvar, SeeOwner, Condvar}
 use Rattle.abstract_locks.specs.Sites.{Line, Main, Second, Doing, Site, IsSite, Begin, End, In, Out, Mark, Clear, FindNobody, MarkOwned, MarkBrought, Send, LeaveLine, Bring, Case, Needed, after_deed, done, case_doing, idle, leaves, wakened, counts_taken}
 use Rattle.abstract_locks.specs.Codes.{bit}
 use Rattle.abstract_locks.specs.Permits.{total, debt, debts, HasPermits, EachDeedKeepsPermits, PermitsAreLookedAfter}

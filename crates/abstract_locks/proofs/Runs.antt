@@ -5,7 +5,7 @@ use Rattle.lot_calls.specs.declared.calls.Turn.{Turn}
 use Rattle.lot_calls.specs.declared.calls.Turn as turn
 use Rattle.lot_calls.specs.declared.calls.Step.{Step}
 use Rattle.lot_calls.specs.declared.outcomes.Outcome.{Outcome}
-use Rattle.abstract_locks.specs.Locks.{LockState, LockCase, Needs, IsLockState, left_behind, putting}
+use Rattle.abstract_locks.specs.Locks.{LockCase, Needs, IsLockState, left_behind, putting}
 use Rattle.abstract_locks.specs.Locks as locks
 use Rattle.abstract_locks.specs.Purposes.{Purpose}
 use Rattle.abstract_locks.specs.Runs.{LocksState, Event, Nothing, AtLock, Moves, joined_by, CallState, AreLockStates, GoesOn, Stays, Does, MayDo, MayHappen, Turned, IsStep, IsRun, rules_at, locks_after}

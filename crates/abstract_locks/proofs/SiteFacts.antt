@@ -5,7 +5,7 @@ use Rattle.std.proofs.lemmas.Bool.{cases_lt}
 use Rattle.std.proofs.lemmas.List.{get_or_past, set_past}
 use Rattle.std.proofs.lemmas.List.Sums.{sum_by-set}
 use Rattle.std.proofs.lemmas.Bool.Decides.{nat_tests}
-use Rattle.abstract_locks.specs.Locks.{LockState, Pending, Queued, Taken, Sort, Rules, LockCase, Enter, Pend, Settle, Leave, Convert, Park, Aside, TakeFirst, TakeAside, TakePicked, Wake, HandOff, Late, Rollback, OfOnce, once_after, TakesFirst, has_caller, without, Needs, IsLockState, HasTakenNobody, IsTaken, Knows, KnowsAll, Mutex, Normal, Recursive, Semaphore, Once, keeps_more, Owns, IsSuccessor, picked, unpicked, times, taking, standing, is_thread, one_if_some, readers, putting, OfCondvar, SeeOwner, Look, Show, Hide, Condvar, left_behind}
+use Rattle.abstract_locks.specs.Locks.{LockState, Queued, Sort, Rules, LockCase, has_caller, IsLockState, Mutex, Normal, Recursive, Semaphore, Once, putting, Condvar}
 use Rattle.abstract_locks.specs.Sites.{Site, IsSite, Case, Needed, after_deed, done, case_doing, IsOpen}
 use Rattle.abstract_locks.specs.Locks as locks
 use Rattle.abstract_locks.proofs.LockKeeps.{case_keeps}

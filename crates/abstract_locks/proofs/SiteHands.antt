@@ -3,7 +3,7 @@ use Rattle.std.proofs.Common.{ℕ, true, false, Option, Some, None, ◌≡◌, �
 use Rattle.std.proofs.lemmas.Bool.Decides.{nat_tests}
 use Rattle.lot_base.specs.declared.wants.Want.{Want}
 use Rattle.lot_base.specs.declared.wants.Want.TheVariants.{Exclusive, Upgradable, Shared}
-use Rattle.abstract_locks.specs.Locks.{LockState, Pending, Queued, Taken, Sort, Rules, LockCase, Enter, Pend, Settle, Leave, Convert, Park, Aside, TakeFirst, TakeAside, TakePicked, Wake, HandOff, Late, Rollback, OfOnce, once_after, TakesFirst, has_caller, without, Needs, IsLockState, HasTakenNobody, IsTaken, Knows, KnowsAll, Mutex, Normal, Recursive, Semaphore, Once, keeps_more, Owns, IsSuccessor, picked, unpicked, times, taking, standing, is_thread, one_if_some, readers, putting, OfCondvar, SeeOwner, Look, Show, Hide, Condvar, left_behind}
+use Rattle.abstract_locks.specs.Locks.{LockState, Queued, Taken, Rules, HandOff, Owns, IsSuccessor, times, standing, is_thread, one_if_some}
 use Rattle.abstract_locks.specs.Sites.{Line, Main, Second, Claim, Site, IsSite, Case, Needed, done, case_doing, IsEmpty, IsOpen, Has, Pends, Runs, Ran, Holds, counts, counts_taken}
 use Rattle.abstract_locks.specs.Locks as locks
 use Rattle.abstract_locks.proofs.LockKeeps.{no_aside}

@@ -2,7 +2,7 @@
 use Rattle.std.proofs.Common.{ℕ, Bool, true, false, Option, Some, None, if◌then◌else◌, ◌==◌, ◌≡◌, ◌≢◌, ◌≤◌, subst, ◌⊎◌, inl, inr, [], refl, arith}
 use Rattle.std.proofs.lemmas.Bool.Decides.{nat_tests}
 use Rattle.lot_base.specs.declared.wants.Want.TheVariants.{Exclusive, Upgradable, Shared}
-use Rattle.abstract_locks.specs.Locks.{LockState, Pending, Queued, Taken, Sort, Rules, LockCase, Enter, Pend, Settle, Leave, Convert, Park, Aside, TakeFirst, TakeAside, TakePicked, Wake, HandOff, Late, Rollback, OfOnce, once_after, TakesFirst, has_caller, without, Needs, IsLockState, HasTakenNobody, IsTaken, Knows, KnowsAll, Mutex, Normal, Recursive, Semaphore, Once, keeps_more, Owns, IsSuccessor, picked, unpicked, times, taking, standing, is_thread, one_if_some, readers, putting, OfCondvar, SeeOwner, Look, Show, Hide, Condvar, left_behind}
+use Rattle.abstract_locks.specs.Locks.{LockState, Pending, Sort, Rules, LockCase, Enter, Pend, Settle, Leave, Convert, Park, Aside, TakeFirst, TakeAside, TakePicked, Wake, HandOff, Late, Rollback, OfOnce, IsLockState, Knows, Mutex, Normal, Recursive, Semaphore, Once, standing, readers, OfCondvar, SeeOwner, Look, Show, Hide, Condvar}
 use Rattle.abstract_locks.specs.Sites.{Line, Main, Second, Claim, Doing, Site, IsSite, Begin, End, In, Out, Mark, Clear, FindNobody, MarkOwned, MarkBrought, Bring, Send, LeaveLine, Case, Needed, after_deed, done, case_doing, IsEmpty, IsOpen, IsDebtor, late_found, gives_way, shares_less, Has, Pends, Runs, Ran, Holds, EachDeedKeeps}
 use Rattle.abstract_locks.specs.Locks as locks
 use Rattle.abstract_locks.proofs.LockKeeps.{no_aside, times_append}

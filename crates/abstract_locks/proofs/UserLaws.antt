@@ -11,7 +11,7 @@ use Rattle.lot_calls.specs.declared.calls.Turn.{Turn}
 use Rattle.lot_calls.specs.declared.calls.Turn as turn
 use Rattle.lot_calls.specs.declared.calls.Step.{Step}
 use Rattle.lot_calls.specs.declared.outcomes.Outcome.{Outcome}
-use Rattle.abstract_locks.specs.Locks.{LockState, LockCase, MayConvert, Enter, Pend, Settle, Leave, Convert, Park, Aside, TakeFirst, TakeAside, TakePicked, Wake, HandOff, Late, Rollback, OfOnce, once_after, Needs, IsLockState, Rules, Normal, Recursive, Queued, Pending, Rights, rights_of, Owns, readers, sharers, times, after_case, wants_shared, OfCondvar, SeeOwner, Look, Show, Hide, putting, left_behind}
+use Rattle.abstract_locks.specs.Locks.{LockState, LockCase, MayConvert, Enter, Pend, Settle, Leave, Convert, Park, Aside, TakeFirst, TakePicked, Wake, HandOff, Late, Rollback, OfOnce, once_after, Needs, IsLockState, Rules, Normal, Recursive, Queued, Pending, Rights, rights_of, Owns, readers, sharers, times, after_case, wants_shared, OfCondvar, putting, left_behind}
 use Rattle.abstract_locks.specs.Onces.{OnceCase, Start, Finish, Fail, Rest, TakeAll}
 use Rattle.abstract_locks.specs.Locks as locks
 use Rattle.abstract_locks.specs.Purposes.{Purpose, Converts, ConvertsBy, Patience}

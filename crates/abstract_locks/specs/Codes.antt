@@ -27,7 +27,8 @@ shown_code (Some m) = m + 1
 -- the word of a lock, by its owners and its two parked bits
 abbrev pub word_by : Sort → ℕ → LockState → (aside parked : Bool) → ℕ
 word_by Mutex limit s aside parked = one_if_some s.exclusive + 2 * bit parked
-word_by Normal limit s aside parked = packed (count s) (writers s) (one_if_some s.upgradable) (bit aside) (bit parked)
+word_by Normal limit s aside parked =
+    packed (count s) (writers s) (one_if_some s.upgradable) (bit aside) (bit parked)
 word_by Recursive limit s aside parked =
     packed (count s) (writers s) (one_if_some s.upgradable) (bit aside) (bit parked)
 word_by Semaphore limit s aside parked = 2 * (limit - readers s) + bit parked
@@ -35,7 +36,8 @@ word_by Once limit s aside parked = 8 * bit parked + phase_code s.phase
 word_by Condvar limit s aside parked = shown_code s.shown
 
 abbrev pub rw_code : Site → ℕ
-rw_code s = packed (count s.lock) (writers s.lock) (one_if_some s.lock.upgradable) (bit s.aside_parked) (bit s.parked)
+rw_code s = packed (count s.lock) (writers s.lock) (one_if_some s.lock.upgradable)
+    (bit s.aside_parked) (bit s.parked)
 
 abbrev pub code_of : Sort → ℕ → Site → ℕ
 code_of sort limit s = word_by sort limit s.lock s.aside_parked s.parked
@@ -59,7 +61,8 @@ has_aside v = v / 2 % 2 == 1
 abbrev pub has_parked : ℕ → Bool
 has_parked v = v % 2 == 1
 
--- and in the word of a `Once`: whether it is done, poisoned or run, and whether somebody may stand in the queue
+-- and in the word of a `Once`: whether it is done, poisoned or run, and whether somebody may stand
+-- in the queue
 abbrev pub is_done : ℕ → Bool
 is_done v = v % 2 == 1
 
@@ -93,7 +96,8 @@ abbrev pub is_blocked : Bool → Want → ℕ → Bool
 is_blocked recursive Shared v = has_writer v && (not recursive || (count_in v == 0))
 is_blocked recursive x v = has_writer v || has_upgradable v
 
--- what a thread finds inside its section that stands in the main line, and in the second: its way is barred, readers are left
+-- what a thread finds inside its section that stands in the main line, and in the second: its way
+-- is barred, readers are left
 abbrev pub bars : Bool → Want → ℕ → Bool
 bars recursive x v = has_parked v && is_blocked recursive x v
 
@@ -113,7 +117,8 @@ pub record TellsTrue (r : Rules) (s : Site) : Type 0 where
   pub aside : has_aside (code r s) ≡ s.aside_parked
   pub blocked : (x : Want) → Knows r.sort x → is_blocked (is_recursive r.sort) x (code r s) ≡ true
       → IsBlocked r s.lock x
-  pub free : (x : Want) → Knows r.sort x → is_blocked (is_recursive r.sort) x (code r s) ≡ false → IsFree r s.lock x
+  pub free : (x : Want) → Knows r.sort x → is_blocked (is_recursive r.sort) x (code r s) ≡ false
+      → IsFree r s.lock x
   pub nobody : code r s ≡ 0 → NoWriter s.lock × (readers s.lock ≡ 0)
 
 -- what a case adds to the word, and what it subtracts
@@ -151,9 +156,11 @@ IsHandOff case = ⊥
 -- every case but a hand-off changes the word so; bits stay
 abbrev pub WordFollows : Type 0
 WordFollows =
-    (r : Rules) (case : LockCase) (s : Site) (t : ℕ) → has_readers r.sort ≡ true → t < length s.lock.shared → IsSite r s
+    (r : Rules) (case : LockCase) (s : Site) (t : ℕ) → has_readers r.sort ≡ true
+    → t < length s.lock.shared → IsSite r s
     → Needed r (Case case) s t → (IsHandOff case → ⊥)
-    → code r (after_deed r (Case case) s t) + lost s.lock.pending case ≡ code r s + rolled s.lock.pending case
+    → code r (after_deed r (Case case) s t) + lost s.lock.pending case
+    ≡ code r s + rolled s.lock.pending case
 
 abbrev pub WordsTellTrue : Type 0
 WordsTellTrue = (r : Rules) (s : Site) → has_readers r.sort ≡ true → IsSite r s → TellsTrue r s
@@ -165,10 +172,12 @@ pub record HasLimit (r : Rules) (s : LockState) : Type 0 where
   pub top : count s ≤ r.limit + 1
   pub normal : r.sort ≡ Normal → count s ≤ r.limit
   pub falls : (p : Pending) → s.pending ≡ Some p → p.falls_back ≡ true → count s ≤ r.limit
-  pub falls_normal : (p : Pending) → s.pending ≡ Some p → p.falls_back ≡ true → r.sort ≡ Normal → count s + 1 ≤ r.limit
+  pub falls_normal : (p : Pending) → s.pending ≡ Some p → p.falls_back ≡ true → r.sort ≡ Normal
+      → count s + 1 ≤ r.limit
 
 abbrev pub LimitKept : Type 0
 LimitKept =
-    (r : Rules) (case : LockCase) (s : LockState) (t : ℕ) → has_readers r.sort ≡ true → t < length s.shared
+    (r : Rules) (case : LockCase) (s : LockState) (t : ℕ) → has_readers r.sort ≡ true
+    → t < length s.shared
     → 1 ≤ r.limit → IsLockState r s → HasLimit r s → Needs r case s t → (IsHandOff case → ⊥)
     → HasLimit r (locks.after_case r case s t)

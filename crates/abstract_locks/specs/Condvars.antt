@@ -1,4 +1,5 @@
--- The abstract condition variable, and what a thread inside its section does. No word, no place and no loop.
+-- The abstract condition variable, and what a thread inside its section does. No word, no place and
+-- no loop.
 use Rattle.std.specs.Prelude.{ℕ, Bool, true, false, Option, Some, None, if◌then◌else◌, ◌≤◌, ◌≡◌, ◌≢◌, ◌⊎◌, List, [], ◌∷◌, ◌++◌, map, take, drop}
 use Rattle.lot_base.specs.declared.wants.Want.TheVariants.{Exclusive, Wait}
 use Rattle.abstract_locks.specs.Locks.{Queued, Mutex, Rules, putting, times, standing, without}
@@ -123,9 +124,11 @@ condvar_leads StandLast c t = at (record c { waiters = c.waiters ++ waiter t ∷
 condvar_leads (SeeAgain m) c t = at c t (Sees m)
 condvar_leads (MissIt m) c t = at c t (Misses m)
 condvar_leads Hide c t = at (record c { shown = None }) t (hidden c.shown)
-condvar_leads MoveFirst c t = at (record c { waiters = drop 1 c.waiters }) t (clears_if (drop 1 c.waiters))
+condvar_leads MoveFirst c t =
+    at (record c { waiters = drop 1 c.waiters }) t (clears_if (drop 1 c.waiters))
 condvar_leads MoveAll c t = at (record c { waiters = [] }) t Rests
-condvar_leads LeaveList c t = at (record c { waiters = without t c.waiters }) t (clears_if (without t c.waiters))
+condvar_leads LeaveList c t =
+    at (record c { waiters = without t c.waiters }) t (clears_if (without t c.waiters))
 condvar_leads Clear c t = at (record c { shown = None }) t Rests
 
 -- who may leave: it has nothing left to do
@@ -149,7 +152,8 @@ CondvarNeeded (BeginsWait m) c t = (times t c.waiters ≡ 0) × IsInsideNot c.in
 CondvarNeeded EndsWait c t = (times t c.waiters ≡ 0) × IsInsideNot c.inside t
 CondvarNeeded GoesIn c t = c.inside ≡ None
 CondvarNeeded GoesOut c t = MayGoOut c.inside t
-CondvarNeeded (Show m) c t = IsInsideAt c t Rests × (c.waits_with t ≡ Some m) × ((c.shown ≡ None) ⊎ (c.shown ≡ Some m))
+CondvarNeeded (Show m) c t =
+    IsInsideAt c t Rests × (c.waits_with t ≡ Some m) × ((c.shown ≡ None) ⊎ (c.shown ≡ Some m))
 CondvarNeeded (SeeOther m) c t = IsInsideAt c t Rests × (c.shown ≢ None) × (c.shown ≢ Some m)
 CondvarNeeded StandLast c t = ((m : ℕ) × IsInsideAt c t (Adds m)) × (times t c.waiters ≡ 0)
 CondvarNeeded (SeeAgain m) c t = IsInsideAt c t Rests × (c.shown ≡ Some m)
@@ -189,17 +193,22 @@ moving all m = if all then Takes m else Sees m
 -- who waits stands nowhere at its mutex, and doesn't try it again
 abbrev pub WaitsAside : CondvarSite → Site → ℕ → Type 0
 WaitsAside c s m =
-    (u : ℕ) → 1 ≤ times u c.waiters → c.waits_with u ≡ Some m → (standing u s.lock ≡ 0) × ((s.doing u).retries ≡ None)
+    (u : ℕ) → 1 ≤ times u c.waiters → c.waits_with u ≡ Some m
+    → (standing u s.lock ≡ 0) × ((s.doing u).retries ≡ None)
 
--- a notification moves somebody, each waits with the mutex that is shown, and that mutex may be brought them
-pub record MoveFits (r : Rules) (all locked : Bool) (c : CondvarSite) (s : Site) (t m : ℕ) : Type 0 where
+-- a notification moves somebody, each waits with the mutex that is shown, and that mutex may be
+-- brought them
+pub record MoveFits (r : Rules) (all locked : Bool) (c : CondvarSite) (s : Site)
+    (t m : ℕ) : Type 0 where
   pub some : moved_of all c.waiters ≢ []
   pub of : (u : ℕ) → 1 ≤ times u (moved_of all c.waiters) → c.waits_with u ≡ Some m
-  pub may : Needed r (Bring (taken_of locked (moved_of all c.waiters)) (line_of locked (moved_of all c.waiters))) s t
+  pub may : Needed r (Bring (taken_of locked (moved_of all c.waiters))
+      (line_of locked (moved_of all c.waiters))) s t
 
 abbrev pub EachMoveFits : Type 0
 EachMoveFits =
-    (r : Rules) (all locked : Bool) (c : CondvarSite) (s : Site) (t m : ℕ) → r.sort ≡ Mutex → IsCondvar c
+    (r : Rules) (all locked : Bool) (c : CondvarSite) (s : Site) (t m : ℕ) → r.sort ≡ Mutex
+    → IsCondvar c
     → WaitsAside c s m → IsInsideAt c t (moving all m)
     → (s.doing t).inside ≡ Some Main → (s.doing t).carries ≡ false → (s.doing t).wakes ≡ None
     → (s.doing t).retries ≡ None → (locked ≡ true → (s.doing t).brings ≡ true)

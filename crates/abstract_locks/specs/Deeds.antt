@@ -34,7 +34,8 @@ AreOneCase (Send all ∷ ds) = ⊥
 AreOneCase (LeaveLine ∷ ds) = KeepLock ds
 AreOneCase (d ∷ ds) = AreOneCase ds
 
--- That case. Who leaves a section wakes whom it has in hand, if anybody, where it hasn't handed the lock over: hand says.
+-- That case. Who leaves a section wakes whom it has in hand, if anybody, where it hasn't handed the
+-- lock over: hand says.
 abbrev pub case_of : Option Bool → List Deed → Option LockCase
 case_of hand [] = None
 case_of hand (Case case ∷ ds) = Some case

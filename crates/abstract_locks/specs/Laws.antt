@@ -16,18 +16,21 @@ use Rattle.abstract_locks.specs.Runs.{LocksState, AtLock, MayHappen, MayTurn, Is
 -- a turn that is possible isn't refused
 abbrev pub PossibleTurnsAreTaken : Type 0
 PossibleTurnsAreTaken =
-    (w v : LocksState) (s : Step) → MayTurn w s.thread s.turn → IsStep w s outcome.TheVariants.NotNow v → ⊥
+    (w v : LocksState) (s : Step) → MayTurn w s.thread s.turn
+    → IsStep w s outcome.TheVariants.NotNow v → ⊥
 
 -- a call doesn't end as it begins
 abbrev pub CallsTakeSteps : Type 0
 CallsTakeSteps =
     (w v : LocksState) (t : ℕ) (c : Call) (a : Answer)
-    → IsStep w (record { thread = t; turn = turn.TheVariants.Begin c }) (outcome.TheVariants.End a) v → ⊥
+    → IsStep w (record { thread = t; turn = turn.TheVariants.Begin c })
+    (outcome.TheVariants.End a) v → ⊥
 
 -- a fair release wakes nobody in place of handing the lock over
 abbrev pub FairReleasesHandOver : Type 0
 FairReleasesHandOver =
-    (w : LocksState) (t l : ℕ) → (w.calls t).purpose ≡ Some (Releases l Exclusive true) → MayHappen w t (AtLock l Wake)
+    (w : LocksState) (t l : ℕ) → (w.calls t).purpose ≡ Some (Releases l Exclusive true)
+    → MayHappen w t (AtLock l Wake)
     → ⊥
 
 -- nobody enters a lock that isn't free for what it wants
@@ -51,5 +54,6 @@ trying = record {
 -- it doesn't fail
 abbrev pub FreeMutexIsGot : Type 0
 FreeMutexIsGot = (v : LocksState)
-    → IsStep trying (record { thread = 0; turn = turn.TheVariants.Go }) (outcome.TheVariants.End answer.TheVariants.No) v
+    → IsStep trying (record { thread = 0; turn = turn.TheVariants.Go })
+    (outcome.TheVariants.End answer.TheVariants.No) v
     → ⊥

@@ -15,14 +15,17 @@ pub record Taken : Type 0 where
   pub by : ℕ
   pub want : Want
 
--- a writer that waits for the last readers, and whether it falls back to the upgradable right when it gives up
+-- a writer that waits for the last readers, and whether it falls back to the upgradable right when
+-- it gives up
 pub record Pending : Type 0 where
   pub thread : ℕ
   pub falls_back : Bool
 
--- The owners: one exclusive, pending and upgradable at most, and each thread's number of shared rights, by the thread's number.
--- The waiters: the main queue from its front, the pending writer that sleeps aside, and who was taken from a queue by whom. A `Once` has a
--- phase in place of owners, and a condition variable shows the mutex with which its waiters wait; those of any other lock stay the first.
+-- The owners: one exclusive, pending and upgradable at most, and each thread's number of shared
+-- rights, by the thread's number. The waiters: the main queue from its front, the pending writer
+-- that sleeps aside, and who was taken from a queue by whom. A `Once` has a phase in place of
+-- owners, and a condition variable shows the mutex with which its waiters wait; those of any other
+-- lock stay the first.
 pub record LockState : Type 0 where
   pub exclusive : Option ℕ
   pub pending : Option Pending
@@ -34,8 +37,9 @@ pub record LockState : Type 0 where
   pub phase : Phase
   pub shown : Option ℕ
 
--- the sorts of lock: one owner; many readers beside each other; the same, where a reader may come back beside a pending writer;
--- a number of permits; a run that completes once; a list of those who wait, each with a mutex, to be notified
+-- the sorts of lock: one owner; many readers beside each other; the same, where a reader may come
+-- back beside a pending writer; a number of permits; a run that completes once; a list of those who
+-- wait, each with a mutex, to be notified
 pub data Sort : Type 0 where
   Mutex : Sort
   Normal : Sort
@@ -178,7 +182,8 @@ Knows Once CallOnce = Unit {0}
 Knows Condvar Wait = Unit {0}
 Knows sort x = ⊥
 
--- what the owners that are there must allow; the readers' limit is left out. Nobody enters a condition variable
+-- what the owners that are there must allow; the readers' limit is left out. Nobody enters a
+-- condition variable
 abbrev pub IsFreeAt : Sort → ℕ → LockState → Want → Type 0
 IsFreeAt Mutex limit s x = s.exclusive ≡ None
 IsFreeAt Normal limit s Shared = (s.exclusive ≡ None) × (s.pending ≡ None)
@@ -235,8 +240,8 @@ abbrev pub is_recursive : Sort → Bool
 is_recursive Recursive = true
 is_recursive sort = false
 
--- where the picking stops: behind that first one, where it is a writer, the lock isn't recursive and no more than a shared
--- right is kept; else behind the last
+-- where the picking stops: behind that first one, where it is a writer, the lock isn't recursive
+-- and no more than a shared right is kept; else behind the last
 abbrev pub stop_of : Sort → Option Want → List Queued → ℕ
 stop_of sort start q =
     if is_writer (first_unshared q) && (not (is_recursive sort) && not (keeps_more start))
@@ -249,22 +254,26 @@ before_stop sort start q = take (stop_of sort start q) q
 abbrev pub behind_stop : Sort → Option Want → List Queued → List Queued
 behind_stop sort start q = drop (stop_of sort start q) q
 
--- the front, of whom each is picked: all ahead of that first one, and it too unless more than a shared right is kept
+-- the front, of whom each is picked: all ahead of that first one, and it too unless more than a
+-- shared right is kept
 abbrev pub front_of : Option Want → List Queued → ℕ
 front_of start q = if keeps_more start then ahead_of_unshared q else 1 + ahead_of_unshared q
 
 -- before the stop: those at the front, and behind them whoever wants to share
 abbrev pub picked : Sort → Option Want → List Queued → List Queued
 picked sort start q =
-    take (front_of start q) (before_stop sort start q) ++ sharers (drop (front_of start q) (before_stop sort start q))
+    take (front_of start q) (before_stop sort start q)
+    ++ sharers (drop (front_of start q) (before_stop sort start q))
 
 -- and who is left, in order
 abbrev pub unpicked : Sort → Option Want → List Queued → List Queued
-unpicked sort start q = others (drop (front_of start q) (before_stop sort start q)) ++ behind_stop sort start q
+unpicked sort start q = others (drop (front_of start q) (before_stop sort start q))
+    ++ behind_stop sort start q
 
 -- ---------------------------------------------------------------- the cases
 
--- what a thread does to a condition variable, in its section or as it looks from outside; that it waits is `Park`, and that it gives up `Late`
+-- what a thread does to a condition variable, in its section or as it looks from outside; that it
+-- waits is `Park`, and that it gives up `Late`
 pub data CondvarCase : Type 0 where
   -- it sees which mutex is shown
   Look : (seen : Option ℕ) → CondvarCase
@@ -295,8 +304,8 @@ pub data LockCase : Type 0 where
   TakePicked : (start : Option Want) → LockCase
   -- it wakes all whom it has taken, and they try again
   Wake : LockCase
-  -- it hands its right to all whom it has taken: it owns no longer, and they own, in one step; the successor is the one
-  -- among them that wants more than to share
+  -- it hands its right to all whom it has taken: it owns no longer, and they own, in one step; the
+  -- successor is the one among them that wants more than to share
   HandOff : (right : Want) → (successor : Option Queued) → LockCase
   -- its time is up, and it leaves the queue
   Late : LockCase
@@ -324,11 +333,13 @@ without_owner t Shared s = record s { shared = slice_set s.shared t (slice_index
 without_owner t x s = s
 
 abbrev pub pending_for : ℕ → Bool → LockState → LockState
-pending_for t falls_back s = record s { pending = Some (record { thread = t; falls_back = falls_back }) }
+pending_for t falls_back s =
+    record s { pending = Some (record { thread = t; falls_back = falls_back }) }
 
 -- a writer owns where nobody shares, and is pending where somebody does
 abbrev pub writing : ℕ → Bool → LockState → LockState
-writing t falls_back s = if readers s == 0 then with_owner t Exclusive s else pending_for t falls_back s
+writing t falls_back s =
+    if readers s == 0 then with_owner t Exclusive s else pending_for t falls_back s
 
 abbrev pub converted : ℕ → Want → LockState → LockState
 converted t Exclusive s = writing t true s
@@ -349,9 +360,11 @@ aside_without t (Some u) = if u == t then None else Some u
 -- t takes these threads
 abbrev pub taking : ℕ → List Queued → (ℕ → Option Taken) → ℕ → Option Taken
 taking t [] taken = taken
-taking t (x ∷ xs) taken = taking t xs (putting taken x.thread (Some (record { by = t; want = x.want })))
+taking t (x ∷ xs) taken =
+    taking t xs (putting taken x.thread (Some (record { by = t; want = x.want })))
 
--- each thread that t has taken and that wants to share has one right more; i is the number of the first thread
+-- each thread that t has taken and that wants to share has one right more; i is the number of the
+-- first thread
 abbrev pub shares_handed : ℕ → Option Taken → ℕ
 shares_handed t None = 0
 shares_handed t (Some h) = if h.by == t && wants_shared h.want then 1 else 0
@@ -361,7 +374,8 @@ sharing_from t taken i [] = []
 sharing_from t taken i (n ∷ ns) = (n + shares_handed t (taken i)) ∷ sharing_from t taken (i + 1) ns
 
 abbrev pub sharing_handed : ℕ → LockState → LockState
-sharing_handed t s = record s { shared = sharing_from t s.taken 0 s.shared; taken = let_go t s.taken }
+sharing_handed t s = record s
+    { shared = sharing_from t s.taken 0 s.shared; taken = let_go t s.taken }
 
 abbrev pub succeeding : Want → ℕ → LockState → LockState
 succeeding Exclusive u s = writing u false s
@@ -385,7 +399,8 @@ MayConvert right wanted = ⊥
 -- the successor is the one whom t has taken and who wants more than to share
 abbrev pub IsSuccessor : LockState → ℕ → Option Queued → Type 0
 IsSuccessor s t successor =
-    (u : ℕ) (x : Want) → (successor ≡ Some (record { thread = u; want = x })) ↔ (IsTaken s t u x × (x ≢ Shared))
+    (u : ℕ) (x : Want) → (successor ≡ Some (record { thread = u; want = x }))
+    ↔ (IsTaken s t u x × (x ≢ Shared))
 
 -- after the upgradable right was handed on, the limit holds
 abbrev pub HandOffFits : Rules → Want → LockState → Type 0
@@ -407,7 +422,8 @@ OnceNeeds (Rest wanted forced) s t = MayRest wanted forced s.phase × (standing 
 OnceNeeds TakeAll s t = HasTakenNobody s t
 
 abbrev pub once_after : OnceCase → LockState → ℕ → LockState
-once_after (Rest wanted forced) s t = record s { queue = s.queue ++ (record { thread = t; want = wanted }) ∷ [] }
+once_after (Rest wanted forced) s t =
+    record s { queue = s.queue ++ (record { thread = t; want = wanted }) ∷ [] }
 once_after TakeAll s t = record s { queue = []; taken = taking t s.queue s.taken }
 once_after case s t = record s { phase = phase_after case t s.phase }
 
@@ -446,7 +462,8 @@ Needs r (TakeAside u) s t = (s.aside ≡ Some u) × HasTakenNobody s t
 Needs r (TakePicked start) s t = HasTakenNobody s t × Knows r.sort Upgradable
 Needs r Wake s t = Unit {0}
 Needs r (HandOff right successor) s t =
-    Owns s t right × (right ≢ Shared) × IsSuccessor s t successor × HandOffFits r right (handed t right successor s)
+    Owns s t right × (right ≢ Shared) × IsSuccessor s t successor
+    × HandOffFits r right (handed t right successor s)
 Needs r Late s t = 1 ≤ times t s.queue + is_thread t s.aside
 Needs r Rollback s t = IsSomePending s.pending t × (s.aside ≡ None)
 Needs r (OfOnce case) s t = (r.sort ≡ Once) × OnceNeeds case s t
@@ -460,13 +477,21 @@ after_case r Pend s t = pending_for t false s
 after_case r Settle s t = with_owner t Exclusive (record s { pending = None })
 after_case r (Leave right) s t = without_owner t right s
 after_case r (Convert right want) s t = converted t want (without_owner t right s)
-after_case r (Park want) s t = record s { queue = s.queue ++ (record { thread = t; want = want }) ∷ [] }
+after_case r (Park want) s t =
+    record s { queue = s.queue ++ (record { thread = t; want = want }) ∷ [] }
 after_case r Aside s t = record s { aside = Some t }
-after_case r (TakeFirst x) s t = record s { queue = drop 1 s.queue; taken = taking t (x ∷ []) s.taken }
+after_case r (TakeFirst x) s t =
+    record s { queue = drop 1 s.queue; taken = taking t (x ∷ []) s.taken }
 after_case r (TakeAside u) s t =
-    record s { aside = None; taken = putting s.taken u (Some (record { by = t; want = Exclusive })) }
+    record s {
+      aside = None;
+      taken = putting s.taken u (Some (record { by = t; want = Exclusive }));
+    }
 after_case r (TakePicked start) s t =
-    record s { queue = unpicked r.sort start s.queue; taken = taking t (picked r.sort start s.queue) s.taken }
+    record s {
+      queue = unpicked r.sort start s.queue;
+      taken = taking t (picked r.sort start s.queue) s.taken;
+    }
 after_case r Wake s t = record s { taken = let_go t s.taken }
 after_case r (HandOff right successor) s t = handed t right successor s
 after_case r Late s t = record s { queue = without t s.queue; aside = aside_without t s.aside }
@@ -483,7 +508,8 @@ KnowsAll sort (x ∷ xs) = Knows sort x.want × KnowsAll sort xs
 
 pub record IsLockState (r : Rules) (s : LockState) : Type 0 where
   -- an exclusive owner has no owner beside it
-  pub exclusive_alone : (t : ℕ) → s.exclusive ≡ Some t → (s.pending ≡ None) × (s.upgradable ≡ None) × (readers s ≡ 0)
+  pub exclusive_alone : (t : ℕ) → s.exclusive ≡ Some t
+      → (s.pending ≡ None) × (s.upgradable ≡ None) × (readers s ≡ 0)
   -- a pending one has no upgradable one beside it
   pub pending_alone : (p : Pending) → s.pending ≡ Some p → s.upgradable ≡ None
   -- who sleeps aside is the pending owner

@@ -10,8 +10,11 @@ NothingLeavesDone =
     (r : Rules) (case : LockCase) (s : LockState) (t : ℕ) → Needs r case s t → s.phase ≡ Done
     → (after_case r case s t).phase ≡ Done
 
--- while somebody waits to run it and nobody runs, some thread has seen the waiters and takes them, or lets those go whom it has taken
+-- while somebody waits to run it and nobody runs, some thread has seen the waiters and takes them,
+-- or lets those go whom it has taken
 abbrev pub CallersAreLookedAfter : Type 0
 CallersAreLookedAfter =
-    (r : Rules) (s : Site) → r.sort ≡ Once → s.filled ≡ false → IsSite r s → has_caller s.lock.queue ≡ true
-    → (IsRunning s.lock.phase → ⊥) → (t : ℕ) × (((s.doing t).wakes ≡ Some Main) ⊎ ((s.doing t).covers ≡ true))
+    (r : Rules) (s : Site) → r.sort ≡ Once → s.filled ≡ false → IsSite r s
+    → has_caller s.lock.queue ≡ true
+    → (IsRunning s.lock.phase → ⊥)
+    → (t : ℕ) × (((s.doing t).wakes ≡ Some Main) ⊎ ((s.doing t).covers ≡ true))

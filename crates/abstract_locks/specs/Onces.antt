@@ -27,7 +27,8 @@ MayStart New forced = Unit {0}
 MayStart Poisoned true = Unit {0}
 MayStart phase forced = ⊥
 
--- who wants to run waits while another runs; who only waits does so until it is done, or poisoned unless forced
+-- who wants to run waits while another runs; who only waits does so until it is done, or poisoned
+-- unless forced
 abbrev pub MayRest : Want → Bool → Phase → Type 0
 MayRest CallOnce forced (InProgress runner) = Unit {0}
 MayRest Wait forced New = Unit {0}

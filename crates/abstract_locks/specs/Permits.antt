@@ -21,7 +21,8 @@ abbrev pub debts : Site → ℕ
 debts s = total (length s.lock.shared) (λ t. debt (s.doing t))
 
 pub record HasPermits (r : Rules) (s : Site) : Type 0 where
-  -- while somebody waits, those who hold a permit and those who look after the line are no fewer than the permits
+  -- while somebody waits, those who hold a permit and those who look after the line are no fewer
+  -- than the permits
   pub enough : s.lock.queue ≢ [] → r.limit ≤ readers s.lock + debts s
   -- nobody brings waiters from elsewhere
   pub unset : (t : ℕ) → (s.doing t).sets ≡ false
@@ -30,10 +31,13 @@ pub record HasPermits (r : Rules) (s : Site) : Type 0 where
 
 abbrev pub EachDeedKeepsPermits : Type 0
 EachDeedKeepsPermits =
-    (r : Rules) (deed : Deed) (s : Site) (t : ℕ) → r.sort ≡ Semaphore → t < length s.lock.shared → IsSite r s
+    (r : Rules) (deed : Deed) (s : Site) (t : ℕ) → r.sort ≡ Semaphore → t < length s.lock.shared
+    → IsSite r s
     → HasPermits r s → Needed r deed s t → HasPermits r (after_deed r deed s t)
 
 -- so whoever waits while a permit is free is looked after
 abbrev pub PermitsAreLookedAfter : Type 0
-PermitsAreLookedAfter = (r : Rules) (s : Site) → HasPermits r s → s.lock.queue ≢ [] → readers s.lock < r.limit
-    → (t : ℕ) × (((s.doing t).wakes ≡ Some Main) ⊎ (((s.doing t).covers ≡ true) ⊎ ((s.doing t).retries ≢ None)))
+PermitsAreLookedAfter = (r : Rules) (s : Site) → HasPermits r s → s.lock.queue ≢ []
+    → readers s.lock < r.limit
+    → (t : ℕ) × (((s.doing t).wakes ≡ Some Main)
+    ⊎ (((s.doing t).covers ≡ true) ⊎ ((s.doing t).retries ≢ None)))

@@ -15,7 +15,8 @@ abbrev pub queue_under : ℕ → List Waiter → List Queued
 queue_under key waiters = map queued_of (line key waiters)
 
 -- what a thread that keeps a right of its own, or none, picks of the line of a key
-pub record PicksAsTheLockSays (sort : Sort) (start : Option Want) (key : ℕ) (waiters : List Waiter) : Type 0 where
+pub record PicksAsTheLockSays (sort : Sort) (start : Option Want) (key : ℕ)
+    (waiters : List Waiter) : Type 0 where
   -- it takes just those whom the lock says, in order
   pub taken : map queued_of (lock_picked start (is_recursive sort) (line key waiters))
       ≡ picked sort start (queue_under key waiters)
@@ -29,4 +30,5 @@ pub record PicksAsTheLockSays (sort : Sort) (start : Option Want) (key : ℕ) (w
 -- whatever it keeps, and whoever waits for whatever; a thread may stand there twice
 abbrev pub PickersPickAsTheLocksSay : Type 0
 PickersPickAsTheLocksSay =
-    (sort : Sort) (start : Option Want) (key : ℕ) (waiters : List Waiter) → PicksAsTheLockSays sort start key waiters
+    (sort : Sort) (start : Option Want) (key : ℕ) (waiters : List Waiter)
+    → PicksAsTheLockSays sort start key waiters

@@ -32,7 +32,8 @@ pub data Purpose : Type 0 where
   -- of a `Once`: it runs a closure, or waits for another's run
   CallsOnce : (lock : ℕ) → (forced : Bool) → Purpose
   Awaits : (lock : ℕ) → (forced : Bool) → Purpose
-  -- of a condition variable: it gives the mutex up until it is notified, up to a deadline or without one; or it notifies the first, or all
+  -- of a condition variable: it gives the mutex up until it is notified, up to a deadline or
+  -- without one; or it notifies the first, or all
   Waits : (lock mutex : ℕ) → (timed : Bool) → Purpose
   Notifies : (lock : ℕ) → (all : Bool) → Purpose
 
@@ -68,7 +69,8 @@ is_fair_bump x = true
 abbrev pub rwlock_purpose : ℕ → RwLockCall → Purpose
 rwlock_purpose l (rwlock_call.Enter x how) = Enters l (wanted x) how
 rwlock_purpose l (rwlock_call.Release x) = Releases l (wanted x) false
-rwlock_purpose l (rwlock_call.Downgrade d) = Converts l (wanted (from_of d)) (wanted (to_of d)) Patient
+rwlock_purpose l (rwlock_call.Downgrade d) =
+    Converts l (wanted (from_of d)) (wanted (to_of d)) Patient
 rwlock_purpose l (rwlock_call.Upgrade how) = Converts l Upgradable Exclusive how
 rwlock_purpose l (rwlock_call.ReleaseFair x) = Releases l (wanted x) (is_fair_bump (wanted x))
 rwlock_purpose l (rwlock_call.Bump x) = Bumps l (wanted x)
@@ -86,12 +88,14 @@ abbrev pub purpose_of : Kind → Call → Option Purpose
 purpose_of kind.TheVariants.Mutex (call.TheVariants.Mutex l c) = Some (mutex_purpose false l c)
 purpose_of kind.TheVariants.Fair (call.TheVariants.Mutex l c) = Some (mutex_purpose true l c)
 purpose_of (kind.TheVariants.RwLock limit) (call.TheVariants.RwLock l c) = Some (rwlock_purpose l c)
-purpose_of (kind.TheVariants.Recursive limit) (call.TheVariants.RwLock l c) = Some (rwlock_purpose l c)
+purpose_of (kind.TheVariants.Recursive limit) (call.TheVariants.RwLock l c) =
+    Some (rwlock_purpose l c)
 purpose_of kind.TheVariants.Condvar (call.TheVariants.Condvar l c) = Some (condvar_purpose l c)
 purpose_of kind.TheVariants.Once (call.TheVariants.Once l c) = Some (once_purpose l c)
 purpose_of k c = None
 
--- what a call of a condition variable remembers of its own steps, and of what a notification did to it
+-- what a call of a condition variable remembers of its own steps, and of what a notification did to
+-- it
 pub data Recall : Type 0 where
   Blank : Recall
   -- a notification has seen this mutex shown
@@ -126,7 +130,8 @@ MayWait (Some (Awaits l forced)) k = l ≡ k
 MayWait (Some (Waits l m timed)) k = (l ≡ k) ⊎ (m ≡ k)
 MayWait purpose k = ⊥
 
--- a call that releases the lock; a bump does so until it has, and then it enters; and a call that runs a closure, once its run has begun
+-- a call that releases the lock; a bump does so until it has, and then it enters; and a call that
+-- runs a closure, once its run has begun
 abbrev pub IsReleasing : Option Purpose → Bool → ℕ → Type 0
 IsReleasing (Some (Releases l x fair)) released k = l ≡ k
 IsReleasing (Some (Bumps l x)) released k = (l ≡ k) × (released ≡ false)
@@ -157,7 +162,8 @@ EntersBy x p gave_up (TakePicked start) = (gave_up ≢ None) × (start ≡ None)
 EntersBy x p gave_up Wake = gave_up ≢ None
 EntersBy x p gave_up case = ⊥
 
--- a call that releases: a fair one hands over in place of waking, but the upgradable one where the limit would be passed
+-- a call that releases: a fair one hands over in place of waking, but the upgradable one where the
+-- limit would be passed
 abbrev pub ReleasesBy : Want → Bool → LockCase → Type 0
 ReleasesBy x fair (Leave y) = y ≡ x
 ReleasesBy x fair (TakeFirst w) = Unit {0}
@@ -182,7 +188,8 @@ ConvertsBy x y p gave_up case = ⊥
 -- what a bump does before it enters again: it gives its right up once
 abbrev pub GivesWay : Want → Bool → LockCase → Type 0
 GivesWay x released (Leave y) = ReleasesBy x (is_fair_bump x) (Leave y) × (released ≡ false)
-GivesWay x released (HandOff y successor) = ReleasesBy x (is_fair_bump x) (HandOff y successor) × (released ≡ false)
+GivesWay x released (HandOff y successor) =
+    ReleasesBy x (is_fair_bump x) (HandOff y successor) × (released ≡ false)
 GivesWay x released case = ReleasesBy x (is_fair_bump x) case
 
 -- a call that runs a closure, or waits while another runs one; its run ends the wait of all
@@ -197,7 +204,8 @@ abbrev pub AwaitsBy : Bool → LockCase → Type 0
 AwaitsBy forced (OfOnce (Rest x by)) = (x ≡ Wait) × (by ≡ forced)
 AwaitsBy forced case = ⊥
 
--- what a wait does to its condition variable: it gives up only where it has a deadline, and hides only after it gave up
+-- what a wait does to its condition variable: it gives up only where it has a deadline, and hides
+-- only after it gave up
 abbrev pub WaitsThere : ℕ → Bool → Option ℕ → LockCase → Type 0
 WaitsThere m timed gave_up (OfCondvar (Show shown)) = shown ≡ m
 WaitsThere m timed gave_up (OfCondvar Hide) = gave_up ≢ None
@@ -210,13 +218,15 @@ abbrev pub ReleasesOnce : Bool → LockCase → Type 0
 ReleasesOnce released (Leave y) = (y ≡ Exclusive) × (released ≡ false)
 ReleasesOnce released case = ReleasesBy Exclusive false case
 
--- and has it again by that release alone; it gives up in the queue of the mutex too, where it was moved there
+-- and has it again by that release alone; it gives up in the queue of the mutex too, where it was
+-- moved there
 abbrev pub WaitsBeside : Bool → Option ℕ → Bool → Recall → LockCase → Type 0
 WaitsBeside timed gave_up released recalls Late = (timed ≡ true) × (recalls ≡ WasMoved)
 WaitsBeside timed gave_up released recalls case =
     ReleasesOnce released case ⊎ ((released ≡ true) × EntersBy Exclusive Patient gave_up case)
 
--- what a notification does to its condition variable, and to the mutex that it has seen; its move is one event of both
+-- what a notification does to its condition variable, and to the mutex that it has seen; its move
+-- is one event of both
 abbrev pub NotifiesThere : LockCase → Type 0
 NotifiesThere (OfCondvar (Look seen)) = Unit {0}
 NotifiesThere (OfCondvar Hide) = Unit {0}
@@ -227,17 +237,19 @@ NotifiesBeside recalls m (SeeOwner owned) = recalls ≡ Saw m
 NotifiesBeside recalls m Wake = (number : ℕ) × (recalls ≡ HasMoved m number)
 NotifiesBeside recalls m case = ⊥
 
--- the call does this to this lock; gave_up is the lock whose queue it left because its time was up, released whether it has given
--- its right up: a bump enters only then
+-- the call does this to this lock; gave_up is the lock whose queue it left because its time was up,
+-- released whether it has given its right up: a bump enters only then
 abbrev pub IsMadeOf : Purpose → Option ℕ → Bool → Recall → ℕ → LockCase → Type 0
 IsMadeOf (Enters l x p) gave_up released recalls k case = (k ≡ l) × EntersBy x p gave_up case
 IsMadeOf (Releases l x fair) gave_up released recalls k case = (k ≡ l) × ReleasesBy x fair case
-IsMadeOf (Converts l x y p) gave_up released recalls k case = (k ≡ l) × ConvertsBy x y p gave_up case
+IsMadeOf (Converts l x y p) gave_up released recalls k case =
+    (k ≡ l) × ConvertsBy x y p gave_up case
 IsMadeOf (Bumps l x) gave_up released recalls k case =
     (k ≡ l) × (GivesWay x released case ⊎ ((released ≡ true) × EntersBy x Patient gave_up case))
 IsMadeOf (CallsOnce l forced) gave_up released recalls k case = (k ≡ l) × CallsOnceBy forced case
 IsMadeOf (Awaits l forced) gave_up released recalls k case = (k ≡ l) × AwaitsBy forced case
 IsMadeOf (Waits l m timed) gave_up released recalls k case =
-    ((k ≡ l) × WaitsThere m timed gave_up case) ⊎ ((k ≡ m) × WaitsBeside timed gave_up released recalls case)
+    ((k ≡ l) × WaitsThere m timed gave_up case)
+    ⊎ ((k ≡ m) × WaitsBeside timed gave_up released recalls case)
 IsMadeOf (Notifies l all) gave_up released recalls k case =
     ((k ≡ l) × NotifiesThere case) ⊎ NotifiesBeside recalls k case

@@ -1,5 +1,6 @@
--- A run of the abstract locks: each step is one event, which is one case of one lock, a move of a condition variable's waiters to their
--- mutex, or nothing; each answer is true, and a step is refused exactly where it isn't possible.
+-- A run of the abstract locks: each step is one event, which is one case of one lock, a move of a
+-- condition variable's waiters to their mutex, or nothing; each answer is true, and a step is
+-- refused exactly where it isn't possible.
 use Rattle.std.specs.Prelude.{ℕ, Option, Some, None, ◌<◌, ◌≤◌, ◌≡◌, ◌≢◌, ◌⊎◌, List, [], ◌∷◌, ◌++◌, length, nat_le, Bool, true, false, if◌then◌else◌, ◌==◌, ◌*◌, ◌+◌, ◌↔◌}
 use Rattle.lot_base.specs.declared.keys.Keys.{Keys}
 use Rattle.lot_base.specs.declared.keys.Keys as keys
@@ -73,7 +74,16 @@ rights_in w t l = rights_of (w.locks l) t
 
 abbrev pub new_call : Option Purpose → (ℕ → Rights) → CallState
 new_call purpose former =
-    record { purpose = purpose; former = former; gave_up = None; retries = None; released = false; late = false; failed = false; recalls = Blank }
+    record {
+      purpose = purpose;
+      former = former;
+      gave_up = None;
+      retries = None;
+      released = false;
+      late = false;
+      failed = false;
+      recalls = Blank;
+    }
 
 abbrev pub no_rights : Rights
 no_rights = record { exclusive = 0; pending = 0; upgradable = 0; shared = 0 }
@@ -99,28 +109,37 @@ pub record IsOpening (w : LocksState) : Type 0 where
 
 -- ---------------------------------------------------------------- what a step does
 
--- nothing, or one case of one lock; or a notification of the first waiter, or of all, moves so many to a mutex that it saw owned or free
+-- nothing, or one case of one lock; or a notification of the first waiter, or of all, moves so many
+-- to a mutex that it saw owned or free
 pub data Event : Type 0 where
   Nothing : Event
   AtLock : (lock : ℕ) → LockCase → Event
   Moves : (condvar mutex : ℕ) → (all owned : Bool) → (number : ℕ) → Event
 
--- those whom it moves stand behind the last who waits for the mutex; of a free one the first of them is in its hand
+-- those whom it moves stand behind the last who waits for the mutex; of a free one the first of
+-- them is in its hand
 abbrev pub joined_by : Bool → ℕ → List Queued → LockState → LockState
-joined_by owned t moved s = record s { queue = s.queue ++ line_of owned moved; taken = taking t (taken_of owned moved) s.taken }
+joined_by owned t moved s =
+    record s {
+      queue = s.queue ++ line_of owned moved;
+      taken = taking t (taken_of owned moved) s.taken;
+    }
 
 abbrev pub locks_after : LocksState → ℕ → Event → ℕ → LockState
 locks_after w t Nothing = w.locks
 locks_after w t (AtLock l case) = putting w.locks l (after_case (rules_at w l) case (w.locks l) t)
 locks_after w t (Moves c m all owned number) =
-    putting (putting w.locks c (left_behind all (w.locks c))) m (joined_by owned t (moved_of all (w.locks c).queue) (w.locks m))
+    putting (putting w.locks c (left_behind all (w.locks c))) m
+    (joined_by owned t (moved_of all (w.locks c).queue) (w.locks m))
 
--- its time is up, and it leaves the queue of this lock: a wait that was moved to the queue of its mutex was notified all the same
+-- its time is up, and it leaves the queue of this lock: a wait that was moved to the queue of its
+-- mutex was notified all the same
 abbrev pub gives_up : ℕ → Recall → CallState → CallState
 gives_up l WasMoved c = record c { recalls = WasNotified; late = false }
 gives_up l recalls c = record c { gave_up = Some l }
 
--- what the thread of the step remembers of it: an ownership, a run, or a place in a queue, ends its retry
+-- what the thread of the step remembers of it: an ownership, a run, or a place in a queue, ends its
+-- retry
 abbrev pub going_on : Event → CallState → CallState
 going_on (AtLock l Late) c = gives_up l c.recalls c
 going_on (AtLock l (Enter x)) c = record c { retries = None }
@@ -154,11 +173,15 @@ is_among u q = nat_le 1 (times u q)
 abbrev pub befallen : ℕ → List Queued → CallState → CallState
 befallen u moved c = if is_among u moved then record c { recalls = WasMoved } else c
 
--- and any other thread: whoever is woken tries the lock again, and who was handed it doesn't; who was notified knows it
+-- and any other thread: whoever is woken tries the lock again, and who was handed it doesn't; who
+-- was notified knows it
 abbrev pub woken : LocksState → ℕ → Event → ℕ → CallState → CallState
-woken w t (AtLock l Wake) u c = if is_taken_by t ((w.locks l).taken u) then record c { retries = Some l; recalls = behind_wake c.recalls } else c
+woken w t (AtLock l Wake) u c =
+    if is_taken_by t ((w.locks l).taken u)
+    then record c { retries = Some l; recalls = behind_wake c.recalls } else c
 woken w t (AtLock l (HandOff x successor)) u c =
-    if is_taken_by t ((w.locks l).taken u) then record c { retries = None; recalls = behind_wake c.recalls }
+    if is_taken_by t ((w.locks l).taken u)
+    then record c { retries = None; recalls = behind_wake c.recalls }
     else c
 woken w t (Moves l m all owned number) u c = befallen u (moved_of all (w.locks l).queue) c
 woken w t event u c = c
@@ -182,11 +205,12 @@ IsTimely late case = Unit {0}
 abbrev pub MayDo : LocksState → ℕ → ℕ → LockCase → Option Purpose → Type 0
 MayDo w t l case None = ⊥
 MayDo w t l case (Some purpose) =
-    IsMadeOf purpose (w.calls t).gave_up (w.calls t).released (w.calls t).recalls l case × Needs (rules_at w l) case (w.locks l) t
+    IsMadeOf purpose (w.calls t).gave_up (w.calls t).released (w.calls t).recalls l case
+    × Needs (rules_at w l) case (w.locks l) t
     × IsTimely (w.calls t).late case
 
--- a notification moves the first waiter, or all: there are some, each waits with this mutex and stands nowhere there, and it has nobody in
--- its hand
+-- a notification moves the first waiter, or all: there are some, each waits with this mutex and
+-- stands nowhere there, and it has nobody in its hand
 pub record MayMove (w : LocksState) (t c m : ℕ) (all owned : Bool) (n : ℕ) : Type 0 where
   pub notifies : (w.calls t).purpose ≡ Some (Notifies c all)
   pub sorts : ((rules_at w c).sort ≡ Condvar) × ((rules_at w m).sort ≡ Mutex)
@@ -194,7 +218,8 @@ pub record MayMove (w : LocksState) (t c m : ℕ) (all owned : Bool) (n : ℕ) :
   pub some : n ≢ 0
   pub number : n ≡ length (moved_of all (w.locks c).queue)
   pub wait : (u : ℕ) → is_among u (moved_of all (w.locks c).queue) ≡ true
-      → ((timed : Bool) × ((w.calls u).purpose ≡ Some (Waits c m timed))) × (standing u (w.locks m) ≡ 0)
+      → ((timed : Bool) × ((w.calls u).purpose ≡ Some (Waits c m timed)))
+      × (standing u (w.locks m) ≡ 0)
   pub free : HasTakenNobody (w.locks m) t
 
 abbrev pub MayHappen : LocksState → ℕ → Event → Type 0
@@ -230,9 +255,11 @@ Replaces w t c l x y = (k : ℕ) → one_more_at l x (rights_in w t) k ≡ one_m
 
 -- only the limit keeps it out
 abbrev pub IsFull : LocksState → ℕ → Want → Type 0
-IsFull w l x = (x ≢ Exclusive) × IsFree (rules_at w l) (w.locks l) x × ((rules_at w l).limit ≤ count (w.locks l))
+IsFull w l x = (x ≢ Exclusive) × IsFree (rules_at w l) (w.locks l) x
+    × ((rules_at w l).limit ≤ count (w.locks l))
 
--- why a try may fail: it is blocked; a writer's try at a reader-writer lock may fail also where a waiter was and is gone
+-- why a try may fail: it is blocked; a writer's try at a reader-writer lock may fail also where a
+-- waiter was and is gone
 abbrev pub MayRefuse : Rules → LockState → Want → Type 0
 MayRefuse r s Exclusive = r.sort ≡ Mutex → IsBlocked r s Exclusive
 MayRefuse r s x = IsBlocked r s x
@@ -242,11 +269,13 @@ EntersAnswer w t c l x Patient answer.TheVariants.Ok = Owns (w.locks l) t x × G
 EntersAnswer w t c l x Timed answer.TheVariants.Yes = Owns (w.locks l) t x × Gains w t c l x
 EntersAnswer w t c l x Timed answer.TheVariants.No = (c.gave_up ≡ Some l) × Keeps w t c
 EntersAnswer w t c l x Try answer.TheVariants.Yes = Owns (w.locks l) t x × Gains w t c l x
-EntersAnswer w t c l x Try answer.TheVariants.No = MayRefuse (rules_at w l) (w.locks l) x × Keeps w t c
+EntersAnswer w t c l x Try answer.TheVariants.No =
+    MayRefuse (rules_at w l) (w.locks l) x × Keeps w t c
 EntersAnswer w t c l x how answer.TheVariants.ReadersFull = IsFull w l x × Keeps w t c
 EntersAnswer w t c l x how a = ⊥
 
-abbrev pub ConvertsAnswer : LocksState → ℕ → CallState → ℕ → Want → Want → Patience → Answer → Type 0
+abbrev pub ConvertsAnswer : LocksState → ℕ → CallState → ℕ → Want → Want → Patience → Answer
+    → Type 0
 ConvertsAnswer w t c l x y Patient answer.TheVariants.Ok = Replaces w t c l x y
 ConvertsAnswer w t c l x y Timed answer.TheVariants.Yes = Replaces w t c l x y
 ConvertsAnswer w t c l x y Timed answer.TheVariants.No = (c.gave_up ≡ Some l) × Keeps w t c
@@ -262,7 +291,8 @@ BumpsAnswer w t c l x a = ⊥
 -- a `Once` is done, or poisoned for who isn't forced; or the thread's own run failed
 abbrev pub CallsOnceAnswer : LocksState → ℕ → CallState → ℕ → Bool → Answer → Type 0
 CallsOnceAnswer w t c l forced answer.TheVariants.Ok = ((w.locks l).phase ≡ Done) × Keeps w t c
-CallsOnceAnswer w t c l forced answer.TheVariants.Poisoned = ((w.locks l).phase ≡ Poisoned) × (forced ≡ false) × Keeps w t c
+CallsOnceAnswer w t c l forced answer.TheVariants.Poisoned =
+    ((w.locks l).phase ≡ Poisoned) × (forced ≡ false) × Keeps w t c
 CallsOnceAnswer w t c l forced answer.TheVariants.Failed = (c.failed ≡ true) × Keeps w t c
 CallsOnceAnswer w t c l forced a = ⊥
 
@@ -288,7 +318,8 @@ abbrev pub WaitsAnswer : LocksState → ℕ → CallState → ℕ → ℕ → Bo
 WaitsAnswer w t c l m false answer.TheVariants.Ok = IsNotified c.recalls × HasAgain w t c
 WaitsAnswer w t c l m true answer.TheVariants.Notified = IsNotified c.recalls × HasAgain w t c
 WaitsAnswer w t c l m true answer.TheVariants.TimedOut = (c.gave_up ≡ Some l) × HasAgain w t c
-WaitsAnswer w t c l m timed answer.TheVariants.TwoMutexes = (c.released ≡ false) × ShowsOther (w.locks l) m × Keeps w t c
+WaitsAnswer w t c l m timed answer.TheVariants.TwoMutexes =
+    (c.released ≡ false) × ShowsOther (w.locks l) m × Keeps w t c
 WaitsAnswer w t c l m timed a = ⊥
 
 -- it moved nobody: no mutex was shown, or another than it saw first, or none
@@ -304,7 +335,8 @@ abbrev pub NotifiesAnswer : LocksState → ℕ → CallState → ℕ → Bool �
 NotifiesAnswer w t c l false answer.TheVariants.Yes = HasMovedSome 1 c.recalls × Keeps w t c
 NotifiesAnswer w t c l false answer.TheVariants.No = MovedNobody (w.locks l) c.recalls × Keeps w t c
 NotifiesAnswer w t c l true (answer.TheVariants.Number number) =
-    ((number ≡ 0) × MovedNobody (w.locks l) c.recalls × Keeps w t c) ⊎ (HasMovedSome number c.recalls × Keeps w t c)
+    ((number ≡ 0) × MovedNobody (w.locks l) c.recalls × Keeps w t c)
+    ⊎ (HasMovedSome number c.recalls × Keeps w t c)
 NotifiesAnswer w t c l all a = ⊥
 
 -- what an answer says of the state in which it is given
@@ -319,13 +351,15 @@ AnswerHolds (Some (Waits l m timed)) w t c a = WaitsAnswer w t c l m timed a
 AnswerHolds (Some (Notifies l all)) w t c a = NotifiesAnswer w t c l all a
 AnswerHolds purpose w t c a = ⊥
 
--- what a thread is told agrees with the state that its step led to; c is its call with this step in it
+-- what a thread is told agrees with the state that its step led to; c is its call with this step in
+-- it
 abbrev pub Agrees : ℕ → CallState → Outcome → LocksState → Type 0
 Agrees t c outcome.TheVariants.NotNow v = ⊥
 Agrees t c outcome.TheVariants.Step v = Unit {0}
 Agrees t c outcome.TheVariants.Sleep v = (l : ℕ) × (1 ≤ standing t (v.locks l))
 Agrees t c (outcome.TheVariants.Closure state) v = (l : ℕ) × ((v.locks l).phase ≡ InProgress t)
-Agrees t c (outcome.TheVariants.End a) v = AnswerHolds c.purpose v t c a × ((l : ℕ) → HasTakenNobody (v.locks l) t)
+Agrees t c (outcome.TheVariants.End a) v =
+    AnswerHolds c.purpose v t c a × ((l : ℕ) → HasTakenNobody (v.locks l) t)
 
 -- how far a `Once` has come, as a closure is told
 abbrev pub state_told : Phase → OnceState
@@ -334,27 +368,32 @@ state_told Poisoned = once_state.TheVariants.Poisoned
 state_told (InProgress runner) = once_state.TheVariants.InProgress
 state_told Done = once_state.TheVariants.Done
 
--- a thread is told to run its closure exactly where its run of a `Once` begins, and what the run found
+-- a thread is told to run its closure exactly where its run of a `Once` begins, and what the run
+-- found
 abbrev pub Begins : LocksState → Event → Outcome → Type 0
-Begins w (AtLock l (OfOnce (Start forced))) o = o ≡ outcome.TheVariants.Closure (state_told (w.locks l).phase)
+Begins w (AtLock l (OfOnce (Start forced))) o =
+    o ≡ outcome.TheVariants.Closure (state_told (w.locks l).phase)
 Begins w event (outcome.TheVariants.Closure state) = ⊥
 Begins w event o = Unit {0}
 
 -- ---------------------------------------------------------------- steps
 
--- the thread has the right that its call needs: who waits owns a mutex that condition variables work with
+-- the thread has the right that its call needs: who waits owns a mutex that condition variables
+-- work with
 abbrev pub HasRight : LocksState → ℕ → Option Purpose → Type 0
 HasRight w t None = ⊥
 HasRight w t (Some (Releases l x fair)) = Owns (w.locks l) t x
 HasRight w t (Some (Converts l x y how)) = Owns (w.locks l) t x
 HasRight w t (Some (Bumps l x)) = Owns (w.locks l) t x
-HasRight w t (Some (Waits l m timed)) = (is_plain_mutex (w.kinds m) ≡ true) × Owns (w.locks m) t Exclusive
+HasRight w t (Some (Waits l m timed)) =
+    (is_plain_mutex (w.kinds m) ≡ true) × Owns (w.locks m) t Exclusive
 HasRight w t (Some purpose) = Unit {0}
 
 abbrev pub purpose_at : LocksState → Call → Option Purpose
 purpose_at w c = purpose_of (w.kinds (lock_in c)) c
 
--- a call begins: the thread and the lock are there, the thread is in no call, and has the right that this one needs
+-- a call begins: the thread and the lock are there, the thread is in no call, and has the right
+-- that this one needs
 pub record MayBegin (w : LocksState) (t : ℕ) (c : Call) : Type 0 where
   pub thread : t < w.threads
   pub idle : (w.calls t).purpose ≡ None
@@ -365,20 +404,24 @@ pub record MayBegin (w : LocksState) (t : ℕ) (c : Call) : Type 0 where
 abbrev pub AreFree : LocksState → Option Keys → Type 0
 AreFree w None = Unit {0}
 AreFree w (Some (keys.TheVariants.One key)) = w.inside key ≡ None
-AreFree w (Some (keys.TheVariants.Two first second)) = (w.inside first ≡ None) × (w.inside second ≡ None)
+AreFree w (Some (keys.TheVariants.Two first second)) =
+    (w.inside first ≡ None) × (w.inside second ≡ None)
 
--- a thread goes on with its call: it is awake, its closure is over, and the sections that it enters are free
+-- a thread goes on with its call: it is awake, its closure is over, and the sections that it enters
+-- are free
 pub record MayGo (w : LocksState) (t : ℕ) : Type 0 where
   pub called : (w.calls t).purpose ≢ None
   pub awake : (w.stances t).asleep ≡ false
   pub outside : (w.stances t).in_closure ≡ false
   pub free : AreFree w (w.stances t).enters
 
--- a call of the lock that has a deadline; a wait has it in the queue of its mutex too, where it was moved there
+-- a call of the lock that has a deadline; a wait has it in the queue of its mutex too, where it was
+-- moved there
 abbrev pub IsTimed : Option Purpose → Recall → ℕ → Type 0
 IsTimed (Some (Enters l x how)) recalls k = (l ≡ k) × (how ≡ Timed)
 IsTimed (Some (Converts l x y how)) recalls k = (l ≡ k) × (how ≡ Timed)
-IsTimed (Some (Waits l m timed)) recalls k = (timed ≡ true) × ((l ≡ k) ⊎ ((m ≡ k) × (recalls ≡ WasMoved)))
+IsTimed (Some (Waits l m timed)) recalls k =
+    (timed ≡ true) × ((l ≡ k) ⊎ ((m ≡ k) × (recalls ≡ WasMoved)))
 IsTimed purpose recalls k = ⊥
 
 -- the thread stands in a queue of the lock, whose section is free
@@ -404,7 +447,8 @@ MayTurn w t turn.TheVariants.Ok = (w.stances t).in_closure ≡ true
 MayTurn w t turn.TheVariants.Err = (w.stances t).in_closure ≡ true
 
 -- no lock changes, and of the calls that of one thread alone
-pub record Stays (w : LocksState) (t : ℕ) (c : CallState) (o : Outcome) (v : LocksState) : Type 0 where
+pub record Stays (w : LocksState) (t : ℕ) (c : CallState) (o : Outcome)
+    (v : LocksState) : Type 0 where
   pub told : o ≡ outcome.TheVariants.Step
   pub locks : (l : ℕ) → v.locks l ≡ w.locks l
   pub calls : (u : ℕ) → v.calls u ≡ putting w.calls t c u
@@ -420,7 +464,8 @@ pub record GoesOn (w : LocksState) (t : ℕ) (o : Outcome) (v : LocksState) : Ty
   pub begins : Begins w event o
 
 -- its closure has answered, and so its run of a `Once` ends, well or not
-pub record Closes (w : LocksState) (t : ℕ) (ending : OnceCase) (o : Outcome) (v : LocksState) : Type 0 where
+pub record Closes (w : LocksState) (t : ℕ) (ending : OnceCase) (o : Outcome)
+    (v : LocksState) : Type 0 where
   pub goes : GoesOn w t o v
   pub lock : ℕ
   pub ends : goes.event ≡ AtLock lock (OfOnce ending)
@@ -429,12 +474,14 @@ abbrev pub IsOfMutex : LocksState → Option Purpose → Type 0
 IsOfMutex w None = ⊥
 IsOfMutex w (Some purpose) = (rules_at w (lock_for purpose)).sort ≡ Mutex
 
--- a thread looks at the word once more, and its call goes on by what it sees; that of a mutex only decides anew
+-- a thread looks at the word once more, and its call goes on by what it sees; that of a mutex only
+-- decides anew
 pub record Looks (w : LocksState) (t : ℕ) (o : Outcome) (v : LocksState) : Type 0 where
   pub goes : GoesOn w t o v
   pub stays : IsOfMutex w (w.calls t).purpose → Stays w t (w.calls t) o v
 
--- what a turn does: a call begins, goes on, looks once more, or is late, or its closure has answered
+-- what a turn does: a call begins, goes on, looks once more, or is late, or its closure has
+-- answered
 abbrev pub Does : LocksState → ℕ → Turn → Outcome → LocksState → Type 0
 Does w t (turn.TheVariants.Begin c) o v = Stays w t (new_call (purpose_at w c) (rights_in w t)) o v
 Does w t turn.TheVariants.Spin o v = Looks w t o v
@@ -451,9 +498,11 @@ IsRefused w o v = (o ≡ outcome.TheVariants.NotNow) × (v ≡ w)
 abbrev pub Turned : LocksState → ℕ → Turn → Outcome → LocksState → Type 0
 Turned w t x o v = (MayTurn w t x × Does w t x o v) ⊎ ((MayTurn w t x → ⊥) × IsRefused w o v)
 
--- a section stays as it is, or is free and the thread enters it, or the thread is inside and leaves it
+-- a section stays as it is, or is free and the thread enters it, or the thread is inside and leaves
+-- it
 abbrev pub SectionChanges : Option ℕ → ℕ → Option ℕ → Type 0
-SectionChanges before t now = (now ≡ before) ⊎ (((before ≡ None) × (now ≡ Some t)) ⊎ ((before ≡ Some t) × (now ≡ None)))
+SectionChanges before t now =
+    (now ≡ before) ⊎ (((before ≡ None) × (now ≡ Some t)) ⊎ ((before ≡ Some t) × (now ≡ None)))
 
 abbrev pub is_closure : Outcome → Bool
 is_closure (outcome.TheVariants.Closure state) = true
@@ -466,7 +515,8 @@ pub record KeepsOrder (w : LocksState) (t : ℕ) (o : Outcome) (v : LocksState) 
   pub kinds : (l : ℕ) → v.kinds l ≡ w.kinds l
   pub sections : (key : ℕ) → SectionChanges (w.inside key) t (v.inside key)
   -- the thread is told that it sleeps exactly where it does
-  pub told : o ≢ outcome.TheVariants.NotNow → (o ≡ outcome.TheVariants.Sleep) ↔ ((v.stances t).asleep ≡ true)
+  pub told : o ≢ outcome.TheVariants.NotNow → (o ≡ outcome.TheVariants.Sleep)
+      ↔ ((v.stances t).asleep ≡ true)
   -- and to run its closure exactly where it does
   pub runs : o ≢ outcome.TheVariants.NotNow → is_closure o ≡ (v.stances t).in_closure
 

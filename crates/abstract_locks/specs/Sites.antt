@@ -1,10 +1,11 @@
--- A lock of the lot: its abstract state, its parked bits, and what each thread does about it. No word, no place and no loop.
+-- A lock of the lot: its abstract state, its parked bits, and what each thread does about it. No
+-- word, no place and no loop.
 use Rattle.std.specs.Prelude.{ℕ, Bool, true, false, Option, Some, None, if◌then◌else◌, ◌==◌, ◌&&◌, ◌||◌, not, ◌≤◌, ◌≡◌, ◌≢◌, ◌⊎◌, length, ◌<◌, List, [], ◌∷◌, ◌++◌, nat_le, is_none}
 pub use Rattle.lot_base.specs.declared.keys.Line.{Line}
 pub use Rattle.lot_base.specs.declared.keys.Line.TheVariants.{Main, Second}
 use Rattle.lot_base.specs.declared.wants.Want.{Want}
 use Rattle.lot_base.specs.declared.wants.Want.TheVariants.{Exclusive, Upgradable, Shared}
-use Rattle.abstract_locks.specs.Locks.{LockState, Taken, Queued, Pending, Sort, Mutex, Normal, Recursive, Semaphore, Once, Condvar, Rules, LockCase, Enter, Pend, Settle, Leave, Convert, Park, Aside, TakeFirst, TakeAside, TakePicked, Wake, HandOff, Late, Rollback, OfOnce, OfCondvar, SeeOwner, Needs, Owns, Knows, NoWriter, IsLockState, KnowsAll, IsTaken, putting, taking, readers, count, times, standing, is_thread, is_writer, has_caller, keeps_more, unpicked, wants_shared, left_behind, let_go, opening_lock}
+use Rattle.abstract_locks.specs.Locks.{LockState, Taken, Queued, Pending, Sort, Mutex, Normal, Recursive, Semaphore, Once, Condvar, Rules, LockCase, Enter, Pend, Settle, Leave, Convert, Park, Aside, TakeFirst, TakeAside, TakePicked, Wake, HandOff, Late, Rollback, OfOnce, OfCondvar, SeeOwner, Needs, Owns, NoWriter, IsLockState, KnowsAll, putting, taking, readers, count, times, standing, has_caller, keeps_more, wants_shared, left_behind, let_go, opening_lock}
 use Rattle.abstract_locks.specs.Onces.{InProgress, Done, IsRunning, OnceCase, Start, Finish, Fail, Rest, TakeAll}
 use Rattle.abstract_locks.specs.Locks as locks
 
@@ -16,7 +17,8 @@ pub data Claim : Type 0 where
   Runs : Claim
   Ran : Claim
 
--- What one thread does about the lock. A place is mapped to this, and nothing else of a place matters to what is kept.
+-- What one thread does about the lock. A place is mapped to this, and nothing else of a place
+-- matters to what is kept.
 pub record Doing : Type 0 where
   -- inside whose section it is
   pub inside : Option Line
@@ -32,10 +34,11 @@ pub record Doing : Type 0 where
   pub retries : Option Want
   -- what it has by its place
   pub claims : Option Claim
-  -- inside the main section: it has set the parked bit of a mutex that somebody owned, and is to bring waiters
+  -- inside the main section: it has set the parked bit of a mutex that somebody owned, and is to
+  -- bring waiters
   pub brings : Bool
-  -- it has brought waiters to a mutex that nobody owned, has one of them in hand, and is yet to set the bit; or it has cleared the bit of
-  -- a `Once` beside its waiters, and is yet to take them
+  -- it has brought waiters to a mutex that nobody owned, has one of them in hand, and is yet to set
+  -- the bit; or it has cleared the bit of a `Once` beside its waiters, and is yet to take them
   pub sets : Bool
 
 abbrev pub idle : Doing
@@ -61,7 +64,13 @@ pub record Site : Type 0 where
 
 abbrev pub opening_site : ℕ → Site
 opening_site threads =
-    record { lock = opening_lock threads; parked = false; aside_parked = false; filled = false; doing = λ t. idle }
+    record {
+      lock = opening_lock threads;
+      parked = false;
+      aside_parked = false;
+      filled = false;
+      doing = λ t. idle;
+    }
 
 -- ---------------------------------------------------------------- words
 
@@ -125,7 +134,8 @@ StandsIn s t (Some Second) = s.aside ≡ Some t
 abbrev pub IsDebtor : Sort → Doing → Type 0
 IsDebtor sort d = (d.wakes ≡ Some Main) ⊎ ((d.covers ≡ true) ⊎ (counts_some sort d.retries ≡ true))
 
--- who is yet to set the bit has one of those whom it has brought in hand, or is to take those of whom it has seen it
+-- who is yet to set the bit has one of those whom it has brought in hand, or is to take those of
+-- whom it has seen it
 abbrev pub LooksAfter : Sort → Doing → Type 0
 LooksAfter sort d = (d.covers ≡ true) ⊎ ((sort ≡ Once) × (d.wakes ≡ Some Main))
 
@@ -134,19 +144,23 @@ LooksAfter sort d = (d.covers ≡ true) ⊎ ((sort ≡ Once) × (d.wakes ≡ Som
 pub record IsSite (r : Rules) (s : Site) : Type 0 where
   pub state : IsLockState r s.lock
   -- nobody is inside a section beside another
-  pub alone : (t u : ℕ) (m : Line) → (s.doing t).inside ≡ Some m → (s.doing u).inside ≡ Some m → t ≡ u
+  pub alone : (t u : ℕ) (m : Line) → (s.doing t).inside ≡ Some m → (s.doing u).inside ≡ Some m
+      → t ≡ u
   -- a waiter implies its bit, or somebody who is yet to set it, or to take the waiters
   pub parked : s.lock.queue ≢ [] → (s.parked ≡ true) ⊎ ((t : ℕ) × ((s.doing t).sets ≡ true))
   pub aside_parked : s.lock.aside ≢ None → s.aside_parked ≡ true
   -- who has seen nobody is inside that section, and nobody has come
-  pub emptied : (t : ℕ) (m : Line) → (s.doing t).empty ≡ Some m → ((s.doing t).inside ≡ Some m) × IsEmpty s.lock m
+  pub emptied : (t : ℕ) (m : Line) → (s.doing t).empty ≡ Some m
+      → ((s.doing t).inside ≡ Some m) × IsEmpty s.lock m
   -- who took waiters of the main line has one in hand who passes the turn on, unless none is left
-  pub covered : (t : ℕ) → (s.doing t).covers ≡ true → ((s.doing t).inside ≡ Some Main) × ((s.doing t).carries ≡ true)
+  pub covered : (t : ℕ) → (s.doing t).covers ≡ true
+      → ((s.doing t).inside ≡ Some Main) × ((s.doing t).carries ≡ true)
       × ((s.lock.queue ≢ []) → (u : ℕ) × (counts_taken r.sort t (s.lock.taken u) ≡ true))
   -- who holds others in hand has taken them in this section
   pub carried : (u : ℕ) (h : Taken) → s.lock.taken u ≡ Some h → (s.doing h.by).carries ≡ true
   -- who is to bring waiters does so to a mutex, is inside, and the bit stays
-  pub brought : (t : ℕ) → (s.doing t).brings ≡ true → ((s.doing t).inside ≡ Some Main) × (s.parked ≡ true) × (r.sort ≡ Mutex)
+  pub brought : (t : ℕ) → (s.doing t).brings ≡ true
+      → ((s.doing t).inside ≡ Some Main) × (s.parked ≡ true) × (r.sort ≡ Mutex)
   pub setting : (t : ℕ) → (s.doing t).sets ≡ true → LooksAfter r.sort (s.doing t)
   pub held : (t : ℕ) (c : Claim) → (s.doing t).claims ≡ Some c → Holds s.lock t c
   -- who stands in a line, or is in hand, doesn't try again
@@ -154,9 +168,11 @@ pub record IsSite (r : Rules) (s : Site) : Type 0 where
   -- once full, noted
   pub full : is_full r s.lock ≡ true → s.filled ≡ true
   -- nobody is forgotten, nor who is to be brought
-  pub main : (s.lock.queue ≢ []) ⊎ ((t : ℕ) × ((s.doing t).brings ≡ true)) → IsOpen r.sort s.lock → s.filled ≡ false
+  pub main : (s.lock.queue ≢ []) ⊎ ((t : ℕ) × ((s.doing t).brings ≡ true)) → IsOpen r.sort s.lock
+      → s.filled ≡ false
       → (t : ℕ) × IsDebtor r.sort (s.doing t)
-  pub second : s.lock.aside ≢ None → readers s.lock ≡ 0 → (t : ℕ) × ((s.doing t).wakes ≡ Some Second)
+  pub second : s.lock.aside ≢ None → readers s.lock ≡ 0
+      → (t : ℕ) × ((s.doing t).wakes ≡ Some Second)
 
 -- ---------------------------------------------------------------- what a thread does
 
@@ -195,14 +211,20 @@ seen_second parked = if parked then Some Second else None
 
 -- a thread that has the next ones in hand gives way without another look
 abbrev pub gives_way : Site → Doing → Option Claim → Doing
-gives_way s d claims = record d { wakes = if d.covers then d.wakes else seen_main s.parked; claims = claims }
+gives_way s d claims = record d
+    { wakes = if d.covers then d.wakes else seen_main s.parked; claims = claims }
 
 abbrev pub found : Line → Bool → Option Line
 found m none_left = if none_left then Some m else None
 
 abbrev pub taking_main : Bool → LockState → Doing → Doing
 taking_main covers now d =
-    record d { wakes = None; carries = true; covers = covers; empty = found Main (is_empty now.queue) }
+    record d {
+      wakes = None;
+      carries = true;
+      covers = covers;
+      empty = found Main (is_empty now.queue);
+    }
 
 abbrev pub late_found : LockState → Option Line → Option Line
 late_found now m = if is_line_empty now m then m else None
@@ -218,7 +240,8 @@ upgraded now = if readers now == 0 then None else Some (Pends true)
 -- the last reader sees the writer aside; who gives a permit back sees the line
 abbrev pub shares_less : Sort → Site → Doing → Doing
 shares_less Semaphore s d = record d { wakes = seen_main s.parked; claims = None }
-shares_less sort s d = record d { wakes = seen_second (s.aside_parked && (count s.lock == 1)); claims = None }
+shares_less sort s d = record d
+    { wakes = seen_second (s.aside_parked && (count s.lock == 1)); claims = None }
 
 -- the end of a run clears the bit, and sees it
 abbrev pub once_parked : OnceCase → Bool → Bool
@@ -246,17 +269,19 @@ case_doing sort s now (Park x) d = record d { retries = None; empty = None }
 case_doing sort s now Aside d = record d { retries = None; empty = None }
 case_doing sort s now (TakeFirst x) d = taking_main true now d
 case_doing sort s now (TakePicked start) d = taking_main (not (keeps_more start)) now d
-case_doing sort s now (TakeAside u) d = record d { wakes = None; carries = true; empty = Some Second }
+case_doing sort s now (TakeAside u) d =
+    record d { wakes = None; carries = true; empty = Some Second }
 case_doing sort s now Wake d = d
-case_doing sort s now (HandOff x successor) d = record d { covers = false; claims = None; brings = false; sets = false }
+case_doing sort s now (HandOff x successor) d =
+    record d { covers = false; claims = None; brings = false; sets = false }
 case_doing sort s now Late d = record d { empty = late_found now d.inside }
 case_doing sort s now Rollback d = gives_way s d (fallen s.lock.pending)
 case_doing sort s now (OfOnce case) d = once_doing case s d
 case_doing sort s now (OfCondvar case) d = d
 case_doing sort s now (SeeOwner owned) d = d
 
--- a hand-over stores the word anew: the bit of the main line stands where somebody is left, and an exclusive owner leaves no
--- other
+-- a hand-over stores the word anew: the bit of the main line stands where somebody is left, and an
+-- exclusive owner leaves no other
 abbrev pub case_parked : Site → LockState → LockCase → Bool
 case_parked s now (HandOff x successor) = not (is_empty now.queue)
 case_parked s now (OfOnce case) = once_parked case s.parked
@@ -285,7 +310,14 @@ is_main Main = true
 is_main Second = false
 
 abbrev pub leaves : Doing → Doing
-leaves d = record d { inside = None; carries = false; covers = false; empty = None; brings = false; sets = false }
+leaves d = record d {
+  inside = None;
+  carries = false;
+  covers = false;
+  empty = None;
+  brings = false;
+  sets = false;
+}
 
 -- who takes one of those that it brings, and moves more, has the bit to set yet
 abbrev pub bringing : List Queued → List Queued → Doing → Doing
@@ -311,13 +343,22 @@ after_deed r Out s t = record s {
 after_deed r (Mark Main) s t = record s { parked = true }
 after_deed r (Mark Second) s t = record s { aside_parked = true }
 after_deed r (Clear Main) s t =
-    record s { parked = false; doing = putting s.doing t (record (s.doing t) { empty = None; brings = false }) }
+    record s {
+      parked = false;
+      doing = putting s.doing t (record (s.doing t) { empty = None; brings = false });
+    }
 after_deed r (Clear Second) s t =
-    record s { aside_parked = false; doing = putting s.doing t (record (s.doing t) { empty = None; brings = false }) }
+    record s {
+      aside_parked = false;
+      doing = putting s.doing t (record (s.doing t) { empty = None; brings = false });
+    }
 after_deed r (FindNobody m) s t =
-    with_doing s t (record (s.doing t) { wakes = None; carries = true; covers = is_main m; empty = Some m })
-after_deed r MarkBrought s t = record s { parked = true; doing = putting s.doing t (record (s.doing t) { sets = false }) }
-after_deed r MarkOwned s t = record s { parked = true; doing = putting s.doing t (record (s.doing t) { brings = true }) }
+    with_doing s t (record
+    (s.doing t) { wakes = None; carries = true; covers = is_main m; empty = Some m })
+after_deed r MarkBrought s t =
+    record s { parked = true; doing = putting s.doing t (record (s.doing t) { sets = false }) }
+after_deed r MarkOwned s t =
+    record s { parked = true; doing = putting s.doing t (record (s.doing t) { brings = true }) }
 after_deed r (Bring taken moved) s t = record s {
   lock = record s.lock { queue = s.lock.queue ++ moved; taken = taking t taken s.lock.taken };
   doing = putting s.doing t (bringing taken moved (s.doing t));
@@ -342,7 +383,8 @@ abbrev pub OnceFits : OnceCase → Site → Doing → Type 0
 OnceFits (Start forced) s d = Unit {0}
 OnceFits Finish s d = (d.wakes ≡ None) × (d.sets ≡ false)
 OnceFits Fail s d = (d.wakes ≡ None) × (d.sets ≡ false)
-OnceFits (Rest wanted forced) s d = (d.inside ≡ Some Main) × (s.parked ≡ true) × (d.wakes ≡ None) × (d.covers ≡ false)
+OnceFits (Rest wanted forced) s d =
+    (d.inside ≡ Some Main) × (s.parked ≡ true) × (d.wakes ≡ None) × (d.covers ≡ false)
 OnceFits TakeAll s d = (d.inside ≡ Some Main) × (d.carries ≡ false)
 
 abbrev pub CaseFits : Rules → Site → ℕ → LockCase → Doing → Type 0
@@ -351,21 +393,27 @@ CaseFits r s t Pend d = Unit {0}
 CaseFits r s t Settle d = Unit {0}
 CaseFits r s t (Leave x) d = d.wakes ≡ None
 CaseFits r s t (Convert x y) d = (d.wakes ≡ None) × (d.carries ≡ false) × (t < length s.lock.shared)
-CaseFits r s t (Park x) d = (d.inside ≡ Some Main) × (s.parked ≡ true) × (d.wakes ≡ None) × (d.covers ≡ false)
+CaseFits r s t (Park x) d =
+    (d.inside ≡ Some Main) × (s.parked ≡ true) × (d.wakes ≡ None) × (d.covers ≡ false)
 CaseFits r s t Aside d = (d.inside ≡ Some Second) × (s.aside_parked ≡ true) × (d.wakes ≡ None)
-CaseFits r s t (TakeFirst x) d = (d.inside ≡ Some Main) × (d.carries ≡ false) × (d.wakes ≢ Some Second)
+CaseFits r s t (TakeFirst x) d =
+    (d.inside ≡ Some Main) × (d.carries ≡ false) × (d.wakes ≢ Some Second)
 CaseFits r s t (TakePicked start) d =
-    (d.inside ≡ Some Main) × (d.carries ≡ false) × (d.wakes ≢ Some Second) × KeepsOwned s.lock t start
-CaseFits r s t (TakeAside u) d = (d.inside ≡ Some Second) × (d.carries ≡ false) × (d.wakes ≢ Some Main)
+    (d.inside ≡ Some Main) × (d.carries ≡ false) × (d.wakes ≢ Some Second)
+    × KeepsOwned s.lock t start
+CaseFits r s t (TakeAside u) d =
+    (d.inside ≡ Some Second) × (d.carries ≡ false) × (d.wakes ≢ Some Main)
 CaseFits r s t Wake d = ⊥
-CaseFits r s t (HandOff x successor) d = (d.inside ≡ Some Main) × (d.covers ≡ true) × (d.retries ≡ None) × (d.wakes ≡ None)
+CaseFits r s t (HandOff x successor) d =
+    (d.inside ≡ Some Main) × (d.covers ≡ true) × (d.retries ≡ None) × (d.wakes ≡ None)
 CaseFits r s t Late d = StandsIn s.lock t d.inside × (d.carries ≡ false)
 CaseFits r s t Rollback d = (d.wakes ≡ None) × (d.carries ≡ false)
 CaseFits r s t (OfOnce case) d = OnceFits case s d
 CaseFits r s t (OfCondvar case) d = Unit {0}
 CaseFits r s t (SeeOwner owned) d = Unit {0}
 
--- a call ends outside of the sections, and one that was woken has what it wanted, or another has, or the lock is full
+-- a call ends outside of the sections, and one that was woken has what it wanted, or another has,
+-- or the lock is full
 abbrev pub MayEnd : Rules → LockState → Doing → Type 0
 MayEnd r s d =
     (d.inside ≡ None) × (d.wakes ≡ None) × (d.carries ≡ false)
@@ -373,30 +421,37 @@ MayEnd r s d =
 
 -- whoever is brought is brought once, stood nowhere and didn't try again
 abbrev pub Apart : Site → List Queued → Type 0
-Apart s xs = (u : ℕ) → (times u xs ≤ 1) × (1 ≤ times u xs → (standing u s.lock ≡ 0) × ((s.doing u).retries ≡ None))
+Apart s xs = (u : ℕ) → (times u xs ≤ 1)
+    × (1 ≤ times u xs → (standing u s.lock ≡ 0) × ((s.doing u).retries ≡ None))
 
 abbrev pub Needed : Rules → Deed → Site → ℕ → Type 0
 Needed r (Begin claims) s t = HasClaim s.lock t claims
 Needed r End s t = MayEnd r s.lock (s.doing t)
-Needed r (In m) s t = ((u : ℕ) → (s.doing u).inside ≢ Some m) × ((s.doing t).inside ≡ None) × ((s.doing t).empty ≡ None)
-Needed r Out s t = ((s.doing t).inside ≢ None) × ((s.doing t).wakes ≡ None) × ((s.doing t).sets ≡ false)
+Needed r (In m) s t = ((u : ℕ) → (s.doing u).inside ≢ Some m) × ((s.doing t).inside ≡ None)
+    × ((s.doing t).empty ≡ None)
+Needed r Out s t = ((s.doing t).inside ≢ None) × ((s.doing t).wakes ≡ None)
+    × ((s.doing t).sets ≡ false)
 Needed r (Mark m) s t = Unit {0}
 Needed r (Clear m) s t = (s.doing t).empty ≡ Some m
 Needed r (FindNobody m) s t =
     ((s.doing t).inside ≡ Some m) × ((s.doing t).carries ≡ false) × IsEmpty s.lock m
     × ((s.doing t).wakes ≡ None ⊎ (s.doing t).wakes ≡ Some m)
 Needed r MarkBrought s t = Unit {0}
-Needed r MarkOwned s t = ((s.doing t).inside ≡ Some Main) × (IsOpen r.sort s.lock → ⊥) × (r.sort ≡ Mutex)
+Needed r MarkOwned s t =
+    ((s.doing t).inside ≡ Some Main) × (IsOpen r.sort s.lock → ⊥) × (r.sort ≡ Mutex)
 Needed r (Bring taken moved) s t =
     (r.sort ≡ Mutex) × ((s.doing t).inside ≡ Some Main) × ((s.doing t).carries ≡ false)
     × ((s.doing t).wakes ≡ None) × ((s.doing t).retries ≡ None)
-    × Apart s (taken ++ moved) × KnowsAll Mutex (taken ++ moved) × (taken ≡ [] → (s.doing t).brings ≡ true)
+    × Apart s (taken ++ moved) × KnowsAll Mutex (taken ++ moved)
+    × (taken ≡ [] → (s.doing t).brings ≡ true)
 Needed r (Send all) s t = (r.sort ≡ Condvar) × ((s.doing t).inside ≡ Some Main)
-Needed r LeaveLine s t = (r.sort ≡ Condvar) × Needs r Late s.lock t × CaseFits r s t Late (s.doing t)
+Needed r LeaveLine s t =
+    (r.sort ≡ Condvar) × Needs r Late s.lock t × CaseFits r s t Late (s.doing t)
 Needed r (Case case) s t = Needs r case s.lock t × CaseFits r s t case (s.doing t)
 
 -- ---------------------------------------------------------------- the law
 
 abbrev pub EachDeedKeeps : Type 0
 EachDeedKeeps =
-    (r : Rules) (deed : Deed) (s : Site) (t : ℕ) → IsSite r s → Needed r deed s t → IsSite r (after_deed r deed s t)
+    (r : Rules) (deed : Deed) (s : Site) (t : ℕ) → IsSite r s → Needed r deed s t
+    → IsSite r (after_deed r deed s t)

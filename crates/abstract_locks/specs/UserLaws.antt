@@ -27,20 +27,25 @@ RereadersPass w v =
 -- the thread has the upgradable right, or is pending and falls back to it, or owns alone
 abbrev pub IsFirstWriter : LockState → ℕ → Type 0
 IsFirstWriter s t =
-    Owns s t Upgradable ⊎ ((s.pending ≡ Some (record { thread = t; falls_back = true })) ⊎ Owns s t Exclusive)
+    Owns s t Upgradable ⊎
+    ((s.pending ≡ Some (record { thread = t; falls_back = true })) ⊎ Owns s t Exclusive)
 
--- from the upgradable right to the exclusive one, and back where its time is up, an upgrade lets no other writer in
+-- from the upgradable right to the exclusive one, and back where its time is up, an upgrade lets no
+-- other writer in
 abbrev pub UpgradesLetNobodyWrite : LocksState → LocksState → Type 0
 UpgradesLetNobodyWrite w v =
-    (t l : ℕ) (how : Patience) → (w.calls t).purpose ≡ Some (Converts l Upgradable Exclusive how) → IsFirstWriter (w.locks l) t
+    (t l : ℕ) (how : Patience) → (w.calls t).purpose ≡ Some (Converts l Upgradable Exclusive how)
+    → IsFirstWriter (w.locks l) t
     → IsFirstWriter (v.locks l) t × ((u : ℕ) → Owns (v.locks l) u Exclusive → u ≡ t)
 
 -- a downgrade has the greater right or the lesser one throughout
 abbrev pub DowngradesOwn : LocksState → LocksState → Type 0
 DowngradesOwn w v =
-    (t l : ℕ) (x y : Want) (how : Patience) → t < length (w.locks l).shared → (w.calls t).purpose ≡ Some (Converts l x y how) → y ≢ Exclusive
+    (t l : ℕ) (x y : Want) (how : Patience) → t < length (w.locks l).shared
+    → (w.calls t).purpose ≡ Some (Converts l x y how) → y ≢ Exclusive
     → Owns (w.locks l) t x ⊎ Owns (w.locks l) t y → Owns (v.locks l) t x ⊎ Owns (v.locks l) t y
 
 -- of each step of the abstract locks
 abbrev pub OfEachStep : (LocksState → LocksState → Type 0) → Type 0
-OfEachStep law = (w v : LocksState) (s : Step) (o : Outcome) → AreLockStates w → IsStep w s o v → law w v
+OfEachStep law = (w v : LocksState) (s : Step) (o : Outcome) → AreLockStates w → IsStep w s o v
+    → law w v

@@ -61,13 +61,14 @@ pub fn limit_kept()
     ensures { LimitKept }
 {}
 
-/// A thread that wakes others takes of a reader-writer lock's main queue just those whom the abstract lock says, and leaves
-/// just the others, both in order.
+/// A thread that wakes others takes of a reader-writer lock's main queue just those whom the
+/// abstract lock says, and leaves just the others, both in order.
 pub fn pickers_pick_as_the_locks_say()
     ensures { PickersPickAsTheLocksSay }
 {}
 
-/// A turn that is possible isn't refused: no world answers `NotNow` to what the state and the call allow.
+/// A turn that is possible isn't refused: no world answers `NotNow` to what the state and the call
+/// allow.
 pub fn possible_turns_are_taken()
     ensures { PossibleTurnsAreTaken }
 {}
@@ -112,8 +113,8 @@ pub fn downgrades_own()
     ensures { OfEachStep DowngradesOwn }
 {}
 
-/// No wait wakes by itself: it was notified only by a step of another thread that notifies its condition variable, while it stood in that
-/// queue.
+/// No wait wakes by itself: it was notified only by a step of another thread that notifies its
+/// condition variable, while it stood in that queue.
 pub fn nobody_wakes_by_itself()
     ensures { OfEachStep NobodyWakesByItself }
 {}

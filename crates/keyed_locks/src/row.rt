@@ -13,7 +13,8 @@ pub trait Keyed<K> {
     ghost fits: { K → Self → Type 0 };
 }
 
-// What a word says: the value is at home, it is out, or it is at home and who gave it back has marked it.
+// What a word says: the value is at home, it is out, or it is at home and who gave it back has
+// marked it.
 const FREE: u64 = 0;
 
 const TAKEN: u64 = 1;
@@ -34,7 +35,8 @@ impl<K, T: Keyed<K>> TableRule<Option<T>, K, K> for RowRule<K, T> {
 
 /// A swap that finds anything else takes the value.
 impl<K, T: Keyed<K>> Play<Option<T>, K> for RowRule<K, T> {
-    ghost then = { λ step before found after. found ≢ 1 → HasTaken (T.fits before.0) step.word after };
+    ghost then = { λ step before found after. found ≢ 1
+        → HasTaken (T.fits before.0) step.word after };
 }
 
 struct Released;
@@ -66,7 +68,8 @@ impl<K, T: Keyed<K> + Drop> KeyedLocks<K, T> {
         key: &K,
     ) -> Result<KeyedLocks<K, T>, AllocError>
         requires { All (HasValue (T.fits key.now)) values.items }
-        ensures { IfOk result (λ row. (row.table.shared.key ≡ key.now) × (row.count ≡ length values.items)) }
+        ensures { IfOk result
+            (λ row. (row.table.shared.key ≡ key.now) × (row.count ≡ length values.items)) }
     {
         let count = values.len();
         let unlocked = Vec::from_elem(alloc, FREE, count)?;
@@ -86,7 +89,8 @@ impl<K, T: Keyed<K> + Drop> KeyedLocks<K, T> {
     pub fn take<R: Wait>(&self, rt: &R, at: usize) -> (T, Held<K, T>)
         requires { at < self.now.count }
         ensures value { T.fits self.now.table.shared.key result.0 }
-        ensures held { (result.1.seat.table_id ≡ self.now.table.shared.table_id) × (result.1.at ≡ at) }
+        ensures held { (result.1.seat.table_id ≡ self.now.table.shared.table_id)
+            × (result.1.at ≡ at) }
     {
         let locks = &self.table.shared;
         for _ in rt.forever() {
@@ -100,7 +104,8 @@ impl<K, T: Keyed<K> + Drop> KeyedLocks<K, T> {
         unreachable!()
     }
 
-    /// Whether the value was marked as it was given back last. It takes nothing, and may have changed by the time that it is told.
+    /// Whether the value was marked as it was given back last. It takes nothing, and may have
+    /// changed by the time that it is told.
     #[inline]
     pub fn is_marked(&self, at: usize) -> bool
         requires { at < self.now.count }
@@ -111,7 +116,8 @@ impl<K, T: Keyed<K> + Drop> KeyedLocks<K, T> {
     /// Gives a value back, which fits the key.
     pub fn give_back(&self, value: T, held: Held<K, T>)
         requires fits { T.fits self.now.table.shared.key value }
-        requires held { (held.seat.table_id ≡ self.now.table.shared.table_id) × (held.at < self.now.count) }
+        requires held { (held.seat.table_id ≡ self.now.table.shared.table_id)
+            × (held.at < self.now.count) }
     {
         self.put(value, held, FREE);
     }
@@ -119,7 +125,8 @@ impl<K, T: Keyed<K> + Drop> KeyedLocks<K, T> {
     /// The same, and marks it until somebody takes it.
     pub fn give_back_marked(&self, value: T, held: Held<K, T>)
         requires fits { T.fits self.now.table.shared.key value }
-        requires held { (held.seat.table_id ≡ self.now.table.shared.table_id) × (held.at < self.now.count) }
+        requires held { (held.seat.table_id ≡ self.now.table.shared.table_id)
+            × (held.at < self.now.count) }
     {
         self.put(value, held, MARKED);
     }
@@ -127,7 +134,8 @@ impl<K, T: Keyed<K> + Drop> KeyedLocks<K, T> {
     #[inline]
     fn put(&self, value: T, held: Held<K, T>, word: u64)
         requires fits { T.fits self.now.table.shared.key value }
-        requires held { (held.seat.table_id ≡ self.now.table.shared.table_id) × (held.at < self.now.count) }
+        requires held { (held.seat.table_id ≡ self.now.table.shared.table_id)
+            × (held.at < self.now.count) }
         requires home { word ≢ 1 }
     {
         let Held { mut seat, at } = held;

@@ -1,4 +1,5 @@
-//! The lock of std in which a reader-writer lock keeps its value: opened without waiting, and closed.
+//! The lock of std in which a reader-writer lock keeps its value: opened without waiting, and
+//! closed.
 use std::sync::RwLock;
 
 /// Opens it to read.

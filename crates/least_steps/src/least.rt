@@ -99,7 +99,8 @@ impl LeastLock {
         self.words.shared.split_seat::<Same>(seat)
     }
 
-    // Takes the word, and what its owner has apart from its thread: none where the word was not 0. The table is found once.
+    // Takes the word, and what its owner has apart from its thread: none where the word was not 0.
+    // The table is found once.
     #[inline]
     pub(crate) fn enter(&self, seat: &mut Seat<(), ()>) -> Option<Seat<(), ()>>
         requires { IsSeatOf self.now seat.old }

@@ -1,4 +1,5 @@
-//! Times the least that a lock over the kit's table of words can take, by one thread: what `lotbench` tells is held against it.
+//! Times the least that a lock over the kit's table of words can take, by one thread: what
+//! `lotbench` tells is held against it.
 #![tactic(auto)]
 
 mod inner;

@@ -1,5 +1,5 @@
--- How waits end that go by a condition. Its last call says so, in some state of it, and left the value that the guard shows; the
--- state is the one that was passed where calls leave it as it was.
+-- How waits end that go by a condition. Its last call says so, in some state of it, and left the
+-- value that the guard shows; the state is the one that was passed where calls leave it as it was.
 use Rattle.std.specs.Prelude.{◌≡◌, ◌⊎◌, Bool, IfOk}
 use Rattle.std.specs.declared.result.Result.{Result}
 use Rattle.std.specs.Sync.Condvar.{AnsweredAt, StoppedAt}
@@ -11,14 +11,19 @@ use Rattle.lock_api.specs.declared.shows.Shows as shows
 
 -- by an answer of false
 abbrev pub LastRefused : {F K V X E : Type 0} {k : keeps.Ghosts K} {v : shows.Ghosts V X}
-    → (F → MutBor X → Bool → MutBor X → F → Type 0) → Type 0 → F → Result (Guarded K V X k v) E → Type 0
-LastRefused step stays condition result = IfOk result (λ guard. StoppedAt step stays condition (value_of guard))
+    → (F → MutBor X → Bool → MutBor X → F → Type 0) → Type 0 → F → Result (Guarded K V X k v) E
+    → Type 0
+LastRefused step stays condition result =
+    IfOk result (λ guard. StoppedAt step stays condition (value_of guard))
 
 -- by an answer that tells whether the wait timed out
 abbrev pub LastAnswered : {F K V X E : Type 0} {k : keeps.Ghosts K} {v : shows.Ghosts V X}
-    → (F → MutBor X → Bool → MutBor X → F → Type 0) → Type 0 → F → Result (Guarded K V X k v × Bool) E → Type 0
-LastAnswered step stays condition result = IfOk result (λ ended. AnsweredAt step stays condition ended.1 (value_of ended.0))
+    → (F → MutBor X → Bool → MutBor X → F → Type 0) → Type 0 → F
+    → Result (Guarded K V X k v × Bool) E → Type 0
+LastAnswered step stays condition result =
+    IfOk result (λ ended. AnsweredAt step stays condition ended.1 (value_of ended.0))
 
--- a thread is as it was where no wait was needed, and else the same one behind the waits, and owns what it did
+-- a thread is as it was where no wait was needed, and else the same one behind the waits, and owns
+-- what it did
 abbrev pub WaitedOrNot : {Token : Type 0} → (Token → Token → Type 0) → Token → Token → Type 0
 WaitedOrNot stays old new = (new ≡ old) ⊎ stays old new

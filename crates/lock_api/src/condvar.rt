@@ -24,10 +24,12 @@ pub type Waited<'a, R, T> = Result<
     (Fault, MutexGuard<'a, <R as RawCondvar>::RawMutex, T>),
 >;
 
-/// Where who has a guard gives its mutex up and waits, until another thread notifies it. It has the guard again then.
+/// Where who has a guard gives its mutex up and waits, until another thread notifies it. It has the
+/// guard again then.
 ///
-/// Nobody wakes by itself: a wait ends with a notification, or, where it has a limit, with its time. A notification tells exactly
-/// how many it woke. Those whose mutex is locked then wait for that next, and come in turn.
+/// Nobody wakes by itself: a wait ends with a notification, or, where it has a limit, with its
+/// time. A notification tells exactly how many it woke. Those whose mutex is locked then wait for
+/// that next, and come in turn.
 #[derive(Drop)]
 pub struct Condvar<R: RawCondvar> {
     raw: R,
@@ -54,7 +56,8 @@ impl<R: RawCondvar> Condvar<R> {
         token: &mut TokenOf<R>,
     ) -> Result<Condvar<R>, Fault>
         requires { R.RawMutex.is_token_of (arc_value lot.now) token.old }
-        ensures token { R.RawMutex.is_token_of (arc_value lot.now) token.new × R.RawMutex.stays token.old token.new }
+        ensures token { R.RawMutex.is_token_of (arc_value lot.now) token.new
+            × R.RawMutex.stays token.old token.new }
         ensures made { MatchResult result (λ condvar. R.lot_of condvar ≡ arc_value lot.now)
             (IsRefusal (R.RawMutex.found_full (arc_value lot.now)) token.old token.new) }
         ensures drawn { IfOk result (λ condvar. R.drew condvar token.old token.new) }
@@ -68,7 +71,8 @@ impl<R: RawCondvar> Condvar<R> {
     ///
     /// # Errors
     ///
-    /// `TwoMutexes`, where others wait with another mutex. The mutex was not given up then, and the guard is given back.
+    /// `TwoMutexes`, where others wait with another mutex. The mutex was not given up then, and the
+    /// guard is given back.
     #[inline]
     pub fn wait<'a, W: Wait, T>(
         &self,
@@ -78,9 +82,11 @@ impl<R: RawCondvar> Condvar<R> {
     ) -> Waited<'a, R, T>
         requires token { R.RawMutex.is_token_of (R.lot_of self.now) token.old }
         requires lot { R.RawMutex.lot_of (lock_of guard) ≡ R.lot_of self.now }
-        ensures token { R.RawMutex.is_token_of (R.lot_of self.now) token.new × R.RawMutex.stays token.old token.new }
+        ensures token { R.RawMutex.is_token_of (R.lot_of self.now) token.new
+            × R.RawMutex.stays token.old token.new }
         ensures guard { GivesBack result (λ back. lock_of back ≡ lock_of guard.entry) }
-        ensures path { R.waited self.now (lock_of guard.entry) false (waiting_answer result) token.old token.new }
+        ensures path { R.waited self.now (lock_of guard.entry) false
+            (waiting_answer result) token.old token.new }
     {
         let (mutex, lot, guard) = guard.close();
         match self.raw.wait(rt, token, mutex.raw(), guard) {
@@ -93,11 +99,13 @@ impl<R: RawCondvar> Condvar<R> {
     #[inline]
     pub fn notify_one<W: Wait>(&self, rt: &W, token: &mut TokenOf<R>) -> bool
         requires { R.RawMutex.is_token_of (R.lot_of self.now) token.old }
-        ensures token { R.RawMutex.is_token_of (R.lot_of self.now) token.new × R.RawMutex.stays token.old token.new }
+        ensures token { R.RawMutex.is_token_of (R.lot_of self.now) token.new
+            × R.RawMutex.stays token.old token.new }
         ensures path { R.notified self.now false (notifying_answer result) token.old token.new }
         ensures record { R.moved self.now false (moved_first result) token.old token.new }
     {
-        // As `notify_one` of the raw one. It isn't called, since behind each call that may wait a flag is tested.
+        // As `notify_one` of the raw one. It isn't called, since behind each call that may wait a
+        // flag is tested.
         let seen = self.raw.begin_notify(token);
         if seen == 0 {
             return false;
@@ -109,7 +117,8 @@ impl<R: RawCondvar> Condvar<R> {
     #[inline]
     pub fn notify_all<W: Wait>(&self, rt: &W, token: &mut TokenOf<R>) -> usize
         requires { R.RawMutex.is_token_of (R.lot_of self.now) token.old }
-        ensures token { R.RawMutex.is_token_of (R.lot_of self.now) token.new × R.RawMutex.stays token.old token.new }
+        ensures token { R.RawMutex.is_token_of (R.lot_of self.now) token.new
+            × R.RawMutex.stays token.old token.new }
         ensures path { R.notified self.now true (Number result) token.old token.new }
         ensures record { R.moved self.now true result token.old token.new }
     {

@@ -32,7 +32,8 @@ impl<K: Keeps, V: ShowsMut> DerefMut for Guarded<K, V> {
 
     #[inline]
     fn deref_mut(&mut self) -> &mut V::Value
-        ensures* writes_back { sem 𝓛 (Lends (the_row K.row V.row V.Value.row K.Keeps V.Shows) V.Value.row self.entry result
+        ensures* writes_back { sem 𝓛
+            (Lends (the_row K.row V.row V.Value.row K.Keeps V.Shows) V.Value.row self.entry result
             (λ value. record self.old {
               value = V.written self.old.value value;
               tied = V.stays_open self.old.value value ∙ self.old.tied;

@@ -11,8 +11,8 @@ use lock_raw::{RawMutex, RawMutexFair};
 use std::sync::Wait;
 use value_place::Open;
 
-/// The mutex is taken for as long as its guard is not spent. A guard has the raw guard, of this very mutex; it can't be
-/// dropped, and `unlock` or `unlock_fair` is its end.
+/// The mutex is taken for as long as its guard is not spent. A guard has the raw guard, of this
+/// very mutex; it can't be dropped, and `unlock` or `unlock_fair` is its end.
 pub type MutexGuard<'a, R, T> = Guarded<Taken<'a, R, T>, Open<'a, T>>;
 
 impl<'a, R: RawMutex, T> Guarded<Taken<'a, R, T>, Open<'a, T>> {
@@ -24,7 +24,8 @@ impl<'a, R: RawMutex, T> Guarded<Taken<'a, R, T>, Open<'a, T>> {
         opened: R::Opened,
         value: Open<'a, T>,
     ) -> MutexGuard<'a, R, T>
-        requires { R.is_opened_of mutex.now opened × (lot.now ≡ R.lot_of mutex.now) × (value.id ≡ R.permit_of mutex.now) }
+        requires { R.is_opened_of mutex.now opened × (lot.now ≡ R.lot_of mutex.now)
+            × (value.id ≡ R.permit_of mutex.now) }
         ensures { lock_of result ≡ mutex.now }
     {
         Guarded {
@@ -36,7 +37,8 @@ impl<'a, R: RawMutex, T> Guarded<Taken<'a, R, T>, Open<'a, T>> {
     // The value is closed, and the mutex is still taken.
     #[inline]
     pub(crate) fn close(self) -> (&'a Mutex<R, T>, &'a R::Lot, R::Guard)
-        ensures { (result.0.now ≡ lock_of self.entry) × (result.1.now ≡ R.lot_of (lock_of self.entry))
+        ensures { (result.0.now ≡ lock_of self.entry)
+            × (result.1.now ≡ R.lot_of (lock_of self.entry))
             × R.is_guard_of (lock_of self.entry) result.2 }
     {
         let Guarded { taken, value } = self;
@@ -47,7 +49,8 @@ impl<'a, R: RawMutex, T> Guarded<Taken<'a, R, T>, Open<'a, T>> {
     #[inline]
     pub fn unlock<W: Wait>(self, rt: &W, token: &mut R::Token)
         requires { R.is_token_of (R.lot_of (lock_of self)) token.old }
-        ensures token { R.is_token_of (R.lot_of (lock_of self.entry)) token.new × R.stays token.old token.new }
+        ensures token { R.is_token_of (R.lot_of (lock_of self.entry)) token.new
+            × R.stays token.old token.new }
         ensures path { R.walked (lock_of self.entry) Unlock answers.Ok token.old token.new }
         ensures record { R.released (lock_of self.entry) Unlock token.old token.new }
     {
@@ -74,7 +77,8 @@ impl<'a, R: RawMutexFair, T> Guarded<Taken<'a, R, T>, Open<'a, T>> {
     #[inline]
     pub fn unlock_fair<W: Wait>(self, rt: &W, token: &mut R::Token)
         requires { R.is_token_of (R.lot_of (lock_of self)) token.old }
-        ensures token { R.is_token_of (R.lot_of (lock_of self.entry)) token.new × R.stays token.old token.new }
+        ensures token { R.is_token_of (R.lot_of (lock_of self.entry)) token.new
+            × R.stays token.old token.new }
         ensures path { R.walked (lock_of self.entry) UnlockFair answers.Ok token.old token.new }
         ensures record { R.released (lock_of self.entry) UnlockFair token.old token.new }
     {
@@ -82,11 +86,13 @@ impl<'a, R: RawMutexFair, T> Guarded<Taken<'a, R, T>, Open<'a, T>> {
         mutex.raw().unlock_fair(rt, token, guard);
     }
 
-    /// Hands the mutex to the first who waits for it, and waits to take it again. Where nobody waits, keeps it.
+    /// Hands the mutex to the first who waits for it, and waits to take it again. Where nobody
+    /// waits, keeps it.
     #[inline]
     pub fn bump<W: Wait>(self, rt: &W, token: &mut R::Token) -> MutexGuard<'a, R, T>
         requires { R.is_token_of (R.lot_of (lock_of self)) token.old }
-        ensures token { R.is_token_of (R.lot_of (lock_of self.entry)) token.new × R.stays token.old token.new }
+        ensures token { R.is_token_of (R.lot_of (lock_of self.entry)) token.new
+            × R.stays token.old token.new }
         ensures guard { lock_of result ≡ lock_of self.entry }
         ensures path { R.walked (lock_of self.entry) Bump answers.Ok token.old token.new }
     {

@@ -35,7 +35,8 @@ impl<R: RawMutex> NamesPermit for Names<'_, R> {
     ghost permit = { λ names. R.permit_of names.raw.now };
 }
 
-/// A value that one thread at a time may use. It stands in a plain place, which is opened by the permit of the raw mutex's owner.
+/// A value that one thread at a time may use. It stands in a plain place, which is opened by the
+/// permit of the raw mutex's owner.
 #[derive(Drop)]
 pub struct Mutex<R: RawMutex, T> {
     raw: R,
@@ -43,7 +44,8 @@ pub struct Mutex<R: RawMutex, T> {
     ghost named: { place ≡ R.permit_of raw },
 }
 
-// In a clause a mutex is its raw one: the value changes behind a shared reference, so none tells it.
+// In a clause a mutex is its raw one: the value changes behind a shared reference, so none tells
+// it.
 impl<R: RawMutex, T> Model for Mutex<R, T> {
     ghost use Rattle.std.specs.Prelude.{◌≡◌};
 
@@ -57,13 +59,15 @@ impl<R: RawMutex, T> Mutex<R, T> {
     ///
     /// # Errors
     ///
-    /// `LotFull`, where the lot has no word left, and `NoMemory`, where memory was refused. The value is given back.
+    /// `LotFull`, where the lot has no word left, and `NoMemory`, where memory was refused. The
+    /// value is given back.
     #[inline]
     pub fn new(lot: &Arc<R::Lot>, token: &mut R::Token, value: T) -> Result<Mutex<R, T>, (Fault, T)>
         requires { R.is_token_of (arc_value lot.now) token.old }
         ensures token { R.is_token_of (arc_value lot.now) token.new × R.stays token.old token.new }
         ensures made { MatchResult result (λ mutex. R.lot_of mutex ≡ arc_value lot.now)
-            (λ refused. (refused.1 ≡ value) × IsRefusal (R.found_full (arc_value lot.now)) token.old token.new refused.0) }
+            (λ refused. (refused.1 ≡ value)
+            × IsRefusal (R.found_full (arc_value lot.now)) token.old token.new refused.0) }
         ensures drawn { IfOk result (λ mutex. R.drew mutex token.old token.new) }
     {
         match R::new(lot, token) {
@@ -84,7 +88,8 @@ impl<R: RawMutex, T> Mutex<R, T> {
         ensures path { R.walked self.now Lock answers.Ok token.old token.new }
     {
         let lot = self.raw.lot();
-        // As `lock` of the raw one. It isn't called, since behind each call that may wait a flag is tested.
+        // As `lock` of the raw one. It isn't called, since behind each call that may wait a flag is
+        // tested.
         let raw = match self.raw.begin_lock(token) {
             Ok(raw) => raw,
             Err(seen) => self.raw.lock_behind(rt, token, seen),
@@ -127,7 +132,8 @@ impl<R: RawMutex, T> Mutex<R, T> {
 }
 
 impl<R: RawMutex, T> Mutex<R, T> {
-    /// Locks the mutex, runs a closure on the value, and unlocks: what the closure promises of the value that it found.
+    /// Locks the mutex, runs a closure on the value, and unlocks: what the closure promises of the
+    /// value that it found.
     pub fn with<W: Wait, U, F: FnOnce(&mut T) -> U>(&self, rt: &W, token: &mut R::Token, f: F) -> U
         requires token { R.is_token_of (R.lot_of self.now) token.old }
         requires callable { F.IsAlwaysCallable f }
@@ -140,7 +146,8 @@ impl<R: RawMutex, T> Mutex<R, T> {
         answer
     }
 
-    /// The same where nobody has the mutex. None only where it is locked, and the closure was not run.
+    /// The same where nobody has the mutex. None only where it is locked, and the closure was not
+    /// run.
     pub fn try_with<W: Wait, U, F: FnOnce(&mut T) -> U + Drop>(
         &self,
         rt: &W,
@@ -161,7 +168,8 @@ impl<R: RawMutex, T> Mutex<R, T> {
 }
 
 impl<R: RawMutexTimed, T> Mutex<R, T> {
-    /// Waits until nobody has the mutex, and takes it. None only where so much time, in nanoseconds of the clock, had passed.
+    /// Waits until nobody has the mutex, and takes it. None only where so much time, in nanoseconds
+    /// of the clock, had passed.
     ///
     /// A time that ends past all that a `u64` tells is no limit.
     #[inline]
@@ -183,7 +191,8 @@ impl<R: RawMutexTimed, T> Mutex<R, T> {
         Some(self.open(lot, raw))
     }
 
-    /// Waits until nobody has the mutex, and takes it. None only where the clock, in nanoseconds, had come to the deadline.
+    /// Waits until nobody has the mutex, and takes it. None only where the clock, in nanoseconds,
+    /// had come to the deadline.
     #[inline]
     pub fn try_lock_until<W: Wait, C: Clock>(
         &self,

@@ -7,10 +7,13 @@ use crate::mutex::Mutex;
 use lock_raw::RawMutex;
 
 impl<R: RawMutex, T> Mutex<R, T> {
-    /// The value, of a mutex that nobody else can use meanwhile. It takes no step, and the mutex is the same behind it.
+    /// The value, of a mutex that nobody else can use meanwhile. It takes no step, and the mutex is
+    /// the same behind it.
     #[inline]
     pub fn get_mut(&mut self) -> &mut T
-        ensures* same { sem 𝓛 (Lends (the_row R.row T.row R.Lot.row R.Token.row R.Guard.row R.Opened.row R.RawMutex) T.row
+        ensures* same { sem 𝓛
+            (Lends (the_row R.row T.row R.Lot.row R.Token.row R.Guard.row R.Opened.row R.RawMutex)
+            T.row
             self.entry result (λ _. self.old)) }
     {
         self.place.get_mut()

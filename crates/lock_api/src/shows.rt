@@ -23,7 +23,8 @@ pub trait Shows {
     // The same, once this was written, and it is open by the same permit then.
     ghost written: { Self → Self.Value → Self };
 
-    ghost stays_open: { (place : Self) (value : Self.Value) → opened_by (written place value) ≡ opened_by place };
+    ghost stays_open: { (place : Self) (value : Self.Value)
+        → opened_by (written place value) ≡ opened_by place };
 
     fn show(&self) -> &Self::Value
         ensures { result.now ≡ shown self.now };
@@ -32,11 +33,13 @@ pub trait Shows {
 /// One that may be written through.
 pub trait ShowsMut: Shows {
     fn show_mut(&mut self) -> &mut Self::Value
-        ensures* writes_back { sem 𝓛 (Lends Self.row Self.Value.row self.entry result (Self.written self.old)) }
+        ensures* writes_back { sem 𝓛
+            (Lends Self.row Self.Value.row self.entry result (Self.written self.old)) }
         ensures shows { result.now ≡ Self.shown self.old };
 
     // What was written is shown.
-    ghost shows_written: { (place : Self) (value : Self.Value) → Self.Shows.shown (Self.Shows.written place value) ≡ value };
+    ghost shows_written: { (place : Self) (value : Self.Value)
+        → Self.Shows.shown (Self.Shows.written place value) ≡ value };
 }
 
 impl<T> Shows for Open<'_, T> {

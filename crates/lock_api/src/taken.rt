@@ -7,10 +7,12 @@ use lock_raw::RawMutex;
 use std::marker::Model;
 use value_place::Open;
 
-/// A mutex, with the raw guard of who has taken it. The raw guard comes out only for a value that is closed then.
+/// A mutex, with the raw guard of who has taken it. The raw guard comes out only for a value that
+/// is closed then.
 pub struct Taken<'a, R: RawMutex, T> {
     mutex: &'a Mutex<R, T>,
-    // That of the mutex. It is kept, so that the atomic step which gives the mutex up doesn't wait until it is found.
+    // That of the mutex. It is kept, so that the atomic step which gives the mutex up doesn't wait
+    // until it is found.
     lot: &'a R::Lot,
     opened: R::Opened,
     ghost met: { lot.now ≡ R.lot_of mutex.now },
@@ -41,7 +43,8 @@ impl<'a, R: RawMutex, T> Taken<'a, R, T> {
     #[inline]
     pub(crate) fn close(self, value: Open<'_, T>) -> (&'a Mutex<R, T>, &'a R::Lot, R::Guard)
         requires { value.id ≡ R.permit_of self }
-        ensures { (result.0.now ≡ self.entry) × (result.1.now ≡ R.lot_of self.entry) × R.is_guard_of self.entry result.2 }
+        ensures { (result.0.now ≡ self.entry) × (result.1.now ≡ R.lot_of self.entry)
+            × R.is_guard_of self.entry result.2 }
     {
         let Taken { mutex, lot, opened } = self;
         let permit = value.close();

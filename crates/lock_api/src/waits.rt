@@ -51,7 +51,8 @@ pub type WaitedFor<'a, R, T> = Result<
 >;
 
 impl<R: RawCondvar> Condvar<R> {
-    /// Waits for as long as the condition holds of the value. It is called first, and again after each wait.
+    /// Waits for as long as the condition holds of the value. It is called first, and again after
+    /// each wait.
     ///
     /// # Errors
     ///
@@ -66,7 +67,8 @@ impl<R: RawCondvar> Condvar<R> {
         requires token { R.RawMutex.is_token_of (R.lot_of self.now) token.old }
         requires lot { R.RawMutex.lot_of (lock_of guard) ≡ R.lot_of self.now }
         requires callable { F.IsAlwaysCallable condition }
-        ensures token { R.RawMutex.is_token_of (R.lot_of self.now) token.new × WaitedOrNot R.RawMutex.stays token.old token.new }
+        ensures token { R.RawMutex.is_token_of (R.lot_of self.now) token.new
+            × WaitedOrNot R.RawMutex.stays token.old token.new }
         ensures guard { GivesBack result (λ back. lock_of back ≡ lock_of guard.entry) }
         ensures ended { LastRefused F.step (CallKeepsClosure F.FnMut condition) condition result }
     {
@@ -104,9 +106,11 @@ impl<R: RawCondvarTimed> Condvar<R> {
     ) -> WaitedFor<'a, R, T>
         requires token { R.RawMutex.is_token_of (R.lot_of self.now) token.old }
         requires lot { R.RawMutex.lot_of (lock_of guard) ≡ R.lot_of self.now }
-        ensures token { R.RawMutex.is_token_of (R.lot_of self.now) token.new × R.RawMutex.stays token.old token.new }
+        ensures token { R.RawMutex.is_token_of (R.lot_of self.now) token.new
+            × R.RawMutex.stays token.old token.new }
         ensures guard { GivesBackTimed result (λ back. lock_of back ≡ lock_of guard.entry) }
-        ensures path { R.waited self.now (lock_of guard.entry) true (timed_answer result) token.old token.new }
+        ensures path { R.waited self.now (lock_of guard.entry) true
+            (timed_answer result) token.old token.new }
         ensures late { IsLate result (HasElapsed (C.tells clock.now) (as_nanos timeout)) }
     {
         let (mutex, lot, guard) = guard.close();
@@ -135,9 +139,11 @@ impl<R: RawCondvarTimed> Condvar<R> {
     ) -> WaitedFor<'a, R, T>
         requires token { R.RawMutex.is_token_of (R.lot_of self.now) token.old }
         requires lot { R.RawMutex.lot_of (lock_of guard) ≡ R.lot_of self.now }
-        ensures token { R.RawMutex.is_token_of (R.lot_of self.now) token.new × R.RawMutex.stays token.old token.new }
+        ensures token { R.RawMutex.is_token_of (R.lot_of self.now) token.new
+            × R.RawMutex.stays token.old token.new }
         ensures guard { GivesBackTimed result (λ back. lock_of back ≡ lock_of guard.entry) }
-        ensures path { R.waited self.now (lock_of guard.entry) true (timed_answer result) token.old token.new }
+        ensures path { R.waited self.now (lock_of guard.entry) true
+            (timed_answer result) token.old token.new }
         ensures late { IsLate result (HasPassed (C.tells clock.now) deadline) }
     {
         let (mutex, lot, guard) = guard.close();
@@ -150,10 +156,11 @@ impl<R: RawCondvarTimed> Condvar<R> {
         }
     }
 
-    /// Waits for as long as the condition holds of the value, or until the clock, in nanoseconds, has come to the deadline.
+    /// Waits for as long as the condition holds of the value, or until the clock, in nanoseconds,
+    /// has come to the deadline.
     ///
-    /// The condition is called first, and again after each wait, also after one whose time was up. It timed out where it held at
-    /// the last call still.
+    /// The condition is called first, and again after each wait, also after one whose time was up.
+    /// It timed out where it held at the last call still.
     ///
     /// # Errors
     ///
@@ -170,7 +177,8 @@ impl<R: RawCondvarTimed> Condvar<R> {
         requires token { R.RawMutex.is_token_of (R.lot_of self.now) token.old }
         requires lot { R.RawMutex.lot_of (lock_of guard) ≡ R.lot_of self.now }
         requires callable { F.IsAlwaysCallable condition }
-        ensures token { R.RawMutex.is_token_of (R.lot_of self.now) token.new × WaitedOrNot R.RawMutex.stays token.old token.new }
+        ensures token { R.RawMutex.is_token_of (R.lot_of self.now) token.new
+            × WaitedOrNot R.RawMutex.stays token.old token.new }
         ensures guard { GivesBackTimed result (λ back. lock_of back ≡ lock_of guard.entry) }
         ensures ended { LastAnswered F.step (CallKeepsClosure F.FnMut condition) condition result }
         ensures late { IsLate result (HasPassed (C.tells clock.now) deadline) }
@@ -194,9 +202,11 @@ impl<R: RawCondvarTimed> Condvar<R> {
         unreachable!()
     }
 
-    /// Waits for as long as the condition holds of the value, or until so much time, in nanoseconds of the clock, has passed.
+    /// Waits for as long as the condition holds of the value, or until so much time, in nanoseconds
+    /// of the clock, has passed.
     ///
-    /// The condition is called as by `wait_while_until`. A time that ends past all that a `u64` tells is no limit.
+    /// The condition is called as by `wait_while_until`. A time that ends past all that a `u64`
+    /// tells is no limit.
     ///
     /// # Errors
     ///
@@ -213,7 +223,8 @@ impl<R: RawCondvarTimed> Condvar<R> {
         requires token { R.RawMutex.is_token_of (R.lot_of self.now) token.old }
         requires lot { R.RawMutex.lot_of (lock_of guard) ≡ R.lot_of self.now }
         requires callable { F.IsAlwaysCallable condition }
-        ensures token { R.RawMutex.is_token_of (R.lot_of self.now) token.new × WaitedOrNot R.RawMutex.stays token.old token.new }
+        ensures token { R.RawMutex.is_token_of (R.lot_of self.now) token.new
+            × WaitedOrNot R.RawMutex.stays token.old token.new }
         ensures guard { GivesBackTimed result (λ back. lock_of back ≡ lock_of guard.entry) }
         ensures ended { LastAnswered F.step (CallKeepsClosure F.FnMut condition) condition result }
         ensures late { IsLate result (HasElapsed (C.tells clock.now) (as_nanos timeout)) }

@@ -1,4 +1,5 @@
-//! Calls of a reader-writer lock with a value that give up in time, and calls that run a closure on the value.
+//! Calls of a reader-writer lock with a value that give up in time, and calls that run a closure on
+//! the value.
 ghost use Rattle.std.specs.Prelude.{◌≡◌, IfErr, IfNone, IfOk, IfSome, MatchResult};
 ghost use Rattle.std.specs.Duration.{as_nanos};
 ghost use Rattle.std.specs.Fn.{FnOnceReturnsAt, FnOnceReturnsAtMut};
@@ -25,7 +26,8 @@ fn look_at<T, U, F: FnOnce(&T) -> U>(value: &T, f: F) -> U
 }
 
 impl<R: RawRwLock, T> RwLock<R, T> {
-    /// Comes in to read, runs a closure on the value, and goes: what the closure promises of the value that it found.
+    /// Comes in to read, runs a closure on the value, and goes: what the closure promises of the
+    /// value that it found.
     ///
     /// # Errors
     ///
@@ -39,7 +41,8 @@ impl<R: RawRwLock, T> RwLock<R, T> {
         requires token { R.is_token_of (R.lot_of self.now) token.old }
         requires callable { F.IsAlwaysCallable f }
         ensures token { R.is_token_of (R.lot_of self.now) token.new × R.stays token.old token.new }
-        ensures ran { MatchResult result (λ answer. (found : T) × FnOnceReturnsAt F.FnOnce f found answer) IsFull }
+        ensures ran { MatchResult result
+            (λ answer. (found : T) × FnOnceReturnsAt F.FnOnce f found answer) IsFull }
     {
         match self.read(rt, token) {
             Ok(guard) => {
@@ -51,7 +54,8 @@ impl<R: RawRwLock, T> RwLock<R, T> {
         }
     }
 
-    /// Takes the lock, runs a closure on the value, and gives the lock up: what the closure promises of the value that it found.
+    /// Takes the lock, runs a closure on the value, and gives the lock up: what the closure
+    /// promises of the value that it found.
     pub fn with_write<W: Wait, U, F: FnOnce(&mut T) -> U>(
         &self,
         rt: &W,
@@ -71,8 +75,8 @@ impl<R: RawRwLock, T> RwLock<R, T> {
 }
 
 impl<R: RawRwLockTimed, T> RwLock<R, T> {
-    /// Waits until no writer keeps readers out, and comes in to read. None only where so much time, in nanoseconds of the clock,
-    /// had passed.
+    /// Waits until no writer keeps readers out, and comes in to read. None only where so much time,
+    /// in nanoseconds of the clock, had passed.
     ///
     /// A time that ends past all that a `u64` tells is no limit.
     ///
@@ -90,10 +94,13 @@ impl<R: RawRwLockTimed, T> RwLock<R, T> {
         requires { R.is_token_of (R.lot_of self.now) token.old }
         ensures token { R.is_token_of (R.lot_of self.now) token.new × R.stays token.old token.new }
         ensures guard { TriesOrFull result (λ guard. lock_of guard ≡ self.now) }
-        ensures path { R.walked self.now (Enter access.Shared Timed) (counted_answer result) token.old token.new }
+        ensures path { R.walked self.now (Enter access.Shared Timed)
+            (counted_answer result) token.old token.new }
         ensures full { IfErr result (λ _. R.saw_full self.now access.Shared token.old token.new) }
-        ensures left { IfOk result (λ entered. IfNone entered (R.gave_up self.now (Enter access.Shared Timed) token.new)) }
-        ensures late { IfOk result (λ entered. IfNone entered (HasElapsed (C.tells clock.now) (as_nanos timeout))) }
+        ensures left { IfOk result
+            (λ entered. IfNone entered (R.gave_up self.now (Enter access.Shared Timed) token.new)) }
+        ensures late { IfOk result
+            (λ entered. IfNone entered (HasElapsed (C.tells clock.now) (as_nanos timeout))) }
     {
         match self.raw().try_lock_shared_for(rt, token, clock, timeout) {
             Ok(Some(raw)) => Ok(Some(self.open_shared(rt, raw))),
@@ -118,10 +125,13 @@ impl<R: RawRwLockTimed, T> RwLock<R, T> {
         requires { R.is_token_of (R.lot_of self.now) token.old }
         ensures token { R.is_token_of (R.lot_of self.now) token.new × R.stays token.old token.new }
         ensures guard { TriesOrFull result (λ guard. lock_of guard ≡ self.now) }
-        ensures path { R.walked self.now (Enter access.Shared Timed) (counted_answer result) token.old token.new }
+        ensures path { R.walked self.now (Enter access.Shared Timed)
+            (counted_answer result) token.old token.new }
         ensures full { IfErr result (λ _. R.saw_full self.now access.Shared token.old token.new) }
-        ensures left { IfOk result (λ entered. IfNone entered (R.gave_up self.now (Enter access.Shared Timed) token.new)) }
-        ensures late { IfOk result (λ entered. IfNone entered (HasPassed (C.tells clock.now) deadline)) }
+        ensures left { IfOk result
+            (λ entered. IfNone entered (R.gave_up self.now (Enter access.Shared Timed) token.new)) }
+        ensures late { IfOk result
+            (λ entered. IfNone entered (HasPassed (C.tells clock.now) deadline)) }
     {
         match self.raw().try_lock_shared_until(rt, token, clock, deadline) {
             Ok(Some(raw)) => Ok(Some(self.open_shared(rt, raw))),
@@ -130,7 +140,8 @@ impl<R: RawRwLockTimed, T> RwLock<R, T> {
         }
     }
 
-    /// Waits until nobody has the lock, and takes it. None only where so much time, in nanoseconds of the clock, had passed.
+    /// Waits until nobody has the lock, and takes it. None only where so much time, in nanoseconds
+    /// of the clock, had passed.
     ///
     /// A time that ends past all that a `u64` tells is no limit.
     #[inline]
@@ -144,7 +155,8 @@ impl<R: RawRwLockTimed, T> RwLock<R, T> {
         requires { R.is_token_of (R.lot_of self.now) token.old }
         ensures token { R.is_token_of (R.lot_of self.now) token.new × R.stays token.old token.new }
         ensures guard { IfSome result (λ guard. lock_of guard ≡ self.now) }
-        ensures path { R.walked self.now (Enter access.Exclusive Timed) (answer_by result) token.old token.new }
+        ensures path { R.walked self.now (Enter access.Exclusive Timed)
+            (answer_by result) token.old token.new }
         ensures left { IfNone result (R.gave_up self.now (Enter access.Exclusive Timed) token.new) }
         ensures late { IfNone result (HasElapsed (C.tells clock.now) (as_nanos timeout)) }
     {
@@ -166,7 +178,8 @@ impl<R: RawRwLockTimed, T> RwLock<R, T> {
         requires { R.is_token_of (R.lot_of self.now) token.old }
         ensures token { R.is_token_of (R.lot_of self.now) token.new × R.stays token.old token.new }
         ensures guard { IfSome result (λ guard. lock_of guard ≡ self.now) }
-        ensures path { R.walked self.now (Enter access.Exclusive Timed) (answer_by result) token.old token.new }
+        ensures path { R.walked self.now (Enter access.Exclusive Timed)
+            (answer_by result) token.old token.new }
         ensures left { IfNone result (R.gave_up self.now (Enter access.Exclusive Timed) token.new) }
         ensures late { IfNone result (HasPassed (C.tells clock.now) deadline) }
     {
@@ -178,8 +191,8 @@ impl<R: RawRwLockTimed, T> RwLock<R, T> {
 }
 
 impl<R: RawRwLockUpgradeTimed, T> RwLock<R, T> {
-    /// Waits until nobody has the lock alone or with the upgradable right, and comes in to read with that right. None only where so
-    /// much time, in nanoseconds of the clock, had passed.
+    /// Waits until nobody has the lock alone or with the upgradable right, and comes in to read
+    /// with that right. None only where so much time, in nanoseconds of the clock, had passed.
     ///
     /// A time that ends past all that a `u64` tells is no limit.
     ///
@@ -197,10 +210,15 @@ impl<R: RawRwLockUpgradeTimed, T> RwLock<R, T> {
         requires { R.is_token_of (R.lot_of self.now) token.old }
         ensures token { R.is_token_of (R.lot_of self.now) token.new × R.stays token.old token.new }
         ensures guard { TriesOrFull result (λ guard. lock_of guard ≡ self.now) }
-        ensures path { R.walked self.now (Enter access.Upgradable Timed) (counted_answer result) token.old token.new }
-        ensures full { IfErr result (λ _. R.saw_full self.now access.Upgradable token.old token.new) }
-        ensures left { IfOk result (λ entered. IfNone entered (R.gave_up self.now (Enter access.Upgradable Timed) token.new)) }
-        ensures late { IfOk result (λ entered. IfNone entered (HasElapsed (C.tells clock.now) (as_nanos timeout))) }
+        ensures path { R.walked self.now (Enter access.Upgradable Timed)
+            (counted_answer result) token.old token.new }
+        ensures full { IfErr result
+            (λ _. R.saw_full self.now access.Upgradable token.old token.new) }
+        ensures left { IfOk result
+            (λ entered. IfNone entered
+            (R.gave_up self.now (Enter access.Upgradable Timed) token.new)) }
+        ensures late { IfOk result
+            (λ entered. IfNone entered (HasElapsed (C.tells clock.now) (as_nanos timeout))) }
     {
         match self
             .raw()
@@ -228,10 +246,15 @@ impl<R: RawRwLockUpgradeTimed, T> RwLock<R, T> {
         requires { R.is_token_of (R.lot_of self.now) token.old }
         ensures token { R.is_token_of (R.lot_of self.now) token.new × R.stays token.old token.new }
         ensures guard { TriesOrFull result (λ guard. lock_of guard ≡ self.now) }
-        ensures path { R.walked self.now (Enter access.Upgradable Timed) (counted_answer result) token.old token.new }
-        ensures full { IfErr result (λ _. R.saw_full self.now access.Upgradable token.old token.new) }
-        ensures left { IfOk result (λ entered. IfNone entered (R.gave_up self.now (Enter access.Upgradable Timed) token.new)) }
-        ensures late { IfOk result (λ entered. IfNone entered (HasPassed (C.tells clock.now) deadline)) }
+        ensures path { R.walked self.now (Enter access.Upgradable Timed)
+            (counted_answer result) token.old token.new }
+        ensures full { IfErr result
+            (λ _. R.saw_full self.now access.Upgradable token.old token.new) }
+        ensures left { IfOk result
+            (λ entered. IfNone entered
+            (R.gave_up self.now (Enter access.Upgradable Timed) token.new)) }
+        ensures late { IfOk result
+            (λ entered. IfNone entered (HasPassed (C.tells clock.now) deadline)) }
     {
         match self
             .raw()

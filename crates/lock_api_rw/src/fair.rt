@@ -15,23 +15,29 @@ use std::sync;
 use std::sync::Wait;
 
 impl<'a, R: RawRwLockFair, T> Held<Reading<'a, R, T>, sync::RwLockReadGuard<'a, T>> {
-    /// Gives the right to read up. The last reader wakes the writer that waits for it, which has the lock by then.
+    /// Gives the right to read up. The last reader wakes the writer that waits for it, which has
+    /// the lock by then.
     #[inline]
     pub fn unlock_fair<W: Wait>(self, rt: &W, token: &mut R::Token)
         requires { R.is_token_of (R.lot_of (lock_of self)) token.old }
-        ensures token { R.is_token_of (R.lot_of (lock_of self.entry)) token.new × R.stays token.old token.new }
-        ensures path { R.walked (lock_of self.entry) (ReleaseFair access.Shared) answers.Ok token.old token.new }
-        ensures record { R.woke (lock_of self.entry) (ReleaseFair access.Shared) token.old token.new }
+        ensures token { R.is_token_of (R.lot_of (lock_of self.entry)) token.new
+            × R.stays token.old token.new }
+        ensures path { R.walked (lock_of self.entry)
+            (ReleaseFair access.Shared) answers.Ok token.old token.new }
+        ensures record { R.woke (lock_of self.entry)
+            (ReleaseFair access.Shared) token.old token.new }
     {
         let (lock, raw) = self.close_shared();
         lock.raw().unlock_shared_fair(rt, token, raw);
     }
 
-    /// Lets a writer in that waits for the last readers, and waits to read again. Where none does, keeps the right.
+    /// Lets a writer in that waits for the last readers, and waits to read again. Where none does,
+    /// keeps the right.
     ///
     /// # Errors
     ///
-    /// `ReadersFull`, where it let a writer in and found as many readers as there may be after that. The right is gone then.
+    /// `ReadersFull`, where it let a writer in and found as many readers as there may be after
+    /// that. The right is gone then.
     #[inline]
     pub fn bump<W: Wait>(
         self,
@@ -39,10 +45,13 @@ impl<'a, R: RawRwLockFair, T> Held<Reading<'a, R, T>, sync::RwLockReadGuard<'a, 
         token: &mut R::Token,
     ) -> Result<RwLockReadGuard<'a, R, T>, Fault>
         requires { R.is_token_of (R.lot_of (lock_of self)) token.old }
-        ensures token { R.is_token_of (R.lot_of (lock_of self.entry)) token.new × R.stays token.old token.new }
+        ensures token { R.is_token_of (R.lot_of (lock_of self.entry)) token.new
+            × R.stays token.old token.new }
         ensures guard { MatchResult result (λ guard. lock_of guard ≡ lock_of self.entry) IsFull }
-        ensures path { R.walked (lock_of self.entry) (Bump access.Shared) (reading_answer result) token.old token.new }
-        ensures full { IfErr result (λ _. R.saw_full (lock_of self.entry) access.Shared token.old token.new) }
+        ensures path { R.walked (lock_of self.entry) (Bump access.Shared)
+            (reading_answer result) token.old token.new }
+        ensures full { IfErr result
+            (λ _. R.saw_full (lock_of self.entry) access.Shared token.old token.new) }
     {
         let (lock, raw) = self.close_shared();
         match lock.raw().bump_shared(rt, token, raw) {
@@ -53,24 +62,29 @@ impl<'a, R: RawRwLockFair, T> Held<Reading<'a, R, T>, sync::RwLockReadGuard<'a, 
 }
 
 impl<'a, R: RawRwLockUpgradeFair, T> Held<Upgrading<'a, R, T>, sync::RwLockReadGuard<'a, T>> {
-    /// Hands the lock to those who wait for it and may have it together. Where nobody waits, gives the right up; where those who wait
-    /// would be more than may read, they are woken to try again.
+    /// Hands the lock to those who wait for it and may have it together. Where nobody waits, gives
+    /// the right up; where those who wait would be more than may read, they are woken to try again.
     #[inline]
     pub fn unlock_fair<W: Wait>(self, rt: &W, token: &mut R::Token)
         requires { R.is_token_of (R.lot_of (lock_of self)) token.old }
-        ensures token { R.is_token_of (R.lot_of (lock_of self.entry)) token.new × R.stays token.old token.new }
-        ensures path { R.walked (lock_of self.entry) (ReleaseFair access.Upgradable) answers.Ok token.old token.new }
-        ensures record { R.woke (lock_of self.entry) (ReleaseFair access.Upgradable) token.old token.new }
+        ensures token { R.is_token_of (R.lot_of (lock_of self.entry)) token.new
+            × R.stays token.old token.new }
+        ensures path { R.walked (lock_of self.entry)
+            (ReleaseFair access.Upgradable) answers.Ok token.old token.new }
+        ensures record { R.woke (lock_of self.entry)
+            (ReleaseFair access.Upgradable) token.old token.new }
     {
         let (lock, raw) = self.close_upgradable();
         lock.raw().unlock_upgradable_fair(rt, token, raw);
     }
 
-    /// Hands the lock to those who wait for it, and waits for the right again. Where nobody waits, keeps it.
+    /// Hands the lock to those who wait for it, and waits for the right again. Where nobody waits,
+    /// keeps it.
     ///
     /// # Errors
     ///
-    /// `ReadersFull`, where it gave its right up and found as many readers as there may be after that. The right is gone then.
+    /// `ReadersFull`, where it gave its right up and found as many readers as there may be after
+    /// that. The right is gone then.
     #[inline]
     pub fn bump<W: Wait>(
         self,
@@ -78,10 +92,13 @@ impl<'a, R: RawRwLockUpgradeFair, T> Held<Upgrading<'a, R, T>, sync::RwLockReadG
         token: &mut R::Token,
     ) -> Result<RwLockUpgradableReadGuard<'a, R, T>, Fault>
         requires { R.is_token_of (R.lot_of (lock_of self)) token.old }
-        ensures token { R.is_token_of (R.lot_of (lock_of self.entry)) token.new × R.stays token.old token.new }
+        ensures token { R.is_token_of (R.lot_of (lock_of self.entry)) token.new
+            × R.stays token.old token.new }
         ensures guard { MatchResult result (λ guard. lock_of guard ≡ lock_of self.entry) IsFull }
-        ensures path { R.walked (lock_of self.entry) (Bump access.Upgradable) (reading_answer result) token.old token.new }
-        ensures full { IfErr result (λ _. R.saw_full (lock_of self.entry) access.Upgradable token.old token.new) }
+        ensures path { R.walked (lock_of self.entry) (Bump access.Upgradable)
+            (reading_answer result) token.old token.new }
+        ensures full { IfErr result
+            (λ _. R.saw_full (lock_of self.entry) access.Upgradable token.old token.new) }
     {
         let (lock, raw) = self.close_upgradable();
         match lock.raw().bump_upgradable(rt, token, raw) {
@@ -92,25 +109,32 @@ impl<'a, R: RawRwLockUpgradeFair, T> Held<Upgrading<'a, R, T>, sync::RwLockReadG
 }
 
 impl<'a, R: RawRwLockFair, T> Held<Writing<'a, R, T>, sync::RwLockWriteGuard<'a, T>> {
-    /// Hands the lock to those who wait for it and may have it together. Where nobody waits, gives it up.
+    /// Hands the lock to those who wait for it and may have it together. Where nobody waits, gives
+    /// it up.
     #[inline]
     pub fn unlock_fair<W: Wait>(self, rt: &W, token: &mut R::Token)
         requires { R.is_token_of (R.lot_of (lock_of self)) token.old }
-        ensures token { R.is_token_of (R.lot_of (lock_of self.entry)) token.new × R.stays token.old token.new }
-        ensures path { R.walked (lock_of self.entry) (ReleaseFair access.Exclusive) answers.Ok token.old token.new }
-        ensures record { R.woke (lock_of self.entry) (ReleaseFair access.Exclusive) token.old token.new }
+        ensures token { R.is_token_of (R.lot_of (lock_of self.entry)) token.new
+            × R.stays token.old token.new }
+        ensures path { R.walked (lock_of self.entry)
+            (ReleaseFair access.Exclusive) answers.Ok token.old token.new }
+        ensures record { R.woke (lock_of self.entry)
+            (ReleaseFair access.Exclusive) token.old token.new }
     {
         let (lock, raw) = self.close_exclusive();
         lock.raw().unlock_exclusive_fair(rt, token, raw);
     }
 
-    /// Hands the lock to those who wait for it, and waits to have it alone again. Where nobody waits, keeps it.
+    /// Hands the lock to those who wait for it, and waits to have it alone again. Where nobody
+    /// waits, keeps it.
     #[inline]
     pub fn bump<W: Wait>(self, rt: &W, token: &mut R::Token) -> RwLockWriteGuard<'a, R, T>
         requires { R.is_token_of (R.lot_of (lock_of self)) token.old }
-        ensures token { R.is_token_of (R.lot_of (lock_of self.entry)) token.new × R.stays token.old token.new }
+        ensures token { R.is_token_of (R.lot_of (lock_of self.entry)) token.new
+            × R.stays token.old token.new }
         ensures guard { lock_of result ≡ lock_of self.entry }
-        ensures path { R.walked (lock_of self.entry) (Bump access.Exclusive) answers.Ok token.old token.new }
+        ensures path { R.walked (lock_of self.entry)
+            (Bump access.Exclusive) answers.Ok token.old token.new }
     {
         let (lock, raw) = self.close_exclusive();
         let raw = lock.raw().bump_exclusive(rt, token, raw);

@@ -1,5 +1,5 @@
-//! Guards of reader-writer locks with a value. Each has the raw guard of its lock; it can't be dropped, and is spent by what gives
-//! its right up or turns it into another.
+//! Guards of reader-writer locks with a value. Each has the raw guard of its lock; it can't be
+//! dropped, and is spent by what gives its right up or turns it into another.
 ghost use Rattle.std.specs.Prelude.{◌≡◌, IfErr, MatchResult};
 ghost use Rattle.std.specs.Duration.{as_nanos};
 ghost use Rattle.lot_base.specs.Clocks.{HasElapsed, HasPassed};
@@ -39,7 +39,8 @@ impl<'a, R: RawRwLock, T> Held<Reading<'a, R, T>, sync::RwLockReadGuard<'a, T>> 
     // Closes the inner lock, and only then gives the raw guard.
     #[inline]
     pub(crate) fn close_shared(self) -> (&'a RwLock<R, T>, R::SharedGuard)
-        ensures { (result.0.now ≡ lock_of self.entry) × R.is_shared_of (lock_of self.entry) result.1 }
+        ensures { (result.0.now ≡ lock_of self.entry)
+            × R.is_shared_of (lock_of self.entry) result.1 }
     {
         let Held { right, value } = self;
         drop(value);
@@ -50,8 +51,10 @@ impl<'a, R: RawRwLock, T> Held<Reading<'a, R, T>, sync::RwLockReadGuard<'a, T>> 
     #[inline]
     pub fn unlock<W: Wait>(self, rt: &W, token: &mut R::Token)
         requires { R.is_token_of (R.lot_of (lock_of self)) token.old }
-        ensures token { R.is_token_of (R.lot_of (lock_of self.entry)) token.new × R.stays token.old token.new }
-        ensures path { R.walked (lock_of self.entry) (Release access.Shared) answers.Ok token.old token.new }
+        ensures token { R.is_token_of (R.lot_of (lock_of self.entry)) token.new
+            × R.stays token.old token.new }
+        ensures path { R.walked (lock_of self.entry)
+            (Release access.Shared) answers.Ok token.old token.new }
         ensures record { R.woke (lock_of self.entry) (Release access.Shared) token.old token.new }
     {
         let (lock, raw) = self.close_shared();
@@ -62,7 +65,8 @@ impl<'a, R: RawRwLock, T> Held<Reading<'a, R, T>, sync::RwLockReadGuard<'a, T>> 
 impl<'a, R: RawRwLockUpgrade, T> Held<Upgrading<'a, R, T>, sync::RwLockReadGuard<'a, T>> {
     #[inline]
     pub(crate) fn close_upgradable(self) -> (&'a RwLock<R, T>, R::UpgradableGuard)
-        ensures { (result.0.now ≡ lock_of self.entry) × R.is_upgradable_of (lock_of self.entry) result.1 }
+        ensures { (result.0.now ≡ lock_of self.entry)
+            × R.is_upgradable_of (lock_of self.entry) result.1 }
     {
         let Held { right, value } = self;
         drop(value);
@@ -73,15 +77,19 @@ impl<'a, R: RawRwLockUpgrade, T> Held<Upgrading<'a, R, T>, sync::RwLockReadGuard
     #[inline]
     pub fn unlock<W: Wait>(self, rt: &W, token: &mut R::Token)
         requires { R.is_token_of (R.lot_of (lock_of self)) token.old }
-        ensures token { R.is_token_of (R.lot_of (lock_of self.entry)) token.new × R.stays token.old token.new }
-        ensures path { R.walked (lock_of self.entry) (Release access.Upgradable) answers.Ok token.old token.new }
-        ensures record { R.woke (lock_of self.entry) (Release access.Upgradable) token.old token.new }
+        ensures token { R.is_token_of (R.lot_of (lock_of self.entry)) token.new
+            × R.stays token.old token.new }
+        ensures path { R.walked (lock_of self.entry)
+            (Release access.Upgradable) answers.Ok token.old token.new }
+        ensures record { R.woke (lock_of self.entry)
+            (Release access.Upgradable) token.old token.new }
     {
         let (lock, raw) = self.close_upgradable();
         lock.raw().unlock_upgradable(rt, token, raw);
     }
 
-    /// One thread at a time has this right: nobody ever has two such guards, so this can't be called.
+    /// One thread at a time has this right: nobody ever has two such guards, so this can't be
+    /// called.
     pub fn has_two(self, token: &mut R::Token, other: RwLockUpgradableReadGuard<'a, R, T>) -> !
         requires token { R.is_token_of (R.lot_of (lock_of self)) token.old }
         requires lock { lock_of other ≡ lock_of self }
@@ -91,13 +99,16 @@ impl<'a, R: RawRwLockUpgrade, T> Held<Upgrading<'a, R, T>, sync::RwLockReadGuard
         lock.raw().has_two_upgradables(token, one, other)
     }
 
-    /// Turns the right into that of who has the lock alone: further readers are kept out, and the others are waited for.
+    /// Turns the right into that of who has the lock alone: further readers are kept out, and the
+    /// others are waited for.
     #[inline]
     pub fn upgrade<W: Wait>(self, rt: &W, token: &mut R::Token) -> RwLockWriteGuard<'a, R, T>
         requires { R.is_token_of (R.lot_of (lock_of self)) token.old }
-        ensures token { R.is_token_of (R.lot_of (lock_of self.entry)) token.new × R.stays token.old token.new }
+        ensures token { R.is_token_of (R.lot_of (lock_of self.entry)) token.new
+            × R.stays token.old token.new }
         ensures guard { lock_of result ≡ lock_of self.entry }
-        ensures path { R.walked (lock_of self.entry) (Upgrade Patient) answers.Ok token.old token.new }
+        ensures path { R.walked (lock_of self.entry)
+            (Upgrade Patient) answers.Ok token.old token.new }
     {
         let (lock, raw) = self.close_upgradable();
         let raw = lock.raw().upgrade(rt, token, raw);
@@ -116,10 +127,12 @@ impl<'a, R: RawRwLockUpgrade, T> Held<Upgrading<'a, R, T>, sync::RwLockReadGuard
         token: &mut R::Token,
     ) -> Result<RwLockWriteGuard<'a, R, T>, RwLockUpgradableReadGuard<'a, R, T>>
         requires { R.is_token_of (R.lot_of (lock_of self)) token.old }
-        ensures token { R.is_token_of (R.lot_of (lock_of self.entry)) token.new × R.stays token.old token.new }
+        ensures token { R.is_token_of (R.lot_of (lock_of self.entry)) token.new
+            × R.stays token.old token.new }
         ensures guard { MatchResult result (λ guard. lock_of guard ≡ lock_of self.entry)
             (λ guard. lock_of guard ≡ lock_of self.entry) }
-        ensures path { R.walked (lock_of self.entry) (Upgrade Try) (upgrade_answer result) token.old token.new }
+        ensures path { R.walked (lock_of self.entry) (Upgrade Try)
+            (upgrade_answer result) token.old token.new }
     {
         let (lock, raw) = self.close_upgradable();
         match lock.raw().try_upgrade(rt, token, raw) {
@@ -130,7 +143,8 @@ impl<'a, R: RawRwLockUpgrade, T> Held<Upgrading<'a, R, T>, sync::RwLockReadGuard
 }
 
 impl<'a, R: RawRwLockUpgradeTimed, T> Held<Upgrading<'a, R, T>, sync::RwLockReadGuard<'a, T>> {
-    /// Upgrades, and gives up once so much time, in nanoseconds of the clock, had passed, and not before.
+    /// Upgrades, and gives up once so much time, in nanoseconds of the clock, had passed, and not
+    /// before.
     ///
     /// # Errors
     ///
@@ -144,11 +158,14 @@ impl<'a, R: RawRwLockUpgradeTimed, T> Held<Upgrading<'a, R, T>, sync::RwLockRead
         timeout: Duration,
     ) -> Result<RwLockWriteGuard<'a, R, T>, RwLockUpgradableReadGuard<'a, R, T>>
         requires { R.is_token_of (R.lot_of (lock_of self)) token.old }
-        ensures token { R.is_token_of (R.lot_of (lock_of self.entry)) token.new × R.stays token.old token.new }
+        ensures token { R.is_token_of (R.lot_of (lock_of self.entry)) token.new
+            × R.stays token.old token.new }
         ensures guard { MatchResult result (λ guard. lock_of guard ≡ lock_of self.entry)
             (λ guard. lock_of guard ≡ lock_of self.entry) }
-        ensures path { R.walked (lock_of self.entry) (Upgrade Timed) (upgrade_answer result) token.old token.new }
-        ensures left { IfErr result (λ _. R.gave_up (lock_of self.entry) (Upgrade Timed) token.new) }
+        ensures path { R.walked (lock_of self.entry) (Upgrade Timed)
+            (upgrade_answer result) token.old token.new }
+        ensures left { IfErr result
+            (λ _. R.gave_up (lock_of self.entry) (Upgrade Timed) token.new) }
         ensures late { IfErr result (λ _. HasElapsed (C.tells clock.now) (as_nanos timeout)) }
     {
         let (lock, raw) = self.close_upgradable();
@@ -172,11 +189,14 @@ impl<'a, R: RawRwLockUpgradeTimed, T> Held<Upgrading<'a, R, T>, sync::RwLockRead
         deadline: u64,
     ) -> Result<RwLockWriteGuard<'a, R, T>, RwLockUpgradableReadGuard<'a, R, T>>
         requires { R.is_token_of (R.lot_of (lock_of self)) token.old }
-        ensures token { R.is_token_of (R.lot_of (lock_of self.entry)) token.new × R.stays token.old token.new }
+        ensures token { R.is_token_of (R.lot_of (lock_of self.entry)) token.new
+            × R.stays token.old token.new }
         ensures guard { MatchResult result (λ guard. lock_of guard ≡ lock_of self.entry)
             (λ guard. lock_of guard ≡ lock_of self.entry) }
-        ensures path { R.walked (lock_of self.entry) (Upgrade Timed) (upgrade_answer result) token.old token.new }
-        ensures left { IfErr result (λ _. R.gave_up (lock_of self.entry) (Upgrade Timed) token.new) }
+        ensures path { R.walked (lock_of self.entry) (Upgrade Timed)
+            (upgrade_answer result) token.old token.new }
+        ensures left { IfErr result
+            (λ _. R.gave_up (lock_of self.entry) (Upgrade Timed) token.new) }
         ensures late { IfErr result (λ _. HasPassed (C.tells clock.now) deadline) }
     {
         let (lock, raw) = self.close_upgradable();
@@ -195,11 +215,13 @@ impl<'a, R: RawRwLockUpgradeDowngrade, T> Held<Upgrading<'a, R, T>, sync::RwLock
     #[inline]
     pub fn downgrade<W: Wait>(self, rt: &W, token: &mut R::Token) -> RwLockReadGuard<'a, R, T>
         requires { R.is_token_of (R.lot_of (lock_of self)) token.old }
-        ensures token { R.is_token_of (R.lot_of (lock_of self.entry)) token.new × R.stays token.old token.new }
+        ensures token { R.is_token_of (R.lot_of (lock_of self.entry)) token.new
+            × R.stays token.old token.new }
         ensures guard { lock_of result ≡ lock_of self.entry }
         ensures path { R.walked (lock_of self.entry) (Downgrade downgrades.UpgradableToShared)
             answers.Ok token.old token.new }
-        ensures record { R.woke (lock_of self.entry) (Downgrade downgrades.UpgradableToShared) token.old token.new }
+        ensures record { R.woke (lock_of self.entry)
+            (Downgrade downgrades.UpgradableToShared) token.old token.new }
     {
         let (lock, raw) = self.close_upgradable();
         let raw = lock.raw().downgrade_upgradable(rt, token, raw);
@@ -210,7 +232,8 @@ impl<'a, R: RawRwLockUpgradeDowngrade, T> Held<Upgrading<'a, R, T>, sync::RwLock
 impl<'a, R: RawRwLock, T> Held<Writing<'a, R, T>, sync::RwLockWriteGuard<'a, T>> {
     #[inline]
     pub(crate) fn close_exclusive(self) -> (&'a RwLock<R, T>, R::ExclusiveGuard)
-        ensures { (result.0.now ≡ lock_of self.entry) × R.is_exclusive_of (lock_of self.entry) result.1 }
+        ensures { (result.0.now ≡ lock_of self.entry)
+            × R.is_exclusive_of (lock_of self.entry) result.1 }
     {
         let Held { right, value } = self;
         drop(value);
@@ -221,9 +244,12 @@ impl<'a, R: RawRwLock, T> Held<Writing<'a, R, T>, sync::RwLockWriteGuard<'a, T>>
     #[inline]
     pub fn unlock<W: Wait>(self, rt: &W, token: &mut R::Token)
         requires { R.is_token_of (R.lot_of (lock_of self)) token.old }
-        ensures token { R.is_token_of (R.lot_of (lock_of self.entry)) token.new × R.stays token.old token.new }
-        ensures path { R.walked (lock_of self.entry) (Release access.Exclusive) answers.Ok token.old token.new }
-        ensures record { R.woke (lock_of self.entry) (Release access.Exclusive) token.old token.new }
+        ensures token { R.is_token_of (R.lot_of (lock_of self.entry)) token.new
+            × R.stays token.old token.new }
+        ensures path { R.walked (lock_of self.entry)
+            (Release access.Exclusive) answers.Ok token.old token.new }
+        ensures record { R.woke (lock_of self.entry)
+            (Release access.Exclusive) token.old token.new }
     {
         let (lock, raw) = self.close_exclusive();
         lock.raw().unlock_exclusive(rt, token, raw);
@@ -271,10 +297,13 @@ impl<'a, R: RawRwLockDowngrade, T> Held<Writing<'a, R, T>, sync::RwLockWriteGuar
     #[inline]
     pub fn downgrade<W: Wait>(self, rt: &W, token: &mut R::Token) -> RwLockReadGuard<'a, R, T>
         requires { R.is_token_of (R.lot_of (lock_of self)) token.old }
-        ensures token { R.is_token_of (R.lot_of (lock_of self.entry)) token.new × R.stays token.old token.new }
+        ensures token { R.is_token_of (R.lot_of (lock_of self.entry)) token.new
+            × R.stays token.old token.new }
         ensures guard { lock_of result ≡ lock_of self.entry }
-        ensures path { R.walked (lock_of self.entry) (Downgrade downgrades.ToShared) answers.Ok token.old token.new }
-        ensures record { R.woke (lock_of self.entry) (Downgrade downgrades.ToShared) token.old token.new }
+        ensures path { R.walked (lock_of self.entry)
+            (Downgrade downgrades.ToShared) answers.Ok token.old token.new }
+        ensures record { R.woke (lock_of self.entry)
+            (Downgrade downgrades.ToShared) token.old token.new }
     {
         let (lock, raw) = self.close_exclusive();
         let raw = lock.raw().downgrade(rt, token, raw);
@@ -291,11 +320,13 @@ impl<'a, R: RawRwLockUpgradeDowngrade, T> Held<Writing<'a, R, T>, sync::RwLockWr
         token: &mut R::Token,
     ) -> RwLockUpgradableReadGuard<'a, R, T>
         requires { R.is_token_of (R.lot_of (lock_of self)) token.old }
-        ensures token { R.is_token_of (R.lot_of (lock_of self.entry)) token.new × R.stays token.old token.new }
+        ensures token { R.is_token_of (R.lot_of (lock_of self.entry)) token.new
+            × R.stays token.old token.new }
         ensures guard { lock_of result ≡ lock_of self.entry }
         ensures path { R.walked (lock_of self.entry) (Downgrade downgrades.ToUpgradable)
             answers.Ok token.old token.new }
-        ensures record { R.woke (lock_of self.entry) (Downgrade downgrades.ToUpgradable) token.old token.new }
+        ensures record { R.woke (lock_of self.entry)
+            (Downgrade downgrades.ToUpgradable) token.old token.new }
     {
         let (lock, raw) = self.close_exclusive();
         let raw = lock.raw().downgrade_to_upgradable(rt, token, raw);

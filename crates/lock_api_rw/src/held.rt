@@ -4,7 +4,8 @@ ghost use Rattle.std.specs.Prelude.{◌≡◌};
 use crate::inner::{Inner, InnerMut};
 use std::ops::{Deref, DerefMut};
 
-/// A value that may be used. The raw lock is held, and under it the inner lock of the value is open.
+/// A value that may be used. The raw lock is held, and under it the inner lock of the value is
+/// open.
 pub struct Held<K, V> {
     pub(crate) right: K,
     pub(crate) value: V,

@@ -23,11 +23,13 @@ pub trait InnerMut: Inner {
     ghost written: { Self → Self.Value → Self };
 
     fn show_mut(&mut self) -> &mut Self::Value
-        ensures* writes_back { sem 𝓛 (Lends Self.row Self.Value.row self.entry result (written self.old)) }
+        ensures* writes_back { sem 𝓛
+            (Lends Self.row Self.Value.row self.entry result (written self.old)) }
         ensures shows { result.now ≡ Self.shown self.old };
 
     // What was written is shown.
-    ghost shows_written: { (inner : Self) (value : Self.Value) → Self.shown (written inner value) ≡ value };
+    ghost shows_written: { (inner : Self) (value : Self.Value)
+        → Self.shown (written inner value) ≡ value };
 }
 
 impl<T> Inner for sync::RwLockReadGuard<'_, T> {

@@ -17,8 +17,8 @@ use std::marker::Model;
 use std::sync;
 use std::sync::{Arc, Wait};
 
-/// A value that many threads may read, or one may write. The inner lock is opened only under the raw guard, so nobody ever waits
-/// for it.
+/// A value that many threads may read, or one may write. The inner lock is opened only under the
+/// raw guard, so nobody ever waits for it.
 #[derive(Drop)]
 pub struct RwLock<R, T> {
     raw: R,
@@ -37,7 +37,8 @@ impl<R: RawRwLock, T> RwLock<R, T> {
     ///
     /// # Errors
     ///
-    /// `LotFull`, where the lot has no word left, and `NoMemory`, where memory was refused. The value is given back.
+    /// `LotFull`, where the lot has no word left, and `NoMemory`, where memory was refused. The
+    /// value is given back.
     #[inline]
     pub fn new(
         lot: &Arc<R::Lot>,
@@ -48,7 +49,8 @@ impl<R: RawRwLock, T> RwLock<R, T> {
         ensures token { R.is_token_of (arc_value lot.now) token.new × R.stays token.old token.new }
         ensures made { MatchResult result
             (λ lock. (R.lot_of lock ≡ arc_value lot.now) × (R.limit_of lock ≡ 1152921504606846974))
-            (λ refused. (refused.1 ≡ value) × IsRefusal (R.found_full (arc_value lot.now)) token.old token.new refused.0) }
+            (λ refused. (refused.1 ≡ value)
+            × IsRefusal (R.found_full (arc_value lot.now)) token.old token.new refused.0) }
         ensures drawn { IfOk result (λ lock. R.drew lock token.old token.new) }
     {
         match R::new(lot, token) {
@@ -64,7 +66,8 @@ impl<R: RawRwLock, T> RwLock<R, T> {
     ///
     /// # Errors
     ///
-    /// `LotFull`, where the lot has no word left, and `NoMemory`, where memory was refused. The value is given back.
+    /// `LotFull`, where the lot has no word left, and `NoMemory`, where memory was refused. The
+    /// value is given back.
     #[inline]
     pub fn with_limit(
         lot: &Arc<R::Lot>,
@@ -75,8 +78,10 @@ impl<R: RawRwLock, T> RwLock<R, T> {
         requires token { R.is_token_of (arc_value lot.now) token.old }
         requires limit { limit ≤ 1152921504606846974 }
         ensures token { R.is_token_of (arc_value lot.now) token.new × R.stays token.old token.new }
-        ensures made { MatchResult result (λ lock. (R.lot_of lock ≡ arc_value lot.now) × (R.limit_of lock ≡ limit))
-            (λ refused. (refused.1 ≡ value) × IsRefusal (R.found_full (arc_value lot.now)) token.old token.new refused.0) }
+        ensures made { MatchResult result
+            (λ lock. (R.lot_of lock ≡ arc_value lot.now) × (R.limit_of lock ≡ limit))
+            (λ refused. (refused.1 ≡ value)
+            × IsRefusal (R.found_full (arc_value lot.now)) token.old token.new refused.0) }
         ensures drawn { IfOk result (λ lock. R.drew lock token.old token.new) }
     {
         match R::with_limit(lot, token, limit) {
@@ -163,7 +168,8 @@ impl<R: RawRwLock, T> RwLock<R, T> {
         requires { R.is_token_of (R.lot_of self.now) token.old }
         ensures token { R.is_token_of (R.lot_of self.now) token.new × R.stays token.old token.new }
         ensures guard { MatchResult result (λ guard. lock_of guard ≡ self.now) IsFull }
-        ensures path { R.walked self.now (Enter access.Shared Patient) (reading_answer result) token.old token.new }
+        ensures path { R.walked self.now (Enter access.Shared Patient)
+            (reading_answer result) token.old token.new }
         ensures full { IfErr result (λ _. R.saw_full self.now access.Shared token.old token.new) }
     {
         match self.raw.lock_shared(rt, token) {
@@ -186,7 +192,8 @@ impl<R: RawRwLock, T> RwLock<R, T> {
         requires { R.is_token_of (R.lot_of self.now) token.old }
         ensures token { R.is_token_of (R.lot_of self.now) token.new × R.stays token.old token.new }
         ensures guard { TriesOrFull result (λ guard. lock_of guard ≡ self.now) }
-        ensures path { R.walked self.now (Enter access.Shared Try) (counted_answer result) token.old token.new }
+        ensures path { R.walked self.now (Enter access.Shared Try)
+            (counted_answer result) token.old token.new }
         ensures full { IfErr result (λ _. R.saw_full self.now access.Shared token.old token.new) }
     {
         match self.raw.try_lock_shared(rt, token) {
@@ -202,7 +209,8 @@ impl<R: RawRwLock, T> RwLock<R, T> {
         requires { R.is_token_of (R.lot_of self.now) token.old }
         ensures token { R.is_token_of (R.lot_of self.now) token.new × R.stays token.old token.new }
         ensures guard { lock_of result ≡ self.now }
-        ensures path { R.walked self.now (Enter access.Exclusive Patient) answers.Ok token.old token.new }
+        ensures path { R.walked self.now
+            (Enter access.Exclusive Patient) answers.Ok token.old token.new }
     {
         let raw = self.raw.lock_exclusive(rt, token);
         self.open_exclusive(rt, raw)
@@ -218,7 +226,8 @@ impl<R: RawRwLock, T> RwLock<R, T> {
         requires { R.is_token_of (R.lot_of self.now) token.old }
         ensures token { R.is_token_of (R.lot_of self.now) token.new × R.stays token.old token.new }
         ensures guard { IfSome result (λ guard. lock_of guard ≡ self.now) }
-        ensures path { R.walked self.now (Enter access.Exclusive Try) (answer_by result) token.old token.new }
+        ensures path { R.walked self.now (Enter access.Exclusive Try)
+            (answer_by result) token.old token.new }
     {
         let raw = self.raw.try_lock_exclusive(token)?;
         Some(self.open_exclusive(rt, raw))
@@ -261,7 +270,8 @@ impl<R: RawRwLockUpgrade, T> RwLock<R, T> {
         }
     }
 
-    /// Waits until nobody has the lock alone or with the upgradable right, and comes in to read with that right.
+    /// Waits until nobody has the lock alone or with the upgradable right, and comes in to read
+    /// with that right.
     ///
     /// # Errors
     ///
@@ -275,8 +285,10 @@ impl<R: RawRwLockUpgrade, T> RwLock<R, T> {
         requires { R.is_token_of (R.lot_of self.now) token.old }
         ensures token { R.is_token_of (R.lot_of self.now) token.new × R.stays token.old token.new }
         ensures guard { MatchResult result (λ guard. lock_of guard ≡ self.now) IsFull }
-        ensures path { R.walked self.now (Enter access.Upgradable Patient) (reading_answer result) token.old token.new }
-        ensures full { IfErr result (λ _. R.saw_full self.now access.Upgradable token.old token.new) }
+        ensures path { R.walked self.now (Enter access.Upgradable Patient)
+            (reading_answer result) token.old token.new }
+        ensures full { IfErr result
+            (λ _. R.saw_full self.now access.Upgradable token.old token.new) }
     {
         match self.raw.lock_upgradable(rt, token) {
             Ok(raw) => Ok(self.open_upgradable(rt, raw)),
@@ -298,8 +310,10 @@ impl<R: RawRwLockUpgrade, T> RwLock<R, T> {
         requires { R.is_token_of (R.lot_of self.now) token.old }
         ensures token { R.is_token_of (R.lot_of self.now) token.new × R.stays token.old token.new }
         ensures guard { TriesOrFull result (λ guard. lock_of guard ≡ self.now) }
-        ensures path { R.walked self.now (Enter access.Upgradable Try) (counted_answer result) token.old token.new }
-        ensures full { IfErr result (λ _. R.saw_full self.now access.Upgradable token.old token.new) }
+        ensures path { R.walked self.now (Enter access.Upgradable Try)
+            (counted_answer result) token.old token.new }
+        ensures full { IfErr result
+            (λ _. R.saw_full self.now access.Upgradable token.old token.new) }
     {
         match self.raw.try_lock_upgradable(rt, token) {
             Ok(Some(raw)) => Ok(Some(self.open_upgradable(rt, raw))),
@@ -318,7 +332,8 @@ impl<R, T> RwLock<R, T> {
         &self.raw
     }
 
-    /// The value, of a lock that nobody else can use meanwhile. It takes no step, and the lock is the same behind it.
+    /// The value, of a lock that nobody else can use meanwhile. It takes no step, and the lock is
+    /// the same behind it.
     #[inline]
     pub fn get_mut(&mut self) -> &mut T {
         self.inner.get_mut()

@@ -26,9 +26,11 @@ abbrev pub upgrade_answer : {A B : Type 0} → Result A B → Answer
 upgrade_answer (Ok _) = answers.Yes
 upgrade_answer (Err _) = answers.No
 
--- a new lock is refused for want of memory, before its thread did anything, or where its thread found the lot full
+-- a new lock is refused for want of memory, before its thread did anything, or where its thread
+-- found the lot full
 abbrev pub IsRefusal : {Token : Type 0} → (Token → Token → Type 0) → Token → Token → Fault → Type 0
-IsRefusal found_full old new fault = ((fault ≡ faults.NoMemory) × (new ≡ old)) ⊎ ((fault ≡ faults.LotFull) × found_full old new)
+IsRefusal found_full old new fault =
+    ((fault ≡ faults.NoMemory) × (new ≡ old)) ⊎ ((fault ≡ faults.LotFull) × found_full old new)
 
 -- the lock is full of readers
 abbrev pub IsFull : Fault → Type 0

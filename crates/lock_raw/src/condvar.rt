@@ -12,7 +12,8 @@ use lot_base::{Clock, Fault, to_deadline};
 use std::sync::{Arc, Wait};
 use std::time::Duration;
 
-/// Where who has a mutex gives it up and waits, until another thread notifies it. It has the mutex again then.
+/// Where who has a mutex gives it up and waits, until another thread notifies it. It has the mutex
+/// again then.
 ///
 /// Nobody wakes by itself. Those who wait at a time all wait with one mutex.
 pub trait RawCondvar {
@@ -21,15 +22,20 @@ pub trait RawCondvar {
 
     // The lot of a condition variable.
     ghost lot_of: { Self → Self.RawMutex.Lot };
-    // Between the two states of a thread it drew the word of this condition variable, which nobody has stepped on.
+    // Between the two states of a thread it drew the word of this condition variable, which nobody
+    // has stepped on.
     ghost drew: { Self → Self.RawMutex.Token → Self.RawMutex.Token → Type 0 };
-    // Between them it took the steps of a wait with this mutex, which gives up in time or not, to this answer.
-    ghost waited: { Self → Self.RawMutex → Bool → Answer → Self.RawMutex.Token → Self.RawMutex.Token → Type 0 };
-    // Between them it took the steps of a notification of the first who waits, or of all, to this answer.
+    // Between them it took the steps of a wait with this mutex, which gives up in time or not, to
+    // this answer.
+    ghost waited: { Self → Self.RawMutex → Bool → Answer → Self.RawMutex.Token → Self.RawMutex.Token
+        → Type 0 };
+    // Between them it took the steps of a notification of the first who waits, or of all, to this
+    // answer.
     ghost notified: { Self → Bool → Answer → Self.RawMutex.Token → Self.RawMutex.Token → Type 0 };
     // Between them it looked at the condition variable once, and saw this.
     ghost looked: { Self → ℕ → Self.RawMutex.Token → Self.RawMutex.Token → Type 0 };
-    // Between them it took or moved so many, of the first or of all, and where it saw the same mutex twice its last section tells so.
+    // Between them it took or moved so many, of the first or of all, and where it saw the same
+    // mutex twice its last section tells so.
     ghost moved: { Self → Bool → ℕ → Self.RawMutex.Token → Self.RawMutex.Token → Type 0 };
 
     /// A condition variable on which nobody waits.
@@ -42,7 +48,8 @@ pub trait RawCondvar {
         token: &mut <Self::RawMutex as RawMutex>::Token,
     ) -> Result<Self, Fault>
         requires { Self.RawMutex.is_token_of (arc_value lot.now) token.old }
-        ensures token { Self.RawMutex.is_token_of (arc_value lot.now) token.new × Self.RawMutex.stays token.old token.new }
+        ensures token { Self.RawMutex.is_token_of (arc_value lot.now) token.new
+            × Self.RawMutex.stays token.old token.new }
         ensures made { MatchResult result (λ condvar. lot_of condvar ≡ arc_value lot.now)
             (IsRefusal (Self.RawMutex.found_full (arc_value lot.now)) token.old token.new) }
         ensures drawn { IfOk result (λ condvar. drew condvar token.old token.new) };
@@ -51,7 +58,8 @@ pub trait RawCondvar {
     ///
     /// # Errors
     ///
-    /// `TwoMutexes`, where others wait with another mutex. The mutex was not given up then, and the guard is given back.
+    /// `TwoMutexes`, where others wait with another mutex. The mutex was not given up then, and the
+    /// guard is given back.
     fn wait<R: Wait>(
         &self,
         rt: &R,
@@ -62,21 +70,27 @@ pub trait RawCondvar {
         requires token { Self.RawMutex.is_token_of (lot_of self.now) token.old }
         requires lot { Self.RawMutex.lot_of mutex.now ≡ lot_of self.now }
         requires guard { Self.RawMutex.is_guard_of mutex.now guard }
-        ensures token { Self.RawMutex.is_token_of (lot_of self.now) token.new × Self.RawMutex.stays token.old token.new }
+        ensures token { Self.RawMutex.is_token_of (lot_of self.now) token.new
+            × Self.RawMutex.stays token.old token.new }
         ensures guard { GivesBack result (Self.RawMutex.is_guard_of mutex.now) }
-        ensures path { waited self.now mutex.now false (waiting_answer result) token.old token.new };
+        ensures path { waited self.now mutex.now false
+            (waiting_answer result) token.old token.new };
 
-    /// The first step of a notification, of one or of all. It answers what it sees of the condition variable: where that is 0, nobody
-    /// waits, and the notification is over.
+    /// The first step of a notification, of one or of all. It answers what it sees of the condition
+    /// variable: where that is 0, nobody waits, and the notification is over.
     fn begin_notify(&self, token: &mut <Self::RawMutex as RawMutex>::Token) -> u64
         requires { Self.RawMutex.is_token_of (lot_of self.now) token.old }
-        ensures token { Self.RawMutex.is_token_of (lot_of self.now) token.new × Self.RawMutex.stays token.old token.new }
+        ensures token { Self.RawMutex.is_token_of (lot_of self.now) token.new
+            × Self.RawMutex.stays token.old token.new }
         ensures looked { looked self.now result token.old token.new }
-        ensures one { result ≡ 0 → notified self.now false No token.old token.new × moved self.now false 0 token.old token.new }
+        ensures one { result ≡ 0
+            → notified self.now false No token.old token.new
+            × moved self.now false 0 token.old token.new }
         ensures all { result ≡ 0 → notified self.now true (Number 0) token.old token.new
             × moved self.now true 0 token.old token.new };
 
-    /// The rest of a notification of the first who waits, whose first step saw this. Whether anybody did.
+    /// The rest of a notification of the first who waits, whose first step saw this. Whether
+    /// anybody did.
     fn notify_one_behind<R: Wait>(
         &self,
         rt: &R,
@@ -86,7 +100,8 @@ pub trait RawCondvar {
         requires token { Self.RawMutex.is_token_of (lot_of self.now) token.old }
         requires looked { (before : Self.RawMutex.Token) × looked self.now seen before token.old }
         requires some { seen ≢ 0 }
-        ensures token { Self.RawMutex.is_token_of (lot_of self.now) token.new × Self.RawMutex.stays token.old token.new }
+        ensures token { Self.RawMutex.is_token_of (lot_of self.now) token.new
+            × Self.RawMutex.stays token.old token.new }
         ensures path { (before : Self.RawMutex.Token) → looked self.now seen before token.old
             → notified self.now false (notifying_answer result) before token.new
             × moved self.now false (moved_first result) before token.new };
@@ -101,15 +116,18 @@ pub trait RawCondvar {
         requires token { Self.RawMutex.is_token_of (lot_of self.now) token.old }
         requires looked { (before : Self.RawMutex.Token) × looked self.now seen before token.old }
         requires some { seen ≢ 0 }
-        ensures token { Self.RawMutex.is_token_of (lot_of self.now) token.new × Self.RawMutex.stays token.old token.new }
+        ensures token { Self.RawMutex.is_token_of (lot_of self.now) token.new
+            × Self.RawMutex.stays token.old token.new }
         ensures path { (before : Self.RawMutex.Token) → looked self.now seen before token.old
-            → notified self.now true (Number result) before token.new × moved self.now true result before token.new };
+            → notified self.now true (Number result) before token.new
+            × moved self.now true result before token.new };
 
     /// Notifies the first who waits. Whether anybody did.
     #[inline]
     fn notify_one<R: Wait>(&self, rt: &R, token: &mut <Self::RawMutex as RawMutex>::Token) -> bool
         requires { Self.RawMutex.is_token_of (lot_of self.now) token.old }
-        ensures token { Self.RawMutex.is_token_of (lot_of self.now) token.new × Self.RawMutex.stays token.old token.new }
+        ensures token { Self.RawMutex.is_token_of (lot_of self.now) token.new
+            × Self.RawMutex.stays token.old token.new }
         ensures path { notified self.now false (notifying_answer result) token.old token.new }
         ensures record { moved self.now false (moved_first result) token.old token.new }
     {
@@ -124,7 +142,8 @@ pub trait RawCondvar {
     #[inline]
     fn notify_all<R: Wait>(&self, rt: &R, token: &mut <Self::RawMutex as RawMutex>::Token) -> usize
         requires { Self.RawMutex.is_token_of (lot_of self.now) token.old }
-        ensures token { Self.RawMutex.is_token_of (lot_of self.now) token.new × Self.RawMutex.stays token.old token.new }
+        ensures token { Self.RawMutex.is_token_of (lot_of self.now) token.new
+            × Self.RawMutex.stays token.old token.new }
         ensures path { notified self.now true (Number result) token.old token.new }
         ensures record { moved self.now true result token.old token.new }
     {
@@ -138,14 +157,17 @@ pub trait RawCondvar {
 
 /// A condition variable whose waiters may give up.
 pub trait RawCondvarTimed: RawCondvar {
-    /// The time, in nanoseconds, that is this much later. None where no `u64` tells it, which stands for no limit.
+    /// The time, in nanoseconds, that is this much later. None where no `u64` tells it, which
+    /// stands for no limit.
     fn checked_duration_to_instant(now: u64, timeout: Duration) -> Option<u64>
-        ensures { MatchOption result (2 ^ 64 ≤ now + as_nanos timeout) (λ deadline. deadline ≡ now + as_nanos timeout) }
+        ensures { MatchOption result (2 ^ 64 ≤ now + as_nanos timeout)
+            (λ deadline. deadline ≡ now + as_nanos timeout) }
     {
         to_deadline(now, timeout)
     }
 
-    /// Waits as `wait` does, or until so much time, in nanoseconds of the clock, has passed: it tells whether that was so.
+    /// Waits as `wait` does, or until so much time, in nanoseconds of the clock, has passed: it
+    /// tells whether that was so.
     ///
     /// A time that ends past all that a `u64` tells is no limit.
     ///
@@ -167,12 +189,15 @@ pub trait RawCondvarTimed: RawCondvar {
         requires token { Self.RawMutex.is_token_of (Self.lot_of self.now) token.old }
         requires lot { Self.RawMutex.lot_of mutex.now ≡ Self.lot_of self.now }
         requires guard { Self.RawMutex.is_guard_of mutex.now guard }
-        ensures token { Self.RawMutex.is_token_of (Self.lot_of self.now) token.new × Self.RawMutex.stays token.old token.new }
+        ensures token { Self.RawMutex.is_token_of (Self.lot_of self.now) token.new
+            × Self.RawMutex.stays token.old token.new }
         ensures guard { GivesBackTimed result (Self.RawMutex.is_guard_of mutex.now) }
-        ensures path { Self.waited self.now mutex.now true (timed_answer result) token.old token.new }
+        ensures path { Self.waited self.now mutex.now true
+            (timed_answer result) token.old token.new }
         ensures late { IsLate result (HasElapsed (C.tells clock.now) (as_nanos timeout)) };
 
-    /// Waits as `wait` does, or until the clock has come to the deadline: it tells whether that was so.
+    /// Waits as `wait` does, or until the clock has come to the deadline: it tells whether that was
+    /// so.
     ///
     /// # Errors
     ///
@@ -192,8 +217,10 @@ pub trait RawCondvarTimed: RawCondvar {
         requires token { Self.RawMutex.is_token_of (Self.lot_of self.now) token.old }
         requires lot { Self.RawMutex.lot_of mutex.now ≡ Self.lot_of self.now }
         requires guard { Self.RawMutex.is_guard_of mutex.now guard }
-        ensures token { Self.RawMutex.is_token_of (Self.lot_of self.now) token.new × Self.RawMutex.stays token.old token.new }
+        ensures token { Self.RawMutex.is_token_of (Self.lot_of self.now) token.new
+            × Self.RawMutex.stays token.old token.new }
         ensures guard { GivesBackTimed result (Self.RawMutex.is_guard_of mutex.now) }
-        ensures path { Self.waited self.now mutex.now true (timed_answer result) token.old token.new }
+        ensures path { Self.waited self.now mutex.now true
+            (timed_answer result) token.old token.new }
         ensures late { IsLate result (HasPassed (C.tells clock.now) deadline) };
 }

@@ -45,7 +45,8 @@ pub trait RawMutex {
     // It is the same thread, and owns what it did.
     ghost stays: { Self.Token → Self.Token → Type 0 };
     // So it does through two calls, one after the other.
-    ghost stays_on: { (first next last : Self.Token) → stays first next → stays next last → stays first last };
+    ghost stays_on: { (first next last : Self.Token) → stays first next → stays next last
+        → stays first last };
     // A guard is of this mutex.
     ghost is_guard_of: { Self → Self.Guard → Type 0 };
     // That a guard is of a mutex has one proof at most, so a struct may keep it as a ghost field.
@@ -55,16 +56,20 @@ pub trait RawMutex {
     // An open guard is of this mutex, and that has one proof at most too.
     ghost is_opened_of: { Self → Self.Opened → Type 0 };
 
-    ghost opened_once: { (mutex : Self) (opened : Self.Opened) → IsProp (is_opened_of mutex opened) };
-    // Between the two states of a thread it drew the word of this mutex, which nobody has stepped on.
+    ghost opened_once: { (mutex : Self) (opened : Self.Opened)
+        → IsProp (is_opened_of mutex opened) };
+    // Between the two states of a thread it drew the word of this mutex, which nobody has stepped
+    // on.
     ghost drew: { Self → Self.Token → Self.Token → Type 0 };
     // Between them its last step found the lot full, and it drew nothing.
     ghost found_full: { Self.Lot → Self.Token → Self.Token → Type 0 };
     // Between them it took the steps of this call of the mutex, to this answer.
     ghost walked: { Self → MutexCall → Answer → Self.Token → Self.Token → Type 0 };
-    // Between them it gave the mutex up by this call, and took the first who waits where it saw a waiter.
+    // Between them it gave the mutex up by this call, and took the first who waits where it saw a
+    // waiter.
     ghost released: { Self → MutexCall → Self.Token → Self.Token → Type 0 };
-    // Between them it took the first step of this call, which saw this, and the call has more to do.
+    // Between them it took the first step of this call, which saw this, and the call has more to
+    // do.
     ghost begun: { Self → MutexCall → ℕ → Self.Token → Self.Token → Type 0 };
     // Between them it took one step, which saw the mutex locked or not.
     ghost looked: { Self → Bool → Self.Token → Self.Token → Type 0 };
@@ -127,7 +132,9 @@ pub trait RawMutex {
     fn begin_lock(&self, token: &mut Self::Token) -> Result<Self::Guard, u64>
         requires { is_token_of (lot_of self.now) token.old }
         ensures token { is_token_of (lot_of self.now) token.new }
-        ensures over { IfOk result (λ guard. stays token.old token.new × walked self.now Lock answers.Ok token.old token.new
+        ensures over { IfOk result
+            (λ guard. stays token.old token.new
+            × walked self.now Lock answers.Ok token.old token.new
             × is_guard_of self.now guard) }
         ensures begun { IfErr result (λ seen. begun self.now Lock seen token.old token.new) };
 
@@ -144,10 +151,11 @@ pub trait RawMutex {
     fn lot(&self) -> &Self::Lot
         ensures { result.now ≡ lot_of self.now };
 
-    /// The first step of `unlock`, which spends the guard. It answers what it saw where the call has more to do, which is
-    /// `unlock_behind`.
+    /// The first step of `unlock`, which spends the guard. It answers what it saw where the call
+    /// has more to do, which is `unlock_behind`.
     ///
-    /// The lot is that of the mutex: who has kept it since the mutex was taken needn't look for it behind an atomic step.
+    /// The lot is that of the mutex: who has kept it since the mutex was taken needn't look for it
+    /// behind an atomic step.
     fn begin_unlock(
         &self,
         lot: &Self::Lot,
@@ -158,7 +166,8 @@ pub trait RawMutex {
         requires token { is_token_of (lot_of self.now) token.old }
         requires guard { is_guard_of self.now guard }
         ensures token { is_token_of (lot_of self.now) token.new }
-        ensures over { IfNone result (stays token.old token.new × walked self.now Unlock answers.Ok token.old token.new
+        ensures over { IfNone result
+            (stays token.old token.new × walked self.now Unlock answers.Ok token.old token.new
             × released self.now Unlock token.old token.new) }
         ensures begun { IfSome result (λ seen. begun self.now Unlock seen token.old token.new) };
 
@@ -167,8 +176,10 @@ pub trait RawMutex {
         requires token { is_token_of (lot_of self.now) token.old }
         requires begun { (before : Self.Token) × begun self.now Unlock seen before token.old }
         ensures token { is_token_of (lot_of self.now) token.new }
-        ensures over { (before : Self.Token) → begun self.now Unlock seen before token.old → stays before token.new
-            × walked self.now Unlock answers.Ok before token.new × released self.now Unlock before token.new };
+        ensures over { (before : Self.Token) → begun self.now Unlock seen before token.old
+            → stays before token.new
+            × walked self.now Unlock answers.Ok before token.new
+            × released self.now Unlock before token.new };
 
     /// Two guards of one mutex exclude each other: nobody ever has both, so this can't be called.
     fn has_two_guards(&self, token: &mut Self::Token, one: Self::Guard, other: Self::Guard) -> !
@@ -178,26 +189,31 @@ pub trait RawMutex {
 
 /// A mutex that its owner may hand to the first who waits.
 pub trait RawMutexFair: RawMutex {
-    /// Hands the mutex to the first who waits for it. Where nobody waits, gives it up. The guard is spent.
+    /// Hands the mutex to the first who waits for it. Where nobody waits, gives it up. The guard is
+    /// spent.
     fn unlock_fair<R: Wait>(&self, rt: &R, token: &mut Self::Token, guard: Self::Guard)
         requires token { Self.is_token_of (Self.lot_of self.now) token.old }
         requires guard { Self.is_guard_of self.now guard }
-        ensures token { Self.is_token_of (Self.lot_of self.now) token.new × Self.stays token.old token.new }
+        ensures token { Self.is_token_of (Self.lot_of self.now) token.new
+            × Self.stays token.old token.new }
         ensures path { Self.walked self.now UnlockFair answers.Ok token.old token.new }
         ensures record { Self.released self.now UnlockFair token.old token.new };
 
-    /// Hands the mutex to the first who waits for it, and waits to take it again. Where nobody waits, keeps it.
+    /// Hands the mutex to the first who waits for it, and waits to take it again. Where nobody
+    /// waits, keeps it.
     fn bump<R: Wait>(&self, rt: &R, token: &mut Self::Token, guard: Self::Guard) -> Self::Guard
         requires token { Self.is_token_of (Self.lot_of self.now) token.old }
         requires guard { Self.is_guard_of self.now guard }
-        ensures token { Self.is_token_of (Self.lot_of self.now) token.new × Self.stays token.old token.new }
+        ensures token { Self.is_token_of (Self.lot_of self.now) token.new
+            × Self.stays token.old token.new }
         ensures guard { Self.is_guard_of self.now result }
         ensures path { Self.walked self.now Bump answers.Ok token.old token.new };
 }
 
 /// A mutex whose waiters may give up.
 pub trait RawMutexTimed: RawMutex {
-    /// Waits until nobody has the mutex, and takes it. None only where so much time, in nanoseconds of the clock, had passed.
+    /// Waits until nobody has the mutex, and takes it. None only where so much time, in nanoseconds
+    /// of the clock, had passed.
     ///
     /// A time that ends past all that a `u64` tells is no limit.
     fn try_lock_for<R: Wait, C: Clock>(
@@ -208,12 +224,14 @@ pub trait RawMutexTimed: RawMutex {
         timeout: Duration,
     ) -> Option<Self::Guard>
         requires { Self.is_token_of (Self.lot_of self.now) token.old }
-        ensures token { Self.is_token_of (Self.lot_of self.now) token.new × Self.stays token.old token.new }
+        ensures token { Self.is_token_of (Self.lot_of self.now) token.new
+            × Self.stays token.old token.new }
         ensures guard { IfSome result (Self.is_guard_of self.now) }
         ensures path { Self.walked self.now LockTimed (answer_by result) token.old token.new }
         ensures late { IfNone result (HasElapsed (C.tells clock.now) (as_nanos timeout)) };
 
-    /// Waits until nobody has the mutex, and takes it. None only where the clock had come to the deadline.
+    /// Waits until nobody has the mutex, and takes it. None only where the clock had come to the
+    /// deadline.
     fn try_lock_until<R: Wait, C: Clock>(
         &self,
         rt: &R,
@@ -222,7 +240,8 @@ pub trait RawMutexTimed: RawMutex {
         deadline: u64,
     ) -> Option<Self::Guard>
         requires { Self.is_token_of (Self.lot_of self.now) token.old }
-        ensures token { Self.is_token_of (Self.lot_of self.now) token.new × Self.stays token.old token.new }
+        ensures token { Self.is_token_of (Self.lot_of self.now) token.new
+            × Self.stays token.old token.new }
         ensures guard { IfSome result (Self.is_guard_of self.now) }
         ensures path { Self.walked self.now LockTimed (answer_by result) token.old token.new }
         ensures late { IfNone result (HasPassed (C.tells clock.now) deadline) };

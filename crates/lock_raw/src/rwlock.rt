@@ -17,7 +17,8 @@ use lot_base::{Clock, Fault};
 use std::sync::{Arc, Wait};
 use std::time::Duration;
 
-/// A reader-writer lock without a value. Who has entered it has a guard, which says how, and spends it to leave.
+/// A reader-writer lock without a value. Who has entered it has a guard, which says how, and spends
+/// it to leave.
 pub trait RawRwLock {
     /// Where the locks and the threads meet.
     type Lot;
@@ -35,32 +36,40 @@ pub trait RawRwLock {
     // It is the same thread, and owns what it did.
     ghost stays: { Self.Token → Self.Token → Type 0 };
     // So it does through two calls, one after the other.
-    ghost stays_on: { (first next last : Self.Token) → stays first next → stays next last → stays first last };
-    // A guard is of this lock. That has one proof at most, so a struct may keep it as a ghost field.
+    ghost stays_on: { (first next last : Self.Token) → stays first next → stays next last
+        → stays first last };
+    // A guard is of this lock. That has one proof at most, so a struct may keep it as a ghost
+    // field.
     ghost is_shared_of: { Self → Self.SharedGuard → Type 0 };
 
-    ghost shared_once: { (lock : Self) (guard : Self.SharedGuard) → IsProp (is_shared_of lock guard) };
+    ghost shared_once: { (lock : Self) (guard : Self.SharedGuard)
+        → IsProp (is_shared_of lock guard) };
 
     ghost is_exclusive_of: { Self → Self.ExclusiveGuard → Type 0 };
 
-    ghost exclusive_once: { (lock : Self) (guard : Self.ExclusiveGuard) → IsProp (is_exclusive_of lock guard) };
+    ghost exclusive_once: { (lock : Self) (guard : Self.ExclusiveGuard)
+        → IsProp (is_exclusive_of lock guard) };
     // So many may share a lock.
     ghost limit_of: { Self → ℕ };
-    // Between the two states of a thread it drew the word of this lock, which nobody has stepped on.
+    // Between the two states of a thread it drew the word of this lock, which nobody has stepped
+    // on.
     ghost drew: { Self → Self.Token → Self.Token → Type 0 };
     // Between them its last step found the lot full, and it drew nothing.
     ghost found_full: { Self.Lot → Self.Token → Self.Token → Type 0 };
     // Between them it took the steps of this call of the lock, to this answer.
     ghost walked: { Self → RwLockCall → Answer → Self.Token → Self.Token → Type 0 };
-    // Between them it gave a right up by this call, and took those whom that lets in where it saw that somebody waits.
+    // Between them it gave a right up by this call, and took those whom that lets in where it saw
+    // that somebody waits.
     ghost woke: { Self → RwLockCall → Self.Token → Self.Token → Type 0 };
     // Between them it took one step, which saw that somebody has the lock, or not.
     ghost looked: { Self → Bool → Self.Token → Self.Token → Type 0 };
     // The same, of who has it alone.
     ghost looked_for_writer: { Self → Bool → Self.Token → Self.Token → Type 0 };
-    // Between them its last step saw that nobody keeps this right out, and that as many share the lock as may.
+    // Between them its last step saw that nobody keeps this right out, and that as many share the
+    // lock as may.
     ghost saw_full: { Self → Access → Self.Token → Self.Token → Type 0 };
-    // This call gave up and left no section behind its last step, or one in which it left a queue, or took those whom it had kept out.
+    // This call gave up and left no section behind its last step, or one in which it left a queue,
+    // or took those whom it had kept out.
     ghost gave_up: { Self → RwLockCall → Self.Token → Type 0 };
 
     /// A lock that nobody has, and that as many may share as there can be.
@@ -85,7 +94,8 @@ pub trait RawRwLock {
         requires token { is_token_of (arc_value lot.now) token.old }
         requires limit { limit ≤ 1152921504606846974 }
         ensures token { is_token_of (arc_value lot.now) token.new × stays token.old token.new }
-        ensures made { MatchResult result (λ lock. (lot_of lock ≡ arc_value lot.now) × (limit_of lock ≡ limit))
+        ensures made { MatchResult result
+            (λ lock. (lot_of lock ≡ arc_value lot.now) × (limit_of lock ≡ limit))
             (IsRefusal (found_full (arc_value lot.now)) token.old token.new) }
         ensures drawn { IfOk result (λ lock. drew lock token.old token.new) };
 
@@ -102,10 +112,12 @@ pub trait RawRwLock {
         requires { is_token_of (lot_of self.now) token.old }
         ensures token { is_token_of (lot_of self.now) token.new × stays token.old token.new }
         ensures guard { MatchResult result (is_shared_of self.now) IsFull }
-        ensures path { walked self.now (Enter access.Shared Patient) (reading_answer result) token.old token.new }
+        ensures path { walked self.now (Enter access.Shared Patient)
+            (reading_answer result) token.old token.new }
         ensures full { IfErr result (λ _. saw_full self.now access.Shared token.old token.new) };
 
-    /// Comes in to read where no writer keeps readers out. It may have to try again where others come and go.
+    /// Comes in to read where no writer keeps readers out. It may have to try again where others
+    /// come and go.
     ///
     /// # Errors
     ///
@@ -118,7 +130,8 @@ pub trait RawRwLock {
         requires { is_token_of (lot_of self.now) token.old }
         ensures token { is_token_of (lot_of self.now) token.new × stays token.old token.new }
         ensures guard { TriesOrFull result (is_shared_of self.now) }
-        ensures path { walked self.now (Enter access.Shared Try) (counted_answer result) token.old token.new }
+        ensures path { walked self.now (Enter access.Shared Try)
+            (counted_answer result) token.old token.new }
         ensures full { IfErr result (λ _. saw_full self.now access.Shared token.old token.new) };
 
     /// Gives the right to read up. The last reader wakes the writer that waits for it.
@@ -134,14 +147,16 @@ pub trait RawRwLock {
         requires { is_token_of (lot_of self.now) token.old }
         ensures token { is_token_of (lot_of self.now) token.new × stays token.old token.new }
         ensures guard { is_exclusive_of self.now result }
-        ensures path { walked self.now (Enter access.Exclusive Patient) answers.Ok token.old token.new };
+        ensures path { walked self.now
+            (Enter access.Exclusive Patient) answers.Ok token.old token.new };
 
     /// Takes the lock where nobody has it, and nobody waits. It is one step.
     fn try_lock_exclusive(&self, token: &mut Self::Token) -> Option<Self::ExclusiveGuard>
         requires { is_token_of (lot_of self.now) token.old }
         ensures token { is_token_of (lot_of self.now) token.new × stays token.old token.new }
         ensures guard { IfSome result (is_exclusive_of self.now) }
-        ensures path { walked self.now (Enter access.Exclusive Try) (answer_by result) token.old token.new };
+        ensures path { walked self.now (Enter access.Exclusive Try)
+            (answer_by result) token.old token.new };
 
     /// Gives the lock up, and wakes whom that lets in.
     fn unlock_exclusive<R: Wait>(
@@ -168,7 +183,8 @@ pub trait RawRwLock {
         ensures token { is_token_of (lot_of self.now) token.new × stays token.old token.new }
         ensures seen { looked_for_writer self.now result token.old token.new };
 
-    /// Two that have a lock alone exclude each other: nobody ever has both guards, so this can't be called.
+    /// Two that have a lock alone exclude each other: nobody ever has both guards, so this can't be
+    /// called.
     fn has_two_writers(
         &self,
         token: &mut Self::Token,
@@ -191,7 +207,8 @@ pub trait RawRwLock {
 
 /// A lock whose writer may go on as a reader.
 pub trait RawRwLockDowngrade: RawRwLock {
-    /// Turns the right of who has the lock alone into the right to read, in one step, and wakes whom that lets in.
+    /// Turns the right of who has the lock alone into the right to read, in one step, and wakes
+    /// whom that lets in.
     fn downgrade<R: Wait>(
         &self,
         rt: &R,
@@ -200,16 +217,18 @@ pub trait RawRwLockDowngrade: RawRwLock {
     ) -> Self::SharedGuard
         requires token { Self.is_token_of (Self.lot_of self.now) token.old }
         requires guard { Self.is_exclusive_of self.now guard }
-        ensures token { Self.is_token_of (Self.lot_of self.now) token.new × Self.stays token.old token.new }
+        ensures token { Self.is_token_of (Self.lot_of self.now) token.new
+            × Self.stays token.old token.new }
         ensures guard { Self.is_shared_of self.now result }
-        ensures path { Self.walked self.now (Downgrade downgrades.ToShared) answers.Ok token.old token.new }
+        ensures path { Self.walked self.now
+            (Downgrade downgrades.ToShared) answers.Ok token.old token.new }
         ensures record { Self.woke self.now (Downgrade downgrades.ToShared) token.old token.new };
 }
 
 /// A lock whose waiters may give up.
 pub trait RawRwLockTimed: RawRwLock {
-    /// Waits until no writer keeps readers out, and comes in to read. None only where so much time, in nanoseconds of the clock,
-    /// had passed.
+    /// Waits until no writer keeps readers out, and comes in to read. None only where so much time,
+    /// in nanoseconds of the clock, had passed.
     ///
     /// A time that ends past all that a `u64` tells is no limit.
     ///
@@ -224,12 +243,18 @@ pub trait RawRwLockTimed: RawRwLock {
         timeout: Duration,
     ) -> Result<Option<Self::SharedGuard>, Fault>
         requires { Self.is_token_of (Self.lot_of self.now) token.old }
-        ensures token { Self.is_token_of (Self.lot_of self.now) token.new × Self.stays token.old token.new }
+        ensures token { Self.is_token_of (Self.lot_of self.now) token.new
+            × Self.stays token.old token.new }
         ensures guard { TriesOrFull result (Self.is_shared_of self.now) }
-        ensures path { Self.walked self.now (Enter access.Shared Timed) (counted_answer result) token.old token.new }
-        ensures full { IfErr result (λ _. Self.saw_full self.now access.Shared token.old token.new) }
-        ensures left { IfOk result (λ entered. IfNone entered (Self.gave_up self.now (Enter access.Shared Timed) token.new)) }
-        ensures late { IfOk result (λ entered. IfNone entered (HasElapsed (C.tells clock.now) (as_nanos timeout))) };
+        ensures path { Self.walked self.now (Enter access.Shared Timed)
+            (counted_answer result) token.old token.new }
+        ensures full { IfErr result
+            (λ _. Self.saw_full self.now access.Shared token.old token.new) }
+        ensures left { IfOk result
+            (λ entered. IfNone entered
+            (Self.gave_up self.now (Enter access.Shared Timed) token.new)) }
+        ensures late { IfOk result
+            (λ entered. IfNone entered (HasElapsed (C.tells clock.now) (as_nanos timeout))) };
 
     /// The same, up to a deadline. None only where the clock had come to it.
     ///
@@ -244,14 +269,21 @@ pub trait RawRwLockTimed: RawRwLock {
         deadline: u64,
     ) -> Result<Option<Self::SharedGuard>, Fault>
         requires { Self.is_token_of (Self.lot_of self.now) token.old }
-        ensures token { Self.is_token_of (Self.lot_of self.now) token.new × Self.stays token.old token.new }
+        ensures token { Self.is_token_of (Self.lot_of self.now) token.new
+            × Self.stays token.old token.new }
         ensures guard { TriesOrFull result (Self.is_shared_of self.now) }
-        ensures path { Self.walked self.now (Enter access.Shared Timed) (counted_answer result) token.old token.new }
-        ensures full { IfErr result (λ _. Self.saw_full self.now access.Shared token.old token.new) }
-        ensures left { IfOk result (λ entered. IfNone entered (Self.gave_up self.now (Enter access.Shared Timed) token.new)) }
-        ensures late { IfOk result (λ entered. IfNone entered (HasPassed (C.tells clock.now) deadline)) };
+        ensures path { Self.walked self.now (Enter access.Shared Timed)
+            (counted_answer result) token.old token.new }
+        ensures full { IfErr result
+            (λ _. Self.saw_full self.now access.Shared token.old token.new) }
+        ensures left { IfOk result
+            (λ entered. IfNone entered
+            (Self.gave_up self.now (Enter access.Shared Timed) token.new)) }
+        ensures late { IfOk result
+            (λ entered. IfNone entered (HasPassed (C.tells clock.now) deadline)) };
 
-    /// Waits until nobody has the lock, and takes it. None only where so much time, in nanoseconds of the clock, had passed.
+    /// Waits until nobody has the lock, and takes it. None only where so much time, in nanoseconds
+    /// of the clock, had passed.
     ///
     /// A time that ends past all that a `u64` tells is no limit.
     fn try_lock_exclusive_for<R: Wait, C: Clock>(
@@ -262,10 +294,13 @@ pub trait RawRwLockTimed: RawRwLock {
         timeout: Duration,
     ) -> Option<Self::ExclusiveGuard>
         requires { Self.is_token_of (Self.lot_of self.now) token.old }
-        ensures token { Self.is_token_of (Self.lot_of self.now) token.new × Self.stays token.old token.new }
+        ensures token { Self.is_token_of (Self.lot_of self.now) token.new
+            × Self.stays token.old token.new }
         ensures guard { IfSome result (Self.is_exclusive_of self.now) }
-        ensures path { Self.walked self.now (Enter access.Exclusive Timed) (answer_by result) token.old token.new }
-        ensures left { IfNone result (Self.gave_up self.now (Enter access.Exclusive Timed) token.new) }
+        ensures path { Self.walked self.now (Enter access.Exclusive Timed)
+            (answer_by result) token.old token.new }
+        ensures left { IfNone result
+            (Self.gave_up self.now (Enter access.Exclusive Timed) token.new) }
         ensures late { IfNone result (HasElapsed (C.tells clock.now) (as_nanos timeout)) };
 
     /// The same, up to a deadline. None only where the clock had come to it.
@@ -277,10 +312,13 @@ pub trait RawRwLockTimed: RawRwLock {
         deadline: u64,
     ) -> Option<Self::ExclusiveGuard>
         requires { Self.is_token_of (Self.lot_of self.now) token.old }
-        ensures token { Self.is_token_of (Self.lot_of self.now) token.new × Self.stays token.old token.new }
+        ensures token { Self.is_token_of (Self.lot_of self.now) token.new
+            × Self.stays token.old token.new }
         ensures guard { IfSome result (Self.is_exclusive_of self.now) }
-        ensures path { Self.walked self.now (Enter access.Exclusive Timed) (answer_by result) token.old token.new }
-        ensures left { IfNone result (Self.gave_up self.now (Enter access.Exclusive Timed) token.new) }
+        ensures path { Self.walked self.now (Enter access.Exclusive Timed)
+            (answer_by result) token.old token.new }
+        ensures left { IfNone result
+            (Self.gave_up self.now (Enter access.Exclusive Timed) token.new) }
         ensures late { IfNone result (HasPassed (C.tells clock.now) deadline) };
 }
 
@@ -292,7 +330,8 @@ pub trait RawRwLockUpgrade: RawRwLock {
     // A guard is of this lock.
     ghost is_upgradable_of: { Self → Self.UpgradableGuard → Type 0 };
 
-    ghost upgradable_once: { (lock : Self) (guard : Self.UpgradableGuard) → IsProp (is_upgradable_of lock guard) };
+    ghost upgradable_once: { (lock : Self) (guard : Self.UpgradableGuard)
+        → IsProp (is_upgradable_of lock guard) };
 
     /// Waits until nobody has the lock alone or with this right, and comes in.
     ///
@@ -305,13 +344,16 @@ pub trait RawRwLockUpgrade: RawRwLock {
         token: &mut Self::Token,
     ) -> Result<Self::UpgradableGuard, Fault>
         requires { Self.is_token_of (Self.lot_of self.now) token.old }
-        ensures token { Self.is_token_of (Self.lot_of self.now) token.new × Self.stays token.old token.new }
+        ensures token { Self.is_token_of (Self.lot_of self.now) token.new
+            × Self.stays token.old token.new }
         ensures guard { MatchResult result (is_upgradable_of self.now) IsFull }
         ensures path { Self.walked self.now (Enter access.Upgradable Patient)
             (reading_answer result) token.old token.new }
-        ensures full { IfErr result (λ _. Self.saw_full self.now access.Upgradable token.old token.new) };
+        ensures full { IfErr result
+            (λ _. Self.saw_full self.now access.Upgradable token.old token.new) };
 
-    /// Comes in where nobody has the lock alone or with this right. It may have to try again where others come and go.
+    /// Comes in where nobody has the lock alone or with this right. It may have to try again where
+    /// others come and go.
     ///
     /// # Errors
     ///
@@ -322,10 +364,13 @@ pub trait RawRwLockUpgrade: RawRwLock {
         token: &mut Self::Token,
     ) -> Result<Option<Self::UpgradableGuard>, Fault>
         requires { Self.is_token_of (Self.lot_of self.now) token.old }
-        ensures token { Self.is_token_of (Self.lot_of self.now) token.new × Self.stays token.old token.new }
+        ensures token { Self.is_token_of (Self.lot_of self.now) token.new
+            × Self.stays token.old token.new }
         ensures guard { TriesOrFull result (is_upgradable_of self.now) }
-        ensures path { Self.walked self.now (Enter access.Upgradable Try) (counted_answer result) token.old token.new }
-        ensures full { IfErr result (λ _. Self.saw_full self.now access.Upgradable token.old token.new) };
+        ensures path { Self.walked self.now (Enter access.Upgradable Try)
+            (counted_answer result) token.old token.new }
+        ensures full { IfErr result
+            (λ _. Self.saw_full self.now access.Upgradable token.old token.new) };
 
     /// Gives the right up, and wakes whom that lets in.
     fn unlock_upgradable<R: Wait>(
@@ -336,11 +381,14 @@ pub trait RawRwLockUpgrade: RawRwLock {
     )
         requires token { Self.is_token_of (Self.lot_of self.now) token.old }
         requires guard { is_upgradable_of self.now guard }
-        ensures token { Self.is_token_of (Self.lot_of self.now) token.new × Self.stays token.old token.new }
-        ensures path { Self.walked self.now (Release access.Upgradable) answers.Ok token.old token.new }
+        ensures token { Self.is_token_of (Self.lot_of self.now) token.new
+            × Self.stays token.old token.new }
+        ensures path { Self.walked self.now
+            (Release access.Upgradable) answers.Ok token.old token.new }
         ensures record { Self.woke self.now (Release access.Upgradable) token.old token.new };
 
-    /// Turns the right into that of who has the lock alone: further readers are kept out, and the others are waited for.
+    /// Turns the right into that of who has the lock alone: further readers are kept out, and the
+    /// others are waited for.
     fn upgrade<R: Wait>(
         &self,
         rt: &R,
@@ -349,7 +397,8 @@ pub trait RawRwLockUpgrade: RawRwLock {
     ) -> Self::ExclusiveGuard
         requires token { Self.is_token_of (Self.lot_of self.now) token.old }
         requires guard { is_upgradable_of self.now guard }
-        ensures token { Self.is_token_of (Self.lot_of self.now) token.new × Self.stays token.old token.new }
+        ensures token { Self.is_token_of (Self.lot_of self.now) token.new
+            × Self.stays token.old token.new }
         ensures guard { Self.is_exclusive_of self.now result }
         ensures path { Self.walked self.now (Upgrade Patient) answers.Ok token.old token.new };
 
@@ -366,9 +415,12 @@ pub trait RawRwLockUpgrade: RawRwLock {
     ) -> Result<Self::ExclusiveGuard, Self::UpgradableGuard>
         requires token { Self.is_token_of (Self.lot_of self.now) token.old }
         requires guard { is_upgradable_of self.now guard }
-        ensures token { Self.is_token_of (Self.lot_of self.now) token.new × Self.stays token.old token.new }
-        ensures guard { MatchResult result (Self.is_exclusive_of self.now) (is_upgradable_of self.now) }
-        ensures path { Self.walked self.now (Upgrade Try) (upgrade_answer result) token.old token.new };
+        ensures token { Self.is_token_of (Self.lot_of self.now) token.new
+            × Self.stays token.old token.new }
+        ensures guard { MatchResult result (Self.is_exclusive_of self.now)
+            (is_upgradable_of self.now) }
+        ensures path { Self.walked self.now (Upgrade Try)
+            (upgrade_answer result) token.old token.new };
 
     /// One thread at a time has this right, so this can't be called.
     fn has_two_upgradables(
@@ -407,9 +459,11 @@ pub trait RawRwLockUpgradeDowngrade: RawRwLockUpgrade {
         ensures guard { Self.RawRwLock.is_shared_of self.now result }
         ensures path { Self.RawRwLock.walked self.now (Downgrade downgrades.UpgradableToShared)
             answers.Ok token.old token.new }
-        ensures record { Self.RawRwLock.woke self.now (Downgrade downgrades.UpgradableToShared) token.old token.new };
+        ensures record { Self.RawRwLock.woke self.now
+            (Downgrade downgrades.UpgradableToShared) token.old token.new };
 
-    /// Turns the right of who has the lock alone into the upgradable one, in one step, and wakes whom that lets in.
+    /// Turns the right of who has the lock alone into the upgradable one, in one step, and wakes
+    /// whom that lets in.
     fn downgrade_to_upgradable<R: Wait>(
         &self,
         rt: &R,
@@ -423,13 +477,14 @@ pub trait RawRwLockUpgradeDowngrade: RawRwLockUpgrade {
         ensures guard { Self.RawRwLockUpgrade.is_upgradable_of self.now result }
         ensures path { Self.RawRwLock.walked self.now (Downgrade downgrades.ToUpgradable)
             answers.Ok token.old token.new }
-        ensures record { Self.RawRwLock.woke self.now (Downgrade downgrades.ToUpgradable) token.old token.new };
+        ensures record { Self.RawRwLock.woke self.now
+            (Downgrade downgrades.ToUpgradable) token.old token.new };
 }
 
 /// A lock with the upgradable right, whose waiters may give up.
 pub trait RawRwLockUpgradeTimed: RawRwLockUpgrade {
-    /// Waits until nobody has the lock alone or with this right, and comes in. None only where so much time, in nanoseconds of
-    /// the clock, had passed.
+    /// Waits until nobody has the lock alone or with this right, and comes in. None only where so
+    /// much time, in nanoseconds of the clock, had passed.
     ///
     /// A time that ends past all that a `u64` tells is no limit.
     ///
@@ -449,10 +504,13 @@ pub trait RawRwLockUpgradeTimed: RawRwLockUpgrade {
         ensures guard { TriesOrFull result (Self.RawRwLockUpgrade.is_upgradable_of self.now) }
         ensures path { Self.RawRwLock.walked self.now (Enter access.Upgradable Timed)
             (counted_answer result) token.old token.new }
-        ensures full { IfErr result (λ _. Self.RawRwLock.saw_full self.now access.Upgradable token.old token.new) }
+        ensures full { IfErr result
+            (λ _. Self.RawRwLock.saw_full self.now access.Upgradable token.old token.new) }
         ensures left { IfOk result
-            (λ entered. IfNone entered (Self.RawRwLock.gave_up self.now (Enter access.Upgradable Timed) token.new)) }
-        ensures late { IfOk result (λ entered. IfNone entered (HasElapsed (C.tells clock.now) (as_nanos timeout))) };
+            (λ entered. IfNone entered
+            (Self.RawRwLock.gave_up self.now (Enter access.Upgradable Timed) token.new)) }
+        ensures late { IfOk result
+            (λ entered. IfNone entered (HasElapsed (C.tells clock.now) (as_nanos timeout))) };
 
     /// The same, up to a deadline. None only where the clock had come to it.
     ///
@@ -472,12 +530,16 @@ pub trait RawRwLockUpgradeTimed: RawRwLockUpgrade {
         ensures guard { TriesOrFull result (Self.RawRwLockUpgrade.is_upgradable_of self.now) }
         ensures path { Self.RawRwLock.walked self.now (Enter access.Upgradable Timed)
             (counted_answer result) token.old token.new }
-        ensures full { IfErr result (λ _. Self.RawRwLock.saw_full self.now access.Upgradable token.old token.new) }
+        ensures full { IfErr result
+            (λ _. Self.RawRwLock.saw_full self.now access.Upgradable token.old token.new) }
         ensures left { IfOk result
-            (λ entered. IfNone entered (Self.RawRwLock.gave_up self.now (Enter access.Upgradable Timed) token.new)) }
-        ensures late { IfOk result (λ entered. IfNone entered (HasPassed (C.tells clock.now) deadline)) };
+            (λ entered. IfNone entered
+            (Self.RawRwLock.gave_up self.now (Enter access.Upgradable Timed) token.new)) }
+        ensures late { IfOk result
+            (λ entered. IfNone entered (HasPassed (C.tells clock.now) deadline)) };
 
-    /// Upgrades, and gives up once so much time, in nanoseconds of the clock, had passed, and not before.
+    /// Upgrades, and gives up once so much time, in nanoseconds of the clock, had passed, and not
+    /// before.
     ///
     /// # Errors
     ///
@@ -496,8 +558,10 @@ pub trait RawRwLockUpgradeTimed: RawRwLockUpgrade {
             × Self.RawRwLock.stays token.old token.new }
         ensures guard { MatchResult result (Self.RawRwLock.is_exclusive_of self.now)
             (Self.RawRwLockUpgrade.is_upgradable_of self.now) }
-        ensures path { Self.RawRwLock.walked self.now (Upgrade Timed) (upgrade_answer result) token.old token.new }
-        ensures left { IfErr result (λ _. Self.RawRwLock.gave_up self.now (Upgrade Timed) token.new) }
+        ensures path { Self.RawRwLock.walked self.now (Upgrade Timed)
+            (upgrade_answer result) token.old token.new }
+        ensures left { IfErr result
+            (λ _. Self.RawRwLock.gave_up self.now (Upgrade Timed) token.new) }
         ensures late { IfErr result (λ _. HasElapsed (C.tells clock.now) (as_nanos timeout)) };
 
     /// The same, up to a deadline.
@@ -519,7 +583,9 @@ pub trait RawRwLockUpgradeTimed: RawRwLockUpgrade {
             × Self.RawRwLock.stays token.old token.new }
         ensures guard { MatchResult result (Self.RawRwLock.is_exclusive_of self.now)
             (Self.RawRwLockUpgrade.is_upgradable_of self.now) }
-        ensures path { Self.RawRwLock.walked self.now (Upgrade Timed) (upgrade_answer result) token.old token.new }
-        ensures left { IfErr result (λ _. Self.RawRwLock.gave_up self.now (Upgrade Timed) token.new) }
+        ensures path { Self.RawRwLock.walked self.now (Upgrade Timed)
+            (upgrade_answer result) token.old token.new }
+        ensures left { IfErr result
+            (λ _. Self.RawRwLock.gave_up self.now (Upgrade Timed) token.new) }
         ensures late { IfErr result (λ _. HasPassed (C.tells clock.now) deadline) };
 }

@@ -11,16 +11,19 @@ use std::sync::Wait;
 
 /// A reader-writer lock that is handed over to those who wait for it.
 pub trait RawRwLockFair: RawRwLock {
-    /// Gives a right to read up, and as the last reader wakes the writer that waits for it: that has the lock by then, so
-    /// there is nothing to hand over. The guard is spent.
+    /// Gives a right to read up, and as the last reader wakes the writer that waits for it: that
+    /// has the lock by then, so there is nothing to hand over. The guard is spent.
     fn unlock_shared_fair<R: Wait>(&self, rt: &R, token: &mut Self::Token, guard: Self::SharedGuard)
         requires token { Self.is_token_of (Self.lot_of self.now) token.old }
         requires guard { Self.is_shared_of self.now guard }
-        ensures token { Self.is_token_of (Self.lot_of self.now) token.new × Self.stays token.old token.new }
-        ensures path { Self.walked self.now (ReleaseFair access.Shared) answers.Ok token.old token.new }
+        ensures token { Self.is_token_of (Self.lot_of self.now) token.new
+            × Self.stays token.old token.new }
+        ensures path { Self.walked self.now
+            (ReleaseFair access.Shared) answers.Ok token.old token.new }
         ensures record { Self.woke self.now (ReleaseFair access.Shared) token.old token.new };
 
-    /// Hands the lock to those who wait for it and may have it together. Where nobody waits, gives it up. The guard is spent.
+    /// Hands the lock to those who wait for it and may have it together. Where nobody waits, gives
+    /// it up. The guard is spent.
     fn unlock_exclusive_fair<R: Wait>(
         &self,
         rt: &R,
@@ -29,16 +32,19 @@ pub trait RawRwLockFair: RawRwLock {
     )
         requires token { Self.is_token_of (Self.lot_of self.now) token.old }
         requires guard { Self.is_exclusive_of self.now guard }
-        ensures token { Self.is_token_of (Self.lot_of self.now) token.new × Self.stays token.old token.new }
-        ensures path { Self.walked self.now (ReleaseFair access.Exclusive) answers.Ok token.old token.new }
+        ensures token { Self.is_token_of (Self.lot_of self.now) token.new
+            × Self.stays token.old token.new }
+        ensures path { Self.walked self.now
+            (ReleaseFair access.Exclusive) answers.Ok token.old token.new }
         ensures record { Self.woke self.now (ReleaseFair access.Exclusive) token.old token.new };
 
-    /// Lets a writer in that waits for the last readers, and waits to read again. Where none does, keeps the right; on a recursive
-    /// lock it is kept also beside other readers.
+    /// Lets a writer in that waits for the last readers, and waits to read again. Where none does,
+    /// keeps the right; on a recursive lock it is kept also beside other readers.
     ///
     /// # Errors
     ///
-    /// `ReadersFull`, where it let a writer in and found as many readers as there may be after that. The right is gone then.
+    /// `ReadersFull`, where it let a writer in and found as many readers as there may be after
+    /// that. The right is gone then.
     fn bump_shared<R: Wait>(
         &self,
         rt: &R,
@@ -47,12 +53,16 @@ pub trait RawRwLockFair: RawRwLock {
     ) -> Result<Self::SharedGuard, Fault>
         requires token { Self.is_token_of (Self.lot_of self.now) token.old }
         requires guard { Self.is_shared_of self.now guard }
-        ensures token { Self.is_token_of (Self.lot_of self.now) token.new × Self.stays token.old token.new }
+        ensures token { Self.is_token_of (Self.lot_of self.now) token.new
+            × Self.stays token.old token.new }
         ensures guard { MatchResult result (Self.is_shared_of self.now) IsFull }
-        ensures path { Self.walked self.now (Bump access.Shared) (reading_answer result) token.old token.new }
-        ensures full { IfErr result (λ _. Self.saw_full self.now access.Shared token.old token.new) };
+        ensures path { Self.walked self.now (Bump access.Shared)
+            (reading_answer result) token.old token.new }
+        ensures full { IfErr result
+            (λ _. Self.saw_full self.now access.Shared token.old token.new) };
 
-    /// Hands the lock to those who wait for it, and waits to have it alone again. Where nobody waits, keeps it.
+    /// Hands the lock to those who wait for it, and waits to have it alone again. Where nobody
+    /// waits, keeps it.
     fn bump_exclusive<R: Wait>(
         &self,
         rt: &R,
@@ -61,15 +71,18 @@ pub trait RawRwLockFair: RawRwLock {
     ) -> Self::ExclusiveGuard
         requires token { Self.is_token_of (Self.lot_of self.now) token.old }
         requires guard { Self.is_exclusive_of self.now guard }
-        ensures token { Self.is_token_of (Self.lot_of self.now) token.new × Self.stays token.old token.new }
+        ensures token { Self.is_token_of (Self.lot_of self.now) token.new
+            × Self.stays token.old token.new }
         ensures guard { Self.is_exclusive_of self.now result }
-        ensures path { Self.walked self.now (Bump access.Exclusive) answers.Ok token.old token.new };
+        ensures path { Self.walked self.now
+            (Bump access.Exclusive) answers.Ok token.old token.new };
 }
 
 /// A lock whose upgradable right is handed over too.
 pub trait RawRwLockUpgradeFair: RawRwLockUpgrade {
-    /// Hands the lock to those who wait for it and may have it together. Where nobody waits, gives the right up; where those who wait
-    /// would be more than may read, they are woken to try again. The guard is spent.
+    /// Hands the lock to those who wait for it and may have it together. Where nobody waits, gives
+    /// the right up; where those who wait would be more than may read, they are woken to try again.
+    /// The guard is spent.
     fn unlock_upgradable_fair<R: Wait>(
         &self,
         rt: &R,
@@ -80,14 +93,18 @@ pub trait RawRwLockUpgradeFair: RawRwLockUpgrade {
         requires guard { Self.RawRwLockUpgrade.is_upgradable_of self.now guard }
         ensures token { Self.RawRwLock.is_token_of (Self.RawRwLock.lot_of self.now) token.new
             × Self.RawRwLock.stays token.old token.new }
-        ensures path { Self.RawRwLock.walked self.now (ReleaseFair access.Upgradable) answers.Ok token.old token.new }
-        ensures record { Self.RawRwLock.woke self.now (ReleaseFair access.Upgradable) token.old token.new };
+        ensures path { Self.RawRwLock.walked self.now
+            (ReleaseFair access.Upgradable) answers.Ok token.old token.new }
+        ensures record { Self.RawRwLock.woke self.now
+            (ReleaseFair access.Upgradable) token.old token.new };
 
-    /// Hands the lock to those who wait for it, and waits for the upgradable right again. Where nobody waits, keeps it.
+    /// Hands the lock to those who wait for it, and waits for the upgradable right again. Where
+    /// nobody waits, keeps it.
     ///
     /// # Errors
     ///
-    /// `ReadersFull`, where it gave its right up and found as many readers as there may be after that. The right is gone then.
+    /// `ReadersFull`, where it gave its right up and found as many readers as there may be after
+    /// that. The right is gone then.
     fn bump_upgradable<R: Wait>(
         &self,
         rt: &R,
@@ -98,7 +115,10 @@ pub trait RawRwLockUpgradeFair: RawRwLockUpgrade {
         requires guard { Self.RawRwLockUpgrade.is_upgradable_of self.now guard }
         ensures token { Self.RawRwLock.is_token_of (Self.RawRwLock.lot_of self.now) token.new
             × Self.RawRwLock.stays token.old token.new }
-        ensures guard { MatchResult result (Self.RawRwLockUpgrade.is_upgradable_of self.now) IsFull }
-        ensures path { Self.RawRwLock.walked self.now (Bump access.Upgradable) (reading_answer result) token.old token.new }
-        ensures full { IfErr result (λ _. Self.RawRwLock.saw_full self.now access.Upgradable token.old token.new) };
+        ensures guard { MatchResult result
+            (Self.RawRwLockUpgrade.is_upgradable_of self.now) IsFull }
+        ensures path { Self.RawRwLock.walked self.now (Bump access.Upgradable)
+            (reading_answer result) token.old token.new }
+        ensures full { IfErr result
+            (λ _. Self.RawRwLock.saw_full self.now access.Upgradable token.old token.new) };
 }

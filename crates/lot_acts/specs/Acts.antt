@@ -32,7 +32,8 @@ is_there (Some x) = true
 abbrev pub any_picked : ℕ → Option Want → Bool
 any_picked sharers successor = not (sharers == 0) || is_there successor
 
--- whether an operation that is to hand a lock over does so, by the value that it finds: an exchange may fail
+-- whether an operation that is to hand a lock over does so, by the value that it finds: an exchange
+-- may fail
 abbrev pub takes_effect : Op → ℕ → Bool
 takes_effect (Exchange from to) seen = seen == from
 takes_effect op seen = true

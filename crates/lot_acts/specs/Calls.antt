@@ -1,4 +1,5 @@
--- What a step makes of a call, by the rows of the place before it and of the next one, and by its deeds: at one lock, and in no world.
+-- What a step makes of a call, by the rows of the place before it and of the next one, and by its
+-- deeds: at one lock, and in no world.
 use Rattle.std.specs.Prelude.{ℕ, Some, None, if◌then◌else◌, ◌≡◌, List}
 use Rattle.lot_calls.specs.declared.outcomes.Answer.{Answer}
 use Rattle.lot_acts.specs.declared.acts.Next.{Next}
@@ -23,7 +24,8 @@ call_by l row rights = record {
   recalls = row.recalls;
 }
 
--- and of a call of two locks, by its row at the second: what it tries again, and what it owned as it began
+-- and of a call of two locks, by its row at the second: what it tries again, and what it owned as
+-- it began
 abbrev pub call_of_two : ℕ → ℕ → Profile → Profile → (ℕ → Rights) → CallState
 call_of_two l m row beside rights = record (call_by l row rights) {
   former = beside.former m rights;
@@ -34,7 +36,8 @@ call_of_two l m row beside rights = record (call_by l row rights) {
 abbrev pub MayCome : ℕ → Profile → Event → Type 0
 MayCome l row Nothing = Unit {0}
 MayCome l row (AtLock k case) =
-    IsMadeOf (row.purpose l) (if row.gave_up then Some l else None) row.released row.recalls k case × IsTimely row.late case
+    IsMadeOf (row.purpose l) (if row.gave_up then Some l else None) row.released row.recalls k case
+    × IsTimely row.late case
 MayCome l row (Moves c m all owned number) = ⊥
 
 -- what the thread owns of each lock, where this one is so
@@ -50,7 +53,8 @@ IsNextCall l row event s s2 t next =
 -- the answer is true, wherever the lock is so, and the thread has of the others what it had
 abbrev pub IsTrueAnswer : Rules → ℕ → Profile → Event → LockState → LockState → ℕ → Answer → Type 0
 IsTrueAnswer r l row event s s2 t a =
-    (v : LocksState) (rights : ℕ → Rights) → rules_at v l ≡ r → v.locks l ≡ s2 → rights l ≡ rights_of s t
+    (v : LocksState) (rights : ℕ → Rights) → rules_at v l ≡ r → v.locks l ≡ s2
+    → rights l ≡ rights_of s t
     → ((k : ℕ) → rights_in v t k ≡ rights_where l s2 t rights k)
     → AnswerHolds (Some (row.purpose l)) v t (going_on event (call_by l row rights)) a
 
@@ -63,8 +67,10 @@ ComesTo r l row event s s2 t (End answer) = IsTrueAnswer r l row event s s2 t an
 abbrev pub event_at : ℕ → Profile → List Deed → Event
 event_at l row ds = event_of l row.carries ds
 
--- a thread at a place with this row does the deeds, and its call comes to what the next row or the answer says
-pub record CallFollows (r : Rules) (s : LockState) (t l : ℕ) (row : Profile) (ds : List Deed) (next : Next Profile) : Type 0 where
+-- a thread at a place with this row does the deeds, and its call comes to what the next row or the
+-- answer says
+pub record CallFollows (r : Rules) (s : LockState) (t l : ℕ) (row : Profile) (ds : List Deed)
+    (next : Next Profile) : Type 0 where
   pub one : AreOneCase ds
   pub may : MayCome l row (event_at l row ds)
   pub comes : ComesTo r l row (event_at l row ds) s (after_event r (event_at l row ds) s t) t next

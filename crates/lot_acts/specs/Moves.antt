@@ -1,5 +1,6 @@
--- Where a step takes its thread in the machine, by its act: into sections and lines, out of them, and into hands. For locks of every sort, by the
--- row of a place, the rows that replies lead to, and the deeds.
+-- Where a step takes its thread in the machine, by its act: into sections and lines, out of them,
+-- and into hands. For locks of every sort, by the row of a place, the rows that replies lead to,
+-- and the deeds.
 use Rattle.std.specs.Prelude.{ℕ, Bool, true, false, Option, Some, None, if◌then◌else◌, ◌≡◌, ◌≢◌, ◌≤◌, ◌⊎◌, List, [], ◌∷◌}
 use Rattle.lot_base.specs.declared.keys.Keys.TheVariants.{One}
 use Rattle.lot_base.specs.declared.notes.Note.TheVariants.{Normal, HandOff as HandOffNote}
@@ -28,7 +29,8 @@ abbrev pub row_of : Next Profile → Profile
 row_of (At row) = row
 row_of (Ends answer) = blank
 
--- a thread at a place: its row, where each reply leads it, and what it does then, where whomever it takes is no part of the place
+-- a thread at a place: its row, where each reply leads it, and what it does then, where whomever it
+-- takes is no part of the place
 pub record Move : Type 0 where
   pub row : Profile
   pub next : Reply → Profile
@@ -56,7 +58,8 @@ IsFree s m = (u : ℕ) → (s.doing u).inside ≢ Some m
 
 -- it stands in a line, and whether nobody else does
 abbrev pub StandsAlone : Site → ℕ → Line → Bool → Type 0
-StandsAlone s t Main alone = (1 ≤ times t s.lock.queue) × (alone ≡ is_empty (without t s.lock.queue))
+StandsAlone s t Main alone =
+    (1 ≤ times t s.lock.queue) × (alone ≡ is_empty (without t s.lock.queue))
 StandsAlone s t Second alone = s.lock.aside ≡ Some t
 
 -- who is taken of the second queue, and whether somebody is left in the main one
@@ -117,24 +120,34 @@ pub record GoesIn (x : Move) (hears : Hears) (m : Line) (told : Reply) : Type 0 
 pub record Parks (x : Move) (hears : Hears) (m : Line) (check : Check) (want : Want) : Type 0 where
   pub was : station_of x ≡ inside_of m
   pub parks : x.deeds None (Parked true) ≡ parks_in m want ∷ []
-  pub parked : station_then x (Parked true) ≡ record (inside_of m) { stands = Some m; waits = Some want }
+  pub parked : station_then x (Parked true)
+      ≡ record (inside_of m) { stands = Some m; waits = Some want }
   pub turns : x.deeds None (Parked false) ≡ []
   pub turned : station_then x (Parked false) ≡ inside_of m
-  pub may : (r : Rules) (s : Site) (t : ℕ) (b : Bool) → b ≡ holds check (code r s) → standing t s.lock ≡ 0 → hears r s t None (Parked b)
+  pub may : (r : Rules) (s : Site) (t : ℕ) (b : Bool) → b ≡ holds check (code r s)
+      → standing t s.lock ≡ 0 → hears r s t None (Parked b)
 
 -- it takes those of the main line whom the lock lets in beside what it keeps
 pub record Picks (x : Move) (hears : Hears) (start : Option Want) : Type 0 where
   pub was : station_of x ≡ inside_of Main
-  pub deeds : (n : ℕ) (y : Option Want) (none_left : Bool) → x.deeds None (Picked n y none_left) ≡ Case (TakePicked start) ∷ []
-  pub goes : (n : ℕ) (y : Option Want) (none_left : Bool) → station_then x (Picked n y none_left) ≡ record (inside_of Main) { carries = in_hand (any_picked n y) false }
-  pub may : (r : Rules) (s : Site) (t n : ℕ) (y : Option Want) (none_left : Bool) → MayTake r s start Main None none_left → hears r s t None (Picked n y none_left)
+  pub deeds : (n : ℕ) (y : Option Want) (none_left : Bool)
+      → x.deeds None (Picked n y none_left) ≡ Case (TakePicked start) ∷ []
+  pub goes : (n : ℕ) (y : Option Want) (none_left : Bool)
+      → station_then x (Picked n y none_left)
+      ≡ record (inside_of Main) { carries = in_hand (any_picked n y) false }
+  pub may : (r : Rules) (s : Site) (t n : ℕ) (y : Option Want) (none_left : Bool)
+      → MayTake r s start Main None none_left → hears r s t None (Picked n y none_left)
 
 -- it takes the writer aside
 pub record TakesAside (x : Move) (hears : Hears) : Type 0 where
   pub was : station_of x ≡ inside_of Second
-  pub deeds : (u : Option ℕ) (any none_left : Bool) → x.deeds u (Took any none_left) ≡ takes_aside u ∷ []
-  pub goes : (any none_left : Bool) → station_then x (Took any none_left) ≡ record (inside_of Second) { carries = in_hand any false }
-  pub may : (r : Rules) (s : Site) (t : ℕ) (any none_left : Bool) → hears r s t s.lock.aside (Took any none_left)
+  pub deeds : (u : Option ℕ) (any none_left : Bool)
+      → x.deeds u (Took any none_left) ≡ takes_aside u ∷ []
+  pub goes : (any none_left : Bool)
+      → station_then x (Took any none_left)
+      ≡ record (inside_of Second) { carries = in_hand any false }
+  pub may : (r : Rules) (s : Site) (t : ℕ) (any none_left : Bool)
+      → hears r s t s.lock.aside (Took any none_left)
 
 -- its time is up, and it leaves the line in which it stands
 pub record LeavesLine (x : Move) (hears : Hears) (m : Line) : Type 0 where
@@ -142,7 +155,8 @@ pub record LeavesLine (x : Move) (hears : Hears) (m : Line) : Type 0 where
   pub was : station_of x ≡ record (inside_of m) { stands = Some m; waits = Some want }
   pub deeds : (none_left : Bool) → x.deeds None (Removed none_left) ≡ Case GivesUp ∷ []
   pub goes : (none_left : Bool) → station_then x (Removed none_left) ≡ inside_of m
-  pub may : (r : Rules) (s : Site) (t : ℕ) (none_left : Bool) → StandsAlone s t m none_left → hears r s t None (Removed none_left)
+  pub may : (r : Rules) (s : Site) (t : ℕ) (none_left : Bool) → StandsAlone s t m none_left
+      → hears r s t None (Removed none_left)
 
 -- it goes out of the section of a line, and wakes whom it has in hand, if anybody
 pub record GoesOut (x : Move) (hears : Hears) (m : Line) (wakes : Wakes) : Type 0 where
@@ -157,7 +171,8 @@ pub record GoesOut (x : Move) (hears : Hears) (m : Line) (wakes : Wakes) : Type 
 
 -- ---------------------------------------------------------------- a right is handed over
 
--- what a thread claims that was handed what it wanted: a writer beside readers is pending, with nothing to fall back to
+-- what a thread claims that was handed what it wanted: a writer beside readers is pending, with
+-- nothing to fall back to
 abbrev pub claim_handed : Bool → Want → Claim
 claim_handed false Exclusive = Pends false
 claim_handed alone x = Has x
@@ -180,9 +195,12 @@ pub record HandsOver (x : Move) (op : Op) : Type 0 where
   pub none_left : Bool
   pub was : station_of x ≡ record (inside_of Main) { carries = in_hand any false }
   pub deeds : (whom : Option ℕ) (seen : ℕ) → takes_effect op seen ≡ true
-      → x.deeds whom (Value seen) ≡ Case (HandOff right (heir_of whom successor)) ∷ bit_left none_left ∷ []
-  pub goes : (seen : ℕ) → takes_effect op seen ≡ true → station_then x (Value seen) ≡ record (inside_of Main) { carries = in_hand any true }
-  pub fails : (whom : Option ℕ) (seen : ℕ) → takes_effect op seen ≡ false → x.deeds whom (Value seen) ≡ []
+      → x.deeds whom (Value seen)
+      ≡ Case (HandOff right (heir_of whom successor)) ∷ bit_left none_left ∷ []
+  pub goes : (seen : ℕ) → takes_effect op seen ≡ true
+      → station_then x (Value seen) ≡ record (inside_of Main) { carries = in_hand any true }
+  pub fails : (whom : Option ℕ) (seen : ℕ) → takes_effect op seen ≡ false
+      → x.deeds whom (Value seen) ≡ []
   pub stays : (seen : ℕ) → takes_effect op seen ≡ false → station_then x (Value seen) ≡ station_of x
 
 -- then it goes out of the section, and tells them
@@ -204,7 +222,8 @@ pub record Accepts (x : Move) (hears : Hears) : Type 0 where
 -- in the hand of a thread, it may be handed what it wants, which it claims then
 pub record IsGiven (x : Move) (u : ℕ) (want : Want) (alone : Bool) : Type 0 where
   pub goes : station_then x (HandedBy u alone) ≡ record nowhere { hand = hand u true }
-  pub claims : (x.next (HandedBy u alone)).doing ≡ record x.row.doing { claims = Some (claim_handed alone want) }
+  pub claims : (x.next (HandedBy u alone)).doing
+      ≡ record x.row.doing { claims = Some (claim_handed alone want) }
 
 -- and is told so when that thread leaves the section
 pub record WasGiven (x : Move) (u : ℕ) : Type 0 where
@@ -217,12 +236,17 @@ pub record WasGiven (x : Move) (u : ℕ) : Type 0 where
 -- at a lock, which is recursive or not, by the act
 abbrev pub Moves : ℕ → Bool → Move → Hears → Act → Type 0
 Moves l recursive x hears (act.Word k op) = (k ≡ l) × StaysPut x
-Moves l recursive x hears (act.Enter keys) = (m : Line) × (keys ≡ One (key_of l m)) × GoesIn x hears m Done
-Moves l recursive x hears (act.Park k key check want) = (m : Line) × (k ≡ l) × (key ≡ key_of l m) × Parks x hears m check want
-Moves l recursive x hears (act.Take key (whom.TheVariants.Picked start b)) = (key ≡ key_of l Main) × (b ≡ recursive) × Picks x hears start
-Moves l recursive x hears (act.Take key whom.TheVariants.First) = (key ≡ key_of l Second) × TakesAside x hears
+Moves l recursive x hears (act.Enter keys) =
+    (m : Line) × (keys ≡ One (key_of l m)) × GoesIn x hears m Done
+Moves l recursive x hears (act.Park k key check want) =
+    (m : Line) × (k ≡ l) × (key ≡ key_of l m) × Parks x hears m check want
+Moves l recursive x hears (act.Take key (whom.TheVariants.Picked start b)) =
+    (key ≡ key_of l Main) × (b ≡ recursive) × Picks x hears start
+Moves l recursive x hears (act.Take key whom.TheVariants.First) =
+    (key ≡ key_of l Second) × TakesAside x hears
 Moves l recursive x hears (act.Remove key) = (m : Line) × (key ≡ key_of l m) × LeavesLine x hears m
-Moves l recursive x hears (act.Leave keys wakes) = (m : Line) × (keys ≡ One (key_of l m)) × GoesOut x hears m wakes
+Moves l recursive x hears (act.Leave keys wakes) =
+    (m : Line) × (keys ≡ One (key_of l m)) × GoesOut x hears m wakes
 Moves l recursive x hears act.Sleep = Unit {0}
 Moves l recursive x hears (act.End answer) = Unit {0}
 Moves l recursive x hears act = ⊥
@@ -245,8 +269,11 @@ pub record IsHeld (x : Move) (u : ℕ) : Type 0 where
   pub woken : station_then x (Woken Normal) ≡ nowhere
   pub doing : (x.next (Woken Normal)).doing ≡ record x.row.doing { retries = Some want }
 
--- who stands in a line sleeps there or is inside its section, only a pending writer stands aside, and who is in a hand is so to be woken
+-- who stands in a line sleeps there or is inside its section, only a pending writer stands aside,
+-- and who is in a hand is so to be woken
 pub record Waits (x : Move) : Type 0 where
-  pub aside : x.row.stands ≡ Some Second → (x.row.wants ≡ Some Exclusive) × ((falls_back : Bool) × (x.row.doing.claims ≡ Some (Pends falls_back)))
+  pub aside : x.row.stands ≡ Some Second
+      → (x.row.wants ≡ Some Exclusive)
+      × ((falls_back : Bool) × (x.row.doing.claims ≡ Some (Pends falls_back)))
   pub stands : (m : Line) → x.row.stands ≡ Some m → ((station_of x).inside ≡ Some m) ⊎ Sleeps x m
   pub held : (u : ℕ) (handed : Bool) → x.row.hand ≡ hand u handed → (handed ≡ false) × IsHeld x u

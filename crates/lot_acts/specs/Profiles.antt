@@ -1,4 +1,5 @@
--- What a place says of its thread: all that is asked of a place is read off its profile, and each sort of lock has a row for each place.
+-- What a place says of its thread: all that is asked of a place is read off its profile, and each
+-- sort of lock has a row for each place.
 use Rattle.std.specs.Prelude.{ℕ, Bool, false, Option, Some, None, if◌then◌else◌}
 use Rattle.lot_base.specs.declared.wants.Want.{Want}
 use Rattle.lot_base.specs.declared.wants.Want.TheVariants.{Exclusive}
@@ -49,7 +50,8 @@ pub record Profile : Type 0 where
   pub failed : Bool
   -- what a call of a condition variable has seen and moved, and what befell it
   pub recalls : Recall
-  -- what it is about to do inside the section of a condition variable, and the mutex that its wait names
+  -- what it is about to do inside the section of a condition variable, and the mutex that its wait
+  -- names
   pub stage : Option Stage
   pub names : Option ℕ
   -- what its call is for, by the lock, and whether it has given its right up
@@ -87,5 +89,6 @@ bringing_nobody row = record row { doing = record row.doing { brings = false; se
 
 -- by whom it was taken from a queue of the lock, where it was not handed the lock since
 abbrev pub taken_from : Option Hand → Option Want → Bool → Option Taken
-taken_from (Some (Of u false)) (Some x) here = if here then Some (record { by = u; want = x }) else None
+taken_from (Some (Of u false)) (Some x) here =
+    if here then Some (record { by = u; want = x }) else None
 taken_from held x here = None

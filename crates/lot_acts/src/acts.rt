@@ -14,7 +14,8 @@ pub enum Check {
     Blocked { want: Want, recursive: bool },
     /// Of a reader-writer lock: readers are left, and the bit of the second queue is set.
     ReadersLeft,
-    /// Of a `Once`: its parked bit is set, it is not done, and not poisoned either for who isn't forced.
+    /// Of a `Once`: its parked bit is set, it is not done, and not poisoned either for who isn't
+    /// forced.
     Unfinished { forced: bool },
 }
 
@@ -48,14 +49,16 @@ pub enum Act {
         lock: usize,
         op: Op,
     },
-    /// One operation on the word of a lock, which hands the lock to those whom the thread has taken.
+    /// One operation on the word of a lock, which hands the lock to those whom the thread has
+    /// taken.
     HandOver {
         lock: usize,
         op: Op,
     },
     /// Enters sections. All of them have to be free.
     Enter(Keys),
-    /// Loads the word inside the section, and where the check holds stands behind the last of the queue.
+    /// Loads the word inside the section, and where the check holds stands behind the last of the
+    /// queue.
     Park {
         lock: usize,
         key: Key,
@@ -109,8 +112,8 @@ pub enum Reply {
         any: bool,
         none_left: bool,
     },
-    /// How many of those who were picked want to share, what the one of them wants that wants more, and
-    /// whether none is left in the queue.
+    /// How many of those who were picked want to share, what the one of them wants that wants more,
+    /// and whether none is left in the queue.
     Picked {
         sharers: usize,
         successor: Option<Want>,
@@ -129,7 +132,8 @@ pub enum Reply {
     TakenBy(usize),
     /// Another thread moved this one to the queue of this key.
     MovedTo(Key),
-    /// The thread that took this one has handed it the lock, and whether nobody shares the lock now.
+    /// The thread that took this one has handed it the lock, and whether nobody shares the lock
+    /// now.
     HandedBy {
         by: usize,
         alone: bool,
@@ -177,7 +181,8 @@ impl Check {
     }
 }
 
-/// Whether an operation that is to hand a lock over does so, by the value that it finds: an exchange may fail.
+/// Whether an operation that is to hand a lock over does so, by the value that it finds: an
+/// exchange may fail.
 pub fn takes_effect(op: Op, seen: u64) -> bool
     ensures { result ≡ takes_effect op seen }
 {

@@ -1,4 +1,5 @@
-//! What a thread does in one step, what it is told, and who owns a lock: the words in which the steps of all calls are written.
+//! What a thread does in one step, what it is told, and who owns a lock: the words in which the
+//! steps of all calls are written.
 #![tactic(auto)]
 
 pub mod acts;

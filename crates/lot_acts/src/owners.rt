@@ -40,8 +40,8 @@ pub enum Phase {
     Done,
 }
 
-/// The owners of a lock, of each sort that one thread has alone; of a `Once`, how far it has come; of a condition variable, the mutex
-/// with which its waiters wait.
+/// The owners of a lock, of each sort that one thread has alone; of a `Once`, how far it has come;
+/// of a condition variable, the mutex with which its waiters wait.
 #[derive(Clone, Copy, Debug, PartialEq, Eq)]
 pub struct Owners {
     pub exclusive: Option<usize>,

@@ -9,9 +9,11 @@ use Rattle.lot_base.specs.declared.wants.Want.{Want}
 
 -- where each thread stands at most once, it does so behind each call
 pub record EachStandsOnce (waiters : List Waiter) (capacity : ℕ) : Type 0 where
-  pub appended : (key thread : ℕ) (want : Want) → thread < capacity → IsSeated (without thread waiters ++ waiter key thread want ∷ []) capacity
+  pub appended : (key thread : ℕ) (want : Want) → thread < capacity
+      → IsSeated (without thread waiters ++ waiter key thread want ∷ []) capacity
   pub first_taken : (key : ℕ) → IsSeated (without_first key waiters) capacity
   pub all_taken : (key : ℕ) → IsSeated (without_key key waiters) capacity
-  pub picked : (start : Option Want) (recursive : Bool) (key : ℕ) → IsSeated (without_lock_picked start recursive key waiters) capacity
+  pub picked : (start : Option Want) (recursive : Bool) (key : ℕ)
+      → IsSeated (without_lock_picked start recursive key waiters) capacity
   pub requeued : (op : Requeue) (from to : ℕ) → IsSeated (requeued op from to waiters) capacity
   pub removed : (thread : ℕ) → IsSeated (without thread waiters) capacity

@@ -58,5 +58,6 @@ pub record Waiting : Type 0 where
   pub capacity : ℕ
 
 -- a line begins at place 0
-pub line-from_first : (key : ℕ) (waiters : List Waiter) → line key (drop 0 waiters) ≡ line key waiters
+pub line-from_first : (key : ℕ) (waiters : List Waiter)
+    → line key (drop 0 waiters) ≡ line key waiters
 line-from_first key waiters = refl

@@ -9,7 +9,8 @@ use Rattle.lot_base.specs.declared.wants.Want.{Want}
 use Rattle.lot_base.specs.declared.wants.Want.TheVariants.{Exclusive, Upgradable, Shared}
 
 -- who is taken of a line: the picker is asked for each want from the front, until it answers `Stop`
-abbrev pub picked : {P : Type 0} → (P → Want → Pick) → (P → Want → P) → P → List Waiter → List Waiter
+abbrev pub picked : {P : Type 0} → (P → Want → Pick) → (P → Want → P) → P → List Waiter
+    → List Waiter
 picked answer next picker [] = []
 picked answer next picker (x ∷ xs) = elim (answer picker x.want) [
   | Unpark ↦ x ∷ picked answer next (next picker x.want) xs
@@ -18,7 +19,8 @@ picked answer next picker (x ∷ xs) = elim (answer picker x.want) [
 ]
 
 -- the list without those who are taken of the line of a key
-abbrev pub without_picked : {P : Type 0} → (P → Want → Pick) → (P → Want → P) → P → ℕ → List Waiter → List Waiter
+abbrev pub without_picked : {P : Type 0} → (P → Want → Pick) → (P → Want → P) → P → ℕ → List Waiter
+    → List Waiter
 without_picked answer next picker key [] = []
 without_picked answer next picker key (x ∷ xs) = if x.key == key
     then (elim (answer picker x.want) [
@@ -51,4 +53,5 @@ abbrev pub lock_picked : Option Want → Bool → List Waiter → List Waiter
 lock_picked start recursive line = picked lock_answer next_picker (lock_picker start recursive) line
 
 abbrev pub without_lock_picked : Option Want → Bool → ℕ → List Waiter → List Waiter
-without_lock_picked start recursive key waiters = without_picked lock_answer next_picker (lock_picker start recursive) key waiters
+without_lock_picked start recursive key waiters =
+    without_picked lock_answer next_picker (lock_picker start recursive) key waiters

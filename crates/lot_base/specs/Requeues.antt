@@ -22,6 +22,9 @@ abbrev pub left_by : Requeue → ℕ → List Waiter → List Waiter
 left_by One key waiters = without_first key waiters
 left_by _ key waiters = without_key key waiters
 
--- the list after a requeue: who was moved stands behind the last of another key, and wants to own alone
+-- the list after a requeue: who was moved stands behind the last of another key, and wants to own
+-- alone
 abbrev pub requeued : Requeue → ℕ → ℕ → List Waiter → List Waiter
-requeued op from to waiters = left_by op from waiters ++ map (λ (x : Waiter). waiter to x.thread Exclusive) (moved_by op (line from waiters))
+requeued op from to waiters =
+    left_by op from waiters ++ map
+    (λ (x : Waiter). waiter to x.thread Exclusive) (moved_by op (line from waiters))

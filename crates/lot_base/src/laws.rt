@@ -6,5 +6,6 @@ ghost use Rattle.lot_base.specs.declared.wants.Waiter.{Waiter};
 
 /// Where each thread stands at most once, it does so behind each call of the queues.
 pub fn each_thread_stands_once()
-    ensures { (waiters : List Waiter) (capacity : ℕ) → IsSeated waiters capacity → EachStandsOnce waiters capacity }
+    ensures { (waiters : List Waiter) (capacity : ℕ) → IsSeated waiters capacity
+        → EachStandsOnce waiters capacity }
 {}

@@ -1,4 +1,5 @@
-//! What every lock stands on: faults, the operations of a word, the keys of its queues, the queues, and clocks.
+//! What every lock stands on: faults, the operations of a word, the keys of its queues, the queues,
+//! and clocks.
 #![tactic(auto)]
 
 pub mod clocks;

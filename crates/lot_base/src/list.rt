@@ -53,9 +53,11 @@ fn take_picked<P: Picker + Drop>(
     out: &mut Vec<usize>,
 )
     requires { vec_len out.old + vec_len waiters.old ≤ vec_capacity out.old }
-    ensures taken { out.new.items ≡ out.old.items ++ threads_of (picked P.answer P.next picker (line key waiters.old.items)) }
+    ensures taken { out.new.items
+        ≡ out.old.items ++ threads_of (picked P.answer P.next picker (line key waiters.old.items)) }
     ensures room { vec_capacity out.new ≡ vec_capacity out.old }
-    ensures waiting { waiters.new.items ≡ without_picked P.answer P.next picker key waiters.old.items }
+    ensures waiting { waiters.new.items
+        ≡ without_picked P.answer P.next picker key waiters.old.items }
     ensures capacity { vec_capacity waiters.new ≡ vec_capacity waiters.old }
 {
     let mut at = 0;
@@ -78,7 +80,8 @@ fn take_picked<P: Picker + Drop>(
 
 /// Moves the first under a key behind the last under another, where there is one.
 fn move_first(waiters: &mut Vec<Waiter>, from: Key, to: Key) -> bool
-    ensures moved { (if result then 1 else 0) ≡ length (moved_by One (line from waiters.old.items)) }
+    ensures moved { (if result then 1 else 0)
+        ≡ length (moved_by One (line from waiters.old.items)) }
     ensures waiting { waiters.new.items ≡ requeued One from to waiters.old.items }
     ensures capacity { vec_capacity waiters.new ≡ vec_capacity waiters.old }
 {
@@ -107,7 +110,8 @@ fn move_all(waiters: &mut Vec<Waiter>, from: Key, to: Key) -> usize
     number
 }
 
-/// One list of all waiters. A call goes through the whole list, at most; a requeue does so for each whom it moves.
+/// One list of all waiters. A call goes through the whole list, at most; a requeue does so for each
+/// whom it moves.
 #[derive(Drop)]
 pub struct ListQueues {
     waiters: Vec<Waiter>,
@@ -123,7 +127,8 @@ impl Model for ListQueues {
 
     ghost view = { λ a. record { waiters = a.waiters.items; capacity = a.capacity } };
 
-    ghost invariant = { λ a. (a.capacity ≤ vec_capacity a.waiters) × IsSeated a.waiters.items a.capacity };
+    ghost invariant = { λ a. (a.capacity ≤ vec_capacity a.waiters)
+        × IsSeated a.waiters.items a.capacity };
 }
 
 impl Queues for ListQueues {

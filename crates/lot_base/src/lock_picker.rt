@@ -17,7 +17,8 @@ pub enum LockPicker {
 }
 
 impl LockPicker {
-    /// The picker of a thread that keeps a right of its own, or none. Who keeps the upgradable right wakes readers alone.
+    /// The picker of a thread that keeps a right of its own, or none. Who keeps the upgradable
+    /// right wakes readers alone.
     pub fn new(start: Option<Want>, recursive: bool) -> LockPicker
         ensures { result ≡ lock_picker start recursive }
     {

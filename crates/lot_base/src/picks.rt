@@ -16,7 +16,8 @@ pub enum Pick {
     Stop,
 }
 
-/// Picks who is taken of a line. It is asked for each want from the front, and may remember what it answered.
+/// Picks who is taken of a line. It is asked for each want from the front, and may remember what it
+/// answered.
 pub trait Picker {
     /// What it answers to a want.
     ghost answer: { Self → Want → Pick };

@@ -31,10 +31,12 @@ pub trait Queues {
         ensures ok { IfOk result (λ queues. (waiting queues ≡ []) × (capacity queues ≡ threads)) }
         ensures err { IfErr result (λ fault. fault ≡ Fault.NoMemory) };
 
-    /// Puts a thread behind the last under a key. One that stands somewhere leaves that place first.
+    /// Puts a thread behind the last under a key. One that stands somewhere leaves that place
+    /// first.
     fn append(&mut self, key: Key, thread: usize, want: Want)
         requires { thread < capacity self.old }
-        ensures lines { lines (waiting self.new) ≡ lines (without thread (waiting self.old) ++ waiter key thread want ∷ []) }
+        ensures lines { lines (waiting self.new)
+            ≡ lines (without thread (waiting self.old) ++ waiter key thread want ∷ []) }
         ensures capacity { capacity self.new ≡ capacity self.old };
 
     /// Takes the first under a key.
@@ -52,22 +54,25 @@ pub trait Queues {
         ensures lines { lines (waiting self.new) ≡ lines (without_key key (waiting self.old)) }
         ensures capacity { capacity self.new ≡ capacity self.old };
 
-    /// Takes those under a key whom a picker picks, and pushes them to `out` in their order. The others keep theirs.
+    /// Takes those under a key whom a picker picks, and pushes them to `out` in their order. The
+    /// others keep theirs.
     fn take_by<P: Picker + Drop>(&mut self, key: Key, picker: P, out: &mut Vec<usize>)
         requires { vec_len out.old + capacity self.old ≤ vec_capacity out.old }
         ensures taken { out.new.items ≡ out.old.items
             ++ threads_of (picked P.answer P.next picker (line key (waiting self.old))) }
         ensures room { vec_capacity out.new ≡ vec_capacity out.old }
-        ensures lines { lines (waiting self.new) ≡ lines (without_picked P.answer P.next picker key (waiting self.old)) }
+        ensures lines { lines (waiting self.new)
+            ≡ lines (without_picked P.answer P.next picker key (waiting self.old)) }
         ensures capacity { capacity self.new ≡ capacity self.old };
 
-    /// Moves waiters from under a key behind the last under another. Those who are moved want to own alone from then on.
-    /// It answers who was taken, if any, and how many were moved.
+    /// Moves waiters from under a key behind the last under another. Those who are moved want to
+    /// own alone from then on. It answers who was taken, if any, and how many were moved.
     fn requeue(&mut self, from: Key, to: Key, op: Requeue) -> (Option<usize>, usize)
         requires { from ≢ to }
         ensures taken { result.0 ≡ taken_by op (line from (waiting self.old)) }
         ensures seated { IfSome result.0 (λ thread. thread < capacity self.old) }
-        ensures number { (result.1 ≡ length (moved_by op (line from (waiting self.old)))) × (result.1 ≤ capacity self.old) }
+        ensures number { (result.1 ≡ length (moved_by op (line from (waiting self.old))))
+            × (result.1 ≤ capacity self.old) }
         ensures lines { lines (waiting self.new) ≡ lines (requeued op from to (waiting self.old)) }
         ensures capacity { capacity self.new ≡ capacity self.old };
 

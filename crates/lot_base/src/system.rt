@@ -9,8 +9,9 @@ const SHORTEST: u64 = 10_000;
 
 const LONGEST: u64 = 1_000_000;
 
-/// The system's monotonic time. A pause lasts 10 microseconds at first, and twice as long each further time, up to a
-/// millisecond, so that a sleeper sees its wake soon. A clock that can't be read tells the last of all times.
+/// The system's monotonic time. A pause lasts 10 microseconds at first, and twice as long each
+/// further time, up to a millisecond, so that a sleeper sees its wake soon. A clock that can't be
+/// read tells the last of all times.
 #[derive(Drop)]
 pub struct SystemClock<R: SystemTimes> {
     rt: R,

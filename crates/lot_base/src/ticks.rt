@@ -4,7 +4,8 @@ use std::sync::atomic::AtomicU64;
 use std::sync::atomic::Ordering::SeqCst;
 use std::thread::yield_now;
 
-/// A clock on which each look takes a nanosecond, whichever thread looks. A pause lets other threads run.
+/// A clock on which each look takes a nanosecond, whichever thread looks. A pause lets other
+/// threads run.
 #[derive(Drop)]
 pub struct TickClock {
     start: u64,

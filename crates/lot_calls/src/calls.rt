@@ -12,7 +12,8 @@ pub enum MutexCall {
     Unlock,
     /// Hands the mutex to the first waiter, where there is one. Needs the exclusive right.
     UnlockFair,
-    /// Hands the mutex to the first waiter, where there is one, and locks it again. Needs the exclusive right.
+    /// Hands the mutex to the first waiter, where there is one, and locks it again. Needs the
+    /// exclusive right.
     Bump,
 }
 
@@ -66,14 +67,16 @@ pub enum RwLockCall {
     Downgrade(Downgrade),
     /// Turns the upgradable right, which it needs, into the exclusive one.
     Upgrade(Patience),
-    /// Needs the right that it gives up, and hands the lock over where somebody waits. A shared right is released as by any
-    /// release.
+    /// Needs the right that it gives up, and hands the lock over where somebody waits. A shared
+    /// right is released as by any release.
     ReleaseFair(Access),
-    /// Needs the right, and waits for it again where it has given it up: it does so only where somebody waits.
+    /// Needs the right, and waits for it again where it has given it up: it does so only where
+    /// somebody waits.
     Bump(Access),
 }
 
-/// The calls of a `Once`. One that is forced goes on where the last run failed; any other answers `Poisoned` there.
+/// The calls of a `Once`. One that is forced goes on where the last run failed; any other answers
+/// `Poisoned` there.
 #[derive(Clone, Copy, Debug, PartialEq, Eq)]
 pub enum OnceCall {
     /// Runs a closure, unless a run has succeeded, and waits while another runs.
@@ -85,8 +88,8 @@ pub enum OnceCall {
 /// The calls of a condition variable.
 #[derive(Clone, Copy, Debug, PartialEq, Eq)]
 pub enum CondvarCall {
-    /// Releases the mutex of this number, and locks it again once it is notified, or where its time is up. Needs the exclusive right
-    /// to the mutex.
+    /// Releases the mutex of this number, and locks it again once it is notified, or where its time
+    /// is up. Needs the exclusive right to the mutex.
     Wait { mutex: usize, timed: bool },
     /// Wakes the first waiter, or all. Where their mutex is owned they wait for that instead.
     Notify { all: bool },
@@ -142,7 +145,8 @@ impl Call {
         }
     }
 
-    /// The lock to which the call needs a right, if it needs one: of a wait the mutex that it names.
+    /// The lock to which the call needs a right, if it needs one: of a wait the mutex that it
+    /// names.
     pub fn needs_right_to(self) -> usize
         ensures { result ≡ right_in self }
     {

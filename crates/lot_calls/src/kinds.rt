@@ -22,8 +22,8 @@ pub enum Kind {
 }
 
 impl Kind {
-    /// Whether a world of this many threads may have such a lock: its reader limit, if it has one, is
-    /// at least the number of threads and at most 2^60 - 2.
+    /// Whether a world of this many threads may have such a lock: its reader limit, if it has one,
+    /// is at least the number of threads and at most 2^60 - 2.
     pub fn fits(self, threads: usize) -> bool
         ensures { result ≡ fits self threads }
     {

@@ -43,7 +43,6 @@ use Rattle.lot_condvar.specs.CondvarSteps.{in_lock as in_lock_once, behind, cond
 use Rattle.lot_condvar.specs.CondvarProfiles.{has_moved, mutex_side, condvar_profile}
 use Rattle.lot_condvar.specs.CondvarDeeds.{relocked_deeds}
 use Rattle.lot_condvar.specs.CondvarWaits as waits
-use Rattle.lot_condvar.specs.CondvarWaits.{waiter_deeds}
 use Rattle.lot_condvar.specs.CondvarCalls.{IsLockOf, IsReached}
 use Rattle.lot_condvar.specs.CondvarMoves.{WaitersLookAgain, WaitsBegin, CondvarMoves, IsInHand, LooksMove, NotifiesMove, SleepsBeside, SleepsThere, StayBeside, StayThere, StaysBeside, StaysThere, WaitersMove, WaitsAtBoth, WaitsMove, beside, row_beside, row_there, there}
 

@@ -13,7 +13,7 @@ use Rattle.lot_acts.specs.declared.acts.Next.TheVariants.{At, End}
 use Rattle.lot_acts.specs.declared.acts.Reply.{Reply}
 use Rattle.lot_acts.specs.declared.acts.Reply.TheVariants as reply
 use Rattle.lot_acts.specs.declared.owners.Owners.{Owners}
-use Rattle.abstract_locks.specs.Condvars.{Stage, Rests, Adds, Refuses, Misses, Sees, Takes, Clears, Inside, CondvarSite, IsCondvar, CondvarDeed, EndsWait, GoesIn, GoesOut, Show, SeeOther, StandLast, SeeAgain, MissIt, Hide, MoveFirst, MoveAll, LeaveList, Clear, MayGo, MayGoOut, CondvarNeeded, IsAsInside, IsInsideAt, IsInsideNot, at, clears_if, condvar_leads, hidden, moving, waiter}
+use Rattle.abstract_locks.specs.Condvars.{Stage, Rests, Refuses, Misses, Sees, Takes, Clears, Inside, CondvarSite, IsCondvar, CondvarDeed, Show, SeeOther, SeeAgain, MissIt, Hide, MoveFirst, MoveAll, LeaveList, Clear, MayGo, MayGoOut, IsAsInside, IsInsideAt, IsInsideNot, at, condvar_leads, hidden, waiter}
 use Rattle.abstract_locks.specs.Condvars as condvars
 use Rattle.abstract_locks.specs.Locks.{Queued, putting, times, without}
 use Rattle.abstract_locks.specs.Sites.{Doing, is_empty}

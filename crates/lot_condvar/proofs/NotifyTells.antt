@@ -8,11 +8,11 @@ use Rattle.lot_acts.specs.declared.acts.Next.{Next}
 use Rattle.lot_acts.specs.declared.acts.Next.TheVariants.{At, End as Over}
 use Rattle.lot_acts.specs.declared.acts.Reply.{Reply}
 use Rattle.lot_acts.specs.declared.acts.Reply.TheVariants.{Done, Value, Parked, Took, Requeued, Removed, Late, Woken}
-use Rattle.abstract_locks.specs.Condvars.{CondvarSite, Inside, IsAsInside, IsCondvar, IsInsideAt, Misses, MoveFits, Rests, Stage, Takes}
+use Rattle.abstract_locks.specs.Condvars.{CondvarSite, Inside, IsAsInside, IsCondvar, IsInsideAt, Misses, MoveFits, Rests, Takes}
 use Rattle.abstract_locks.specs.Condvars as condvars
 use Rattle.abstract_locks.specs.Deeds.{after_all}
 use Rattle.abstract_locks.specs.Locks as cases
-use Rattle.abstract_locks.specs.Locks.{LockState, Mutex, OfCondvar, Rights, Rules, SeeOwner, Wake, rights_of}
+use Rattle.abstract_locks.specs.Locks.{LockState, OfCondvar, Rights, Rules, SeeOwner, Wake, rights_of}
 use Rattle.abstract_locks.specs.Purposes.{Blank, HasMoved, Notifies, Saw}
 use Rattle.abstract_locks.specs.Runs.{AnswerHolds, AtLock, CallState, Keeps, LocksState, MovedNobody, Moves, Nothing, going_on}
 use Rattle.abstract_locks.specs.Sites.{MarkOwned, Site}

@@ -10,7 +10,7 @@ use Rattle.lot_acts.specs.declared.acts.Reply.{Reply}
 use Rattle.lot_acts.specs.declared.acts.Reply.TheVariants.{Done, Value, Parked, Took, Removed, TakenBy, MovedTo, HandedBy, Late, Woken}
 use Rattle.lot_acts.specs.Calls.{rights_where}
 use Rattle.lot_acts.specs.Profiles.{in_hand}
-use Rattle.abstract_locks.specs.Condvars.{CondvarSite, Inside, IsAsInside, IsCondvar, Refuses, SeeOther, Show, Stage, IsInsideAt}
+use Rattle.abstract_locks.specs.Condvars.{CondvarSite, Inside, IsAsInside, IsCondvar, Refuses, SeeOther, Show}
 use Rattle.abstract_locks.specs.Condvars as condvars
 use Rattle.abstract_locks.specs.Deeds.{after_all, event_by, event_of}
 use Rattle.abstract_locks.specs.Locks as cases
@@ -37,9 +37,9 @@ use Rattle.lot_condvar.specs.declared.wait.WaitAt.{WaitAt}
 use Rattle.lot_condvar.specs.declared.wait.WaitAt.TheVariants as wait
 use Rattle.lot_condvar.specs.CondvarSteps.{behind, condvar_next, in_wait, is_shown, released, relocked, waited}
 use Rattle.lot_condvar.specs.CondvarProfiles.{condvar_profile, has_mutex, wait_row}
-use Rattle.lot_condvar.specs.CondvarDeeds.{IsAt, MayHear, condvar_deeds, relocked_deeds}
+use Rattle.lot_condvar.specs.CondvarDeeds.{IsAt, condvar_deeds, relocked_deeds}
 use Rattle.lot_condvar.specs.CondvarDeeds as deeds
-use Rattle.lot_condvar.specs.CondvarWaits.{MayBefall, MayHearLocking, MayHearReleasing, MayHearWaiter, waiter_deeds}
+use Rattle.lot_condvar.specs.CondvarWaits.{MayHearLocking, MayHearReleasing, MayHearWaiter, waiter_deeds}
 use Rattle.lot_condvar.specs.CondvarWaits as waits
 use Rattle.lot_condvar.specs.CondvarCalls.{CallFollows, IsReached, MayComeOfTwo, WaitersAreTold, WaitsTell, call_at, case_there, heard, or_else, wait_event}
 use Rattle.lot_condvar.proofs.WaiterFit.{owns, unlocked_free, zero_free}

@@ -1,5 +1,5 @@
--- What each step does to the condition variable: the deeds of each place, and their laws. What it does to the mutex beside it is no part
--- of them.
+-- What each step does to the condition variable: the deeds of each place, and their laws. What it
+-- does to the mutex beside it is no part of them.
 use Rattle.std.specs.Prelude.{ℕ, Bool, true, false, Option, Some, None, if◌then◌else◌, ◌==◌, ◌||◌, ◌≡◌, ◌≢◌, List, [], ◌∷◌, drop, length}
 use Rattle.lot_base.specs.declared.ops.Op.{Op}
 use Rattle.lot_base.specs.Words.{apply}
@@ -33,7 +33,8 @@ relocked_deeds (End answer) = EndsWait ∷ []
 
 abbrev pub wait_deeds : ℕ → WaitAt → Reply → List CondvarDeed
 wait_deeds m wait.Enter Done = GoesIn ∷ []
-wait_deeds m wait.Show (Value seen) = if (seen == 0) || is_shown seen m then Show m ∷ [] else SeeOther m ∷ []
+wait_deeds m wait.Show (Value seen) =
+    if (seen == 0) || is_shown seen m then Show m ∷ [] else SeeOther m ∷ []
 wait_deeds m wait.Stand Done = StandLast ∷ []
 wait_deeds m wait.Leave Done = GoesOut ∷ []
 wait_deeds m wait.Refuse Done = GoesOut ∷ EndsWait ∷ []
@@ -46,10 +47,12 @@ wait_deeds m at told = []
 
 abbrev pub notify_deeds : Bool → ℕ → NotifyAt → Reply → List CondvarDeed
 notify_deeds all m notify.Enter Done = GoesIn ∷ []
-notify_deeds all m notify.Again (Value seen) = if is_shown seen m then SeeAgain m ∷ [] else MissIt m ∷ []
+notify_deeds all m notify.Again (Value seen) =
+    if is_shown seen m then SeeAgain m ∷ [] else MissIt m ∷ []
 notify_deeds all m notify.Hide (Value seen) = Hide ∷ []
 notify_deeds all m (notify.Move locked) (Took any none_left) = MoveFirst ∷ []
-notify_deeds all m (notify.Move locked) (Requeued number none_left) = if all then MoveAll ∷ [] else MoveFirst ∷ []
+notify_deeds all m (notify.Move locked) (Requeued number none_left) =
+    if all then MoveAll ∷ [] else MoveFirst ∷ []
 notify_deeds all m (notify.Clear any) (Value seen) = Clear ∷ []
 notify_deeds all m (notify.Leave any number) Done = GoesOut ∷ []
 notify_deeds all m at told = []
@@ -124,8 +127,10 @@ MayHearNotifying c all notify.Again (Value seen) = seen ≡ word_of c.shown
 MayHearNotifying c all notify.Hide (Value seen) = all ≡ true
 MayHearNotifying c all notify.Mark (Value seen) = Unit {0}
 MayHearNotifying c all (notify.Set expected) (Value seen) = Unit {0}
-MayHearNotifying c false (notify.Move locked) (Took any none_left) = none_left ≡ is_empty (drop 1 c.waiters)
-MayHearNotifying c false (notify.Move locked) (Requeued number none_left) = none_left ≡ is_empty (drop 1 c.waiters)
+MayHearNotifying c false (notify.Move locked) (Took any none_left) =
+    none_left ≡ is_empty (drop 1 c.waiters)
+MayHearNotifying c false (notify.Move locked) (Requeued number none_left) =
+    none_left ≡ is_empty (drop 1 c.waiters)
 MayHearNotifying c true (notify.Move locked) (Requeued number none_left) = number ≡ length c.waiters
 MayHearNotifying c all (notify.Clear any) (Value seen) = Unit {0}
 MayHearNotifying c all (notify.MarkMoved number) (Value seen) = number ≢ 0
@@ -146,26 +151,33 @@ pub record Follows (c : CondvarSite) (t : ℕ) (p : CondvarPlace) (told : Reply)
 
 abbrev pub CondvarStepsFollow : Type 0
 CondvarStepsFollow =
-    (c : CondvarSite) (t : ℕ) (p : CondvarPlace) (told : Reply) → IsCondvar c → IsAt c t p → MayHear c t p told
+    (c : CondvarSite) (t : ℕ) (p : CondvarPlace) (told : Reply) → IsCondvar c → IsAt c t p
+    → MayHear c t p told
     → Follows c t p told
 
 -- each step on its word, which is no word of the mutex beside it, leaves that word behind the deeds
 abbrev pub CondvarStepsCode : Type 0
 CondvarStepsCode =
-    (c : CondvarSite) (t k : ℕ) (p : CondvarPlace) (f : Op) → condvar_act k p ≡ act.Word k f → mutex_beside p ≢ Some k
-    → apply f (word_of c.shown) ≡ word_of (after_all (condvar_deeds p (Value (word_of c.shown))) c t).shown
+    (c : CondvarSite) (t k : ℕ) (p : CondvarPlace) (f : Op) → condvar_act k p ≡ act.Word k f
+    → mutex_beside p ≢ Some k
+    → apply f (word_of c.shown)
+    ≡ word_of (after_all (condvar_deeds p (Value (word_of c.shown))) c t).shown
 
 -- and shows what is shown then
 abbrev pub CondvarOwnersFollow : Type 0
 CondvarOwnersFollow =
-    (c : CondvarSite) (t k : ℕ) (p : CondvarPlace) (f : Op) (o : Owners) → condvar_act k p ≡ act.Word k f
+    (c : CondvarSite) (t k : ℕ) (p : CondvarPlace) (f : Op) (o : Owners)
+    → condvar_act k p ≡ act.Word k f
     → mutex_beside p ≢ Some k → o.shown ≡ c.shown
     → condvar_owners p t (word_of c.shown) o
     ≡ record o { shown = (after_all (condvar_deeds p (Value (word_of c.shown))) c t).shown }
 
--- where a notification moves, it moves somebody, each of them waits with the mutex that it saw, and that mutex may be brought them
+-- where a notification moves, it moves somebody, each of them waits with the mutex that it saw, and
+-- that mutex may be brought them
 abbrev pub CondvarMovesFit : Type 0
 CondvarMovesFit =
-    (r : Rules) (all locked : Bool) (c : CondvarSite) (s : Site) (t m : ℕ) → r.sort ≡ Mutex → IsCondvar c → WaitsAside c s m
-    → IsAt c t (Notify all m (notify.Move locked)) → s.doing t ≡ (notify_row all m (notify.Move locked)).doing
+    (r : Rules) (all locked : Bool) (c : CondvarSite) (s : Site) (t m : ℕ) → r.sort ≡ Mutex
+    → IsCondvar c → WaitsAside c s m
+    → IsAt c t (Notify all m (notify.Move locked))
+    → s.doing t ≡ (notify_row all m (notify.Move locked)).doing
     → MoveFits r all locked c s t m

@@ -1,4 +1,5 @@
--- Where each step in a call of a condition variable takes its thread in the machine, at each of its two locks.
+-- Where each step in a call of a condition variable takes its thread in the machine, at each of its
+-- two locks.
 use Rattle.std.specs.Prelude.{ℕ, Bool, true, false, Option, Some, None, ◌≡◌, ◌⊎◌, List, [], ◌∷◌, if◌then◌else◌, not}
 use Rattle.lot_base.specs.declared.keys.Keys.TheVariants.{One, Two}
 use Rattle.lot_base.specs.declared.notes.Note.TheVariants.{Normal, HandOff as HandOffNote}
@@ -54,7 +55,8 @@ there p = station_by (condvar_profile p)
 abbrev pub there_then : CondvarPlace → Reply → Station
 there_then p told = station_by (row_there (condvar_next p told))
 
--- at the mutex beside it; of these waiters it moves some, and whomever it takes there is no part of the place
+-- at the mutex beside it; of these waiters it moves some, and whomever it takes there is no part of
+-- the place
 abbrev pub deeds_beside : List Queued → CondvarPlace → Option ℕ → Reply → List Deed
 deeds_beside q (Wait m timed at) whom told = waiter_deeds at whom told
 deeds_beside q (Look all) whom told = []
@@ -71,7 +73,8 @@ beside q p = record {
 abbrev pub hears_beside : CondvarPlace → Hears
 hears_beside (Wait m timed at) r s t whom told = MayHearWaiter r s t at whom told
 hears_beside (Look all) r s t whom told = Unit {0}
-hears_beside (Notify all m at) r s t whom told = (v : CondvarSite) → MayHearBeside r s v t m all at told
+hears_beside (Notify all m at) r s t whom told = (v : CondvarSite)
+    → MayHearBeside r s v t m all at told
 
 -- ---------------------------------------------------------------- at the condition variable
 
@@ -100,7 +103,8 @@ pub record GoesInThere (p : CondvarPlace) (told : Reply) : Type 0 where
 pub record StandsThere (p : CondvarPlace) : Type 0 where
   pub was : there p ≡ inside_of Main
   pub deeds : condvar_deeds p Done ≡ StandLast ∷ []
-  pub goes : there_then p Done ≡ record (inside_of Main) { stands = Some Main; waits = Some WaitHere }
+  pub goes : there_then p Done
+      ≡ record (inside_of Main) { stands = Some Main; waits = Some WaitHere }
 
 -- its time is up, and it leaves the queue
 pub record LeavesThere (p : CondvarPlace) : Type 0 where
@@ -142,9 +146,12 @@ pub record GoesInBeside (x : Move) (hears : Hears) (told : Reply) : Type 0 where
 pub record TakesBeside (x : Move) (hears : Hears) : Type 0 where
   pub inside : (station_of x).inside ≡ Some Main
   pub empty_handed : (station_of x).carries ≡ None
-  pub deeds : (whom : Option ℕ) (any none_left : Bool) → x.deeds whom (Took any none_left) ≡ takes whom
-  pub goes : (any none_left : Bool) → station_then x (Took any none_left) ≡ record (station_of x) { carries = in_hand any false }
-  pub may : (r : Rules) (s : Site) (t : ℕ) (whom : Option ℕ) (any none_left : Bool) → TakesFirst s whom any none_left
+  pub deeds : (whom : Option ℕ) (any none_left : Bool)
+      → x.deeds whom (Took any none_left) ≡ takes whom
+  pub goes : (any none_left : Bool)
+      → station_then x (Took any none_left) ≡ record (station_of x) { carries = in_hand any false }
+  pub may : (r : Rules) (s : Site) (t : ℕ) (whom : Option ℕ) (any none_left : Bool)
+      → TakesFirst s whom any none_left
       → HasTakenNobody s.lock t → hears r s t whom (Took any none_left)
 
 -- it goes out of the section, and wakes whom it has in hand, if anybody
@@ -158,44 +165,61 @@ pub record GoesOutBeside (x : Move) (wakes : Wakes) : Type 0 where
 
 -- ---------------------------------------------------------------- at both
 
--- a notification moves the first waiter, or all; of a mutex that nobody owns it takes the first of them
-pub record MovesWaiters (q : List Queued) (p : CondvarPlace) (all locked : Bool) (told : Reply) : Type 0 where
+-- a notification moves the first waiter, or all; of a mutex that nobody owns it takes the first of
+-- them
+pub record MovesWaiters (q : List Queued) (p : CondvarPlace) (all locked : Bool)
+    (told : Reply) : Type 0 where
   pub inside : ((there p) ≡ inside_of Main) × (station_of (beside q p) ≡ inside_of Main)
   pub deeds_there : condvar_deeds p told ≡ (if all then MoveAll else MoveFirst) ∷ []
-  pub deeds_beside : deeds_beside q p None told ≡ Bring (taken_of locked (moved_of all q)) (line_of locked (moved_of all q)) ∷ []
+  pub deeds_beside : deeds_beside q p None told
+      ≡ Bring (taken_of locked (moved_of all q)) (line_of locked (moved_of all q)) ∷ []
   pub stays : there_then p told ≡ there p
-  pub carries : station_then (beside q p) told ≡ record (inside_of Main) { carries = in_hand (not locked) false }
+  pub carries : station_then (beside q p) told
+      ≡ record (inside_of Main) { carries = in_hand (not locked) false }
 
 -- what is moved, by how
 abbrev pub MovesBy : List Queued → CondvarPlace → Requeue → Type 0
-MovesBy q p requeue.One = (number : ℕ) (none_left : Bool) → MovesWaiters q p false true (Requeued number none_left)
-MovesBy q p requeue.All = (number : ℕ) (none_left : Bool) → MovesWaiters q p true true (Requeued number none_left)
-MovesBy q p requeue.TakeOneMoveRest = (number : ℕ) (none_left : Bool) → MovesWaiters q p true false (Requeued number none_left)
+MovesBy q p requeue.One = (number : ℕ) (none_left : Bool)
+    → MovesWaiters q p false true (Requeued number none_left)
+MovesBy q p requeue.All = (number : ℕ) (none_left : Bool)
+    → MovesWaiters q p true true (Requeued number none_left)
+MovesBy q p requeue.TakeOneMoveRest = (number : ℕ) (none_left : Bool)
+    → MovesWaiters q p true false (Requeued number none_left)
 
--- by the act: what is done under the key of one of the two locks leaves the thread where it is at the other
+-- by the act: what is done under the key of one of the two locks leaves the thread where it is at
+-- the other
 abbrev pub CondvarMoves : ℕ → ℕ → List Queued → CondvarPlace → Act → Type 0
 CondvarMoves c m q p (act.Word k op) =
-    ((k ≡ c) ⊎ (k ≡ m)) × ((seen : ℕ) → StaysThere p (Value seen) × StaysBeside (beside q p) (Value seen))
+    ((k ≡ c) ⊎ (k ≡ m)) ×
+    ((seen : ℕ) → StaysThere p (Value seen) × StaysBeside (beside q p) (Value seen))
 CondvarMoves c m q p (act.Enter keys) =
     ((keys ≡ One (key_of c Main)) × GoesInThere p Done × StaysBeside (beside q p) Done)
-    ⊎ (((keys ≡ One (key_of m Main)) × StaysThere p Done × GoesInBeside (beside q p) (hears_beside p) Done)
-    ⊎ ((keys ≡ Two (key_of c Main) (key_of m Main)) × GoesInThere p Done × GoesInBeside (beside q p) (hears_beside p) Done))
+    ⊎ (((keys ≡ One (key_of m Main)) × StaysThere p Done
+    × GoesInBeside (beside q p) (hears_beside p) Done)
+    ⊎ ((keys ≡ Two (key_of c Main) (key_of m Main)) × GoesInThere p Done
+    × GoesInBeside (beside q p) (hears_beside p) Done))
 CondvarMoves c m q p (act.Stand key want) =
     (key ≡ key_of c Main) × (want ≡ WaitHere) × StandsThere p × StaysBeside (beside q p) Done
 CondvarMoves c m q p (act.Park k key check want) =
     (k ≡ m) × (key ≡ key_of m Main) × Parks (beside q p) (hears_beside p) Main check want
     × ((parked : Bool) → StaysThere p (Parked parked))
 CondvarMoves c m q p (act.Take key First) =
-    ((key ≡ key_of m Main) × TakesBeside (beside q p) (hears_beside p) × ((any none_left : Bool) → StaysThere p (Took any none_left)))
-    ⊎ ((key ≡ key_of c Main) × ((none_left : Bool) → MovesWaiters q p false false (Took true none_left)))
-CondvarMoves c m q p (act.Requeue from to how) = (from ≡ key_of c Main) × (to ≡ key_of m Main) × MovesBy q p how
+    ((key ≡ key_of m Main) × TakesBeside (beside q p) (hears_beside p)
+    × ((any none_left : Bool) → StaysThere p (Took any none_left)))
+    ⊎ ((key ≡ key_of c Main)
+    × ((none_left : Bool) → MovesWaiters q p false false (Took true none_left)))
+CondvarMoves c m q p (act.Requeue from to how) =
+    (from ≡ key_of c Main) × (to ≡ key_of m Main) × MovesBy q p how
 CondvarMoves c m q p (act.Remove key) =
-    ((key ≡ key_of c Main) × LeavesThere p × ((none_left : Bool) → StaysBeside (beside q p) (Removed none_left)))
-    ⊎ ((key ≡ key_of m Main) × ((none_left : Bool) → StaysThere p (Removed none_left)) × LeavesLine (beside q p) (hears_beside p) Main)
+    ((key ≡ key_of c Main) × LeavesThere p
+    × ((none_left : Bool) → StaysBeside (beside q p) (Removed none_left)))
+    ⊎ ((key ≡ key_of m Main) × ((none_left : Bool) → StaysThere p (Removed none_left))
+    × LeavesLine (beside q p) (hears_beside p) Main)
 CondvarMoves c m q p (act.Leave keys wakes) =
     ((keys ≡ One (key_of c Main)) × GoesOutThere p × StaysBeside (beside q p) Done)
     ⊎ (((keys ≡ One (key_of m Main)) × StaysThere p Done × GoesOutBeside (beside q p) wakes)
-    ⊎ ((keys ≡ Two (key_of c Main) (key_of m Main)) × GoesOutThere p × GoesOutBeside (beside q p) wakes))
+    ⊎ ((keys ≡ Two (key_of c Main) (key_of m Main)) × GoesOutThere p
+    × GoesOutBeside (beside q p) wakes))
 CondvarMoves c m q p act.Accept = StaysThere p Done × Accepts (beside q p) (hears_beside p)
 CondvarMoves c m q p act.Sleep = Unit {0}
 CondvarMoves c m q p act = ⊥
@@ -217,64 +241,83 @@ LooksMove = (c m : ℕ) (all : Bool) → CondvarMoves c m [] (Look all) (condvar
 
 -- ---------------------------------------------------------------- what befalls a waiter
 
--- who stands in the queue of the condition variable is taken or moved: it stands there no more, and is in a hand at the mutex, or stands there
+-- who stands in the queue of the condition variable is taken or moved: it stands there no more, and
+-- is in a hand at the mutex, or stands there
 pub record SleepsThere (p : CondvarPlace) : Type 0 where
-  pub was : ((there p).stands ≡ Some Main) × ((station_of (beside [] p)).stands ≡ None) × ((station_of (beside [] p)).hand ≡ None)
-  pub taken : (u : ℕ) → (there_then p (TakenBy u) ≡ record (there p) { stands = None; waits = None })
-      × (station_then (beside [] p) (TakenBy u) ≡ record (station_of (beside [] p)) { hand = hand u false })
-  pub moved : (key : ℕ) → (there_then p (MovedTo key) ≡ record (there p) { stands = None; waits = None })
-      × (station_then (beside [] p) (MovedTo key) ≡ record (station_of (beside [] p)) { stands = Some Main; waits = Some Exclusive })
+  pub was : ((there p).stands ≡ Some Main) × ((station_of (beside [] p)).stands ≡ None)
+      × ((station_of (beside [] p)).hand ≡ None)
+  pub taken : (u : ℕ) → (there_then p (TakenBy u)
+      ≡ record (there p) { stands = None; waits = None })
+      × (station_then (beside [] p) (TakenBy u)
+      ≡ record (station_of (beside [] p)) { hand = hand u false })
+  pub moved : (key : ℕ) →
+      (there_then p (MovedTo key) ≡ record (there p) { stands = None; waits = None })
+      × (station_then (beside [] p) (MovedTo key)
+      ≡ record (station_of (beside [] p)) { stands = Some Main; waits = Some Exclusive })
 
 -- who stands in that of the mutex is taken
 pub record SleepsBeside (p : CondvarPlace) : Type 0 where
   pub was : ((station_of (beside [] p)).stands ≡ Some Main) × ((there p).stands ≡ None)
   pub taken : (u : ℕ) → (there_then p (TakenBy u) ≡ there p)
-      × (station_then (beside [] p) (TakenBy u) ≡ record (station_of (beside [] p)) { stands = None; waits = None; hand = hand u false })
+      × (station_then (beside [] p) (TakenBy u)
+      ≡ record (station_of (beside [] p)) { stands = None; waits = None; hand = hand u false })
 
 -- who is in a hand is handed the mutex, or woken, and then stands nowhere
 pub record IsHeldBeside (p : CondvarPlace) (u : ℕ) : Type 0 where
-  pub was : ((station_of (beside [] p)).hand ≡ hand u false) × ((station_of (beside [] p)).stands ≡ None) × ((there p).stands ≡ None)
+  pub was : ((station_of (beside [] p)).hand ≡ hand u false)
+      × ((station_of (beside [] p)).stands ≡ None) × ((there p).stands ≡ None)
   pub handed : (alone : Bool) → (there_then p (HandedBy u alone) ≡ there p)
-      × (station_then (beside [] p) (HandedBy u alone) ≡ record (station_of (beside [] p)) { hand = hand u true })
+      × (station_then (beside [] p) (HandedBy u alone)
+      ≡ record (station_of (beside [] p)) { hand = hand u true })
   pub woken : (there_then p (Woken Normal) ≡ there p)
-      × (station_then (beside [] p) (Woken Normal) ≡ record (station_of (beside [] p)) { hand = None })
+      × (station_then (beside [] p) (Woken Normal)
+      ≡ record (station_of (beside [] p)) { hand = None })
 
 -- who was handed the mutex is told so
 pub record WasGivenBeside (p : CondvarPlace) (u : ℕ) : Type 0 where
-  pub was : ((station_of (beside [] p)).hand ≡ hand u true) × ((station_of (beside [] p)).stands ≡ None) × ((there p).stands ≡ None)
+  pub was : ((station_of (beside [] p)).hand ≡ hand u true)
+      × ((station_of (beside [] p)).stands ≡ None) × ((there p).stands ≡ None)
   pub told : (there_then p (Woken HandOffNote) ≡ there p)
-      × (station_then (beside [] p) (Woken HandOffNote) ≡ record (station_of (beside [] p)) { hand = None })
+      × (station_then (beside [] p) (Woken HandOffNote)
+      ≡ record (station_of (beside [] p)) { hand = None })
 
 abbrev pub IsInHand : CondvarPlace → ℕ → Bool → Type 0
 IsInHand p u false = IsHeldBeside p u
 IsInHand p u true = WasGivenBeside p u
 
--- who stands in one of the two queues is inside its section, or is so to be taken, and who is in a hand is so to be told
+-- who stands in one of the two queues is inside its section, or is so to be taken, and who is in a
+-- hand is so to be told
 pub record WaitsAtBoth (p : CondvarPlace) : Type 0 where
   pub listed : (there p).stands ≡ Some Main → ((there p).inside ≡ Some Main) ⊎ SleepsThere p
   pub moved : (station_of (beside [] p)).stands ≡ Some Main
       → ((station_of (beside [] p)).inside ≡ Some Main) ⊎ SleepsBeside p
-  pub held : (u : ℕ) (handed : Bool) → (station_of (beside [] p)).hand ≡ hand u handed → IsInHand p u handed
+  pub held : (u : ℕ) (handed : Bool) → (station_of (beside [] p)).hand ≡ hand u handed
+      → IsInHand p u handed
 
 abbrev pub WaitersMove : Type 0
-WaitersMove = (m : ℕ) (timed : Bool) (at : WaitAt) → IsReached (Wait m timed at) → WaitsAtBoth (Wait m timed at)
+WaitersMove = (m : ℕ) (timed : Bool) (at : WaitAt) → IsReached (Wait m timed at)
+    → WaitsAtBoth (Wait m timed at)
 
 -- ---------------------------------------------------------------- where a call begins, and where it looks at its mutex once more
 
 -- it stands nowhere, and a wait owns its mutex
-pub record BeginsAt (v : CondvarSite) (r : Rules) (s : Site) (t c m : ℕ) (timed : Bool) : Type 0 where
+pub record BeginsAt (v : CondvarSite) (r : Rules) (s : Site) (t c m : ℕ)
+    (timed : Bool) : Type 0 where
   pub reached : IsReached (condvar_first (call.Wait m timed))
   pub needed : CondvarNeeded (BeginsWait m) v t × Needed r (Begin (Some (Has Exclusive))) s t
   pub at : IsAt (condvar_leads (BeginsWait m) v t) t (condvar_first (call.Wait m timed))
-  pub doing : (after_deed r (Begin (Some (Has Exclusive))) s t).doing t ≡ (wait_row m wait.Enter).doing
+  pub doing : (after_deed r (Begin (Some (Has Exclusive))) s t).doing t
+      ≡ (wait_row m wait.Enter).doing
   pub stations : (there (condvar_first (call.Wait m timed)) ≡ nowhere)
       × (station_of (beside [] (condvar_first (call.Wait m timed))) ≡ nowhere)
   pub call : (rights : ℕ → Rights)
-      → call_at c m (condvar_first (call.Wait m timed)) rights ≡ new_call (Some (Waits c m timed)) rights
+      → call_at c m (condvar_first (call.Wait m timed)) rights
+      ≡ new_call (Some (Waits c m timed)) rights
 
 abbrev pub WaitsBegin : Type 0
 WaitsBegin =
-    (v : CondvarSite) (r : Rules) (s : Site) (t c m : ℕ) (timed : Bool) → IsAway v t → Owns s.lock t Exclusive
+    (v : CondvarSite) (r : Rules) (s : Site) (t c m : ℕ) (timed : Bool) → IsAway v t
+    → Owns s.lock t Exclusive
     → s.doing t ≡ idle → BeginsAt v r s t c m timed
 
 -- its rows are the same there

@@ -1,5 +1,5 @@
--- What each place of a condition variable says of its thread, there and at the mutex beside it: a row for each place. All that is asked of
--- a place is read off its row.
+-- What each place of a condition variable says of its thread, there and at the mutex beside it: a
+-- row for each place. All that is asked of a place is read off its row.
 use Rattle.std.specs.Prelude.{ℕ, Bool, true, false, Option, Some, None, if◌then◌else◌, ◌==◌, ◌&&◌, ◌||◌, ◌*◌, is_none}
 use Rattle.lot_base.specs.declared.notes.Note.TheVariants as note
 use Rattle.lot_base.specs.declared.wants.Want.{Want}
@@ -21,8 +21,8 @@ use Rattle.lot_condvar.specs.declared.wait.WaitAt.{WaitAt}
 use Rattle.lot_condvar.specs.declared.wait.WaitAt.TheVariants as wait
 
 pub record CondvarRow : Type 0 where
-  -- inside the section of the condition variable, what it is about to do there; the mutex that its wait names, and whether it stands
-  -- in the queue of the condition variable
+  -- inside the section of the condition variable, what it is about to do there; the mutex that its
+  -- wait names, and whether it stands in the queue of the condition variable
   pub stage : Option Stage
   pub waits_with : Option ℕ
   pub listed : Bool
@@ -134,13 +134,15 @@ wait_row m wait.Show = coming Rests
 wait_row m wait.Stand = coming (Adds m)
 wait_row m wait.Leave = record (coming Rests) { listed = true }
 wait_row m wait.Refuse = coming (Refuses m)
-wait_row m (wait.Release s at) = standing s (record (beside (mutex_profile at)) { doing = befell s (mutex_profile at).doing })
+wait_row m (wait.Release s at) =
+    standing s (record (beside (mutex_profile at)) { doing = befell s (mutex_profile at).doing })
 wait_row m (wait.Asleep s) = standing s (record blank { doing = befell s idle })
 wait_row m wait.Remove = record (waiting_at Rests) { listed = true }
 wait_row m wait.Hide = waiting_at Clears
 wait_row m wait.GiveUp = waiting_at Rests
 wait_row m wait.RemoveMoved = leaving_mutex true inside
-wait_row m (wait.GiveUpMoved none_left) = leaving_mutex false (record inside { empty = found Main none_left })
+wait_row m (wait.GiveUpMoved none_left) =
+    leaving_mutex false (record inside { empty = found Main none_left })
 wait_row m (wait.Lock timed_out at) = beside (mutex_profile at)
 
 -- ---------------------------------------------------------------- who notifies
@@ -153,14 +155,16 @@ abbrev pub has_moved : Bool → Bool → Doing
 has_moved any sets = record inside { carries = true; covers = any; sets = sets }
 
 abbrev pub both : Stage → Doing → CondvarRow
-both stage doing = record blank { stage = Some stage; doing = doing; owes = true; owes_mutex = true }
+both stage doing = record blank
+    { stage = Some stage; doing = doing; owes = true; owes_mutex = true }
 
 -- it has moved nobody, or so many
 abbrev pub told_stage : ℕ → ℕ → Stage
 told_stage m number = if number == 0 then Misses m else Rests
 
 abbrev pub told_of : Bool → ℕ → ℕ → CondvarRow
-told_of any number m = both (told_stage m number) (if number == 0 then inside else has_moved any false)
+told_of any number m = both (told_stage m number)
+    (if number == 0 then inside else has_moved any false)
 
 abbrev pub notify_row : Bool → ℕ → NotifyAt → CondvarRow
 notify_row all m notify.Enter = blank
@@ -233,7 +237,8 @@ abbrev pub may_give_up : CondvarPlace → Bool
 may_give_up (Wait m timed (wait.Asleep s)) = timed
 may_give_up p = false
 
--- its time is up, and it leaves, or has left, the queue of the condition variable; or it leaves that of the mutex
+-- its time is up, and it leaves, or has left, the queue of the condition variable; or it leaves
+-- that of the mutex
 abbrev pub is_late : CondvarPlace → Bool
 is_late (Wait m timed wait.RemoveMoved) = true
 is_late (Wait m timed wait.Remove) = true
@@ -300,7 +305,8 @@ condvar_recalls (Notify all m at) = notify_recalls m at
 
 -- a wait owned its mutex as it began, by whether it does now
 abbrev pub owned_before : CondvarPlace → ℕ → (ℕ → Rights) → ℕ → Rights
-owned_before (Wait m timed at) l rights = before_release l (is_none (wait_row m at).doing.claims) rights
+owned_before (Wait m timed at) l rights =
+    before_release l (is_none (wait_row m at).doing.claims) rights
 owned_before p l rights = rights
 
 -- whether it has anybody in hand, who waits for the mutex

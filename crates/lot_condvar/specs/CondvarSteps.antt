@@ -1,4 +1,5 @@
--- The steps of a condition variable: what a thread does at each place, and where each reply leads it.
+-- The steps of a condition variable: what a thread does at each place, and where each reply leads
+-- it.
 use Rattle.std.specs.Prelude.{ℕ, Bool, true, false, Option, Some, None, if◌then◌else◌, ◌==◌, not, ◌&&◌, ◌||◌, nat_lt, ◌<◌, ◌+◌, ◌-◌, ◌*◌, ◌^◌}
 use Rattle.lot_base.specs.declared.keys.Keys.TheVariants.{One, Two}
 use Rattle.lot_base.specs.declared.notes.Note.TheVariants as note
@@ -88,7 +89,8 @@ wait_act c m (wait.Lock timed_out at) = mutex_act m at
 
 -- whom it moves to a mutex that somebody owned, or else takes
 abbrev pub move_act : Bool → Bool → ℕ → ℕ → Act
-move_act true locked c m = act.Requeue (2 * c) (2 * m) (if locked then requeue.All else requeue.TakeOneMoveRest)
+move_act true locked c m =
+    act.Requeue (2 * c) (2 * m) (if locked then requeue.All else requeue.TakeOneMoveRest)
 move_act false true c m = act.Requeue (2 * c) (2 * m) requeue.One
 move_act false false c m = act.Take (2 * c) First
 
@@ -101,7 +103,8 @@ notify_act all c m (notify.Set seen) = act.Word m (op.Exchange seen 3)
 notify_act all c m (notify.Move locked) = move_act all locked c m
 notify_act all c m (notify.Clear any) = act.Word c (op.Store 0)
 notify_act all c m (notify.MarkMoved number) = act.Word m (op.Or 2)
-notify_act all c m (notify.Leave any number) = act.Leave (Two (2 * c) (2 * m)) (wakes_taken any note.Normal)
+notify_act all c m (notify.Leave any number) =
+    act.Leave (Two (2 * c) (2 * m)) (wakes_taken any note.Normal)
 
 abbrev pub condvar_act : ℕ → CondvarPlace → Act
 condvar_act c (Wait m timed at) = wait_act c m at
@@ -129,7 +132,8 @@ befallen s reply = s
 abbrev pub first_lock : Bool → MutexPlace
 first_lock retries = mutex.Lock entry.Lock retries lock.First
 
--- behind its release: with a normal note it locks the mutex again, with that of a hand-off it has it
+-- behind its release: with a normal note it locks the mutex again, with that of a hand-off it has
+-- it
 abbrev pub behind : Stands → WaitAt
 behind (stands.Noted note.Normal) = wait.Lock false (first_lock true)
 behind (stands.Noted note.HandOff) = wait.Lock false (mutex.Lock entry.Lock false lock.Accept)
@@ -145,7 +149,8 @@ late_place s = wait.Asleep s
 
 -- what a wait answers with the mutex
 abbrev pub waited : Bool → Bool → Answer
-waited timed timed_out = if not timed then answer.Ok else if timed_out then answer.TimedOut else answer.Notified
+waited timed timed_out =
+    if not timed then answer.Ok else if timed_out then answer.TimedOut else answer.Notified
 
 abbrev pub released : Stands → Next MutexPlace → WaitAt
 released s (At at) = wait.Release s at
@@ -160,17 +165,20 @@ asleep_next s Late = late_place s
 asleep_next s reply = behind (befallen s reply)
 
 abbrev pub release_next : Stands → MutexPlace → Reply → WaitAt
-release_next s at reply = if befalls reply then wait.Release (befallen s reply) at else released s (mutex_next at reply)
+release_next s at reply =
+    if befalls reply then wait.Release (befallen s reply) at else released s (mutex_next at reply)
 
 abbrev pub next_wait : ℕ → Bool → WaitAt → Reply → Next WaitAt
 next_wait m timed wait.Enter Done = At wait.Show
-next_wait m timed wait.Show (Value seen) = if (seen == 0) || is_shown seen m then At wait.Stand else At wait.Refuse
+next_wait m timed wait.Show (Value seen) =
+    if (seen == 0) || is_shown seen m then At wait.Stand else At wait.Refuse
 next_wait m timed wait.Stand Done = At wait.Leave
 next_wait m timed wait.Leave Done = At (wait.Release stands.Listed (mutex.Unlock unlock.Subtract))
 next_wait m timed wait.Refuse Done = End answer.TwoMutexes
 next_wait m timed (wait.Release s at) reply = At (release_next s at reply)
 next_wait m timed (wait.Asleep s) reply = At (asleep_next s reply)
-next_wait m timed wait.Remove (Removed none_left) = if none_left then At wait.Hide else At wait.GiveUp
+next_wait m timed wait.Remove (Removed none_left) =
+    if none_left then At wait.Hide else At wait.GiveUp
 next_wait m timed wait.Hide (Value seen) = At wait.GiveUp
 next_wait m timed wait.GiveUp Done = At (wait.Lock true (first_lock false))
 next_wait m timed wait.RemoveMoved (Removed none_left) = At (wait.GiveUpMoved none_left)
@@ -180,7 +188,8 @@ next_wait m timed at reply = At at
 
 -- what a notification answers that has taken and moved so many
 abbrev pub notified : Bool → ℕ → Answer
-notified all number = if all then answer.Number number else if number == 0 then answer.No else answer.Yes
+notified all number = if all then answer.Number number else if number == 0 then answer.No
+    else answer.Yes
 
 -- by the word of the mutex that it saw
 abbrev pub marks : ℕ → NotifyAt
@@ -196,7 +205,8 @@ moved_one any none_left = if none_left then notify.Clear any else notify.Leave a
 
 abbrev pub moved_all : Bool → ℕ → NotifyAt
 moved_all locked number =
-    if not locked && nat_lt 1 number then notify.MarkMoved number else notify.Leave (not locked) number
+    if not locked && nat_lt 1 number then notify.MarkMoved number
+    else notify.Leave (not locked) number
 
 abbrev pub next_notify : Bool → ℕ → NotifyAt → Reply → Next NotifyAt
 next_notify all m notify.Enter Done = At notify.Again
@@ -226,7 +236,8 @@ abbrev pub mutex_shown : ℕ → ℕ
 mutex_shown seen = seen - 1
 
 abbrev pub look_next : Bool → ℕ → Next CondvarPlace
-look_next all seen = if seen == 0 then End (notified all 0) else At (Notify all (mutex_shown seen) notify.Enter)
+look_next all seen = if seen == 0 then End (notified all 0)
+    else At (Notify all (mutex_shown seen) notify.Enter)
 
 abbrev pub condvar_next : CondvarPlace → Reply → Next CondvarPlace
 condvar_next (Wait m timed at) reply = in_wait m timed (next_wait m timed at reply)
@@ -240,14 +251,16 @@ in_lock m timed timed_out None = None
 in_lock m timed timed_out (Some at) = Some (Wait m timed (wait.Lock timed_out at))
 
 abbrev pub condvar_looking : CondvarPlace → Option CondvarPlace
-condvar_looking (Wait m timed (wait.Lock timed_out at)) = in_lock m timed timed_out (mutex_looking at)
+condvar_looking (Wait m timed (wait.Lock timed_out at)) =
+    in_lock m timed timed_out (mutex_looking at)
 condvar_looking p = None
 
 -- ---------------------------------------------------------------- who owns
 
 -- who owns the mutex, or which one is shown, behind an operation on a word that saw this value
 abbrev pub condvar_owners : CondvarPlace → ℕ → ℕ → Owners → Owners
-condvar_owners (Wait m timed wait.Show) t seen owners = if seen == 0 then record owners { shown = Some m } else owners
+condvar_owners (Wait m timed wait.Show) t seen owners =
+    if seen == 0 then record owners { shown = Some m } else owners
 condvar_owners (Wait m timed wait.Hide) t seen owners = record owners { shown = None }
 condvar_owners (Notify all m notify.Hide) t seen owners = record owners { shown = None }
 condvar_owners (Notify all m (notify.Clear any)) t seen owners = record owners { shown = None }

@@ -5,7 +5,8 @@ ghost use Rattle.lot_condvar.specs.CondvarMoves.{LooksMove, NotifiesMove, Waiter
 ghost use Rattle.lot_condvar.specs.CondvarMutex.{NotifiersCode, NotifiersFollow};
 ghost use Rattle.lot_condvar.specs.CondvarWaits.{WaitersCode, WaitersFollow, WaitersHear};
 
-/// Each step of a thread may do to the condition variable what its deeds say, and its next place says where the thread is behind them.
+/// Each step of a thread may do to the condition variable what its deeds say, and its next place
+/// says where the thread is behind them.
 pub fn condvar_steps_follow()
     ensures { CondvarStepsFollow }
 {}
@@ -20,12 +21,14 @@ pub fn condvar_owners_follow()
     ensures { CondvarOwnersFollow }
 {}
 
-/// Where a notification moves waiters, there are some, each waits with the mutex that it saw, and that mutex may be brought them.
+/// Where a notification moves waiters, there are some, each waits with the mutex that it saw, and
+/// that mutex may be brought them.
 pub fn condvar_moves_fit()
     ensures { CondvarMovesFit }
 {}
 
-/// Each step of a notification may do to the mutex beside it what its deeds say, and its next place says what the thread does there then.
+/// Each step of a notification may do to the mutex beside it what its deeds say, and its next place
+/// says what the thread does there then.
 pub fn notifiers_follow()
     ensures { NotifiersFollow }
 {}
@@ -35,23 +38,27 @@ pub fn notifiers_code()
     ensures { NotifiersCode }
 {}
 
-/// Each step of a wait may do to its mutex what its deeds say, and its next place says what the thread does there then.
+/// Each step of a wait may do to its mutex what its deeds say, and its next place says what the
+/// thread does there then.
 pub fn waiters_follow()
     ensures { WaitersFollow }
 {}
 
-/// And each of its steps on the word of the mutex leaves the word of the mutex behind its deeds, and the owner.
+/// And each of its steps on the word of the mutex leaves the word of the mutex behind its deeds,
+/// and the owner.
 pub fn waiters_code()
     ensures { WaitersCode }
 {}
 
-/// What befalls it, as it stands in a queue or is in a hand, makes of what it does there what its next place says.
+/// What befalls it, as it stands in a queue or is in a hand, makes of what it does there what its
+/// next place says.
 pub fn waiters_hear()
     ensures { WaitersHear }
 {}
 
-/// Each step of a wait makes of its call what its next rows say, the call is made of what the step does, and its answer is true: no wait
-/// ends as notified that wasn't, and each has its mutex again.
+/// Each step of a wait makes of its call what its next rows say, the call is made of what the step
+/// does, and its answer is true: no wait ends as notified that wasn't, and each has its mutex
+/// again.
 pub fn waits_tell()
     ensures { WaitsTell }
 {}
@@ -61,7 +68,8 @@ pub fn waiters_are_told()
     ensures { WaitersAreTold }
 {}
 
-/// Each step of a notification makes of its call what its next rows say, and it answers how many it has moved.
+/// Each step of a notification makes of its call what its next rows say, and it answers how many it
+/// has moved.
 pub fn notifies_tell()
     ensures { NotifiesTell }
 {}
@@ -76,8 +84,8 @@ pub fn condvar_places_reached()
     ensures { CondvarPlacesReached }
 {}
 
-/// Each step of a wait takes its thread in the machine where its act says, at each of its two locks: into sections and queues, out of them,
-/// and into hands.
+/// Each step of a wait takes its thread in the machine where its act says, at each of its two
+/// locks: into sections and queues, out of them, and into hands.
 pub fn waits_move()
     ensures { WaitsMove }
 {}

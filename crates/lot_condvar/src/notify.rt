@@ -1,4 +1,5 @@
-//! How a thread notifies whoever waits on a condition variable: the first, or all. It has seen that a mutex is shown.
+//! How a thread notifies whoever waits on a condition variable: the first, or all. It has seen that
+//! a mutex is shown.
 //!
 //! | place | does | then |
 //! |---|---|---|

@@ -67,7 +67,8 @@ fn look_next(all: bool, seen: u64) -> Next<CondvarPlace>
     })
 }
 
-/// Whether a thread has the right that a call needs: of a wait, to the mutex that it names, with these owners.
+/// Whether a thread has the right that a call needs: of a wait, to the mutex that it names, with
+/// these owners.
 pub fn condvar_right(call: CondvarCall, thread: usize, owners: Owners) -> bool
     ensures { result ≡ condvar_right call thread owners }
 {
@@ -154,7 +155,8 @@ impl CondvarPlace {
         }
     }
 
-    /// Who owns the mutex, or which one is shown, after the thread's operation on a word, which saw this value.
+    /// Who owns the mutex, or which one is shown, after the thread's operation on a word, which saw
+    /// this value.
     pub fn owners_after(self, thread: usize, seen: u64, owners: Owners) -> Owners
         ensures { result ≡ condvar_owners self thread seen owners }
     {

@@ -57,7 +57,8 @@ IsUnfinished n call.Unlock seen owns = is_parked seen ≡ true
 IsUnfinished n call.UnlockFair seen owns = (seen ≢ 1) × (has (held n) owns ≡ true)
 IsUnfinished n call.Bump seen owns = (is_parked seen ≡ true) × (has (held n) owns ≡ true)
 
--- who saw a waiter left the section in which it took the first of the queue; who saw none took no further step
+-- who saw a waiter left the section in which it took the first of the queue; who saw none took no
+-- further step
 abbrev pub TookIfParked : ℕ → Bool → List WordStep → Option SectionRecord → Type 0
 TookIfParked n true more last = TookAt n last
 TookIfParked n false more last = (more ≡ []) × (last ≡ None)
@@ -70,11 +71,13 @@ saw_waiter _ seen = is_parked seen
 -- a release took a waiter by what its first operation saw
 abbrev pub Releases : ℕ → MutexCall → List WordStep → List WordStep → Option SectionRecord → Type 0
 Releases n c old new last = (seen : ℕ) × (more : List WordStep)
-    × (new ≡ (old ++ step (mutex_at n) (first_op c) seen) ++ more) × TookIfParked n (saw_waiter c seen) more last
+    × (new ≡ (old ++ step (mutex_at n) (first_op c) seen) ++ more)
+    × TookIfParked n (saw_waiter c seen) more last
 
 -- the word was loaded once, and told that the mutex is locked or not
 abbrev pub Sees : ℕ → Bool → List WordStep → List WordStep → Type 0
-Sees n locked old new = (seen : ℕ) × (new ≡ old ++ step (mutex_at n) Load seen) × (is_locked seen ≡ locked)
+Sees n locked old new = (seen : ℕ) × (new ≡ old ++ step (mutex_at n) Load seen)
+    × (is_locked seen ≡ locked)
 
 -- the call of a fair mutex: its unlock hands over
 abbrev pub fairly : MutexCall → MutexCall
@@ -83,7 +86,8 @@ fairly c = c
 
 -- the steps of a call lead from its beginning to the answer
 abbrev pub HasWalked : ℕ → MutexCall → Answer → Token → Token → Type 0
-HasWalked n c answer old new = Walks (at_mutex n) (beginning n c) (view_of old).steps (view_of new).steps answer
+HasWalked n c answer old new =
+    Walks (at_mutex n) (beginning n c) (view_of old).steps (view_of new).steps answer
 
 -- and so they do with the first, which was taken before and saw this
 abbrev pub WalksBehind : ℕ → MutexCall → ℕ → Token → Token → Answer → Type 0

@@ -35,7 +35,13 @@ use Rattle.lot_driver.specs.declared.sleepers.Sleeper.{Sleeper}
 -- a thread that waits sleeps for its mutex, and may be moved to the queue of that meanwhile
 abbrev pub condvar_sleeper : ℕ → CondvarPlace → Sleeper
 condvar_sleeper c (Wait m timed (wait.Lock timed_out at)) =
-    record { lock = m; want = wants.Exclusive; late = late_key (Mutex m at); moved = None; takes_over = true }
+    record {
+      lock = m;
+      want = wants.Exclusive;
+      late = late_key (Mutex m at);
+      moved = None;
+      takes_over = true;
+    }
 condvar_sleeper c (Wait m timed at) =
     record {
       lock = m;
@@ -44,7 +50,8 @@ condvar_sleeper c (Wait m timed at) =
       moved = Some (2 * m);
       takes_over = true;
     }
-condvar_sleeper c p = record { lock = c; want = wants.Exclusive; late = None; moved = None; takes_over = false }
+condvar_sleeper c p = record
+    { lock = c; want = wants.Exclusive; late = None; moved = None; takes_over = false }
 
 -- who waits owned its mutex as the call began
 abbrev pub OwnsIt : ℕ → List Ownership → Type 0
@@ -60,7 +67,8 @@ Between c m owns st = (st.owns ≡ owns) × (st.inside ≡ entered_now (Two (2 *
 
 -- what a notification does there, by whether somebody owned the mutex
 abbrev pub move_did : Bool → Bool → ℕ → ℕ → Did
-move_did true locked c m = did.Requeue (2 * c) (2 * m) (if locked then requeue.All else requeue.TakeOneMoveRest)
+move_did true locked c m =
+    did.Requeue (2 * c) (2 * m) (if locked then requeue.All else requeue.TakeOneMoveRest)
 move_did false true c m = did.Requeue (2 * c) (2 * m) requeue.One
 move_did false false c m = did.TakeFirst (2 * c)
 
@@ -71,8 +79,10 @@ TellsNumber false number counted = number ≡ 1
 
 -- it has moved waiters there, and took one of them or none
 abbrev pub HasMoved : ℕ → ℕ → Bool → ℕ → List Ownership → Stage → Type 0
-HasMoved c m all number owns st = (st.owns ≡ owns) × (locked : Bool) × (waiters : List Waiter) × (moved : ℕ)
-    × (st.inside ≡ Some (record (having_taken (Two (2 * c) (2 * m)) (move_did all locked c m) waiters (threads_of waiters)) {
+HasMoved c m all number owns st =
+    (st.owns ≡ owns) × (locked : Bool) × (waiters : List Waiter) × (moved : ℕ)
+    × (st.inside ≡ Some (record
+    (having_taken (Two (2 * c) (2 * m)) (move_did all locked c m) waiters (threads_of waiters)) {
       moved = moved;
     }))
     × TellsNumber all number (length (threads_of waiters) + moved)
@@ -89,12 +99,14 @@ FitsNotify c m all base (notify.MarkMoved number) st = HasMoved c m all number b
 FitsNotify c m all base (notify.Leave any number) st =
     ((number ≡ 0) × Between c m base st) ⊎ HasMoved c m all number base st
 
--- what a notification answers behind its second look, by the section that it left: it found another mutex shown, or none, or it moved
--- waiters, and who notifies all tells the record's number
+-- what a notification answers behind its second look, by the section that it left: it found another
+-- mutex shown, or none, or it moved waiters, and who notifies all tells the record's number
 abbrev pub AnswersBy : ℕ → ℕ → Bool → Answer → Option SectionRecord → Type 0
 AnswersBy c m all answer last =
-    ((answer ≡ notified all 0) × (last ≡ Some (record { key = 2 * c; did = did.Nothing; number = 0 })))
-    ⊎ ((locked : Bool) × (number : ℕ) × (answer ≡ (if all then answers.Number number else answers.Yes))
+    ((answer ≡ notified all 0)
+    × (last ≡ Some (record { key = 2 * c; did = did.Nothing; number = 0 })))
+    ⊎ ((locked : Bool) × (number : ℕ)
+    × (answer ≡ (if all then answers.Number number else answers.Yes))
     × (last ≡ Some (record { key = 2 * c; did = move_did all locked c m; number = number })))
 
 abbrev pub IsNotifyOver : ℕ → ℕ → Bool → List Ownership → Answer → Stage → Type 0
@@ -102,7 +114,8 @@ IsNotifyOver c m all base answer st = Outside base st × AnswersBy c m all answe
 
 -- `up` says that the time of the call is up
 module _ (up : Type 0) where
-  -- a thread whose time was up while it stood in the queue of the condition variable is in a timed call
+  -- a thread whose time was up while it stood in the queue of the condition variable is in a timed
+  -- call
   abbrev pub LateIf : Bool → Bool → Type 0
   LateIf timed true = (timed ≡ true) × up
   LateIf timed false = Unit {0}
@@ -110,10 +123,14 @@ module _ (up : Type 0) where
   -- a thread that releases its mutex, from its subtraction on
   abbrev pub FitsRelease : ℕ → List Ownership → Stands → MutexPlace → Stage → Type 0
   FitsRelease m base stands.Listed (Unlock unlock.Subtract) st = OwnsIt m base × Outside base st
-  FitsRelease m base stands.Listed (Unlock unlock.Enter) st = FitsUnlock m (apart m base) unlock.Enter st
-  FitsRelease m base stands.Listed (Unlock unlock.Take) st = FitsUnlock m (apart m base) unlock.Take st
-  FitsRelease m base stands.Listed (Unlock (unlock.Clear any)) st = FitsUnlock m (apart m base) (unlock.Clear any) st
-  FitsRelease m base stands.Listed (Unlock (unlock.Leave any)) st = FitsUnlock m (apart m base) (unlock.Leave any) st
+  FitsRelease m base stands.Listed (Unlock unlock.Enter) st =
+      FitsUnlock m (apart m base) unlock.Enter st
+  FitsRelease m base stands.Listed (Unlock unlock.Take) st =
+      FitsUnlock m (apart m base) unlock.Take st
+  FitsRelease m base stands.Listed (Unlock (unlock.Clear any)) st =
+      FitsUnlock m (apart m base) (unlock.Clear any) st
+  FitsRelease m base stands.Listed (Unlock (unlock.Leave any)) st =
+      FitsUnlock m (apart m base) (unlock.Leave any) st
   FitsRelease m base s at st = ⊥
 
   -- and one that locks it again
@@ -121,7 +138,8 @@ module _ (up : Type 0) where
   FitsRelock m base (Lock entry.Lock retries at) st = FitsLock up m entry.Lock (apart m base) at st
   FitsRelock m base at st = ⊥
 
-  -- one that sleeps stands in the queue of the condition variable, or was moved to that of its mutex
+  -- one that sleeps stands in the queue of the condition variable, or was moved to that of its
+  -- mutex
   abbrev pub FitsAsleep : ℕ → List Ownership → Stands → Stage → Type 0
   FitsAsleep m base stands.Listed st = Outside (apart m base) st
   FitsAsleep m base stands.Moved st = Outside (apart m base) st
@@ -140,15 +158,20 @@ module _ (up : Type 0) where
   FitsWait c m timed base wait.GiveUp st = LateIf timed true × Within c (apart m base) st
   FitsWait c m timed base wait.RemoveMoved st = Within m (apart m base) st
   FitsWait c m timed base (wait.GiveUpMoved none_left) st = Within m (apart m base) st
-  FitsWait c m timed base (wait.Lock timed_out at) st = LateIf timed timed_out × FitsRelock m base at st
+  FitsWait c m timed base (wait.Lock timed_out at) st =
+      LateIf timed timed_out × FitsRelock m base at st
 
-  -- what a thread has in a call of a condition variable, which owned so much as it began. The first step of a notification is taken before
+  -- what a thread has in a call of a condition variable, which owned so much as it began. The first
+  -- step of a notification is taken before
   abbrev pub FitsCondvar : ℕ → List Ownership → CondvarPlace → Stage → Type 0
   FitsCondvar c base (Wait m timed at) st = FitsWait c m timed base at st
   FitsCondvar c base (Look all) st = ⊥
   FitsCondvar c base (Notify all m at) st = FitsNotify c m all base at st
 
-  -- what an answer says at the end of a wait: another mutex was shown, and it never released its own, or it has it again
+  -- what an answer says at the end of a wait: another mutex was shown, and it never released its
+  -- own, or it has it again
   abbrev pub IsWaitOver : ℕ → Bool → List Ownership → Answer → Stage → Type 0
-  IsWaitOver m timed base answer st = ((answer ≡ answers.TwoMutexes) × OwnsIt m base × Outside base st)
-      ⊎ ((timed_out : Bool) × (answer ≡ waited timed timed_out) × LateIf timed timed_out × Outside (held m ∷ apart m base) st)
+  IsWaitOver m timed base answer st =
+      ((answer ≡ answers.TwoMutexes) × OwnsIt m base × Outside base st)
+      ⊎ ((timed_out : Bool) × (answer ≡ waited timed timed_out) × LateIf timed timed_out
+      × Outside (held m ∷ apart m base) st)

@@ -9,7 +9,8 @@ use Rattle.parking_lot_core.specs.declared.tokens.Token.{Token}
 
 -- between two states of a thread it drew this word of the lot, of this kind
 abbrev pub Drew : WordKind → ParkingLot → Word → Token → Token → Type 0
-Drew kind lot word old new = IsDrawn lot.words.count (kind ∷ []) word.number (view_of old) (view_of new)
+Drew kind lot word old new =
+    IsDrawn lot.words.count (kind ∷ []) word.number (view_of old) (view_of new)
 
 -- between them it drew none, and its last step saw that the lot has no word left
 abbrev pub FoundFull : ParkingLot → Token → Token → Type 0

@@ -1,4 +1,5 @@
--- What a thread has at each place of its call, and at its end. Each sort of lock says so in a file of its own.
+-- What a thread has at each place of its call, and at its end. Each sort of lock says so in a file
+-- of its own.
 use Rattle.std.specs.Prelude.{ℕ, ◌≡◌, ◌≢◌, List, Option, Some, None, true, false, unwrap_or, Bool}
 use Rattle.lot_rwlock_fair.specs.FairProfiles.{call_wants}
 use Rattle.lot_base.specs.declared.wants.Want.TheVariants.{Exclusive}
@@ -90,12 +91,19 @@ aim_of (RwLock l a c) = call_aim l a c
 aim_of (Once l at) = once_aim l at
 aim_of (Condvar l at) = condvar_aim l at
 
--- for what a thread sleeps in a call, the keys under which it may be late, and whether it goes on where it is handed the lock.
--- Nobody is moved from the queue of a lock
+-- for what a thread sleeps in a call, the keys under which it may be late, and whether it goes on
+-- where it is handed the lock. Nobody is moved from the queue of a lock
 abbrev pub sleeper_at : Place → Sleeper
-sleeper_at Idle = record { lock = 0; want = Exclusive; late = None; moved = None; takes_over = false }
+sleeper_at Idle = record
+    { lock = 0; want = Exclusive; late = None; moved = None; takes_over = false }
 sleeper_at (Mutex l at) =
-    record { lock = l; want = Exclusive; late = late_key (Mutex l at); moved = None; takes_over = true }
+    record {
+      lock = l;
+      want = Exclusive;
+      late = late_key (Mutex l at);
+      moved = None;
+      takes_over = true;
+    }
 sleeper_at (RwLock l a c) =
     record {
       lock = l;
@@ -105,7 +113,13 @@ sleeper_at (RwLock l a c) =
       takes_over = may_be_handed c;
     }
 sleeper_at (Once l at) =
-    record { lock = l; want = unwrap_or (once_wants at) Exclusive; late = late_key (Once l at); moved = None; takes_over = false }
+    record {
+      lock = l;
+      want = unwrap_or (once_wants at) Exclusive;
+      late = late_key (Once l at);
+      moved = None;
+      takes_over = false;
+    }
 sleeper_at (Condvar l at) = condvar_sleeper l at
 
 -- the word of a condition variable, and that of the mutex beside it
@@ -117,11 +131,13 @@ AreWordsBeside l (Some m) kinds at = (l ≢ m) × (kinds l ≡ kind.Condvar) × 
 -- the keys of the call's lock are numbers, and its words are of the kinds that the call steps on
 abbrev pub AreWordsFor : Place → (ℕ → WordKind) → (ℕ → ℕ) → Type 0
 AreWordsFor Idle kinds at = Unit {0}
-AreWordsFor (Mutex l place) kinds at = HasKeys (Mutex l place) × (kinds ≡ mutexes) × (at ≡ at_mutex l)
+AreWordsFor (Mutex l place) kinds at =
+    HasKeys (Mutex l place) × (kinds ≡ mutexes) × (at ≡ at_mutex l)
 AreWordsFor (RwLock l a place) kinds at =
     HasKeys (RwLock l a place) × (kinds ≡ rwlocks) × (at ≡ at_rwlock l)
 AreWordsFor (Once l place) kinds at = HasKeys (Once l place) × (kinds ≡ onces) × (at ≡ at_once l)
-AreWordsFor (Condvar l place) kinds at = HasKeys (Condvar l place) × AreWordsBeside l (mutex_beside place) kinds at
+AreWordsFor (Condvar l place) kinds at =
+    HasKeys (Condvar l place) × AreWordsBeside l (mutex_beside place) kinds at
 
 -- and behind its closure they are so still
 abbrev pub AreWordsAfter : Stop → (ℕ → WordKind) → (ℕ → ℕ) → Type 0
@@ -130,7 +146,8 @@ AreWordsAfter (Paused place state) kinds at = AreWordsFor place kinds at
 
 -- `up` says that the time of the call is up
 module _ (up : Type 0) where
-  -- what a thread has at a place, which owned so much as it began to run, or beside what a reader-writer place claims
+  -- what a thread has at a place, which owned so much as it began to run, or beside what a
+  -- reader-writer place claims
   abbrev pub Fits : List Ownership → Place → Stage → Type 0
   Fits base Idle st = ⊥
   Fits base (Mutex l at) st = FitsMutex up l base at st
@@ -161,7 +178,8 @@ module _ (up : Type 0) where
 
   -- where a reply leads
   abbrev pub Reached : List Ownership → Place → Reply → Stage → Type 0
-  Reached base p reply st = ReachedBy base (aim_of p) (next_place p reply) (answer_of (next_act p reply)) st
+  Reached base p reply st =
+      ReachedBy base (aim_of p) (next_place p reply) (answer_of (next_act p reply)) st
 
   -- from where it looks at the word once more, it goes on too
   abbrev pub Looks : List Ownership → Place → Stage → Type 0

@@ -25,7 +25,8 @@ use Rattle.parking_lot_core.specs.declared.tokens.SectionRecord.{SectionRecord}
 use Rattle.lot_driver.specs.Paths.{mutex_at}
 use Rattle.lot_driver.specs.Stages.{Stage, entered_now, having_taken, is_there, listed}
 
--- what a call of a mutex is for: to enter, to end a release that has given the lock up, or to hand it over
+-- what a call of a mutex is for: to enter, to end a release that has given the lock up, or to hand
+-- it over
 pub data Purpose : Type 0 where
   enters : Entry → Purpose
   releases : Purpose
@@ -72,7 +73,8 @@ HasTook n any owns st = (first : Option Waiter) × (any ≡ is_there first)
 
 -- the section that was left last is one of this key, where the first of the queue was taken
 abbrev pub TookAt : ℕ → Option SectionRecord → Type 0
-TookAt n last = (number : ℕ) × (last ≡ Some (record { key = 2 * n; did = TakeFirst (2 * n); number = number }))
+TookAt n last = (number : ℕ)
+    × (last ≡ Some (record { key = 2 * n; did = TakeFirst (2 * n); number = number }))
 
 -- a release, behind its subtraction
 abbrev pub FitsUnlock : ℕ → List Ownership → UnlockAt → Stage → Type 0
@@ -86,8 +88,10 @@ FitsUnlock n base (unlock.TheVariants.Leave any) st = HasTook n any base st
 abbrev pub FitsHandOff : ℕ → List Ownership → HandOffAt → Stage → Type 0
 FitsHandOff n base hand_off.TheVariants.Enter st = (has (held n) base ≡ true) × Outside base st
 FitsHandOff n base hand_off.TheVariants.Take st = (has (held n) base ≡ true) × Within n base st
-FitsHandOff n base (hand_off.TheVariants.Store any none_left) st = (has (held n) base ≡ true) × HasTook n any base st
-FitsHandOff n base (hand_off.TheVariants.Leave any) st = (first : Option Waiter) × (any ≡ is_there first)
+FitsHandOff n base (hand_off.TheVariants.Store any none_left) st =
+    (has (held n) base ≡ true) × HasTook n any base st
+FitsHandOff n base (hand_off.TheVariants.Leave any) st =
+    (first : Option Waiter) × (any ≡ is_there first)
     × Took n first [] (without (held n) base) st
 
 -- `up` says that the time of the call is up
@@ -110,7 +114,8 @@ module _ (up : Type 0) where
   FitsLock n e owns lock.TheVariants.GiveUp st = GaveUp e × Within n owns st
   FitsLock n e owns _ st = ⊥
 
-  -- what a thread has in a call of a mutex, which owned so much as it began to run. The first step of a release or a bump is taken before
+  -- what a thread has in a call of a mutex, which owned so much as it began to run. The first step
+  -- of a release or a bump is taken before
   abbrev pub FitsMutex : ℕ → List Ownership → MutexPlace → Stage → Type 0
   FitsMutex n base (Lock e retries at) st = FitsLock n e (beside n e base) at st
   FitsMutex n base (Unlock at) st = FitsUnlock n base at st
@@ -122,6 +127,7 @@ module _ (up : Type 0) where
   IsMutexOver n base (enters e) answer st =
       ((answer ≡ entered e) × Outside (held n ∷ beside n e base) st)
       ⊎ ((answer ≡ answers.TheVariants.No) × GaveUp e × Outside (beside n e base) st)
-  IsMutexOver n base releases answer st = (answer ≡ answers.TheVariants.Ok) × Outside base st × TookAt n st.last
+  IsMutexOver n base releases answer st =
+      (answer ≡ answers.TheVariants.Ok) × Outside base st × TookAt n st.last
   IsMutexOver n base hands_over answer st = (answer ≡ answers.TheVariants.Ok)
       × Outside (without (held n) base) st × TookAt n st.last

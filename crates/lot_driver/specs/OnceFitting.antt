@@ -63,11 +63,13 @@ FitsLook l c base (look.Taken by) st = ⊥
 
 -- who is in its closure owns its run
 abbrev pub OwnsRun : ℕ → List Ownership → List Ownership → Type 0
-OwnsRun l base owns = (rest : List Ownership) × OwnsKnowing l base rest × (owns ≡ owning (once_at l) Runner ∷ rest)
+OwnsRun l base owns = (rest : List Ownership) × OwnsKnowing l base rest
+    × (owns ≡ owning (once_at l) Runner ∷ rest)
 
 -- it has taken all that waited; these have no right yet, and get none
 abbrev pub TookEach : ℕ → List Waiter → Option Inside → Type 0
-TookEach l waiters inside = inside ≡ Some (having_taken (One (2 * l)) (TakeAll (2 * l)) waiters (threads_of waiters))
+TookEach l waiters inside =
+    inside ≡ Some (having_taken (One (2 * l)) (TakeAll (2 * l)) waiters (threads_of waiters))
 
 -- the step that ends a run is taken before
 abbrev pub FitsRun : ℕ → List Ownership → RunAt → Stage → Type 0
@@ -86,7 +88,8 @@ FitsOnce l base (Run forced at) st = FitsRun l base at st
 
 -- the section that was left last is one of the main key, where all that waited were taken
 abbrev pub WokeAll : ℕ → Option SectionRecord → Type 0
-WokeAll l last = (number : ℕ) × (last ≡ Some (record { key = 2 * l; did = TakeAll (2 * l); number = number }))
+WokeAll l last = (number : ℕ)
+    × (last ≡ Some (record { key = 2 * l; did = TakeAll (2 * l); number = number }))
 
 -- what an answer says of a call that runs nothing
 abbrev pub LooksAnswer : ℕ → OnceCall → List Ownership → Answer → List Ownership → Type 0

@@ -50,7 +50,8 @@ onces lock = kinds.TheVariants.Once
 abbrev pub at_once : ℕ → ℕ → ℕ
 at_once number lock = once_at number
 
--- where the word of a condition variable stands, on which its calls step, and on that of a mutex beside it
+-- where the word of a condition variable stands, on which its calls step, and on that of a mutex
+-- beside it
 abbrev pub condvar_at : ℕ → ℕ
 condvar_at number = word_index number kinds.TheVariants.Condvar
 
@@ -88,13 +89,15 @@ pub data Brings (at : ℕ → ℕ) : Place → List WordStep → Reply → Type 
   hands : (p : Place) (lock : ℕ) (op : Op) (seen : ℕ) → act_of p ≡ act.TheVariants.HandOver lock op
       → Brings at p (step (at lock) op seen) (Value seen)
   parks : (p : Place) (lock key : ℕ) (check : Check) (want : Want) (seen : ℕ)
-      → act_of p ≡ act.TheVariants.Park lock key check want → Brings at p (step (at lock) Load seen) (Parked (holds check seen))
+      → act_of p ≡ act.TheVariants.Park lock key check want
+      → Brings at p (step (at lock) Load seen) (Parked (holds check seen))
   other : (p : Place) (reply : Reply) → is_wordless (act_of p) ≡ true → is_valueless reply ≡ true
       → Brings at p [] reply
 
 -- these steps were added, and bring the reply
 abbrev pub Told : (ℕ → ℕ) → Place → Reply → List WordStep → List WordStep → Type 0
-Told at p reply before behind = (then : List WordStep) × (behind ≡ before ++ then) × Brings at p then reply
+Told at p reply before behind =
+    (then : List WordStep) × (behind ≡ before ++ then) × Brings at p then reply
 
 -- these steps lead from one place to another
 pub data Path (at : ℕ → ℕ) : Place → List WordStep → Place → Type 0 where
@@ -102,7 +105,8 @@ pub data Path (at : ℕ → ℕ) : Place → List WordStep → Place → Type 0 
   on : (p q : Place) (xs ys : List WordStep) (reply : Reply) → Path at p xs q → Brings at q ys reply
       → Path at p (xs ++ ys) (next_place q reply)
   -- it looks at the word once more in place of an act that leads to sleep
-  looks : (p q r : Place) (xs : List WordStep) → Path at p xs q → looking q ≡ Some r → Path at p xs r
+  looks : (p q r : Place) (xs : List WordStep) → Path at p xs q → looking q ≡ Some r
+      → Path at p xs r
 
 -- where a thread goes on from: where it stands, or from where it looks
 abbrev pub GoesFrom : Place → Place → Type 0
@@ -123,7 +127,8 @@ pub record Ending (at : ℕ → ℕ) (p : Place) (steps : List WordStep) (answer
 abbrev pub Walks : (ℕ → ℕ) → Place → List WordStep → List WordStep → Answer → Type 0
 Walks at p old new answer = (more : List WordStep) × (new ≡ old ++ more) × Ending at p more answer
 
--- behind a reply that ended its call there are no further steps, and else they go on from where it led
+-- behind a reply that ended its call there are no further steps, and else they go on from where it
+-- led
 abbrev pub Rests : (ℕ → ℕ) → Place → Reply → List WordStep → List WordStep → Answer → Type 0
 Rests at p reply old new answer = ((new ≡ old) × (next_act p reply ≡ act.TheVariants.End answer))
     ⊎ Walks at (next_place p reply) old new answer
@@ -131,4 +136,5 @@ Rests at p reply old new answer = ((new ≡ old) × (next_act p reply ≡ act.Th
 -- and so do the steps of a run, which ends the call or comes to its closure
 abbrev pub Runs : (ℕ → ℕ) → Place → List WordStep → List WordStep → Stop → Type 0
 Runs at p old new (Ended answer) = Walks at p old new answer
-Runs at p old new (Paused place state) = (more : List WordStep) × (new ≡ old ++ more) × Path at p more place
+Runs at p old new (Paused place state) =
+    (more : List WordStep) × (new ≡ old ++ more) × Path at p more place

@@ -52,7 +52,8 @@ rwlock_begin l a q = RwLock l a (plain_first q)
 
 -- where it decides by what its first step saw
 abbrev pub rwlock_deciding : ℕ → Admission → RwLockPurpose → ℕ → Place
-rwlock_deciding l a q seen = RwLock l a (Plain (record { purpose = q; retries = false; at = at.Decide seen }))
+rwlock_deciding l a q seen =
+    RwLock l a (Plain (record { purpose = q; retries = false; at = at.Decide seen }))
 
 -- its first operation
 abbrev pub op_at : RwLockPurpose → RwLockAt → Op
@@ -68,9 +69,12 @@ abbrev pub BeginsWith : ℕ → RwLockPurpose → List Ownership → List Owners
 BeginsWith l c base owns = OwnsBeside l (rwlock_doing (rwlock_first c)).claims base owns
 
 -- what an answer says of the rights at the end of a call, whether its first step ended it or not
-abbrev pub AnswersCall : Type 0 → ℕ → List Ownership → Admission → RwLockPurpose → Answer → Stage → Type 0
-AnswersCall up l base a (purpose.Release x) answer st = (answer ≡ answers.Ok) × IsBeside l base st.owns
-AnswersCall up l base a (purpose.Downgrade d) answer st = (answer ≡ answers.Ok) × OwnsRight l (wanted (to_of d)) base st.owns
+abbrev pub AnswersCall : Type 0 → ℕ → List Ownership → Admission → RwLockPurpose → Answer → Stage
+    → Type 0
+AnswersCall up l base a (purpose.Release x) answer st =
+    (answer ≡ answers.Ok) × IsBeside l base st.owns
+AnswersCall up l base a (purpose.Downgrade d) answer st =
+    (answer ≡ answers.Ok) × OwnsRight l (wanted (to_of d)) base st.owns
 AnswersCall up l base a q answer st = Answers up l base a q answer st
 
 -- the steps of a call lead from its beginning to the answer
@@ -78,12 +82,15 @@ abbrev pub HasWalkedRwLock : ℕ → Admission → RwLockPurpose → Answer → 
 HasWalkedRwLock l a c answer old new =
     Walks (at_rwlock l) (rwlock_begin l a c) (view_of old).steps (view_of new).steps answer
 
--- where its first step did not end it, a release or a downgrade took those whom it wakes, and else there was no further step
-abbrev pub TookUnlessEnded : ℕ → Admission → RwLockPurpose → Next RwLockPlace → List WordStep → Option SectionRecord → Type 0
+-- where its first step did not end it, a release or a downgrade took those whom it wakes, and else
+-- there was no further step
+abbrev pub TookUnlessEnded : ℕ → Admission → RwLockPurpose → Next RwLockPlace → List WordStep
+    → Option SectionRecord → Type 0
 TookUnlessEnded l a q (At p) more last = TookWoken l a q last
 TookUnlessEnded l a q (End answer) more last = (more ≡ []) × (last ≡ None)
 
-abbrev pub Wakes : ℕ → Admission → RwLockPurpose → List WordStep → List WordStep → Option SectionRecord → Type 0
+abbrev pub Wakes : ℕ → Admission → RwLockPurpose → List WordStep → List WordStep
+    → Option SectionRecord → Type 0
 Wakes l a c old new last = (seen : ℕ) × (more : List WordStep)
     × (new ≡ (old ++ step (rwlock_at l) (first_op c) seen) ++ more)
     × TookUnlessEnded l a c (rwlock_next a (rwlock_first c) (Value seen)) more last
@@ -96,7 +103,8 @@ WakesBy l a (purpose.Downgrade d) old new =
     Wakes l a (purpose.Downgrade d) (view_of old).steps (view_of new).steps (last_of new)
 WakesBy l a c old new = Unit {0}
 
--- a thread of the lot, and a reader-writer lock of it whose keys are numbers, with room for an upgrade that gives up
+-- a thread of the lot, and a reader-writer lock of it whose keys are numbers, with room for an
+-- upgrade that gives up
 abbrev pub MeetsAt : ParkingLot → Token → Word → Admission → Type 0
 MeetsAt lot token word a = IsTokenOf lot token × IsWordOf lot.words word
     × (word.kind ≡ kinds.RwLock) × (word.number < 9223372036854775808) × (a.limit < 2 ^ 60 - 1)
@@ -118,9 +126,13 @@ abbrev pub StaysSettled : Token → Token → Type 0
 StaysSettled old new = (new.number ≡ old.number)
     × (WaitsForNobody (view_of old).owns → (view_of new).owns ≡ (view_of old).owns)
 
-pub StaysSettled-on : (first next last : Token) → StaysSettled first next → StaysSettled next last → StaysSettled first last
-StaysSettled-on first next last a b =
-    (b.0 ∙ a.0, λ settled. let same = a.1 settled in b.1 (subst WaitsForNobody (sym same) settled) ∙ same)
+pub StaysSettled-on : (first next last : Token) → StaysSettled first next → StaysSettled next last
+    → StaysSettled first last
+StaysSettled-on first next last a b = (
+  b.0 ∙ a.0,
+  λ settled. let same = a.1 settled in
+      b.1 (subst WaitsForNobody (sym same) settled) ∙ same,
+)
 
 -- nobody owns a lock so beside who owns it so
 abbrev pub Exclude : Owner → Owner → Type 0
@@ -132,28 +144,33 @@ Exclude one other = ⊥
 
 -- ---------------------------------------------------------------- fair releases
 
--- who shares releases as ever, and an upgradable owner takes those to whom it hands the lock, or frees a word that tells of nobody. An
--- exclusive owner tries first the word that tells of nobody else: it takes those to whom it hands the lock where it finds another, and
--- else there is no further step
+-- who shares releases as ever, and an upgradable owner takes those to whom it hands the lock, or
+-- frees a word that tells of nobody. An exclusive owner tries first the word that tells of nobody
+-- else: it takes those to whom it hands the lock where it finds another, and else there is no
+-- further step
 abbrev pub TookUnlessFree : ℕ → Admission → Bool → List WordStep → Option SectionRecord → Type 0
 TookUnlessFree l a true more last = (more ≡ []) × (last ≡ None)
 TookUnlessFree l a false more last = TookWoken l a (purpose.Release accesses.Exclusive) last
 
-abbrev pub LeftFairly : ℕ → Admission → List WordStep → List WordStep → Option SectionRecord → Type 0
+abbrev pub LeftFairly : ℕ → Admission → List WordStep → List WordStep → Option SectionRecord
+    → Type 0
 LeftFairly l a old new last = (seen : ℕ) × (more : List WordStep)
-    × (new ≡ (old ++ step (rwlock_at l) (Exchange 8 0) seen) ++ more) × TookUnlessFree l a (seen == 8) more last
+    × (new ≡ (old ++ step (rwlock_at l) (Exchange 8 0) seen) ++ more)
+    × TookUnlessFree l a (seen == 8) more last
 
 abbrev pub ReleasesFairly : ℕ → Admission → Access → Token → Token → Type 0
 ReleasesFairly l a accesses.Shared old new = WakesBy l a (purpose.Release accesses.Shared) old new
 ReleasesFairly l a accesses.Upgradable old new = GaveFairly l a accesses.Upgradable (last_of new)
-ReleasesFairly l a accesses.Exclusive old new = LeftFairly l a (view_of old).steps (view_of new).steps (last_of new)
+ReleasesFairly l a accesses.Exclusive old new =
+    LeftFairly l a (view_of old).steps (view_of new).steps (last_of new)
 
 -- ---------------------------------------------------------------- calls of the world's language
 
 -- the steps of a call lead from where a call of a world begins to the answer
 abbrev pub HasWalkedCall : ℕ → Admission → RwLockCall → Answer → Token → Token → Type 0
 HasWalkedCall l a call answer old new =
-    Walks (at_rwlock l) (RwLock l a (call_first call)) (view_of old).steps (view_of new).steps answer
+    Walks (at_rwlock l) (RwLock l a (call_first call)) (view_of old).steps
+    (view_of new).steps answer
 
 abbrev pub WakesByCall : ℕ → Admission → RwLockCall → Token → Token → Type 0
 WakesByCall l a (calls.Release x) old new = WakesBy l a (purpose.Release x) old new
@@ -172,7 +189,8 @@ is_held_alone word = has_writer word && (count_in word == 0)
 -- the word was loaded once, and told so of the lock, or not
 abbrev pub SeesBy : (ℕ → Bool) → ℕ → Bool → Token → Token → Type 0
 SeesBy told l answer old new = (seen : ℕ)
-    × ((view_of new).steps ≡ (view_of old).steps ++ step (rwlock_at l) Load seen) × (told seen ≡ answer)
+    × ((view_of new).steps ≡ (view_of old).steps ++ step (rwlock_at l) Load seen)
+    × (told seen ≡ answer)
 
 -- what a call answers that turns the upgradable right into the exclusive one, by what it gives
 abbrev pub turn_answer : {A B : Type 0} → Patience → Result A B → Answer

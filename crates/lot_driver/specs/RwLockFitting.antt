@@ -1,4 +1,5 @@
--- What a thread of a reader-writer call has at each place, read off the place's row, and what it has at its end.
+-- What a thread of a reader-writer call has at each place, read off the place's row, and what it
+-- has at its end.
 use Rattle.std.specs.Prelude.{ℕ, ◌≡◌, ◌<◌, ◌-◌, ◌^◌, ◌⊎◌, Bool, true, false, List, ◌∷◌, Option, Some, None, ◌≤◌, ◌*◌, ◌/◌, ◌%◌, [], length}
 use Rattle.lot_base.specs.Keys.{key_of}
 use Rattle.lot_base.specs.Lines.{threads_of}
@@ -52,7 +53,8 @@ use Rattle.lot_driver.specs.Stages.{Inside, Stage, entered_now, having_taken}
 
 -- ---------------------------------------------------------------- what is owned
 
--- how a claim of a place is owned: a writer that waits for the last readers owns alone where it has found none
+-- how a claim of a place is owned: a writer that waits for the last readers owns alone where it has
+-- found none
 abbrev pub waits_as : Bool → Owner
 waits_as false = owners.Pending
 waits_as true = owners.Upgrading
@@ -67,14 +69,16 @@ abbrev pub IsSettled : ℕ → List Ownership → Type 0
 IsSettled l owns = (has (owning (rwlock_at l) owners.Pending) owns ≡ false)
     × (has (owning (rwlock_at l) owners.Upgrading) owns ≡ false)
 
--- these are the same; who comes to a lock for whose last readers it waits already may find none left
+-- these are the same; who comes to a lock for whose last readers it waits already may find none
+-- left
 abbrev pub IsBeside : ℕ → List Ownership → List Ownership → Type 0
 IsBeside l base owns = IsSettled l base → owns ≡ base
 
 -- a claim on the lock is owned beside these
 abbrev pub OwnsBeside : ℕ → Option Claim → List Ownership → List Ownership → Type 0
 OwnsBeside l None base owns = IsBeside l base owns
-OwnsBeside l (Some claim) base owns = (owner : Owner) × (rest : List Ownership) × IsOwner claim owner × IsBeside l base rest
+OwnsBeside l (Some claim) base owns =
+    (owner : Owner) × (rest : List Ownership) × IsOwner claim owner × IsBeside l base rest
     × (owns ≡ owning (rwlock_at l) owner ∷ rest)
 
 abbrev pub OwnsRight : ℕ → Want → List Ownership → List Ownership → Type 0
@@ -96,7 +100,8 @@ abbrev pub IsWithin : ℕ → Admission → RwLockPurpose → Option Line → Bo
 IsWithin l a q None carries inside = inside ≡ None
 IsWithin l a q (Some m) false inside = inside ≡ entered_now (One (key_of l m))
 IsWithin l a q (Some m) true inside = (waiters : List Waiter)
-    × (inside ≡ Some (having_taken (One (key_of l m)) (did_wake l a q m) waiters (threads_of waiters)))
+    × (inside ≡ Some (having_taken (One (key_of l m)) (did_wake l a q m) waiters
+    (threads_of waiters)))
 
 -- ---------------------------------------------------------------- places and ends
 
@@ -119,7 +124,8 @@ woken_line q = Main
 -- the section that was left last is one where the call took those whom it wakes
 abbrev pub TookWoken : ℕ → Admission → RwLockPurpose → Option SectionRecord → Type 0
 TookWoken l a q last = (number : ℕ)
-    × (last ≡ Some (record { key = key_of l (woken_line q); did = did_wake l a q (woken_line q); number = number }))
+    × (last ≡ Some (record
+    { key = key_of l (woken_line q); did = did_wake l a q (woken_line q); number = number }))
 
 -- who leaves the queue late has done nothing else in its section
 abbrev pub LeftAlone : ℕ → Option SectionRecord → Type 0
@@ -137,7 +143,8 @@ IsCounted x = Unit {0}
 abbrev pub IsUpgradableWord : ℕ → Type 0
 IsUpgradableWord seen = (seen < 2 ^ 64) × (seen / 4 % 4 ≡ 1) × (0 < seen / 16)
 
--- what a place says of those whom its thread took is so: as many want to share, and one at most wants more
+-- what a place says of those whom its thread took is so: as many want to share, and one at most
+-- wants more
 pub record AreTaken (ws : List Want) (k : Taken) : Type 0 where
   pub sharers : k.sharers ≡ sharers_in ws
   pub successor : k.successor ≡ successor_in ws
@@ -147,12 +154,16 @@ pub record AreTaken (ws : List Want) (k : Taken) : Type 0 where
 -- in the main section, where it has taken these, of whom these have no right yet
 abbrev pub HasPicked : ℕ → Admission → List Waiter → List ℕ → Option Inside → Type 0
 HasPicked l a waiters rightless inside =
-    inside ≡ Some (having_taken (One (2 * l)) (did.TakePicked (2 * l) None a.recursive) waiters rightless)
+    inside ≡ Some (having_taken (One (2 * l))
+    (did.TakePicked (2 * l) None a.recursive) waiters rightless)
 
 abbrev pub HasInHand : ℕ → Admission → Taken → Option Inside → Type 0
-HasInHand l a k inside = (waiters : List Waiter) × AreTaken (wants_of waiters) k × HasPicked l a waiters (threads_of waiters) inside
+HasInHand l a k inside =
+    (waiters : List Waiter) × AreTaken (wants_of waiters) k
+    × HasPicked l a waiters (threads_of waiters) inside
 
--- those whom it took have their rights where it handed the lock over, and nobody is there where it took nobody
+-- those whom it took have their rights where it handed the lock over, and nobody is there where it
+-- took nobody
 abbrev pub still_rightless : Bool → List Waiter → List ℕ
 still_rightless true waiters = []
 still_rightless false waiters = threads_of waiters
@@ -161,7 +172,8 @@ abbrev pub HasHandedOver : ℕ → Admission → Bool → Bool → Option Inside
 HasHandedOver l a any handed inside = (waiters : List Waiter) × (any ≡ false → waiters ≡ [])
     × HasPicked l a waiters (still_rightless handed waiters) inside
 
--- an exclusive owner stores the word, and an upgradable one looks and exchanges it. The first step of an exclusive owner's release was taken before
+-- an exclusive owner stores the word, and an upgradable one looks and exchanges it. The first step
+-- of an exclusive owner's release was taken before
 abbrev pub HandsOver : Access → HandOverAt → Type 0
 HandsOver access.Shared to = ⊥
 HandsOver access.Upgradable (handing.Store k) = ⊥
@@ -177,16 +189,22 @@ FitsHandOver l base a x handing.Load st = OwnsRight l (wanted x) base st.owns ×
 FitsHandOver l base a x (handing.Free seen) st =
     OwnsRight l (wanted x) base st.owns × (st.inside ≡ None) × IsUpgradableWord seen
 FitsHandOver l base a x handing.Enter st = OwnsRight l (wanted x) base st.owns × (st.inside ≡ None)
-FitsHandOver l base a x handing.Take st = OwnsRight l (wanted x) base st.owns × (st.inside ≡ entered_now (One (2 * l)))
-FitsHandOver l base a x (handing.Store k) st = OwnsRight l (wanted x) base st.owns × HasInHand l a k st.inside
-FitsHandOver l base a x (handing.Look k) st = OwnsRight l (wanted x) base st.owns × HasInHand l a k st.inside
+FitsHandOver l base a x handing.Take st =
+    OwnsRight l (wanted x) base st.owns × (st.inside ≡ entered_now (One (2 * l)))
+FitsHandOver l base a x (handing.Store k) st =
+    OwnsRight l (wanted x) base st.owns × HasInHand l a k st.inside
+FitsHandOver l base a x (handing.Look k) st =
+    OwnsRight l (wanted x) base st.owns × HasInHand l a k st.inside
 FitsHandOver l base a x (handing.Exchange k seen) st =
     OwnsRight l (wanted x) base st.owns × HasInHand l a k st.inside × IsUpgradableWord seen
-FitsHandOver l base a x (handing.Leave any handed) st = IsBeside l base st.owns × HasHandedOver l a any handed st.inside
+FitsHandOver l base a x (handing.Leave any handed) st =
+    IsBeside l base st.owns × HasHandedOver l a any handed st.inside
 
--- how who releases fairly left: it took those to whom it handed the lock, or an upgradable owner freed a word that told of nobody
+-- how who releases fairly left: it took those to whom it handed the lock, or an upgradable owner
+-- freed a word that told of nobody
 abbrev pub GaveFairly : ℕ → Admission → Access → Option SectionRecord → Type 0
-GaveFairly l a access.Upgradable last = (last ≡ None) ⊎ TookWoken l a (purpose.Release access.Upgradable) last
+GaveFairly l a access.Upgradable last =
+    (last ≡ None) ⊎ TookWoken l a (purpose.Release access.Upgradable) last
 GaveFairly l a x last = TookWoken l a (purpose.Release x) last
 
 abbrev pub IsFairlyOver : ℕ → List Ownership → Admission → Access → Answer → Stage → Type 0
@@ -221,7 +239,8 @@ may_be_handed c = false
 
 -- `up` says that the time of the call is up
 module _ (up : Type 0) where
-  pub record FitsRwLock (l : ℕ) (base : List Ownership) (a : Admission) (p : RwLockPlace) (st : Stage) : Type 0 where
+  pub record FitsRwLock (l : ℕ) (base : List Ownership) (a : Admission) (p : RwLockPlace)
+      (st : Stage) : Type 0 where
     pub stands : MayStand a p
     -- the count has room for an upgrade that gives up
     pub room : a.limit < 2 ^ 60 - 1
@@ -233,7 +252,8 @@ module _ (up : Type 0) where
 
   -- a bump that gives its shared right up still has it, and else stands as a plain call does
   abbrev pub FitsBump : ℕ → List Ownership → Admission → RwLockPlace → RwLockAt → Stage → Type 0
-  FitsBump l base a p at.GiveWay st = (p.purpose ≡ purpose.Release access.Shared) × (a.limit < 2 ^ 60 - 1)
+  FitsBump l base a p at.GiveWay st =
+      (p.purpose ≡ purpose.Release access.Shared) × (a.limit < 2 ^ 60 - 1)
       × (st.inside ≡ None) × OwnsRight l wants.Shared base st.owns
   FitsBump l base a p to st = FitsRwLock l base a p st
 
@@ -262,7 +282,8 @@ module _ (up : Type 0) where
   Answers l base a (purpose.Release x) answer st =
       (answer ≡ answers.Ok) × IsBeside l base st.owns × TookWoken l a (purpose.Release x) st.last
   Answers l base a (purpose.Downgrade d) answer st =
-      (answer ≡ answers.Ok) × OwnsRight l (wanted (to_of d)) base st.owns × TookWoken l a (purpose.Downgrade d) st.last
+      (answer ≡ answers.Ok) × OwnsRight l (wanted (to_of d)) base st.owns
+      × TookWoken l a (purpose.Downgrade d) st.last
   Answers l base a (purpose.Upgrade how) answer st =
       ((answer ≡ entered how) × OwnsRight l wants.Exclusive base st.owns)
       ⊎ ((answer ≡ answers.No) × MayGiveUp how × OwnsRight l wants.Upgradable base st.owns

@@ -1,4 +1,5 @@
--- What a thread has between two acts of a call, and what each act needs and changes, whatever the lock is.
+-- What a thread has between two acts of a call, and what each act needs and changes, whatever the
+-- lock is.
 use Rattle.std.specs.Prelude.{ℕ, ◌≡◌, ◌≢◌, ◌≤◌, ◌==◌, ◌+◌, not, length, ◌++◌, List, [], ◌∷◌, Option, Some, None, Bool, true, false, ◌<◌, ◌^◌, if◌then◌else◌}
 use Rattle.lot_base.specs.Lines.{threads_of}
 use Rattle.lot_base.specs.Words.{apply}
@@ -43,8 +44,8 @@ use Rattle.lot_driver.specs.Paths.{step}
 use Rattle.lot_driver.specs.Takes.{more_in, sharers_in, successor_in}
 use Rattle.lot_driver.specs.declared.sleepers.Sleeper.{Sleeper}
 
--- a section that a thread is inside: what it did there, whom it took, what each of them wants, which of them have no right yet, and
--- how many it moved to another queue
+-- a section that a thread is inside: what it did there, whom it took, what each of them wants,
+-- which of them have no right yet, and how many it moved to another queue
 pub record Inside : Type 0 where
   pub keys : Keys
   pub did : Did
@@ -97,7 +98,8 @@ IsIn lot (Some section) = section.lot.now ≡ lot
 
 -- one in which nothing was done
 abbrev pub entered_now : Keys → Option Inside
-entered_now keys = Some (record { keys = keys; did = Nothing; taken = []; wants = []; rightless = []; moved = 0 })
+entered_now keys = Some (record
+    { keys = keys; did = Nothing; taken = []; wants = []; rightless = []; moved = 0 })
 
 abbrev pub first_in : List Waiter → Option Waiter
 first_in [] = None
@@ -115,7 +117,14 @@ listed (Some waiter) = waiter ∷ []
 -- a section of these keys, in which these were taken, of whom these have no right yet
 abbrev pub having_taken : Keys → Did → List Waiter → List ℕ → Inside
 having_taken keys did waiters rightless =
-    record { keys = keys; did = did; taken = threads_of waiters; wants = wants_of waiters; rightless = rightless; moved = 0 }
+    record {
+      keys = keys;
+      did = did;
+      taken = threads_of waiters;
+      wants = wants_of waiters;
+      rightless = rightless;
+      moved = 0;
+    }
 
 -- these were taken, and have no right yet
 abbrev pub took_as : Did → List Waiter → Option Inside → Option Inside
@@ -165,9 +174,11 @@ abbrev pub MayLeave : Note → Option Inside → Type 0
 MayLeave note None = ⊥
 MayLeave note (Some inside) = MayNote note inside.taken inside.rightless
 
--- a step that leaves its thread with the right that each of them wants, whatever value it finds by which it takes effect
+-- a step that leaves its thread with the right that each of them wants, whatever value it finds by
+-- which it takes effect
 abbrev pub HandsEach : WordKind → ℕ → Op → List Ownership → List Want → Type 0
-HandsEach kind at op owns wants = (seen : ℕ) → CodesWith kind at seen owns → takes_effect op seen ≡ true
+HandsEach kind at op owns wants = (seen : ℕ) → CodesWith kind at seen owns
+    → takes_effect op seen ≡ true
     → HasAll at (owners_given kind (apply op seen) wants) (owns_after_step kind at op seen owns)
 
 -- what an act needs of the stage, by the kind of each lock's word and where it stands
@@ -202,7 +213,8 @@ owns_when_handed kind at op seen wants owns =
 -- an exchange that finds another value hands nothing over
 abbrev pub handed : WordKind → ℕ → Op → ℕ → Stage → Stage
 handed kind at op seen st = if takes_effect op seen
-    then stage (owns_when_handed kind at op seen (wanted_in st.inside) st.owns) (all_given st.inside) None
+    then stage (owns_when_handed kind at op seen (wanted_in st.inside) st.owns)
+    (all_given st.inside) None
     else stepped kind at op seen st
 
 -- what a section that is left leaves behind
@@ -215,12 +227,18 @@ IsLeft (Some inside) last = (number : ℕ)
 abbrev pub IsCounted : Option Inside → Option SectionRecord → Type 0
 IsCounted None last = ⊥
 IsCounted (Some inside) last =
-    last ≡ Some (record { key = first_key inside.keys; did = inside.did; number = length inside.taken + inside.moved })
+    last ≡ Some (record {
+      key = first_key inside.keys;
+      did = inside.did;
+      number = length inside.taken + inside.moved;
+    })
 
--- whom a take took, by its reply; of those who were picked one at most wants more than to share, and a list holds them
+-- whom a take took, by its reply; of those who were picked one at most wants more than to share,
+-- and a list holds them
 abbrev pub TookBy : ℕ → Whom → Reply → Option Inside → Option Inside → Type 0
 TookBy key whom.TheVariants.First (Took any none_left) old new =
-    (first : Option Waiter) × (any ≡ is_there first) × (new ≡ took_as (TakeFirst key) (listed first) old)
+    (first : Option Waiter) × (any ≡ is_there first)
+    × (new ≡ took_as (TakeFirst key) (listed first) old)
 TookBy key whom.TheVariants.All (Took any none_left) old new =
     (waiters : List Waiter) × (any ≡ not (length waiters == 0))
     × (new ≡ took_as (did.TheVariants.TakeAll key) waiters old)
@@ -231,21 +249,25 @@ TookBy key (whom.TheVariants.Picked start recursive) (Picked sharers successor n
     × (more_in (wants_of waiters) ≤ 1) × (length waiters < 2 ^ 60)
 TookBy key _ _ old new = ⊥
 
--- what the end of its time made of a sleeper that stands under a key: it is inside the section of the key under which it may be
--- late, it is told of the key to which it may be moved, and under any other key it has left the queue
+-- what the end of its time made of a sleeper that stands under a key: it is inside the section of
+-- the key under which it may be late, it is told of the key to which it may be moved, and under any
+-- other key it has left the queue
 abbrev pub AwokeLate : ℕ → Sleeper → Stage → Reply → Stage → Type 0
-AwokeLate key sleeper st Late new = (sleeper.late ≡ Some key) × (new ≡ stage st.owns (entered_now (One key)) st.last)
+AwokeLate key sleeper st Late new =
+    (sleeper.late ≡ Some key) × (new ≡ stage st.owns (entered_now (One key)) st.last)
 AwokeLate key sleeper st (MovedTo to) new =
     (key ≡ to) × (sleeper.moved ≡ Some to) × (new.owns ≡ st.owns) × (new.inside ≡ None)
 AwokeLate key sleeper st (Woken Normal) new =
-    (sleeper.late ≢ Some key) × (sleeper.moved ≢ Some key) × (new.owns ≡ st.owns) × (new.inside ≡ None)
+    (sleeper.late ≢ Some key) × (sleeper.moved ≢ Some key) × (new.owns ≡ st.owns)
+    × (new.inside ≡ None)
 AwokeLate key sleeper st _ new = ⊥
 
 -- what a sleep made of the stage, by its end
 abbrev pub Awoke : Type 0 → WordKind → ℕ → Sleeper → Stage → Reply → Stage → Type 0
 Awoke up kind at sleeper st (Woken Normal) new = (new.owns ≡ st.owns) × (new.inside ≡ None)
 Awoke up kind at sleeper st (Woken HandOff) new =
-    (owner : Owner) × MayHand kind sleeper.want owner × (new ≡ stage (owning at owner ∷ st.owns) st.inside st.last)
+    (owner : Owner) × MayHand kind sleeper.want owner
+    × (new ≡ stage (owning at owner ∷ st.owns) st.inside st.last)
     × (sleeper.takes_over ≡ true)
 Awoke up kind at sleeper st Late new = (key : ℕ) × AwokeLate key sleeper st Late new × up
 Awoke up kind at sleeper st (MovedTo to) new = AwokeLate to sleeper st (MovedTo to) new × up
@@ -256,23 +278,28 @@ abbrev pub Stepped : WordKind → ℕ → Op → ℕ → Stage → Stage → Typ
 Stepped kind at op seen st new = CodesWith kind at seen st.owns × (new ≡ stepped kind at op seen st)
 
 -- what an act made of the stage, by its reply
-abbrev pub Became : Type 0 → (ℕ → WordKind) → (ℕ → ℕ) → Sleeper → Stage → Act → Reply → Stage → Type 0
+abbrev pub Became : Type 0 → (ℕ → WordKind) → (ℕ → ℕ) → Sleeper → Stage → Act → Reply → Stage
+    → Type 0
 Became up kinds at sleeper st (act.TheVariants.Word lock op) (Value seen) new =
     Stepped (kinds lock) (at lock) op seen st new
 Became up kinds at sleeper st (act.TheVariants.HandOver lock op) (Value seen) new =
     CodesWith (kinds lock) (at lock) seen st.owns × (new ≡ handed (kinds lock) (at lock) op seen st)
-Became up kinds at sleeper st (act.TheVariants.Enter keys) Done new = new ≡ stage st.owns (entered_now keys) st.last
+Became up kinds at sleeper st (act.TheVariants.Enter keys) Done new =
+    new ≡ stage st.owns (entered_now keys) st.last
 Became up kinds at sleeper st (act.TheVariants.Park lock key check _) (Parked parked) new =
     (seen : ℕ) × (parked ≡ holds check seen) × Stepped (kinds lock) (at lock) Load seen st new
 Became up kinds at sleeper st (act.TheVariants.Stand key _) Done new = new ≡ st
 Became up kinds at sleeper st (act.TheVariants.Take key whom) reply new =
     TookBy key whom reply st.inside new.inside × (new.owns ≡ st.owns) × (new.last ≡ st.last)
-Became up kinds at sleeper st (act.TheVariants.Requeue from to how) (Requeued number none_left) new =
+Became up kinds at sleeper st (act.TheVariants.Requeue from to how)
+    (Requeued number none_left) new =
     (first : Option Waiter) × (moved : ℕ) × (number ≡ length (listed first) + moved)
-    × (new ≡ stage st.owns (moving moved (took_as (did.TheVariants.Requeue from to how) (listed first) st.inside)) st.last)
+    × (new ≡ stage st.owns
+    (moving moved (took_as (did.TheVariants.Requeue from to how) (listed first) st.inside)) st.last)
 Became up kinds at sleeper st (act.TheVariants.Remove key) (Removed none_left) new = new ≡ st
 Became up kinds at sleeper st (act.TheVariants.Leave keys wakes) Done new =
-    (new.owns ≡ st.owns) × (new.inside ≡ None) × IsLeft st.inside new.last × IsCounted st.inside new.last
+    (new.owns ≡ st.owns) × (new.inside ≡ None) × IsLeft st.inside new.last
+    × IsCounted st.inside new.last
 Became up kinds at sleeper st act.TheVariants.Sleep reply new =
     Awoke up (kinds sleeper.lock) (at sleeper.lock) sleeper st reply new
 Became up kinds at sleeper st act.TheVariants.Accept Done new = new ≡ st
@@ -281,7 +308,8 @@ Became up kinds at sleeper st _ _ new = ⊥
 -- the steps on words that an act adds
 abbrev pub Adds : (ℕ → ℕ) → Act → Reply → List WordStep → List WordStep → Type 0
 Adds at (act.TheVariants.Word lock op) (Value seen) old new = new ≡ old ++ step (at lock) op seen
-Adds at (act.TheVariants.HandOver lock op) (Value seen) old new = new ≡ old ++ step (at lock) op seen
+Adds at (act.TheVariants.HandOver lock op) (Value seen) old new =
+    new ≡ old ++ step (at lock) op seen
 Adds at (act.TheVariants.Park lock key check _) (Parked parked) old new =
     (seen : ℕ) × (parked ≡ holds check seen) × (new ≡ old ++ step (at lock) Load seen)
 Adds at _ _ old new = new ≡ old

@@ -48,7 +48,8 @@ MayFind word seen token = CodesWith word.kind (index_of word) seen (owns_of toke
 
 -- it has taken the step, and no other
 abbrev pub HasStepped : Word → Op → ℕ → Token → Token → Type 0
-HasStepped word op seen old new = view_of new ≡ after_step word.kind (index_of word) op seen (view_of old)
+HasStepped word op seen old new =
+    view_of new ≡ after_step word.kind (index_of word) op seen (view_of old)
 
 -- who stands under a key, and whether nobody does
 abbrev pub line_in : ℕ → Option Section → List Waiter
@@ -63,15 +64,18 @@ AreWaiting waiters section = lines (waiting_of section) ≡ lines waiters
 
 -- the thread stands behind the last of a queue
 abbrev pub StandsLast : ℕ → ℕ → Want → Option Section → Option Section → Type 0
-StandsLast key thread want old new = AreWaiting (without thread (waiting_of old) ++ waiter key thread want ∷ []) new
+StandsLast key thread want old new =
+    AreWaiting (without thread (waiting_of old) ++ waiter key thread want ∷ []) new
 
 -- waiters of this key may be taken in the section
 abbrev pub MayTakeAt : ParkingLot → ℕ → Option Section → Type 0
-MayTakeAt lot key section = IsIn lot section × HasKey key (inside_of section) × IsFresh (inside_of section)
+MayTakeAt lot key section =
+    IsIn lot section × HasKey key (inside_of section) × IsFresh (inside_of section)
 
 -- these were taken there
 abbrev pub HasTaken : ParkingLot → Did → List Waiter → Option Section → Option Section → Type 0
-HasTaken lot did waiters old new = IsIn lot new × (inside_of new ≡ took_as did waiters (inside_of old))
+HasTaken lot did waiters old new =
+    IsIn lot new × (inside_of new ≡ took_as did waiters (inside_of old))
 
 -- what a take tells of the line under its key, and what it leaves of it
 abbrev pub TellsTake : ℕ → Whom → Reply → Option Section → Option Section → Type 0
@@ -81,16 +85,19 @@ TellsTake key whom.TheVariants.First (Took any none_left) old new =
 TellsTake key whom.TheVariants.All (Took any none_left) old new =
     (any ≡ not (is_empty_at key old))
     × AreWaiting (without_key key (waiting_of old)) new × (none_left ≡ is_empty_at key new)
-TellsTake key (whom.TheVariants.Picked start recursive) (Picked sharers successor none_left) old new =
+TellsTake key (whom.TheVariants.Picked start recursive)
+    (Picked sharers successor none_left) old new =
     (sharers ≡ sharers_in (wants_of (lock_picked start recursive (line_in key old))))
     × (successor ≡ successor_in (wants_of (lock_picked start recursive (line_in key old))))
-    × AreWaiting (without_lock_picked start recursive key (waiting_of old)) new × (none_left ≡ is_empty_at key new)
+    × AreWaiting (without_lock_picked start recursive key (waiting_of old)) new
+    × (none_left ≡ is_empty_at key new)
 TellsTake key whom reply old new = ⊥
 
 -- what a requeue does
 abbrev pub TellsRequeue : ℕ → ℕ → Requeue → ℕ → Bool → Option Section → Option Section → Type 0
 TellsRequeue from to how number none_left old new =
-    (number ≡ length (listed (taken_of how (line_in from old))) + length (moved_by how (line_in from old)))
+    (number ≡ length (listed (taken_of how (line_in from old))) + length
+    (moved_by how (line_in from old)))
     × AreWaiting (requeued how from to (waiting_of old)) new × (none_left ≡ is_empty_at from new)
 
 -- what an act of this thread tells of the queues is so, and it leaves them as it says

@@ -44,7 +44,8 @@ fn park(
     check: Check,
     want: Want,
 ) -> bool
-    requires own { IsTokenOf lot.now token.old × IsWordOf lot.now.words word × IsIn lot.now section.old }
+    requires own { IsTokenOf lot.now token.old × IsWordOf lot.now.words word
+        × IsIn lot.now section.old }
     requires needs { MayTake word Load token.old × HasKey key (inside_of section.old) }
     ensures own { IsSameThread lot.now token.old token.new × (last_of token.new ≡ None) }
     ensures same { IsIn lot.now section.new × (inside_of section.new ≡ inside_of section.old) }
@@ -73,7 +74,8 @@ pub(crate) fn stand(
     key: Key,
     want: Want,
 )
-    requires { IsTokenOf lot.now token.now × IsIn lot.now section.old × HasKey key (inside_of section.old) }
+    requires { IsTokenOf lot.now token.now × IsIn lot.now section.old
+        × HasKey key (inside_of section.old) }
     ensures same { IsIn lot.now section.new × (inside_of section.new ≡ inside_of section.old) }
     ensures stands { StandsLast key token.now.number want section.old section.new }
 {
@@ -83,8 +85,8 @@ pub(crate) fn stand(
     }
 }
 
-// One step on the word, with which the lock goes to those who were taken. The right that each of them wants is laid in its
-// record. Where an exchange finds another value nothing is handed over.
+// One step on the word, with which the lock goes to those who were taken. The right that each of
+// them wants is laid in its record. Where an exchange finds another value nothing is handed over.
 fn hand_over<R: Wait>(
     rt: &R,
     lot: &ParkingLot,
@@ -93,10 +95,12 @@ fn hand_over<R: Wait>(
     section: &mut Option<Section>,
     op: Op,
 ) -> u64
-    requires own { IsTokenOf lot.now token.old × IsWordOf lot.now.words word × IsIn lot.now section.old }
+    requires own { IsTokenOf lot.now token.old × IsWordOf lot.now.words word
+        × IsIn lot.now section.old }
     requires may { MayTake word op token.old }
     requires each { IsUngiven (inside_of section.old)
-        × HandsEach word.kind (index_of word) op (owns_of token.old) (wanted_in (inside_of section.old)) }
+        × HandsEach word.kind (index_of word) op (owns_of token.old)
+        (wanted_in (inside_of section.old)) }
     ensures own { IsSameThread lot.now token.old token.new × IsIn lot.now section.new }
     ensures coded { MayFind word result token.old }
     ensures handed { stage_of token.new section.new
@@ -166,10 +170,13 @@ pub(crate) fn leave<R: Wait>(
     section: &mut Option<Section>,
     note: Note,
 )
-    requires { IsTokenOf lot.now token.old × IsIn lot.now section.old × MayLeave note (inside_of section.old) }
-    ensures own { IsSameThread lot.now token.old token.new × (view_of token.new ≡ view_of token.old) }
+    requires { IsTokenOf lot.now token.old × IsIn lot.now section.old
+        × MayLeave note (inside_of section.old) }
+    ensures own { IsSameThread lot.now token.old token.new
+        × (view_of token.new ≡ view_of token.old) }
     ensures left { (inside_of section.new ≡ None) × IsIn lot.now section.new
-        × IsLeft (inside_of section.old) (last_of token.new) × IsCounted (inside_of section.old) (last_of token.new) }
+        × IsLeft (inside_of section.old) (last_of token.new)
+        × IsCounted (inside_of section.old) (last_of token.new) }
 {
     match section.take() {
         Some(inside) => inside.leave(rt, token, note),
@@ -216,7 +223,8 @@ fn awake_late<'a, R: Wait>(
 ) -> Reply
     requires own { IsTokenOf inside.lot.now token.old × (inside_of section.old ≡ None) }
     requires late { inside_of (Some inside) ≡ entered_now (One key) }
-    ensures own { IsSameThread inside.entry.lot.now token.old token.new × IsIn inside.entry.lot.now section.new
+    ensures own { IsSameThread inside.entry.lot.now token.old token.new
+        × IsIn inside.entry.lot.now section.new
         × (steps_of token.new ≡ steps_of token.old) }
     ensures awoke { AwokeLate key sleeper (stage_of token.old section.old) result
         (stage_of token.new section.new) }
@@ -238,7 +246,8 @@ fn awake_late<'a, R: Wait>(
     Reply::Woken(Note::Normal)
 }
 
-// Sleeps until another thread has taken this one, or its time is up. What was handed over is the token's then.
+// Sleeps until another thread has taken this one, or its time is up. What was handed over is the
+// token's then.
 pub(crate) fn sleep<'a, R: Wait, C: Clock>(
     rt: &R,
     lot: &'a ParkingLot,
@@ -248,7 +257,8 @@ pub(crate) fn sleep<'a, R: Wait, C: Clock>(
     sleeper: Sleeper,
     section: &mut Option<Section<'a>>,
 ) -> Reply
-    requires own { IsTokenOf lot.now token.old × IsWordOf lot.now.words word × (inside_of section.old ≡ None) }
+    requires own { IsTokenOf lot.now token.old × IsWordOf lot.now.words word
+        × (inside_of section.old ≡ None) }
     ensures own { IsSameThread lot.now token.old token.new × IsIn lot.now section.new
         × (steps_of token.new ≡ steps_of token.old) }
     ensures awoke { Awoke (IsUp C.tells limit.entry) word.kind (index_of word) sleeper
@@ -281,12 +291,14 @@ pub(crate) fn perform<'a, R: Wait, C: Clock>(
     place: Place,
     act: Act,
 ) -> Reply
-    requires own { IsTokenOf lot.now token.old × AreWordsOf lot.now words × IsIn lot.now section.old }
+    requires own { IsTokenOf lot.now token.old × AreWordsOf lot.now words
+        × IsIn lot.now section.old }
     requires keys { HasKeys place }
     requires needs { ActNeeds (kind_in words) (at_in words) (stage_of token.old section.old) act }
     requires no_closure { closure_of act ≡ None }
     ensures own { IsSameThread lot.now token.old token.new × IsIn lot.now section.new }
-    ensures became { Became (IsUp C.tells limit.entry) (kind_in words) (at_in words) (sleeper_at place)
+    ensures became { Became (IsUp C.tells limit.entry) (kind_in words) (at_in words)
+        (sleeper_at place)
         (stage_of token.old section.old) act result (stage_of token.new section.new) }
     ensures adds { Adds (at_in words) act result (steps_of token.old) (steps_of token.new) }
     ensures queues { TellsQueues act result token.old.number section.old section.new }

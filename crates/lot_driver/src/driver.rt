@@ -58,7 +58,8 @@ pub const FOR_EVER: &Option<(&'static NoClock, u64)> = &None;
 pub enum Stop {
     /// The call is over.
     Ended(Answer),
-    /// The closure of the call is to run, with this state. The call goes on behind the place, by a run of its own.
+    /// The closure of the call is to run, with this state. The call goes on behind the place, by a
+    /// run of its own.
     Paused { place: Place, state: OnceState },
 }
 
@@ -87,20 +88,23 @@ pub fn step(lot: &ParkingLot, token: &mut Token, word: Word, op: Op) -> u64
     requires own { MeetAt lot.now token.old word }
     requires may { MayStep Mutex (mutex_at word.number) op (view_of token.old).owns }
     ensures own { IsSameThread lot.now token.old token.new × (last_of token.new ≡ None) }
-    ensures stepped { view_of token.new ≡ after_step Mutex (mutex_at word.number) op result (view_of token.old) }
+    ensures stepped { view_of token.new
+        ≡ after_step Mutex (mutex_at word.number) op result (view_of token.old) }
     ensures coded { CodesWith Mutex (mutex_at word.number) result (view_of token.old).owns }
 {
     lot.word(token, word, op)
 }
 
-// Each load takes the word's cache line from its owner, whom that slows. So a thread pauses before it loads, the longer the
-// more often it has loaded: the owner meanwhile takes many turns as if it were alone.
+// Each load takes the word's cache line from its owner, whom that slows. So a thread pauses before
+// it loads, the longer the more often it has loaded: the owner meanwhile takes many turns as if it
+// were alone.
 fn pause_before(loads: u32) {
     pause(SHORT_PAUSE << loads.min(DOUBLINGS));
 }
 
-// Where a call goes on, and what it does there. In place of an act that leads to sleep it looks at the word once more, after a
-// pause, some times over. Before a later look the thread lets others run.
+// Where a call goes on, and what it does there. In place of an act that leads to sleep it looks at
+// the word once more, after a pause, some times over. Before a later look the thread lets others
+// run.
 fn go_from(words: Words, place: &mut Place, act: Act, loads: &mut u32) -> Act
     requires words { AreWordsFor place.old (kind_in words) (at_in words) }
     requires act { act ≡ act_of place.old }
@@ -140,7 +144,8 @@ fn turn<'a, R: Wait, C: Clock>(
     place: Place,
     act: Act,
 ) -> Reply
-    requires own { IsTokenOf lot.now token.old × AreWordsOf lot.now words × IsIn lot.now section.old }
+    requires own { IsTokenOf lot.now token.old × AreWordsOf lot.now words
+        × IsIn lot.now section.old }
     requires words { AreWordsFor place (kind_in words) (at_in words) }
     requires act { act ≡ act_of place }
     requires fits { (base : List Ownership)
@@ -156,10 +161,11 @@ fn turn<'a, R: Wait, C: Clock>(
     perform(rt, lot, token, words, limit, section, place, act)
 }
 
-/// Runs a call from a place to its answer or its closure, up to a deadline where the call is timed: any other pays no heed to it.
-/// The thread may be inside a section there.
+/// Runs a call from a place to its answer or its closure, up to a deadline where the call is timed:
+/// any other pays no heed to it. The thread may be inside a section there.
 ///
-/// The thread sleeps where its call waits, until another one wakes it. A closure is left to the caller to run.
+/// The thread sleeps where its call waits, until another one wakes it. A closure is left to the
+/// caller to run.
 #[cold]
 #[inline(never)]
 pub fn run_from<'a, R: Wait, C: Clock>(
@@ -173,12 +179,14 @@ pub fn run_from<'a, R: Wait, C: Clock>(
 ) -> Stop
     requires own { IsTokenOf lot.now token.old × AreWordsOf lot.now words × IsIn lot.now inside }
     requires words { AreWordsFor start (kind_in words) (at_in words) }
-    requires start { (base : List Ownership) × Fits (IsUp C.tells limit) base start (stage_of token.old inside) }
+    requires start { (base : List Ownership)
+        × Fits (IsUp C.tells limit) base start (stage_of token.old inside) }
     ensures own { IsSameThread lot.now token.old token.new }
     ensures path { Runs (at_in words) start (steps_of token.old) (steps_of token.new) result }
     ensures stopped { (base : List Ownership)
         → Fits (IsUp C.tells limit.entry) base start (stage_of token.old inside.entry)
-        → IsStopped (IsUp C.tells limit.entry) base (aim_of start) result (stage_of token.new None) }
+        → IsStopped (IsUp C.tells limit.entry) base (aim_of start) result
+        (stage_of token.new None) }
     ensures words { AreWordsAfter result (kind_in words) (at_in words) }
 {
     let mut place = start;
@@ -214,12 +222,14 @@ pub fn run<R: Wait, C: Clock>(
 ) -> Stop
     requires own { IsTokenOf lot.now token.old × AreWordsOf lot.now words }
     requires words { AreWordsFor start (kind_in words) (at_in words) }
-    requires start { (base : List Ownership) × Fits (IsUp C.tells limit) base start (stage_of token.old None) }
+    requires start { (base : List Ownership)
+        × Fits (IsUp C.tells limit) base start (stage_of token.old None) }
     ensures own { IsSameThread lot.now token.old token.new }
     ensures path { Runs (at_in words) start (steps_of token.old) (steps_of token.new) result }
     ensures stopped { (base : List Ownership)
         → Fits (IsUp C.tells limit.entry) base start (stage_of token.old None)
-        → IsStopped (IsUp C.tells limit.entry) base (aim_of start) result (stage_of token.new None) }
+        → IsStopped (IsUp C.tells limit.entry) base (aim_of start) result
+        (stage_of token.new None) }
     ensures words { AreWordsAfter result (kind_in words) (at_in words) }
 {
     run_from(rt, lot, token, words, limit, None, start)

@@ -1,4 +1,5 @@
-//! The driver of real threads: it leads a call through the places that the simulated world runs, and does each act on the lot.
+//! The driver of real threads: it leads a call through the places that the simulated world runs,
+//! and does each act on the lot.
 #![tactic(auto)]
 
 mod acting;

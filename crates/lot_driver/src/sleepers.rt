@@ -14,7 +14,8 @@ use lot_rwlock_fair::RwLockCallPlace;
 use lot_steps::Place;
 use parking_lot_core::{Key, Want};
 
-/// What a thread waits for where it sleeps, the key under which it may be late, and the key to which it may be moved meanwhile.
+/// What a thread waits for where it sleeps, the key under which it may be late, and the key to
+/// which it may be moved meanwhile.
 #[derive(Clone, Copy)]
 pub(crate) struct Sleeper {
     pub lock: usize,
@@ -37,7 +38,8 @@ fn may_be_handed(at: RwLockCallPlace) -> bool
     }
 }
 
-// For what a thread sleeps in a call of a condition variable: for its mutex, to the queue of which it may be moved meanwhile.
+// For what a thread sleeps in a call of a condition variable: for its mutex, to the queue of which
+// it may be moved meanwhile.
 fn condvar_sleeper(lock: usize, at: CondvarPlace) -> Sleeper
     requires { HasKeys (Condvar lock at) }
     ensures { result ≡ condvar_sleeper lock at }

@@ -60,7 +60,8 @@ pub(crate) fn take_first(_lot: &ParkingLot, section: &mut Option<Section>, key: 
 /// Whether it took any, and whether none is left.
 pub(crate) fn take_all(_lot: &ParkingLot, section: &mut Option<Section>, key: Key) -> (bool, bool)
     requires { MayTakeAt _lot.now key section.old }
-    ensures did { HasTaken _lot.now (TakeAll key) (line_in key section.old) section.old section.new }
+    ensures did { HasTaken _lot.now (TakeAll key)
+        (line_in key section.old) section.old section.new }
     ensures any { result.0 ≡ not (is_empty_at key section.old) }
     ensures left { AreWaiting (without_key key (waiting_of section.old)) section.new
         × (result.1 ≡ is_empty_at key section.new) }
@@ -85,8 +86,10 @@ pub(crate) fn take_picked(
     requires { MayTakeAt _lot.now key section.old }
     ensures did { HasTaken _lot.now (TakePicked key start recursive)
         (lock_picked start recursive (line_in key section.old)) section.old section.new }
-    ensures wants { wants_taken section.new ≡ wants_of (lock_picked start recursive (line_in key section.old)) }
-    ensures left { AreWaiting (without_lock_picked start recursive key (waiting_of section.old)) section.new
+    ensures wants { wants_taken section.new
+        ≡ wants_of (lock_picked start recursive (line_in key section.old)) }
+    ensures left { AreWaiting
+        (without_lock_picked start recursive key (waiting_of section.old)) section.new
         × (result ≡ is_empty_at key section.new) }
 {
     match section {
@@ -122,7 +125,8 @@ pub(crate) fn requeue(
     to: Key,
     how: Requeue,
 ) -> (usize, bool)
-    requires { MayTakeAt _lot.now from section.old × HasKey to (inside_of section.old) × (from ≢ to) }
+    requires { MayTakeAt _lot.now from section.old × HasKey to (inside_of section.old)
+        × (from ≢ to) }
     ensures did { IsIn _lot.now section.new × (inside_of section.new
         ≡ moving (length (moved_by how (line_in from section.old)))
         (took_as (did.Requeue from to how) (listed (taken_of how (line_in from section.old))) (inside_of section.old))) }

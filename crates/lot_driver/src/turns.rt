@@ -1,4 +1,5 @@
-//! Turns whose act is known where their call is compiled. What a call mostly does it does by these, and all else by `run_from`.
+//! Turns whose act is known where their call is compiled. What a call mostly does it does by these,
+//! and all else by `run_from`.
 ghost use Rattle.lot_base.specs.Clocks.{IsUp};
 ghost use Rattle.lot_acts.specs.declared.acts.Act.TheVariants as acts;
 ghost use Rattle.lot_acts.specs.declared.acts.Reply.TheVariants.{Done, Requeued, Took, Value};
@@ -28,7 +29,8 @@ pub fn turn_word<C: Clock>(
     lock: usize,
     op: Op,
 ) -> u64
-    requires { MayDo (IsUp C.tells _limit) lot.now words (acts.Word lock op) token.old _section.now }
+    requires { MayDo (IsUp C.tells _limit) lot.now words
+        (acts.Word lock op) token.old _section.now }
     ensures { HasDone (IsUp C.tells _limit.entry) lot.now words (acts.Word lock op) (Value result)
         token.old _section.now token.new _section.now }
 {
@@ -64,7 +66,8 @@ pub fn turn_stand<C: Clock>(
     key: Key,
     want: Want,
 )
-    requires { MayDo (IsUp C.tells _limit) lot.now _words (acts.Stand key want) token.now section.old }
+    requires { MayDo (IsUp C.tells _limit) lot.now _words
+        (acts.Stand key want) token.now section.old }
     ensures done { HasDone (IsUp C.tells _limit.entry) lot.now _words (acts.Stand key want) Done
         token.now section.old token.now section.new }
     ensures stands { StandsLast key token.now.number want section.old section.new }
@@ -82,16 +85,18 @@ pub fn turn_take_first<C: Clock>(
     section: &mut Option<Section>,
     key: Key,
 ) -> (bool, bool)
-    requires { MayDo (IsUp C.tells _limit) lot.now _words (acts.Take key whom.First) _token.now section.old }
-    ensures done { HasDone (IsUp C.tells _limit.entry) lot.now _words (acts.Take key whom.First) (Took result.0 result.1)
+    requires { MayDo (IsUp C.tells _limit) lot.now _words
+        (acts.Take key whom.First) _token.now section.old }
+    ensures done { HasDone (IsUp C.tells _limit.entry) lot.now _words (acts.Take key whom.First)
+        (Took result.0 result.1)
         _token.now section.old _token.now section.new }
     ensures told { TellsTake key whom.First (Took result.0 result.1) section.old section.new }
 {
     take_first(lot, section, key)
 }
 
-/// A turn that moves waiters from one queue to another, and may take the first. How many these are, and whether none is left
-/// where they stood.
+/// A turn that moves waiters from one queue to another, and may take the first. How many these are,
+/// and whether none is left where they stood.
 #[inline]
 pub fn turn_requeue<C: Clock>(
     lot: &ParkingLot,
@@ -103,8 +108,10 @@ pub fn turn_requeue<C: Clock>(
     to: Key,
     how: Requeue,
 ) -> (usize, bool)
-    requires { MayDo (IsUp C.tells _limit) lot.now _words (acts.Requeue from to how) _token.now section.old }
-    ensures done { HasDone (IsUp C.tells _limit.entry) lot.now _words (acts.Requeue from to how) (Requeued result.0 result.1)
+    requires { MayDo (IsUp C.tells _limit) lot.now _words
+        (acts.Requeue from to how) _token.now section.old }
+    ensures done { HasDone (IsUp C.tells _limit.entry) lot.now _words (acts.Requeue from to how)
+        (Requeued result.0 result.1)
         _token.now section.old _token.now section.new }
     ensures told { TellsRequeue from to how result.0 result.1 section.old section.new }
 {
@@ -123,7 +130,8 @@ pub fn turn_leave<R: Wait, C: Clock>(
     _keys: Keys,
     wakes: Wakes,
 )
-    requires { MayDo (IsUp C.tells _limit) lot.now _words (acts.Leave _keys wakes) token.old section.old }
+    requires { MayDo (IsUp C.tells _limit) lot.now _words
+        (acts.Leave _keys wakes) token.old section.old }
     ensures { HasDone (IsUp C.tells _limit.entry) lot.now _words (acts.Leave _keys wakes) Done
         token.old section.old token.new section.new }
 {
@@ -143,7 +151,8 @@ pub fn turn_sleep<'a, R: Wait, C: Clock>(
 ) -> Reply
     requires at { IsAt (IsUp C.tells limit) lot.now words place token.old section.old }
     requires act { act_of place ≡ acts.Sleep }
-    ensures { HasTurned (IsUp C.tells limit.entry) lot.now words place result token.old section.old token.new section.new }
+    ensures { HasTurned (IsUp C.tells limit.entry) lot.now words place result token.old section.old
+        token.new section.new }
 {
     let sleeper = sleeper_at(place);
     sleep(

@@ -22,7 +22,8 @@ impl Words {
         }
     }
 
-    /// Those of a call that steps on two: the second where its own lock's number is asked for, and else the first.
+    /// Those of a call that steps on two: the second where its own lock's number is asked for, and
+    /// else the first.
     pub fn both(word: Word, other: Word) -> Words
         ensures { result ≡ both word other }
     {

@@ -8,7 +8,7 @@ use Rattle.lot_base.specs.Lines.{without, times}
 use Rattle.lot_steps.specs.declared.places.Place.{Place}
 use Rattle.lot_steps.specs.declared.places.Place.TheVariants.{Idle, Mutex}
 use Rattle.lot_mutex.specs.declared.places.MutexPlace.{MutexPlace}
-use Rattle.abstract_locks.specs.Locks.{Taken, HasTakenNobody, keep_from, one_if_some, standing}
+use Rattle.abstract_locks.specs.Locks.{Taken, HasTakenNobody, keep_from}
 use Rattle.abstract_locks.specs.Locks as locks
 use Rattle.abstract_locks.specs.Runs.{is_taken_by}
 use Rattle.abstract_locks.specs.Sites.{Line, Main, Has}

@@ -11,7 +11,7 @@ use Rattle.lot_condvar.specs.declared.places.CondvarPlace.{CondvarPlace}
 use Rattle.lot_condvar.specs.declared.places.CondvarPlace.TheVariants.{Wait, Look, Notify}
 use Rattle.lot_condvar.specs.declared.wait.WaitAt.{WaitAt}
 use Rattle.lot_condvar.specs.CondvarCalls as calls
-use Rattle.lot_condvar.specs.CondvarCalls.{CallFollows, MayComeOfTwo, case_there, heard, or_else, wait_event}
+use Rattle.lot_condvar.specs.CondvarCalls.{MayComeOfTwo, case_there, heard, or_else, wait_event}
 use Rattle.lot_condvar.specs.CondvarDeeds.{wait_deeds}
 use Rattle.lot_condvar.specs.CondvarProfiles.{condvar_profile, mutex_side, wait_carries}
 use Rattle.lot_condvar.specs.CondvarSteps.{condvar_act, mutex_beside}

@@ -39,7 +39,7 @@ use Rattle.lot_condvar.proofs.CondvarFit.{condvar_moves_fit}
 use Rattle.abstract_locks.specs.Codes.{code, shown_code, word_by}
 use Rattle.abstract_locks.specs.Condvars.{CondvarSite, IsCondvar, MoveFits, WaitsAside, moved_of}
 use Rattle.abstract_locks.specs.Locks as locks
-use Rattle.abstract_locks.specs.Locks.{HasTakenNobody, one_if_some, Taken, keep_from, LockState, Queued, Rules, first_thread, standing}
+use Rattle.abstract_locks.specs.Locks.{HasTakenNobody, one_if_some, Taken, keep_from, Rules, first_thread, standing}
 use Rattle.abstract_locks.specs.Picks.{queued_of}
 use Rattle.abstract_locks.specs.Sites.{Line, Main, Second, Site, is_empty}
 use Rattle.lot_acts.specs.Moves.{IsFree}

@@ -23,9 +23,9 @@ use Rattle.lot_condvar.specs.CondvarDeeds.{Follows, condvar_deeds, word_of}
 use Rattle.lot_condvar.specs.CondvarDeeds as condvar
 use Rattle.lot_condvar.specs.CondvarMoves.{there, there_then}
 use Rattle.abstract_locks.specs.Codes.{shown_code, word_by, parked_in, aside_in, count_in}
-use Rattle.abstract_locks.specs.Condvars.{CondvarDeed, CondvarSite, CondvarNeeded}
+use Rattle.abstract_locks.specs.Condvars.{CondvarDeed, CondvarSite}
 use Rattle.abstract_locks.specs.Condvars as condvars
-use Rattle.abstract_locks.specs.Locks.{LockState, OfCondvar, Rules, Park, putting, standing, keep_from, IsBlocked, IsFreeAt, one_if_some, Knows}
+use Rattle.abstract_locks.specs.Locks.{OfCondvar, Rules, Park, putting, standing, keep_from, IsBlocked, IsFreeAt, one_if_some, Knows}
 use Rattle.abstract_locks.specs.Locks as locks
 use Rattle.abstract_locks.specs.Sites.{Case, Deed, Doing, In, LeaveLine, Line, Main, Out, Second, Send, Site, IsSite, has_readers, idle, wakened, leaves, StandsIn}
 use Rattle.lot_machine.specs.Machine.{State, owners_at, place_at, put, queue_at, section_at, shares_at, state_after_operation, state_with_sections, queues_with_last, queues_without, word_at, filled_at}
@@ -33,7 +33,7 @@ use Rattle.lot_laws.specs.Refinement.{taken_at, lock_seen}
 use Rattle.lot_laws.specs.MutexDeeds.{acts}
 use Rattle.lot_laws.specs.Stations.{doing_on, station_at, hand}
 use Rattle.lot_laws.specs.SitesOf.{ActsNeeded, FitsItsLock, Goes, IsSteady, after_acts, condvar_of, key_of, rules_in, hand_at, carried_at, stood_in}
-use Rattle.lot_laws.proofs.Glue.{Parts, lock_in, parts_at, seen_in, LetGo, stays, put_here, put_other, same, inside_is}
+use Rattle.lot_laws.proofs.Glue.{lock_in, parts_at, seen_in, LetGo, stays, put_here, put_other, same, inside_is}
 use Rattle.lot_laws.proofs.OneStep.{Steps, steps_by, queued_times, queued_without, AreSingle, same_filled}
 use Rattle.lot_laws.proofs.StandsKept.{Alike, AlikeBeside}
 use Rattle.lot_laws.proofs.Following.{lock_by, operated, parks, with_line, NoHandOff}

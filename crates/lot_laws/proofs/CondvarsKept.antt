@@ -16,7 +16,7 @@ use Rattle.lot_steps.specs.declared.places.Place.TheVariants.{Idle, Mutex, RwLoc
 use Rattle.lot_steps.specs.Steps.{is_lock, lock_of, profile}
 use Rattle.abstract_locks.specs.Condvars.{moved_of}
 use Rattle.abstract_locks.specs.Locks as locks
-use Rattle.abstract_locks.specs.Locks.{LockCase, LockState, Rules, SeeOwner, Wake, after_case, left_behind, putting}
+use Rattle.abstract_locks.specs.Locks.{LockCase, LockState, Rules, SeeOwner, Wake, after_case, left_behind}
 use Rattle.abstract_locks.specs.Purposes.{Purpose, Enters, Releases, Converts, Bumps, CallsOnce, Awaits, Waits, Notifies, IsMadeOf, NotifiesBeside, Recall, lock_for, rules_of}
 use Rattle.abstract_locks.specs.Runs.{AtLock, CallState, Event, GoesOn, IsStep, LocksState, MayDo, MayHappen, MayTurn, Does, Moves, Nothing, SectionChanges, going_on, joined_by, locks_after, rules_at, unless_ended, woken}
 use Rattle.abstract_locks.specs.Sites.{Main}

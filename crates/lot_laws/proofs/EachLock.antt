@@ -5,7 +5,7 @@ use Rattle.lot_calls.specs.declared.calls.Turn as turn
 use Rattle.lot_calls.specs.declared.outcomes.Outcome.{Outcome}
 use Rattle.abstract_locks.specs.Condvars.{moved_of, taken_of}
 use Rattle.abstract_locks.specs.Locks as locks
-use Rattle.abstract_locks.specs.Locks.{LockCase, LockState, Needs, Queued, Sort, Taken, left_behind, taking}
+use Rattle.abstract_locks.specs.Locks.{LockCase, LockState, Needs, Queued, Taken, left_behind, taking}
 use Rattle.abstract_locks.specs.Runs.{AtLock, CallState, Does, Event, GoesOn, LocksState, MayHappen, MayMove, Moves, Nothing, Stays, Turned, joined_by, locks_after, rules_at}
 use Rattle.abstract_locks.specs.Sites.{has_readers}
 use Rattle.abstract_locks.proofs.Runs.{needs_of}

@@ -42,7 +42,7 @@ use Rattle.lot_machine.proofs.Shape.{both, looking_shaped}
 use Rattle.lot_laws.proofs.Looking.{looking_steady, locks_same, looks_now, calls_same}
 use Rattle.std.specs.Prelude.{nat_lt}
 use Rattle.abstract_locks.specs.Onces.{OnceCase, Start, Finish, Fail, Rest, TakeAll}
-use Rattle.abstract_locks.specs.Locks.{LockState, Rules, Rights, Taken, LockCase, Enter, Pend, Settle, Leave, Convert, Park, Aside, TakeFirst, TakeAside, TakePicked, Wake, HandOff as HandsLockOff, Late, Rollback, OfOnce, Needs, IsTaken, HasTakenNobody, IsLockState, keep_from, first_thread, Owns}
+use Rattle.abstract_locks.specs.Locks.{LockState, Rules, Taken, LockCase, Enter, Pend, Settle, Leave, Convert, Park, Aside, TakeFirst, TakeAside, TakePicked, Wake, HandOff as HandsLockOff, Late, Rollback, OfOnce, Needs, IsTaken, HasTakenNobody, IsLockState, keep_from, first_thread, Owns}
 use Rattle.abstract_locks.specs.Locks as locks
 use Rattle.abstract_locks.specs.Runs.{CallState, AreLockStates, IsStep, MayMove, rules_at, locks_after, Moves}
 use Rattle.lot_laws.specs.Refinement.{call_at, lock_state, locks_of, call_state, owner_at}

@@ -9,7 +9,7 @@ use Rattle.lot_base.specs.Lines.{waiter, first_of}
 use Rattle.lot_steps.specs.declared.places.Place.{Place}
 use Rattle.lot_acts.specs.Owners.{shares_then}
 use Rattle.lot_steps.specs.Steps.{owners_after, shares_after}
-use Rattle.abstract_locks.specs.Locks.{Rules, Taken, putting, keep_from}
+use Rattle.abstract_locks.specs.Locks.{Rules, putting}
 use Rattle.abstract_locks.specs.Locks as locks
 use Rattle.abstract_locks.specs.Picks.{queued_of}
 use Rattle.abstract_locks.specs.Sites.{Site, IsSite, Deed, Line, Main, Second, Case, has_readers, after_deed}

@@ -2,7 +2,7 @@
 -- one at most. What its leaving and its hand-over make of it.
 use Rattle.std.proofs.Common.{ℕ, Bool, true, false, Option, Some, None, if◌then◌else◌, ◌==◌, ◌≡◌, ◌≢◌, ◌+◌, List, inl, inr, refl, ◌∙◌, ap, subst, arith}
 use Rattle.abstract_locks.proofs.LockKeeps.{sharing_same}
-use Rattle.abstract_locks.specs.Locks.{IsLockState, wants_shared}
+use Rattle.abstract_locks.specs.Locks.{IsLockState}
 use Rattle.std.proofs.lemmas.Bool.{cases_eq}
 use Rattle.lot_base.specs.declared.wants.Waiter.{Waiter}
 use Rattle.lot_base.specs.declared.wants.Want.TheVariants.{Exclusive}
@@ -10,7 +10,7 @@ use Rattle.lot_acts.specs.declared.owners.Owners.{Owners}
 use Rattle.lot_steps.specs.declared.places.Place.{Place}
 use Rattle.lot_acts.specs.declared.acts.Reply.{Reply}
 use Rattle.lot_steps.specs.Steps.{taker}
-use Rattle.abstract_locks.specs.Locks.{LockState, Taken, Queued, Rules, TakeFirst, keep_from, let_go, shares_handed, sharing_from, putting}
+use Rattle.abstract_locks.specs.Locks.{Queued, let_go, putting}
 use Rattle.std.specs.Prelude.{sum}
 use Rattle.lot_acts.specs.Owners.{is_thread, with_exclusive}
 use Rattle.abstract_locks.specs.Locks as locks

@@ -19,7 +19,7 @@ use Rattle.lot_acts.specs.Profiles.{hand, Hand, Of, in_hand as in_hand_if, taken
 use Rattle.lot_steps.specs.declared.places.Place.{Place}
 use Rattle.lot_steps.specs.declared.places.Place.TheVariants.{Idle}
 use Rattle.lot_steps.specs.Steps.{calls, next_place, owners_after, profile, taker, wants}
-use Rattle.abstract_locks.specs.Locks.{LockState, Queued, Taken, Rules, Sort, Mutex, Normal, Recursive, Semaphore, Once, HandOff, IsSuccessor, Knows, IsLockState, keep_from, let_go, putting, sharing_from, sharing_handed, shares_handed, succeeding, wants_shared, with_owner, with_successor, without_owner, handed, readers}
+use Rattle.abstract_locks.specs.Locks.{LockState, Queued, Taken, Rules, Sort, Mutex, Normal, Recursive, Semaphore, Once, HandOff, IsSuccessor, Knows, keep_from, let_go, putting, sharing_from, sharing_handed, shares_handed, succeeding, wants_shared, with_owner, with_successor, without_owner, handed, readers}
 use Rattle.abstract_locks.specs.Locks as locks
 use Rattle.abstract_locks.specs.Sites.{Doing, Site, IsSite, Deed, Has, Begin, Case, Holds, has_readers, is_full, after_deed}
 use Rattle.abstract_locks.specs.Codes.{code, code_of, fills, has_aside, has_parked, HasLimit, TellsTrue}

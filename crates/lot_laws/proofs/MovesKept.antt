@@ -25,7 +25,7 @@ use Rattle.lot_steps.specs.Steps.{next_place, profile, profile_beside, wants, ta
 use Rattle.lot_steps.specs.declared.places.Place.TheVariants.{Idle}
 use Rattle.lot_base.specs.Picks.{lock_picker, lock_picked, without_lock_picked}
 use Rattle.lot_acts.specs.Owners.{is_thread}
-use Rattle.abstract_locks.specs.Locks.{Rules, Pending, IsSomePending, LockCase, Park, Aside, TakeAside, TakePicked, Wake, is_recursive, HandOff, keep_from, one_if_some, putting, standing}
+use Rattle.abstract_locks.specs.Locks.{Rules, Pending, IsSomePending, Park, Aside, TakeAside, TakePicked, Wake, is_recursive, HandOff, keep_from, one_if_some, putting, standing}
 use Rattle.abstract_locks.specs.Locks as locks
 use Rattle.abstract_locks.specs.Picks.{queued_of}
 use Rattle.abstract_locks.specs.Sites.{Doing, Pends, wakened, is_empty, Site, IsSite, Deed, Line, Main, Second, End, In, Out, Mark, Clear, FindNobody, Case, has_readers, idle}

@@ -6,7 +6,6 @@ use Rattle.lot_base.specs.Lines.{times}
 use Rattle.lot_calls.specs.declared.kinds.Kind as kind
 use Rattle.lot_steps.specs.declared.places.Place.{Place}
 use Rattle.abstract_locks.specs.Condvars.{line_of, moved_of, taken_of}
-use Rattle.abstract_locks.specs.Locks.{Queued, Rules, left_behind, putting}
 use Rattle.abstract_locks.specs.Locks as locks
 use Rattle.abstract_locks.specs.Picks.{queued_of}
 use Rattle.abstract_locks.specs.Sites.{Bring, Deed, Main, Second, Send, Site, has_readers, bringing}

@@ -12,7 +12,7 @@ use Rattle.lot_steps.specs.Steps.{owners_after, shares_after, taker}
 use Rattle.abstract_locks.specs.Codes.{aside_in, code, count_in, parked_in, word_by}
 use Rattle.abstract_locks.specs.Codes as codes
 use Rattle.abstract_locks.specs.Deeds as laws
-use Rattle.abstract_locks.specs.Locks.{Enter, Leave, LockState, Rules, one_if_some, putting, Park, keep_from}
+use Rattle.abstract_locks.specs.Locks.{Enter, Leave, Rules, one_if_some, putting, Park, keep_from}
 use Rattle.abstract_locks.specs.Locks as locks
 use Rattle.abstract_locks.specs.Sites.{Case, Clear, Deed, End, In, Main, Mark, MarkBrought, MarkOwned, Site, has_readers, FindNobody, Second}
 use Rattle.lot_machine.specs.Machine.{State, filled_at, owners_at, place_at, put, queue_at, section_at, share_at, shares_at, state_after_operation, state_with_sections, word_at, state_after_telling, queues_with_last, queues_without_first, queues_without}

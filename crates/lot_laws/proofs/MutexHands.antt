@@ -4,7 +4,7 @@ use Rattle.abstract_locks.specs.Picks.{queued_of}
 use Rattle.lot_laws.specs.MutexDeeds.{acts}
 use Rattle.lot_laws.specs.Stations.{station_at}
 use Rattle.lot_laws.proofs.Glue.{put_places}
-use Rattle.abstract_locks.specs.Locks.{IsLockState, wants_shared}
+use Rattle.abstract_locks.specs.Locks.{IsLockState}
 use Rattle.std.proofs.lemmas.Bool.{cases_eq}
 use Rattle.lot_base.specs.declared.wants.Waiter.{Waiter}
 use Rattle.lot_base.specs.declared.wants.Want.TheVariants.{Exclusive}
@@ -18,7 +18,7 @@ use Rattle.lot_acts.specs.declared.acts.Reply.TheVariants.{Woken, TakenBy, Hande
 use Rattle.std.proofs.Math.Bool.{or-false}
 use Rattle.lot_mutex.specs.MutexSteps.{is_parked}
 use Rattle.lot_steps.specs.Steps.{next_place}
-use Rattle.abstract_locks.specs.Locks.{LockState, Taken, Queued, Rules, TakeFirst, keep_from, let_go, shares_handed, sharing_from, putting}
+use Rattle.abstract_locks.specs.Locks.{Rules, TakeFirst, keep_from, let_go, putting}
 use Rattle.lot_acts.specs.Owners.{with_exclusive}
 use Rattle.abstract_locks.specs.Locks as locks
 use Rattle.abstract_locks.specs.Sites.{Has, Site, Main, Begin, Mark, Clear, Case, wakened}

@@ -30,7 +30,6 @@ use Rattle.lot_mutex.specs.MutexSteps.{in_lock, in_unlock, is_parked, is_locked,
 use Rattle.lot_steps.specs.Steps.{next_place, mutex_goes, mutex_does}
 use Rattle.lot_machine.specs.Machine.{State, place_at, word_at, queue_at, is_there, reply_to}
 use Rattle.lot_laws.specs.Refinement.{owner_at}
-use Rattle.abstract_locks.specs.Locks.{Rights}
 use Rattle.abstract_locks.specs.Sites.{Main}
 use Rattle.lot_laws.specs.MutexPromises.{IsMutexWord}
 use Rattle.lot_laws.specs.SitesOf.{IsSteady}

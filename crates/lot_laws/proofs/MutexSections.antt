@@ -9,7 +9,7 @@ use Rattle.lot_steps.specs.declared.places.Place.{Place}
 use Rattle.lot_steps.specs.declared.places.Place.TheVariants.{Mutex}
 use Rattle.lot_mutex.specs.declared.places.MutexPlace.TheVariants.{HandOff}
 use Rattle.lot_mutex.specs.declared.hand_off.HandOffAt.TheVariants as hand_off
-use Rattle.abstract_locks.specs.Locks.{LockState, Taken, Queued, Rules, IsTaken, HasTakenNobody, KnowsAll, Knows, TakeFirst, keep_from, let_go}
+use Rattle.abstract_locks.specs.Locks.{LockState, Taken, Queued, IsTaken, HasTakenNobody, Knows, TakeFirst, keep_from}
 use Rattle.abstract_locks.specs.Locks as locks
 use Rattle.abstract_locks.specs.Sites.{Doing, Has, IsSite, Main, Second, Case}
 use Rattle.lot_laws.specs.Refinement.{lock_seen, taken_at}

@@ -21,7 +21,7 @@ use Rattle.lot_condvar.proofs.NotifierFit.{notifiers_follow}
 use Rattle.abstract_locks.specs.Codes.{code}
 use Rattle.abstract_locks.specs.Condvars.{IsCondvar, WaitsAside}
 use Rattle.abstract_locks.specs.Locks as locks
-use Rattle.abstract_locks.specs.Locks.{keep_from, putting}
+use Rattle.abstract_locks.specs.Locks.{keep_from}
 use Rattle.abstract_locks.specs.Sites.{End, Main, Out, Site, has_readers}
 use Rattle.lot_machine.specs.Machine.{State, place_after_telling, place_at, put, queue_at, section_at, state_after_telling}
 use Rattle.lot_laws.specs.MutexDeeds.{acts}

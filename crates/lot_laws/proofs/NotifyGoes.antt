@@ -4,7 +4,6 @@ use Rattle.std.proofs.Common.{ℕ, Bool, true, false, Option, Some, None, if◌t
 use Rattle.std.specs.Prelude.{is_some}
 use Rattle.std.proofs.lemmas.Bool.{cases_eq, eqb-true}
 use Rattle.std.proofs.lemmas.Bool.Decides.{nat_tests}
-use Rattle.lot_calls.specs.declared.outcomes.Outcome.{Outcome}
 use Rattle.lot_calls.specs.declared.outcomes.Outcome as outcome
 use Rattle.lot_acts.specs.Acts.{outcome_of}
 use Rattle.lot_acts.specs.Calls.{rights_where}
@@ -33,7 +32,7 @@ use Rattle.abstract_locks.specs.Purposes.{Waits}
 use Rattle.abstract_locks.proofs.CondvarKeeps.{moved_fewer}
 use Rattle.abstract_locks.specs.Deeds.{KeepLock, after_all, event_by}
 use Rattle.abstract_locks.specs.Locks as locks
-use Rattle.abstract_locks.specs.Locks.{HasTakenNobody, LockCase, LockState, OfCondvar, Rules, SeeOwner, Wake, left_behind, rights_of}
+use Rattle.abstract_locks.specs.Locks.{HasTakenNobody, LockCase, LockState, OfCondvar, SeeOwner, Wake, rights_of}
 use Rattle.abstract_locks.specs.Runs.{MayHappen, is_among, AtLock, Event, GoesOn, MayMove, Moves, Nothing, is_taken_by}
 use Rattle.abstract_locks.specs.Sites.{Case, Deed, End, In, Main, MarkBrought, MarkOwned, Out}
 use Rattle.abstract_locks.proofs.Deeds.{kept}

@@ -22,7 +22,7 @@ use Rattle.lot_acts.specs.Moves.{StaysPut, GoesIn, GoesOut, AreLeaving, Waits, r
 use Rattle.lot_acts.specs.Profiles.{Profile, in_hand}
 use Rattle.lot_acts.specs.Owners.{lock_seen}
 use Rattle.abstract_locks.specs.Onces.{Rest, TakeAll}
-use Rattle.abstract_locks.specs.Locks.{Rules, OfOnce, standing}
+use Rattle.abstract_locks.specs.Locks.{Rules, OfOnce}
 use Rattle.abstract_locks.specs.Locks as locks
 use Rattle.abstract_locks.specs.Sites.{Site, Deed, Line, Main, Second, Case, In, has_readers}
 use Rattle.abstract_locks.specs.Codes.{aside_in, code, is_marked, parked_in}

@@ -30,7 +30,7 @@ use Rattle.lot_rwlock_fair.specs.FairProfiles.{call_profile}
 use Rattle.lot_rwlock_fair.specs.FairSteps.{handed_woken}
 use Rattle.lot_rwlock_fair.proofs.FairActs.{fair_sleepers_move}
 use Rattle.lot_rwlock_fair.proofs.FairSleepers.{fair_sleepers_hear, never_given}
-use Rattle.abstract_locks.specs.Locks.{Rights, LockCase, Wake, HandOff, putting}
+use Rattle.abstract_locks.specs.Locks.{Rights, LockCase, Wake, HandOff}
 use Rattle.abstract_locks.specs.Runs.{AtLock, is_taken_by}
 use Rattle.abstract_locks.specs.Deeds.{event_by}
 use Rattle.lot_machine.specs.Machine.{State, queue_at, place_at, put, state_after_act, state_after_telling, state_after_taking, state_with_sections, places_told, place_after_telling}
@@ -42,7 +42,6 @@ use Rattle.std.proofs.Common.{◌+◌, ◌≤◌, arith}
 use Rattle.lot_base.specs.Lines as Lines
 use Rattle.lot_base.specs.Picks.{lock_picker, without_lock_picked}
 use Rattle.abstract_locks.specs.Locks as locks
-use Rattle.abstract_locks.specs.Locks.{Rules}
 use Rattle.abstract_locks.specs.Sites.{Line, Main, Second}
 use Rattle.lot_machine.specs.Machine.{queues_without_first, state_after_take}
 use Rattle.lot_laws.specs.Stations.{station_at}

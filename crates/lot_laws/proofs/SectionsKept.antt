@@ -6,7 +6,7 @@ use Rattle.lot_steps.specs.declared.places.Place.{Place}
 use Rattle.lot_steps.specs.declared.places.Place.TheVariants.{Mutex}
 use Rattle.lot_mutex.specs.declared.places.MutexPlace.{MutexPlace}
 use Rattle.lot_mutex.specs.MutexSteps.{is_parked}
-use Rattle.abstract_locks.specs.Locks.{Rules, putting, is_thread}
+use Rattle.abstract_locks.specs.Locks.{is_thread}
 use Rattle.abstract_locks.specs.Locks as locks
 use Rattle.abstract_locks.specs.Sites.{IsSite, Line, Main, Case, FindNobody, found, is_empty}
 use Rattle.lot_machine.specs.Machine.{State, place_at, word_at, owners_at, queue_at, put, queues_with_last, queues_without, queues_without_first}

@@ -6,7 +6,7 @@ use Rattle.lot_base.specs.Lines.{times}
 use Rattle.lot_steps.specs.declared.places.Place.{Place}
 use Rattle.lot_acts.specs.declared.acts.Reply.TheVariants.{TakenBy}
 use Rattle.lot_steps.specs.Steps.{next_place}
-use Rattle.abstract_locks.specs.Locks.{Rules, Taken, putting}
+use Rattle.abstract_locks.specs.Locks.{Rules, putting}
 use Rattle.abstract_locks.specs.Locks as locks
 use Rattle.abstract_locks.specs.Picks.{queued_of}
 use Rattle.abstract_locks.specs.Sites.{Site, Deed, Line}
@@ -22,7 +22,7 @@ use Rattle.lot_laws.proofs.StandsKept.{own_alike}
 use Rattle.lot_acts.specs.Stations.{waits_for}
 use Rattle.lot_steps.specs.Steps.{profile}
 pub use Rattle.lot_laws.proofs.TakesAt.{member, member_times, at_most_one, told_by, told_places, told_once, AllAre}
-use Rattle.lot_laws.proofs.TakesAt.{IsTakenAt, behind_take, stranger_times}
+use Rattle.lot_laws.proofs.TakesAt.{IsTakenAt, behind_take}
 use Rattle.lot_laws.proofs.TakesAt as at
 
 -- where a thread goes that sleeps in a line and is taken by t

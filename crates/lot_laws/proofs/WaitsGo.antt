@@ -36,7 +36,6 @@ use Rattle.lot_laws.specs.MutexDeeds as deeds
 use Rattle.lot_laws.specs.SitesOf.{FitsItsLock, Goes, GoesAll, IsSteady, condvar_of, key_of, rules_in}
 use Rattle.lot_laws.proofs.Following.{goes_all, only_at}
 use Rattle.lot_laws.proofs.Glue as glue
-use Rattle.lot_laws.proofs.Glue.{differ, same}
 use Rattle.lot_laws.proofs.TwoLocks.{two_at}
 use Rattle.lot_laws.proofs.CondvarHears.{taken_by_wait, decided_by}
 use Rattle.lot_laws.proofs.CondvarThere.{there_deeds}

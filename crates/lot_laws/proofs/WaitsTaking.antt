@@ -27,7 +27,7 @@ use Rattle.lot_condvar.specs.CondvarMoves.{row_beside, row_there, there}
 use Rattle.lot_condvar.specs.CondvarProfiles.{wait_row}
 use Rattle.lot_condvar.specs.CondvarWaits.{WaiterFollows, waiter_deeds}
 use Rattle.abstract_locks.specs.Locks as locks
-use Rattle.abstract_locks.specs.Locks.{Rules, TakeFirst, Taken, first_thread}
+use Rattle.abstract_locks.specs.Locks.{TakeFirst, Taken, first_thread}
 use Rattle.abstract_locks.specs.Picks.{queued_of}
 use Rattle.abstract_locks.specs.Sites.{Case, Deed, IsSite, Main, Site}
 use Rattle.lot_machine.specs.Machine.{State, is_there, place_at, put, queue_at, queues_without_first, section_at, state_after_taking}
@@ -48,7 +48,6 @@ use Rattle.lot_laws.proofs.StandsKept.{AlikeBeside, in_main}
 use Rattle.lot_laws.proofs.TakesAt.{behind_take, member, member_times}
 use Rattle.lot_laws.proofs.Waiters.{SleepsAt, calls_mutex_at, release_sleeps, stands_or_sleeps}
 use Rattle.lot_laws.proofs.WaitsBeside as beside
-use Rattle.lot_laws.proofs.WaitsBeside.{StaysThere}
 
 module _ (w : State) (t l m : ℕ) (timed : Bool) (steady : IsSteady w) (here : t < length w.places) (apart : m ≢ l)
     (sort : (rules_in w m).sort ≡ locks.Mutex) (plain : rules_in w m ≡ glue.mutex) (line : key_of m Main < length w.queues) where

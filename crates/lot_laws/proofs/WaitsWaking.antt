@@ -30,7 +30,7 @@ use Rattle.lot_condvar.specs.CondvarProfiles.{hand_of, taker_of, wait_row}
 use Rattle.lot_condvar.specs.CondvarWaits.{WaiterFollows}
 use Rattle.abstract_locks.specs.Deeds as laws
 use Rattle.abstract_locks.specs.Locks as locks
-use Rattle.abstract_locks.specs.Locks.{Rules, Taken, keep_from}
+use Rattle.abstract_locks.specs.Locks.{Taken, keep_from}
 use Rattle.abstract_locks.specs.Sites.{Doing, Main, Out, Site, wakened}
 use Rattle.lot_machine.specs.Machine.{State, place_after_telling, place_at, put, state_after_act, state_after_telling, state_with_sections}
 use Rattle.lot_laws.specs.MutexDeeds.{acts}

@@ -1,5 +1,6 @@
--- What a fair release does. Of a mutex it lets it go only where nobody waits for it, and else the first waiter owns it in its place; of a lock that is
--- shared all whom it takes have what they waited for in that one step, or they would pass the limit, and it wakes them.
+-- What a fair release does. Of a mutex it lets it go only where nobody waits for it, and else the
+-- first waiter owns it in its place; of a lock that is shared all whom it takes have what they
+-- waited for in that one step, or they would pass the limit, and it wakes them.
 use Rattle.std.specs.Prelude.{ℕ, true, false, Option, Some, None, MatchOption, ◌≡◌, ◌≢◌, ◌⊎◌, []}
 use Rattle.lot_base.specs.declared.wants.Want.{Want}
 use Rattle.lot_base.specs.declared.wants.Want.TheVariants.{Exclusive, Shared}
@@ -22,7 +23,8 @@ IsFairRelease purpose k = ⊥
 -- an owner that releases its mutex fairly
 abbrev pub ReleasesFairly : State → ℕ → ℕ → Type 0
 ReleasesFairly w t l =
-    IsFairRelease (call_at w t).purpose l × Owns (lock_state w l) t Exclusive × (is_mutex (kind_at w l) ≡ true)
+    IsFairRelease (call_at w t).purpose l × Owns (lock_state w l) t Exclusive
+    × (is_mutex (kind_at w l) ≡ true)
 
 -- it owns the mutex still
 abbrev pub OwnsOn : State → ℕ → ℕ → Type 0
@@ -49,10 +51,11 @@ IsToGiveAt c l x = MatchOption c.purpose ⊥ (λ p. (lock_for p ≡ l) × IsToGi
 -- an owner that gives more than a shared right up fairly
 abbrev pub GivesUpFairly : State → ℕ → ℕ → Want → Type 0
 GivesUpFairly w t l x =
-    IsToGiveAt (call_at w t) l x × (x ≢ Shared) × Owns (lock_state w l) t x × (has_readers (rules_in w l).sort ≡ true)
+    IsToGiveAt (call_at w t) l x × (x ≢ Shared) × Owns (lock_state w l) t x
+    × (has_readers (rules_in w l).sort ≡ true)
 
--- from s to s2 it owns still; or all whom it has taken have what they waited for; or it had taken nobody, and the word told of nobody; or they would
--- pass the limit, and it is to wake them
+-- from s to s2 it owns still; or all whom it has taken have what they waited for; or it had taken
+-- nobody, and the word told of nobody; or they would pass the limit, and it is to wake them
 abbrev pub ComesTo : Rules → (s s2 : LockState) → (word t : ℕ) → Want → Type 0
 ComesTo r s s2 word t x =
     Owns s2 t x ⊎ (GivesToAll s s2 t ⊎ (LetsItGo s word t ⊎ WakesThem r s s2 t x))

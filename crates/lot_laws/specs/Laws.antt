@@ -56,7 +56,8 @@ row_told = told.Step ∷ told.End answer.Ok
 pub record FairUnlockHandsOver : Type 0 where
   pub run : IsRun (locks_of three) row row_told (locks_of (after_steps three row))
   pub owner : (lock_state (after_steps three row) 0).exclusive ≡ Some 1
-  pub queue : (lock_state (after_steps three row) 0).queue ≡ record { thread = 2; want = Exclusive } ∷ []
+  pub queue : (lock_state (after_steps three row) 0).queue
+      ≡ record { thread = 2; want = Exclusive } ∷ []
   pub word : word_at (after_steps three row) 0 ≡ 3
 
 -- thread 1 waits for a mutex that nobody owns, and nobody is in another call
@@ -76,8 +77,14 @@ NoWaiterIsForgotten = IsKept forgotten → ⊥
 -- thread 0 unlocks a mutex fairly, and has taken thread 1
 abbrev pub handing_over : State
 handing_over = record {
-  places = Mutex 0 (at.HandOff false (Store true true)) ∷ Mutex 0 (at.Lock entry.Lock false (Taken 0)) ∷ [];
-  locks = (record { kind = kind.Mutex; word = 3; owners = record nobody { exclusive = Some 0 }; filled = false }) ∷ [];
+  places = Mutex 0 (at.HandOff false (Store true true))
+      ∷ Mutex 0 (at.Lock entry.Lock false (Taken 0)) ∷ [];
+  locks = (record {
+    kind = kind.Mutex;
+    word = 3;
+    owners = record nobody { exclusive = Some 0 };
+    filled = false;
+  }) ∷ [];
   shares = (0 ∷ 0 ∷ []) ∷ [];
   sections = Some 0 ∷ None ∷ [];
   queues = [] ∷ [] ∷ [];

@@ -40,7 +40,8 @@ claims_of (Some u) = record { by = u; deed = Begin (Some (Has Exclusive)) } ∷ 
 
 -- the deeds of the step of a thread at a place, by what it is told
 abbrev pub deeds : ℕ → MutexPlace → Option ℕ → Reply → List Act
-deeds t (HandOff bumps (hand_off.Store any none_left)) whom (Value seen) = acts t (hands_over whom none_left) ++ claims_of whom
+deeds t (HandOff bumps (hand_off.Store any none_left)) whom (Value seen) =
+    acts t (hands_over whom none_left) ++ claims_of whom
 deeds t at whom reply = acts t (mutex_deeds at whom reply)
 
 -- the deed with which a call begins

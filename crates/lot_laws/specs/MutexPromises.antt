@@ -20,8 +20,8 @@ use Rattle.lot_laws.specs.Promises.{WaitsFor, HasReleased, IsAboutToMark, IsKept
 abbrev pub IsMutexWord : ℕ → Option ℕ → Type 0
 IsMutexWord v o = (v ≡ one_if_some o) ⊎ (v ≡ one_if_some o + 2)
 
--- a call that is to wake a waiter of the mutex: it releases the mutex, or waits with it on a condition variable, or notifies one that it has
--- seen to show the mutex
+-- a call that is to wake a waiter of the mutex: it releases the mutex, or waits with it on a
+-- condition variable, or notifies one that it has seen to show the mutex
 abbrev pub WakesOne : Option Purpose → Recall → ℕ → Type 0
 WakesOne (Some (Releases k x fair)) recalls l = (k ≡ l) × (x ≡ Exclusive) × (fair ≡ false)
 WakesOne (Some (Waits k m timed)) recalls l = m ≡ l
@@ -32,14 +32,17 @@ WakesOne purpose recalls l = ⊥
 abbrev pub HasReleasedIt : State → ℕ → ℕ → Type 0
 HasReleasedIt w t l = HasReleased (call_at w t).purpose (call_at w t).released l Main
 
--- some thread, which is awake, owes a wake on the mutex in such a call, or was woken on it and is about to try again; it stands in no queue and
--- isn't taken, but for a wait that has released the mutex and owes, which may be moved or taken
+-- some thread, which is awake, owes a wake on the mutex in such a call, or was woken on it and is
+-- about to try again; it stands in no queue and isn't taken, but for a wait that has released the
+-- mutex and owes, which may be moved or taken
 pub record HasDebtor (w : State) (l : ℕ) : Type 0 where
   pub debtor : ℕ
-  pub debt : (Owes w debtor l Main × WakesOne (call_at w debtor).purpose (call_at w debtor).recalls l)
+  pub debt : (Owes w debtor l Main
+      × WakesOne (call_at w debtor).purpose (call_at w debtor).recalls l)
       ⊎ ((call_at w debtor).retries ≡ Some l)
   pub awake : act_of (place_at w debtor) ≢ Sleep
-  pub stands_nowhere : (k : ℕ) → (standing debtor (lock_state w k) ≡ 0) ⊎ (HasReleasedIt w debtor l × Owes w debtor l Main)
+  pub stands_nowhere : (k : ℕ)
+      → (standing debtor (lock_state w k) ≡ 0) ⊎ (HasReleasedIt w debtor l × Owes w debtor l Main)
 
 -- a thread is shown to owe a wake on a lock
 abbrev pub IsShownToOwe : State → ℕ → ℕ → Type 0
@@ -47,16 +50,21 @@ IsShownToOwe w t l = owes_on (place_at w t) l ≡ true
 
 -- a call that releases the mutex, or a wait that has, and enters the section of its queue next
 abbrev pub GoesToRelease : State → ℕ → ℕ → Type 0
-GoesToRelease w t l = (act_of (place_at w t) ≡ Enter (One (2 * l))) × (ReleasesLock w t l ⊎ HasReleasedIt w t l)
+GoesToRelease w t l = (act_of (place_at w t) ≡ Enter (One (2 * l)))
+    × (ReleasesLock w t l ⊎ HasReleasedIt w t l)
 
 pub record IsMutexKept (w : State) (l : ℕ) : Type 0 where
   -- the word says whether the mutex is owned
   pub coded : IsMutexWord (word_at w l) (owner_at w l)
-  -- a waiter implies the parked bit, or a thread that has just moved it from a condition variable and is about to set the bit
-  pub parked : (t : ℕ) → WaitsFor w t l → (is_parked (word_at w l) ≡ true) ⊎ ((u : ℕ) × IsAboutToMark w u l)
-  -- who is shown to owe a wake is inside the section of the queue, or releases the mutex, or has in a wait, on its way into it
+  -- a waiter implies the parked bit, or a thread that has just moved it from a condition variable
+  -- and is about to set the bit
+  pub parked : (t : ℕ) → WaitsFor w t l
+      → (is_parked (word_at w l) ≡ true) ⊎ ((u : ℕ) × IsAboutToMark w u l)
+  -- who is shown to owe a wake is inside the section of the queue, or releases the mutex, or has in
+  -- a wait, on its way into it
   pub owing : (t : ℕ) → IsShownToOwe w t l → IsInside w t l Main ⊎ GoesToRelease w t l
-  -- whoever is inside does, and whoever is on its way but for a wait, which may be about to lock the mutex again
+  -- whoever is inside does, and whoever is on its way but for a wait, which may be about to lock
+  -- the mutex again
   pub inside_owes : (t : ℕ) → IsInside w t l Main → IsShownToOwe w t l
   pub going_owes : (t : ℕ) → GoesToRelease w t l → IsShownToOwe w t l ⊎ IsWait (call_at w t).purpose
   -- whoever waits for a mutex that nobody owns has a debtor
@@ -68,12 +76,14 @@ MutexesAreKept = (w : State) (l : ℕ) → IsKept w → is_mutex (kind_at w l) �
 
 -- ---------------------------------------------------------------- and of every step
 
--- a call that releases the mutex finds a word that says that somebody may wait, and goes on; a wait, by the step with which it releases the mutex
+-- a call that releases the mutex finds a word that says that somebody may wait, and goes on; a
+-- wait, by the step with which it releases the mutex
 abbrev pub SeesParkedBit : State → ℕ → ℕ → Outcome → State → Type 0
 SeesParkedBit w t l o v = ReleasesLock w t l × (is_parked (word_at w l) ≡ true) × (o ≡ told.Step)
     × (IsWait (call_at w t).purpose → (call_at v t).released ≡ true)
 
--- the thread of a step from w to v begins and ends to owe by what it sees and where it is, and no other thread does
+-- the thread of a step from w to v begins and ends to owe by what it sees and where it is, and no
+-- other thread does
 pub record OwesMutexSince (w : State) (t l : ℕ) (o : Outcome) (v : State) : Type 0 where
   pub own : o ≢ told.NotNow → IsShownToOwe v t l ↔ (IsInside v t l Main ⊎ SeesParkedBit w t l o v)
   pub others : (u : ℕ) → u ≢ t → IsShownToOwe v u l ↔ IsShownToOwe w u l
@@ -81,5 +91,6 @@ pub record OwesMutexSince (w : State) (t l : ℕ) (o : Outcome) (v : State) : Ty
 -- what is promised of every step says so of a mutex
 abbrev pub MutexesOwe : Type 0
 MutexesOwe =
-    (w v : State) (t l : ℕ) (o : Outcome) → OwesSince w t o v → IsKept v → is_mutex (kind_at w l) ≡ true
+    (w v : State) (t l : ℕ) (o : Outcome) → OwesSince w t o v → IsKept v
+    → is_mutex (kind_at w l) ≡ true
     → is_mutex (kind_at v l) ≡ true → OwesMutexSince w t l o v

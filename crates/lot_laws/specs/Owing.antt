@@ -1,4 +1,5 @@
--- Who owes a wake on a line, by what has happened: from the step that saw waiters, or from entering the section, until the section is left.
+-- Who owes a wake on a line, by what has happened: from the step that saw waiters, or from entering
+-- the section, until the section is left.
 use Rattle.std.specs.Prelude.{ℕ, Bool, true, false, if◌then◌else◌, ◌==◌, ◌&&◌, ◌||◌, Option, Some, ◌≡◌, ◌≢◌, ◌⊎◌, ◌↔◌}
 use Rattle.lot_base.specs.declared.wants.Want.TheVariants.{Exclusive, Shared}
 use Rattle.lot_calls.specs.declared.outcomes.Outcome.{Outcome}
@@ -43,19 +44,23 @@ IsDowngrade purpose l = ⊥
 abbrev pub HasGivenUp : State → ℕ → ℕ → Type 0
 HasGivenUp w t l = ((call_at w t).gave_up ≡ Some l) × ((m : Line) → IsInside w t l m → ⊥)
 
--- its call lets others in: it releases the lock, or, where that is shared, turns its right into a lesser one or has given up
+-- its call lets others in: it releases the lock, or, where that is shared, turns its right into a
+-- lesser one or has given up
 abbrev pub LetsOthersIn : State → ℕ → ℕ → Type 0
 LetsOthersIn w t l =
     ReleasesLock w t l
-    ⊎ ((has_readers (sort_at w l) ≡ true) × (IsDowngrade (call_at w t).purpose l ⊎ HasGivenUp w t l))
+    ⊎ ((has_readers (sort_at w l) ≡ true)
+    × (IsDowngrade (call_at w t).purpose l ⊎ HasGivenUp w t l))
 
--- the line that it lets in: who shares a lock looks for the writer aside, everybody else to the main line
+-- the line that it lets in: who shares a lock looks for the writer aside, everybody else to the
+-- main line
 abbrev pub line_let_in : Sort → Option Purpose → Line
 line_let_in sort (Some (Releases l Shared fair)) = if has_readers sort then Second else Main
 line_let_in sort (Some (Bumps l Shared)) = if has_readers sort then Second else Main
 line_let_in sort purpose = Main
 
--- whether a word says that somebody may wait in a line: its parked bit is set, and for the second line one reader is left
+-- whether a word says that somebody may wait in a line: its parked bit is set, and for the second
+-- line one reader is left
 abbrev pub tells_of : Sort → Line → ℕ → Bool
 tells_of sort Main v = parked_in sort v
 tells_of sort Second v = aside_in sort v && (count_in v == 1)
@@ -75,8 +80,8 @@ LooksFirst purpose l = ⊥
 abbrev pub OnlyLooks : State → ℕ → ℕ → Type 0
 OnlyLooks w t l = LooksFirst (call_at w t).purpose l × ((call_at w t).released ≡ false)
 
--- a call that lets others in finds a word that says that somebody may wait, and goes on; where it only looked, into the section of the line; a wait
--- by the step with which it releases its mutex
+-- a call that lets others in finds a word that says that somebody may wait, and goes on; where it
+-- only looked, into the section of the line; a wait by the step with which it releases its mutex
 abbrev pub SeesWaiters : State → ℕ → ℕ → Line → Outcome → State → Type 0
 SeesWaiters w t l m o v =
     LetsOthersIn w t l × (line_let_in (sort_at w l) (call_at w t).purpose ≡ m)
@@ -84,7 +89,9 @@ SeesWaiters w t l m o v =
     × (OnlyLooks v t l → act_of (place_at v t) ≡ Enter (One (key_of l m)))
     × (IsWait (call_at w t).purpose → (call_at v t).released ≡ true)
 
--- in a step from w to v its thread begins and ends to owe by what it sees and where it is, and no other thread does
+-- in a step from w to v its thread begins and ends to owe by what it sees and where it is, and no
+-- other thread does
 pub record OwesSince (w : State) (t : ℕ) (o : Outcome) (v : State) : Type 0 where
-  pub own : (l : ℕ) (m : Line) → o ≢ told.NotNow → Owes v t l m ↔ (IsInside v t l m ⊎ SeesWaiters w t l m o v)
+  pub own : (l : ℕ) (m : Line) → o ≢ told.NotNow → Owes v t l m
+      ↔ (IsInside v t l m ⊎ SeesWaiters w t l m o v)
   pub others : (u l : ℕ) → u ≢ t → line_owed (place_at v u) l ≡ line_owed (place_at w u) l

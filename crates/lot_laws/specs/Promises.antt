@@ -1,5 +1,5 @@
--- What is promised of every state, before and after each step, under every schedule. Each clause is told by the sort of lock, so that it
--- stays as it is for sorts that have no call yet.
+-- What is promised of every state, before and after each step, under every schedule. Each clause is
+-- told by the sort of lock, so that it stays as it is for sorts that have no call yet.
 use Rattle.abstract_locks.specs.Locks as locks
 use Rattle.std.specs.Prelude.{ℕ, Bool, false, true, None, Option, ◌≡◌, ◌≢◌, ◌<◌, ◌≤◌, ◌⊎◌, ◌↔◌, Some, ◌*◌, ◌+◌, []}
 use Rattle.lot_base.specs.declared.keys.Keys.TheVariants.{One}
@@ -36,10 +36,12 @@ has_aside_bit w l = aside_in (sort_at w l) (word_at w l)
 -- the word is the one of the lock's owners, beside its parked bits
 abbrev pub IsCoded : State → ℕ → Type 0
 IsCoded w l =
-    word_at w l ≡ word_by (sort_at w l) (rules_in w l).limit (lock_state w l) (has_aside_bit w l) (has_parked_bit w l)
+    word_at w l ≡ word_by (sort_at w l) (rules_in w l).limit (lock_state w l) (has_aside_bit w l)
+    (has_parked_bit w l)
 
--- the thread has brought waiters of a condition variable to the lock, and is about to set its parked bit; or it has
--- ended its run of a `Once`, has cleared the bit beside waiters, and is about to take them
+-- the thread has brought waiters of a condition variable to the lock, and is about to set its
+-- parked bit; or it has ended its run of a `Once`, has cleared the bit beside waiters, and is about
+-- to take them
 abbrev pub IsAboutToMark : State → ℕ → ℕ → Type 0
 IsAboutToMark w t l = (doing_on (place_at w t) l).sets ≡ true
 
@@ -60,7 +62,9 @@ HasReleased purpose released k m = ⊥
 abbrev pub GoesToWake : State → ℕ → ℕ → Line → Type 0
 GoesToWake w t l m =
     (act_of (place_at w t) ≡ Enter (One (key_of l m)))
-    × (LetsOthersIn w t l ⊎ (WakesAside (call_at w t).purpose l m ⊎ HasReleased (call_at w t).purpose (call_at w t).released l m))
+    × (LetsOthersIn w t l
+    ⊎ (WakesAside (call_at w t).purpose l m
+    ⊎ HasReleased (call_at w t).purpose (call_at w t).released l m))
 
 -- the mutex that a notification has seen
 abbrev pub mutex_seen : Recall → Option ℕ
@@ -69,14 +73,16 @@ mutex_seen (SawOwner m owned) = Some m
 mutex_seen (HasMoved m number) = Some m
 mutex_seen recalls = None
 
--- a call that wakes whom it takes of the main line: a release that hands nothing over, a conversion that lets others in, or a writer
--- beside readers that has given up; or a call that runs the closure of a `Once`; a wait, of its mutex, and a notification, of the
--- mutex that it has seen
+-- a call that wakes whom it takes of the main line: a release that hands nothing over, a conversion
+-- that lets others in, or a writer beside readers that has given up; or a call that runs the
+-- closure of a `Once`; a wait, of its mutex, and a notification, of the mutex that it has seen
 abbrev pub WakesWaiters : Sort → Option Purpose → Option ℕ → Recall → ℕ → Type 0
-WakesWaiters sort (Some (Releases k x fair)) gave_up recalls l = (k ≡ l) × ((fair ≡ false) ⊎ (x ≡ Upgradable))
+WakesWaiters sort (Some (Releases k x fair)) gave_up recalls l =
+    (k ≡ l) × ((fair ≡ false) ⊎ (x ≡ Upgradable))
 WakesWaiters sort (Some (Converts k x y how)) gave_up recalls l =
     (k ≡ l) × ((y ≢ Exclusive) ⊎ ((gave_up ≡ Some l) × (has_readers sort ≡ true)))
-WakesWaiters sort (Some (Enters k x how)) gave_up recalls l = (k ≡ l) × (gave_up ≡ Some l) × (has_readers sort ≡ true)
+WakesWaiters sort (Some (Enters k x how)) gave_up recalls l =
+    (k ≡ l) × (gave_up ≡ Some l) × (has_readers sort ≡ true)
 WakesWaiters sort (Some (Bumps k x)) gave_up recalls l = (k ≡ l) × (x ≢ Exclusive)
 WakesWaiters sort (Some (CallsOnce k forced)) gave_up recalls l = k ≡ l
 WakesWaiters sort (Some (Awaits k forced)) gave_up recalls l = ⊥
@@ -104,16 +110,19 @@ want_of (Some (Bumps l x)) = Some x
 want_of (Some (Waits l m timed)) = Some Exclusive
 want_of purpose = None
 
--- it owes a wake on the main line, and its call wakes whom it takes; or it was woken, is about to try again, and wants what passes the
--- turn on (of a mutex anything, of a reader-writer lock more than to share)
+-- it owes a wake on the main line, and its call wakes whom it takes; or it was woken, is about to
+-- try again, and wants what passes the turn on (of a mutex anything, of a reader-writer lock more
+-- than to share)
 abbrev pub IsDebtorOf : State → ℕ → ℕ → Line → Type 0
 IsDebtorOf w t l Main =
-    (Owes w t l Main × WakesWaiters (sort_at w l) (call_at w t).purpose (call_at w t).gave_up (call_at w t).recalls l)
-    ⊎ (((call_at w t).retries ≡ Some l) × (counts_some (sort_at w l) (want_of (call_at w t).purpose) ≡ true))
+    (Owes w t l Main × WakesWaiters (sort_at w l) (call_at w t).purpose (call_at w t).gave_up
+    (call_at w t).recalls l)
+    ⊎ (((call_at w t).retries ≡ Some l)
+    × (counts_some (sort_at w l) (want_of (call_at w t).purpose) ≡ true))
 IsDebtorOf w t l Second = Owes w t l Second
 
--- some thread, which is awake, stands in no queue and isn't taken, is such a debtor; but a wait that has released its mutex and owes a wake there may
--- stand in one, or be taken
+-- some thread, which is awake, stands in no queue and isn't taken, is such a debtor; but a wait
+-- that has released its mutex and owes a wake there may stand in one, or be taken
 pub record IsLookedAfter (w : State) (l : ℕ) (m : Line) : Type 0 where
   pub debtor : ℕ
   pub debt : IsDebtorOf w debtor l m
@@ -121,7 +130,8 @@ pub record IsLookedAfter (w : State) (l : ℕ) (m : Line) : Type 0 where
   pub stands_nowhere : (k : ℕ) → (standing debtor (lock_state w k) ≡ 0)
       ⊎ (HasReleased (call_at w debtor).purpose (call_at w debtor).released l m × Owes w debtor l m)
 
--- nobody bars the way of who stands first in the main line: nobody owns the mutex, no writer is there, or a permit is free
+-- nobody bars the way of who stands first in the main line: nobody owns the mutex, no writer is
+-- there, or a permit is free
 abbrev pub IsOpenNow : Rules → LockState → Type 0
 IsOpenNow r s = IsOpen r.sort s ⊎ ((r.sort ≡ Semaphore) × (readers s < r.limit))
 
@@ -131,12 +141,15 @@ WasNeverFull w l = has_readers (sort_at w l) ≡ true → filled_at w l ≡ fals
 
 pub record NobodyForgotten (w : State) : Type 0 where
   -- whoever waits for a lock whose way nobody bars is looked after
-  pub main : (t l : ℕ) → WaitsFor w t l → IsOpenNow (rules_in w l) (lock_state w l) → WasNeverFull w l
+  pub main : (t l : ℕ) → WaitsFor w t l → IsOpenNow (rules_in w l) (lock_state w l)
+      → WasNeverFull w l
       → IsLookedAfter w l Main
   -- and so is a writer aside of whom nobody shares any more
-  pub second : (l : ℕ) → (lock_state w l).aside ≢ None → readers (lock_state w l) ≡ 0 → IsLookedAfter w l Second
+  pub second : (l : ℕ) → (lock_state w l).aside ≢ None → readers (lock_state w l) ≡ 0
+      → IsLookedAfter w l Second
 
--- some thread, which is awake, stands in no queue and isn't taken, owes a wake on the queue of the lock
+-- some thread, which is awake, stands in no queue and isn't taken, owes a wake on the queue of the
+-- lock
 pub record IsOwedWake (w : State) (l : ℕ) : Type 0 where
   pub debtor : ℕ
   pub owes : Owes w debtor l Main
@@ -149,9 +162,11 @@ IsAsleepNowhere w t = (act_of (place_at w t) ≡ Sleep) × ((l : ℕ) → standi
 
 -- it owns what it waited for; a writer of a lock that is shared may be pending
 abbrev pub HasOrPends : Sort → LockState → ℕ → Want → Type 0
-HasOrPends sort s t x = Owns s t x ⊎ ((x ≡ Exclusive) × (has_readers sort ≡ true) × IsSomePending s.pending t)
+HasOrPends sort s t x = Owns s t x
+    ⊎ ((x ≡ Exclusive) × (has_readers sort ≡ true) × IsSomePending s.pending t)
 
--- it has what it waited for, and the thread inside the section has it in its hand, and wakes all whom it has there as it leaves
+-- it has what it waited for, and the thread inside the section has it in its hand, and wakes all
+-- whom it has there as it leaves
 pub record IsHandedOver (w : State) (t : ℕ) : Type 0 where
   pub lock : ℕ
   pub by : ℕ
@@ -162,47 +177,62 @@ pub record IsHandedOver (w : State) (t : ℕ) : Type 0 where
   pub in_hand : taker (place_at w t) ≡ Some by
   pub wakes : act_of (place_at w by) ≡ Leave (One (2 * lock)) (wakes.TheVariants.All HandOff)
 
--- as many share as the limit allows; on a recursive lock one more, where an upgrade gave up beside a reader that came back
+-- as many share as the limit allows; on a recursive lock one more, where an upgrade gave up beside
+-- a reader that came back
 abbrev pub IsWithinLimit : Rules → LockState → Type 0
 IsWithinLimit r s = (count s ≤ r.limit) ⊎ ((r.sort ≡ Recursive) × (count s ≡ r.limit + 1))
 
--- a condition variable shows a mutex exactly while somebody waits for it, each in a call that waits with that mutex
+-- a condition variable shows a mutex exactly while somebody waits for it, each in a call that waits
+-- with that mutex
 pub record ShowsItsWaiters (w : State) (l : ℕ) : Type 0 where
   pub shows : ((lock_state w l).shown ≡ None) ↔ ((lock_state w l).queue ≡ [])
   pub one : (t m : ℕ) → (lock_state w l).shown ≡ Some m → WaitsFor w t l
       → (timed : Bool) × ((call_at w t).purpose ≡ Some (Waits l m timed))
 
 pub record IsKept (w : State) : Type 0 where
-  -- owners exclude each other, and a thread stands at most once in the queue of a lock, aside of it or taken from it
+  -- owners exclude each other, and a thread stands at most once in the queue of a lock, aside of it
+  -- or taken from it
   pub state : AreLockStates (locks_of w)
   -- and at one lock at most
-  pub one_place : (t l k : ℕ) → 1 ≤ standing t (lock_state w l) → 1 ≤ standing t (lock_state w k) → l ≡ k
+  pub one_place : (t l k : ℕ) → 1 ≤ standing t (lock_state w l) → 1 ≤ standing t (lock_state w k)
+      → l ≡ k
   -- in a call that waits for it
   pub waiting : (t l : ℕ) → 1 ≤ standing t (lock_state w l) → MayWait (call_at w t).purpose l
   -- and each call is for rights that its lock knows
   pub known : (t : ℕ) → KnowsRights (sort_at w) (call_at w t).purpose
   pub coded : (l : ℕ) → IsCoded w l
-  pub limited : (l : ℕ) → has_readers (sort_at w l) ≡ true → IsWithinLimit (rules_in w l) (lock_state w l)
+  pub limited : (l : ℕ) → has_readers (sort_at w l) ≡ true
+      → IsWithinLimit (rules_in w l) (lock_state w l)
   pub nobody_forgotten : NobodyForgotten w
-  -- a queued `call_once` of a `Once` that nobody runs has a thread, awake and in no queue, that owes on its queue
+  -- a queued `call_once` of a `Once` that nobody runs has a thread, awake and in no queue, that
+  -- owes on its queue
   pub callers : (l : ℕ) → sort_at w l ≡ Once → has_caller (lock_state w l).queue ≡ true
       → (IsRunning (lock_state w l).phase → ⊥) → IsOwedWake w l
   -- a run of a `Once` is on exactly while its thread runs the closure of its call
   pub runs : (t l : ℕ) → (lock_state w l).phase ≡ InProgress t ↔ RunsClosure w t l
-  -- who is shown to owe a wake on a line is inside its section, or lets others in and is on its way into it
+  -- who is shown to owe a wake on a line is inside its section, or lets others in and is on its way
+  -- into it
   pub owing : (t l : ℕ) (m : Line) → Owes w t l m → IsInside w t l m ⊎ GoesToWake w t l m
-  -- whoever is inside does, and whoever is on its way but for a wait, which may be about to lock its mutex again
+  -- whoever is inside does, and whoever is on its way but for a wait, which may be about to lock
+  -- its mutex again
   pub inside_owes : (t l : ℕ) (m : Line) → IsInside w t l m → Owes w t l m
-  pub going_owes : (t l : ℕ) (m : Line) → GoesToWake w t l m → Owes w t l m ⊎ IsWait (call_at w t).purpose
+  pub going_owes : (t l : ℕ) (m : Line) → GoesToWake w t l m
+      → Owes w t l m ⊎ IsWait (call_at w t).purpose
   -- and only a lock that is shared has a second line
   pub second_line : (t l : ℕ) → Owes w t l Second → has_readers (sort_at w l) ≡ true
-  -- who is shown to try a lock again was woken on it, and has got neither the lock nor a place in a queue since
+  -- who is shown to try a lock again was woken on it, and has got neither the lock nor a place in a
+  -- queue since
   pub retrying : (t l : ℕ) → retries_on (place_at w t) l ≡ true ↔ (call_at w t).retries ≡ Some l
-  -- who is asleep but stands nowhere was handed the lock that it waited for, by a thread that is inside the section and wakes it
+  -- who is asleep but stands nowhere was handed the lock that it waited for, by a thread that is
+  -- inside the section and wakes it
   pub handing : (t : ℕ) → IsAsleepNowhere w t → IsHandedOver w t
-  -- a waiter implies the parked bit, or somebody who has just brought it and is about to set the bit
-  pub parked : (t l : ℕ) → WaitsFor w t l → (has_parked_bit w l ≡ true) ⊎ ((u : ℕ) × IsAboutToMark w u l)
+  -- a waiter implies the parked bit, or somebody who has just brought it and is about to set the
+  -- bit
+  pub parked : (t l : ℕ) → WaitsFor w t l
+      → (has_parked_bit w l ≡ true) ⊎ ((u : ℕ) × IsAboutToMark w u l)
   -- and a writer aside implies its own
   pub aside_parked : (l : ℕ) → (lock_state w l).aside ≢ None → has_aside_bit w l ≡ true
-  -- while nobody is inside its section, a condition variable shows a mutex exactly while somebody waits, and all wait with that one
-  pub shown : (l : ℕ) → sort_at w l ≡ locks.Condvar → section_at w (key_of l Main) ≡ None → ShowsItsWaiters w l
+  -- while nobody is inside its section, a condition variable shows a mutex exactly while somebody
+  -- waits, and all wait with that one
+  pub shown : (l : ℕ) → sort_at w l ≡ locks.Condvar → section_at w (key_of l Main) ≡ None
+      → ShowsItsWaiters w l

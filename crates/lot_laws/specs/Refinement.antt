@@ -12,7 +12,7 @@ use Rattle.lot_steps.specs.Steps.{act_of, beside_of, looking, lock_of, calls, is
 pub use Rattle.lot_mutex.specs.MutexProfiles.{mutex_profile, is_bump, entry_purpose, release_purpose, before_entry, before_release}
 pub use Rattle.lot_machine.specs.Machine.{runs_closure}
 use Rattle.lot_machine.specs.Machine.{State, place_at, word_at, owners_at, shares_at, kind_at, queue_at, section_at}
-use Rattle.abstract_locks.specs.Locks.{LockState, Queued, Taken, Pending, Rights}
+use Rattle.abstract_locks.specs.Locks.{LockState, Taken, Rights}
 use Rattle.abstract_locks.specs.Runs.{LocksState, CallState, Stance, no_call}
 use Rattle.abstract_locks.specs.Locks as locks
 
@@ -21,12 +21,14 @@ use Rattle.abstract_locks.specs.Locks as locks
 -- by whom the thread at a place was taken from the queue of a lock
 abbrev pub taken_at : Place → ℕ → Option Taken
 taken_at p l =
-    if is_lock l (beside_of p) && not (calls p l) then taken_from (profile_beside p).hand (profile_beside p).wants true
+    if is_lock l (beside_of p) && not (calls p l)
+    then taken_from (profile_beside p).hand (profile_beside p).wants true
     else taken_from (profile p).hand (profile p).wants (calls p l)
 
 abbrev pub lock_state : State → ℕ → LockState
 lock_state w l =
-    lock_seen (shares_at w l) (owners_at w l) (queue_at w (2 * l)) (queue_at w (2 * l + 1)) (λ u. taken_at (place_at w u) l)
+    lock_seen (shares_at w l) (owners_at w l) (queue_at w (2 * l)) (queue_at w (2 * l + 1))
+    (λ u. taken_at (place_at w u) l)
 
 abbrev pub owner_at : State → ℕ → Option ℕ
 owner_at w l = (owners_at w l).exclusive
@@ -48,7 +50,12 @@ keys_entered a = None
 
 abbrev pub stance_by : Act → Option Place → Stance
 stance_by a looks_from =
-    record { asleep = sleeps a; in_closure = runs_closure a; enters = keys_entered a; may_spin = is_some looks_from }
+    record {
+      asleep = sleeps a;
+      in_closure = runs_closure a;
+      enters = keys_entered a;
+      may_spin = is_some looks_from;
+    }
 
 -- by what it does next
 abbrev pub stance_of : Place → Stance
@@ -89,11 +96,13 @@ call_at w t = (locks_of w).calls t
 
 -- a thread is in its call of the lock, and runs its closure
 abbrev pub RunsClosure : State → ℕ → ℕ → Type 0
-RunsClosure w t l = (lock_of (place_at w t) ≡ Some l) × (runs_closure (act_of (place_at w t)) ≡ true)
+RunsClosure w t l = (lock_of (place_at w t) ≡ Some l)
+    × (runs_closure (act_of (place_at w t)) ≡ true)
 
 -- a step changes one word at most, or queues whose sections its thread is in, never both
 abbrev pub ChangesOneThing : State → ℕ → State → Type 0
 ChangesOneThing w t v =
-    ((l : ℕ) × ((k : ℕ) → k ≢ l → word_at v k ≡ word_at w k) × ((key : ℕ) → queue_at v key ≡ queue_at w key))
+    ((l : ℕ) × ((k : ℕ) → k ≢ l → word_at v k ≡ word_at w k)
+    × ((key : ℕ) → queue_at v key ≡ queue_at w key))
     ⊎ (((l : ℕ) → word_at v l ≡ word_at w l)
     × ((key : ℕ) → (queue_at v key ≡ queue_at w key) ⊎ (section_at w key ≡ Some t)))

@@ -79,7 +79,8 @@ stations_of places t l = station_at (places t) l
 
 -- a section is held by the thread inside it
 abbrev pub Sections : (ℕ → ℕ → Station) → (ℕ → Option ℕ) → Type 0
-Sections at section = (t l : ℕ) (m : Line) → (at t l).inside ≡ Some m ↔ section (key_of l m) ≡ Some t
+Sections at section = (t l : ℕ) (m : Line) → (at t l).inside ≡ Some m
+    ↔ section (key_of l m) ≡ Some t
 
 -- a thread stands in the line that its place says, and once
 abbrev pub Lines : (ℕ → ℕ → Station) → (ℕ → List Waiter) → Type 0
@@ -88,7 +89,8 @@ Lines at queue = (t l : ℕ) (m : Line) → times t (queue (key_of l m)) ≡ sto
 -- each who stands in the line does so under its key, and wants what its place says
 abbrev pub AreWaiting : (ℕ → ℕ → Station) → ℕ → Line → List Waiter → Type 0
 AreWaiting at l m [] = Unit {0}
-AreWaiting at l m (x ∷ q) = ((x.key ≡ key_of l m) × ((at x.thread l).waits ≡ Some x.want)) × AreWaiting at l m q
+AreWaiting at l m (x ∷ q) =
+    ((x.key ≡ key_of l m) × ((at x.thread l).waits ≡ Some x.want)) × AreWaiting at l m q
 
 abbrev pub Waits : (ℕ → ℕ → Station) → (ℕ → List Waiter) → Type 0
 Waits at queue = (l : ℕ) (m : Line) → AreWaiting at l m (queue (key_of l m))
@@ -96,9 +98,11 @@ Waits at queue = (l : ℕ) (m : Line) → AreWaiting at l m (queue (key_of l m))
 -- whom a thread has in hand
 pub record HandsBy (one : ℕ → Type 0) (at : ℕ → ℕ → Station) : Type 0 where
   -- who has somebody in hand, by its place, has one
-  pub carried : (t l : ℕ) (b : Bool) → (at t l).carries ≡ Some b → (u : ℕ) × ((at u l).hand ≡ hand t b)
+  pub carried : (t l : ℕ) (b : Bool) → (at t l).carries ≡ Some b
+      → (u : ℕ) × ((at u l).hand ≡ hand t b)
   -- and there no second, where it takes one at a time
-  pub alone : (t l u v : ℕ) (b c : Bool) → one l → (at u l).hand ≡ hand t b → (at v l).hand ≡ hand t c → v ≡ u
+  pub alone : (t l u v : ℕ) (b c : Bool) → one l → (at u l).hand ≡ hand t b
+      → (at v l).hand ≡ hand t c → v ≡ u
   -- who is in the hand of a thread, is so by that one's place
   pub taken : (t u l : ℕ) (b : Bool) → (at u l).hand ≡ hand t b → (at t l).carries ≡ Some b
 
@@ -164,7 +168,8 @@ pub record IsCounted (w : State) (t : ℕ) (k : Counted) : Type 0 where
 -- a call that is to hand its lock over has counted those whom it has in hand
 abbrev pub AreCounted : State → Type 0
 AreCounted w =
-    (t l : ℕ) (a : Admission) (c : RwLockCallPlace) (k : Counted) → place_at w t ≡ OfRwLock l a c → in_hand_of c ≡ Some k
+    (t l : ℕ) (a : Admission) (c : RwLockCallPlace) (k : Counted) → place_at w t ≡ OfRwLock l a c
+    → in_hand_of c ≡ Some k
     → IsCounted w t k
 
 -- ---------------------------------------------------------------- condition variables
@@ -178,7 +183,8 @@ abbrev pub inside_as : Option ℕ → (ℕ → Option Stage) → Option Inside
 inside_as None stage = None
 inside_as (Some t) stage = Some (record { thread = t; stage = stage_or (stage t) })
 
--- a condition variable of the world: the mutex that it shows, its waiters, who is inside, and which mutex each wait names
+-- a condition variable of the world: the mutex that it shows, its waiters, who is inside, and which
+-- mutex each wait names
 abbrev pub condvar_of : State → ℕ → CondvarSite
 condvar_of w l = record {
   shown = (lock_state w l).shown;
@@ -219,9 +225,11 @@ pub record FollowAll (w v : State) (ds : ℕ → List Act) : Type 0 where
   pub kinds : (k : ℕ) → kind_at v k ≡ kind_at w k
   pub numbers : SameNumbers w v
   pub sharers : (k : ℕ) → length (shares_at v k) ≡ length (shares_at w k)
-  pub limit : (k : ℕ) → has_readers (rules_in w k).sort ≡ true → HasLimit (rules_in w k) (lock_state v k)
+  pub limit : (k : ℕ) → has_readers (rules_in w k).sort ≡ true
+      → HasLimit (rules_in w k) (lock_state v k)
 
--- one lock has been through deeds that are allowed, its word says so, and the others are as they were
+-- one lock has been through deeds that are allowed, its word says so, and the others are as they
+-- were
 pub record Follows (w v : State) (l : ℕ) (ds : List Act) : Type 0 where
   pub site : site_of v l ≡ after_acts (rules_in w l) ds (site_of w l)
   pub needed : ActsNeeded (rules_in w l) ds (site_of w l)

@@ -27,7 +27,8 @@ use Rattle.lot_laws.specs.WorldRuns.{IsWorldRun}
 -- the thread is in a call, isn't asleep, and isn't in its closure
 abbrev pub IsUnderWay : State → ℕ → Type 0
 IsUnderWay w t =
-    (place_at w t ≢ Idle) × (act_of (place_at w t) ≢ Sleep) × (runs_closure (act_of (place_at w t)) ≡ false)
+    (place_at w t ≢ Idle) × (act_of (place_at w t) ≢ Sleep)
+    × (runs_closure (act_of (place_at w t)) ≡ false)
 
 -- a lock that is shared has a second line
 abbrev pub HasLine : Sort → Line → Type 0
@@ -61,16 +62,20 @@ abbrev pub entered_answer : Patience → Answer
 entered_answer Patient = answer.TheVariants.Ok
 entered_answer how = answer.TheVariants.Yes
 
--- it may have its right at once: nobody shares where it is to own alone; and a writer's try at a lock that is shared finds a word that is
--- clear, since a parked bit may stand where a waiter was and is gone
+-- it may have its right at once: nobody shares where it is to own alone; and a writer's try at a
+-- lock that is shared finds a word that is clear, since a parked bit may stand where a waiter was
+-- and is gone
 abbrev pub MayEnterAtOnce : Type 0 → Rules → LockState → Want → Patience → Type 0
-MayEnterAtOnce clear r s Exclusive Try = MayEnter r s Exclusive × (has_readers r.sort ≡ true → clear)
-MayEnterAtOnce clear r s Exclusive how = MayEnter r s Exclusive × (has_readers r.sort ≡ true → readers s ≡ 0)
+MayEnterAtOnce clear r s Exclusive Try =
+    MayEnter r s Exclusive × (has_readers r.sort ≡ true → clear)
+MayEnterAtOnce clear r s Exclusive how =
+    MayEnter r s Exclusive × (has_readers r.sort ≡ true → readers s ≡ 0)
 MayEnterAtOnce clear r s x how = MayEnter r s x
 
 -- the thread is the last of the queue, asleep
 abbrev pub SleepsLast : LockState → ℕ → Want → Outcome → LockState → Type 0
-SleepsLast s t x o s2 = (o ≡ outcome.TheVariants.Sleep) × (s2.queue ≡ s.queue ++ (record { thread = t; want = x }) ∷ [])
+SleepsLast s t x o s2 = (o ≡ outcome.TheVariants.Sleep)
+    × (s2.queue ≡ s.queue ++ (record { thread = t; want = x }) ∷ [])
 
 -- beside readers a writer sleeps aside of the queue, where it waits for them, and a try ends
 abbrev pub WaitsForReaders : Patience → ℕ → Outcome → LockState → Type 0
@@ -83,7 +88,8 @@ WaitsAlone Try s t x o s2 = o ≡ outcome.TheVariants.End answer.TheVariants.No
 WaitsAlone how s t x o s2 = SleepsLast s t x o s2
 
 -- what a call comes to that waits for a right; clear says that no bit of the word is set
-pub record EntersAlone (clear : Type 0) (w : LocksState) (t l : ℕ) (x : Want) (how : Patience) (o : Outcome)
+pub record EntersAlone (clear : Type 0) (w : LocksState) (t l : ℕ) (x : Want) (how : Patience)
+    (o : Outcome)
     (v : LocksState) : Type 0 where
   pub owns : MayEnterAtOnce clear (rules_at w l) (w.locks l) x how
       → (o ≡ outcome.TheVariants.End (entered_answer how)) × Owns (v.locks l) t x
@@ -116,18 +122,19 @@ ReleasesAlone w t l Exclusive fair o v =
     (o ≡ outcome.TheVariants.End answer.TheVariants.Ok) × (Owns (v.locks l) t Exclusive → ⊥)
     × ((rules_at w l).sort ≡ Mutex → (v.locks l).exclusive ≡ successor fair (w.locks l).queue)
 ReleasesAlone w t l x fair o v =
-    (o ≡ outcome.TheVariants.End answer.TheVariants.Ok) × (with_right x (rights_in v t l) ≡ rights_in w t l)
+    (o ≡ outcome.TheVariants.End answer.TheVariants.Ok)
+    × (with_right x (rights_in v t l) ≡ rights_in w t l)
 
--- a bump of a mutex hands it to the first waiter and then is as a call that enters, asleep as the last of the queue; where nobody
--- waits it ends with the mutex
+-- a bump of a mutex hands it to the first waiter and then is as a call that enters, asleep as the
+-- last of the queue; where nobody waits it ends with the mutex
 abbrev pub BumpsAlone : ℕ → ℕ → List Queued → Outcome → LockState → Type 0
 BumpsAlone t l [] o s = (o ≡ outcome.TheVariants.End answer.TheVariants.Ok) × (s.exclusive ≡ Some t)
 BumpsAlone t l (x ∷ q) o s =
     (o ≡ outcome.TheVariants.Sleep) × (s.exclusive ≡ Some x.thread)
     × (s.queue ≡ q ++ (record { thread = t; want = Exclusive }) ∷ [])
 
--- to whom a bump of a lock that is shared gives way: who shares it, to a pending writer, on a recursive lock only as the last;
--- and any other owner to whoever stands in the queue
+-- to whom a bump of a lock that is shared gives way: who shares it, to a pending writer, on a
+-- recursive lock only as the last; and any other owner to whoever stands in the queue
 abbrev pub GivesWay : Rules → LockState → Want → Type 0
 GivesWay r s Shared = (s.pending ≢ None) × (r.sort ≡ Recursive → count s ≡ 1)
 GivesWay r s x = s.queue ≢ []
@@ -138,7 +145,8 @@ NeedsNoWay unparked r s Shared = GivesWay r s Shared → ⊥
 NeedsNoWay unparked r s x = unparked
 
 -- it gives its right up, and from there comes to what a call comes to that waits for that right
-pub record ComesBack (w : LocksState) (t l : ℕ) (x : Want) (o : Outcome) (v : LocksState) : Type 0 where
+pub record ComesBack (w : LocksState) (t l : ℕ) (x : Want) (o : Outcome)
+    (v : LocksState) : Type 0 where
   pub steps : ℕ
   pub between : LocksState
   pub run : IsRun w (replicate steps (go_of t)) (replicate steps outcome.TheVariants.Step) between
@@ -146,7 +154,8 @@ pub record ComesBack (w : LocksState) (t l : ℕ) (x : Want) (o : Outcome) (v : 
   pub enters : EntersAlone ⊥ between t l x Patient o v
 
 -- a bump of a lock that is shared gives way, or ends with its right
-pub record BumpsShared (unparked : Type 0) (w : LocksState) (t l : ℕ) (x : Want) (o : Outcome) (v : LocksState) : Type 0 where
+pub record BumpsShared (unparked : Type 0) (w : LocksState) (t l : ℕ) (x : Want) (o : Outcome)
+    (v : LocksState) : Type 0 where
   pub gives_way : GivesWay (rules_at w l) (w.locks l) x → ComesBack w t l x o v
   pub stays : NeedsNoWay unparked (rules_at w l) (w.locks l) x
       → (o ≡ outcome.TheVariants.End answer.TheVariants.Ok) × Owns (v.locks l) t x
@@ -169,16 +178,19 @@ AwaitsAlone Done s t forced o s2 = o ≡ outcome.TheVariants.End answer.TheVaria
 AwaitsAlone Poisoned s t false o s2 = o ≡ outcome.TheVariants.End answer.TheVariants.Poisoned
 AwaitsAlone phase s t forced o s2 = SleepsLast s t Wait o s2
 
--- what a wait comes to: it sleeps behind the last, its mutex let go, or ends where another mutex is shown
+-- what a wait comes to: it sleeps behind the last, its mutex let go, or ends where another mutex is
+-- shown
 pub record StandsAlone (w : LocksState) (t l m : ℕ) (o : Outcome) (v : LocksState) : Type 0 where
   pub other : ShowsOther (w.locks l) m → o ≡ outcome.TheVariants.End answer.TheVariants.TwoMutexes
-  pub own : (ShowsOther (w.locks l) m → ⊥) → SleepsLast (w.locks l) t Wait o (v.locks l) × ((v.locks m).exclusive ≡ None)
+  pub own : (ShowsOther (w.locks l) m → ⊥)
+      → SleepsLast (w.locks l) t Wait o (v.locks l) × ((v.locks m).exclusive ≡ None)
 
 -- and a notification: it moves the first, or all
 abbrev pub NotifiesAlone : Bool → List Queued → Outcome → List Queued → Type 0
 NotifiesAlone false [] o q2 = o ≡ outcome.TheVariants.End answer.TheVariants.No
 NotifiesAlone false (x ∷ q) o q2 = (o ≡ outcome.TheVariants.End answer.TheVariants.Yes) × (q2 ≡ q)
-NotifiesAlone true q o q2 = (o ≡ outcome.TheVariants.End (answer.TheVariants.Number (length q))) × (q2 ≡ [])
+NotifiesAlone true q o q2 =
+    (o ≡ outcome.TheVariants.End (answer.TheVariants.Number (length q))) × (q2 ≡ [])
 
 abbrev pub EndsBy : (ℕ → ℕ) → LocksState → ℕ → Option Purpose → Outcome → LocksState → Type 0
 EndsBy words w t (Some (Enters l x how)) o v = EntersAlone (words l ≡ 0) w t l x how o v
@@ -186,11 +198,15 @@ EndsBy words w t (Some (Releases l x fair)) o v = ReleasesAlone w t l x fair o v
 EndsBy words w t (Some (Converts l x y how)) o v = ConvertsAlone (w.locks l) t y how o (v.locks l)
 EndsBy words w t (Some (Bumps l x)) o v =
     ((rules_at w l).sort ≡ Mutex → BumpsAlone t l (w.locks l).queue o (v.locks l))
-    × (has_readers (rules_at w l).sort ≡ true → BumpsShared (has_parked (words l) ≡ false) w t l x o v)
-EndsBy words w t (Some (CallsOnce l forced)) o v = CallsOnceAlone (w.locks l).phase (w.locks l) t forced o (v.locks l)
-EndsBy words w t (Some (Awaits l forced)) o v = AwaitsAlone (w.locks l).phase (w.locks l) t forced o (v.locks l)
+    × (has_readers (rules_at w l).sort ≡ true
+    → BumpsShared (has_parked (words l) ≡ false) w t l x o v)
+EndsBy words w t (Some (CallsOnce l forced)) o v =
+    CallsOnceAlone (w.locks l).phase (w.locks l) t forced o (v.locks l)
+EndsBy words w t (Some (Awaits l forced)) o v =
+    AwaitsAlone (w.locks l).phase (w.locks l) t forced o (v.locks l)
 EndsBy words w t (Some (Waits l m timed)) o v = StandsAlone w t l m o v
-EndsBy words w t (Some (Notifies l all)) o v = NotifiesAlone all (w.locks l).queue o (v.locks l).queue
+EndsBy words w t (Some (Notifies l all)) o v =
+    NotifiesAlone all (w.locks l).queue o (v.locks l).queue
 EndsBy words w t None o v = Unit {0}
 
 -- what a call comes to, by what it is for

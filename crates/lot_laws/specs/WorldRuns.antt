@@ -1,4 +1,5 @@
--- A run of the world: it leads by its steps from one state to another, and of each step all holds that is promised of steps.
+-- A run of the world: it leads by its steps from one state to another, and of each step all holds
+-- that is promised of steps.
 use Rattle.std.specs.Prelude.{ℕ, ◌≡◌, ◌++◌, List, [], ◌∷◌}
 use Rattle.lot_calls.specs.declared.calls.Turn.{Turn}
 use Rattle.lot_calls.specs.declared.calls.Turn as turn
@@ -13,7 +14,8 @@ use Rattle.lot_laws.specs.Promises.{IsKept}
 
 -- words and queues are as they were
 abbrev pub IsUntouched : State → State → Type 0
-IsUntouched w v = ((l : ℕ) → word_at v l ≡ word_at w l) × ((key : ℕ) → queue_at v key ≡ queue_at w key)
+IsUntouched w v = ((l : ℕ) → word_at v l ≡ word_at w l)
+    × ((key : ℕ) → queue_at v key ≡ queue_at w key)
 
 -- who begins a call, looks at a word once more or is late changes no word and no queue
 abbrev pub TouchesOnlyByGoing : State → Turn → State → Type 0
@@ -31,8 +33,8 @@ pub record IsWorldStep (w : State) (s : Step) (o : Outcome) (v : State) : Type 0
   pub touches : TouchesOnlyByGoing w s.turn v
   -- its thread begins and ends to owe a wake by what it sees and where it is
   pub owing : OwesSince w s.thread o v
-  -- a fair release gives to those whom it has taken in one step: of a mutex to the first waiter, of a lock that is shared to all of them, where the
-  -- limit allows
+  -- a fair release gives to those whom it has taken in one step: of a mutex to the first waiter, of
+  -- a lock that is shared to all of them, where the limit allows
   pub fair : IsFair w v
   -- words are coded, and nobody is forgotten
   pub kept : IsKept v

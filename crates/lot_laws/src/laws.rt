@@ -2,7 +2,8 @@
 ghost use Rattle.lot_laws.specs.Laws.{FairUnlockHandsOver, NoWaiterIsForgotten, NobodyIsPassedOver};
 ghost use Rattle.lot_laws.specs.MutexPromises.{MutexesAreKept, MutexesOwe};
 
-/// Thread 0 locks a mutex, threads 1 and 2 wait for it, and thread 0 unlocks it fairly: thread 1 owns it, and thread 2 waits.
+/// Thread 0 locks a mutex, threads 1 and 2 wait for it, and thread 0 unlocks it fairly: thread 1
+/// owns it, and thread 2 waits.
 pub fn a_fair_unlock_hands_over()
     ensures { FairUnlockHandsOver }
 {}
@@ -17,14 +18,15 @@ pub fn nobody_is_passed_over()
     ensures { NobodyIsPassedOver }
 {}
 
-/// What is promised of every state says of a mutex: its word tells whether it is owned, a waiter implies the parked bit or a thread that
-/// is about to set it, and whoever waits while nobody owns it has a thread that owes its wake or tries again.
+/// What is promised of every state says of a mutex: its word tells whether it is owned, a waiter
+/// implies the parked bit or a thread that is about to set it, and whoever waits while nobody owns
+/// it has a thread that owes its wake or tries again.
 pub fn mutexes_are_kept()
     ensures { MutexesAreKept }
 {}
 
-/// What is promised of every step says of a mutex: a thread owes a wake since its call, which releases the mutex, saw the parked bit, or
-/// since it entered the section, until it leaves it.
+/// What is promised of every step says of a mutex: a thread owes a wake since its call, which
+/// releases the mutex, saw the parked bit, or since it entered the section, until it leaves it.
 pub fn mutexes_owe()
     ensures { MutexesOwe }
 {}

@@ -1,4 +1,5 @@
-//! That the machine behaves as the abstract locks: what is promised of its states and steps, and the proofs of it.
+//! That the machine behaves as the abstract locks: what is promised of its states and steps, and
+//! the proofs of it.
 #![tactic(auto)]
 
 pub mod laws;

@@ -28,7 +28,8 @@ ActFits w (Enter keys) = KeysFit (length w.sections) keys
 ActFits w (Park l key check x) = (l < length w.locks) × (key < length w.sections)
 ActFits w (Stand key x) = key < length w.sections
 ActFits w (Take key whom) = key < length w.sections
-ActFits w (Requeue from to how) = (from < length w.sections) × (to < length w.sections) × (from ≢ to)
+ActFits w (Requeue from to how) =
+    (from < length w.sections) × (to < length w.sections) × (from ≢ to)
 ActFits w (Remove key) = key < length w.sections
 ActFits w (Leave keys wakes) = KeysFit (length w.sections) keys
 ActFits w act = Unit {0}
@@ -80,7 +81,8 @@ IsOfItsKind kinds Idle = Unit {0}
 IsOfItsKind kinds (Mutex lock at) = (is_plain_mutex (kinds lock) || is_fair (kinds lock)) ≡ true
 IsOfItsKind kinds (RwLock lock a at) = is_rwlock (kinds lock) ≡ true
 IsOfItsKind kinds (Once lock at) = is_once (kinds lock) ≡ true
-IsOfItsKind kinds (Condvar lock at) = (is_condvar (kinds lock) ≡ true) × IsPlain kinds (mutex_beside at)
+IsOfItsKind kinds (Condvar lock at) =
+    (is_condvar (kinds lock) ≡ true) × IsPlain kinds (mutex_beside at)
 
 -- the word of a condition variable is 0, or shows a plain mutex that is there
 abbrev pub Shows : ℕ → (ℕ → Kind) → ℕ → Type 0
@@ -98,7 +100,8 @@ pub record IsShaped (w : State) : Type 0 where
   pub queues : length w.queues ≡ length w.sections
   pub places : (t : ℕ) → PlaceFits (length w.locks) (place_at w t)
   pub kinds : (t : ℕ) → IsOfItsKind (kind_at w) (place_at w t)
-  pub shown : (l : ℕ) → is_condvar (kind_at w l) ≡ true → Shows (length w.locks) (kind_at w) (word_at w l)
+  pub shown : (l : ℕ) → is_condvar (kind_at w l) ≡ true
+      → Shows (length w.locks) (kind_at w) (word_at w l)
   pub waiting : (key : ℕ) → AllBelow (length w.places) (queue_at w key)
 
 -- the same numbers of threads and of locks

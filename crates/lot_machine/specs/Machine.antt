@@ -47,8 +47,9 @@ use Rattle.abstract_locks.specs.Purposes.{rules_of}
 use Rattle.lot_machine.specs.declared.locks.Lock.{Lock}
 use Rattle.lot_machine.specs.declared.hands.Successor.{Successor}
 
--- Each thread's place, each lock, each thread's number of shared rights of each lock, who is inside the section of each key, and the
--- line of each key. A condition variable's mutex and a semaphore's permits are what its word says, and stand nowhere else.
+-- Each thread's place, each lock, each thread's number of shared rights of each lock, who is inside
+-- the section of each key, and the line of each key. A condition variable's mutex and a semaphore's
+-- permits are what its word says, and stand nowhere else.
 pub record State : Type 0 where
   pub places : List Place
   pub locks : List Lock
@@ -57,7 +58,13 @@ pub record State : Type 0 where
   pub queues : List (List Waiter)
 
 abbrev pub nobody : Owners
-nobody = record { exclusive = None; pending = None; upgradable = None; phase = phases.New; shown = None }
+nobody = record {
+  exclusive = None;
+  pending = None;
+  upgradable = None;
+  phase = phases.New;
+  shown = None;
+}
 
 -- the word of a new lock
 abbrev pub first_word : Kind → ℕ
@@ -142,9 +149,10 @@ shares_with w l t (Some n) = slice_set w.shares l (slice_set (shares_at w l) t n
 
 -- an operation on a word, by which the thread may get the lock or give it up
 abbrev pub state_after_operation : State → ℕ → Place → ℕ → Op → State
-state_after_operation w t p l op = record (with_word w l (apply op (word_at w l)) (owners_after p t (word_at w l) (owners_at w l))) {
-  shares = shares_with w l t (shares_after p (word_at w l) (share_at w l t));
-}
+state_after_operation w t p l op =
+    record (with_word w l (apply op (word_at w l)) (owners_after p t (word_at w l) (owners_at w l))) {
+      shares = shares_with w l t (shares_after p (word_at w l) (share_at w l t));
+    }
 
 abbrev pub is_free : State → ℕ → Bool
 is_free w key = is_none (section_at w key)
@@ -155,8 +163,10 @@ are_free w (keys.TheVariants.Two first second) = is_free w first && is_free w se
 
 -- somebody is inside the sections now, or nobody
 abbrev pub state_with_sections : State → Keys → Option ℕ → State
-state_with_sections w (keys.TheVariants.One key) who = record w { sections = slice_set w.sections key who }
-state_with_sections w (keys.TheVariants.Two first second) who = record w { sections = slice_set (slice_set w.sections first who) second who }
+state_with_sections w (keys.TheVariants.One key) who =
+    record w { sections = slice_set w.sections key who }
+state_with_sections w (keys.TheVariants.Two first second) who =
+    record w { sections = slice_set (slice_set w.sections first who) second who }
 
 -- a thread leaves where it stands, and then stands behind the last under a key
 abbrev pub queues_with_last : List (List Waiter) → ℕ → ℕ → Want → List (List Waiter)
@@ -173,7 +183,9 @@ abbrev pub queues_without : List (List Waiter) → ℕ → List (List Waiter)
 queues_without queues t = map (without t) queues
 
 abbrev pub state_after_park : State → ℕ → ℕ → ℕ → Check → Want → State
-state_after_park w t l key check want = if holds check (word_at w l) then record w { queues = queues_with_last w.queues key t want } else w
+state_after_park w t l key check want =
+    if holds check (word_at w l) then record w { queues = queues_with_last w.queues key t want }
+    else w
 
 -- something happens to a thread asleep
 abbrev pub state_after_reply : State → ℕ → Reply → State
@@ -189,7 +201,8 @@ state_after_telling w t reply = record w { places = map (place_after_telling t r
 -- what is told to threads asleep, one after another
 abbrev pub places_told : Reply → List ℕ → List Place → List Place
 places_told reply [] ps = ps
-places_told reply (u ∷ us) ps = places_told reply us (slice_set ps u (next_place (slice_index_or ps u Idle) reply))
+places_told reply (u ∷ us) ps =
+    places_told reply us (slice_set ps u (next_place (slice_index_or ps u Idle) reply))
 
 -- by whom a thread at a place was taken, and what it wants
 abbrev pub held_by : Option ℕ → Option Want → Option Taken
@@ -211,7 +224,8 @@ sharers t ps = length (filter (λ (p : Place). shares_in_hand t (held p)) ps)
 -- what it wants, where t has it in hand and it wants more than to share
 abbrev pub wants_more_in_hand : ℕ → Option Taken → Option Want
 wants_more_in_hand t None = None
-wants_more_in_hand t (Some h) = if (h.by == t) && not (wants_shared h.want) then Some h.want else None
+wants_more_in_hand t (Some h) =
+    if (h.by == t) && not (wants_shared h.want) then Some h.want else None
 
 abbrev pub successor_or : ℕ → Option Want → Option Successor → Option Successor
 successor_or u None later = later
@@ -220,13 +234,15 @@ successor_or u (Some x) later = Some (record { thread = u; want = x })
 -- the first whom t has in hand and who wants more than to share, where the first place is that of u
 abbrev pub successor_from : ℕ → ℕ → List Place → Option Successor
 successor_from t u [] = None
-successor_from t u (p ∷ ps) = successor_or u (wants_more_in_hand t (held p)) (successor_from t (suc u) ps)
+successor_from t u (p ∷ ps) =
+    successor_or u (wants_more_in_hand t (held p)) (successor_from t (suc u) ps)
 
 abbrev pub want_of_successor : Option Successor → Option Want
 want_of_successor None = None
 want_of_successor (Some s) = Some s.want
 
--- each whom t has in hand and who wants to share has one right more; a number wraps at 64 bits, as a word does
+-- each whom t has in hand and who wants to share has one right more; a number wraps at 64 bits, as
+-- a word does
 abbrev pub with_share : Bool → ℕ → ℕ
 with_share true n = (n + 1) % 2 ^ 64
 with_share false n = n
@@ -237,13 +253,15 @@ shares_given t (p ∷ ps) [] = []
 shares_given t (p ∷ ps) (n ∷ ns) = with_share (shares_in_hand t (held p)) n ∷ shares_given t ps ns
 
 abbrev pub pending_for : ℕ → Owners → Owners
-pending_for u owners = record owners { pending = Some (record { thread = u; fallback = fallback.TheVariants.Nothing }) }
+pending_for u owners = record owners
+    { pending = Some (record { thread = u; fallback = fallback.TheVariants.Nothing }) }
 
 -- a writer owns where nobody shares, and else is pending, with nothing to fall back to
 abbrev pub owners_of_successor : ℕ → Option Successor → Owners → Owners
 owners_of_successor readers None owners = owners
 owners_of_successor readers (Some s) owners = elim s.want [
-  | Exclusive ↦ if readers == 0 then with_exclusive owners (Some s.thread) else pending_for s.thread owners
+  | Exclusive ↦ if readers == 0 then with_exclusive owners (Some s.thread)
+      else pending_for s.thread owners
   | Upgradable ↦ record owners { upgradable = Some s.thread }
   | Shared ↦ owners
   | Wait ↦ owners
@@ -260,7 +278,8 @@ unshared_then w t l = sum (shares_handed_over w t l) == 0
 
 -- and who else owns it, beside those who keep it
 abbrev pub owners_handed_over : State → ℕ → ℕ → Owners → Owners
-owners_handed_over w t l keeps = owners_of_successor (sum (shares_handed_over w t l)) (successor_from t 0 w.places) keeps
+owners_handed_over w t l keeps =
+    owners_of_successor (sum (shares_handed_over w t l)) (successor_from t 0 w.places) keeps
 
 -- the operation with which t hands the lock over: all whom it has in hand own by what they want
 abbrev pub state_after_hand_over : State → ℕ → Place → ℕ → Op → State
@@ -276,7 +295,8 @@ hand_over_told w t l = HandedBy t (unshared_then w t l)
 
 -- where the operation fails, nobody is handed anything
 abbrev pub state_after_hand_over_by : Bool → State → ℕ → Place → ℕ → Op → State
-state_after_hand_over_by true w t p l op = state_after_telling (state_after_hand_over w t p l op) t (hand_over_told w t l)
+state_after_hand_over_by true w t p l op =
+    state_after_telling (state_after_hand_over w t p l op) t (hand_over_told w t l)
 state_after_hand_over_by false w t p l op = state_after_operation w t p l op
 
 abbrev pub state_after_taking : State → ℕ → Option ℕ → State
@@ -284,19 +304,25 @@ state_after_taking w t None = w
 state_after_taking w t (Some u) = state_after_reply w u (TakenBy t)
 
 abbrev pub state_after_take_first : State → ℕ → ℕ → State
-state_after_take_first w t key = state_after_taking (record w { queues = queues_without_first w.queues key }) t (first_of (queue_at w key))
+state_after_take_first w t key =
+    state_after_taking (record w { queues = queues_without_first w.queues key }) t
+    (first_of (queue_at w key))
 
 -- t has taken these threads of the line of a key, and the others are left
 abbrev pub state_after_takes : State → ℕ → ℕ → List ℕ → List Waiter → State
 state_after_takes w t key taken left =
-    record w { queues = slice_set w.queues key left; places = places_told (TakenBy t) taken w.places }
+    record w {
+      queues = slice_set w.queues key left;
+      places = places_told (TakenBy t) taken w.places;
+    }
 
 abbrev pub state_after_take : State → ℕ → ℕ → Whom → State
 state_after_take w t key whom.TheVariants.First = state_after_take_first w t key
 state_after_take w t key (whom.TheVariants.Picked start recursive) =
     state_after_takes w t key (threads_of (lock_picked start recursive (queue_at w key)))
     (without_lock_picked start recursive key (queue_at w key))
-state_after_take w t key whom.TheVariants.All = state_after_takes w t key (threads_of (queue_at w key)) []
+state_after_take w t key whom.TheVariants.All =
+    state_after_takes w t key (threads_of (queue_at w key)) []
 
 -- who is left in a line behind a requeue
 abbrev pub left_behind : Requeue → List Waiter → List Waiter
@@ -349,7 +375,8 @@ can_do w act = true
 -- what it does
 abbrev pub state_after_act : State → ℕ → Place → Act → State
 state_after_act w t p (Word l op) = state_after_operation w t p l op
-state_after_act w t p (HandOver l op) = state_after_hand_over_by (takes_effect op (word_at w l)) w t p l op
+state_after_act w t p (HandOver l op) =
+    state_after_hand_over_by (takes_effect op (word_at w l)) w t p l op
 state_after_act w t p (Enter keys) = state_with_sections w keys (Some t)
 state_after_act w t p (Park l key check wanted) = state_after_park w t l key check wanted
 state_after_act w t p (Stand key want) = record w { queues = queues_with_last w.queues key t want }
@@ -361,7 +388,8 @@ state_after_act w t p act = w
 
 -- what a take comes to
 abbrev pub reply_to_take : State → ℕ → ℕ → Whom → Reply
-reply_to_take w t key whom.TheVariants.First = Took (is_there (first_of (queue_at w key))) (length (drop 1 (queue_at w key)) == 0)
+reply_to_take w t key whom.TheVariants.First =
+    Took (is_there (first_of (queue_at w key))) (length (drop 1 (queue_at w key)) == 0)
 reply_to_take w t key (whom.TheVariants.Picked start recursive) =
     let v = state_after_take w t key (whom.TheVariants.Picked start recursive) in
     Picked (sharers t v.places) (want_of_successor (successor_from t 0 v.places))
@@ -375,7 +403,8 @@ reply_to w t (HandOver l op) = Value (word_at w l)
 reply_to w t (Park l key check x) = Parked (holds check (word_at w l))
 reply_to w t (Take key whom) = reply_to_take w t key whom
 reply_to w t (act.Requeue from to how) =
-    Requeued (length (listed (taken_by how (queue_at w from))) + length (moved_by how (queue_at w from)))
+    Requeued (length (listed (taken_by how (queue_at w from))) + length
+    (moved_by how (queue_at w from)))
     (length (left_behind how (queue_at w from)) == 0)
 reply_to w t (Remove key) = Removed (length (without t (queue_at w key)) == 0)
 reply_to w t act = Done
@@ -388,13 +417,16 @@ can_go w t = can_do w (act_of (place_at w t))
 abbrev pub go_reply : State → ℕ → Reply
 go_reply w t = reply_to w t (act_of (place_at w t))
 
--- the act of a thread that is at a place may befall the thread too, and it goes on from where that has left it
+-- the act of a thread that is at a place may befall the thread too, and it goes on from where that
+-- has left it
 abbrev pub state_after_going : State → ℕ → Place → State
 state_after_going w t p =
-    let v = state_after_act w t p (act_of p) in put v t (next_place (place_at v t) (reply_to w t (act_of p)))
+    let v = state_after_act w t p (act_of p) in
+    put v t (next_place (place_at v t) (reply_to w t (act_of p)))
 
 abbrev pub going_outcome : State → ℕ → Place → Outcome
-going_outcome w t p = outcome_of (next_act (place_at (state_after_act w t p (act_of p)) t) (reply_to w t (act_of p)))
+going_outcome w t p = outcome_of
+    (next_act (place_at (state_after_act w t p (act_of p)) t) (reply_to w t (act_of p)))
 
 -- from where it stands
 abbrev pub state_after_go : State → ℕ → State
@@ -413,7 +445,8 @@ closed_place w t succeeded = next_place (place_at w t) (Closed succeeded)
 
 -- the closure of a thread has answered, and the thread goes on by it
 abbrev pub can_close : State → ℕ → Bool → Bool
-can_close w t succeeded = runs_closure (act_of (place_at w t)) && can_do w (act_of (closed_place w t succeeded))
+can_close w t succeeded =
+    runs_closure (act_of (place_at w t)) && can_do w (act_of (closed_place w t succeeded))
 
 abbrev pub state_after_close : State → ℕ → Bool → State
 state_after_close w t succeeded = state_after_go (put w t (closed_place w t succeeded)) t
@@ -434,7 +467,8 @@ holds_right w t call = has_right call t (owners_at w (right_in call)) (share_at 
 abbrev pub is_open_to : State → ℕ → Call → Bool
 is_open_to w t call =
     nat_lt (lock_in call) (length w.locks)
-    && (has_call (kind_at w (lock_in call)) call && (has_mutex w (mutex_in call) && holds_right w t call))
+    && (has_call (kind_at w (lock_in call)) call
+    && (has_mutex w (mutex_in call) && holds_right w t call))
 
 abbrev pub can_begin : State → ℕ → Call → Bool
 can_begin w t call = is_idle (place_at w t) && is_open_to w t call
@@ -471,7 +505,8 @@ can_be_late w t = is_free_under w (late_key (place_at w t))
 
 -- it enters that section
 abbrev pub state_after_late_under : State → ℕ → ℕ → State
-state_after_late_under w t key = state_after_reply (state_with_sections w (keys.TheVariants.One key) (Some t)) t Late
+state_after_late_under w t key =
+    state_after_reply (state_with_sections w (keys.TheVariants.One key) (Some t)) t Late
 
 abbrev pub state_after_late_on : State → ℕ → Option ℕ → State
 state_after_late_on w t None = w
@@ -515,7 +550,8 @@ after w s = if is_possible w s then state_after_turn w s.thread s.turn else w
 
 -- what a step answers
 abbrev pub step_outcome : State → Step → Outcome
-step_outcome w s = if is_possible w s then turn_outcome w s.thread s.turn else outcome.TheVariants.NotNow
+step_outcome w s = if is_possible w s then turn_outcome w s.thread s.turn
+    else outcome.TheVariants.NotNow
 
 -- the state after steps one after another, and what they answer
 abbrev pub after_steps : State → List Step → State
@@ -542,7 +578,9 @@ alone_after outcome.TheVariants.NotNow w v last more = record { state = w; outco
 alone_after outcome.TheVariants.Step w v last more = more
 alone_after rests w v last more = record { state = v; outcome = rests }
 
--- at most n steps of a thread alone, until its call ends, sleeps or is in its closure, or until none is possible
+-- at most n steps of a thread alone, until its call ends, sleeps or is in its closure, or until
+-- none is possible
 unfoldable pub solo : ℕ → State → ℕ → Outcome → Alone
 solo zero w t last = record { state = w; outcome = last }
-solo (suc n) w t last = alone_after (step_outcome w (go_of t)) w (after w (go_of t)) last (solo n (after w (go_of t)) t outcome.TheVariants.Step)
+solo (suc n) w t last = alone_after (step_outcome w (go_of t)) w (after w (go_of t)) last
+    (solo n (after w (go_of t)) t outcome.TheVariants.Step)

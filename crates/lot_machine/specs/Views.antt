@@ -27,7 +27,8 @@ pending_of (Some p) = (Pending, p.thread) ∷ []
 abbrev pub owners_listed : Owners → List (Owner × ℕ)
 owners_listed o =
     owner_of Exclusive o.exclusive
-    ++ (pending_of o.pending ++ (owner_of Upgradable o.upgradable ++ owner_of Running (runner o.phase)))
+    ++ (pending_of o.pending
+    ++ (owner_of Upgradable o.upgradable ++ owner_of Running (runner o.phase)))
 
 -- who shares a lock, once for each right, by the numbers of rights of threads from this one on
 abbrev pub sharers_listed : ℕ → List ℕ → List (Owner × ℕ)
@@ -50,7 +51,8 @@ abbrev pub has_debt : Place → Debt → ℕ → Bool
 has_debt p Owes l = owes_on p l
 has_debt p Retries l = retries_on p l
 
--- the threads of some places that have a debt on a lock, where the first place is that of this thread
+-- the threads of some places that have a debt on a lock, where the first place is that of this
+-- thread
 abbrev pub debtors : Debt → ℕ → ℕ → List Place → List (Debt × ℕ)
 debtors debt l t [] = []
 debtors debt l t (p ∷ ps) =
@@ -73,7 +75,8 @@ Tells tag p = (debt : Debt) (l : ℕ) → may_have tag l ≡ false → has_debt 
 
 -- each of some tags tells of the place beside it
 abbrev pub TellAll : List Tag → List Place → Type 0
-TellAll tags places = (t : ℕ) → Tells (slice_index_or tags t Anywhere) (slice_index_or places t Idle)
+TellAll tags places = (t : ℕ)
+    → Tells (slice_index_or tags t Anywhere) (slice_index_or places t Idle)
 
 -- a place has no debts but on one lock
 abbrev pub HasDebtsOnlyOn : ℕ → Place → Type 0

@@ -12,7 +12,8 @@ const READER: u64 = 16;
 
 /// A lock of the world.
 ///
-/// The mutex that a condition variable shows, and the permits that are left of a semaphore, are what the word says.
+/// The mutex that a condition variable shows, and the permits that are left of a semaphore, are
+/// what the word says.
 #[derive(Clone, Copy, Debug, PartialEq, Eq)]
 pub struct Lock {
     pub kind: Kind,

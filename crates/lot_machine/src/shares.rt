@@ -64,7 +64,8 @@ pub(crate) fn owners_of_successor(
     successor: Option<Successor>,
     owners: Owners,
 ) -> Owners
-    ensures { (readers : ℕ) → unshared ≡ (readers == 0) → result ≡ owners_of_successor readers successor owners }
+    ensures { (readers : ℕ) → unshared ≡ (readers == 0)
+        → result ≡ owners_of_successor readers successor owners }
 {
     match successor {
         Some(
@@ -104,7 +105,8 @@ pub(crate) fn unshared_locks(
     locks: usize,
     threads: usize,
 ) -> Result<Vec<Vec<usize>>, AllocError>
-    ensures { IfOk result (λ shares. map (λ row. row.items) shares.items ≡ replicate locks (replicate threads 0)) }
+    ensures { IfOk result
+        (λ shares. map (λ row. row.items) shares.items ≡ replicate locks (replicate threads 0)) }
 {
     let mut shares = Vec::with_capacity(alloc, locks)?;
     for _ in 0..locks {

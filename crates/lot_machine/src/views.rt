@@ -16,7 +16,8 @@ pub enum Debt {
     Retries,
 }
 
-/// The owners of a lock, each with its sort, then those who share it by their numbers, once for each right.
+/// The owners of a lock, each with its sort, then those who share it by their numbers, once for
+/// each right.
 #[derive(Drop)]
 pub struct OwnersOf<'a> {
     left: Owners,
@@ -54,7 +55,8 @@ impl<'a> OwnersOf<'a> {
 
 /// The first thread from one on that shares a lock, by each thread's number of rights.
 fn find_sharer(shares: &[usize], from: usize) -> Option<usize>
-    ensures within { IfSome result (λ thread. (thread < length shares.now) × (0 < slice_index_or shares.now thread 0)) }
+    ensures within { IfSome result
+        (λ thread. (thread < length shares.now) × (0 < slice_index_or shares.now thread 0)) }
     ensures found { MatchOption result (sharers_listed from (drop from shares.now) ≡ [])
         (λ thread. sharers_listed from (drop from shares.now)
         ≡ replicate (slice_index_or shares.now thread 0) (Owner.Shared, thread)
@@ -180,8 +182,8 @@ pub enum Tag {
 /// How many threads a book has tags for. It looks at the places of those behind them.
 const TAGGED: usize = 1024;
 
-/// Who has a debt: all places, and for each thread a tag of the lock on which it has one. Who looks a lock up in it
-/// reads the tags, and few of the places.
+/// Who has a debt: all places, and for each thread a tag of the lock on which it has one. Who looks
+/// a lock up in it reads the tags, and few of the places.
 #[derive(Drop)]
 pub struct DebtBook<'a> {
     places: &'a [Place],
@@ -213,7 +215,8 @@ impl<'a> DebtBook<'a> {
 
     /// The threads that owe a wake on a lock, then those that try again, each by their numbers.
     pub fn on(&self, lock: usize) -> Debts<'_>
-        ensures { result ≡ debtors Debt.Owes lock 0 self.now ++ debtors Debt.Retries lock 0 self.now }
+        ensures { result
+            ≡ debtors Debt.Owes lock 0 self.now ++ debtors Debt.Retries lock 0 self.now }
     {
         Debts::by_tags(self.places, &self.tags, lock)
     }
@@ -296,14 +299,16 @@ impl<'a> Model for Debts<'a> {
 
 impl<'a> Debts<'a> {
     pub fn new(places: &'a [Place], lock: usize) -> Debts<'a>
-        ensures { result ≡ debtors Debt.Owes lock 0 places.now ++ debtors Debt.Retries lock 0 places.now }
+        ensures { result
+            ≡ debtors Debt.Owes lock 0 places.now ++ debtors Debt.Retries lock 0 places.now }
     {
         Debts::by_tags(places, &[], lock)
     }
 
     fn by_tags(places: &'a [Place], tags: &'a [Tag], lock: usize) -> Debts<'a>
         requires { TellAll tags.now places.now }
-        ensures { result ≡ debtors Debt.Owes lock 0 places.now ++ debtors Debt.Retries lock 0 places.now }
+        ensures { result
+            ≡ debtors Debt.Owes lock 0 places.now ++ debtors Debt.Retries lock 0 places.now }
     {
         let first = first_debtor(places, tags, lock);
         Debts {
@@ -316,7 +321,8 @@ impl<'a> Debts<'a> {
     }
 }
 
-/// Whether a thread at this place has the debt. A place is looked at where it stands, and not copied.
+/// Whether a thread at this place has the debt. A place is looked at where it stands, and not
+/// copied.
 #[inline]
 fn has_debt(place: &Place, debt: Debt, lock: usize) -> bool
     ensures { result ≡ has_debt place.now debt lock }
@@ -327,7 +333,8 @@ fn has_debt(place: &Place, debt: Debt, lock: usize) -> bool
     }
 }
 
-/// Whether a thread has the debt. Its place is looked at only where its tag doesn't leave the lock out.
+/// Whether a thread has the debt. Its place is looked at only where its tag doesn't leave the lock
+/// out.
 #[inline]
 fn is_debtor(place: &Place, tag: Tag, debt: Debt, lock: usize) -> bool
     requires { Tells tag place.now }
@@ -336,12 +343,14 @@ fn is_debtor(place: &Place, tag: Tag, debt: Debt, lock: usize) -> bool
     may_have(tag, lock) && has_debt(place, debt, lock)
 }
 
-/// The first thread with a debt on the lock, or the number of threads. On most locks nobody has one, and
-/// this is then the only way through all threads.
+/// The first thread with a debt on the lock, or the number of threads. On most locks nobody has
+/// one, and this is then the only way through all threads.
 fn first_debtor(places: &[Place], tags: &[Tag], lock: usize) -> usize
     requires { TellAll tags.now places.now }
-    ensures owes { debtors Debt.Owes lock 0 places.now ≡ debtors Debt.Owes lock result (drop result places.now) }
-    ensures retries { debtors Debt.Retries lock 0 places.now ≡ debtors Debt.Retries lock result (drop result places.now) }
+    ensures owes { debtors Debt.Owes lock 0 places.now
+        ≡ debtors Debt.Owes lock result (drop result places.now) }
+    ensures retries { debtors Debt.Retries lock 0 places.now
+        ≡ debtors Debt.Retries lock result (drop result places.now) }
 {
     for thread in 0..places.len() {
         let tag = tag_in(tags, thread);

@@ -20,7 +20,8 @@ enters = Case (Enter Exclusive) ∷ End ∷ []
 
 abbrev pub lock_deeds : LockAt → Reply → List Deed
 lock_deeds lock.First (Value seen) = if seen == 0 then enters else []
-lock_deeds (lock.Decide expected) (Value seen) = if not (seen == expected) then [] else if is_locked seen then Mark Main ∷ [] else enters
+lock_deeds (lock.Decide expected) (Value seen) =
+    if not (seen == expected) then [] else if is_locked seen then Mark Main ∷ [] else enters
 lock_deeds (lock.Decide expected) Done = In Main ∷ []
 lock_deeds lock.Check (Parked true) = Case (Park Exclusive) ∷ []
 lock_deeds (lock.Leave parked) Done = Out ∷ []
@@ -40,7 +41,8 @@ takes (Some u) = Case (TakeFirst (queued u)) ∷ []
 
 -- Who is taken or handed the lock, if anybody, is no part of a place: `whom`.
 abbrev pub unlock_deeds : UnlockAt → Option ℕ → Reply → List Deed
-unlock_deeds unlock.Subtract whom (Value seen) = Case (Leave Exclusive) ∷ (if is_parked seen then [] else End ∷ [])
+unlock_deeds unlock.Subtract whom (Value seen) =
+    Case (Leave Exclusive) ∷ (if is_parked seen then [] else End ∷ [])
 unlock_deeds unlock.Enter whom Done = In Main ∷ []
 unlock_deeds unlock.Take whom (Took any none_left) = takes whom
 unlock_deeds (unlock.Clear any) whom (Value seen) = Clear Main ∷ []
@@ -50,7 +52,8 @@ unlock_deeds at whom reply = []
 -- the store writes the bit anew
 abbrev pub hands_over : Option ℕ → Bool → List Deed
 hands_over None none_left = Case (HandsOff Exclusive None) ∷ Clear Main ∷ []
-hands_over (Some u) none_left = Case (HandsOff Exclusive (Some (queued u))) ∷ (if none_left then Clear Main else Mark Main) ∷ []
+hands_over (Some u) none_left =
+    Case (HandsOff Exclusive (Some (queued u))) ∷ (if none_left then Clear Main else Mark Main) ∷ []
 
 abbrev pub hand_off_deeds : Bool → HandOffAt → Option ℕ → Reply → List Deed
 hand_off_deeds bumps hand_off.Enter whom Done = In Main ∷ []
@@ -63,7 +66,8 @@ abbrev pub mutex_deeds : MutexPlace → Option ℕ → Reply → List Deed
 mutex_deeds (Lock e retries at) whom reply = lock_deeds at reply
 mutex_deeds TryLock whom (Value seen) = if is_locked seen then End ∷ [] else enters
 mutex_deeds (Unlock at) whom reply = unlock_deeds at whom reply
-mutex_deeds UnlockFair whom (Value seen) = if seen == 1 then Case (Leave Exclusive) ∷ End ∷ [] else []
+mutex_deeds UnlockFair whom (Value seen) =
+    if seen == 1 then Case (Leave Exclusive) ∷ End ∷ [] else []
 mutex_deeds Bump whom (Value seen) = if is_parked seen then [] else End ∷ []
 mutex_deeds (HandOff bumps at) whom reply = hand_off_deeds bumps at whom reply
 mutex_deeds at whom reply = []

@@ -1,4 +1,5 @@
--- What each place of a mutex says of its thread: a row for each place. All that is asked of a place is read off its row.
+-- What each place of a mutex says of its thread: a row for each place. All that is asked of a place
+-- is read off its row.
 use Rattle.std.specs.Prelude.{ℕ, Bool, true, false, Option, Some, None, if◌then◌else◌}
 use Rattle.lot_base.specs.declared.wants.Want.{Want}
 use Rattle.lot_base.specs.declared.wants.Want.TheVariants.{Exclusive}
@@ -62,14 +63,28 @@ lock_row timed retries lock.First = record blank { doing = again retries idle }
 lock_row timed retries lock.Load = record blank { doing = again retries idle }
 lock_row timed retries (lock.Decide seen) = record blank { doing = again retries idle }
 lock_row timed retries lock.Check = record blank { doing = again retries inside; owes = Some Main }
-lock_row timed retries (lock.Leave parked) = record blank { doing = again (if parked then false else retries) inside; stands = if parked then Some Main else None; owes = Some Main }
-lock_row timed retries lock.Asleep = record blank { stands = Some Main; late_line = in_line timed Main }
+lock_row timed retries (lock.Leave parked) =
+    record blank {
+      doing = again (if parked then false else retries) inside;
+      stands = if parked then Some Main else None;
+      owes = Some Main;
+    }
+lock_row timed retries lock.Asleep =
+    record blank { stands = Some Main; late_line = in_line timed Main }
 lock_row timed retries (lock.Taken by) = record blank { hand = hand by false }
 lock_row timed retries (lock.Handed by) = record blank { doing = owner; hand = hand by true }
 lock_row timed retries lock.Accept = record blank { doing = owner }
-lock_row timed retries lock.Remove = record blank { doing = inside; stands = Some Main; owes = Some Main; late = true }
-lock_row timed retries lock.Clear = record blank { doing = record inside { empty = Some Main }; owes = Some Main; late = true; gave_up = true }
-lock_row timed retries lock.GiveUp = record blank { doing = inside; owes = Some Main; late = true; gave_up = true }
+lock_row timed retries lock.Remove =
+    record blank { doing = inside; stands = Some Main; owes = Some Main; late = true }
+lock_row timed retries lock.Clear =
+    record blank {
+      doing = record inside { empty = Some Main };
+      owes = Some Main;
+      late = true;
+      gave_up = true;
+    }
+lock_row timed retries lock.GiveUp =
+    record blank { doing = inside; owes = Some Main; late = true; gave_up = true }
 
 -- ---------------------------------------------------------------- calls that release
 
@@ -79,10 +94,24 @@ release_purpose l bumps = if bumps then Bumps l Exclusive else Releases l Exclus
 
 abbrev pub unlock_row : UnlockAt → Profile
 unlock_row unlock.Subtract = record blank { doing = owner }
-unlock_row unlock.Enter = record blank { doing = record idle { wakes = Some Main }; owes = Some Main; released = true }
-unlock_row unlock.Take = record blank { doing = record inside { wakes = Some Main }; owes = Some Main; released = true }
-unlock_row (unlock.Clear any) = record blank { doing = record carrying { empty = Some Main }; carries = in_hand any false; owes = Some Main; released = true }
-unlock_row (unlock.Leave any) = record blank { doing = carrying; carries = in_hand any false; owes = Some Main; released = true }
+unlock_row unlock.Enter =
+    record blank { doing = record idle { wakes = Some Main }; owes = Some Main; released = true }
+unlock_row unlock.Take =
+    record blank { doing = record inside { wakes = Some Main }; owes = Some Main; released = true }
+unlock_row (unlock.Clear any) =
+    record blank {
+      doing = record carrying { empty = Some Main };
+      carries = in_hand any false;
+      owes = Some Main;
+      released = true;
+    }
+unlock_row (unlock.Leave any) =
+    record blank {
+      doing = carrying;
+      carries = in_hand any false;
+      owes = Some Main;
+      released = true;
+    }
 
 -- whether nobody is left behind a take
 abbrev pub seen_empty : Bool → Bool → Bool
@@ -92,8 +121,18 @@ abbrev pub hand_off_row : HandOffAt → Profile
 hand_off_row hand_off.Enter = record blank { doing = owner }
 hand_off_row hand_off.Take = record blank { doing = record owner { inside = Some Main } }
 hand_off_row (hand_off.Store any none_left) =
-    record blank { doing = record carrying { claims = Some (Has Exclusive); empty = found Main (seen_empty any none_left) }; carries = in_hand any false }
-hand_off_row (hand_off.Leave any) = record blank { doing = record inside { carries = true }; carries = in_hand any true; released = true }
+    record blank {
+      doing = record carrying
+          { claims = Some (Has Exclusive); empty = found Main (seen_empty any none_left) };
+      carries =
+          in_hand any false;
+    }
+hand_off_row (hand_off.Leave any) =
+    record blank {
+      doing = record inside { carries = true };
+      carries = in_hand any true;
+      released = true;
+    }
 
 -- ---------------------------------------------------------------- every place
 
@@ -121,12 +160,14 @@ leaving purpose row = record blank {
 }
 
 abbrev pub mutex_profile : MutexPlace → Profile
-mutex_profile (Lock e retries at) = entering e retries (was_handed at) (lock_row (is_timed e) retries at)
+mutex_profile (Lock e retries at) =
+    entering e retries (was_handed at) (lock_row (is_timed e) retries at)
 mutex_profile TryLock = blank
 mutex_profile (Unlock at) = leaving (λ l. Releases l Exclusive false) (unlock_row at)
 mutex_profile UnlockFair = leaving (λ l. release_purpose l false) (record blank { doing = owner })
 mutex_profile Bump = leaving (λ l. release_purpose l true) (record blank { doing = owner })
-mutex_profile (HandOff bumps at) = leaving (λ l. release_purpose l bumps) (record (hand_off_row at) { owes = Some Main })
+mutex_profile (HandOff bumps at) =
+    leaving (λ l. release_purpose l bumps) (record (hand_off_row at) { owes = Some Main })
 
 -- the thread that took this one and has not left its section yet
 abbrev pub mutex_taker : MutexPlace → Option ℕ

@@ -49,7 +49,8 @@ pub enum LockAt {
     Asleep,
     /// Taken by a thread that has not left its section yet.
     Taken { by: usize },
-    /// Asleep, and the owner: the thread that took it has handed it the mutex, and not left its section yet.
+    /// Asleep, and the owner: the thread that took it has handed it the mutex, and not left its
+    /// section yet.
     Handed { by: usize },
     /// The owner, and awake: it has the note of the hand-off.
     Accept,

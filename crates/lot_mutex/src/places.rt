@@ -28,8 +28,8 @@ pub const NOT_PARKED: u64 = 18446744073709551613;
 /// Where a thread stands in a call of a mutex.
 #[derive(Clone, Copy, Debug, PartialEq, Eq)]
 pub enum MutexPlace {
-    /// It `retries` from a wake note on, until the thread stands in the queue again, owns the mutex or the
-    /// call ends.
+    /// It `retries` from a wake note on, until the thread stands in the queue again, owns the mutex
+    /// or the call ends.
     Lock {
         entry: Entry,
         retries: bool,
@@ -170,8 +170,8 @@ impl MutexPlace {
         }
     }
 
-    /// Who owns the mutex after the thread's operation on the word, which saw this value, but for the one to
-    /// whom it hands the mutex.
+    /// Who owns the mutex after the thread's operation on the word, which saw this value, but for
+    /// the one to whom it hands the mutex.
     pub fn owners_after(self, thread: usize, seen: u64, owners: Owners) -> Owners
         ensures { result ≡ mutex_owners self thread seen owners }
     {

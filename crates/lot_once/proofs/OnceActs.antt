@@ -1,13 +1,12 @@
 -- Each step of a `Once` takes its thread in the machine where its act says, and so does what befalls it asleep.
-use Rattle.std.proofs.Common.{ℕ, Bool, true, false, Option, Some, None, if◌then◌else◌, ◌==◌, ◌≡◌, ◌⊎◌, inl, inr, refl, sym, ap, ◌∙◌}
+use Rattle.std.proofs.Common.{ℕ, Bool, true, false, Option, Some, None, if◌then◌else◌, ◌==◌, ◌≡◌, inl, inr, refl, sym, ap, ◌∙◌}
 use Rattle.std.specs.Prelude.{◌&&◌}
-use Rattle.lot_base.specs.declared.wants.Want.{Want}
 use Rattle.lot_calls.specs.declared.calls.OnceCall.{OnceCall}
 use Rattle.lot_acts.specs.declared.acts.Next.{Next}
 use Rattle.lot_acts.specs.declared.acts.Next.TheVariants.{At, End as Over}
 use Rattle.lot_acts.specs.declared.acts.Reply.TheVariants as reply
-use Rattle.lot_acts.specs.Moves.{AreOfWord, IsHeld, Sleeps, StaysPut, Waits, row_of, station_of}
-use Rattle.lot_acts.specs.Profiles.{Hand, hand, in_line}
+use Rattle.lot_acts.specs.Moves.{AreOfWord, IsHeld, Sleeps, StaysPut, Waits, row_of}
+use Rattle.lot_acts.specs.Profiles.{Hand, hand}
 use Rattle.lot_acts.specs.Stations.{Station, station_by, nowhere}
 use Rattle.abstract_locks.specs.Sites.{Line, Main, Second}
 use Rattle.abstract_locks.specs.Codes.{is_marked}
@@ -21,7 +20,7 @@ use Rattle.lot_once.specs.OnceSteps.{course_act, course_of, ended, found, in_loo
 use Rattle.lot_once.specs.OnceProfiles.{once_profile}
 use Rattle.lot_once.specs.OnceDeeds.{closes, exchanged_deeds, looked_deeds}
 use Rattle.lot_once.specs.OnceCalls.{next_row}
-use Rattle.lot_once.specs.OnceMoves.{Closes, OnceActsMove, OnceMoves, OnceSleepersMove, RestsBehind, TakesAll, once_hears, once_move}
+use Rattle.lot_once.specs.OnceMoves.{OnceActsMove, OnceMoves, OnceSleepersMove, once_hears, once_move}
 
 abbrev station_next : Next OncePlace → Station
 station_next n = station_by (row_of (next_row n))

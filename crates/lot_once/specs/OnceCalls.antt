@@ -1,5 +1,5 @@
--- What each step of a `Once` makes of its call: the row of the next place is what the step's case makes of the call, the call is made of
--- that case, and its answer is true.
+-- What each step of a `Once` makes of its call: the row of the next place is what the step's case
+-- makes of the call, the call is made of that case, and its answer is true.
 use Rattle.std.specs.Prelude.{ℕ, Some, false, ◌≡◌}
 use Rattle.lot_base.specs.declared.notes.Note.TheVariants.{Normal}
 use Rattle.lot_base.specs.declared.ops.Op.{Op}
@@ -30,13 +30,15 @@ CallFollowsBy r s t l p told =
 -- each step on the word
 abbrev pub OnceStepsTell : Type 0
 OnceStepsTell =
-    (r : Rules) (s : Site) (t l : ℕ) (p : OncePlace) (op : Op) → IsAt r s t p → once_act l p ≡ act.Word l op
+    (r : Rules) (s : Site) (t l : ℕ) (p : OncePlace) (op : Op) → IsAt r s t p
+    → once_act l p ≡ act.Word l op
     → CallFollowsBy r s t l p (reply.Value (code r s))
 
 -- and each into the section, in it, and out of it
 abbrev pub OnceSectionsTell : Type 0
 OnceSectionsTell =
-    (r : Rules) (s : Site) (t l : ℕ) (p : OncePlace) (told : Reply) → IsAt r s t p → MayHear r s t p told
+    (r : Rules) (s : Site) (t l : ℕ) (p : OncePlace) (told : Reply) → IsAt r s t p
+    → MayHear r s t p told
     → CallFollowsBy r s t l p told
 
 -- what befalls a thread asleep makes of its call

@@ -42,7 +42,8 @@ exchanged_deeds c won course = looked_deeds course
 
 abbrev pub look_deeds : OnceCall → LookAt → Reply → List Deed
 look_deeds c look.Load (reply.Value seen) = looked_deeds (course_of c seen)
-look_deeds c (look.Decide expected) (reply.Value seen) = exchanged_deeds c (seen == expected) (course_of c seen)
+look_deeds c (look.Decide expected) (reply.Value seen) =
+    exchanged_deeds c (seen == expected) (course_of c seen)
 look_deeds c (look.Decide expected) reply.Done = In Main ∷ []
 look_deeds c look.Check (reply.Parked true) = Case (OfOnce (Rest (want_of c) (is_forced c))) ∷ []
 look_deeds c (look.Leave parked) reply.Done = Out ∷ []
@@ -91,19 +92,22 @@ pub record Follows (r : Rules) (s : Site) (t : ℕ) (p : OncePlace) (told : Repl
 -- each step on the word follows
 abbrev pub OnceStepsFollow : Type 0
 OnceStepsFollow =
-    (r : Rules) (s : Site) (t l : ℕ) (p : OncePlace) (op : Op) → IsAt r s t p → once_act l p ≡ act.Word l op
+    (r : Rules) (s : Site) (t l : ℕ) (p : OncePlace) (op : Op) → IsAt r s t p
+    → once_act l p ≡ act.Word l op
     → Follows r s t p (reply.Value (code r s))
 
 -- the word that it leaves is the word of the `Once` behind its deeds
 abbrev pub OnceStepsCode : Type 0
 OnceStepsCode =
-    (r : Rules) (s : Site) (t l : ℕ) (p : OncePlace) (op : Op) → IsAt r s t p → once_act l p ≡ act.Word l op
+    (r : Rules) (s : Site) (t l : ℕ) (p : OncePlace) (op : Op) → IsAt r s t p
+    → once_act l p ≡ act.Word l op
     → apply op (code r s) ≡ code r (after_all r (once_deeds p (reply.Value (code r s))) s t)
 
 -- and so is how far it has come
 abbrev pub OnceOwnersFollow : Type 0
 OnceOwnersFollow =
-    (r : Rules) (s : Site) (t l : ℕ) (p : OncePlace) (op : Op) (shared : List ℕ) (o : Owners) (main second : List Waiter) (taken : ℕ → Option Taken)
+    (r : Rules) (s : Site) (t l : ℕ) (p : OncePlace) (op : Op) (shared : List ℕ) (o : Owners)
+    (main second : List Waiter) (taken : ℕ → Option Taken)
     → IsAt r s t p → once_act l p ≡ act.Word l op → s.lock ≡ lock_seen shared o main second taken
     → lock_seen shared (once_owners p t (code r s) o) main second taken
     ≡ (after_all r (once_deeds p (reply.Value (code r s))) s t).lock
@@ -126,5 +130,6 @@ MayHear r s t p told = ⊥
 -- each such step follows too
 abbrev pub OnceSectionsFollow : Type 0
 OnceSectionsFollow =
-    (r : Rules) (s : Site) (t : ℕ) (p : OncePlace) (told : Reply) → IsAt r s t p → MayHear r s t p told
+    (r : Rules) (s : Site) (t : ℕ) (p : OncePlace) (told : Reply) → IsAt r s t p
+    → MayHear r s t p told
     → Follows r s t p told

@@ -1,8 +1,7 @@
 -- Where each step of a `Once` takes its thread in the machine, and what befalls it asleep.
-use Rattle.std.specs.Prelude.{ℕ, Bool, Option, Some, None, ◌≡◌, true, false, [], ◌∷◌}
+use Rattle.std.specs.Prelude.{ℕ, Bool, Some, None, ◌≡◌, true, false, [], ◌∷◌}
 use Rattle.lot_base.specs.declared.wants.Want.{Want}
 use Rattle.lot_base.specs.Keys.{key_of}
-use Rattle.lot_calls.specs.declared.calls.OnceCall.{OnceCall}
 use Rattle.lot_acts.specs.declared.acts.Act.{Act}
 use Rattle.lot_acts.specs.declared.acts.Act.TheVariants as act
 use Rattle.lot_acts.specs.declared.acts.Check.{Check}
@@ -10,14 +9,14 @@ use Rattle.lot_acts.specs.declared.acts.Reply.TheVariants.{Parked, Took, Closed}
 use Rattle.lot_acts.specs.declared.acts.Whom.TheVariants.{All}
 use Rattle.lot_acts.specs.Acts.{holds}
 use Rattle.lot_acts.specs.Moves.{Move, Hears, Moves, Waits, row_of, station_of, station_then, inside_of}
-use Rattle.lot_acts.specs.Profiles.{Profile, in_hand}
-use Rattle.lot_acts.specs.Stations.{station_by, nowhere}
+use Rattle.lot_acts.specs.Profiles.{in_hand}
+use Rattle.lot_acts.specs.Stations.{nowhere}
 use Rattle.abstract_locks.specs.Onces.{Rest, TakeAll}
 use Rattle.abstract_locks.specs.Locks.{Rules, OfOnce, HasTakenNobody, standing}
 use Rattle.abstract_locks.specs.Sites.{Site, Main, Case}
 use Rattle.abstract_locks.specs.Codes.{code}
 use Rattle.lot_once.specs.declared.places.OncePlace.{OncePlace}
-use Rattle.lot_once.specs.OnceSteps.{once_act, once_first, once_next}
+use Rattle.lot_once.specs.OnceSteps.{once_act, once_next}
 use Rattle.lot_once.specs.OnceProfiles.{once_profile}
 use Rattle.lot_once.specs.OnceDeeds.{MayHear, once_deeds}
 use Rattle.lot_once.specs.OnceCalls.{next_row}
@@ -39,17 +38,23 @@ pub record RestsBehind (x : Move) (hears : Hears) (check : Check) (want : Want) 
   pub forced : Bool
   pub was : station_of x ≡ inside_of Main
   pub rests : x.deeds None (Parked true) ≡ Case (OfOnce (Rest want forced)) ∷ []
-  pub rested : station_then x (Parked true) ≡ record (inside_of Main) { stands = Some Main; waits = Some want }
+  pub rested : station_then x (Parked true)
+      ≡ record (inside_of Main) { stands = Some Main; waits = Some want }
   pub turns : x.deeds None (Parked false) ≡ []
   pub turned : station_then x (Parked false) ≡ inside_of Main
-  pub may : (r : Rules) (s : Site) (t : ℕ) (b : Bool) → b ≡ holds check (code r s) → standing t s.lock ≡ 0 → hears r s t None (Parked b)
+  pub may : (r : Rules) (s : Site) (t : ℕ) (b : Bool) → b ≡ holds check (code r s)
+      → standing t s.lock ≡ 0 → hears r s t None (Parked b)
 
 -- it takes all who wait
 pub record TakesAll (x : Move) (hears : Hears) : Type 0 where
   pub was : station_of x ≡ inside_of Main
-  pub deeds : (any none_left : Bool) → x.deeds None (Took any none_left) ≡ Case (OfOnce TakeAll) ∷ []
-  pub goes : (any none_left : Bool) → station_then x (Took any none_left) ≡ record (inside_of Main) { carries = in_hand any false }
-  pub may : (r : Rules) (s : Site) (t : ℕ) (any none_left : Bool) → HasTakenNobody s.lock t → hears r s t None (Took any none_left)
+  pub deeds : (any none_left : Bool)
+      → x.deeds None (Took any none_left) ≡ Case (OfOnce TakeAll) ∷ []
+  pub goes : (any none_left : Bool)
+      → station_then x (Took any none_left)
+      ≡ record (inside_of Main) { carries = in_hand any false }
+  pub may : (r : Rules) (s : Site) (t : ℕ) (any none_left : Bool) → HasTakenNobody s.lock t
+      → hears r s t None (Took any none_left)
 
 -- its closure answers, and it stands nowhere before and behind
 pub record Closes (x : Move) : Type 0 where
@@ -60,7 +65,8 @@ pub record Closes (x : Move) : Type 0 where
 
 -- by its act, as in any call; or it stands behind the last, takes all, or runs its closure
 abbrev pub OnceMoves : ℕ → Move → Hears → Act → Type 0
-OnceMoves l x hears (act.Park k key check want) = (k ≡ l) × (key ≡ key_of l Main) × RestsBehind x hears check want
+OnceMoves l x hears (act.Park k key check want) =
+    (k ≡ l) × (key ≡ key_of l Main) × RestsBehind x hears check want
 OnceMoves l x hears (act.Take key All) = (key ≡ key_of l Main) × TakesAll x hears
 OnceMoves l x hears (act.Closure state) = Closes x
 OnceMoves l x hears act = Moves l false x hears act
@@ -69,6 +75,7 @@ OnceMoves l x hears act = Moves l false x hears act
 abbrev pub OnceActsMove : Type 0
 OnceActsMove = (l : ℕ) (p : OncePlace) → OnceMoves l (once_move p) (once_hears p) (once_act l p)
 
--- who stands in the queue sleeps there or is inside its section, and who is in a hand is so to be woken
+-- who stands in the queue sleeps there or is inside its section, and who is in a hand is so to be
+-- woken
 abbrev pub OnceSleepersMove : Type 0
 OnceSleepersMove = (p : OncePlace) → Waits (once_move p)

@@ -1,4 +1,5 @@
--- What each place of a `Once` says of its thread: a row for each place. All that is asked of a place is read off its row.
+-- What each place of a `Once` says of its thread: a row for each place. All that is asked of a
+-- place is read off its row.
 use Rattle.std.specs.Prelude.{ℕ, Bool, true, false, Option, Some, None, if◌then◌else◌, not}
 use Rattle.lot_base.specs.declared.wants.Want.{Want}
 use Rattle.lot_calls.specs.declared.calls.OnceCall.{OnceCall}
@@ -27,12 +28,17 @@ look_row wanted look.Load = record blank { doing = again wanted idle }
 look_row wanted (look.Decide seen) = record blank { doing = again wanted idle }
 look_row wanted look.Check = record blank { doing = again wanted inside; owes = Some Main }
 look_row wanted (look.Leave parked) =
-    record blank { doing = again (if parked then None else wanted) inside; stands = in_line parked Main; owes = Some Main }
+    record blank {
+      doing = again (if parked then None else wanted) inside;
+      stands = in_line parked Main;
+      owes = Some Main;
+    }
 look_row wanted look.Asleep = record blank { stands = Some Main }
 look_row wanted (look.Taken by) = record blank { hand = hand by false }
 
 abbrev pub looking : OnceCall → Bool → Profile → Profile
-looking c retries row = record row { wants = Some (want_of c); retries = retries; purpose = λ l. once_purpose l c }
+looking c retries row = record row
+    { wants = Some (want_of c); retries = retries; purpose = λ l. once_purpose l c }
 
 -- ---------------------------------------------------------------- who runs its closure
 
@@ -57,7 +63,8 @@ run_row (run.Close succeeded) = record blank { doing = running }
 run_row (run.Enter succeeded) = ending succeeded (taking succeeded)
 run_row (run.Take succeeded) = ending succeeded (record (taking succeeded) { inside = Some Main })
 run_row (run.Leave succeeded any) =
-    record (ending succeeded (record inside { carries = true; claims = ran succeeded })) { carries = in_hand any false }
+    record (ending succeeded (record inside { carries = true; claims = ran succeeded }))
+    { carries = in_hand any false }
 
 -- ---------------------------------------------------------------- every place
 
@@ -66,7 +73,8 @@ again_of c retries = if retries then Some (want_of c) else None
 
 abbrev pub once_profile : OncePlace → Profile
 once_profile (Look c retries at) = looking c retries (look_row (again_of c retries) at)
-once_profile (Run forced at) = record (run_row at) { purpose = λ l. CallsOnce l forced; released = true }
+once_profile (Run forced at) =
+    record (run_row at) { purpose = λ l. CallsOnce l forced; released = true }
 
 -- the thread that took this one and has not left its section yet
 abbrev pub once_taker : OncePlace → Option ℕ

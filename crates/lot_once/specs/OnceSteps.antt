@@ -79,7 +79,8 @@ marked v = v % 8 + 8
 
 -- ---------------------------------------------------------------- what a thread does
 
--- who is to run still waits while another runs and the bit is set; who waits for a run does so until it has ended well
+-- who is to run still waits while another runs and the bit is set; who waits for a run does so
+-- until it has ended well
 abbrev pub check_of : OnceCall → Check
 check_of (CallOnce forced) = WordIs 12
 check_of (Wait forced) = Unfinished forced
@@ -136,7 +137,8 @@ looked c v = looked_by v (course_of c v)
 abbrev pub next_look : OnceCall → LookAt → Reply → Next LookAt
 next_look c look.Load (Value seen) = looked c seen
 next_look c (look.Decide expected) (Value seen) =
-    if (seen == expected) && is_mark (course_of c seen) then At (look.Decide (marked seen)) else looked c seen
+    if (seen == expected) && is_mark (course_of c seen) then At (look.Decide (marked seen))
+    else looked c seen
 next_look c (look.Decide expected) Done = At look.Check
 next_look c look.Check (Parked parked) = At (look.Leave parked)
 next_look c (look.Leave parked) Done = if parked then At look.Asleep else At look.Load
@@ -182,7 +184,8 @@ once_next (Look c retries at) reply =
     else in_look c (still_retries retries reply) (next_look c at reply)
 once_next (Run forced at) reply = in_run forced (next_run at reply)
 
--- from where a thread looks at the word once more, in place of the act that would set the bit: while another runs
+-- from where a thread looks at the word once more, in place of the act that would set the bit:
+-- while another runs
 abbrev pub once_looking : OncePlace → Option OncePlace
 once_looking (Look c retries (look.Decide seen)) =
     if is_running seen && is_mark (course_of c seen) then Some (Look c retries look.Load) else None
@@ -197,5 +200,6 @@ phase_behind succeeded = if succeeded then phase.Done else phase.Poisoned
 abbrev pub once_owners : OncePlace → ℕ → ℕ → Owners → Owners
 once_owners (Look c retries at) t seen owners =
     if begins_run c at (Value seen) then record owners { phase = phase.InProgress t } else owners
-once_owners (Run forced (run.Close succeeded)) t seen owners = record owners { phase = phase_behind succeeded }
+once_owners (Run forced (run.Close succeeded)) t seen owners =
+    record owners { phase = phase_behind succeeded }
 once_owners (Run forced at) t seen owners = owners

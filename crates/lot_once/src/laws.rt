@@ -3,7 +3,8 @@ ghost use Rattle.lot_once.specs.OnceCalls.{OnceSectionsTell, OnceSleepersHear, O
 ghost use Rattle.lot_once.specs.OnceMoves.{OnceActsMove, OnceSleepersMove};
 ghost use Rattle.lot_once.specs.OnceDeeds.{OnceOwnersFollow, OnceSectionsFollow, OnceStepsCode, OnceStepsFollow};
 
-/// Each step on the word of a `Once` may do to it what its deeds say, and its next place says what the thread does then.
+/// Each step on the word of a `Once` may do to it what its deeds say, and its next place says what
+/// the thread does then.
 pub fn once_steps_follow()
     ensures { OnceStepsFollow }
 {}
@@ -23,8 +24,8 @@ pub fn once_sections_follow()
     ensures { OnceSectionsFollow }
 {}
 
-/// Each step on the word of a `Once` makes of its call what its next row says, the call is made of the step's case, and its answer is
-/// true.
+/// Each step on the word of a `Once` makes of its call what its next row says, the call is made of
+/// the step's case, and its answer is true.
 pub fn once_steps_tell()
     ensures { OnceStepsTell }
 {}
@@ -39,7 +40,8 @@ pub fn once_sleepers_hear()
     ensures { OnceSleepersHear }
 {}
 
-/// Each step takes its thread in the machine where its act says: into the section and the queue, out of them, and into hands.
+/// Each step takes its thread in the machine where its act says: into the section and the queue,
+/// out of them, and into hands.
 pub fn once_acts_move()
     ensures { OnceActsMove }
 {}

@@ -1,4 +1,5 @@
-//! How a thread looks how far a `Once` has come: to run its closure, or to wait until a run has succeeded.
+//! How a thread looks how far a `Once` has come: to run its closure, or to wait until a run has
+//! succeeded.
 //!
 //! | place | does | then |
 //! |---|---|---|

@@ -33,8 +33,8 @@ pub const MARKED: u64 = 8;
 /// Where a thread stands in a call of a `Once`.
 #[derive(Clone, Copy, Debug, PartialEq, Eq)]
 pub enum OncePlace {
-    /// It looks how far the `Once` has come, or waits. It `retries` from a wake note on, until the thread stands
-    /// in the queue again, runs its closure or the call ends.
+    /// It looks how far the `Once` has come, or waits. It `retries` from a wake note on, until the
+    /// thread stands in the queue again, runs its closure or the call ends.
     Look {
         call: OnceCall,
         retries: bool,

@@ -27,7 +27,8 @@ pub struct Queueing {
 }
 
 fn room(alloc: Global, seats: usize) -> Result<(Vec<usize>, Vec<usize>, Vec<Want>), AllocError>
-    ensures { IfOk result (λ rooms. (seats ≤ vec_capacity rooms.0) × (vec_capacity rooms.0 ≤ vec_capacity rooms.1)
+    ensures { IfOk result
+        (λ rooms. (seats ≤ vec_capacity rooms.0) × (vec_capacity rooms.0 ≤ vec_capacity rooms.1)
         × (seats ≤ vec_capacity rooms.2)) }
 {
     let taken = Vec::with_capacity(alloc, seats)?;
@@ -54,7 +55,8 @@ fn drop_thread(threads: &mut Vec<usize>, thread: usize)
 }
 
 impl Queueing {
-    /// Nobody waits, and there is room for so many threads. It takes all memory that its calls need.
+    /// Nobody waits, and there is room for so many threads. It takes all memory that its calls
+    /// need.
     ///
     /// # Errors
     ///
@@ -78,7 +80,8 @@ impl Queueing {
 
     /// A section begins: nobody has been taken in it.
     pub fn begin(&mut self)
-        ensures taken { (self.new.taken.items ≡ []) × (self.new.rightless.items ≡ []) × (self.new.wants.items ≡ []) }
+        ensures taken { (self.new.taken.items ≡ []) × (self.new.rightless.items ≡ [])
+            × (self.new.wants.items ≡ []) }
         ensures same { (self.new.queues ≡ self.old.queues) × (self.new.seats ≡ self.old.seats) }
     {
         self.taken.clear();
@@ -90,9 +93,11 @@ impl Queueing {
     fn note_taken(&mut self, first: Option<usize>)
         requires { (self.old.taken.items ≡ []) × (self.old.rightless.items ≡ [])
             × IfSome first (λ thread. thread < self.old.seats) }
-        ensures taken { MatchOption first (self.new.taken.items ≡ []) (λ thread. self.new.taken.items ≡ thread ∷ [])
+        ensures taken { MatchOption first (self.new.taken.items ≡ [])
+            (λ thread. self.new.taken.items ≡ thread ∷ [])
             × (self.new.rightless.items ≡ self.new.taken.items) }
-        ensures same { (self.new.queues ≡ self.old.queues) × (self.new.wants.items ≡ self.old.wants.items)
+        ensures same { (self.new.queues ≡ self.old.queues)
+            × (self.new.wants.items ≡ self.old.wants.items)
             × (self.new.seats ≡ self.old.seats) }
     {
         if let Some(thread) = first {
@@ -103,12 +108,16 @@ impl Queueing {
 
     /// Takes the first under a key.
     pub fn take_first(&mut self, key: Key) -> Option<usize>
-        requires { (self.old.taken.items ≡ []) × (self.old.rightless.items ≡ []) × (self.old.wants.items ≡ []) }
+        requires { (self.old.taken.items ≡ []) × (self.old.rightless.items ≡ [])
+            × (self.old.wants.items ≡ []) }
         ensures first { result ≡ first_of (line key self.old.queues.waiters) }
-        ensures taken { MatchOption result (self.new.taken.items ≡ []) (λ thread. self.new.taken.items ≡ thread ∷ [])
+        ensures taken { MatchOption result (self.new.taken.items ≡ [])
+            (λ thread. self.new.taken.items ≡ thread ∷ [])
             × (self.new.rightless.items ≡ self.new.taken.items) }
-        ensures wants { self.new.wants.items ≡ wants_of (take 1 (line key self.old.queues.waiters)) }
-        ensures lines { lines self.new.queues.waiters ≡ lines (without_first key self.old.queues.waiters) }
+        ensures wants { self.new.wants.items
+            ≡ wants_of (take 1 (line key self.old.queues.waiters)) }
+        ensures lines { lines self.new.queues.waiters
+            ≡ lines (without_first key self.old.queues.waiters) }
         ensures same { self.new.seats ≡ self.old.seats }
     {
         note_first_want(&self.queues, key, &mut self.wants);
@@ -119,11 +128,13 @@ impl Queueing {
 
     /// Takes all under a key.
     pub fn take_all(&mut self, key: Key)
-        requires { (self.old.taken.items ≡ []) × (self.old.rightless.items ≡ []) × (self.old.wants.items ≡ []) }
+        requires { (self.old.taken.items ≡ []) × (self.old.rightless.items ≡ [])
+            × (self.old.wants.items ≡ []) }
         ensures taken { (self.new.taken.items ≡ threads_of (line key self.old.queues.waiters))
             × (self.new.rightless.items ≡ self.new.taken.items) }
         ensures wants { self.new.wants.items ≡ wants_of (line key self.old.queues.waiters) }
-        ensures lines { lines self.new.queues.waiters ≡ lines (without_key key self.old.queues.waiters) }
+        ensures lines { lines self.new.queues.waiters
+            ≡ lines (without_key key self.old.queues.waiters) }
         ensures same { self.new.seats ≡ self.old.seats }
     {
         note_wants(&self.queues, key, Everybody, &mut self.wants);
@@ -133,12 +144,15 @@ impl Queueing {
 
     /// Takes who is picked of the main queue of a reader-writer lock.
     pub fn take_picked(&mut self, key: Key, start: Option<Want>, recursive: bool)
-        requires { (self.old.taken.items ≡ []) × (self.old.rightless.items ≡ []) × (self.old.wants.items ≡ []) }
+        requires { (self.old.taken.items ≡ []) × (self.old.rightless.items ≡ [])
+            × (self.old.wants.items ≡ []) }
         ensures taken { (self.new.taken.items
             ≡ threads_of (lock_picked start recursive (line key self.old.queues.waiters)))
             × (self.new.rightless.items ≡ self.new.taken.items) }
-        ensures wants { self.new.wants.items ≡ wants_of (lock_picked start recursive (line key self.old.queues.waiters)) }
-        ensures lines { lines self.new.queues.waiters ≡ lines (without_lock_picked start recursive key self.old.queues.waiters) }
+        ensures wants { self.new.wants.items
+            ≡ wants_of (lock_picked start recursive (line key self.old.queues.waiters)) }
+        ensures lines { lines self.new.queues.waiters
+            ≡ lines (without_lock_picked start recursive key self.old.queues.waiters) }
         ensures same { self.new.seats ≡ self.old.seats }
     {
         let picker = LockPicker::new(start, recursive);
@@ -149,14 +163,19 @@ impl Queueing {
 
     /// Moves waiters from under a key behind the last under another.
     pub fn requeue(&mut self, from: Key, to: Key, op: Requeue) -> (Option<usize>, usize)
-        requires none { (self.old.taken.items ≡ []) × (self.old.rightless.items ≡ []) × (self.old.wants.items ≡ []) }
+        requires none { (self.old.taken.items ≡ []) × (self.old.rightless.items ≡ [])
+            × (self.old.wants.items ≡ []) }
         requires differ { from ≢ to }
         ensures first { result.0 ≡ taken_by op (line from self.old.queues.waiters) }
         ensures taken { MatchOption result.0 (self.new.taken.items ≡ [])
-            (λ thread. self.new.taken.items ≡ thread ∷ []) × (self.new.rightless.items ≡ self.new.taken.items) }
-        ensures wants { self.new.wants.items ≡ wants_of (taken_in_line op (line from self.old.queues.waiters)) }
-        ensures number { (result.1 ≡ length (moved_by op (line from self.old.queues.waiters))) × (result.1 ≤ self.old.seats) }
-        ensures lines { lines self.new.queues.waiters ≡ lines (requeued op from to self.old.queues.waiters) }
+            (λ thread. self.new.taken.items ≡ thread ∷ [])
+            × (self.new.rightless.items ≡ self.new.taken.items) }
+        ensures wants { self.new.wants.items
+            ≡ wants_of (taken_in_line op (line from self.old.queues.waiters)) }
+        ensures number { (result.1 ≡ length (moved_by op (line from self.old.queues.waiters)))
+            × (result.1 ≤ self.old.seats) }
+        ensures lines { lines self.new.queues.waiters
+            ≡ lines (requeued op from to self.old.queues.waiters) }
         ensures same { self.new.seats ≡ self.old.seats }
     {
         if op == Requeue::TakeOneMoveRest {
@@ -169,8 +188,10 @@ impl Queueing {
 
     /// The thread has been given a right.
     pub fn note_right(&mut self, thread: usize)
-        ensures rightless { self.new.rightless.items ≡ filter (λ x. not (x == thread)) self.old.rightless.items }
-        ensures same { (self.new.queues ≡ self.old.queues) × (self.new.taken.items ≡ self.old.taken.items)
+        ensures rightless { self.new.rightless.items
+            ≡ filter (λ x. not (x == thread)) self.old.rightless.items }
+        ensures same { (self.new.queues ≡ self.old.queues)
+            × (self.new.taken.items ≡ self.old.taken.items)
             × (self.new.wants.items ≡ self.old.wants.items) × (self.new.seats ≡ self.old.seats) }
     {
         drop_thread(&mut self.rightless, thread);
@@ -204,13 +225,15 @@ impl Queueing {
         self.rightless.as_slice()
     }
 
-    /// Puts a thread behind the last under a key. One that stands somewhere leaves that place first.
+    /// Puts a thread behind the last under a key. One that stands somewhere leaves that place
+    /// first.
     pub fn append(&mut self, key: Key, thread: usize, want: Want)
         requires { thread < self.old.seats }
         ensures lines { lines self.new.queues.waiters
             ≡ lines (without thread self.old.queues.waiters ++ waiter key thread want ∷ []) }
         ensures same { (self.new.taken.items ≡ self.old.taken.items)
-            × (self.new.rightless.items ≡ self.old.rightless.items) × (self.new.wants.items ≡ self.old.wants.items)
+            × (self.new.rightless.items ≡ self.old.rightless.items)
+            × (self.new.wants.items ≡ self.old.wants.items)
             × (self.new.seats ≡ self.old.seats) }
     {
         self.queues.append(key, thread, want);
@@ -218,9 +241,11 @@ impl Queueing {
 
     /// Removes a thread from where it stands.
     pub fn remove(&mut self, thread: usize)
-        ensures lines { lines self.new.queues.waiters ≡ lines (without thread self.old.queues.waiters) }
+        ensures lines { lines self.new.queues.waiters
+            ≡ lines (without thread self.old.queues.waiters) }
         ensures same { (self.new.taken.items ≡ self.old.taken.items)
-            × (self.new.rightless.items ≡ self.old.rightless.items) × (self.new.wants.items ≡ self.old.wants.items)
+            × (self.new.rightless.items ≡ self.old.rightless.items)
+            × (self.new.wants.items ≡ self.old.wants.items)
             × (self.new.seats ≡ self.old.seats) }
     {
         self.queues.remove(thread);

@@ -30,7 +30,8 @@ pub(crate) fn note_wants<P: Picker + Drop>(
     wants: &mut Vec<Want>,
 )
     requires { (wants.old.items ≡ []) × (queues.now.capacity ≤ vec_capacity wants.old) }
-    ensures wants { wants.new.items ≡ wants_of (picked P.answer P.next picker (line key queues.now.waiters)) }
+    ensures wants { wants.new.items
+        ≡ wants_of (picked P.answer P.next picker (line key queues.now.waiters)) }
     ensures room { vec_capacity wants.new ≡ vec_capacity wants.old }
 {
     let mut place = 0;

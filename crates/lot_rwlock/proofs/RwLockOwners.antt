@@ -18,7 +18,7 @@ use Rattle.std.proofs.lemmas.List.Sums.{sum_by-set}
 use Rattle.std.proofs.lemmas.Bool.Decides.{nat_tests}
 use Rattle.lot_calls.specs.declared.calls.Patience.{Patience}
 use Rattle.lot_calls.specs.declared.calls.Patience.TheVariants.{Patient, Timed, Try}
-use Rattle.abstract_locks.specs.Locks.{LockState, Rules, Taken, Pending, with_owner, without_owner, pending_for, Settle, Leave, Convert, Rollback, Owns, readers, falling_back}
+use Rattle.abstract_locks.specs.Locks.{LockState, Rules, Taken, with_owner, without_owner, pending_for, Settle, Leave, Convert, Rollback, Owns, readers}
 use Rattle.abstract_locks.specs.Locks as locks
 use Rattle.abstract_locks.specs.Sites.{Has, Pends, Site, IsSite, Deed, End, Mark, Case}
 use Rattle.abstract_locks.specs.Codes.{code, TellsTrue, count_in, has_parked}

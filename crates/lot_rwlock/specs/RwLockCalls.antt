@@ -1,5 +1,5 @@
--- What each step of a reader-writer lock makes of its call: the row of the next place is what the step's case makes of the call, the call
--- is made of that case, and its answer is true.
+-- What each step of a reader-writer lock makes of its call: the row of the next place is what the
+-- step's case makes of the call, the call is made of that case, and its answer is true.
 use Rattle.std.specs.Prelude.{ℕ, Bool, true, false, Option, Some, None, ◌≡◌, ◌≢◌, ◌<◌, ◌^◌}
 use Rattle.lot_base.specs.declared.keys.Line.TheVariants.{Main, Second}
 use Rattle.lot_base.specs.declared.notes.Note.TheVariants.{Normal}
@@ -122,7 +122,8 @@ abbrev pub MayStandNext : Admission → Next RwLockPlace → Type 0
 MayStandNext a (next.At p) = MayStand a p
 MayStandNext a (next.End answer) = Unit {0}
 
--- nobody enters the section of a queue but who decided to wait, nobody is told that its time is up but who has a deadline, and a word has 64 bits
+-- nobody enters the section of a queue but who decided to wait, nobody is told that its time is up
+-- but who has a deadline, and a word has 64 bits
 abbrev pub MayBeTold : Admission → RwLockPlace → RwLockAt → Reply → Type 0
 MayBeTold a p (at.Decide seen) reply.Done = decided a p seen ≡ decisions.Park
 MayBeTold a p to (reply.Value seen) = seen < 2 ^ 64
@@ -147,9 +148,11 @@ abbrev pub next_row : Admission → Next RwLockPlace → Next Profile
 next_row a (next.At p) = next.At (rwlock_profile a p)
 next_row a (next.End answer) = next.End answer
 
-abbrev pub CallFollowsBy : Rules → Admission → Site → ℕ → ℕ → RwLockPlace → Option ℕ → Reply → Type 0
+abbrev pub CallFollowsBy : Rules → Admission → Site → ℕ → ℕ → RwLockPlace → Option ℕ → Reply
+    → Type 0
 CallFollowsBy r a s t l p whom told =
-    CallFollows r s.lock t l (rwlock_profile a p) (rwlock_deeds a p whom told) (next_row a (rwlock_next a p told))
+    CallFollows r s.lock t l (rwlock_profile a p) (rwlock_deeds a p whom told)
+    (next_row a (rwlock_next a p told))
 
 -- a thread that is there stands at a place of a call of the lock, where it may
 pub record IsCalling (r : Rules) (a : Admission) (s : Site) (t : ℕ) (p : RwLockPlace) : Type 0 where
@@ -163,14 +166,16 @@ IsNotLate told = Unit {0}
 -- each step on the word
 abbrev pub RwLockStepsTell : Type 0
 RwLockStepsTell =
-    (r : Rules) (a : Admission) (s : Site) (t l : ℕ) (p : RwLockPlace) (op : Op) → IsCalling r a s t p
+    (r : Rules) (a : Admission) (s : Site) (t l : ℕ) (p : RwLockPlace) (op : Op)
+    → IsCalling r a s t p
     → standing t s.lock ≡ 0 → rwlock_act l a p ≡ act.Word l op
     → CallFollowsBy r a s t l p None (reply.Value (code r s))
 
 -- and each into a section, in it, and out of it
 abbrev pub RwLockSectionsTell : Type 0
 RwLockSectionsTell =
-    (r : Rules) (a : Admission) (s : Site) (t l : ℕ) (p : RwLockPlace) (whom : Option ℕ) (told : Reply)
+    (r : Rules) (a : Admission) (s : Site) (t l : ℕ) (p : RwLockPlace) (whom : Option ℕ)
+    (told : Reply)
     → IsCalling r a s t p → MayHear r a s t p p.at whom told → IsNotLate told
     → CallFollowsBy r a s t l p whom told
 
@@ -180,11 +185,14 @@ CallBecomes a l p told becomes =
     (p2 : RwLockPlace) (rights : ℕ → Rights) → rwlock_next a p told ≡ next.At p2
     → call_by l (rwlock_profile a p2) rights ≡ becomes (call_by l (rwlock_profile a p) rights)
 
--- nothing, where it is taken; it tries again, where it is woken that was taken; and it is late, where its time is up
+-- nothing, where it is taken; it tries again, where it is woken that was taken; and it is late,
+-- where its time is up
 pub record SleepersHear (a : Admission) (l : ℕ) (p : RwLockPlace) : Type 0 where
   pub taken : (u : ℕ) → CallBecomes a l p (reply.TakenBy u) (λ c. c)
-  pub woken : (u : ℕ) → hand_at p.at ≡ hand u false → CallBecomes a l p (reply.Woken Normal) (λ c. record c { retries = Some l })
-  pub late : late_line_at (patience_of p.purpose) p.at ≢ None → CallBecomes a l p reply.Late (λ c. record c { late = true })
+  pub woken : (u : ℕ) → hand_at p.at ≡ hand u false
+      → CallBecomes a l p (reply.Woken Normal) (λ c. record c { retries = Some l })
+  pub late : late_line_at (patience_of p.purpose) p.at ≢ None
+      → CallBecomes a l p reply.Late (λ c. record c { late = true })
 
 abbrev pub RwLockSleepersHear : Type 0
 RwLockSleepersHear = (a : Admission) (l : ℕ) (p : RwLockPlace) → MayStand a p → SleepersHear a l p

@@ -1,4 +1,5 @@
--- The steps of a reader-writer lock, told by what a thread does about the abstract lock: what each place is, and the deeds of each step.
+-- The steps of a reader-writer lock, told by what a thread does about the abstract lock: what each
+-- place is, and the deeds of each step.
 use Rattle.std.specs.Prelude.{ℕ, Bool, true, false, Option, Some, None, if◌then◌else◌, ◌==◌, ◌&&◌, not, ◌≡◌, ◌<◌, ◌-◌, ◌^◌, List, [], ◌∷◌, length, slice_index}
 use Rattle.lot_base.specs.declared.keys.Line.{Line}
 use Rattle.lot_base.specs.declared.keys.Line.TheVariants.{Main, Second}
@@ -79,9 +80,20 @@ waking_doing start m waking.Enter = record idle { wakes = Some m; claims = kept_
 waking_doing start m waking.Take =
     record idle { inside = Some m; wakes = Some m; claims = kept_claim start }
 waking_doing start m (waking.Clear any) =
-    record idle { inside = Some m; carries = true; covers = covers_line start m; empty = Some m; claims = kept_claim start }
+    record idle {
+      inside = Some m;
+      carries = true;
+      covers = covers_line start m;
+      empty = Some m;
+      claims = kept_claim start;
+    }
 waking_doing start m (waking.Leave any) =
-    record idle { inside = Some m; carries = true; covers = covers_line start m; claims = kept_claim start }
+    record idle {
+      inside = Some m;
+      carries = true;
+      covers = covers_line start m;
+      claims = kept_claim start;
+    }
 
 abbrev pub falls_back : RwLockPurpose → Bool
 falls_back (purpose.Upgrade how) = true
@@ -257,7 +269,8 @@ abbrev pub AtUpgrade : Patience → RwLockAt → Type 0
 AtUpgrade Try to = AtTry to
 AtUpgrade how to = AtPending to
 
--- only a writer tries a word that is 0, only who wants to write is pending, and who gives a right up only wakes others then
+-- only a writer tries a word that is 0, only who wants to write is pending, and who gives a right
+-- up only wakes others then
 abbrev pub AtFits : RwLockPurpose → RwLockAt → Type 0
 AtFits (purpose.Enter x how) at.First = x ≡ access.Exclusive
 AtFits (purpose.Enter x how) at.GiveWay = ⊥
@@ -302,7 +315,8 @@ RwLockStepsCode =
     (r : Rules) (a : Admission) (s : Site) (t l : ℕ) (p : RwLockPlace) (op : Op) → IsAt r a s t p
     → standing t s.lock ≡ 0 → rwlock_act l a p ≡ act.Word l op
     → t < length s.lock.shared → code r s < 2 ^ 64 → a.limit < 2 ^ 60 - 1 → HasLimit r s.lock
-    → apply op (code r s) ≡ code r (after_all r (rwlock_deeds a p None (reply.Value (code r s))) s t)
+    → apply op (code r s)
+    ≡ code r (after_all r (rwlock_deeds a p None (reply.Value (code r s))) s t)
 
 -- ---------------------------------------------------------------- steps in and out of sections
 
@@ -315,17 +329,21 @@ MayHearParking r s t m finds parking.Remove (reply.Removed none_left) = StandsAl
 MayHearParking r s t m finds parking.GiveUp reply.Done = s.lock.taken t ≡ None
 MayHearParking r s t m finds to told = ⊥
 
-abbrev pub MayHearWaking : Rules → Site → ℕ → Option Want → Line → WakeAt → Option ℕ → Reply → Type 0
+abbrev pub MayHearWaking : Rules → Site → ℕ → Option Want → Line → WakeAt → Option ℕ → Reply
+    → Type 0
 MayHearWaking r s t start m waking.Enter whom reply.Done = IsFree s m
-MayHearWaking r s t start m waking.Take whom (reply.Took any none_left) = MayTake r s start m whom none_left
+MayHearWaking r s t start m waking.Take whom (reply.Took any none_left) =
+    MayTake r s start m whom none_left
 MayHearWaking r s t start m waking.Take whom (reply.Picked n x none_left) =
     MayTake r s start m whom none_left
 MayHearWaking r s t start m (waking.Leave any) whom reply.Done = s.lock.taken t ≡ None
 MayHearWaking r s t start m to whom told = ⊥
 
 -- what a thread may be told of its steps in and out of sections, and as it is late
-abbrev pub MayHear : Rules → Admission → Site → ℕ → RwLockPlace → RwLockAt → Option ℕ → Reply → Type 0
-MayHear r a s t p (at.Decide seen) whom reply.Done = (decided a p seen ≡ decisions.Park) × IsFree s Main
+abbrev pub MayHear : Rules → Admission → Site → ℕ → RwLockPlace → RwLockAt → Option ℕ → Reply
+    → Type 0
+MayHear r a s t p (at.Decide seen) whom reply.Done =
+    (decided a p seen ≡ decisions.Park) × IsFree s Main
 MayHear r a s t p (at.Count seen) whom reply.Done = IsFree s Second
 MayHear r a s t p at.Marked whom reply.Done = IsFree s Second
 MayHear r a s t p (at.Park to) whom told =
@@ -338,16 +356,20 @@ MayHear r a s t p to whom told = ⊥
 -- each such step follows too
 abbrev pub RwLockSectionsFollow : Type 0
 RwLockSectionsFollow =
-    (r : Rules) (a : Admission) (s : Site) (t : ℕ) (p : RwLockPlace) (whom : Option ℕ) (told : Reply)
+    (r : Rules) (a : Admission) (s : Site) (t : ℕ) (p : RwLockPlace) (whom : Option ℕ)
+    (told : Reply)
     → IsAt r a s t p → MayHear r a s t p p.at whom told → FollowsBy r a s t p whom told
 
 -- ---------------------------------------------------------------- owners
 
--- each step on the word leaves the owners and shares of the lock behind its deeds; a number of shares wraps, as a word does, and none comes near
+-- each step on the word leaves the owners and shares of the lock behind its deeds; a number of
+-- shares wraps, as a word does, and none comes near
 abbrev pub RwLockOwnersFollow : Type 0
 RwLockOwnersFollow =
-    (r : Rules) (a : Admission) (s : Site) (t l : ℕ) (p : RwLockPlace) (op : Op) (shared : List ℕ) (o : Owners) (main second : List Waiter) (taken : ℕ → Option Taken)
+    (r : Rules) (a : Admission) (s : Site) (t l : ℕ) (p : RwLockPlace) (op : Op) (shared : List ℕ)
+    (o : Owners) (main second : List Waiter) (taken : ℕ → Option Taken)
     → IsAt r a s t p → rwlock_act l a p ≡ act.Word l op → a.limit < 2 ^ 60 - 1 → HasLimit r s.lock
     → s.lock ≡ lock_seen shared o main second taken
-    → lock_seen (shares_then shared t (rwlock_shares a p (code r s) (slice_index shared t))) (rwlock_owners a p t (code r s) o) main second taken
+    → lock_seen (shares_then shared t (rwlock_shares a p (code r s) (slice_index shared t)))
+    (rwlock_owners a p t (code r s) o) main second taken
     ≡ (after_all r (rwlock_deeds a p None (reply.Value (code r s))) s t).lock

@@ -23,7 +23,8 @@ rwlock_hears a p r s t whom told = MayHear r a s t p p.at whom told
 -- as its act says
 abbrev pub RwLockActsMove : Type 0
 RwLockActsMove =
-    (l : ℕ) (a : Admission) (p : RwLockPlace) → MayStand a p → Moves l a.recursive (rwlock_move a p) (rwlock_hears a p) (rwlock_act l a p)
+    (l : ℕ) (a : Admission) (p : RwLockPlace) → MayStand a p
+    → Moves l a.recursive (rwlock_move a p) (rwlock_hears a p) (rwlock_act l a p)
 
 -- and what befalls it asleep
 abbrev pub RwLockSleepersMove : Type 0
@@ -32,4 +33,5 @@ RwLockSleepersMove = (a : Admission) (p : RwLockPlace) → MayStand a p → Wait
 -- into the section of its line, where its time is up
 abbrev pub RwLockLateMove : Type 0
 RwLockLateMove =
-    (a : Admission) (p : RwLockPlace) (m : Line) → rwlock_late_line p ≡ Some m → GoesIn (rwlock_move a p) (rwlock_hears a p) m Late
+    (a : Admission) (p : RwLockPlace) (m : Line) → rwlock_late_line p ≡ Some m
+    → GoesIn (rwlock_move a p) (rwlock_hears a p) m Late

@@ -1,4 +1,5 @@
--- What each place of a reader-writer lock says of its thread: all that is asked of a place is read off its row.
+-- What each place of a reader-writer lock says of its thread: all that is asked of a place is read
+-- off its row.
 use Rattle.std.specs.Prelude.{ℕ, Bool, true, false, Option, Some, None, if◌then◌else◌, ◌&&◌, not, ◌-◌}
 use Rattle.lot_base.specs.declared.keys.Line.{Line}
 use Rattle.lot_base.specs.declared.keys.Line.TheVariants.{Main, Second}
@@ -80,7 +81,8 @@ abbrev pub carries_at : RwLockAt → Option Bool
 carries_at (at.Wake m to) = carries_waking to
 carries_at to = None
 
--- the queue on which it owes a wake: from the step that saw waiters, or from entering the section, until the section is left
+-- the queue on which it owes a wake: from the step that saw waiters, or from entering the section,
+-- until the section is left
 abbrev pub owes_at : RwLockAt → Option Line
 owes_at (at.Park to) = in_line (is_inside to) Main
 owes_at (at.Aside to) = in_line (is_inside to) Second
@@ -91,9 +93,11 @@ abbrev pub is_mark : Decision → Bool
 is_mark decisions.Mark = true
 is_mark decision = false
 
--- where it looks at the word once more: where its act would set a bit before it sleeps, or it is pending
+-- where it looks at the word once more: where its act would set a bit before it sleeps, or it is
+-- pending
 abbrev pub looking_at : Admission → RwLockPlace → RwLockAt → Option RwLockAt
-looking_at a p (at.Decide seen) = if is_mark (decided a p seen) && not (has_aside seen) then Some at.Load else None
+looking_at a p (at.Decide seen) =
+    if is_mark (decided a p seen) && not (has_aside seen) then Some at.Load else None
 looking_at a p (at.Count seen) = Some at.Look
 looking_at a p to = None
 
@@ -154,10 +158,13 @@ without_pending l rights = putting rights l (record (rights l) { pending = (righ
 
 -- what it owned of each lock as its call began, by what it owns now
 abbrev pub before : RwLockPurpose → RwLockAt → ℕ → (ℕ → Rights) → ℕ → Rights
-before (purposes.Enter x how) to l rights = if is_pending to then without_pending l rights else rights
-before (purposes.Release x) to l rights = if is_waking to then one_more_at l (wanted x) rights else rights
+before (purposes.Enter x how) to l rights =
+    if is_pending to then without_pending l rights else rights
+before (purposes.Release x) to l rights =
+    if is_waking to then one_more_at l (wanted x) rights else rights
 before (purposes.Downgrade d) to l rights =
-    if is_waking to then one_more_at l (wanted (from_of d)) (one_less_at l (wanted (to_of d)) rights) else rights
+    if is_waking to then one_more_at l (wanted (from_of d))
+    (one_less_at l (wanted (to_of d)) rights) else rights
 before (purposes.Upgrade how) to l rights =
     if is_pending to then one_more_at l Upgradable (without_pending l rights) else rights
 

@@ -1,4 +1,5 @@
--- The steps of a reader-writer lock: what a thread does at each place, and where each reply leads it.
+-- The steps of a reader-writer lock: what a thread does at each place, and where each reply leads
+-- it.
 use Rattle.std.specs.Prelude.{ℕ, Bool, true, false, Option, Some, None, if◌then◌else◌, ◌==◌, ◌&&◌, not, ◌+◌, ◌-◌, ◌*◌, nat_le, ◌≡◌}
 use Rattle.lot_base.specs.declared.keys.Keys.TheVariants.{One}
 use Rattle.lot_base.specs.declared.keys.Line.{Line}
@@ -145,7 +146,8 @@ exchange l from to = act.TheVariants.Word l (op.TheVariants.Exchange from to)
 abbrev pub plus : ℕ → ℕ → ℕ
 plus word n = apply (op.TheVariants.Add n) word
 
--- the word with the right that a thread takes: an upgrade is a reader with the upgradable right less, and a writer more
+-- the word with the right that a thread takes: an upgrade is a reader with the upgradable right
+-- less, and a writer more
 abbrev pub word_taken : RwLockPurpose → ℕ → ℕ
 word_taken (purpose.Upgrade how) seen = apply (op.TheVariants.Sub 12) seen
 word_taken q seen = plus seen (token (wanted (access_of q)))
@@ -173,7 +175,8 @@ rollback_op q = op.TheVariants.Sub 8
 -- a pending writer sets its parked bit, and goes aside where it is set
 abbrev pub count_act : ℕ → ℕ → Act
 count_act l seen =
-    if has_aside seen then act.TheVariants.Enter (One (2 * l + 1)) else exchange l seen (plus seen 2)
+    if has_aside seen then act.TheVariants.Enter (One (2 * l + 1))
+    else exchange l seen (plus seen 2)
 
 -- clears the parked bit of a queue
 abbrev pub unparked : Line → Op
@@ -199,7 +202,8 @@ park_act l a x m parking.GiveUp = leaves l m
 
 -- what a thread is told that comes to a place of a parking
 abbrev pub IsTold : Outcome → ParkAt → Type 0
-IsTold told at = (l : ℕ) (a : Admission) (x : Want) (m : Line) → told ≡ outcome_of (park_act l a x m at)
+IsTold told at = (l : ℕ) (a : Admission) (x : Want) (m : Line)
+    → told ≡ outcome_of (park_act l a x m at)
 
 -- whom a thread takes of a queue: those whom the lock lets in, or the writer aside
 abbrev pub whom : Admission → Option Want → Line → Whom
@@ -423,7 +427,8 @@ owners_by changes.Settle t o = record o { exclusive = Some t; pending = None }
 owners_by (changes.Leave access.TheVariants.Upgradable) t o = record o { upgradable = None }
 owners_by (changes.Leave access.TheVariants.Exclusive) t o = record o { exclusive = None }
 owners_by (changes.Downgrade downgrade.ToShared) t o = record o { exclusive = None }
-owners_by (changes.Downgrade downgrade.ToUpgradable) t o = record o { exclusive = None; upgradable = Some t }
+owners_by (changes.Downgrade downgrade.ToUpgradable) t o =
+    record o { exclusive = None; upgradable = Some t }
 owners_by (changes.Downgrade downgrade.UpgradableToShared) t o = record o { upgradable = None }
 owners_by (changes.Upgrade true) t o = record o { exclusive = Some t; upgradable = None }
 owners_by (changes.Upgrade false) t o =

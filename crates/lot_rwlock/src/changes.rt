@@ -123,8 +123,8 @@ impl Change {
 }
 
 impl RwLockPlace {
-    /// Who owns the lock after the thread's operation on the word, which saw this value; the number of its shared rights
-    /// stands apart.
+    /// Who owns the lock after the thread's operation on the word, which saw this value; the number
+    /// of its shared rights stands apart.
     pub fn owners_after(
         self,
         admission: Admission,

@@ -8,7 +8,9 @@
 //! | `Decide(v)`, blocked, without `PARKED` | exchanges `v` for `v + PARKED`, or goes on from `Load` as it spins | decides |
 //! | `Decide(v)`, blocked, with `PARKED` | enters the main section | `Park` |
 //!
-//! A try to upgrade decides the same way: it takes where nobody else shares, and else ends with `No`. A try that is blocked ends with `No`. Whoever counts, and isn't blocked, ends with `ReadersFull` where the count is at the limit.
+//! A try to upgrade decides the same way: it takes where nobody else shares, and else ends with
+//! `No`. A try that is blocked ends with `No`. Whoever counts, and isn't blocked, ends with
+//! `ReadersFull` where the count is at the limit.
 ghost use Rattle.std.specs.Prelude.{◌≡◌, ◌<◌, ◌^◌};
 ghost use Rattle.lot_rwlock.specs.RwLockSteps.{wanted, decision, decided_for, decided_act, exchange, first_next, looked, came_in, exchanged_next, decided_next};
 
@@ -107,7 +109,8 @@ pub(super) fn looked(place: RwLockPlace, admission: Admission, seen: u64) -> Nex
     }
 }
 
-/// Where a thread goes whose exchange succeeded: a writer is pending until it has looked for readers.
+/// Where a thread goes whose exchange succeeded: a writer is pending until it has looked for
+/// readers.
 fn came_in(place: RwLockPlace) -> Next<RwLockPlace>
     ensures { result ≡ came_in place }
 {

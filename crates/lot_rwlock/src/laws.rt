@@ -4,7 +4,8 @@ ghost use Rattle.lot_rwlock.specs.RwLockMoves.{RwLockActsMove, RwLockLateMove, R
 ghost use Rattle.lot_rwlock.specs.RwLockOpenings.{RwLockCallsOpen};
 ghost use Rattle.lot_rwlock.specs.RwLockDeeds.{RwLockOwnersFollow, RwLockSectionsFollow, RwLockStepsCode, RwLockStepsFollow};
 
-/// Each step on the word of a reader-writer lock may do to the lock what its deeds say, and its next place says what the thread does then.
+/// Each step on the word of a reader-writer lock may do to the lock what its deeds say, and its
+/// next place says what the thread does then.
 pub fn rwlock_steps_follow()
     ensures { RwLockStepsFollow }
 {}
@@ -25,8 +26,8 @@ pub fn rwlock_sections_follow()
     ensures { RwLockSectionsFollow }
 {}
 
-/// Each step on the word of a reader-writer lock makes of its call what its next row says, the call is made of the step's case, and
-/// its answer is true.
+/// Each step on the word of a reader-writer lock makes of its call what its next row says, the call
+/// is made of the step's case, and its answer is true.
 pub fn rwlock_steps_tell()
     ensures { RwLockStepsTell }
 {}
@@ -41,7 +42,8 @@ pub fn rwlock_calls_stand()
     ensures { RwLockCallsStand }
 {}
 
-/// Where a thread looks at the word once more, its row is the same, and its call stands where it may.
+/// Where a thread looks at the word once more, its row is the same, and its call stands where it
+/// may.
 pub fn rwlock_looks_stand()
     ensures { RwLockLooksStand }
 {}
@@ -51,12 +53,14 @@ pub fn rwlock_sleepers_hear()
     ensures { RwLockSleepersHear }
 {}
 
-/// Each step takes its thread into the sections and lines of the lock, out of them, and into hands as its act says.
+/// Each step takes its thread into the sections and lines of the lock, out of them, and into hands
+/// as its act says.
 pub fn rwlock_acts_move()
     ensures { RwLockActsMove }
 {}
 
-/// Who stands in a line sleeps there or is inside its section; who is taken is in a hand, and who is woken in none.
+/// Who stands in a line sleeps there or is inside its section; who is taken is in a hand, and who
+/// is woken in none.
 pub fn rwlock_sleepers_move()
     ensures { RwLockSleepersMove }
 {}
@@ -66,7 +70,8 @@ pub fn rwlock_late_moves()
     ensures { RwLockLateMove }
 {}
 
-/// A call begins where it may stand, nowhere in the sections and lines of the lock, and has done nothing.
+/// A call begins where it may stand, nowhere in the sections and lines of the lock, and has done
+/// nothing.
 pub fn rwlock_calls_open()
     ensures { RwLockCallsOpen }
 {}

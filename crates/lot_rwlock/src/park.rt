@@ -133,7 +133,8 @@ pub(super) fn park_act(
     }
 }
 
-/// Whether a thread that leaves nobody in a queue, or somebody, clears its parked bit: that of the second queue always.
+/// Whether a thread that leaves nobody in a queue, or somebody, clears its parked bit: that of the
+/// second queue always.
 pub(super) fn clears(line: Line, none_left: bool) -> bool
     ensures { result ≡ clears line none_left }
 {

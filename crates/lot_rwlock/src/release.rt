@@ -8,7 +8,8 @@
 //! | `Clear` | clears the parked bit of the queue | `Leave` |
 //! | `Leave` | leaves the section and wakes whom it has taken | ends |
 //!
-//! The last reader wakes the writer aside, where one may stand there; every other release, and every downgrade, those in the main queue.
+//! The last reader wakes the writer aside, where one may stand there; every other release, and
+//! every downgrade, those in the main queue.
 ghost use Rattle.std.specs.Prelude.{◌≡◌, ◌<◌, ◌^◌};
 ghost use Rattle.lot_base.specs.Keys.{key_of};
 ghost use Rattle.lot_rwlock.specs.RwLockSteps.{wakes, wakes_or_ends, gave_way, whom, wake_act, took, wake_next};
@@ -111,7 +112,8 @@ pub(super) fn wake_act(
     }
 }
 
-/// Behind a take: where nobody is left in the main queue, and always in the second, the parked bit goes.
+/// Behind a take: where nobody is left in the main queue, and always in the second, the parked bit
+/// goes.
 fn took(line: Line, any: bool, none_left: bool) -> WakeAt
     ensures { result ≡ took line any none_left }
 {

@@ -13,7 +13,7 @@ use Rattle.lot_calls.specs.declared.calls.Patience.TheVariants.{Patient}
 use Rattle.lot_acts.specs.declared.acts.Act.TheVariants as act
 use Rattle.lot_acts.specs.Acts.{takes_effect}
 use Rattle.lot_acts.specs.Moves.{bit_left, claim_handed, heir_of}
-use Rattle.abstract_locks.specs.Locks.{LockState, Rules, Queued, Leave, HandOff, Owns, IsTaken, HasTakenNobody, IsSuccessor, count, handed, readers, without_owner}
+use Rattle.abstract_locks.specs.Locks.{LockState, Rules, Queued, Leave, Owns, IsTaken, HasTakenNobody, count, handed, readers}
 use Rattle.abstract_locks.specs.Locks as locks
 use Rattle.abstract_locks.specs.Sites.{Site, IsSite, Doing, Has, HasClaim, Case, Deed, counts, counts_taken}
 use Rattle.abstract_locks.specs.Codes.{TellsTrue, code, count_in, has_parked}

@@ -1,4 +1,5 @@
--- Where the thread of a fair release, of a bump, or one that was handed the lock may stand, and what it may hear.
+-- Where the thread of a fair release, of a bump, or one that was handed the lock may stand, and
+-- what it may hear.
 use Rattle.std.specs.Prelude.{ℕ, Bool, true, false, Option, Some, None, ◌≡◌, ◌<◌, ◌+◌, length}
 use Rattle.lot_base.specs.declared.keys.Line.TheVariants.{Main}
 use Rattle.lot_base.specs.declared.wants.Want.{Want}
@@ -37,7 +38,8 @@ IsOfBump (purpose.Enter x Patient) retries = Unit {0}
 IsOfBump (purpose.Release access.Shared) retries = retries ≡ false
 IsOfBump q retries = ⊥
 
--- an exclusive owner tries the word that tells of nobody else, and hands over whatever it takes; an upgradable one looks; who sees nobody wait enters no section
+-- an exclusive owner tries the word that tells of nobody else, and hands over whatever it takes; an
+-- upgradable one looks; who sees nobody wait enters no section
 abbrev pub HandsOverAt : Access → HandOverAt → Type 0
 HandsOverAt access.Shared to = ⊥
 HandsOverAt access.Exclusive (handing.Free seen) = seen ≡ 8
@@ -66,7 +68,8 @@ CallStandsNext a (next.At c) = CallStands a c
 CallStandsNext a (next.End answer) = Unit {0}
 
 -- a thread that is there stands at a place of a call of the lock, where it may
-pub record IsInCall (r : Rules) (a : Admission) (s : Site) (t : ℕ) (c : RwLockCallPlace) : Type 0 where
+pub record IsInCall (r : Rules) (a : Admission) (s : Site) (t : ℕ)
+    (c : RwLockCallPlace) : Type 0 where
   pub admits : Admits r a
   pub site : IsSite r s
   pub doing : s.doing t ≡ call_doing c
@@ -94,7 +97,8 @@ pub record HasInHand (s : LockState) (t : ℕ) (k : Taken) (whom : Option ℕ) :
 
 abbrev pub MayHearHanding : Rules → Site → ℕ → HandOverAt → Option ℕ → Reply → Type 0
 MayHearHanding r s t handing.Enter whom reply.Done = IsFree s Main
-MayHearHanding r s t handing.Take whom (reply.Picked n y none_left) = MayTake r s None Main whom none_left
+MayHearHanding r s t handing.Take whom (reply.Picked n y none_left) =
+    MayTake r s None Main whom none_left
 MayHearHanding r s t (handing.Leave any handed) whom reply.Done = s.lock.taken t ≡ None
 MayHearHanding r s t to whom told = ⊥
 

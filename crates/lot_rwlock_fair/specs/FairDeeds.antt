@@ -1,4 +1,5 @@
--- The steps of fair releases and bumps, told by what a thread does about the abstract lock: what each place is, and the deeds of each step.
+-- The steps of fair releases and bumps, told by what a thread does about the abstract lock: what
+-- each place is, and the deeds of each step.
 use Rattle.std.specs.Prelude.{ℕ, Bool, true, false, Option, Some, None, if◌then◌else◌, ◌==◌, not, List, [], ◌∷◌}
 use Rattle.lot_base.specs.declared.keys.Line.TheVariants.{Main}
 use Rattle.lot_base.specs.declared.wants.Want.{Want}
@@ -39,7 +40,8 @@ hand_over_doing x handing.Take = within Main None (Some (Has x))
 hand_over_doing x (handing.Store k) = holding x k
 hand_over_doing x (handing.Look k) = holding x k
 hand_over_doing x (handing.Exchange k seen) = holding x k
-hand_over_doing x (handing.Leave any handed) = record idle { inside = Some Main; carries = true; covers = not handed }
+hand_over_doing x (handing.Leave any handed) =
+    record idle { inside = Some Main; carries = true; covers = not handed }
 hand_over_doing x to = at_rest None (Some (Has x))
 
 -- what a thread has that was handed the lock
@@ -61,7 +63,8 @@ call_doing_next (next.End answer) = idle
 
 -- ---------------------------------------------------------------- the deeds of each step
 
--- An operation inside the section sets the parked bit anew. Who succeeds is no part of a place: `whom`.
+-- An operation inside the section sets the parked bit anew. Who succeeds is no part of a place:
+-- `whom`.
 abbrev pub hands_over : Want → Taken → Option ℕ → List Deed
 hands_over x k whom = Case (HandOff x (heir_of whom k.successor)) ∷ bit_left k.none_left ∷ []
 
@@ -78,7 +81,8 @@ freed_deeds x b true = does_and_wakes b (Case (Leave x))
 freed_deeds x b false = []
 
 abbrev pub hand_over_deeds : Admission → Want → Bool → HandOverAt → Option ℕ → Reply → List Deed
-hand_over_deeds a x b (handing.Free expected) whom (reply.Value seen) = freed_deeds x b (seen == expected)
+hand_over_deeds a x b (handing.Free expected) whom (reply.Value seen) =
+    freed_deeds x b (seen == expected)
 hand_over_deeds a x b handing.Enter whom reply.Done = In Main ∷ []
 hand_over_deeds a x b handing.Take whom (reply.Picked n y none_left) = Case (TakePicked None) ∷ []
 hand_over_deeds a x b (handing.Store k) whom (reply.Value seen) = hands_over x k whom

@@ -1,5 +1,5 @@
--- What a fair release, or a bump, of more than a shared right makes of those whom it takes: all of them have what they waited for in one step, or,
--- where the limit would be passed, none of them.
+-- What a fair release, or a bump, of more than a shared right makes of those whom it takes: all of
+-- them have what they waited for in one step, or, where the limit would be passed, none of them.
 use Rattle.std.specs.Prelude.{ℕ, Bool, true, false, Option, Some, None, ◌≡◌, ◌≢◌, ◌<◌, ◌≤◌, ◌⊎◌, [], length}
 use Rattle.lot_base.specs.declared.ops.Op.{Op}
 use Rattle.lot_base.specs.declared.wants.Want.{Want}
@@ -27,9 +27,11 @@ IsToGive purpose released y = ⊥
 abbrev pub HasGot : LockState → ℕ → Want → Type 0
 HasGot s u x =
     Owns s u x
-    ⊎ ((x ≡ Exclusive) × (s.pending ≡ Some (record { thread = u; falls_back = false })) × (1 ≤ readers s))
+    ⊎ ((x ≡ Exclusive) × (s.pending ≡ Some (record { thread = u; falls_back = false }))
+    × (1 ≤ readers s))
 
--- from s to s2 everybody whom it had taken gets what it waited for; it had taken somebody, or nobody waits
+-- from s to s2 everybody whom it had taken gets what it waited for; it had taken somebody, or
+-- nobody waits
 pub record GivesToAll (s s2 : LockState) (t : ℕ) : Type 0 where
   pub all : (u : ℕ) (x : Want) → IsTaken s t u x → u < length s.shared → HasGot s2 u x
   pub some : ((u : ℕ) × ((x : Want) × IsTaken s t u x)) ⊎ (s.queue ≡ [])
@@ -38,16 +40,20 @@ pub record GivesToAll (s s2 : LockState) (t : ℕ) : Type 0 where
 abbrev pub LetsGo : LockState → ℕ → ℕ → Type 0
 LetsGo s word t = HasTakenNobody s t × (has_parked word ≡ false)
 
--- those whom it has taken of an upgradable right would pass the limit: they stay in its hand, and it wakes them
+-- those whom it has taken of an upgradable right would pass the limit: they stay in its hand, and
+-- it wakes them
 abbrev pub WakesThem : Rules → LockState → LockState → ℕ → Want → Type 0
 WakesThem r s s2 t x =
     (x ≡ Upgradable) × (s2.taken ≡ s.taken)
-    × ((successor : Option Queued) × (IsSuccessor s t successor × (r.limit < count (handed t Upgradable successor s))))
+    × ((successor : Option Queued)
+    × (IsSuccessor s t successor × (r.limit < count (handed t Upgradable successor s))))
 
--- a step of an owner on the word; who is the one that wants more, if anybody, is no part of its place
+-- a step of an owner on the word; who is the one that wants more, if anybody, is no part of its
+-- place
 abbrev pub FairReleasesGive : Type 0
 FairReleasesGive =
-    (r : Rules) (a : Admission) (s : Site) (t l : ℕ) (c : RwLockCallPlace) (op : Op) (whom : Option ℕ) (x : Want) → IsInCall r a s t c
+    (r : Rules) (a : Admission) (s : Site) (t l : ℕ) (c : RwLockCallPlace) (op : Op)
+    (whom : Option ℕ) (x : Want) → IsInCall r a s t c
     → s.lock.taken t ≡ None → ((k : Taken) → in_hand_of c ≡ Some k → HasInHand s.lock t k whom)
     → IsToGive ((call_profile a c).purpose l) (call_profile a c).released x → x ≢ Shared
     → (call_act l a c ≡ act.Word l op) ⊎ (call_act l a c ≡ act.HandOver l op)

@@ -1,4 +1,5 @@
--- Where each step of a fair release and of a bump takes its thread in the machine, and where those go who are handed the lock.
+-- Where each step of a fair release and of a bump takes its thread in the machine, and where those
+-- go who are handed the lock.
 use Rattle.std.specs.Prelude.{ℕ, Bool, true, false, Some, None, ◌≡◌, ◌⊎◌}
 use Rattle.lot_base.specs.declared.keys.Keys.TheVariants.{One}
 use Rattle.lot_base.specs.declared.keys.Line.{Line}
@@ -32,13 +33,16 @@ call_move a c = record {
 -- the step that hands over does so as its act says
 abbrev pub HandOversMove : Type 0
 HandOversMove =
-    (l k : ℕ) (a : Admission) (c : RwLockCallPlace) (op : Op) (taken : Taken) → CallStands a c → in_hand_of c ≡ Some taken
+    (l k : ℕ) (a : Admission) (c : RwLockCallPlace) (op : Op) (taken : Taken) → CallStands a c
+    → in_hand_of c ≡ Some taken
     → call_act l a c ≡ act.HandOver k op
     → (k ≡ l) × Hands (call_move a c) op
 
--- who is in a hand, and has nothing of the lock yet, may be handed it; and whoever was handed it has it from its wake on
+-- who is in a hand, and has nothing of the lock yet, may be handed it; and whoever was handed it
+-- has it from its wake on
 pub record IsMoved (a : Admission) (c : RwLockCallPlace) : Type 0 where
-  pub given : (u : ℕ) (alone : Bool) (x : Want) → (call_profile a c).hand ≡ hand u false → (call_profile a c).doing.claims ≡ None
+  pub given : (u : ℕ) (alone : Bool) (x : Want) → (call_profile a c).hand ≡ hand u false
+      → (call_profile a c).doing.claims ≡ None
       → (call_profile a c).wants ≡ Some x → IsGiven (call_move a c) u x alone
   pub was_given : (u : ℕ) → (call_profile a c).hand ≡ hand u true → WasGiven (call_move a c) u
 
@@ -51,11 +55,13 @@ HandedMove = (a : Admission) (c : RwLockCallPlace) → CallStands a c → IsMove
 abbrev pub call_hears : Admission → RwLockCallPlace → Hears
 call_hears a c r s t whom told = CallMayHear r a s t c whom told
 
--- by its act, as in any call; or it hands a right over, tells so to those who have it, or ends a call that was handed it
+-- by its act, as in any call; or it hands a right over, tells so to those who have it, or ends a
+-- call that was handed it
 abbrev pub CallMoves : ℕ → Bool → Move → Hears → Act → Type 0
 CallMoves l recursive x hears (act.HandOver k op) = (k ≡ l) × Hands x op
 CallMoves l recursive x hears (act.Leave keys wakes) =
-    Moves l recursive x hears (act.Leave keys wakes) ⊎ ((keys ≡ One (key_of l Main)) × TellsHanded x hears wakes)
+    Moves l recursive x hears (act.Leave keys wakes)
+    ⊎ ((keys ≡ One (key_of l Main)) × TellsHanded x hears wakes)
 CallMoves l recursive x hears act.Accept = Accepts x hears
 CallMoves l recursive x hears act = Moves l recursive x hears act
 
@@ -67,16 +73,21 @@ FairActsMove =
 
 -- ---------------------------------------------------------------- what befalls a thread asleep
 
--- who stands in a line sleeps there or is inside its section, only a pending writer stands aside, and who is in a hand is so to be woken until it is handed the lock
+-- who stands in a line sleeps there or is inside its section, only a pending writer stands aside,
+-- and who is in a hand is so to be woken until it is handed the lock
 pub record CallWaits (x : Move) : Type 0 where
-  pub aside : x.row.stands ≡ Some Second → (x.row.wants ≡ Some Exclusive) × ((falls_back : Bool) × (x.row.doing.claims ≡ Some (Pends falls_back)))
+  pub aside : x.row.stands ≡ Some Second
+      → (x.row.wants ≡ Some Exclusive)
+      × ((falls_back : Bool) × (x.row.doing.claims ≡ Some (Pends falls_back)))
   pub stands : (m : Line) → x.row.stands ≡ Some m → ((station_of x).inside ≡ Some m) ⊎ Sleeps x m
   pub held : (u : ℕ) → x.row.hand ≡ hand u false → IsHeld x u
 
 abbrev pub FairSleepersMove : Type 0
-FairSleepersMove = (a : Admission) (c : RwLockCallPlace) → CallStands a c → CallWaits (call_move a c)
+FairSleepersMove = (a : Admission) (c : RwLockCallPlace) → CallStands a c
+    → CallWaits (call_move a c)
 
 -- into the section of its line, where its time is up
 abbrev pub FairLateMove : Type 0
 FairLateMove =
-    (a : Admission) (c : RwLockCallPlace) (m : Line) → call_late_line c ≡ Some m → GoesIn (call_move a c) (call_hears a c) m Late
+    (a : Admission) (c : RwLockCallPlace) (m : Line) → call_late_line c ≡ Some m
+    → GoesIn (call_move a c) (call_hears a c) m Late

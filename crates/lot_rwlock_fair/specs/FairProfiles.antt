@@ -1,4 +1,5 @@
--- What each place of a fair release, of a bump, and of those to whom they hand the lock says of its thread.
+-- What each place of a fair release, of a bump, and of those to whom they hand the lock says of its
+-- thread.
 use Rattle.std.specs.Prelude.{ℕ, Bool, true, false, Option, Some, None, if◌then◌else◌}
 use Rattle.lot_base.specs.declared.keys.Line.{Line}
 use Rattle.lot_base.specs.declared.keys.Line.TheVariants.{Main}
@@ -101,7 +102,8 @@ before_handed bumps x c l rights =
 abbrev pub call_profile : Admission → RwLockCallPlace → Profile
 call_profile a (Plain p) = rwlock_profile a p
 call_profile a (Bump p) = bumping p.purpose (rwlock_profile a p)
-call_profile a (Glance x) = record blank { doing = call_doing (Glance x); purpose = λ l. Bumps l (wanted x) }
+call_profile a (Glance x) =
+    record blank { doing = call_doing (Glance x); purpose = λ l. Bumps l (wanted x) }
 call_profile a (HandOver x b to) = record blank {
   doing = call_doing (HandOver x b to);
   carries = carries_handing to;

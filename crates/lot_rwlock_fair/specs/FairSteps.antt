@@ -1,4 +1,5 @@
--- The steps of fair releases and bumps, and of those to whom they hand the lock: what a thread does at each place, and where each reply leads it.
+-- The steps of fair releases and bumps, and of those to whom they hand the lock: what a thread does
+-- at each place, and where each reply leads it.
 use Rattle.std.specs.Prelude.{ℕ, Bool, true, false, Option, Some, None, if◌then◌else◌, ◌==◌, ◌&&◌, ◌||◌, not, ◌+◌, ◌-◌, ◌*◌, ◌%◌, ◌^◌, nat_le}
 use Rattle.lot_base.specs.declared.keys.Keys.TheVariants.{One}
 use Rattle.lot_base.specs.declared.notes.Note as note
@@ -95,7 +96,8 @@ looked seen = if has_parked seen then handing.Enter else handing.Free seen
 -- where there is room the lock is handed over, and else the right is only given up
 abbrev pub exchange_act : ℕ → ℕ → Access → Taken → ℕ → Act
 exchange_act l limit x k seen =
-    if has_room limit k seen then act.HandOver l (op.TheVariants.Exchange seen (with_taken x k seen))
+    if has_room limit k seen
+    then act.HandOver l (op.TheVariants.Exchange seen (with_taken x k seen))
     else act.Word l (op.TheVariants.Exchange seen (parked_as k.none_left (without x seen)))
 
 abbrev pub note_of : Bool → note.Note
@@ -106,10 +108,12 @@ hand_over_act l a x handing.Load = act.Word l op.TheVariants.Load
 hand_over_act l a x (handing.Free seen) = exchange l seen (without x seen)
 hand_over_act l a x handing.Enter = act.Enter (One (2 * l))
 hand_over_act l a x handing.Take = act.Take (2 * l) (whom.TheVariants.Picked None a.recursive)
-hand_over_act l a x (handing.Store k) = act.HandOver l (op.TheVariants.Store (parked_as k.none_left (tokens k)))
+hand_over_act l a x (handing.Store k) =
+    act.HandOver l (op.TheVariants.Store (parked_as k.none_left (tokens k)))
 hand_over_act l a x (handing.Look k) = act.Word l op.TheVariants.Load
 hand_over_act l a x (handing.Exchange k seen) = exchange_act l a.limit x k seen
-hand_over_act l a x (handing.Leave any handed) = act.Leave (One (2 * l)) (wakes_taken any (note_of handed))
+hand_over_act l a x (handing.Leave any handed) =
+    act.Leave (One (2 * l)) (wakes_taken any (note_of handed))
 
 -- its exchange found another value
 abbrev pub freed_next : Access → ℕ → HandOverAt
@@ -127,10 +131,12 @@ hand_over_next a x b (handing.Free expected) (Value seen) =
 hand_over_next a x b handing.Enter Done = At (HandOver x b handing.Take)
 hand_over_next a x b handing.Take (Picked n y none_left) =
     At (HandOver x b (took x (record { sharers = n; successor = y; none_left = none_left })))
-hand_over_next a x b (handing.Store k) (Value seen) = At (HandOver x b (handing.Leave (any_taken k) true))
+hand_over_next a x b (handing.Store k) (Value seen) =
+    At (HandOver x b (handing.Leave (any_taken k) true))
 hand_over_next a x b (handing.Look k) (Value seen) = At (HandOver x b (handing.Exchange k seen))
 hand_over_next a x b (handing.Exchange k expected) (Value seen) =
-    if seen == expected then At (HandOver x b (handing.Leave (any_taken k) (has_room a.limit k seen)))
+    if seen == expected then At
+    (HandOver x b (handing.Leave (any_taken k) (has_room a.limit k seen)))
     else At (HandOver x b (handing.Exchange k seen))
 hand_over_next a x b (handing.Leave any handed) Done = released x b
 hand_over_next a x b to reply = At (HandOver x b to)
@@ -144,7 +150,8 @@ gives_up to seen = false
 
 -- ---------------------------------------------------------------- bumps
 
--- who shares gives its right up where a writer stands in the way of others, and an owner who has more where somebody may wait
+-- who shares gives its right up where a writer stands in the way of others, and an owner who has
+-- more where somebody may wait
 abbrev pub gives_way : Admission → Access → ℕ → Bool
 gives_way a access.Shared seen = has_writer seen && (not a.recursive || (count_in seen == 1))
 gives_way a x seen = has_parked seen
@@ -167,7 +174,8 @@ glances a x reply = At (Glance x)
 abbrev pub handed_woken : Access → Patience → Bool → Bool → RwLockCallPlace
 handed_woken access.Exclusive how b alone =
     if alone then Handed access.Exclusive how b handed.Accept
-    else entering b (record { purpose = purpose.Enter access.Exclusive how; retries = false; at = at.Look })
+    else entering b (record
+    { purpose = purpose.Enter access.Exclusive how; retries = false; at = at.Look })
 handed_woken x how b alone = Handed x how b handed.Accept
 
 abbrev pub accept_act : ℕ → Access → Act
@@ -179,14 +187,16 @@ handed_act l x (handed.Asleep by alone) = act.Sleep
 handed_act l x handed.Accept = accept_act l x
 
 abbrev pub handed_next : Access → Patience → Bool → HandedAt → Reply → Next RwLockCallPlace
-handed_next x how b (handed.Asleep by alone) (Woken note.TheVariants.HandOff) = At (handed_woken x how b alone)
+handed_next x how b (handed.Asleep by alone) (Woken note.TheVariants.HandOff) =
+    At (handed_woken x how b alone)
 handed_next x how b handed.Accept Done = End (entered how)
 handed_next x how b handed.Accept (Value seen) = End (entered how)
 handed_next x how b to reply = At (Handed x how b to)
 
 -- in the main queue, or taken of it
 abbrev pub handed_by : Bool → RwLockPurpose → RwLockAt → ℕ → Bool → Option RwLockCallPlace
-handed_by b (purpose.Enter x how) (at.Park (parking.Taken u)) by alone = Some (Handed x how b (handed.Asleep by alone))
+handed_by b (purpose.Enter x how) (at.Park (parking.Taken u)) by alone =
+    Some (Handed x how b (handed.Asleep by alone))
 handed_by b q to by alone = None
 
 abbrev pub woken_with : Bool → RwLockPurpose → RwLockAt → Option RwLockCallPlace
@@ -224,8 +234,10 @@ unless_given None n = n
 unless_given (Some p) n = At p
 
 abbrev pub call_next : Admission → RwLockCallPlace → Reply → Next RwLockCallPlace
-call_next a (Plain p) reply = unless_given (given false p reply) (plain_next (rwlock_next a p reply))
-call_next a (Bump p) reply = unless_given (given true p reply) (bump_next p.purpose (rwlock_next a p reply))
+call_next a (Plain p) reply =
+    unless_given (given false p reply) (plain_next (rwlock_next a p reply))
+call_next a (Bump p) reply =
+    unless_given (given true p reply) (bump_next p.purpose (rwlock_next a p reply))
 call_next a (Glance x) reply = glances a x reply
 call_next a (HandOver x b to) reply = hand_over_next a x b to reply
 call_next a (Handed x how b to) reply = handed_next x how b to reply
@@ -237,7 +249,8 @@ without_owned access.Shared o = o
 without_owned access.Upgradable o = record o { upgradable = None }
 without_owned access.Exclusive o = record o { exclusive = None }
 
--- who owns the lock after an operation on its word that saw this value, but for those to whom it hands the lock
+-- who owns the lock after an operation on its word that saw this value, but for those to whom it
+-- hands the lock
 abbrev pub call_owners : Admission → RwLockCallPlace → ℕ → ℕ → Owners → Owners
 call_owners a (Plain p) t seen o = rwlock_owners a p t seen o
 call_owners a (Bump p) t seen o = rwlock_owners a p t seen o

@@ -54,7 +54,8 @@ impl RwLockCallPlace {
     }
 }
 
-/// Whether a thread has the right that a call needs, of a lock with these owners, which it shares so many times.
+/// Whether a thread has the right that a call needs, of a lock with these owners, which it shares
+/// so many times.
 pub fn call_right(call: RwLockCall, thread: usize, owners: Owners, shares: usize) -> bool
     ensures { result ≡ call_right call thread owners shares }
 {

@@ -64,7 +64,8 @@ impl HandOverAt {
         }
     }
 
-    /// Whether somebody may wait for the thread: from the step that saw so until it leaves the section.
+    /// Whether somebody may wait for the thread: from the step that saw so until it leaves the
+    /// section.
     pub(super) fn owes(self) -> bool
         ensures { result ≡ owes_handing self }
     {

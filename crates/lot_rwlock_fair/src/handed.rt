@@ -16,7 +16,8 @@ use lot_rwlock::{RwLockAt, RwLockPlace, RwLockPurpose};
 
 #[derive(Clone, Copy, Debug, PartialEq, Eq)]
 pub enum HandedAt {
-    /// The thread that took it has handed it the lock, and has not left its section yet. Whether nobody shared the lock then.
+    /// The thread that took it has handed it the lock, and has not left its section yet. Whether
+    /// nobody shared the lock then.
     Asleep { by: usize, alone: bool },
     Accept,
 }

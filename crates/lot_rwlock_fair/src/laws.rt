@@ -3,7 +3,8 @@ ghost use Rattle.lot_rwlock_fair.specs.FairLaws.{FairOwnersFollow, GiversKeep, C
 ghost use Rattle.lot_rwlock_fair.specs.FairGives.{FairReleasesGive};
 ghost use Rattle.lot_rwlock_fair.specs.FairMoves.{FairActsMove, FairLateMove, FairSleepersMove, HandOversMove, HandedMove};
 
-/// Each step on the word may do to the lock what its deeds say, and its next place says what the thread does then.
+/// Each step on the word may do to the lock what its deeds say, and its next place says what the
+/// thread does then.
 pub fn fair_steps_follow()
     ensures { FairStepsFollow }
 {}
@@ -13,7 +14,8 @@ pub fn fair_steps_code()
     ensures { FairStepsCode }
 {}
 
-/// The step that hands the lock over to all whom the thread has in hand may do to the lock what its deeds say.
+/// The step that hands the lock over to all whom the thread has in hand may do to the lock what its
+/// deeds say.
 pub fn hand_overs_follow()
     ensures { HandOversFollow }
 {}
@@ -43,12 +45,14 @@ pub fn fair_calls_stand()
     ensures { FairCallsStand }
 {}
 
-/// A call begins where it may stand, nowhere in the sections and lines of the lock, and claims a right that its thread has.
+/// A call begins where it may stand, nowhere in the sections and lines of the lock, and claims a
+/// right that its thread has.
 pub fn calls_open()
     ensures { CallsOpen }
 {}
 
-/// The step that hands the lock over makes of its call what its next row says, and the call is made of that case.
+/// The step that hands the lock over makes of its call what its next row says, and the call is made
+/// of that case.
 pub fn hand_overs_tell()
     ensures { HandOversTell }
 {}
@@ -63,27 +67,32 @@ pub fn fair_sections_tell()
     ensures { FairSectionsTell }
 {}
 
-/// What befalls a thread asleep makes of its call what its row says; whoever is handed the lock has what it wants.
+/// What befalls a thread asleep makes of its call what its row says; whoever is handed the lock has
+/// what it wants.
 pub fn fair_sleepers_hear()
     ensures { FairSleepersHear }
 {}
 
-/// Where a thread looks at the word once more, its row is the same, and its call stands where it may.
+/// Where a thread looks at the word once more, its row is the same, and its call stands where it
+/// may.
 pub fn fair_looks_stand()
     ensures { FairLooksStand }
 {}
 
-/// The step that hands the lock over does so as its act says: all whom the thread has in hand are handed it.
+/// The step that hands the lock over does so as its act says: all whom the thread has in hand are
+/// handed it.
 pub fn hand_overs_move()
     ensures { HandOversMove }
 {}
 
-/// Each step takes its thread into the sections and lines of the lock, out of them, and into hands as its act says.
+/// Each step takes its thread into the sections and lines of the lock, out of them, and into hands
+/// as its act says.
 pub fn fair_acts_move()
     ensures { FairActsMove }
 {}
 
-/// Who stands in a line sleeps there or is inside its section; who is taken is in a hand, and who is woken in none.
+/// Who stands in a line sleeps there or is inside its section; who is taken is in a hand, and who
+/// is woken in none.
 pub fn fair_sleepers_move()
     ensures { FairSleepersMove }
 {}
@@ -103,13 +112,15 @@ pub fn fair_owners_follow()
     ensures { FairOwnersFollow }
 {}
 
-/// A hand-over leaves the owners of the lock without the right that it gives up, before the others have theirs.
+/// A hand-over leaves the owners of the lock without the right that it gives up, before the others
+/// have theirs.
 pub fn givers_keep()
     ensures { GiversKeep }
 {}
 
-/// A fair release, or a bump, of more than a shared right gives the lock to all whom it has taken in one step, or lets it go where nobody waits;
-/// where the limit would be passed they stay in its hand, to be woken.
+/// A fair release, or a bump, of more than a shared right gives the lock to all whom it has taken
+/// in one step, or lets it go where nobody waits; where the limit would be passed they stay in its
+/// hand, to be woken.
 pub fn fair_releases_give()
     ensures { FairReleasesGive }
 {}

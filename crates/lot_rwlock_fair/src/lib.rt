@@ -1,4 +1,5 @@
-//! The steps of fair releases and of bumps of a reader-writer lock, and of those to whom they hand the lock.
+//! The steps of fair releases and of bumps of a reader-writer lock, and of those to whom they hand
+//! the lock.
 #![tactic(auto)]
 
 pub mod begin;

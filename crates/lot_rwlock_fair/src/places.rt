@@ -1,6 +1,7 @@
 //! Where a thread stands in any call of a reader-writer lock.
 //!
-//! A bump looks whether anybody waits, releases its right fairly where somebody does, and enters again.
+//! A bump looks whether anybody waits, releases its right fairly where somebody does, and enters
+//! again.
 ghost use Rattle.std.specs.Prelude.{ℕ, ◌≡◌, ◌<◌, ◌^◌};
 ghost use Rattle.lot_acts.specs.Acts.{outcome_of};
 ghost use Rattle.lot_rwlock_fair.specs.FairSteps.{entering, enters_again, call_act, call_next, gives_way, gives_up_at, glance_next, given, plain_next, bump_next, call_owners, call_shares};
@@ -202,8 +203,8 @@ impl RwLockCallPlace {
         }
     }
 
-    /// Who owns the lock after the thread's operation on the word, which saw this value, but for those to whom it hands the
-    /// lock; the number of its shared rights stands apart.
+    /// Who owns the lock after the thread's operation on the word, which saw this value, but for
+    /// those to whom it hands the lock; the number of its shared rights stands apart.
     pub fn owners_after(
         self,
         admission: Admission,

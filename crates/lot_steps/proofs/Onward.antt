@@ -1,7 +1,6 @@
 -- What is done where a step leads.
 use Rattle.std.proofs.Common.{◌≡◌, ◌≢◌, refl}
 use Rattle.lot_calls.specs.declared.outcomes.Answer.{Answer}
-use Rattle.lot_acts.specs.declared.acts.Act.{Act}
 use Rattle.lot_acts.specs.declared.acts.Act as act
 use Rattle.lot_acts.specs.declared.acts.Next.{Next}
 use Rattle.lot_acts.specs.declared.acts.Next.TheVariants.{At, End}

@@ -39,7 +39,8 @@ first_place kind (call.TheVariants.RwLock lock c) = RwLock lock (admission_of ki
 first_place kind (call.TheVariants.Once lock c) = Once lock (once_first c)
 first_place kind (call.TheVariants.Condvar lock c) = Condvar lock (condvar_first c)
 
--- whether a thread has the right that a call needs, of the lock with these owners; a call of a `Once` needs none
+-- whether a thread has the right that a call needs, of the lock with these owners; a call of a
+-- `Once` needs none
 abbrev pub has_right : Call → ℕ → Owners → ℕ → Bool
 has_right (call.TheVariants.Mutex lock c) t owners shares = mutex_right c t owners
 has_right (call.TheVariants.RwLock lock c) t owners shares = call_right c t owners shares
@@ -96,7 +97,8 @@ profile_beside (Condvar lock at) = mutex_side at
 
 -- at any lock
 abbrev pub profile_at : Place → ℕ → Profile
-profile_at p lock = if calls p lock then profile p else if is_lock lock (beside_of p) then profile_beside p else blank
+profile_at p lock = if calls p lock then profile p else if is_lock lock (beside_of p)
+    then profile_beside p else blank
 
 -- this, or else that
 abbrev pub or_else : {A : Type 0} → Option A → Option A → Option A
@@ -183,7 +185,8 @@ owners_after (RwLock lock a at) t seen owners = call_owners a at t seen owners
 owners_after (Once lock at) t seen owners = once_owners at t seen owners
 owners_after (Condvar lock at) t seen owners = condvar_owners at t seen owners
 
--- how many shared rights the thread has then, where their number changes; nobody shares a mutex or a `Once`
+-- how many shared rights the thread has then, where their number changes; nobody shares a mutex or
+-- a `Once`
 abbrev pub shares_after : Place → ℕ → ℕ → Option ℕ
 shares_after Idle seen shares = None
 shares_after (Mutex lock at) seen shares = None
@@ -230,11 +233,13 @@ key_in lock m = None
 
 -- the key under which a thread sleeps in a call that may give up
 abbrev pub late_key : Place → Option ℕ
-late_key p = or_else (key_in (beside_of p) (profile_beside p).late_line) (key_in (lock_of p) (profile p).late_line)
+late_key p = or_else (key_in (beside_of p) (profile_beside p).late_line)
+    (key_in (lock_of p) (profile p).late_line)
 
 -- the line on which a thread owes a wake on a lock
 abbrev pub line_owed : Place → ℕ → Option Line
-line_owed p lock = or_else (if is_lock lock (beside_of p) then (profile_beside p).owes else None) (if calls p lock then (profile p).owes else None)
+line_owed p lock = or_else (if is_lock lock (beside_of p) then (profile_beside p).owes else None)
+    (if calls p lock then (profile p).owes else None)
 
 abbrev pub is_line : Option Line → Bool
 is_line None = false
@@ -246,4 +251,5 @@ owes_on p lock = is_line (line_owed p lock)
 
 -- a thread was woken and tries again on a lock
 abbrev pub retries_on : Place → ℕ → Bool
-retries_on p lock = (is_lock lock (beside_of p) && (profile_beside p).retries) || ((profile p).retries && calls p lock)
+retries_on p lock = (is_lock lock (beside_of p) && (profile_beside p).retries)
+    || ((profile p).retries && calls p lock)

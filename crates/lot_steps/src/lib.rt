@@ -1,6 +1,7 @@
 //! The steps of every call: what a thread does next, and where the reply leads it.
 //!
-//! A step is pure. The world of `lot_world` follows it, and so does the driver of real threads in `parking_lot`.
+//! A step is pure. The world of `lot_world` follows it, and so does the driver of real threads in
+//! `parking_lot`.
 #![tactic(auto)]
 
 pub mod places;
@@ -17,4 +18,4 @@ pub use lot_mutex::{Entry, HandOffAt, LockAt, MutexPlace, UnlockAt};
 pub use lot_once;
 pub use lot_rwlock;
 pub use lot_rwlock_fair;
-pub use places::{Place, advance, arrive, has_right};
+pub use places::{Place, advance, has_right};

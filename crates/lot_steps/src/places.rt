@@ -138,7 +138,8 @@ impl Place {
         *self = Place::Idle;
     }
 
-    /// The step of `arrive`, of a place that is kept.
+    /// The step of every call: where the reply to its act leads a thread. It answers what the thread
+    /// is told.
     pub fn arrive(&mut self, reply: Reply) -> Outcome
         ensures place { self.new ≡ next_place self.old reply }
         ensures outcome { result ≡ outcome_of (next_act self.old reply) }
@@ -195,11 +196,13 @@ impl Place {
     pub fn after(self, reply: Reply) -> Place
         ensures { result ≡ next_place self reply }
     {
-        arrive(self, reply).0
+        let mut next = self;
+        next.arrive(reply);
+        next
     }
 
-    /// Who owns the lock after the thread's operation on its word, which saw this value. Those to whom the
-    /// operation hands the lock are told so, and own it too.
+    /// Who owns the lock after the thread's operation on its word, which saw this value. Those to
+    /// whom the operation hands the lock are told so, and own it too.
     pub fn owners_after(&self, thread: usize, seen: u64, owners: Owners) -> Owners
         ensures { result ≡ owners_after self.now thread seen owners }
     {
@@ -214,8 +217,8 @@ impl Place {
         }
     }
 
-    /// How many shared rights of the lock the thread has after its operation on the word, which saw this value.
-    /// None where their number stays.
+    /// How many shared rights of the lock the thread has after its operation on the word, which saw
+    /// this value. None where their number stays.
     pub fn shares_after(&self, seen: u64, shares: usize) -> Option<usize>
         ensures { result ≡ shares_after self.now seen shares }
     {
@@ -303,8 +306,8 @@ impl Place {
         }
     }
 
-    /// Whether the thread owes a wake on a lock: from the step that saw waiters of one of its queues, or
-    /// from entering the section, until it leaves that section.
+    /// Whether the thread owes a wake on a lock: from the step that saw waiters of one of its
+    /// queues, or from entering the section, until it leaves that section.
     pub fn owes_on(&self, lock: usize) -> bool
         ensures { result ≡ owes_on self.now lock }
     {
@@ -317,8 +320,8 @@ impl Place {
         }
     }
 
-    /// Whether the thread was woken and tries again on a lock: from the wake note until it stands in
-    /// a queue again, owns what it waited for, or its call ends.
+    /// Whether the thread was woken and tries again on a lock: from the wake note until it stands
+    /// in a queue again, owns what it waited for, or its call ends.
     pub fn retries_on(&self, lock: usize) -> bool
         ensures { result ≡ retries_on self.now lock }
     {
@@ -332,7 +335,8 @@ impl Place {
     }
 }
 
-/// Whether a thread has the right that a call needs, of a lock with these owners, which it shares so many times.
+/// Whether a thread has the right that a call needs, of a lock with these owners, which it shares
+/// so many times.
 pub fn has_right(call: Call, thread: usize, owners: Owners, shares: usize) -> bool
     ensures { result ≡ has_right call thread owners shares }
 {
@@ -344,17 +348,7 @@ pub fn has_right(call: Call, thread: usize, owners: Owners, shares: usize) -> bo
     }
 }
 
-/// The step of every call: where the reply to its act leads a thread, and what the thread is told.
-pub fn arrive(place: Place, reply: Reply) -> (Place, Outcome)
-    ensures place { result.0 ≡ next_place place reply }
-    ensures outcome { result.1 ≡ outcome_of (next_act place reply) }
-{
-    let mut next = place;
-    let outcome = next.arrive(reply);
-    (next, outcome)
-}
-
-/// The same step, with what the thread does next in place of what it is told.
+/// The step of every call, with what the thread does next in place of what it is told.
 pub fn advance(place: Place, reply: Reply) -> (Place, Act)
     requires keys { HasKeys place }
     requires shown { ShowsKeys place reply }

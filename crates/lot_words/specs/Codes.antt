@@ -44,19 +44,24 @@ abbrev pub witness : Owner → ℕ
 witness Witness = 1
 witness _ = 0
 
--- LOCKED is 1, PARKED is 2: locked beside one owner, which is exclusive, whether the value is open or not
+-- LOCKED is 1, PARKED is 2: locked beside one owner, which is exclusive, whether the value is open
+-- or not
 abbrev pub IsMutexCode : ℕ → Owners → Type 0
-IsMutexCode n owners = (n < 4) × (owners everyone ≡ n % 2) × (owners exclusive + owners opened ≡ n % 2)
+IsMutexCode n owners = (n < 4) × (owners everyone ≡ n % 2)
+    × (owners exclusive + owners opened ≡ n % 2)
 
--- PARKED 1, WRITER_PARKED 2, UPGRADABLE 4, WRITER 8, and 16 for each reader. An upgradable owner is a reader too, and the
--- count has room for the one that an upgrading owner is again where it gives up
+-- PARKED 1, WRITER_PARKED 2, UPGRADABLE 4, WRITER 8, and 16 for each reader. An upgradable owner is
+-- a reader too, and the count has room for the one that an upgrading owner is again where it gives
+-- up
 abbrev pub IsRwLockCode : ℕ → Owners → Type 0
 IsRwLockCode n owners = (n / 4 ≡ 4 * (owners shared + owners upgradable)
     + 2 * (owners exclusive + owners pending + owners upgrading) + owners upgradable)
-    × (owners exclusive + owners pending + owners upgrading + owners upgradable ≤ 1) × (0 < owners exclusive → owners shared ≡ 0)
+    × (owners exclusive + owners pending + owners upgrading + owners upgradable ≤ 1)
+    × (0 < owners exclusive → owners shared ≡ 0)
     × (owners shared + owners upgradable + owners upgrading < 2 ^ 60)
 
--- DONE 1, POISON 2, LOCKED 4, PARKED 8: locked beside its one runner, and done for ever where somebody saw it done
+-- DONE 1, POISON 2, LOCKED 4, PARKED 8: locked beside its one runner, and done for ever where
+-- somebody saw it done
 abbrev pub IsOnceWord : ℕ → Type 0
 IsOnceWord n = (n ≡ 1) ⊎ ((n < 16) × ((n % 8 ≡ 0) ⊎ ((n % 8 ≡ 2) ⊎ (n % 8 ≡ 4))))
 
@@ -75,11 +80,13 @@ Codes Count n owners = Unit {0}
 abbrev pub Shows : (ℕ → Type 0) → ℕ → Type 0
 Shows is_mutex n = (n ≡ 0) ⊎ ((number : ℕ) × (n ≡ number + 1) × is_mutex number)
 
--- what a thread may find in that of this number, in a lot of so many words: it shows nothing, or a mutex of the lot beside it
+-- what a thread may find in that of this number, in a lot of so many words: it shows nothing, or a
+-- mutex of the lot beside it
 abbrev pub ShowsBeside : ℕ → ℕ → ℕ → Type 0
 ShowsBeside words condvar = Shows (λ mutex. (mutex < words) × (mutex ≢ condvar))
 
 -- a count word: 0, or the number of a thread with how often it locked the mutex
 abbrev pub IsCountCode : ℕ → Type 0
-IsCountCode n = (n ≡ 0) ⊎ ((thread : ℕ) × (times : ℕ) × (n ≡ (thread + 1) * 4294967296 + times) × (1 ≤ times)
+IsCountCode n = (n ≡ 0) ⊎
+    ((thread : ℕ) × (times : ℕ) × (n ≡ (thread + 1) * 4294967296 + times) × (1 ≤ times)
     × (times < 4294967296))

@@ -15,19 +15,25 @@ IsLook step = (step.at ≡ counter) × (apply step.op step.seen ≡ step.seen)
 
 -- steps were added which left the counter as it was, at most so many
 abbrev pub Looked : List WordStep → List WordStep → ℕ → Type 0
-Looked old new most = (more : List WordStep) × (new ≡ old ++ more) × All IsLook more × (length more ≤ most)
+Looked old new most = (more : List WordStep) × (new ≡ old ++ more) × All IsLook more
+    × (length more ≤ most)
 
 -- the last step at the counter saw this
 abbrev pub LastSaw : ℕ → List WordStep → Type 0
-LastSaw n steps = (before : List WordStep) × (op : Op) × (steps ≡ before ++ record { at = counter; op = op; seen = n } ∷ [])
+LastSaw n steps = (before : List WordStep) × (op : Op)
+    × (steps ≡ before ++ record { at = counter; op = op; seen = n } ∷ [])
 
--- from a lot of so many words, words of these kinds were drawn from a number on: the last step moved the counter past them
+-- from a lot of so many words, words of these kinds were drawn from a number on: the last step
+-- moved the counter past them
 abbrev pub IsDrawn : ℕ → List WordKind → ℕ → View → View → Type 0
-IsDrawn words kinds number old new = (number + length kinds ≤ words) × (new.drawn ≡ numbered number kinds ++ old.drawn)
+IsDrawn words kinds number old new =
+    (number + length kinds ≤ words) × (new.drawn ≡ numbered number kinds ++ old.drawn)
     × ((looked : List WordStep) × Looked old.steps looked (words + 1)
-    × (new.steps ≡ looked ++ record { at = counter; op = Exchange number (number + length kinds); seen = number } ∷ []))
+    × (new.steps ≡ looked
+    ++ record { at = counter; op = Exchange number (number + length kinds); seen = number } ∷ []))
 
 -- nothing was drawn: the last step saw that fewer words were left than are needed
 abbrev pub IsDrawRefused : ℕ → ℕ → View → View → Type 0
-IsDrawRefused words needed old new = (new.drawn ≡ old.drawn) × Looked old.steps new.steps (words + 1)
+IsDrawRefused words needed old new =
+    (new.drawn ≡ old.drawn) × Looked old.steps new.steps (words + 1)
     × ((n : ℕ) × LastSaw n new.steps × (words < n + needed))

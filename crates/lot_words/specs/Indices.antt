@@ -31,7 +31,8 @@ abbrev pub table_size : ℕ → ℕ
 table_size words = 8 * (words + 1)
 
 abbrev pub kind_of_rank : ℕ → WordKind
-kind_of_rank r = cond (r == 0) Mutex (cond (r == 1) RwLock (cond (r == 2) Condvar (cond (r == 3) Once Count)))
+kind_of_rank r = cond (r == 0) Mutex
+    (cond (r == 1) RwLock (cond (r == 2) Condvar (cond (r == 3) Once Count)))
 
 -- the kind of the word at an index
 abbrev pub word_kind_at : ℕ → WordKind

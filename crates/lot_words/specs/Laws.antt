@@ -21,12 +21,14 @@ IsAlone _ owners = Unit {0}
 
 -- in no code does an exclusive owner stand beside another owner
 abbrev pub ExclusiveIsAlone : Type 0
-ExclusiveIsAlone = (kind : WordKind) (n : ℕ) (owners : Owners) → Codes kind n owners → 0 < owners exclusive → IsAlone kind owners
+ExclusiveIsAlone = (kind : WordKind) (n : ℕ) (owners : Owners) → Codes kind n owners
+    → 0 < owners exclusive → IsAlone kind owners
 
 -- the kinds of step on a mutex's word
 pub record MutexSteps (at : ℕ) (owns : List Ownership) : Type 0 where
   pub load : MayStep Mutex at Load owns
-  pub enter : (from : ℕ) → from < 4 → from % 2 ≡ 0 → MayStep Mutex at (Exchange from (from + 1)) owns
+  pub enter : (from : ℕ) → from < 4 → from % 2 ≡ 0
+      → MayStep Mutex at (Exchange from (from + 1)) owns
   pub set_locked : MayStep Mutex at (Or 1) owns
   pub set_parked : MayStep Mutex at (Exchange 1 3) owns
   pub clear_parked : MayStep Mutex at (And 18446744073709551613) owns
@@ -37,7 +39,8 @@ pub record MutexSteps (at : ℕ) (owns : List Ownership) : Type 0 where
   pub leave : has (owning at Exclusive) owns ≡ true → MayStep Mutex at (Sub 1) owns
   -- and so does who leaves a word that nobody waits on, or stores a word in a section
   pub leave_alone : has (owning at Exclusive) owns ≡ true → MayStep Mutex at (Exchange 1 0) owns
-  pub hand_over : (m : ℕ) → m < 4 → has (owning at Exclusive) owns ≡ true → MayStep Mutex at (Store m) owns
+  pub hand_over : (m : ℕ) → m < 4 → has (owning at Exclusive) owns ≡ true
+      → MayStep Mutex at (Store m) owns
 
 -- whoever it is, it may take them
 abbrev pub MutexMaySteps : Type 0
@@ -47,7 +50,8 @@ MutexMaySteps = (at : ℕ) (owns : List Ownership) → MutexSteps at owns
 pub record RwLockSteps (at : ℕ) (owns : List Ownership) : Type 0 where
   pub load : MayStep RwLock at Load owns
   -- where no writer is there, or who waits has readers beside it, and the count has room
-  pub read : (s : ℕ) → (s / 8 % 2 ≡ 0) ⊎ (0 < s / 16) → s / 16 < 2 ^ 60 - 2 → MayStep RwLock at (Exchange s (s + 16)) owns
+  pub read : (s : ℕ) → (s / 8 % 2 ≡ 0) ⊎ (0 < s / 16) → s / 16 < 2 ^ 60 - 2
+      → MayStep RwLock at (Exchange s (s + 16)) owns
   pub write_alone : MayStep RwLock at (Exchange 0 8) owns
   pub write : (s : ℕ) → s / 4 % 4 ≡ 0 → MayStep RwLock at (Exchange s (s + 8)) owns
   pub set_parked : (s : ℕ) → s % 2 ≡ 0 → MayStep RwLock at (Exchange s (s + 1)) owns
@@ -56,16 +60,20 @@ pub record RwLockSteps (at : ℕ) (owns : List Ownership) : Type 0 where
   pub leave_exclusive : has (owning at Exclusive) owns ≡ true → MayStep RwLock at (Sub 8) owns
   pub clear_parked : MayStep RwLock at (And 18446744073709551614) owns
   pub clear_writer_parked : MayStep RwLock at (And 18446744073709551613) owns
-  pub enter_upgradable : (s : ℕ) → s / 4 % 4 ≡ 0 → s / 16 < 2 ^ 60 - 2 → MayStep RwLock at (Exchange s (s + 20)) owns
+  pub enter_upgradable : (s : ℕ) → s / 4 % 4 ≡ 0 → s / 16 < 2 ^ 60 - 2
+      → MayStep RwLock at (Exchange s (s + 20)) owns
   pub leave_upgradable : has (owning at Upgradable) owns ≡ true → MayStep RwLock at (Sub 20) owns
   pub downgrade : has (owning at Exclusive) owns ≡ true → MayStep RwLock at (Add 8) owns
   pub downgrade_upgradable : has (owning at Upgradable) owns ≡ true → MayStep RwLock at (Sub 4) owns
-  pub downgrade_to_upgradable : has (owning at Exclusive) owns ≡ true → MayStep RwLock at (Add 12) owns
+  pub downgrade_to_upgradable : has (owning at Exclusive) owns ≡ true
+      → MayStep RwLock at (Add 12) owns
   pub upgrade : has (owning at Upgradable) owns ≡ true → MayStep RwLock at (Sub 12) owns
-  pub try_upgrade : (s : ℕ) → has (owning at Upgradable) owns ≡ true → s / 16 ≡ 1 → MayStep RwLock at (Exchange s (s - 12)) owns
+  pub try_upgrade : (s : ℕ) → has (owning at Upgradable) owns ≡ true → s / 16 ≡ 1
+      → MayStep RwLock at (Exchange s (s - 12)) owns
   pub leave_alone : has (owning at Exclusive) owns ≡ true → MayStep RwLock at (Exchange 8 0) owns
   -- the store of the tokens of those who were taken
-  pub hand_over : (m : ℕ) → has (owning at Exclusive) owns ≡ true → m < 2 ^ 64 → m / 4 % 4 ≤ 2 → m / 4 ≢ 1 → m / 4 ≢ 2
+  pub hand_over : (m : ℕ) → has (owning at Exclusive) owns ≡ true → m < 2 ^ 64 → m / 4 % 4 ≤ 2
+      → m / 4 ≢ 1 → m / 4 ≢ 2
       → MayStep RwLock at (Store m) owns
   -- the exchange that adds the tokens of those who were taken, or none
   pub hand_upgradable : (s m part : ℕ) → has (owning at Upgradable) owns ≡ true → m < 2 ^ 64
@@ -81,10 +89,13 @@ RwLockMaySteps = (at : ℕ) (owns : List Ownership) → RwLockSteps at owns
 pub record OnceSteps (at : ℕ) (owns : List Ownership) : Type 0 where
   pub load : MayStep Once at Load owns
   -- LOCKED is set and POISON cleared, where nobody runs it and it isn't done
-  pub start : (s : ℕ) → s < 16 → (s % 8 ≡ 0) ⊎ (s % 8 ≡ 2) → MayStep Once at (Exchange s (s / 8 * 8 + 4)) owns
-  pub set_parked : (s : ℕ) → (s ≡ 0) ⊎ ((s ≡ 2) ⊎ (s ≡ 4)) → MayStep Once at (Exchange s (s + 8)) owns
+  pub start : (s : ℕ) → s < 16 → (s % 8 ≡ 0) ⊎ (s % 8 ≡ 2)
+      → MayStep Once at (Exchange s (s / 8 * 8 + 4)) owns
+  pub set_parked : (s : ℕ) → (s ≡ 0) ⊎ ((s ≡ 2) ⊎ (s ≡ 4))
+      → MayStep Once at (Exchange s (s + 8)) owns
   -- who runs it leaves it done or poisoned
-  pub finish : (m : ℕ) → (m ≡ 1) ⊎ (m ≡ 2) → has (owning at Runner) owns ≡ true → MayStep Once at (Swap m) owns
+  pub finish : (m : ℕ) → (m ≡ 1) ⊎ (m ≡ 2) → has (owning at Runner) owns ≡ true
+      → MayStep Once at (Swap m) owns
 
 -- whoever it is, it may take them
 abbrev pub OnceMaySteps : Type 0
@@ -108,7 +119,8 @@ OnceIsKnown = (at : ℕ) (owns : List Ownership) → OnceKnowledge at owns
 pub record CondvarSteps (at : ℕ) (owns : List Ownership) : Type 0 where
   pub load : MayStep Condvar at Load owns
   -- who owns a mutex of another number shows it, where none is shown
-  pub show : (mutex : ℕ) → at ≢ word_index mutex Condvar → has (owning (word_index mutex Mutex) Exclusive) owns ≡ true
+  pub show : (mutex : ℕ) → at ≢ word_index mutex Condvar
+      → has (owning (word_index mutex Mutex) Exclusive) owns ≡ true
       → MayStep Condvar at (Exchange 0 (mutex + 1)) owns
   pub hide : MayStep Condvar at (Store 0) owns
 
@@ -119,12 +131,16 @@ CondvarMaySteps = (at : ℕ) (owns : List Ownership) → CondvarSteps at owns
 -- the kinds of step on the count word of the mutex before it
 pub record CountSteps (mutex : ℕ) (owns : List Ownership) : Type 0 where
   pub load : MayStep Count (word_index (mutex + 1) Count) Load owns
-  -- who owns the mutex, and says this count of it, counts once more or once less, or stores another count
-  pub raise : (count : ℕ) → has (owning_with (word_index mutex Mutex) count) owns ≡ true → IsCountCode (count + 1)
+  -- who owns the mutex, and says this count of it, counts once more or once less, or stores another
+  -- count
+  pub raise : (count : ℕ) → has (owning_with (word_index mutex Mutex) count) owns ≡ true
+      → IsCountCode (count + 1)
       → MayStep Count (word_index (mutex + 1) Count) (Add 1) owns
-  pub lower : (count : ℕ) → has (owning_with (word_index mutex Mutex) (count + 1)) owns ≡ true → IsCountCode count
+  pub lower : (count : ℕ) → has (owning_with (word_index mutex Mutex) (count + 1)) owns ≡ true
+      → IsCountCode count
       → MayStep Count (word_index (mutex + 1) Count) (Sub 1) owns
-  pub store : (count m : ℕ) → has (owning_with (word_index mutex Mutex) count) owns ≡ true → IsCountCode m
+  pub store : (count m : ℕ) → has (owning_with (word_index mutex Mutex) count) owns ≡ true
+      → IsCountCode m
       → MayStep Count (word_index (mutex + 1) Count) (Store m) owns
 
 -- whoever it is, it may take them

@@ -36,13 +36,14 @@ want_of Shared = wants.TheVariants.Shared
 want_of Runner = wants.TheVariants.CallOnce
 want_of Witness = wants.TheVariants.Wait
 
--- how a word may be owned by who was handed what it wants: a reader-writer lock's writer may have to wait for the last readers
+-- how a word may be owned by who was handed what it wants: a reader-writer lock's writer may have
+-- to wait for the last readers
 abbrev pub MayHand : WordKind → wants.Want → Owner → Type 0
 MayHand RwLock wants.TheVariants.Exclusive owner = (owner ≡ Exclusive) ⊎ (owner ≡ Pending)
 MayHand _ want owner = owner ≡ owner_for want
 
--- how who is handed a lock owns it, whose word is left at this value: a mutex alone, and a reader-writer lock by what it wants,
--- where a writer waits for the readers that are left
+-- how who is handed a lock owns it, whose word is left at this value: a mutex alone, and a
+-- reader-writer lock by what it wants, where a writer waits for the readers that are left
 abbrev pub owner_given : WordKind → ℕ → wants.Want → Owner
 owner_given Mutex left _ = Exclusive
 owner_given RwLock left wants.TheVariants.Shared = Shared
@@ -63,7 +64,8 @@ piece_of word owner = piece (named_by word owner)
 abbrev pub OwnsWith : Word → ℕ → View → Type 0
 OwnsWith mutex count v = has (owning_with (word_index mutex.number Mutex) count) v.owns ≡ true
 
--- whether the permit of its value goes along with an ownership that is handed to another thread: it does with a mutex
+-- whether the permit of its value goes along with an ownership that is handed to another thread: it
+-- does with a mutex
 abbrev pub takes_permit : WordKind → Owner → Bool
 takes_permit Mutex Exclusive = true
 takes_permit _ owner = false
@@ -78,7 +80,9 @@ slots_handed at kind owner = cond (takes_permit kind owner) ((at, bare) ∷ []) 
 abbrev pub permits_handed : PermitId → WordKind → Owner → List PermitId
 permits_handed permit kind owner = cond (takes_permit kind owner) (permit ∷ []) []
 
--- what a view is behind the exchange that leaves a mutex where nobody waits, which saw this: where it missed, the mutex is owned still
+-- what a view is behind the exchange that leaves a mutex where nobody waits, which saw this: where
+-- it missed, the mutex is owned still
 abbrev pub leaving_alone : View → Word → ℕ → View
 leaving_alone v word seen = let at = word_index word.number word.kind in
-    cond (seen == 1) (stepping v at (Exchange 1 0) seen) (stepping (takes_in v (piece_of word Exclusive)) at (Exchange 1 0) seen)
+    cond (seen == 1) (stepping v at (Exchange 1 0) seen)
+    (stepping (takes_in v (piece_of word Exclusive)) at (Exchange 1 0) seen)

@@ -32,7 +32,8 @@ IsFor word want right = (right.word ≡ word) × MayHand word.kind want right.ow
 -- the ownership of a mutex of the lot, whose permit is out
 abbrev pub IsOpenOf : LotWords → Word → OpenHeld → Type 0
 IsOpenOf lot word opened =
-    IsSeatOf lot opened.seat × (opened.seat.me ≡ (piece_of word Opened, (word_index word.number word.kind, bare) ∷ []))
+    IsSeatOf lot opened.seat
+    × (opened.seat.me ≡ (piece_of word Opened, (word_index word.number word.kind, bare) ∷ []))
 
 -- the seat of a mutex's owner, whose permit lies in the slot that is out with it
 abbrev pub HasAtHand : LotWords → Word → Seat PermitSlot View → Type 0

@@ -13,8 +13,8 @@ use Rattle.lot_words.specs.declared.views.View.{View}
 use Rattle.lot_words.specs.declared.words.WordKind.{WordKind}
 use Rattle.lot_words.specs.declared.words.WordKind.TheVariants.{Mutex, Condvar, Count}
 
--- what a condition variable of this number may show, in a lot of so many words: a mutex of the lot, of another number, on which somebody
--- has stepped
+-- what a condition variable of this number may show, in a lot of so many words: a mutex of the lot,
+-- of another number, on which somebody has stepped
 abbrev pub MayBeShown : ℕ → ℕ → List View → ℕ → Type 0
 MayBeShown words number views mutex =
     (mutex < words) × (mutex ≢ number) × (0 < total (steps_at (word_index mutex Mutex)) views)
@@ -30,19 +30,25 @@ pub record LotRule (words family : ℕ) (s : State PermitSlot View) : Type 0 whe
   pub shows : (number : ℕ) → number < words
       → Shows (MayBeShown words number s.views) (slice_index s.words (word_index number Condvar))
   -- a count word is what the owner of the mutex before it says
-  pub counts : (number : ℕ) → number < words → IsCountCode (slice_index s.words (word_index number Count))
+  pub counts : (number : ℕ) → number < words
+      → IsCountCode (slice_index s.words (word_index number Count))
       × (slice_index s.words (word_index number Count)
       ≡ total (λ (v : View). counted (mutex_of_count (word_index number Count)) v.owns) s.views)
   -- what is owned is a word of the lot, and not the counter
-  pub owned : (at : ℕ) (weight : Owner → ℕ) → 0 < named at weight s.views → (0 < at) × (at < length s.words)
+  pub owned : (at : ℕ) (weight : Owner → ℕ) → 0 < named at weight s.views
+      → (0 < at) × (at < length s.words)
   -- a word on which nobody has stepped is 0
-  pub untouched : (at : ℕ) → 0 < at → at < length s.words → total (steps_at at) s.views ≡ 0 → slice_index s.words at ≡ 0
+  pub untouched : (at : ℕ) → 0 < at → at < length s.words → total (steps_at at) s.views ≡ 0
+      → slice_index s.words at ≡ 0
   -- the numbers below the counter were drawn, each once, and no other was
-  pub drawn : (weight : ℕ → ℕ) → total (drew weight) s.views ≡ total_below weight (slice_index s.words counter)
+  pub drawn : (weight : ℕ → ℕ)
+      → total (drew weight) s.views ≡ total_below weight (slice_index s.words counter)
   pub enough : slice_index s.words counter ≤ words
   -- the counter never falls
-  pub saw : (seat : ℕ) (v : View) → get_elem? s.views seat ≡ some v → v.saw ≤ slice_index s.words counter
+  pub saw : (seat : ℕ) (v : View) → get_elem? s.views seat ≡ some v
+      → v.saw ≤ slice_index s.words counter
   -- each word has a slot, and that of a mutex holds its permit, but while its value is open
   pub homes : length s.homes ≡ length s.words
   pub permits : (number : ℕ) → number < words → named (word_index number Mutex) opened s.views ≡ 0
-      → get_elem? s.homes (word_index number Mutex) ≡ some (some (slot_at family (word_index number Mutex)))
+      → get_elem? s.homes (word_index number Mutex)
+      ≡ some (some (slot_at family (word_index number Mutex)))

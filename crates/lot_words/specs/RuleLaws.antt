@@ -15,7 +15,8 @@ use Rattle.lot_words.specs.declared.words.WordKind.TheVariants.{Mutex, Once, Con
 abbrev pub times_drawn : ℕ → List View → ℕ
 times_drawn number views = total (drew (λ k. cond (k == number) 1 0)) views
 
--- the numbers below the counter were drawn, each once, and each is a word of the lot. No other number was drawn
+-- the numbers below the counter were drawn, each once, and each is a word of the lot. No other
+-- number was drawn
 abbrev pub DrawnOnce : Type 0
 DrawnOnce = (words family : ℕ) (s : State PermitSlot View) → LotRule words family s → (number : ℕ) →
     (number < slice_index s.words counter → (times_drawn number s.views ≡ 1) × (number < words))
@@ -23,28 +24,38 @@ DrawnOnce = (words family : ℕ) (s : State PermitSlot View) → LotRule words f
 
 -- the counter never falls below what a view saw of it
 abbrev pub NeverFalls : Type 0
-NeverFalls = (words family : ℕ) (s : State PermitSlot View) → LotRule words family s → (seat : ℕ) (v : View)
+NeverFalls = (words family : ℕ) (s : State PermitSlot View) → LotRule words family s
+    → (seat : ℕ) (v : View)
     → get_elem? s.views seat ≡ some v → v.saw ≤ slice_index s.words counter
 
 -- a word on which nobody stepped is 0, drawn or not
 abbrev pub UntouchedIs0 : Type 0
-UntouchedIs0 = (words family : ℕ) (s : State PermitSlot View) → LotRule words family s → (at : ℕ) → 0 < at → at < length s.words
+UntouchedIs0 = (words family : ℕ) (s : State PermitSlot View) → LotRule words family s → (at : ℕ)
+    → 0 < at → at < length s.words
     → total (steps_at at) s.views ≡ 0 → slice_index s.words at ≡ 0
 
--- a condition variable shows no mutex, or one of the lot, of another number, on which somebody stepped
+-- a condition variable shows no mutex, or one of the lot, of another number, on which somebody
+-- stepped
 abbrev pub ShownIsAMutex : Type 0
-ShownIsAMutex = (words family : ℕ) (s : State PermitSlot View) → LotRule words family s → (number : ℕ) → number < words →
+ShownIsAMutex = (words family : ℕ) (s : State PermitSlot View) → LotRule words family s
+    → (number : ℕ) → number < words →
     Shows (MayBeShown words number s.views) (slice_index s.words (word_index number Condvar))
 
--- a count word is 0, or a thread with how often it locked the mutex before, and 0 where nobody owns that
+-- a count word is 0, or a thread with how often it locked the mutex before, and 0 where nobody owns
+-- that
 abbrev pub CountsAnOwner : Type 0
-CountsAnOwner = (words family : ℕ) (s : State PermitSlot View) → LotRule words family s → (number : ℕ) → number + 1 < words →
+CountsAnOwner = (words family : ℕ) (s : State PermitSlot View) → LotRule words family s
+    → (number : ℕ) → number + 1 < words →
     IsCountCode (slice_index s.words (word_index (number + 1) Count))
-    × (named (word_index number Mutex) everyone s.views ≡ 0 → slice_index s.words (word_index (number + 1) Count) ≡ 0)
+    × (named (word_index number Mutex) everyone s.views ≡ 0
+    → slice_index s.words (word_index (number + 1) Count) ≡ 0)
 
--- at most one view runs a `Once`, and none where some view knows that it is done: the word says so then
+-- at most one view runs a `Once`, and none where some view knows that it is done: the word says so
+-- then
 abbrev pub RunsOneAtATime : Type 0
-RunsOneAtATime = (words family : ℕ) (s : State PermitSlot View) → LotRule words family s → (number : ℕ) → number < words →
+RunsOneAtATime = (words family : ℕ) (s : State PermitSlot View) → LotRule words family s
+    → (number : ℕ) → number < words →
     (named (word_index number Once) runner s.views ≤ 1)
     × (0 < named (word_index number Once) witness s.views
-    → (slice_index s.words (word_index number Once) ≡ 1) × (named (word_index number Once) runner s.views ≡ 0))
+    → (slice_index s.words (word_index number Once) ≡ 1)
+    × (named (word_index number Once) runner s.views ≡ 0))

@@ -52,7 +52,8 @@ without x (y ∷ ys) = cond (is_this y x) ys (y ∷ without x ys)
 
 abbrev pub HasAll : ℕ → List Owner → List Ownership → Type 0
 HasAll at [] owns = Unit {0}
-HasAll at (o ∷ os) owns = (has (owning at o) owns ≡ true) × HasAll at os (without (owning at o) owns)
+HasAll at (o ∷ os) owns =
+    (has (owning at o) owns ≡ true) × HasAll at os (without (owning at o) owns)
 
 abbrev pub without_all : ℕ → List Owner → List Ownership → List Ownership
 without_all at [] owns = owns
@@ -67,7 +68,8 @@ is_look Load found = true
 is_look (Exchange from to) found = not (found == from)
 is_look _ found = false
 
--- who waits for the last readers: who upgrades has subtracted, and a writer has exchanged or was handed the lock
+-- who waits for the last readers: who upgrades has subtracted, and a writer has exchanged or was
+-- handed the lock
 abbrev pub waits_by : Op → Owner
 waits_by (Sub _) = Upgrading
 waits_by _ = Pending
@@ -80,7 +82,8 @@ abbrev pub so_many_shared : ℕ → List Owner
 so_many_shared zero = []
 so_many_shared (suc n) = Shared ∷ so_many_shared n
 
--- the owners that so many quarters of a word stand for: 4 for each shared one, 2 for a writer, 5 for an upgradable one
+-- the owners that so many quarters of a word stand for: 4 for each shared one, 2 for a writer, 5
+-- for an upgradable one
 abbrev pub owners_in : ℕ → Op → ℕ → List Owner
 owners_in part op left = cond (part % 4 == 2) (writer_in op left ∷ so_many_shared (part / 4))
     (cond (part % 4 == 1) (Upgradable ∷ so_many_shared (part / 4 - 1)) (so_many_shared (part / 4)))
@@ -89,27 +92,33 @@ owners_in part op left = cond (part % 4 == 2) (writer_in op left ∷ so_many_sha
 abbrev pub settles : ℕ → Op → ℕ → List Ownership → Trade
 settles at op found owns = cond (is_look op found && (found / 16 == 0))
     (cond (has (owning at Pending) owns) (trading (Pending ∷ []) (Exclusive ∷ []))
-    (cond (has (owning at Upgrading) owns) (trading (Upgrading ∷ []) (Exclusive ∷ [])) (trading [] [])))
+    (cond (has (owning at Upgrading) owns) (trading (Upgrading ∷ []) (Exclusive ∷ []))
+    (trading [] [])))
     (trading [] [])
 
--- by the quarters of the word that are found and left, and by what the one who steps owns: who owns alone or is upgradable gives
--- that up for all that is there then, and everybody else enters, leaves as a shared owner, or gives up waiting
+-- by the quarters of the word that are found and left, and by what the one who steps owns: who owns
+-- alone or is upgradable gives that up for all that is there then, and everybody else enters,
+-- leaves as a shared owner, or gives up waiting
 abbrev pub rwlock_trade : ℕ → Op → ℕ → ℕ → List Ownership → Trade
 rwlock_trade at op found left owns = let a = found / 4 in let b = left / 4 in
     cond (b == a) (settles at op found owns)
-    (cond (has (owning at Exclusive) owns) (trading (Exclusive ∷ []) (owners_in (b + 2 - a) op left))
+    (cond (has (owning at Exclusive) owns)
+    (trading (Exclusive ∷ []) (owners_in (b + 2 - a) op left))
     (cond (b + 4 == a) (trading (Shared ∷ []) [])
     (cond (b == a + 2) (trading [] (cond (found == 0) Exclusive Pending ∷ []))
     (cond (b == a + 4) (trading [] (Shared ∷ []))
-    (cond (has (owning at Upgradable) owns) (trading (Upgradable ∷ []) (owners_in (b + 5 - a) op left))
+    (cond (has (owning at Upgradable) owns)
+    (trading (Upgradable ∷ []) (owners_in (b + 5 - a) op left))
     (cond (b == a + 5) (trading [] (Upgradable ∷ []))
     (cond (has (owning at Upgrading) owns) (trading (Upgrading ∷ []) (Upgradable ∷ []))
     (trading (Pending ∷ []) []))))))))
 
 -- who sets LOCKED runs, who clears it has run, and who finds or leaves DONE knows it
 abbrev pub once_trade : ℕ → ℕ → Trade
-once_trade found left = trading (cond ((found / 4 % 2 == 1) && (left / 4 % 2 == 0)) (Runner ∷ []) [])
-    (cond (left == 1) (Witness ∷ []) (cond ((found / 4 % 2 == 0) && (left / 4 % 2 == 1)) (Runner ∷ []) []))
+once_trade found left = trading
+    (cond ((found / 4 % 2 == 1) && (left / 4 % 2 == 0)) (Runner ∷ []) [])
+    (cond (left == 1) (Witness ∷ [])
+    (cond ((found / 4 % 2 == 0) && (left / 4 % 2 == 1)) (Runner ∷ []) []))
 
 -- of who steps on the word at an index and owns these: by the operation and the value found
 abbrev pub trade : WordKind → ℕ → Op → ℕ → List Ownership → Trade
@@ -120,24 +129,30 @@ trade _ at op found owns = trading [] []
 
 -- who changes a count word says the new count of its mutex from then on
 abbrev pub says_instead : ℕ → ℕ → ℕ → List Ownership → List Ownership
-says_instead mutex found left owns = cond (found == left) owns (owning_with mutex left ∷ without (owning_with mutex found) owns)
+says_instead mutex found left owns =
+    cond (found == left) owns (owning_with mutex left ∷ without (owning_with mutex found) owns)
 
 -- what is owned after a step, by the operation and the value found
 abbrev pub owns_after_step : WordKind → ℕ → Op → ℕ → List Ownership → List Ownership
-owns_after_step Count at op found owns = says_instead (mutex_of_count at) found (apply op found) owns
+owns_after_step Count at op found owns =
+    says_instead (mutex_of_count at) found (apply op found) owns
 owns_after_step kind at op found owns = owns_after at (trade kind at op found owns) owns
 
 -- a count word is a count, and what an owner of its mutex says
 abbrev pub CountAgrees : WordKind → ℕ → ℕ → List Ownership → Type 0
-CountAgrees Count at n owns = IsCountCode n × ((count : ℕ) → has (owning_with (mutex_of_count at) count) owns ≡ true → count ≡ n)
+CountAgrees Count at n owns =
+    IsCountCode n × ((count : ℕ) → has (owning_with (mutex_of_count at) count) owns ≡ true
+    → count ≡ n)
 CountAgrees _ at n owns = Unit {0}
 
--- who changes what a condition variable shows hides it, or shows a mutex of another number that it owns. Who changes a count word owns
--- its mutex
+-- who changes what a condition variable shows hides it, or shows a mutex of another number that it
+-- owns. Who changes a count word owns its mutex
 abbrev pub MayTie : WordKind → ℕ → ℕ → ℕ → List Ownership → Type 0
 MayTie Condvar at found left owns = (left ≡ found)
-    ⊎ Shows (λ mutex. (at ≢ word_index mutex Condvar) × (has (owning (word_index mutex Mutex) Exclusive) owns ≡ true)) left
-MayTie Count at found left owns = (left ≡ found) ⊎ (IsCountCode left × (has (owning_with (mutex_of_count at) found) owns ≡ true))
+    ⊎ Shows (λ mutex. (at ≢ word_index mutex Condvar)
+    × (has (owning (word_index mutex Mutex) Exclusive) owns ≡ true)) left
+MayTie Count at found left owns =
+    (left ≡ found) ⊎ (IsCountCode left × (has (owning_with (mutex_of_count at) found) owns ≡ true))
 MayTie _ at found left owns = Unit {0}
 
 -- n is the code of owners among whom these are
@@ -145,8 +160,8 @@ abbrev pub CodesWith : WordKind → ℕ → ℕ → List Ownership → Type 0
 CodesWith kind at n owns = (owners : Owners) × Codes kind n owners
     × ((weight : Owner → ℕ) → owned at weight owns ≤ owners weight) × CountAgrees kind at n owns
 
--- whatever code a step finds, of owners among whom these are: these have what it gives up, it leaves the code of the owners
--- after it, and a word that is tied to a mutex stays so
+-- whatever code a step finds, of owners among whom these are: these have what it gives up, it
+-- leaves the code of the owners after it, and a word that is tied to a mutex stays so
 abbrev pub MayStep : WordKind → ℕ → Op → List Ownership → Type 0
 MayStep kind at op owns = (n : ℕ) (owners : Owners) → n < 2 ^ 64 → Codes kind n owners
     → ((weight : Owner → ℕ) → owned at weight owns ≤ owners weight) → CountAgrees kind at n owns
@@ -162,4 +177,5 @@ listed v at op found = v.steps ++ record { at = at; op = op; seen = found } ∷ 
 
 -- the view after a step at an index: the step is listed, and it owns what the step trades
 abbrev pub after_step : WordKind → ℕ → Op → ℕ → View → View
-after_step kind at op found v = view (listed v at op found) (owns_after_step kind at op found v.owns) v.drawn v.saw
+after_step kind at op found v =
+    view (listed v at op found) (owns_after_step kind at op found v.owns) v.drawn v.saw

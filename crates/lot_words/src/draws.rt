@@ -18,8 +18,10 @@ impl LotWords {
     fn draw<K: Kinds>(&self, seat: &mut Seat, kinds: &[WordKind]) -> Option<usize>
         requires own { IsSeatOf self.now seat.old }
         requires kinds { (K.kinds ≡ kinds.now) × (0 < length kinds.now) }
-        ensures own { IsSeatOf self.now seat.new × (seat.new.me.1 ≡ seat.old.me.1) × (seat.new.me.0.owns ≡ seat.old.me.0.owns) }
-        ensures drawn { MatchOption result (IsDrawRefused self.now.count (length kinds.now) seat.old.me.0 seat.new.me.0)
+        ensures own { IsSeatOf self.now seat.new × (seat.new.me.1 ≡ seat.old.me.1)
+            × (seat.new.me.0.owns ≡ seat.old.me.0.owns) }
+        ensures drawn { MatchOption result
+            (IsDrawRefused self.now.count (length kinds.now) seat.old.me.0 seat.new.me.0)
             (λ number. IsDrawn self.now.count kinds.now number seat.old.me.0 seat.new.me.0) }
     {
         let (words, needed) = (self.count as u64, kinds.len() as u64);
@@ -35,13 +37,17 @@ impl LotWords {
         None
     }
 
-    /// The next word, of this kind. It is refused, by `LotFull`, only where a step saw no word left.
+    /// The next word, of this kind. It is refused, by `LotFull`, only where a step saw no word
+    /// left.
     pub fn new_word(&self, seat: &mut Seat, kind: WordKind) -> Result<Word, Fault>
         requires { IsSeatOf self.now seat.old }
-        ensures own { IsSeatOf self.now seat.new × (seat.new.me.1 ≡ seat.old.me.1) × (seat.new.me.0.owns ≡ seat.old.me.0.owns) }
+        ensures own { IsSeatOf self.now seat.new × (seat.new.me.1 ≡ seat.old.me.1)
+            × (seat.new.me.0.owns ≡ seat.old.me.0.owns) }
         ensures word { IfOk result (λ word. IsWordOf self.now word × (word.kind ≡ kind)) }
-        ensures drawn { MatchResult result (λ word. IsDrawn self.now.count (kind ∷ []) word.number seat.old.me.0 seat.new.me.0)
-            (λ fault. (fault ≡ Fault.LotFull) × IsDrawRefused self.now.count 1 seat.old.me.0 seat.new.me.0) }
+        ensures drawn { MatchResult result
+            (λ word. IsDrawn self.now.count (kind ∷ []) word.number seat.old.me.0 seat.new.me.0)
+            (λ fault. (fault ≡ Fault.LotFull)
+            × IsDrawRefused self.now.count 1 seat.old.me.0 seat.new.me.0) }
     {
         match self.draw::<Brand>(seat, &[kind]) {
             Some(number) => Ok(Word::new(number, kind, self.tag)),
@@ -49,15 +55,20 @@ impl LotWords {
         }
     }
 
-    /// The next two words: a mutex, and the count of how often it is locked. Both are drawn, or none.
+    /// The next two words: a mutex, and the count of how often it is locked. Both are drawn, or
+    /// none.
     pub fn new_pair(&self, seat: &mut Seat) -> Result<(Word, Word), Fault>
         requires { IsSeatOf self.now seat.old }
-        ensures own { IsSeatOf self.now seat.new × (seat.new.me.1 ≡ seat.old.me.1) × (seat.new.me.0.owns ≡ seat.old.me.0.owns) }
+        ensures own { IsSeatOf self.now seat.new × (seat.new.me.1 ≡ seat.old.me.1)
+            × (seat.new.me.0.owns ≡ seat.old.me.0.owns) }
         ensures words { IfOk result (λ pair. IsWordOf self.now pair.0 × (pair.0.kind ≡ Mutex)
-            × IsWordOf self.now pair.1 × (pair.1.kind ≡ Count) × (pair.1.number ≡ pair.0.number + 1)) }
+            × IsWordOf self.now pair.1 × (pair.1.kind ≡ Count)
+            × (pair.1.number ≡ pair.0.number + 1)) }
         ensures drawn { MatchResult result
-            (λ pair. IsDrawn self.now.count (Mutex ∷ Count ∷ []) pair.0.number seat.old.me.0 seat.new.me.0)
-            (λ fault. (fault ≡ Fault.LotFull) × IsDrawRefused self.now.count 2 seat.old.me.0 seat.new.me.0) }
+            (λ pair. IsDrawn self.now.count
+            (Mutex ∷ Count ∷ []) pair.0.number seat.old.me.0 seat.new.me.0)
+            (λ fault. (fault ≡ Fault.LotFull)
+            × IsDrawRefused self.now.count 2 seat.old.me.0 seat.new.me.0) }
     {
         match self.draw::<Brand>(seat, &[WordKind::Mutex, WordKind::Count]) {
             Some(number) => {

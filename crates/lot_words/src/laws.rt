@@ -2,47 +2,50 @@
 ghost use Rattle.lot_words.specs.Laws.{CondvarMaySteps, CountMaySteps, ExclusiveIsAlone, MutexMaySteps, OnceIsKnown, OnceMaySteps, RwLockMaySteps};
 ghost use Rattle.lot_words.specs.RuleLaws.{CountsAnOwner, DrawnOnce, NeverFalls, RunsOneAtATime, ShownIsAMutex, UntouchedIs0};
 
-/// In every word of a mutex or a reader-writer lock that a step can find, an exclusive owner stands beside no other owner.
+/// In every word of a mutex or a reader-writer lock that a step can find, an exclusive owner stands
+/// beside no other owner.
 pub fn exclusive_is_alone()
     ensures { ExclusiveIsAlone }
 {}
 
-/// A mutex's word may be loaded, entered by an exchange or by setting its bit, marked as parked and cleared of that by
-/// anybody, and left by who owns it.
+/// A mutex's word may be loaded, entered by an exchange or by setting its bit, marked as parked and
+/// cleared of that by anybody, and left by who owns it.
 pub fn mutex_may_step()
     ensures { MutexMaySteps }
 {}
 
-/// A reader-writer lock's word may be loaded, entered where it has room for who enters, marked as parked and cleared of that
-/// by anybody, and left, converted and handed over by who owns it so.
+/// A reader-writer lock's word may be loaded, entered where it has room for who enters, marked as
+/// parked and cleared of that by anybody, and left, converted and handed over by who owns it so.
 pub fn rwlock_may_step()
     ensures { RwLockMaySteps }
 {}
 
-/// A `Once`'s word may be loaded, taken where nobody runs it and it isn't done, and marked as parked by anybody, and left done
-/// or poisoned by who runs it.
+/// A `Once`'s word may be loaded, taken where nobody runs it and it isn't done, and marked as
+/// parked by anybody, and left done or poisoned by who runs it.
 pub fn once_may_step()
     ensures { OnceMaySteps }
 {}
 
-/// Who finds a `Once` done, or leaves it so, knows it, and does so behind each further step. It is done then for ever.
+/// Who finds a `Once` done, or leaves it so, knows it, and does so behind each further step. It is
+/// done then for ever.
 pub fn once_is_known()
     ensures { OnceIsKnown }
 {}
 
-/// A condition variable's word may be loaded and set to 0 by anybody, and show a mutex, where it shows none, by who owns that
-/// mutex.
+/// A condition variable's word may be loaded and set to 0 by anybody, and show a mutex, where it
+/// shows none, by who owns that mutex.
 pub fn condvar_may_step()
     ensures { CondvarMaySteps }
 {}
 
-/// A count word may be loaded by anybody, and be raised and lowered by one, and given another count, by who owns the mutex
-/// before it and says what the count is.
+/// A count word may be loaded by anybody, and be raised and lowered by one, and given another
+/// count, by who owns the mutex before it and says what the count is.
 pub fn count_may_step()
     ensures { CountMaySteps }
 {}
 
-/// The numbers below the counter were drawn, each once, and each is a word of the lot. No other number was drawn.
+/// The numbers below the counter were drawn, each once, and each is a word of the lot. No other
+/// number was drawn.
 pub fn numbers_are_drawn_once()
     ensures { DrawnOnce }
 {}
@@ -57,12 +60,14 @@ pub fn untouched_word_is_0()
     ensures { UntouchedIs0 }
 {}
 
-/// A condition variable shows no mutex, or one of the lot, of another number than its own, on which somebody stepped.
+/// A condition variable shows no mutex, or one of the lot, of another number than its own, on which
+/// somebody stepped.
 pub fn shown_is_a_mutex_of_the_lot()
     ensures { ShownIsAMutex }
 {}
 
-/// A count word is 0, or a thread with how often it locked the mutex before. It is 0 where nobody owns that mutex.
+/// A count word is 0, or a thread with how often it locked the mutex before. It is 0 where nobody
+/// owns that mutex.
 pub fn count_is_of_an_owner()
     ensures { CountsAnOwner }
 {}

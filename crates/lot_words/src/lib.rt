@@ -1,4 +1,5 @@
-//! The words of a lot under one rule: each lock word is the code of what all who step on it own together.
+//! The words of a lot under one rule: each lock word is the code of what all who step on it own
+//! together.
 #![tactic(auto)]
 
 pub mod draws;

@@ -42,8 +42,8 @@ impl Owner {
         }
     }
 
-    /// How who is handed a lock owns it, whose word is left at this value: a mutex alone, and a reader-writer lock by what it
-    /// wants, where a writer waits for the readers that are left.
+    /// How who is handed a lock owns it, whose word is left at this value: a mutex alone, and a
+    /// reader-writer lock by what it wants, where a writer waits for the readers that are left.
     pub fn given(kind: WordKind, left: u64, want: Want) -> Owner
         ensures { result ≡ owner_given kind left want }
     {

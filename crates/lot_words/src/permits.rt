@@ -1,4 +1,5 @@
-//! The permits of the values that mutexes guard: each lies beside the word of its mutex, and who owns that takes it out.
+//! The permits of the values that mutexes guard: each lies beside the word of its mutex, and who
+//! owns that takes it out.
 ghost use Rattle.std.specs.Prelude.{◌≡◌, ◌≢◌, ◌⊎◌, ◌%◌, [], ◌∷◌, IfOk, MatchOption, MatchResult};
 ghost use Rattle.lot_base.specs.declared.ops.Op.TheVariants.{Exchange, Or, Sub};
 ghost use Rattle.lot_words.specs.Indices.{word_index};
@@ -22,7 +23,8 @@ use std::marker::Brand;
 use std::mem;
 use value_place::{Permit, PermitSlot};
 
-/// The ownership of a mutex whose permit is out. It has to be closed, or the word stays owned. It takes no memory.
+/// The ownership of a mutex whose permit is out. It has to be closed, or the word stays owned. It
+/// takes no memory.
 pub struct OpenHeld {
     seat: Seat,
 }
@@ -31,14 +33,17 @@ impl LotWords {
     ghost use Rattle.lot_words.specs.Lots.{IsSeatOf, IsWordOf, permit_of};
     ghost use Rattle.lot_words.specs.RightsOf.{HasAtHand, IsHeldOf, IsOpenOf};
 
-    // The seat is that of a right. It steps by a load of the counter: one of the mutex's own word, just written, would wait for it.
+    // The seat is that of a right. It steps by a load of the counter: one of the mutex's own word,
+    // just written, would wait for it.
     #[inline]
     pub(crate) fn take_permit<P: PermitPick>(&self, seat: &mut Seat, word: Word) -> Permit
-        requires pick { (P.family ≡ self.now.table.shared.key.1.family) × (P.at ≡ word_index word.number word.kind) }
+        requires pick { (P.family ≡ self.now.table.shared.key.1.family)
+            × (P.at ≡ word_index word.number word.kind) }
         requires own { IsSeatOf self.now seat.old × IsWordOf self.now word }
         requires owner { (word.kind ≡ Mutex) × (seat.old.me ≡ (piece_of word Exclusive, [])) }
         ensures own { IsSeatOf self.now seat.new }
-        ensures opened { seat.new.me ≡ (piece_of word Opened, (word_index word.number word.kind, bare) ∷ []) }
+        ensures opened { seat.new.me
+            ≡ (piece_of word Opened, (word_index word.number word.kind, bare) ∷ []) }
         ensures permit { result.id ≡ permit_of self.now word }
     {
         let at = word.index();
@@ -51,8 +56,11 @@ impl LotWords {
     #[inline]
     pub(crate) fn lay_permit<P: PermitPick>(&self, seat: &mut Seat, word: Word, permit: Permit)
         requires pick { P.at ≡ word_index word.number word.kind }
-        requires own { IsSeatOf self.now seat.old × IsWordOf self.now word × (permit.id ≡ permit_of self.now word) }
-        requires opened { (word.kind ≡ Mutex) × (seat.old.me ≡ (piece_of word Opened, (word_index word.number word.kind, bare) ∷ [])) }
+        requires own { IsSeatOf self.now seat.old × IsWordOf self.now word
+            × (permit.id ≡ permit_of self.now word) }
+        requires opened { (word.kind ≡ Mutex)
+            × (seat.old.me ≡
+            (piece_of word Opened, (word_index word.number word.kind, bare) ∷ [])) }
         ensures own { IsSeatOf self.now seat.new }
         ensures closed { seat.new.me ≡ (piece_of word Exclusive, []) }
     {
@@ -65,9 +73,12 @@ impl LotWords {
     // Of a seat that has just entered: it keeps the mutex, and another goes on with all else.
     #[inline]
     fn keep_open<P: PermitPick>(&self, seat: &mut Seat, word: Word) -> (OpenHeld, Permit)
-        requires pick { (P.family ≡ self.now.table.shared.key.1.family) × (P.at ≡ word_index word.number word.kind) }
+        requires pick { (P.family ≡ self.now.table.shared.key.1.family)
+            × (P.at ≡ word_index word.number word.kind) }
         requires own { IsSeatOf self.now seat.old × IsWordOf self.now word }
-        requires entered { (v : View) × (seat.old.me ≡ (takes_in v (piece (owning P.at Opened)), (P.at, slot_at P.family P.at) ∷ [])) }
+        requires entered { (v : View)
+            × (seat.old.me ≡
+            (takes_in v (piece (owning P.at Opened)), (P.at, slot_at P.family P.at) ∷ [])) }
         ensures own { IsSeatOf self.now seat.new }
         ensures left { seat.new.me ≡ (without_front seat.old.me.0, []) }
         ensures opened { IsOpenOf self.now word result.0 × (result.1.id ≡ permit_of self.now word) }
@@ -82,21 +93,25 @@ impl LotWords {
     // Of an owner that is about to leave: the permit lies in the slot that is out with its seat.
     #[inline]
     fn lay_open(&self, owner: &mut Seat, word: Word, permit: Permit)
-        requires own { IsSeatOf self.now owner.old × IsWordOf self.now word × (permit.id ≡ permit_of self.now word) }
-        requires opened { owner.old.me ≡ (piece_of word Opened, (word_index word.number word.kind, bare) ∷ []) }
+        requires own { IsSeatOf self.now owner.old × IsWordOf self.now word
+            × (permit.id ≡ permit_of self.now word) }
+        requires opened { owner.old.me
+            ≡ (piece_of word Opened, (word_index word.number word.kind, bare) ∷ []) }
         ensures { IsSeatOf self.now owner.new × HasAtHand self.now word owner.new }
     {
         let words = &self.table.shared;
         drop(words.exchange(owner, word.index(), permit.into_slot()));
     }
 
-    // The owner has left by a step of its own seat. What that has done, and owns still, goes to the thread: behind the step, so that
-    // it doesn't wait for the load.
+    // The owner has left by a step of its own seat. What that has done, and owns still, goes to the
+    // thread: behind the step, so that it doesn't wait for the load.
     #[inline]
     fn go_on(&self, seat: &mut Seat, owner: Seat)
-        requires own { IsSeatOf self.now seat.old × IsSeatOf self.now owner × (seat.old.me.1 ≡ []) × (owner.me.1 ≡ []) }
+        requires own { IsSeatOf self.now seat.old × IsSeatOf self.now owner × (seat.old.me.1 ≡ [])
+            × (owner.me.1 ≡ []) }
         requires left { owner.me.0.drawn ≡ [] }
-        ensures { IsSeatOf self.now seat.new × (seat.new.me ≡ (goes_on_with seat.old.me.0 owner.me.0, [])) }
+        ensures { IsSeatOf self.now seat.new
+            × (seat.new.me ≡ (goes_on_with seat.old.me.0 owner.me.0, [])) }
     {
         self.table.shared.join_seat::<GoesOn>(seat, owner);
     }
@@ -108,13 +123,19 @@ impl LotWords {
         seat: &mut Seat,
         word: Word,
     ) -> Result<(OpenHeld, Permit), u64>
-        requires pick { (P.family ≡ self.now.table.shared.key.1.family) × (P.at ≡ word_index word.number word.kind) }
-        requires own { IsSeatOf self.now seat.old × IsWordOf self.now word × (word.kind ≡ Mutex) × (seat.old.me.1 ≡ []) }
+        requires pick { (P.family ≡ self.now.table.shared.key.1.family)
+            × (P.at ≡ word_index word.number word.kind) }
+        requires own { IsSeatOf self.now seat.old × IsWordOf self.now word × (word.kind ≡ Mutex)
+            × (seat.old.me.1 ≡ []) }
         ensures own { IsSeatOf self.now seat.new × (seat.new.me.1 ≡ []) }
         ensures stepped { MatchResult result
-            (λ _. seat.new.me.0 ≡ stepping seat.old.me.0 (word_index word.number word.kind) (Exchange 0 1) 0)
-            (λ seen. (seen ≢ 0) × (seat.new.me.0 ≡ stepping seat.old.me.0 (word_index word.number word.kind) (Exchange 0 1) seen)) }
-        ensures opened { IfOk result (λ taken. IsOpenOf self.now word taken.0 × (taken.1.id ≡ permit_of self.now word)) }
+            (λ _. seat.new.me.0
+            ≡ stepping seat.old.me.0 (word_index word.number word.kind) (Exchange 0 1) 0)
+            (λ seen. (seen ≢ 0)
+            × (seat.new.me.0
+            ≡ stepping seat.old.me.0 (word_index word.number word.kind) (Exchange 0 1) seen)) }
+        ensures opened { IfOk result
+            (λ taken. IsOpenOf self.now word taken.0 × (taken.1.id ≡ permit_of self.now word)) }
     {
         let words = &self.table.shared;
         let seen = words.compare_exchange::<EntersOpen<P>>(seat, word.index(), 0, 1);
@@ -132,12 +153,16 @@ impl LotWords {
         seat: &mut Seat,
         word: Word,
     ) -> (u64, Option<(OpenHeld, Permit)>)
-        requires pick { (P.family ≡ self.now.table.shared.key.1.family) × (P.at ≡ word_index word.number word.kind) }
-        requires own { IsSeatOf self.now seat.old × IsWordOf self.now word × (word.kind ≡ Mutex) × (seat.old.me.1 ≡ []) }
+        requires pick { (P.family ≡ self.now.table.shared.key.1.family)
+            × (P.at ≡ word_index word.number word.kind) }
+        requires own { IsSeatOf self.now seat.old × IsWordOf self.now word × (word.kind ≡ Mutex)
+            × (seat.old.me.1 ≡ []) }
         ensures own { IsSeatOf self.now seat.new × (seat.new.me.1 ≡ []) }
-        ensures stepped { seat.new.me.0 ≡ stepping seat.old.me.0 (word_index word.number word.kind) (Or 1) result.0 }
+        ensures stepped { seat.new.me.0
+            ≡ stepping seat.old.me.0 (word_index word.number word.kind) (Or 1) result.0 }
         ensures opened { MatchOption result.1 (result.0 % 2 ≢ 0)
-            (λ taken. (result.0 % 2 ≡ 0) × IsOpenOf self.now word taken.0 × (taken.1.id ≡ permit_of self.now word)) }
+            (λ taken. (result.0 % 2 ≡ 0) × IsOpenOf self.now word taken.0
+            × (taken.1.id ≡ permit_of self.now word)) }
     {
         let words = &self.table.shared;
         let seen = words.fetch_or::<TriesOpen<P>>(seat, word.index(), 1);
@@ -153,12 +178,16 @@ impl LotWords {
         seat: &mut Seat,
         word: Word,
     ) -> (u64, Option<(OpenHeld, Permit)>)
-        requires pick { (P.family ≡ self.now.table.shared.key.1.family) × (P.at ≡ word_index word.number word.kind) }
-        requires own { IsSeatOf self.now seat.old × IsWordOf self.now word × (word.kind ≡ Mutex) × (seat.old.me.1 ≡ []) }
+        requires pick { (P.family ≡ self.now.table.shared.key.1.family)
+            × (P.at ≡ word_index word.number word.kind) }
+        requires own { IsSeatOf self.now seat.old × IsWordOf self.now word × (word.kind ≡ Mutex)
+            × (seat.old.me.1 ≡ []) }
         ensures own { IsSeatOf self.now seat.new × (seat.new.me.1 ≡ []) }
-        ensures stepped { seat.new.me.0 ≡ stepping seat.old.me.0 (word_index word.number word.kind) (Or 1) result.0 }
+        ensures stepped { seat.new.me.0
+            ≡ stepping seat.old.me.0 (word_index word.number word.kind) (Or 1) result.0 }
         ensures opened { MatchOption result.1 (result.0 % 2 ≢ 0)
-            (λ taken. (result.0 % 2 ≡ 0) × IsOpenOf self.now word taken.0 × (taken.1.id ≡ permit_of self.now word)) }
+            (λ taken. (result.0 % 2 ≡ 0) × IsOpenOf self.now word taken.0
+            × (taken.1.id ≡ permit_of self.now word)) }
     {
         let at = word.index();
         let words = &self.table.shared;
@@ -182,7 +211,8 @@ impl LotWords {
         requires own { IsSeatOf self.now owner.old × IsWordOf self.now word × (word.kind ≡ Mutex) }
         requires laid { HasAtHand self.now word owner.old }
         ensures own { IsSeatOf self.now owner.new }
-        ensures left { owner.new.me ≡ (stepping blank (word_index word.number word.kind) (Sub 1) result, []) }
+        ensures left { owner.new.me
+            ≡ (stepping blank (word_index word.number word.kind) (Sub 1) result, []) }
         ensures coded { (result ≡ 1) ⊎ (result ≡ 3) }
     {
         self.table
@@ -204,38 +234,51 @@ impl LotWords {
             .compare_exchange::<LeavesAlone<P>>(owner, word.index(), 1, 0)
     }
 
-    /// Takes a mutex that nobody has, and the permit of its value with the same step. Else it answers what the step saw.
+    /// Takes a mutex that nobody has, and the permit of its value with the same step. Else it
+    /// answers what the step saw.
     #[inline]
     pub fn enter_open(&self, seat: &mut Seat, word: Word) -> Result<(OpenHeld, Permit), u64>
-        requires own { IsSeatOf self.now seat.old × IsWordOf self.now word × (word.kind ≡ Mutex) × (seat.old.me.1 ≡ []) }
+        requires own { IsSeatOf self.now seat.old × IsWordOf self.now word × (word.kind ≡ Mutex)
+            × (seat.old.me.1 ≡ []) }
         ensures own { IsSeatOf self.now seat.new × (seat.new.me.1 ≡ []) }
         ensures stepped { MatchResult result
-            (λ _. seat.new.me.0 ≡ stepping seat.old.me.0 (word_index word.number word.kind) (Exchange 0 1) 0)
-            (λ seen. (seen ≢ 0) × (seat.new.me.0 ≡ stepping seat.old.me.0 (word_index word.number word.kind) (Exchange 0 1) seen)) }
-        ensures opened { IfOk result (λ taken. IsOpenOf self.now word taken.0 × (taken.1.id ≡ permit_of self.now word)) }
+            (λ _. seat.new.me.0
+            ≡ stepping seat.old.me.0 (word_index word.number word.kind) (Exchange 0 1) 0)
+            (λ seen. (seen ≢ 0)
+            × (seat.new.me.0
+            ≡ stepping seat.old.me.0 (word_index word.number word.kind) (Exchange 0 1) seen)) }
+        ensures opened { IfOk result
+            (λ taken. IsOpenOf self.now word taken.0 × (taken.1.id ≡ permit_of self.now word)) }
     {
         self.enter_picked::<Brand>(seat, word)
     }
 
-    /// The same where others may wait. It answers what the step saw, and writes nothing to a mutex that it sees locked.
+    /// The same where others may wait. It answers what the step saw, and writes nothing to a mutex
+    /// that it sees locked.
     #[inline]
     pub fn try_enter_open(&self, seat: &mut Seat, word: Word) -> (u64, Option<(OpenHeld, Permit)>)
-        requires own { IsSeatOf self.now seat.old × IsWordOf self.now word × (word.kind ≡ Mutex) × (seat.old.me.1 ≡ []) }
+        requires own { IsSeatOf self.now seat.old × IsWordOf self.now word × (word.kind ≡ Mutex)
+            × (seat.old.me.1 ≡ []) }
         ensures own { IsSeatOf self.now seat.new × (seat.new.me.1 ≡ []) }
-        ensures stepped { seat.new.me.0 ≡ stepping seat.old.me.0 (word_index word.number word.kind) (Or 1) result.0 }
+        ensures stepped { seat.new.me.0
+            ≡ stepping seat.old.me.0 (word_index word.number word.kind) (Or 1) result.0 }
         ensures opened { MatchOption result.1 (result.0 % 2 ≢ 0)
-            (λ taken. (result.0 % 2 ≡ 0) × IsOpenOf self.now word taken.0 × (taken.1.id ≡ permit_of self.now word)) }
+            (λ taken. (result.0 % 2 ≡ 0) × IsOpenOf self.now word taken.0
+            × (taken.1.id ≡ permit_of self.now word)) }
     {
         self.try_enter_picked::<Brand>(seat, word)
     }
 
-    /// Gives a mutex up, and lays the permit of its value back with the same step. It answers the value before.
+    /// Gives a mutex up, and lays the permit of its value back with the same step. It answers the
+    /// value before.
     #[inline]
     pub fn leave_open(&self, seat: &mut Seat, word: Word, opened: OpenHeld, permit: Permit) -> u64
-        requires own { IsSeatOf self.now seat.old × IsWordOf self.now word × (word.kind ≡ Mutex) × (seat.old.me.1 ≡ []) }
+        requires own { IsSeatOf self.now seat.old × IsWordOf self.now word × (word.kind ≡ Mutex)
+            × (seat.old.me.1 ≡ []) }
         requires opened { IsOpenOf self.now word opened × (permit.id ≡ permit_of self.now word) }
         ensures own { IsSeatOf self.now seat.new × (seat.new.me.1 ≡ []) }
-        ensures stepped { seat.new.me.0 ≡ stepping seat.old.me.0 (word_index word.number word.kind) (Sub 1) result }
+        ensures stepped { seat.new.me.0
+            ≡ stepping seat.old.me.0 (word_index word.number word.kind) (Sub 1) result }
         ensures coded { (result ≡ 1) ⊎ (result ≡ 3) }
     {
         let OpenHeld { seat: mut owner } = opened;
@@ -254,7 +297,8 @@ impl LotWords {
         opened: OpenHeld,
         permit: Permit,
     ) -> u64
-        requires own { IsSeatOf self.now seat.old × IsWordOf self.now word × (word.kind ≡ Mutex) × (seat.old.me.1 ≡ []) }
+        requires own { IsSeatOf self.now seat.old × IsWordOf self.now word × (word.kind ≡ Mutex)
+            × (seat.old.me.1 ≡ []) }
         requires opened { IsOpenOf self.now word opened × (permit.id ≡ permit_of self.now word) }
         ensures own { IsSeatOf self.now seat.new × (seat.new.me.1 ≡ []) }
         ensures stepped { seat.new.me.0 ≡ leaving_alone seat.old.me.0 word result }
@@ -267,7 +311,8 @@ impl LotWords {
         seen
     }
 
-    /// Takes the permit out of the value that a mutex guards, for who owns the mutex. It loads a word, which is no step of a call.
+    /// Takes the permit out of the value that a mutex guards, for who owns the mutex. It loads a
+    /// word, which is no step of a call.
     #[inline]
     pub fn open_held(&self, word: Word, held: Held) -> (OpenHeld, Permit)
         requires mutex { IsWordOf self.now word × (word.kind ≡ Mutex) }

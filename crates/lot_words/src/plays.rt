@@ -67,7 +67,8 @@ impl Bits for Brand {
     ghost bits = { 0 };
 }
 
-/// A load in place of an or, which is that or where it finds the bits set, and else no step of a call.
+/// A load in place of an or, which is that or where it finds the bits set, and else no step of a
+/// call.
 pub struct SawSet<B: Bits> {
     bits: PhantomData<B>,
 }
@@ -211,7 +212,8 @@ impl<P: PermitPick> Play<PermitSlot, View> for EntersOpen<P> {
     ghost then = { enters_open P.family P.at (Exchange 0 1) IsZero };
 }
 
-/// A load in place of a try, which is that try where it finds the mutex locked, and else no step of a call.
+/// A load in place of a try, which is that try where it finds the mutex locked, and else no step of
+/// a call.
 pub struct SeesLocked<P: PermitPick> {
     pick: PhantomData<P>,
 }
@@ -220,8 +222,8 @@ impl<P: PermitPick> Play<PermitSlot, View> for SeesLocked<P> {
     ghost then = { sees_locked P.at };
 }
 
-/// An exchange in place of a try, where the mutex was seen unlocked: that try where it finds the same, or finds the mutex locked, and else
-/// no step of a call.
+/// An exchange in place of a try, where the mutex was seen unlocked: that try where it finds the
+/// same, or finds the mutex locked, and else no step of a call.
 pub struct TriesSeen<P: PermitPick> {
     pick: PhantomData<P>,
 }

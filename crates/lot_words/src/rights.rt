@@ -13,21 +13,26 @@ use lot_base::Want;
 use std::marker::Brand;
 use value_place::PermitSlot;
 
-/// An ownership, split off the view of a seat, as who knows its word keeps it. It borrows nothing, and takes no memory.
+/// An ownership, split off the view of a seat, as who knows its word keeps it. It borrows nothing,
+/// and takes no memory.
 ///
 /// It has to be given back, or the word stays owned.
 pub struct Held {
     pub(crate) seat: Seat,
 }
 
-/// The same with its word and owner, as it goes to a thread that is to be told them. Who is handed a mutex is handed the permit of its
-/// value with it.
+/// The same with its word and owner, as it goes to a thread that is to be told them. Who is handed
+/// a mutex is handed the permit of its value with it.
 pub struct Right {
     seat: Seat,
     word: Word,
     owner: Owner,
     permit: PermitSlot,
-    ghost names: { seat.me ≡ (piece_of word (owner_handed word.kind owner), slots_handed (word_index word.number word.kind) word.kind owner) },
+    ghost names: { seat.me
+        ≡ (
+          piece_of word (owner_handed word.kind owner),
+          slots_handed (word_index word.number word.kind) word.kind owner,
+        ) },
 }
 
 impl Right {
@@ -85,13 +90,15 @@ impl LotWords {
     fn split_off<P: Piece>(&self, seat: &mut Seat, word: Word, owner: Owner) -> Seat
         requires own { IsSeatOf self.now seat.old }
         requires named { (P.owned ≡ named_by word owner) × (has P.owned seat.old.me.0.owns ≡ true) }
-        ensures left { IsSeatOf self.now seat.new × (seat.new.me ≡ (left_over P.owned seat.old.me.0, seat.old.me.1)) }
+        ensures left { IsSeatOf self.now seat.new
+            × (seat.new.me ≡ (left_over P.owned seat.old.me.0, seat.old.me.1)) }
         ensures split { IsSeatOf self.now result × (result.me ≡ (piece P.owned, [])) }
     {
         self.table.shared.split_seat::<SplitsOff<P>>(seat)
     }
 
-    /// Splits an ownership off that the seat's view names. It loads a word, which is no step of a call.
+    /// Splits an ownership off that the seat's view names. It loads a word, which is no step of a
+    /// call.
     #[inline]
     pub fn split_held(&self, seat: &mut Seat, word: Word, owner: Owner) -> Held
         requires own { IsSeatOf self.now seat.old }
@@ -119,9 +126,14 @@ impl LotWords {
     // The permit that goes with what is handed, of a seat that owns this and nothing else.
     #[inline]
     fn take_along(&self, seat: &mut Seat, word: Word, owner: Owner) -> PermitSlot
-        requires own { IsSeatOf self.now seat.old × IsWordOf self.now word × (seat.old.me ≡ (piece_of word owner, [])) }
+        requires own { IsSeatOf self.now seat.old × IsWordOf self.now word
+            × (seat.old.me ≡ (piece_of word owner, [])) }
         ensures own { IsSeatOf self.now seat.new }
-        ensures handed { seat.new.me ≡ (piece_of word (owner_handed word.kind owner), slots_handed (word_index word.number word.kind) word.kind owner) }
+        ensures handed { seat.new.me
+            ≡ (
+              piece_of word (owner_handed word.kind owner),
+              slots_handed (word_index word.number word.kind) word.kind owner,
+            ) }
         ensures permit { result.holds ≡ permits_handed (permit_of self.now word) word.kind owner }
     {
         match (word.kind(), owner) {
@@ -136,7 +148,11 @@ impl LotWords {
     #[inline]
     fn lay_along(&self, seat: &mut Seat, word: Word, owner: Owner, permit: PermitSlot)
         requires own { IsSeatOf self.now seat.old × IsWordOf self.now word }
-        requires handed { seat.old.me ≡ (piece_of word (owner_handed word.kind owner), slots_handed (word_index word.number word.kind) word.kind owner) }
+        requires handed { seat.old.me
+            ≡ (
+              piece_of word (owner_handed word.kind owner),
+              slots_handed (word_index word.number word.kind) word.kind owner,
+            ) }
         requires permit { permit.holds ≡ permits_handed (permit_of self.now word) word.kind owner }
         ensures { IsSeatOf self.now seat.new × (seat.new.me ≡ (piece_of word owner, [])) }
     {
@@ -167,12 +183,14 @@ impl LotWords {
         }
     }
 
-    /// Gives an ownership back to a seat. The right is spent. It loads a word, which is no step of a call.
+    /// Gives an ownership back to a seat. The right is spent. It loads a word, which is no step of
+    /// a call.
     #[inline]
     pub fn join_right(&self, seat: &mut Seat, right: Right)
         requires { IsSeatOf self.now seat.old × IsRightOf self.now right }
         ensures { IsSeatOf self.now seat.new
-            × (seat.new.me ≡ (takes_in seat.old.me.0 (piece_of right.word right.owner), seat.old.me.1)) }
+            × (seat.new.me ≡
+            (takes_in seat.old.me.0 (piece_of right.word right.owner), seat.old.me.1)) }
     {
         let Right {
             seat: mut other,

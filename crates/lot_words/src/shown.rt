@@ -17,9 +17,11 @@ impl LotWords {
     #[inline]
     fn look_picked<P: CondvarPick>(&self, seat: &mut Seat, condvar: Word) -> u64
         requires pick { (P.words ≡ self.now.count) × (P.number ≡ condvar.number) }
-        requires own { IsSeatOf self.now seat.old × IsWordOf self.now condvar × (condvar.kind ≡ Condvar) }
+        requires own { IsSeatOf self.now seat.old × IsWordOf self.now condvar
+            × (condvar.kind ≡ Condvar) }
         ensures own { IsSeatOf self.now seat.new × (seat.new.me.1 ≡ seat.old.me.1) }
-        ensures stepped { seat.new.me.0 ≡ after_step Condvar (word_index condvar.number Condvar) Load result seat.old.me.0 }
+        ensures stepped { seat.new.me.0
+            ≡ after_step Condvar (word_index condvar.number Condvar) Load result seat.old.me.0 }
         ensures shown { ShowsBeside self.now.count condvar.number result }
     {
         self.table
@@ -27,13 +29,15 @@ impl LotWords {
             .load::<SeesShown<P>>(seat, condvar.index())
     }
 
-    /// Looks what a condition variable shows, by one load of its word: 0 where it shows nothing, and else one more than the number of a mutex
-    /// of the lot, which is not its own number.
+    /// Looks what a condition variable shows, by one load of its word: 0 where it shows nothing,
+    /// and else one more than the number of a mutex of the lot, which is not its own number.
     #[inline]
     pub fn look_shown(&self, seat: &mut Seat, condvar: Word) -> u64
-        requires { IsSeatOf self.now seat.old × IsWordOf self.now condvar × (condvar.kind ≡ Condvar) }
+        requires { IsSeatOf self.now seat.old × IsWordOf self.now condvar
+            × (condvar.kind ≡ Condvar) }
         ensures own { IsSeatOf self.now seat.new × (seat.new.me.1 ≡ seat.old.me.1) }
-        ensures stepped { seat.new.me.0 ≡ after_step Condvar (word_index condvar.number Condvar) Load result seat.old.me.0 }
+        ensures stepped { seat.new.me.0
+            ≡ after_step Condvar (word_index condvar.number Condvar) Load result seat.old.me.0 }
         ensures shown { ShowsBeside self.now.count condvar.number result }
     {
         self.look_picked::<Brand>(seat, condvar)

@@ -26,7 +26,8 @@ pub struct LotWords {
     pub(crate) count: usize,
     // What its words carry.
     pub(crate) tag: u32,
-    ghost sized: { (table.shared.table_id.words ≡ table_size count) × (table.shared.key.0 ≡ count) × (count ≤ most_words) },
+    ghost sized: { (table.shared.table_id.words ≡ table_size count) × (table.shared.key.0 ≡ count)
+        × (count ≤ most_words) },
 }
 
 // Of what an atomic holds nothing is known, so nobody can show that two lots have one tag.
@@ -43,7 +44,8 @@ impl LotWords {
     /// Words that are all 0, and the first seat.
     pub fn new(alloc: Global, count: usize) -> Result<(LotWords, Seat), AllocError>
         requires { (0 < count) × (count ≤ most_words) }
-        ensures { IfOk result (λ made. (made.0.count ≡ count) × IsSeatOf made.0 made.1 × (made.1.me ≡ (blank, []))) }
+        ensures { IfOk result
+            (λ made. (made.0.count ≡ count) × IsSeatOf made.0 made.1 × (made.1.me ≡ (blank, []))) }
     {
         let size = 8 * (count + 1);
         let zeros = Vec::from_elem(alloc, 0u64, size)?;
@@ -68,14 +70,19 @@ impl LotWords {
         self.table.shared.split_seat::<SeatsAnother>(seat)
     }
 
-    // Sets bits by one step, which writes nothing to a word that has them. So a try of a locked lock disturbs nobody.
+    // Sets bits by one step, which writes nothing to a word that has them. So a try of a locked
+    // lock disturbs nobody.
     #[inline]
     fn set_bits<B: Bits>(&self, seat: &mut Seat, word: Word, bits: u64) -> u64
         requires own { (B.bits ≡ bits) × IsSeatOf self.now seat.old × IsWordOf self.now word }
-        requires may { MayStep word.kind (word_index word.number word.kind) (Or bits) seat.old.me.0.owns }
+        requires may { MayStep word.kind (word_index word.number word.kind)
+            (Or bits) seat.old.me.0.owns }
         ensures own { IsSeatOf self.now seat.new × (seat.new.me.1 ≡ seat.old.me.1) }
-        ensures stepped { seat.new.me.0 ≡ after_step word.kind (word_index word.number word.kind) (Or bits) result seat.old.me.0 }
-        ensures coded { CodesWith word.kind (word_index word.number word.kind) result seat.old.me.0.owns }
+        ensures stepped { seat.new.me.0
+            ≡ after_step word.kind (word_index word.number word.kind)
+            (Or bits) result seat.old.me.0 }
+        ensures coded { CodesWith word.kind
+            (word_index word.number word.kind) result seat.old.me.0.owns }
     {
         let at = word.index();
         let words = &self.table.shared;
@@ -92,8 +99,10 @@ impl LotWords {
         requires own { IsSeatOf self.now seat.old × IsWordOf self.now word }
         requires may { MayStep word.kind (word_index word.number word.kind) op seat.old.me.0.owns }
         ensures own { IsSeatOf self.now seat.new × (seat.new.me.1 ≡ seat.old.me.1) }
-        ensures stepped { seat.new.me.0 ≡ after_step word.kind (word_index word.number word.kind) op result seat.old.me.0 }
-        ensures coded { CodesWith word.kind (word_index word.number word.kind) result seat.old.me.0.owns }
+        ensures stepped { seat.new.me.0
+            ≡ after_step word.kind (word_index word.number word.kind) op result seat.old.me.0 }
+        ensures coded { CodesWith word.kind
+            (word_index word.number word.kind) result seat.old.me.0.owns }
     {
         let at = word.index();
         let words = &self.table.shared;

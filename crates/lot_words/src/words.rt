@@ -29,9 +29,11 @@ impl WordKind {
     }
 }
 
-/// A word of a lot: its number there, what it is for, and where it stands. Numbers begin at 0 and are given once.
+/// A word of a lot: its number there, what it is for, and where it stands. Numbers begin at 0 and
+/// are given once.
 ///
-/// Only the lot that drew a word is known to have it: a step with a word of another lot meets no condition.
+/// Only the lot that drew a word is known to have it: a step with a word of another lot meets no
+/// condition.
 #[derive(Clone, Copy, Debug, PartialEq, Eq)]
 pub struct Word {
     number: usize,

@@ -55,8 +55,8 @@ impl<Q: Queues + Drop> Model for World<Q> {
 }
 
 impl<Q: Queues + Drop> World<Q> {
-    /// A world of locks of these kinds, in their order, and of this many threads. Nobody is in a call,
-    /// nobody owns anything, and nobody waits. `Kind::fits` tests what a kind needs.
+    /// A world of locks of these kinds, in their order, and of this many threads. Nobody is in a
+    /// call, nobody owns anything, and nobody waits. `Kind::fits` tests what a kind needs.
     pub fn new(alloc: Global, kinds: &[Kind], threads: usize) -> Result<Self, Fault>
         requires some { 1 ≤ threads }
         requires few_threads { threads ≤ MOST_THREADS }
@@ -76,18 +76,20 @@ impl<Q: Queues + Drop> World<Q> {
         ensures state { self.new ≡ after self.old step }
         ensures outcome { result ≡ step_outcome self.old step }
 
-        // The step is one of the abstract locks: one case of one lock, a notification's move of waiters between two, or nothing, and
-        // its answer is true.
+        // The step is one of the abstract locks: one case of one lock, a notification's move of
+        // waiters between two, or nothing, and its answer is true.
         ensures refines { IsStep (locks_of self.old) step result (locks_of self.new) }
         ensures one_thing { ChangesOneThing self.old step.thread self.new }
         ensures touches { TouchesOnlyByGoing self.old step.turn self.new }
 
-        // A fair release lets its mutex go only where nobody waits, and else the first waiter owns it in its place; of a lock that is shared
-        // all whom it has taken have what they waited for in that one step, or are woken where they would pass the limit.
+        // A fair release lets its mutex go only where nobody waits, and else the first waiter owns
+        // it in its place; of a lock that is shared all whom it has taken have what they waited for
+        // in that one step, or are woken where they would pass the limit.
         ensures fair { IsFair self.old self.new }
 
-        // Words are coded, counts keep to the limit, and whoever waits for a lock whose way nobody bars, a requeued waiter too, has a thread
-        // that owes its wake or tries again. Outside its section a condition variable shows a mutex exactly while somebody waits.
+        // Words are coded, counts keep to the limit, and whoever waits for a lock whose way nobody
+        // bars, a requeued waiter too, has a thread that owes its wake or tries again. Outside its
+        // section a condition variable shows a mutex exactly while somebody waits.
         ensures kept { IsKept self.new }
 
         // While a writer is pending on a lock that isn't recursive, nobody begins to share it.
@@ -96,23 +98,28 @@ impl<Q: Queues + Drop> World<Q> {
         // Who shares a recursive lock isn't queued to share it once more.
         ensures rereaders_pass { RereadersPass (locks_of self.old) (locks_of self.new) }
 
-        // From the upgradable right to the exclusive one, an upgrade lets no other writer in, and a downgrade owns throughout.
-        ensures upgrades_let_nobody_write { UpgradesLetNobodyWrite (locks_of self.old) (locks_of self.new) }
+        // From the upgradable right to the exclusive one, an upgrade lets no other writer in, and a
+        // downgrade owns throughout.
+        ensures upgrades_let_nobody_write { UpgradesLetNobodyWrite (locks_of self.old)
+            (locks_of self.new) }
         ensures downgrades_own { DowngradesOwn (locks_of self.old) (locks_of self.new) }
 
-        // No wait on a condition variable wakes by itself: another thread notifies that one, while it stands in its queue.
-        ensures nobody_wakes_by_itself { NobodyWakesByItself (locks_of self.old) (locks_of self.new) }
+        // No wait on a condition variable wakes by itself: another thread notifies that one, while
+        // it stands in its queue.
+        ensures nobody_wakes_by_itself { NobodyWakesByItself (locks_of self.old)
+            (locks_of self.new) }
 
-        // A thread owes a wake since the step that saw waiters, or since it entered the section, until it leaves it.
+        // A thread owes a wake since the step that saw waiters, or since it entered the section,
+        // until it leaves it.
         ensures owing { OwesSince self.old step.thread result self.new }
         ensures same_size { SameSize self.old self.new }
     {
         self.machine.turn(step)
     }
 
-    /// Steps of one thread alone, until its call ends, sleeps or is in its closure, or until its next
-    /// step isn't possible, at most `SOLO_STEPS`. It answers the outcome of the last possible step, and
-    /// `NotNow` where there was none.
+    /// Steps of one thread alone, until its call ends, sleeps or is in its closure, or until its
+    /// next step isn't possible, at most `SOLO_STEPS`. It answers the outcome of the last possible
+    /// step, and `NotNow` where there was none.
     pub fn solo(&mut self, thread: usize) -> Outcome
         ensures state { self.new ≡ (solo SOLO_STEPS self.old thread Outcome.NotNow).state }
         ensures outcome { result ≡ (solo SOLO_STEPS self.old thread Outcome.NotNow).outcome }
@@ -121,9 +128,11 @@ impl<Q: Queues + Drop> World<Q> {
         // A call under way ends or sleeps, where nobody else is inside the section that it enters.
         ensures rests { IsUnderWay self.old thread → HasItsWay self.old thread → Rests result }
 
-        // And from its beginning: it enters where it may, else sleeps as the last of the queue, or aside where it waits for readers;
-        // a try ends; a release ends without its right, and a downgrade with the lesser one.
-        ensures ends { (call : Call) → place_at self.old thread ≡ first_place (kind_at self.old (lock_in call)) call
+        // And from its beginning: it enters where it may, else sleeps as the last of the queue, or
+        // aside where it waits for readers; a try ends; a release ends without its right, and a
+        // downgrade with the lesser one.
+        ensures ends { (call : Call)
+            → place_at self.old thread ≡ first_place (kind_at self.old (lock_in call)) call
             → HasItsWay self.old thread
             → EndsAlone self.old thread (purpose_at (locks_of self.old) call) result self.new }
         ensures same_size { SameSize self.old self.new }
@@ -157,27 +166,33 @@ impl<Q: Queues + Drop> World<Q> {
     pub fn run(&mut self, steps: &[Step], outcomes: &mut Vec<Outcome>) -> Result<(), Stopped>
         ensures same_size { SameSize self.old self.new }
 
-        // Every run of the world is a run of the abstract locks, with the outcomes that it tells, from the state that it finds to the
-        // one that it leaves.
+        // Every run of the world is a run of the abstract locks, with the outcomes that it tells,
+        // from the state that it finds to the one that it leaves.
         ensures refines { OnOk result (Tells outcomes.old.items outcomes.new.items
             (λ told. IsRun (locks_of self.old) steps.now told (locks_of self.new))) }
 
-        // In it nobody is forgotten, before, between and after its steps, and each step holds what is promised of steps.
+        // In it nobody is forgotten, before, between and after its steps, and each step holds what
+        // is promised of steps.
         ensures kept_before { IsKept self.old }
         ensures run { OnOk result (Tells outcomes.old.items outcomes.new.items
             (λ told. IsWorldRun self.old steps.now told self.new)) }
 
         // The same of the steps that were taken, where memory for an outcome was refused.
-        ensures stopped_refines { IfErr result (λ stopped. Tells outcomes.old.items outcomes.new.items
-            (λ told. IsRun (locks_of self.old) (take stopped.taken steps.now) told (locks_of self.new))) }
+        ensures stopped_refines { IfErr result
+            (λ stopped. Tells outcomes.old.items outcomes.new.items
+            (λ told. IsRun (locks_of self.old) (take stopped.taken steps.now) told
+            (locks_of self.new))) }
         ensures stopped_run { IfErr result (λ stopped. Tells outcomes.old.items outcomes.new.items
             (λ told. IsWorldRun self.old (take stopped.taken steps.now) told self.new)) }
         ensures state { OnOk result (self.new ≡ after_steps self.old steps.now) }
-        ensures outcomes { OnOk result (outcomes.new.items ≡ outcomes.old.items ++ step_outcomes self.old steps.now) }
+        ensures outcomes { OnOk result
+            (outcomes.new.items ≡ outcomes.old.items ++ step_outcomes self.old steps.now) }
         ensures taken { IfErr result (λ stopped. stopped.taken < length steps.now) }
-        ensures stopped { IfErr result (λ stopped. self.new ≡ after_steps self.old (take stopped.taken steps.now)) }
+        ensures stopped { IfErr result
+            (λ stopped. self.new ≡ after_steps self.old (take stopped.taken steps.now)) }
         ensures stopped_outcomes { IfErr result
-            (λ stopped. outcomes.new.items ≡ outcomes.old.items ++ step_outcomes self.old (take stopped.taken steps.now)) }
+            (λ stopped. outcomes.new.items
+            ≡ outcomes.old.items ++ step_outcomes self.old (take stopped.taken steps.now)) }
     {
         // The proof reads the world's invariant here.
         let _ = &self.machine;
@@ -228,7 +243,8 @@ impl<Q: Queues + Drop> World<Q> {
         self.machine.place(thread)
     }
 
-    /// Who owns a lock: the exclusive, pending, upgradable and running owner, then who shares it, once for each right.
+    /// Who owns a lock: the exclusive, pending, upgradable and running owner, then who shares it,
+    /// once for each right.
     pub fn owners(&self, lock: usize) -> OwnersOf<'_>
         requires { lock < length self.now.locks }
         ensures { result ≡ owners_of self.now lock }

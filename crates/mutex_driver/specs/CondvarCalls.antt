@@ -26,10 +26,12 @@ use Rattle.lot_driver.specs.CondvarFitting.{move_did}
 use Rattle.lot_driver.specs.Paths.{Walks, condvar_at, mutex_at, step}
 use Rattle.lot_driver.specs.Telling.{owns_of, steps_of}
 
--- a thread of the lot, a mutex of it, and a condition variable of it of another number, whose keys are numbers
+-- a thread of the lot, a mutex of it, and a condition variable of it of another number, whose keys
+-- are numbers
 abbrev pub MeetBeside : ParkingLot → Token → Word → Word → Type 0
 MeetBeside lot token condvar mutex = MeetAt lot token mutex × IsWordOf lot.words condvar
-    × (condvar.kind ≡ kind.Condvar) × (condvar.number < 9223372036854775808) × (condvar.number ≢ mutex.number)
+    × (condvar.kind ≡ kind.Condvar) × (condvar.number < 9223372036854775808)
+    × (condvar.number ≢ mutex.number)
 
 -- where the word of each lock of such a call stands
 abbrev pub at_condvar : ℕ → ℕ → ℕ → ℕ
@@ -39,8 +41,8 @@ at_condvar number mutex lock = cond (mutex == lock) (mutex_at mutex) (condvar_at
 abbrev pub wait_begin : ℕ → ℕ → Bool → Place
 wait_begin c m timed = Condvar c (Wait m timed wait.Enter)
 
--- the steps that were added to a list lead from the beginning of a wait to its answer, on the words of the condition variable and
--- of the mutex
+-- the steps that were added to a list lead from the beginning of a wait to its answer, on the words
+-- of the condition variable and of the mutex
 abbrev pub HasWaited : ℕ → ℕ → Bool → Answer → List WordStep → List WordStep → Type 0
 HasWaited c m timed answer old new = Walks (at_condvar c m) (wait_begin c m timed) old new answer
 
@@ -61,21 +63,23 @@ notify_begin c all = Condvar c (Look all)
 
 -- its thread loaded the word once and found this
 abbrev pub HasLooked : ℕ → ℕ → ℕ → Token → Token → Type 0
-HasLooked words c seen old new = (steps_of new ≡ steps_of old ++ step (condvar_at c) Load seen) × (owns_of new ≡ owns_of old)
+HasLooked words c seen old new =
+    (steps_of new ≡ steps_of old ++ step (condvar_at c) Load seen) × (owns_of new ≡ owns_of old)
     × ShowsBeside words c seen
 
 -- the steps of a notification lead to its answer, beside the mutex that it saw, if any
 abbrev pub Notifies : ℕ → Bool → Answer → List WordStep → List WordStep → Type 0
 Notifies c all answer old new = (m : ℕ) × Walks (at_condvar c m) (notify_begin c all) old new answer
 
--- one that has moved some left both sections, with a record of that; who notifies all tells its number
+-- one that has moved some left both sections, with a record of that; who notifies all tells its
+-- number
 abbrev pub TellsMoved : ℕ → Bool → Answer → Option SectionRecord → Type 0
 TellsMoved c all answer last = (answer ≡ notified all 0) ⊎ ((m : ℕ) × (locked : Bool) × (number : ℕ)
     × (answer ≡ (if all then Number number else Yes))
     × (last ≡ Some (record { key = 2 * c; did = move_did all locked c m; number = number })))
 
--- the steps of a raw wait lead to its answer; a mutex of the condition variable's own number, which nobody draws, is refused at
--- once
+-- the steps of a raw wait lead to its answer; a mutex of the condition variable's own number, which
+-- nobody draws, is refused at once
 abbrev pub WaitsBy : ℕ → ℕ → Bool → Answer → List WordStep → List WordStep → Type 0
 WaitsBy c m timed answer old new =
     HasWaited c m timed answer old new ⊎ ((c ≡ m) × (answer ≡ TwoMutexes) × (new ≡ old))

@@ -1,5 +1,6 @@
-//! What the straight courses of waits and of notifications share: what a call does where nothing comes between. What does leads off it, to the
-//! driver, which goes on through the places one by one.
+//! What the straight courses of waits and of notifications share: what a call does where nothing
+//! comes between. What does leads off it, to the driver, which goes on through the places one by
+//! one.
 ghost use Rattle.std.specs.Prelude.{◌≡◌};
 ghost use Rattle.lot_base.specs.Clocks.{IsUp};
 ghost use Rattle.lot_driver.specs.Turns.{HasEnded, IsAt};
@@ -65,7 +66,8 @@ pub(crate) fn rest<'a, R: Wait, C: Clock>(
 ) -> Answer
     requires at { IsAt (IsUp C.tells limit) lot.now words place token.old section }
     requires call { IsOfCondvar place }
-    ensures { HasEnded (IsUp C.tells limit.entry) lot.now words place result token.old section.entry token.new }
+    ensures { HasEnded (IsUp C.tells limit.entry) lot.now words place result token.old section.entry
+        token.new }
 {
     match run_from(rt, lot, token, words, limit, section, place) {
         Stop::Ended(answer) => answer,

@@ -1,5 +1,5 @@
-//! Calls of mutexes and of condition variables for threads: what a call mostly does by a course of its own, turn by turn, and all else
-//! by the driver.
+//! Calls of mutexes and of condition variables for threads: what a call mostly does by a course of
+//! its own, turn by turn, and all else by the driver.
 #![tactic(auto)]
 
 pub mod condvar_calls;

@@ -33,7 +33,8 @@ fn leave_and_wake<'a, R: Wait>(
     any: bool,
 )
     requires { IsAt ⊥ lot.now words (unlocks_at mutex (unlock.Leave any)) token.old section }
-    ensures { HasEnded ⊥ lot.now words (unlocks_at mutex (unlock.Leave any)) ok token.old section.entry token.new }
+    ensures { HasEnded ⊥ lot.now words
+        (unlocks_at mutex (unlock.Leave any)) ok token.old section.entry token.new }
 {
     let mut section = section;
     let keys = Keys::One(main_key(mutex));
@@ -54,7 +55,8 @@ fn clear_and_wake<'a, R: Wait>(
     none_left: bool,
 )
     requires { IsAt ⊥ lot.now words (unlocks_at mutex (taken_on any none_left)) token.old section }
-    ensures { HasEnded ⊥ lot.now words (unlocks_at mutex (taken_on any none_left)) ok token.old section.entry token.new }
+    ensures { HasEnded ⊥ lot.now words
+        (unlocks_at mutex (taken_on any none_left)) ok token.old section.entry token.new }
 {
     if none_left {
         let op = Op::And(!PARKED);
@@ -90,7 +92,8 @@ pub fn unlock_behind<R: Wait>(rt: &R, lot: &ParkingLot, token: &mut Token, word:
     ensures own { IsSameThread lot.now token.old token.new }
     ensures path { WalksBehind word.number Unlock locked_and_parked token.old token.new ok }
     ensures rest { (more : List WordStep) × (steps_of token.new ≡ steps_of token.old ++ more) }
-    ensures over { IsMutexOver ⊥ word.number (owns_of token.old) releases ok (stage_of token.new None) }
+    ensures over { IsMutexOver ⊥ word.number (owns_of token.old) releases ok
+        (stage_of token.new None) }
 {
     unlock_through(rt, lot, token, Words::alone(word), word.number());
 }

@@ -33,10 +33,12 @@ pub type FairMutexGuard<'a, T> = lock_api::MutexGuard<'a, RawFairMutex, T>;
 
 /// Where who has the guard of a [`Mutex`] gives it up and waits to be notified.
 ///
-/// Nobody wakes by itself. `notify_one` tells whether anybody waited, and `notify_all` how many did.
+/// Nobody wakes by itself. `notify_one` tells whether anybody waited, and `notify_all` how many
+/// did.
 pub type Condvar = lock_api::Condvar<RawCondvar>;
 
-/// A value of a lot that many threads may read, or one may write. A writer that waits keeps further readers out.
+/// A value of a lot that many threads may read, or one may write. A writer that waits keeps further
+/// readers out.
 pub type RwLock<T> = lock_api_rw::RwLock<RawRwLock<false>, T>;
 
 /// The guard of who reads.

@@ -13,12 +13,16 @@ use Rattle.lot_words.specs.declared.words.Word.{Word}
 
 -- how the one at a place owns the word, which is left at this value
 abbrev pub owner_at : Word → ℕ → List Want → ℕ → Owner
-owner_at word left wanted place = owner_given word.kind left (slice_index_or wanted place wants.Exclusive)
+owner_at word left wanted place =
+    owner_given word.kind left (slice_index_or wanted place wants.Exclusive)
 
 -- what is owned has a right for each of them
 abbrev pub HasEach : Word → ℕ → List Want → List Ownership → Type 0
-HasEach word left wanted owns = HasAll (word_index word.number word.kind) (owners_given word.kind left wanted) owns
+HasEach word left wanted owns =
+    HasAll (word_index word.number word.kind) (owners_given word.kind left wanted) owns
 
 -- a view without these rights
 abbrev pub less_each : Word → ℕ → List Want → View → View
-less_each word left wanted v = view v.steps (without_all (word_index word.number word.kind) (owners_given word.kind left wanted) v.owns) v.drawn v.saw
+less_each word left wanted v =
+    view v.steps (without_all (word_index word.number word.kind)
+    (owners_given word.kind left wanted) v.owns) v.drawn v.saw

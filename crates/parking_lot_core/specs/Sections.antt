@@ -35,7 +35,8 @@ abbrev pub TookAs : Section → Section → Type 0
 TookAs old new = (new.did ≡ old.did) × (taken_in new ≡ taken_in old) × (wants_in new ≡ wants_in old)
     × (moved_in new ≡ moved_in old)
 
--- the note that is right for those whom it took: a hand-off where each was given a right, and a normal one where nobody was
+-- the note that is right for those whom it took: a hand-off where each was given a right, and a
+-- normal one where nobody was
 abbrev pub MayNote : Note → List ℕ → List ℕ → Type 0
 MayNote Normal taken rightless = rightless ≡ taken
 MayNote HandOff taken rightless = rightless ≡ []

@@ -20,7 +20,8 @@ IsWoken _ _ _ (Late _ _) = ⊥
 abbrev pub IsLate : ParkingLot → ℕ → Slept → Type 0
 IsLate _ _ Woken = ⊥
 IsLate _ _ (Handed _) = ⊥
-IsLate lot thread (Late section key) = (section.lot.now ≡ lot) × (section.keys ≡ One key) × IsUntouched section
+IsLate lot thread (Late section key) =
+    (section.lot.now ≡ lot) × (section.keys ≡ One key) × IsUntouched section
     × (key_of thread (waiting_in section) ≡ Some key)
 
 abbrev pub WasLate : Slept → Type 0

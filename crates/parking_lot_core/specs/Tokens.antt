@@ -11,10 +11,12 @@ use Rattle.parking_lot_core.specs.declared.tokens.Token.{Token}
 
 -- a thread has no permit of a value with it: its guards have them
 abbrev pub IsTicketOf : ParkingLot → Ticket → Type 0
-IsTicketOf lot ticket = IsSeatOf lot.words ticket.seat × (ticket.number < lot.records.count) × (ticket.seat.me.1 ≡ [])
+IsTicketOf lot ticket = IsSeatOf lot.words ticket.seat × (ticket.number < lot.records.count)
+    × (ticket.seat.me.1 ≡ [])
 
 abbrev pub IsTokenOf : ParkingLot → Token → Type 0
-IsTokenOf lot token = IsSeatOf lot.words token.seat × (token.number < lot.records.count) × (token.seat.me.1 ≡ [])
+IsTokenOf lot token = IsSeatOf lot.words token.seat × (token.number < lot.records.count)
+    × (token.seat.me.1 ≡ [])
 
 -- what a thread has done, and what it owns
 abbrev pub view_of : Token → View
@@ -33,7 +35,8 @@ number_of ticket = ticket.number
 
 -- a seat of a thread below this number, which has done nothing yet
 abbrev pub IsNewTicket : LotWords → ℕ → Ticket → Type 0
-IsNewTicket words seats ticket = IsSeatOf words ticket.seat × (ticket.number < seats) × (ticket.seat.me ≡ (blank, []))
+IsNewTicket words seats ticket =
+    IsSeatOf words ticket.seat × (ticket.number < seats) × (ticket.seat.me ≡ (blank, []))
 
 abbrev pub IsNewTicketOf : ParkingLot → Ticket → Type 0
 IsNewTicketOf lot ticket = IsNewTicket lot.words lot.records.count ticket

@@ -1,4 +1,5 @@
-//! The lot that threads run on: tickets and tokens, word steps, sections over the queues, and sleep.
+//! The lot that threads run on: tickets and tokens, word steps, sections over the queues, and
+//! sleep.
 #![tactic(auto)]
 
 pub mod lot;

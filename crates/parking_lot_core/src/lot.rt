@@ -16,7 +16,8 @@ use std::alloc::{AllocError, Global};
 use std::sync::atomic::AtomicUsize;
 use std::sync::{Arc, Mutex};
 
-/// The words that threads step on, the queues in which they stand, and the records by which they are woken.
+/// The words that threads step on, the queues in which they stand, and the records by which they
+/// are woken.
 #[derive(Drop)]
 pub struct ParkingLot {
     pub(crate) words: LotWords,
@@ -26,7 +27,8 @@ pub struct ParkingLot {
     // Of a thread that was taken, the one that was taken next with it.
     pub(crate) next_taken: Vec<AtomicUsize>,
     ghost keyed: { records.table.shared.key ≡ words },
-    ghost for_each_seat: { (length unparkers.items ≡ records.count) × (length next_taken.items ≡ records.count) },
+    ghost for_each_seat: { (length unparkers.items ≡ records.count)
+        × (length next_taken.items ≡ records.count) },
 }
 
 fn empty_records(alloc: Global, seats: usize) -> Result<Vec<Option<WakeRecord>>, AllocError>
@@ -103,12 +105,14 @@ impl ParkingLot {
 
     /// Whether a lot may have so many words and threads: 1 to 2^20, and 1 to 1024.
     pub fn fits(words: usize, seats: usize) -> bool
-        ensures { IsTrue result ↔ ((0 < words) × (words ≤ most_words) × (0 < seats) × (seats ≤ 1024)) }
+        ensures { IsTrue result
+            ↔ ((0 < words) × (words ≤ most_words) × (0 < seats) × (seats ≤ 1024)) }
     {
         0 < words && words <= 1 << 20 && 0 < seats && seats <= 1024
     }
 
-    /// A lot of 1 to 2^20 words for 1 to 1024 threads, and a ticket for each of these, numbered from 0.
+    /// A lot of 1 to 2^20 words for 1 to 1024 threads, and a ticket for each of these, numbered
+    /// from 0.
     ///
     /// It takes all memory that the lot ever needs.
     ///

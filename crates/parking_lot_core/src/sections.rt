@@ -1,6 +1,7 @@
 //! Sections, in which one thread at a time changes the queues of its keys.
 //!
-//! All sections stand behind one lock as yet: a thread that is inside one and enters another waits for itself.
+//! All sections stand behind one lock as yet: a thread that is inside one and enters another waits
+//! for itself.
 ghost use Rattle.std.specs.Prelude.{◌≡◌, ◌≢◌, ◌<◌, ◌≤◌, ◌+◌, ◌++◌, ◌∷◌, ◌==◌, not, [], Some, Contains, MatchOption, length, slice_index, take, true};
 ghost use Rattle.std.specs.List.{filter};
 ghost use Rattle.std.specs.Sync.Mutex.{mutex_guard_value};
@@ -20,15 +21,16 @@ use lot_words::{Owner, Right, Word};
 use std::sync::atomic::Ordering::SeqCst;
 use std::sync::{MutexGuard, Wait};
 
-// How often a thread tries to enter a section before it sleeps until it may, and for how many rounds it pauses behind a try.
+// How often a thread tries to enter a section before it sleeps until it may, and for how many
+// rounds it pauses behind a try.
 const TRIES: u32 = 40;
 
 const PAUSE: u32 = 12;
 
 /// What a thread may do to the queues of its keys while nobody else does anything to them.
 ///
-/// It takes or moves waiters by one call at most, and wakes those that it took as it leaves. It has to be left: it can't be
-/// dropped.
+/// It takes or moves waiters by one call at most, and wakes those that it took as it leaves. It has
+/// to be left: it can't be dropped.
 pub struct Section<'a> {
     lot: &'a ParkingLot,
     queueing: MutexGuard<'a, Queueing>,
@@ -38,13 +40,16 @@ pub struct Section<'a> {
     moved: usize,
     ghost seated: { (mutex_guard_value queueing).seats ≡ lot.now.records.count },
     ghost fresh: { did ≡ Nothing → ((mutex_guard_value queueing).taken.items ≡ [])
-        × ((mutex_guard_value queueing).rightless.items ≡ []) × ((mutex_guard_value queueing).wants.items ≡ [])
+        × ((mutex_guard_value queueing).rightless.items ≡ [])
+        × ((mutex_guard_value queueing).wants.items ≡ [])
         × (moved ≡ 0) },
     ghost few: { moved ≤ (mutex_guard_value queueing).seats },
-    ghost each_wants: { length (mutex_guard_value queueing).wants.items ≡ length (mutex_guard_value queueing).taken.items },
+    ghost each_wants: { length (mutex_guard_value queueing).wants.items
+        ≡ length (mutex_guard_value queueing).taken.items },
 }
 
-// What a lock keeps is known by its type alone, so a fact about its lot is tested. The test never fails.
+// What a lock keeps is known by its type alone, so a fact about its lot is tested. The test never
+// fails.
 fn never<R: Wait>(rt: &R) -> ! {
     for _ in rt.forever() {}
     unreachable!()
@@ -63,8 +68,9 @@ impl ParkingLot {
     ghost use Rattle.parking_lot_core.specs.Sections.{IsUntouched};
     ghost use Rattle.parking_lot_core.specs.Tokens.{IsTokenOf, IsSameThread};
 
-    // Takes the lock of the queues, unless others have it all the while. A section is short, so that falling asleep for one mostly
-    // takes longer than the wait, and costs the thread that is inside as well, which has to wake the sleeper.
+    // Takes the lock of the queues, unless others have it all the while. A section is short, so
+    // that falling asleep for one mostly takes longer than the wait, and costs the thread that is
+    // inside as well, which has to wake the sleeper.
     fn try_queues(&self) -> Option<MutexGuard<'_, Queueing>> {
         for _ in 0..TRIES {
             if let Some(queueing) = self.queueing.try_lock() {
@@ -96,7 +102,8 @@ impl ParkingLot {
         }
     }
 
-    /// Enters the section of a key, or of two keys that differ, and waits while another thread is inside one.
+    /// Enters the section of a key, or of two keys that differ, and waits while another thread is
+    /// inside one.
     pub fn enter<'a, R: Wait>(&'a self, rt: &R, _token: &mut Token, keys: Keys) -> Section<'a>
         requires own { IsTokenOf self.now _token.old }
         requires keys { AreKeys keys }
@@ -163,13 +170,15 @@ impl<'a> Section<'a> {
     ghost use Rattle.lot_words.specs.RightsOf.{IsRightOf};
     ghost use Rattle.lot_words.specs.Steps.{has};
 
-    /// Puts a thread behind the last under a key. One that stands somewhere leaves that place first.
+    /// Puts a thread behind the last under a key. One that stands somewhere leaves that place
+    /// first.
     pub fn append(&mut self, key: Key, thread: usize, want: Want)
         requires key { IsKeyOf self.old.keys key }
         requires thread { thread < self.old.lot.now.records.count }
         ensures lines { lines (waiting_in self.new)
             ≡ lines (without thread (waiting_in self.old) ++ waiter key thread want ∷ []) }
-        ensures same { StaysIn self.old self.new × TookAs self.old self.new × (rightless_in self.new ≡ rightless_in self.old) }
+        ensures same { StaysIn self.old self.new × TookAs self.old self.new
+            × (rightless_in self.new ≡ rightless_in self.old) }
     {
         self.queueing.append(key, thread, want);
     }
@@ -177,7 +186,8 @@ impl<'a> Section<'a> {
     /// Removes a thread from where it stands.
     pub fn remove(&mut self, thread: usize)
         ensures lines { lines (waiting_in self.new) ≡ lines (without thread (waiting_in self.old)) }
-        ensures same { StaysIn self.old self.new × TookAs self.old self.new × (rightless_in self.new ≡ rightless_in self.old) }
+        ensures same { StaysIn self.old self.new × TookAs self.old self.new
+            × (rightless_in self.new ≡ rightless_in self.old) }
     {
         self.queueing.remove(thread);
     }
@@ -187,11 +197,14 @@ impl<'a> Section<'a> {
         requires key { IsKeyOf self.old.keys key }
         requires first_take { self.old.did ≡ Nothing }
         ensures first { result ≡ first_of (line key (waiting_in self.old)) }
-        ensures taken { MatchOption result (taken_in self.new ≡ []) (λ thread. taken_in self.new ≡ thread ∷ [])
+        ensures taken { MatchOption result (taken_in self.new ≡ [])
+            (λ thread. taken_in self.new ≡ thread ∷ [])
             × (rightless_in self.new ≡ taken_in self.new) }
         ensures wants { wants_in self.new ≡ wants_of (take 1 (line key (waiting_in self.old))) }
-        ensures lines { lines (waiting_in self.new) ≡ lines (without_first key (waiting_in self.old)) }
-        ensures did { StaysIn self.old self.new × (self.new.did ≡ TakeFirst key) × (moved_in self.new ≡ 0) }
+        ensures lines { lines (waiting_in self.new)
+            ≡ lines (without_first key (waiting_in self.old)) }
+        ensures did { StaysIn self.old self.new × (self.new.did ≡ TakeFirst key)
+            × (moved_in self.new ≡ 0) }
     {
         self.did = Did::TakeFirst(key);
         self.queueing.take_first(key)
@@ -204,23 +217,29 @@ impl<'a> Section<'a> {
         ensures taken { (taken_in self.new ≡ threads_of (line key (waiting_in self.old)))
             × (rightless_in self.new ≡ taken_in self.new) }
         ensures wants { wants_in self.new ≡ wants_of (line key (waiting_in self.old)) }
-        ensures lines { lines (waiting_in self.new) ≡ lines (without_key key (waiting_in self.old)) }
-        ensures did { StaysIn self.old self.new × (self.new.did ≡ TakeAll key) × (moved_in self.new ≡ 0) }
+        ensures lines { lines (waiting_in self.new)
+            ≡ lines (without_key key (waiting_in self.old)) }
+        ensures did { StaysIn self.old self.new × (self.new.did ≡ TakeAll key)
+            × (moved_in self.new ≡ 0) }
     {
         self.did = Did::TakeAll(key);
         self.queueing.take_all(key);
     }
 
-    /// Takes who is picked of the main queue of a reader-writer lock. The thread keeps a right of its own, or none.
+    /// Takes who is picked of the main queue of a reader-writer lock. The thread keeps a right of
+    /// its own, or none.
     pub fn take_picked(&mut self, key: Key, start: Option<Want>, recursive: bool)
         requires key { IsKeyOf self.old.keys key }
         requires first_take { self.old.did ≡ Nothing }
         ensures taken { (taken_in self.new
             ≡ threads_of (lock_picked start recursive (line key (waiting_in self.old))))
             × (rightless_in self.new ≡ taken_in self.new) }
-        ensures wants { wants_in self.new ≡ wants_of (lock_picked start recursive (line key (waiting_in self.old))) }
-        ensures lines { lines (waiting_in self.new) ≡ lines (without_lock_picked start recursive key (waiting_in self.old)) }
-        ensures did { StaysIn self.old self.new × (self.new.did ≡ TakePicked key start recursive) × (moved_in self.new ≡ 0) }
+        ensures wants { wants_in self.new
+            ≡ wants_of (lock_picked start recursive (line key (waiting_in self.old))) }
+        ensures lines { lines (waiting_in self.new)
+            ≡ lines (without_lock_picked start recursive key (waiting_in self.old)) }
+        ensures did { StaysIn self.old self.new × (self.new.did ≡ TakePicked key start recursive)
+            × (moved_in self.new ≡ 0) }
     {
         self.did = Did::TakePicked {
             key,
@@ -230,17 +249,22 @@ impl<'a> Section<'a> {
         self.queueing.take_picked(key, start, recursive);
     }
 
-    /// Moves waiters from under one of its keys behind the last under the other. Those who are moved want to own alone from
-    /// then on. It answers who was taken, if any, and how many were moved.
+    /// Moves waiters from under one of its keys behind the last under the other. Those who are
+    /// moved want to own alone from then on. It answers who was taken, if any, and how many were
+    /// moved.
     pub fn requeue(&mut self, from: Key, to: Key, op: Requeue) -> (Option<usize>, usize)
         requires keys { IsKeyOf self.old.keys from × IsKeyOf self.old.keys to × (from ≢ to) }
         requires first_take { self.old.did ≡ Nothing }
         ensures first { result.0 ≡ taken_by op (line from (waiting_in self.old)) }
-        ensures taken { MatchOption result.0 (taken_in self.new ≡ []) (λ thread. taken_in self.new ≡ thread ∷ [])
+        ensures taken { MatchOption result.0 (taken_in self.new ≡ [])
+            (λ thread. taken_in self.new ≡ thread ∷ [])
             × (rightless_in self.new ≡ taken_in self.new) }
-        ensures wants { wants_in self.new ≡ wants_of (taken_in_line op (line from (waiting_in self.old))) }
-        ensures moved { (result.1 ≡ length (moved_by op (line from (waiting_in self.old)))) × (moved_in self.new ≡ result.1) }
-        ensures lines { lines (waiting_in self.new) ≡ lines (requeued op from to (waiting_in self.old)) }
+        ensures wants { wants_in self.new
+            ≡ wants_of (taken_in_line op (line from (waiting_in self.old))) }
+        ensures moved { (result.1 ≡ length (moved_by op (line from (waiting_in self.old))))
+            × (moved_in self.new ≡ result.1) }
+        ensures lines { lines (waiting_in self.new)
+            ≡ lines (requeued op from to (waiting_in self.old)) }
         ensures did { StaysIn self.old self.new × (self.new.did ≡ Did.Requeue from to op) }
     {
         self.did = Did::Requeue { from, to, op };
@@ -271,7 +295,8 @@ impl<'a> Section<'a> {
         self.queueing.taken()
     }
 
-    /// What each of them wants, in the same order. So who hands a lock over to several gives each the right that it wants.
+    /// What each of them wants, in the same order. So who hands a lock over to several gives each
+    /// the right that it wants.
     pub fn wants(&self) -> &[Want]
         ensures { result.now ≡ wants_in self.now }
     {
@@ -292,12 +317,15 @@ impl<'a> Section<'a> {
         self.queueing.taken().len() + self.moved
     }
 
-    /// Lays a right in the record of a thread that the section took. A right that lies there already goes with the lot.
+    /// Lays a right in the record of a thread that the section took. A right that lies there
+    /// already goes with the lot.
     pub fn give<R: Wait>(&mut self, rt: &R, thread: usize, right: Right)
         requires taken { Contains (taken_in self.old) thread }
         requires right { IsRightOf self.old.lot.now.words right }
-        ensures rightless { rightless_in self.new ≡ filter (λ x. not (x == thread)) (rightless_in self.old) }
-        ensures same { StaysIn self.old self.new × TookAs self.old self.new × (waiting_in self.new ≡ waiting_in self.old) }
+        ensures rightless { rightless_in self.new
+            ≡ filter (λ x. not (x == thread)) (rightless_in self.old) }
+        ensures same { StaysIn self.old self.new × TookAs self.old self.new
+            × (waiting_in self.new ≡ waiting_in self.old) }
     {
         self.lay(rt, thread, right);
     }
@@ -307,8 +335,10 @@ impl<'a> Section<'a> {
         requires some { 0 < length (rightless_in self.old) }
         requires right { IsRightOf self.old.lot.now.words right }
         ensures first { result ≡ slice_index (rightless_in self.old) 0 }
-        ensures rightless { rightless_in self.new ≡ filter (λ x. not (x == result)) (rightless_in self.old) }
-        ensures same { StaysIn self.old self.new × TookAs self.old self.new × (waiting_in self.new ≡ waiting_in self.old) }
+        ensures rightless { rightless_in self.new
+            ≡ filter (λ x. not (x == result)) (rightless_in self.old) }
+        ensures same { StaysIn self.old self.new × TookAs self.old self.new
+            × (waiting_in self.new ≡ waiting_in self.old) }
     {
         let thread = self.queueing.rightless()[0];
         self.lay(rt, thread, right);
@@ -317,15 +347,18 @@ impl<'a> Section<'a> {
 
     fn lay<R: Wait>(&mut self, rt: &R, thread: usize, right: Right)
         requires { IsRightOf self.old.lot.now.words right }
-        ensures rightless { rightless_in self.new ≡ filter (λ x. not (x == thread)) (rightless_in self.old) }
-        ensures same { StaysIn self.old self.new × TookAs self.old self.new × (waiting_in self.new ≡ waiting_in self.old) }
+        ensures rightless { rightless_in self.new
+            ≡ filter (λ x. not (x == thread)) (rightless_in self.old) }
+        ensures same { StaysIn self.old self.new × TookAs self.old self.new
+            × (waiting_in self.new ≡ waiting_in self.old) }
     {
         self.lot.lay(rt, thread, right);
         self.queueing.note_right(thread);
     }
 
-    /// Gives the thread at a place among those whom the section took its right to a lock, by what it wants and by the value at
-    /// which the word of the lock is left. The right is split off the token.
+    /// Gives the thread at a place among those whom the section took its right to a lock, by what
+    /// it wants and by the value at which the word of the lock is left. The right is split off the
+    /// token.
     pub fn give_wanted<R: Wait>(
         &mut self,
         rt: &R,
@@ -336,13 +369,17 @@ impl<'a> Section<'a> {
     )
         requires own { IsTokenOf self.old.lot.now token.old × IsWordOf self.old.lot.now.words word }
         requires place { place < length (taken_in self.old) }
-        requires named { has (named_by word (owner_at word left (wants_in self.old) place)) (view_of token.old).owns ≡ true }
-        ensures own { IsSameThread self.old.lot.now token.old token.new × (last_of token.new ≡ last_of token.old) }
+        requires named { has (named_by word (owner_at word left (wants_in self.old) place))
+            (view_of token.old).owns ≡ true }
+        ensures own { IsSameThread self.old.lot.now token.old token.new
+            × (last_of token.new ≡ last_of token.old) }
         ensures left { view_of token.new
-            ≡ left_over (named_by word (owner_at word left (wants_in self.old) place)) (view_of token.old) }
+            ≡ left_over (named_by word (owner_at word left (wants_in self.old) place))
+            (view_of token.old) }
         ensures rightless { rightless_in self.new ≡ filter
             (λ x. not (x == slice_index (taken_in self.old) place)) (rightless_in self.old) }
-        ensures same { StaysIn self.old self.new × TookAs self.old self.new × (waiting_in self.new ≡ waiting_in self.old) }
+        ensures same { StaysIn self.old self.new × TookAs self.old self.new
+            × (waiting_in self.new ≡ waiting_in self.old) }
     {
         let owner = Owner::given(word.kind(), left, self.queueing.wants()[place]);
         let right = self.lot.split_owner(token, word, owner);
@@ -350,16 +387,19 @@ impl<'a> Section<'a> {
         self.lay(rt, thread, right);
     }
 
-    /// Gives each whom the section took its right to a lock, by what it wants and by the value at which the word of the lock is
-    /// left. The rights are split off the token.
+    /// Gives each whom the section took its right to a lock, by what it wants and by the value at
+    /// which the word of the lock is left. The rights are split off the token.
     pub fn give_each<R: Wait>(&mut self, rt: &R, token: &mut Token, word: Word, left: u64)
         requires own { IsTokenOf self.old.lot.now token.old × IsWordOf self.old.lot.now.words word }
         requires named { HasEach word left (wants_in self.old) (view_of token.old).owns }
         requires ungiven { rightless_in self.old ≡ taken_in self.old }
-        ensures own { IsSameThread self.old.lot.now token.old token.new × (last_of token.new ≡ last_of token.old) }
-        ensures left { view_of token.new ≡ less_each word left (wants_in self.old) (view_of token.old) }
+        ensures own { IsSameThread self.old.lot.now token.old token.new
+            × (last_of token.new ≡ last_of token.old) }
+        ensures left { view_of token.new
+            ≡ less_each word left (wants_in self.old) (view_of token.old) }
         ensures given { rightless_in self.new ≡ [] }
-        ensures same { StaysIn self.old self.new × TookAs self.old self.new × (waiting_in self.new ≡ waiting_in self.old) }
+        ensures same { StaysIn self.old self.new × TookAs self.old self.new
+            × (waiting_in self.new ≡ waiting_in self.old) }
     {
         for place in 0..self.queueing.taken().len() {
             self.give_wanted(rt, token, word, left, place);
@@ -380,11 +420,13 @@ impl<'a> Section<'a> {
         drop(queueing);
     }
 
-    /// Leaves. Whom the section took gets the note and is woken, and the token keeps the record of it.
+    /// Leaves. Whom the section took gets the note and is woken, and the token keeps the record of
+    /// it.
     pub fn leave<R: Wait>(self, rt: &R, token: &mut Token, note: Note)
         requires own { IsTokenOf self.lot.now token.old }
         requires note { MayNote note (taken_in self) (rightless_in self) }
-        ensures own { IsSameThread self.entry.lot.now token.old token.new × (token.new.seat ≡ token.old.seat) }
+        ensures own { IsSameThread self.entry.lot.now token.old token.new
+            × (token.new.seat ≡ token.old.seat) }
         ensures recorded { last_of token.new
             ≡ Some (record {
               key = first_key self.entry.keys;

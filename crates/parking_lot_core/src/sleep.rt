@@ -11,11 +11,12 @@ use lot_words::{Right, Word};
 use std::sync::Wait;
 use std::thread::yield_now;
 
-// How often a thread polls its note before it sleeps. Where nobody else wants the processor that takes some three times as long as
-// to fall asleep and be woken, so that who is one of several in a queue is mostly told meanwhile.
+// How often a thread polls its note before it sleeps, so that who is one of several in a queue is
+// mostly told meanwhile. It was found by trial, with the bounded queues of `lotbench`.
 const POLLS: u32 = 64;
 
-// Behind so many of them it pauses, for so many rounds; behind a later one it lets others run, who may be about to wake it.
+// Behind so many of them it pauses, for so many rounds; behind a later one it lets others run, who
+// may be about to wake it.
 const PAUSED_POLLS: u32 = 12;
 
 const PAUSE: u32 = 6;
@@ -54,8 +55,9 @@ impl ParkingLot {
         }
     }
 
-    // What the thread was told, if anything. The right is looked at only once there is a note: whoever gives a right
-    // writes the note after it, and a note that came later would wake the next sleep.
+    // What the thread was told, if anything. The right is looked at only once there is a note:
+    // whoever gives a right writes the note after it, and a note that came later would wake the
+    // next sleep.
     fn look<'a, R: Wait>(
         &'a self,
         rt: &R,
@@ -94,8 +96,9 @@ impl ParkingLot {
 
     /// Sleeps until the thread is woken, or up to a deadline on a clock.
     ///
-    /// A right that was handed to the thread for another word or want stays where it is, and the thread sleeps on. A
-    /// thread that was taken before it could give up is woken and not late, and without a limit nobody is late.
+    /// A right that was handed to the thread for another word or want stays where it is, and the
+    /// thread sleeps on. A thread that was taken before it could give up is woken and not late, and
+    /// without a limit nobody is late.
     pub fn sleep<'a, R: Wait, C: Clock>(
         &'a self,
         rt: &R,

@@ -122,7 +122,8 @@ impl Token {
         self.number
     }
 
-    // The thread steps. It writes only where a section is told: a locked instruction waits until every write before it is done.
+    // The thread steps. It writes only where a section is told: a locked instruction waits until
+    // every write before it is done.
     #[inline]
     pub(crate) fn forget_section(&mut self)
         ensures same { (self.new.seat ≡ self.old.seat) × (self.new.number ≡ self.old.number) }
@@ -133,7 +134,8 @@ impl Token {
         }
     }
 
-    // The same of who only looks: no locked instruction waits for the write, and it takes less time than the question.
+    // The same of who only looks: no locked instruction waits for the write, and it takes less time
+    // than the question.
     #[inline]
     pub(crate) fn forget_at_once(&mut self)
         ensures same { (self.new.seat ≡ self.old.seat) × (self.new.number ≡ self.old.number) }
@@ -152,7 +154,8 @@ impl Token {
         self.is_recorded = false;
     }
 
-    /// What the thread did in the section that it left last. None once it has stepped on a word since.
+    /// What the thread did in the section that it left last. None once it has stepped on a word
+    /// since.
     #[inline]
     pub fn last_section(&self) -> Option<SectionRecord>
         ensures { result ≡ last_of self.now }

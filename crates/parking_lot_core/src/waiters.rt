@@ -28,7 +28,8 @@ impl WakeRecord {
 
     // Takes the right out, if it is what its thread waits for.
     pub(crate) fn take_right(&mut self, word: Word, want: Want) -> Option<Right>
-        ensures taken { IfSome result (λ right. (self.old.right ≡ Some right) × IsFor word want right) }
+        ensures taken { IfSome result
+            (λ right. (self.old.right ≡ Some right) × IsFor word want right) }
         ensures left { (self.new.right ≡ None) ⊎ (self.new.right ≡ self.old.right) }
     {
         let right = self.right.take()?;

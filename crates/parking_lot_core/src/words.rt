@@ -25,72 +25,89 @@ impl ParkingLot {
     #[inline]
     pub fn word(&self, token: &mut Token, word: Word, op: Op) -> u64
         requires own { IsTokenOf self.now token.old × IsWordOf self.now.words word }
-        requires may { MayStep word.kind (word_index word.number word.kind) op (view_of token.old).owns }
+        requires may { MayStep word.kind (word_index word.number word.kind) op
+            (view_of token.old).owns }
         ensures own { IsSameThread self.now token.old token.new × (last_of token.new ≡ None) }
         ensures stepped { view_of token.new
-            ≡ after_step word.kind (word_index word.number word.kind) op result (view_of token.old) }
-        ensures coded { CodesWith word.kind (word_index word.number word.kind) result (view_of token.old).owns }
+            ≡ after_step word.kind (word_index word.number word.kind) op result
+            (view_of token.old) }
+        ensures coded { CodesWith word.kind (word_index word.number word.kind) result
+            (view_of token.old).owns }
     {
         token.forget_section();
         self.words.step(&mut token.seat, word, op)
     }
 
-    /// One load of a word, as a step: what `word` does with `Op::Load`, for who does no more than look.
+    /// One load of a word, as a step: what `word` does with `Op::Load`, for who does no more than
+    /// look.
     #[inline]
     pub fn load(&self, token: &mut Token, word: Word) -> u64
         requires own { IsTokenOf self.now token.old × IsWordOf self.now.words word }
-        requires may { MayStep word.kind (word_index word.number word.kind) Load (view_of token.old).owns }
+        requires may { MayStep word.kind (word_index word.number word.kind) Load
+            (view_of token.old).owns }
         ensures own { IsSameThread self.now token.old token.new × (last_of token.new ≡ None) }
         ensures stepped { view_of token.new
-            ≡ after_step word.kind (word_index word.number word.kind) Load result (view_of token.old) }
-        ensures coded { CodesWith word.kind (word_index word.number word.kind) result (view_of token.old).owns }
+            ≡ after_step word.kind (word_index word.number word.kind) Load result
+            (view_of token.old) }
+        ensures coded { CodesWith word.kind (word_index word.number word.kind) result
+            (view_of token.old).owns }
     {
         token.forget_at_once();
         self.words.step(&mut token.seat, word, Op::Load)
     }
 
-    /// Shows a mutex that the thread owns on the word of a condition variable, where that shows none. It answers the value
-    /// before: 0, or one more than the number of the mutex that is shown.
+    /// Shows a mutex that the thread owns on the word of a condition variable, where that shows
+    /// none. It answers the value before: 0, or one more than the number of the mutex that is
+    /// shown.
     pub fn show_mutex(&self, token: &mut Token, condvar: Word, mutex: Word) -> u64
-        requires own { IsTokenOf self.now token.old × IsWordOf self.now.words condvar × IsWordOf self.now.words mutex }
-        requires kinds { (condvar.kind ≡ Condvar) × (mutex.kind ≡ Mutex) × (condvar.number ≢ mutex.number) }
+        requires own { IsTokenOf self.now token.old × IsWordOf self.now.words condvar
+            × IsWordOf self.now.words mutex }
+        requires kinds { (condvar.kind ≡ Condvar) × (mutex.kind ≡ Mutex)
+            × (condvar.number ≢ mutex.number) }
         requires owned { has (named_by mutex Exclusive) (view_of token.old).owns ≡ true }
         ensures own { IsSameThread self.now token.old token.new × (last_of token.new ≡ None) }
         ensures stepped { view_of token.new
-            ≡ after_step Condvar (word_index condvar.number Condvar) (Exchange 0 (mutex.number + 1)) result (view_of token.old) }
+            ≡ after_step Condvar (word_index condvar.number Condvar)
+            (Exchange 0 (mutex.number + 1)) result (view_of token.old) }
     {
         condvar_may_step();
         let to = mutex.number() as u64 + 1;
         self.word(token, condvar, Op::Exchange { from: 0, to })
     }
 
-    /// Looks what a condition variable shows, by one load of its word. It answers 0 where that is nothing, and else one more than the number of
-    /// a mutex of the lot.
+    /// Looks what a condition variable shows, by one load of its word. It answers 0 where that is
+    /// nothing, and else one more than the number of a mutex of the lot.
     #[inline]
     pub fn look_shown(&self, token: &mut Token, condvar: Word) -> u64
-        requires { IsTokenOf self.now token.old × IsWordOf self.now.words condvar × (condvar.kind ≡ Condvar) }
+        requires { IsTokenOf self.now token.old × IsWordOf self.now.words condvar
+            × (condvar.kind ≡ Condvar) }
         ensures own { IsSameThread self.now token.old token.new × (last_of token.new ≡ None) }
         ensures stepped { view_of token.new
-            ≡ after_step Condvar (word_index condvar.number Condvar) Load result (view_of token.old) }
+            ≡ after_step Condvar (word_index condvar.number Condvar) Load result
+            (view_of token.old) }
         ensures shown { ShowsBeside self.now.words.count condvar.number result }
     {
         token.forget_at_once();
         self.words.look_shown(&mut token.seat, condvar)
     }
 
-    /// The mutex that a condition variable of this lot shows by this value, by one more than its number.
+    /// The mutex that a condition variable of this lot shows by this value, by one more than its
+    /// number.
     pub fn mutex_shown(&self, seen: u64) -> Word
         requires shown { (seen ≢ 0) × (seen ≤ self.now.words.count) }
-        ensures { IsWordOf self.now.words result × (result.kind ≡ Mutex) × (seen ≡ result.number + 1) }
+        ensures { IsWordOf self.now.words result × (result.kind ≡ Mutex)
+            × (seen ≡ result.number + 1) }
     {
         self.words.mutex_shown(seen)
     }
 
-    /// Counts once more how often the thread has locked a mutex that it owns. It answers the count before, which the thread said.
+    /// Counts once more how often the thread has locked a mutex that it owns. It answers the count
+    /// before, which the thread said.
     pub fn raise_count(&self, token: &mut Token, mutex: Word, count: Word) -> u64
         requires own { IsTokenOf self.now token.old × IsWordOf self.now.words count }
         requires pair { (count.kind ≡ Count) × (count.number ≡ mutex.number + 1) }
-        requires owned { (said : ℕ) × OwnsWith mutex said (view_of token.old) × IsCountCode (said + 1) }
+        requires owned { (said : ℕ) × OwnsWith mutex said (view_of token.old)
+            × IsCountCode (said + 1) }
         ensures own { IsSameThread self.now token.old token.new × (last_of token.new ≡ None) }
         ensures said { OwnsWith mutex result (view_of token.old) }
         ensures says { OwnsWith mutex (result + 1) (view_of token.new) }
@@ -109,11 +126,14 @@ impl ParkingLot {
     /// `LotFull`, only where a step saw no word left. Nothing is drawn then.
     pub fn new_word(&self, token: &mut Token, kind: WordKind) -> Result<Word, Fault>
         requires { IsTokenOf self.now token.old }
-        ensures own { IsSameThread self.now token.old token.new × ((view_of token.new).owns ≡ (view_of token.old).owns) }
+        ensures own { IsSameThread self.now token.old token.new
+            × ((view_of token.new).owns ≡ (view_of token.old).owns) }
         ensures word { IfOk result (λ word. IsWordOf self.now.words word × (word.kind ≡ kind)) }
         ensures drawn { MatchResult result
-            (λ word. IsDrawn self.now.words.count (kind ∷ []) word.number (view_of token.old) (view_of token.new))
-            (λ fault. (fault ≡ Fault.LotFull) × IsDrawRefused self.now.words.count 1 (view_of token.old) (view_of token.new)) }
+            (λ word. IsDrawn self.now.words.count (kind ∷ []) word.number (view_of token.old)
+            (view_of token.new))
+            (λ fault. (fault ≡ Fault.LotFull)
+            × IsDrawRefused self.now.words.count 1 (view_of token.old) (view_of token.new)) }
     {
         token.forget_section();
         self.words.new_word(&mut token.seat, kind)
@@ -126,13 +146,17 @@ impl ParkingLot {
     /// `LotFull`, only where a step saw fewer than two words left. Nothing is drawn then.
     pub fn new_pair(&self, token: &mut Token) -> Result<(Word, Word), Fault>
         requires { IsTokenOf self.now token.old }
-        ensures own { IsSameThread self.now token.old token.new × ((view_of token.new).owns ≡ (view_of token.old).owns) }
+        ensures own { IsSameThread self.now token.old token.new
+            × ((view_of token.new).owns ≡ (view_of token.old).owns) }
         ensures words { IfOk result (λ pair. IsWordOf self.now.words pair.0 × (pair.0.kind ≡ Mutex)
-            × IsWordOf self.now.words pair.1 × (pair.1.kind ≡ Count) × (pair.1.number ≡ pair.0.number + 1)) }
+            × IsWordOf self.now.words pair.1 × (pair.1.kind ≡ Count)
+            × (pair.1.number ≡ pair.0.number + 1)) }
         ensures drawn { MatchResult result
-            (λ pair. IsDrawn self.now.words.count (Mutex ∷ Count ∷ []) pair.0.number (view_of token.old)
+            (λ pair. IsDrawn self.now.words.count (Mutex ∷ Count ∷ []) pair.0.number
+            (view_of token.old)
             (view_of token.new))
-            (λ fault. (fault ≡ Fault.LotFull) × IsDrawRefused self.now.words.count 2 (view_of token.old) (view_of token.new)) }
+            (λ fault. (fault ≡ Fault.LotFull)
+            × IsDrawRefused self.now.words.count 2 (view_of token.old) (view_of token.new)) }
     {
         token.forget_section();
         self.words.new_pair(&mut token.seat)
@@ -143,8 +167,10 @@ impl ParkingLot {
     pub fn split_held(&self, token: &mut Token, word: Word, want: Want) -> Held
         requires own { IsTokenOf self.now token.old }
         requires named { has (named_by word (owner_for want)) (view_of token.old).owns ≡ true }
-        ensures own { IsSameThread self.now token.old token.new × (last_of token.new ≡ last_of token.old) }
-        ensures left { view_of token.new ≡ left_over (named_by word (owner_for want)) (view_of token.old) }
+        ensures own { IsSameThread self.now token.old token.new
+            × (last_of token.new ≡ last_of token.old) }
+        ensures left { view_of token.new
+            ≡ left_over (named_by word (owner_for want)) (view_of token.old) }
         ensures held { IsHeldOf self.now.words word (owner_for want) result }
     {
         self.words
@@ -154,9 +180,12 @@ impl ParkingLot {
     /// Gives it back to a token, and it is spent. It loads a word, which is no step of a call.
     #[inline]
     pub fn join_held(&self, token: &mut Token, word: Word, want: Want, held: Held)
-        requires { IsTokenOf self.now token.old × IsHeldOf self.now.words word (owner_for want) held }
-        ensures own { IsSameThread self.now token.old token.new × (last_of token.new ≡ last_of token.old) }
-        ensures joined { view_of token.new ≡ takes_in (view_of token.old) (piece_of word (owner_for want)) }
+        requires { IsTokenOf self.now token.old
+            × IsHeldOf self.now.words word (owner_for want) held }
+        ensures own { IsSameThread self.now token.old token.new
+            × (last_of token.new ≡ last_of token.old) }
+        ensures joined { view_of token.new
+            ≡ takes_in (view_of token.old) (piece_of word (owner_for want)) }
     {
         self.words
             .join_held(&mut token.seat, word, Owner::of_want(want), held);
@@ -167,9 +196,12 @@ impl ParkingLot {
     pub fn split_right(&self, token: &mut Token, word: Word, want: Want) -> Right
         requires own { IsTokenOf self.now token.old × IsWordOf self.now.words word }
         requires named { has (named_by word (owner_for want)) (view_of token.old).owns ≡ true }
-        ensures own { IsSameThread self.now token.old token.new × (last_of token.new ≡ last_of token.old) }
-        ensures left { view_of token.new ≡ left_over (named_by word (owner_for want)) (view_of token.old) }
-        ensures right { IsRightOf self.now.words result × (result.word ≡ word) × (result.owner ≡ owner_for want) }
+        ensures own { IsSameThread self.now token.old token.new
+            × (last_of token.new ≡ last_of token.old) }
+        ensures left { view_of token.new
+            ≡ left_over (named_by word (owner_for want)) (view_of token.old) }
+        ensures right { IsRightOf self.now.words result × (result.word ≡ word)
+            × (result.owner ≡ owner_for want) }
     {
         self.split_owner(token, word, Owner::of_want(want))
     }
@@ -179,32 +211,42 @@ impl ParkingLot {
     pub fn split_owner(&self, token: &mut Token, word: Word, owner: Owner) -> Right
         requires own { IsTokenOf self.now token.old × IsWordOf self.now.words word }
         requires named { has (named_by word owner) (view_of token.old).owns ≡ true }
-        ensures own { IsSameThread self.now token.old token.new × (last_of token.new ≡ last_of token.old) }
+        ensures own { IsSameThread self.now token.old token.new
+            × (last_of token.new ≡ last_of token.old) }
         ensures left { view_of token.new ≡ left_over (named_by word owner) (view_of token.old) }
-        ensures right { IsRightOf self.now.words result × (result.word ≡ word) × (result.owner ≡ owner) }
+        ensures right { IsRightOf self.now.words result × (result.word ≡ word)
+            × (result.owner ≡ owner) }
     {
         self.words.split_right(&mut token.seat, word, owner)
     }
 
-    /// Gives an ownership back to a token, and the right is spent. It loads a word, which is no step of a call.
+    /// Gives an ownership back to a token, and the right is spent. It loads a word, which is no
+    /// step of a call.
     #[inline]
     pub fn join_right(&self, token: &mut Token, right: Right)
         requires { IsTokenOf self.now token.old × IsRightOf self.now.words right }
-        ensures own { IsSameThread self.now token.old token.new × (last_of token.new ≡ last_of token.old) }
-        ensures joined { view_of token.new ≡ takes_in (view_of token.old) (piece_of right.word right.owner) }
+        ensures own { IsSameThread self.now token.old token.new
+            × (last_of token.new ≡ last_of token.old) }
+        ensures joined { view_of token.new
+            ≡ takes_in (view_of token.old) (piece_of right.word right.owner) }
     {
         self.words.join_right(&mut token.seat, right);
     }
 
-    /// Takes a mutex that nobody has, and the permit of its value with the same step. Else it answers what the step saw.
+    /// Takes a mutex that nobody has, and the permit of its value with the same step. Else it
+    /// answers what the step saw.
     #[inline]
     pub fn enter_open(&self, token: &mut Token, word: Word) -> Result<(OpenHeld, Permit), u64>
-        requires { IsTokenOf self.now token.old × IsWordOf self.now.words word × (word.kind ≡ Mutex) }
+        requires { IsTokenOf self.now token.old × IsWordOf self.now.words word
+            × (word.kind ≡ Mutex) }
         ensures own { IsSameThread self.now token.old token.new × (last_of token.new ≡ None) }
         ensures stepped { MatchResult result
-            (λ _. view_of token.new ≡ stepping (view_of token.old) (word_index word.number word.kind) (Exchange 0 1) 0)
+            (λ _. view_of token.new
+            ≡ stepping (view_of token.old) (word_index word.number word.kind) (Exchange 0 1) 0)
             (λ seen. (seen ≢ 0)
-            × (view_of token.new ≡ stepping (view_of token.old) (word_index word.number word.kind) (Exchange 0 1) seen)) }
+            × (view_of token.new
+            ≡ stepping (view_of token.old) (word_index word.number word.kind)
+            (Exchange 0 1) seen)) }
         ensures opened { IfOk result (λ taken. IsOpenOf self.now.words word taken.0
             × (taken.1.id ≡ permit_of self.now.words word)) }
     {
@@ -212,12 +254,15 @@ impl ParkingLot {
         self.words.enter_open(&mut token.seat, word)
     }
 
-    /// The same where others may wait. It answers what the step saw, and writes nothing to a mutex that it sees locked.
+    /// The same where others may wait. It answers what the step saw, and writes nothing to a mutex
+    /// that it sees locked.
     #[inline]
     pub fn try_enter_open(&self, token: &mut Token, word: Word) -> (u64, Option<(OpenHeld, Permit)>)
-        requires { IsTokenOf self.now token.old × IsWordOf self.now.words word × (word.kind ≡ Mutex) }
+        requires { IsTokenOf self.now token.old × IsWordOf self.now.words word
+            × (word.kind ≡ Mutex) }
         ensures own { IsSameThread self.now token.old token.new × (last_of token.new ≡ None) }
-        ensures stepped { view_of token.new ≡ stepping (view_of token.old) (word_index word.number word.kind) (Or 1) result.0 }
+        ensures stepped { view_of token.new
+            ≡ stepping (view_of token.old) (word_index word.number word.kind) (Or 1) result.0 }
         ensures opened { MatchOption result.1 (result.0 % 2 ≢ 0) (λ taken. (result.0 % 2 ≡ 0)
             × IsOpenOf self.now.words word taken.0 × (taken.1.id ≡ permit_of self.now.words word)) }
     {
@@ -225,13 +270,17 @@ impl ParkingLot {
         self.words.try_enter_open(&mut token.seat, word)
     }
 
-    /// Gives a mutex up, and lays the permit of its value back with the same step. It answers the value before.
+    /// Gives a mutex up, and lays the permit of its value back with the same step. It answers the
+    /// value before.
     #[inline]
     pub fn leave_open(&self, token: &mut Token, word: Word, opened: OpenHeld, permit: Permit) -> u64
-        requires own { IsTokenOf self.now token.old × IsWordOf self.now.words word × (word.kind ≡ Mutex) }
-        requires opened { IsOpenOf self.now.words word opened × (permit.id ≡ permit_of self.now.words word) }
+        requires own { IsTokenOf self.now token.old × IsWordOf self.now.words word
+            × (word.kind ≡ Mutex) }
+        requires opened { IsOpenOf self.now.words word opened
+            × (permit.id ≡ permit_of self.now.words word) }
         ensures own { IsSameThread self.now token.old token.new × (last_of token.new ≡ None) }
-        ensures stepped { view_of token.new ≡ stepping (view_of token.old) (word_index word.number word.kind) (Sub 1) result }
+        ensures stepped { view_of token.new
+            ≡ stepping (view_of token.old) (word_index word.number word.kind) (Sub 1) result }
         ensures coded { (result ≡ 1) ⊎ (result ≡ 3) }
     {
         token.forget_section();
@@ -247,8 +296,10 @@ impl ParkingLot {
         opened: OpenHeld,
         permit: Permit,
     ) -> u64
-        requires own { IsTokenOf self.now token.old × IsWordOf self.now.words word × (word.kind ≡ Mutex) }
-        requires opened { IsOpenOf self.now.words word opened × (permit.id ≡ permit_of self.now.words word) }
+        requires own { IsTokenOf self.now token.old × IsWordOf self.now.words word
+            × (word.kind ≡ Mutex) }
+        requires opened { IsOpenOf self.now.words word opened
+            × (permit.id ≡ permit_of self.now.words word) }
         ensures own { IsSameThread self.now token.old token.new × (last_of token.new ≡ None) }
         ensures stepped { view_of token.new ≡ leaving_alone (view_of token.old) word result }
         ensures coded { (result ≡ 1) ⊎ (result ≡ 3) }
@@ -258,7 +309,8 @@ impl ParkingLot {
             .leave_open_alone(&mut token.seat, word, opened, permit)
     }
 
-    /// Takes out the permit of the value that a mutex guards, for who owns the mutex. It loads a word, which is no step of a call.
+    /// Takes out the permit of the value that a mutex guards, for who owns the mutex. It loads a
+    /// word, which is no step of a call.
     #[inline]
     pub fn open_held(&self, word: Word, held: Held) -> (OpenHeld, Permit)
         requires mutex { IsWordOf self.now.words word × (word.kind ≡ Mutex) }
@@ -273,7 +325,8 @@ impl ParkingLot {
     #[inline]
     pub fn close_held(&self, word: Word, opened: OpenHeld, permit: Permit) -> Held
         requires mutex { IsWordOf self.now.words word × (word.kind ≡ Mutex) }
-        requires opened { IsOpenOf self.now.words word opened × (permit.id ≡ permit_of self.now.words word) }
+        requires opened { IsOpenOf self.now.words word opened
+            × (permit.id ≡ permit_of self.now.words word) }
         ensures { IsHeldOf self.now.words word Exclusive result }
     {
         self.words.close_held(word, opened, permit)

@@ -10,18 +10,21 @@ use Rattle.lot_words.specs.declared.owners.Ownership.{Ownership}
 use Rattle.mutex_driver.specs.MutexCourses.{locked_and_parked}
 use Rattle.parking_lot_core.specs.declared.tokens.Token.{Token}
 
--- what the thread owns between, of who owned these beside the guard that it spends: who is to hand the mutex over has it still
+-- what the thread owns between, of who owned these beside the guard that it spends: who is to hand
+-- the mutex over has it still
 abbrev pub owns_between : ℕ → MutexCall → List Ownership → List Ownership
 owns_between n UnlockFair owns = held n ∷ owns
 owns_between n Bump owns = held n ∷ owns
 owns_between n _ owns = owns
 
--- the call has more to do behind the value that its first step saw; an owner that has more to do saw a waiter
+-- the call has more to do behind the value that its first step saw; an owner that has more to do
+-- saw a waiter
 abbrev pub HasMore : ℕ → MutexCall → ℕ → List Ownership → Type 0
 HasMore n Unlock seen owns = seen ≡ locked_and_parked
 HasMore n c seen owns = IsUnfinished n c seen owns
 
 -- the thread took the first step of this call, which saw this, and the call has more to do
 abbrev pub HasBegun : ℕ → MutexCall → ℕ → Token → Token → Type 0
-HasBegun n c seen old new = (new.number ≡ old.number) × (steps_of new ≡ steps_of old ++ step (mutex_at n) (first_op c) seen)
+HasBegun n c seen old new =
+    (new.number ≡ old.number) × (steps_of new ≡ steps_of old ++ step (mutex_at n) (first_op c) seen)
     × (owns_of new ≡ owns_between n c (owns_of old)) × HasMore n c seen (owns_of new)

@@ -14,17 +14,20 @@ use Rattle.parking_lot_core.specs.declared.tokens.Token.{Token}
 
 -- a guard of a mutex: the right of who owns it alone, and the permit of its value
 abbrev pub IsGuardOf : ParkingLot → Word → RawGuard → Type 0
-IsGuardOf lot word guard = IsOpenOf lot.words word guard.opened × (guard.permit.id ≡ permit_of lot.words word)
+IsGuardOf lot word guard =
+    IsOpenOf lot.words word guard.opened × (guard.permit.id ≡ permit_of lot.words word)
 
 -- that a guard is a mutex's has one proof at most
-pub IsGuardOf-prop : (lot : ParkingLot) (word : Word) (guard : RawGuard) → IsProp (IsGuardOf lot word guard)
+pub IsGuardOf-prop : (lot : ParkingLot) (word : Word) (guard : RawGuard)
+    → IsProp (IsGuardOf lot word guard)
 IsGuardOf-prop lot word guard = Prim.hlevel props
 
 -- the same without the permit
 abbrev pub IsOpenGuardOf : ParkingLot → Word → OpenGuard → Type 0
 IsOpenGuardOf lot word guard = IsOpenOf lot.words word guard.opened
 
-pub IsOpenGuardOf-prop : (lot : ParkingLot) (word : Word) (guard : OpenGuard) → IsProp (IsOpenGuardOf lot word guard)
+pub IsOpenGuardOf-prop : (lot : ParkingLot) (word : Word) (guard : OpenGuard)
+    → IsProp (IsOpenGuardOf lot word guard)
 IsOpenGuardOf-prop lot word guard = Prim.hlevel props
 
 -- the permit of the value that a mutex guards
@@ -35,5 +38,6 @@ permit_in lot word = permit_of lot.words word
 abbrev pub StaysAs : Token → Token → Type 0
 StaysAs old new = (new.number ≡ old.number) × ((view_of new).owns ≡ (view_of old).owns)
 
-pub StaysAs-on : (first next last : Token) → StaysAs first next → StaysAs next last → StaysAs first last
+pub StaysAs-on : (first next last : Token) → StaysAs first next → StaysAs next last
+    → StaysAs first last
 StaysAs-on first next last a b = (b.0 ∙ a.0, b.1 ∙ a.1)

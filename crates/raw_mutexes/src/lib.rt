@@ -1,4 +1,5 @@
-//! Mutexes of real threads, without a value. Each call runs the steps that the simulated world runs.
+//! Mutexes of real threads, without a value. Each call runs the steps that the simulated world
+//! runs.
 #![tactic(auto)]
 
 pub mod guards;

@@ -25,12 +25,14 @@ use parking_lot_core::{Clock, Fault, Key, ParkingLot, Token, Word, WordKind, to_
 use std::sync::{Arc, Wait};
 use std::time::Duration;
 
-/// A condition variable of a lot. Its word is 0 where nobody waits, and else shows the mutex with which threads wait.
+/// A condition variable of a lot. Its word is 0 where nobody waits, and else shows the mutex with
+/// which threads wait.
 #[derive(Drop)]
 pub struct RawCondvar {
     lot: Arc<ParkingLot>,
     word: Word,
-    ghost drawn: { IsWordOf (arc_value lot).words word × (word.kind ≡ Condvar) × (word.number < 9223372036854775808) },
+    ghost drawn: { IsWordOf (arc_value lot).words word × (word.kind ≡ Condvar)
+        × (word.number < 9223372036854775808) },
 }
 
 fn given_back(answer: Answer, guard: RawGuard) -> Result<RawGuard, (Fault, RawGuard)>
@@ -85,7 +87,8 @@ impl RawCondvar {
         requires guard { IsGuardOf (lot_of self.now) (mutexes.word_of mutex.now) guard }
         ensures token { IsTokenOf (lot_of self.now) token.new × StaysAs token.old token.new }
         ensures guard { IsGuardOf (lot_of self.now) (mutexes.word_of mutex.now) result.1 }
-        ensures path { WaitsBy (word_of self.now).number (mutexes.word_of mutex.now).number timed result.0
+        ensures path { WaitsBy (word_of self.now).number
+            (mutexes.word_of mutex.now).number timed result.0
             (steps_of token.old) (steps_of token.new) }
         ensures told { AnswersWait timed result.0 }
         ensures late { result.0 ≡ Answer.TimedOut → IsUp C.tells limit.entry }
@@ -104,10 +107,14 @@ impl RawCondvar {
     #[inline(never)]
     fn notify_rest<R: Wait>(&self, rt: &R, token: &mut Token, all: bool, seen: u64) -> Answer
         requires token { IsTokenOf (lot_of self.now) token.old }
-        requires looked { (before : Token) × HasLooked (lot_of self.now).words.count (word_of self.now).number seen before token.old }
+        requires looked { (before : Token)
+            × HasLooked (lot_of self.now).words.count
+            (word_of self.now).number seen before token.old }
         requires some { seen ≢ 0 }
         ensures token { IsTokenOf (lot_of self.now) token.new × StaysAs token.old token.new }
-        ensures path { (before : Token) → HasLooked (lot_of self.now).words.count (word_of self.now).number seen before token.old
+        ensures path { (before : Token)
+            → HasLooked (lot_of self.now).words.count
+            (word_of self.now).number seen before token.old
             → Notifies (word_of self.now).number all result (steps_of before) (steps_of token.new) }
         ensures record { TellsMoved (word_of self.now).number all result (last_of token.new) }
     {
@@ -128,7 +135,8 @@ impl lock_raw::RawCondvar for RawCondvar {
     ghost notified = { λ condvar all answer old new.
         Notifies condvar.word.number all answer (steps_of old) (steps_of new) };
 
-    ghost looked = { λ condvar seen old new. HasLooked (arc_value condvar.lot).words.count condvar.word.number seen old new };
+    ghost looked = { λ condvar seen old new. HasLooked
+        (arc_value condvar.lot).words.count condvar.word.number seen old new };
 
     ghost moved = { λ condvar all number old new. HasMoved condvar.word.number all number new };
 

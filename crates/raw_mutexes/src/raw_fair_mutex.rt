@@ -69,20 +69,24 @@ impl lock_raw::RawMutex for RawFairMutex {
 
     ghost is_opened_of = { λ mutex opened. IsOpenGuardOf (arc_value mutex.lot) mutex.word opened };
 
-    ghost opened_once = { λ mutex opened. IsOpenGuardOf-prop (arc_value mutex.lot) mutex.word opened };
+    ghost opened_once = { λ mutex opened. IsOpenGuardOf-prop
+        (arc_value mutex.lot) mutex.word opened };
 
     ghost drew = { λ mutex old new. Drew Mutex (arc_value mutex.lot) mutex.word old new };
 
     ghost found_full = { λ lot old new. FoundFull lot old new };
 
-    ghost walked = { λ mutex call answer old new. HasWalked mutex.word.number (fairly call) answer old new };
+    ghost walked = { λ mutex call answer old new. HasWalked mutex.word.number
+        (fairly call) answer old new };
 
     ghost released = { λ mutex call old new.
         Releases mutex.word.number (fairly call) (steps_of old) (steps_of new) (last_of new) };
 
-    ghost begun = { λ mutex call seen old new. HasBegun mutex.word.number (fairly call) seen old new };
+    ghost begun = { λ mutex call seen old new. HasBegun mutex.word.number
+        (fairly call) seen old new };
 
-    ghost looked = { λ mutex locked old new. Sees mutex.word.number locked (steps_of old) (steps_of new) };
+    ghost looked = { λ mutex locked old new. Sees mutex.word.number locked (steps_of old)
+        (steps_of new) };
 
     fn new(lot: &Arc<ParkingLot>, token: &mut Token) -> Result<RawFairMutex, Fault> {
         let raw = <RawMutex as lock_raw::RawMutex>::new(lot, token)?;

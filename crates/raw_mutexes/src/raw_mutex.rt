@@ -33,12 +33,14 @@ use parking_lot_core::{
 use std::sync::{Arc, Wait};
 use std::time::Duration;
 
-/// A mutex of a lot. Its word is 1 where it is locked, and 2 where a thread may be parked, or the sum of these.
+/// A mutex of a lot. Its word is 1 where it is locked, and 2 where a thread may be parked, or the
+/// sum of these.
 #[derive(Drop)]
 pub struct RawMutex {
     lot: Arc<ParkingLot>,
     pub(crate) word: Word,
-    ghost drawn: { IsWordOf (arc_value lot).words word × (word.kind ≡ Mutex) × (word.number < 9223372036854775808) },
+    ghost drawn: { IsWordOf (arc_value lot).words word × (word.kind ≡ Mutex)
+        × (word.number < 9223372036854775808) },
 }
 
 impl RawMutex {
@@ -56,8 +58,10 @@ impl RawMutex {
         requires lot { lot.now ≡ lot_of self.now }
         requires own { IsTokenOf (lot_of self.now) token.old }
         requires held { has (held (word_of self.now).number) (view_of token.old).owns ≡ true }
-        ensures own { IsSameThread (lot_of self.now) token.old token.new × (last_of token.new ≡ last_of token.old) }
-        ensures left { view_of token.new ≡ left_over (held (word_of self.now).number) (view_of token.old) }
+        ensures own { IsSameThread (lot_of self.now) token.old token.new
+            × (last_of token.new ≡ last_of token.old) }
+        ensures left { view_of token.new
+            ≡ left_over (held (word_of self.now).number) (view_of token.old) }
         ensures guard { IsGuardOf (lot_of self.now) (word_of self.now) result }
     {
         let held = lot.split_held(token, self.word, Want::Exclusive);
@@ -68,9 +72,12 @@ impl RawMutex {
     // Spends a guard: the token owns the mutex then.
     pub(crate) fn join(&self, lot: &ParkingLot, token: &mut Token, guard: RawGuard)
         requires lot { lot.now ≡ lot_of self.now }
-        requires own { IsTokenOf (lot_of self.now) token.old × IsGuardOf (lot_of self.now) (word_of self.now) guard }
-        ensures own { IsSameThread (lot_of self.now) token.old token.new × (last_of token.new ≡ last_of token.old) }
-        ensures joined { view_of token.new ≡ takes_in (view_of token.old) (piece (held (word_of self.now).number)) }
+        requires own { IsTokenOf (lot_of self.now) token.old
+            × IsGuardOf (lot_of self.now) (word_of self.now) guard }
+        ensures own { IsSameThread (lot_of self.now) token.old token.new
+            × (last_of token.new ≡ last_of token.old) }
+        ensures joined { view_of token.new
+            ≡ takes_in (view_of token.old) (piece (held (word_of self.now).number)) }
     {
         let RawGuard { opened, permit } = guard;
         let held = lot.close_held(self.word, opened, permit);
@@ -86,12 +93,15 @@ impl RawMutex {
         guard: RawGuard,
     ) -> Option<u64>
         requires lot { lot.now ≡ lot_of self.now }
-        requires own { IsTokenOf (lot_of self.now) token.old × IsGuardOf (lot_of self.now) (word_of self.now) guard }
+        requires own { IsTokenOf (lot_of self.now) token.old
+            × IsGuardOf (lot_of self.now) (word_of self.now) guard }
         ensures token { IsTokenOf (lot_of self.now) token.new }
         ensures over { IfNone result (StaysAs token.old token.new
             × HasWalked (word_of self.now).number UnlockFair ok token.old token.new
-            × Releases (word_of self.now).number UnlockFair (steps_of token.old) (steps_of token.new) (last_of token.new)) }
-        ensures begun { IfSome result (λ seen. HasBegun (word_of self.now).number UnlockFair seen token.old token.new) }
+            × Releases (word_of self.now).number UnlockFair (steps_of token.old)
+            (steps_of token.new) (last_of token.new)) }
+        ensures begun { IfSome result
+            (λ seen. HasBegun (word_of self.now).number UnlockFair seen token.old token.new) }
     {
         let RawGuard { opened, permit } = guard;
         let seen = lot.leave_open_alone(token, self.word, opened, permit);
@@ -104,25 +114,32 @@ impl RawMutex {
     // The rest of a fair release.
     pub(crate) fn unlock_fair_behind<R: Wait>(&self, rt: &R, token: &mut Token, seen: u64)
         requires token { IsTokenOf (lot_of self.now) token.old }
-        requires begun { (before : Token) × HasBegun (word_of self.now).number UnlockFair seen before token.old }
+        requires begun { (before : Token)
+            × HasBegun (word_of self.now).number UnlockFair seen before token.old }
         ensures token { IsTokenOf (lot_of self.now) token.new }
-        ensures over { (before : Token) → HasBegun (word_of self.now).number UnlockFair seen before token.old
-            → StaysAs before token.new × HasWalked (word_of self.now).number UnlockFair ok before token.new
-            × Releases (word_of self.now).number UnlockFair (steps_of before) (steps_of token.new) (last_of token.new) }
+        ensures over { (before : Token)
+            → HasBegun (word_of self.now).number UnlockFair seen before token.old
+            → StaysAs before token.new
+            × HasWalked (word_of self.now).number UnlockFair ok before token.new
+            × Releases (word_of self.now).number UnlockFair (steps_of before) (steps_of token.new)
+            (last_of token.new) }
     {
         self.go_on(rt, token, MutexCall::UnlockFair, seen);
     }
 
-    // The slow half of a call without a limit. It takes the mutex by its address, so that the fast half copies nothing.
+    // The slow half of a call without a limit. It takes the mutex by its address, so that the fast
+    // half copies nothing.
     #[cold]
     #[inline(never)]
     fn go_on<R: Wait>(&self, rt: &R, token: &mut Token, call: MutexCall, seen: u64) -> Answer
         requires own { MeetAt (lot_of self.now) token.old (word_of self.now) }
-        requires goes_on { IsUnfinished (word_of self.now).number call seen (view_of token.old).owns }
+        requires goes_on { IsUnfinished (word_of self.now).number call seen
+            (view_of token.old).owns }
         ensures own { IsSameThread (lot_of self.now) token.old token.new }
         ensures path { WalksBehind (word_of self.now).number call seen token.old token.new result }
         ensures rest { (more : List WordStep) × (steps_of token.new ≡ steps_of token.old ++ more) }
-        ensures over { IsMutexOver ⊥ (word_of self.now).number (owns_of token.old) (purpose_in call) result
+        ensures over { IsMutexOver ⊥ (word_of self.now).number (owns_of token.old)
+            (purpose_in call) result
             (stage_of token.new None) }
     {
         behind(rt, &self.lot, token, self.word, NO_LIMIT, call, seen)
@@ -133,11 +150,14 @@ impl RawMutex {
     #[inline(never)]
     fn bump_behind<R: Wait>(&self, rt: &R, token: &mut Token, seen: u64) -> RawGuard
         requires token { IsTokenOf (lot_of self.now) token.old }
-        requires begun { (before : Token) × HasBegun (word_of self.now).number Bump seen before token.old }
+        requires begun { (before : Token)
+            × HasBegun (word_of self.now).number Bump seen before token.old }
         ensures token { IsTokenOf (lot_of self.now) token.new }
         ensures guard { IsGuardOf (lot_of self.now) (word_of self.now) result }
-        ensures over { (before : Token) → HasBegun (word_of self.now).number Bump seen before token.old
-            → StaysAs before token.new × HasWalked (word_of self.now).number Bump ok before token.new }
+        ensures over { (before : Token)
+            → HasBegun (word_of self.now).number Bump seen before token.old
+            → StaysAs before token.new
+            × HasWalked (word_of self.now).number Bump ok before token.new }
     {
         self.go_on(rt, token, MutexCall::Bump, seen);
         self.split(&self.lot, token)
@@ -149,7 +169,8 @@ impl RawMutex {
     fn wake_first<R: Wait>(&self, rt: &R, token: &mut Token)
         requires own { MeetAt (lot_of self.now) token.old (word_of self.now) }
         ensures own { IsSameThread (lot_of self.now) token.old token.new }
-        ensures path { WalksBehind (word_of self.now).number Unlock locked_and_parked token.old token.new ok }
+        ensures path { WalksBehind
+            (word_of self.now).number Unlock locked_and_parked token.old token.new ok }
         ensures rest { (more : List WordStep) × (steps_of token.new ≡ steps_of token.old ++ more) }
         ensures over { IsMutexOver ⊥ (word_of self.now).number (owns_of token.old) releases ok
             (stage_of token.new None) }
@@ -167,7 +188,8 @@ impl RawMutex {
         requires { IsTokenOf (lot_of self.now) token.old }
         ensures token { IsTokenOf (lot_of self.now) token.new × StaysAs token.old token.new }
         ensures guard { IfSome result (IsGuardOf (lot_of self.now) (word_of self.now)) }
-        ensures path { HasWalked (word_of self.now).number LockTimed (answer_by result) token.old token.new }
+        ensures path { HasWalked (word_of self.now).number LockTimed
+            (answer_by result) token.old token.new }
         ensures late { IfNone result (IsUp C.tells limit.entry) }
     {
         match self.lot.enter_open(token, self.word) {
@@ -187,11 +209,14 @@ impl RawMutex {
         seen: u64,
     ) -> Option<RawGuard>
         requires token { IsTokenOf (lot_of self.now) token.old }
-        requires begun { (before : Token) × HasBegun (word_of self.now).number LockTimed seen before token.old }
+        requires begun { (before : Token)
+            × HasBegun (word_of self.now).number LockTimed seen before token.old }
         ensures token { IsTokenOf (lot_of self.now) token.new }
         ensures guard { IfSome result (IsGuardOf (lot_of self.now) (word_of self.now)) }
-        ensures over { (before : Token) → HasBegun (word_of self.now).number LockTimed seen before token.old
-            → StaysAs before token.new × HasWalked (word_of self.now).number LockTimed (answer_by result) before token.new }
+        ensures over { (before : Token)
+            → HasBegun (word_of self.now).number LockTimed seen before token.old
+            → StaysAs before token.new
+            × HasWalked (word_of self.now).number LockTimed (answer_by result) before token.new }
         ensures late { IfNone result (IsUp C.tells limit.entry) }
     {
         let lot: &ParkingLot = &self.lot;
@@ -228,7 +253,8 @@ impl lock_raw::RawMutex for RawMutex {
 
     ghost is_opened_of = { λ mutex opened. IsOpenGuardOf (arc_value mutex.lot) mutex.word opened };
 
-    ghost opened_once = { λ mutex opened. IsOpenGuardOf-prop (arc_value mutex.lot) mutex.word opened };
+    ghost opened_once = { λ mutex opened. IsOpenGuardOf-prop
+        (arc_value mutex.lot) mutex.word opened };
 
     ghost drew = { λ mutex old new. Drew Mutex (arc_value mutex.lot) mutex.word old new };
 
@@ -241,7 +267,8 @@ impl lock_raw::RawMutex for RawMutex {
 
     ghost begun = { λ mutex call seen old new. HasBegun mutex.word.number call seen old new };
 
-    ghost looked = { λ mutex locked old new. Sees mutex.word.number locked (steps_of old) (steps_of new) };
+    ghost looked = { λ mutex locked old new. Sees mutex.word.number locked (steps_of old)
+        (steps_of new) };
 
     fn new(lot: &Arc<ParkingLot>, token: &mut Token) -> Result<RawMutex, Fault> {
         let Ok(lot) = Arc::try_clone(lot) else {
@@ -315,7 +342,8 @@ impl lock_raw::RawMutex for RawMutex {
     #[inline]
     fn begin_unlock(&self, lot: &ParkingLot, token: &mut Token, guard: RawGuard) -> Option<u64> {
         let RawGuard { opened, permit } = guard;
-        // An owner finds one of two values. The flags of the subtraction tell them apart, so the value isn't asked for.
+        // An owner finds one of two values. The flags of the subtraction tell them apart, so the
+        // value isn't asked for.
         if lot.leave_open(token, self.word, opened, permit) == LOCKED {
             return None;
         }

@@ -3,7 +3,8 @@ use std::sync::atomic::AtomicUsize;
 use std::sync::atomic::Ordering::SeqCst;
 use std::thread::yield_now;
 
-/// Who is inside a lock, as its threads told it, and how often somebody found whom nobody may find there.
+/// Who is inside a lock, as its threads told it, and how often somebody found whom nobody may find
+/// there.
 #[derive(Drop)]
 pub struct Inside {
     readers: AtomicUsize,

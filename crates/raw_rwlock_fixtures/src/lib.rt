@@ -1,4 +1,5 @@
-//! What trials of raw reader-writer locks share: a lock with the tickets of its threads, waits that end, and who is inside a lock.
+//! What trials of raw reader-writer locks share: a lock with the tickets of its threads, waits that
+//! end, and who is inside a lock.
 #![tactic(auto)]
 
 pub mod inside;
@@ -109,7 +110,8 @@ pub fn comes_to(number: &AtomicUsize, least: usize) -> bool {
     false
 }
 
-/// Whether so many came to stand in the main queue of a lock, and in that of the writer that waits for the last readers.
+/// Whether so many came to stand in the main queue of a lock, and in that of the writer that waits
+/// for the last readers.
 pub fn queue_up<const RECURSIVE: bool, R: Wait>(
     rt: &R,
     lot: &ParkingLot,

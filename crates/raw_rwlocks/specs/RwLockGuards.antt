@@ -18,11 +18,14 @@ abbrev pub IsExclusiveOf : ParkingLot → Word → RawExclusiveGuard → Type 0
 IsExclusiveOf lot word guard = IsRwLockRight lot word Exclusive guard.right
 
 -- that a guard is a lock's has one proof at most
-pub IsSharedOf-prop : (lot : ParkingLot) (word : Word) (guard : RawSharedGuard) → IsProp (IsSharedOf lot word guard)
+pub IsSharedOf-prop : (lot : ParkingLot) (word : Word) (guard : RawSharedGuard)
+    → IsProp (IsSharedOf lot word guard)
 IsSharedOf-prop lot word guard = Prim.hlevel props
 
-pub IsUpgradableOf-prop : (lot : ParkingLot) (word : Word) (guard : RawUpgradableGuard) → IsProp (IsUpgradableOf lot word guard)
+pub IsUpgradableOf-prop : (lot : ParkingLot) (word : Word) (guard : RawUpgradableGuard)
+    → IsProp (IsUpgradableOf lot word guard)
 IsUpgradableOf-prop lot word guard = Prim.hlevel props
 
-pub IsExclusiveOf-prop : (lot : ParkingLot) (word : Word) (guard : RawExclusiveGuard) → IsProp (IsExclusiveOf lot word guard)
+pub IsExclusiveOf-prop : (lot : ParkingLot) (word : Word) (guard : RawExclusiveGuard)
+    → IsProp (IsExclusiveOf lot word guard)
 IsExclusiveOf-prop lot word guard = Prim.hlevel props

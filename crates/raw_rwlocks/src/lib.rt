@@ -1,4 +1,5 @@
-//! Reader-writer locks of real threads, without a value. Each call runs the steps that the simulated world runs.
+//! Reader-writer locks of real threads, without a value. Each call runs the steps that the
+//! simulated world runs.
 #![tactic(auto)]
 
 pub mod raw_rwlock;

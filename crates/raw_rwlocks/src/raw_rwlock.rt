@@ -20,7 +20,8 @@ use std::sync::{Arc, Wait};
 // So many may share a lock for which nothing else is chosen.
 const MOST_READERS: u64 = 1152921504606846974;
 
-/// A reader-writer lock of a lot. Where it is recursive, who reads may read again beside a writer that waits for the last readers.
+/// A reader-writer lock of a lot. Where it is recursive, who reads may read again beside a writer
+/// that waits for the last readers.
 #[derive(Drop)]
 pub struct RawRwLock<const RECURSIVE: bool> {
     pub(crate) lock: LotRwLock,
@@ -80,17 +81,22 @@ impl<const RECURSIVE: bool> lock_raw::RawRwLock for RawRwLock<RECURSIVE> {
 
     ghost found_full = { λ lot old new. FoundFull lot old new };
 
-    ghost walked = { λ lock call answer old new. HasWalkedCall (word_at lock).number (admission_of lock) call answer old new };
+    ghost walked = { λ lock call answer old new. HasWalkedCall (word_at lock).number
+        (admission_of lock) call answer old new };
 
-    ghost woke = { λ lock call old new. WakesByCall (word_at lock).number (admission_of lock) call old new };
+    ghost woke = { λ lock call old new. WakesByCall (word_at lock).number
+        (admission_of lock) call old new };
 
     ghost looked = { λ lock held old new. SeesBy is_held (word_at lock).number held old new };
 
-    ghost looked_for_writer = { λ lock alone old new. SeesBy is_held_alone (word_at lock).number alone old new };
+    ghost looked_for_writer = { λ lock alone old new. SeesBy is_held_alone
+        (word_at lock).number alone old new };
 
-    ghost saw_full = { λ lock access old new. SawFull (word_at lock).number (admission_of lock) access old new };
+    ghost saw_full = { λ lock access old new. SawFull (word_at lock).number
+        (admission_of lock) access old new };
 
-    ghost gave_up = { λ lock call new. GaveUpCall (word_at lock).number (admission_of lock) call new };
+    ghost gave_up = { λ lock call new. GaveUpCall (word_at lock).number
+        (admission_of lock) call new };
 
     fn new(lot: &Arc<ParkingLot>, token: &mut Token) -> Result<RawRwLock<RECURSIVE>, Fault> {
         <RawRwLock<RECURSIVE> as lock_raw::RawRwLock>::with_limit(lot, token, MOST_READERS)
@@ -107,7 +113,8 @@ impl<const RECURSIVE: bool> lock_raw::RawRwLock for RawRwLock<RECURSIVE> {
         ensures made { MatchResult result
             (λ lock. (lot_at lock ≡ arc_value lot.now) × ((admission_of lock).limit ≡ limit))
             (IsRefusal (FoundFull (arc_value lot.now)) token.old token.new) }
-        ensures drawn { IfOk result (λ lock. Drew RwLock (lot_at lock) (word_at lock) token.old token.new) }
+        ensures drawn { IfOk result
+            (λ lock. Drew RwLock (lot_at lock) (word_at lock) token.old token.new) }
         ensures chosen { IfOk result (λ lock. (admission_of lock).recursive ≡ RECURSIVE) }
     {
         let lock = LotRwLock::with_limit(lot, token, RECURSIVE, limit)?;
@@ -230,7 +237,8 @@ impl<const RECURSIVE: bool> lock_raw::RawRwLockUpgrade for RawRwLock<RECURSIVE> 
 
     ghost is_upgradable_of = { λ lock guard. IsUpgradableOf (lot_at lock) (word_at lock) guard };
 
-    ghost upgradable_once = { λ lock guard. IsUpgradableOf-prop (lot_at lock) (word_at lock) guard };
+    ghost upgradable_once = { λ lock guard. IsUpgradableOf-prop (lot_at lock)
+        (word_at lock) guard };
 
     #[inline]
     fn lock_upgradable<R: Wait>(

@@ -28,12 +28,15 @@ impl<const RECURSIVE: bool> RawRwLock<RECURSIVE> {
     ) -> Result<Option<RawSharedGuard>, Fault>
         requires { IsTokenOf (lot_of self.now) token.old }
         ensures token { IsTokenOf (lot_of self.now) token.new × StaysSettled token.old token.new }
-        ensures guard { MatchResult result (λ entered. IfSome entered (IsSharedOf (lot_of self.now) (word_of self.now)))
+        ensures guard { MatchResult result
+            (λ entered. IfSome entered (IsSharedOf (lot_of self.now) (word_of self.now)))
             (λ fault. fault ≡ Fault.ReadersFull) }
-        ensures path { HasWalkedRwLock (word_of self.now).number (admission_of self.now) (Enter access.Shared Timed)
+        ensures path { HasWalkedRwLock (word_of self.now).number (admission_of self.now)
+            (Enter access.Shared Timed)
             (counted_answer result) token.old token.new }
         ensures full { IfErr result
-            (λ _. SawFull (word_of self.now).number (admission_of self.now) access.Shared token.old token.new) }
+            (λ _. SawFull (word_of self.now).number
+            (admission_of self.now) access.Shared token.old token.new) }
         ensures left { IfOk result (λ entered. IfNone entered
             (GaveUp (word_of self.now).number (admission_of self.now) (Enter access.Shared Timed) token.new)) }
         ensures late { IfOk result (λ entered. IfNone entered (IsUp C.tells limit.entry)) }
@@ -57,12 +60,15 @@ impl<const RECURSIVE: bool> RawRwLock<RECURSIVE> {
     ) -> Result<Option<RawUpgradableGuard>, Fault>
         requires { IsTokenOf (lot_of self.now) token.old }
         ensures token { IsTokenOf (lot_of self.now) token.new × StaysSettled token.old token.new }
-        ensures guard { MatchResult result (λ entered. IfSome entered (IsUpgradableOf (lot_of self.now) (word_of self.now)))
+        ensures guard { MatchResult result
+            (λ entered. IfSome entered (IsUpgradableOf (lot_of self.now) (word_of self.now)))
             (λ fault. fault ≡ Fault.ReadersFull) }
-        ensures path { HasWalkedRwLock (word_of self.now).number (admission_of self.now) (Enter access.Upgradable Timed)
+        ensures path { HasWalkedRwLock (word_of self.now).number (admission_of self.now)
+            (Enter access.Upgradable Timed)
             (counted_answer result) token.old token.new }
         ensures full { IfErr result
-            (λ _. SawFull (word_of self.now).number (admission_of self.now) access.Upgradable token.old token.new) }
+            (λ _. SawFull (word_of self.now).number
+            (admission_of self.now) access.Upgradable token.old token.new) }
         ensures left { IfOk result (λ entered. IfNone entered
             (GaveUp (word_of self.now).number (admission_of self.now) (Enter access.Upgradable Timed) token.new)) }
         ensures late { IfOk result (λ entered. IfNone entered (IsUp C.tells limit.entry)) }
@@ -87,7 +93,8 @@ impl<const RECURSIVE: bool> RawRwLock<RECURSIVE> {
         requires { IsTokenOf (lot_of self.now) token.old }
         ensures token { IsTokenOf (lot_of self.now) token.new × StaysSettled token.old token.new }
         ensures guard { IfSome result (IsExclusiveOf (lot_of self.now) (word_of self.now)) }
-        ensures path { HasWalkedRwLock (word_of self.now).number (admission_of self.now) (Enter access.Exclusive Timed)
+        ensures path { HasWalkedRwLock (word_of self.now).number (admission_of self.now)
+            (Enter access.Exclusive Timed)
             (answer_by result) token.old token.new }
         ensures left { IfNone result
             (GaveUp (word_of self.now).number (admission_of self.now) (Enter access.Exclusive Timed) token.new) }
@@ -116,9 +123,12 @@ impl<const RECURSIVE: bool> RawRwLock<RECURSIVE> {
         ensures token { IsTokenOf (lot_of self.now) token.new × StaysSettled token.old token.new }
         ensures guard { MatchResult result (IsExclusiveOf (lot_of self.now) (word_of self.now))
             (IsUpgradableOf (lot_of self.now) (word_of self.now)) }
-        ensures path { HasWalkedRwLock (word_of self.now).number (admission_of self.now) (Upgrade Timed)
+        ensures path { HasWalkedRwLock (word_of self.now).number (admission_of self.now)
+            (Upgrade Timed)
             (upgrade_answer result) token.old token.new }
-        ensures left { IfErr result (λ _. GaveUp (word_of self.now).number (admission_of self.now) (Upgrade Timed) token.new) }
+        ensures left { IfErr result
+            (λ _. GaveUp (word_of self.now).number (admission_of self.now)
+            (Upgrade Timed) token.new) }
         ensures late { IfErr result (λ _. IsUp C.tells limit.entry) }
     {
         let RawUpgradableGuard { right } = guard;

@@ -1,5 +1,5 @@
-//! The guards of raw reader-writer locks. Each is spent by what gives its right up or turns it into another; it borrows nothing,
-//! and can't be dropped.
+//! The guards of raw reader-writer locks. Each is spent by what gives its right up or turns it into
+//! another; it borrows nothing, and can't be dropped.
 use parking_lot_core::Held;
 
 /// The right to read.

@@ -50,7 +50,8 @@ pub struct LotRwLock {
     lot: Arc<ParkingLot>,
     word: Word,
     admission: Admission,
-    ghost drawn: { IsWordOf (arc_value lot).words word × (word.kind ≡ RwLock) × (word.number < 9223372036854775808)
+    ghost drawn: { IsWordOf (arc_value lot).words word × (word.kind ≡ RwLock)
+        × (word.number < 9223372036854775808)
         × (admission.limit < 2 ^ 60 - 1) },
 }
 
@@ -65,13 +66,15 @@ impl LotRwLock {
     ) -> Result<LotRwLock, Fault>
         requires token { IsTokenOf (arc_value lot.now) token.old }
         requires limit { limit ≤ 1152921504606846974 }
-        ensures token { IsTokenOf (arc_value lot.now) token.new × (token.new.number ≡ token.old.number)
+        ensures token { IsTokenOf (arc_value lot.now) token.new
+            × (token.new.number ≡ token.old.number)
             × (owns_of token.new ≡ owns_of token.old) }
         ensures made { MatchResult result
             (λ lock. (lot_in lock ≡ arc_value lot.now) × ((admission_in lock).recursive ≡ recursive)
             × ((admission_in lock).limit ≡ limit))
             (IsRefusal (FoundFull (arc_value lot.now)) token.old token.new) }
-        ensures drawn { IfOk result (λ lock. Drew RwLock (lot_in lock) (word_in lock) token.old token.new) }
+        ensures drawn { IfOk result
+            (λ lock. Drew RwLock (lot_in lock) (word_in lock) token.old token.new) }
     {
         let Ok(lot) = Arc::try_clone(lot) else {
             return Err(Fault::NoMemory);
@@ -101,10 +104,13 @@ impl LotRwLock {
     fn split(&self, lot: &ParkingLot, token: &mut Token, want: Want) -> Held
         requires lot { lot.now ≡ lot_in self.now }
         requires own { IsTokenOf (lot_in self.now) token.old }
-        requires held { has (owning (rwlock_at (word_in self.now).number) (owner_for want)) (owns_of token.old) ≡ true }
-        ensures own { IsSameThread (lot_in self.now) token.old token.new × (last_of token.new ≡ last_of token.old) }
+        requires held { has (owning (rwlock_at (word_in self.now).number) (owner_for want))
+            (owns_of token.old) ≡ true }
+        ensures own { IsSameThread (lot_in self.now) token.old token.new
+            × (last_of token.new ≡ last_of token.old) }
         ensures left { view_of token.new
-            ≡ left_over (owning (rwlock_at (word_in self.now).number) (owner_for want)) (view_of token.old) }
+            ≡ left_over (owning (rwlock_at (word_in self.now).number) (owner_for want))
+            (view_of token.old) }
         ensures right { IsRwLockRight (lot_in self.now) (word_in self.now) (owner_for want) result }
     {
         lot.split_held(token, self.word, want)
@@ -116,14 +122,17 @@ impl LotRwLock {
         requires lot { lot.now ≡ lot_in self.now }
         requires own { IsTokenOf (lot_in self.now) token.old }
         requires right { IsRwLockRight (lot_in self.now) (word_in self.now) (owner_for want) right }
-        ensures own { IsSameThread (lot_in self.now) token.old token.new × (last_of token.new ≡ last_of token.old) }
+        ensures own { IsSameThread (lot_in self.now) token.old token.new
+            × (last_of token.new ≡ last_of token.old) }
         ensures joined { view_of token.new
-            ≡ takes_in (view_of token.old) (piece (owning (rwlock_at (word_in self.now).number) (owner_for want))) }
+            ≡ takes_in (view_of token.old)
+            (piece (owning (rwlock_at (word_in self.now).number) (owner_for want))) }
     {
         lot.join_held(token, self.word, want, right);
     }
 
-    /// Waits for a right: for ever, up to the limit, or not at all. None only where a try finds the lock blocked, or the time is up.
+    /// Waits for a right: for ever, up to the limit, or not at all. None only where a try finds the
+    /// lock blocked, or the time is up.
     ///
     /// # Errors
     ///
@@ -138,16 +147,21 @@ impl LotRwLock {
         patience: Patience,
     ) -> Result<Option<Held>, Fault>
         requires { IsTokenOf (lot_in self.now) token.old }
-        ensures token { IsTokenOf (lot_in self.now) token.new × StaysBeside (word_in self.now).number token.old token.new }
+        ensures token { IsTokenOf (lot_in self.now) token.new
+            × StaysBeside (word_in self.now).number token.old token.new }
         ensures right { MatchResult result
-            (λ entered. IfSome entered (IsRwLockRight (lot_in self.now) (word_in self.now) (owner_for (wanted access))))
+            (λ entered. IfSome entered
+            (IsRwLockRight (lot_in self.now) (word_in self.now) (owner_for (wanted access))))
             (λ fault. fault ≡ Fault.ReadersFull) }
-        ensures path { HasWalkedRwLock (word_in self.now).number (admission_in self.now) (Enter access patience)
+        ensures path { HasWalkedRwLock (word_in self.now).number (admission_in self.now)
+            (Enter access patience)
             (entry_answer patience result) token.old token.new }
-        ensures late { IfOk result (λ entered. IfNone entered (MayGiveUp (IsUp C.tells limit.now) patience)) }
+        ensures late { IfOk result
+            (λ entered. IfNone entered (MayGiveUp (IsUp C.tells limit.now) patience)) }
         ensures counted { IfErr result (λ fault. IsCounted access) }
         ensures full { IfErr result
-            (λ fault. SawFull (word_in self.now).number (admission_in self.now) access token.old token.new) }
+            (λ fault. SawFull (word_in self.now).number
+            (admission_in self.now) access token.old token.new) }
         ensures left { IfOk result (λ entered. IfNone entered
             (GaveUp (word_in self.now).number (admission_in self.now) (Enter access patience) token.new)) }
     {
@@ -172,9 +186,12 @@ impl LotRwLock {
     #[inline(always)]
     pub(crate) fn try_enter_alone(&self, token: &mut Token) -> Option<Held>
         requires { IsTokenOf (lot_in self.now) token.old }
-        ensures token { IsTokenOf (lot_in self.now) token.new × StaysBeside (word_in self.now).number token.old token.new }
-        ensures right { IfSome result (IsRwLockRight (lot_in self.now) (word_in self.now) (owner_for Exclusive)) }
-        ensures path { HasWalkedRwLock (word_in self.now).number (admission_in self.now) (Enter access.Exclusive Try)
+        ensures token { IsTokenOf (lot_in self.now) token.new
+            × StaysBeside (word_in self.now).number token.old token.new }
+        ensures right { IfSome result
+            (IsRwLockRight (lot_in self.now) (word_in self.now) (owner_for Exclusive)) }
+        ensures path { HasWalkedRwLock (word_in self.now).number (admission_in self.now)
+            (Enter access.Exclusive Try)
             (answer_by result) token.old token.new }
     {
         let lot: &ParkingLot = &self.lot;
@@ -189,10 +206,14 @@ impl LotRwLock {
     #[inline(always)]
     pub(crate) fn release<R: Wait>(&self, rt: &R, token: &mut Token, access: Access, right: Held)
         requires token { IsTokenOf (lot_in self.now) token.old }
-        requires right { IsRwLockRight (lot_in self.now) (word_in self.now) (owner_for (wanted access)) right }
-        ensures token { IsTokenOf (lot_in self.now) token.new × StaysBeside (word_in self.now).number token.old token.new }
-        ensures path { HasWalkedRwLock (word_in self.now).number (admission_in self.now) (Release access) ok token.old token.new }
-        ensures record { WakesBy (word_in self.now).number (admission_in self.now) (Release access) token.old token.new }
+        requires right { IsRwLockRight (lot_in self.now) (word_in self.now)
+            (owner_for (wanted access)) right }
+        ensures token { IsTokenOf (lot_in self.now) token.new
+            × StaysBeside (word_in self.now).number token.old token.new }
+        ensures path { HasWalkedRwLock (word_in self.now).number (admission_in self.now)
+            (Release access) ok token.old token.new }
+        ensures record { WakesBy (word_in self.now).number (admission_in self.now)
+            (Release access) token.old token.new }
     {
         let lot: &ParkingLot = &self.lot;
         self.join(lot, token, wanted(access), right);
@@ -211,11 +232,14 @@ impl LotRwLock {
     #[inline(always)]
     pub(crate) fn release_exclusive_fair<R: Wait>(&self, rt: &R, token: &mut Token, right: Held)
         requires token { IsTokenOf (lot_in self.now) token.old }
-        requires right { IsRwLockRight (lot_in self.now) (word_in self.now) (owner_for Exclusive) right }
-        ensures token { IsTokenOf (lot_in self.now) token.new × StaysBeside (word_in self.now).number token.old token.new }
+        requires right { IsRwLockRight (lot_in self.now) (word_in self.now)
+            (owner_for Exclusive) right }
+        ensures token { IsTokenOf (lot_in self.now) token.new
+            × StaysBeside (word_in self.now).number token.old token.new }
         ensures path { HasWalkedCall (word_in self.now).number (admission_in self.now)
             (fair_calls.ReleaseFair access.Exclusive) ok token.old token.new }
-        ensures record { ReleasesFairly (word_in self.now).number (admission_in self.now) access.Exclusive token.old token.new }
+        ensures record { ReleasesFairly (word_in self.now).number
+            (admission_in self.now) access.Exclusive token.old token.new }
     {
         let lot: &ParkingLot = &self.lot;
         self.join(lot, token, Want::Exclusive, right);
@@ -225,11 +249,14 @@ impl LotRwLock {
     /// Gives the upgradable right up, and hands the lock to those who wait.
     pub(crate) fn release_upgradable_fair<R: Wait>(&self, rt: &R, token: &mut Token, right: Held)
         requires token { IsTokenOf (lot_in self.now) token.old }
-        requires right { IsRwLockRight (lot_in self.now) (word_in self.now) (owner_for Upgradable) right }
-        ensures token { IsTokenOf (lot_in self.now) token.new × StaysBeside (word_in self.now).number token.old token.new }
+        requires right { IsRwLockRight (lot_in self.now) (word_in self.now)
+            (owner_for Upgradable) right }
+        ensures token { IsTokenOf (lot_in self.now) token.new
+            × StaysBeside (word_in self.now).number token.old token.new }
         ensures path { HasWalkedCall (word_in self.now).number (admission_in self.now)
             (fair_calls.ReleaseFair access.Upgradable) ok token.old token.new }
-        ensures record { ReleasesFairly (word_in self.now).number (admission_in self.now) access.Upgradable token.old token.new }
+        ensures record { ReleasesFairly (word_in self.now).number
+            (admission_in self.now) access.Upgradable token.old token.new }
     {
         let lot: &ParkingLot = &self.lot;
         self.join(lot, token, Want::Upgradable, right);
@@ -250,15 +277,20 @@ impl LotRwLock {
         right: Held,
     ) -> Result<Held, Fault>
         requires token { IsTokenOf (lot_in self.now) token.old }
-        requires right { IsRwLockRight (lot_in self.now) (word_in self.now) (owner_for (wanted access)) right }
-        ensures token { IsTokenOf (lot_in self.now) token.new × StaysBeside (word_in self.now).number token.old token.new }
-        ensures right { MatchResult result (IsRwLockRight (lot_in self.now) (word_in self.now) (owner_for (wanted access)))
+        requires right { IsRwLockRight (lot_in self.now) (word_in self.now)
+            (owner_for (wanted access)) right }
+        ensures token { IsTokenOf (lot_in self.now) token.new
+            × StaysBeside (word_in self.now).number token.old token.new }
+        ensures right { MatchResult result
+            (IsRwLockRight (lot_in self.now) (word_in self.now) (owner_for (wanted access)))
             (λ fault. fault ≡ Fault.ReadersFull) }
-        ensures path { HasWalkedCall (word_in self.now).number (admission_in self.now) (fair_calls.Bump access)
+        ensures path { HasWalkedCall (word_in self.now).number (admission_in self.now)
+            (fair_calls.Bump access)
             (reading_answer result) token.old token.new }
         ensures counted { IfErr result (λ fault. IsCounted access) }
         ensures full { IfErr result
-            (λ fault. SawFull (word_in self.now).number (admission_in self.now) access token.old token.new) }
+            (λ fault. SawFull (word_in self.now).number
+            (admission_in self.now) access token.old token.new) }
     {
         let lot: &ParkingLot = &self.lot;
         self.join(lot, token, wanted(access), right);
@@ -278,9 +310,12 @@ impl LotRwLock {
         right: Held,
     ) -> Held
         requires token { IsTokenOf (lot_in self.now) token.old }
-        requires right { IsRwLockRight (lot_in self.now) (word_in self.now) (owner_for (wanted (from_of downgrade))) right }
-        ensures token { IsTokenOf (lot_in self.now) token.new × StaysBeside (word_in self.now).number token.old token.new }
-        ensures right { IsRwLockRight (lot_in self.now) (word_in self.now) (owner_for (wanted (to_of downgrade))) result }
+        requires right { IsRwLockRight (lot_in self.now) (word_in self.now)
+            (owner_for (wanted (from_of downgrade))) right }
+        ensures token { IsTokenOf (lot_in self.now) token.new
+            × StaysBeside (word_in self.now).number token.old token.new }
+        ensures right { IsRwLockRight (lot_in self.now) (word_in self.now)
+            (owner_for (wanted (to_of downgrade))) result }
         ensures path { HasWalkedRwLock (word_in self.now).number (admission_in self.now)
             (purposes_of.Downgrade downgrade) ok token.old token.new }
         ensures record { WakesBy (word_in self.now).number (admission_in self.now)
@@ -315,14 +350,19 @@ impl LotRwLock {
         right: Held,
     ) -> Result<Held, Held>
         requires token { IsTokenOf (lot_in self.now) token.old }
-        requires right { IsRwLockRight (lot_in self.now) (word_in self.now) (owner_for Upgradable) right }
-        ensures token { IsTokenOf (lot_in self.now) token.new × StaysBeside (word_in self.now).number token.old token.new }
-        ensures right { MatchResult result (IsRwLockRight (lot_in self.now) (word_in self.now) (owner_for Exclusive))
+        requires right { IsRwLockRight (lot_in self.now) (word_in self.now)
+            (owner_for Upgradable) right }
+        ensures token { IsTokenOf (lot_in self.now) token.new
+            × StaysBeside (word_in self.now).number token.old token.new }
+        ensures right { MatchResult result
+            (IsRwLockRight (lot_in self.now) (word_in self.now) (owner_for Exclusive))
             (IsRwLockRight (lot_in self.now) (word_in self.now) (owner_for Upgradable)) }
-        ensures path { HasWalkedRwLock (word_in self.now).number (admission_in self.now) (Upgrade patience)
+        ensures path { HasWalkedRwLock (word_in self.now).number (admission_in self.now)
+            (Upgrade patience)
             (turn_answer patience result) token.old token.new }
         ensures late { IfErr result (λ right. MayGiveUp (IsUp C.tells limit.now) patience) }
-        ensures left { IfErr result (λ right. GaveUp (word_in self.now).number (admission_in self.now)
+        ensures left { IfErr result
+            (λ right. GaveUp (word_in self.now).number (admission_in self.now)
             (Upgrade patience) token.new) }
     {
         let lot: &ParkingLot = &self.lot;
@@ -346,9 +386,12 @@ impl LotRwLock {
     #[inline(always)]
     pub(crate) fn load(&self, token: &mut Token) -> u64
         requires { IsTokenOf (lot_in self.now) token.old }
-        ensures token { IsTokenOf (lot_in self.now) token.new × StaysBeside (word_in self.now).number token.old token.new }
-        ensures saw { steps_of token.new ≡ steps_of token.old ++ step (rwlock_at (word_in self.now).number) Load result }
-        ensures coded { CodesWith RwLock (rwlock_at (word_in self.now).number) result (owns_of token.old) }
+        ensures token { IsTokenOf (lot_in self.now) token.new
+            × StaysBeside (word_in self.now).number token.old token.new }
+        ensures saw { steps_of token.new
+            ≡ steps_of token.old ++ step (rwlock_at (word_in self.now).number) Load result }
+        ensures coded { CodesWith RwLock (rwlock_at (word_in self.now).number) result
+            (owns_of token.old) }
     {
         self.lot.word(token, self.word, Op::Load)
     }
@@ -364,7 +407,8 @@ impl LotRwLock {
     ) -> !
         requires token { IsTokenOf (lot_in self.now) token.old }
         requires one { IsRwLockRight (lot_in self.now) (word_in self.now) (owner_for want) one }
-        requires other { IsRwLockRight (lot_in self.now) (word_in self.now) (owner_for other_want) other }
+        requires other { IsRwLockRight (lot_in self.now) (word_in self.now)
+            (owner_for other_want) other }
         requires exclude { Exclude (owner_for want) (owner_for other_want) }
     {
         let lot: &ParkingLot = &self.lot;

@@ -31,9 +31,13 @@ Began n c state old new = (forced : Bool) × (poisoned : Bool) × (c ≡ CallOnc
 
 -- by what the call came to: its end, or its closure, where it owns the run
 abbrev pub CameTo : ℕ → OnceCall → Token → Token → Came → Type 0
-CameTo n c old new Done = StaysKnowing n old new × HasLooked n c answers.Ok old new × KnowsIt n (owns_of old) (owns_of new)
-CameTo n c old new Poisoned = StaysKnowing n old new × HasLooked n c answers.Poisoned old new × (is_forced c ≡ false)
-CameTo n c old new (Runs state) = (new.number ≡ old.number) × OwnsRun n (owns_of old) (owns_of new) × Began n c state old new
+CameTo n c old new Done =
+    StaysKnowing n old new × HasLooked n c answers.Ok old new
+    × KnowsIt n (owns_of old) (owns_of new)
+CameTo n c old new Poisoned =
+    StaysKnowing n old new × HasLooked n c answers.Poisoned old new × (is_forced c ≡ false)
+CameTo n c old new (Runs state) =
+    (new.number ≡ old.number) × OwnsRun n (owns_of old) (owns_of new) × Began n c state old new
 
 -- its first step found it done, and was all of any call
 abbrev pub FoundDone : ℕ → Token → Token → Type 0

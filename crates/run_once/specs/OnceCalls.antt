@@ -46,11 +46,13 @@ run_end n forced succeeded = Once n (Run forced (run.Close succeeded))
 abbrev pub ComesTo : ℕ → Place → List WordStep → List WordStep → Place → Type 0
 ComesTo n p old new q = (more : List WordStep) × (new ≡ old ++ more) × Path (at_once n) p more q
 
--- the steps of a call lead from its beginning to its answer, or to its closure, which is told of the run before
+-- the steps of a call lead from its beginning to its answer, or to its closure, which is told of
+-- the run before
 abbrev pub LooksBy : ℕ → OnceCall → Look → List WordStep → List WordStep → Type 0
 LooksBy n c (Ended answer) old new = Walks (at_once n) (once_begin n c) old new answer
 LooksBy n c (Runs state) old new = (forced : Bool) × (poisoned : Bool) × (c ≡ CallOnce forced)
-    × (state ≡ state_before poisoned) × ComesTo n (once_begin n c) old new (in_closure n forced poisoned)
+    × (state ≡ state_before poisoned)
+    × ComesTo n (once_begin n c) old new (in_closure n forced poisoned)
 
 -- and its thread owns so much then
 abbrev pub LookOwns : ℕ → OnceCall → Look → List Ownership → List Ownership → Type 0
@@ -70,9 +72,11 @@ Closes n succeeded old new last = (seen : ℕ) × (more : List WordStep)
 
 -- the steps that end a run lead from the end of its closure to the answer
 abbrev pub EndsRun : ℕ → Bool → Bool → List WordStep → List WordStep → Type 0
-EndsRun n forced succeeded old new = Walks (at_once n) (run_end n forced succeeded) old new (ended succeeded)
+EndsRun n forced succeeded old new =
+    Walks (at_once n) (run_end n forced succeeded) old new (ended succeeded)
 
 -- its thread loaded the word once and found this, and each call goes on from there
 abbrev pub HasSeen : ℕ → ℕ → Token → Token → Type 0
-HasSeen n seen old new = (new.number ≡ old.number) × (steps_of new ≡ steps_of old ++ step (once_at n) Load seen)
+HasSeen n seen old new =
+    (new.number ≡ old.number) × (steps_of new ≡ steps_of old ++ step (once_at n) Load seen)
     × ((c : OnceCall) → Reached ⊥ (owns_of old) (once_begin n c) (Value seen) (stage_of new None))

@@ -36,11 +36,13 @@ SawDone n old new = KnowsIt n (owns_of old) (owns_of new)
 
 -- its one step, which begins a run, saw that somebody had stepped on the word before
 abbrev pub MissedStart : ℕ → Token → Token → Type 0
-MissedStart n old new = (seen : ℕ) × (seen ≢ 0) × (steps_of new ≡ steps_of old ++ step (once_at n) (Exchange 0 4) seen)
+MissedStart n old new = (seen : ℕ) × (seen ≢ 0)
+    × (steps_of new ≡ steps_of old ++ step (once_at n) (Exchange 0 4) seen)
 
 -- a word was drawn, and the one step on it saw that
 abbrev pub DrewUsed : ParkingLot → Token → Token → Type 0
-DrewUsed lot old new = (word : Word) × (mid : Token) × Drew kinds.TheVariants.Once lot word old mid × MissedStart word.number mid new
+DrewUsed lot old new = (word : Word) × (mid : Token) × Drew kinds.TheVariants.Once lot word old mid
+    × MissedStart word.number mid new
 
 -- how far it has come, by its word
 abbrev pub state_of : ℕ → OnceState
@@ -55,18 +57,22 @@ Loaded n seen old new = steps_of new ≡ steps_of old ++ step (once_at n) Load s
 
 -- a call ran nothing, and its steps lead to its answer
 abbrev pub HasLooked : ℕ → OnceCall → Answer → Token → Token → Type 0
-HasLooked n c answer old new = Walks (at_once n) (once_begin n c) (steps_of old) (steps_of new) answer
+HasLooked n c answer old new =
+    Walks (at_once n) (once_begin n c) (steps_of old) (steps_of new) answer
 
--- a call ran its closure, which was told this state: its steps lead there, and from there to its end, and whoever waited then
--- was woken
+-- a call ran its closure, which was told this state: its steps lead there, and from there to its
+-- end, and whoever waited then was woken
 abbrev pub HasRun : ℕ → Bool → Bool → OnceState → Token → Token → Type 0
-HasRun n forced succeeded state old new = (poisoned : Bool) × (mid : List WordStep) × (state ≡ state_before poisoned)
+HasRun n forced succeeded state old new =
+    (poisoned : Bool) × (mid : List WordStep) × (state ≡ state_before poisoned)
     × ComesTo n (once_begin n (CallOnce forced)) (steps_of old) mid (in_closure n forced poisoned)
-    × EndsRun n forced succeeded mid (steps_of new) × Closes n succeeded mid (steps_of new) (last_of new)
+    × EndsRun n forced succeeded mid (steps_of new)
+    × Closes n succeeded mid (steps_of new) (last_of new)
 
--- what the answer of a call says, by what its closure answers in a state: it is Ok where the call began no run and saw the `Once`
--- done, or where its own closure succeeded
-abbrev pub CalledOnce : {E : Type 0} → ℕ → Bool → (OnceState → Result (Unit {0}) E → Type 0) → Token → Token → Result (Unit {0}) (OnceFault E) → Type 0
+-- what the answer of a call says, by what its closure answers in a state: it is Ok where the call
+-- began no run and saw the `Once` done, or where its own closure succeeded
+abbrev pub CalledOnce : {E : Type 0} → ℕ → Bool → (OnceState → Result (Unit {0}) E → Type 0) → Token
+    → Token → Result (Unit {0}) (OnceFault E) → Type 0
 CalledOnce n forced ran old new (Ok done) = SawDone n old new
     × (HasLooked n (CallOnce forced) answers.Ok old new
     ⊎ ((state : OnceState) × ran state (Ok tt) × HasRun n forced true state old new))
@@ -78,4 +84,5 @@ CalledOnce n forced ran old new (Err (Failed error)) =
 -- and of one that waits
 abbrev pub Waited : ℕ → Token → Token → Result (Unit {0}) Fault → Type 0
 Waited n old new (Ok done) = SawDone n old new × HasLooked n (Wait false) answers.Ok old new
-Waited n old new (Err fault) = (fault ≡ faults.Poisoned) × HasLooked n (Wait false) answers.Poisoned old new
+Waited n old new (Err fault) =
+    (fault ≡ faults.Poisoned) × HasLooked n (Wait false) answers.Poisoned old new

@@ -34,7 +34,8 @@ pub enum OnceFault<E> {
     Failed(E),
 }
 
-// What the rest of a call comes to: in a register, so that the first step has no local to clear for it.
+// What the rest of a call comes to: in a register, so that the first step has no local to clear for
+// it.
 enum Came {
     Done,
     Poisoned,
@@ -43,12 +44,14 @@ enum Came {
 
 /// Runs one closure of all that are brought to it. Whoever calls beside that run waits for its end.
 ///
-/// A closure that answers an error leaves it poisoned: then it runs a closure again for `call_once_force` alone.
+/// A closure that answers an error leaves it poisoned: then it runs a closure again for
+/// `call_once_force` alone.
 #[derive(Drop)]
 pub struct Once {
     lot: Arc<ParkingLot>,
     word: Word,
-    ghost drawn: { IsWordOf (arc_value lot).words word × (word.kind ≡ kinds.Once) × (word.number < 9223372036854775808) },
+    ghost drawn: { IsWordOf (arc_value lot).words word × (word.kind ≡ kinds.Once)
+        × (word.number < 9223372036854775808) },
 }
 
 fn is_ok(answer: Answer) -> bool
@@ -68,15 +71,19 @@ impl Once {
     /// `LotFull`, and `NoMemory`. Nothing is drawn then.
     pub fn new(lot: &Arc<ParkingLot>, token: &mut Token) -> Result<Once, Fault>
         requires { IsTokenOf (arc_value lot.now) token.old }
-        ensures token { IsTokenOf (arc_value lot.now) token.new × (token.new.number ≡ token.old.number)
+        ensures token { IsTokenOf (arc_value lot.now) token.new
+            × (token.new.number ≡ token.old.number)
             × ((view_of token.new).owns ≡ (view_of token.old).owns) }
         ensures made { MatchResult result (λ once. lot_of once ≡ arc_value lot.now)
             (λ fault. (fault ≡ Fault.NoMemory) ⊎ (fault ≡ Fault.LotFull)) }
         ensures drawn { MatchResult result
-            (λ once. IsDrawn (arc_value lot.now).words.count (kinds.Once ∷ []) (number_of once) (view_of token.old)
+            (λ once. IsDrawn (arc_value lot.now).words.count (kinds.Once ∷ []) (number_of once)
+            (view_of token.old)
             (view_of token.new))
-            (λ fault. ((fault ≡ Fault.NoMemory) × (token.new ≡ token.old)) ⊎ ((fault ≡ Fault.LotFull)
-            × IsDrawRefused (arc_value lot.now).words.count 1 (view_of token.old) (view_of token.new))) }
+            (λ fault. ((fault ≡ Fault.NoMemory) × (token.new ≡ token.old))
+            ⊎ ((fault ≡ Fault.LotFull)
+            × IsDrawRefused (arc_value lot.now).words.count 1 (view_of token.old)
+            (view_of token.new))) }
     {
         let Ok(lot) = Arc::try_clone(lot) else {
             return Err(Fault::NoMemory);
@@ -88,7 +95,8 @@ impl Once {
     // Takes the word of a new `Once` to the end of a run. Whether nobody was there before.
     fn complete(&self, token: &mut Token) -> bool
         requires { IsTokenOf (lot_of self.now) token.old }
-        ensures token { IsTokenOf (lot_of self.now) token.new × (token.new.number ≡ token.old.number) }
+        ensures token { IsTokenOf (lot_of self.now) token.new
+            × (token.new.number ≡ token.old.number) }
         ensures done { result ≡ true → SawDone (number_of self.now) token.old token.new }
         ensures missed { result ≡ false → MissedStart (number_of self.now) token.old token.new
             × OwnsKnowing (number_of self.now) (owns_of token.old) (owns_of token.new) }
@@ -109,14 +117,19 @@ impl Once {
     ///
     /// # Errors
     ///
-    /// `NoMemory`, and `LotFull`, also where somebody stepped on the word before, as nobody does whose word it isn't.
+    /// `NoMemory`, and `LotFull`, also where somebody stepped on the word before, as nobody does
+    /// whose word it isn't.
     pub fn new_completed(lot: &Arc<ParkingLot>, token: &mut Token) -> Result<Once, Fault>
         requires { IsTokenOf (arc_value lot.now) token.old }
-        ensures token { IsTokenOf (arc_value lot.now) token.new × (token.new.number ≡ token.old.number) }
+        ensures token { IsTokenOf (arc_value lot.now) token.new
+            × (token.new.number ≡ token.old.number) }
         ensures made { MatchResult result
-            (λ once. (lot_of once ≡ arc_value lot.now) × SawDone (number_of once) token.old token.new)
-            (λ fault. ((fault ≡ Fault.NoMemory) × (token.new ≡ token.old)) ⊎ ((fault ≡ Fault.LotFull)
-            × (FoundFull (arc_value lot.now) token.old token.new ⊎ DrewUsed (arc_value lot.now) token.old token.new))) }
+            (λ once. (lot_of once ≡ arc_value lot.now)
+            × SawDone (number_of once) token.old token.new)
+            (λ fault. ((fault ≡ Fault.NoMemory) × (token.new ≡ token.old))
+            ⊎ ((fault ≡ Fault.LotFull)
+            × (FoundFull (arc_value lot.now) token.old token.new
+            ⊎ DrewUsed (arc_value lot.now) token.old token.new))) }
         ensures stays { (number : ℕ) × StaysKnowing number token.old token.new }
     {
         let once = Once::new(lot, token)?;
@@ -138,7 +151,8 @@ impl Once {
     #[inline]
     fn load(&self, token: &mut Token) -> u64
         requires { IsTokenOf (lot_of self.now) token.old }
-        ensures token { IsTokenOf (lot_of self.now) token.new × StaysKnowing (number_of self.now) token.old token.new }
+        ensures token { IsTokenOf (lot_of self.now) token.new
+            × StaysKnowing (number_of self.now) token.old token.new }
         ensures loaded { Loaded (number_of self.now) result token.old token.new }
         ensures done { is_done result ≡ true → SawDone (number_of self.now) token.old token.new }
     {
@@ -150,8 +164,10 @@ impl Once {
     #[inline]
     pub fn state(&self, token: &mut Token) -> OnceState
         requires { IsTokenOf (lot_of self.now) token.old }
-        ensures token { IsTokenOf (lot_of self.now) token.new × StaysKnowing (number_of self.now) token.old token.new }
-        ensures seen { (seen : ℕ) × Loaded (number_of self.now) seen token.old token.new × (result ≡ state_of seen) }
+        ensures token { IsTokenOf (lot_of self.now) token.new
+            × StaysKnowing (number_of self.now) token.old token.new }
+        ensures seen { (seen : ℕ) × Loaded (number_of self.now) seen token.old token.new
+            × (result ≡ state_of seen) }
     {
         let seen = self.load(token);
         if is_done(seen) {
@@ -169,8 +185,10 @@ impl Once {
     #[inline]
     pub fn is_completed(&self, token: &mut Token) -> bool
         requires { IsTokenOf (lot_of self.now) token.old }
-        ensures token { IsTokenOf (lot_of self.now) token.new × StaysKnowing (number_of self.now) token.old token.new }
-        ensures seen { (seen : ℕ) × Loaded (number_of self.now) seen token.old token.new × (result ≡ is_done seen) }
+        ensures token { IsTokenOf (lot_of self.now) token.new
+            × StaysKnowing (number_of self.now) token.old token.new }
+        ensures seen { (seen : ℕ) × Loaded (number_of self.now) seen token.old token.new
+            × (result ≡ is_done seen) }
         ensures done { result ≡ true → SawDone (number_of self.now) token.old token.new }
     {
         is_done(self.load(token))
@@ -210,11 +228,16 @@ impl Once {
     // The run of who has run the closure ends.
     fn end_run<R: Wait>(&self, rt: &R, token: &mut Token, forced: bool, succeeded: bool)
         requires token { IsTokenOf (lot_of self.now) token.old }
-        requires runs { (base : List Ownership) × OwnsRun (number_of self.now) base (owns_of token.old) }
-        ensures token { IsTokenOf (lot_of self.now) token.new × (token.new.number ≡ token.old.number) }
-        ensures ends { EndsRun (number_of self.now) forced succeeded (steps_of token.old) (steps_of token.new) }
-        ensures closes { Closes (number_of self.now) succeeded (steps_of token.old) (steps_of token.new) (last_of token.new) }
-        ensures owns { (base : List Ownership) → OwnsRun (number_of self.now) base (owns_of token.old)
+        requires runs { (base : List Ownership)
+            × OwnsRun (number_of self.now) base (owns_of token.old) }
+        ensures token { IsTokenOf (lot_of self.now) token.new
+            × (token.new.number ≡ token.old.number) }
+        ensures ends { EndsRun (number_of self.now) forced succeeded (steps_of token.old)
+            (steps_of token.new) }
+        ensures closes { Closes (number_of self.now) succeeded (steps_of token.old)
+            (steps_of token.new) (last_of token.new) }
+        ensures owns { (base : List Ownership)
+            → OwnsRun (number_of self.now) base (owns_of token.old)
             → OwnsBehind (number_of self.now) succeeded base (owns_of token.new)
             × OwnsKnowing (number_of self.now) base (owns_of token.new) }
     {
@@ -229,7 +252,8 @@ impl Once {
     #[inline]
     pub fn wait<R: Wait>(&self, rt: &R, token: &mut Token) -> Result<(), Fault>
         requires { IsTokenOf (lot_of self.now) token.old }
-        ensures token { IsTokenOf (lot_of self.now) token.new × StaysKnowing (number_of self.now) token.old token.new }
+        ensures token { IsTokenOf (lot_of self.now) token.new
+            × StaysKnowing (number_of self.now) token.old token.new }
         ensures waited { Waited (number_of self.now) token.old token.new result }
     {
         let seen = self.begin(token);
@@ -248,9 +272,11 @@ impl Once {
     #[inline]
     pub fn wait_force<R: Wait>(&self, rt: &R, token: &mut Token)
         requires { IsTokenOf (lot_of self.now) token.old }
-        ensures token { IsTokenOf (lot_of self.now) token.new × StaysKnowing (number_of self.now) token.old token.new }
+        ensures token { IsTokenOf (lot_of self.now) token.new
+            × StaysKnowing (number_of self.now) token.old token.new }
         ensures done { SawDone (number_of self.now) token.old token.new }
-        ensures path { HasLooked (number_of self.now) (calls.Wait true) answers.Ok token.old token.new }
+        ensures path { HasLooked (number_of self.now)
+            (calls.Wait true) answers.Ok token.old token.new }
     {
         let seen = self.begin(token);
         if is_done(seen) {
@@ -263,11 +289,13 @@ impl Once {
         }
     }
 
-    /// Runs the closure where none has succeeded yet, or waits until one has. Where one has, that is one load.
+    /// Runs the closure where none has succeeded yet, or waits until one has. Where one has, that
+    /// is one load.
     ///
     /// # Errors
     ///
-    /// `Refused` by `Poisoned`, where an earlier run failed. `Failed`, where its own did, by what that answered.
+    /// `Refused` by `Poisoned`, where an earlier run failed. `Failed`, where its own did, by what
+    /// that answered.
     #[inline]
     pub fn call_once<R: Wait, E, F: FnOnce() -> Result<(), E> + Drop>(
         &self,
@@ -277,8 +305,10 @@ impl Once {
     ) -> Result<(), OnceFault<E>>
         requires token { IsTokenOf (lot_of self.now) token.old }
         requires callable { F.IsAlwaysCallable f }
-        ensures token { IsTokenOf (lot_of self.now) token.new × StaysKnowing (number_of self.now) token.old token.new }
-        ensures ran { CalledOnce (number_of self.now) false (λ _ answer. F.post f answer) token.old token.new result }
+        ensures token { IsTokenOf (lot_of self.now) token.new
+            × StaysKnowing (number_of self.now) token.old token.new }
+        ensures ran { CalledOnce (number_of self.now) false
+            (λ _ answer. F.post f answer) token.old token.new result }
     {
         let seen = self.begin(token);
         if is_done(seen) {
@@ -315,8 +345,10 @@ impl Once {
     ) -> Result<(), OnceFault<E>>
         requires token { IsTokenOf (lot_of self.now) token.old }
         requires callable { F.IsAlwaysCallable f }
-        ensures token { IsTokenOf (lot_of self.now) token.new × StaysKnowing (number_of self.now) token.old token.new }
-        ensures ran { CalledOnce (number_of self.now) true (λ state answer. F.post f state answer) token.old token.new result }
+        ensures token { IsTokenOf (lot_of self.now) token.new
+            × StaysKnowing (number_of self.now) token.old token.new }
+        ensures ran { CalledOnce (number_of self.now) true
+            (λ state answer. F.post f state answer) token.old token.new result }
     {
         let seen = self.begin(token);
         if is_done(seen) {

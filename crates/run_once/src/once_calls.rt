@@ -33,7 +33,8 @@ pub(crate) enum Look {
     Runs(OnceState),
 }
 
-/// The step with which each call begins, as all callers make it themselves: where it sees DONE the call is over.
+/// The step with which each call begins, as all callers make it themselves: where it sees DONE the
+/// call is over.
 #[inline]
 pub(crate) fn begin(lot: &ParkingLot, token: &mut Token, word: Word) -> u64
     requires own { MeetsOnce lot.now token.old word }
@@ -88,11 +89,13 @@ fn wake<R: Wait>(
     succeeded: bool,
 ) -> Answer
     requires own { MeetsOnce lot.now token.old word }
-    requires owns { (base : List Ownership) × OwnsBehind word.number succeeded base (owns_of token.old) }
+    requires owns { (base : List Ownership)
+        × OwnsBehind word.number succeeded base (owns_of token.old) }
     ensures own { IsSameThread lot.now token.old token.new }
     ensures path { Walks (at_once word.number) (Once word.number (Run forced (Enter succeeded)))
         (steps_of token.old) (steps_of token.new) result }
-    ensures over { (base : List Ownership) → OwnsBehind word.number succeeded base (owns_of token.old)
+    ensures over { (base : List Ownership)
+        → OwnsBehind word.number succeeded base (owns_of token.old)
         → IsRunOver word.number succeeded base result (stage_of token.new None) }
 {
     let start = Place::Once {
@@ -128,8 +131,10 @@ pub(crate) fn close<R: Wait>(
     requires runs { has (owning (once_at word.number) Runner) (owns_of token.old) ≡ true }
     ensures own { IsSameThread lot.now token.old token.new }
     ensures path { EndsRun word.number forced succeeded (steps_of token.old) (steps_of token.new) }
-    ensures closed { Closes word.number succeeded (steps_of token.old) (steps_of token.new) (last_of token.new) }
-    ensures owns { OwnsBehind word.number succeeded (without (owning (once_at word.number) Runner) (owns_of token.old))
+    ensures closed { Closes word.number succeeded (steps_of token.old) (steps_of token.new)
+        (last_of token.new) }
+    ensures owns { OwnsBehind word.number succeeded
+        (without (owning (once_at word.number) Runner) (owns_of token.old))
         (owns_of token.new) }
 {
     let seen = lot.word(token, word, Op::Swap(word_behind(succeeded)));

@@ -45,10 +45,13 @@ impl<T: Drop> OnceCell<T> {
         ensures made { MatchResult result (λ cell. lot_of cell ≡ arc_value lot.now)
             (λ fault. (fault ≡ Fault.NoMemory) ⊎ (fault ≡ Fault.LotFull)) }
         ensures drawn { MatchResult result
-            (λ cell. IsDrawn (arc_value lot.now).words.count (kinds.Once ∷ []) (number_of cell) (view_of token.old)
+            (λ cell. IsDrawn (arc_value lot.now).words.count (kinds.Once ∷ []) (number_of cell)
+            (view_of token.old)
             (view_of token.new))
-            (λ fault. ((fault ≡ Fault.NoMemory) × (token.new ≡ token.old)) ⊎ ((fault ≡ Fault.LotFull)
-            × IsDrawRefused (arc_value lot.now).words.count 1 (view_of token.old) (view_of token.new))) }
+            (λ fault. ((fault ≡ Fault.NoMemory) × (token.new ≡ token.old))
+            ⊎ ((fault ≡ Fault.LotFull)
+            × IsDrawRefused (arc_value lot.now).words.count 1 (view_of token.old)
+            (view_of token.new))) }
     {
         let made = Once::new(lot, token)?;
         Ok(OnceCell {
@@ -73,7 +76,8 @@ impl<T: Drop> OnceCell<T> {
         self.value.into_inner()
     }
 
-    /// The value. Where there is none the closure makes it, or another thread's does, and the call waits for that one.
+    /// The value. Where there is none the closure makes it, or another thread's does, and the call
+    /// waits for that one.
     ///
     /// # Errors
     ///
@@ -87,7 +91,8 @@ impl<T: Drop> OnceCell<T> {
     ) -> Result<&T, E>
         requires token { IsTokenOf (lot_of self.now) token.old }
         requires callable { F.IsAlwaysCallable f }
-        ensures token { IsTokenOf (lot_of self.now) token.new × StaysKnowing (number_of self.now) token.old token.new }
+        ensures token { IsTokenOf (lot_of self.now) token.new
+            × StaysKnowing (number_of self.now) token.old token.new }
         ensures failed { MatchResult result (λ value. Unit {0}) (λ error. F.post f (Err error)) }
     {
         if let Some(value) = self.value.get() {
@@ -106,7 +111,8 @@ impl<T: Drop> OnceCell<T> {
     ) -> &T
         requires token { IsTokenOf (lot_of self.now) token.old }
         requires callable { F.IsAlwaysCallable f }
-        ensures token { IsTokenOf (lot_of self.now) token.new × StaysKnowing (number_of self.now) token.old token.new }
+        ensures token { IsTokenOf (lot_of self.now) token.new
+            × StaysKnowing (number_of self.now) token.old token.new }
     {
         match self.get_or_try_init(rt, token, move || Ok::<T, Infallible>(f())) {
             Ok(value) => value,
@@ -124,7 +130,8 @@ impl<T: Drop> OnceCell<T> {
     ) -> Result<&T, E>
         requires token { IsTokenOf (lot_of self.now) token.old }
         requires callable { F.IsAlwaysCallable f }
-        ensures token { IsTokenOf (lot_of self.now) token.new × StaysKnowing (number_of self.now) token.old token.new }
+        ensures token { IsTokenOf (lot_of self.now) token.new
+            × StaysKnowing (number_of self.now) token.old token.new }
         ensures failed { MatchResult result (λ value. Unit {0}) (λ error. F.post f (Err error)) }
     {
         let value = &self.value;

@@ -23,7 +23,8 @@ writing how seen = if seen == 0 then Ends (entered how) else kept_out how
 
 abbrev pub reading : Admission → Patience → Bool → ℕ → Course
 reading a how blocked seen =
-    if blocked then kept_out how else if nat_le a.limit (count_in seen) then Ends answers.ReadersFull else Takes
+    if blocked then kept_out how else if nat_le a.limit (count_in seen)
+    then Ends answers.ReadersFull else Takes
 
 abbrev pub entering : Admission → Access → Patience → ℕ → Course
 entering a access.Exclusive how seen = writing how seen

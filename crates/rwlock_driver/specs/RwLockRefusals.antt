@@ -16,14 +16,15 @@ use Rattle.parking_lot_core.specs.declared.tokens.Token.{Token}
 use Rattle.lot_driver.specs.Paths.{rwlock_at, step}
 use Rattle.lot_driver.specs.RwLockFitting.{LeftAlone, TookWoken}
 
--- the last of its steps saw that nobody keeps this right out, and that as many share the lock as may
+-- the last of its steps saw that nobody keeps this right out, and that as many share the lock as
+-- may
 abbrev pub SawFull : ℕ → Admission → Access → Token → Token → Type 0
 SawFull l a x old new = (before : List WordStep) × (op : Op) × (seen : ℕ)
     × ((view_of new).steps ≡ ((view_of old).steps ++ before) ++ step (rwlock_at l) op seen)
     × (is_blocked a.recursive (wanted x) seen ≡ false) × (a.limit ≤ count_in seen)
 
--- an upgrade that gives up leaves no section behind its last step, or took there those whom it had kept out; one that enters may also
--- have left the queue, and done nothing else there
+-- an upgrade that gives up leaves no section behind its last step, or took there those whom it had
+-- kept out; one that enters may also have left the queue, and done nothing else there
 abbrev pub LeftBy : ℕ → Admission → RwLockPurpose → Option SectionRecord → Type 0
 LeftBy l a (purpose.Upgrade how) last = (last ≡ None) ⊎ TookWoken l a (purpose.Upgrade how) last
 LeftBy l a q last = (last ≡ None) ⊎ (LeftAlone l last ⊎ TookWoken l a q last)

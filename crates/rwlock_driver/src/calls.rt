@@ -41,9 +41,11 @@ pub(crate) fn run_out<R: Wait, C: Clock>(
     requires own { IsTokenOf lot.now token.old × IsWordOf lot.now.words word }
     requires words { AreWordsFor start (kind_in (alone word)) (at_in (alone word)) }
     requires kind { word.kind ≡ RwLock }
-    requires fits { (base : List Ownership) × Fits (IsUp C.tells limit) base start (stage_of token.old None) }
+    requires fits { (base : List Ownership)
+        × Fits (IsUp C.tells limit) base start (stage_of token.old None) }
     ensures own { IsSameThread lot.now token.old token.new }
-    ensures path { Walks (at_in (alone word)) start (steps_of token.old) (steps_of token.new) result }
+    ensures path { Walks (at_in (alone word)) start (steps_of token.old)
+        (steps_of token.new) result }
     ensures over { (base : List Ownership)
         → Fits (IsUp C.tells limit.entry) base start (stage_of token.old None)
         → IsOver (IsUp C.tells limit.entry) base (aim_of start) result (stage_of token.new None) }
@@ -150,7 +152,8 @@ fn lasting(purpose: RwLockPurpose) -> &'static RwLockPurpose
     }
 }
 
-// The same by reference: what a cold call is given by value lies in a local of its caller, which every call would set to zero.
+// The same by reference: what a cold call is given by value lies in a local of its caller, which
+// every call would set to zero.
 #[cold]
 #[inline(never)]
 fn rest_behind<R: Wait, C: Clock>(
@@ -215,8 +218,9 @@ fn behind<R: Wait, C: Clock>(
     )
 }
 
-// The same by reference. Whose exchange missed met another thread, and would meet it again at once. So it pauses: meanwhile the
-// other keeps the word's cache line, and takes many turns as if it were alone.
+// The same by reference. Whose exchange missed met another thread, and would meet it again at once.
+// So it pauses: meanwhile the other keeps the word's cache line, and takes many turns as if it were
+// alone.
 #[cold]
 #[inline(never)]
 fn rest_missed<R: Wait, C: Clock>(
@@ -239,7 +243,8 @@ fn rest_missed<R: Wait, C: Clock>(
         (steps_of token.old) (steps_of token.new) result }
     ensures over { (base : List Ownership) → Reached (IsUp C.tells limit.now) base
         (rwlock_deciding word.now.number admission.now purpose.now expected) (Value found) (stage_of token.old None)
-        → IsOver (IsUp C.tells limit.now) base (of_rwlock word.now.number admission.now purpose.now) result
+        → IsOver (IsUp C.tells limit.now) base
+        (of_rwlock word.now.number admission.now purpose.now) result
         (stage_of token.new None) }
 {
     let place = deciding(word.number(), *admission, *purpose, expected);
@@ -275,7 +280,8 @@ fn missed<R: Wait, C: Clock>(
         (steps_of token.old) (steps_of token.new) result }
     ensures over { (base : List Ownership) → Reached (IsUp C.tells limit.now) base
         (rwlock_deciding word.now.number admission.now purpose expected) (Value found) (stage_of token.old None)
-        → IsOver (IsUp C.tells limit.now) base (of_rwlock word.now.number admission.now purpose) result
+        → IsOver (IsUp C.tells limit.now) base
+        (of_rwlock word.now.number admission.now purpose) result
         (stage_of token.new None) }
 {
     rest_missed(
@@ -324,7 +330,8 @@ fn take_right<R: Wait, C: Clock>(
     missed(rt, lot, token, word, admission, limit, purpose, seen, found)
 }
 
-/// A whole call of who has the right that it needs. Where it meets nobody it is a step or two, with no further call.
+/// A whole call of who has the right that it needs. Where it meets nobody it is a step or two, with
+/// no further call.
 #[inline(always)]
 pub fn call<R: Wait, C: Clock>(
     rt: &R,
@@ -336,10 +343,13 @@ pub fn call<R: Wait, C: Clock>(
     purpose: RwLockPurpose,
 ) -> Answer
     requires own { MeetsAt lot.now token.old word.now admission.now }
-    requires right { (base : List Ownership) × BeginsWith word.now.number purpose base (owns_of token.old) }
+    requires right { (base : List Ownership)
+        × BeginsWith word.now.number purpose base (owns_of token.old) }
     ensures own { IsSameThread lot.now token.old token.new }
-    ensures path { HasWalkedRwLock word.now.number admission.now purpose result token.old token.new }
-    ensures over { (base : List Ownership) → BeginsWith word.now.number purpose base (owns_of token.old)
+    ensures path { HasWalkedRwLock word.now.number admission.now purpose result token.old
+        token.new }
+    ensures over { (base : List Ownership)
+        → BeginsWith word.now.number purpose base (owns_of token.old)
         → AnswersCall (IsUp C.tells limit.now) word.now.number base admission.now purpose result
         (stage_of token.new None) }
     ensures record { WakesBy word.now.number admission.now purpose token.old token.new }

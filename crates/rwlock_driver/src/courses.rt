@@ -1,5 +1,6 @@
-//! How a call of a reader-writer lock begins, and what it does about the value that its first step saw. The fast half of each
-//! call is made of these, so they are inlined, with what they read in a word.
+//! How a call of a reader-writer lock begins, and what it does about the value that its first step
+//! saw. The fast half of each call is made of these, so they are inlined, with what they read in a
+//! word.
 ghost use Rattle.std.specs.Prelude.{◌≡◌};
 ghost use Rattle.lot_rwlock.specs.RwLockSteps as steps;
 ghost use Rattle.rwlock_driver.specs.Courses as courses;

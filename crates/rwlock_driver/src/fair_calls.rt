@@ -52,12 +52,15 @@ fn rest<R: Wait>(
     at: &RwLockCallPlace,
 ) -> Answer
     requires own { MeetsAt lot.now token.old word.now admission.now }
-    requires fits { (base : List Ownership) × Fits ⊥ base (RwLock word.now.number admission.now at.now) (stage_of token.old None) }
+    requires fits { (base : List Ownership)
+        × Fits ⊥ base (RwLock word.now.number admission.now at.now) (stage_of token.old None) }
     ensures own { IsSameThread lot.now token.old token.new }
     ensures path { Walks (at_rwlock word.now.number) (RwLock word.now.number admission.now at.now)
         (steps_of token.old) (steps_of token.new) result }
-    ensures over { (base : List Ownership) → Fits ⊥ base (RwLock word.now.number admission.now at.now) (stage_of token.old None)
-        → IsOver ⊥ base (aim_of (RwLock word.now.number admission.now at.now)) result (stage_of token.new None) }
+    ensures over { (base : List Ownership)
+        → Fits ⊥ base (RwLock word.now.number admission.now at.now) (stage_of token.old None)
+        → IsOver ⊥ base (aim_of (RwLock word.now.number admission.now at.now)) result
+        (stage_of token.new None) }
 {
     let start = Place::RwLock {
         lock: word.number(),
@@ -67,7 +70,8 @@ fn rest<R: Wait>(
     run_out(rt, lot, token, *word, NO_LIMIT, start)
 }
 
-/// An exclusive owner gives its right up, and hands the lock over to those who wait. Where nobody does, that is one step.
+/// An exclusive owner gives its right up, and hands the lock over to those who wait. Where nobody
+/// does, that is one step.
 #[inline(always)]
 pub fn release_exclusive<R: Wait>(
     rt: &R,
@@ -77,10 +81,13 @@ pub fn release_exclusive<R: Wait>(
     admission: &Admission,
 )
     requires own { MeetsAt lot.now token.old word.now admission.now }
-    requires right { (base : List Ownership) × OwnsRight word.now.number (wanted Exclusive) base (owns_of token.old) }
+    requires right { (base : List Ownership)
+        × OwnsRight word.now.number (wanted Exclusive) base (owns_of token.old) }
     ensures own { IsSameThread lot.now token.old token.new }
-    ensures path { HasWalkedCall word.now.number admission.now (calls.ReleaseFair Exclusive) ok token.old token.new }
-    ensures over { (base : List Ownership) → OwnsRight word.now.number (wanted Exclusive) base (owns_of token.old)
+    ensures path { HasWalkedCall word.now.number admission.now
+        (calls.ReleaseFair Exclusive) ok token.old token.new }
+    ensures over { (base : List Ownership)
+        → OwnsRight word.now.number (wanted Exclusive) base (owns_of token.old)
         → IsBeside word.now.number base (owns_of token.new) }
     ensures record { ReleasesFairly word.now.number admission.now Exclusive token.old token.new }
 {
@@ -90,7 +97,8 @@ pub fn release_exclusive<R: Wait>(
     }
 }
 
-/// An upgradable owner gives its right up, and hands the lock over to those who wait, where there is room for them.
+/// An upgradable owner gives its right up, and hands the lock over to those who wait, where there
+/// is room for them.
 pub fn release_upgradable<R: Wait>(
     rt: &R,
     lot: &ParkingLot,
@@ -99,10 +107,13 @@ pub fn release_upgradable<R: Wait>(
     admission: &Admission,
 )
     requires own { MeetsAt lot.now token.old word.now admission.now }
-    requires right { (base : List Ownership) × OwnsRight word.now.number (wanted Upgradable) base (owns_of token.old) }
+    requires right { (base : List Ownership)
+        × OwnsRight word.now.number (wanted Upgradable) base (owns_of token.old) }
     ensures own { IsSameThread lot.now token.old token.new }
-    ensures path { HasWalkedCall word.now.number admission.now (calls.ReleaseFair Upgradable) ok token.old token.new }
-    ensures over { (base : List Ownership) → OwnsRight word.now.number (wanted Upgradable) base (owns_of token.old)
+    ensures path { HasWalkedCall word.now.number admission.now
+        (calls.ReleaseFair Upgradable) ok token.old token.new }
+    ensures over { (base : List Ownership)
+        → OwnsRight word.now.number (wanted Upgradable) base (owns_of token.old)
         → IsBeside word.now.number base (owns_of token.new) }
     ensures record { ReleasesFairly word.now.number admission.now Upgradable token.old token.new }
 {
@@ -114,7 +125,8 @@ pub fn release_upgradable<R: Wait>(
     rest(rt, lot, token, word, admission, &at);
 }
 
-/// An owner gives its right up where others wait for it, and enters again. Where nobody does, that is one load.
+/// An owner gives its right up where others wait for it, and enters again. Where nobody does, that
+/// is one load.
 #[inline(always)]
 pub fn bump<R: Wait>(
     rt: &R,
@@ -125,11 +137,15 @@ pub fn bump<R: Wait>(
     access: Access,
 ) -> Answer
     requires own { MeetsAt lot.now token.old word.now admission.now }
-    requires right { (base : List Ownership) × OwnsRight word.now.number (wanted access) base (owns_of token.old) }
+    requires right { (base : List Ownership)
+        × OwnsRight word.now.number (wanted access) base (owns_of token.old) }
     ensures own { IsSameThread lot.now token.old token.new }
-    ensures path { HasWalkedCall word.now.number admission.now (calls.Bump access) result token.old token.new }
-    ensures over { (base : List Ownership) → OwnsRight word.now.number (wanted access) base (owns_of token.old)
-        → Answers ⊥ word.now.number base admission.now (Enter access Patient) result (stage_of token.new None) }
+    ensures path { HasWalkedCall word.now.number admission.now
+        (calls.Bump access) result token.old token.new }
+    ensures over { (base : List Ownership)
+        → OwnsRight word.now.number (wanted access) base (owns_of token.old)
+        → Answers ⊥ word.now.number base admission.now (Enter access Patient) result
+        (stage_of token.new None) }
 {
     let seen = lot.word(token, *word, Op::Load);
     match RwLockCallPlace::Glance(access).next(*admission, Reply::Value(seen)) {
