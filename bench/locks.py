@@ -3,9 +3,11 @@
 
 It needs cargo, the package librust-parking-lot-dev of Debian, and for the count of instructions valgrind.
 
-python3 bench/locks.py [MODE ..] [--n N] [--runs N], else every mode with 10 million operations, nine times.
-It prints a table: the median of nanoseconds for an operation, the best in brackets, and what the busiest thread of ours
-did for one of the idlest, as the median and the greatest of the runs.
+python3 bench/locks.py [MODE ..] [--n N] [--runs N] [--sittings N] [--built], else every mode with 10 million
+operations, nine times, in one sitting. It prints a table: the median of nanoseconds for an operation, the best in
+brackets, and what the busiest thread of ours did for one of the idlest, as the median and the greatest of the runs.
+With several sittings, each of so many runs, the ratio is the median of theirs, the least and the greatest in brackets,
+and so is how much longer ours took. With --built it takes both programs as they lie in their folders.
 """
 
 import argparse
@@ -54,19 +56,42 @@ def run(program, mode, threads, operations):
     return nanos / operations, high / max(low, 1)
 
 
-def row(mode, other, threads, operations, runs):
+def sitting(mode, other, threads, operations, runs):
+    """The runs of ours and of the other program, in turn: each run's nanoseconds and spread."""
     ours, theirs = [], []
     for _ in range(runs):
         ours.append(run(OURS, mode, threads, operations))
         theirs.append(run(THEIRS, other, threads, operations))
-    our_times, spreads = zip(*ours)
-    their_times, _ = zip(*theirs)
-    our_time, their_time = statistics.median(our_times), statistics.median(their_times)
+    return ours, theirs
+
+
+def median_time(runs):
+    return statistics.median(nanos for nanos, _ in runs)
+
+
+def of_several(values):
+    """One value as it is; of several the median, with the least and the greatest."""
+    if len(values) == 1:
+        return f"{values[0]:.2f}"
+    return f"{statistics.median(values):.2f} ({min(values):.2f} to {max(values):.2f})"
+
+
+def row(mode, other, threads, operations, runs, sittings):
+    sat = [sitting(mode, other, threads, operations, runs) for _ in range(sittings)]
+    medians = [(median_time(ours), median_time(theirs)) for ours, theirs in sat]
+    all_ours, all_theirs = ([one for runs in side for one in runs] for side in zip(*sat))
+    spreads = [spread for _, spread in all_ours]
     spread = f"{statistics.median(spreads):.2f}, {max(spreads):.2f}" if threads > 1 else ""
-    return (
-        f"| `{other}` | {threads} | {our_time:.1f} ({min(our_times):.1f}) | {their_time:.1f} ({min(their_times):.1f})"
-        f" | {our_time / their_time:.2f} | {spread} |"
-    )
+    columns = [
+        f"`{other}`",
+        threads,
+        f"{median_time(all_ours):.1f} ({min(all_ours)[0]:.1f})",
+        f"{median_time(all_theirs):.1f} ({min(all_theirs)[0]:.1f})",
+        of_several([ours / theirs for ours, theirs in medians]),
+        of_several([ours - theirs for ours, theirs in medians]),
+        spread,
+    ]
+    return f"| {' | '.join(str(column) for column in columns)} |"
 
 
 def instructions(program, mode, operations):
@@ -86,16 +111,19 @@ def main():
     parser.add_argument("modes", nargs="*", metavar="MODE", help=", ".join(MODES))
     parser.add_argument("--n", type=int, default=10_000_000)
     parser.add_argument("--runs", type=int, default=9)
+    parser.add_argument("--sittings", type=int, default=1)
+    parser.add_argument("--built", action="store_true")
     asked = parser.parse_args()
     modes = asked.modes or MODES
-    build()
-    print("| mode | threads | ours, ns | Rust, ns | ratio | ours, busiest by idlest |")
-    print("|---|---|---|---|---|---|")
+    if not asked.built:
+        build()
+    print("| mode | threads | ours, ns | Rust, ns | ratio | ns more | ours, busiest by idlest |")
+    print("|---|---|---|---|---|---|---|")
     for mode in modes:
         for other in BESIDE.get(mode, [mode]):
             operations = asked.n // FEWER if mode in TOGETHER else asked.n
             for threads in TOGETHER.get(mode, THREADS):
-                print(row(mode, other, threads, operations, asked.runs), flush=True)
+                print(row(mode, other, threads, operations, asked.runs, asked.sittings), flush=True)
     print()
     print("| mode | ours, instructions | Rust, instructions |")
     print("|---|---|---|")
