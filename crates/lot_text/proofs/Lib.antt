@@ -3,3 +3,5 @@ pub mod NameLemmas
 pub mod LinesLemmas
 pub mod NumberLaw
 pub mod SentLemmas
+pub mod WordLemmas
+pub mod TurnLemmas

@@ -8,7 +8,7 @@ use Rattle.std.proofs.lemmas.Bool.Decides.{nat_tests}
 use Rattle.lot_text.specs.Names.{is_digit}
 use Rattle.lot_text.specs.Grammar.{digits_after, has_form, number_of}
 
-abbrev AreDigits : List ℕ → Type 0
+abbrev pub AreDigits : List ℕ → Type 0
 AreDigits [] = Unit {0}
 AreDigits (c ∷ cs) = IsInRange 48 57 c × AreDigits cs
 
@@ -25,7 +25,7 @@ digit_in c e = (grind (arith, nat_tests), grind (arith, nat_tests))
 some_same : (m n : ℕ) → ◌≡◌ {A = Option ℕ} (Some m) (Some n) → m ≡ n
 some_same m n e = cc
 
-none_some : (n : ℕ) → ◌≡◌ {A = Option ℕ} None (Some n) → ⊥
+pub none_some : (n : ℕ) → ◌≡◌ {A = Option ℕ} None (Some n) → ⊥
 none_some n e = cc
 
 reads_digit : (b : Bool) (c : ℕ) (cs : List ℕ) (m n : ℕ) → is_digit c ≡ b → digits_after m (c ∷ cs) ≡ Some n
@@ -49,6 +49,16 @@ formed word e = record { some = grind (arith, nat_tests); few = grind (arith, na
 number_form : (b : Bool) (word : List ℕ) (n : ℕ) → has_form word ≡ b → number_of word ≡ Some n → (has_form word ≡ true) × (digits_after 0 word ≡ Some n)
 number_form true word n d e = (d, sym (ap (λ t. cond t (digits_after 0 word) None) d) ∙ e)
 number_form false word n d e = absurd (none_some n (sym (ap (λ t. cond t (digits_after 0 word) None) d) ∙ e))
+
+-- what a number's word is
+pub record IsNumber (word : List ℕ) : Type 0 where
+  pub digits : AreDigits word
+  pub few : length word ≤ 19
+
+pub number_is : (word : List ℕ) (n : ℕ) → number_of word ≡ Some n → IsNumber word
+number_is word n e =
+    let f = number_form (has_form word) word n refl e in
+    record { digits = (reads word 0 n f.1).0; few = (formed word f.0).few }
 
 pub number_is_decimal : (word : List ℕ) (n : ℕ) → number_of word ≡ Some n → (decimal n ≡ word) × (n < 10 ^ 19)
 number_is_decimal word n e =

@@ -33,7 +33,8 @@ digits_after n (c ∷ cs) = if is_digit c then digits_after (n * 10 + (c - 48)) 
 
 -- 1 to 19 digits, the first of several no 0
 abbrev pub has_form : List ℕ → Bool
-has_form word = (nat_lt 0 (length word) && nat_le (length word) 19) && ((length word == 1) || not (slice_index word 0 == 48))
+has_form word = (nat_lt 0 (length word) && nat_le (length word) 19) &&
+    ((length word == 1) || not (slice_index word 0 == 48))
 
 abbrev pub number_of : List ℕ → Option ℕ
 number_of word = if has_form word then digits_after 0 word else None
@@ -128,7 +129,8 @@ wait_of word (Some mutex) =
     else None)
 
 -- the first of them that is there
-abbrev pub first_call : Option MutexCall → Option RwLockCall → Option RwLockCall → Option OnceCall → Option NamedCall → Option NamedCall
+abbrev pub first_call : Option MutexCall → Option RwLockCall → Option RwLockCall → Option OnceCall
+    → Option NamedCall → Option NamedCall
 first_call (Some c) enters other once notifies = Some (call.TheVariants.Mutex c)
 first_call None (Some c) other once notifies = Some (call.TheVariants.RwLock c)
 first_call None None (Some c) once notifies = Some (call.TheVariants.RwLock c)
@@ -137,7 +139,8 @@ first_call None None None None notifies = notifies
 
 abbrev pub call_of : List ℕ → Option NamedCall
 call_of word =
-    first_call (mutex_call_of word) (entering_call_of word) (other_call_of word) (once_call_of word) (notification_of word)
+    first_call (mutex_call_of word) (entering_call_of word) (other_call_of word) (once_call_of word)
+    (notification_of word)
 
 -- a turn by which a closure answers
 abbrev pub closing_turn_of : List ℕ → Option NamedTurn
@@ -174,16 +177,19 @@ lock_command (Some name) kind = option_map (command.TheVariants.Lock name) kind
 -- a thread's number, `begin` or `do`, a call and the name of a lock
 abbrev pub calling_command_of : List ℕ → List ℕ → Option NamedCall → List ℕ → Option Command
 calling_command_of a b c d =
-    turn_command (number_of a) (option_and_then (λ call. option_and_then (calling_turn_of b call) (name_of d)) c)
+    turn_command (number_of a)
+    (option_and_then (λ call. option_and_then (calling_turn_of b call) (name_of d)) c)
 
--- the words of a line with a meaning: `show`, `threads N`, `T TURN`, `lock NAME KIND`, `lock NAME KIND LIMIT`, `T begin CALL NAME`,
--- `T do CALL NAME`, and of a wait on a condition variable `T begin CALL NAME MUTEX`, `T do CALL NAME MUTEX`
+-- the words of a line with a meaning: `show`, `threads N`, `T TURN`, `lock NAME KIND`,
+-- `lock NAME KIND LIMIT`, `T begin CALL NAME`, `T do CALL NAME`, and of a wait on a condition
+-- variable `T begin CALL NAME MUTEX`, `T do CALL NAME MUTEX`
 abbrev pub command_of : List (List ℕ) → Option Command
 command_of (a ∷ []) = if bytes_eq a (codes "show") then Some command.TheVariants.Show else None
 command_of (a ∷ b ∷ []) =
     if bytes_eq a (codes "threads") then option_map command.TheVariants.Threads (number_of b)
     else turn_command (number_of a) (turn_of b)
-command_of (a ∷ b ∷ c ∷ []) = if bytes_eq a (codes "lock") then lock_command (name_of b) (kind_of c) else None
+command_of (a ∷ b ∷ c ∷ []) =
+    if bytes_eq a (codes "lock") then lock_command (name_of b) (kind_of c) else None
 command_of (a ∷ b ∷ c ∷ d ∷ []) =
     if bytes_eq a (codes "lock") then lock_command (name_of b) (limited_kind_of c (number_of d))
     else calling_command_of a b (call_of c) d

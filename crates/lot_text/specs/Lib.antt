@@ -4,3 +4,4 @@ pub mod Names
 pub mod Grammar
 pub mod Sent
 pub mod Text
+pub mod Turns

@@ -20,7 +20,8 @@ TakesLine (Some xs) (Some ys) line = lines_of xs ≡ line ∷ lines_of ys
 -- the first line of known bytes is too long
 abbrev pub StartsTooLong : Option (List ℕ) → Type 0
 StartsTooLong None = ⊤
-StartsTooLong (Some xs) = (line : List ℕ) × (lines : List (List ℕ)) × (line_len < length line) × (lines_of xs ≡ line ∷ lines)
+StartsTooLong (Some xs) = (line : List ℕ) × (lines : List (List ℕ)) × (line_len < length line)
+    × (lines_of xs ≡ line ∷ lines)
 
 -- known bytes lose a part of their first line
 abbrev pub TakesPart : Option (List ℕ) → Option (List ℕ) → Type 0
@@ -33,11 +34,13 @@ ReadsLine old new TooLong line = StartsTooLong old
 ReadsLine old new End line = IsAtEnd old
 ReadsLine old new Failed line = TakesPart old new
 
--- what one look at the reader's bytes does, where the line read so far grows from `before` to `after`
+-- what one look at the reader's bytes does, where the line read so far grows from `before` to
+-- `after`
 abbrev pub TakesPiece : Option (List ℕ) → Option (List ℕ) → Piece → List ℕ → List ℕ → Type 0
 TakesPiece old new More before after = (part : List ℕ) × IsOneLine part × Consumes old new part
     × (after ≡ before ++ part) × (length after ≤ line_len)
-TakesPiece old new LineFeed before after = (part : List ℕ) × IsOneLine part × Consumes old new (part ++ 10 ∷ [])
+TakesPiece old new LineFeed before after = (part : List ℕ) × IsOneLine part
+    × Consumes old new (part ++ 10 ∷ [])
     × (after ≡ before ++ part) × (length after ≤ line_len)
 TakesPiece old new NoRoom before after = (part : List ℕ) × (then : Option (List ℕ)) × IsOneLine part
     × Consumes old then part × (line_len < length (before ++ part))

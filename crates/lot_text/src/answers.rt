@@ -8,9 +8,12 @@ use crate::output::Page;
 use lot_calls::{Answer, OnceState, Outcome};
 use std::io::Write;
 
-/// Prints the line that answers a thread's turn.
+/// Prints the line that answers a thread's turn, as almost every line of an output does: so it is
+/// inlined.
+#[inline(always)]
 pub fn print_turn<W: Write>(page: &mut Page, writer: &mut W, thread: usize, outcome: Outcome)
-    ensures { Puts (W.contents writer.old) (W.contents writer.new) page.old page.new (turn_line thread outcome) }
+    ensures { Puts (W.contents writer.old) (W.contents writer.new) page.old page.new
+        (turn_line thread outcome) }
 {
     page.put_number(writer, thread as u64);
     match outcome {
@@ -42,7 +45,8 @@ fn state_text(state: OnceState) -> &'static [u8]
 }
 
 fn print_answer<W: Write>(page: &mut Page, writer: &mut W, answer: Answer)
-    ensures { Puts (W.contents writer.old) (W.contents writer.new) page.old page.new (answer_text answer) }
+    ensures { Puts (W.contents writer.old) (W.contents writer.new) page.old page.new
+        (answer_text answer) }
 {
     match answer {
         Answer::Ok => page.put(writer, b"ok"),
@@ -60,7 +64,8 @@ fn print_answer<W: Write>(page: &mut Page, writer: &mut W, answer: Answer)
 
 /// Prints the last line of a replay that met a line of another form.
 pub fn print_malformed<W: Write>(page: &mut Page, writer: &mut W, number: u64)
-    ensures { Puts (W.contents writer.old) (W.contents writer.new) page.old page.new (malformed_line number) }
+    ensures { Puts (W.contents writer.old) (W.contents writer.new) page.old page.new
+        (malformed_line number) }
 {
     page.put(writer, b"line ");
     page.put_number(writer, number);
@@ -69,7 +74,8 @@ pub fn print_malformed<W: Write>(page: &mut Page, writer: &mut W, number: u64)
 
 /// Prints the last line of a replay that was refused memory.
 pub fn print_no_memory<W: Write>(page: &mut Page, writer: &mut W, number: u64)
-    ensures { Puts (W.contents writer.old) (W.contents writer.new) page.old page.new (no_memory_line number) }
+    ensures { Puts (W.contents writer.old) (W.contents writer.new) page.old page.new
+        (no_memory_line number) }
 {
     page.put(writer, b"line ");
     page.put_number(writer, number);

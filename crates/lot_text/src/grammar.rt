@@ -4,6 +4,7 @@ ghost use Rattle.lot_text.specs.Names.{name_of};
 ghost use Rattle.lot_text.specs.Grammar.{words_of, number_of, digits_after, kind_of, limited_kind_of, mutex_call_of, entering_call_of, fair_call_of, other_call_of, once_call_of, notification_of, wait_of, call_of, turn_of, closing_turn_of, calling_turn_of, lock_command, turn_command, calling_command_of, command_of, meaning};
 
 use crate::names::Name;
+use crate::words::is_text;
 use lot_calls::kinds::MOST_READERS;
 use lot_calls::{Access, Downgrade, Kind, MutexCall, OnceCall, Patience, RwLockCall};
 
@@ -107,7 +108,7 @@ fn len_of_word(text: &[u8]) -> usize
 fn command_of_one(word: &[u8]) -> Option<Command>
     ensures { result ≡ command_of (word.now ∷ []) }
 {
-    if word == b"show".as_slice() {
+    if is_text(word, b"show") {
         Some(Command::Show)
     } else {
         None
@@ -117,7 +118,7 @@ fn command_of_one(word: &[u8]) -> Option<Command>
 fn command_of_two(first: &[u8], second: &[u8]) -> Option<Command>
     ensures { result ≡ command_of (first.now ∷ second.now ∷ []) }
 {
-    if first == b"threads".as_slice() {
+    if is_text(first, b"threads") {
         return number(second).map(Command::Threads);
     }
     let thread = number(first)?;
@@ -128,7 +129,7 @@ fn command_of_two(first: &[u8], second: &[u8]) -> Option<Command>
 fn command_of_three(first: &[u8], second: &[u8], third: &[u8]) -> Option<Command>
     ensures { result ≡ command_of (first.now ∷ second.now ∷ third.now ∷ []) }
 {
-    if first != b"lock".as_slice() {
+    if !is_text(first, b"lock") {
         return None;
     }
     let name = Name::from_word(second)?;
@@ -139,7 +140,7 @@ fn command_of_three(first: &[u8], second: &[u8], third: &[u8]) -> Option<Command
 fn command_of_four(first: &[u8], second: &[u8], third: &[u8], fourth: &[u8]) -> Option<Command>
     ensures { result ≡ command_of (first.now ∷ second.now ∷ third.now ∷ fourth.now ∷ []) }
 {
-    if first == b"lock".as_slice() {
+    if is_text(first, b"lock") {
         return limited_lock(second, third, fourth);
     }
     calling_command(first, second, call(third), fourth)
@@ -153,7 +154,8 @@ fn command_of_five(
     fourth: &[u8],
     fifth: &[u8],
 ) -> Option<Command>
-    ensures { result ≡ command_of (first.now ∷ second.now ∷ third.now ∷ fourth.now ∷ fifth.now ∷ []) }
+    ensures { result ≡ command_of
+        (first.now ∷ second.now ∷ third.now ∷ fourth.now ∷ fifth.now ∷ []) }
 {
     let call = wait(third, Name::from_word(fifth));
     calling_command(first, second, call, fourth)
@@ -161,7 +163,8 @@ fn command_of_five(
 
 /// A lock with a reader limit.
 fn limited_lock(name: &[u8], kind: &[u8], limit: &[u8]) -> Option<Command>
-    ensures { result ≡ lock_command (name_of name.now) (limited_kind_of kind.now (number_of limit.now)) }
+    ensures { result ≡ lock_command (name_of name.now)
+        (limited_kind_of kind.now (number_of limit.now)) }
 {
     let name = Name::from_word(name)?;
     let kind = limited_kind(kind, number(limit)?)?;
@@ -188,13 +191,13 @@ fn calling_command(
 fn turn(word: &[u8]) -> Option<NamedTurn>
     ensures { result ≡ turn_of word.now }
 {
-    if word == b"go".as_slice() {
+    if is_text(word, b"go") {
         Some(NamedTurn::Go)
-    } else if word == b"solo".as_slice() {
+    } else if is_text(word, b"solo") {
         Some(NamedTurn::Solo)
-    } else if word == b"spin".as_slice() {
+    } else if is_text(word, b"spin") {
         Some(NamedTurn::Spin)
-    } else if word == b"late".as_slice() {
+    } else if is_text(word, b"late") {
         Some(NamedTurn::Late)
     } else {
         closing_turn(word)
@@ -205,9 +208,9 @@ fn turn(word: &[u8]) -> Option<NamedTurn>
 fn closing_turn(word: &[u8]) -> Option<NamedTurn>
     ensures { result ≡ closing_turn_of word.now }
 {
-    if word == b"ok".as_slice() {
+    if is_text(word, b"ok") {
         Some(NamedTurn::Ok)
-    } else if word == b"err".as_slice() {
+    } else if is_text(word, b"err") {
         Some(NamedTurn::Err)
     } else {
         None
@@ -218,9 +221,9 @@ fn closing_turn(word: &[u8]) -> Option<NamedTurn>
 fn calling_turn(word: &[u8], call: NamedCall, name: Name) -> Option<NamedTurn>
     ensures { result ≡ calling_turn_of word.now call name }
 {
-    if word == b"begin".as_slice() {
+    if is_text(word, b"begin") {
         Some(NamedTurn::Begin { call, name })
-    } else if word == b"do".as_slice() {
+    } else if is_text(word, b"do") {
         Some(NamedTurn::Do { call, name })
     } else {
         None
@@ -231,13 +234,13 @@ fn calling_turn(word: &[u8], call: NamedCall, name: Name) -> Option<NamedTurn>
 fn kind(word: &[u8]) -> Option<Kind>
     ensures { result ≡ kind_of word.now }
 {
-    if word == b"mutex".as_slice() {
+    if is_text(word, b"mutex") {
         Some(Kind::Mutex)
-    } else if word == b"fair".as_slice() {
+    } else if is_text(word, b"fair") {
         Some(Kind::Fair)
-    } else if word == b"condvar".as_slice() {
+    } else if is_text(word, b"condvar") {
         Some(Kind::Condvar)
-    } else if word == b"once".as_slice() {
+    } else if is_text(word, b"once") {
         Some(Kind::Once)
     } else {
         limited_kind(word, MOST_READERS as usize)
@@ -249,9 +252,9 @@ fn limited_kind(word: &[u8], limit: usize) -> Option<Kind>
     ensures { result ≡ limited_kind_of word.now (Some limit) }
 {
     let limit = limit as u64;
-    if word == b"rwlock".as_slice() {
+    if is_text(word, b"rwlock") {
         Some(Kind::RwLock { limit })
-    } else if word == b"recursive".as_slice() {
+    } else if is_text(word, b"recursive") {
         Some(Kind::Recursive { limit })
     } else {
         None
@@ -281,17 +284,17 @@ fn call(word: &[u8]) -> Option<NamedCall>
 fn mutex_call(word: &[u8]) -> Option<MutexCall>
     ensures { result ≡ mutex_call_of word.now }
 {
-    if word == b"lock".as_slice() {
+    if is_text(word, b"lock") {
         Some(MutexCall::Lock)
-    } else if word == b"unlock".as_slice() {
+    } else if is_text(word, b"unlock") {
         Some(MutexCall::Unlock)
-    } else if word == b"try_lock".as_slice() {
+    } else if is_text(word, b"try_lock") {
         Some(MutexCall::TryLock)
-    } else if word == b"lock_timed".as_slice() {
+    } else if is_text(word, b"lock_timed") {
         Some(MutexCall::LockTimed)
-    } else if word == b"unlock_fair".as_slice() {
+    } else if is_text(word, b"unlock_fair") {
         Some(MutexCall::UnlockFair)
-    } else if word == b"bump".as_slice() {
+    } else if is_text(word, b"bump") {
         Some(MutexCall::Bump)
     } else {
         None
@@ -308,50 +311,51 @@ fn enters(access: Access, patience: Patience) -> Option<RwLockCall>
 fn entering_call(word: &[u8]) -> Option<RwLockCall>
     ensures { result ≡ entering_call_of word.now }
 {
-    if word == b"read".as_slice() {
+    if is_text(word, b"read") {
         enters(Access::Shared, Patience::Patient)
-    } else if word == b"read_timed".as_slice() {
+    } else if is_text(word, b"read_timed") {
         enters(Access::Shared, Patience::Timed)
-    } else if word == b"try_read".as_slice() {
+    } else if is_text(word, b"try_read") {
         enters(Access::Shared, Patience::Try)
-    } else if word == b"upgradable".as_slice() {
+    } else if is_text(word, b"upgradable") {
         enters(Access::Upgradable, Patience::Patient)
-    } else if word == b"upgradable_timed".as_slice() {
+    } else if is_text(word, b"upgradable_timed") {
         enters(Access::Upgradable, Patience::Timed)
-    } else if word == b"try_upgradable".as_slice() {
+    } else if is_text(word, b"try_upgradable") {
         enters(Access::Upgradable, Patience::Try)
-    } else if word == b"write".as_slice() {
+    } else if is_text(word, b"write") {
         enters(Access::Exclusive, Patience::Patient)
-    } else if word == b"write_timed".as_slice() {
+    } else if is_text(word, b"write_timed") {
         enters(Access::Exclusive, Patience::Timed)
-    } else if word == b"try_write".as_slice() {
+    } else if is_text(word, b"try_write") {
         enters(Access::Exclusive, Patience::Try)
     } else {
         None
     }
 }
 
-/// The call that a word names, which gives a right to a reader-writer lock up or turns it into another.
+/// The call that a word names, which gives a right to a reader-writer lock up or turns it into
+/// another.
 fn other_call(word: &[u8]) -> Option<RwLockCall>
     ensures { result ≡ other_call_of word.now }
 {
-    if word == b"unlock_shared".as_slice() {
+    if is_text(word, b"unlock_shared") {
         Some(RwLockCall::Release(Access::Shared))
-    } else if word == b"unlock_upgradable".as_slice() {
+    } else if is_text(word, b"unlock_upgradable") {
         Some(RwLockCall::Release(Access::Upgradable))
-    } else if word == b"unlock_exclusive".as_slice() {
+    } else if is_text(word, b"unlock_exclusive") {
         Some(RwLockCall::Release(Access::Exclusive))
-    } else if word == b"downgrade".as_slice() {
+    } else if is_text(word, b"downgrade") {
         Some(RwLockCall::Downgrade(Downgrade::ToShared))
-    } else if word == b"downgrade_to_upgradable".as_slice() {
+    } else if is_text(word, b"downgrade_to_upgradable") {
         Some(RwLockCall::Downgrade(Downgrade::ToUpgradable))
-    } else if word == b"downgrade_upgradable".as_slice() {
+    } else if is_text(word, b"downgrade_upgradable") {
         Some(RwLockCall::Downgrade(Downgrade::UpgradableToShared))
-    } else if word == b"upgrade".as_slice() {
+    } else if is_text(word, b"upgrade") {
         Some(RwLockCall::Upgrade(Patience::Patient))
-    } else if word == b"upgrade_timed".as_slice() {
+    } else if is_text(word, b"upgrade_timed") {
         Some(RwLockCall::Upgrade(Patience::Timed))
-    } else if word == b"try_upgrade".as_slice() {
+    } else if is_text(word, b"try_upgrade") {
         Some(RwLockCall::Upgrade(Patience::Try))
     } else {
         fair_call(word)
@@ -362,17 +366,17 @@ fn other_call(word: &[u8]) -> Option<RwLockCall>
 fn fair_call(word: &[u8]) -> Option<RwLockCall>
     ensures { result ≡ fair_call_of word.now }
 {
-    if word == b"unlock_shared_fair".as_slice() {
+    if is_text(word, b"unlock_shared_fair") {
         Some(RwLockCall::ReleaseFair(Access::Shared))
-    } else if word == b"unlock_upgradable_fair".as_slice() {
+    } else if is_text(word, b"unlock_upgradable_fair") {
         Some(RwLockCall::ReleaseFair(Access::Upgradable))
-    } else if word == b"unlock_exclusive_fair".as_slice() {
+    } else if is_text(word, b"unlock_exclusive_fair") {
         Some(RwLockCall::ReleaseFair(Access::Exclusive))
-    } else if word == b"bump_shared".as_slice() {
+    } else if is_text(word, b"bump_shared") {
         Some(RwLockCall::Bump(Access::Shared))
-    } else if word == b"bump_upgradable".as_slice() {
+    } else if is_text(word, b"bump_upgradable") {
         Some(RwLockCall::Bump(Access::Upgradable))
-    } else if word == b"bump_exclusive".as_slice() {
+    } else if is_text(word, b"bump_exclusive") {
         Some(RwLockCall::Bump(Access::Exclusive))
     } else {
         None
@@ -383,13 +387,13 @@ fn fair_call(word: &[u8]) -> Option<RwLockCall>
 fn once_call(word: &[u8]) -> Option<OnceCall>
     ensures { result ≡ once_call_of word.now }
 {
-    if word == b"call_once".as_slice() {
+    if is_text(word, b"call_once") {
         Some(OnceCall::CallOnce { forced: false })
-    } else if word == b"call_once_force".as_slice() {
+    } else if is_text(word, b"call_once_force") {
         Some(OnceCall::CallOnce { forced: true })
-    } else if word == b"wait".as_slice() {
+    } else if is_text(word, b"wait") {
         Some(OnceCall::Wait { forced: false })
-    } else if word == b"wait_force".as_slice() {
+    } else if is_text(word, b"wait_force") {
         Some(OnceCall::Wait { forced: true })
     } else {
         None
@@ -400,9 +404,9 @@ fn once_call(word: &[u8]) -> Option<OnceCall>
 fn notification(word: &[u8]) -> Option<NamedCall>
     ensures { result ≡ notification_of word.now }
 {
-    if word == b"notify_one".as_slice() {
+    if is_text(word, b"notify_one") {
         Some(NamedCall::Notify { all: false })
-    } else if word == b"notify_all".as_slice() {
+    } else if is_text(word, b"notify_all") {
         Some(NamedCall::Notify { all: true })
     } else {
         None
@@ -414,12 +418,12 @@ fn wait(word: &[u8], mutex: Option<Name>) -> Option<NamedCall>
     ensures { result ≡ wait_of word.now mutex }
 {
     let mutex = mutex?;
-    if word == b"wait".as_slice() {
+    if is_text(word, b"wait") {
         Some(NamedCall::Wait {
             mutex,
             timed: false,
         })
-    } else if word == b"wait_timed".as_slice() {
+    } else if is_text(word, b"wait_timed") {
         Some(NamedCall::Wait { mutex, timed: true })
     } else {
         None
@@ -427,7 +431,7 @@ fn wait(word: &[u8], mutex: Option<Name>) -> Option<NamedCall>
 }
 
 /// The number that a word spells as it would be printed, in at most 19 digits.
-fn number(word: &[u8]) -> Option<usize>
+pub(crate) fn number(word: &[u8]) -> Option<usize>
     ensures { result ≡ number_of word.now }
 {
     if word.is_empty() || word.len() > MOST_DIGITS {
@@ -456,5 +460,6 @@ fn digits(word: &[u8]) -> Option<usize>
 
 /// A number is read only as it would be printed.
 pub fn numbers_are_decimal()
-    ensures { (word : List ℕ) (n : ℕ) → number_of word ≡ Some n → (decimal n ≡ word) × (n < 10 ^ 19) }
+    ensures { (word : List ℕ) (n : ℕ) → number_of word ≡ Some n
+        → (decimal n ≡ word) × (n < 10 ^ 19) }
 {}

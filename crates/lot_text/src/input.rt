@@ -55,7 +55,8 @@ pub fn read_line<R: BufRead>(reader: &mut R, line: &mut ArrayVec<u8, LINE_LEN>) 
 /// Moves what the reader shows of the line to `line`, up to its line feed.
 fn take_piece<R: BufRead>(reader: &mut R, line: &mut ArrayVec<u8, LINE_LEN>) -> Piece
     requires { length line.old.items ≤ line_len }
-    ensures { TakesPiece (R.remaining reader.old) (R.remaining reader.new) result line.old.items line.new.items }
+    ensures { TakesPiece (R.remaining reader.old) (R.remaining reader.new) result line.old.items
+        line.new.items }
 {
     let shown = match reader.fill_buf() {
         Ok(shown) => shown,

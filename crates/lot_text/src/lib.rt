@@ -6,9 +6,12 @@ pub mod grammar;
 pub mod input;
 pub mod names;
 pub mod output;
+pub mod turns;
+mod words;
 
 pub use answers::{print_malformed, print_no_memory, print_turn};
 pub use grammar::{Command, NamedCall, NamedTurn, meaning, numbers_are_decimal};
 pub use input::{LINE_LEN, Reading, read_line};
 pub use names::{Name, lock_named};
 pub use output::{Page, send_all};
+pub use turns::{Line, Next, PlainTurn, read_next};

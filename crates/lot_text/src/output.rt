@@ -43,7 +43,8 @@ impl Page {
         self.is_lost
     }
 
-    /// Adds a text, and sends what has no room. Most texts are literals, which are short moves where this is inlined.
+    /// Adds a text, and sends what has no room. Most texts are literals, which are short moves
+    /// where this is inlined.
     #[inline]
     pub fn put<W: Write>(&mut self, writer: &mut W, text: &[u8])
         ensures { Puts (W.contents writer.old) (W.contents writer.new) self.old self.new text.now }
@@ -87,7 +88,8 @@ impl Page {
     #[cold]
     #[inline(never)]
     fn put_cold<W: Write>(&mut self, writer: &mut W, text: &[u8])
-        ensures puts { Puts (W.contents writer.old) (W.contents writer.new) self.old self.new text.now }
+        ensures puts { Puts (W.contents writer.old) (W.contents writer.new) self.old self.new
+            text.now }
         ensures empty { self.new.lost ≡ false → text.now ≡ [] → self.new.bytes ≡ [] }
     {
         if self.is_lost {
@@ -109,7 +111,8 @@ impl Page {
 
 /// Sends the bytes, and says whether all were taken.
 pub fn send_all<W: Write>(writer: &mut W, bytes: &[u8]) -> bool
-    ensures sent { result ≡ true → Sends (W.contents writer.old) (W.contents writer.new) bytes.now [] }
+    ensures sent { result ≡ true → Sends (W.contents writer.old) (W.contents writer.new) bytes.now
+        [] }
     ensures failed { SendsFront (W.contents writer.old) (W.contents writer.new) bytes.now }
 {
     send_front(writer, bytes) == bytes.len()
