@@ -5,9 +5,10 @@ use Rattle.lot_replay.specs.declared.state.Refusal.{Refusal}
 use Rattle.lot_replay.specs.declared.state.Refusal.TheVariants.{Malformed, NoMemory}
 use Rattle.lot_replay.specs.Stages.{Stage}
 
--- `wanted` is the stage and the text that are right, and `Wrote` says which text was written; of a line that is refused
--- nothing is written, and the stage stays
-abbrev pub AnswersTo : Option (Stage × List ℕ) → Result (Unit {0}) Refusal → Stage → Stage → (List ℕ → Type 0) → Type 0
+-- `wanted` is the stage and the text that are right, and `Wrote` says which text was written; of a
+-- line that is refused nothing is written, and the stage stays
+abbrev pub AnswersTo : Option (Stage × List ℕ) → Result (Unit {0}) Refusal → Stage → Stage
+    → (List ℕ → Type 0) → Type 0
 AnswersTo None (Ok _) old new Wrote = ⊥
 AnswersTo None (Err Malformed) old new Wrote = (new ≡ old) × Wrote []
 AnswersTo None (Err NoMemory) old new Wrote = ⊥

@@ -16,7 +16,8 @@ MayAnswer stage line next text = after_line stage line ≡ Some (next, text)
 abbrev pub IsMalformed : Stage → List ℕ → Type 0
 IsMalformed stage line = after_line stage line ≡ None
 
--- the lines from a number on have this text and end in this status: the first of another form is the last that is answered
+-- the lines from a number on have this text and end in this status: the first of another form is
+-- the last that is answered
 abbrev pub IsReplay : ℕ → Stage → List (List ℕ) → List ℕ → ℕ → Type 0
 IsReplay number stage [] text status = (text ≡ []) × (status ≡ 0)
 IsReplay number stage (line ∷ lines) text status =
@@ -46,8 +47,8 @@ pub record StopsForMemory (input text : List ℕ) : Type 0 where
   pub would : LinesWrite (done ++ line ∷ []) whole 0
   pub written : text ≡ before ++ no_memory_line (length done + 1)
 
--- a read or a write failed: the text of the lines read, where `left` is what the reader still has and `part` what it gave
--- of a line
+-- a read or a write failed: the text of the lines read, where `left` is what the reader still has
+-- and `part` what it gave of a line
 pub record StopsEarly (input left text : List ℕ) : Type 0 where
   pub done : List (List ℕ)
   pub part : List ℕ
@@ -58,14 +59,17 @@ pub record StopsEarly (input left text : List ℕ) : Type 0 where
 -- the text that is right, and its status; `old` and `new` are the reader's bytes
 abbrev pub MayWrite : Option (List ℕ) → Option (List ℕ) → List ℕ → ℕ → Type 0
 MayWrite None new text status = ⊤
-MayWrite (Some input) None text status = IsText input text status ⊎ ((status ≡ 3) × StopsForMemory input text)
+MayWrite (Some input) None text status = IsText input text status
+    ⊎ ((status ≡ 3) × StopsForMemory input text)
 MayWrite (Some input) (Some left) text status = IsText input text status
     ⊎ (((status ≡ 3) × StopsForMemory input text) ⊎ ((status ≡ 4) × StopsEarly input left text))
 
 -- all of such a text went out, or a write failed and a beginning of it went out
-abbrev pub Replays : Option (List ℕ) → Option (List ℕ) → Option (List ℕ) → Option (List ℕ) → ℕ → Type 0
+abbrev pub Replays : Option (List ℕ) → Option (List ℕ) → Option (List ℕ) → Option (List ℕ) → ℕ
+    → Type 0
 Replays old new before after status = (text : List ℕ) × (ending : ℕ) × MayWrite old new text ending
-    × (((status ≡ ending) × Appends before after text) ⊎ ((status ≡ 4) × SendsFront before after text))
+    × (((status ≡ ending) × Appends before after text)
+    ⊎ ((status ≡ 4) × SendsFront before after text))
 
 -- ---------------------------------------------------------------- laws
 
@@ -75,7 +79,8 @@ IsBeginning front text = (back : List ℕ) × (front ++ back ≡ text)
 
 -- a schedule that begins another, at the end of a line, has a text that begins the other's
 abbrev pub BeginningsBegin : Type 0
-BeginningsBegin = (front back text longer : List ℕ) (status ending : ℕ) → IsText (front ++ 10 ∷ []) text status
+BeginningsBegin = (front back text longer : List ℕ) (status ending : ℕ)
+    → IsText (front ++ 10 ∷ []) text status
     → IsText (front ++ 10 ∷ back) longer ending → IsBeginning text longer
 
 -- what was answered before memory or a device failed begins the text of the whole input
@@ -87,4 +92,5 @@ EarlyTextsBegin = (input whole : List ℕ) (status : ℕ) → IsText input whole
 -- each input has one text
 abbrev pub HasOneText : Type 0
 HasOneText = (input : List ℕ) → (text : List ℕ) × (status : ℕ) × IsText input text status
-    × ((other : List ℕ) (ending : ℕ) → IsText input other ending → (other ≡ text) × (ending ≡ status))
+    × ((other : List ℕ) (ending : ℕ) → IsText input other ending
+    → (other ≡ text) × (ending ≡ status))

@@ -47,11 +47,13 @@ owners_text owners = group (codes " own=") owner_text owners
 
 -- who waits in the main queue, and who waits aside
 abbrev pub waiters_text : List Waiter → List Waiter → List ℕ
-waiters_text main aside = group (codes " queue=") waiter_text main ++ group (codes " aside=") aside_text aside
+waiters_text main aside = group (codes " queue=") waiter_text main
+    ++ group (codes " aside=") aside_text aside
 
 -- who owes a wake, and who tries again
 abbrev pub debtors_text : List (Debt × ℕ) → List (Debt × ℕ) → List ℕ
-debtors_text owing retrying = group (codes " owe=") debtor_text owing ++ group (codes " retry=") debtor_text retrying
+debtors_text owing retrying = group (codes " owe=") debtor_text owing
+    ++ group (codes " retry=") debtor_text retrying
 
 -- the line of a lock with a name
 abbrev pub show_line : State → ℕ → List ℕ → List ℕ

@@ -27,7 +27,8 @@ use Rattle.lot_text.specs.Text.{turn_line}
 use Rattle.lot_replay.specs.declared.actions.Action.{Action}
 use Rattle.lot_replay.specs.declared.actions.Action as actions
 
--- nothing yet; so many threads, and locks of these names and kinds; or a world of locks of these names
+-- nothing yet; so many threads, and locks of these names and kinds; or a world of locks of these
+-- names
 pub data Stage : Type 0 where
   nothing : Stage
   declaring : ℕ → List (List ℕ) → List Kind → Stage
@@ -43,34 +44,40 @@ is_bare_wait call = false
 abbrev pub wait_with : ℕ → Bool → ℕ → Call
 wait_with lock timed mutex = calls.TheVariants.Condvar lock (condvar.Wait mutex timed)
 
--- the call of a lock of this kind: a wait names a mutex exactly where the lock is a condition variable
+-- the call of a lock of this kind: a wait names a mutex exactly where the lock is a condition
+-- variable
 abbrev pub call_at : List (List ℕ) → Kind → NamedCall → ℕ → Option Call
 call_at names kind (calling.Mutex call) lock = Some (calls.TheVariants.Mutex lock call)
 call_at names kind (calling.RwLock call) lock = Some (calls.TheVariants.RwLock lock call)
 call_at names kind (calling.Once call) lock =
     if is_condvar kind && is_bare_wait call then None else Some (calls.TheVariants.Once lock call)
-call_at names kind (calling.Notify all) lock = Some (calls.TheVariants.Condvar lock (condvar.Notify all))
+call_at names kind (calling.Notify all) lock =
+    Some (calls.TheVariants.Condvar lock (condvar.Notify all))
 call_at names kind (calling.Wait mutex timed) lock =
     if is_condvar kind then option_map (wait_with lock timed) (lock_named names mutex) else None
 
 -- the call of the lock that has the name
 abbrev pub call_named : List (List ℕ) → State → NamedCall → List ℕ → Option Call
-call_named names w call name = option_and_then (λ lock. call_at names (kind_at w lock) call lock) (lock_named names name)
+call_named names w call name =
+    option_and_then (λ lock. call_at names (kind_at w lock) call lock) (lock_named names name)
 
 abbrev pub action_of : List (List ℕ) → State → NamedTurn → Option Action
 action_of names w (named.TheVariants.Begin call name) =
-    option_map (λ called. actions.TheVariants.Turn (turns.TheVariants.Begin called)) (call_named names w call name)
+    option_map (λ called. actions.TheVariants.Turn (turns.TheVariants.Begin called))
+    (call_named names w call name)
 action_of names w named.TheVariants.Go = Some (actions.TheVariants.Turn turns.TheVariants.Go)
 action_of names w named.TheVariants.Spin = Some (actions.TheVariants.Turn turns.TheVariants.Spin)
 action_of names w named.TheVariants.Late = Some (actions.TheVariants.Turn turns.TheVariants.Late)
 action_of names w named.TheVariants.Ok = Some (actions.TheVariants.Turn turns.TheVariants.Ok)
 action_of names w named.TheVariants.Err = Some (actions.TheVariants.Turn turns.TheVariants.Err)
 action_of names w named.TheVariants.Solo = Some actions.TheVariants.Solo
-action_of names w (named.TheVariants.Do call name) = option_map actions.TheVariants.Do (call_named names w call name)
+action_of names w (named.TheVariants.Do call name) =
+    option_map actions.TheVariants.Do (call_named names w call name)
 
 -- where a step leads, and its outcome
 abbrev pub stepped : State → ℕ → Turn → State × Outcome
-stepped w t turn = let s : Step = record { thread = t; turn = turn } in (after w s, step_outcome w s)
+stepped w t turn =
+    let s : Step = record { thread = t; turn = turn } in (after w s, step_outcome w s)
 
 -- at most 64 steps of a thread alone
 abbrev pub went_alone : State → ℕ → State × Outcome
@@ -95,13 +102,15 @@ acted names w t action = (running names (done_by w t action).0, turn_line t (don
 
 -- what a turn or a `show` leads to in a world, or none where it names no lock or is neither
 abbrev pub played : List (List ℕ) → State → Command → Option (Stage × List ℕ)
-played names w (command.TheVariants.Turn t turn) = option_map (acted names w t) (action_of names w turn)
+played names w (command.TheVariants.Turn t turn) =
+    option_map (acted names w t) (action_of names w turn)
 played names w command.TheVariants.Show = Some (running names w, show_lines w 0 names)
 played names w _ = None
 
 -- the locks are fewer than 256, the kind fits the threads, and the name is new
 abbrev pub may_declare : ℕ → List (List ℕ) → Kind → List ℕ → Bool
-may_declare threads names kind name = nat_lt (length names) 256 && (fits kind threads && is_none (lock_named names name))
+may_declare threads names kind name =
+    nat_lt (length names) 256 && (fits kind threads && is_none (lock_named names name))
 
 -- the stage and the text after a line with a meaning, or none where the line may not stand there
 abbrev pub obeyed : Stage → Command → Option (Stage × List ℕ)
@@ -109,10 +118,12 @@ obeyed nothing (command.TheVariants.Threads threads) =
     if nat_le 1 threads && nat_le threads 1024 then Some (declaring threads [] [], []) else None
 obeyed nothing _ = None
 obeyed (declaring threads names kinds) (command.TheVariants.Lock name kind) =
-    if may_declare threads names kind name then Some (declaring threads (names ++ name ∷ []) (kinds ++ kind ∷ []), []) else None
+    if may_declare threads names kind name
+    then Some (declaring threads (names ++ name ∷ []) (kinds ++ kind ∷ []), []) else None
 obeyed (declaring threads names kinds) command = played names (opening kinds threads) command
 obeyed (running names w) command = played names w command
 
 -- the stage and the text after a line, or none where it is malformed
 abbrev pub after_line : Stage → List ℕ → Option (Stage × List ℕ)
-after_line stage line = if nat_le (length line) line_len then option_and_then (obeyed stage) (meaning line) else None
+after_line stage line =
+    if nat_le (length line) line_len then option_and_then (obeyed stage) (meaning line) else None

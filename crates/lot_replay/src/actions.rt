@@ -1,13 +1,14 @@
 //! What a thread is told to do, of locks by their numbers, and how it is done.
-ghost use Rattle.std.specs.Prelude.{◌≡◌, ◌<◌, ◌&&◌, if◌then◌else◌, None, Some, length};
-ghost use Rattle.lot_machine.specs.Machine.{kind_at};
+ghost use Rattle.std.specs.Prelude.{◌≡◌, ℕ, List, ◌<◌, ◌&&◌, if◌then◌else◌, None, Some, length};
+ghost use Rattle.lot_machine.specs.Machine.{kind_at, State as LotState};
+ghost use Rattle.lot_text.specs.Turns.{named_turn};
 ghost use Rattle.lot_replay.specs.Sessions.{session_world};
 ghost use Rattle.lot_replay.specs.Stages.{call_named, action_of, done_by, is_bare_wait};
 
 use crate::session::Session;
 use lot_base::ListQueues;
 use lot_calls::{CondvarCall, OnceCall};
-use lot_text::{Name, NamedCall, NamedTurn, lock_named};
+use lot_text::{Name, NamedCall, NamedTurn, PlainTurn, lock_named};
 use lot_world::{Call, Kind, Outcome, Step, Turn, World};
 
 /// What a thread does, of locks by their numbers.
@@ -78,7 +79,8 @@ impl Session {
 
 // A wait on a condition variable would name its mutex.
 fn once_call(lock: usize, call: OnceCall, on_condvar: bool) -> Option<Call>
-    ensures { result ≡ (if on_condvar && is_bare_wait call then None else Some (Call.Once lock call)) }
+    ensures { result ≡ (if on_condvar && is_bare_wait call then None
+        else Some (Call.Once lock call)) }
 {
     if on_condvar && matches!(call, OnceCall::Wait { forced: false }) {
         return None;
@@ -86,7 +88,20 @@ fn once_call(lock: usize, call: OnceCall, on_condvar: bool) -> Option<Call>
     Some(Call::Once { lock, call })
 }
 
+/// What a plain turn tells a thread.
+pub fn plain_action(turn: PlainTurn) -> Action
+    ensures { (names : List (List ℕ)) (w : LotState)
+        → action_of names w (named_turn turn) ≡ Some result }
+{
+    match turn {
+        PlainTurn::Go => Action::Turn(Turn::Go),
+        PlainTurn::Spin => Action::Turn(Turn::Spin),
+        PlainTurn::Late => Action::Turn(Turn::Late),
+    }
+}
+
 /// Does it, and answers the last outcome.
+#[inline(always)]
 pub fn perform(world: &mut World<ListQueues>, thread: usize, action: Action) -> Outcome
     ensures state { world.new ≡ (done_by world.old thread action).0 }
     ensures outcome { result ≡ (done_by world.old thread action).1 }

@@ -7,12 +7,12 @@ ghost use Rattle.lot_replay.specs.Replay.{MayWrite, Replays, BeginningsBegin, Ea
 use crate::state::{Refusal, State};
 use crate::status::{BROKEN, DONE, MALFORMED, NO_MEMORY};
 use arrayvec::ArrayVec;
-use lot_text::{LINE_LEN, Page, Reading, print_malformed, print_no_memory, read_line};
+use lot_text::{LINE_LEN, Next, Page, print_malformed, print_no_memory, read_next};
 use std::alloc::Global;
 use std::io::{BufRead, Write};
 
-/// Answers the lines of an input, and gives the status. All of the input's text goes out, or where a
-/// write fails a beginning of it.
+/// Answers the lines of an input, and gives the status. All of the input's text goes out, or where
+/// a write fails a beginning of it.
 pub fn replay<R: BufRead, W: Write>(alloc: Global, reader: &mut R, writer: &mut W) -> u8
     ensures { Replays (R.remaining reader.old) (R.remaining reader.new) (W.contents writer.old)
         (W.contents writer.new) result }
@@ -38,13 +38,13 @@ fn answer_lines<R: BufRead, W: Write>(
     let mut state = State::new();
     let mut line = ArrayVec::<u8, LINE_LEN>::new();
     for number in 1..u64::MAX {
-        match read_line(reader, &mut line) {
-            Reading::Line => {}
-            Reading::TooLong => return stop(page, writer, number, Refusal::Malformed),
-            Reading::End => return DONE,
-            Reading::Failed => return BROKEN,
-        }
-        if let Err(refusal) = state.answer(alloc, page, writer, line.as_slice()) {
+        let said = match read_next(reader, &mut line) {
+            Next::Line(said) => said,
+            Next::TooLong => return stop(page, writer, number, Refusal::Malformed),
+            Next::End => return DONE,
+            Next::Failed => return BROKEN,
+        };
+        if let Err(refusal) = state.answer_next(alloc, page, writer, said, line.as_slice()) {
             return stop(page, writer, number, refusal);
         }
         if page.is_lost() {
@@ -56,7 +56,8 @@ fn answer_lines<R: BufRead, W: Write>(
 
 /// Prints the last line of a replay that stops at a line, and gives the status.
 fn stop<W: Write>(page: &mut Page, writer: &mut W, number: u64, refusal: Refusal) -> u8
-    ensures text { Puts (W.contents writer.old) (W.contents writer.new) page.old page.new (last_line refusal number) }
+    ensures text { Puts (W.contents writer.old) (W.contents writer.new) page.old page.new
+        (last_line refusal number) }
     ensures status { result ≡ last_status refusal }
 {
     match refusal {

@@ -18,7 +18,8 @@ pub fn show_locks<W: Write>(
 )
     requires named { length names.now ≡ length world.now.locks }
     requires few { length names.now ≤ MOST_LOCKS }
-    ensures { Puts (W.contents writer.old) (W.contents writer.new) page.old page.new (show_lines world.now 0 names.now) }
+    ensures { Puts (W.contents writer.old) (W.contents writer.new) page.old page.new
+        (show_lines world.now 0 names.now) }
 {
     let debts = world.debts();
     for (lock, name) in names.iter().enumerate() {
@@ -37,7 +38,8 @@ fn show_lock<W: Write>(
     requires debts { debts.now ≡ world.now.places }
     requires is_there { lock < length world.now.locks }
     requires few { lock < MOST_LOCKS }
-    ensures { Puts (W.contents writer.old) (W.contents writer.new) page.old page.new (show_line world.now lock name) }
+    ensures { Puts (W.contents writer.old) (W.contents writer.new) page.old page.new
+        (show_line world.now lock name) }
 {
     page.put(writer, name.text());
     page.put(writer, b" ");
@@ -50,7 +52,8 @@ fn show_lock<W: Write>(
 
 /// Prints who owns a lock, each with a letter for its sort.
 fn print_owners<W: Write>(page: &mut Page, writer: &mut W, owners: OwnersOf<'_>)
-    ensures { Puts (W.contents writer.old) (W.contents writer.new) page.old page.new (owners_text owners.entry) }
+    ensures { Puts (W.contents writer.old) (W.contents writer.new) page.old page.new
+        (owners_text owners.entry) }
 {
     let mut mark = b" own=".as_slice();
     for (owner, thread) in owners {
@@ -61,7 +64,8 @@ fn print_owners<W: Write>(page: &mut Page, writer: &mut W, owners: OwnersOf<'_>)
     }
 }
 
-/// Prints who waits for a lock: its main queue, each with a letter for what it wants, and who waits aside.
+/// Prints who waits for a lock: its main queue, each with a letter for what it wants, and who waits
+/// aside.
 fn print_waiters<W: Write>(
     page: &mut Page,
     writer: &mut W,
@@ -71,7 +75,8 @@ fn print_waiters<W: Write>(
     requires { lock < MOST_LOCKS }
     ensures { (main aside : List Waiter) → queue.entry ≡ main ++ aside
         → StandUnder (2 * lock) main → StandUnder (2 * lock + 1) aside
-        → Puts (W.contents writer.old) (W.contents writer.new) page.old page.new (waiters_text main aside) }
+        → Puts (W.contents writer.old) (W.contents writer.new) page.old page.new
+        (waiters_text main aside) }
 {
     let mut main_mark = b" queue=".as_slice();
     let mut aside_mark = b" aside=".as_slice();
@@ -93,7 +98,8 @@ fn print_waiters<W: Write>(
 fn print_debtors<W: Write>(page: &mut Page, writer: &mut W, debts: Debts<'_>)
     ensures { (owing retrying : List (Debt × ℕ)) → debts.entry ≡ owing ++ retrying
         → All (λ d. d.0 ≡ Debt.Owes) owing → All (λ d. d.0 ≡ Debt.Retries) retrying
-        → Puts (W.contents writer.old) (W.contents writer.new) page.old page.new (debtors_text owing retrying) }
+        → Puts (W.contents writer.old) (W.contents writer.new) page.old page.new
+        (debtors_text owing retrying) }
 {
     let mut owe_mark = b" owe=".as_slice();
     let mut retry_mark = b" retry=".as_slice();

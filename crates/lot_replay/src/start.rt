@@ -11,8 +11,8 @@ use lot_text::send_all;
 use std::alloc::Global;
 use std::io::{BufRead, Write};
 
-/// Does the job that the arguments name, and gives the status of the process. Where they name none, the
-/// usage goes to `errors`.
+/// Does the job that the arguments name, and gives the status of the process. Where they name none,
+/// the usage goes to `errors`.
 pub fn start<R: BufRead, W: Write, E: Write>(
     alloc: Global,
     args: &[&str],
@@ -20,11 +20,13 @@ pub fn start<R: BufRead, W: Write, E: Write>(
     writer: &mut W,
     errors: &mut E,
 ) -> u8
-    ensures replay { texts_of args.now ≡ codes "replay" ∷ [] → Replays (R.remaining reader.old) (R.remaining reader.new)
+    ensures replay { texts_of args.now ≡ codes "replay" ∷ []
+        → Replays (R.remaining reader.old) (R.remaining reader.new)
         (W.contents writer.old) (W.contents writer.new) result }
     ensures replay_tells_no_error { texts_of args.now ≡ codes "replay" ∷ []
         → Keeps (E.contents errors.old) (E.contents errors.new) }
-    ensures usage { texts_of args.now ≢ codes "replay" ∷ [] → TellsUsage (E.contents errors.old) (E.contents errors.new) result }
+    ensures usage { texts_of args.now ≢ codes "replay" ∷ []
+        → TellsUsage (E.contents errors.old) (E.contents errors.new) result }
     ensures usage_reads_nothing { texts_of args.now ≢ codes "replay" ∷ []
         → Keeps (R.remaining reader.old) (R.remaining reader.new) }
     ensures usage_writes_nothing { texts_of args.now ≢ codes "replay" ∷ []

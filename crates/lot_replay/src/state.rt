@@ -1,16 +1,17 @@
 //! The threads and locks of a replay, and what they answer to a line.
-ghost use Rattle.std.specs.Prelude.{◌≡◌, ◌≤◌, [], Some, IfSome, IfNone, length};
+ghost use Rattle.std.specs.Prelude.{◌≡◌, ◌≤◌, ℕ, List, [], Some, IfSome, IfNone, length};
 ghost use Rattle.lot_world.specs.declared.world.TheConstants.{MOST_THREADS, MOST_LOCKS};
 ghost use Rattle.lot_text.specs.Lines.{line_len};
 ghost use Rattle.lot_text.specs.Sent.{Puts};
+ghost use Rattle.lot_text.specs.Turns.{Says, named_turn};
 ghost use Rattle.lot_replay.specs.Stages.{nothing, declaring, running, acted, played, obeyed, after_line};
 ghost use Rattle.lot_replay.specs.Sessions.{session_stage, session_world, stage_of};
 ghost use Rattle.lot_replay.specs.Answers.{AnswersTo};
 
-use crate::actions::{Action, perform};
+use crate::actions::{Action, perform, plain_action};
 use crate::session::Session;
 use crate::show::show_locks;
-use lot_text::{Command, Name, Page, lock_named, meaning, print_turn};
+use lot_text::{Command, Line, Name, Page, PlainTurn, lock_named, meaning, print_turn};
 use lot_world::{Kind, MOST_LOCKS, MOST_THREADS, World};
 use std::alloc::Global;
 use std::io::Write;
@@ -33,6 +34,47 @@ impl State {
         ensures { stage_of result.session ≡ nothing }
     {
         State { session: None }
+    }
+
+    /// Answers a line that was read, whose text is `kept` where it is no plain turn. One that is
+    /// refused changes nothing, and nothing is said of it here.
+    pub fn answer_next<W: Write>(
+        &mut self,
+        alloc: Global,
+        page: &mut Page,
+        writer: &mut W,
+        said: Line,
+        kept: &[u8],
+    ) -> Result<(), Refusal>
+        requires { length kept.now ≤ line_len }
+        ensures { (line : List ℕ) → Says said kept.now line
+            → AnswersTo (after_line (stage_of self.old.session) line) result
+            (stage_of self.old.session) (stage_of self.new.session)
+            (Puts (W.contents writer.old) (W.contents writer.new) page.old page.new) }
+    {
+        match said {
+            Line::Turn { thread, turn } => self.take_turn(alloc, page, writer, thread, turn),
+            Line::Text => self.answer(alloc, page, writer, kept),
+        }
+    }
+
+    fn take_turn<W: Write>(
+        &mut self,
+        alloc: Global,
+        page: &mut Page,
+        writer: &mut W,
+        thread: usize,
+        turn: PlainTurn,
+    ) -> Result<(), Refusal>
+        ensures { AnswersTo (obeyed (stage_of self.old.session)
+            (Command.Turn thread (named_turn turn))) result
+            (stage_of self.old.session) (stage_of self.new.session)
+            (Puts (W.contents writer.old) (W.contents writer.new) page.old page.new) }
+    {
+        match &mut self.session {
+            Some(session) => session.take_turn(alloc, page, writer, thread, turn),
+            None => Err(Refusal::Malformed),
+        }
     }
 
     /// Answers a line. One that is refused changes nothing, and nothing is said of it here.
@@ -60,7 +102,8 @@ impl State {
     /// The first line has to say how many threads there are.
     fn open(&mut self, alloc: Global, command: Command) -> Result<(), Refusal>
         requires { stage_of self.old.session ≡ nothing }
-        ensures { AnswersTo (obeyed nothing command) result nothing (stage_of self.new.session) (λ text. text ≡ []) }
+        ensures { AnswersTo (obeyed nothing command) result nothing (stage_of self.new.session)
+            (λ text. text ≡ []) }
     {
         match command {
             Command::Threads(threads) if 1 <= threads && threads <= MOST_THREADS => {
@@ -86,6 +129,22 @@ impl Session {
         }
     }
 
+    fn take_turn<W: Write>(
+        &mut self,
+        alloc: Global,
+        page: &mut Page,
+        writer: &mut W,
+        thread: usize,
+        turn: PlainTurn,
+    ) -> Result<(), Refusal>
+        ensures { AnswersTo (obeyed (session_stage self.old)
+            (Command.Turn thread (named_turn turn))) result
+            (session_stage self.old) (session_stage self.new)
+            (Puts (W.contents writer.old) (W.contents writer.new) page.old page.new) }
+    {
+        self.act(alloc, page, writer, thread, plain_action(turn))
+    }
+
     fn obey<W: Write>(
         &mut self,
         alloc: Global,
@@ -93,7 +152,8 @@ impl Session {
         writer: &mut W,
         command: Command,
     ) -> Result<(), Refusal>
-        ensures { AnswersTo (obeyed (session_stage self.old) command) result (session_stage self.old) (session_stage self.new)
+        ensures { AnswersTo (obeyed (session_stage self.old) command) result
+            (session_stage self.old) (session_stage self.new)
             (Puts (W.contents writer.old) (W.contents writer.new) page.old page.new) }
     {
         match command {
@@ -127,6 +187,7 @@ impl Session {
     }
 
     /// Makes the world, where it isn't there yet. It stays away where memory is refused.
+    #[inline(always)]
     fn make_world(&mut self, alloc: Global)
         ensures made { IfSome self.new.world
             (λ w. session_stage self.new ≡ running self.old.names.items (session_world self.old)) }
@@ -137,6 +198,8 @@ impl Session {
         }
     }
 
+    // Inlined, so that a plain turn is no choice among all actions.
+    #[inline(always)]
     fn act<W: Write>(
         &mut self,
         alloc: Global,
@@ -145,7 +208,8 @@ impl Session {
         thread: usize,
         action: Action,
     ) -> Result<(), Refusal>
-        ensures { AnswersTo (Some (acted self.old.names.items (session_world self.old) thread action)) result
+        ensures { AnswersTo
+            (Some (acted self.old.names.items (session_world self.old) thread action)) result
             (session_stage self.old) (session_stage self.new)
             (Puts (W.contents writer.old) (W.contents writer.new) page.old page.new) }
     {
@@ -167,7 +231,8 @@ impl Session {
         page: &mut Page,
         writer: &mut W,
     ) -> Result<(), Refusal>
-        ensures { AnswersTo (played self.old.names.items (session_world self.old) Command.Show) result
+        ensures { AnswersTo (played self.old.names.items (session_world self.old) Command.Show)
+            result
             (session_stage self.old) (session_stage self.new)
             (Puts (W.contents writer.old) (W.contents writer.new) page.old page.new) }
     {

@@ -1,5 +1,5 @@
 use Rattle.std.proofs.Common.{◌+◌, [], ◌++◌, refl, sym, subst}
-use Rattle.lot_text.specs.Reads.{TakesLine}
+use Rattle.lot_text.specs.Turns.{Says}
 use Rattle.lot_text.proofs.SentLemmas.{puts_then, puts_nothing}
 use Rattle.lot_replay.specs.Stages.{after_line}
 use Rattle.lot_replay.specs.Sessions.{stage_of}
@@ -14,7 +14,7 @@ loop-number-init g c = ([], known_start _ _ c.new-state.ensures, puts_nothing _ 
 pub returns-in-End : goal.returns-in-End
 returns-in-End g c =
     let i = c.loop-number.invariant in
-    (i.0, 0, known_end (g.R.Read.remaining c.args.reader.now) (g.R.Read.remaining c.loop-number.reader) (g.R.Read.remaining c.read_line.new.reader) i.0 c.loop-number.number _ i.1 c.in-End.ensures, i.2, λ _. refl)
+    (i.0, 0, known_end (g.R.Read.remaining c.args.reader.now) (g.R.Read.remaining c.loop-number.reader) (g.R.Read.remaining c.read_next.new.reader) i.0 c.loop-number.number _ i.1 c.in-End.ensures, i.2, λ _. refl)
 
 pub returns-in-Failed : goal.returns-in-Failed
 returns-in-Failed g c =
@@ -41,16 +41,18 @@ pub returns-in-Err : goal.returns-in-Err
 returns-in-Err g c =
     let i = c.loop-number.invariant in
     let stage = stage_of c.loop-number.state.session in
-    let next = stage_of c.answer.new.self.session in
-    let line = c.as_slice.result.now in
+    let next = stage_of c.answer_next.new.self.session in
+    let read = c.in-Line.ensures in
+    let line = read.0 in
     let refusal = c.in-Err.refusal in
     let last = last_line refusal c.loop-number.number in
-    let takes = subst (TakesLine (g.R.Read.remaining c.loop-number.reader) (g.R.Read.remaining c.read_line.new.reader)) (sym c.as_slice.ensures.value) c.in-Line.ensures.0 in
-    let none = refused_puts (after_line stage line) refusal stage next _ c.in-Err.ensures in (
+    let takes = read.1 in
+    let says = subst (λ kept. Says c.in-Line.said kept line) (sym c.as_slice.ensures.value) read.2 in
+    let none = refused_puts (after_line stage line) refusal stage next _ (c.in-Err.ensures line says) in (
       i.0 ++ last,
       last_status refusal,
-      known_refused (after_line stage line) refusal next _ _ _ _ _ i.0 c.loop-number.number stage line refl c.in-Err.ensures i.1 takes,
-      puts_then _ _ _ c.args.page.now c.loop-number.page c.stop-in-Err.new.page i.0 last i.2 (puts_then _ _ _ c.loop-number.page c.answer.new.page c.stop-in-Err.new.page [] last none c.stop-in-Err.ensures.text),
+      known_refused (after_line stage line) refusal next _ _ _ _ _ i.0 c.loop-number.number stage line refl (c.in-Err.ensures line says) i.1 takes,
+      puts_then _ _ _ c.args.page.now c.loop-number.page c.stop-in-Err.new.page i.0 last i.2 (puts_then _ _ _ c.loop-number.page c.answer_next.new.page c.stop-in-Err.new.page [] last none c.stop-in-Err.ensures.text),
       λ _. c.stop-in-Err.ensures.status,
     )
 
@@ -58,23 +60,27 @@ pub loop-number-preserved : goal.loop-number-preserved
 loop-number-preserved g c =
     let i = c.loop-number.invariant in
     let stage = stage_of c.loop-number.state.session in
-    let next = stage_of c.answer.new.self.session in
-    let line = c.as_slice.result.now in
-    let takes = subst (TakesLine (g.R.Read.remaining c.loop-number.reader) (g.R.Read.remaining c.read_line.new.reader)) (sym c.as_slice.ensures.value) c.in-Line.ensures.0 in
-    let said = as_answered (after_line stage line) c.in_default.field-0 stage next _ _ c.loop-number.page c.answer.new.page c.in_default.ensures in (
+    let next = stage_of c.answer_next.new.self.session in
+    let read = c.in-Line.ensures in
+    let line = read.0 in
+    let takes = read.1 in
+    let says = subst (λ kept. Says c.in-Line.said kept line) (sym c.as_slice.ensures.value) read.2 in
+    let said = as_answered (after_line stage line) c.in_default.field-0 stage next _ _ c.loop-number.page c.answer_next.new.page (c.in_default.ensures line says) in (
       i.0 ++ said.text,
       known_step _ _ _ i.0 c.loop-number.number stage line next said.text i.1 takes said.wanted,
-      puts_then _ _ _ c.args.page.now c.loop-number.page c.answer.new.page i.0 said.text i.2 said.puts,
+      puts_then _ _ _ c.args.page.now c.loop-number.page c.answer_next.new.page i.0 said.text i.2 said.puts,
     )
 
 pub returns-then-is_lost : goal.returns-then-is_lost
 returns-then-is_lost g c =
     let i = c.loop-number.invariant in
     let stage = stage_of c.loop-number.state.session in
-    let next = stage_of c.answer.new.self.session in
-    let line = c.as_slice.result.now in
-    let takes = subst (TakesLine (g.R.Read.remaining c.loop-number.reader) (g.R.Read.remaining c.read_line.new.reader)) (sym c.as_slice.ensures.value) c.in-Line.ensures.0 in
-    let said = as_answered (after_line stage line) c.in_default.field-0 stage next _ _ c.loop-number.page c.answer.new.page c.in_default.ensures in
+    let next = stage_of c.answer_next.new.self.session in
+    let read = c.in-Line.ensures in
+    let line = read.0 in
+    let takes = read.1 in
+    let says = subst (λ kept. Says c.in-Line.said kept line) (sym c.as_slice.ensures.value) read.2 in
+    let said = as_answered (after_line stage line) c.in_default.field-0 stage next _ _ c.loop-number.page c.answer_next.new.page (c.in_default.ensures line says) in
     let step = known_step _ _ _ i.0 c.loop-number.number stage line next said.text i.1 takes said.wanted in
-    let puts = puts_then _ _ _ c.args.page.now c.loop-number.page c.answer.new.page i.0 said.text i.2 said.puts in
+    let puts = puts_then _ _ _ c.args.page.now c.loop-number.page c.answer_next.new.page i.0 said.text i.2 said.puts in
     (i.0 ++ said.text, 4, known_failed _ _ _ (i.0 ++ said.text) (c.loop-number.number + 1) next step (nothing_taken _), puts, λ _. refl)
