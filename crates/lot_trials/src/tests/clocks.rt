@@ -39,7 +39,7 @@ fn sleep_until<R: Wait>(
 #[test]
 fn who_is_not_woken_is_late(rt: HostRuntime) -> Result<(), Fail> {
     let (lot, mut token, word) = one_mutex(rt.alloc())?;
-    line_up(&rt, &lot, &mut token, KEY);
+    line_up(&rt, &lot, &mut token, KEY, Want::Exclusive);
     let clock = TickClock::starting_at(1000);
     let late = sleep_until(&rt, &lot, &mut token, word, (&clock, 1005));
     same(&rt, late, Some((KEY, Some(KEY))));

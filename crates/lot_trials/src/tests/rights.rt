@@ -40,7 +40,7 @@ fn hand_to_itself<R: Wait>(rt: &R, lot: &ParkingLot, token: &mut Token, right: R
     requires { IsTokenOf lot.now token.old × IsRightOf lot.now.words right }
     ensures { IsSameThread lot.now token.old token.new }
 {
-    line_up(rt, lot, token, KEY);
+    line_up(rt, lot, token, KEY, Want::Exclusive);
     let mut section = lot.enter(rt, token, Keys::One(KEY));
     match section.take_first(KEY) {
         Some(thread) => {
@@ -60,7 +60,7 @@ fn hand_to_itself<R: Wait>(rt: &R, lot: &ParkingLot, token: &mut Token, right: R
 fn sleeps_on<R: Wait>(rt: &R, lot: &ParkingLot, token: &mut Token, word: Word) -> bool
     requires { IsTokenOf lot.now token.old }
 {
-    line_up(rt, lot, token, KEY);
+    line_up(rt, lot, token, KEY, Want::Exclusive);
     let clock = TickClock::new();
     match lot.sleep(rt, token, word, Want::Exclusive, Some((&clock, EARLY))) {
         Slept::Late(section, key) => {

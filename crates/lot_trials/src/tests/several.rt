@@ -1,15 +1,14 @@
 //! Several threads that are taken together.
-ghost use Rattle.std.specs.Prelude.{◌≡◌, ◌≤◌, ◌<◌, [], All, IfOk, IfSome};
+ghost use Rattle.std.specs.Prelude.{◌≡◌, ◌≤◌, ◌<◌, [], IfOk, IfSome};
 ghost use Rattle.std.specs.Arc.{arc_value};
 ghost use Rattle.lot_words.specs.RightsOf.{IsRightOf};
 ghost use Rattle.parking_lot_core.specs.Sections.{StaysIn, rightless_in};
-ghost use Rattle.parking_lot_core.specs.Tokens.{IsNewTicketOf, IsTicketOf, IsTokenOf, IsSameThread};
+ghost use Rattle.parking_lot_core.specs.Tokens.{IsTicketOf, IsTokenOf, IsSameThread};
 
 use super::mutexes::try_lock;
-use super::{next_of, same};
+use super::{delay, line_up, next_pair, same, sleep};
 use parking_lot_core::{
-    Fault, Key, Keys, Note, ParkingLot, Right, Section, Slept, TickClock, Ticket, Token, Want,
-    Word, WordKind,
+    Fault, Key, Keys, Note, ParkingLot, Right, Section, Ticket, Token, Want, Word, WordKind,
 };
 use std::alloc::Global;
 use std::sync::{Arc, Wait};
@@ -99,25 +98,9 @@ pub fn told<R: Wait>(rt: &R, lot: &ParkingLot, ticket: Ticket, word: Word) -> No
     requires { IsTicketOf lot.now ticket }
 {
     let mut token = ticket.enter();
-    let note = match lot.sleep(
-        rt,
-        &mut token,
-        word,
-        Want::Exclusive,
-        None::<(&TickClock, u64)>,
-    ) {
-        Slept::Handed(right) => {
-            right.forget();
-            Note::HandOff
-        }
-        Slept::Woken => Note::Normal,
-        Slept::Late(section, _) => {
-            section.leave(rt, &mut token, Note::Normal);
-            Note::Normal
-        }
-    };
+    let note = sleep(rt, lot, &mut token, word, Want::Exclusive);
     drop(token.leave());
-    note
+    note.unwrap_or(Note::Normal)
 }
 
 // What each of three is told that are taken together.
@@ -161,56 +144,39 @@ fn sleep_in_line<R: Wait>(rt: &R, lot: &ParkingLot, ticket: Ticket, word: Word) 
     requires { IsTicketOf lot.now ticket }
 {
     let mut token = ticket.enter();
-    let mut section = lot.enter(rt, &mut token, Keys::One(KEY));
-    section.append(KEY, token.number(), Want::Shared);
-    section.leave(rt, &mut token, Note::Normal);
-    let woken = match lot.sleep(
-        rt,
-        &mut token,
-        word,
-        Want::Shared,
-        None::<(&TickClock, u64)>,
-    ) {
-        Slept::Woken => 1,
-        Slept::Handed(right) => {
-            right.forget();
-            0
-        }
-        Slept::Late(section, _) => {
-            section.leave(rt, &mut token, Note::Normal);
-            0
-        }
-    };
+    line_up(rt, lot, &mut token, KEY, Want::Shared);
+    let note = sleep(rt, lot, &mut token, word, Want::Shared);
     drop(token.leave());
-    woken
+    usize::from(note == Some(Note::Normal))
 }
 
-// Lets others run for longer than a thread polls before it sleeps.
-fn let_them_sleep() {
-    for _ in 0..TURNS {
-        yield_now();
+// Takes all where three stand in the line, and have had time to fall asleep: others run for longer than a thread polls before
+// it sleeps. Whether they did.
+fn takes_three<R: Wait>(rt: &R, lot: &ParkingLot, token: &mut Token) -> bool
+    requires { IsTokenOf lot.now token.old }
+    ensures { IsSameThread lot.now token.old token.new }
+{
+    let mut section = lot.enter(rt, token, Keys::One(KEY));
+    let all = section.count(KEY) == 3;
+    if all {
+        delay(TURNS);
+        section.take_all(KEY);
     }
+    section.leave(rt, token, Note::Normal);
+    all
 }
 
-// Takes all once three stand in the line, and have had time to fall asleep. It answers how many it took.
-fn wake_three<R: Wait>(rt: &R, lot: &ParkingLot, ticket: Ticket) -> usize
+fn wake_three<R: Wait>(rt: &R, lot: &ParkingLot, ticket: Ticket)
     requires { IsTicketOf lot.now ticket }
 {
     let mut token = ticket.enter();
     for _ in rt.forever() {
-        let mut section = lot.enter(rt, &mut token, Keys::One(KEY));
-        let number = section.count(KEY);
-        if number == 3 {
-            let_them_sleep();
-            section.take_all(KEY);
-            section.leave(rt, &mut token, Note::Normal);
-            drop(token.leave());
-            return number;
+        if takes_three(rt, lot, &mut token) {
+            break;
         }
-        section.leave(rt, &mut token, Note::Normal);
         yield_now();
     }
-    unreachable!()
+    drop(token.leave());
 }
 
 fn two_sleep<R: Threads + Wait + Sync>(
@@ -257,16 +223,6 @@ struct Four {
     word: Word,
 }
 
-fn pop_pair(lot: &ParkingLot, tickets: &mut Vec<Ticket>) -> Option<(Ticket, Ticket)>
-    requires { All (IsNewTicketOf lot.now) tickets.old.items }
-    ensures pair { IfSome result (λ pair. IsTicketOf lot.now pair.0 × IsTicketOf lot.now pair.1) }
-    ensures others { All (IsNewTicketOf lot.now) tickets.new.items }
-{
-    let one = next_of(lot, tickets)?;
-    let other = next_of(lot, tickets)?;
-    Some((one, other))
-}
-
 fn seat_four(alloc: Global, most: usize) -> Result<(Arc<ParkingLot>, Four), Fault>
     requires { (4 ≤ most) × (most ≤ 1024) }
     ensures { IfOk result (λ made. IsTicketOf (arc_value made.0) made.1.one × IsTicketOf (arc_value made.0) made.1.two
@@ -274,10 +230,10 @@ fn seat_four(alloc: Global, most: usize) -> Result<(Arc<ParkingLot>, Four), Faul
         × ((arc_value made.0).records.count ≡ most)) }
 {
     let (lot, mut tickets) = ParkingLot::new(alloc, 8, most)?;
-    let Some((one, two)) = pop_pair(&lot, &mut tickets) else {
+    let Some((one, two)) = next_pair(&lot, &mut tickets) else {
         return Err(Fault::NoMemory);
     };
-    let Some((three, four)) = pop_pair(&lot, &mut tickets) else {
+    let Some((three, four)) = next_pair(&lot, &mut tickets) else {
         return Err(Fault::NoMemory);
     };
     let mut token = one.enter();

@@ -59,7 +59,8 @@ fn sizes_fit_or_not(rt: HostRuntime) {
         ((1 << 20) + 1, 1, false),
         (1, 1025, false),
     ] {
-        assert_eq!(rt; ParkingLot::fits(words, seats), fits, "{words} {seats}");
+        let found = ParkingLot::fits(words, seats);
+        same(&rt, (words, seats, found), (words, seats, fits));
     }
 }
 

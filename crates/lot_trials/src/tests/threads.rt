@@ -8,7 +8,7 @@ ghost use Rattle.lot_words.specs.declared.owners.Owner.TheVariants.{Exclusive};
 ghost use Rattle.parking_lot_core.specs.Tokens.{IsTicketOf, IsTokenOf, IsSameThread};
 
 use super::mutexes::{try_lock, unlock};
-use super::{line_up, same};
+use super::{delay, line_up, next_pair, same};
 use lot_base::TickClock;
 use parking_lot_core::{
     Fault, Key, Keys, Note, ParkingLot, Right, Slept, Ticket, Token, Want, Word, WordKind,
@@ -30,12 +30,6 @@ const SLOW_ROUNDS: usize = 20;
 // How often a thread lets others run then.
 const PAUSE: usize = 5;
 
-fn delay(turns: usize) {
-    for _ in 0..turns {
-        yield_now();
-    }
-}
-
 fn stands<R: Wait>(rt: &R, lot: &ParkingLot, token: &mut Token) -> bool
     requires { IsTokenOf lot.now token.old }
     ensures { IsSameThread lot.now token.old token.new }
@@ -46,20 +40,44 @@ fn stands<R: Wait>(rt: &R, lot: &ParkingLot, token: &mut Token) -> bool
     key.is_some()
 }
 
+// Gives a right to the first in the line, and back where nobody stands there.
+fn try_hand_over<R: Wait>(
+    rt: &R,
+    lot: &ParkingLot,
+    token: &mut Token,
+    right: Right,
+    turns: usize,
+) -> Option<Right>
+    requires { IsTokenOf lot.now token.old × IsRightOf lot.now.words right }
+    ensures own { IsSameThread lot.now token.old token.new }
+    ensures left { IfSome result (IsRightOf lot.now.words) }
+{
+    let mut section = lot.enter(rt, token, Keys::One(KEY));
+    match section.take_first(KEY) {
+        Some(thread) => {
+            section.give(rt, thread, right);
+            delay(turns);
+            section.leave(rt, token, Note::HandOff);
+            None
+        }
+        None => {
+            section.leave(rt, token, Note::Normal);
+            Some(right)
+        }
+    }
+}
+
 // Gives a right to the first in the line, once somebody stands there.
 fn hand_over<R: Wait>(rt: &R, lot: &ParkingLot, token: &mut Token, right: Right, turns: usize)
     requires { IsTokenOf lot.now token.old × IsRightOf lot.now.words right }
     ensures { IsSameThread lot.now token.old token.new }
 {
+    let mut left = right;
     for _ in rt.forever() {
-        let mut section = lot.enter(rt, token, Keys::One(KEY));
-        if let Some(thread) = section.take_first(KEY) {
-            section.give(rt, thread, right);
-            delay(turns);
-            section.leave(rt, token, Note::HandOff);
-            return;
+        match try_hand_over(rt, lot, token, left, turns) {
+            Some(right) => left = right,
+            None => return,
         }
-        section.leave(rt, token, Note::Normal);
         yield_now();
     }
     unreachable!()
@@ -71,7 +89,7 @@ fn receive<R: Wait>(rt: &R, lot: &ParkingLot, token: &mut Token, word: Word) -> 
     ensures own { IsSameThread lot.now token.old token.new }
     ensures right { IfSome result (λ right. IsRightOf lot.now.words right × (right.word ≡ word) × (right.owner ≡ Exclusive)) }
 {
-    line_up(rt, lot, token, KEY);
+    line_up(rt, lot, token, KEY, Want::Exclusive);
     match lot.sleep(rt, token, word, Want::Exclusive, None::<(&TickClock, u64)>) {
         Slept::Handed(right) => Some(right),
         Slept::Woken => None,
@@ -122,7 +140,7 @@ fn two_seats(alloc: Global) -> Result<(Arc<ParkingLot>, Ticket, Ticket, Word), F
         × IsWordOf (arc_value made.0).words made.3 × (made.3.kind ≡ Mutex)) }
 {
     let (lot, mut tickets) = ParkingLot::new(alloc, 1, 2)?;
-    let (Some(one), Some(other)) = (tickets.pop(), tickets.pop()) else {
+    let Some((one, other)) = next_pair(&lot, &mut tickets) else {
         return Err(Fault::NoMemory);
     };
     let mut token = one.enter();
@@ -168,15 +186,23 @@ fn wake_early<R: Wait>(rt: &R, lot: &ParkingLot, ticket: Ticket, word: Word)
     drop(token.leave());
 }
 
+// Takes the first in the line, and wakes it. Whether somebody stood there.
+fn takes_one<R: Wait>(rt: &R, lot: &ParkingLot, token: &mut Token) -> bool
+    requires { IsTokenOf lot.now token.old }
+    ensures { IsSameThread lot.now token.old token.new }
+{
+    let mut section = lot.enter(rt, token, Keys::One(KEY));
+    let taken = section.take_first(KEY);
+    section.leave(rt, token, Note::Normal);
+    taken.is_some()
+}
+
 fn take_one<R: Wait>(rt: &R, lot: &ParkingLot, token: &mut Token)
     requires { IsTokenOf lot.now token.old }
     ensures { IsSameThread lot.now token.old token.new }
 {
     for _ in rt.forever() {
-        let mut section = lot.enter(rt, token, Keys::One(KEY));
-        let taken = section.take_first(KEY);
-        section.leave(rt, token, Note::Normal);
-        if taken.is_some() {
+        if takes_one(rt, lot, token) {
             return;
         }
         yield_now();
@@ -197,39 +223,50 @@ fn lock<R: Wait>(rt: &R, lot: &ParkingLot, token: &mut Token, word: Word) -> Rig
     unreachable!()
 }
 
-// How often the thread is woken as it is to be: by a note, and by a right, in turn. It is late to its sleep, so that it
-// finds its note without parking, and its parker returns early the next time.
+// Whether a thread is woken by a note. A right that it is handed is given up.
+fn is_woken<R: Wait>(rt: &R, lot: &ParkingLot, token: &mut Token, word: Word) -> bool
+    requires { IsTokenOf lot.now token.old × (word.kind ≡ Mutex) }
+    ensures { IsSameThread lot.now token.old token.new }
+{
+    match lot.sleep(rt, token, word, Want::Exclusive, None::<(&TickClock, u64)>) {
+        Slept::Woken => true,
+        Slept::Handed(right) => {
+            unlock(lot, token, right);
+            false
+        }
+        Slept::Late(section, _) => {
+            section.leave(rt, token, Note::Normal);
+            false
+        }
+    }
+}
+
+// Whether the thread is woken as it is to be: by a note, and then by a right. It is late to its sleep, so that it finds its
+// note without parking, and its parker returns early the next time.
+fn sleeps_late<R: Wait>(rt: &R, lot: &ParkingLot, token: &mut Token, word: Word) -> bool
+    requires { IsTokenOf lot.now token.old × IsWordOf lot.now.words word × (word.kind ≡ Mutex) }
+    ensures { IsSameThread lot.now token.old token.new }
+{
+    line_up(rt, lot, token, KEY, Want::Exclusive);
+    delay(PAUSE);
+    let by_note = is_woken(rt, lot, token, word);
+    let standing = stands(rt, lot, token);
+    let Some(right) = receive(rt, lot, token, word) else {
+        return false;
+    };
+    unlock(lot, token, right);
+    by_note && !standing && !stands(rt, lot, token)
+}
+
+// In how many rounds it was, up to the first in which it was not.
 fn sleep_late<R: Wait>(rt: &R, lot: &ParkingLot, ticket: Ticket, word: Word) -> usize
     requires { IsTicketOf lot.now ticket × IsWordOf lot.now.words word × (word.kind ≡ Mutex) }
 {
     let mut token = ticket.enter();
     let mut woken = 0;
     for round in 0..SLOW_ROUNDS {
-        line_up(rt, lot, &mut token, KEY);
-        delay(PAUSE);
-        let by_note = match lot.sleep(
-            rt,
-            &mut token,
-            word,
-            Want::Exclusive,
-            None::<(&TickClock, u64)>,
-        ) {
-            Slept::Woken => true,
-            Slept::Handed(right) => {
-                unlock(lot, &mut token, right);
-                false
-            }
-            Slept::Late(section, _) => {
-                section.leave(rt, &mut token, Note::Normal);
-                false
-            }
-        };
-        let standing = stands(rt, lot, &mut token);
-        if let Some(right) = receive(rt, lot, &mut token, word) {
-            unlock(lot, &mut token, right);
-            if by_note && !standing && !stands(rt, lot, &mut token) && woken == round {
-                woken = round + 1;
-            }
+        if sleeps_late(rt, lot, &mut token, word) && woken == round {
+            woken = round + 1;
         }
     }
     drop(token.leave());
@@ -260,6 +297,32 @@ fn an_early_parker_loses_and_doubles_no_wake(rt: HostRuntime) -> Result<(), Fail
     Ok(())
 }
 
+// Whether a sleep in the line ended by a wake, or by the deadline.
+fn nap<R: Wait>(
+    rt: &R,
+    lot: &ParkingLot,
+    token: &mut Token,
+    word: Word,
+    limit: (&TickClock, u64),
+) -> Option<bool>
+    requires { IsTokenOf lot.now token.old × (word.kind ≡ Mutex) }
+    ensures { IsSameThread lot.now token.old token.new }
+{
+    line_up(rt, lot, token, KEY, Want::Exclusive);
+    match lot.sleep(rt, token, word, Want::Exclusive, Some(limit)) {
+        Slept::Woken => Some(true),
+        Slept::Handed(right) => {
+            unlock(lot, token, right);
+            None
+        }
+        Slept::Late(mut section, _) => {
+            section.remove(token.number());
+            section.leave(rt, token, Note::Normal);
+            Some(false)
+        }
+    }
+}
+
 // How many rounds ended by a wake, and how many by the deadline.
 fn sleep_briefly<R: Wait>(
     rt: &R,
@@ -275,18 +338,10 @@ fn sleep_briefly<R: Wait>(
     let (mut woken, mut late) = (0, 0);
     for round in 0..ROUNDS {
         clock.restart();
-        line_up(rt, lot, &mut token, KEY);
-        let limit = Some((&clock, round as u64 % 8));
-        match lot.sleep(rt, &mut token, word, Want::Exclusive, limit) {
-            Slept::Woken => woken += 1,
-            Slept::Handed(right) => {
-                unlock(lot, &mut token, right);
-            }
-            Slept::Late(mut section, _) => {
-                section.remove(token.number());
-                section.leave(rt, &mut token, Note::Normal);
-                late += 1;
-            }
+        match nap(rt, lot, &mut token, word, (&clock, round as u64 % 8)) {
+            Some(true) => woken += 1,
+            Some(false) => late += 1,
+            None => {}
         }
     }
     done.store(true, SeqCst);
@@ -304,11 +359,9 @@ fn wake_until<R: Wait>(rt: &R, lot: &ParkingLot, ticket: Ticket, done: &AtomicBo
         if done.load(SeqCst) {
             break;
         }
-        let mut section = lot.enter(rt, &mut token, Keys::One(KEY));
-        if section.take_first(KEY).is_some() {
+        if takes_one(rt, lot, &mut token) {
             taken = taken.saturating_add(1);
         }
-        section.leave(rt, &mut token, Note::Normal);
         yield_now();
     }
     drop(token.leave());
