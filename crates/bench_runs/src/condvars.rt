@@ -4,6 +4,7 @@ ghost use Rattle.std.specs.Arc.{arc_value};
 ghost use Rattle.parking_lot.specs.CondvarUsers.{lot_of as condvar_lot};
 ghost use Rattle.parking_lot.specs.Users.{IsTokenOf, lock_of, lot_of};
 
+use crate::made::{both, unless_refused};
 use parking_lot::{Condvar, Fault, Mutex, MutexGuard, ParkingLot, Token};
 use std::sync::{Arc, Wait};
 
@@ -83,22 +84,21 @@ pub(crate) fn desk_for(
     ensures token { IsTokenOf (arc_value lot.now) token.new }
     ensures made { IfOk result (λ desk. condvar_lot desk.filled ≡ arc_value lot.now) }
 {
-    let filled = Condvar::new(lot, token)?;
-    let emptied = Condvar::new(lot, token)?;
     let tally = Tally {
         came: 0,
         at: 0,
         left: operations,
         done: 0,
     };
-    match Mutex::new(lot, token, tally) {
-        Ok(tally) => Ok(Desk {
-            tally,
-            filled,
-            emptied,
-        }),
-        Err((fault, _)) => Err(fault),
-    }
+    let filled = Condvar::new(lot, token);
+    let emptied = Condvar::new(lot, token);
+    let tally = unless_refused(Mutex::new(lot, token, tally));
+    let (tally, (filled, emptied)) = both(tally, both(filled, emptied))?;
+    Ok(Desk {
+        tally,
+        filled,
+        emptied,
+    })
 }
 
 /// How many operations were done there.

@@ -2,6 +2,8 @@
 #![tactic(auto)]
 
 mod condvars;
+mod made;
+mod mutexes;
 pub mod plans;
 pub mod runs;
 mod rwlocks;

@@ -1,23 +1,26 @@
 //! Plans, carried out by threads.
 //!
 //! Each loop of operations is a function of its own, which is inlined nowhere: so what stands beside it has no part in its time.
-ghost use Rattle.std.specs.Prelude.{◌≡◌, ◌≤◌, IfOk, IfSome, All};
+ghost use Rattle.std.specs.Prelude.{◌≡◌, ◌≤◌, IfOk, All};
 ghost use Rattle.std.specs.Arc.{arc_value};
 ghost use Rattle.parking_lot.specs.CondvarUsers.{lot_of as condvar_lot};
 ghost use Rattle.parking_lot.specs.RwLockUsers.{lot_of as rwlot_of};
 ghost use Rattle.parking_lot.specs.OnceUsers.{lot_of as once_lot};
-ghost use Rattle.parking_lot.specs.Users.{lock_of, lot_of};
+ghost use Rattle.parking_lot.specs.Users.{lot_of};
 ghost use Rattle.parking_lot_core.specs.Tokens.{IsTicketOf, IsTokenOf};
 
 use crate::condvars::{DESK, Desk, Way, desk_for, done_at, notify_nobody, work_at};
+use crate::made::both;
+use crate::mutexes::{
+    MUTEXES, Mutexes, lock_raw, lock_value, mutexes_of, try_raw, try_value, value_in as added_to,
+};
 use crate::plans::{Mode, Plan};
 use crate::rwlocks::{
     RWLOCKS, RwLocks, come_upgradable, downgrade_value, mix_value, read_raw, read_value,
     rwlocks_of, upgrade_value, value_in, write_raw, write_value,
 };
 use crate::shares::Shares;
-use parking_lot::lock_raw::RawMutex as RawLock;
-use parking_lot::{FairMutex, Fault, Mutex, Once, ParkingLot, RawMutex, Ticket, Token, lock_api};
+use parking_lot::{Fault, Once, ParkingLot, Ticket, Token};
 use std::alloc::Global;
 use std::io;
 use std::sync::{Arc, Wait};
@@ -36,169 +39,80 @@ pub struct Figures {
     pub high: u64,
 }
 
-// A mutex without a value, one with, and a fair one, reader-writer locks, a `Once` that is done, and a desk, of one lot.
+// Mutexes, reader-writer locks, a `Once` that is done, and a desk, of one lot.
 #[derive(Drop)]
 struct Bench {
-    raw: RawMutex,
-    mutex: Mutex<u64>,
-    fair: FairMutex<u64>,
+    mutexes: Mutexes,
     rwlocks: RwLocks,
     done: Once,
     desk: Desk,
-    ghost together: { (lot_of mutex ≡ lot_of raw) × (lot_of fair ≡ lot_of raw) × (rwlot_of rwlocks.raw ≡ lot_of raw)
-        × (once_lot done ≡ lot_of raw) × (condvar_lot desk.filled ≡ lot_of raw) },
+    ghost together: { (rwlot_of rwlocks.raw ≡ lot_of mutexes.raw) × (once_lot done ≡ lot_of mutexes.raw)
+        × (condvar_lot desk.filled ≡ lot_of mutexes.raw) },
 }
 
-fn one_of(lot: &ParkingLot, tickets: &mut Vec<Ticket>) -> Option<Ticket>
-    requires { All (IsTicketOf lot.now) tickets.old.items }
-    ensures left { All (IsTicketOf lot.now) tickets.new.items }
-    ensures one { IfSome result (IsTicketOf lot.now) }
+// The locks, drawn from the lot.
+fn bench_of(lot: &Arc<ParkingLot>, token: &mut Token, operations: u64) -> Result<Bench, Fault>
+    requires { IsTokenOf (arc_value lot.now) token.old }
+    ensures token { IsTokenOf (arc_value lot.now) token.new }
+    ensures made { IfOk result (λ bench. lot_of bench.mutexes.raw ≡ arc_value lot.now) }
 {
-    tickets.pop()
+    let mutexes = mutexes_of(lot, token);
+    let rwlocks = rwlocks_of(lot, token);
+    let done = Once::new_completed(lot, token);
+    let desk = desk_for(lot, token, operations);
+    let ((mutexes, rwlocks), (done, desk)) = both(both(mutexes, rwlocks), both(done, desk))?;
+    Ok(Bench {
+        mutexes,
+        rwlocks,
+        done,
+        desk,
+    })
 }
 
-fn put_back(lot: &ParkingLot, tickets: &mut Vec<Ticket>, ticket: Ticket) -> Result<(), Fault>
-    requires { All (IsTicketOf lot.now) tickets.old.items × IsTicketOf lot.now ticket }
-    ensures { All (IsTicketOf lot.now) tickets.new.items }
-{
-    match tickets.push(ticket) {
-        Ok(()) => Ok(()),
-        Err(_) => Err(Fault::NoMemory),
-    }
-}
-
-// The locks, drawn from the lot by the thread of a ticket.
+// The same by the thread of a ticket, which it gives back.
 fn bench_by(
     lot: &Arc<ParkingLot>,
     ticket: Ticket,
     operations: u64,
-) -> Result<(Bench, Ticket), Fault>
+) -> (Result<Bench, Fault>, Ticket)
     requires { IsTicketOf (arc_value lot.now) ticket }
-    ensures { IfOk result (λ made. (lot_of made.0.raw ≡ arc_value lot.now) × IsTicketOf (arc_value lot.now) made.1) }
+    ensures { IfOk result.0 (λ bench. lot_of bench.mutexes.raw ≡ arc_value lot.now) × IsTicketOf (arc_value lot.now) result.1 }
 {
     let mut token = ticket.enter();
-    let raw = RawMutex::new(lot, &mut token)?;
-    let mutex = match Mutex::new(lot, &mut token, 0) {
-        Ok(mutex) => mutex,
-        Err((fault, _)) => return Err(fault),
+    let bench = bench_of(lot, &mut token, operations);
+    (bench, token.leave())
+}
+
+// The same by the thread of one of these tickets.
+fn bench_by_one(
+    lot: &Arc<ParkingLot>,
+    tickets: &mut Vec<Ticket>,
+    operations: u64,
+) -> Result<Bench, Fault>
+    requires { All (IsTicketOf (arc_value lot.now)) tickets.old.items }
+    ensures left { All (IsTicketOf (arc_value lot.now)) tickets.new.items }
+    ensures made { IfOk result (λ bench. lot_of bench.mutexes.raw ≡ arc_value lot.now) }
+{
+    let Some(ticket) = tickets.pop() else {
+        return Err(Fault::NoMemory);
     };
-    let fair = match FairMutex::new(lot, &mut token, 0) {
-        Ok(fair) => fair,
-        Err((fault, _)) => return Err(fault),
-    };
-    let rwlocks = rwlocks_of(lot, &mut token)?;
-    let done = Once::new_completed(lot, &mut token)?;
-    let desk = desk_for(lot, &mut token, operations)?;
-    let bench = Bench {
-        raw,
-        mutex,
-        fair,
-        rwlocks,
-        done,
-        desk,
-    };
-    Ok((bench, token.leave()))
+    let (bench, ticket) = bench_by(lot, ticket, operations);
+    match tickets.push(ticket) {
+        Ok(()) => bench,
+        Err(_) => Err(Fault::NoMemory),
+    }
 }
 
 // A lot with so many threads, and locks of it.
 fn bench_for(alloc: Global, threads: usize, operations: u64) -> Result<(Bench, Vec<Ticket>), Fault>
     requires { (1 ≤ threads) × (threads ≤ 64) }
-    ensures { IfOk result (λ made. All (IsTicketOf (lot_of made.0.raw)) made.1.items) }
+    ensures { IfOk result (λ made. All (IsTicketOf (lot_of made.0.mutexes.raw)) made.1.items) }
 {
-    let (lot, mut tickets) = ParkingLot::new(alloc, 4 + RWLOCKS + DESK, threads)?;
-    let Some(first) = one_of(&lot, &mut tickets) else {
-        return Err(Fault::NoMemory);
-    };
-    let (bench, first) = bench_by(&lot, first, operations)?;
-    put_back(&lot, &mut tickets, first)?;
-    Ok((bench, tickets))
-}
-
-#[inline]
-fn raw_by_tries<M: RawLock, R: Wait>(rt: &R, mutex: &M, token: &mut M::Token) -> M::Guard
-    requires { M.is_token_of (M.lot_of mutex.now) token.old }
-    ensures token { M.is_token_of (M.lot_of mutex.now) token.new }
-    ensures guard { M.is_guard_of mutex.now result }
-{
-    for _ in rt.forever() {
-        if let Some(guard) = mutex.try_lock(token) {
-            return guard;
-        }
-    }
-    unreachable!()
-}
-
-#[inline]
-fn guard_by_tries<'a, M: RawLock, R: Wait>(
-    rt: &R,
-    mutex: &'a lock_api::Mutex<M, u64>,
-    token: &mut M::Token,
-) -> lock_api::MutexGuard<'a, M, u64>
-    requires { M.is_token_of (M.lot_of mutex.now) token.old }
-    ensures token { M.is_token_of (M.lot_of mutex.now) token.new }
-    ensures guard { lock_of result ≡ mutex.now }
-{
-    for _ in rt.forever() {
-        if let Some(guard) = mutex.try_lock(token) {
-            return guard;
-        }
-    }
-    unreachable!()
-}
-
-#[inline(never)]
-fn lock_raw<M: RawLock, R: Wait>(rt: &R, mutex: &M, token: &mut M::Token, times: u64)
-    requires { M.is_token_of (M.lot_of mutex.now) token.old }
-    ensures { M.is_token_of (M.lot_of mutex.now) token.new }
-{
-    for _ in 0..times {
-        let guard = mutex.lock(rt, token);
-        mutex.unlock(rt, token, guard);
-    }
-}
-
-#[inline(never)]
-fn try_raw<M: RawLock, R: Wait>(rt: &R, mutex: &M, token: &mut M::Token, times: u64)
-    requires { M.is_token_of (M.lot_of mutex.now) token.old }
-    ensures { M.is_token_of (M.lot_of mutex.now) token.new }
-{
-    for _ in 0..times {
-        let guard = raw_by_tries(rt, mutex, token);
-        mutex.unlock(rt, token, guard);
-    }
-}
-
-#[inline(never)]
-fn lock_value<M: RawLock, R: Wait>(
-    rt: &R,
-    mutex: &lock_api::Mutex<M, u64>,
-    token: &mut M::Token,
-    times: u64,
-)
-    requires { M.is_token_of (M.lot_of mutex.now) token.old }
-    ensures { M.is_token_of (M.lot_of mutex.now) token.new }
-{
-    for _ in 0..times {
-        let mut guard = mutex.lock(rt, token);
-        *guard = guard.wrapping_add(1);
-        guard.unlock(rt, token);
-    }
-}
-
-#[inline(never)]
-fn try_value<M: RawLock, R: Wait>(
-    rt: &R,
-    mutex: &lock_api::Mutex<M, u64>,
-    token: &mut M::Token,
-    times: u64,
-)
-    requires { M.is_token_of (M.lot_of mutex.now) token.old }
-    ensures { M.is_token_of (M.lot_of mutex.now) token.new }
-{
-    for _ in 0..times {
-        let mut guard = guard_by_tries(rt, mutex, token);
-        *guard = guard.wrapping_add(1);
-        guard.unlock(rt, token);
+    let words = MUTEXES + RWLOCKS + 1 + DESK;
+    let (lot, mut tickets) = ParkingLot::new(alloc, words, threads)?;
+    match bench_by_one(&lot, &mut tickets, operations) {
+        Ok(bench) => Ok((bench, tickets)),
+        Err(fault) => Err(fault),
     }
 }
 
@@ -216,16 +130,16 @@ fn call_once<R: Wait>(rt: &R, once: &Once, token: &mut Token, times: u64)
 
 // Does so many operations.
 fn operate<R: Wait>(rt: &R, mode: Mode, bench: &Bench, token: &mut Token, times: u64)
-    requires { IsTokenOf (lot_of bench.now.raw) token.old }
-    ensures { IsTokenOf (lot_of bench.now.raw) token.new }
+    requires { IsTokenOf (lot_of bench.now.mutexes.raw) token.old }
+    ensures { IsTokenOf (lot_of bench.now.mutexes.raw) token.new }
 {
-    let rwlocks = &bench.rwlocks;
+    let (mutexes, rwlocks) = (&bench.mutexes, &bench.rwlocks);
     match mode {
-        Mode::RawMutex => lock_raw(rt, &bench.raw, token, times),
-        Mode::RawMutexTry => try_raw(rt, &bench.raw, token, times),
-        Mode::Mutex => lock_value(rt, &bench.mutex, token, times),
-        Mode::MutexTry => try_value(rt, &bench.mutex, token, times),
-        Mode::Fair => lock_value(rt, &bench.fair, token, times),
+        Mode::RawMutex => lock_raw(rt, &mutexes.raw, token, times),
+        Mode::RawMutexTry => try_raw(rt, &mutexes.raw, token, times),
+        Mode::Mutex => lock_value(rt, &mutexes.value, token, times),
+        Mode::MutexTry => try_value(rt, &mutexes.value, token, times),
+        Mode::Fair => lock_value(rt, &mutexes.fair, token, times),
         Mode::RawRead => read_raw(rt, &rwlocks.raw, token, times),
         Mode::RawWrite => write_raw(rt, &rwlocks.raw, token, times),
         Mode::Read => read_value(rt, &rwlocks.value, token, times),
@@ -254,7 +168,7 @@ fn way_of(mode: Mode) -> Option<Way> {
 
 // Does operations until none is left. How many it did.
 fn work<R: Wait>(rt: &R, plan: Plan, bench: &Bench, ticket: Ticket, shares: &Shares) -> u64
-    requires { IsTicketOf (lot_of bench.now.raw) ticket }
+    requires { IsTicketOf (lot_of bench.now.mutexes.raw) ticket }
 {
     let mode = plan.mode;
     let mut token = ticket.enter();
@@ -278,8 +192,7 @@ fn work<R: Wait>(rt: &R, plan: Plan, bench: &Bench, ticket: Ticket, shares: &Sha
 
 fn total_of(mode: Mode, bench: Bench, counts: &[u64]) -> u64 {
     match mode {
-        Mode::Mutex | Mode::MutexTry => bench.mutex.into_inner(),
-        Mode::Fair => bench.fair.into_inner(),
+        Mode::Mutex | Mode::MutexTry | Mode::Fair => added_to(bench.mutexes, mode == Mode::Fair),
         Mode::Write | Mode::Upgrade | Mode::Downgrade => value_in(bench.rwlocks),
         Mode::NotifyAll | Mode::PingPong | Mode::Queue => done_at(bench.desk),
         Mode::RawMutex
@@ -297,6 +210,39 @@ fn total_of(mode: Mode, bench: Bench, counts: &[u64]) -> u64 {
     }
 }
 
+// What came of the work, and how long it took.
+fn figures_of(mode: Mode, bench: Bench, nanos: u128, counts: &[u64]) -> Figures {
+    Figures {
+        nanos,
+        answer: total_of(mode, bench, counts),
+        low: counts.iter().copied().min().unwrap_or(0),
+        high: counts.iter().copied().max().unwrap_or(0),
+    }
+}
+
+// Threads with these tickets do all operations: how long they took, and how many each did.
+fn time_work<R: Threads + Wait + Sync + Clock>(
+    rt: &R,
+    plan: Plan,
+    bench: &Bench,
+    tickets: Vec<Ticket>,
+) -> Result<io::Result<(u128, Vec<u64>)>, Fault>
+    requires { All (IsTicketOf (lot_of bench.now.mutexes.raw)) tickets.items }
+{
+    let left = &Shares::new(plan.operations);
+    let started = match Instant::now(rt) {
+        Ok(started) => started,
+        Err(e) => return Ok(Err(e)),
+    };
+    let Ok(counts) = map_vec(rt, tickets, &|ticket| work(rt, plan, bench, ticket, left)) else {
+        return Err(Fault::NoMemory);
+    };
+    match started.elapsed(rt) {
+        Ok(elapsed) => Ok(Ok((elapsed.as_nanos(), counts))),
+        Err(e) => Ok(Err(e)),
+    }
+}
+
 /// Carries out a plan. The inner error is the clock's.
 pub fn carry_out<R: Threads + Wait + Sync + Clock>(
     rt: &R,
@@ -309,23 +255,8 @@ pub fn carry_out<R: Threads + Wait + Sync + Clock>(
         operations,
     } = plan;
     let (bench, tickets) = bench_for(alloc, threads, operations)?;
-    let shares = Shares::new(operations);
-    let started = match Instant::now(rt) {
-        Ok(started) => started,
-        Err(e) => return Ok(Err(e)),
-    };
-    let (shared, left) = (&bench, &shares);
-    let Ok(counts) = map_vec(rt, tickets, &|ticket| work(rt, plan, shared, ticket, left)) else {
-        return Err(Fault::NoMemory);
-    };
-    let nanos = match started.elapsed(rt) {
-        Ok(elapsed) => elapsed.as_nanos(),
-        Err(e) => return Ok(Err(e)),
-    };
-    Ok(Ok(Figures {
-        nanos,
-        answer: total_of(mode, bench, counts.as_slice()),
-        low: counts.iter().copied().min().unwrap_or(0),
-        high: counts.iter().copied().max().unwrap_or(0),
-    }))
+    match time_work(rt, plan, &bench, tickets)? {
+        Ok((nanos, counts)) => Ok(Ok(figures_of(mode, bench, nanos, counts.as_slice()))),
+        Err(e) => Ok(Err(e)),
+    }
 }

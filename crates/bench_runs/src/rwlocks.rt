@@ -4,6 +4,7 @@ ghost use Rattle.std.specs.Arc.{arc_value};
 ghost use Rattle.parking_lot.specs.RwLockUsers.{lot_of};
 ghost use Rattle.parking_lot_core.specs.Tokens.{IsTokenOf};
 
+use crate::made::{both, unless_refused};
 use parking_lot::lock_raw::{RawRwLock as RawLock, RawRwLockDowngrade, RawRwLockUpgrade};
 use parking_lot::{Fault, ParkingLot, RawRwLock, RecursiveRwLock, RwLock, Token, lock_api_rw};
 use std::sync::{Arc, Wait};
@@ -29,19 +30,15 @@ pub(crate) fn rwlocks_of(lot: &Arc<ParkingLot>, token: &mut Token) -> Result<RwL
     ensures token { IsTokenOf (arc_value lot.now) token.new }
     ensures made { IfOk result (λ locks. lot_of locks.raw ≡ arc_value lot.now) }
 {
-    let raw = RawRwLock::<false>::new(lot, token)?;
-    let value = match RwLock::new(lot, token, 0) {
-        Ok(lock) => lock,
-        Err((fault, _)) => return Err(fault),
-    };
-    match RecursiveRwLock::new(lot, token, 0) {
-        Ok(recursive) => Ok(RwLocks {
-            raw,
-            value,
-            recursive,
-        }),
-        Err((fault, _)) => Err(fault),
-    }
+    let raw = RawRwLock::<false>::new(lot, token);
+    let value = unless_refused(RwLock::new(lot, token, 0));
+    let recursive = unless_refused(RecursiveRwLock::new(lot, token, 0));
+    let (raw, (value, recursive)) = both(raw, both(value, recursive))?;
+    Ok(RwLocks {
+        raw,
+        value,
+        recursive,
+    })
 }
 
 /// The value that was written.

@@ -1,0 +1,26 @@
+//! What was made, where nothing was refused.
+//!
+//! Who makes several things returns early behind none of them: at each such return all that was made so far would have to be dropped, and that dropping proved.
+ghost use Rattle.std.specs.Prelude.{◌≡◌, IfOk, Ok};
+
+use parking_lot::Fault;
+
+/// Both, where both were made.
+pub(crate) fn both<A: Drop, B: Drop>(
+    one: Result<A, Fault>,
+    other: Result<B, Fault>,
+) -> Result<(A, B), Fault>
+    ensures { IfOk result (λ made. (one ≡ Ok made.0) × (other ≡ Ok made.1)) }
+{
+    Ok((one?, other?))
+}
+
+/// What was made, or why not. A value that was given back is dropped.
+pub(crate) fn unless_refused<A: Drop, V: Drop>(made: Result<A, (Fault, V)>) -> Result<A, Fault>
+    ensures { IfOk result (λ one. made ≡ Ok one) }
+{
+    match made {
+        Ok(one) => Ok(one),
+        Err((fault, _)) => Err(fault),
+    }
+}
