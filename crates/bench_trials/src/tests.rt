@@ -1,11 +1,27 @@
 //! Arguments, and each mode once.
 use bench_runs::plans::{Mode, plan_of};
 use bench_runs::runs::carry_out;
+use std::alloc::Global;
+use std::fmt::Debug;
+use std::process::Abort;
+use std::sync::Wait;
 use std::test::Fail;
+use std::thread::Threads;
+use std::time::Clock;
+
+// What was found is what was wanted. All tests share this one assertion, since each is proved where it stands.
+fn same<T: PartialEq + Debug + Drop>(rt: &impl Abort, found: T, wanted: T) {
+    assert_eq!(rt; found, wanted);
+}
+
+// Whether these are the arguments of a plan.
+fn is_plan(args: &[&str]) -> bool {
+    plan_of(args).is_some()
+}
 
 #[test]
 fn reads_plans(rt: HostRuntime) {
-    for (args, is_plan) in [
+    for (args, wanted) in [
         (["mutex", "1", "1"], true),
         (["raw_mutex_try", "64", "1000000000000"], true),
         (["mutexes", "1", "1"], false),
@@ -18,10 +34,35 @@ fn reads_plans(rt: HostRuntime) {
         (["queue", "1", "1"], false),
         (["queue", "2", "1"], true),
     ] {
-        assert_eq!(rt; plan_of(&args).is_some(), is_plan, "{args:?}");
+        same(&rt, (args, is_plan(&args)), (args, wanted));
     }
-    assert!(rt; plan_of(&["mutex", "1"]).is_none());
-    assert!(rt; plan_of(&["mutex", "1", "1", "1"]).is_none());
+    same(&rt, is_plan(&["mutex", "1"]), false);
+    same(&rt, is_plan(&["mutex", "1", "1", "1"]), false);
+}
+
+// The mode, threads and operations of a plan, its answer, and how often both threads took the lock.
+type Done = (Mode, usize, u64, u64, u64);
+
+// Two threads do a thousand operations.
+fn do_thousand<R: Threads + Wait + Sync + Clock>(
+    rt: &R,
+    alloc: Global,
+    name: &str,
+) -> Result<Done, Fail> {
+    let plan = plan_of(&[name, "2", "1000"]).ok_or("it is a plan")?;
+    match carry_out(rt, alloc, plan)? {
+        Ok(figures) => {
+            let both = figures.low.saturating_add(figures.high);
+            Ok((
+                plan.mode,
+                plan.threads,
+                plan.operations,
+                figures.answer,
+                both,
+            ))
+        }
+        Err(_) => Err("the clock failed".into()),
+    }
 }
 
 #[test]
@@ -44,13 +85,8 @@ fn does_every_operation(rt: HostRuntime) -> Result<(), Fail> {
         ("once", Mode::Once),
         ("notify", Mode::Notify),
     ] {
-        let plan = plan_of(&[name, "2", "1000"]).ok_or("it is a plan")?;
-        assert_eq!(rt; (plan.mode, plan.threads, plan.operations), (mode, 2, 1000));
-        let Ok(figures) = carry_out(&rt, rt.alloc(), plan)? else {
-            panic!(rt; "the clock failed")
-        };
-        assert_eq!(rt; figures.answer, 1000, "by {name}");
-        assert_eq!(rt; figures.low.saturating_add(figures.high), 1000, "by {name}");
+        let done = do_thousand(&rt, rt.alloc(), name)?;
+        same(&rt, (name, done), (name, (mode, 2, 1000, 1000, 1000)));
     }
     Ok(())
 }
@@ -58,11 +94,8 @@ fn does_every_operation(rt: HostRuntime) -> Result<(), Fail> {
 #[test]
 fn threads_meet_and_take_turns(rt: HostRuntime) -> Result<(), Fail> {
     for name in ["notify_all", "pingpong", "queue"] {
-        let plan = plan_of(&[name, "2", "1000"]).ok_or("it is a plan")?;
-        let Ok(figures) = carry_out(&rt, rt.alloc(), plan)? else {
-            panic!(rt; "the clock failed")
-        };
-        assert_eq!(rt; figures.answer, 1000, "by {name}");
+        let (_, _, _, answer, _) = do_thousand(&rt, rt.alloc(), name)?;
+        same(&rt, (name, answer), (name, 1000));
     }
     Ok(())
 }
