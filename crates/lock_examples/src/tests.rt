@@ -4,26 +4,56 @@ mod rates;
 mod table;
 mod workers;
 
-ghost use Rattle.std.specs.Prelude.{All, IfOk};
+ghost use Rattle.std.specs.Prelude.{◌<◌, ◌≤◌, All, IfOk};
 ghost use Rattle.std.specs.Arc.{arc_value};
 ghost use Rattle.parking_lot.specs.Users.{IsTicketOf, IsTokenOf, lot_of};
 
 use parking_lot::{Fault, Mutex, ParkingLot, TickClock, Ticket, Token};
 use std::alloc::Global;
+use std::fmt::Debug;
+use std::process::Abort;
 use std::sync::{Arc, Wait};
 use std::test::Fail;
 use std::thread::{Threads, map_vec};
 use std::time::Duration;
 
-// A lot of one lock for three threads: the ticket of the first of them, and those of the others.
-fn lot_for_three(alloc: Global) -> Result<(Arc<ParkingLot>, Token, Vec<Ticket>), Fault>
+// What was found is what was wanted. All tests share this one assertion, since each is proved where it stands.
+fn same<T: PartialEq + Debug + Drop>(rt: &impl Abort, found: T, wanted: T) {
+    assert_eq!(rt; found, wanted);
+}
+
+// What a test asks for holds.
+fn holds(rt: &impl Abort, truth: bool) {
+    assert!(rt; truth);
+}
+
+// A lot of so many words for three threads: the token of the first of them, and the tickets of the others.
+fn lot_for_three(
+    alloc: Global,
+    words: usize,
+) -> Result<(Arc<ParkingLot>, Token, Vec<Ticket>), Fault>
+    requires { (0 < words) × (words ≤ 100) }
     ensures { IfOk result (λ made. IsTokenOf (arc_value made.0) made.1 × All (IsTicketOf (arc_value made.0)) made.2.items) }
 {
-    let (lot, mut tickets) = ParkingLot::new(alloc, 1, 3)?;
+    let (lot, mut tickets) = ParkingLot::new(alloc, words, 3)?;
     let Some(first) = tickets.pop() else {
         return Err(Fault::NoMemory);
     };
     Ok((lot, first.enter(), tickets))
+}
+
+// A mutex for three threads.
+fn mutex_for_three<T: Drop>(
+    alloc: Global,
+    value: T,
+) -> Result<(Mutex<T>, Token, Vec<Ticket>), Fault>
+    ensures { IfOk result (λ made. IsTokenOf (lot_of made.0) made.1 × All (IsTicketOf (lot_of made.0)) made.2.items) }
+{
+    let (lot, mut token, tickets) = lot_for_three(alloc, 1)?;
+    match Mutex::new(&lot, &mut token, value) {
+        Ok(mutex) => Ok((mutex, token, tickets)),
+        Err((fault, _)) => Err(fault),
+    }
 }
 
 fn count<R: Wait>(rt: &R, total: &Mutex<u64>, ticket: Ticket)
@@ -62,9 +92,9 @@ fn count_all<R: Threads + Wait + Sync>(
 
 #[test]
 fn a_shared_counter(rt: HostRuntime) -> Result<(), Fail> {
-    let (lot, mut token, tickets) = lot_for_three(rt.alloc())?;
+    let (lot, mut token, tickets) = lot_for_three(rt.alloc(), 1)?;
     let counter = Mutex::new(&lot, &mut token, 0)?;
-    assert_eq!(rt; count_all(&rt, counter, tickets)?, 2000);
+    same(&rt, count_all(&rt, counter, tickets)?, 2000);
     Ok(())
 }
 
@@ -107,12 +137,9 @@ fn work_all<R: Threads + Wait + Sync>(
 
 #[test]
 fn a_workers_queue(rt: HostRuntime) -> Result<(), Fail> {
-    let (lot, mut token, tickets) = lot_for_three(rt.alloc())?;
     let jobs = [1u32, 2, 3, 4, 5, 6].to_vec(rt.alloc())?;
-    match Mutex::new(&lot, &mut token, jobs) {
-        Ok(jobs) => assert_eq!(rt; work_all(&rt, &jobs, tickets)?, 21),
-        Err((fault, _)) => return Err(Fail::from(fault)),
-    }
+    let (jobs, _token, tickets) = mutex_for_three(rt.alloc(), jobs)?;
+    same(&rt, work_all(&rt, &jobs, tickets)?, 21);
     Ok(())
 }
 
@@ -131,18 +158,30 @@ fn add_soon<R: Wait>(rt: &R, counter: &Mutex<u64>, token: &mut Token, clock: &Ti
     }
 }
 
+// Whether it was while another thread had the mutex, and once that had unlocked it.
+fn add_beside<R: Wait>(
+    rt: &R,
+    counter: &Mutex<u64>,
+    token: &mut Token,
+    other: &mut Token,
+) -> [bool; 2]
+    requires { IsTokenOf (lot_of counter.now) token.old × IsTokenOf (lot_of counter.now) other.old }
+{
+    let clock = TickClock::new();
+    let guard = counter.lock(rt, other);
+    let beside = add_soon(rt, counter, token, &clock);
+    guard.unlock(rt, other);
+    [beside, add_soon(rt, counter, token, &clock)]
+}
+
 #[test]
 fn a_timed_try(rt: HostRuntime) -> Result<(), Fail> {
-    let (lot, mut token, mut tickets) = lot_for_three(rt.alloc())?;
+    let (counter, mut token, mut tickets) = mutex_for_three(rt.alloc(), 0)?;
     let Some(ticket) = tickets.pop() else {
         return Err(Fail::from(Fault::NoMemory));
     };
     let mut other = ticket.enter();
-    let counter = Mutex::new(&lot, &mut token, 0)?;
-    let clock = TickClock::new();
-    let guard = counter.lock(&rt, &mut other);
-    assert!(rt; !add_soon(&rt, &counter, &mut token, &clock));
-    guard.unlock(&rt, &mut other);
-    assert!(rt; add_soon(&rt, &counter, &mut token, &clock));
+    let added = add_beside(&rt, &counter, &mut token, &mut other);
+    same(&rt, added, [false, true]);
     Ok(())
 }

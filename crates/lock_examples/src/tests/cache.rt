@@ -3,7 +3,7 @@ ghost use Rattle.std.specs.Prelude.{◌≡◌, ◌+◌, ◌*◌, ◌/◌, All, I
 ghost use Rattle.parking_lot.specs.RwLockUsers.{lot_of};
 ghost use Rattle.parking_lot.specs.Users.{IsTicketOf, IsTokenOf};
 
-use super::lot_for_three;
+use super::{lot_for_three, same};
 use parking_lot::{Fault, RwLock, Ticket, Token};
 use std::sync::Wait;
 use std::test::Fail;
@@ -122,10 +122,10 @@ fn all_look_up<R: Threads + Wait + Sync>(
 
 #[test]
 fn a_cache(rt: HostRuntime) -> Result<(), Fail> {
-    let (lot, mut token, tickets) = lot_for_three(rt.alloc())?;
+    let (lot, mut token, tickets) = lot_for_three(rt.alloc(), 1)?;
     let Ok(cache) = RwLock::new(&lot, &mut token, Vec::new(rt.alloc())) else {
         return Err(Fail::from(Fault::NoMemory));
     };
-    assert_eq!(rt; all_look_up(&rt, cache, tickets)?, (true, 4));
+    same(&rt, all_look_up(&rt, cache, tickets)?, (true, 4));
     Ok(())
 }

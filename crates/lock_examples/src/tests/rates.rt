@@ -3,7 +3,7 @@ ghost use Rattle.std.specs.Prelude.{All};
 ghost use Rattle.parking_lot.specs.OnceUsers.{lot_of};
 ghost use Rattle.parking_lot.specs.Users.{IsTicketOf, IsTokenOf};
 
-use super::lot_for_three;
+use super::{holds, lot_for_three, same};
 use parking_lot::{OnceCell, Ticket, Token};
 use std::num::ParseIntError;
 use std::sync::Wait;
@@ -70,12 +70,15 @@ fn all_find<R: Threads + Wait + Sync>(
 
 #[test]
 fn a_value_that_is_made_once(rt: HostRuntime) -> Result<(), Fail> {
-    let (lot, mut token, tickets) = lot_for_three(rt.alloc())?;
+    let (lot, mut token, tickets) = lot_for_three(rt.alloc(), 1)?;
     let rate = OnceCell::new(&lot, &mut token)?;
     let reads = AtomicUsize::new(0);
-    assert!(rt; rate_of(&rt, &rate, &mut token, "nineteen", &reads).is_err());
-    assert!(rt; rate.get().is_none());
-    assert!(rt; all_find(&rt, &rate, tickets, &reads));
-    assert_eq!(rt; reads.load(SeqCst), 2);
+    holds(
+        &rt,
+        rate_of(&rt, &rate, &mut token, "nineteen", &reads).is_err(),
+    );
+    holds(&rt, rate.get().is_none());
+    holds(&rt, all_find(&rt, &rate, tickets, &reads));
+    same(&rt, reads.load(SeqCst), 2);
     Ok(())
 }

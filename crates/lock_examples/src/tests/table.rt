@@ -3,7 +3,7 @@ ghost use Rattle.std.specs.Prelude.{All};
 ghost use Rattle.parking_lot.specs.OnceUsers.{lot_of};
 ghost use Rattle.parking_lot.specs.Users.{IsTicketOf};
 
-use super::lot_for_three;
+use super::{holds, lot_for_three, same};
 use parking_lot::{Fault, Once, OnceFault, Ticket};
 use std::sync::Wait;
 use std::sync::atomic::Ordering::SeqCst;
@@ -55,13 +55,13 @@ fn all_look_up<R: Threads + Wait + Sync>(
 
 #[test]
 fn a_table_that_is_filled_once(rt: HostRuntime) -> Result<(), Fail> {
-    let (lot, mut token, tickets) = lot_for_three(rt.alloc())?;
+    let (lot, mut token, tickets) = lot_for_three(rt.alloc(), 1)?;
     let filled = Once::new(&lot, &mut token)?;
     let table = Table {
         entry: AtomicU64::new(0),
         fills: AtomicUsize::new(0),
     };
-    assert!(rt; all_look_up(&rt, &filled, &table, tickets));
-    assert_eq!(rt; table.fills.load(SeqCst), 1);
+    holds(&rt, all_look_up(&rt, &filled, &table, tickets));
+    same(&rt, table.fills.load(SeqCst), 1);
     Ok(())
 }

@@ -4,6 +4,7 @@ ghost use Rattle.std.specs.Arc.{arc_value};
 ghost use Rattle.parking_lot.specs.CondvarUsers.{lot_of as condvar_lot};
 ghost use Rattle.parking_lot.specs.Users.{IsTicketOf, IsTokenOf, lot_of};
 
+use super::{lot_for_three, same};
 use parking_lot::{Condvar, Fault, Mutex, ParkingLot, Ticket, Token};
 use std::alloc::Global;
 use std::sync::{Arc, Wait};
@@ -183,22 +184,11 @@ fn bring_and_work<R: Threads + Wait + Sync>(
     )
 }
 
-// A lot for a desk and three threads: the token of the first of them, and the tickets of the others.
-fn lot_for_desk(alloc: Global) -> Result<(Arc<ParkingLot>, Token, Vec<Ticket>), Fault>
-    ensures { IfOk result (λ made. IsTokenOf (arc_value made.0) made.1 × All (IsTicketOf (arc_value made.0)) made.2.items) }
-{
-    let (lot, mut tickets) = ParkingLot::new(alloc, 3, 3)?;
-    let Some(first) = tickets.pop() else {
-        return Err(Fault::NoMemory);
-    };
-    Ok((lot, first.enter(), tickets))
-}
-
 // A desk with the tickets of who brings jobs and of two workers.
 fn staffed(alloc: Global) -> Result<(Desk, Ticket, Vec<Ticket>), Fault>
     ensures { IfOk result (λ made. IsTicketOf (lot_of made.0.jobs) made.1 × All (IsTicketOf (lot_of made.0.jobs)) made.2.items) }
 {
-    let (lot, mut token, tickets) = lot_for_desk(alloc)?;
+    let (lot, mut token, tickets) = lot_for_three(alloc, 3)?;
     let desk = Desk::new(alloc, &lot, &mut token)?;
     Ok((desk, token.leave(), tickets))
 }
@@ -207,9 +197,7 @@ fn staffed(alloc: Global) -> Result<(Desk, Ticket, Vec<Ticket>), Fault>
 fn a_bounded_queue_of_workers(rt: HostRuntime) -> Result<(), Fail> {
     let (desk, ticket, tickets) = staffed(rt.alloc())?;
     let jobs = [1u32, 2, 3, 4, 5, 6, 7, 8, 9, 10, 11, 12];
-    assert_eq!(rt;
-        bring_and_work(&rt, &desk, ticket, tickets, &jobs),
-        (true, 78)
-    );
+    let worked = bring_and_work(&rt, &desk, ticket, tickets, &jobs);
+    same(&rt, worked, (true, 78));
     Ok(())
 }
