@@ -62,10 +62,18 @@ fn count_run<R: Wait>(rt: &R, once: &Once, token: &mut Token, runs: &AtomicUsize
     told(answer)
 }
 
+// A `Once` that one thread has for itself.
+fn once_alone(alloc: Global) -> Result<(Once, Token), Fault>
+    ensures { IfOk result (λ made. IsTokenOf (lot_of made.0) made.1) }
+{
+    let (lot, mut token, _others) = seats(alloc, 1)?;
+    let once = Once::new(&lot, &mut token)?;
+    Ok((once, token))
+}
+
 #[test]
 fn who_calls_first_runs(rt: HostRuntime) -> Result<(), Fail> {
-    let (lot, mut token, _others) = seats(rt.alloc(), 1)?;
-    let once = Once::new(&lot, &mut token)?;
+    let (once, mut token) = once_alone(rt.alloc())?;
     let runs = AtomicUsize::new(0);
     same(&rt, once.state(&mut token), OnceState::New);
     holds(&rt, !once.is_completed(&mut token));
@@ -116,8 +124,7 @@ fn mend<R: Wait>(rt: &R, once: &Once, token: &mut Token, poisoned: &AtomicBool) 
 
 #[test]
 fn a_failed_run_poisons(rt: HostRuntime) -> Result<(), Fail> {
-    let (lot, mut token, _others) = seats(rt.alloc(), 1)?;
-    let once = Once::new(&lot, &mut token)?;
+    let (once, mut token) = once_alone(rt.alloc())?;
     let runs = AtomicUsize::new(0);
     let poisoned = AtomicBool::new(false);
     same(&rt, fail(&rt, &once, &mut token), "failed");

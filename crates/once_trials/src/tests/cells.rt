@@ -1,10 +1,11 @@
 //! A value that the first who asks makes.
-ghost use Rattle.std.specs.Prelude.{All};
+ghost use Rattle.std.specs.Prelude.{All, IfOk};
 ghost use Rattle.run_once.specs.Users.{IsTicketOf, IsTokenOf, lot_of};
 
-use super::{all_are_content, seats};
-use parking_lot_core::{Ticket, Token};
+use super::{all_are_content, holds, same, seats};
+use parking_lot_core::{Fault, Ticket, Token};
 use run_once::OnceCell;
+use std::alloc::Global;
 use std::sync::Wait;
 use std::sync::atomic::AtomicUsize;
 use std::sync::atomic::Ordering::SeqCst;
@@ -29,22 +30,30 @@ fn value_of<R: Wait>(
     found.ok().copied()
 }
 
+// A cell that one thread has for itself.
+fn cell_alone(alloc: Global) -> Result<(OnceCell<u64>, Token), Fault>
+    ensures { IfOk result (λ made. IsTokenOf (lot_of made.0) made.1) }
+{
+    let (lot, mut token, _others) = seats(alloc, 1)?;
+    let cell = OnceCell::new(&lot, &mut token)?;
+    Ok((cell, token))
+}
+
 #[test]
 fn a_value_is_made_once(rt: HostRuntime) -> Result<(), Fail> {
-    let (lot, mut token, _others) = seats(rt.alloc(), 1)?;
-    let mut cell = OnceCell::new(&lot, &mut token)?;
+    let (mut cell, mut token) = cell_alone(rt.alloc())?;
     let runs = AtomicUsize::new(0);
-    assert!(rt; cell.get().is_none());
-    assert_eq!(rt; value_of(&rt, &cell, &mut token, &runs, true), None);
-    assert!(rt; cell.get().is_none());
-    assert_eq!(rt; value_of(&rt, &cell, &mut token, &runs, false), Some(1));
-    assert_eq!(rt; value_of(&rt, &cell, &mut token, &runs, false), Some(1));
-    assert_eq!(rt; cell.get().copied(), Some(1));
-    assert_eq!(rt; runs.load(SeqCst), 2);
+    holds(&rt, cell.get().is_none());
+    same(&rt, value_of(&rt, &cell, &mut token, &runs, true), None);
+    holds(&rt, cell.get().is_none());
+    same(&rt, value_of(&rt, &cell, &mut token, &runs, false), Some(1));
+    same(&rt, value_of(&rt, &cell, &mut token, &runs, false), Some(1));
+    same(&rt, cell.get().copied(), Some(1));
+    same(&rt, runs.load(SeqCst), 2);
     if let Some(value) = cell.get_mut() {
         *value = 5;
     }
-    assert_eq!(rt; cell.into_inner(), Some(5));
+    same(&rt, cell.into_inner(), Some(5));
     Ok(())
 }
 
@@ -63,14 +72,13 @@ fn sure_value_of<R: Wait>(
 
 #[test]
 fn a_value_that_cannot_fail_is_made_once(rt: HostRuntime) -> Result<(), Fail> {
-    let (lot, mut token, _others) = seats(rt.alloc(), 1)?;
-    let cell = OnceCell::new(&lot, &mut token)?;
+    let (cell, mut token) = cell_alone(rt.alloc())?;
     let runs = AtomicUsize::new(0);
-    assert_eq!(rt; value_of(&rt, &cell, &mut token, &runs, true), None);
-    assert_eq!(rt; sure_value_of(&rt, &cell, &mut token, &runs), 8);
-    assert_eq!(rt; sure_value_of(&rt, &cell, &mut token, &runs), 8);
-    assert_eq!(rt; value_of(&rt, &cell, &mut token, &runs, true), Some(8));
-    assert_eq!(rt; runs.load(SeqCst), 2);
+    same(&rt, value_of(&rt, &cell, &mut token, &runs, true), None);
+    same(&rt, sure_value_of(&rt, &cell, &mut token, &runs), 8);
+    same(&rt, sure_value_of(&rt, &cell, &mut token, &runs), 8);
+    same(&rt, value_of(&rt, &cell, &mut token, &runs, true), Some(8));
+    same(&rt, runs.load(SeqCst), 2);
     Ok(())
 }
 
@@ -101,7 +109,7 @@ fn ten_threads_ask_at_once(rt: HostRuntime) -> Result<(), Fail> {
     let (lot, mut token, others) = seats(rt.alloc(), 11)?;
     let cell = OnceCell::new(&lot, &mut token)?;
     let runs = AtomicUsize::new(0);
-    assert!(rt; ask_together(&rt, &cell, others, &runs));
-    assert_eq!(rt; runs.load(SeqCst), 1);
+    holds(&rt, ask_together(&rt, &cell, others, &runs));
+    same(&rt, runs.load(SeqCst), 1);
     Ok(())
 }

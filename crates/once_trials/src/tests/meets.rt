@@ -2,7 +2,7 @@
 ghost use Rattle.std.specs.Prelude.{◌≡◌, All, IfSome};
 ghost use Rattle.run_once.specs.Users.{IsTicketOf, IsTokenOf, lot_of};
 
-use super::{count_run, fail, seats};
+use super::{count_run, fail, holds, seats};
 use parking_lot_core::{Fault, ParkingLot, Ticket, Token};
 use run_once::{Once, OnceFault, OnceState};
 use std::alloc::Global;
@@ -215,12 +215,12 @@ fn meet<R: Threads + Wait + Sync>(rt: &R, alloc: Global, poisoned: bool) -> Resu
 
 #[test]
 fn who_comes_beside_a_run_waits_for_its_end(rt: HostRuntime) -> Result<(), Fail> {
-    assert!(rt; meet(&rt, rt.alloc(), false)?);
+    holds(&rt, meet(&rt, rt.alloc(), false)?);
     Ok(())
 }
 
 #[test]
 fn who_comes_beside_a_forced_run_waits_for_it(rt: HostRuntime) -> Result<(), Fail> {
-    assert!(rt; meet(&rt, rt.alloc(), true)?);
+    holds(&rt, meet(&rt, rt.alloc(), true)?);
     Ok(())
 }
