@@ -26,6 +26,11 @@ fn same<T: PartialEq + Debug + Drop>(rt: &impl Abort, found: T, wanted: T) {
     assert_eq!(rt; found, wanted);
 }
 
+// What a test asks for holds.
+fn holds(rt: &impl Abort, truth: bool) {
+    assert!(rt; truth);
+}
+
 fn hold_and_come<const RECURSIVE: bool, R: Threads + Wait + Sync>(
     rt: &R,
     lot: &ParkingLot,

@@ -4,6 +4,7 @@ ghost use Rattle.parking_lot_core.specs.Tokens.{IsTicketOf, IsTokenOf};
 ghost use Rattle.parking_lot.specs.RwLockGuards.{IsExclusiveOf, IsSharedOf, IsUpgradableOf};
 ghost use Rattle.parking_lot.specs.RwLockUsers.{lot_of, word_of};
 
+use super::holds;
 use parking_lot::lock_raw::{
     RawRwLock as RawLock, RawRwLockDowngrade, RawRwLockFair, RawRwLockTimed, RawRwLockUpgrade,
     RawRwLockUpgradeDowngrade, RawRwLockUpgradeFair, RawRwLockUpgradeTimed,
@@ -329,12 +330,12 @@ fn all_mix<const RECURSIVE: bool, R: Threads + Wait + Sync>(
 
 #[test]
 fn six_threads_mix_all_calls(rt: HostRuntime) -> Result<(), Fail> {
-    assert!(rt; all_mix::<false, HostRuntime>(&rt, rt.alloc())?);
+    holds(&rt, all_mix::<false, HostRuntime>(&rt, rt.alloc())?);
     Ok(())
 }
 
 #[test]
 fn six_threads_mix_all_calls_of_a_recursive_lock(rt: HostRuntime) -> Result<(), Fail> {
-    assert!(rt; all_mix::<true, HostRuntime>(&rt, rt.alloc())?);
+    holds(&rt, all_mix::<true, HostRuntime>(&rt, rt.alloc())?);
     Ok(())
 }

@@ -2,8 +2,8 @@
 ghost use Rattle.parking_lot_core.specs.Tokens.{IsTicketOf};
 ghost use Rattle.parking_lot.specs.RwLockUsers.{lot_of};
 
-use super::play;
 use super::scenes::{ALL, Coming, Manner, READERS, Scene, WRITERS};
+use super::{holds, play};
 use parking_lot::lock_raw::RawRwLock as RawLock;
 use parking_lot::{Fault, RawRwLock, Ticket};
 use raw_rwlock_fixtures::{comes_to, seats};
@@ -52,8 +52,8 @@ fn all_meet<const RECURSIVE: bool, R: Threads + Wait + Sync>(
 
 #[test]
 fn readers_meet(rt: HostRuntime) -> Result<(), Fail> {
-    assert!(rt; all_meet::<false, HostRuntime>(&rt, rt.alloc())?);
-    assert!(rt; all_meet::<true, HostRuntime>(&rt, rt.alloc())?);
+    holds(&rt, all_meet::<false, HostRuntime>(&rt, rt.alloc())?);
+    holds(&rt, all_meet::<true, HostRuntime>(&rt, rt.alloc())?);
     Ok(())
 }
 
@@ -66,7 +66,7 @@ fn a_writer_that_goes_lets_all_in(rt: HostRuntime) -> Result<(), Fail> {
         second: 0,
         beside: 0,
     };
-    assert!(rt; play::<false, HostRuntime>(&rt, rt.alloc(), scene)?);
+    holds(&rt, play::<false, HostRuntime>(&rt, rt.alloc(), scene)?);
     Ok(())
 }
 
@@ -79,7 +79,7 @@ fn a_writer_that_downgrades_lets_readers_in(rt: HostRuntime) -> Result<(), Fail>
         second: 0,
         beside: 3,
     };
-    assert!(rt; play::<false, HostRuntime>(&rt, rt.alloc(), scene)?);
+    holds(&rt, play::<false, HostRuntime>(&rt, rt.alloc(), scene)?);
     Ok(())
 }
 
@@ -92,7 +92,7 @@ fn a_writer_that_keeps_the_upgradable_right_lets_readers_in(rt: HostRuntime) -> 
         second: 0,
         beside: 2,
     };
-    assert!(rt; play::<false, HostRuntime>(&rt, rt.alloc(), scene)?);
+    holds(&rt, play::<false, HostRuntime>(&rt, rt.alloc(), scene)?);
     Ok(())
 }
 
@@ -105,7 +105,7 @@ fn who_downgrades_the_upgradable_right_lets_another_have_it(rt: HostRuntime) -> 
         second: 0,
         beside: 3,
     };
-    assert!(rt; play::<false, HostRuntime>(&rt, rt.alloc(), scene)?);
+    holds(&rt, play::<false, HostRuntime>(&rt, rt.alloc(), scene)?);
     Ok(())
 }
 
@@ -119,7 +119,7 @@ fn who_gives_the_upgradable_right_up_lets_another_have_it(rt: HostRuntime) -> Re
         second: 0,
         beside: 0,
     };
-    assert!(rt; play::<false, HostRuntime>(&rt, rt.alloc(), scene)?);
+    holds(&rt, play::<false, HostRuntime>(&rt, rt.alloc(), scene)?);
     Ok(())
 }
 
@@ -132,7 +132,7 @@ fn the_last_reader_lets_the_writer_in(rt: HostRuntime) -> Result<(), Fail> {
         second: 1,
         beside: 0,
     };
-    assert!(rt; play::<false, HostRuntime>(&rt, rt.alloc(), scene)?);
+    holds(&rt, play::<false, HostRuntime>(&rt, rt.alloc(), scene)?);
     let scene = Scene {
         manner: Manner::ReaderGone,
         coming: WRITERS,
@@ -140,7 +140,7 @@ fn the_last_reader_lets_the_writer_in(rt: HostRuntime) -> Result<(), Fail> {
         second: 1,
         beside: 0,
     };
-    assert!(rt; play::<true, HostRuntime>(&rt, rt.alloc(), scene)?);
+    holds(&rt, play::<true, HostRuntime>(&rt, rt.alloc(), scene)?);
     Ok(())
 }
 
@@ -155,6 +155,6 @@ fn who_reads_a_recursive_lock_reads_again_beside_a_waiting_writer(
         second: 1,
         beside: 0,
     };
-    assert!(rt; play::<true, HostRuntime>(&rt, rt.alloc(), scene)?);
+    holds(&rt, play::<true, HostRuntime>(&rt, rt.alloc(), scene)?);
     Ok(())
 }
