@@ -92,6 +92,32 @@ fn next_of(lot: &ParkingLot, tickets: &mut Vec<Ticket>) -> Option<Ticket>
     tickets.pop()
 }
 
+// Two of the tickets.
+fn next_pair(lot: &ParkingLot, tickets: &mut Vec<Ticket>) -> Option<(Ticket, Ticket)>
+    requires { All (IsTicketOf lot.now) tickets.old.items }
+    ensures left { All (IsTicketOf lot.now) tickets.new.items }
+    ensures pair { IfSome result (λ pair. IsTicketOf lot.now pair.0 × IsTicketOf lot.now pair.1) }
+{
+    let one = next_of(lot, tickets)?;
+    let other = next_of(lot, tickets)?;
+    Some((one, other))
+}
+
+// A room for three threads: the token of the first, and the tickets of two that meet there.
+fn room_for_two<T: Drop>(
+    alloc: Global,
+    value: T,
+) -> Result<(Arc<ParkingLot>, Room<T>, Token, (Ticket, Ticket)), Fault>
+    ensures { IfOk result (λ made. (lot_of made.1.mutex ≡ arc_value made.0) × IsTokenOf (arc_value made.0) made.2
+        × IsTicketOf (arc_value made.0) made.3.0 × IsTicketOf (arc_value made.0) made.3.1) }
+{
+    let (lot, room, token, mut others) = room_for(alloc, 3, value)?;
+    match next_pair(&lot, &mut others) {
+        Some(tickets) => Ok((lot, room, token, tickets)),
+        None => Err(Fault::NoMemory),
+    }
+}
+
 fn await_flag<R: Wait>(rt: &R, flag: &AtomicBool) {
     for _ in rt.forever() {
         if flag.load(SeqCst) {

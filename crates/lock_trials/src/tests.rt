@@ -3,12 +3,12 @@ mod fair;
 mod mutexes;
 mod timed;
 
-ghost use Rattle.std.specs.Prelude.{◌≡◌, IfOk};
+ghost use Rattle.std.specs.Prelude.{◌≡◌, All, IfOk, IfSome};
 ghost use Rattle.std.specs.Arc.{arc_value};
-ghost use Rattle.parking_lot_core.specs.Tokens.{IsTokenOf};
+ghost use Rattle.parking_lot_core.specs.Tokens.{IsTicketOf, IsTokenOf};
 ghost use Rattle.parking_lot.specs.Users.{lot_of};
 
-use parking_lot::{Fault, Mutex, ParkingLot, Token};
+use parking_lot::{Fault, Mutex, ParkingLot, Ticket, Token};
 use std::alloc::Global;
 use std::fmt::Debug;
 use std::process::Abort;
@@ -46,13 +46,30 @@ fn mutex_alone<T: Drop>(alloc: Global, value: T) -> Result<(Mutex<T>, Token), Fa
     }
 }
 
+fn next_of(lot: &ParkingLot, tickets: &mut Vec<Ticket>) -> Option<Ticket>
+    requires { All (IsTicketOf lot.now) tickets.old.items }
+    ensures left { All (IsTicketOf lot.now) tickets.new.items }
+    ensures one { IfSome result (IsTicketOf lot.now) }
+{
+    tickets.pop()
+}
+
+fn next_pair(lot: &ParkingLot, tickets: &mut Vec<Ticket>) -> Option<(Ticket, Ticket)>
+    requires { All (IsTicketOf lot.now) tickets.old.items }
+    ensures { IfSome result (λ pair. IsTicketOf lot.now pair.0 × IsTicketOf lot.now pair.1) }
+{
+    let one = next_of(lot, tickets)?;
+    let other = next_of(lot, tickets)?;
+    Some((one, other))
+}
+
 // A lot of one word, with two threads, and its mutex.
 fn pair(alloc: Global) -> Result<(Arc<ParkingLot>, Mutex<u8>, Token, Token), Fault>
     ensures { IfOk result (λ made. (lot_of made.1 ≡ arc_value made.0) × IsTokenOf (arc_value made.0) made.2
         × IsTokenOf (arc_value made.0) made.3) }
 {
     let (lot, mut tickets) = ParkingLot::new(alloc, 1, 2)?;
-    let (Some(one), Some(other)) = (tickets.pop(), tickets.pop()) else {
+    let Some((one, other)) = next_pair(&lot, &mut tickets) else {
         return Err(Fault::NoMemory);
     };
     let mut token = one.enter();

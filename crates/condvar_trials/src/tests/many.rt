@@ -3,7 +3,7 @@ ghost use Rattle.std.specs.Prelude.{◌≡◌, ◌<◌, ◌≤◌, All, IfSome};
 ghost use Rattle.std.specs.Fork.{AcceptsJobs};
 ghost use Rattle.parking_lot.specs.Users.{IsTicketOf, IsTokenOf, lock_of, lot_of};
 
-use super::{Room, TURNS, look, next_of, room_for, same};
+use super::{Room, TURNS, look, next_of, room_for, room_for_two, same};
 use parking_lot::{Fault, MutexGuard, ParkingLot, TickClock, Ticket, Token};
 use std::alloc::Global;
 use std::sync::Wait;
@@ -269,13 +269,7 @@ fn take_turns<R: Threads + Wait + Sync>(
 
 // Whether a condition is called again after each of four notifications; how often it was called.
 fn turns_of<R: Threads + Wait + Sync>(rt: &R, alloc: Global) -> Result<(bool, bool, usize), Fault> {
-    let (lot, room, mut token, mut others) = room_for(alloc, 3, 0usize)?;
-    let Some(one) = next_of(&lot, &mut others) else {
-        return Err(Fault::NoMemory);
-    };
-    let Some(other) = next_of(&lot, &mut others) else {
-        return Err(Fault::NoMemory);
-    };
+    let (_lot, room, mut token, (one, other)) = room_for_two(alloc, 0usize)?;
     let (came, notified) = take_turns(rt, &room, one, other);
     Ok((came, notified, look(rt, &room, &mut token)))
 }

@@ -1,14 +1,15 @@
 //! One thread that waits, and one that notifies it.
-ghost use Rattle.std.specs.Prelude.{◌≡◌};
+ghost use Rattle.std.specs.Prelude.{◌≡◌, IfOk};
+ghost use Rattle.std.specs.Arc.{arc_value};
 ghost use Rattle.parking_lot.specs.CondvarUsers.{lot_of as condvar_lot};
 ghost use Rattle.parking_lot.specs.Users.{IsTicketOf, IsTokenOf, lock_of, lot_of};
 
-use super::{Room, await_flag, holds, look, next_of, room_for, same, seats, stand_under};
+use super::{Room, await_flag, holds, look, next_pair, room_for_two, same, seats, stand_under};
 use parking_lot::{Condvar, Fault, Mutex, MutexGuard, ParkingLot, TickClock, Ticket, Token};
 use std::alloc::Global;
-use std::sync::Wait;
 use std::sync::atomic::AtomicBool;
 use std::sync::atomic::Ordering::SeqCst;
+use std::sync::{Arc, Wait};
 use std::test::Fail;
 use std::thread::{Threads, join, yield_now};
 use std::time::Duration;
@@ -148,13 +149,7 @@ fn wait_and_notify<R: Threads + Wait + Sync>(
 
 // Whether one was notified that waited, and nobody waits behind it.
 fn meet<R: Threads + Wait + Sync>(rt: &R, alloc: Global, way: Way) -> Result<bool, Fault> {
-    let (lot, room, mut token, mut others) = room_for(alloc, 3, 0u32)?;
-    let Some(one) = next_of(&lot, &mut others) else {
-        return Err(Fault::NoMemory);
-    };
-    let Some(other) = next_of(&lot, &mut others) else {
-        return Err(Fault::NoMemory);
-    };
+    let (lot, room, mut token, (one, other)) = room_for_two(alloc, 0u32)?;
     let ended = wait_and_notify(rt, &lot, &room, one, other, way);
     Ok(ended == (true, true) && !room.condvar.notify_one(rt, &mut token))
 }
@@ -226,10 +221,7 @@ fn wait_beside_bumps<R: Threads + Wait + Sync>(
 
 #[test]
 fn who_waits_is_moved_to_a_mutex_that_is_held(rt: HostRuntime) -> Result<(), Fail> {
-    let (lot, room, _token, mut others) = room_for(rt.alloc(), 3, 0u32)?;
-    let (Some(one), Some(other)) = (next_of(&lot, &mut others), next_of(&lot, &mut others)) else {
-        return Err(Fail::from(Fault::NoMemory));
-    };
+    let (lot, room, _token, (one, other)) = room_for_two(rt.alloc(), 0u32)?;
     holds(&rt, wait_beside_bumps(&rt, &lot, &room, one, other));
     Ok(())
 }
@@ -319,23 +311,31 @@ fn wait_with_two<R: Threads + Wait + Sync>(
     )
 }
 
+// A room, and another mutex of its lot.
+fn room_and_mutex(
+    lot: &Arc<ParkingLot>,
+    token: &mut Token,
+) -> Result<(Room<u32>, Mutex<u32>), Fault>
+    requires { IsTokenOf (arc_value lot.now) token.old }
+    ensures { IfOk result (λ made. (lot_of made.0.mutex ≡ arc_value lot.now) × (lot_of made.1 ≡ arc_value lot.now)) }
+{
+    let room = Room::new(lot, token, 0u32)?;
+    match Mutex::new(lot, token, 0u32) {
+        Ok(other) => Ok((room, other)),
+        Err((fault, _)) => Err(fault),
+    }
+}
+
 fn two_mutexes<R: Threads + Wait + Sync>(
     rt: &R,
     alloc: Global,
 ) -> Result<(bool, (bool, bool, bool)), Fault> {
     let (lot, mut token, mut others) = seats(alloc, 3, 3)?;
-    let room = Room::new(&lot, &mut token, 0u32)?;
-    let other = match Mutex::new(&lot, &mut token, 0u32) {
-        Ok(other) => other,
-        Err((fault, _)) => return Err(fault),
-    };
-    let Some(one) = next_of(&lot, &mut others) else {
+    let Some(tickets) = next_pair(&lot, &mut others) else {
         return Err(Fault::NoMemory);
     };
-    let Some(two) = next_of(&lot, &mut others) else {
-        return Err(Fault::NoMemory);
-    };
-    Ok(wait_with_two(rt, &lot, &room, &other, (one, two)))
+    let (room, other) = room_and_mutex(&lot, &mut token)?;
+    Ok(wait_with_two(rt, &lot, &room, &other, tickets))
 }
 
 #[test]

@@ -200,34 +200,36 @@ fn hold_and_give_up<R: Threads + Wait + Sync>(
     gave
 }
 
+// What came of it.
+fn gives_up<R: Threads + Wait + Sync>(
+    rt: &R,
+    alloc: Global,
+    by: GivesUp,
+) -> Result<(bool, bool), Fault> {
+    let (lot, mutex, one, other) = pair(alloc)?;
+    let (one, other) = (one.leave(), other.leave());
+    Ok(hold_and_give_up(rt, &lot, &mutex, one, other, by))
+}
+
 #[test]
 fn who_waits_gets_the_mutex_by_a_release(rt: HostRuntime) -> Result<(), Fail> {
-    let (lot, mutex, one, other) = pair(rt.alloc())?;
-    let gave = hold_and_give_up(
+    same(
         &rt,
-        &lot,
-        &mutex,
-        one.leave(),
-        other.leave(),
-        GivesUp::Plain,
+        gives_up(&rt, rt.alloc(), GivesUp::Plain)?,
+        (true, true),
     );
-    same(&rt, gave, (true, true));
     Ok(())
 }
 
 #[test]
 fn who_waits_is_handed_the_mutex(rt: HostRuntime) -> Result<(), Fail> {
-    let (lot, mutex, one, other) = pair(rt.alloc())?;
-    let gave = hold_and_give_up(&rt, &lot, &mutex, one.leave(), other.leave(), GivesUp::Fair);
-    same(&rt, gave, (true, true));
+    same(&rt, gives_up(&rt, rt.alloc(), GivesUp::Fair)?, (true, true));
     Ok(())
 }
 
 #[test]
 fn who_waits_has_the_mutex_during_a_bump(rt: HostRuntime) -> Result<(), Fail> {
-    let (lot, mutex, one, other) = pair(rt.alloc())?;
-    let gave = hold_and_give_up(&rt, &lot, &mutex, one.leave(), other.leave(), GivesUp::Bump);
-    same(&rt, gave, (true, true));
+    same(&rt, gives_up(&rt, rt.alloc(), GivesUp::Bump)?, (true, true));
     Ok(())
 }
 
