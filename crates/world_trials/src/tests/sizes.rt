@@ -108,6 +108,21 @@ fn rounds(alloc: Global, count: usize) -> Result<Vec<Step>, AllocError> {
     Ok(steps)
 }
 
+/// The first step that came to something else than it was to: each second one ends its call.
+fn first_wrong(outcomes: &[Outcome]) -> Option<(usize, Outcome)> {
+    for (index, outcome) in outcomes.iter().enumerate() {
+        let wanted = if index % 2 == 0 {
+            Outcome::Step
+        } else {
+            Outcome::End(Answer::Ok)
+        };
+        if *outcome != wanted {
+            return Some((index, *outcome));
+        }
+    }
+    None
+}
+
 #[test]
 fn a_run_of_100_000_steps_goes_to_its_end(rt: HostRuntime) -> Result<(), Fail> {
     let steps = rounds(rt.alloc(), 25_000)?;
@@ -115,14 +130,7 @@ fn a_run_of_100_000_steps_goes_to_its_end(rt: HostRuntime) -> Result<(), Fail> {
     let mut outcomes = Vec::new(rt.alloc());
     same(&rt, world.run(&steps, &mut outcomes), Ok(()));
     same(&rt, outcomes.len(), 100_000);
-    for (index, outcome) in outcomes.iter().enumerate() {
-        let wanted = if index % 2 == 0 {
-            Outcome::Step
-        } else {
-            Outcome::End(Answer::Ok)
-        };
-        assert_eq!(rt; *outcome, wanted, "step {index}");
-    }
+    same(&rt, first_wrong(outcomes.as_slice()), None);
     same(&rt, word_of(&world, 0), Some(0));
     Ok(())
 }
