@@ -26,4 +26,5 @@ name_of Queue = codes "queue"
 
 -- the mode of a name, and none where no mode has it
 abbrev pub IsModeNamed : List ℕ → Option Mode → Type 0
-IsModeNamed name found = MatchOption found ((mode : Mode) → name_of mode ≢ name) (λ mode. name_of mode ≡ name)
+IsModeNamed name found =
+    MatchOption found ((mode : Mode) → name_of mode ≢ name) (λ mode. name_of mode ≡ name)

@@ -1,6 +1,7 @@
 //! What was made, where nothing was refused.
 //!
-//! Who makes several things returns early behind none of them: at each such return all that was made so far would have to be dropped, and that dropping proved.
+//! Who makes several things returns early behind none of them: at each such return all that was
+//! made so far would have to be dropped, and that dropping proved.
 ghost use Rattle.std.specs.Prelude.{◌≡◌, IfOk, Ok};
 
 use parking_lot::Fault;

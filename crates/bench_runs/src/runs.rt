@@ -1,6 +1,7 @@
 //! Plans, carried out by threads.
 //!
-//! Each loop of operations is a function of its own, which is inlined nowhere: so what stands beside it has no part in its time.
+//! Each loop of operations is a function of its own, which is inlined nowhere: so what stands
+//! beside it has no part in its time.
 ghost use Rattle.std.specs.Prelude.{◌≡◌, ◌≤◌, IfOk, All};
 ghost use Rattle.std.specs.Arc.{arc_value};
 ghost use Rattle.parking_lot.specs.CondvarUsers.{lot_of as condvar_lot};
@@ -46,7 +47,8 @@ struct Bench {
     rwlocks: RwLocks,
     done: Once,
     desk: Desk,
-    ghost together: { (rwlot_of rwlocks.raw ≡ lot_of mutexes.raw) × (once_lot done ≡ lot_of mutexes.raw)
+    ghost together: { (rwlot_of rwlocks.raw ≡ lot_of mutexes.raw)
+        × (once_lot done ≡ lot_of mutexes.raw)
         × (condvar_lot desk.filled ≡ lot_of mutexes.raw) },
 }
 
@@ -76,7 +78,8 @@ fn bench_by(
     operations: u64,
 ) -> (Result<Bench, Fault>, Ticket)
     requires { IsTicketOf (arc_value lot.now) ticket }
-    ensures { IfOk result.0 (λ bench. lot_of bench.mutexes.raw ≡ arc_value lot.now) × IsTicketOf (arc_value lot.now) result.1 }
+    ensures { IfOk result.0 (λ bench. lot_of bench.mutexes.raw ≡ arc_value lot.now)
+        × IsTicketOf (arc_value lot.now) result.1 }
 {
     let mut token = ticket.enter();
     let bench = bench_of(lot, &mut token, operations);

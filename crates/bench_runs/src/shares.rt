@@ -4,8 +4,8 @@ ghost use Rattle.std.specs.Prelude.{◌≤◌};
 use std::sync::atomic::AtomicU64;
 use std::sync::atomic::Ordering::SeqCst;
 
-/// The operations of a batch. So few that a thread which gets the lock more often does more of them, and so many that
-/// taking a batch costs little beside them.
+/// The operations of a batch. So few that a thread which gets the lock more often does more of
+/// them, and so many that taking a batch costs little beside them.
 pub(crate) const BATCH: u64 = 128;
 
 /// Operations, of which some have been taken.

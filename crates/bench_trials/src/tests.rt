@@ -9,7 +9,8 @@ use std::test::Fail;
 use std::thread::Threads;
 use std::time::Clock;
 
-// What was found is what was wanted. All tests share this one assertion, since each is proved where it stands.
+// What was found is what was wanted. All tests share this one assertion, since each is proved where
+// it stands.
 fn same<T: PartialEq + Debug + Drop>(rt: &impl Abort, found: T, wanted: T) {
     assert_eq!(rt; found, wanted);
 }

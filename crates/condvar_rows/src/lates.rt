@@ -34,7 +34,8 @@ c 0
 0 end notified
 ",
     ),
-    // Timed waiters give up in the queue of their mutex, stand there again behind the others, and can be late no more.
+    // Timed waiters give up in the queue of their mutex, stand there again behind the others, and
+    // can be late no more.
     (
         b"threads 3
 lock m mutex
@@ -148,7 +149,8 @@ c 0
 0 end notified
 ",
     ),
-    // Timed waiters give up in the queue of the condition variable, beside one that stays and is notified.
+    // Timed waiters give up in the queue of the condition variable, beside one that stays and is
+    // notified.
     (
         b"threads 3
 lock m mutex

@@ -1,8 +1,10 @@
-//! Worked schedules in which another locks or releases the mutex, or begins to wait, in the midst of a notification.
+//! Worked schedules in which another locks or releases the mutex, or begins to wait, in the midst
+//! of a notification.
 
 /// Inputs, with the text that they lead to.
 pub const MEANWHILE_ROWS: [(&[u8], &[u8]); 5] = [
-    // Somebody owns the mutex as the rest are moved to it, and has released it before they set its bit.
+    // Somebody owns the mutex as the rest are moved to it, and has released it before they set its
+    // bit.
     (
         b"threads 5
 lock m mutex
@@ -48,7 +50,8 @@ m 2 queue=1x,2x retry=0
 c 0
 ",
     ),
-    // Between the look at the mutex and the move, and between the move and the bit, another locks it, releases it and locks it again.
+    // Between the look at the mutex and the move, and between the move and the bit, another locks
+    // it, releases it and locks it again.
     (
         b"threads 5
 lock m mutex
@@ -241,7 +244,8 @@ m 0
 c 0
 ",
     ),
-    // The owner releases the mutex before its bit is set: the first waiter is woken in place of moved, though another owns it then.
+    // The owner releases the mutex before its bit is set: the first waiter is woken in place of
+    // moved, though another owns it then.
     (
         b"threads 3
 lock m mutex

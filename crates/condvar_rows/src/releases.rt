@@ -1,8 +1,10 @@
-//! Worked schedules in which a waiter is moved, woken or handed its mutex while it still releases it.
+//! Worked schedules in which a waiter is moved, woken or handed its mutex while it still releases
+//! it.
 
 /// Inputs, with the text that they lead to.
 pub const RELEASE_ROWS: [(&[u8], &[u8]); 7] = [
-    // A timed waiter that is moved before it has released its mutex takes and wakes itself by that release.
+    // A timed waiter that is moved before it has released its mutex takes and wakes itself by that
+    // release.
     (
         b"threads 2
 lock m mutex
@@ -164,7 +166,8 @@ c 0
 0 end ok
 ",
     ),
-    // Another owner wakes a waiter that still releases: the waiter finds nobody in the queue, and goes on by its note.
+    // Another owner wakes a waiter that still releases: the waiter finds nobody in the queue, and
+    // goes on by its note.
     (
         b"threads 2
 lock m mutex
@@ -268,7 +271,8 @@ m 0
 c 0
 ",
     ),
-    // A waiter is taken and woken while it releases a mutex for which another waits, which it wakes before it goes on.
+    // A waiter is taken and woken while it releases a mutex for which another waits, which it wakes
+    // before it goes on.
     (
         b"threads 3
 lock m mutex
@@ -337,7 +341,8 @@ m 3 own=0x queue=2x
 c 0
 ",
     ),
-    // The owner that the notification saw is the waiter itself, which has released the mutex before its bit is set.
+    // The owner that the notification saw is the waiter itself, which has released the mutex before
+    // its bit is set.
     (
         b"threads 2
 lock m mutex

@@ -1,4 +1,5 @@
-//! Condition variables, tried by threads. Nothing is here but tests: they meet them as their users do.
+//! Condition variables, tried by threads. Nothing is here but tests: they meet them as their users
+//! do.
 #![tactic(auto)]
 
 #[cfg(test)]

@@ -18,7 +18,8 @@ use std::sync::atomic::Ordering::SeqCst;
 use std::sync::{Arc, Wait};
 use std::thread::yield_now;
 
-// What was found is what was wanted. All tests share this one assertion, since each is proved where it stands.
+// What was found is what was wanted. All tests share this one assertion, since each is proved where
+// it stands.
 fn same<T: PartialEq + Debug + Drop>(rt: &impl Abort, found: T, wanted: T) {
     assert_eq!(rt; found, wanted);
 }
@@ -60,7 +61,9 @@ fn seats(
 ) -> Result<(Arc<ParkingLot>, Token, Vec<Ticket>), Fault>
     requires words { (0 < words) × (words ≤ 1048576) }
     requires threads { (0 < threads) × (threads ≤ 1024) }
-    ensures { IfOk result (λ made. IsTokenOf (arc_value made.0) made.1 × All (IsTicketOf (arc_value made.0)) made.2.items) }
+    ensures { IfOk result
+        (λ made. IsTokenOf (arc_value made.0) made.1
+        × All (IsTicketOf (arc_value made.0)) made.2.items) }
 {
     let (lot, mut tickets) = ParkingLot::new(alloc, words, threads)?;
     let Some(first) = tickets.pop() else {
@@ -76,7 +79,8 @@ fn room_for<T: Drop>(
     value: T,
 ) -> Result<(Arc<ParkingLot>, Room<T>, Token, Vec<Ticket>), Fault>
     requires { (0 < threads) × (threads ≤ 1024) }
-    ensures { IfOk result (λ made. (lot_of made.1.mutex ≡ arc_value made.0) × IsTokenOf (arc_value made.0) made.2
+    ensures { IfOk result
+        (λ made. (lot_of made.1.mutex ≡ arc_value made.0) × IsTokenOf (arc_value made.0) made.2
         × All (IsTicketOf (arc_value made.0)) made.3.items) }
 {
     let (lot, mut token, tickets) = seats(alloc, 2, threads)?;
@@ -108,7 +112,8 @@ fn room_for_two<T: Drop>(
     alloc: Global,
     value: T,
 ) -> Result<(Arc<ParkingLot>, Room<T>, Token, (Ticket, Ticket)), Fault>
-    ensures { IfOk result (λ made. (lot_of made.1.mutex ≡ arc_value made.0) × IsTokenOf (arc_value made.0) made.2
+    ensures { IfOk result
+        (λ made. (lot_of made.1.mutex ≡ arc_value made.0) × IsTokenOf (arc_value made.0) made.2
         × IsTicketOf (arc_value made.0) made.3.0 × IsTicketOf (arc_value made.0) made.3.1) }
 {
     let (lot, room, token, mut others) = room_for(alloc, 3, value)?;
@@ -127,7 +132,8 @@ fn await_flag<R: Wait>(rt: &R, flag: &AtomicBool) {
     }
 }
 
-// Whether so many came to wait for the mutex, or on the condition variable, by the key of its queue.
+// Whether so many came to wait for the mutex, or on the condition variable, by the key of its
+// queue.
 fn stand_under<R: Wait>(
     rt: &R,
     lot: &ParkingLot,

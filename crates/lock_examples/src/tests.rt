@@ -1,4 +1,5 @@
-//! A shared counter, queues of workers, a try with a limit, a cache, a table that is filled once, and a value that is made once.
+//! A shared counter, queues of workers, a try with a limit, a cache, a table that is filled once,
+//! and a value that is made once.
 mod cache;
 mod rates;
 mod table;
@@ -17,7 +18,8 @@ use std::test::Fail;
 use std::thread::{Threads, map_vec};
 use std::time::Duration;
 
-// What was found is what was wanted. All tests share this one assertion, since each is proved where it stands.
+// What was found is what was wanted. All tests share this one assertion, since each is proved where
+// it stands.
 fn same<T: PartialEq + Debug + Drop>(rt: &impl Abort, found: T, wanted: T) {
     assert_eq!(rt; found, wanted);
 }
@@ -27,13 +29,16 @@ fn holds(rt: &impl Abort, truth: bool) {
     assert!(rt; truth);
 }
 
-// A lot of so many words for three threads: the token of the first of them, and the tickets of the others.
+// A lot of so many words for three threads: the token of the first of them, and the tickets of the
+// others.
 fn lot_for_three(
     alloc: Global,
     words: usize,
 ) -> Result<(Arc<ParkingLot>, Token, Vec<Ticket>), Fault>
     requires { (0 < words) × (words ≤ 100) }
-    ensures { IfOk result (λ made. IsTokenOf (arc_value made.0) made.1 × All (IsTicketOf (arc_value made.0)) made.2.items) }
+    ensures { IfOk result
+        (λ made. IsTokenOf (arc_value made.0) made.1
+        × All (IsTicketOf (arc_value made.0)) made.2.items) }
 {
     let (lot, mut tickets) = ParkingLot::new(alloc, words, 3)?;
     let Some(first) = tickets.pop() else {
@@ -47,7 +52,8 @@ fn mutex_for_three<T: Drop>(
     alloc: Global,
     value: T,
 ) -> Result<(Mutex<T>, Token, Vec<Ticket>), Fault>
-    ensures { IfOk result (λ made. IsTokenOf (lot_of made.0) made.1 × All (IsTicketOf (lot_of made.0)) made.2.items) }
+    ensures { IfOk result
+        (λ made. IsTokenOf (lot_of made.0) made.1 × All (IsTicketOf (lot_of made.0)) made.2.items) }
 {
     let (lot, mut token, tickets) = lot_for_three(alloc, 1)?;
     match Mutex::new(&lot, &mut token, value) {

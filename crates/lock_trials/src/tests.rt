@@ -14,7 +14,8 @@ use std::fmt::Debug;
 use std::process::Abort;
 use std::sync::Arc;
 
-// What was found is what was wanted. All tests share this one assertion, since each is proved where it stands.
+// What was found is what was wanted. All tests share this one assertion, since each is proved where
+// it stands.
 fn same<T: PartialEq + Debug + Drop>(rt: &impl Abort, found: T, wanted: T) {
     assert_eq!(rt; found, wanted);
 }
@@ -65,7 +66,8 @@ fn next_pair(lot: &ParkingLot, tickets: &mut Vec<Ticket>) -> Option<(Ticket, Tic
 
 // A lot of one word, with two threads, and its mutex.
 fn pair(alloc: Global) -> Result<(Arc<ParkingLot>, Mutex<u8>, Token, Token), Fault>
-    ensures { IfOk result (λ made. (lot_of made.1 ≡ arc_value made.0) × IsTokenOf (arc_value made.0) made.2
+    ensures { IfOk result
+        (λ made. (lot_of made.1 ≡ arc_value made.0) × IsTokenOf (arc_value made.0) made.2
         × IsTokenOf (arc_value made.0) made.3) }
 {
     let (lot, mut tickets) = ParkingLot::new(alloc, 1, 2)?;

@@ -8,7 +8,9 @@ met_line met = if met then codes "readers met\n" else codes "readers did not mee
 
 abbrev pub told_lines : Told → List ℕ
 told_lines told =
-    met_line told.met ++ (codes "read " ++ (decimal told.read ++ (codes "\ncount " ++ (decimal told.count ++ codes "\n"))))
+    met_line told.met ++
+    (codes "read " ++
+    (decimal told.read ++ (codes "\ncount " ++ (decimal told.count ++ codes "\n"))))
 
 abbrev pub refused_line : List ℕ
 refused_line = codes "no memory\n"
@@ -23,5 +25,6 @@ Writes before after text ending status =
 
 -- the lines of what came of the threads, or that there was no memory
 abbrev pub Lives : Option (List ℕ) → Option (List ℕ) → ℕ → Type 0
-Lives before after status = ((told : Told) × Writes before after (told_lines told) (status_for told) status)
+Lives before after status =
+    ((told : Told) × Writes before after (told_lines told) (status_for told) status)
     ⊎ Writes before after refused_line 3 status

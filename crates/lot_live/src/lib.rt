@@ -1,4 +1,5 @@
-//! Real threads on one lot: readers that meet, a value that is written and then read, and a count of many.
+//! Real threads on one lot: readers that meet, a value that is written and then read, and a count
+//! of many.
 #![tactic(auto)]
 
 mod lines;

@@ -19,7 +19,8 @@ pub(crate) struct Told {
 }
 
 fn print_met<W: Write>(page: &mut Page, writer: &mut W, met: bool)
-    ensures { Puts (W.contents writer.old) (W.contents writer.new) page.old page.new (met_line met) }
+    ensures { Puts (W.contents writer.old) (W.contents writer.new) page.old page.new
+        (met_line met) }
 {
     if met {
         page.put(writer, b"readers met\n");
@@ -29,7 +30,8 @@ fn print_met<W: Write>(page: &mut Page, writer: &mut W, met: bool)
 }
 
 pub(crate) fn print_told<W: Write>(page: &mut Page, writer: &mut W, told: Told)
-    ensures { Puts (W.contents writer.old) (W.contents writer.new) page.old page.new (told_lines told) }
+    ensures { Puts (W.contents writer.old) (W.contents writer.new) page.old page.new
+        (told_lines told) }
 {
     print_met(page, writer, told.met);
     page.put(writer, b"read ");

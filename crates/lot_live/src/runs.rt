@@ -71,7 +71,8 @@ fn two_of(lot: &ParkingLot, alloc: Global, tickets: &mut Vec<Ticket>) -> Result<
 // The locks, made by the thread of a ticket.
 fn locks_by(lot: &Arc<ParkingLot>, ticket: Ticket) -> Result<(Locks, Token), Fault>
     requires { IsTicketOf (arc_value lot.now) ticket }
-    ensures { IfOk result (λ made. (lot_of made.0.total ≡ arc_value lot.now) × IsTokenOf (arc_value lot.now) made.1) }
+    ensures { IfOk result
+        (λ made. (lot_of made.0.total ≡ arc_value lot.now) × IsTokenOf (arc_value lot.now) made.1) }
 {
     let mut token = ticket.enter();
     let value = match RwLock::new(lot, &mut token, 0) {

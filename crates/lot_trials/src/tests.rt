@@ -17,7 +17,8 @@ use std::process::Abort;
 use std::sync::Wait;
 use std::thread::yield_now;
 
-// What was found is what was wanted. All tests share this one assertion, since each is proved where it stands.
+// What was found is what was wanted. All tests share this one assertion, since each is proved where
+// it stands.
 fn same<T: PartialEq + Debug + Drop>(rt: &impl Abort, found: T, wanted: T) {
     assert_eq!(rt; found, wanted);
 }
@@ -63,7 +64,8 @@ fn line_up<R: Wait>(rt: &R, lot: &ParkingLot, token: &mut Token, key: Key, want:
     section.leave(rt, token, Note::Normal);
 }
 
-// What a thread is told that sleeps without a limit, so that it is never late. A right that it is handed is forgotten.
+// What a thread is told that sleeps without a limit, so that it is never late. A right that it is
+// handed is forgotten.
 fn sleep<R: Wait>(
     rt: &R,
     lot: &ParkingLot,

@@ -23,7 +23,8 @@ pub(crate) const BROKEN: u8 = 4;
 const USAGE: &str =
     "usage: lotbench raw_mutex|raw_mutex_try|mutex|mutex_try|fair|raw_read|raw_write|read|write|rw_mix|read_recursive|upgradable|upgrade|downgrade|once|notify|notify_all|pingpong|queue THREADS N";
 
-/// Carries out the plan of the arguments and tells its figures, and gives the status of the process.
+/// Carries out the plan of the arguments and tells its figures, and gives the status of the
+/// process.
 pub(crate) fn start<R: Threads + Wait + Sync + Clock + Print + Eprint>(
     rt: &R,
     alloc: Global,

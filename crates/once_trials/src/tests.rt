@@ -18,7 +18,8 @@ use std::sync::{Arc, Wait};
 use std::test::Fail;
 use std::thread::{Threads, map_vec};
 
-/// What was found is what was wanted. The tests share this one assertion, since each is proved where it stands.
+/// What was found is what was wanted. The tests share this one assertion, since each is proved
+/// where it stands.
 fn same<T: PartialEq + Debug + Drop>(rt: &impl Abort, found: T, wanted: T) {
     assert_eq!(rt; found, wanted);
 }
@@ -31,7 +32,9 @@ fn holds(rt: &impl Abort, truth: bool) {
 // A lot of one word with so many threads, the token of the first, and the tickets of the others.
 fn seats(alloc: Global, threads: usize) -> Result<(Arc<ParkingLot>, Token, Vec<Ticket>), Fault>
     requires { (0 < threads) × (threads ≤ 1024) }
-    ensures { IfOk result (λ made. IsTokenOf (arc_value made.0) made.1 × All (IsTicketOf (arc_value made.0)) made.2.items) }
+    ensures { IfOk result
+        (λ made. IsTokenOf (arc_value made.0) made.1
+        × All (IsTicketOf (arc_value made.0)) made.2.items) }
 {
     let (lot, mut tickets) = ParkingLot::new(alloc, 1, threads)?;
     let Some(first) = tickets.pop() else {

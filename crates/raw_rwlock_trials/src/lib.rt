@@ -1,4 +1,5 @@
-//! Raw reader-writer locks, tried by threads. Nothing is here but tests: they meet the locks as their users do.
+//! Raw reader-writer locks, tried by threads. Nothing is here but tests: they meet the locks as
+//! their users do.
 #![tactic(auto)]
 
 #[cfg(test)]

@@ -74,7 +74,8 @@ fn writes<const RECURSIVE: bool, R: Wait>(
     }
 }
 
-// Whether the lock is held, and is held alone, and which tries get it: to read, to read and upgrade, to own alone.
+// Whether the lock is held, and is held alone, and which tries get it: to read, to read and
+// upgrade, to own alone.
 fn look<const RECURSIVE: bool, R: Wait>(
     rt: &R,
     lock: &RawRwLock<RECURSIVE>,

@@ -21,7 +21,8 @@ use std::sync::Wait;
 use std::sync::atomic::Ordering::SeqCst;
 use std::thread::{Threads, join};
 
-// What was found is what was wanted. All tests share this one assertion, since each is proved where it stands.
+// What was found is what was wanted. All tests share this one assertion, since each is proved where
+// it stands.
 fn same<T: PartialEq + Debug + Drop>(rt: &impl Abort, found: T, wanted: T) {
     assert_eq!(rt; found, wanted);
 }
@@ -41,7 +42,8 @@ fn hold_and_come<const RECURSIVE: bool, R: Threads + Wait + Sync>(
     told: &Told,
 ) -> (bool, bool)
     requires lock { lot_of lock.now ≡ lot.now }
-    requires tickets { IsTicketOf lot.now ticket × All (IsTicketOf (lot_of lock.now)) tickets.items }
+    requires tickets { IsTicketOf lot.now ticket
+        × All (IsTicketOf (lot_of lock.now)) tickets.items }
 {
     join(
         rt,
@@ -54,7 +56,8 @@ fn hold_and_come<const RECURSIVE: bool, R: Threads + Wait + Sync>(
     )
 }
 
-// Plays a scene: whether all stood where they were to, and all came in, beside none whom they exclude.
+// Plays a scene: whether all stood where they were to, and all came in, beside none whom they
+// exclude.
 fn play<const RECURSIVE: bool, R: Threads + Wait + Sync>(
     rt: &R,
     alloc: Global,

@@ -19,7 +19,8 @@ use std::sync::{Arc, Wait};
 use std::test::Fail;
 use std::thread::{Threads, join, yield_now};
 
-// What was found is what was wanted. All tests share this one assertion, since each is proved where it stands.
+// What was found is what was wanted. All tests share this one assertion, since each is proved where
+// it stands.
 fn same<T: PartialEq + Debug + Drop>(rt: &impl Abort, found: T, wanted: T) {
     assert_eq!(rt; found, wanted);
 }
@@ -56,7 +57,8 @@ fn three_of(lot: &ParkingLot, tickets: &mut Vec<Ticket>) -> Option<(Ticket, Tick
 // A mutex of a lot, made by the thread of a ticket.
 fn mutex_by(lot: &Arc<ParkingLot>, ticket: Ticket) -> Result<(RawMutex, Ticket), Fault>
     requires { IsTicketOf (arc_value lot.now) ticket }
-    ensures { IfOk result (λ made. (lot_of made.0 ≡ arc_value lot.now) × IsTicketOf (arc_value lot.now) made.1) }
+    ensures { IfOk result
+        (λ made. (lot_of made.0 ≡ arc_value lot.now) × IsTicketOf (arc_value lot.now) made.1) }
 {
     let mut token = ticket.enter();
     let mutex = RawMutex::new(lot, &mut token)?;
@@ -67,7 +69,8 @@ fn mutex_by(lot: &Arc<ParkingLot>, ticket: Ticket) -> Result<(RawMutex, Ticket),
 fn three_seats(
     alloc: Global,
 ) -> Result<(Arc<ParkingLot>, RawMutex, (Ticket, Ticket, Ticket)), Fault>
-    ensures { IfOk result (λ made. (lot_of made.1 ≡ arc_value made.0) × IsTicketOf (arc_value made.0) made.2.0
+    ensures { IfOk result
+        (λ made. (lot_of made.1 ≡ arc_value made.0) × IsTicketOf (arc_value made.0) made.2.0
         × IsTicketOf (arc_value made.0) made.2.1 × IsTicketOf (arc_value made.0) made.2.2) }
 {
     let (lot, mut tickets) = ParkingLot::new(alloc, 1, 3)?;

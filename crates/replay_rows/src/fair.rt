@@ -1,4 +1,5 @@
-//! Worked schedules of fair releases and bumps of reader-writer locks, with the text that they lead to.
+//! Worked schedules of fair releases and bumps of reader-writer locks, with the text that they lead
+//! to.
 
 /// Inputs, with the text that they lead to.
 pub const FAIR_ROWS: [(&[u8], &[u8]); 11] = [
@@ -232,7 +233,8 @@ r 48 own=1s,1s,1s retry=2
 r 48 own=1s,1s,1s
 ",
     ),
-    // Whom a hand-over has given its right owns though it sleeps, and the one who hands over owes the wake.
+    // Whom a hand-over has given its right owns though it sleeps, and the one who hands over owes
+    // the wake.
     (
         b"threads 3
 lock r rwlock

@@ -51,7 +51,8 @@ pub const MALFORMED: [(&str, &str); 34] = [
         "threads 1\nlock m mutex\nshow\n0 fly\n0 go\n",
         "m 0\nline 4 malformed\n",
     ),
-    // Only a wait on a condition variable has a second name. A call that its lock lacks is a possible line.
+    // Only a wait on a condition variable has a second name. A call that its lock lacks is a
+    // possible line.
     (
         "threads 1\nlock m mutex\n0 do wait m m\n",
         "line 3 malformed\n",

@@ -255,7 +255,8 @@ m 1 own=2x
 ",
         0,
     ),
-    // A waiter that has set the parked bit finds it gone, since the owner handed the lock to another.
+    // A waiter that has set the parked bit finds it gone, since the owner handed the lock to
+    // another.
     (
         b"threads 3
 lock m mutex
@@ -319,7 +320,8 @@ f 1 own=1x
 ",
         0,
     ),
-    // A hand-over, step by step: the waiter owns the lock from the store on, and sleeps until the section is left.
+    // A hand-over, step by step: the waiter owns the lock from the store on, and sleeps until the
+    // section is left.
     (
         b"threads 3
 lock m fair
@@ -363,7 +365,8 @@ m 3 own=1x queue=2x
 ",
         0,
     ),
-    // A bump beside nobody, and beside one that has set the parked bit and doesn't stand in the queue yet.
+    // A bump beside nobody, and beside one that has set the parked bit and doesn't stand in the
+    // queue yet.
     (
         b"threads 2
 lock m mutex

@@ -24,7 +24,8 @@ lock c condvar
 0 end 0
 ",
     ),
-    // Calls that are not begun: of a lock of another kind, with a fair mutex, and by who does not own the mutex.
+    // Calls that are not begun: of a lock of another kind, with a fair mutex, and by who does not
+    // own the mutex.
     (
         b"threads 2
 lock m mutex

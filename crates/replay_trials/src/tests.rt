@@ -22,7 +22,8 @@ use std::io::BufRead;
 use std::process::Abort;
 use std::test::Fail;
 
-// What was found is what was wanted. All tests share this one assertion, since each is proved where it stands.
+// What was found is what was wanted. All tests share this one assertion, since each is proved where
+// it stands.
 fn same<T: PartialEq + Debug + Drop>(rt: &impl Abort, found: T, wanted: T) {
     assert_eq!(rt; found, wanted);
 }
@@ -178,7 +179,8 @@ fn takes_256_locks(rt: HostRuntime) -> Result<(), Fail> {
     Ok(())
 }
 
-/// An input in which one thread gets each of so many locks, and another is refused, and what it prints.
+/// An input in which one thread gets each of so many locks, and another is refused, and what it
+/// prints.
 fn many_tries(alloc: Global, count: u32) -> Result<(String, String), AllocError> {
     let mut input = String::from_str(alloc, "threads 2\n")?;
     let mut told = String::new(alloc);

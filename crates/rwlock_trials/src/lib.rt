@@ -1,4 +1,5 @@
-//! Reader-writer locks with a value, tried by threads. Nothing is here but tests: they meet the locks as their users do.
+//! Reader-writer locks with a value, tried by threads. Nothing is here but tests: they meet the
+//! locks as their users do.
 #![tactic(auto)]
 
 #[cfg(test)]

@@ -21,7 +21,8 @@ use std::sync::{Arc, Wait};
 use std::test::Fail;
 use std::thread::{Threads, map_vec, yield_now};
 
-// What was found is what was wanted. All tests share this one assertion, since each is proved where it stands.
+// What was found is what was wanted. All tests share this one assertion, since each is proved where
+// it stands.
 fn same<T: PartialEq + Debug + Drop>(rt: &impl Abort, found: T, wanted: T) {
     assert_eq!(rt; found, wanted);
 }
@@ -93,7 +94,9 @@ fn seats<const RECURSIVE: bool, T: Drop>(
     Fault,
 >
     requires { threads < 100 }
-    ensures { IfOk result (λ made. (lot_of made.1 ≡ arc_value made.0) × All (IsTicketOf (arc_value made.0)) made.2.items) }
+    ensures { IfOk result
+        (λ made. (lot_of made.1 ≡ arc_value made.0)
+        × All (IsTicketOf (arc_value made.0)) made.2.items) }
 {
     let (lot, mut tickets) = ParkingLot::new(alloc, 1, threads + 1)?;
     let Some(ticket) = next_of(&lot, &mut tickets) else {

@@ -63,8 +63,8 @@ fn close<R: Wait>(
     Some((value, ended.timed_out()))
 }
 
-// Waits for as long as a condition was called at most so often, up to a deadline. How often it was called, and whether it
-// timed out.
+// Waits for as long as a condition was called at most so often, up to a deadline. How often it was
+// called, and whether it timed out.
 fn calls_until<R: Wait>(
     rt: &R,
     room: &Room<u32>,

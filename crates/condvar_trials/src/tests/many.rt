@@ -147,7 +147,8 @@ fn wait_and_notify<R: Threads + Wait + Sync>(
     ticket: Ticket,
     whom: Notifies,
 ) -> (bool, (usize, usize))
-    requires { All (IsTicketOf (lot_of room.now.mutex)) tickets.items × IsTicketOf (lot_of room.now.mutex) ticket }
+    requires { All (IsTicketOf (lot_of room.now.mutex)) tickets.items
+        × IsTicketOf (lot_of room.now.mutex) ticket }
 {
     let threads = tickets.len();
     join(
@@ -161,7 +162,8 @@ fn wait_and_notify<R: Threads + Wait + Sync>(
     )
 }
 
-// Whether all of so many who waited were notified; how many the notification told, and how many a further one.
+// Whether all of so many who waited were notified; how many the notification told, and how many a
+// further one.
 fn meet<R: Threads + Wait + Sync>(
     rt: &R,
     alloc: Global,

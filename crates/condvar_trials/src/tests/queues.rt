@@ -17,8 +17,8 @@ const EACH: u64 = 200;
 // So many nanoseconds each wait may last that is bounded.
 const SHORT: u64 = 1000;
 
-// Numbers that were sent and not taken yet: how many they are, the sum of all that were sent, how many may be there, and how many
-// are still to come.
+// Numbers that were sent and not taken yet: how many they are, the sum of all that were sent, how
+// many may be there, and how many are still to come.
 #[derive(Drop)]
 struct Line {
     inside: u64,

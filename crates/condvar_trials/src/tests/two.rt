@@ -266,7 +266,8 @@ fn times_out<R: Wait>(rt: &R, condvar: &Condvar, mutex: &Mutex<u32>, token: &mut
     }
 }
 
-// Comes with another mutex while one waits, notifies that one, and comes again: it was refused, notified one, and timed out.
+// Comes with another mutex while one waits, notifies that one, and comes again: it was refused,
+// notified one, and timed out.
 fn come_with_another<R: Wait>(
     rt: &R,
     lot: &ParkingLot,
@@ -306,7 +307,8 @@ fn wait_with_two<R: Threads + Wait + Sync>(
             requires { IsTicketOf lot.now one × (lot_of room.now.mutex ≡ lot.now) }
         { lock_and_wait(rt, lot, room, one, locked, Way::UnderMutex) },
         move ||
-            requires { (lot_of room.now.mutex ≡ lot.now) × (lot_of other.now ≡ lot.now) × IsTicketOf lot.now two }
+            requires { (lot_of room.now.mutex ≡ lot.now) × (lot_of other.now ≡ lot.now)
+                × IsTicketOf lot.now two }
         { come_with_another(rt, lot, room, other, two) },
     )
 }
@@ -317,7 +319,8 @@ fn room_and_mutex(
     token: &mut Token,
 ) -> Result<(Room<u32>, Mutex<u32>), Fault>
     requires { IsTokenOf (arc_value lot.now) token.old }
-    ensures { IfOk result (λ made. (lot_of made.0.mutex ≡ arc_value lot.now) × (lot_of made.1 ≡ arc_value lot.now)) }
+    ensures { IfOk result
+        (λ made. (lot_of made.0.mutex ≡ arc_value lot.now) × (lot_of made.1 ≡ arc_value lot.now)) }
 {
     let room = Room::new(lot, token, 0u32)?;
     match Mutex::new(lot, token, 0u32) {

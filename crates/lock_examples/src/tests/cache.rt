@@ -1,4 +1,5 @@
-//! Prices with their tax, which many threads look up. The first who misses one works it out, and the others find it.
+//! Prices with their tax, which many threads look up. The first who misses one works it out, and
+//! the others find it.
 ghost use Rattle.std.specs.Prelude.{◌≡◌, ◌+◌, ◌*◌, ◌/◌, All, IfOk, IfSome};
 ghost use Rattle.parking_lot.specs.RwLockUsers.{lot_of};
 ghost use Rattle.parking_lot.specs.Users.{IsTicketOf, IsTokenOf};
@@ -11,7 +12,8 @@ use std::thread::{Threads, map_vec};
 
 const PRICES: [u32; 4] = [100, 250, 999, 1000];
 
-/// A price and what it comes to with its tax. A lock keeps what its value's type says, so who reads finds right prices alone.
+/// A price and what it comes to with its tax. A lock keeps what its value's type says, so who reads
+/// finds right prices alone.
 #[derive(Clone, Copy)]
 struct Priced {
     net: u32,
@@ -60,8 +62,8 @@ fn look_up<R: Wait>(
     }
 }
 
-// One thread at a time looks with the right to write later, so none works out what another has written meanwhile. Readers are
-// kept out only from the upgrade on.
+// One thread at a time looks with the right to write later, so none works out what another has
+// written meanwhile. Readers are kept out only from the upgrade on.
 fn fill_in<R: Wait>(
     rt: &R,
     cache: &RwLock<Vec<Priced>>,

@@ -1,4 +1,5 @@
-//! Rates that are read from a text once, by whoever asks first. A text that can't be read leaves the cell empty.
+//! Rates that are read from a text once, by whoever asks first. A text that can't be read leaves
+//! the cell empty.
 ghost use Rattle.std.specs.Prelude.{All};
 ghost use Rattle.parking_lot.specs.OnceUsers.{lot_of};
 ghost use Rattle.parking_lot.specs.Users.{IsTicketOf, IsTokenOf};

@@ -1,4 +1,5 @@
-//! A queue of jobs with few places. Who brings jobs waits while it is full, and workers wait while it is empty.
+//! A queue of jobs with few places. Who brings jobs waits while it is full, and workers wait while
+//! it is empty.
 ghost use Rattle.std.specs.Prelude.{◌≡◌, All, IfOk};
 ghost use Rattle.std.specs.Arc.{arc_value};
 ghost use Rattle.parking_lot.specs.CondvarUsers.{lot_of as condvar_lot};
@@ -171,7 +172,8 @@ fn bring_and_work<R: Threads + Wait + Sync>(
     tickets: Vec<Ticket>,
     jobs: &[u32],
 ) -> (bool, u64)
-    requires { IsTicketOf (lot_of desk.now.jobs) ticket × All (IsTicketOf (lot_of desk.now.jobs)) tickets.items }
+    requires { IsTicketOf (lot_of desk.now.jobs) ticket
+        × All (IsTicketOf (lot_of desk.now.jobs)) tickets.items }
 {
     join(
         rt,
@@ -186,7 +188,9 @@ fn bring_and_work<R: Threads + Wait + Sync>(
 
 // A desk with the tickets of who brings jobs and of two workers.
 fn staffed(alloc: Global) -> Result<(Desk, Ticket, Vec<Ticket>), Fault>
-    ensures { IfOk result (λ made. IsTicketOf (lot_of made.0.jobs) made.1 × All (IsTicketOf (lot_of made.0.jobs)) made.2.items) }
+    ensures { IfOk result
+        (λ made. IsTicketOf (lot_of made.0.jobs) made.1
+        × All (IsTicketOf (lot_of made.0.jobs)) made.2.items) }
 {
     let (lot, mut token, tickets) = lot_for_three(alloc, 3)?;
     let desk = Desk::new(alloc, &lot, &mut token)?;

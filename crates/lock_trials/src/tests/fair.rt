@@ -69,7 +69,8 @@ fn refuses_tries<R: Wait>(rt: &R, mutex: &Mutex<u8>, token: &mut Token) -> bool
     true
 }
 
-// Locks the mutex once it is held, and keeps it until it is told. It has written 1 under the mutex then.
+// Locks the mutex once it is held, and keeps it until it is told. It has written 1 under the mutex
+// then.
 fn take_and_keep<R: Wait>(
     rt: &R,
     mutex: &Mutex<u8>,
@@ -88,7 +89,8 @@ fn take_and_keep<R: Wait>(
     drop(token.leave());
 }
 
-// Hands the mutex to who waits: whether one came, and the mutex refuses tries for as long as that one is not told to unlock.
+// Hands the mutex to who waits: whether one came, and the mutex refuses tries for as long as that
+// one is not told to unlock.
 fn hand_over<R: Wait>(
     rt: &R,
     lot: &ParkingLot,
@@ -174,7 +176,8 @@ enum GivesUp {
     Bump,
 }
 
-// One thread holds the mutex and gives it up so once another waits for it. The other unlocks as it is told.
+// One thread holds the mutex and gives it up so once another waits for it. The other unlocks as it
+// is told.
 fn hold_and_give_up<R: Threads + Wait + Sync>(
     rt: &R,
     lot: &ParkingLot,

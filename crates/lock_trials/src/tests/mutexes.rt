@@ -80,7 +80,8 @@ fn a_guard_lends_its_value(rt: HostRuntime) -> Result<(), Fail> {
     Ok(())
 }
 
-// Whether the mutex is locked and a try gets it: before another try that gets it, under that one's guard, and after.
+// Whether the mutex is locked and a try gets it: before another try that gets it, under that one's
+// guard, and after.
 fn tries<R: Wait>(rt: &R, mutex: &Mutex<u8>, token: &mut Token) -> Option<[(bool, bool); 3]>
     requires { IsTokenOf (lot_of mutex.now) token.old }
 {
@@ -168,7 +169,8 @@ fn the_value_is_dropped_with_its_mutex(rt: HostRuntime) -> Result<(), Fail> {
     Ok(())
 }
 
-// Puts another value in place of the one that a mutex has, under its guard: how often a value had been dropped then.
+// Puts another value in place of the one that a mutex has, under its guard: how often a value had
+// been dropped then.
 fn drops_by_writing<'d, R: Wait>(
     rt: &R,
     mutex: &Mutex<Counts<'d>>,

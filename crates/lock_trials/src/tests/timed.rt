@@ -59,8 +59,8 @@ fn far_clock() -> TickClock {
     clock
 }
 
-// Waits in vain, for a time and up to a deadline. Whether it gave up each time, no sooner than it was to, and the first time
-// no later than the deadline.
+// Waits in vain, for a time and up to a deadline. Whether it gave up each time, no sooner than it
+// was to, and the first time no later than the deadline.
 fn gives_up<M: lock_raw::RawMutexTimed, R: Wait>(
     rt: &R,
     mutex: &lock_api::Mutex<M, u8>,

@@ -10,7 +10,8 @@ use std::test::Fail;
 
 const KEY: Key = 4;
 
-// Sleeps up to a deadline. The key under which it was late, and that of its thread, which leaves its place.
+// Sleeps up to a deadline. The key under which it was late, and that of its thread, which leaves
+// its place.
 fn sleep_until<R: Wait>(
     rt: &R,
     lot: &ParkingLot,

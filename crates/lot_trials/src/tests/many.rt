@@ -1,4 +1,5 @@
-//! As many threads as a lot has: whatever its number, a thread that was taken gets its note and its right.
+//! As many threads as a lot has: whatever its number, a thread that was taken gets its note and its
+//! right.
 ghost use Rattle.std.specs.Prelude.{◌≡◌, ◌≤◌, ◌<◌, All, IfOk, IfSome};
 ghost use Rattle.std.specs.Arc.{arc_value};
 ghost use Rattle.lot_words.specs.Lots.{IsWordOf};
@@ -152,7 +153,8 @@ fn serve<R: Wait>(rt: &R, lot: &ParkingLot, server: &mut Token, ticket: Ticket, 
 
 // How many got the mutex, one after another.
 fn count_served<R: Wait>(rt: &R, lot: &ParkingLot, crowd: Crowd) -> usize
-    requires tickets { IsTicketOf lot.now crowd.server × All (IsNewTicketOf lot.now) crowd.others.items }
+    requires tickets { IsTicketOf lot.now crowd.server
+        × All (IsNewTicketOf lot.now) crowd.others.items }
     requires word { IsWordOf lot.now.words crowd.word × (crowd.word.kind ≡ Mutex) }
 {
     let Crowd {

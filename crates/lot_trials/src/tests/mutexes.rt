@@ -11,8 +11,10 @@ use parking_lot_core::{Op, ParkingLot, Right, Token, Want, Word};
 /// The right of a mutex that nobody has.
 pub fn try_lock(lot: &ParkingLot, token: &mut Token, word: Word) -> Option<Right>
     requires { IsTokenOf lot.now token.old × IsWordOf lot.now.words word × (word.kind ≡ Mutex) }
-    ensures own { IsSameThread lot.now token.old token.new × ((view_of token.new).owns ≡ (view_of token.old).owns) }
-    ensures right { IfSome result (λ right. IsRightOf lot.now.words right × (right.word ≡ word) × (right.owner ≡ Exclusive)) }
+    ensures own { IsSameThread lot.now token.old token.new
+        × ((view_of token.new).owns ≡ (view_of token.old).owns) }
+    ensures right { IfSome result
+        (λ right. IsRightOf lot.now.words right × (right.word ≡ word) × (right.owner ≡ Exclusive)) }
 {
     let found = lot.word(token, word, Op::Or(1));
     if found % 2 == 1 {
@@ -23,9 +25,11 @@ pub fn try_lock(lot: &ParkingLot, token: &mut Token, word: Word) -> Option<Right
 
 /// Gives a mutex up. It answers the value before.
 pub fn unlock(lot: &ParkingLot, token: &mut Token, right: Right) -> u64
-    requires { IsTokenOf lot.now token.old × IsRightOf lot.now.words right × (right.word.kind ≡ Mutex)
+    requires { IsTokenOf lot.now token.old × IsRightOf lot.now.words right
+        × (right.word.kind ≡ Mutex)
         × (right.owner ≡ Exclusive) }
-    ensures { IsSameThread lot.now token.old token.new × ((view_of token.new).owns ≡ (view_of token.old).owns) }
+    ensures { IsSameThread lot.now token.old token.new
+        × ((view_of token.new).owns ≡ (view_of token.old).owns) }
 {
     let word = right.word();
     lot.join_right(token, right);

@@ -22,7 +22,8 @@ const EARLY: u64 = 20;
 
 // A lot of two mutexes, with its one thread.
 fn two_mutexes(alloc: Global) -> Result<(Arc<ParkingLot>, Token, Word, Word), Fault>
-    ensures { IfOk result (λ made. IsTokenOf (arc_value made.0) made.1 × IsWordOf (arc_value made.0).words made.2
+    ensures { IfOk result
+        (λ made. IsTokenOf (arc_value made.0) made.1 × IsWordOf (arc_value made.0).words made.2
         × IsWordOf (arc_value made.0).words made.3 × (made.3.kind ≡ Mutex)) }
 {
     let (lot, mut tickets) = ParkingLot::new(alloc, 2, 1)?;

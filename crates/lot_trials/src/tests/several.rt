@@ -63,7 +63,8 @@ enum Way {
     HandOff,
 }
 
-// Three threads line up, and are taken together. It gives the mutexes whose rights they were given, in their order.
+// Three threads line up, and are taken together. It gives the mutexes whose rights they were given,
+// in their order.
 fn take_three<R: Wait>(
     rt: &R,
     alloc: Global,
@@ -150,8 +151,8 @@ fn sleep_in_line<R: Wait>(rt: &R, lot: &ParkingLot, ticket: Ticket, word: Word) 
     usize::from(note == Some(Note::Normal))
 }
 
-// Takes all where three stand in the line, and have had time to fall asleep: others run for longer than a thread polls before
-// it sleeps. Whether they did.
+// Takes all where three stand in the line, and have had time to fall asleep: others run for longer
+// than a thread polls before it sleeps. Whether they did.
 fn takes_three<R: Wait>(rt: &R, lot: &ParkingLot, token: &mut Token) -> bool
     requires { IsTokenOf lot.now token.old }
     ensures { IsSameThread lot.now token.old token.new }
@@ -225,7 +226,8 @@ struct Four {
 
 fn seat_four(alloc: Global, most: usize) -> Result<(Arc<ParkingLot>, Four), Fault>
     requires { (4 ≤ most) × (most ≤ 1024) }
-    ensures { IfOk result (λ made. IsTicketOf (arc_value made.0) made.1.one × IsTicketOf (arc_value made.0) made.1.two
+    ensures { IfOk result
+        (λ made. IsTicketOf (arc_value made.0) made.1.one × IsTicketOf (arc_value made.0) made.1.two
         × IsTicketOf (arc_value made.0) made.1.three × IsTicketOf (arc_value made.0) made.1.four
         × ((arc_value made.0).records.count ≡ most)) }
 {
@@ -249,7 +251,8 @@ fn seat_four(alloc: Global, most: usize) -> Result<(Arc<ParkingLot>, Four), Faul
 }
 
 fn all_four<R: Threads + Wait + Sync>(rt: &R, lot: &ParkingLot, seats: Four) -> usize
-    requires { IsTicketOf lot.now seats.one × IsTicketOf lot.now seats.two × IsTicketOf lot.now seats.three
+    requires { IsTicketOf lot.now seats.one × IsTicketOf lot.now seats.two
+        × IsTicketOf lot.now seats.three
         × IsTicketOf lot.now seats.four }
 {
     let Four {

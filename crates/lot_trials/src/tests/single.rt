@@ -20,7 +20,8 @@ use std::test::Fail;
 // A lot of one seat, and its token.
 fn one_seat(alloc: Global, words: usize) -> Result<(Arc<ParkingLot>, Token), Fault>
     requires { (0 < words) × (words ≤ 100) }
-    ensures { IfOk result (λ made. ((arc_value made.0).words.count ≡ words) × ((arc_value made.0).records.count ≡ 1)
+    ensures { IfOk result
+        (λ made. ((arc_value made.0).words.count ≡ words) × ((arc_value made.0).records.count ≡ 1)
         × IsTokenOf (arc_value made.0) made.1) }
 {
     one_of(alloc, words, 1)
@@ -41,7 +42,8 @@ fn one_of(alloc: Global, words: usize, seats: usize) -> Result<(Arc<ParkingLot>,
 
 // A lot of one seat, its token, and a mutex.
 pub fn one_mutex(alloc: Global) -> Result<(Arc<ParkingLot>, Token, Word), Fault>
-    ensures { IfOk result (λ made. IsTokenOf (arc_value made.0) made.1 × IsWordOf (arc_value made.0).words made.2
+    ensures { IfOk result
+        (λ made. IsTokenOf (arc_value made.0) made.1 × IsWordOf (arc_value made.0).words made.2
         × (made.2.kind ≡ Mutex)) }
 {
     let (lot, mut token) = one_seat(alloc, 4)?;
@@ -91,8 +93,8 @@ fn a_lot_is_made_or_refused(rt: HostRuntime) {
     }
 }
 
-// Locks a mutex, and tries it once more: what the right names, whether the second try got it, and the word before it was
-// unlocked and after.
+// Locks a mutex, and tries it once more: what the right names, whether the second try got it, and
+// the word before it was unlocked and after.
 fn lock_once(
     lot: &ParkingLot,
     token: &mut Token,
@@ -239,8 +241,8 @@ fn standing(section: &Section) -> Standing
     (section.count(6), section.count(7), section.key_of(0))
 }
 
-// A thread lines up under a key and then under another, and is taken there. Where it stood each time, how many were taken
-// before, and whether it alone was taken.
+// A thread lines up under a key and then under another, and is taken there. Where it stood each
+// time, how many were taken before, and whether it alone was taken.
 fn line_up_twice<R: Wait>(
     rt: &R,
     lot: &ParkingLot,
@@ -276,7 +278,8 @@ fn a_section_takes_in_order(rt: HostRuntime) -> Result<(), Fail> {
     Ok(())
 }
 
-// Three line up, and those are taken who are picked: whether they are the first two, with their wants, and how many stay.
+// Three line up, and those are taken who are picked: whether they are the first two, with their
+// wants, and how many stay.
 fn pick_of_three<R: Wait>(rt: &R, lot: &ParkingLot, token: &mut Token) -> (bool, bool, usize)
     requires { IsTokenOf lot.now token.old × (lot.now.records.count ≡ 3) }
     ensures { IsSameThread lot.now token.old token.new }
@@ -311,7 +314,8 @@ fn a_section_takes_who_is_picked(rt: HostRuntime) -> Result<(), Fail> {
     Ok(())
 }
 
-// Three line up, and are requeued: the answer, the first of whom it took, and how many stand under each key.
+// Three line up, and are requeued: the answer, the first of whom it took, and how many stand under
+// each key.
 fn requeue_three<R: Wait>(
     rt: &R,
     lot: &ParkingLot,

@@ -87,7 +87,8 @@ fn hand_over<R: Wait>(rt: &R, lot: &ParkingLot, token: &mut Token, right: Right,
 fn receive<R: Wait>(rt: &R, lot: &ParkingLot, token: &mut Token, word: Word) -> Option<Right>
     requires { IsTokenOf lot.now token.old × (word.kind ≡ Mutex) }
     ensures own { IsSameThread lot.now token.old token.new }
-    ensures right { IfSome result (λ right. IsRightOf lot.now.words right × (right.word ≡ word) × (right.owner ≡ Exclusive)) }
+    ensures right { IfSome result
+        (λ right. IsRightOf lot.now.words right × (right.word ≡ word) × (right.owner ≡ Exclusive)) }
 {
     line_up(rt, lot, token, KEY, Want::Exclusive);
     match lot.sleep(rt, token, word, Want::Exclusive, None::<(&TickClock, u64)>) {
@@ -136,7 +137,8 @@ fn answer<R: Wait>(rt: &R, lot: &ParkingLot, ticket: Ticket, word: Word) -> usiz
 
 // Two seats of a lot, and a mutex of it.
 fn two_seats(alloc: Global) -> Result<(Arc<ParkingLot>, Ticket, Ticket, Word), Fault>
-    ensures { IfOk result (λ made. IsTicketOf (arc_value made.0) made.1 × IsTicketOf (arc_value made.0) made.2
+    ensures { IfOk result
+        (λ made. IsTicketOf (arc_value made.0) made.1 × IsTicketOf (arc_value made.0) made.2
         × IsWordOf (arc_value made.0).words made.3 × (made.3.kind ≡ Mutex)) }
 {
     let (lot, mut tickets) = ParkingLot::new(alloc, 1, 2)?;
@@ -155,7 +157,8 @@ fn both_serve<R: Threads + Wait + Sync>(
     other: Ticket,
     word: Word,
 ) -> (usize, usize)
-    requires { IsTicketOf lot.now one × IsTicketOf lot.now other × IsWordOf lot.now.words word × (word.kind ≡ Mutex) }
+    requires { IsTicketOf lot.now one × IsTicketOf lot.now other × IsWordOf lot.now.words word
+        × (word.kind ≡ Mutex) }
 {
     join(
         rt,
@@ -172,8 +175,8 @@ fn a_right_goes_round(rt: HostRuntime) -> Result<(), Fail> {
     Ok(())
 }
 
-// Wakes the other thread as soon as it stands in the line, by a plain note and by a right in turn. A right lies in the
-// record for a while before the note is there.
+// Wakes the other thread as soon as it stands in the line, by a plain note and by a right in turn.
+// A right lies in the record for a while before the note is there.
 fn wake_early<R: Wait>(rt: &R, lot: &ParkingLot, ticket: Ticket, word: Word)
     requires { IsTicketOf lot.now ticket × IsWordOf lot.now.words word × (word.kind ≡ Mutex) }
 {
@@ -212,7 +215,8 @@ fn take_one<R: Wait>(rt: &R, lot: &ParkingLot, token: &mut Token)
 fn lock<R: Wait>(rt: &R, lot: &ParkingLot, token: &mut Token, word: Word) -> Right
     requires { IsTokenOf lot.now token.old × IsWordOf lot.now.words word × (word.kind ≡ Mutex) }
     ensures own { IsSameThread lot.now token.old token.new }
-    ensures right { IsRightOf lot.now.words result × (result.word ≡ word) × (result.owner ≡ Exclusive) }
+    ensures right { IsRightOf lot.now.words result × (result.word ≡ word)
+        × (result.owner ≡ Exclusive) }
 {
     for _ in rt.forever() {
         if let Some(right) = try_lock(lot, token, word) {
@@ -241,8 +245,8 @@ fn is_woken<R: Wait>(rt: &R, lot: &ParkingLot, token: &mut Token, word: Word) ->
     }
 }
 
-// Whether the thread is woken as it is to be: by a note, and then by a right. It is late to its sleep, so that it finds its
-// note without parking, and its parker returns early the next time.
+// Whether the thread is woken as it is to be: by a note, and then by a right. It is late to its
+// sleep, so that it finds its note without parking, and its parker returns early the next time.
 fn sleeps_late<R: Wait>(rt: &R, lot: &ParkingLot, token: &mut Token, word: Word) -> bool
     requires { IsTokenOf lot.now token.old × IsWordOf lot.now.words word × (word.kind ≡ Mutex) }
     ensures { IsSameThread lot.now token.old token.new }
@@ -280,7 +284,8 @@ fn both_wake<R: Threads + Wait + Sync>(
     other: Ticket,
     word: Word,
 ) -> usize
-    requires { IsTicketOf lot.now one × IsTicketOf lot.now other × IsWordOf lot.now.words word × (word.kind ≡ Mutex) }
+    requires { IsTicketOf lot.now one × IsTicketOf lot.now other × IsWordOf lot.now.words word
+        × (word.kind ≡ Mutex) }
 {
     let (woken, ()) = join(
         rt,
@@ -375,7 +380,8 @@ fn both_hurry<R: Threads + Wait + Sync>(
     other: Ticket,
     word: Word,
 ) -> ((usize, usize), u64)
-    requires { IsTicketOf lot.now one × IsTicketOf lot.now other × IsWordOf lot.now.words word × (word.kind ≡ Mutex) }
+    requires { IsTicketOf lot.now one × IsTicketOf lot.now other × IsWordOf lot.now.words word
+        × (word.kind ≡ Mutex) }
 {
     let done = AtomicBool::new(false);
     let seen = &done;

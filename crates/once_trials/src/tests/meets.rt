@@ -190,12 +190,14 @@ fn all_four<R: Threads + Wait + Sync>(
             requires { IsTicketOf (lot_of once.now) first.0 × IsTicketOf (lot_of once.now) first.1 }
         { run_and_call(rt, once, first, told) },
         move ||
-            requires { (lot_of once.now ≡ lot.now) × IsTicketOf (lot_of once.now) others.0 × IsTicketOf lot.now others.1 }
+            requires { (lot_of once.now ≡ lot.now) × IsTicketOf (lot_of once.now) others.0
+                × IsTicketOf lot.now others.1 }
         { wait_and_let_go(rt, lot, once, others, told) },
     )
 }
 
-// Whether who calls and who waits beside a run came through with it, and nothing ran but that. An earlier run may have failed.
+// Whether who calls and who waits beside a run came through with it, and nothing ran but that. An
+// earlier run may have failed.
 fn meet<R: Threads + Wait + Sync>(rt: &R, alloc: Global, poisoned: bool) -> Result<bool, Fault> {
     let (lot, mut token, mut others) = seats(alloc, 5)?;
     let once = Once::new(&lot, &mut token)?;

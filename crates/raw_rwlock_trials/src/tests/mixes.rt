@@ -34,7 +34,8 @@ fn read_by<const RECURSIVE: bool, R: Wait>(
     came: Result<Option<RawSharedGuard>, Fault>,
 )
     requires token { IsTokenOf (lot_of lock.now) token.old }
-    requires guard { IfOk came (λ came. IfSome came (IsSharedOf (lot_of lock.now) (word_of lock.now))) }
+    requires guard { IfOk came
+        (λ came. IfSome came (IsSharedOf (lot_of lock.now) (word_of lock.now))) }
     ensures { IsTokenOf (lot_of lock.now) token.new }
 {
     match came {
@@ -55,7 +56,8 @@ fn read_upgradable_by<const RECURSIVE: bool, R: Wait>(
     came: Result<Option<RawUpgradableGuard>, Fault>,
 )
     requires token { IsTokenOf (lot_of lock.now) token.old }
-    requires guard { IfOk came (λ came. IfSome came (IsUpgradableOf (lot_of lock.now) (word_of lock.now))) }
+    requires guard { IfOk came
+        (λ came. IfSome came (IsUpgradableOf (lot_of lock.now) (word_of lock.now))) }
     ensures { IsTokenOf (lot_of lock.now) token.new }
 {
     match came {
@@ -208,7 +210,8 @@ fn try_all<const RECURSIVE: bool, R: Wait>(
     read_upgradable_by(rt, lock, token, inside, came);
 }
 
-// Reads, bumps and gives its right up fairly: to read alone, with the upgradable right, and as a writer.
+// Reads, bumps and gives its right up fairly: to read alone, with the upgradable right, and as a
+// writer.
 fn read_fairly<const RECURSIVE: bool, R: Wait>(
     rt: &R,
     lock: &RawRwLock<RECURSIVE>,

@@ -373,13 +373,15 @@ fn all_three<R: Threads + Wait + Sync>(
     told: &Told,
 ) -> (bool, bool)
     requires lock { lot_of lock.now ≡ lot.now }
-    requires tickets { IsTicketOf lot.now reader × IsTicketOf (lot_of lock.now) tickets.0 × IsTicketOf lot.now tickets.1 }
+    requires tickets { IsTicketOf lot.now reader × IsTicketOf (lot_of lock.now) tickets.0
+        × IsTicketOf lot.now tickets.1 }
 {
     join(
         rt,
         move || read_on(rt, lot, lock, reader, told),
         move ||
-            requires { (lot_of lock.now ≡ lot.now) × IsTicketOf (lot_of lock.now) tickets.0 × IsTicketOf lot.now tickets.1 }
+            requires { (lot_of lock.now ≡ lot.now) × IsTicketOf (lot_of lock.now) tickets.0
+                × IsTicketOf lot.now tickets.1 }
         { give_up_and_come(rt, lot, lock, tickets, upgrades, told) },
     )
 }

@@ -79,7 +79,8 @@ fn who_waits_with_a_deadline_is_handed_the_lock(rt: HostRuntime) -> Result<(), F
     Ok(())
 }
 
-// An exclusive owner hands the lock to all who read, also where they are more than may come in by themselves.
+// An exclusive owner hands the lock to all who read, also where they are more than may come in by
+// themselves.
 #[test]
 fn all_who_are_handed_the_lock_have_it(rt: HostRuntime) -> Result<(), Fail> {
     let readers = [Coming::Reader, Coming::Reader, Coming::Reader];
@@ -109,7 +110,8 @@ fn a_reader_that_bumps_lets_a_writer_in(rt: HostRuntime) -> Result<(), Fail> {
     Ok(())
 }
 
-// What is seen of a lock that one thread has to itself, where it bumps each right and releases it fairly.
+// What is seen of a lock that one thread has to itself, where it bumps each right and releases it
+// fairly.
 fn goes_alone<const RECURSIVE: bool, R: Wait>(
     rt: &R,
     lock: &RawRwLock<RECURSIVE>,

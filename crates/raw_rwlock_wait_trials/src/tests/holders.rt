@@ -16,8 +16,8 @@ use raw_rwlock_fixtures::{comes_to, queue_up};
 use std::sync::Wait;
 use std::sync::atomic::Ordering::SeqCst;
 
-// A writer goes, to whom others wait. Where it hands the lock over, whether somebody had it at once; where it bumps, whether
-// somebody came in before it had the lock again.
+// A writer goes, to whom others wait. Where it hands the lock over, whether somebody had it at
+// once; where it bumps, whether somebody came in before it had the lock again.
 fn go_alone<const RECURSIVE: bool, R: Wait>(
     rt: &R,
     lock: &RawRwLock<RECURSIVE>,
@@ -106,7 +106,8 @@ fn go_shared<const RECURSIVE: bool, R: Wait>(
     }
 }
 
-// Holds the lock alone until all stand in its queues, and lets them in. Whether they stood, and came beside it.
+// Holds the lock alone until all stand in its queues, and lets them in. Whether they stood, and
+// came beside it.
 fn hold_alone<const RECURSIVE: bool, R: Wait>(
     rt: &R,
     lot: &ParkingLot,

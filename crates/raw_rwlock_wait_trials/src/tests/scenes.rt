@@ -45,7 +45,8 @@ pub(super) enum Manner {
     ReaderBumped,
 }
 
-/// Who comes to a lock that is held, how many of them stand in its queues then, and how many come in beside who goes on.
+/// Who comes to a lock that is held, how many of them stand in its queues then, and how many come
+/// in beside who goes on.
 #[derive(Drop)]
 pub(super) struct Scene {
     pub(super) manner: Manner,

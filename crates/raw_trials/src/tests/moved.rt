@@ -66,8 +66,8 @@ fn move_away<R: Wait>(rt: &R, lot: &ParkingLot, mutex: &RawMutex, token: &mut To
     section.leave(rt, token, Note::Normal);
 }
 
-// Lets the mutex go once its waiter stands elsewhere, and the waiter's time be up then. Whether the waiter came, and nobody
-// stands there in the end.
+// Lets the mutex go once its waiter stands elsewhere, and the waiter's time be up then. Whether the
+// waiter came, and nobody stands there in the end.
 fn hold_and_move<R: Wait>(
     rt: &R,
     lot: &ParkingLot,

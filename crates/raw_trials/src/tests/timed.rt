@@ -19,7 +19,8 @@ const ROUNDS: u64 = 200;
 
 // A lot with one thread, and a mutex of it.
 fn one_seat(alloc: Global) -> Result<(Arc<ParkingLot>, RawMutex, Token), Fault>
-    ensures { IfOk result (λ made. (lot_of made.1 ≡ arc_value made.0) × IsTokenOf (arc_value made.0) made.2) }
+    ensures { IfOk result
+        (λ made. (lot_of made.1 ≡ arc_value made.0) × IsTokenOf (arc_value made.0) made.2) }
 {
     let (lot, mut tickets) = ParkingLot::new(alloc, 1, 1)?;
     let Some(ticket) = tickets.pop() else {
@@ -93,7 +94,8 @@ fn a_free_mutex_is_taken_though_the_time_is_up(rt: HostRuntime) -> Result<(), Fa
     Ok(())
 }
 
-// Once the mutex is held, waits for it, up to a deadline that doesn't come or without a limit. Whether it got it.
+// Once the mutex is held, waits for it, up to a deadline that doesn't come or without a limit.
+// Whether it got it.
 fn wait_for_held<R: Wait>(
     rt: &R,
     mutex: &RawMutex,
@@ -147,7 +149,8 @@ fn a_release_wakes_who_waits_with_a_limit(rt: HostRuntime) -> Result<(), Fail> {
     Ok(())
 }
 
-// Takes the mutex many times, each time up to a deadline that is soon, and adds 1 under it. How often it got it.
+// Takes the mutex many times, each time up to a deadline that is soon, and adds 1 under it. How
+// often it got it.
 fn race<R: Wait>(rt: &R, mutex: &RawMutex, ticket: Ticket, hits: &AtomicU64) -> u64
     requires { IsTicketOf (lot_of mutex.now) ticket }
     ensures { result ≤ 200 }

@@ -41,7 +41,8 @@ impl Write for Short {
     }
 }
 
-/// Shows a piece of its bytes at a time, is interrupted now and then, and fails behind them, if it is to.
+/// Shows a piece of its bytes at a time, is interrupted now and then, and fails behind them, if it
+/// is to.
 #[derive(Drop)]
 pub struct Pieces<'a> {
     pub bytes: &'a [u8],

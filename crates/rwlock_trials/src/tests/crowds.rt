@@ -202,7 +202,8 @@ fn take_part<R: Wait>(
     whole
 }
 
-// Whether a writer, so many upgraders and five readers all found the value whole, and what it came to.
+// Whether a writer, so many upgraders and five readers all found the value whole, and what it came
+// to.
 fn tear_and_look<R: Threads + Wait + Sync>(
     rt: &R,
     alloc: Global,

@@ -111,7 +111,8 @@ pub(super) fn is_waited_for<const RECURSIVE: bool, R: Wait>(
     false
 }
 
-// Reads until a writer waits. Whether one came, and whether a try to read once more came in beside it.
+// Reads until a writer waits. Whether one came, and whether a try to read once more came in beside
+// it.
 fn read_twice<const RECURSIVE: bool, R: Wait>(
     rt: &R,
     lot: &ParkingLot,

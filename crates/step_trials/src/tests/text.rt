@@ -1,4 +1,5 @@
-//! Which lines have a meaning and which have none, how lines are read, and how outcomes are printed.
+//! Which lines have a meaning and which have none, how lines are read, and how outcomes are
+//! printed.
 
 use super::{holds, same};
 use arrayvec::ArrayVec;
@@ -274,7 +275,8 @@ const ONCE_CALLS: [(&str, OnceCall); 4] = [
     ("3 begin wait_force m", OnceCall::Wait { forced: true }),
 ];
 
-// A line has this meaning, or none. All tests here share this one assertion, since each is proved where it stands.
+// A line has this meaning, or none. All tests here share this one assertion, since each is proved
+// where it stands.
 fn means(rt: &impl Abort, line: &str, wanted: Option<Command>) {
     assert_eq!(rt; meaning(line.as_bytes()), wanted, "of {line:?}");
 }

@@ -14,7 +14,8 @@ pub enum Does {
     GoesOn,
 }
 
-/// What a lock shows: its word, the first of its owners, of those that wait for it, and of those that owe it a wake or try it again.
+/// What a lock shows: its word, the first of its owners, of those that wait for it, and of those
+/// that owe it a wake or try it again.
 #[derive(Clone, Copy, Debug, PartialEq, Eq)]
 pub struct Shown {
     pub word: u64,
@@ -78,7 +79,8 @@ fn look(world: &World<ListQueues>, lock: usize) -> Option<Shown> {
     })
 }
 
-/// Each line of the script is told what stands beside it. All scripts share this one assertion, since each is proved where it stands.
+/// Each line of the script is told what stands beside it. All scripts share this one assertion,
+/// since each is proved where it stands.
 pub fn plays(rt: &impl Abort, world: &mut World<ListQueues>, script: &[(usize, Does, Outcome)]) {
     same(rt, surprise(world, script), None);
 }

@@ -44,7 +44,8 @@ fn first_waiter(world: &World<ListQueues>, lock: usize) -> Option<usize> {
     }
 }
 
-/// The last thread owns a mutex, and all others wait for it in their order. It goes from one to the next.
+/// The last thread owns a mutex, and all others wait for it in their order. It goes from one to the
+/// next.
 fn goes_from_one_to_the_next<A: Abort>(
     rt: &A,
     alloc: Global,
