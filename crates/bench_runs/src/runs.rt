@@ -2,7 +2,7 @@
 //!
 //! Each loop of operations is a function of its own, which is inlined nowhere: so what stands
 //! beside it has no part in its time.
-ghost use Rattle.std.specs.Prelude.{◌≡◌, ◌≤◌, IfOk, All};
+ghost use Rattle.std.specs.Prelude.{◌≡◌, ◌≤◌, IfOk, IfSome, All};
 ghost use Rattle.std.specs.Arc.{arc_value};
 ghost use Rattle.parking_lot.specs.CondvarUsers.{lot_of as condvar_lot};
 ghost use Rattle.parking_lot.specs.RwLockUsers.{lot_of as rwlot_of};
@@ -86,22 +86,20 @@ fn bench_by(
     (bench, token.leave())
 }
 
-// The same by the thread of one of these tickets.
-fn bench_by_one(
-    lot: &Arc<ParkingLot>,
-    tickets: &mut Vec<Ticket>,
-    operations: u64,
-) -> Result<Bench, Fault>
-    requires { All (IsTicketOf (arc_value lot.now)) tickets.old.items }
-    ensures left { All (IsTicketOf (arc_value lot.now)) tickets.new.items }
-    ensures made { IfOk result (λ bench. lot_of bench.mutexes.raw ≡ arc_value lot.now) }
+fn one_of(lot: &ParkingLot, tickets: &mut Vec<Ticket>) -> Option<Ticket>
+    requires { All (IsTicketOf lot.now) tickets.old.items }
+    ensures left { All (IsTicketOf lot.now) tickets.new.items }
+    ensures one { IfSome result (IsTicketOf lot.now) }
 {
-    let Some(ticket) = tickets.pop() else {
-        return Err(Fault::NoMemory);
-    };
-    let (bench, ticket) = bench_by(lot, ticket, operations);
+    tickets.pop()
+}
+
+fn put_back(lot: &ParkingLot, tickets: &mut Vec<Ticket>, ticket: Ticket) -> Result<(), Fault>
+    requires { All (IsTicketOf lot.now) tickets.old.items × IsTicketOf lot.now ticket }
+    ensures { All (IsTicketOf lot.now) tickets.new.items }
+{
     match tickets.push(ticket) {
-        Ok(()) => bench,
+        Ok(()) => Ok(()),
         Err(_) => Err(Fault::NoMemory),
     }
 }
@@ -113,10 +111,12 @@ fn bench_for(alloc: Global, threads: usize, operations: u64) -> Result<(Bench, V
 {
     let words = MUTEXES + RWLOCKS + 1 + DESK;
     let (lot, mut tickets) = ParkingLot::new(alloc, words, threads)?;
-    match bench_by_one(&lot, &mut tickets, operations) {
-        Ok(bench) => Ok((bench, tickets)),
-        Err(fault) => Err(fault),
-    }
+    let Some(first) = one_of(&lot, &mut tickets) else {
+        return Err(Fault::NoMemory);
+    };
+    let (bench, first) = bench_by(&lot, first, operations);
+    put_back(&lot, &mut tickets, first)?;
+    Ok((bench?, tickets))
 }
 
 // Calls it so many times.
