@@ -1,154 +1,162 @@
 -- A step on a word of a lot, as the lot's table wants it.
-use Rattle.std.proofs.Common.{◌≡◌, ℕ, ◌+◌, ◌%◌, ◌<◌, [], ◌∷◌, ◌∙◌, ap, arith, sym, subst}
+use Rattle.std.proofs.Common.{◌≡◌, ℕ, ◌+◌, ◌%◌, ◌<◌, cond, eqb, Bool, true, false, ◌∙◌, ap, arith, sym, subst, refl}
+use mathlib.Core.Logic.{dite}
 use mathlib.Core.Option.{none}
-use Rattle.atomic_table.specs.Table.{Allows, Me, step, rest}
+use native.Mathlib.Decide.{ℕ_discrete}
+use Rattle.atomic_table.specs.Table.{Allows, Me, step}
 use Rattle.atomic_table.specs.declared.shared.Seat.{Seat}
-use Rattle.lot_words.specs.Indices.{word_index}
+use Rattle.lot_words.specs.Indices.{word_index, word_kind_at}
+use Rattle.lot_words.specs.Codes.{exclusive}
+use Rattle.lot_words.specs.Views.{blank, owned}
+use Rattle.lot_words.specs.Rights.{leaving_alone, named_by, piece_of, takes_permit}
 use Rattle.lot_words.specs.Rule.{LotRule}
 use Rattle.value_place.specs.declared.slot.PermitSlot.{PermitSlot}
-use Rattle.lot_words.specs.Steps.{MayStep}
-use Rattle.lot_words.specs.Plays.{TakesStep, saw_set}
+use Rattle.lot_words.specs.Steps.{MayStep, has}
+use Rattle.lot_words.specs.Plays.{TakesStep, goes_on_with, stepping, takes_in, closes, opens, saw_set, sees_locked, sees_shown, tries_seen}
 use Rattle.lot_words.specs.Lots.{IsSeatOf, IsWordOf}
 use Rattle.lot_words.specs.declared.table.LotWords.{LotWords}
+use Rattle.lot_words.specs.declared.owners.Owner.{Owner}
+use Rattle.lot_words.specs.declared.owners.Owner.TheVariants.{Exclusive, Pending, Upgrading, Upgradable, Shared, Runner, Witness}
 use Rattle.lot_words.specs.declared.views.View.{View}
 use Rattle.lot_words.specs.declared.words.Word.{Word}
 use Rattle.lot_base.specs.Words.{apply}
 use Rattle.lot_base.specs.declared.ops.Op.{Op}
 use Rattle.lot_base.specs.declared.ops.Op.TheVariants.{Exchange, Or}
-use Rattle.lot_words.proofs.Keeps.{steps_at_word, sees_set}
+use Rattle.lot_words.proofs.Stepping.{sees_locked_allowed, sees_set, steps_at_word, tries_seen_allowed}
 use Rattle.lot_words.proofs.TiedSteps.{sees_shown_allowed}
 use Rattle.lot_words.proofs.PermitSteps.{opens_allowed, closes_allowed}
-use Rattle.lot_words.proofs.OpenSteps.{Entering, Leaving, enters_allowed, sees_locked_allowed, tries_seen_allowed, leaves_allowed}
-use Rattle.lot_words.specs.Permits.{slot_at}
-use Rattle.lot_words.specs.Plays.{piece, takes_in, opens, closes, enters_open, sees_locked, sees_shown, tries_seen, leaves_open}
-use Rattle.lot_words.specs.Views.{owning}
-use Rattle.lot_words.specs.declared.owners.Owner.TheVariants.{Exclusive, Opened}
+use Rattle.lot_words.proofs.Totals.{cond_other}
+use Rattle.lot_words.proofs.Trades.{owned_some, zero_either}
 use Rattle.lot_words.specs.declared.words.WordKind.{WordKind}
 use Rattle.lot_words.specs.declared.words.WordKind.TheVariants.{Mutex, Condvar}
-use Rattle.lot_words.proofs.Indices.{rank_lt}
+use Rattle.lot_words.proofs.Indices.{rank_lt, word_kind_at-index}
 
--- by the index that was computed and the operation that was matched
-pub table_allows : (lot : LotWords) (seat : Seat PermitSlot View) (word : Word) {at : ℕ} {op op' : Op} → IsSeatOf lot seat × IsWordOf lot word → MayStep word.kind (word_index word.number word.kind) op seat.me.0.owns
-    → at ≡ word_index word.number word.kind → op ≡ op'
-    → IsSeatOf lot seat × (at < lot.table.shared.table_id.words) × Allows (LotRule lot.table.shared.key.0 lot.table.shared.key.1.family) lot.table.shared.table_id.slots seat.id seat.me at (apply op') (TakesStep at op' seat.me)
-table_allows lot seat word {at} {op} {op'} own may there same = let sized = lot.sized in
-    (own.0, omega (arith, rank_lt word.kind, sized.0, sized.1, own.1.1), steps_at_word lot.table.shared.key.0 lot.table.shared.key.1.family lot.table.shared.table_id.slots seat.id seat.me word.number word.kind at op op' same there (omega (arith, sized.1, own.1.1)) may)
-
--- a load in place of an or
-pub table_allows_load : (lot : LotWords) (seat : Seat PermitSlot View) (word : Word) (bits : ℕ) {at : ℕ} → IsSeatOf lot seat × IsWordOf lot word → MayStep word.kind (word_index word.number word.kind) (Or bits) seat.me.0.owns
-    → at ≡ word_index word.number word.kind
-    → IsSeatOf lot seat × (at < lot.table.shared.table_id.words) × Allows (LotRule lot.table.shared.key.0 lot.table.shared.key.1.family) lot.table.shared.table_id.slots seat.id seat.me at (λ n. n) (saw_set bits (step lot.table.shared.table_id.slots at 0 0 none) seat.me)
-table_allows_load lot seat word bits {at} own may there = let sized = lot.sized in (
-  own.0,
-  omega (arith, rank_lt word.kind, sized.0, sized.1, own.1.1),
-  subst (λ (i : ℕ). Allows (LotRule lot.table.shared.key.0 lot.table.shared.key.1.family) lot.table.shared.table_id.slots seat.id seat.me i (λ n. n) (saw_set bits (step lot.table.shared.table_id.slots i 0 0 none) seat.me)) (sym there)
-      (sees_set lot.table.shared.key.0 lot.table.shared.key.1.family lot.table.shared.table_id.slots seat.id seat.me word.number word.kind bits (omega (arith, sized.1, own.1.1)) may),
-)
-
--- a load of a condition variable's word, which tells what it may show
-pub table_sees_shown : (lot : LotWords) (seat : Seat PermitSlot View) (word : Word) (words number at : ℕ) → words ≡ lot.count → number ≡ word.number → at ≡ word_index word.number word.kind
-    → IsSeatOf lot seat × IsWordOf lot word → word.kind ≡ Condvar
-    → IsSeatOf lot seat × (at < lot.table.shared.table_id.words) × Allows (LotRule lot.table.shared.key.0 lot.table.shared.key.1.family) lot.table.shared.table_id.slots seat.id seat.me at (λ n. n) (sees_shown words number (step lot.table.shared.table_id.slots at 0 0 none) seat.me)
-table_sees_shown lot seat word words number at most is_it there own is = let sized = lot.sized in let key : ℕ = lot.table.shared.key.0 in let family : ℕ = lot.table.shared.key.1.family in
-    let Goal : ℕ → ℕ → ℕ → Type 0 = λ w n i. Allows (LotRule key family) lot.table.shared.table_id.slots seat.id seat.me i (λ m. m) (sees_shown w n (step lot.table.shared.table_id.slots i 0 0 none) seat.me) in
-    let here : at ≡ word_index word.number Condvar = there ∙ ap (λ (k : WordKind). word_index word.number k) is in (
-      own.0,
-      omega (arith, sized.0, sized.1, own.1.1, here),
-      subst (λ (w : ℕ). Goal w number at) (sized.1 ∙ sym most) (subst (λ (n : ℕ). Goal key n at) (sym is_it) (subst (λ (i : ℕ). Goal key word.number i) (sym here)
-          (sees_shown_allowed key family lot.table.shared.table_id.slots seat.id seat.me word.number (omega (arith, sized.1, own.1.1))))),
-    )
-
--- the index of a mutex
-abbrev pub at_mutex : Word → ℕ
-at_mutex word = word_index word.number Mutex
-
-mutex_index : (word : Word) (at : ℕ) → word.kind ≡ Mutex → at ≡ word_index word.number word.kind → at ≡ at_mutex word
-mutex_index word at is there = there ∙ ap (λ (k : WordKind). word_index word.number k) is
-
--- a load of the counter with which the owner of a mutex takes its permit out
-pub table_opens : (lot : LotWords) (seat : Seat PermitSlot View) (word : Word) (family at : ℕ) → family ≡ lot.table.shared.key.1.family → at ≡ word_index word.number word.kind → IsSeatOf lot seat × IsWordOf lot word → word.kind ≡ Mutex
-    → seat.me.0 ≡ piece (owning (word_index word.number word.kind) Exclusive)
-    → IsSeatOf lot seat × (0 < lot.table.shared.table_id.words) × Allows (LotRule lot.table.shared.key.0 lot.table.shared.key.1.family) lot.table.shared.table_id.slots seat.id seat.me 0 (λ n. n) (opens family at (step lot.table.shared.table_id.slots 0 0 0 none) seat.me)
-table_opens lot seat word family at same there own is owns = let sized = lot.sized in (
-  own.0,
-  omega (arith, sized.0, sized.1, own.1.1),
-  subst (λ (f : ℕ). Allows (LotRule lot.table.shared.key.0 lot.table.shared.key.1.family) lot.table.shared.table_id.slots seat.id seat.me 0 (λ n. n) (opens f at (step lot.table.shared.table_id.slots 0 0 0 none) seat.me)) (sym same)
-      (subst (λ (i : ℕ). Allows (LotRule lot.table.shared.key.0 lot.table.shared.key.1.family) lot.table.shared.table_id.slots seat.id seat.me 0 (λ n. n) (opens lot.table.shared.key.1.family i (step lot.table.shared.table_id.slots 0 0 0 none) seat.me)) (sym (mutex_index word at is there))
-      (opens_allowed lot.table.shared.key.0 lot.table.shared.key.1.family lot.table.shared.table_id.slots seat.id seat.me word.number (omega (arith, sized.1, own.1.1)) (owns ∙ ap (λ (k : WordKind). piece (owning (word_index word.number k) Exclusive)) is))),
-)
-
--- and one with which it lays it back
-pub table_closes : (lot : LotWords) (seat : Seat PermitSlot View) (word : Word) (at : ℕ) → at ≡ word_index word.number word.kind → IsSeatOf lot seat × IsWordOf lot word → word.kind ≡ Mutex
-    → seat.me ≡ (piece (owning (word_index word.number word.kind) Opened), (word_index word.number word.kind, slot_at lot.table.shared.key.1.family (word_index word.number word.kind)) ∷ [])
-    → IsSeatOf lot seat × (0 < lot.table.shared.table_id.words) × Allows (LotRule lot.table.shared.key.0 lot.table.shared.key.1.family) lot.table.shared.table_id.slots seat.id seat.me 0 (λ n. n) (closes at (step lot.table.shared.table_id.slots 0 0 0 none) seat.me)
-table_closes lot seat word at there own is held = let sized = lot.sized in
-    let family : ℕ = lot.table.shared.key.1.family in
-    let me : seat.me ≡ (piece (owning (at_mutex word) Opened), (at_mutex word, slot_at family (at_mutex word)) ∷ []) = held ∙ ap (λ (k : WordKind). (piece (owning (word_index word.number k) Opened), (word_index word.number k, slot_at family (word_index word.number k)) ∷ [])) is in (
-      own.0,
-      omega (arith, sized.0, sized.1, own.1.1),
-      subst (λ (i : ℕ). Allows (LotRule lot.table.shared.key.0 family) lot.table.shared.table_id.slots seat.id seat.me 0 (λ n. n) (closes i (step lot.table.shared.table_id.slots 0 0 0 none) seat.me)) (sym (mutex_index word at is there))
-          (closes_allowed lot.table.shared.key.0 family lot.table.shared.table_id.slots seat.id seat.me word.number (omega (arith, sized.1, own.1.1)) (ap (λ (m : Me PermitSlot View). m.0) me)
-          (ap (λ (m : Me PermitSlot View). m.1) me ∙ ap (λ (m : Me PermitSlot View). (at_mutex word, slot_at family (at_mutex word)) ∷ rest m.1) (sym me))),
-    )
-
--- a step on the word of a mutex is allowed to a seat that goes on by this
+-- a step at an index is allowed to a seat that goes on by this
 abbrev pub AllowedAt : LotWords → Seat PermitSlot View → ℕ → (ℕ → ℕ) → (ℕ → Me PermitSlot View → Type 0) → Type 0
-AllowedAt lot seat i change then = IsSeatOf lot seat × (i < lot.table.shared.table_id.words)
+AllowedAt lot seat i change then = (seat.table_id ≡ lot.table.shared.table_id) × (i < lot.table.shared.table_id.words)
     × Allows (LotRule lot.table.shared.key.0 lot.table.shared.key.1.family) lot.table.shared.table_id.slots seat.id seat.me i change then
 
--- a step that enters a mutex takes its permit out
-pub table_enters : (lot : LotWords) (seat : Seat PermitSlot View) (word : Word) (family at i : ℕ) (op : Op) (IsFree : ℕ → Type 0) → Entering op IsFree
-    → family ≡ lot.table.shared.key.1.family → at ≡ word_index word.number word.kind → i ≡ word_index word.number word.kind
-    → IsSeatOf lot seat × IsWordOf lot word → word.kind ≡ Mutex
-    → AllowedAt lot seat i (apply op) (enters_open family at op IsFree (step lot.table.shared.table_id.slots i 0 0 none) seat.me)
-table_enters lot seat word family at i op IsFree entering same there here own is = let sized = lot.sized in let key : ℕ = lot.table.shared.key.1.family in
-    let Goal : ℕ → ℕ → ℕ → Type 0 = λ f a j. Allows (LotRule lot.table.shared.key.0 key) lot.table.shared.table_id.slots seat.id seat.me j (apply op) (enters_open f a op IsFree (step lot.table.shared.table_id.slots j 0 0 none) seat.me) in
-    let i≡ = mutex_index word i is here in (
-      own.0,
-      omega (arith, sized.0, sized.1, own.1.1, i≡),
-      subst (λ (f : ℕ). Goal f at i) (sym same) (subst (λ (a : ℕ). Goal key a i) (sym (mutex_index word at is there)) (subst (λ (j : ℕ). Goal key (at_mutex word) j) (sym i≡)
-          (enters_allowed lot.table.shared.key.0 key lot.table.shared.table_id.slots seat.id seat.me word.number op IsFree entering (omega (arith, sized.1, own.1.1))))),
-    )
+module _ (lot : LotWords) (seat : Seat PermitSlot View) (word : Word) (own : IsSeatOf lot seat × IsWordOf lot word) where
+  abbrev words : ℕ
+  words = lot.table.shared.key.0
 
--- a load in place of a try
-pub table_sees_locked : (lot : LotWords) (seat : Seat PermitSlot View) (word : Word) (at i : ℕ) → at ≡ word_index word.number word.kind → i ≡ word_index word.number word.kind
-    → IsSeatOf lot seat × IsWordOf lot word → word.kind ≡ Mutex
-    → AllowedAt lot seat i (λ n. n) (sees_locked at (step lot.table.shared.table_id.slots i 0 0 none) seat.me)
-table_sees_locked lot seat word at i there here own is = let sized = lot.sized in let key : ℕ = lot.table.shared.key.1.family in
-    let Goal : ℕ → ℕ → Type 0 = λ a j. Allows (LotRule lot.table.shared.key.0 key) lot.table.shared.table_id.slots seat.id seat.me j (λ n. n) (sees_locked a (step lot.table.shared.table_id.slots j 0 0 none) seat.me) in
-    let i≡ = mutex_index word i is here in (
-      own.0,
-      omega (arith, sized.0, sized.1, own.1.1, i≡),
-      subst (λ (a : ℕ). Goal a i) (sym (mutex_index word at is there)) (subst (λ (j : ℕ). Goal (at_mutex word) j) (sym i≡)
-          (sees_locked_allowed lot.table.shared.key.0 key lot.table.shared.table_id.slots seat.id seat.me word.number (omega (arith, sized.1, own.1.1)))),
-    )
+  abbrev from : ℕ
+  from = lot.table.shared.key.1.family
 
--- and an exchange
-pub table_tries_seen : (lot : LotWords) (seat : Seat PermitSlot View) (word : Word) (family at i seen : ℕ) → seen % 2 ≡ 0
-    → family ≡ lot.table.shared.key.1.family → at ≡ word_index word.number word.kind → i ≡ word_index word.number word.kind
-    → IsSeatOf lot seat × IsWordOf lot word → word.kind ≡ Mutex
-    → AllowedAt lot seat i (apply (Exchange seen (seen + 1))) (tries_seen family at (step lot.table.shared.table_id.slots i seen (seen + 1) none) seat.me)
-table_tries_seen lot seat word family at i seen even same there here own is = let sized = lot.sized in let key : ℕ = lot.table.shared.key.1.family in
-    let Goal : ℕ → ℕ → ℕ → Type 0 = λ f a j. Allows (LotRule lot.table.shared.key.0 key) lot.table.shared.table_id.slots seat.id seat.me j (apply (Exchange seen (seen + 1))) (tries_seen f a (step lot.table.shared.table_id.slots j seen (seen + 1) none) seat.me) in
-    let i≡ = mutex_index word i is here in (
-      own.0,
-      omega (arith, sized.0, sized.1, own.1.1, i≡),
-      subst (λ (f : ℕ). Goal f at i) (sym same) (subst (λ (a : ℕ). Goal key a i) (sym (mutex_index word at is there)) (subst (λ (j : ℕ). Goal key (at_mutex word) j) (sym i≡)
-          (tries_seen_allowed lot.table.shared.key.0 key lot.table.shared.table_id.slots seat.id seat.me word.number seen even (omega (arith, sized.1, own.1.1))))),
-    )
+  abbrev slots : ℕ
+  slots = lot.table.shared.table_id.slots
 
--- and a step that leaves it lays it back
-pub table_leaves : (lot : LotWords) (seat : Seat PermitSlot View) (word : Word) (at i : ℕ) (v : View) (op : Op) (IsLast : ℕ → Type 0) → Leaving op IsLast
-    → at ≡ word_index word.number word.kind → i ≡ word_index word.number word.kind
-    → IsSeatOf lot seat × IsWordOf lot word → word.kind ≡ Mutex
-    → seat.me ≡ (takes_in v (piece (owning (word_index word.number word.kind) Opened)), (word_index word.number word.kind, slot_at lot.table.shared.key.1.family (word_index word.number word.kind)) ∷ [])
-    → AllowedAt lot seat i (apply op) (leaves_open at op IsLast (step lot.table.shared.table_id.slots i 0 0 none) seat.me)
-table_leaves lot seat word at i v op IsLast leaving there here own is held = let sized = lot.sized in let key : ℕ = lot.table.shared.key.1.family in
-    let Goal : ℕ → ℕ → Me PermitSlot View → Type 0 = λ a j me. Allows (LotRule lot.table.shared.key.0 key) lot.table.shared.table_id.slots seat.id me j (apply op) (leaves_open a op IsLast (step lot.table.shared.table_id.slots j 0 0 none) me) in
-    let i≡ = mutex_index word i is here in
-    let me : seat.me ≡ (takes_in v (piece (owning (at_mutex word) Opened)), (at_mutex word, slot_at key (at_mutex word)) ∷ []) = held ∙ ap (λ (k : WordKind). (takes_in v (piece (owning (word_index word.number k) Opened)), (word_index word.number k, slot_at key (word_index word.number k)) ∷ [])) is in (
-      own.0,
-      omega (arith, sized.0, sized.1, own.1.1, i≡),
-      subst (λ (a : ℕ). Goal a i seat.me) (sym (mutex_index word at is there)) (subst (λ (j : ℕ). Goal (at_mutex word) j seat.me) (sym i≡) (subst (λ (m : Me PermitSlot View). Goal (at_mutex word) (at_mutex word) m) (sym me)
-          (leaves_allowed lot.table.shared.key.0 key lot.table.shared.table_id.slots seat.id word.number v.owns v [] op IsLast leaving (omega (arith, sized.1, own.1.1))))),
-    )
+  pub below : word.number < words
+  below = let sized = lot.sized in let drawn = own.1 in omega (arith, sized.1, drawn.1)
+
+  near : (i : ℕ) → i ≡ word_index word.number word.kind → i < lot.table.shared.table_id.words
+  near i here = let sized = lot.sized in omega (arith, rank_lt word.kind, sized.0, sized.1, below, here)
+
+  -- by the index that was computed and the operation that was matched
+  pub table_allows : {at : ℕ} {op op' : Op} (family : ℕ) → family ≡ from → MayStep word.kind (word_index word.number word.kind) op seat.me.0.owns → at ≡ word_index word.number word.kind → op ≡ op'
+      → AllowedAt lot seat at (apply op') (TakesStep family at op' seat.me)
+  table_allows {at} {op} {op'} family same may there is = let seated = own.0 in (
+    seated.0,
+    near at there,
+    subst (λ (f : ℕ). Allows (LotRule words from) slots seat.id seat.me at (apply op') (TakesStep f at op' seat.me)) (sym same)
+        (steps_at_word words from slots seat.id seat.me word.number word.kind at op op' is there below seated.1 may),
+  )
+
+  -- a load in place of an or
+  pub table_allows_load : {at : ℕ} (family bits : ℕ) → family ≡ from → MayStep word.kind (word_index word.number word.kind) (Or bits) seat.me.0.owns → at ≡ word_index word.number word.kind
+      → AllowedAt lot seat at (λ n. n) (saw_set family bits (step slots at 0 0 none) seat.me)
+  table_allows_load {at} family bits same may there = let seated = own.0 in
+      let Goal : ℕ → ℕ → Type 0 = λ f i. Allows (LotRule words from) slots seat.id seat.me i (λ n. n) (saw_set f bits (step slots i 0 0 none) seat.me) in (
+        seated.0,
+        near at there,
+        subst (λ (f : ℕ). Goal f at) (sym same) (subst (λ (i : ℕ). Goal from i) (sym there)
+            (sees_set words from slots seat.id seat.me word.number word.kind bits below seated.1 may)),
+      )
+
+  -- a load of a condition variable's word, which tells what it may show
+  pub table_sees_shown : (family most number at : ℕ) → family ≡ from → most ≡ lot.count → number ≡ word.number → at ≡ word_index word.number word.kind → word.kind ≡ Condvar
+      → AllowedAt lot seat at (λ n. n) (sees_shown family most number (step slots at 0 0 none) seat.me)
+  table_sees_shown family most number at same all is_it there is = let sized = lot.sized in let seated = own.0 in
+      let Goal : ℕ → ℕ → ℕ → ℕ → Type 0 = λ f w n i. Allows (LotRule words from) slots seat.id seat.me i (λ m. m) (sees_shown f w n (step slots i 0 0 none) seat.me) in
+      let here : at ≡ word_index word.number Condvar = there ∙ ap (λ (k : WordKind). word_index word.number k) is in (
+        seated.0,
+        near at there,
+        subst (λ (f : ℕ). Goal f most number at) (sym same) (subst (λ (w : ℕ). Goal from w number at) (sized.1 ∙ sym all) (subst (λ (n : ℕ). Goal from words n at) (sym is_it) (subst (λ (i : ℕ). Goal from words word.number i) (sym here)
+            (sees_shown_allowed words from slots seat.id seat.me word.number below seated.1)))),
+      )
+
+  -- the index of a mutex
+  pub at_mutex : word.kind ≡ Mutex → word_index word.number word.kind ≡ word_index word.number Mutex
+  at_mutex is = ap (λ (k : WordKind). word_index word.number k) is
+
+  -- what may be done to a mutex may be done to a word that is one
+  pub may_mutex : word.kind ≡ Mutex → (op : Op) → MayStep Mutex (word_index word.number Mutex) op seat.me.0.owns → MayStep word.kind (word_index word.number word.kind) op seat.me.0.owns
+  may_mutex is op may = subst (λ (k : WordKind). MayStep k (word_index word.number k) op seat.me.0.owns) (sym is) may
+
+  -- a load of the counter, behind which the permit of a mutex that the seat owns is out
+  pub table_opens : (family at : ℕ) → family ≡ from → at ≡ word_index word.number word.kind → word.kind ≡ Mutex → has (named_by word Exclusive) seat.me.0.owns ≡ true
+      → AllowedAt lot seat 0 (λ n. n) (opens family at (step slots 0 0 0 none) seat.me)
+  table_opens family at same there is owns = let sized = lot.sized in let seated = own.0 in
+      let i : ℕ = word_index word.number Mutex in
+      let Goal : ℕ → ℕ → Type 0 = λ f j. Allows (LotRule words from) slots seat.id seat.me 0 (λ n. n) (opens f j (step slots 0 0 0 none) seat.me) in
+      let mine = owned_some (word_index word.number word.kind) Exclusive seat.me.0.owns owns exclusive (omega arith) in (
+        seated.0,
+        omega (arith, sized.0, sized.1, below),
+        subst (λ (f : ℕ). Goal f at) (sym same) (subst (λ (j : ℕ). Goal from j) (sym (there ∙ at_mutex is))
+            (opens_allowed words from slots seat.id seat.me word.number below (subst (λ (r : ℕ). 0 < owned r exclusive seat.me.0.owns) (at_mutex is) mine) seated.1)),
+      )
+
+  -- a load in place of a try
+  pub table_sees_locked : (family i : ℕ) → family ≡ from → i ≡ word_index word.number word.kind → word.kind ≡ Mutex
+      → AllowedAt lot seat i (λ n. n) (sees_locked family (step slots i 0 0 none) seat.me)
+  table_sees_locked family i same here is = let seated = own.0 in
+      let Goal : ℕ → ℕ → Type 0 = λ f j. Allows (LotRule words from) slots seat.id seat.me j (λ n. n) (sees_locked f (step slots j 0 0 none) seat.me) in (
+        seated.0,
+        near i here,
+        subst (λ (f : ℕ). Goal f i) (sym same) (subst (λ (j : ℕ). Goal from j) (sym (here ∙ at_mutex is))
+            (sees_locked_allowed words from slots seat.id seat.me word.number below seated.1)),
+      )
+
+  -- and an exchange
+  pub table_tries_seen : (family i seen : ℕ) → seen % 2 ≡ 0 → family ≡ from → i ≡ word_index word.number word.kind → word.kind ≡ Mutex
+      → AllowedAt lot seat i (apply (Exchange seen (seen + 1))) (tries_seen family (step slots i seen (seen + 1) none) seat.me)
+  table_tries_seen family i seen even same here is = let seated = own.0 in
+      let Goal : ℕ → ℕ → Type 0 = λ f j. Allows (LotRule words from) slots seat.id seat.me j (apply (Exchange seen (seen + 1))) (tries_seen f (step slots j seen (seen + 1) none) seat.me) in (
+        seated.0,
+        near i here,
+        subst (λ (f : ℕ). Goal f i) (sym same) (subst (λ (j : ℕ). Goal from j) (sym (here ∙ at_mutex is))
+            (tries_seen_allowed words from slots seat.id seat.me word.number seen even below seated.1)),
+      )
+
+-- a load of the counter, behind which nothing is out
+pub table_closes : (lot : LotWords) (seat : Seat PermitSlot View) → IsSeatOf lot seat → AllowedAt lot seat 0 (λ n. n) (closes (step lot.table.shared.table_id.slots 0 0 0 none) seat.me)
+table_closes lot seat own = let sized = lot.sized in
+    (own.0, omega (arith, sized.0, sized.1), closes_allowed lot.table.shared.key.0 lot.table.shared.key.1.family lot.table.shared.table_id.slots seat.id seat.me own.1)
+
+-- who goes on behind an exchange that leaves a mutex where nobody waits has left it so
+pub goes_leaving : (v : View) (word : Word) (seen : ℕ) → goes_on_with v (leaving_alone blank word seen) ≡ leaving_alone v word seen
+goes_leaving v word seen = by_test (eqb seen 1)
+  where
+    by_test : (b : Bool) → let at = word_index word.number word.kind in let op = Exchange 1 0 in
+        goes_on_with v (cond b (stepping blank at op seen) (stepping (takes_in blank (piece_of word Exclusive)) at op seen))
+        ≡ cond b (stepping v at op seen) (stepping (takes_in v (piece_of word Exclusive)) at op seen)
+    by_test true = refl
+    by_test false = refl
+
+-- what is owned otherwise than as a mutex alone is no mutex's whose permit may be out
+not_exclusive : (owner : Owner) → (takes_permit Mutex owner ≡ true → ⊥) → exclusive owner ≡ 0
+not_exclusive Exclusive other = absurd (other refl)
+not_exclusive Pending other = refl
+not_exclusive Upgrading other = refl
+not_exclusive Upgradable other = refl
+not_exclusive Shared other = refl
+not_exclusive Runner other = refl
+not_exclusive Witness other = refl
+
+pub apart : (word : Word) (owner : Owner) → (takes_permit word.kind owner ≡ true → ⊥) → (r : ℕ) → word_kind_at r ≡ Mutex → cond (eqb (word_index word.number word.kind) r) (exclusive owner) 0 ≡ 0
+apart word owner other r is = let i : ℕ = word_index word.number word.kind in
+    dite (ℕ_discrete i r)
+    (λ e. let mutex : word.kind ≡ Mutex = sym (word_kind_at-index word.number word.kind) ∙ ap word_kind_at e ∙ is in
+    let none : exclusive owner ≡ 0 = not_exclusive owner (λ takes. other (ap (λ (k : WordKind). takes_permit k owner) mutex ∙ takes)) in
+    ap (λ (n : ℕ). cond (eqb i r) n 0) none ∙ zero_either (eqb i r))
+    (λ ne. cond_other i r (exclusive owner) ne)

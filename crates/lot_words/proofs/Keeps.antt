@@ -1,23 +1,23 @@
 -- Each step keeps the rule.
-use Rattle.std.proofs.Common.{◌≡◌, ℕ, ◌+◌, ◌<◌, ◌≤◌, eqb, cond, ◌≢◌, ◌⊎◌, Bool, true, false, ◌%◌, List, [], ◌∷◌, ◌++◌, inl, inr, length, get_or, set, sym, refl, ap, ◌∙◌, subst, ⊎_elim, arith, length-set, get_or-set_same, get_or-set_other, eq-eqb, ne_eqb, zero, suc, bit_or}
+use Rattle.std.proofs.Common.{◌≡◌, ℕ, ◌+◌, ◌<◌, ◌≤◌, eqb, cond, ◌≢◌, ◌⊎◌, true, ◌%◌, List, [], ◌∷◌, ◌++◌, inl, inr, length, get_or, set, sym, refl, ap, ◌∙◌, subst, ⊎_elim, arith, length-set, get_or-set_same, get_or-set_other, eq-eqb, ne_eqb, zero, suc}
 use mathlib.Core.Logic.{dite}
-use mathlib.Core.Option.{some, none, some-injective}
-use Rattle.std.proofs.lemmas.List.{set-get_or}
+use mathlib.Core.Option.{Option, some, none}
 use native.Mathlib.Decide.{ℕ_discrete}
 use lib.ListN.{get_elem?}
 use prog.Atomic.{either}
-use Rattle.atomic_table.specs.Table.{State, Me, step, Act, keeps, Valid, carried_after, stepped, Allows}
+use Rattle.atomic_table.specs.Table.{State, Me, step, keeps, Act, Valid, carried_after, stepped, Allows}
 use Rattle.atomic_table.proofs.Lists.{at_set}
 use Rattle.lot_words.specs.Indices.{word_index, counter, mutex_of_count}
-use Rattle.lot_words.specs.Views.{view, total, total_below, owned, owning, owning_with, named, counted, steps_at, drew}
-use Rattle.lot_words.specs.Codes.{Owners, Codes, Shows, IsCountCode, everyone, exclusive, opened}
-use Rattle.lot_words.specs.Rule.{LotRule, MayBeShown}
+use Rattle.lot_words.specs.Views.{view, with_out, total, total_below, owned, owning, owning_with, named, counted, steps_at, outs, drew}
+use Rattle.lot_words.specs.Codes.{Owners, Codes, Shows, IsCountCode, everyone, exclusive}
+use Rattle.lot_words.specs.Rule.{LotRule, MayBeShown, MayHaveOut}
+use Rattle.lot_words.specs.Permits.{slot_at}
 use Rattle.value_place.specs.declared.slot.PermitSlot.{PermitSlot}
 use Rattle.lot_base.specs.Words.{apply}
 use Rattle.lot_base.specs.declared.ops.Op.{Op}
-use Rattle.lot_base.specs.declared.ops.Op.TheVariants.{Load, Or, Exchange}
-use Rattle.lot_words.specs.Steps.{has, HasAll, trade, trading, CountAgrees, MayTie, MayStep, owns_after_step, listed, after_step}
-use Rattle.lot_words.specs.Plays.{TakesStepOf, TakesStep, saw_set, looks, draws, numbered}
+use Rattle.lot_base.specs.declared.ops.Op.TheVariants.{Load, Exchange}
+use Rattle.lot_words.specs.Steps.{has, HasAll, trade, trading, CountAgrees, CodesWith, MayTie, MayStep, owns_after_step, listed, after_step}
+use Rattle.lot_words.specs.Plays.{looks, draws, numbered}
 use Rattle.lot_words.specs.declared.owners.Ownership.{Ownership}
 use Rattle.lot_words.specs.declared.views.WordStep.{WordStep}
 use Rattle.lot_words.proofs.Trades.{total-without, traded_here, traded_elsewhere, traded_counts, said_total, owned_some}
@@ -29,7 +29,7 @@ use Rattle.lot_words.specs.declared.words.WordKind.{WordKind}
 use Rattle.lot_words.specs.declared.words.WordKind.TheVariants.{Mutex, RwLock, Condvar, Once, Count}
 use Rattle.lot_words.proofs.Counts.{counted-where}
 use Rattle.lot_words.proofs.Totals.{total-append, total-set, term_le, total_below-suc, cond_same, cond_other}
-use Rattle.lot_words.proofs.Indices.{rank_lt, word_kind_at-index, index-number, index-kind}
+use Rattle.lot_words.proofs.Indices.{rank_lt, index-number, index-kind}
 
 pub shows_more : (P Q : ℕ → Type 0) (n : ℕ) → ((k : ℕ) → P k → Q k) → Shows P n → Shows Q n
 shows_more P Q n more h = ⊎_elim (λ z. inl z) (λ t. inr (t.0, t.1, more t.0 t.2)) h
@@ -54,10 +54,10 @@ module _ (words family : ℕ) (s : State PermitSlot View) (o : LotRule words fam
       → ((after : Owners) → ((weight : Owner → ℕ) → after weight + owned (word_index number kind) weight v.owns ≡ named (word_index number kind) weight s.views + owned (word_index number kind) weight w.owns) → Codes kind m after)
       → Tied words kind number m (set s.views j w)
       → ((r : ℕ) → (kind ≡ Count → r ≢ mutex_of_count (word_index number kind)) → counted r w.owns ≡ counted r v.owns)
-      → (kind ≡ Mutex → owned (word_index number kind) opened w.owns ≡ owned (word_index number kind) opened v.owns)
+      → w.out ≡ v.out → MayHaveOut words w.out w.owns
       → w.drawn ≡ v.drawn → w.saw ≡ v.saw → 0 < steps_at (word_index number kind) w → ((r : ℕ) → steps_at r v ≤ steps_at r w)
       → LotRule words family (record { words = set s.words (word_index number kind) m; homes = s.homes; views = set s.views j w })
-  turned number kind j m v w me below others codes tied same-counts same-open same-drawn same-saw stepped more =
+  turned number kind j m v w me below others codes tied same-counts same-out carries same-drawn same-saw stepped more =
       let i : ℕ = word_index number kind in let size = o.size in let enough = o.enough in
       let near : i < length s.words = omega (arith, rank_lt kind) in
       let vs = set s.views j w in
@@ -93,23 +93,25 @@ module _ (words family : ℕ) (s : State PermitSlot View) (o : LotRule words fam
         untouched = λ r above h none. dite (ℕ_discrete r i)
             (λ e. absurd (omega (arith, term_le (steps_at r) s.views j v me, total-set (steps_at r) s.views j v w me, subst (λ (q : ℕ). 0 < steps_at q w) (sym e) stepped)))
             (λ ne. get_or-set_other s.words i r m 0 ne ∙ o.untouched r above (omega (arith, length-set s.words i m)) (omega (arith, stepped-more r)));
-        drawn = λ weight. omega (arith, total-set (drew weight) s.views j v w me, o.drawn weight, ap (λ d. drew weight (record { steps = []; owns = []; drawn = d; saw = 0 })) same-drawn, ap (total_below weight) count-here);
+        drawn = λ weight. omega (arith, total-set (drew weight) s.views j v w me, o.drawn weight, ap (λ d. drew weight (view [] [] d 0)) same-drawn, ap (total_below weight) count-here);
         enough = omega (arith, count-here);
         saw = λ q u e. ⊎_elim (λ t. let old = o.saw j v me in omega (arith, ap (λ (y : View). y.saw) t.1)) (λ t. let old = o.saw q u t.1 in omega arith) (at_set s.views j q w u e);
+        carried = λ q u e. ⊎_elim (λ t. subst (λ (y : View). MayHaveOut words y.out y.owns) t.1 carries) (λ t. o.carried q u t.1) (at_set s.views j q w u e);
         homes = o.homes ∙ sym (length-set s.words i m);
-        permits = λ number' below' none. o.permits number' below' (dite (ℕ_discrete (word_index number' Mutex) i)
-            (λ e. let same : owned i opened w.owns ≡ owned i opened v.owns = same-open (sym (index-kind number' number Mutex kind e)) in
-            subst (λ (r : ℕ). named r opened s.views ≡ 0) (sym e) (let gone : named i opened vs ≡ 0 = subst (λ (r : ℕ). named r opened vs ≡ 0) e none in omega (arith, sum i opened)))
-            (λ ne. omega (arith, sum (word_index number' Mutex) opened, others (word_index number' Mutex) ne opened)));
+        permits = λ number' below' none. let r : ℕ = word_index number' Mutex in
+            o.permits number' below' (omega (arith, total-set (outs r) s.views j v w me, ap (total (λ (k : ℕ). cond (eqb k r) 1 0)) same-out));
       }
 
-  -- the views change, and what they name together does not
-  pub reseated : (vs : List View) → ((r : ℕ) (weight : Owner → ℕ) → named r weight vs ≡ named r weight s.views)
+  -- the views and homes change, and what the views name together does not
+  pub reseated : (hs : List (Option PermitSlot)) (vs : List View) → ((r : ℕ) (weight : Owner → ℕ) → named r weight vs ≡ named r weight s.views)
       → ((r : ℕ) → total (λ (u : View). counted r u.owns) vs ≡ total (λ (u : View). counted r u.owns) s.views)
       → ((r : ℕ) → total (steps_at r) vs ≡ total (steps_at r) s.views) → ((weight : ℕ → ℕ) → total (drew weight) vs ≡ total (drew weight) s.views)
       → ((q : ℕ) (u : View) → get_elem? vs q ≡ some u → u.saw ≤ get_or s.words counter 0)
-      → LotRule words family (record { words = s.words; homes = s.homes; views = vs })
-  reseated vs same-named same-counts same-steps same-drawn saw = record {
+      → ((q : ℕ) (u : View) → get_elem? vs q ≡ some u → MayHaveOut words u.out u.owns)
+      → length hs ≡ length s.homes
+      → ((number : ℕ) → number < words → total (outs (word_index number Mutex)) vs ≡ 0 → get_elem? hs (word_index number Mutex) ≡ some (some (slot_at family (word_index number Mutex))))
+      → LotRule words family (record { words = s.words; homes = hs; views = vs })
+  reseated hs vs same-named same-counts same-steps same-drawn saw carried same-homes permits = record {
     size = o.size;
     coded = λ number' kind' below. subst (Codes kind' (get_or s.words (word_index number' kind') 0)) (λ k weight. sym (same-named (word_index number' kind') weight) k) (o.coded number' kind' below);
     shows = λ number' below. shown_still words number' s.views vs (get_or s.words (word_index number' Condvar) 0) (λ k. omega (arith, same-steps (word_index k Mutex))) (o.shows number' below);
@@ -119,8 +121,9 @@ module _ (words family : ℕ) (s : State PermitSlot View) (o : LotRule words fam
     drawn = λ weight. same-drawn weight ∙ o.drawn weight;
     enough = o.enough;
     saw = saw;
-    homes = o.homes;
-    permits = λ number' below none. o.permits number' below (sym (same-named (word_index number' Mutex) opened) ∙ none);
+    carried = carried;
+    homes = same-homes ∙ o.homes;
+    permits = permits;
   }
 
 pub steps_more : (v : View) (at found r : ℕ) (op : Op) → total (λ (step : WordStep). cond (eqb step.at r) 1 0) (listed v at op found) ≡ steps_at r v + cond (eqb at r) 1 0
@@ -180,21 +183,21 @@ module _ (words family : ℕ) (s : State PermitSlot View) (o : LotRule words fam
   agreed number Condvar id v at below = tt
   agreed number Once id v at below = tt
 
-  -- a step that may be taken leaves a tied word tied
-  tied_after : (number : ℕ) (kind : WordKind) (op : Op) (id : ℕ) (v : View) → get_elem? s.views id ≡ some v → number < words
+  -- a step that may be taken leaves a tied word tied, whatever is out behind it
+  tied_after : (number : ℕ) (kind : WordKind) (op : Op) (id : ℕ) (v : View) (out : List ℕ) → get_elem? s.views id ≡ some v → number < words
       → MayTie kind (word_index number kind) (get_or s.words (word_index number kind) 0) (apply op (get_or s.words (word_index number kind) 0)) v.owns
       → ((r : ℕ) → steps_at r v ≤ steps_at r (after_step kind (word_index number kind) op (get_or s.words (word_index number kind) 0) v))
-      → Tied words kind number (apply op (get_or s.words (word_index number kind) 0)) (set s.views id (after_step kind (word_index number kind) op (get_or s.words (word_index number kind) 0) v))
-  tied_after number Condvar op id v at below tie more =
-      let n : ℕ = get_or s.words (word_index number Condvar) 0 in let w = after_step Condvar (word_index number Condvar) op n v in
+      → Tied words kind number (apply op (get_or s.words (word_index number kind) 0)) (set s.views id (with_out out (after_step kind (word_index number kind) op (get_or s.words (word_index number kind) 0) v)))
+  tied_after number Condvar op id v out at below tie more =
+      let n : ℕ = get_or s.words (word_index number Condvar) 0 in let w = with_out out (after_step Condvar (word_index number Condvar) op n v) in
       let vs = set s.views id w in let New : ℕ → Type 0 = MayBeShown words number vs in
       let grown : (r : ℕ) → total (steps_at r) s.views ≤ total (steps_at r) vs = λ r. omega (arith, total-set (steps_at r) s.views id v w at, more r) in
       ⊎_elim (λ e. subst (Shows New) (sym e) (shown_still words number s.views vs n (λ k. grown (word_index k Mutex)) (o.shows number below)))
       (λ t. shows_more (λ mutex. (word_index number Condvar ≢ word_index mutex Condvar) × (has (owning (word_index mutex Mutex) Exclusive) v.owns ≡ true)) New (apply op n)
       (λ k there. let i : ℕ = word_index k Mutex in let real = owned_mutex k (omega (arith, term_le (λ (u : View). owned i exclusive u.owns) s.views id v at, owned_some i Exclusive v.owns there.1 exclusive (omega arith))) in let stepped = real.2 in
       (real.0, (λ e. there.0 (ap (λ q. word_index q Condvar) (sym e))), omega (arith, grown i))) t) tie
-  tied_after number Count op id v at below tie more =
-      let n : ℕ = get_or s.words (word_index number Count) 0 in let m : ℕ = apply op n in let i : ℕ = word_index number Count in let r : ℕ = mutex_of_count i in let w = after_step Count i op n v in
+  tied_after number Count op id v out at below tie more =
+      let n : ℕ = get_or s.words (word_index number Count) 0 in let m : ℕ = apply op n in let i : ℕ = word_index number Count in let r : ℕ = mutex_of_count i in let w = with_out out (after_step Count i op n v) in
       let old = o.counts number below in let old₁ = old.1 in (
         ⊎_elim (λ e. subst IsCountCode (sym e) old.0) (λ t. t.0) tie,
         omega (
@@ -205,82 +208,65 @@ module _ (words family : ℕ) (s : State PermitSlot View) (o : LotRule words fam
           said_total (λ (x : Ownership). cond (eqb x.at r) x.count 0) r n m v.owns (⊎_elim (λ e. inl e) (λ t. inr t.1) tie),
         ),
       )
-  tied_after number Mutex op id v at below tie more = tt
-  tied_after number RwLock op id v at below tie more = tt
-  tied_after number Once op id v at below tie more = tt
+  tied_after number Mutex op id v out at below tie more = tt
+  tied_after number RwLock op id v out at below tie more = tt
+  tied_after number Once op id v out at below tie more = tt
 
--- no step takes a permit out, or lays it back
-nobody_opens : (kind : WordKind) → kind ≡ Mutex → (at : ℕ) (op : Op) (found : ℕ) (owns : List Ownership)
-    → (total opened (trade kind at op found owns).gives ≡ 0) × (total opened (trade kind at op found owns).gets ≡ 0)
-nobody_opens kind is at op found owns = subst (λ (k : WordKind). (total opened (trade k at op found owns).gives ≡ 0) × (total opened (trade k at op found owns).gets ≡ 0)) (sym is)
-    (by_tests (eqb (found % 2) (apply op found % 2)) (eqb (found % 2) 0))
-  where
-    by_tests : (a b : Bool) → let t = cond a (trading [] []) (cond b (trading [] (Exclusive ∷ [])) (trading (Exclusive ∷ []) [])) in (total opened t.gives ≡ 0) × (total opened t.gets ≡ 0)
-    by_tests true b = (refl, refl)
-    by_tests false true = (refl, refl)
-    by_tests false false = (refl, refl)
+-- a step that leaves a mutex as locked as it was takes nothing from who takes it
+no_trade : (kind : WordKind) → kind ≡ Mutex → (at : ℕ) (op : Op) (n : ℕ) (owns : List Ownership) → n % 2 ≡ apply op n % 2 → total exclusive (trade kind at op n owns).gives ≡ 0
+no_trade kind is at op n owns e = subst (λ (k : WordKind). total exclusive (trade k at op n owns).gives ≡ 0) (sym is)
+    (ap (λ b. total exclusive (cond b (trading [] []) (cond (eqb (n % 2) 0) (trading [] (Exclusive ∷ [])) (trading (Exclusive ∷ []) []))).gives) (eq-eqb (n % 2) (apply op n % 2) e))
 
--- the law of all steps on words: one that the seat may take keeps the rule
-pub steps : (words family slots id : ℕ) (me : Me PermitSlot View) (number : ℕ) (kind : WordKind) (op : Op) → number < words → MayStep kind (word_index number kind) op me.0.owns
-    → Allows (LotRule words family) slots id me (word_index number kind) (apply op) (TakesStep (word_index number kind) op me)
-steps words family slots id me number kind op below may s o wide at fits =
+-- who has a permit out behind a step owns its mutex still, where the step neither locks one nor unlocks it, or nothing is out
+carries_on : (words number : ℕ) (kind : WordKind) (op : Op) (n : ℕ) (v : View) → MayHaveOut words v.out v.owns → Steps kind (word_index number kind) op n v.owns
+    → (kind ≡ Mutex → (n % 2 ≡ apply op n % 2) ⊎ (v.out ≡ [])) → MayHaveOut words v.out (owns_after_step kind (word_index number kind) op n v.owns)
+carries_on words number kind op n v carries so same = ⊎_elim (λ none. inl none)
+    (λ t. let j : ℕ = word_index t.0 Mutex in let i : ℕ = word_index number kind in let some' = t.3 in inr (
+      t.0,
+      t.1,
+      t.2,
+      dite (ℕ_discrete j i)
+          (λ e. let is : kind ≡ Mutex = sym (index-kind t.0 number Mutex kind e) in
+          ⊎_elim
+          (λ parity. subst (λ (r : ℕ). 0 < owned r exclusive (owns_after_step kind i op n v.owns)) (sym e)
+          (let there : 0 < owned i exclusive v.owns = subst (λ (r : ℕ). 0 < owned r exclusive v.owns) e some' in omega (arith, so.here exclusive, no_trade kind is i op n v.owns parity)))
+          (λ none. absurd (omega (arith, ap length (sym none ∙ t.2))))
+          (same is))
+          (λ ne. omega (arith, so.elsewhere j ne exclusive)),
+    ))
+    carries
+
+-- the law of all steps on words: one that the seat may take keeps the rule, where what is out stays out
+pub step_taken : (words family : ℕ) (s : State PermitSlot View) → LotRule words family s → (number : ℕ) (kind : WordKind) (op : Op) (id : ℕ) (v : View) → get_elem? s.views id ≡ some v → number < words
+    → get_or s.words (word_index number kind) 0 < 18446744073709551616 → MayStep kind (word_index number kind) op v.owns
+    → (kind ≡ Mutex → (get_or s.words (word_index number kind) 0 % 2 ≡ apply op (get_or s.words (word_index number kind) 0) % 2) ⊎ (v.out ≡ []))
+    → let i = word_index number kind in let n = get_or s.words i 0 in
+    LotRule words family (record { words = set s.words i (apply op n); homes = s.homes; views = set s.views id (with_out v.out (after_step kind i op n v)) }) × CodesWith kind i n v.owns
+step_taken words family s o number kind op id v at below fits may same =
     let i : ℕ = word_index number kind in let n : ℕ = get_or s.words i 0 in let m : ℕ = apply op n in
-    let mine : (weight : Owner → ℕ) → owned i weight me.0.owns ≤ named i weight s.views = λ weight. term_le (λ (u : View). owned i weight u.owns) s.views id me.0 at in
+    let mine : (weight : Owner → ℕ) → owned i weight v.owns ≤ named i weight s.views = λ weight. term_le (λ (u : View). owned i weight u.owns) s.views id v at in
     let code = o.coded number kind below in
-    let agrees = agreed words family s o number kind id me.0 at below in
+    let agrees = agreed words family s o number kind id v at below in
     let ok = may n (λ weight. named i weight s.views) fits code mine agrees in
-    let so = stepped_so kind i op n me.0.owns ok.0 ok.2 in let w = after_step kind i op n me.0 in
-    let more : (r : ℕ) → steps_at r me.0 ≤ steps_at r w = λ r. omega (arith, steps_more me.0 i n r op) in
-    let then = λ (k : WordKind). (w : View) × (a : Act PermitSlot) × Valid s.homes me.1 a × LotRule words family (stepped s i m id me.1 w a) × TakesStepOf k i op me n (w, carried_after me.1 a) in
-    subst then (sym (word_kind_at-index number kind)) (
-      w,
-      keeps,
-      tt,
-      turned words family s o number kind id m me.0 w at below
+    let so = stepped_so kind i op n v.owns ok.0 ok.2 in let w = with_out v.out (after_step kind i op n v) in
+    let more : (r : ℕ) → steps_at r v ≤ steps_at r w = λ r. omega (arith, steps_more v i n r op) in (
+      turned words family s o number kind id m v w at below
           so.elsewhere
           (λ after same. ok.1 after (λ weight. omega (arith, same weight, so.here weight)))
-          (tied_after words family s o number kind op id me.0 at below ok.2 more)
+          (tied_after words family s o number kind op id v v.out at below ok.2 more)
           so.counts
-          (λ is. let here = so.here opened in let none = nobody_opens kind is i op n me.0.owns in omega arith)
-          refl refl (omega (arith, steps_more me.0 i n i op, cond_same i i 1 refl)) more,
-      (refl, ((λ weight. named i weight s.views), code, mine, agrees)),
+          refl
+          (carries_on words number kind op n v (o.carried id v at) so same)
+          refl refl (omega (arith, steps_more v i n i op, cond_same i i 1 refl)) more,
+      ((λ weight. named i weight s.views), code, mine, agrees),
     )
-
--- the same, by the index that was computed and the operation that was matched
-pub steps_at_word : (words family slots id : ℕ) (me : Me PermitSlot View) (number : ℕ) (kind : WordKind) (at : ℕ) (op op' : Op) → op ≡ op' → at ≡ word_index number kind → number < words → MayStep kind (word_index number kind) op me.0.owns
-    → Allows (LotRule words family) slots id me at (apply op') (TakesStep at op' me)
-steps_at_word words family slots id me number kind at op op' same there below may =
-    let may' : MayStep kind (word_index number kind) op' me.0.owns = subst (λ (x : Op). MayStep kind (word_index number kind) x me.0.owns) same may in
-    subst (λ (i : ℕ). Allows (LotRule words family) slots id me i (apply op') (TakesStep i op' me)) (sym there) (steps words family slots id me number kind op' below may')
-
-pub set_elem : {A : Type 0} (xs : List A) (j : ℕ) (x : A) → get_elem? xs j ≡ some x → set xs j x ≡ xs
-set_elem [] j x e = refl
-set_elem (y ∷ ys) zero x e = ap (λ z. z ∷ ys) (sym (some-injective y x e))
-set_elem (y ∷ ys) (suc j) x e = ap (λ zs. y ∷ zs) (set_elem ys j x e)
-
--- a load that finds bits set is an or with these, and any other is no step
-pub sees_set : (words family slots id : ℕ) (me : Me PermitSlot View) (number : ℕ) (kind : WordKind) (bits : ℕ) → number < words → MayStep kind (word_index number kind) (Or bits) me.0.owns
-    → Allows (LotRule words family) slots id me (word_index number kind) (λ n. n) (saw_set bits (step slots (word_index number kind) 0 0 none) me)
-sees_set words family slots id me number kind bits below may s o wide at fits =
-    let i : ℕ = word_index number kind in let n : ℕ = get_or s.words i 0 in
-    dite (ℕ_discrete (bit_or n bits) n)
-    (λ e. let t = steps words family slots id me number kind (Or bits) below may s o wide at fits in
-    (t.0, t.1, t.2, subst (λ (m : ℕ). LotRule words family (stepped s i m id me.1 t.0 t.1)) e t.3, ((λ _. t.4), λ ne. absurd (ne e))))
-    (λ ne. (
-      me.0,
-      keeps,
-      tt,
-      subst (λ (xs : List ℕ). LotRule words family (record { words = xs; homes = s.homes; views = set s.views id me.0 })) (sym (set-get_or s.words i 0))
-          (subst (λ (vs : List View). LotRule words family (record { words = s.words; homes = s.homes; views = vs })) (sym (set_elem s.views id me.0 at)) o),
-      ((λ e. absurd (ne e)), λ _. refl),
-    ))
 
 -- the law of steps on the counter, which only adds to it
 count_turned : (words family : ℕ) (s : State PermitSlot View) (o : LotRule words family s) (j m : ℕ) (v w : View) → get_elem? s.views j ≡ some v → get_or s.words counter 0 ≤ m → m ≤ words
-    → w.owns ≡ v.owns → w.saw ≤ m → ((r : ℕ) → 0 < r → steps_at r w ≡ steps_at r v)
+    → w.owns ≡ v.owns → w.out ≡ v.out → w.saw ≤ m → ((r : ℕ) → 0 < r → steps_at r w ≡ steps_at r v)
     → ((weight : ℕ → ℕ) → drew weight w + total_below weight (get_or s.words counter 0) ≡ drew weight v + total_below weight m)
     → LotRule words family (record { words = set s.words counter m; homes = s.homes; views = set s.views j w })
-count_turned words family s o j m v w me up fits same-owns saw same-steps same-drawn =
+count_turned words family s o j m v w me up fits same-owns same-out saw same-steps same-drawn =
     let size = o.size in let vs = set s.views j w in
     let here : get_or (set s.words counter m) counter 0 ≡ m = get_or-set_same s.words counter m 0 (omega arith) in
     let there : (r : ℕ) → 0 < r → get_or (set s.words counter m) r 0 ≡ get_or s.words r 0 = λ r h. get_or-set_other s.words counter r m 0 (λ e. omega arith) in
@@ -299,8 +285,12 @@ count_turned words family s o j m v w me up fits same-owns saw same-steps same-d
       drawn = λ weight. omega (arith, total-set (drew weight) s.views j v w me, o.drawn weight, same-drawn weight, ap (total_below weight) here);
       enough = omega arith;
       saw = λ q u e. ⊎_elim (λ t. omega (arith, ap (λ (y : View). y.saw) t.1)) (λ t. let old = o.saw q u t.1 in omega arith) (at_set s.views j q w u e);
+      carried = λ q u e. ⊎_elim (λ t. subst (λ (y : View). MayHaveOut words y.out y.owns) t.1
+          (subst (λ (out : List ℕ). MayHaveOut words out w.owns) (sym same-out) (subst (λ (owns : List Ownership). MayHaveOut words v.out owns) (sym same-owns) (o.carried j v me))))
+          (λ t. o.carried q u t.1) (at_set s.views j q w u e);
       homes = o.homes ∙ sym (length-set s.words counter m);
-      permits = λ number' below none. o.permits number' below (same-named (word_index number' Mutex) opened ∙ none);
+      permits = λ number' below none. let r : ℕ = word_index number' Mutex in
+          o.permits number' below (omega (arith, total-set (outs r) s.views j v w me, ap (total (λ (k : ℕ). cond (eqb k r) 1 0)) same-out));
     }
 
 at_counter : (v : View) (op : Op) (found r : ℕ) → 0 < r → total (λ (step : WordStep). cond (eqb step.at r) 1 0) (listed v counter op found) ≡ steps_at r v
@@ -308,8 +298,8 @@ at_counter v op found r above = omega (arith, steps_more v counter found r op, c
 
 -- a look at the counter
 pub look : (words family slots id : ℕ) (me : Me PermitSlot View) → Allows (LotRule words family) slots id me counter (λ n. n) (looks (step slots counter 0 0 none) me)
-look words family slots id me s o wide at fits = let n : ℕ = get_or s.words counter 0 in let w = view (listed me.0 counter Load n) me.0.owns me.0.drawn n in
-    (w, keeps, tt, count_turned words family s o id n me.0 w at (omega arith) o.enough refl (omega arith) (λ r h. at_counter me.0 Load n r h) (λ weight. refl), refl)
+look words family slots id me s o wide at fits = let n : ℕ = get_or s.words counter 0 in let w = with_out me.0.out (view (listed me.0 counter Load n) me.0.owns me.0.drawn n) in
+    (w, keeps, tt, count_turned words family s o id n me.0 w at (omega arith) o.enough refl refl (omega arith) (λ r h. at_counter me.0 Load n r h) (λ weight. refl), refl)
 
 -- the numbers that are drawn together
 total_below-numbered : (weight : ℕ → ℕ) (n : ℕ) (kinds : List WordKind) → total (λ (word : Drawn). weight word.number) (numbered n kinds) + total_below weight n ≡ total_below weight (n + length kinds)
@@ -323,21 +313,21 @@ draw words family slots id me kinds seen saw room s o wide at fits =
     let n : ℕ = get_or s.words counter 0 in let new : ℕ = seen + length kinds in let op = Exchange seen new in
     let Goal : ℕ → Type 0 = λ (y : ℕ). (w : View) × (a : Act PermitSlot) × Valid s.homes me.1 a × LotRule words family (stepped s counter y id me.1 w a) × draws kinds (step slots counter seen new none) me n (w, carried_after me.1 a) in
     dite (ℕ_discrete n seen)
-    (λ e. let w = view (listed me.0 counter op n) me.0.owns (numbered n kinds ++ me.0.drawn) new in
+    (λ e. let w = with_out me.0.out (view (listed me.0 counter op n) me.0.owns (numbered n kinds ++ me.0.drawn) new) in
     subst (λ b. Goal (either b new n)) (sym (eq-eqb n seen e)) (
       w,
       keeps,
       tt,
-      count_turned words family s o id new me.0 w at (omega arith) room refl (omega arith) (λ r h. at_counter me.0 op n r h)
+      count_turned words family s o id new me.0 w at (omega arith) room refl refl (omega arith) (λ r h. at_counter me.0 op n r h)
           (λ weight. omega (arith, total-append (λ (word : Drawn). weight word.number) (numbered n kinds) me.0.drawn, total_below-numbered weight n kinds, ap (λ (k : ℕ). total_below weight (k + length kinds)) e)),
       ((λ _. refl), λ ne. absurd (ne e)),
     ))
-    (λ ne. let w = view (listed me.0 counter op n) me.0.owns me.0.drawn n in
+    (λ ne. let w = with_out me.0.out (view (listed me.0 counter op n) me.0.owns me.0.drawn n) in
     subst (λ b. Goal (either b new n)) (sym (ne_eqb n seen ne)) (
       w,
       keeps,
       tt,
-      count_turned words family s o id n me.0 w at (omega arith) o.enough refl (omega arith) (λ r h. at_counter me.0 op n r h) (λ weight. refl),
+      count_turned words family s o id n me.0 w at (omega arith) o.enough refl refl (omega arith) (λ r h. at_counter me.0 op n r h) (λ weight. refl),
       ((λ e. absurd (ne e)), λ _. (omega (arith, o.saw id me.0 at), refl)),
     ))
 

@@ -1,11 +1,12 @@
 pub mod Totals
+mod Lists
 pub mod Looks
 mod Indices
 pub mod Trades
 mod Counts
 pub mod Keeps
 pub mod PermitSteps
-pub mod OpenSteps
+mod Stepping
 mod Seats
 pub mod MutexSteps
 pub mod RwLockSteps

@@ -6,7 +6,7 @@ use Rattle.lot_base.specs.Words.{apply}
 use Rattle.lot_base.specs.declared.ops.Op.{Op}
 use Rattle.lot_base.specs.declared.ops.Op.TheVariants.{Load, Store, Sub, Or, And, Exchange}
 use Rattle.lot_words.specs.Views.{total, owned, owning}
-use Rattle.lot_words.specs.Codes.{Owners, IsMutexCode, everyone, exclusive, opened}
+use Rattle.lot_words.specs.Codes.{Owners, IsMutexCode, everyone, exclusive}
 use Rattle.lot_words.specs.Steps.{Trade, trading, has, HasAll, MayStep}
 use Rattle.lot_words.specs.Laws.{MutexMaySteps}
 use Rattle.lot_words.specs.declared.owners.Owner.{Owner}
@@ -22,12 +22,12 @@ mutex_step at op owns ok n owners fits code mine agrees =
     let Goal : Trade → Type 0 = λ t. HasAll at t.gives owns × ((after : Owners) → ((weight : Owner → ℕ) → after weight + total weight t.gives ≡ owners weight + total weight t.gets) → IsMutexCode m after) × Unit {0} in
     dite (ℕ_discrete (n % 2) (m % 2))
     (λ e. subst (λ b. Goal (cond b (trading [] []) (cond (eqb (n % 2) 0) (trading [] (Exclusive ∷ [])) (trading (Exclusive ∷ []) [])))) (sym (eq-eqb (n % 2) (m % 2) e))
-    (tt, (λ after same. (near, omega (arith, same everyone), omega (arith, same exclusive, same opened))), tt))
+    (tt, (λ after same. (near, omega (arith, same everyone), omega (arith, same exclusive))), tt))
     (λ ne. subst (λ b. Goal (cond b (trading [] []) (cond (eqb (n % 2) 0) (trading [] (Exclusive ∷ [])) (trading (Exclusive ∷ []) [])))) (sym (ne_eqb (n % 2) (m % 2) ne)) (dite (ℕ_discrete (n % 2) 0)
     (λ z. subst (λ b. Goal (cond b (trading [] (Exclusive ∷ [])) (trading (Exclusive ∷ []) []))) (sym (eq-eqb (n % 2) 0 z))
-    (tt, (λ after same. (near, omega (arith, same everyone), omega (arith, same exclusive, same opened))), tt))
+    (tt, (λ after same. (near, omega (arith, same everyone), omega (arith, same exclusive))), tt))
     (λ nz. subst (λ b. Goal (cond b (trading [] (Exclusive ∷ [])) (trading (Exclusive ∷ []) []))) (sym (ne_eqb (n % 2) 0 nz))
-    ((step.1 (omega arith) (omega arith), tt), (λ after same. (near, omega (arith, same everyone), omega (arith, same exclusive, same opened))), tt))))
+    ((step.1 (omega arith) (omega arith), tt), (λ after same. (near, omega (arith, same everyone), omega (arith, same exclusive))), tt))))
 
 -- of the four codes
 pub each_code : (P : ℕ → Type 0) → P 0 → P 1 → P 2 → P 3 → (n : ℕ) → n < 4 → P n

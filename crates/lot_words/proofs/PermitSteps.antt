@@ -1,134 +1,131 @@
 -- Permits go out of their slots, and back.
-use Rattle.std.proofs.Common.{◌≡◌, ℕ, zero, suc, ◌+◌, ◌<◌, ◌≤◌, ◌≢◌, ⊎_elim, inl, inr, List, [], ◌∷◌, ◌++◌, length, get_or, set, map, sym, refl, ap, ◌∙◌, subst, arith, length-set}
+use Rattle.std.proofs.Common.{◌≡◌, ℕ, zero, suc, ◌+◌, ◌<◌, ◌≤◌, ⊎_elim, inl, inr, List, [], ◌∷◌, ◌++◌, length, get_or, set, map, cond, eqb, sym, refl, ap, ◌∙◌, subst, arith, length-set}
 use mathlib.Core.Logic.{dite}
 use mathlib.Core.Option.{Option, some, none, some-injective, some-ne-none}
 use Rattle.std.proofs.lemmas.List.{set-get_or}
 use native.Mathlib.Decide.{ℕ_discrete}
 use lib.ListN.{get_elem?, replicate, length-replicate, get_or-replicate}
-use Rattle.atomic_table.specs.Table.{State, Me, step, takes, gives, rest, put_back, Allows, opening}
+use Rattle.atomic_table.specs.Table.{State, Me, step, takes, gives, chain, rest, put_back, Allows, opening}
 use Rattle.atomic_table.proofs.Lists.{at_set}
-use Rattle.lot_words.specs.Indices.{word_index, counter, mutex_of_count, table_size}
-use Rattle.lot_words.specs.Views.{view, blank, total, total_below, owned, owning, named, counted, steps_at, drew}
-use Rattle.lot_words.specs.Codes.{Codes, IsMutexCode, everyone, exclusive, opened}
-use Rattle.lot_words.specs.Permits.{slot_at, laid}
-use Rattle.lot_words.specs.Plays.{piece, opens, closes}
-use Rattle.lot_words.specs.Rule.{LotRule}
-use Rattle.lot_words.specs.declared.owners.Owner.{Owner}
-use Rattle.lot_words.specs.declared.owners.Owner.TheVariants.{Exclusive, Opened}
+use Rattle.lot_words.specs.Indices.{word_index, counter, table_size}
+use Rattle.lot_words.specs.Views.{blank, shown, with_out, total, total_below, owned, named, counted, steps_at, outs, drew}
+use Rattle.lot_words.specs.Codes.{Codes, IsMutexCode, exclusive}
+use Rattle.lot_words.specs.Permits.{slot_at, slots_of, laid}
+use Rattle.lot_words.specs.Plays.{opens, closes}
+use Rattle.lot_words.specs.Rule.{LotRule, MayHaveOut}
 use Rattle.lot_words.specs.declared.owners.Ownership.{Ownership}
 use Rattle.lot_words.specs.declared.views.View.{View}
 use Rattle.lot_words.specs.declared.words.WordKind.{WordKind}
 use Rattle.lot_words.specs.declared.words.WordKind.TheVariants.{Mutex, RwLock, Condvar, Once, Count}
 use Rattle.value_place.specs.declared.slot.PermitSlot.{PermitSlot}
-use Rattle.lot_words.proofs.Keeps.{shown_still}
-use Rattle.lot_words.proofs.Totals.{total-set, term_le, cond_same, cond_other}
-use Rattle.lot_words.proofs.Indices.{rank_lt, index-number, index-kind}
+use Rattle.lot_words.proofs.Keeps.{reseated}
+use Rattle.lot_words.proofs.Lists.{has_index, set_again, set_else, set_here}
+use Rattle.lot_words.proofs.Totals.{total-le, total-set, cond_same, cond_other}
+use Rattle.lot_words.proofs.Indices.{rank_lt}
 
-pub set_here : {A : Type 0} (l : List A) (i : ℕ) (a : A) → i < length l → get_elem? (set l i a) i ≡ some a
-set_here [] i a h = absurd (omega arith)
-set_here (x ∷ xs) zero a h = refl
-set_here (x ∷ xs) (suc i) a h = set_here xs i a (omega arith)
+-- who has at most one slot has none without it
+pub rest_none : (words family : ℕ) (out : List ℕ) (owns : List Ownership) → MayHaveOut words out owns → rest (slots_of family out) ≡ []
+rest_none words family out owns carries = ⊎_elim (λ none. ap (λ l. rest (slots_of family l)) none) (λ t. ap (λ l. rest (slots_of family l)) t.2) carries
 
-pub set_else : {A : Type 0} (l : List A) (i j : ℕ) (a : A) → j ≢ i → get_elem? (set l i a) j ≡ get_elem? l j
-set_else [] i j a n = refl
-set_else (x ∷ xs) zero zero a n = absurd (n refl)
-set_else (x ∷ xs) zero (suc j) a n = refl
-set_else (x ∷ xs) (suc i) zero a n = refl
-set_else (x ∷ xs) (suc i) (suc j) a n = set_else xs i j a (λ e. n (ap suc e))
+-- the permit of one mutex is out at the index of that alone
+one_out : (j r : ℕ) (out : List ℕ) → out ≡ j ∷ [] → total (λ (k : ℕ). cond (eqb k r) 1 0) out ≡ cond (eqb j r) 1 0
+one_out j r out e = omega (arith, ap (total (λ (k : ℕ). cond (eqb k r) 1 0)) e)
 
-pub has_index : {A : Type 0} (l : List A) (j : ℕ) (a : A) → get_elem? l j ≡ some a → j < length l
-has_index [] j a e = absurd (some-ne-none a (sym e))
-has_index (b ∷ l) zero a e = omega arith
-has_index (b ∷ l) (suc j) a e = omega (arith, has_index l j a e)
+none_out : (r : ℕ) (out : List ℕ) → out ≡ [] → total (λ (k : ℕ). cond (eqb k r) 1 0) out ≡ 0
+none_out r out e = ap (total (λ (k : ℕ). cond (eqb k r) 1 0)) e
 
--- what a list names that begins with one ownership, by any weight
-pub first_owns : (i : ℕ) (x : Owner) (os : List Ownership) (weight : Owner → ℕ) → owned i weight (owning i x ∷ os) ≡ weight x + owned i weight os
-first_owns i x os weight = omega (arith, cond_same i i (weight x) refl)
-
-pub first_elsewhere : (i r : ℕ) (x : Owner) (os : List Ownership) (weight : Owner → ℕ) → r ≢ i → owned r weight (owning i x ∷ os) ≡ owned r weight os
-first_elsewhere i r x os weight ne = omega (arith, cond_other i r (weight x) (λ e. ne (sym e)))
-
-pub first_counts : (i r : ℕ) (x : Owner) (os : List Ownership) → counted r (owning i x ∷ os) ≡ counted r os
-first_counts i r x os = dite (ℕ_discrete i r) (λ e. omega (arith, cond_same i r 0 e)) (λ ne. omega (arith, cond_other i r 0 ne))
-
--- a view that owns this first, and these
-abbrev pub first : Ownership → List Ownership → View → View
-first x os v = view v.steps (x ∷ os) v.drawn v.saw
+-- a permit is out no more often than its mutex is owned
+pub out_owned : (words i : ℕ) (v : View) → MayHaveOut words v.out v.owns → outs i v ≤ owned i exclusive v.owns
+out_owned words i v carries = ⊎_elim (λ none. omega (arith, none_out i v.out none))
+    (λ t. let j : ℕ = word_index t.0 Mutex in let some' = t.3 in
+    dite (ℕ_discrete j i)
+    (λ e. let there : 0 < owned i exclusive v.owns = subst (λ (r : ℕ). 0 < owned r exclusive v.owns) e some' in omega (arith, one_out j i v.out t.2, cond_same j i 1 e))
+    (λ ne. omega (arith, one_out j i v.out t.2, cond_other j i 1 ne)))
+    carries
 
 module _ (words family : ℕ) (s : State PermitSlot View) (o : LotRule words family s) where
-  -- the owner of a mutex opens its value, or closes it, and the slot follows
-  pub reopened : (number id : ℕ) (x y : Owner) (h : Option PermitSlot) (os : List Ownership) (u : View) → number < words → get_elem? s.views id ≡ some (first (owning (word_index number Mutex) x) os u)
-      → exclusive x + opened x ≡ 1 → exclusive y + opened y ≡ 1
-      → (opened y ≡ 0 → h ≡ some (slot_at family (word_index number Mutex)))
-      → LotRule words family (record { words = s.words; homes = set s.homes (word_index number Mutex) h; views = set s.views id (first (owning (word_index number Mutex) y) os u) })
-  reopened number id x y h os u below me one one' slot =
-      let i : ℕ = word_index number Mutex in let v = first (owning i x) os u in let w = first (owning i y) os u in let vs = set s.views id w in
-      let size = o.size in let same-homes = o.homes in
-      let near : i < length s.words = omega arith in
-      let sum : (r : ℕ) (weight : Owner → ℕ) → named r weight vs + owned r weight v.owns ≡ named r weight s.views + owned r weight w.owns = λ r weight. total-set (λ (u : View). owned r weight u.owns) s.views id v w me in
-      let here : (weight : Owner → ℕ) → named i weight vs + weight x ≡ named i weight s.views + weight y = λ weight. omega (arith, sum i weight, first_owns i x os weight, first_owns i y os weight) in
-      let there : (r : ℕ) → r ≢ i → (weight : Owner → ℕ) → named r weight vs ≡ named r weight s.views = λ r ne weight. omega (arith, sum r weight, first_elsewhere i r x os weight ne, first_elsewhere i r y os weight ne) in
-      let steps : (r : ℕ) → total (steps_at r) vs ≡ total (steps_at r) s.views = λ r. omega (arith, total-set (steps_at r) s.views id v w me) in
-      let code : IsMutexCode (get_or s.words i 0) (λ weight. named i weight s.views) = o.coded number Mutex below in
-      let code₁ = code.1 in let code₂ = code.2 in
-      let mine : owned i everyone v.owns ≤ named i everyone s.views = term_le (λ (u : View). owned i everyone u.owns) s.views id v me in
-      let some_owner : 0 < named i everyone s.views = omega (arith, first_owns i x os everyone) in
-      record {
-        size = o.size;
-        coded = λ number' kind' below'. dite (ℕ_discrete (word_index number' kind') i)
-            (λ e. let n≡ = index-number number' number kind' Mutex e in let k≡ = index-kind number' number kind' Mutex e in
-            let Goal : ℕ → WordKind → Type 0 = λ n k. Codes k (get_or s.words (word_index n k) 0) (λ weight. named (word_index n k) weight vs) in
-            subst (λ (k : WordKind). Goal number' k) (sym k≡) (subst (λ (n : ℕ). Goal n Mutex) (sym n≡) (code.0, omega (arith, here everyone), omega (arith, here exclusive, here opened))))
-            (λ ne. subst (Codes kind' (get_or s.words (word_index number' kind') 0)) (λ k weight. sym (there (word_index number' kind') ne weight) k) (o.coded number' kind' below'));
-        shows = λ number' below'. shown_still words number' s.views vs (get_or s.words (word_index number' Condvar) 0) (λ k. omega (arith, steps (word_index k Mutex))) (o.shows number' below');
-        counts = λ number' below'. let old = o.counts number' below' in let r : ℕ = mutex_of_count (word_index number' Count) in
-            (old.0, old.1 ∙ omega (arith, total-set (λ (u : View). counted r u.owns) s.views id v w me, first_counts i r x os, first_counts i r y os));
-        owned = λ r weight some. dite (ℕ_discrete r i) (λ e. (omega arith, omega arith)) (λ ne. o.owned r weight (omega (arith, there r ne weight)));
-        untouched = λ r above h' none'. o.untouched r above h' (omega (arith, steps r));
-        drawn = λ weight. omega (arith, total-set (drew weight) s.views id v w me, o.drawn weight);
-        enough = o.enough;
-        saw = λ q z e. ⊎_elim (λ t. let old = o.saw id v me in omega (arith, ap (λ (y : View). y.saw) t.1)) (λ t. o.saw q z t.1) (at_set s.views id q w z e);
-        homes = length-set s.homes i h ∙ o.homes;
-        permits = λ number' below' none'. dite (ℕ_discrete (word_index number' Mutex) i)
-            (λ e. let shut : opened y ≡ 0 = (let gone : named i opened vs ≡ 0 = subst (λ (r : ℕ). named r opened vs ≡ 0) e none' in let fits = term_le (λ (u : View). owned i opened u.owns) vs id w (set_here s.views id w (has_index s.views id v me)) in omega (arith, first_owns i y os opened)) in
-            subst (λ (r : ℕ). get_elem? (set s.homes i h) r ≡ some (some (slot_at family r))) (sym e) (set_here s.homes i h (omega arith) ∙ ap some (slot shut)))
-            (λ ne. set_else s.homes i (word_index number' Mutex) h ne ∙ o.permits number' below' (sym (there (word_index number' Mutex) ne opened) ∙ none'));
-      }
+  -- a seat has other permits out, and the slots follow
+  reslotted : (id : ℕ) (v : View) (out : List ℕ) (hs : List (Option PermitSlot)) → get_elem? s.views id ≡ some v → length hs ≡ length s.homes → MayHaveOut words out v.owns
+      → ((number : ℕ) → number < words → total (outs (word_index number Mutex)) (set s.views id (with_out out v)) ≡ 0 → get_elem? hs (word_index number Mutex) ≡ some (some (slot_at family (word_index number Mutex))))
+      → LotRule words family (record { words = s.words; homes = hs; views = set s.views id (with_out out v) })
+  reslotted id v out hs at same carries permits = let w = with_out out v in
+      reseated words family s o hs (set s.views id w)
+      (λ r weight. omega (arith, total-set (λ (u : View). owned r weight u.owns) s.views id v w at))
+      (λ r. omega (arith, total-set (λ (u : View). counted r u.owns) s.views id v w at))
+      (λ r. omega (arith, total-set (steps_at r) s.views id v w at))
+      (λ weight. omega (arith, total-set (drew weight) s.views id v w at))
+      (λ q u e. ⊎_elim (λ t. let old = o.saw id v at in omega (arith, ap (λ (y : View). y.saw) t.1)) (λ t. o.saw q u t.1) (at_set s.views id q w u e))
+      (λ q u e. ⊎_elim (λ t. subst (λ (y : View). MayHaveOut words y.out y.owns) t.1 carries) (λ t. o.carried q u t.1) (at_set s.views id q w u e))
+      same permits
+
+  -- what is out with a seat is laid back
+  pub laid_back : (id : ℕ) (v : View) → get_elem? s.views id ≡ some v
+      → LotRule words family (record { words = s.words; homes = put_back s.homes (slots_of family v.out); views = set s.views id (shown v) })
+  laid_back id v at = let size = o.size in let same-homes = o.homes in
+      let Goal : List ℕ → Type 0 = λ out. LotRule words family (record { words = s.words; homes = put_back s.homes (slots_of family out); views = set s.views id (shown v) }) in
+      let sum : (r : ℕ) → total (outs r) (set s.views id (shown v)) + outs r v ≡ total (outs r) s.views = λ r. omega (arith, total-set (outs r) s.views id v (shown v) at) in
+      ⊎_elim
+      (λ none. subst Goal (sym none) (reslotted id v [] s.homes at refl (inl refl)
+      (λ number below z. let r : ℕ = word_index number Mutex in o.permits number below (omega (arith, sum r, none_out r v.out none)))))
+      (λ t. let j : ℕ = word_index t.0 Mutex in let below' = t.1 in let slot = slot_at family j in
+      subst Goal (sym t.2) (reslotted id v [] (set s.homes j (some slot)) at (length-set s.homes j (some slot)) (inl refl)
+      (λ number below z. let r : ℕ = word_index number Mutex in
+      dite (ℕ_discrete r j)
+      (λ e. subst (λ (k : ℕ). get_elem? (set s.homes j (some slot)) k ≡ some (some (slot_at family k))) (sym e) (set_here s.homes j (some slot) (omega arith)))
+      (λ ne. set_else s.homes j r (some slot) ne ∙ o.permits number below (omega (arith, sum r, one_out j r v.out t.2, cond_other j r 1 (λ e. ne (sym e))))))))
+      (o.carried id v at)
+
+  -- who owns a mutex, and has nothing out, finds its permit in the slot, and has it out then
+  pub goes_out : (number id : ℕ) (v : View) → get_elem? s.views id ≡ some v → v.out ≡ [] → number < words → 0 < owned (word_index number Mutex) exclusive v.owns
+      → (get_elem? s.homes (word_index number Mutex) ≡ some (some (slot_at family (word_index number Mutex))))
+      × LotRule words family (record { words = s.words; homes = set s.homes (word_index number Mutex) none; views = set s.views id (with_out (word_index number Mutex ∷ []) v) })
+  goes_out number id v at nothing below some' =
+      let i : ℕ = word_index number Mutex in let w = with_out (i ∷ []) v in let vs = set s.views id blank in
+      let code : IsMutexCode (get_or s.words i 0) (λ weight. named i weight s.views) = o.coded number Mutex below in let alone = code.2 in
+      let others : total (outs i) vs ≤ total (λ (u : View). owned i exclusive u.owns) vs =
+      total-le (outs i) (λ (u : View). owned i exclusive u.owns) vs (λ q u e. out_owned words i u
+      (⊎_elim (λ t. subst (λ (y : View). MayHaveOut words y.out y.owns) t.1 (inl refl)) (λ t. o.carried q u t.1) (at_set s.views id q blank u e))) in
+      let nobody : total (outs i) s.views ≡ 0 = omega (arith, total-set (outs i) s.views id v blank at, total-set (λ (u : View). owned i exclusive u.owns) s.views id v blank at, none_out i v.out nothing) in (
+        o.permits number below nobody,
+        reslotted id v (i ∷ []) (set s.homes i none) at (length-set s.homes i none) (inr (number, below, refl, some'))
+            (λ number' below' z. let r : ℕ = word_index number' Mutex in
+            dite (ℕ_discrete r i)
+            (λ e. absurd (omega (arith, total-set (outs r) s.views id v w at, none_out r v.out nothing, cond_same i r 1 (sym e))))
+            (λ ne. set_else s.homes i r none ne ∙ o.permits number' below' (omega (arith, total-set (outs r) s.views id v w at, none_out r v.out nothing, cond_other i r 1 (λ e. ne (sym e)))))),
+      )
 
 -- the same words, and the views and homes that a load leaves
 loaded : (words family : ℕ) (s : State PermitSlot View) (i : ℕ) (homes : List (Option PermitSlot)) (views : List View) → LotRule words family (record { words = s.words; homes = homes; views = views })
     → LotRule words family (record { words = set s.words i (get_or s.words i 0); homes = homes; views = views })
 loaded words family s i homes views o = subst (λ (xs : List ℕ). LotRule words family (record { words = xs; homes = homes; views = views })) (sym (set-get_or s.words i 0)) o
 
--- the owner of a mutex takes its permit out
-pub opens_allowed : (words family slots id : ℕ) (me : Me PermitSlot View) (number : ℕ) → number < words → me.0 ≡ piece (owning (word_index number Mutex) Exclusive)
-    → Allows (LotRule words family) slots id me 0 (λ n. n) (opens family (word_index number Mutex) (step slots 0 0 0 none) me)
-opens_allowed words family slots id me number below owns s o wide at fits =
-    let i : ℕ = word_index number Mutex in let v = piece (owning i Exclusive) in
-    let at' : get_elem? s.views id ≡ some v = at ∙ ap some owns in
-    let code : IsMutexCode (get_or s.words i 0) (λ weight. named i weight s.views) = o.coded number Mutex below in
-    let code₁ = code.1 in let code₂ = code.2 in
-    let mine : owned i exclusive v.owns ≤ named i exclusive s.views = term_le (λ (u : View). owned i exclusive u.owns) s.views id v at' in
-    let shut : named i opened s.views ≡ 0 = omega (arith, first_owns i Exclusive [] exclusive) in (
-      piece (owning i Opened),
-      takes i (slot_at family i),
-      o.permits number below shut,
-      loaded words family s 0 _ _ (reopened words family s o number id Exclusive Opened none [] blank below at' refl refl (λ e. absurd (omega arith))),
-      refl,
-    )
+-- a seat has nothing out
+pub closes_allowed : (words family slots id : ℕ) (me : Me PermitSlot View) → me.1 ≡ slots_of family me.0.out
+    → Allows (LotRule words family) slots id me 0 (λ n. n) (closes (step slots 0 0 0 none) me)
+closes_allowed words family slots id me held s o wide at fits = (
+  shown me.0,
+  gives,
+  tt,
+  loaded words family s 0 _ _ (subst (λ (c : List (ℕ × PermitSlot)). LotRule words family (record { words = s.words; homes = put_back s.homes c; views = set s.views id (shown me.0) })) (sym held) (laid_back words family s o id me.0 at)),
+  ap (λ c. (shown me.0, c)) (ap rest held ∙ rest_none words family me.0.out me.0.owns (o.carried id me.0 at)),
+)
 
--- and lays it back
-pub closes_allowed : (words family slots id : ℕ) (me : Me PermitSlot View) (number : ℕ) → number < words → me.0 ≡ piece (owning (word_index number Mutex) Opened)
-    → me.1 ≡ (word_index number Mutex, slot_at family (word_index number Mutex)) ∷ rest me.1
-    → Allows (LotRule words family) slots id me 0 (λ n. n) (closes (word_index number Mutex) (step slots 0 0 0 none) me)
-closes_allowed words family slots id me number below owns holds s o wide at fits =
-    let i : ℕ = word_index number Mutex in (
-      piece (owning i Exclusive),
-      gives,
-      tt,
-      loaded words family s 0 _ _ (subst (λ (c : List (ℕ × PermitSlot)). LotRule words family (record { words = s.words; homes = put_back s.homes c; views = set s.views id (piece (owning i Exclusive)) })) (sym holds)
-          (reopened words family s o number id Opened Exclusive (some (slot_at family i)) [] blank below (at ∙ ap some owns) refl refl (λ e. refl))),
-      refl,
+-- who owns a mutex has its permit out, and no other
+pub opens_allowed : (words family slots id : ℕ) (me : Me PermitSlot View) (number : ℕ) → number < words → 0 < owned (word_index number Mutex) exclusive me.0.owns → me.1 ≡ slots_of family me.0.out
+    → Allows (LotRule words family) slots id me 0 (λ n. n) (opens family (word_index number Mutex) (step slots 0 0 0 none) me)
+opens_allowed words family slots id me number below some' held s o wide at fits =
+    let i : ℕ = word_index number Mutex in let v = me.0 in let w = with_out (i ∷ []) v in
+    let homes = put_back s.homes (slots_of family v.out) in
+    let s₁ : State PermitSlot View = record { words = s.words; homes = homes; views = set s.views id (shown v) } in
+    let mine : LotRule words family s₁ = laid_back words family s o id v at in
+    let out = goes_out words family s₁ mine number id (shown v) (set_here s.views id (shown v) (has_index s.views id v at)) refl below some' in
+    let there : LotRule words family (record { words = s.words; homes = set homes i none; views = set s.views id w }) =
+    subst (λ vs. LotRule words family (record { words = s.words; homes = set homes i none; views = vs })) (set_again s.views id (shown v) w) out.1 in (
+      w,
+      chain gives (takes i (slot_at family i)),
+      (tt, subst (λ (c : List (ℕ × PermitSlot)). get_elem? (put_back s.homes c) i ≡ some (some (slot_at family i))) (sym held) out.0),
+      loaded words family s 0 _ _ (subst (λ (c : List (ℕ × PermitSlot)). LotRule words family (record { words = s.words; homes = set (put_back s.homes c) i none; views = set s.views id w })) (sym held) there),
+      ap (λ c. (w, (i, slot_at family i) ∷ c)) (ap rest held ∙ rest_none words family v.out v.owns (o.carried id v at)),
     )
 
 -- ---------------------------------------------------------------- the opening state
@@ -179,6 +176,10 @@ only_blank : (n seat : ℕ) (v : View) → get_elem? (blank ∷ []) seat ≡ som
 only_blank n zero v e = omega (arith, ap (λ (y : View). y.saw) (some-injective blank v e))
 only_blank n (suc seat) v e = absurd (some-ne-none v (sym e))
 
+only_nothing : (words seat : ℕ) (v : View) → get_elem? (blank ∷ []) seat ≡ some v → MayHaveOut words v.out v.owns
+only_nothing words zero v e = subst (λ (y : View). MayHaveOut words y.out y.owns) (some-injective blank v e) (inl refl)
+only_nothing words (suc seat) v e = absurd (some-ne-none v (sym e))
+
 first_index : (words : ℕ) → counter < table_size words
 first_index words = omega arith
 
@@ -194,6 +195,7 @@ opens_at_first words family = record {
   drawn = λ weight. sym (ap (total_below weight) (all_zero (table_size words) counter (first_index words)));
   enough = subst (λ (x : ℕ). x ≤ words) (sym (all_zero (table_size words) counter (first_index words))) (omega arith);
   saw = λ seat v e. only_blank (get_or (replicate (table_size words) 0) counter 0) seat v e;
+  carried = λ seat v e. only_nothing words seat v e;
   homes = map_length (laid family (table_size words)) ∙ laid_length family (table_size words) ∙ sym (zeros_length (table_size words));
   permits = λ number below none'. laid_at family (table_size words) (word_index number Mutex) (omega arith);
 }

@@ -3,12 +3,14 @@ use Rattle.std.proofs.Common.{◌≡◌, ℕ, zero, suc, ◌+◌, ◌<◌, ◌�
 use mathlib.Core.Logic.{dite}
 use native.Mathlib.Decide.{ℕ_discrete}
 use Rattle.lot_words.specs.Indices.{word_index, mutex_of_count}
-use Rattle.lot_words.specs.Views.{total, total_below, counted}
-use Rattle.lot_words.specs.RuleLaws.{DrawnOnce, NeverFalls, UntouchedIs0, ShownIsAMutex, CountsAnOwner, RunsOneAtATime}
+use Rattle.lot_words.specs.Views.{total, total_below, owned, counted, outs}
+use Rattle.lot_words.specs.Codes.{exclusive}
+use Rattle.lot_words.specs.RuleLaws.{DrawnOnce, NeverFalls, UntouchedIs0, ShownIsAMutex, CountsAnOwner, RunsOneAtATime, UnlockedHasItsPermit}
 use Rattle.lot_words.specs.declared.views.View.{View}
 use Rattle.lot_words.specs.declared.words.WordKind.TheVariants.{Mutex, Once, Count}
 use Rattle.lot_words.proofs.Counts.{no_counts}
-use Rattle.lot_words.proofs.Totals.{cond_same, cond_other}
+use Rattle.lot_words.proofs.PermitSteps.{out_owned}
+use Rattle.lot_words.proofs.Totals.{cond_same, cond_other, total-le}
 
 -- a number is counted once below any bound above it
 below_none : (n c : ℕ) → c ≤ n → total_below (λ k. cond (eqb k n) 1 0) c ≡ 0
@@ -41,3 +43,7 @@ counts_an_owner words family s rule number below = let here = rule.counts (numbe
 pub one_at_a_time : RunsOneAtATime
 one_at_a_time words family s rule number below = let code = rule.coded number Once below in let runs = code.1 in
     (omega (arith, runs), λ some. let done = code.2 some in (done, omega (arith, runs, done)))
+
+pub unlocked_has_its_permit : UnlockedHasItsPermit
+unlocked_has_its_permit words family s rule number below even = let i : ℕ = word_index number Mutex in let code = rule.coded number Mutex below in let alone = code.2 in
+    rule.permits number below (omega (arith, total-le (outs i) (λ (u : View). owned i exclusive u.owns) s.views (λ q u e. out_owned words i u (rule.carried q u e))))

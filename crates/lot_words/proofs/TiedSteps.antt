@@ -18,7 +18,9 @@ use Rattle.lot_words.specs.declared.owners.Ownership.{Ownership}
 use Rattle.lot_words.specs.declared.views.View.{View}
 use Rattle.lot_words.specs.declared.words.WordKind.TheVariants.{Mutex, Condvar, Count}
 use Rattle.value_place.specs.declared.slot.PermitSlot.{PermitSlot}
-use Rattle.lot_words.proofs.Keeps.{steps, shows_more}
+use Rattle.lot_words.specs.Permits.{slots_of}
+use Rattle.lot_words.proofs.Keeps.{shows_more}
+use Rattle.lot_words.proofs.Stepping.{steps}
 
 -- the law of steps on a condition variable's word
 condvar_step : (at : ℕ) (op : Op) (owns : List Ownership) → ((n : ℕ) → MayTie Condvar at n (apply op n) owns) → MayStep Condvar at op owns
@@ -54,10 +56,10 @@ count_steps mutex owns = record {
 }
 
 -- a load of a condition variable's word, which tells what it may show
-pub sees_shown_allowed : (words family slots id : ℕ) (me : Me PermitSlot View) (number : ℕ) → number < words
-    → let i = word_index number Condvar in Allows (LotRule words family) slots id me i (λ n. n) (sees_shown words number (step slots i 0 0 none) me)
-sees_shown_allowed words family slots id me number below s o wide at fits =
-    let t = steps words family slots id me number Condvar Load below ((condvar_steps (word_index number Condvar) me.0.owns).load) s o wide at fits in
+pub sees_shown_allowed : (words family slots id : ℕ) (me : Me PermitSlot View) (number : ℕ) → number < words → me.1 ≡ slots_of family me.0.out
+    → let i = word_index number Condvar in Allows (LotRule words family) slots id me i (λ n. n) (sees_shown family words number (step slots i 0 0 none) me)
+sees_shown_allowed words family slots id me number below held s o wide at fits =
+    let t = steps words family slots id me number Condvar Load below held ((condvar_steps (word_index number Condvar) me.0.owns).load) s o wide at fits in
     let n : ℕ = get_or s.words (word_index number Condvar) 0 in
     let shown : ShowsBeside words number n = shows_more (MayBeShown words number s.views) (λ mutex. (mutex < words) × (mutex ≢ number)) n (λ k h. (h.0, h.1)) (o.shows number below) in
     (t.0, t.1, t.2, t.3, (t.4, shown))

@@ -19,6 +19,10 @@ module _ {A : Type 0} (weight : A → ℕ) where
   term_le (x ∷ xs) zero v e = omega (arith, ap weight (some-injective x v e))
   term_le (x ∷ xs) (suc j) v e = omega (arith, term_le xs j v e)
 
+pub total-le : {A : Type 0} (f g : A → ℕ) (xs : List A) → ((q : ℕ) (x : A) → get_elem? xs q ≡ some x → f x ≤ g x) → total f xs ≤ total g xs
+total-le f g [] each = omega arith
+total-le f g (x ∷ xs) each = omega (arith, each zero x refl, total-le f g xs (λ q y e. each (suc q) y e))
+
 pub total_below-suc : (weight : ℕ → ℕ) (n : ℕ) → total_below weight (n + 1) ≡ total_below weight n + weight n
 total_below-suc weight n = let e : n + 1 ≡ suc n = omega arith in ap (total_below weight) e
 

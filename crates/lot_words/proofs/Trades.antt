@@ -6,12 +6,12 @@ use Rattle.std.proofs.lemmas.Bool.{eqb-true, false≢true}
 use Rattle.lot_words.specs.Views.{total, owned, owning, owning_with, counted}
 use Rattle.lot_words.specs.Steps.{Trade, owner_rank, is_this, has, without, HasAll, without_all, owns_after, says_instead}
 use Rattle.lot_words.specs.declared.owners.Owner.{Owner}
-use Rattle.lot_words.specs.declared.owners.Owner.TheVariants.{Exclusive, Opened, Pending, Upgrading, Upgradable, Shared, Runner, Witness}
+use Rattle.lot_words.specs.declared.owners.Owner.TheVariants.{Exclusive, Pending, Upgrading, Upgradable, Shared, Runner, Witness}
 use Rattle.lot_words.specs.declared.owners.Ownership.{Ownership}
 use Rattle.lot_words.proofs.Totals.{total-append, total-map, total-same, total-none, cond_same, cond_other}
 
 owner_of : ℕ → Owner
-owner_of r = cond (eqb r 0) Exclusive (cond (eqb r 1) Pending (cond (eqb r 2) Upgradable (cond (eqb r 3) Shared (cond (eqb r 4) Runner (cond (eqb r 5) Witness (cond (eqb r 6) Upgrading Opened))))))
+owner_of r = cond (eqb r 0) Exclusive (cond (eqb r 1) Pending (cond (eqb r 2) Upgradable (cond (eqb r 3) Shared (cond (eqb r 4) Runner (cond (eqb r 5) Witness Upgrading)))))
 
 owner_of-rank : (o : Owner) → owner_of (owner_rank o) ≡ o
 unfolding owner_of
@@ -22,7 +22,6 @@ owner_of-rank Shared = refl
 owner_of-rank Runner = refl
 owner_of-rank Witness = refl
 owner_of-rank Upgrading = refl
-owner_of-rank Opened = refl
 
 both : (a b : Bool) → (a && b) ≡ true → (a ≡ true) × (b ≡ true)
 both true b e = (refl, e)
@@ -64,7 +63,7 @@ traded_elsewhere at t owns h r ne weight = let f = λ (x : Ownership). cond (eqb
     let none : (os : List Owner) → total (λ o. f (owning at o)) os ≡ 0 = λ os. total-none (λ (o : Owner). f (owning at o)) os (λ o. cond_other at r (weight o) (λ e. ne (sym e))) in
     omega (arith, traded f at t owns h, none t.gives, none t.gets)
 
-zero_either : (b : Bool) → cond {A = ℕ} b 0 0 ≡ 0
+pub zero_either : (b : Bool) → cond {A = ℕ} b 0 0 ≡ 0
 zero_either true = refl
 zero_either false = refl
 
@@ -87,3 +86,15 @@ said_total weight mutex found left owns may = dite (ℕ_discrete found left)
       | inl e ↦ absurd (ne (sym e))
       | inr there ↦ omega (arith, total-without weight (owning_with mutex found) owns there)
     ]))
+
+-- each ownership is this one
+pub is_itself : (x : Ownership) → is_this x x ≡ true
+is_itself x = ap (λ b. b && (eqb (owner_rank x.owner) (owner_rank x.owner) && eqb x.count x.count)) (eq-eqb x.at x.at refl)
+    ∙ ap (λ b. b && eqb x.count x.count) (eq-eqb (owner_rank x.owner) (owner_rank x.owner) refl) ∙ eq-eqb x.count x.count refl
+
+-- what is left of a list without what it begins with
+pub without_first : (x : Ownership) (owns : List Ownership) → without x (x ∷ owns) ≡ owns
+without_first x owns = ap (λ b. cond b owns (x ∷ without x owns)) (is_itself x)
+
+pub has_first : (x : Ownership) (owns : List Ownership) → has x (x ∷ owns) ≡ true
+has_first x owns = ap (λ b. b || has x owns) (is_itself x)

@@ -1,7 +1,7 @@
 -- What a lock word says of its owners.
 use Rattle.std.specs.Prelude.{◌≡◌, ◌≢◌, ℕ, ◌+◌, ◌*◌, ◌/◌, ◌%◌, ◌^◌, ◌<◌, ◌≤◌, ◌⊎◌}
 use Rattle.lot_words.specs.declared.owners.Owner.{Owner}
-use Rattle.lot_words.specs.declared.owners.Owner.TheVariants.{Exclusive, Opened, Pending, Upgrading, Upgradable, Shared, Runner, Witness}
+use Rattle.lot_words.specs.declared.owners.Owner.TheVariants.{Exclusive, Pending, Upgrading, Upgradable, Shared, Runner, Witness}
 use Rattle.lot_words.specs.declared.words.WordKind.{WordKind}
 use Rattle.lot_words.specs.declared.words.WordKind.TheVariants.{Mutex, RwLock, Condvar, Once, Count}
 
@@ -15,10 +15,6 @@ everyone _ = 1
 abbrev pub exclusive : Owner → ℕ
 exclusive Exclusive = 1
 exclusive _ = 0
-
-abbrev pub opened : Owner → ℕ
-opened Opened = 1
-opened _ = 0
 
 abbrev pub pending : Owner → ℕ
 pending Pending = 1
@@ -44,11 +40,9 @@ abbrev pub witness : Owner → ℕ
 witness Witness = 1
 witness _ = 0
 
--- LOCKED is 1, PARKED is 2: locked beside one owner, which is exclusive, whether the value is open
--- or not
+-- LOCKED is 1, PARKED is 2: locked beside one owner, which is exclusive
 abbrev pub IsMutexCode : ℕ → Owners → Type 0
-IsMutexCode n owners = (n < 4) × (owners everyone ≡ n % 2)
-    × (owners exclusive + owners opened ≡ n % 2)
+IsMutexCode n owners = (n < 4) × (owners everyone ≡ n % 2) × (owners exclusive ≡ n % 2)
 
 -- PARKED 1, WRITER_PARKED 2, UPGRADABLE 4, WRITER 8, and 16 for each reader. An upgradable owner is
 -- a reader too, and the count has room for the one that an upgrading owner is again where it gives

@@ -5,12 +5,14 @@ use Rattle.lot_words.specs.declared.words.Word.{Word}
 use Rattle.atomic_table.specs.declared.shared.Seat.{Seat}
 use Rattle.lot_words.specs.declared.views.View.{View}
 use Rattle.lot_words.specs.Indices.{word_index}
-use Rattle.lot_words.specs.Permits.{permit_at}
+use Rattle.lot_words.specs.Permits.{permit_at, slots_of}
 use Rattle.value_place.specs.PermitIds.{PermitId}
 use Rattle.value_place.specs.declared.slot.PermitSlot.{PermitSlot}
 
+-- with the slots of the mutexes whose permits are out with it, as its view says
 abbrev pub IsSeatOf : LotWords → Seat PermitSlot View → Type 0
-IsSeatOf lot seat = seat.table_id ≡ lot.table.shared.table_id
+IsSeatOf lot seat = (seat.table_id ≡ lot.table.shared.table_id)
+    × (seat.me.1 ≡ slots_of lot.table.shared.key.1.family seat.me.0.out)
 
 -- of the lot that drew it, by its tag
 abbrev pub IsWordOf : LotWords → Word → Type 0

@@ -1,12 +1,11 @@
 -- What a right names.
 use Rattle.std.specs.Prelude.{◌≡◌, ◌⊎◌, ◌/◌, ◌==◌, ℕ, List, [], ◌∷◌, Bool, cond, map, true, false}
 use Rattle.lot_words.specs.Indices.{word_index}
-use Rattle.lot_words.specs.Views.{owning, owning_with}
+use Rattle.lot_words.specs.Views.{owning, owning_with, with_out}
 use Rattle.lot_words.specs.Steps.{has}
-use Rattle.lot_words.specs.Permits.{bare}
 use Rattle.lot_words.specs.Plays.{piece, stepping, takes_in}
 use Rattle.lot_words.specs.declared.owners.Owner.{Owner}
-use Rattle.lot_words.specs.declared.owners.Owner.TheVariants.{Exclusive, Opened, Pending, Upgrading, Upgradable, Shared, Runner, Witness}
+use Rattle.lot_words.specs.declared.owners.Owner.TheVariants.{Exclusive, Pending, Upgrading, Upgradable, Shared, Runner, Witness}
 use Rattle.lot_words.specs.declared.owners.Ownership.{Ownership}
 use Rattle.lot_words.specs.declared.views.View.{View}
 use Rattle.lot_words.specs.declared.words.Word.{Word}
@@ -14,8 +13,6 @@ use Rattle.lot_words.specs.declared.words.WordKind.{WordKind}
 use Rattle.lot_words.specs.declared.words.WordKind.TheVariants.{Mutex, RwLock}
 use Rattle.lot_base.specs.declared.ops.Op.TheVariants.{Exchange}
 use Rattle.lot_base.specs.declared.wants.Want as wants
-use Rattle.value_place.specs.PermitIds.{PermitId}
-use Rattle.value_place.specs.declared.slot.PermitSlot.{PermitSlot}
 
 -- who has what was wanted owns the word so
 abbrev pub owner_for : wants.Want → Owner
@@ -28,7 +25,6 @@ owner_for wants.TheVariants.CallOnce = Runner
 -- what an owner wanted. Who waits for the last readers wants to own alone
 abbrev pub want_of : Owner → wants.Want
 want_of Exclusive = wants.TheVariants.Exclusive
-want_of Opened = wants.TheVariants.Exclusive
 want_of Pending = wants.TheVariants.Exclusive
 want_of Upgrading = wants.TheVariants.Exclusive
 want_of Upgradable = wants.TheVariants.Upgradable
@@ -64,21 +60,18 @@ piece_of word owner = piece (named_by word owner)
 abbrev pub OwnsWith : Word → ℕ → View → Type 0
 OwnsWith mutex count v = has (owning_with (word_index mutex.number Mutex) count) v.owns ≡ true
 
--- whether the permit of its value goes along with an ownership that is handed to another thread: it
--- does with a mutex
+-- whether the permit of its value goes along with an ownership: it does with a mutex
 abbrev pub takes_permit : WordKind → Owner → Bool
 takes_permit Mutex Exclusive = true
 takes_permit _ owner = false
 
--- how it is owned then, the slots that are out with it, and the permits that lie beside it
-abbrev pub owner_handed : WordKind → Owner → Owner
-owner_handed kind owner = cond (takes_permit kind owner) Opened owner
+-- the view of who owns a mutex and nothing else, with its permit out
+abbrev pub with_permit : Word → View
+with_permit word = with_out (word_index word.number word.kind ∷ []) (piece_of word Exclusive)
 
-abbrev pub slots_handed : ℕ → WordKind → Owner → List (ℕ × PermitSlot)
-slots_handed at kind owner = cond (takes_permit kind owner) ((at, bare) ∷ []) []
-
-abbrev pub permits_handed : PermitId → WordKind → Owner → List PermitId
-permits_handed permit kind owner = cond (takes_permit kind owner) (permit ∷ []) []
+-- the view of a right's seat: it owns this and nothing else, with the permit that goes along
+abbrev pub handed : Word → Owner → View
+handed word owner = cond (takes_permit word.kind owner) (with_permit word) (piece_of word owner)
 
 -- what a view is behind the exchange that leaves a mutex where nobody waits, which saw this: where
 -- it missed, the mutex is owned still

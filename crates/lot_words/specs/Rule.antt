@@ -1,14 +1,15 @@
 -- The ownership rule: what holds of a lot's words and of all views between any two steps.
-use Rattle.std.specs.Prelude.{◌≡◌, ◌≢◌, ℕ, ◌<◌, ◌≤◌, List, length, slice_index}
+use Rattle.std.specs.Prelude.{◌≡◌, ◌≢◌, ◌⊎◌, ℕ, ◌<◌, ◌≤◌, List, [], ◌∷◌, length, slice_index}
 use mathlib.Core.Option.{some}
 use lib.ListN.{get_elem?}
 use Rattle.atomic_table.specs.Table.{State}
 use Rattle.lot_words.specs.Indices.{counter, word_index, table_size, mutex_of_count}
-use Rattle.lot_words.specs.Views.{total, total_below, named, counted, steps_at, drew}
-use Rattle.lot_words.specs.Codes.{Codes, Shows, IsCountCode, opened}
+use Rattle.lot_words.specs.Views.{total, total_below, owned, named, counted, steps_at, outs, drew}
+use Rattle.lot_words.specs.Codes.{Codes, Shows, IsCountCode, exclusive}
 use Rattle.lot_words.specs.Permits.{slot_at}
 use Rattle.value_place.specs.declared.slot.PermitSlot.{PermitSlot}
 use Rattle.lot_words.specs.declared.owners.Owner.{Owner}
+use Rattle.lot_words.specs.declared.owners.Ownership.{Ownership}
 use Rattle.lot_words.specs.declared.views.View.{View}
 use Rattle.lot_words.specs.declared.words.WordKind.{WordKind}
 use Rattle.lot_words.specs.declared.words.WordKind.TheVariants.{Mutex, Condvar, Count}
@@ -18,6 +19,12 @@ use Rattle.lot_words.specs.declared.words.WordKind.TheVariants.{Mutex, Condvar, 
 abbrev pub MayBeShown : ℕ → ℕ → List View → ℕ → Type 0
 MayBeShown words number views mutex =
     (mutex < words) × (mutex ≢ number) × (0 < total (steps_at (word_index mutex Mutex)) views)
+
+-- with whom these mutexes' permits are out, who owns these: none, or that of one mutex that it owns
+abbrev pub MayHaveOut : ℕ → List ℕ → List Ownership → Type 0
+MayHaveOut words out owns = (out ≡ [])
+    ⊎ ((number : ℕ) × (number < words) × (out ≡ word_index number Mutex ∷ [])
+    × (0 < owned (word_index number Mutex) exclusive owns))
 
 -- of a lot of so many words, whose permits come from one source
 pub record LotRule (words family : ℕ) (s : State PermitSlot View) : Type 0 where
@@ -47,8 +54,11 @@ pub record LotRule (words family : ℕ) (s : State PermitSlot View) : Type 0 whe
   -- the counter never falls
   pub saw : (seat : ℕ) (v : View) → get_elem? s.views seat ≡ some v
       → v.saw ≤ slice_index s.words counter
-  -- each word has a slot, and that of a mutex holds its permit, but while its value is open
+  -- whose permit is out with a seat, that mutex the seat owns
+  pub carried : (seat : ℕ) (v : View) → get_elem? s.views seat ≡ some v
+      → MayHaveOut words v.out v.owns
+  -- each word has a slot, and that of a mutex holds its permit, but while that is out with a seat
   pub homes : length s.homes ≡ length s.words
-  pub permits : (number : ℕ) → number < words → named (word_index number Mutex) opened s.views ≡ 0
+  pub permits : (number : ℕ) → number < words → total (outs (word_index number Mutex)) s.views ≡ 0
       → get_elem? s.homes (word_index number Mutex)
       ≡ some (some (slot_at family (word_index number Mutex)))

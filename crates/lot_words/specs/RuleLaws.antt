@@ -1,11 +1,12 @@
 -- What the rule says of a lot's words and of all views, whoever took which steps.
-use Rattle.std.specs.Prelude.{◌≡◌, ℕ, ◌+◌, ◌<◌, ◌≤◌, cond, ◌==◌, List, length, slice_index}
+use Rattle.std.specs.Prelude.{◌≡◌, ℕ, ◌+◌, ◌%◌, ◌<◌, ◌≤◌, cond, ◌==◌, List, length, slice_index}
 use mathlib.Core.Option.{some}
 use lib.ListN.{get_elem?}
 use Rattle.atomic_table.specs.Table.{State}
 use Rattle.lot_words.specs.Indices.{counter, word_index}
 use Rattle.lot_words.specs.Views.{total, drew, steps_at, named}
 use Rattle.lot_words.specs.Codes.{everyone, runner, witness, IsCountCode, Shows}
+use Rattle.lot_words.specs.Permits.{slot_at}
 use Rattle.lot_words.specs.Rule.{LotRule, MayBeShown}
 use Rattle.value_place.specs.declared.slot.PermitSlot.{PermitSlot}
 use Rattle.lot_words.specs.declared.views.View.{View}
@@ -59,3 +60,10 @@ RunsOneAtATime = (words family : ℕ) (s : State PermitSlot View) → LotRule wo
     × (0 < named (word_index number Once) witness s.views
     → (slice_index s.words (word_index number Once) ≡ 1)
     × (named (word_index number Once) runner s.views ≡ 0))
+
+-- the permit of the value that an unlocked mutex guards lies in the slot beside its word
+abbrev pub UnlockedHasItsPermit : Type 0
+UnlockedHasItsPermit = (words family : ℕ) (s : State PermitSlot View) → LotRule words family s
+    → (number : ℕ) → number < words → slice_index s.words (word_index number Mutex) % 2 ≡ 0
+    → get_elem? s.homes (word_index number Mutex)
+    ≡ some (some (slot_at family (word_index number Mutex)))

@@ -7,7 +7,7 @@ use Rattle.lot_words.specs.Indices.{word_index, mutex_of_count}
 use Rattle.lot_words.specs.Views.{view, total, owned, owning, owning_with}
 use Rattle.lot_words.specs.Codes.{Owners, Codes, Shows, IsCountCode}
 use Rattle.lot_words.specs.declared.owners.Owner.{Owner}
-use Rattle.lot_words.specs.declared.owners.Owner.TheVariants.{Exclusive, Opened, Pending, Upgrading, Upgradable, Shared, Runner, Witness}
+use Rattle.lot_words.specs.declared.owners.Owner.TheVariants.{Exclusive, Pending, Upgrading, Upgradable, Shared, Runner, Witness}
 use Rattle.lot_words.specs.declared.owners.Ownership.{Ownership}
 use Rattle.lot_words.specs.declared.views.View.{View}
 use Rattle.lot_words.specs.declared.views.WordStep.{WordStep}
@@ -35,7 +35,6 @@ owner_rank Shared = 3
 owner_rank Runner = 4
 owner_rank Witness = 5
 owner_rank Upgrading = 6
-owner_rank Opened = 7
 
 -- an ownership is this one
 abbrev pub is_this : Ownership → Ownership → Bool

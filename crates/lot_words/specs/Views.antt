@@ -7,8 +7,19 @@ use Rattle.lot_words.specs.declared.views.View.{View}
 use Rattle.lot_words.specs.declared.views.WordStep.{WordStep}
 use Rattle.lot_words.specs.declared.views.Drawn.{Drawn}
 
+-- with no permit out
 abbrev pub view : List WordStep → List Ownership → List Drawn → ℕ → View
-view steps owns drawn saw = record { steps = steps; owns = owns; drawn = drawn; saw = saw }
+view steps owns drawn saw =
+    record { steps = steps; owns = owns; drawn = drawn; saw = saw; out = [] }
+
+-- with these mutexes' permits out
+abbrev pub with_out : List ℕ → View → View
+with_out out v =
+    record { steps = v.steps; owns = v.owns; drawn = v.drawn; saw = v.saw; out = out }
+
+-- what it has done, owns, drew and saw: all but whose permit is out
+abbrev pub shown : View → View
+shown = with_out []
 
 -- the view of who has done nothing yet, and owns nothing
 abbrev pub blank : View
@@ -47,6 +58,10 @@ counted at owns = total (λ (x : Ownership). cond (x.at == at) x.count 0) owns
 -- how many steps at an index a view lists
 abbrev pub steps_at : ℕ → View → ℕ
 steps_at at v = total (λ (step : WordStep). cond (step.at == at) 1 0) v.steps
+
+-- how often the permit of the mutex at an index is out with a view
+abbrev pub outs : ℕ → View → ℕ
+outs at v = total (λ (k : ℕ). cond (k == at) 1 0) v.out
 
 -- the drawn words of a view, by a weight of numbers
 abbrev pub drew : (ℕ → ℕ) → View → ℕ

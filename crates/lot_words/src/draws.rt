@@ -18,7 +18,7 @@ impl LotWords {
     fn draw<K: Kinds>(&self, seat: &mut Seat, kinds: &[WordKind]) -> Option<usize>
         requires own { IsSeatOf self.now seat.old }
         requires kinds { (K.kinds ≡ kinds.now) × (0 < length kinds.now) }
-        ensures own { IsSeatOf self.now seat.new × (seat.new.me.1 ≡ seat.old.me.1)
+        ensures own { IsSeatOf self.now seat.new
             × (seat.new.me.0.owns ≡ seat.old.me.0.owns) }
         ensures drawn { MatchOption result
             (IsDrawRefused self.now.count (length kinds.now) seat.old.me.0 seat.new.me.0)
@@ -41,7 +41,7 @@ impl LotWords {
     /// left.
     pub fn new_word(&self, seat: &mut Seat, kind: WordKind) -> Result<Word, Fault>
         requires { IsSeatOf self.now seat.old }
-        ensures own { IsSeatOf self.now seat.new × (seat.new.me.1 ≡ seat.old.me.1)
+        ensures own { IsSeatOf self.now seat.new
             × (seat.new.me.0.owns ≡ seat.old.me.0.owns) }
         ensures word { IfOk result (λ word. IsWordOf self.now word × (word.kind ≡ kind)) }
         ensures drawn { MatchResult result
@@ -59,7 +59,7 @@ impl LotWords {
     /// none.
     pub fn new_pair(&self, seat: &mut Seat) -> Result<(Word, Word), Fault>
         requires { IsSeatOf self.now seat.old }
-        ensures own { IsSeatOf self.now seat.new × (seat.new.me.1 ≡ seat.old.me.1)
+        ensures own { IsSeatOf self.now seat.new
             × (seat.new.me.0.owns ≡ seat.old.me.0.owns) }
         ensures words { IfOk result (λ pair. IsWordOf self.now pair.0 × (pair.0.kind ≡ Mutex)
             × IsWordOf self.now pair.1 × (pair.1.kind ≡ Count)

@@ -1,6 +1,6 @@
 //! What the rule says to who takes a step, whoever else takes steps.
 ghost use Rattle.lot_words.specs.Laws.{CondvarMaySteps, CountMaySteps, ExclusiveIsAlone, MutexMaySteps, OnceIsKnown, OnceMaySteps, RwLockMaySteps};
-ghost use Rattle.lot_words.specs.RuleLaws.{CountsAnOwner, DrawnOnce, NeverFalls, RunsOneAtATime, ShownIsAMutex, UntouchedIs0};
+ghost use Rattle.lot_words.specs.RuleLaws.{CountsAnOwner, DrawnOnce, NeverFalls, RunsOneAtATime, ShownIsAMutex, UnlockedHasItsPermit, UntouchedIs0};
 
 /// In every word of a mutex or a reader-writer lock that a step can find, an exclusive owner stands
 /// beside no other owner.
@@ -75,4 +75,9 @@ pub fn count_is_of_an_owner()
 /// Of all views of a lot one at most runs a `Once`, and none where some view knows that it is done.
 pub fn runs_one_at_a_time()
     ensures { RunsOneAtATime }
+{}
+
+/// The permit of the value that an unlocked mutex guards lies in the slot beside its word.
+pub fn unlocked_mutex_has_its_permit()
+    ensures { UnlockedHasItsPermit }
 {}

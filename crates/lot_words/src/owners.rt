@@ -9,8 +9,6 @@ use lot_base::Want;
 pub enum Owner {
     /// A mutex or a reader-writer lock, alone.
     Exclusive,
-    /// A mutex, alone, whose value is open: its permit is out.
-    Opened,
     /// A reader-writer lock, alone once its last readers have left.
     Pending,
     /// The same, of who upgrades: it has its upgradable ownership again where it gives up.
@@ -26,7 +24,7 @@ pub enum Owner {
 }
 
 impl Owner {
-    ghost use Rattle.lot_words.specs.Rights.{MayHand, owner_for, owner_given, want_of};
+    ghost use Rattle.lot_words.specs.Rights.{MayHand, owner_for, owner_given, takes_permit, want_of};
 
     /// How who has what was wanted owns the word.
     #[inline]
@@ -63,13 +61,22 @@ impl Owner {
         ensures { result ≡ want_of self }
     {
         match self {
-            Owner::Exclusive | Owner::Opened | Owner::Pending | Owner::Upgrading => {
-                Want::Exclusive
-            }
+            Owner::Exclusive | Owner::Pending | Owner::Upgrading => Want::Exclusive,
             Owner::Upgradable => Want::Upgradable,
             Owner::Shared => Want::Shared,
             Owner::Runner => Want::CallOnce,
             Owner::Witness => Want::Wait,
+        }
+    }
+
+    /// Whether the permit of a value goes along where a word of this kind is owned so.
+    #[inline]
+    pub(crate) fn takes_permit(self, kind: WordKind) -> bool
+        ensures { result ≡ takes_permit kind self }
+    {
+        match (kind, self) {
+            (WordKind::Mutex, Owner::Exclusive) => true,
+            _ => false,
         }
     }
 

@@ -1,119 +1,147 @@
-//! The permits of the values that mutexes guard: each lies beside the word of its mutex, and who
-//! owns that takes it out.
-ghost use Rattle.std.specs.Prelude.{◌≡◌, ◌≢◌, ◌⊎◌, ◌%◌, [], ◌∷◌, IfOk, MatchOption, MatchResult};
+//! The permits of the values that mutexes guard: each lies beside the word of its mutex while that
+//! is unlocked, and is out with who owns it.
+ghost use Rattle.std.specs.Prelude.{◌≡◌, ◌≢◌, ◌⊎◌, ◌%◌, [], ◌∷◌, true, IfOk, MatchOption, MatchResult};
 ghost use Rattle.lot_base.specs.declared.ops.Op.TheVariants.{Exchange, Or, Sub};
 ghost use Rattle.lot_words.specs.Indices.{word_index};
-ghost use Rattle.lot_words.specs.Permits.{bare, slot_at};
-ghost use Rattle.lot_words.specs.Plays.{goes_on_with, piece, stepping, takes_in, without_front};
-ghost use Rattle.lot_words.specs.Rights.{leaving_alone, piece_of};
-ghost use Rattle.lot_words.specs.Views.{blank, owning};
-ghost use Rattle.lot_words.specs.declared.owners.Owner.TheVariants.{Exclusive, Opened};
-ghost use Rattle.lot_words.specs.declared.views.View.{View};
+ghost use Rattle.lot_words.specs.Plays.{goes_on_with, left_over, stepping, takes_in};
+ghost use Rattle.lot_words.specs.Rights.{leaving_alone, named_by, piece_of};
+ghost use Rattle.lot_words.specs.Steps.{has};
+ghost use Rattle.lot_words.specs.Views.{blank, shown, with_out};
+ghost use Rattle.lot_words.specs.declared.owners.Owner.TheVariants.{Exclusive};
 ghost use Rattle.lot_words.specs.declared.words.WordKind.TheVariants.{Mutex};
 
-use crate::owners::Owner;
 use crate::plays::{
-    Closes, EntersOpen, GoesOn, KeepsOpen, LeavesAlone, LeavesOpen, Opens, PermitPick, SeesLocked,
-    TriesOpen, TriesSeen,
+    Closes, Exchanges, GoesOn, GoesOnAs, Keeps, Opens, Ors, PermitPick, SeesLocked, Subs, TriesSeen,
 };
-use crate::rights::Held;
 use crate::table::{LotWords, Seat};
 use crate::words::Word;
 use std::marker::Brand;
 use std::mem;
 use value_place::{Permit, PermitSlot};
 
-/// The ownership of a mutex whose permit is out. It has to be closed, or the word stays owned. It
-/// takes no memory.
+/// The ownership of a mutex whose permit has been taken out. It has to be given back, or the word
+/// stays owned. It takes no memory.
 pub struct OpenHeld {
     seat: Seat,
 }
 
 impl LotWords {
     ghost use Rattle.lot_words.specs.Lots.{IsSeatOf, IsWordOf, permit_of};
-    ghost use Rattle.lot_words.specs.RightsOf.{HasAtHand, IsHeldOf, IsOpenOf};
+    ghost use Rattle.lot_words.specs.RightsOf.{IsOpenOf, IsOwnerOf};
 
-    // The seat is that of a right. It steps by a load of the counter: one of the mutex's own word,
-    // just written, would wait for it.
+    // The permit of a mutex that the seat owns is out with it from here on, and no other. It loads
+    // the counter: a load of a word that was just written would wait for that.
     #[inline]
-    pub(crate) fn take_permit<P: PermitPick>(&self, seat: &mut Seat, word: Word) -> Permit
+    fn take_out<P: PermitPick>(&self, seat: &mut Seat, word: Word)
         requires pick { (P.family ≡ self.now.table.shared.key.1.family)
             × (P.at ≡ word_index word.number word.kind) }
-        requires own { IsSeatOf self.now seat.old × IsWordOf self.now word }
-        requires owner { (word.kind ≡ Mutex) × (seat.old.me ≡ (piece_of word Exclusive, [])) }
+        requires own { IsSeatOf self.now seat.old × IsWordOf self.now word × (word.kind ≡ Mutex) }
+        requires named { has (named_by word Exclusive) seat.old.me.0.owns ≡ true }
         ensures own { IsSeatOf self.now seat.new }
-        ensures opened { seat.new.me
-            ≡ (piece_of word Opened, (word_index word.number word.kind, bare) ∷ []) }
-        ensures permit { result.id ≡ permit_of self.now word }
+        ensures out { seat.new.me.0
+            ≡ with_out (word_index word.number word.kind ∷ []) seat.old.me.0 }
     {
-        let at = word.index();
-        let words = &self.table.shared;
-        words.load::<Opens<P>>(seat, 0);
-        words.exchange(seat, at, PermitSlot::empty()).into_permit()
+        let _mutex = word;
+        self.table.shared.load::<Opens<P>>(seat, 0);
     }
 
-    // Lays it back, in the same way.
+    // None is out with it.
     #[inline]
-    pub(crate) fn lay_permit<P: PermitPick>(&self, seat: &mut Seat, word: Word, permit: Permit)
+    fn lay_back(&self, seat: &mut Seat)
+        requires { IsSeatOf self.now seat.old }
+        ensures own { IsSeatOf self.now seat.new }
+        ensures laid { seat.new.me.0 ≡ shown seat.old.me.0 }
+    {
+        self.table.shared.load::<Closes>(seat, 0);
+    }
+
+    // The seat of a mutex's owner, split off one with which the mutex's permit is out.
+    #[inline]
+    fn keep<P: PermitPick>(&self, seat: &mut Seat, word: Word) -> Seat
         requires pick { P.at ≡ word_index word.number word.kind }
-        requires own { IsSeatOf self.now seat.old × IsWordOf self.now word
-            × (permit.id ≡ permit_of self.now word) }
-        requires opened { (word.kind ≡ Mutex)
-            × (seat.old.me ≡
-            (piece_of word Opened, (word_index word.number word.kind, bare) ∷ [])) }
-        ensures own { IsSeatOf self.now seat.new }
-        ensures closed { seat.new.me ≡ (piece_of word Exclusive, []) }
+        requires own { IsSeatOf self.now seat.old × IsWordOf self.now word × (word.kind ≡ Mutex) }
+        requires out { seat.old.me.0.out ≡ word_index word.number word.kind ∷ [] }
+        requires named { has (named_by word Exclusive) seat.old.me.0.owns ≡ true }
+        ensures own { IsSeatOf self.now seat.new × IsOwnerOf self.now word result }
+        ensures left { seat.new.me.0 ≡ left_over (named_by word Exclusive) seat.old.me.0 }
     {
-        let at = word.index();
-        let words = &self.table.shared;
-        drop(words.exchange(seat, at, permit.into_slot()));
-        words.load::<Closes<P>>(seat, 0);
+        let _mutex = word;
+        let next = self.table.shared.split_seat::<Keeps<P>>(seat);
+        mem::replace(seat, next)
     }
 
-    // Of a seat that has just entered: it keeps the mutex, and another goes on with all else.
+    // The same whatever is out, of a seat that owns the mutex.
     #[inline]
-    fn keep_open<P: PermitPick>(&self, seat: &mut Seat, word: Word) -> (OpenHeld, Permit)
+    fn split_picked<P: PermitPick>(&self, seat: &mut Seat, word: Word) -> Seat
         requires pick { (P.family ≡ self.now.table.shared.key.1.family)
             × (P.at ≡ word_index word.number word.kind) }
-        requires own { IsSeatOf self.now seat.old × IsWordOf self.now word }
-        requires entered { (v : View)
-            × (seat.old.me ≡
-            (takes_in v (piece (owning P.at Opened)), (P.at, slot_at P.family P.at) ∷ [])) }
-        ensures own { IsSeatOf self.now seat.new }
-        ensures left { seat.new.me ≡ (without_front seat.old.me.0, []) }
-        ensures opened { IsOpenOf self.now word result.0 × (result.1.id ≡ permit_of self.now word) }
+        requires own { IsSeatOf self.now seat.old × IsWordOf self.now word × (word.kind ≡ Mutex) }
+        requires named { has (named_by word Exclusive) seat.old.me.0.owns ≡ true }
+        ensures own { IsSeatOf self.now seat.new × IsOwnerOf self.now word result }
+        ensures left { seat.new.me.0 ≡ left_over (named_by word Exclusive) seat.old.me.0 }
     {
-        let words = &self.table.shared;
-        let slot = words.exchange(seat, word.index(), PermitSlot::empty());
-        let next = words.split_seat::<KeepsOpen<P>>(seat);
-        let opened = mem::replace(seat, next);
-        (OpenHeld { seat: opened }, slot.into_permit())
+        self.take_out::<P>(seat, word);
+        self.keep::<P>(seat, word)
     }
 
-    // Of an owner that is about to leave: the permit lies in the slot that is out with its seat.
     #[inline]
-    fn lay_open(&self, owner: &mut Seat, word: Word, permit: Permit)
-        requires own { IsSeatOf self.now owner.old × IsWordOf self.now word
-            × (permit.id ≡ permit_of self.now word) }
-        requires opened { owner.old.me
-            ≡ (piece_of word Opened, (word_index word.number word.kind, bare) ∷ []) }
-        ensures { IsSeatOf self.now owner.new × HasAtHand self.now word owner.new }
+    pub(crate) fn split_owner(&self, seat: &mut Seat, word: Word) -> Seat
+        requires own { IsSeatOf self.now seat.old × IsWordOf self.now word × (word.kind ≡ Mutex) }
+        requires named { has (named_by word Exclusive) seat.old.me.0.owns ≡ true }
+        ensures own { IsSeatOf self.now seat.new × IsOwnerOf self.now word result }
+        ensures left { seat.new.me.0 ≡ left_over (named_by word Exclusive) seat.old.me.0 }
     {
-        let words = &self.table.shared;
-        drop(words.exchange(owner, word.index(), permit.into_slot()));
+        self.split_picked::<Brand>(seat, word)
     }
 
-    // The owner has left by a step of its own seat. What that has done, and owns still, goes to the
-    // thread: behind the step, so that it doesn't wait for the load.
+    // The permit leaves its slot, for who may touch the value.
+    #[inline]
+    fn open(&self, mut owner: Seat, word: Word) -> (OpenHeld, Permit)
+        requires { IsWordOf self.now word × IsOwnerOf self.now word owner × (word.kind ≡ Mutex) }
+        ensures { IsOpenOf self.now word result.0 × (result.1.id ≡ permit_of self.now word) }
+    {
+        let words = &self.table.shared;
+        let slot = words.exchange(&mut owner, word.index(), PermitSlot::empty());
+        (OpenHeld { seat: owner }, slot.into_permit())
+    }
+
+    // It lies in its slot again.
+    #[inline]
+    fn close(&self, word: Word, opened: OpenHeld, permit: Permit) -> Seat
+        requires { IsWordOf self.now word × IsOpenOf self.now word opened
+            × (permit.id ≡ permit_of self.now word) × (word.kind ≡ Mutex) }
+        ensures { IsOwnerOf self.now word result }
+    {
+        let OpenHeld { seat: mut owner } = opened;
+        let words = &self.table.shared;
+        drop(words.exchange(&mut owner, word.index(), permit.into_slot()));
+        owner
+    }
+
+    // What an owner has done, and owns still, goes to the thread: behind the owner's step, so that
+    // it doesn't wait for the load.
     #[inline]
     fn go_on(&self, seat: &mut Seat, owner: Seat)
-        requires own { IsSeatOf self.now seat.old × IsSeatOf self.now owner × (seat.old.me.1 ≡ [])
-            × (owner.me.1 ≡ []) }
-        requires left { owner.me.0.drawn ≡ [] }
-        ensures { IsSeatOf self.now seat.new
-            × (seat.new.me ≡ (goes_on_with seat.old.me.0 owner.me.0, [])) }
+        requires own { IsSeatOf self.now seat.old × IsSeatOf self.now owner }
+        requires left { (owner.me.0.drawn ≡ []) × (owner.me.0.out ≡ []) }
+        ensures own { IsSeatOf self.now seat.new }
+        ensures gone_on { shown seat.new.me.0 ≡ goes_on_with seat.old.me.0 owner.me.0 }
     {
         self.table.shared.join_seat::<GoesOn>(seat, owner);
+    }
+
+    // The same of an owner with which a permit is out: it is out with the thread then.
+    #[inline]
+    pub(crate) fn go_on_as(&self, seat: &mut Seat, owner: Seat)
+        requires own { IsSeatOf self.now seat.old × IsSeatOf self.now owner }
+        requires left { owner.me.0.drawn ≡ [] }
+        ensures own { IsSeatOf self.now seat.new }
+        ensures gone_on { seat.new.me.0
+            ≡ with_out owner.me.0.out (goes_on_with seat.old.me.0 owner.me.0) }
+    {
+        self.lay_back(seat);
+        let thread = mem::replace(seat, owner);
+        self.table.shared.join_seat::<GoesOnAs>(seat, thread);
     }
 
     // The steps that enter and leave, in which the pick says whose permit it is.
@@ -125,24 +153,24 @@ impl LotWords {
     ) -> Result<(OpenHeld, Permit), u64>
         requires pick { (P.family ≡ self.now.table.shared.key.1.family)
             × (P.at ≡ word_index word.number word.kind) }
-        requires own { IsSeatOf self.now seat.old × IsWordOf self.now word × (word.kind ≡ Mutex)
-            × (seat.old.me.1 ≡ []) }
-        ensures own { IsSeatOf self.now seat.new × (seat.new.me.1 ≡ []) }
+        requires own { IsSeatOf self.now seat.old × IsWordOf self.now word × (word.kind ≡ Mutex) }
+        ensures own { IsSeatOf self.now seat.new }
         ensures stepped { MatchResult result
-            (λ _. seat.new.me.0
+            (λ _. shown seat.new.me.0
             ≡ stepping seat.old.me.0 (word_index word.number word.kind) (Exchange 0 1) 0)
             (λ seen. (seen ≢ 0)
-            × (seat.new.me.0
+            × (shown seat.new.me.0
             ≡ stepping seat.old.me.0 (word_index word.number word.kind) (Exchange 0 1) seen)) }
         ensures opened { IfOk result
             (λ taken. IsOpenOf self.now word taken.0 × (taken.1.id ≡ permit_of self.now word)) }
     {
         let words = &self.table.shared;
-        let seen = words.compare_exchange::<EntersOpen<P>>(seat, word.index(), 0, 1);
+        let seen = words.compare_exchange::<Exchanges<P>>(seat, word.index(), 0, 1);
         if seen != 0 {
             return Err(seen);
         }
-        Ok(self.keep_open::<P>(seat, word))
+        let owner = self.keep::<P>(seat, word);
+        Ok(self.open(owner, word))
     }
 
     // A try where the parked bit has changed since the word was seen unlocked.
@@ -155,21 +183,21 @@ impl LotWords {
     ) -> (u64, Option<(OpenHeld, Permit)>)
         requires pick { (P.family ≡ self.now.table.shared.key.1.family)
             × (P.at ≡ word_index word.number word.kind) }
-        requires own { IsSeatOf self.now seat.old × IsWordOf self.now word × (word.kind ≡ Mutex)
-            × (seat.old.me.1 ≡ []) }
-        ensures own { IsSeatOf self.now seat.new × (seat.new.me.1 ≡ []) }
-        ensures stepped { seat.new.me.0
+        requires own { IsSeatOf self.now seat.old × IsWordOf self.now word × (word.kind ≡ Mutex) }
+        ensures own { IsSeatOf self.now seat.new }
+        ensures stepped { shown seat.new.me.0
             ≡ stepping seat.old.me.0 (word_index word.number word.kind) (Or 1) result.0 }
         ensures opened { MatchOption result.1 (result.0 % 2 ≢ 0)
             (λ taken. (result.0 % 2 ≡ 0) × IsOpenOf self.now word taken.0
             × (taken.1.id ≡ permit_of self.now word)) }
     {
         let words = &self.table.shared;
-        let seen = words.fetch_or::<TriesOpen<P>>(seat, word.index(), 1);
+        let seen = words.fetch_or::<Ors<P>>(seat, word.index(), 1);
         if seen % 2 != 0 {
             return (seen, None);
         }
-        (seen, Some(self.keep_open::<P>(seat, word)))
+        let owner = self.keep::<P>(seat, word);
+        (seen, Some(self.open(owner, word)))
     }
 
     #[inline]
@@ -180,10 +208,9 @@ impl LotWords {
     ) -> (u64, Option<(OpenHeld, Permit)>)
         requires pick { (P.family ≡ self.now.table.shared.key.1.family)
             × (P.at ≡ word_index word.number word.kind) }
-        requires own { IsSeatOf self.now seat.old × IsWordOf self.now word × (word.kind ≡ Mutex)
-            × (seat.old.me.1 ≡ []) }
-        ensures own { IsSeatOf self.now seat.new × (seat.new.me.1 ≡ []) }
-        ensures stepped { seat.new.me.0
+        requires own { IsSeatOf self.now seat.old × IsWordOf self.now word × (word.kind ≡ Mutex) }
+        ensures own { IsSeatOf self.now seat.new }
+        ensures stepped { shown seat.new.me.0
             ≡ stepping seat.old.me.0 (word_index word.number word.kind) (Or 1) result.0 }
         ensures opened { MatchOption result.1 (result.0 % 2 ≢ 0)
             (λ taken. (result.0 % 2 ≡ 0) × IsOpenOf self.now word taken.0
@@ -197,7 +224,8 @@ impl LotWords {
         }
         let seen = words.compare_exchange::<TriesSeen<P>>(seat, at, looked, looked + 1);
         if seen == looked {
-            return (seen, Some(self.keep_open::<P>(seat, word)));
+            let owner = self.keep::<P>(seat, word);
+            return (seen, Some(self.open(owner, word)));
         }
         if seen % 2 != 0 {
             return (seen, None);
@@ -207,45 +235,45 @@ impl LotWords {
 
     #[inline]
     fn leave_picked<P: PermitPick>(&self, owner: &mut Seat, word: Word) -> u64
-        requires pick { P.at ≡ word_index word.number word.kind }
-        requires own { IsSeatOf self.now owner.old × IsWordOf self.now word × (word.kind ≡ Mutex) }
-        requires laid { HasAtHand self.now word owner.old }
+        requires pick { P.family ≡ self.now.table.shared.key.1.family }
+        requires own { IsOwnerOf self.now word owner.old × IsWordOf self.now word
+            × (word.kind ≡ Mutex) }
         ensures own { IsSeatOf self.now owner.new }
-        ensures left { owner.new.me
-            ≡ (stepping blank (word_index word.number word.kind) (Sub 1) result, []) }
+        ensures left { owner.new.me.0
+            ≡ stepping blank (word_index word.number word.kind) (Sub 1) result }
         ensures coded { (result ≡ 1) ⊎ (result ≡ 3) }
     {
         self.table
             .shared
-            .fetch_sub::<LeavesOpen<P>>(owner, word.index(), 1)
+            .fetch_sub::<Subs<P>>(owner, word.index(), 1)
     }
 
     #[inline]
     fn leave_alone_picked<P: PermitPick>(&self, owner: &mut Seat, word: Word) -> u64
-        requires pick { P.at ≡ word_index word.number word.kind }
-        requires own { IsSeatOf self.now owner.old × IsWordOf self.now word × (word.kind ≡ Mutex) }
-        requires laid { HasAtHand self.now word owner.old }
+        requires pick { P.family ≡ self.now.table.shared.key.1.family }
+        requires own { IsOwnerOf self.now word owner.old × IsWordOf self.now word
+            × (word.kind ≡ Mutex) }
         ensures own { IsSeatOf self.now owner.new }
-        ensures left { owner.new.me ≡ (leaving_alone blank word result, []) }
+        ensures left { shown owner.new.me.0 ≡ leaving_alone blank word result }
+        ensures laid { (owner.new.me.0.drawn ≡ []) × (result ≡ 1 → owner.new.me.0.out ≡ []) }
         ensures coded { (result ≡ 1) ⊎ (result ≡ 3) }
     {
         self.table
             .shared
-            .compare_exchange::<LeavesAlone<P>>(owner, word.index(), 1, 0)
+            .compare_exchange::<Exchanges<P>>(owner, word.index(), 1, 0)
     }
 
     /// Takes a mutex that nobody has, and the permit of its value with the same step. Else it
     /// answers what the step saw.
     #[inline]
     pub fn enter_open(&self, seat: &mut Seat, word: Word) -> Result<(OpenHeld, Permit), u64>
-        requires own { IsSeatOf self.now seat.old × IsWordOf self.now word × (word.kind ≡ Mutex)
-            × (seat.old.me.1 ≡ []) }
-        ensures own { IsSeatOf self.now seat.new × (seat.new.me.1 ≡ []) }
+        requires own { IsSeatOf self.now seat.old × IsWordOf self.now word × (word.kind ≡ Mutex) }
+        ensures own { IsSeatOf self.now seat.new }
         ensures stepped { MatchResult result
-            (λ _. seat.new.me.0
+            (λ _. shown seat.new.me.0
             ≡ stepping seat.old.me.0 (word_index word.number word.kind) (Exchange 0 1) 0)
             (λ seen. (seen ≢ 0)
-            × (seat.new.me.0
+            × (shown seat.new.me.0
             ≡ stepping seat.old.me.0 (word_index word.number word.kind) (Exchange 0 1) seen)) }
         ensures opened { IfOk result
             (λ taken. IsOpenOf self.now word taken.0 × (taken.1.id ≡ permit_of self.now word)) }
@@ -257,10 +285,9 @@ impl LotWords {
     /// that it sees locked.
     #[inline]
     pub fn try_enter_open(&self, seat: &mut Seat, word: Word) -> (u64, Option<(OpenHeld, Permit)>)
-        requires own { IsSeatOf self.now seat.old × IsWordOf self.now word × (word.kind ≡ Mutex)
-            × (seat.old.me.1 ≡ []) }
-        ensures own { IsSeatOf self.now seat.new × (seat.new.me.1 ≡ []) }
-        ensures stepped { seat.new.me.0
+        requires own { IsSeatOf self.now seat.old × IsWordOf self.now word × (word.kind ≡ Mutex) }
+        ensures own { IsSeatOf self.now seat.new }
+        ensures stepped { shown seat.new.me.0
             ≡ stepping seat.old.me.0 (word_index word.number word.kind) (Or 1) result.0 }
         ensures opened { MatchOption result.1 (result.0 % 2 ≢ 0)
             (λ taken. (result.0 % 2 ≡ 0) × IsOpenOf self.now word taken.0
@@ -273,22 +300,21 @@ impl LotWords {
     /// value before.
     #[inline]
     pub fn leave_open(&self, seat: &mut Seat, word: Word, opened: OpenHeld, permit: Permit) -> u64
-        requires own { IsSeatOf self.now seat.old × IsWordOf self.now word × (word.kind ≡ Mutex)
-            × (seat.old.me.1 ≡ []) }
+        requires own { IsSeatOf self.now seat.old × IsWordOf self.now word × (word.kind ≡ Mutex) }
         requires opened { IsOpenOf self.now word opened × (permit.id ≡ permit_of self.now word) }
-        ensures own { IsSeatOf self.now seat.new × (seat.new.me.1 ≡ []) }
-        ensures stepped { seat.new.me.0
+        ensures own { IsSeatOf self.now seat.new }
+        ensures stepped { shown seat.new.me.0
             ≡ stepping seat.old.me.0 (word_index word.number word.kind) (Sub 1) result }
         ensures coded { (result ≡ 1) ⊎ (result ≡ 3) }
     {
-        let OpenHeld { seat: mut owner } = opened;
-        self.lay_open(&mut owner, word, permit);
+        let mut owner = self.close(word, opened, permit);
         let seen = self.leave_picked::<Brand>(&mut owner, word);
         self.go_on(seat, owner);
         seen
     }
 
-    /// The same where nobody waits. Where somebody does, the seat owns the mutex, closed.
+    /// The same where nobody waits. Where somebody does, the seat owns the mutex, and the permit is
+    /// out with it still.
     #[inline]
     pub fn leave_open_alone(
         &self,
@@ -297,43 +323,49 @@ impl LotWords {
         opened: OpenHeld,
         permit: Permit,
     ) -> u64
-        requires own { IsSeatOf self.now seat.old × IsWordOf self.now word × (word.kind ≡ Mutex)
-            × (seat.old.me.1 ≡ []) }
+        requires own { IsSeatOf self.now seat.old × IsWordOf self.now word × (word.kind ≡ Mutex) }
         requires opened { IsOpenOf self.now word opened × (permit.id ≡ permit_of self.now word) }
-        ensures own { IsSeatOf self.now seat.new × (seat.new.me.1 ≡ []) }
-        ensures stepped { seat.new.me.0 ≡ leaving_alone seat.old.me.0 word result }
+        ensures own { IsSeatOf self.now seat.new }
+        ensures stepped { shown seat.new.me.0 ≡ leaving_alone seat.old.me.0 word result }
         ensures coded { (result ≡ 1) ⊎ (result ≡ 3) }
     {
-        let OpenHeld { seat: mut owner } = opened;
-        self.lay_open(&mut owner, word, permit);
+        let mut owner = self.close(word, opened, permit);
         let seen = self.leave_alone_picked::<Brand>(&mut owner, word);
-        self.go_on(seat, owner);
+        if seen == 1 {
+            self.go_on(seat, owner);
+        } else {
+            self.go_on_as(seat, owner);
+        }
         seen
     }
 
-    /// Takes the permit out of the value that a mutex guards, for who owns the mutex. It loads a
-    /// word, which is no step of a call.
+    /// Splits a mutex off that the seat's view names, with the permit of its value. It loads a
+    /// word, which is no step of a call. The permit has been out since the step that locked the
+    /// mutex.
     #[inline]
-    pub fn open_held(&self, word: Word, held: Held) -> (OpenHeld, Permit)
-        requires mutex { IsWordOf self.now word × (word.kind ≡ Mutex) }
-        requires held { IsHeldOf self.now word Exclusive held }
-        ensures opened { IsOpenOf self.now word result.0 }
-        ensures permit { result.1.id ≡ permit_of self.now word }
+    pub fn split_open(&self, seat: &mut Seat, word: Word) -> (OpenHeld, Permit)
+        requires own { IsSeatOf self.now seat.old × IsWordOf self.now word × (word.kind ≡ Mutex) }
+        requires named { has (named_by word Exclusive) seat.old.me.0.owns ≡ true }
+        ensures own { IsSeatOf self.now seat.new }
+        ensures left { shown seat.new.me.0 ≡ left_over (named_by word Exclusive) seat.old.me.0 }
+        ensures opened { IsOpenOf self.now word result.0 × (result.1.id ≡ permit_of self.now word) }
     {
-        let Held { mut seat } = held;
-        let permit = self.take_permit::<Brand>(&mut seat, word);
-        (OpenHeld { seat }, permit)
+        let owner = self.split_owner(seat, word);
+        self.open(owner, word)
     }
 
-    /// Lays the permit back. It loads a word, which is no step of a call.
+    /// Gives it back to a seat. The permit stays out with that, until a step unlocks the mutex. It
+    /// loads a word, which is no step of a call.
     #[inline]
-    pub fn close_held(&self, word: Word, opened: OpenHeld, permit: Permit) -> Held
-        requires mutex { IsWordOf self.now word × (word.kind ≡ Mutex) }
+    pub fn join_open(&self, seat: &mut Seat, word: Word, opened: OpenHeld, permit: Permit)
+        requires own { IsSeatOf self.now seat.old × IsWordOf self.now word × (word.kind ≡ Mutex) }
         requires opened { IsOpenOf self.now word opened × (permit.id ≡ permit_of self.now word) }
-        ensures { IsHeldOf self.now word Exclusive result }
+        ensures own { IsSeatOf self.now seat.new }
+        ensures joined { shown seat.new.me.0
+            ≡ takes_in seat.old.me.0 (piece_of word Exclusive) }
+        ensures out { seat.new.me.0.out ≡ word_index word.number word.kind ∷ [] }
     {
-        let OpenHeld { mut seat } = opened;
-        self.lay_permit::<Brand>(&mut seat, word, permit);
-        Held { seat }
+        let again = self.close(word, opened, permit);
+        self.go_on_as(seat, again);
     }
 }

@@ -1,11 +1,10 @@
 //! The rule of the lot's table, and the names of its steps.
-ghost use Rattle.std.specs.Prelude.{ℕ, [], List};
+ghost use Rattle.std.specs.Prelude.{ℕ, [], ◌∷◌, List};
 ghost use Rattle.lot_words.specs.Rule.{LotRule};
-ghost use Rattle.lot_words.specs.Views.{blank, owning};
-ghost use Rattle.lot_words.specs.Plays.{loads, stores, swaps, adds, subs, ors, saw_set, sees_shown, ands, exchanges, looks, draws, left_over, without_front, piece, takes_in, goes_on_with, opens, closes, enters_open, IsAny, IsEven, IsOne, IsZero, leaves_open, sees_locked, tries_seen};
-ghost use Rattle.lot_base.specs.declared.ops.Op.TheVariants.{Exchange, Or, Sub};
+ghost use Rattle.lot_words.specs.Views.{blank, owning, with_out};
+ghost use Rattle.lot_words.specs.Plays.{adds, ands, closes, draws, exchanges, goes_on_with, left_over, loads, looks, opens, ors, piece, saw_set, sees_locked, sees_shown, stores, subs, swaps, takes_in, tries_seen};
 ghost use Rattle.lot_words.specs.declared.owners.Ownership.{Ownership};
-ghost use Rattle.lot_words.specs.declared.owners.Owner.TheVariants.{Exclusive, Opened};
+ghost use Rattle.lot_words.specs.declared.owners.Owner.TheVariants.{Exclusive};
 ghost use Rattle.lot_words.specs.declared.words.WordKind.{WordKind};
 
 use crate::views::View;
@@ -22,40 +21,81 @@ impl TableRule<PermitSlot, View, (usize, Permits)> for OwnershipRule {
     ghost first = { λ _. blank };
 }
 
-pub struct Loads;
+/// Whose permits, picked at each call: where a lot's come from, and beside which word one lies.
+pub trait PermitPick {
+    ghost family: { ℕ };
 
-impl<S> Play<S, View> for Loads {
-    ghost then = { loads };
+    ghost at: { ℕ };
 }
 
-pub struct Stores;
+impl PermitPick for Brand {
+    ghost family = { 0 };
 
-impl<S> Play<S, View> for Stores {
-    ghost then = { stores };
+    ghost at = { 0 };
 }
 
-pub struct Swaps;
-
-impl<S> Play<S, View> for Swaps {
-    ghost then = { swaps };
+pub struct Loads<P: PermitPick> {
+    pick: PhantomData<P>,
 }
 
-pub struct Adds;
-
-impl<S> Play<S, View> for Adds {
-    ghost then = { adds };
+impl<P: PermitPick> Play<PermitSlot, View> for Loads<P> {
+    ghost then = { loads P.family };
 }
 
-pub struct Subs;
-
-impl<S> Play<S, View> for Subs {
-    ghost then = { subs };
+pub struct Stores<P: PermitPick> {
+    pick: PhantomData<P>,
 }
 
-pub struct Ors;
+impl<P: PermitPick> Play<PermitSlot, View> for Stores<P> {
+    ghost then = { stores P.family };
+}
 
-impl<S> Play<S, View> for Ors {
-    ghost then = { ors };
+pub struct Swaps<P: PermitPick> {
+    pick: PhantomData<P>,
+}
+
+impl<P: PermitPick> Play<PermitSlot, View> for Swaps<P> {
+    ghost then = { swaps P.family };
+}
+
+pub struct Adds<P: PermitPick> {
+    pick: PhantomData<P>,
+}
+
+impl<P: PermitPick> Play<PermitSlot, View> for Adds<P> {
+    ghost then = { adds P.family };
+}
+
+pub struct Subs<P: PermitPick> {
+    pick: PhantomData<P>,
+}
+
+impl<P: PermitPick> Play<PermitSlot, View> for Subs<P> {
+    ghost then = { subs P.family };
+}
+
+pub struct Ors<P: PermitPick> {
+    pick: PhantomData<P>,
+}
+
+impl<P: PermitPick> Play<PermitSlot, View> for Ors<P> {
+    ghost then = { ors P.family };
+}
+
+pub struct Ands<P: PermitPick> {
+    pick: PhantomData<P>,
+}
+
+impl<P: PermitPick> Play<PermitSlot, View> for Ands<P> {
+    ghost then = { ands P.family };
+}
+
+pub struct Exchanges<P: PermitPick> {
+    pick: PhantomData<P>,
+}
+
+impl<P: PermitPick> Play<PermitSlot, View> for Exchanges<P> {
+    ghost then = { exchanges P.family };
 }
 
 /// The bits that a step sets, picked at each call.
@@ -69,12 +109,12 @@ impl Bits for Brand {
 
 /// A load in place of an or, which is that or where it finds the bits set, and else no step of a
 /// call.
-pub struct SawSet<B: Bits> {
-    bits: PhantomData<B>,
+pub struct SawSet<B: Bits, P: PermitPick> {
+    pick: PhantomData<(B, P)>,
 }
 
-impl<S, B: Bits> Play<S, View> for SawSet<B> {
-    ghost then = { saw_set B.bits };
+impl<B: Bits, P: PermitPick> Play<PermitSlot, View> for SawSet<B, P> {
+    ghost then = { saw_set P.family B.bits };
 }
 
 /// A condition variable of a lot, picked at each call: how many words the lot has, and its number.
@@ -91,24 +131,12 @@ impl CondvarPick for Brand {
 }
 
 /// A load of its word, which tells what it may show.
-pub struct SeesShown<P: CondvarPick> {
-    pick: PhantomData<P>,
+pub struct SeesShown<C: CondvarPick, P: PermitPick> {
+    pick: PhantomData<(C, P)>,
 }
 
-impl<S, P: CondvarPick> Play<S, View> for SeesShown<P> {
-    ghost then = { sees_shown P.words P.number };
-}
-
-pub struct Ands;
-
-impl<S> Play<S, View> for Ands {
-    ghost then = { ands };
-}
-
-pub struct Exchanges;
-
-impl<S> Play<S, View> for Exchanges {
-    ghost then = { exchanges };
+impl<C: CondvarPick, P: PermitPick> Play<PermitSlot, View> for SeesShown<C, P> {
+    ghost then = { sees_shown P.family C.words C.number };
 }
 
 /// A look at the counter of drawn words.
@@ -150,7 +178,7 @@ pub struct SplitsOff<P: Piece> {
 }
 
 impl<P: Piece> Split<View> for SplitsOff<P> {
-    ghost left = { left_over P.owned };
+    ghost left = { λ v. with_out v.out (left_over P.owned v) };
 
     ghost right = { λ _. piece P.owned };
 }
@@ -158,7 +186,7 @@ impl<P: Piece> Split<View> for SplitsOff<P> {
 pub struct TakesIn;
 
 impl Join<View> for TakesIn {
-    ghost both = { takes_in };
+    ghost both = { λ v w. with_out v.out (takes_in v w) };
 
     ghost spent = { blank };
 }
@@ -172,46 +200,6 @@ impl Split<View> for SeatsAnother {
     ghost right = { λ _. blank };
 }
 
-/// Which permit, picked at each call: where it comes from, and beside which word it lies.
-pub trait PermitPick {
-    ghost family: { ℕ };
-
-    ghost at: { ℕ };
-}
-
-impl PermitPick for Brand {
-    ghost family = { 0 };
-
-    ghost at = { 0 };
-}
-
-/// A permit is taken out of the slot beside its mutex.
-pub struct Opens<P: PermitPick> {
-    pick: PhantomData<P>,
-}
-
-impl<P: PermitPick> Play<PermitSlot, View> for Opens<P> {
-    ghost then = { opens P.family P.at };
-}
-
-/// It is laid back.
-pub struct Closes<P: PermitPick> {
-    pick: PhantomData<P>,
-}
-
-impl<P: PermitPick> Play<PermitSlot, View> for Closes<P> {
-    ghost then = { closes P.at };
-}
-
-/// Who enters a mutex takes its permit out with that step.
-pub struct EntersOpen<P: PermitPick> {
-    pick: PhantomData<P>,
-}
-
-impl<P: PermitPick> Play<PermitSlot, View> for EntersOpen<P> {
-    ghost then = { enters_open P.family P.at (Exchange 0 1) IsZero };
-}
-
 /// A load in place of a try, which is that try where it finds the mutex locked, and else no step of
 /// a call.
 pub struct SeesLocked<P: PermitPick> {
@@ -219,7 +207,7 @@ pub struct SeesLocked<P: PermitPick> {
 }
 
 impl<P: PermitPick> Play<PermitSlot, View> for SeesLocked<P> {
-    ghost then = { sees_locked P.at };
+    ghost then = { sees_locked P.family };
 }
 
 /// An exchange in place of a try, where the mutex was seen unlocked: that try where it finds the
@@ -229,52 +217,50 @@ pub struct TriesSeen<P: PermitPick> {
 }
 
 impl<P: PermitPick> Play<PermitSlot, View> for TriesSeen<P> {
-    ghost then = { tries_seen P.family P.at };
+    ghost then = { tries_seen P.family };
 }
 
-/// Who tries to enter a mutex takes its permit out with that step where it enters.
-pub struct TriesOpen<P: PermitPick> {
+/// The permit of a mutex goes out with who owns that.
+pub struct Opens<P: PermitPick> {
     pick: PhantomData<P>,
 }
 
-impl<P: PermitPick> Play<PermitSlot, View> for TriesOpen<P> {
-    ghost then = { enters_open P.family P.at (Or 1) IsEven };
+impl<P: PermitPick> Play<PermitSlot, View> for Opens<P> {
+    ghost then = { opens P.family P.at };
 }
 
-/// Who leaves it lays it back.
-pub struct LeavesOpen<P: PermitPick> {
+/// What is out with a seat is laid back.
+pub struct Closes;
+
+impl Play<PermitSlot, View> for Closes {
+    ghost then = { closes };
+}
+
+/// A seat keeps the mutex whose permit is out with it, and another goes on with all else.
+pub struct Keeps<P: PermitPick> {
     pick: PhantomData<P>,
 }
 
-impl<P: PermitPick> Play<PermitSlot, View> for LeavesOpen<P> {
-    ghost then = { leaves_open P.at (Sub 1) IsAny };
+impl<P: PermitPick> Split<View> for Keeps<P> {
+    ghost left = { λ _. with_out (P.at ∷ []) (piece (owning P.at Exclusive)) };
+
+    ghost right = { left_over (owning P.at Exclusive) };
 }
 
-/// Who leaves it where nobody waits lays it back, whether it leaves or not.
-pub struct LeavesAlone<P: PermitPick> {
-    pick: PhantomData<P>,
-}
-
-impl<P: PermitPick> Play<PermitSlot, View> for LeavesAlone<P> {
-    ghost then = { leaves_open P.at (Exchange 1 0) IsOne };
-}
-
-/// A seat keeps the mutex whose permit it took out, and another goes on with all else.
-pub struct KeepsOpen<P: PermitPick> {
-    pick: PhantomData<P>,
-}
-
-impl<P: PermitPick> Split<View> for KeepsOpen<P> {
-    ghost left = { λ _. piece (owning P.at Opened) };
-
-    ghost right = { without_front };
-}
-
-/// A seat goes on with what another has done and owns.
+/// A seat goes on with what another, which has no permit out, has done and owns.
 pub struct GoesOn;
 
 impl Join<View> for GoesOn {
-    ghost both = { goes_on_with };
+    ghost both = { λ v w. with_out v.out (goes_on_with v w) };
+
+    ghost spent = { blank };
+}
+
+/// A seat goes on as another, which has no permit out, and as what that has done and owns.
+pub struct GoesOnAs;
+
+impl Join<View> for GoesOnAs {
+    ghost both = { λ w v. with_out w.out (goes_on_with v w) };
 
     ghost spent = { blank };
 }

@@ -4,9 +4,10 @@ ghost use Rattle.lot_base.specs.declared.ops.Op.TheVariants.{Load};
 ghost use Rattle.lot_words.specs.Codes.{ShowsBeside};
 ghost use Rattle.lot_words.specs.Indices.{word_index};
 ghost use Rattle.lot_words.specs.Steps.{after_step};
+ghost use Rattle.lot_words.specs.Views.{shown};
 ghost use Rattle.lot_words.specs.declared.words.WordKind.TheVariants.{Condvar, Mutex};
 
-use crate::plays::{CondvarPick, SeesShown};
+use crate::plays::{CondvarPick, PermitPick, SeesShown};
 use crate::table::{LotWords, Seat};
 use crate::words::{Word, WordKind};
 use std::marker::Brand;
@@ -15,18 +16,19 @@ impl LotWords {
     ghost use Rattle.lot_words.specs.Lots.{IsSeatOf, IsWordOf};
 
     #[inline]
-    fn look_picked<P: CondvarPick>(&self, seat: &mut Seat, condvar: Word) -> u64
-        requires pick { (P.words ≡ self.now.count) × (P.number ≡ condvar.number) }
+    fn look_picked<C: CondvarPick, P: PermitPick>(&self, seat: &mut Seat, condvar: Word) -> u64
+        requires pick { (C.words ≡ self.now.count) × (C.number ≡ condvar.number)
+            × (P.family ≡ self.now.table.shared.key.1.family) }
         requires own { IsSeatOf self.now seat.old × IsWordOf self.now condvar
             × (condvar.kind ≡ Condvar) }
-        ensures own { IsSeatOf self.now seat.new × (seat.new.me.1 ≡ seat.old.me.1) }
-        ensures stepped { seat.new.me.0
+        ensures own { IsSeatOf self.now seat.new }
+        ensures stepped { shown seat.new.me.0
             ≡ after_step Condvar (word_index condvar.number Condvar) Load result seat.old.me.0 }
         ensures shown { ShowsBeside self.now.count condvar.number result }
     {
         self.table
             .shared
-            .load::<SeesShown<P>>(seat, condvar.index())
+            .load::<SeesShown<C, P>>(seat, condvar.index())
     }
 
     /// Looks what a condition variable shows, by one load of its word: 0 where it shows nothing,
@@ -35,12 +37,12 @@ impl LotWords {
     pub fn look_shown(&self, seat: &mut Seat, condvar: Word) -> u64
         requires { IsSeatOf self.now seat.old × IsWordOf self.now condvar
             × (condvar.kind ≡ Condvar) }
-        ensures own { IsSeatOf self.now seat.new × (seat.new.me.1 ≡ seat.old.me.1) }
-        ensures stepped { seat.new.me.0
+        ensures own { IsSeatOf self.now seat.new }
+        ensures stepped { shown seat.new.me.0
             ≡ after_step Condvar (word_index condvar.number Condvar) Load result seat.old.me.0 }
         ensures shown { ShowsBeside self.now.count condvar.number result }
     {
-        self.look_picked::<Brand>(seat, condvar)
+        self.look_picked::<Brand, Brand>(seat, condvar)
     }
 
     /// The mutex that a condition variable shows by this value, by one more than its number.

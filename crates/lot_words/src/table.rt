@@ -3,8 +3,8 @@ ghost use Rattle.std.specs.Prelude.{◌≡◌, ℕ, ◌<◌, ◌≤◌, [], IfOk
 ghost use Rattle.lot_words.specs.Indices.{table_size, word_index, most_words};
 
 use crate::plays::{
-    Adds, Ands, Bits, Exchanges, Loads, Ors, OwnershipRule, SawSet, SeatsAnother, Stores, Subs,
-    Swaps,
+    Adds, Ands, Bits, Exchanges, Loads, Ors, OwnershipRule, PermitPick, SawSet, SeatsAnother,
+    Stores, Subs, Swaps,
 };
 use crate::views::View;
 use crate::words::Word;
@@ -36,7 +36,8 @@ pub(crate) fn new_tag() -> u32 {
 }
 
 impl LotWords {
-    ghost use Rattle.lot_words.specs.Views.{blank};
+    ghost use Rattle.lot_words.specs.Permits.{out_after};
+    ghost use Rattle.lot_words.specs.Views.{blank, shown};
     ghost use Rattle.lot_base.specs.declared.ops.Op.TheVariants.{Or};
     ghost use Rattle.lot_words.specs.Steps.{MayStep, CodesWith, after_step};
     ghost use Rattle.lot_words.specs.Lots.{IsSeatOf, IsWordOf};
@@ -73,48 +74,75 @@ impl LotWords {
     // Sets bits by one step, which writes nothing to a word that has them. So a try of a locked
     // lock disturbs nobody.
     #[inline]
-    fn set_bits<B: Bits>(&self, seat: &mut Seat, word: Word, bits: u64) -> u64
-        requires own { (B.bits ≡ bits) × IsSeatOf self.now seat.old × IsWordOf self.now word }
+    fn set_bits<B: Bits, P: PermitPick>(&self, seat: &mut Seat, word: Word, bits: u64) -> u64
+        requires pick { (B.bits ≡ bits) × (P.family ≡ self.now.table.shared.key.1.family) }
+        requires own { IsSeatOf self.now seat.old × IsWordOf self.now word }
         requires may { MayStep word.kind (word_index word.number word.kind)
             (Or bits) seat.old.me.0.owns }
-        ensures own { IsSeatOf self.now seat.new × (seat.new.me.1 ≡ seat.old.me.1) }
-        ensures stepped { seat.new.me.0
+        ensures own { IsSeatOf self.now seat.new }
+        ensures stepped { shown seat.new.me.0
             ≡ after_step word.kind (word_index word.number word.kind)
             (Or bits) result seat.old.me.0 }
+        ensures out { seat.new.me.0.out
+            ≡ out_after word.kind (word_index word.number word.kind)
+            (Or bits) result seat.old.me.0.out }
         ensures coded { CodesWith word.kind
             (word_index word.number word.kind) result seat.old.me.0.owns }
     {
         let at = word.index();
         let words = &self.table.shared;
-        let seen = words.load::<SawSet<B>>(seat, at);
+        let seen = words.load::<SawSet<B, P>>(seat, at);
         if seen | bits == seen {
             return seen;
         }
-        words.fetch_or::<Ors>(seat, at, bits)
+        words.fetch_or::<Ors<P>>(seat, at, bits)
     }
 
-    /// One step on a word. It answers the value before.
     #[inline]
-    pub fn step(&self, seat: &mut Seat, word: Word, op: Op) -> u64
+    fn step_picked<P: PermitPick>(&self, seat: &mut Seat, word: Word, op: Op) -> u64
+        requires pick { P.family ≡ self.now.table.shared.key.1.family }
         requires own { IsSeatOf self.now seat.old × IsWordOf self.now word }
         requires may { MayStep word.kind (word_index word.number word.kind) op seat.old.me.0.owns }
-        ensures own { IsSeatOf self.now seat.new × (seat.new.me.1 ≡ seat.old.me.1) }
-        ensures stepped { seat.new.me.0
+        ensures own { IsSeatOf self.now seat.new }
+        ensures stepped { shown seat.new.me.0
             ≡ after_step word.kind (word_index word.number word.kind) op result seat.old.me.0 }
+        ensures out { seat.new.me.0.out
+            ≡ out_after word.kind (word_index word.number word.kind) op result
+            seat.old.me.0.out }
         ensures coded { CodesWith word.kind
             (word_index word.number word.kind) result seat.old.me.0.owns }
     {
         let at = word.index();
         let words = &self.table.shared;
         match op {
-            Op::Load => words.load::<Loads>(seat, at),
-            Op::Store(value) => words.swap::<Stores>(seat, at, value),
-            Op::Swap(value) => words.swap::<Swaps>(seat, at, value),
-            Op::Add(by) => words.fetch_add::<Adds>(seat, at, by),
-            Op::Sub(by) => words.fetch_sub::<Subs>(seat, at, by),
-            Op::Or(bits) => self.set_bits::<Brand>(seat, word, bits),
-            Op::And(bits) => words.fetch_and::<Ands>(seat, at, bits),
-            Op::Exchange { from, to } => words.compare_exchange::<Exchanges>(seat, at, from, to),
+            Op::Load => words.load::<Loads<P>>(seat, at),
+            Op::Store(value) => words.swap::<Stores<P>>(seat, at, value),
+            Op::Swap(value) => words.swap::<Swaps<P>>(seat, at, value),
+            Op::Add(by) => words.fetch_add::<Adds<P>>(seat, at, by),
+            Op::Sub(by) => words.fetch_sub::<Subs<P>>(seat, at, by),
+            Op::Or(bits) => self.set_bits::<Brand, P>(seat, word, bits),
+            Op::And(bits) => words.fetch_and::<Ands<P>>(seat, at, bits),
+            Op::Exchange { from, to } => {
+                words.compare_exchange::<Exchanges<P>>(seat, at, from, to)
+            }
         }
+    }
+
+    /// One step on a word. It answers the value before. Who locks a mutex by it has the permit of
+    /// the mutex's value out with that step, and who unlocks one lays it back with that step.
+    #[inline]
+    pub fn step(&self, seat: &mut Seat, word: Word, op: Op) -> u64
+        requires own { IsSeatOf self.now seat.old × IsWordOf self.now word }
+        requires may { MayStep word.kind (word_index word.number word.kind) op seat.old.me.0.owns }
+        ensures own { IsSeatOf self.now seat.new }
+        ensures stepped { shown seat.new.me.0
+            ≡ after_step word.kind (word_index word.number word.kind) op result seat.old.me.0 }
+        ensures out { seat.new.me.0.out
+            ≡ out_after word.kind (word_index word.number word.kind) op result
+            seat.old.me.0.out }
+        ensures coded { CodesWith word.kind
+            (word_index word.number word.kind) result seat.old.me.0.owns }
+    {
+        self.step_picked::<Brand>(seat, word, op)
     }
 }

@@ -33,6 +33,9 @@ pub struct View {
     pub ghost drawn: { List Drawn },
     // The greatest count of drawn words that it saw.
     pub ghost saw: { ℕ },
+    // The index of the mutex whose permit is out with it. It owns that mutex, and there is one at
+    // most.
+    pub ghost out: { List ℕ },
 }
 
 impl Model for View {

@@ -7,6 +7,7 @@ use Rattle.lot_base.specs.declared.wants.Want.TheVariants.{Exclusive}
 use Rattle.lot_words.specs.Plays.{left_over}
 use Rattle.lot_words.specs.Rights.{named_by}
 use Rattle.lot_words.specs.Steps.{has}
+use Rattle.lot_words.specs.Views.{shown}
 use Rattle.lot_words.specs.declared.views.View.{View}
 use Rattle.lot_words.specs.declared.words.Word.{Word}
 use Rattle.parking_lot_core.specs.Giving.{owner_at, HasEach, less_each}
@@ -64,5 +65,5 @@ module _ (word : Word) (left : ℕ) (wants asked : List Want) (same : asked ≡ 
   same_rest new e = ap (less_each word left (drop (k + 1) wants)) e ∙ sym (ap (λ (l : List Want). less_each word left l v) next)
 
 -- none is left behind the last
-pub all_split : (word : Word) (left : ℕ) (wants : List Want) (k : ℕ) (v old : View) → length wants ≤ k → less_each word left (drop k wants) v ≡ less_each word left wants old → v ≡ less_each word left wants old
+pub all_split : (word : Word) (left : ℕ) (wants : List Want) (k : ℕ) (v old : View) → length wants ≤ k → less_each word left (drop k wants) v ≡ less_each word left wants old → shown v ≡ less_each word left wants old
 all_split word left wants k v old le e = ap (λ (l : List Want). less_each word left l v) (sym (drop_all k wants le)) ∙ e

@@ -1,6 +1,6 @@
 -- Who belongs to a lot.
-use Rattle.std.specs.Prelude.{◌≡◌, ◌<◌, ℕ, [], Option, Some, None, if◌then◌else◌}
-use Rattle.lot_words.specs.Views.{blank}
+use Rattle.std.specs.Prelude.{◌≡◌, ◌<◌, ℕ, List, [], Option, Some, None, if◌then◌else◌}
+use Rattle.lot_words.specs.Views.{blank, shown}
 use Rattle.lot_words.specs.Lots.{IsSeatOf}
 use Rattle.lot_words.specs.declared.table.LotWords.{LotWords}
 use Rattle.lot_words.specs.declared.views.View.{View}
@@ -9,18 +9,20 @@ use Rattle.parking_lot_core.specs.declared.tokens.SectionRecord.{SectionRecord}
 use Rattle.parking_lot_core.specs.declared.tokens.Ticket.{Ticket}
 use Rattle.parking_lot_core.specs.declared.tokens.Token.{Token}
 
--- a thread has no permit of a value with it: its guards have them
 abbrev pub IsTicketOf : ParkingLot → Ticket → Type 0
 IsTicketOf lot ticket = IsSeatOf lot.words ticket.seat × (ticket.number < lot.records.count)
-    × (ticket.seat.me.1 ≡ [])
 
 abbrev pub IsTokenOf : ParkingLot → Token → Type 0
 IsTokenOf lot token = IsSeatOf lot.words token.seat × (token.number < lot.records.count)
-    × (token.seat.me.1 ≡ [])
 
 -- what a thread has done, and what it owns
-abbrev pub view_of : Token → View
-view_of token = token.seat.me.0
+unfoldable pub view_of : Token → View
+view_of token = shown token.seat.me.0
+
+-- the mutex, by its index, whose permit is out with the thread, if any: one that it owns itself.
+-- Those of its guards are with these
+abbrev pub out_of : Token → List ℕ
+out_of token = token.seat.me.0.out
 
 -- what it did in the section that it left last, if it has taken no step since
 abbrev pub last_of : Token → Option SectionRecord

@@ -53,6 +53,7 @@ fn no_links(alloc: Global, seats: usize) -> Result<Vec<AtomicUsize>, AllocError>
 }
 
 impl ParkingLot {
+    ghost use Rattle.lot_words.specs.Lots.{IsSeatOf};
     ghost use Rattle.parking_lot_core.specs.Tokens.{IsNewTicket, IsNewTicketOf, number_of};
 
     // A ticket for each seat, numbered from 0, and what wakes its thread.
@@ -62,7 +63,7 @@ impl ParkingLot {
         mut first: Seat,
         seats: usize,
     ) -> Result<(Vec<Ticket>, Vec<Unparker>), AllocError>
-        requires { first.table_id ≡ words.now.table.shared.table_id }
+        requires { IsSeatOf words.now first }
         ensures tickets { IfOk result (λ made. (map number_of made.0.items ≡ range_with_len 0 seats)
             × All (IsNewTicket words.now seats) made.0.items) }
         ensures unparkers { IfOk result (λ made. length made.1.items ≡ seats) }

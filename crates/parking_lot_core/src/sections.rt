@@ -162,7 +162,7 @@ impl ParkingLot {
 impl<'a> Section<'a> {
     ghost use Rattle.parking_lot_core.specs.Tokens.{IsTokenOf, IsSameThread, last_of};
     ghost use Rattle.parking_lot_core.specs.Sections.{waiting_in, taken_in, wants_in, rightless_in, moved_in, StaysIn, TookAs, MayNote};
-    ghost use Rattle.parking_lot_core.specs.Tokens.{view_of};
+    ghost use Rattle.parking_lot_core.specs.Tokens.{out_of, view_of};
     ghost use Rattle.parking_lot_core.specs.Giving.{owner_at, HasEach, less_each};
     ghost use Rattle.lot_words.specs.Lots.{IsWordOf};
     ghost use Rattle.lot_words.specs.Plays.{left_over};
@@ -422,11 +422,12 @@ impl<'a> Section<'a> {
 
     /// Leaves. Whom the section took gets the note and is woken, and the token keeps the record of
     /// it.
+    #[tactic(auto, unfolding(crate::specs::Tokens::view_of))]
     pub fn leave<R: Wait>(self, rt: &R, token: &mut Token, note: Note)
         requires own { IsTokenOf self.lot.now token.old }
         requires note { MayNote note (taken_in self) (rightless_in self) }
         ensures own { IsSameThread self.entry.lot.now token.old token.new
-            × (token.new.seat ≡ token.old.seat) }
+            × (view_of token.new ≡ view_of token.old) × (out_of token.new ≡ out_of token.old) }
         ensures recorded { last_of token.new
             ≡ Some (record {
               key = first_key self.entry.keys;

@@ -1,4 +1,6 @@
 //! Steps on words, draws and rights, by tokens.
+#![tactic(auto, unfolding(crate::specs::Tokens::view_of))]
+
 ghost use Rattle.std.specs.Prelude.{◌≡◌, ◌≢◌, ℕ, ◌+◌, ◌%◌, ◌<◌, ◌≤◌, ◌⊎◌, ◌∷◌, [], true, None, IfOk, MatchOption, MatchResult};
 ghost use Rattle.lot_words.specs.Indices.{word_index};
 ghost use Rattle.lot_words.specs.Codes.{IsCountCode, ShowsBeside};
@@ -7,11 +9,12 @@ ghost use Rattle.lot_words.specs.Draws.{IsDrawn, IsDrawRefused};
 ghost use Rattle.lot_words.specs.Lots.{IsWordOf, permit_of};
 ghost use Rattle.lot_words.specs.Plays.{left_over, stepping, takes_in};
 ghost use Rattle.lot_words.specs.Rights.{leaving_alone, named_by, owner_for, piece_of, OwnsWith};
+ghost use Rattle.lot_words.specs.Permits.{out_after};
 ghost use Rattle.lot_words.specs.RightsOf.{IsHeldOf, IsOpenOf, IsRightOf};
 ghost use Rattle.lot_words.specs.declared.owners.Owner.TheVariants.{Exclusive};
 ghost use Rattle.lot_words.specs.declared.words.WordKind.TheVariants.{Mutex, Condvar, Count};
 ghost use Rattle.lot_base.specs.declared.ops.Op.TheVariants.{Add, Exchange, Load, Or, Sub};
-ghost use Rattle.parking_lot_core.specs.Tokens.{IsTokenOf, IsSameThread, view_of, last_of};
+ghost use Rattle.parking_lot_core.specs.Tokens.{IsTokenOf, IsSameThread, view_of, out_of, last_of};
 
 use crate::lot::ParkingLot;
 use crate::tokens::Token;
@@ -21,7 +24,9 @@ use lot_words::{Held, OpenHeld, Owner, Right, Word, WordKind};
 use value_place::Permit;
 
 impl ParkingLot {
-    /// One step on a word, sequentially consistent. It answers the value before.
+    /// One step on a word, sequentially consistent. It answers the value before. With the step that
+    /// locks a mutex the permit of its value goes out with the thread, and with the one that unlocks
+    /// it it lies in its slot again.
     #[inline]
     pub fn word(&self, token: &mut Token, word: Word, op: Op) -> u64
         requires own { IsTokenOf self.now token.old × IsWordOf self.now.words word }
@@ -31,6 +36,9 @@ impl ParkingLot {
         ensures stepped { view_of token.new
             ≡ after_step word.kind (word_index word.number word.kind) op result
             (view_of token.old) }
+        ensures out { out_of token.new
+            ≡ out_after word.kind (word_index word.number word.kind) op result
+            (out_of token.old) }
         ensures coded { CodesWith word.kind (word_index word.number word.kind) result
             (view_of token.old).owns }
     {
@@ -162,10 +170,11 @@ impl ParkingLot {
         self.words.new_pair(&mut token.seat)
     }
 
-    /// Splits what was wanted off the token's view. It loads a word, which is no step of a call.
+    /// Splits what was wanted off the token's view, of a word that guards no value. It loads a
+    /// word, which is no step of a call.
     #[inline]
     pub fn split_held(&self, token: &mut Token, word: Word, want: Want) -> Held
-        requires own { IsTokenOf self.now token.old }
+        requires own { IsTokenOf self.now token.old × (word.kind ≢ Mutex) }
         requires named { has (named_by word (owner_for want)) (view_of token.old).owns ≡ true }
         ensures own { IsSameThread self.now token.old token.new
             × (last_of token.new ≡ last_of token.old) }
@@ -287,7 +296,8 @@ impl ParkingLot {
         self.words.leave_open(&mut token.seat, word, opened, permit)
     }
 
-    /// The same where nobody waits. Where somebody does, the thread owns the mutex, closed.
+    /// The same where nobody waits. Where somebody does, the thread owns the mutex, and its permit
+    /// is out with the thread still.
     #[inline]
     pub fn leave_open_alone(
         &self,
@@ -309,26 +319,36 @@ impl ParkingLot {
             .leave_open_alone(&mut token.seat, word, opened, permit)
     }
 
-    /// Takes out the permit of the value that a mutex guards, for who owns the mutex. It loads a
-    /// word, which is no step of a call.
+    /// Splits a mutex off that the token's view names, with the permit of its value, which has been
+    /// out since the step that locked it. It loads a word, which is no step of a call.
     #[inline]
-    pub fn open_held(&self, word: Word, held: Held) -> (OpenHeld, Permit)
-        requires mutex { IsWordOf self.now.words word × (word.kind ≡ Mutex) }
-        requires held { IsHeldOf self.now.words word Exclusive held }
-        ensures opened { IsOpenOf self.now.words word result.0 }
-        ensures permit { result.1.id ≡ permit_of self.now.words word }
+    pub fn split_open(&self, token: &mut Token, word: Word) -> (OpenHeld, Permit)
+        requires own { IsTokenOf self.now token.old × IsWordOf self.now.words word
+            × (word.kind ≡ Mutex) }
+        requires named { has (named_by word Exclusive) (view_of token.old).owns ≡ true }
+        ensures own { IsSameThread self.now token.old token.new
+            × (last_of token.new ≡ last_of token.old) }
+        ensures left { view_of token.new ≡ left_over (named_by word Exclusive) (view_of token.old) }
+        ensures opened { IsOpenOf self.now.words word result.0
+            × (result.1.id ≡ permit_of self.now.words word) }
     {
-        self.words.open_held(word, held)
+        self.words.split_open(&mut token.seat, word)
     }
 
-    /// Lays it back. It loads a word, which is no step of a call.
+    /// Gives it back to a token. The permit stays out with the thread until a step unlocks the
+    /// mutex. It loads a word, which is no step of a call.
     #[inline]
-    pub fn close_held(&self, word: Word, opened: OpenHeld, permit: Permit) -> Held
-        requires mutex { IsWordOf self.now.words word × (word.kind ≡ Mutex) }
+    pub fn join_open(&self, token: &mut Token, word: Word, opened: OpenHeld, permit: Permit)
+        requires own { IsTokenOf self.now token.old × IsWordOf self.now.words word
+            × (word.kind ≡ Mutex) }
         requires opened { IsOpenOf self.now.words word opened
             × (permit.id ≡ permit_of self.now.words word) }
-        ensures { IsHeldOf self.now.words word Exclusive result }
+        ensures own { IsSameThread self.now token.old token.new
+            × (last_of token.new ≡ last_of token.old) }
+        ensures joined { view_of token.new
+            ≡ takes_in (view_of token.old) (piece_of word Exclusive) }
+        ensures out { out_of token.new ≡ word_index word.number word.kind ∷ [] }
     {
-        self.words.close_held(word, opened, permit)
+        self.words.join_open(&mut token.seat, word, opened, permit);
     }
 }

@@ -28,7 +28,7 @@ use lot_driver::driver::{NO_LIMIT, behind, step};
 use lot_mutex::{LOCKED, PARKED, is_locked, is_parked};
 use mutex_driver::unlocks::unlock_behind;
 use parking_lot_core::{
-    Clock, Fault, Key, Op, ParkingLot, Permit, Token, Want, Word, WordKind, to_deadline,
+    Clock, Fault, Key, Op, ParkingLot, Permit, Token, Word, WordKind, to_deadline,
 };
 use std::sync::{Arc, Wait};
 use std::time::Duration;
@@ -64,8 +64,7 @@ impl RawMutex {
             ≡ left_over (held (word_of self.now).number) (view_of token.old) }
         ensures guard { IsGuardOf (lot_of self.now) (word_of self.now) result }
     {
-        let held = lot.split_held(token, self.word, Want::Exclusive);
-        let (opened, permit) = lot.open_held(self.word, held);
+        let (opened, permit) = lot.split_open(token, self.word);
         RawGuard { opened, permit }
     }
 
@@ -80,8 +79,7 @@ impl RawMutex {
             ≡ takes_in (view_of token.old) (piece (held (word_of self.now).number)) }
     {
         let RawGuard { opened, permit } = guard;
-        let held = lot.close_held(self.word, opened, permit);
-        lot.join_held(token, self.word, Want::Exclusive, held);
+        lot.join_open(token, self.word, opened, permit);
     }
 
     // The first step of a fair release. What it saw, where the thread still owns the mutex.

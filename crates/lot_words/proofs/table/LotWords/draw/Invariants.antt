@@ -6,7 +6,7 @@ use Rattle.lot_words.proofs.table.LotWords.draw.Given as goal
 
 abbrev pub invariant-loop-seen : goal.invariant-loop-seen
 invariant-loop-seen g l = let old = l.fn.seat.me.0 in let new = l.seat.me.0 in record {
-  own : IsSeatOf l.self l.seat × (l.seat.me.1 ≡ l.fn.seat.me.1) × (new.owns ≡ old.owns);
+  own : IsSeatOf l.self l.seat × (new.owns ≡ old.owns);
   drawn : new.drawn ≡ old.drawn;
   saw : new.saw ≡ l.seen;
   last : LastSaw l.seen new.steps;

@@ -1,12 +1,13 @@
-use Rattle.std.proofs.Common.{arith}
+use Rattle.std.proofs.Common.{ap, arith, ◌∙◌}
+use Rattle.lot_words.specs.Permits.{slots_of}
 use Rattle.lot_words.proofs.Seats.{goes_on}
 use Rattle.lot_words.proofs.table.LotWords.go_on.Goals as goal
 
 pub join_seat-requires : goal.join_seat-requires
-join_seat-requires c = let lot = c.args.self.now in let sized = lot.sized in let sized₀ = sized.0 in (
-  c.requires.own.0,
-  c.requires.own.1,
-  c.requires.own.3,
+join_seat-requires c = let lot = c.args.self.now in let sized = lot.sized in let sized₀ = sized.0 in let family = lot.table.shared.key.1.family in (
+  c.requires.own.0.0,
+  c.requires.own.1.0,
+  c.requires.own.1.1 ∙ ap (slots_of family) c.requires.left.1,
   omega arith,
-  goes_on lot.table.shared.key.0 lot.table.shared.key.1.family c.args.seat.now.id c.args.seat.now.me.0 c.args.owner.id c.args.owner.me.0 c.requires.left,
+  goes_on lot.table.shared.key.0 family c.args.seat.now.id c.args.seat.now.me.0 c.args.owner.id c.args.owner.me.0 c.requires.left.0 c.requires.left.1,
 )

@@ -1,4 +1,4 @@
 use Rattle.lot_words.proofs.table.LotWords.step.Given as goal
 
-abbrev pub ghosts-set_bits : goal.ghosts-set_bits
-ghosts-set_bits a = record { bits = a.bits }
+abbrev pub ghosts-step_picked : goal.ghosts-step_picked
+ghosts-step_picked a = record { family = a.self.now.table.shared.key.1.family; at = 0 }

@@ -1,4 +1,6 @@
-use Rattle.std.proofs.Common.{ℕ, sym, subst}
+use Rattle.std.proofs.Common.{rules, ℕ, ◌+◌, sym, subst}
+use Rattle.lot_words.specs.Rights.{OwnsWith}
+use Rattle.lot_words.specs.declared.views.View.{View}
 use Rattle.lot_words.specs.Indices.{word_index}
 use Rattle.lot_words.specs.Steps.{MayStep}
 use Rattle.lot_words.specs.declared.words.WordKind.{WordKind}
@@ -11,3 +13,6 @@ pub word-requires-clause-may : goal.word-requires-clause-may
 word-requires-clause-may c = let count = c.args.count in let owns = (view_of c.args.token.now).owns in let owned = c.requires.owned in
     subst (λ (kind : WordKind). MayStep kind (word_index count.number kind) (Add 1) owns) (sym c.requires.pair.0)
     (subst (λ (number : ℕ). MayStep Count (word_index number Count) (Add 1) owns) (sym c.requires.pair.1) ((c.count_may_step.ensures c.args.mutex.number owns).raise owned.0 owned.1 owned.2))
+
+pub returns-clause-says : goal.returns-clause-says
+returns-clause-says c = subst (λ (v : View). OwnsWith c.args.mutex (c.word.result + 1) v) (sym c.word.ensures.stepped) (search rules)

@@ -32,6 +32,7 @@ loop-place-preserved g c = let self = c.args.self.now in let i = c.loop-place.in
     }
 
 pub returns-clause-left : goal.returns-clause-left
+unfolding view_of
 returns-clause-left g c = let taken : c.taken-place-end.result.now ≡ taken_in c.args.self.now = search rules in
     let all : length (wants_in c.args.self.now) ≤ c.loop-place.place = omega (arith, c.loop-place-test.false, ap length taken, c.args.self.now.each_wants) in
     all_split c.args.word c.args.left (wants_in c.args.self.now) c.loop-place.place (view_of c.loop-place.token) (view_of c.args.token.now) all c.loop-place.invariant.rest

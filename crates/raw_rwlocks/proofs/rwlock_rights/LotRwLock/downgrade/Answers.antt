@@ -17,6 +17,10 @@ use Rattle.lot_driver.proofs.RwLockNeeds.{has_right, left_beside}
 use Rattle.rwlock_driver.proofs.RwLockRights.{joined_beside}
 use Rattle.raw_rwlocks.proofs.rwlock_rights.LotRwLock.downgrade.Goals as goal
 
+pub call-requires-clause-right : goal.call-requires-clause-right
+call-requires-clause-right g c = let n = c.args.self.now.word.number in let owns = (view_of c.args.token.now).owns in
+    (owns, joined_beside n c.greater.result (wanted (from_of c.args.downgrade)) owns (view_of c.join.new.token).owns c.greater.ensures (ap (λ (v : View). v.owns) c.join.ensures.joined))
+
 pub split-requires-clause-held : goal.split-requires-clause-held
 split-requires-clause-held g c = let n = c.args.self.now.word.number in let owns = (view_of c.args.token.now).owns in
     let over = c.call.ensures.over owns (joined_beside n c.greater.result (wanted (from_of c.args.downgrade)) owns (view_of c.join.new.token).owns c.greater.ensures (ap (λ (v : View). v.owns) c.join.ensures.joined)) in

@@ -18,6 +18,10 @@ use Rattle.rwlock_driver.proofs.RwLockFull.{sees_full}
 use Rattle.lot_driver.proofs.RwLockNeeds.{has_right}
 use Rattle.raw_rwlocks.proofs.rwlock_rights.LotRwLock.enter.Goals as goal
 
+pub call-answer-requires-clause-right : goal.call-answer-requires-clause-right
+call-answer-requires-clause-right g c = let owns = (view_of c.args.token.now).owns in
+    (owns, begins_entering c.args.self.now.word.number c.args.access c.args.patience owns)
+
 pub split-requires-clause-held : goal.split-requires-clause-held
 split-requires-clause-held g c = let n = c.args.self.now.word.number in let owns = (view_of c.args.token.now).owns in
     let over = c.call-answer.ensures.over owns (begins_entering n c.args.access c.args.patience owns) in
