@@ -36,6 +36,18 @@ fn lone(alloc: Global) -> Result<(Arc<ParkingLot>, Token), Fault>
     Ok((lot, ticket.enter()))
 }
 
+// A lot of one word, with one of its seven threads and the tickets of the other six.
+fn lot_of_seven(alloc: Global) -> Result<(Arc<ParkingLot>, Token, Vec<Ticket>), Fault>
+    ensures { IfOk result (λ made. IsTokenOf (arc_value made.0) made.1
+        × All (IsTicketOf (arc_value made.0)) made.2.items) }
+{
+    let (lot, mut tickets) = ParkingLot::new(alloc, 1, 7)?;
+    let Some(ticket) = tickets.pop() else {
+        return Err(Fault::NoMemory);
+    };
+    Ok((lot, ticket.enter(), tickets))
+}
+
 // A mutex that one thread has for itself.
 fn mutex_alone<T: Drop>(alloc: Global, value: T) -> Result<(Mutex<T>, Token), Fault>
     ensures { IfOk result (λ made. IsTokenOf (lot_of made.0) made.1) }

@@ -4,7 +4,7 @@ ghost use Rattle.std.specs.Arc.{arc_value};
 ghost use Rattle.parking_lot_core.specs.Tokens.{IsTicketOf, IsTokenOf};
 ghost use Rattle.parking_lot.specs.Users.{lot_of};
 
-use super::{pair, same};
+use super::{lot_of_seven, pair, same};
 use parking_lot::{FairMutex, Fault, Mutex, ParkingLot, Ticket, Token};
 use std::alloc::Global;
 use std::sync::atomic::AtomicBool;
@@ -240,11 +240,7 @@ fn who_waits_has_the_mutex_during_a_bump(rt: HostRuntime) -> Result<(), Fail> {
 fn six_fair_seats(alloc: Global, value: u64) -> Result<(FairMutex<u64>, Vec<Ticket>), Fault>
     ensures { IfOk result (λ made. All (IsTicketOf (lot_of made.0)) made.1.items) }
 {
-    let (lot, mut tickets) = ParkingLot::new(alloc, 1, 7)?;
-    let Some(ticket) = tickets.pop() else {
-        return Err(Fault::NoMemory);
-    };
-    let mut token = ticket.enter();
+    let (lot, mut token, tickets) = lot_of_seven(alloc)?;
     match FairMutex::new(&lot, &mut token, value) {
         Ok(mutex) => Ok((mutex, tickets)),
         Err((fault, _)) => Err(fault),
