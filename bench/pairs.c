@@ -9,7 +9,7 @@
 
 struct table { uint64_t key; uint64_t *words; };
 struct lock { struct table *table; uint64_t index; };
-struct token { uint8_t told; };
+struct token { uint8_t told; uint64_t from, by; };
 
 /* As the flag that is tested behind each call that may wait. */
 volatile uint8_t flag;
@@ -24,6 +24,11 @@ volatile uint8_t flag;
 #define JOIN "mov 8(%%rax),%%rax\n mov (%%rax),%%rax\n"
 /* Whether a section is told. */
 #define TOLD "cmpb $1,(%[token])\n je 9f\n"
+/* The same with the numbers that a token keeps: 0 and 1, and such as no step meets while a section is told. */
+#define LOCK_BY "mov (%[lock]),%%rcx\n mov 8(%[lock]),%%rdx\n mov 8(%%rcx),%%rsi\n" \
+                "mov $1,%%edi\n mov 8(%[token]),%%rax\n lock cmpxchg %%rdi,(%%rsi,%%rdx,8)\n jne 9f\n"
+#define UNLOCK_BY "mov (%[lock]),%%rax\n mov 8(%[lock]),%%rcx\n mov 8(%%rax),%%rdx\n" \
+                  "mov 16(%[token]),%%rdi\n lock subq %%rdi,(%%rdx,%%rcx,8)\n"
 
 #define LOOP(name, at, body) \
     __attribute__((noinline)) static void name##_##at(struct lock *lock, struct token *token, uint64_t n) { \
@@ -45,15 +50,17 @@ volatile uint8_t flag;
     LOOP(look, at, LOOK FLAG) \
     LOOP(bare, at, BARE) \
     LOOP(take, at, LOCK FLAG UNLOCK "jne 9f\n" FLAG) \
+    LOOP(once, at, LOCK SPLIT FLAG UNLOCK "jne 9f\n" FLAG) \
     LOOP(hold, at, LOCK SPLIT FLAG UNLOCK JOIN "jne 9f\n" FLAG) \
+    LOOP(kept, at, LOCK_BY SPLIT FLAG UNLOCK_BY JOIN "jne 9f\n" FLAG) \
     LOOP(told, at, TOLD LOCK SPLIT FLAG TOLD UNLOCK JOIN "jne 9f\n" FLAG)
 AT(0) AT(4) AT(8) AT(12) AT(16) AT(20) AT(24) AT(28) AT(32) AT(36) AT(40) AT(44) AT(48) AT(52) AT(56) AT(60)
 
 typedef void (*loop)(struct lock *, struct token *, uint64_t);
-enum { POSITIONS = 16, LOOPS = 6, RUNS = 25, PAIRS = 300000 };
+enum { POSITIONS = 16, LOOPS = 8, RUNS = 25, PAIRS = 300000 };
 static const char *names[LOOPS] = {"a look in a register", "a look through a table", "a pair in a register", "a pair through a table",
-    "with an owner apart", "with a told section"};
-#define ROW(at) {glance_##at, look_##at, bare_##at, take_##at, hold_##at, told_##at}
+    "an owner apart, dropped", "an owner apart, joined", "a section told by numbers", "a told section"};
+#define ROW(at) {glance_##at, look_##at, bare_##at, take_##at, once_##at, hold_##at, kept_##at, told_##at}
 static const loop loops[POSITIONS][LOOPS] = {ROW(0), ROW(4), ROW(8), ROW(12), ROW(16), ROW(20), ROW(24), ROW(28),
     ROW(32), ROW(36), ROW(40), ROW(44), ROW(48), ROW(52), ROW(56), ROW(60)};
 
@@ -77,7 +84,7 @@ int main(void) {
         for (int at = 0; at < POSITIONS; at++)
             for (int which = 0; which < LOOPS; which++) {
                 table->words[8] = 0;
-                token->told = 0;
+                *token = (struct token){.told = 0, .from = 0, .by = 1};
                 double start = now();
                 loops[at][which](lock, token, PAIRS);
                 double taken = (now() - start) / PAIRS;
@@ -91,7 +98,7 @@ int main(void) {
             if (taken < least) least = taken;
             if (taken > most) most = taken;
         }
-        printf("%-22s %6.2f %6.2f %6.2f\n", names[which], sum / POSITIONS, least, most);
+        printf("%-26s %6.2f %6.2f %6.2f\n", names[which], sum / POSITIONS, least, most);
     }
     return 0;
 }

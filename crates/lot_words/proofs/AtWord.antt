@@ -1,5 +1,5 @@
 -- A step on a word of a lot, as the lot's table wants it.
-use Rattle.std.proofs.Common.{◌≡◌, ℕ, ◌+◌, ◌%◌, ◌<◌, cond, eqb, Bool, true, false, ◌∙◌, ap, arith, sym, subst, refl}
+use Rattle.std.proofs.Common.{◌≡◌, ◌≢◌, ℕ, ◌+◌, ◌%◌, ◌<◌, ◌⊎◌, cond, eqb, Bool, true, false, ◌∙◌, ap, arith, sym, subst, refl}
 use mathlib.Core.Logic.{dite}
 use mathlib.Core.Option.{none}
 use native.Mathlib.Decide.{ℕ_discrete}
@@ -12,7 +12,7 @@ use Rattle.lot_words.specs.Rights.{leaving_alone, named_by, piece_of, takes_perm
 use Rattle.lot_words.specs.Rule.{LotRule}
 use Rattle.value_place.specs.declared.slot.PermitSlot.{PermitSlot}
 use Rattle.lot_words.specs.Steps.{MayStep, has}
-use Rattle.lot_words.specs.Plays.{TakesStep, goes_on_with, stepping, takes_in, closes, opens, saw_set, sees_locked, sees_shown, tries_seen}
+use Rattle.lot_words.specs.Plays.{TakesExpected, TakesStep, goes_on_with, stepping, takes_in, takes_out, lays_back, saw_set, sees_locked, sees_shown, tries_seen}
 use Rattle.lot_words.specs.Lots.{IsSeatOf, IsWordOf}
 use Rattle.lot_words.specs.declared.table.LotWords.{LotWords}
 use Rattle.lot_words.specs.declared.owners.Owner.{Owner}
@@ -22,9 +22,9 @@ use Rattle.lot_words.specs.declared.words.Word.{Word}
 use Rattle.lot_base.specs.Words.{apply}
 use Rattle.lot_base.specs.declared.ops.Op.{Op}
 use Rattle.lot_base.specs.declared.ops.Op.TheVariants.{Exchange, Or}
-use Rattle.lot_words.proofs.Stepping.{sees_locked_allowed, sees_set, steps_at_word, tries_seen_allowed}
+use Rattle.lot_words.proofs.Stepping.{expected_allowed, sees_locked_allowed, sees_set, steps_at_word, tries_seen_allowed}
 use Rattle.lot_words.proofs.TiedSteps.{sees_shown_allowed}
-use Rattle.lot_words.proofs.PermitSteps.{opens_allowed, closes_allowed}
+use Rattle.lot_words.proofs.PermitSteps.{lays_back_allowed, takes_out_allowed}
 use Rattle.lot_words.proofs.Totals.{cond_other}
 use Rattle.lot_words.proofs.Trades.{owned_some, zero_either}
 use Rattle.lot_words.specs.declared.words.WordKind.{WordKind}
@@ -94,16 +94,16 @@ module _ (lot : LotWords) (seat : Seat PermitSlot View) (word : Word) (own : IsS
   may_mutex is op may = subst (λ (k : WordKind). MayStep k (word_index word.number k) op seat.me.0.owns) (sym is) may
 
   -- a load of the counter, behind which the permit of a mutex that the seat owns is out
-  pub table_opens : (family at : ℕ) → family ≡ from → at ≡ word_index word.number word.kind → word.kind ≡ Mutex → has (named_by word Exclusive) seat.me.0.owns ≡ true
-      → AllowedAt lot seat 0 (λ n. n) (opens family at (step slots 0 0 0 none) seat.me)
-  table_opens family at same there is owns = let sized = lot.sized in let seated = own.0 in
+  pub table_takes_out : (family at : ℕ) → family ≡ from → at ≡ word_index word.number word.kind → word.kind ≡ Mutex → has (named_by word Exclusive) seat.me.0.owns ≡ true
+      → AllowedAt lot seat 0 (λ n. n) (takes_out family at (step slots 0 0 0 none) seat.me)
+  table_takes_out family at same there is owns = let sized = lot.sized in let seated = own.0 in
       let i : ℕ = word_index word.number Mutex in
-      let Goal : ℕ → ℕ → Type 0 = λ f j. Allows (LotRule words from) slots seat.id seat.me 0 (λ n. n) (opens f j (step slots 0 0 0 none) seat.me) in
+      let Goal : ℕ → ℕ → Type 0 = λ f j. Allows (LotRule words from) slots seat.id seat.me 0 (λ n. n) (takes_out f j (step slots 0 0 0 none) seat.me) in
       let mine = owned_some (word_index word.number word.kind) Exclusive seat.me.0.owns owns exclusive (omega arith) in (
         seated.0,
         omega (arith, sized.0, sized.1, below),
         subst (λ (f : ℕ). Goal f at) (sym same) (subst (λ (j : ℕ). Goal from j) (sym (there ∙ at_mutex is))
-            (opens_allowed words from slots seat.id seat.me word.number below (subst (λ (r : ℕ). 0 < owned r exclusive seat.me.0.owns) (at_mutex is) mine) seated.1)),
+            (takes_out_allowed words from slots seat.id seat.me word.number below (subst (λ (r : ℕ). 0 < owned r exclusive seat.me.0.owns) (at_mutex is) mine) seated.1)),
       )
 
   -- a load in place of a try
@@ -128,10 +128,22 @@ module _ (lot : LotWords) (seat : Seat PermitSlot View) (word : Word) (own : IsS
             (tries_seen_allowed words from slots seat.id seat.me word.number seen even below seated.1)),
       )
 
+  -- a step of a mutex where it expects the real number
+  pub table_expects : (family i real first second : ℕ) (op_of : ℕ → Op) → MayStep Mutex (word_index word.number Mutex) (op_of real) seat.me.0.owns → (first ≡ real) ⊎ ((first ≢ real) × ((n : ℕ) → n < 4 → apply (op_of first) n ≡ n))
+      → family ≡ from → i ≡ word_index word.number word.kind → word.kind ≡ Mutex
+      → AllowedAt lot seat i (apply (op_of first)) (TakesExpected family real (op_of real) (step slots i first second none) seat.me)
+  table_expects family i real first second op_of may which same here is = let seated = own.0 in
+      let Goal : ℕ → ℕ → Type 0 = λ f j. Allows (LotRule words from) slots seat.id seat.me j (apply (op_of first)) (TakesExpected f real (op_of real) (step slots j first second none) seat.me) in (
+        seated.0,
+        near i here,
+        subst (λ (f : ℕ). Goal f i) (sym same) (subst (λ (j : ℕ). Goal from j) (sym (here ∙ at_mutex is))
+            (expected_allowed words from slots seat.id seat.me word.number real first second op_of below seated.1 may which)),
+      )
+
 -- a load of the counter, behind which nothing is out
-pub table_closes : (lot : LotWords) (seat : Seat PermitSlot View) → IsSeatOf lot seat → AllowedAt lot seat 0 (λ n. n) (closes (step lot.table.shared.table_id.slots 0 0 0 none) seat.me)
-table_closes lot seat own = let sized = lot.sized in
-    (own.0, omega (arith, sized.0, sized.1), closes_allowed lot.table.shared.key.0 lot.table.shared.key.1.family lot.table.shared.table_id.slots seat.id seat.me own.1)
+pub table_lays_back : (lot : LotWords) (seat : Seat PermitSlot View) → IsSeatOf lot seat → AllowedAt lot seat 0 (λ n. n) (lays_back (step lot.table.shared.table_id.slots 0 0 0 none) seat.me)
+table_lays_back lot seat own = let sized = lot.sized in
+    (own.0, omega (arith, sized.0, sized.1), lays_back_allowed lot.table.shared.key.0 lot.table.shared.key.1.family lot.table.shared.table_id.slots seat.id seat.me own.1)
 
 -- who goes on behind an exchange that leaves a mutex where nobody waits has left it so
 pub goes_leaving : (v : View) (word : Word) (seen : ℕ) → goes_on_with v (leaving_alone blank word seen) ≡ leaving_alone v word seen

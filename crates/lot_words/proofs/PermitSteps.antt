@@ -11,7 +11,7 @@ use Rattle.lot_words.specs.Indices.{word_index, counter, table_size}
 use Rattle.lot_words.specs.Views.{blank, shown, with_out, total, total_below, owned, named, counted, steps_at, outs, drew}
 use Rattle.lot_words.specs.Codes.{Codes, IsMutexCode, exclusive}
 use Rattle.lot_words.specs.Permits.{slot_at, slots_of, laid}
-use Rattle.lot_words.specs.Plays.{opens, closes}
+use Rattle.lot_words.specs.Plays.{lays_back, takes_out}
 use Rattle.lot_words.specs.Rule.{LotRule, MayHaveOut}
 use Rattle.lot_words.specs.declared.owners.Ownership.{Ownership}
 use Rattle.lot_words.specs.declared.views.View.{View}
@@ -31,7 +31,7 @@ rest_none words family out owns carries = ⊎_elim (λ none. ap (λ l. rest (slo
 one_out : (j r : ℕ) (out : List ℕ) → out ≡ j ∷ [] → total (λ (k : ℕ). cond (eqb k r) 1 0) out ≡ cond (eqb j r) 1 0
 one_out j r out e = omega (arith, ap (total (λ (k : ℕ). cond (eqb k r) 1 0)) e)
 
-none_out : (r : ℕ) (out : List ℕ) → out ≡ [] → total (λ (k : ℕ). cond (eqb k r) 1 0) out ≡ 0
+pub none_out : (r : ℕ) (out : List ℕ) → out ≡ [] → total (λ (k : ℕ). cond (eqb k r) 1 0) out ≡ 0
 none_out r out e = ap (total (λ (k : ℕ). cond (eqb k r) 1 0)) e
 
 -- a permit is out no more often than its mutex is owned
@@ -100,9 +100,9 @@ loaded : (words family : ℕ) (s : State PermitSlot View) (i : ℕ) (homes : Lis
 loaded words family s i homes views o = subst (λ (xs : List ℕ). LotRule words family (record { words = xs; homes = homes; views = views })) (sym (set-get_or s.words i 0)) o
 
 -- a seat has nothing out
-pub closes_allowed : (words family slots id : ℕ) (me : Me PermitSlot View) → me.1 ≡ slots_of family me.0.out
-    → Allows (LotRule words family) slots id me 0 (λ n. n) (closes (step slots 0 0 0 none) me)
-closes_allowed words family slots id me held s o wide at fits = (
+pub lays_back_allowed : (words family slots id : ℕ) (me : Me PermitSlot View) → me.1 ≡ slots_of family me.0.out
+    → Allows (LotRule words family) slots id me 0 (λ n. n) (lays_back (step slots 0 0 0 none) me)
+lays_back_allowed words family slots id me held s o wide at fits = (
   shown me.0,
   gives,
   tt,
@@ -111,9 +111,9 @@ closes_allowed words family slots id me held s o wide at fits = (
 )
 
 -- who owns a mutex has its permit out, and no other
-pub opens_allowed : (words family slots id : ℕ) (me : Me PermitSlot View) (number : ℕ) → number < words → 0 < owned (word_index number Mutex) exclusive me.0.owns → me.1 ≡ slots_of family me.0.out
-    → Allows (LotRule words family) slots id me 0 (λ n. n) (opens family (word_index number Mutex) (step slots 0 0 0 none) me)
-opens_allowed words family slots id me number below some' held s o wide at fits =
+pub takes_out_allowed : (words family slots id : ℕ) (me : Me PermitSlot View) (number : ℕ) → number < words → 0 < owned (word_index number Mutex) exclusive me.0.owns → me.1 ≡ slots_of family me.0.out
+    → Allows (LotRule words family) slots id me 0 (λ n. n) (takes_out family (word_index number Mutex) (step slots 0 0 0 none) me)
+takes_out_allowed words family slots id me number below some' held s o wide at fits =
     let i : ℕ = word_index number Mutex in let v = me.0 in let w = with_out (i ∷ []) v in
     let homes = put_back s.homes (slots_of family v.out) in
     let s₁ : State PermitSlot View = record { words = s.words; homes = homes; views = set s.views id (shown v) } in

@@ -20,6 +20,7 @@ use Rattle.lot_words.specs.declared.views.WordStep.{WordStep}
 use Rattle.lot_words.proofs.Keeps.{reseated}
 use Rattle.lot_words.proofs.Indices.{word_kind_at-index}
 use Rattle.lot_words.proofs.Lists.{set_else}
+use Rattle.lot_words.proofs.PermitSteps.{none_out}
 use Rattle.lot_words.proofs.Totals.{total-append, total-set, cond_same}
 use Rattle.lot_words.proofs.Trades.{total-without}
 
@@ -113,15 +114,10 @@ joins words family id v other w b parts saw carries s o me apart them =
     refl
     (λ number below none. let r : ℕ = word_index number Mutex in o.permits number below (sym (paste (outs r) s.views id other v w b refl me them (parts.out r)) ∙ none))
 
--- who owns more has out what it had
-more_owned : (words : ℕ) (out : List ℕ) (more owns : List Ownership) → MayHaveOut words out owns → MayHaveOut words out (more ++ owns)
-more_owned words out more owns carries = ⊎_elim (λ none. inl none)
-    (λ t. let j : ℕ = word_index t.0 Mutex in let some' = t.3 in inr (t.0, t.1, t.2, omega (arith, total-append (λ (y : Ownership). cond (eqb y.at j) (exclusive y.owner) 0) more owns)))
-    carries
-
-less_owned : (words : ℕ) (out : List ℕ) (owns more : List Ownership) → MayHaveOut words out owns → MayHaveOut words out (owns ++ more)
-less_owned words out owns more carries = ⊎_elim (λ none. inl none)
-    (λ t. let j : ℕ = word_index t.0 Mutex in let some' = t.3 in inr (t.0, t.1, t.2, omega (arith, total-append (λ (y : Ownership). cond (eqb y.at j) (exclusive y.owner) 0) owns more)))
+-- who owns no less may have out what it had
+owns_no_less : (words : ℕ) (out : List ℕ) (owns all : List Ownership) → ((r : ℕ) → owned r exclusive owns ≤ owned r exclusive all) → MayHaveOut words out owns → MayHaveOut words out all
+owns_no_less words out owns all more carries = ⊎_elim (λ none. inl none)
+    (λ t. let r : ℕ = word_index t.0 Mutex in let some' = t.3 in inr (t.0, t.1, t.2, omega (arith, more r)))
     carries
 
 -- an ownership comes back, by the view that its seat has
@@ -129,24 +125,40 @@ pub takes_back : (words family id : ℕ) (v : View) (other : ℕ) (x : Ownership
 takes_back words family id v other x w is = subst (λ (u : View). Joins (LotRule words family) id v other u (with_out v.out (takes_in v u)) blank) (sym is)
     (joins words family id v other (piece x) (with_out v.out (takes_in v (piece x)))
     (record { names = λ r weight. omega arith; says = λ r. omega arith; did = λ r. omega arith; drawn = λ weight. omega arith; out = λ r. omega arith }) (inl (omega arith))
-    (λ c. more_owned words v.out (x ∷ []) v.owns c))
+    (λ c. owns_no_less words v.out v.owns (x ∷ v.owns) (λ r. omega arith) c))
+
+-- one view goes on with another, which drew nothing: what is out with them together is out still
+module _ (v w : View) (out : List ℕ) (none : w.drawn ≡ []) where
+  all_owned : (r : ℕ) (weight : Owner → ℕ) → owned r weight (w.owns ++ v.owns) ≡ owned r weight v.owns + owned r weight w.owns
+  all_owned r weight = omega (arith, total-append (λ (y : Ownership). cond (eqb y.at r) (weight y.owner) 0) w.owns v.owns)
+
+  are_parts : ((r : ℕ) → outs r v + outs r w ≡ total (λ (k : ℕ). cond (eqb k r) 1 0) out) → AreParts v w (with_out out (goes_on_with v w))
+  are_parts together = record {
+    names = λ r weight. sym (all_owned r weight);
+    says = λ r. omega (arith, total-append (λ (y : Ownership). cond (eqb y.at r) y.count 0) w.owns v.owns);
+    did = λ r. sym (total-append (λ (step : WordStep). cond (eqb step.at r) 1 0) v.steps w.steps);
+    drawn = λ weight. omega (arith, ap (total (λ (word : Drawn). weight word.number)) none);
+    out = together;
+  }
+
+-- parts in the other order
+turned : (u v w : View) → AreParts u v w → AreParts v u w
+turned u v w parts = record {
+  names = λ r weight. omega (arith, parts.names r weight);
+  says = λ r. omega (arith, parts.says r);
+  did = λ r. omega (arith, parts.did r);
+  drawn = λ weight. omega (arith, parts.drawn weight);
+  out = λ r. omega (arith, parts.out r);
+}
 
 -- what another seat, which drew nothing and has nothing out, has done and owns comes to a seat
 pub goes_on : (words family id : ℕ) (v : View) (other : ℕ) (w : View) → w.drawn ≡ [] → w.out ≡ [] → Joins (LotRule words family) id v other w (with_out v.out (goes_on_with v w)) blank
-goes_on words family id v other w none nothing = joins words family id v other w (with_out v.out (goes_on_with v w)) (record {
-  names = λ r weight. omega (arith, total-append (λ (y : Ownership). cond (eqb y.at r) (weight y.owner) 0) w.owns v.owns);
-  says = λ r. omega (arith, total-append (λ (y : Ownership). cond (eqb y.at r) y.count 0) w.owns v.owns);
-  did = λ r. sym (total-append (λ (step : WordStep). cond (eqb step.at r) 1 0) v.steps w.steps);
-  drawn = λ weight. omega (arith, ap (total (λ (word : Drawn). weight word.number)) none);
-  out = λ r. omega (arith, ap (total (λ (k : ℕ). cond (eqb k r) 1 0)) nothing);
-}) (inl (omega arith)) (λ c. more_owned words v.out w.owns v.owns c)
+goes_on words family id v other w none nothing = joins words family id v other w (with_out v.out (goes_on_with v w))
+    (are_parts v w v.out none (λ r. omega (arith, none_out r w.out nothing))) (inl (omega arith))
+    (λ c. owns_no_less words v.out v.owns (w.owns ++ v.owns) (λ r. omega (arith, all_owned v w v.out none r exclusive)) c)
 
 -- the same, and the seat goes on as that other one, whose permit stays out
 pub goes_on_as : (words family id : ℕ) (w : View) (other : ℕ) (v : View) → w.drawn ≡ [] → v.out ≡ [] → Joins (LotRule words family) id w other v (with_out w.out (goes_on_with v w)) blank
-goes_on_as words family id w other v none nothing = joins words family id w other v (with_out w.out (goes_on_with v w)) (record {
-  names = λ r weight. omega (arith, total-append (λ (y : Ownership). cond (eqb y.at r) (weight y.owner) 0) w.owns v.owns);
-  says = λ r. omega (arith, total-append (λ (y : Ownership). cond (eqb y.at r) y.count 0) w.owns v.owns);
-  did = λ r. omega (arith, total-append (λ (step : WordStep). cond (eqb step.at r) 1 0) v.steps w.steps);
-  drawn = λ weight. omega (arith, ap (total (λ (word : Drawn). weight word.number)) none);
-  out = λ r. omega (arith, ap (total (λ (k : ℕ). cond (eqb k r) 1 0)) nothing);
-}) (inr (omega arith)) (λ c. less_owned words w.out w.owns v.owns c)
+goes_on_as words family id w other v none nothing = joins words family id w other v (with_out w.out (goes_on_with v w))
+    (turned v w (with_out w.out (goes_on_with v w)) (are_parts v w w.out none (λ r. omega (arith, none_out r v.out nothing)))) (inr (omega arith))
+    (λ c. owns_no_less words w.out w.owns (w.owns ++ v.owns) (λ r. omega (arith, all_owned v w w.out none r exclusive)) c)

@@ -1,5 +1,5 @@
 -- Steps on words, as the lot's table wants them: who locks a mutex has its permit out with that step, and who unlocks one lays back what is out.
-use Rattle.std.proofs.Common.{◌≡◌, ◌≢◌, if◌then◌else◌, ℕ, ◌+◌, ◌%◌, ◌<◌, ◌⊎◌, inl, inr, List, [], ◌∷◌, get_or, set, cond, eqb, bit_or, sym, refl, ap, ◌∙◌, subst, arith, eq-eqb, ne_eqb}
+use Rattle.std.proofs.Common.{◌≡◌, ◌≢◌, if◌then◌else◌, ℕ, ◌+◌, ◌%◌, ◌<◌, ◌≤◌, ◌⊎◌, ⊎_elim, inl, inr, List, [], ◌∷◌, get_or, set, cond, eqb, bit_or, sym, refl, ap, ◌∙◌, subst, arith, eq-eqb, ne_eqb}
 use mathlib.Core.Logic.{dite}
 use mathlib.Core.Option.{Option, some, none}
 use Rattle.std.proofs.lemmas.List.{set-get_or}
@@ -8,12 +8,12 @@ use lib.ListN.{get_elem?}
 use Rattle.atomic_table.specs.Table.{State, Me, step, Act, keeps, takes, gives, chain, rest, put_back, Valid, carried_after, stepped, Allows}
 use Rattle.lot_base.specs.Words.{apply}
 use Rattle.lot_base.specs.declared.ops.Op.{Op}
-use Rattle.lot_base.specs.declared.ops.Op.TheVariants.{Exchange, Or}
+use Rattle.lot_base.specs.declared.ops.Op.TheVariants.{Exchange, Load, Or, Sub}
 use Rattle.lot_words.specs.Indices.{rank, word_index}
 use Rattle.lot_words.specs.Views.{shown, with_out, owned, owning}
 use Rattle.lot_words.specs.Codes.{exclusive}
 use Rattle.lot_words.specs.Permits.{out_after, slot_at, slots_of}
-use Rattle.lot_words.specs.Plays.{TakesStep, TakesStepOf, saw_set, sees_locked, tries_seen}
+use Rattle.lot_words.specs.Plays.{TakesExpected, TakesStep, TakesStepOf, saw_set, sees_locked, tries_seen}
 use Rattle.lot_words.specs.Rule.{LotRule}
 use Rattle.lot_words.specs.Steps.{CodesWith, MayStep, Trade, after_step, mutex_trade, owns_after, owns_after_step, trading}
 use Rattle.lot_words.specs.declared.owners.Owner.TheVariants.{Exclusive}
@@ -145,6 +145,40 @@ sees_set words family slots id me number kind bits below held may s o wide at fi
     (λ e. let t = steps words family slots id me number kind (Or bits) below held may s o wide at fits in
     (t.0, t.1, t.2, subst (λ (m : ℕ). LotRule words family (stepped s i m id me.1 t.0 t.1)) e t.3, ((λ _. t.4), λ ne. absurd (ne e))))
     (λ ne. (me.0, keeps, tt, silent words family s o i id me.0 at, ((λ e. absurd (ne e)), λ _. refl)))
+
+-- a step where it expects the real number, and none where it expects another, by which it leaves each word of a mutex as that is
+pub expected_allowed : (words family slots id : ℕ) (me : Me PermitSlot View) (number real first second : ℕ) (op_of : ℕ → Op) → number < words → me.1 ≡ slots_of family me.0.out
+    → MayStep Mutex (word_index number Mutex) (op_of real) me.0.owns → (first ≡ real) ⊎ ((first ≢ real) × ((n : ℕ) → n < 4 → apply (op_of first) n ≡ n))
+    → let i = word_index number Mutex in Allows (LotRule words family) slots id me i (apply (op_of first)) (TakesExpected family real (op_of real) (step slots i first second none) me)
+expected_allowed words family slots id me number real first second op_of below held may which s o wide at fits =
+    let i : ℕ = word_index number Mutex in let n : ℕ = get_or s.words i 0 in let code = o.coded number Mutex below in
+    let Goes : ℕ → Type 0 = λ f. (w : View) × (a : Act PermitSlot) × Valid s.homes me.1 a × LotRule words family (stepped s i (apply (op_of f) n) id me.1 w a) × TakesExpected family real (op_of real) (step slots i f second none) me n (w, carried_after me.1 a) in
+    ⊎_elim
+    (λ is. let t = steps words family slots id me number Mutex (op_of real) below held may s o wide at fits in
+    subst Goes (sym is) (t.0, t.1, t.2, t.3, ((λ _. t.4), λ ne. absurd (ne refl))))
+    (λ other. let t = steps words family slots id me number Mutex Load below held ((mutex_steps i me.0.owns).load) s o wide at fits in (
+      me.0,
+      keeps,
+      tt,
+      subst (λ (m : ℕ). LotRule words family (stepped s i m id me.1 me.0 keeps)) (sym (other.1 n code.0)) (silent words family s o i id me.0 at),
+      ((λ is. absurd (other.0 is)), λ _. (refl, t.4.1)),
+    ))
+    which
+
+-- what an exchange that enters a mutex expects, and what gives one up: the real number, or one by which it does nothing
+pub enters_or_not : (unlocked : ℕ) → (unlocked ≢ 0 → 3 < unlocked) → (unlocked ≡ 0) ⊎ ((unlocked ≢ 0) × ((n : ℕ) → n < 4 → apply (Exchange unlocked 1) n ≡ n))
+enters_or_not unlocked expects = dite (ℕ_discrete unlocked 0) (λ is. inl is)
+    (λ ne. let large = expects ne in inr (ne, λ n small. ap (λ b. if b then 1 else n) (ne_eqb n unlocked (λ e. omega arith))))
+
+pub leaves_or_not : (op_of : ℕ → Op) (locked : ℕ) → ((n : ℕ) → n < 4 → apply (op_of 0) n ≡ n) → locked ≤ 1 → (locked ≡ 1) ⊎ ((locked ≢ 1) × ((n : ℕ) → n < 4 → apply (op_of locked) n ≡ n))
+leaves_or_not op_of locked nothing expects = dite (ℕ_discrete locked 1) (λ is. inl is)
+    (λ ne. let none : locked ≡ 0 = omega arith in inr (ne, λ n small. ap (λ (k : ℕ). apply (op_of k) n) none ∙ nothing n small))
+
+pub takes_nothing : (n : ℕ) → n < 4 → apply (Sub 0) n ≡ n
+takes_nothing n small = each_code (λ m. apply (Sub 0) m ≡ m) refl refl refl refl n small
+
+pub exchanges_nothing : (n : ℕ) → n < 4 → apply (Exchange 0 0) n ≡ n
+exchanges_nothing n small = each_code (λ m. apply (Exchange 0 0) m ≡ m) refl refl refl refl n small
 
 -- what the or of a try leaves of a mutex's word, locked and unlocked
 still_locked : (n : ℕ) → n < 4 → (n % 2 ≡ 0 → ⊥) → apply (Or 1) n ≡ n

@@ -115,6 +115,24 @@ goes_on_with v w = view (v.steps ++ w.steps) (w.owns ++ v.owns) v.drawn v.saw
 abbrev pub stepping : View → ℕ → Op → ℕ → View
 stepping v at op found = view (listed v at op found) v.owns v.drawn v.saw
 
+-- a step where the number that it expects of the word is the real one. Where it is another it is no
+-- step, and tells as much of the value found
+abbrev pub TakesExpected : ℕ → ℕ → Op → Play PermitSlot
+TakesExpected family real op st me found after =
+    (st.first ≡ real → TakesStep family st.word op me found after)
+    × (st.first ≢ real → (after ≡ me)
+    × CodesWith (word_kind_at st.word) st.word found me.0.owns)
+
+-- a mutex is entered, and is given up
+abbrev pub enters : ℕ → Play PermitSlot
+enters family = TakesExpected family 0 (Exchange 0 1)
+
+abbrev pub leaves : ℕ → Play PermitSlot
+leaves family = TakesExpected family 1 (Sub 1)
+
+abbrev pub leaves_alone : ℕ → Play PermitSlot
+leaves_alone family = TakesExpected family 1 (Exchange 1 0)
+
 -- an even number: a mutex's word that is unlocked
 abbrev pub IsEven : ℕ → Type 0
 IsEven n = n % 2 ≡ 0
@@ -134,10 +152,10 @@ tries_seen family st me found after =
     × ((IsEven found → ⊥) → TakesStep family st.word (Or 1) me found after))
 
 -- who owns the mutex of an index has its permit out, and no other, behind a load of any word
-abbrev pub opens : ℕ → ℕ → Play PermitSlot
-opens family at st me found after =
+abbrev pub takes_out : ℕ → ℕ → Play PermitSlot
+takes_out family at st me found after =
     after ≡ (with_out (at ∷ []) me.0, slots_of family (at ∷ []))
 
 -- a seat has none out
-abbrev pub closes : Play PermitSlot
-closes st me found after = after ≡ (shown me.0, [])
+abbrev pub lays_back : Play PermitSlot
+lays_back st me found after = after ≡ (shown me.0, [])

@@ -20,7 +20,7 @@ abbrev pub MayBeShown : ℕ → ℕ → List View → ℕ → Type 0
 MayBeShown words number views mutex =
     (mutex < words) × (mutex ≢ number) × (0 < total (steps_at (word_index mutex Mutex)) views)
 
--- with whom these mutexes' permits are out, who owns these: none, or that of one mutex that it owns
+-- what may be out with a seat that owns these: no permit, or that of one mutex which it owns
 abbrev pub MayHaveOut : ℕ → List ℕ → List Ownership → Type 0
 MayHaveOut words out owns = (out ≡ [])
     ⊎ ((number : ℕ) × (number < words) × (out ≡ word_index number Mutex ∷ [])

@@ -1,6 +1,6 @@
 //! The permits of the values that mutexes guard: each lies beside the word of its mutex while that
 //! is unlocked, and is out with who owns it.
-ghost use Rattle.std.specs.Prelude.{◌≡◌, ◌≢◌, ◌⊎◌, ◌%◌, [], ◌∷◌, true, IfOk, MatchOption, MatchResult};
+ghost use Rattle.std.specs.Prelude.{◌≡◌, ◌≢◌, ◌⊎◌, ◌%◌, ◌<◌, ◌≤◌, [], ◌∷◌, true, IfOk, MatchOption, MatchResult};
 ghost use Rattle.lot_base.specs.declared.ops.Op.TheVariants.{Exchange, Or, Sub};
 ghost use Rattle.lot_words.specs.Indices.{word_index};
 ghost use Rattle.lot_words.specs.Plays.{goes_on_with, left_over, stepping, takes_in};
@@ -11,7 +11,8 @@ ghost use Rattle.lot_words.specs.declared.owners.Owner.TheVariants.{Exclusive};
 ghost use Rattle.lot_words.specs.declared.words.WordKind.TheVariants.{Mutex};
 
 use crate::plays::{
-    Closes, Exchanges, GoesOn, GoesOnAs, Keeps, Opens, Ors, PermitPick, SeesLocked, Subs, TriesSeen,
+    Enters, GoesOn, GoesOnAs, KeepsOwner, LaysBack, Leaves, LeavesAlone, Ors, PermitPick,
+    SeesLocked, TakesOut, TriesSeen,
 };
 use crate::table::{LotWords, Seat};
 use crate::words::Word;
@@ -42,7 +43,7 @@ impl LotWords {
             ≡ with_out (word_index word.number word.kind ∷ []) seat.old.me.0 }
     {
         let _mutex = word;
-        self.table.shared.load::<Opens<P>>(seat, 0);
+        self.table.shared.load::<TakesOut<P>>(seat, 0);
     }
 
     // None is out with it.
@@ -52,7 +53,7 @@ impl LotWords {
         ensures own { IsSeatOf self.now seat.new }
         ensures laid { seat.new.me.0 ≡ shown seat.old.me.0 }
     {
-        self.table.shared.load::<Closes>(seat, 0);
+        self.table.shared.load::<LaysBack>(seat, 0);
     }
 
     // The seat of a mutex's owner, split off one with which the mutex's permit is out.
@@ -66,7 +67,7 @@ impl LotWords {
         ensures left { seat.new.me.0 ≡ left_over (named_by word Exclusive) seat.old.me.0 }
     {
         let _mutex = word;
-        let next = self.table.shared.split_seat::<Keeps<P>>(seat);
+        let next = self.table.shared.split_seat::<KeepsOwner<P>>(seat);
         mem::replace(seat, next)
     }
 
@@ -150,23 +151,26 @@ impl LotWords {
         &self,
         seat: &mut Seat,
         word: Word,
+        unlocked: u64,
     ) -> Result<(OpenHeld, Permit), u64>
         requires pick { (P.family ≡ self.now.table.shared.key.1.family)
             × (P.at ≡ word_index word.number word.kind) }
         requires own { IsSeatOf self.now seat.old × IsWordOf self.now word × (word.kind ≡ Mutex) }
+        requires expects { unlocked ≢ 0 → 3 < unlocked }
         ensures own { IsSeatOf self.now seat.new }
         ensures stepped { MatchResult result
-            (λ _. shown seat.new.me.0
-            ≡ stepping seat.old.me.0 (word_index word.number word.kind) (Exchange 0 1) 0)
-            (λ seen. (seen ≢ 0)
-            × (shown seat.new.me.0
-            ≡ stepping seat.old.me.0 (word_index word.number word.kind) (Exchange 0 1) seen)) }
+            (λ _. (unlocked ≡ 0) × (shown seat.new.me.0
+            ≡ stepping seat.old.me.0 (word_index word.number word.kind) (Exchange 0 1) 0))
+            (λ seen. (seen ≢ unlocked)
+            × (unlocked ≡ 0 → shown seat.new.me.0
+            ≡ stepping seat.old.me.0 (word_index word.number word.kind) (Exchange 0 1) seen)
+            × (unlocked ≢ 0 → seat.new.me ≡ seat.old.me)) }
         ensures opened { IfOk result
             (λ taken. IsOpenOf self.now word taken.0 × (taken.1.id ≡ permit_of self.now word)) }
     {
         let words = &self.table.shared;
-        let seen = words.compare_exchange::<Exchanges<P>>(seat, word.index(), 0, 1);
-        if seen != 0 {
+        let seen = words.compare_exchange::<Enters<P>>(seat, word.index(), unlocked, 1);
+        if seen != unlocked {
             return Err(seen);
         }
         let owner = self.keep::<P>(seat, word);
@@ -234,51 +238,64 @@ impl LotWords {
     }
 
     #[inline]
-    fn leave_picked<P: PermitPick>(&self, owner: &mut Seat, word: Word) -> u64
+    fn leave_picked<P: PermitPick>(&self, owner: &mut Seat, word: Word, locked: u64) -> u64
         requires pick { P.family ≡ self.now.table.shared.key.1.family }
         requires own { IsOwnerOf self.now word owner.old × IsWordOf self.now word
             × (word.kind ≡ Mutex) }
+        requires expects { locked ≤ 1 }
         ensures own { IsSeatOf self.now owner.new }
-        ensures left { owner.new.me.0
+        ensures left { locked ≡ 1 → owner.new.me.0
             ≡ stepping blank (word_index word.number word.kind) (Sub 1) result }
+        ensures kept { locked ≡ 0 → IsOwnerOf self.now word owner.new }
         ensures coded { (result ≡ 1) ⊎ (result ≡ 3) }
     {
         self.table
             .shared
-            .fetch_sub::<Subs<P>>(owner, word.index(), 1)
+            .fetch_sub::<Leaves<P>>(owner, word.index(), locked)
     }
 
     #[inline]
-    fn leave_alone_picked<P: PermitPick>(&self, owner: &mut Seat, word: Word) -> u64
+    fn leave_alone_picked<P: PermitPick>(&self, owner: &mut Seat, word: Word, locked: u64) -> u64
         requires pick { P.family ≡ self.now.table.shared.key.1.family }
         requires own { IsOwnerOf self.now word owner.old × IsWordOf self.now word
             × (word.kind ≡ Mutex) }
+        requires expects { locked ≤ 1 }
         ensures own { IsSeatOf self.now owner.new }
-        ensures left { shown owner.new.me.0 ≡ leaving_alone blank word result }
-        ensures laid { (owner.new.me.0.drawn ≡ []) × (result ≡ 1 → owner.new.me.0.out ≡ []) }
+        ensures left { locked ≡ 1 → shown owner.new.me.0 ≡ leaving_alone blank word result }
+        ensures laid { (owner.new.me.0.drawn ≡ [])
+            × (locked ≡ 1 → result ≡ 1 → owner.new.me.0.out ≡ []) }
+        ensures kept { locked ≡ 0 → IsOwnerOf self.now word owner.new }
         ensures coded { (result ≡ 1) ⊎ (result ≡ 3) }
     {
         self.table
             .shared
-            .compare_exchange::<Exchanges<P>>(owner, word.index(), 1, 0)
+            .compare_exchange::<LeavesAlone<P>>(owner, word.index(), locked, 0)
     }
 
     /// Takes a mutex that nobody has, and the permit of its value with the same step. Else it
-    /// answers what the step saw.
+    /// answers what the step saw. It expects 0 of such a mutex's word, or a number above 3, which no
+    /// mutex's word is: then it is no step, and answers what is there.
     #[inline]
-    pub fn enter_open(&self, seat: &mut Seat, word: Word) -> Result<(OpenHeld, Permit), u64>
+    pub fn enter_open(
+        &self,
+        seat: &mut Seat,
+        word: Word,
+        unlocked: u64,
+    ) -> Result<(OpenHeld, Permit), u64>
         requires own { IsSeatOf self.now seat.old × IsWordOf self.now word × (word.kind ≡ Mutex) }
+        requires expects { unlocked ≢ 0 → 3 < unlocked }
         ensures own { IsSeatOf self.now seat.new }
         ensures stepped { MatchResult result
-            (λ _. shown seat.new.me.0
-            ≡ stepping seat.old.me.0 (word_index word.number word.kind) (Exchange 0 1) 0)
-            (λ seen. (seen ≢ 0)
-            × (shown seat.new.me.0
-            ≡ stepping seat.old.me.0 (word_index word.number word.kind) (Exchange 0 1) seen)) }
+            (λ _. (unlocked ≡ 0) × (shown seat.new.me.0
+            ≡ stepping seat.old.me.0 (word_index word.number word.kind) (Exchange 0 1) 0))
+            (λ seen. (seen ≢ unlocked)
+            × (unlocked ≡ 0 → shown seat.new.me.0
+            ≡ stepping seat.old.me.0 (word_index word.number word.kind) (Exchange 0 1) seen)
+            × (unlocked ≢ 0 → seat.new.me ≡ seat.old.me)) }
         ensures opened { IfOk result
             (λ taken. IsOpenOf self.now word taken.0 × (taken.1.id ≡ permit_of self.now word)) }
     {
-        self.enter_picked::<Brand>(seat, word)
+        self.enter_picked::<Brand>(seat, word, unlocked)
     }
 
     /// The same where others may wait. It answers what the step saw, and writes nothing to a mutex
@@ -297,20 +314,38 @@ impl LotWords {
     }
 
     /// Gives a mutex up, and lays the permit of its value back with the same step. It answers the
-    /// value before.
+    /// value before. It takes 1 from the mutex's word, or 0: then it is no step, and gives the
+    /// mutex back.
     #[inline]
-    pub fn leave_open(&self, seat: &mut Seat, word: Word, opened: OpenHeld, permit: Permit) -> u64
+    pub fn leave_open(
+        &self,
+        seat: &mut Seat,
+        word: Word,
+        opened: OpenHeld,
+        permit: Permit,
+        locked: u64,
+    ) -> Result<u64, (OpenHeld, Permit)>
         requires own { IsSeatOf self.now seat.old × IsWordOf self.now word × (word.kind ≡ Mutex) }
         requires opened { IsOpenOf self.now word opened × (permit.id ≡ permit_of self.now word) }
+        requires expects { locked ≤ 1 }
         ensures own { IsSeatOf self.now seat.new }
-        ensures stepped { shown seat.new.me.0
-            ≡ stepping seat.old.me.0 (word_index word.number word.kind) (Sub 1) result }
-        ensures coded { (result ≡ 1) ⊎ (result ≡ 3) }
+        ensures stepped { MatchResult result
+            (λ seen. (locked ≡ 1) × ((seen ≡ 1) ⊎ (seen ≡ 3)) × (shown seat.new.me.0
+            ≡ stepping seat.old.me.0 (word_index word.number word.kind) (Sub 1) seen))
+            (λ kept. (locked ≡ 0) × (seat.new.me ≡ seat.old.me)
+            × IsOpenOf self.now word kept.0 × (kept.1.id ≡ permit_of self.now word)) }
     {
         let mut owner = self.close(word, opened, permit);
-        let seen = self.leave_picked::<Brand>(&mut owner, word);
+        // It is asked for nothing else, so that the flags of the subtraction answer it.
+        if self.leave_picked::<Brand>(&mut owner, word, locked) == locked {
+            self.go_on(seat, owner);
+            return Ok(1);
+        }
+        if locked == 0 {
+            return Err(self.open(owner, word));
+        }
         self.go_on(seat, owner);
-        seen
+        Ok(3)
     }
 
     /// The same where nobody waits. Where somebody does, the seat owns the mutex, and the permit is
@@ -322,26 +357,33 @@ impl LotWords {
         word: Word,
         opened: OpenHeld,
         permit: Permit,
-    ) -> u64
+        locked: u64,
+    ) -> Result<u64, (OpenHeld, Permit)>
         requires own { IsSeatOf self.now seat.old × IsWordOf self.now word × (word.kind ≡ Mutex) }
         requires opened { IsOpenOf self.now word opened × (permit.id ≡ permit_of self.now word) }
+        requires expects { locked ≤ 1 }
         ensures own { IsSeatOf self.now seat.new }
-        ensures stepped { shown seat.new.me.0 ≡ leaving_alone seat.old.me.0 word result }
-        ensures coded { (result ≡ 1) ⊎ (result ≡ 3) }
+        ensures stepped { MatchResult result
+            (λ seen. (locked ≡ 1) × ((seen ≡ 1) ⊎ (seen ≡ 3))
+            × (shown seat.new.me.0 ≡ leaving_alone seat.old.me.0 word seen))
+            (λ kept. (locked ≡ 0) × (seat.new.me ≡ seat.old.me)
+            × IsOpenOf self.now word kept.0 × (kept.1.id ≡ permit_of self.now word)) }
     {
         let mut owner = self.close(word, opened, permit);
-        let seen = self.leave_alone_picked::<Brand>(&mut owner, word);
-        if seen == 1 {
+        if self.leave_alone_picked::<Brand>(&mut owner, word, locked) == locked {
             self.go_on(seat, owner);
-        } else {
-            self.go_on_as(seat, owner);
+            return Ok(1);
         }
-        seen
+        if locked == 0 {
+            return Err(self.open(owner, word));
+        }
+        self.go_on_as(seat, owner);
+        Ok(3)
     }
 
     /// Splits a mutex off that the seat's view names, with the permit of its value. It loads a
-    /// word, which is no step of a call. The permit has been out since the step that locked the
-    /// mutex.
+    /// word, which is no step of a call: behind that load the permit is out with the mutex, also
+    /// where the thread has locked another one since.
     #[inline]
     pub fn split_open(&self, seat: &mut Seat, word: Word) -> (OpenHeld, Permit)
         requires own { IsSeatOf self.now seat.old × IsWordOf self.now word × (word.kind ≡ Mutex) }

@@ -2,7 +2,7 @@
 ghost use Rattle.std.specs.Prelude.{ℕ, [], ◌∷◌, List};
 ghost use Rattle.lot_words.specs.Rule.{LotRule};
 ghost use Rattle.lot_words.specs.Views.{blank, owning, with_out};
-ghost use Rattle.lot_words.specs.Plays.{adds, ands, closes, draws, exchanges, goes_on_with, left_over, loads, looks, opens, ors, piece, saw_set, sees_locked, sees_shown, stores, subs, swaps, takes_in, tries_seen};
+ghost use Rattle.lot_words.specs.Plays.{adds, ands, draws, enters, exchanges, goes_on_with, lays_back, leaves, leaves_alone, left_over, loads, looks, ors, piece, saw_set, sees_locked, sees_shown, stores, subs, swaps, takes_in, takes_out, tries_seen};
 ghost use Rattle.lot_words.specs.declared.owners.Ownership.{Ownership};
 ghost use Rattle.lot_words.specs.declared.owners.Owner.TheVariants.{Exclusive};
 ghost use Rattle.lot_words.specs.declared.words.WordKind.{WordKind};
@@ -220,28 +220,55 @@ impl<P: PermitPick> Play<PermitSlot, View> for TriesSeen<P> {
     ghost then = { tries_seen P.family };
 }
 
-/// The permit of a mutex goes out with who owns that.
-pub struct Opens<P: PermitPick> {
+/// An exchange by which a mutex is entered, where it expects an unlocked mutex, and else no step.
+pub struct Enters<P: PermitPick> {
     pick: PhantomData<P>,
 }
 
-impl<P: PermitPick> Play<PermitSlot, View> for Opens<P> {
-    ghost then = { opens P.family P.at };
+impl<P: PermitPick> Play<PermitSlot, View> for Enters<P> {
+    ghost then = { enters P.family };
+}
+
+/// A subtraction by which it is given up, where that takes the locked bit, and else no step.
+pub struct Leaves<P: PermitPick> {
+    pick: PhantomData<P>,
+}
+
+impl<P: PermitPick> Play<PermitSlot, View> for Leaves<P> {
+    ghost then = { leaves P.family };
+}
+
+/// The same by an exchange, where nobody waits.
+pub struct LeavesAlone<P: PermitPick> {
+    pick: PhantomData<P>,
+}
+
+impl<P: PermitPick> Play<PermitSlot, View> for LeavesAlone<P> {
+    ghost then = { leaves_alone P.family };
+}
+
+/// The permit of a mutex goes out with who owns that.
+pub struct TakesOut<P: PermitPick> {
+    pick: PhantomData<P>,
+}
+
+impl<P: PermitPick> Play<PermitSlot, View> for TakesOut<P> {
+    ghost then = { takes_out P.family P.at };
 }
 
 /// What is out with a seat is laid back.
-pub struct Closes;
+pub struct LaysBack;
 
-impl Play<PermitSlot, View> for Closes {
-    ghost then = { closes };
+impl Play<PermitSlot, View> for LaysBack {
+    ghost then = { lays_back };
 }
 
 /// A seat keeps the mutex whose permit is out with it, and another goes on with all else.
-pub struct Keeps<P: PermitPick> {
+pub struct KeepsOwner<P: PermitPick> {
     pick: PhantomData<P>,
 }
 
-impl<P: PermitPick> Split<View> for Keeps<P> {
+impl<P: PermitPick> Split<View> for KeepsOwner<P> {
     ghost left = { λ _. with_out (P.at ∷ []) (piece (owning P.at Exclusive)) };
 
     ghost right = { left_over (owning P.at Exclusive) };

@@ -1,5 +1,5 @@
 -- Who belongs to a lot.
-use Rattle.std.specs.Prelude.{◌≡◌, ◌<◌, ℕ, List, [], Option, Some, None, if◌then◌else◌}
+use Rattle.std.specs.Prelude.{◌≡◌, ◌<◌, ◌==◌, ℕ, List, [], Option, Some, None, if◌then◌else◌}
 use Rattle.lot_words.specs.Views.{blank, shown}
 use Rattle.lot_words.specs.Lots.{IsSeatOf}
 use Rattle.lot_words.specs.declared.table.LotWords.{LotWords}
@@ -26,7 +26,7 @@ out_of token = token.seat.me.0.out
 
 -- what it did in the section that it left last, if it has taken no step since
 abbrev pub last_of : Token → Option SectionRecord
-last_of token = if token.is_recorded then Some token.record else None
+last_of token = if token.expected.unlocked == 0 then None else Some token.record
 
 -- it is the same thread of the same lot
 abbrev pub IsSameThread : ParkingLot → Token → Token → Type 0

@@ -2,6 +2,7 @@
 //! sleep.
 #![tactic(auto)]
 
+pub mod expected;
 pub mod lot;
 pub mod pauses;
 pub mod sections;

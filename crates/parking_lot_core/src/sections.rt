@@ -12,6 +12,7 @@ ghost use Rattle.lot_queues.specs.Wants.{wants_of, taken_in_line};
 ghost use Rattle.parking_lot_core.specs.Keys.{AreKeys, IsKeyOf, first_key};
 ghost use Rattle.parking_lot_core.specs.declared.tokens.Did.TheVariants.{Nothing, TakeFirst, TakeAll, TakePicked};
 
+use crate::expected::Expected;
 use crate::lot::ParkingLot;
 use crate::pauses::pause;
 use crate::tokens::{Did, SectionRecord, Token};
@@ -450,7 +451,7 @@ impl<'a> Section<'a> {
             did,
             number: taken + moved,
         };
-        token.is_recorded = true;
+        token.expected = Expected::missing();
         if let Some(first) = first {
             lot.wake_tied(rt, first, taken, note);
         }

@@ -1,6 +1,7 @@
 //! Who steps in the lot.
-ghost use Rattle.std.specs.Prelude.{◌≡◌, None};
+ghost use Rattle.std.specs.Prelude.{◌≡◌, ◌==◌, not, None};
 
+use crate::expected::Expected;
 use crossbeam_utils::sync::Parker;
 use lot_base::{Key, Requeue, Want};
 use lot_words::Seat;
@@ -57,7 +58,7 @@ pub struct Token {
     pub(crate) parker: Parker,
     // What it did in the section that it left last, if it has taken no step since.
     pub(crate) record: SectionRecord,
-    pub(crate) is_recorded: bool,
+    pub(crate) expected: Expected,
     here: PhantomData<*const ()>,
 }
 
@@ -86,7 +87,7 @@ impl Ticket {
             number,
             parker,
             record: NOTHING,
-            is_recorded: false,
+            expected: Expected::meeting(),
             here: PhantomData,
         }
     }
@@ -104,7 +105,7 @@ impl Token {
             number,
             parker,
             record: _,
-            is_recorded: _,
+            expected: _,
             here: _,
         } = self;
         Ticket {
@@ -122,6 +123,13 @@ impl Token {
         self.number
     }
 
+    #[inline]
+    pub(crate) fn is_recorded(&self) -> bool
+        ensures { result ≡ not (self.now.expected.unlocked == 0) }
+    {
+        self.expected.unlocked != 0
+    }
+
     // The thread steps. It writes only where a section is told: a locked instruction waits until
     // every write before it is done.
     #[inline]
@@ -129,7 +137,7 @@ impl Token {
         ensures same { (self.new.seat ≡ self.old.seat) × (self.new.number ≡ self.old.number) }
         ensures forgotten { last_of self.new ≡ None }
     {
-        if self.is_recorded {
+        if self.is_recorded() {
             self.clear_record();
         }
     }
@@ -141,17 +149,17 @@ impl Token {
         ensures same { (self.new.seat ≡ self.old.seat) × (self.new.number ≡ self.old.number) }
         ensures forgotten { last_of self.new ≡ None }
     {
-        self.is_recorded = false;
+        self.expected = Expected::meeting();
     }
 
     // Out of the way, so that a step which has nothing to forget takes no jump.
     #[cold]
     #[inline(never)]
-    fn clear_record(&mut self)
+    pub(crate) fn clear_record(&mut self)
         ensures same { (self.new.seat ≡ self.old.seat) × (self.new.number ≡ self.old.number) }
         ensures forgotten { last_of self.new ≡ None }
     {
-        self.is_recorded = false;
+        self.expected = Expected::meeting();
     }
 
     /// What the thread did in the section that it left last. None once it has stepped on a word
@@ -160,7 +168,7 @@ impl Token {
     pub fn last_section(&self) -> Option<SectionRecord>
         ensures { result ≡ last_of self.now }
     {
-        if self.is_recorded {
+        if self.is_recorded() {
             Some(self.record)
         } else {
             None

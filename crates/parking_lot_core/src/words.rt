@@ -259,8 +259,15 @@ impl ParkingLot {
         ensures opened { IfOk result (λ taken. IsOpenOf self.now.words word taken.0
             × (taken.1.id ≡ permit_of self.now.words word)) }
     {
-        token.forget_section();
-        self.words.enter_open(&mut token.seat, word)
+        let unlocked = u64::from(token.expected.unlocked);
+        match self.words.enter_open(&mut token.seat, word, unlocked) {
+            Ok(taken) => Ok(taken),
+            Err(seen) if unlocked == 0 => Err(seen),
+            Err(_) => {
+                token.clear_record();
+                self.words.enter_open(&mut token.seat, word, 0)
+            }
+        }
     }
 
     /// The same where others may wait. It answers what the step saw, and writes nothing to a mutex
@@ -292,8 +299,18 @@ impl ParkingLot {
             ≡ stepping (view_of token.old) (word_index word.number word.kind) (Sub 1) result }
         ensures coded { (result ≡ 1) ⊎ (result ≡ 3) }
     {
-        token.forget_section();
-        self.words.leave_open(&mut token.seat, word, opened, permit)
+        let locked = u64::from(token.expected.locked);
+        let words = &self.words;
+        match words.leave_open(&mut token.seat, word, opened, permit, locked) {
+            Ok(seen) => seen,
+            Err((opened, permit)) => {
+                token.clear_record();
+                match words.leave_open(&mut token.seat, word, opened, permit, 1) {
+                    Ok(seen) => seen,
+                    Err(_) => unreachable!(),
+                }
+            }
+        }
     }
 
     /// The same where nobody waits. Where somebody does, the thread owns the mutex, and its permit
@@ -314,13 +331,23 @@ impl ParkingLot {
         ensures stepped { view_of token.new ≡ leaving_alone (view_of token.old) word result }
         ensures coded { (result ≡ 1) ⊎ (result ≡ 3) }
     {
-        token.forget_section();
-        self.words
-            .leave_open_alone(&mut token.seat, word, opened, permit)
+        let locked = u64::from(token.expected.locked);
+        let words = &self.words;
+        match words.leave_open_alone(&mut token.seat, word, opened, permit, locked) {
+            Ok(seen) => seen,
+            Err((opened, permit)) => {
+                token.clear_record();
+                match words.leave_open_alone(&mut token.seat, word, opened, permit, 1) {
+                    Ok(seen) => seen,
+                    Err(_) => unreachable!(),
+                }
+            }
+        }
     }
 
-    /// Splits a mutex off that the token's view names, with the permit of its value, which has been
-    /// out since the step that locked it. It loads a word, which is no step of a call.
+    /// Splits a mutex off that the token's view names, with the permit of its value. It loads a
+    /// word, which is no step of a call: behind that load the permit is out with the mutex, also
+    /// where the thread has locked another one since.
     #[inline]
     pub fn split_open(&self, token: &mut Token, word: Word) -> (OpenHeld, Permit)
         requires own { IsTokenOf self.now token.old × IsWordOf self.now.words word

@@ -1,20 +1,16 @@
 //! As many threads as a lot has: whatever its number, a thread that was taken gets its note and its
 //! right.
-ghost use Rattle.std.specs.Prelude.{◌≡◌, ◌≤◌, ◌<◌, All, IfOk, IfSome};
+ghost use Rattle.std.specs.Prelude.{◌≡◌, ◌≤◌, ◌<◌, All, IfOk};
 ghost use Rattle.std.specs.Arc.{arc_value};
 ghost use Rattle.lot_words.specs.Lots.{IsWordOf};
-ghost use Rattle.lot_words.specs.RightsOf.{IsRightOf};
-ghost use Rattle.lot_words.specs.declared.owners.Owner.TheVariants.{Exclusive};
 ghost use Rattle.lot_words.specs.declared.words.WordKind.TheVariants.{Mutex};
 ghost use Rattle.parking_lot_core.specs.Tokens.{IsNewTicketOf, IsSameThread, IsTicketOf, IsTokenOf};
 
 use super::mutexes::{try_lock, unlock};
 use super::several::told;
-use super::{next_of, same};
-use parking_lot_core::{
-    Fault, Key, Keys, Note, ParkingLot, Right, Slept, TickClock, Ticket, Token, Want, Word,
-    WordKind,
-};
+use super::threads::{take_over, try_hand_over};
+use super::{line_up, next_of, same};
+use parking_lot_core::{Fault, Key, Keys, Note, ParkingLot, Ticket, Token, Want, Word, WordKind};
 use std::alloc::Global;
 use std::sync::{Arc, Wait};
 use std::test::Fail;
@@ -97,26 +93,6 @@ fn one_leave_wakes_1023_threads(rt: HostRuntime) -> Result<(), Fail> {
     Ok(())
 }
 
-// Hands a right over to one thread, which stands in line alone.
-fn hand_over<R: Wait>(rt: &R, lot: &ParkingLot, token: &mut Token, thread: usize, right: Right)
-    requires own { IsTokenOf lot.now token.old × (thread < lot.now.records.count) }
-    requires right { IsRightOf lot.now.words right }
-    ensures { IsSameThread lot.now token.old token.new }
-{
-    let mut section = lot.enter(rt, token, Keys::One(KEY));
-    section.append(KEY, thread, Want::Exclusive);
-    match section.take_first(KEY) {
-        Some(first) => {
-            section.give(rt, first, right);
-            section.leave(rt, token, Note::HandOff);
-        }
-        None => {
-            right.forget();
-            section.leave(rt, token, Note::Normal);
-        }
-    }
-}
-
 // Locks the mutex, and hands it over to a thread, which unlocks it. Whether it got the mutex.
 fn serve<R: Wait>(rt: &R, lot: &ParkingLot, server: &mut Token, ticket: Ticket, word: Word) -> bool
     requires own { IsTokenOf lot.now server.old × IsTicketOf lot.now ticket }
@@ -128,24 +104,16 @@ fn serve<R: Wait>(rt: &R, lot: &ParkingLot, server: &mut Token, ticket: Ticket, 
         drop(token.leave());
         return false;
     };
-    hand_over(rt, lot, server, token.number(), right);
-    let slept = lot.sleep(
-        rt,
-        &mut token,
-        word,
-        Want::Exclusive,
-        None::<(&TickClock, u64)>,
-    );
-    let handed = match slept {
-        Slept::Handed(right) => {
+    line_up(rt, lot, &mut token, KEY, Want::Exclusive);
+    if let Some(left) = try_hand_over(rt, lot, server, right, 0) {
+        left.forget();
+    }
+    let handed = match take_over(rt, lot, &mut token, word) {
+        Some(right) => {
             unlock(lot, &mut token, right);
             true
         }
-        Slept::Woken => false,
-        Slept::Late(section, _) => {
-            section.leave(rt, &mut token, Note::Normal);
-            false
-        }
+        None => false,
     };
     drop(token.leave());
     handed

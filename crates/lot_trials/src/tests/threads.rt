@@ -41,7 +41,7 @@ fn stands<R: Wait>(rt: &R, lot: &ParkingLot, token: &mut Token) -> bool
 }
 
 // Gives a right to the first in the line, and back where nobody stands there.
-fn try_hand_over<R: Wait>(
+pub fn try_hand_over<R: Wait>(
     rt: &R,
     lot: &ParkingLot,
     token: &mut Token,
@@ -83,14 +83,13 @@ fn hand_over<R: Wait>(rt: &R, lot: &ParkingLot, token: &mut Token, right: Right,
     unreachable!()
 }
 
-// The right that somebody hands over.
-fn receive<R: Wait>(rt: &R, lot: &ParkingLot, token: &mut Token, word: Word) -> Option<Right>
+// The right that somebody hands over to a thread that stands in the line.
+pub fn take_over<R: Wait>(rt: &R, lot: &ParkingLot, token: &mut Token, word: Word) -> Option<Right>
     requires { IsTokenOf lot.now token.old × (word.kind ≡ Mutex) }
     ensures own { IsSameThread lot.now token.old token.new }
     ensures right { IfSome result
         (λ right. IsRightOf lot.now.words right × (right.word ≡ word) × (right.owner ≡ Exclusive)) }
 {
-    line_up(rt, lot, token, KEY, Want::Exclusive);
     match lot.sleep(rt, token, word, Want::Exclusive, None::<(&TickClock, u64)>) {
         Slept::Handed(right) => Some(right),
         Slept::Woken => None,
@@ -99,6 +98,17 @@ fn receive<R: Wait>(rt: &R, lot: &ParkingLot, token: &mut Token, word: Word) -> 
             None
         }
     }
+}
+
+// The thread lines up for it.
+fn receive<R: Wait>(rt: &R, lot: &ParkingLot, token: &mut Token, word: Word) -> Option<Right>
+    requires { IsTokenOf lot.now token.old × (word.kind ≡ Mutex) }
+    ensures own { IsSameThread lot.now token.old token.new }
+    ensures right { IfSome result
+        (λ right. IsRightOf lot.now.words right × (right.word ≡ word) × (right.owner ≡ Exclusive)) }
+{
+    line_up(rt, lot, token, KEY, Want::Exclusive);
+    take_over(rt, lot, token, word)
 }
 
 // Hands the right over and gets it back, so many times.

@@ -1,19 +1,21 @@
-use Rattle.std.proofs.Common.{ap, ◌∙◌}
+use Rattle.std.proofs.Common.{◌≡◌, ℕ, ⊎_elim, inl, inr, ap, arith, refl, ◌∙◌}
+use mathlib.Core.Logic.{dite}
+use native.Mathlib.Decide.{ℕ_discrete}
 use Rattle.lot_words.specs.Plays.{goes_on_with}
+use Rattle.lot_words.specs.Rights.{leaving_alone}
 use Rattle.lot_words.specs.Views.{shown}
 use Rattle.lot_words.proofs.AtWord.{goes_leaving}
 use Rattle.lot_words.proofs.table.LotWords.leave_open_alone.Goals as goal
 
-pub go_on-requires-clause-left : goal.go_on-requires-clause-left
-go_on-requires-clause-left c = let left = c.leave_alone_picked-seen.ensures.laid in (left.0, left.1 c.if-seen-eq1.true)
+pub returns-then-leave_alone_picked-locked-clause-stepped : goal.returns-then-leave_alone_picked-locked-clause-stepped
+returns-then-leave_alone_picked-locked-clause-stepped c = let v = c.args.seat.now.me.0 in let word = c.args.word in let found : ℕ = c.leave_alone_picked.result in
+    let same = c.if-leave_alone_picked-locked.true in
+    let one : c.args.locked ≡ 1 = ⊎_elim (λ (e : found ≡ 1). omega (arith, same)) (λ (e : found ≡ 3). omega (arith, same, c.requires.expects)) c.leave_alone_picked.ensures.coded in
+    (one, inl refl, c.go_on.ensures.gone_on ∙ ap (goes_on_with v) (c.leave_alone_picked.ensures.left one) ∙ goes_leaving v word found ∙ ap (leaving_alone v word) (same ∙ one))
 
-pub go_on_as-requires-clause-left : goal.go_on_as-requires-clause-left
-go_on_as-requires-clause-left c = let left = c.leave_alone_picked-seen.ensures.laid in left.0
-
-pub returns-then-seen-eq1-clause-stepped : goal.returns-then-seen-eq1-clause-stepped
-returns-then-seen-eq1-clause-stepped c = let v = c.args.seat.now.me.0 in
-    c.go_on.ensures.gone_on ∙ ap (goes_on_with v) c.leave_alone_picked-seen.ensures.left ∙ goes_leaving v c.args.word c.leave_alone_picked-seen.result
-
-pub returns-else-seen-eq1-clause-stepped : goal.returns-else-seen-eq1-clause-stepped
-returns-else-seen-eq1-clause-stepped c = let v = c.args.seat.now.me.0 in
-    ap shown c.go_on_as.ensures.gone_on ∙ ap (goes_on_with v) c.leave_alone_picked-seen.ensures.left ∙ goes_leaving v c.args.word c.leave_alone_picked-seen.result
+pub returns-clause-stepped : goal.returns-clause-stepped
+returns-clause-stepped c = let v = c.args.seat.now.me.0 in let word = c.args.word in let found : ℕ = c.leave_alone_picked.result in
+    let other = c.if-leave_alone_picked-locked.false in
+    let one : c.args.locked ≡ 1 = dite (ℕ_discrete c.args.locked 1) (λ is. is) (λ ne. absurd (c.if-locked-eq0.false (omega (arith, c.requires.expects)))) in
+    let three : found ≡ 3 = ⊎_elim (λ e. absurd (other (omega (arith, e, one)))) (λ e. e) c.leave_alone_picked.ensures.coded in
+    (one, inr refl, ap shown c.go_on_as.ensures.gone_on ∙ ap (goes_on_with v) (c.leave_alone_picked.ensures.left one) ∙ goes_leaving v word found ∙ ap (leaving_alone v word) three)

@@ -1,0 +1,35 @@
+//! What a thread's steps expect of a mutex's word.
+ghost use Rattle.std.specs.Prelude.{◌≡◌, ◌≢◌, ◌<◌, ◌≤◌, ◌↔◌};
+
+/// The word of a mutex that nobody has, and what the unlock of one takes from it. While a thread
+/// tells of its last section these are numbers that no step meets: so a step forgets the section
+/// without having asked for it, since it fails.
+#[derive(Drop)]
+pub struct Expected {
+    // One store writes both: halves of a word, the one that is 0 above the one that is 1.
+    pub(crate) locked: u32,
+    pub(crate) unlocked: u32,
+    ghost kept: { (locked ≤ 1) × (unlocked ≡ 0 ↔ locked ≡ 1) × (unlocked ≢ 0 → 3 < unlocked) },
+}
+
+impl Expected {
+    #[inline]
+    pub(crate) fn meeting() -> Expected
+        ensures { result.unlocked ≡ 0 }
+    {
+        Expected {
+            locked: 1,
+            unlocked: 0,
+        }
+    }
+
+    #[inline]
+    pub(crate) fn missing() -> Expected
+        ensures { result.unlocked ≢ 0 }
+    {
+        Expected {
+            locked: 0,
+            unlocked: u32::MAX,
+        }
+    }
+}
