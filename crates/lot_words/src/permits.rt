@@ -177,9 +177,9 @@ impl LotWords {
         Ok(self.open(owner, word))
     }
 
-    // A try where the parked bit has changed since the word was seen unlocked.
-    #[cold]
-    #[inline(never)]
+    // A try where the parked bit has changed since the word was seen unlocked. It is inlined, since
+    // a call would be given a copy of the word, and that be made at each try.
+    #[inline]
     fn try_again<P: PermitPick>(
         &self,
         seat: &mut Seat,
