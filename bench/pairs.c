@@ -50,9 +50,9 @@ volatile uint8_t flag;
     LOOP(look, at, LOOK FLAG) \
     LOOP(bare, at, BARE) \
     LOOP(take, at, LOCK FLAG UNLOCK "jne 9f\n" FLAG) \
-    LOOP(once, at, LOCK SPLIT FLAG UNLOCK "jne 9f\n" FLAG) \
+    LOOP(dropped, at, LOCK SPLIT FLAG UNLOCK "jne 9f\n" FLAG) \
     LOOP(hold, at, LOCK SPLIT FLAG UNLOCK JOIN "jne 9f\n" FLAG) \
-    LOOP(kept, at, LOCK_BY SPLIT FLAG UNLOCK_BY JOIN "jne 9f\n" FLAG) \
+    LOOP(numbers, at, LOCK_BY SPLIT FLAG UNLOCK_BY JOIN "jne 9f\n" FLAG) \
     LOOP(told, at, TOLD LOCK SPLIT FLAG TOLD UNLOCK JOIN "jne 9f\n" FLAG)
 AT(0) AT(4) AT(8) AT(12) AT(16) AT(20) AT(24) AT(28) AT(32) AT(36) AT(40) AT(44) AT(48) AT(52) AT(56) AT(60)
 
@@ -60,7 +60,7 @@ typedef void (*loop)(struct lock *, struct token *, uint64_t);
 enum { POSITIONS = 16, LOOPS = 8, RUNS = 25, PAIRS = 300000 };
 static const char *names[LOOPS] = {"a look in a register", "a look through a table", "a pair in a register", "a pair through a table",
     "an owner apart, dropped", "an owner apart, joined", "a section told by numbers", "a told section"};
-#define ROW(at) {glance_##at, look_##at, bare_##at, take_##at, once_##at, hold_##at, kept_##at, told_##at}
+#define ROW(at) {glance_##at, look_##at, bare_##at, take_##at, dropped_##at, hold_##at, numbers_##at, told_##at}
 static const loop loops[POSITIONS][LOOPS] = {ROW(0), ROW(4), ROW(8), ROW(12), ROW(16), ROW(20), ROW(24), ROW(28),
     ROW(32), ROW(36), ROW(40), ROW(44), ROW(48), ROW(52), ROW(56), ROW(60)};
 

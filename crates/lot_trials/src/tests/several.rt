@@ -131,11 +131,8 @@ fn each_of_three_gets_its_note(rt: HostRuntime) -> Result<(), Fail> {
         (Way::TakePicked, Note::Normal),
         (Way::HandOff, Note::HandOff),
     ] {
-        same(
-            &rt,
-            notes_of_three(&rt, rt.alloc(), way)?,
-            [note, note, note],
-        );
+        let notes = notes_of_three(&rt, rt.alloc(), way)?;
+        same(&rt, notes, [note, note, note]);
     }
     Ok(())
 }

@@ -268,12 +268,7 @@ fn a_section_takes_in_order(rt: HostRuntime) -> Result<(), Fail> {
     let (lot, mut token) = one_seat(rt.alloc(), 1)?;
     let seen = line_up_twice(&rt, &lot, &mut token);
     same(&rt, seen, ([(1, 0, Some(6)), (0, 1, Some(7))], 0, true));
-    let record = SectionRecord {
-        key: 6,
-        did: Did::TakeAll(7),
-        number: 1,
-    };
-    same(&rt, token.last_section(), Some(record));
+    same(&rt, token.last_section(), recorded(Did::TakeAll(7), 1));
     same(&rt, lot.queued(&rt, &mut token, 7), 0);
     Ok(())
 }
@@ -305,12 +300,7 @@ fn a_section_takes_who_is_picked(rt: HostRuntime) -> Result<(), Fail> {
         start: None,
         recursive: false,
     };
-    let record = SectionRecord {
-        key: 6,
-        did,
-        number: 2,
-    };
-    same(&rt, token.last_section(), Some(record));
+    same(&rt, token.last_section(), recorded(did, 2));
     Ok(())
 }
 
@@ -336,9 +326,8 @@ fn requeue_three<R: Wait>(
     (answer, taken, standing)
 }
 
-// The record that a requeue of so many leaves.
-fn record_of(op: Requeue, number: usize) -> Option<SectionRecord> {
-    let did = Did::Requeue { from: 6, to: 1, op };
+// The record of a section of the key 6 in which so many were taken or moved.
+fn recorded(did: Did, number: usize) -> Option<SectionRecord> {
     Some(SectionRecord {
         key: 6,
         did,
@@ -355,7 +344,8 @@ fn a_section_requeues(rt: HostRuntime) -> Result<(), Fail> {
         (Requeue::TakeOneMoveRest, ((Some(2), 2), Some(2), [0, 2]), 3),
     ] {
         same(&rt, requeue_three(&rt, &lot, &mut token, op), seen);
-        same(&rt, token.last_section(), record_of(op, number));
+        let did = Did::Requeue { from: 6, to: 1, op };
+        same(&rt, token.last_section(), recorded(did, number));
     }
     Ok(())
 }

@@ -406,10 +406,7 @@ fn both_hurry<R: Threads + Wait + Sync>(
 fn who_was_taken_is_woken_and_not_late(rt: HostRuntime) -> Result<(), Fail> {
     let (lot, one, other, word) = two_seats(rt.alloc())?;
     let ((woken, late), taken) = both_hurry(&rt, &lot, one, other, word);
-    same(
-        &rt,
-        (woken as u64, woken.saturating_add(late)),
-        (taken, ROUNDS),
-    );
+    let ended = (woken as u64, woken.saturating_add(late));
+    same(&rt, ended, (taken, ROUNDS));
     Ok(())
 }
