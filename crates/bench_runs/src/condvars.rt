@@ -102,8 +102,10 @@ pub(crate) fn desk_for(
 }
 
 /// How many operations were done there.
-pub(crate) fn done_at(desk: Desk) -> u64 {
-    desk.tally.into_inner().done
+pub(crate) fn done_at<R: Wait>(rt: &R, desk: &Desk, token: &mut Token) -> u64
+    requires { IsTokenOf (condvar_lot desk.now.filled) token.old }
+{
+    desk.tally.with(rt, token, |tally: &mut Tally| tally.done)
 }
 
 /// Notifies the first of nobody, so many times.
@@ -217,7 +219,7 @@ fn receive<R: Wait>(rt: &R, desk: &Desk, token: &mut Token) -> bool
 }
 
 /// How threads work at a desk.
-#[derive(Clone, Copy, PartialEq, Eq)]
+#[derive(Clone, Copy)]
 pub(crate) enum Way {
     Meet,
     TakeTurns,

@@ -34,13 +34,15 @@ pub(crate) fn mutexes_of(lot: &Arc<ParkingLot>, token: &mut Token) -> Result<Mut
     Ok(Mutexes { raw, value, fair })
 }
 
-/// The value that was written, of the fair mutex or of the other.
-pub(crate) fn value_in(mutexes: Mutexes, fair: bool) -> u64 {
-    if fair {
-        mutexes.fair.into_inner()
-    } else {
-        mutexes.value.into_inner()
-    }
+/// The value that was written.
+pub(crate) fn value_in<M: RawLock, R: Wait>(
+    rt: &R,
+    mutex: &lock_api::Mutex<M, u64>,
+    token: &mut M::Token,
+) -> u64
+    requires { M.is_token_of (M.lot_of mutex.now) token.old }
+{
+    mutex.with(rt, token, |value: &mut u64| *value)
 }
 
 #[inline]

@@ -109,7 +109,7 @@ impl Mode {
 }
 
 /// So many operations of a mode, done by so many threads together.
-#[derive(Clone, Copy, Debug, PartialEq, Eq)]
+#[derive(Clone, Copy)]
 pub struct Plan {
     pub mode: Mode,
     pub threads: usize,

@@ -40,7 +40,8 @@ pub struct Figures {
     pub high: u64,
 }
 
-// Mutexes, reader-writer locks, a `Once` that is done, and a desk, of one lot.
+// Mutexes, reader-writer locks, a `Once` that is done, and a desk, of one lot. It lies in a box: a
+// local is taken apart wherever it is moved or dropped, and that proved.
 #[derive(Drop)]
 struct Bench {
     mutexes: Mutexes,
@@ -53,36 +54,46 @@ struct Bench {
 }
 
 // The locks, drawn from the lot.
-fn bench_of(lot: &Arc<ParkingLot>, token: &mut Token, operations: u64) -> Result<Bench, Fault>
+fn bench_of(
+    alloc: Global,
+    lot: &Arc<ParkingLot>,
+    token: &mut Token,
+    operations: u64,
+) -> Result<Box<Bench>, Fault>
     requires { IsTokenOf (arc_value lot.now) token.old }
     ensures token { IsTokenOf (arc_value lot.now) token.new }
-    ensures made { IfOk result (λ bench. lot_of bench.mutexes.raw ≡ arc_value lot.now) }
+    ensures made { IfOk result (λ bench. lot_of bench.value.mutexes.raw ≡ arc_value lot.now) }
 {
     let mutexes = mutexes_of(lot, token);
     let rwlocks = rwlocks_of(lot, token);
     let done = Once::new_completed(lot, token);
     let desk = desk_for(lot, token, operations);
     let ((mutexes, rwlocks), (done, desk)) = both(both(mutexes, rwlocks), both(done, desk))?;
-    Ok(Bench {
+    let bench = Bench {
         mutexes,
         rwlocks,
         done,
         desk,
-    })
+    };
+    match Box::new(alloc, bench) {
+        Ok(bench) => Ok(bench),
+        Err(_) => Err(Fault::NoMemory),
+    }
 }
 
 // The same by the thread of a ticket, which it gives back.
 fn bench_by(
+    alloc: Global,
     lot: &Arc<ParkingLot>,
     ticket: Ticket,
     operations: u64,
-) -> (Result<Bench, Fault>, Ticket)
+) -> (Result<Box<Bench>, Fault>, Ticket)
     requires { IsTicketOf (arc_value lot.now) ticket }
-    ensures { IfOk result.0 (λ bench. lot_of bench.mutexes.raw ≡ arc_value lot.now)
+    ensures { IfOk result.0 (λ bench. lot_of bench.value.mutexes.raw ≡ arc_value lot.now)
         × IsTicketOf (arc_value lot.now) result.1 }
 {
     let mut token = ticket.enter();
-    let bench = bench_of(lot, &mut token, operations);
+    let bench = bench_of(alloc, lot, &mut token, operations);
     (bench, token.leave())
 }
 
@@ -94,29 +105,24 @@ fn one_of(lot: &ParkingLot, tickets: &mut Vec<Ticket>) -> Option<Ticket>
     tickets.pop()
 }
 
-fn put_back(lot: &ParkingLot, tickets: &mut Vec<Ticket>, ticket: Ticket) -> Result<(), Fault>
-    requires { All (IsTicketOf lot.now) tickets.old.items × IsTicketOf lot.now ticket }
-    ensures { All (IsTicketOf lot.now) tickets.new.items }
-{
-    match tickets.push(ticket) {
-        Ok(()) => Ok(()),
-        Err(_) => Err(Fault::NoMemory),
-    }
-}
-
-// A lot with so many threads, and locks of it.
-fn bench_for(alloc: Global, threads: usize, operations: u64) -> Result<(Bench, Vec<Ticket>), Fault>
-    requires { (1 ≤ threads) × (threads ≤ 64) }
-    ensures { IfOk result (λ made. All (IsTicketOf (lot_of made.0.mutexes.raw)) made.1.items) }
+// Locks of a lot, who made them, and the tickets of so many other threads.
+fn bench_for(
+    alloc: Global,
+    threads: usize,
+    operations: u64,
+) -> Result<(Box<Bench>, Ticket, Vec<Ticket>), Fault>
+    requires { threads ≤ 64 }
+    ensures { IfOk result
+        (λ made. IsTicketOf (lot_of made.0.value.mutexes.raw) made.1
+        × All (IsTicketOf (lot_of made.0.value.mutexes.raw)) made.2.items) }
 {
     let words = MUTEXES + RWLOCKS + 1 + DESK;
-    let (lot, mut tickets) = ParkingLot::new(alloc, words, threads)?;
-    let Some(first) = one_of(&lot, &mut tickets) else {
+    let (lot, mut tickets) = ParkingLot::new(alloc, words, threads + 1)?;
+    let Some(maker) = one_of(&lot, &mut tickets) else {
         return Err(Fault::NoMemory);
     };
-    let (bench, first) = bench_by(&lot, first, operations);
-    put_back(&lot, &mut tickets, first)?;
-    Ok((bench?, tickets))
+    let (bench, maker) = bench_by(alloc, &lot, maker, operations);
+    Ok((bench?, maker, tickets))
 }
 
 // Calls it so many times.
@@ -193,11 +199,17 @@ fn work<R: Wait>(rt: &R, plan: Plan, bench: &Bench, ticket: Ticket, shares: &Sha
     done
 }
 
-fn total_of(mode: Mode, bench: Bench, counts: &[u64]) -> u64 {
+fn total_of<R: Wait>(rt: &R, mode: Mode, bench: &Bench, maker: Ticket, counts: &[u64]) -> u64
+    requires { IsTicketOf (lot_of bench.now.mutexes.raw) maker }
+{
+    let mut token = maker.enter();
     match mode {
-        Mode::Mutex | Mode::MutexTry | Mode::Fair => added_to(bench.mutexes, mode == Mode::Fair),
-        Mode::Write | Mode::Upgrade | Mode::Downgrade => value_in(bench.rwlocks),
-        Mode::NotifyAll | Mode::PingPong | Mode::Queue => done_at(bench.desk),
+        Mode::Mutex | Mode::MutexTry => added_to(rt, &bench.mutexes.value, &mut token),
+        Mode::Fair => added_to(rt, &bench.mutexes.fair, &mut token),
+        Mode::Write | Mode::Upgrade | Mode::Downgrade => {
+            value_in(rt, &bench.rwlocks.value, &mut token)
+        }
+        Mode::NotifyAll | Mode::PingPong | Mode::Queue => done_at(rt, &bench.desk, &mut token),
         Mode::RawMutex
         | Mode::RawMutexTry
         | Mode::RawRead
@@ -214,10 +226,10 @@ fn total_of(mode: Mode, bench: Bench, counts: &[u64]) -> u64 {
 }
 
 // What came of the work, and how long it took.
-fn figures_of(mode: Mode, bench: Bench, nanos: u128, counts: &[u64]) -> Figures {
+fn figures_of(nanos: u128, answer: u64, counts: &[u64]) -> Figures {
     Figures {
         nanos,
-        answer: total_of(mode, bench, counts),
+        answer,
         low: counts.iter().copied().min().unwrap_or(0),
         high: counts.iter().copied().max().unwrap_or(0),
     }
@@ -257,9 +269,12 @@ pub fn carry_out<R: Threads + Wait + Sync + Clock>(
         threads,
         operations,
     } = plan;
-    let (bench, tickets) = bench_for(alloc, threads, operations)?;
+    let (bench, maker, tickets) = bench_for(alloc, threads, operations)?;
     match time_work(rt, plan, &bench, tickets)? {
-        Ok((nanos, counts)) => Ok(Ok(figures_of(mode, bench, nanos, counts.as_slice()))),
+        Ok((nanos, counts)) => {
+            let answer = total_of(rt, mode, &bench, maker, counts.as_slice());
+            Ok(Ok(figures_of(nanos, answer, counts.as_slice())))
+        }
         Err(e) => Ok(Err(e)),
     }
 }

@@ -42,8 +42,10 @@ pub(crate) fn rwlocks_of(lot: &Arc<ParkingLot>, token: &mut Token) -> Result<RwL
 }
 
 /// The value that was written.
-pub(crate) fn value_in(locks: RwLocks) -> u64 {
-    locks.value.into_inner()
+pub(crate) fn value_in<R: Wait>(rt: &R, lock: &RwLock<u64>, token: &mut Token) -> u64
+    requires { IsTokenOf (lot_of lock.now) token.old }
+{
+    lock.with_write(rt, token, |value: &mut u64| *value)
 }
 
 /// Comes in to read and leaves, so many times.

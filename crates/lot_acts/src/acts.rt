@@ -99,7 +99,7 @@ pub enum Act {
 }
 
 /// What an act came to, or what befell a thread asleep.
-#[derive(Clone, Copy, Debug, PartialEq, Eq)]
+#[derive(Clone, Copy)]
 pub enum Reply {
     /// The sections are entered, or left, or a hand-off is accepted.
     Done,
@@ -149,7 +149,7 @@ pub enum Reply {
 }
 
 /// Where a call goes on, or what it answers at its end.
-#[derive(Clone, Copy, Debug, PartialEq, Eq)]
+#[derive(Clone, Copy)]
 pub enum Next<P> {
     At(P),
     End(Answer),

@@ -6,7 +6,7 @@ use crate::picks::{Pick, Picker};
 use crate::wants::Want;
 
 /// Picks whom a thread wakes that gives up a right to a reader-writer lock.
-#[derive(Clone, Copy, Debug, PartialEq, Eq)]
+#[derive(Clone, Copy)]
 pub enum LockPicker {
     /// Whoever wants to share, and the first who wants more.
     Anyone { recursive: bool },

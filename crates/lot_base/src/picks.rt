@@ -6,7 +6,7 @@ ghost use Rattle.lot_base.specs.declared.picks.Pick.{Pick};
 use crate::wants::Want;
 
 /// What a picker answers to the want of a waiter.
-#[derive(Clone, Copy, Debug, PartialEq, Eq)]
+#[derive(Clone, Copy)]
 pub enum Pick {
     /// The waiter is taken.
     Unpark,

@@ -23,7 +23,7 @@ use lot_calls::Answer;
 use lot_mutex::places::{LOCKED, PARKED, is_locked};
 
 /// Where a thread stands that notifies.
-#[derive(Clone, Copy, Debug, PartialEq, Eq)]
+#[derive(Clone, Copy)]
 pub enum NotifyAt {
     Enter,
     Again,

@@ -19,7 +19,7 @@ use lot_calls::{CondvarCall, Outcome};
 use lot_mutex::MutexPlace;
 
 /// Where a thread stands in a call of a condition variable.
-#[derive(Clone, Copy, Debug, PartialEq, Eq)]
+#[derive(Clone, Copy)]
 pub enum CondvarPlace {
     Wait {
         mutex: usize,
@@ -260,7 +260,7 @@ impl CondvarPlace {
             }
             CondvarPlace::Look { .. } => false,
             CondvarPlace::Notify { mutex, at, .. } => {
-                at != NotifyAt::Enter && (lock == condvar || lock == mutex)
+                !matches!(at, NotifyAt::Enter) && (lock == condvar || lock == mutex)
             }
         }
     }

@@ -26,7 +26,7 @@ use lot_calls::Answer;
 use lot_mutex::{Entry, LockAt, MutexPlace, UnlockAt};
 
 /// What has befallen a thread since it stood behind the last.
-#[derive(Clone, Copy, Debug, PartialEq, Eq)]
+#[derive(Clone, Copy)]
 pub enum Stands {
     /// Nothing: it stands in the queue of the condition variable.
     Listed,
@@ -41,7 +41,7 @@ pub enum Stands {
 }
 
 /// Where a thread stands that waits.
-#[derive(Clone, Copy, Debug, PartialEq, Eq)]
+#[derive(Clone, Copy)]
 pub enum WaitAt {
     Enter,
     Show,

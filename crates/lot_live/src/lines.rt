@@ -8,7 +8,7 @@ use lot_text::Page;
 use std::io::Write;
 
 /// What came of the threads.
-#[derive(Clone, Copy, Debug, PartialEq, Eq)]
+#[derive(Clone, Copy)]
 pub(crate) struct Told {
     /// Whether each of two readers saw the other while it read.
     pub(crate) met: bool,

@@ -6,7 +6,7 @@ use lot_base::{Requeue, Want};
 use lot_steps::{Place, Reply};
 
 /// The one of those in a hand that wants more than to share.
-#[derive(Clone, Copy, Debug, PartialEq, Eq)]
+#[derive(Clone, Copy)]
 pub struct Successor {
     pub thread: usize,
     pub want: Want,

@@ -15,7 +15,7 @@ use lot_base::{Keys, Note, Op, main_key};
 use lot_calls::Answer;
 
 /// Where an owner stands that saw `PARKED` in `unlock_fair` or `bump`.
-#[derive(Clone, Copy, Debug, PartialEq, Eq)]
+#[derive(Clone, Copy)]
 pub enum HandOffAt {
     Enter,
     Take,

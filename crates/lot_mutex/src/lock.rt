@@ -25,7 +25,7 @@ use lot_base::{Keys, Note, Op, Want, main_key};
 use lot_calls::Answer;
 
 /// For which call a thread enters.
-#[derive(Clone, Copy, Debug, PartialEq, Eq)]
+#[derive(Clone, Copy)]
 pub enum Entry {
     Lock,
     LockTimed,
@@ -34,7 +34,7 @@ pub enum Entry {
 }
 
 /// Where a thread stands that enters: in `lock`, `lock_timed`, or the second half of `bump`.
-#[derive(Clone, Copy, Debug, PartialEq, Eq)]
+#[derive(Clone, Copy)]
 pub enum LockAt {
     /// Tries a word that is 0.
     First,

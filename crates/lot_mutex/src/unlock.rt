@@ -16,7 +16,7 @@ use lot_base::{Keys, Note, Op, main_key};
 use lot_calls::Answer;
 
 /// Where a thread stands in `unlock`.
-#[derive(Clone, Copy, Debug, PartialEq, Eq)]
+#[derive(Clone, Copy)]
 pub enum UnlockAt {
     Subtract,
     /// It saw `PARKED`.

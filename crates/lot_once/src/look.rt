@@ -21,7 +21,7 @@ use lot_base::{Keys, Note, Op, Want, main_key};
 use lot_calls::{Answer, OnceCall};
 
 /// Where a thread stands that looks, or waits.
-#[derive(Clone, Copy, Debug, PartialEq, Eq)]
+#[derive(Clone, Copy)]
 pub enum LookAt {
     Load,
     /// Decides by the value that it saw last.
@@ -37,7 +37,7 @@ pub enum LookAt {
 }
 
 /// What a call does about a value that it saw.
-#[derive(Clone, Copy, Debug, PartialEq, Eq)]
+#[derive(Clone, Copy, PartialEq, Eq)]
 pub enum Course {
     Ends(Answer),
     /// It may run its closure.

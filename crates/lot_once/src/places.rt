@@ -31,7 +31,7 @@ pub const RUNNING: u64 = 4;
 pub const MARKED: u64 = 8;
 
 /// Where a thread stands in a call of a `Once`.
-#[derive(Clone, Copy, Debug, PartialEq, Eq)]
+#[derive(Clone, Copy)]
 pub enum OncePlace {
     /// It looks how far the `Once` has come, or waits. It `retries` from a wake note on, until the
     /// thread stands in the queue again, runs its closure or the call ends.

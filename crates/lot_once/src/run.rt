@@ -17,7 +17,7 @@ use lot_base::{Keys, Note, Op, main_key};
 use lot_calls::{Answer, OnceState};
 
 /// Where a thread stands that runs its closure, or ends its run.
-#[derive(Clone, Copy, Debug, PartialEq, Eq)]
+#[derive(Clone, Copy)]
 pub enum RunAt {
     /// The run before failed, or there was none.
     Closure { poisoned: bool },

@@ -12,7 +12,7 @@ use lot_text::{Name, NamedCall, NamedTurn, PlainTurn, lock_named};
 use lot_world::{Call, Kind, Outcome, Step, Turn, World};
 
 /// What a thread does, of locks by their numbers.
-#[derive(Clone, Copy, Debug, PartialEq, Eq)]
+#[derive(Clone, Copy)]
 pub enum Action {
     Turn(Turn),
     Solo,

@@ -10,7 +10,7 @@ use lot_acts::{Fallback, Owners, Pending};
 use lot_calls::{Access, Downgrade};
 
 /// What an operation does to the owners.
-#[derive(Clone, Copy, Debug, PartialEq, Eq)]
+#[derive(Clone, Copy)]
 pub enum Change {
     Nothing,
     Enter(Access),

@@ -23,7 +23,7 @@ use lot_base::{Keys, Op, main_key};
 use lot_calls::{Access, Answer, Patience};
 
 /// What a thread that enters does about a word that it saw.
-#[derive(Clone, Copy, Debug, PartialEq, Eq)]
+#[derive(Clone, Copy, PartialEq, Eq)]
 pub enum Decision {
     Take,
     /// Sets `PARKED`.

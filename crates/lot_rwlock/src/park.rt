@@ -20,7 +20,7 @@ use lot_acts::{Act, Check, Next, Reply, Wakes};
 use lot_base::{Keys, Line, Note, Op};
 use lot_calls::{Access, Answer, Outcome};
 
-#[derive(Clone, Copy, Debug, PartialEq, Eq)]
+#[derive(Clone, Copy)]
 pub enum ParkAt {
     /// Inside the section, before the check.
     Check,

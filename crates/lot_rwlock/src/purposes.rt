@@ -14,7 +14,7 @@ use crate::places::{READER, UPGRADABLE, WRITER};
 use lot_base::{Op, Want};
 use lot_calls::{Access, Answer, Downgrade, Patience};
 
-#[derive(Clone, Copy, Debug, PartialEq, Eq)]
+#[derive(Clone, Copy)]
 pub enum RwLockPurpose {
     Enter { access: Access, patience: Patience },
     Release(Access),

@@ -22,7 +22,7 @@ use lot_acts::{Act, Next, Reply, Wakes, Whom};
 use lot_base::{Keys, Line, Note, Want};
 use lot_calls::{Access, Answer};
 
-#[derive(Clone, Copy, Debug, PartialEq, Eq)]
+#[derive(Clone, Copy)]
 pub enum WakeAt {
     Enter,
     /// Inside the section.

@@ -24,7 +24,7 @@ use lot_rwlock::places::{PARKED, READER, UPGRADABLE, WRITER};
 use lot_rwlock::purposes::token;
 
 /// Whom an owner has taken, to hand them the lock.
-#[derive(Clone, Copy, Debug, PartialEq, Eq)]
+#[derive(Clone, Copy)]
 pub struct Taken {
     /// How many of them want to share.
     pub sharers: usize,
@@ -35,7 +35,7 @@ pub struct Taken {
 }
 
 /// Where an owner stands that hands the lock over.
-#[derive(Clone, Copy, Debug, PartialEq, Eq)]
+#[derive(Clone, Copy)]
 pub enum HandOverAt {
     Load,
     /// The word that it saw last tells of nobody who waits.

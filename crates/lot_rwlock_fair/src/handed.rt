@@ -14,7 +14,7 @@ use lot_calls::{Access, Patience};
 use lot_rwlock::purposes::entered;
 use lot_rwlock::{RwLockAt, RwLockPlace, RwLockPurpose};
 
-#[derive(Clone, Copy, Debug, PartialEq, Eq)]
+#[derive(Clone, Copy)]
 pub enum HandedAt {
     /// The thread that took it has handed it the lock, and has not left its section yet. Whether
     /// nobody shared the lock then.

@@ -17,7 +17,7 @@ use lot_rwlock::park::ParkAt;
 use lot_rwlock::purposes::wanted;
 use lot_rwlock::{Admission, RwLockAt, RwLockPlace, RwLockPurpose};
 
-#[derive(Clone, Copy, Debug, PartialEq, Eq)]
+#[derive(Clone, Copy)]
 pub enum RwLockCallPlace {
     /// In a call that neither hands the lock over nor bumps.
     Plain(RwLockPlace),

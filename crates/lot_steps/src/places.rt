@@ -13,7 +13,7 @@ use lot_rwlock::Admission;
 use lot_rwlock_fair::{RwLockCallPlace, call_right};
 
 /// Where a thread stands: in no call, or in a call of a lock, with all that the call remembers.
-#[derive(Clone, Copy, Debug, PartialEq, Eq)]
+#[derive(Clone, Copy)]
 pub enum Place {
     Idle,
     Mutex {

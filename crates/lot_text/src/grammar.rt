@@ -12,7 +12,7 @@ use lot_calls::{Access, Downgrade, Kind, MutexCall, OnceCall, Patience, RwLockCa
 const MOST_DIGITS: usize = 19;
 
 /// A line's meaning.
-#[derive(Clone, Copy, Debug, PartialEq, Eq)]
+#[derive(Clone, Copy, PartialEq, Eq)]
 pub enum Command {
     /// There are this many threads.
     Threads(usize),
@@ -25,7 +25,7 @@ pub enum Command {
 }
 
 /// A call of a lock of some sort.
-#[derive(Clone, Copy, Debug, PartialEq, Eq)]
+#[derive(Clone, Copy, PartialEq, Eq)]
 pub enum NamedCall {
     Mutex(MutexCall),
     RwLock(RwLockCall),
@@ -37,7 +37,7 @@ pub enum NamedCall {
 }
 
 /// What a thread does, of locks by their names.
-#[derive(Clone, Copy, Debug, PartialEq, Eq)]
+#[derive(Clone, Copy, PartialEq, Eq)]
 pub enum NamedTurn {
     /// It begins a call.
     Begin { call: NamedCall, name: Name },

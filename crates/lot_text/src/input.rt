@@ -20,7 +20,7 @@ pub enum Reading {
 }
 
 /// What came of a look at the reader's bytes.
-#[derive(Clone, Copy, Debug, PartialEq, Eq)]
+#[derive(Clone, Copy)]
 pub enum Piece {
     More,
     LineFeed,

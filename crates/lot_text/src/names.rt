@@ -10,7 +10,7 @@ pub const NAME_LEN: usize = 16;
 
 /// A lock's name: a lower-case letter, and then lower-case letters or digits. Zeros stand behind
 /// it.
-#[derive(Clone, Copy, Debug, PartialEq, Eq)]
+#[derive(Clone, Copy, PartialEq, Eq)]
 pub struct Name {
     bytes: [u8; NAME_LEN],
 }

@@ -11,7 +11,7 @@ use std::io::{BufRead, ErrorKind};
 
 /// A turn that most lines are: it begins no call, no closure answers in it, and its thread doesn't
 /// go on alone.
-#[derive(Clone, Copy, Debug, PartialEq, Eq)]
+#[derive(Clone, Copy)]
 pub enum PlainTurn {
     Go,
     Spin,
@@ -19,14 +19,14 @@ pub enum PlainTurn {
 }
 
 /// A line of a schedule: a plain turn, or one whose text is kept.
-#[derive(Clone, Copy, Debug, PartialEq, Eq)]
+#[derive(Clone, Copy)]
 pub enum Line {
     Turn { thread: usize, turn: PlainTurn },
     Text,
 }
 
 /// What came of reading a line of a schedule.
-#[derive(Clone, Copy, Debug, PartialEq, Eq)]
+#[derive(Clone, Copy)]
 pub enum Next {
     Line(Line),
     TooLong,
@@ -35,7 +35,7 @@ pub enum Next {
 }
 
 /// What came of a look for a plain turn.
-#[derive(Clone, Copy, Debug, PartialEq, Eq)]
+#[derive(Clone, Copy)]
 pub enum Look {
     Turn { thread: usize, turn: PlainTurn },
     Other,
@@ -44,7 +44,7 @@ pub enum Look {
 }
 
 /// A plain turn, and how many bytes its line has with its line feed.
-#[derive(Clone, Copy, Debug, PartialEq, Eq)]
+#[derive(Clone, Copy)]
 struct TurnLine {
     thread: usize,
     turn: PlainTurn,

@@ -95,7 +95,6 @@ impl Owner {
 }
 
 /// One ownership of the word at an index. No value of it is made: it stands in views.
-#[derive(Clone, Copy, Debug, PartialEq, Eq)]
 pub struct Ownership {
     pub at: usize,
     pub owner: Owner,

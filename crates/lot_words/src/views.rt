@@ -10,7 +10,6 @@ use lot_base::Op;
 use std::marker::Model;
 
 /// A step that a seat took: at which index, by which operation, and the value before.
-#[derive(Clone, Copy, Debug, PartialEq, Eq)]
 pub struct WordStep {
     pub at: usize,
     pub op: Op,
@@ -18,7 +17,6 @@ pub struct WordStep {
 }
 
 /// A word that a seat drew.
-#[derive(Clone, Copy, Debug, PartialEq, Eq)]
 pub struct Drawn {
     pub number: usize,
     pub kind: WordKind,

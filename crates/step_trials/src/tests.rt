@@ -6,6 +6,8 @@ mod onces;
 mod queues;
 mod text;
 
+use lot_acts::Next;
+use lot_calls::Answer;
 use std::fmt::Debug;
 use std::process::Abort;
 
@@ -18,4 +20,9 @@ fn same<T: PartialEq + Debug + Drop>(rt: &impl Abort, found: T, wanted: T) {
 // What a test asks for holds.
 fn holds(rt: &impl Abort, truth: bool) {
     assert!(rt; truth);
+}
+
+// A call ends so.
+fn ends_as<P>(rt: &impl Abort, next: &Next<P>, answer: Answer) {
+    holds(rt, matches!(next, Next::End(found) if *found == answer));
 }

@@ -1,7 +1,7 @@
 //! Calls of a condition variable alone, by the values that words would have.
 ghost use Rattle.lot_condvar.specs.CondvarSteps.{HasMutexKey};
 
-use super::{holds, same};
+use super::{ends_as, holds, same};
 use lot_acts::{Act, Next, Reply, Wakes, Whom};
 use lot_base::{Keys, Note, Op, Requeue, Want};
 use lot_calls::{Answer, CondvarCall, Outcome};
@@ -24,7 +24,7 @@ fn onward(rt: &impl Abort, place: CondvarPlace, reply: Reply) -> CondvarPlace
 {
     match place.next(reply) {
         Next::At(next) if next.mutex() == Some(5) => next,
-        other => panic!(rt; "went to {other:?}"),
+        _ => panic!(rt; "it ended, or is beside another mutex"),
     }
 }
 
@@ -44,7 +44,7 @@ fn does(rt: &impl Abort, place: CondvarPlace, act: Act)
 
 /// So its call ends by a reply.
 fn ends(rt: &impl Abort, place: CondvarPlace, reply: Reply, answer: Answer) {
-    same(rt, place.next(reply), Next::End(answer));
+    ends_as(rt, &place.next(reply), answer);
 }
 
 /// A thread that waits and has left the section, before its release.

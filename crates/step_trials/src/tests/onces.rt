@@ -1,5 +1,5 @@
 //! Calls of a `Once` alone, by the values that their word would have.
-use super::{holds, same};
+use super::{ends_as, holds, same};
 use lot_acts::{Act, Next, Reply, Wakes};
 use lot_base::{Keys, Note, Op, Want};
 use lot_calls::{Answer, OnceCall, OnceState, Outcome};
@@ -14,56 +14,40 @@ fn onward(rt: &impl Abort, place: OncePlace, reply: Reply) -> OncePlace {
     }
 }
 
+/// This is what it does, of a call of the `Once` 3.
+fn does(rt: &impl Abort, place: OncePlace, act: Act) {
+    same(rt, place.act(3), act);
+}
+
+/// This is the step that it takes on the word.
+fn steps(rt: &impl Abort, place: OncePlace, op: Op) {
+    does(rt, place, Act::Word { lock: 3, op });
+}
+
 #[test]
 fn a_call_runs_its_closure_and_wakes_who_waits(rt: HostRuntime) {
     let loads = OncePlace::first(OnceCall::CallOnce { forced: false });
-    same(
-        &rt,
-        loads.act(3),
-        Act::Word {
-            lock: 3,
-            op: Op::Load,
-        },
-    );
+    steps(&rt, loads, Op::Load);
     let decides = onward(&rt, loads, Reply::Value(8));
-    let starts = Op::Exchange { from: 8, to: 12 };
-    same(
-        &rt,
-        decides.act(3),
-        Act::Word {
-            lock: 3,
-            op: starts,
-        },
-    );
+    steps(&rt, decides, Op::Exchange { from: 8, to: 12 });
     let runs = onward(&rt, decides, Reply::Value(8));
     same(&rt, runs.outcome(), Outcome::Closure(OnceState::New));
     let closes = onward(&rt, runs, Reply::Closed { succeeded: true });
-    same(
-        &rt,
-        closes.act(3),
-        Act::Word {
-            lock: 3,
-            op: Op::Swap(1),
-        },
-    );
+    steps(&rt, closes, Op::Swap(1));
     let enters = onward(&rt, closes, Reply::Value(12));
-    same(&rt, enters.act(3), Act::Enter(Keys::One(6)));
+    does(&rt, enters, Act::Enter(Keys::One(6)));
     let takes = onward(&rt, enters, Reply::Done);
     let took = Reply::Took {
         any: true,
         none_left: true,
     };
     let leaves = onward(&rt, takes, took);
-    let wakes = Wakes::All(Note::Normal);
-    same(
-        &rt,
-        leaves.act(3),
-        Act::Leave {
-            keys: Keys::One(6),
-            wakes,
-        },
-    );
-    same(&rt, leaves.next(Reply::Done), Next::End(Answer::Ok));
+    let leave = Act::Leave {
+        keys: Keys::One(6),
+        wakes: Wakes::All(Note::Normal),
+    };
+    does(&rt, leaves, leave);
+    ends_as(&rt, &leaves.next(Reply::Done), Answer::Ok);
 }
 
 #[test]
@@ -71,7 +55,8 @@ fn a_call_of_a_poisoned_once_goes_on_by_force_alone(rt: HostRuntime) {
     for (forced, ends) in [(false, true), (true, false)] {
         for call in [OnceCall::CallOnce { forced }, OnceCall::Wait { forced }] {
             let next = OncePlace::first(call).next(Reply::Value(2));
-            same(&rt, next == Next::End(Answer::Poisoned), ends);
+            let poisoned = matches!(next, Next::End(Answer::Poisoned));
+            same(&rt, poisoned, ends);
         }
     }
     let decides = onward(
@@ -82,7 +67,7 @@ fn a_call_of_a_poisoned_once_goes_on_by_force_alone(rt: HostRuntime) {
     let runs = onward(&rt, decides, Reply::Value(2));
     same(&rt, runs.outcome(), Outcome::Closure(OnceState::Poisoned));
     let closes = onward(&rt, runs, Reply::Closed { succeeded: false });
-    same(&rt, closes.next(Reply::Value(4)), Next::End(Answer::Failed));
+    ends_as(&rt, &closes.next(Reply::Value(4)), Answer::Failed);
 }
 
 #[test]
@@ -92,15 +77,13 @@ fn who_waits_sleeps_until_it_is_woken(rt: HostRuntime) {
         OncePlace::first(OnceCall::Wait { forced: false }),
         Reply::Value(4),
     );
-    let marks = Op::Exchange { from: 4, to: 12 };
-    same(&rt, decides.act(0), Act::Word { lock: 0, op: marks });
-    same(
-        &rt,
-        decides.looking(),
-        Some(OncePlace::first(OnceCall::Wait { forced: false })),
-    );
+    steps(&rt, decides, Op::Exchange { from: 4, to: 12 });
+    let Some(looks) = decides.looking() else {
+        panic!(rt; "it looks no more");
+    };
+    steps(&rt, looks, Op::Load);
     let enters = onward(&rt, decides, Reply::Value(4));
-    same(&rt, enters.act(0), Act::Enter(Keys::One(0)));
+    does(&rt, enters, Act::Enter(Keys::One(6)));
     let checks = onward(&rt, enters, Reply::Done);
     same(&rt, checks.wants(), Some(Want::Wait));
     let leaves = onward(&rt, checks, Reply::Parked(true));
@@ -108,5 +91,5 @@ fn who_waits_sleeps_until_it_is_woken(rt: HostRuntime) {
     same(&rt, asleep.outcome(), Outcome::Sleep);
     let again = onward(&rt, asleep, Reply::Woken(Note::Normal));
     holds(&rt, again.retries());
-    same(&rt, again.next(Reply::Value(1)), Next::End(Answer::Ok));
+    ends_as(&rt, &again.next(Reply::Value(1)), Answer::Ok);
 }

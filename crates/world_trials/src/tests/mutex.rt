@@ -1,11 +1,9 @@
 //! Worlds of mutexes.
-use super::same;
 use super::scripts::{Does, Shown, plays, rests, shows};
+use super::{holds, same};
 use lot_base::{ListQueues, Want};
 use lot_steps::Owners;
-use lot_world::{
-    Answer, Call, Debt, Kind, MutexCall, Outcome, Owner, OwnersOf, Place, Step, Turn, World,
-};
+use lot_world::{Answer, Call, Debt, Kind, MutexCall, Outcome, Owner, OwnersOf, Step, Turn, World};
 use std::alloc::AllocError;
 use std::test::Fail;
 
@@ -167,7 +165,7 @@ fn a_run_is_its_steps(rt: HostRuntime) -> Result<(), Fail> {
     same(&rt, outcomes.as_slice(), wanted.as_slice());
     same(&rt, (world.threads(), world.locks()), (3, 2));
     same(&rt, world.kind(1), Kind::Mutex);
-    same(&rt, world.place(2), Place::Idle);
+    holds(&rt, world.place(2).is_idle());
     shows(&rt, &world, 1, rests(0, None));
     let stranger = [(9, Does::GoesOn, Outcome::NotNow)];
     plays(&rt, &mut world, &stranger);

@@ -78,8 +78,11 @@ fn a_woken_thread_retries(rt: HostRuntime) {
         },
     );
     let saw = woken.after(Reply::Value(1));
-    same(&rt, saw.looking(), Some(woken));
-    same(&rt, woken.after(Reply::Value(3)).looking(), None);
+    let looks = saw
+        .looking()
+        .map(|again| (again.act(), again.retries_on(3)));
+    same(&rt, looks, Some((woken.act(), true)));
+    holds(&rt, woken.after(Reply::Value(3)).looking().is_none());
 }
 
 #[test]
@@ -120,11 +123,8 @@ fn a_bump_hands_the_mutex_over_and_enters_again(rt: HostRuntime) {
 #[test]
 fn a_fair_release_beside_nobody_lets_go(rt: HostRuntime) {
     let start = Place::first(Kind::Fair, call(MutexCall::Unlock));
-    same(
-        &rt,
-        start,
-        Place::first(Kind::Mutex, call(MutexCall::UnlockFair)),
-    );
+    let fair = Place::first(Kind::Mutex, call(MutexCall::UnlockFair));
+    same(&rt, start.act(), fair.act());
     let (_, act) = advance(start, Reply::Value(1));
     same(&rt, act, Act::End(Answer::Ok));
     let store = Place::Mutex {
