@@ -1,88 +1,83 @@
 //! Worlds of condition variables.
 use super::holds;
-use super::scripts::{Does, Shown, plays, rests, shows, surprise};
+use super::scripts::Line::{Calls, GoesOn, Rests, Shows, Takes};
+use super::scripts::{DONE, Line, plays, surprise};
 use lot_base::{ListQueues, Want};
 use lot_calls::CondvarCall;
 use lot_world::{Answer, Call, Debt, Kind, MutexCall, Outcome, Owner, Turn, World};
 use std::test::Fail;
 
+const KINDS: &[Kind] = &[Kind::Mutex, Kind::Condvar];
+
 const MUTEX: usize = 0;
 
 const CONDVAR: usize = 1;
-
-const DONE: Outcome = Outcome::End(Answer::Ok);
 
 const NOTIFIED: Outcome = Outcome::End(Answer::Notified);
 
 const TIMED_OUT: Outcome = Outcome::End(Answer::TimedOut);
 
-const GO: Does = Does::Turns(Turn::Go);
+const LOCK: Call = Call::Mutex {
+    lock: 0,
+    call: MutexCall::Lock,
+};
 
-const LATE: Does = Does::Turns(Turn::Late);
+const UNLOCK: Call = Call::Mutex {
+    lock: 0,
+    call: MutexCall::Unlock,
+};
 
-fn mutex(call: MutexCall) -> Does {
-    let lock = MUTEX;
-    Does::Calls(Call::Mutex { lock, call })
-}
+const WAIT: Call = Call::Condvar {
+    lock: 1,
+    call: CondvarCall::Wait {
+        mutex: 0,
+        timed: false,
+    },
+};
 
-fn condvar(call: CondvarCall) -> Call {
-    let lock = CONDVAR;
-    Call::Condvar { lock, call }
-}
+const WAIT_TIMED: Call = Call::Condvar {
+    lock: 1,
+    call: CondvarCall::Wait {
+        mutex: 0,
+        timed: true,
+    },
+};
 
-fn wait(timed: bool) -> Call {
-    let mutex = MUTEX;
-    condvar(CondvarCall::Wait { mutex, timed })
-}
+const NOTIFY_ONE: Call = Call::Condvar {
+    lock: 1,
+    call: CondvarCall::Notify { all: false },
+};
 
-fn waits() -> Does {
-    Does::Calls(wait(false))
-}
+const NOTIFY_ALL: Call = Call::Condvar {
+    lock: 1,
+    call: CondvarCall::Notify { all: true },
+};
 
-fn waits_timed() -> Does {
-    Does::Calls(wait(true))
-}
-
-/// A wait with any lock.
-fn waits_with(mutex: usize) -> Does {
-    let timed = false;
-    Does::Calls(condvar(CondvarCall::Wait { mutex, timed }))
-}
-
-/// A call of any mutex.
-fn locks(lock: usize) -> Does {
-    let call = MutexCall::Lock;
-    Does::Calls(Call::Mutex { lock, call })
-}
-
-fn notifies(all: bool) -> Does {
-    Does::Calls(condvar(CondvarCall::Notify { all }))
-}
-
-fn begins(call: Call) -> Does {
-    Does::Turns(Turn::Begin(call))
-}
-
-fn told(number: usize) -> Outcome {
-    Outcome::End(Answer::Number(number))
-}
-
-/// What the mutex shows beside its first waiter, who wants it.
-fn wanted(word: u64, owner: Option<usize>, waiter: usize) -> Shown {
-    Shown {
-        word,
-        owner: owner.map(|thread| (Owner::Exclusive, thread)),
-        waiter: Some((waiter, Want::Exclusive)),
-        debt: None,
+// A wait with another lock.
+fn wait_with(mutex: usize) -> Call {
+    Call::Condvar {
+        lock: CONDVAR,
+        call: CondvarCall::Wait {
+            mutex,
+            timed: false,
+        },
     }
 }
 
-/// These threads lock the mutex and wait, in their order.
+// A call of another mutex.
+fn lock_of(lock: usize) -> Call {
+    Call::Mutex {
+        lock,
+        call: MutexCall::Lock,
+    }
+}
+
+// These threads lock the mutex and wait, in their order.
 fn all_wait(world: &mut World<ListQueues>, threads: usize) -> bool {
     for thread in 0..threads {
         let script = [
-            (thread, mutex(MutexCall::Lock), DONE),
-            (thread, waits(), Outcome::Sleep),
+            Calls(thread, LOCK, DONE),
+            Calls(thread, WAIT, Outcome::Sleep),
         ];
         if surprise(world, &script).is_some() {
             return false;
@@ -91,261 +86,265 @@ fn all_wait(world: &mut World<ListQueues>, threads: usize) -> bool {
     true
 }
 
-/// These threads go on in their order: each has the mutex, ends its wait and releases it.
+// These threads go on in their order: each has the mutex, ends its wait and releases it.
 fn all_leave(world: &mut World<ListQueues>, threads: usize) -> bool {
     for thread in 0..threads {
-        let script = [
-            (thread, Does::GoesOn, DONE),
-            (thread, mutex(MutexCall::Unlock), DONE),
-        ];
+        let script = [GoesOn(thread, DONE), Calls(thread, UNLOCK, DONE)];
         if surprise(world, &script).is_some() {
             return false;
         }
     }
     true
 }
+
+const IS_NOTIFIED: &[Line] = &[
+    Calls(1, NOTIFY_ONE, Outcome::End(Answer::No)),
+    Calls(1, NOTIFY_ALL, Outcome::End(Answer::Number(0))),
+    Calls(0, WAIT, Outcome::NotNow),
+    Calls(0, LOCK, DONE),
+    Calls(0, WAIT, Outcome::Sleep),
+    Rests(MUTEX, 0, None),
+    Shows(CONDVAR, (1, None, Some((0, Want::Wait)), None)),
+    GoesOn(0, Outcome::NotNow),
+    Calls(1, NOTIFY_ONE, Outcome::End(Answer::Yes)),
+    Shows(MUTEX, (0, None, None, Some((Debt::Retries, 0)))),
+    Rests(CONDVAR, 0, None),
+    GoesOn(0, DONE),
+    Calls(1, NOTIFY_ONE, Outcome::End(Answer::No)),
+    Rests(MUTEX, 1, Some((Owner::Exclusive, 0))),
+];
 
 #[test]
 fn a_wait_ends_once_it_is_notified(rt: HostRuntime) -> Result<(), Fail> {
-    let mut world = World::<ListQueues>::new(rt.alloc(), &[Kind::Mutex, Kind::Condvar], 2)?;
-    let unheard = [
-        (1, notifies(false), Outcome::End(Answer::No)),
-        (1, notifies(true), told(0)),
-        (0, waits(), Outcome::NotNow),
-    ];
-    plays(&rt, &mut world, &unheard);
-    holds(&rt, all_wait(&mut world, 1));
-    shows(&rt, &world, MUTEX, rests(0, None));
-    let waiting = Shown {
-        word: 1,
-        owner: None,
-        waiter: Some((0, Want::Wait)),
-        debt: None,
-    };
-    shows(&rt, &world, CONDVAR, Some(waiting));
-    let notified = [
-        (0, Does::GoesOn, Outcome::NotNow),
-        (1, notifies(false), Outcome::End(Answer::Yes)),
-    ];
-    plays(&rt, &mut world, &notified);
-    let woken = Shown {
-        word: 0,
-        owner: None,
-        waiter: None,
-        debt: Some((Debt::Retries, 0)),
-    };
-    shows(&rt, &world, MUTEX, Some(woken));
-    shows(&rt, &world, CONDVAR, rests(0, None));
-    let ends = [
-        (0, Does::GoesOn, DONE),
-        (1, notifies(false), Outcome::End(Answer::No)),
-    ];
-    plays(&rt, &mut world, &ends);
-    shows(&rt, &world, MUTEX, rests(1, Some((Owner::Exclusive, 0))));
+    let mut world = World::<ListQueues>::new(rt.alloc(), KINDS, 2)?;
+    plays(&rt, &mut world, IS_NOTIFIED);
     Ok(())
 }
+
+const TAKES_ITSELF: &[Line] = &[
+    // It stands in the queue and has left the section, and still owns the mutex.
+    Calls(0, LOCK, DONE),
+    Takes(0, Turn::Begin(WAIT), Outcome::Step),
+    Takes(0, Turn::Go, Outcome::Step),
+    Takes(0, Turn::Go, Outcome::Step),
+    Takes(0, Turn::Go, Outcome::Step),
+    Takes(0, Turn::Go, Outcome::Step),
+    Calls(1, NOTIFY_ONE, Outcome::End(Answer::Yes)),
+    Shows(
+        MUTEX,
+        (
+            3,
+            Some((Owner::Exclusive, 0)),
+            Some((0, Want::Exclusive)),
+            None,
+        ),
+    ),
+    Rests(CONDVAR, 0, None),
+    // It subtracts, enters the section, takes itself, clears the bit, and wakes itself.
+    Takes(0, Turn::Go, Outcome::Step),
+    Takes(0, Turn::Go, Outcome::Step),
+    Shows(
+        MUTEX,
+        (2, None, Some((0, Want::Exclusive)), Some((Debt::Owes, 0))),
+    ),
+    Takes(0, Turn::Go, Outcome::Step),
+    Takes(0, Turn::Go, Outcome::Step),
+    Takes(0, Turn::Go, Outcome::Step),
+    Shows(MUTEX, (0, None, None, Some((Debt::Retries, 0)))),
+    Takes(0, Turn::Go, DONE),
+    Rests(MUTEX, 1, Some((Owner::Exclusive, 0))),
+];
 
 #[test]
 fn a_wait_takes_and_wakes_itself(rt: HostRuntime) -> Result<(), Fail> {
-    let mut world = World::<ListQueues>::new(rt.alloc(), &[Kind::Mutex, Kind::Condvar], 2)?;
-    // It stands in the queue and has left the section, and still owns the mutex.
-    let moved = [
-        (0, mutex(MutexCall::Lock), DONE),
-        (0, begins(wait(false)), Outcome::Step),
-        (0, GO, Outcome::Step),
-        (0, GO, Outcome::Step),
-        (0, GO, Outcome::Step),
-        (0, GO, Outcome::Step),
-        (1, notifies(false), Outcome::End(Answer::Yes)),
-    ];
-    plays(&rt, &mut world, &moved);
-    shows(&rt, &world, MUTEX, Some(wanted(3, Some(0), 0)));
-    shows(&rt, &world, CONDVAR, rests(0, None));
-    // It subtracts, enters the section, takes itself, clears the bit, and wakes itself.
-    let releases = [(0, GO, Outcome::Step), (0, GO, Outcome::Step)];
-    plays(&rt, &mut world, &releases);
-    let owing = Shown {
-        debt: Some((Debt::Owes, 0)),
-        ..wanted(2, None, 0)
-    };
-    shows(&rt, &world, MUTEX, Some(owing));
-    let wakes = [
-        (0, GO, Outcome::Step),
-        (0, GO, Outcome::Step),
-        (0, GO, Outcome::Step),
-    ];
-    plays(&rt, &mut world, &wakes);
-    let woken = Shown {
-        word: 0,
-        owner: None,
-        waiter: None,
-        debt: Some((Debt::Retries, 0)),
-    };
-    shows(&rt, &world, MUTEX, Some(woken));
-    plays(&rt, &mut world, &[(0, GO, DONE)]);
-    shows(&rt, &world, MUTEX, rests(1, Some((Owner::Exclusive, 0))));
+    let mut world = World::<ListQueues>::new(rt.alloc(), KINDS, 2)?;
+    plays(&rt, &mut world, TAKES_ITSELF);
     Ok(())
 }
+
+const GIVES_UP: &[Line] = &[
+    Calls(0, LOCK, DONE),
+    Calls(0, WAIT_TIMED, Outcome::Sleep),
+    Takes(0, Turn::Late, Outcome::Step),
+    Takes(0, Turn::Late, Outcome::NotNow),
+    GoesOn(0, TIMED_OUT),
+    Rests(CONDVAR, 0, None),
+    Rests(MUTEX, 1, Some((Owner::Exclusive, 0))),
+    // In the queue of its mutex it was notified.
+    Calls(0, WAIT_TIMED, Outcome::Sleep),
+    Calls(1, LOCK, DONE),
+    Calls(1, WAIT, Outcome::Sleep),
+    Calls(2, LOCK, DONE),
+    Calls(2, NOTIFY_ALL, Outcome::End(Answer::Number(2))),
+    Shows(
+        MUTEX,
+        (
+            3,
+            Some((Owner::Exclusive, 2)),
+            Some((0, Want::Exclusive)),
+            None,
+        ),
+    ),
+    Takes(1, Turn::Late, Outcome::NotNow),
+    Takes(0, Turn::Late, Outcome::Step),
+    GoesOn(0, Outcome::Sleep),
+    Takes(0, Turn::Late, Outcome::NotNow),
+    Shows(
+        MUTEX,
+        (
+            3,
+            Some((Owner::Exclusive, 2)),
+            Some((1, Want::Exclusive)),
+            None,
+        ),
+    ),
+    Calls(2, UNLOCK, DONE),
+    GoesOn(1, DONE),
+    Calls(1, UNLOCK, DONE),
+    GoesOn(0, NOTIFIED),
+    Calls(0, UNLOCK, DONE),
+    Rests(MUTEX, 0, None),
+    Rests(CONDVAR, 0, None),
+];
 
 #[test]
 fn a_timed_wait_gives_up_in_the_queue_where_it_stands(rt: HostRuntime) -> Result<(), Fail> {
-    let mut world = World::<ListQueues>::new(rt.alloc(), &[Kind::Mutex, Kind::Condvar], 3)?;
-    let gives_up = [
-        (0, mutex(MutexCall::Lock), DONE),
-        (0, waits_timed(), Outcome::Sleep),
-        (0, LATE, Outcome::Step),
-        (0, LATE, Outcome::NotNow),
-        (0, Does::GoesOn, TIMED_OUT),
-    ];
-    plays(&rt, &mut world, &gives_up);
-    shows(&rt, &world, CONDVAR, rests(0, None));
-    shows(&rt, &world, MUTEX, rests(1, Some((Owner::Exclusive, 0))));
-    // In the queue of its mutex it was notified.
-    let moved = [
-        (0, waits_timed(), Outcome::Sleep),
-        (1, mutex(MutexCall::Lock), DONE),
-        (1, waits(), Outcome::Sleep),
-        (2, mutex(MutexCall::Lock), DONE),
-        (2, notifies(true), told(2)),
-    ];
-    plays(&rt, &mut world, &moved);
-    shows(&rt, &world, MUTEX, Some(wanted(3, Some(2), 0)));
-    let late = [
-        (1, LATE, Outcome::NotNow),
-        (0, LATE, Outcome::Step),
-        (0, Does::GoesOn, Outcome::Sleep),
-        (0, LATE, Outcome::NotNow),
-    ];
-    plays(&rt, &mut world, &late);
-    shows(&rt, &world, MUTEX, Some(wanted(3, Some(2), 1)));
-    let ends = [
-        (2, mutex(MutexCall::Unlock), DONE),
-        (1, Does::GoesOn, DONE),
-        (1, mutex(MutexCall::Unlock), DONE),
-        (0, Does::GoesOn, NOTIFIED),
-        (0, mutex(MutexCall::Unlock), DONE),
-    ];
-    plays(&rt, &mut world, &ends);
-    shows(&rt, &world, MUTEX, rests(0, None));
-    shows(&rt, &world, CONDVAR, rests(0, None));
+    let mut world = World::<ListQueues>::new(rt.alloc(), KINDS, 3)?;
+    plays(&rt, &mut world, GIVES_UP);
     Ok(())
 }
 
+// The first of three has been told to try again, and the second is the first who waits.
+const FIRST_IS_WOKEN: Line = Shows(
+    MUTEX,
+    (
+        2,
+        None,
+        Some((1, Want::Exclusive)),
+        Some((Debt::Retries, 0)),
+    ),
+);
+
+const ALL_ARE_MOVED: &[Line] = &[
+    Calls(3, LOCK, DONE),
+    Calls(3, NOTIFY_ALL, Outcome::End(Answer::Number(3))),
+    Shows(
+        MUTEX,
+        (
+            3,
+            Some((Owner::Exclusive, 3)),
+            Some((0, Want::Exclusive)),
+            None,
+        ),
+    ),
+    Rests(CONDVAR, 0, None),
+    // The release wakes the first alone.
+    GoesOn(0, Outcome::NotNow),
+    Calls(3, UNLOCK, DONE),
+    GoesOn(1, Outcome::NotNow),
+    GoesOn(2, Outcome::NotNow),
+    FIRST_IS_WOKEN,
+];
+
 #[test]
 fn beside_a_locked_mutex_all_are_moved(rt: HostRuntime) -> Result<(), Fail> {
-    let mut world = World::<ListQueues>::new(rt.alloc(), &[Kind::Mutex, Kind::Condvar], 4)?;
+    let mut world = World::<ListQueues>::new(rt.alloc(), KINDS, 4)?;
     holds(&rt, all_wait(&mut world, 3));
-    let notified = [
-        (3, mutex(MutexCall::Lock), DONE),
-        (3, notifies(true), told(3)),
-    ];
-    plays(&rt, &mut world, &notified);
-    shows(&rt, &world, MUTEX, Some(wanted(3, Some(3), 0)));
-    shows(&rt, &world, CONDVAR, rests(0, None));
-    // The release wakes the first alone.
-    let releases = [
-        (0, Does::GoesOn, Outcome::NotNow),
-        (3, mutex(MutexCall::Unlock), DONE),
-        (1, Does::GoesOn, Outcome::NotNow),
-        (2, Does::GoesOn, Outcome::NotNow),
-    ];
-    plays(&rt, &mut world, &releases);
-    let woken = Shown {
-        debt: Some((Debt::Retries, 0)),
-        ..wanted(2, None, 1)
-    };
-    shows(&rt, &world, MUTEX, Some(woken));
+    plays(&rt, &mut world, ALL_ARE_MOVED);
     holds(&rt, all_leave(&mut world, 3));
-    shows(&rt, &world, MUTEX, rests(0, None));
+    plays(&rt, &mut world, &[Rests(MUTEX, 0, None)]);
     Ok(())
 }
+
+const THE_REST_ARE_MOVED: &[Line] = &[
+    Calls(3, NOTIFY_ALL, Outcome::End(Answer::Number(3))),
+    FIRST_IS_WOKEN,
+    Rests(CONDVAR, 0, None),
+];
+
+// Another locks the mutex first: who was woken sleeps behind the rest.
+const OVERTAKEN: &[Line] = &[
+    Calls(3, NOTIFY_ALL, Outcome::End(Answer::Number(3))),
+    Calls(4, LOCK, DONE),
+    GoesOn(0, Outcome::Sleep),
+    Shows(
+        MUTEX,
+        (
+            3,
+            Some((Owner::Exclusive, 4)),
+            Some((1, Want::Exclusive)),
+            None,
+        ),
+    ),
+    Calls(4, UNLOCK, DONE),
+    GoesOn(1, DONE),
+    Calls(1, UNLOCK, DONE),
+    GoesOn(2, DONE),
+    Calls(2, UNLOCK, DONE),
+    GoesOn(0, DONE),
+    Calls(0, UNLOCK, DONE),
+    Rests(MUTEX, 0, None),
+];
 
 #[test]
 fn beside_an_unlocked_mutex_the_first_is_woken_and_the_rest_are_moved(
     rt: HostRuntime,
 ) -> Result<(), Fail> {
-    let mut world = World::<ListQueues>::new(rt.alloc(), &[Kind::Mutex, Kind::Condvar], 5)?;
+    let mut world = World::<ListQueues>::new(rt.alloc(), KINDS, 5)?;
     holds(&rt, all_wait(&mut world, 3));
-    plays(&rt, &mut world, &[(3, notifies(true), told(3))]);
-    let woken = Shown {
-        debt: Some((Debt::Retries, 0)),
-        ..wanted(2, None, 1)
-    };
-    shows(&rt, &world, MUTEX, Some(woken));
-    shows(&rt, &world, CONDVAR, rests(0, None));
-    holds(&rt, all_leave(&mut world, 3));
-    shows(&rt, &world, MUTEX, rests(0, None));
-    // Another locks the mutex first: who was woken sleeps behind the rest.
-    holds(&rt, all_wait(&mut world, 3));
-    let overtaken = [
-        (3, notifies(true), told(3)),
-        (4, mutex(MutexCall::Lock), DONE),
-        (0, Does::GoesOn, Outcome::Sleep),
-    ];
-    plays(&rt, &mut world, &overtaken);
-    shows(&rt, &world, MUTEX, Some(wanted(3, Some(4), 1)));
-    let ends = [
-        (4, mutex(MutexCall::Unlock), DONE),
-        (1, Does::GoesOn, DONE),
-        (1, mutex(MutexCall::Unlock), DONE),
-        (2, Does::GoesOn, DONE),
-        (2, mutex(MutexCall::Unlock), DONE),
-        (0, Does::GoesOn, DONE),
-        (0, mutex(MutexCall::Unlock), DONE),
-    ];
-    plays(&rt, &mut world, &ends);
-    shows(&rt, &world, MUTEX, rests(0, None));
+    plays(&rt, &mut world, THE_REST_ARE_MOVED);
+    holds(&rt, all_leave(&mut world, 3) && all_wait(&mut world, 3));
+    plays(&rt, &mut world, OVERTAKEN);
     Ok(())
 }
+
+const SHOWS_THE_SECOND: Line = Shows(CONDVAR, (3, None, Some((1, Want::Wait)), None));
 
 #[test]
 fn a_second_mutex_is_refused(rt: HostRuntime) -> Result<(), Fail> {
     let kinds = [Kind::Mutex, Kind::Condvar, Kind::Mutex, Kind::Fair];
     let mut world = World::<ListQueues>::new(rt.alloc(), &kinds, 2)?;
-    holds(&rt, all_wait(&mut world, 1));
-    let refused = [
-        (1, locks(2), DONE),
-        (1, locks(3), DONE),
-        (1, waits_with(3), Outcome::NotNow),
-        (1, waits_with(CONDVAR), Outcome::NotNow),
-        (1, waits_with(4), Outcome::NotNow),
-        (1, waits_with(2), Outcome::End(Answer::TwoMutexes)),
+    let script = [
+        Calls(0, LOCK, DONE),
+        Calls(0, WAIT, Outcome::Sleep),
+        Calls(1, lock_of(2), DONE),
+        Calls(1, lock_of(3), DONE),
+        Calls(1, wait_with(3), Outcome::NotNow),
+        Calls(1, wait_with(CONDVAR), Outcome::NotNow),
+        Calls(1, wait_with(4), Outcome::NotNow),
+        Calls(1, wait_with(2), Outcome::End(Answer::TwoMutexes)),
+        Rests(2, 1, Some((Owner::Exclusive, 1))),
+        // Once nobody waits with the first, it shows the second.
+        Calls(1, NOTIFY_ALL, Outcome::End(Answer::Number(1))),
+        Calls(1, wait_with(2), Outcome::Sleep),
+        GoesOn(0, DONE),
+        SHOWS_THE_SECOND,
     ];
-    plays(&rt, &mut world, &refused);
-    shows(&rt, &world, 2, rests(1, Some((Owner::Exclusive, 1))));
-    let shows_another = [
-        (1, notifies(true), told(1)),
-        (1, waits_with(2), Outcome::Sleep),
-        (0, Does::GoesOn, DONE),
-    ];
-    plays(&rt, &mut world, &shows_another);
-    let waiting = Shown {
-        word: 3,
-        owner: None,
-        waiter: Some((1, Want::Wait)),
-        debt: None,
-    };
-    shows(&rt, &world, CONDVAR, Some(waiting));
+    plays(&rt, &mut world, &script);
     Ok(())
 }
 
+const ALL_OF_600: &[Line] = &[
+    Calls(600, NOTIFY_ALL, Outcome::End(Answer::Number(600))),
+    Rests(CONDVAR, 0, None),
+];
+
+// And where somebody owns the mutex meanwhile.
+const BESIDE_AN_OWNER: &[Line] = &[
+    Rests(MUTEX, 0, None),
+    Calls(600, LOCK, DONE),
+    Calls(600, NOTIFY_ALL, Outcome::End(Answer::Number(600))),
+    Calls(600, UNLOCK, DONE),
+];
+
 #[test]
 fn all_of_600_waiters_have_the_mutex_in_their_order(rt: HostRuntime) -> Result<(), Fail> {
-    let mut world = World::<ListQueues>::new(rt.alloc(), &[Kind::Mutex, Kind::Condvar], 601)?;
+    let mut world = World::<ListQueues>::new(rt.alloc(), KINDS, 601)?;
     holds(&rt, all_wait(&mut world, 600));
-    plays(&rt, &mut world, &[(600, notifies(true), told(600))]);
-    shows(&rt, &world, CONDVAR, rests(0, None));
+    plays(&rt, &mut world, ALL_OF_600);
+    holds(&rt, all_leave(&mut world, 600) && all_wait(&mut world, 600));
+    plays(&rt, &mut world, BESIDE_AN_OWNER);
     holds(&rt, all_leave(&mut world, 600));
-    shows(&rt, &world, MUTEX, rests(0, None));
-    // And where somebody owns it meanwhile.
-    holds(&rt, all_wait(&mut world, 600));
-    let notified = [
-        (600, mutex(MutexCall::Lock), DONE),
-        (600, notifies(true), told(600)),
-        (600, mutex(MutexCall::Unlock), DONE),
-    ];
-    plays(&rt, &mut world, &notified);
-    holds(&rt, all_leave(&mut world, 600));
-    shows(&rt, &world, MUTEX, rests(0, None));
+    plays(&rt, &mut world, &[Rests(MUTEX, 0, None)]);
     Ok(())
 }

@@ -1,50 +1,95 @@
 //! Reader-writer locks that are handed over.
 use super::same;
-use super::scripts::{Does, Shown, plays, rests, shows};
+use super::scripts::Line::{Calls, GoesOn, Rests, Shows};
+use super::scripts::{DONE, Line, plays};
 use lot_base::{ListQueues, Want};
 use lot_calls::{Access, Patience, RwLockCall};
-use lot_world::{Answer, Call, Kind, Outcome, Owner, World};
+use lot_world::{Call, Kind, Outcome, Owner, World};
 use std::test::Fail;
 
 const LOCK: Kind = Kind::RwLock { limit: 4 };
 
-const DONE: Outcome = Outcome::End(Answer::Ok);
-
-fn calls(call: RwLockCall) -> Does {
-    Does::Calls(Call::RwLock { lock: 0, call })
-}
-
-fn enters(access: Access) -> Does {
-    calls(RwLockCall::Enter {
-        access,
+const READ: Call = Call::RwLock {
+    lock: 0,
+    call: RwLockCall::Enter {
+        access: Access::Shared,
         patience: Patience::Patient,
-    })
-}
+    },
+};
 
-fn releases(access: Access) -> Does {
-    calls(RwLockCall::ReleaseFair(access))
-}
+const COME_UPGRADABLE: Call = Call::RwLock {
+    lock: 0,
+    call: RwLockCall::Enter {
+        access: Access::Upgradable,
+        patience: Patience::Patient,
+    },
+};
 
-fn bumps(access: Access) -> Does {
-    calls(RwLockCall::Bump(access))
-}
+const WRITE: Call = Call::RwLock {
+    lock: 0,
+    call: RwLockCall::Enter {
+        access: Access::Exclusive,
+        patience: Patience::Patient,
+    },
+};
+
+const END_READING: Call = Call::RwLock {
+    lock: 0,
+    call: RwLockCall::ReleaseFair(Access::Shared),
+};
+
+const END_UPGRADABLE: Call = Call::RwLock {
+    lock: 0,
+    call: RwLockCall::ReleaseFair(Access::Upgradable),
+};
+
+const END_WRITING: Call = Call::RwLock {
+    lock: 0,
+    call: RwLockCall::ReleaseFair(Access::Exclusive),
+};
+
+const BUMP_READING: Call = Call::RwLock {
+    lock: 0,
+    call: RwLockCall::Bump(Access::Shared),
+};
+
+const BUMP_UPGRADABLE: Call = Call::RwLock {
+    lock: 0,
+    call: RwLockCall::Bump(Access::Upgradable),
+};
+
+const BUMP_WRITING: Call = Call::RwLock {
+    lock: 0,
+    call: RwLockCall::Bump(Access::Exclusive),
+};
+
+// Two readers have the lock behind it, and the writer behind them waits for them.
+const HANDS_OVER: &[Line] = &[
+    Calls(0, WRITE, DONE),
+    Calls(1, READ, Outcome::Sleep),
+    Calls(2, READ, Outcome::Sleep),
+    Calls(3, WRITE, Outcome::Sleep),
+    Calls(1, END_READING, Outcome::NotNow),
+    Calls(0, END_WRITING, DONE),
+    Rests(0, 40, Some((Owner::Pending, 3))),
+];
+
+const FOLLOW: &[Line] = &[
+    GoesOn(3, Outcome::Sleep),
+    GoesOn(1, DONE),
+    Calls(1, END_READING, DONE),
+    GoesOn(2, DONE),
+    Calls(2, END_READING, DONE),
+    GoesOn(3, DONE),
+    Rests(0, 8, Some((Owner::Exclusive, 3))),
+];
 
 #[test]
 fn a_fair_release_hands_the_lock_to_readers_and_the_writer_behind_them(
     rt: HostRuntime,
 ) -> Result<(), Fail> {
     let mut world = World::<ListQueues>::new(rt.alloc(), &[LOCK], 4)?;
-    let hands_over = [
-        (0, enters(Access::Exclusive), DONE),
-        (1, enters(Access::Shared), Outcome::Sleep),
-        (2, enters(Access::Shared), Outcome::Sleep),
-        (3, enters(Access::Exclusive), Outcome::Sleep),
-        (1, releases(Access::Shared), Outcome::NotNow),
-        (0, releases(Access::Exclusive), DONE),
-    ];
-    plays(&rt, &mut world, &hands_over);
-    // Two readers, and the writer behind them, which waits for them.
-    shows(&rt, &world, 0, rests(40, Some((Owner::Pending, 3))));
+    plays(&rt, &mut world, HANDS_OVER);
     let owners: Vec<(Owner, usize)> = if world.locks() == 1 {
         world.owners(0).collect(rt.alloc())?
     } else {
@@ -52,61 +97,63 @@ fn a_fair_release_hands_the_lock_to_readers_and_the_writer_behind_them(
     };
     let wanted = [(Owner::Pending, 3), (Owner::Shared, 1), (Owner::Shared, 2)];
     same(&rt, owners.as_slice(), wanted.as_slice());
-    let follows = [
-        (3, Does::GoesOn, Outcome::Sleep),
-        (1, Does::GoesOn, DONE),
-        (1, releases(Access::Shared), DONE),
-        (2, Does::GoesOn, DONE),
-        (2, releases(Access::Shared), DONE),
-        (3, Does::GoesOn, DONE),
-    ];
-    plays(&rt, &mut world, &follows);
-    shows(&rt, &world, 0, rests(8, Some((Owner::Exclusive, 3))));
+    plays(&rt, &mut world, FOLLOW);
     Ok(())
 }
+
+const GIVES_WAY: &[Line] = &[
+    Calls(0, WRITE, DONE),
+    Calls(1, COME_UPGRADABLE, Outcome::Sleep),
+    Calls(2, WRITE, Outcome::Sleep),
+    Calls(0, BUMP_WRITING, Outcome::Sleep),
+    GoesOn(1, DONE),
+    Shows(
+        0,
+        (
+            21,
+            Some((Owner::Upgradable, 1)),
+            Some((2, Want::Exclusive)),
+            None,
+        ),
+    ),
+    // Another fair release, of the lesser right: the next writer has it at once.
+    Calls(1, END_UPGRADABLE, DONE),
+    Shows(
+        0,
+        (
+            9,
+            Some((Owner::Exclusive, 2)),
+            Some((0, Want::Exclusive)),
+            None,
+        ),
+    ),
+];
 
 #[test]
 fn a_bump_enters_again_behind_those_to_whom_it_gave_way(rt: HostRuntime) -> Result<(), Fail> {
     let mut world = World::<ListQueues>::new(rt.alloc(), &[LOCK], 3)?;
-    let gives_way = [
-        (0, enters(Access::Exclusive), DONE),
-        (1, enters(Access::Upgradable), Outcome::Sleep),
-        (2, enters(Access::Exclusive), Outcome::Sleep),
-        (0, bumps(Access::Exclusive), Outcome::Sleep),
-        (1, Does::GoesOn, DONE),
-    ];
-    plays(&rt, &mut world, &gives_way);
-    let first = Shown {
-        word: 21,
-        owner: Some((Owner::Upgradable, 1)),
-        waiter: Some((2, Want::Exclusive)),
-        debt: None,
-    };
-    shows(&rt, &world, 0, Some(first));
-    // Another fair release, of the lesser right: the next writer has it at once.
-    let next = [(1, releases(Access::Upgradable), DONE)];
-    plays(&rt, &mut world, &next);
-    let second = Shown {
-        word: 9,
-        owner: Some((Owner::Exclusive, 2)),
-        waiter: Some((0, Want::Exclusive)),
-        debt: None,
-    };
-    shows(&rt, &world, 0, Some(second));
+    plays(&rt, &mut world, GIVES_WAY);
     Ok(())
 }
+
+const LETS_GO: &[Line] = &[
+    Calls(0, READ, DONE),
+    Calls(0, BUMP_READING, DONE),
+    Calls(0, END_READING, DONE),
+    Rests(0, 0, None),
+    Calls(0, COME_UPGRADABLE, DONE),
+    Calls(0, BUMP_UPGRADABLE, DONE),
+    Calls(0, END_UPGRADABLE, DONE),
+    Rests(0, 0, None),
+    Calls(0, WRITE, DONE),
+    Calls(0, BUMP_WRITING, DONE),
+    Calls(0, END_WRITING, DONE),
+    Rests(0, 0, None),
+];
 
 #[test]
 fn a_fair_release_that_nobody_waits_for_lets_the_lock_go(rt: HostRuntime) -> Result<(), Fail> {
     let mut world = World::<ListQueues>::new(rt.alloc(), &[LOCK], 2)?;
-    for access in [Access::Shared, Access::Upgradable, Access::Exclusive] {
-        let script = [
-            (0, enters(access), DONE),
-            (0, bumps(access), DONE),
-            (0, releases(access), DONE),
-        ];
-        plays(&rt, &mut world, &script);
-        shows(&rt, &world, 0, rests(0, None));
-    }
+    plays(&rt, &mut world, LETS_GO);
     Ok(())
 }

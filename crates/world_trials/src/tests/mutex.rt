@@ -1,5 +1,6 @@
 //! Worlds of mutexes.
-use super::scripts::{Does, Shown, plays, rests, shows};
+use super::scripts::Line::{Calls, GoesOn, Rests, Shows, Takes};
+use super::scripts::{DONE, Line, plays};
 use super::{holds, same};
 use lot_base::{ListQueues, Want};
 use lot_steps::Owners;
@@ -7,71 +8,64 @@ use lot_world::{Answer, Call, Debt, Kind, MutexCall, Outcome, Owner, OwnersOf, S
 use std::alloc::AllocError;
 use std::test::Fail;
 
-fn call(call: MutexCall) -> Call {
-    Call::Mutex { lock: 0, call }
-}
+const LOCK: Call = Call::Mutex {
+    lock: 0,
+    call: MutexCall::Lock,
+};
 
-fn calls(name: MutexCall) -> Does {
-    Does::Calls(call(name))
-}
+const TRY_LOCK: Call = Call::Mutex {
+    lock: 0,
+    call: MutexCall::TryLock,
+};
 
-fn begins(name: MutexCall) -> Does {
-    Does::Turns(Turn::Begin(call(name)))
-}
+const UNLOCK: Call = Call::Mutex {
+    lock: 0,
+    call: MutexCall::Unlock,
+};
 
-const GO: Does = Does::Turns(Turn::Go);
+const BUMP: Call = Call::Mutex {
+    lock: 0,
+    call: MutexCall::Bump,
+};
 
-const SPIN: Does = Does::Turns(Turn::Spin);
-
-const DONE: Outcome = Outcome::End(Answer::Ok);
+const WAKES_A_WAITER: &[Line] = &[
+    Calls(0, LOCK, DONE),
+    Takes(1, Turn::Begin(LOCK), Outcome::Step),
+    Takes(1, Turn::Go, Outcome::Step),
+    Takes(1, Turn::Go, Outcome::Step),
+    Takes(1, Turn::Spin, Outcome::Step),
+    Takes(1, Turn::Go, Outcome::Step),
+    Takes(1, Turn::Spin, Outcome::NotNow),
+    Takes(1, Turn::Go, Outcome::Step),
+    Takes(1, Turn::Go, Outcome::Step),
+    Takes(1, Turn::Go, Outcome::Sleep),
+    Takes(1, Turn::Go, Outcome::NotNow),
+    Shows(
+        0,
+        (
+            3,
+            Some((Owner::Exclusive, 0)),
+            Some((1, Want::Exclusive)),
+            None,
+        ),
+    ),
+    Takes(1, Turn::Begin(UNLOCK), Outcome::NotNow),
+    Takes(0, Turn::Begin(UNLOCK), Outcome::Step),
+    Takes(0, Turn::Go, Outcome::Step),
+    Shows(
+        0,
+        (2, None, Some((1, Want::Exclusive)), Some((Debt::Owes, 0))),
+    ),
+    GoesOn(0, DONE),
+    Shows(0, (0, None, None, Some((Debt::Retries, 1)))),
+    GoesOn(1, DONE),
+    Rests(0, 1, Some((Owner::Exclusive, 1))),
+];
 
 #[test]
 fn a_waiter_is_woken_by_the_release(rt: HostRuntime) -> Result<(), Fail> {
     let mut world = World::<ListQueues>::new(rt.alloc(), &[Kind::Mutex], 2)?;
-    let waits = [
-        (0, calls(MutexCall::Lock), DONE),
-        (1, begins(MutexCall::Lock), Outcome::Step),
-        (1, GO, Outcome::Step),
-        (1, GO, Outcome::Step),
-        (1, SPIN, Outcome::Step),
-        (1, GO, Outcome::Step),
-        (1, SPIN, Outcome::NotNow),
-        (1, GO, Outcome::Step),
-        (1, GO, Outcome::Step),
-        (1, GO, Outcome::Sleep),
-        (1, GO, Outcome::NotNow),
-    ];
-    plays(&rt, &mut world, &waits);
-    let owned = Shown {
-        word: 3,
-        owner: Some((Owner::Exclusive, 0)),
-        waiter: Some((1, Want::Exclusive)),
-        debt: None,
-    };
-    shows(&rt, &world, 0, Some(owned));
-    let releases = [
-        (1, begins(MutexCall::Unlock), Outcome::NotNow),
-        (0, begins(MutexCall::Unlock), Outcome::Step),
-        (0, GO, Outcome::Step),
-    ];
-    plays(&rt, &mut world, &releases);
-    let owes = Shown {
-        word: 2,
-        owner: None,
-        debt: Some((Debt::Owes, 0)),
-        ..owned
-    };
-    shows(&rt, &world, 0, Some(owes));
-    plays(&rt, &mut world, &[(0, Does::GoesOn, DONE)]);
-    let retries = Shown {
-        word: 0,
-        owner: None,
-        waiter: None,
-        debt: Some((Debt::Retries, 1)),
-    };
-    shows(&rt, &world, 0, Some(retries));
-    plays(&rt, &mut world, &[(1, Does::GoesOn, DONE)]);
-    shows(&rt, &world, 0, rests(1, Some((Owner::Exclusive, 1))));
+    plays(&rt, &mut world, WAKES_A_WAITER);
     Ok(())
 }
 
@@ -93,81 +87,97 @@ fn who_shares_is_listed_behind_the_owners(rt: HostRuntime) -> Result<(), Fail> {
     Ok(())
 }
 
+const HANDS_OVER: &[Line] = &[
+    Calls(0, LOCK, DONE),
+    Calls(1, LOCK, Outcome::Sleep),
+    Calls(2, LOCK, Outcome::Sleep),
+    // The owner sees who waits, enters the section, takes the first, and stores the word.
+    Takes(0, Turn::Begin(UNLOCK), Outcome::Step),
+    Takes(0, Turn::Go, Outcome::Step),
+    Takes(0, Turn::Go, Outcome::Step),
+    Takes(0, Turn::Go, Outcome::Step),
+    Takes(0, Turn::Go, Outcome::Step),
+    Takes(1, Turn::Go, Outcome::NotNow),
+    Takes(1, Turn::Begin(UNLOCK), Outcome::NotNow),
+    Shows(
+        0,
+        (
+            3,
+            Some((Owner::Exclusive, 1)),
+            Some((2, Want::Exclusive)),
+            Some((Debt::Owes, 0)),
+        ),
+    ),
+    // The one behind it is next.
+    Takes(0, Turn::Go, DONE),
+    Takes(1, Turn::Go, DONE),
+    Calls(1, BUMP, Outcome::Sleep),
+    Shows(
+        0,
+        (
+            3,
+            Some((Owner::Exclusive, 2)),
+            Some((1, Want::Exclusive)),
+            None,
+        ),
+    ),
+];
+
 #[test]
 fn a_fair_mutex_is_handed_to_the_first_waiter(rt: HostRuntime) -> Result<(), Fail> {
     let mut world = World::<ListQueues>::new(rt.alloc(), &[Kind::Fair], 3)?;
-    // The owner sees who waits, enters the section, takes the first, and stores the word.
-    let hands_over = [
-        (0, calls(MutexCall::Lock), DONE),
-        (1, calls(MutexCall::Lock), Outcome::Sleep),
-        (2, calls(MutexCall::Lock), Outcome::Sleep),
-        (0, begins(MutexCall::Unlock), Outcome::Step),
-        (0, GO, Outcome::Step),
-        (0, GO, Outcome::Step),
-        (0, GO, Outcome::Step),
-        (0, GO, Outcome::Step),
-        (1, GO, Outcome::NotNow),
-        (1, begins(MutexCall::Unlock), Outcome::NotNow),
-    ];
-    plays(&rt, &mut world, &hands_over);
-    let handed = Shown {
-        word: 3,
-        owner: Some((Owner::Exclusive, 1)),
-        waiter: Some((2, Want::Exclusive)),
-        debt: Some((Debt::Owes, 0)),
-    };
-    shows(&rt, &world, 0, Some(handed));
-    // The one behind it is next.
-    let bumps = [
-        (0, GO, DONE),
-        (1, GO, DONE),
-        (1, calls(MutexCall::Bump), Outcome::Sleep),
-    ];
-    plays(&rt, &mut world, &bumps);
-    let bumped = Shown {
-        word: 3,
-        owner: Some((Owner::Exclusive, 2)),
-        waiter: Some((1, Want::Exclusive)),
-        debt: None,
-    };
-    shows(&rt, &world, 0, Some(bumped));
+    plays(&rt, &mut world, HANDS_OVER);
     Ok(())
 }
 
-fn turn(thread: usize, turn: Turn) -> Step {
-    Step { thread, turn }
-}
+const TRIES: &[Step] = &[
+    Step {
+        thread: 0,
+        turn: Turn::Begin(TRY_LOCK),
+    },
+    Step {
+        thread: 0,
+        turn: Turn::Go,
+    },
+    Step {
+        thread: 2,
+        turn: Turn::Begin(TRY_LOCK),
+    },
+    Step {
+        thread: 2,
+        turn: Turn::Go,
+    },
+    Step {
+        thread: 7,
+        turn: Turn::Go,
+    },
+    Step {
+        thread: 0,
+        turn: Turn::Late,
+    },
+];
+
+const TOLD: &[Outcome] = &[
+    Outcome::Sleep,
+    Outcome::Step,
+    Outcome::End(Answer::Yes),
+    Outcome::Step,
+    Outcome::End(Answer::No),
+    Outcome::NotNow,
+    Outcome::NotNow,
+];
 
 #[test]
 fn a_run_is_its_steps(rt: HostRuntime) -> Result<(), Fail> {
     let mut world = World::<ListQueues>::new(rt.alloc(), &[Kind::Mutex, Kind::Mutex], 3)?;
-    let tries = Turn::Begin(call(MutexCall::TryLock));
-    let steps = [
-        turn(0, tries),
-        turn(0, Turn::Go),
-        turn(2, tries),
-        turn(2, Turn::Go),
-        turn(7, Turn::Go),
-        turn(0, Turn::Late),
-    ];
     let mut outcomes = Vec::new(rt.alloc());
     outcomes.push(Outcome::Sleep).map_err(AllocError::from)?;
-    same(&rt, world.run(&steps, &mut outcomes), Ok(()));
-    let wanted = [
-        Outcome::Sleep,
-        Outcome::Step,
-        Outcome::End(Answer::Yes),
-        Outcome::Step,
-        Outcome::End(Answer::No),
-        Outcome::NotNow,
-        Outcome::NotNow,
-    ];
-    same(&rt, outcomes.as_slice(), wanted.as_slice());
+    same(&rt, world.run(TRIES, &mut outcomes), Ok(()));
+    same(&rt, outcomes.as_slice(), TOLD);
     same(&rt, (world.threads(), world.locks()), (3, 2));
     same(&rt, world.kind(1), Kind::Mutex);
     holds(&rt, world.place(2).is_idle());
-    shows(&rt, &world, 1, rests(0, None));
-    let stranger = [(9, Does::GoesOn, Outcome::NotNow)];
+    let stranger = [Rests(1, 0, None), GoesOn(9, Outcome::NotNow)];
     plays(&rt, &mut world, &stranger);
     Ok(())
 }

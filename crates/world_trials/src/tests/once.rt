@@ -1,5 +1,6 @@
 //! Worlds of a `Once`.
-use super::scripts::{Does, Shown, plays, rests, shows};
+use super::scripts::Line::{Calls, GoesOn, Rests, Shows, Takes};
+use super::scripts::{DONE, Line, plays};
 use super::{holds, same};
 use lot_base::{Keys, ListQueues, Note, Want};
 use lot_calls::{OnceCall, OnceState};
@@ -13,29 +14,31 @@ const CALL: Call = Call::Once {
     call: OnceCall::CallOnce { forced: false },
 };
 
-const RUN: OnceCall = OnceCall::CallOnce { forced: false };
+const RUN: Call = Call::Once {
+    lock: 0,
+    call: OnceCall::CallOnce { forced: false },
+};
 
-const RUN_FORCED: OnceCall = OnceCall::CallOnce { forced: true };
+const RUN_FORCED: Call = Call::Once {
+    lock: 0,
+    call: OnceCall::CallOnce { forced: true },
+};
 
-const WAIT: OnceCall = OnceCall::Wait { forced: false };
+const WAIT: Call = Call::Once {
+    lock: 0,
+    call: OnceCall::Wait { forced: false },
+};
 
-const WAIT_FORCED: OnceCall = OnceCall::Wait { forced: true };
-
-const DONE: Outcome = Outcome::End(Answer::Ok);
+const WAIT_FORCED: Call = Call::Once {
+    lock: 0,
+    call: OnceCall::Wait { forced: true },
+};
 
 const POISONED: Outcome = Outcome::End(Answer::Poisoned);
 
 const RUNS_NEW: Outcome = Outcome::Closure(OnceState::New);
 
 const RUNS_POISONED: Outcome = Outcome::Closure(OnceState::Poisoned);
-
-const OK: Does = Does::Turns(Turn::Ok);
-
-const ERR: Does = Does::Turns(Turn::Err);
-
-fn calls(call: OnceCall) -> Does {
-    Does::Calls(Call::Once { lock: 0, call })
-}
 
 #[test]
 fn a_call_of_a_once_begins_with_a_look(rt: HostRuntime) {
@@ -93,165 +96,136 @@ fn who_waits_for_a_run_tries_again_when_woken(rt: HostRuntime) {
     holds(&rt, again.retries_on(3) && again.looking().is_none());
 }
 
+const POISONS: &[Line] = &[
+    Calls(0, RUN, RUNS_NEW),
+    Rests(0, 4, Some((Owner::Running, 0))),
+    Takes(0, Turn::Err, Outcome::End(Answer::Failed)),
+    Calls(0, RUN, POISONED),
+    Calls(0, WAIT, POISONED),
+    Rests(0, 2, None),
+    Calls(0, RUN_FORCED, RUNS_POISONED),
+    Takes(0, Turn::Ok, DONE),
+    Calls(0, RUN, DONE),
+    Calls(0, WAIT, DONE),
+    Rests(0, 1, None),
+];
+
 #[test]
 fn a_run_that_fails_poisons_until_one_is_forced(rt: HostRuntime) -> Result<(), Fail> {
     let mut world = World::<ListQueues>::new(rt.alloc(), &[Kind::Once], 1)?;
-    let begins = [(0, calls(RUN), RUNS_NEW)];
-    plays(&rt, &mut world, &begins);
-    shows(&rt, &world, 0, rests(4, Some((Owner::Running, 0))));
-    let fails = [
-        (0, ERR, Outcome::End(Answer::Failed)),
-        (0, calls(RUN), POISONED),
-        (0, calls(WAIT), POISONED),
-    ];
-    plays(&rt, &mut world, &fails);
-    shows(&rt, &world, 0, rests(2, None));
-    let succeeds = [
-        (0, calls(RUN_FORCED), RUNS_POISONED),
-        (0, OK, DONE),
-        (0, calls(RUN), DONE),
-        (0, calls(WAIT), DONE),
-    ];
-    plays(&rt, &mut world, &succeeds);
-    shows(&rt, &world, 0, rests(1, None));
+    plays(&rt, &mut world, POISONS);
     Ok(())
 }
+
+const WAITS_BEFORE: &[Line] = &[
+    Calls(0, WAIT, Outcome::Sleep),
+    Shows(0, (8, None, Some((0, Want::Wait)), None)),
+    Calls(1, RUN, RUNS_NEW),
+    Shows(
+        0,
+        (12, Some((Owner::Running, 1)), Some((0, Want::Wait)), None),
+    ),
+    Takes(1, Turn::Ok, Outcome::Step),
+    Shows(0, (1, None, Some((0, Want::Wait)), Some((Debt::Owes, 1)))),
+    GoesOn(1, DONE),
+    GoesOn(0, DONE),
+    Rests(0, 1, None),
+];
 
 #[test]
 fn who_waits_before_the_run_sees_it_done(rt: HostRuntime) -> Result<(), Fail> {
     let mut world = World::<ListQueues>::new(rt.alloc(), &[Kind::Once], 2)?;
-    let waits = [(0, calls(WAIT), Outcome::Sleep)];
-    plays(&rt, &mut world, &waits);
-    let waiting = Shown {
-        word: 8,
-        owner: None,
-        waiter: Some((0, Want::Wait)),
-        debt: None,
-    };
-    shows(&rt, &world, 0, Some(waiting));
-    let begins = [(1, calls(RUN), RUNS_NEW)];
-    plays(&rt, &mut world, &begins);
-    let running = Shown {
-        word: 12,
-        owner: Some((Owner::Running, 1)),
-        ..waiting
-    };
-    shows(&rt, &world, 0, Some(running));
-    let closes = [(1, OK, Outcome::Step)];
-    plays(&rt, &mut world, &closes);
-    let owing = Shown {
-        word: 1,
-        debt: Some((Debt::Owes, 1)),
-        ..waiting
-    };
-    shows(&rt, &world, 0, Some(owing));
-    let ends = [(1, Does::GoesOn, DONE), (0, Does::GoesOn, DONE)];
-    plays(&rt, &mut world, &ends);
-    shows(&rt, &world, 0, rests(1, None));
+    plays(&rt, &mut world, WAITS_BEFORE);
     Ok(())
 }
+
+const STAYS_INSIDE: &[Line] = &[
+    Takes(0, Turn::Ok, Outcome::NotNow),
+    Calls(0, RUN, RUNS_NEW),
+    Takes(0, Turn::Go, Outcome::NotNow),
+    Takes(0, Turn::Spin, Outcome::NotNow),
+    Takes(0, Turn::Late, Outcome::NotNow),
+    Calls(0, RUN, Outcome::NotNow),
+    Takes(1, Turn::Ok, Outcome::NotNow),
+    Takes(1, Turn::Err, Outcome::NotNow),
+    Rests(0, 4, Some((Owner::Running, 0))),
+    Takes(0, Turn::Ok, DONE),
+    Takes(0, Turn::Err, Outcome::NotNow),
+];
 
 #[test]
 fn only_its_end_takes_a_thread_out_of_its_closure(rt: HostRuntime) -> Result<(), Fail> {
     let mut world = World::<ListQueues>::new(rt.alloc(), &[Kind::Once], 2)?;
-    let stays = [
-        (0, OK, Outcome::NotNow),
-        (0, calls(RUN), RUNS_NEW),
-        (0, Does::Turns(Turn::Go), Outcome::NotNow),
-        (0, Does::Turns(Turn::Spin), Outcome::NotNow),
-        (0, Does::Turns(Turn::Late), Outcome::NotNow),
-        (0, calls(RUN), Outcome::NotNow),
-        (1, OK, Outcome::NotNow),
-        (1, ERR, Outcome::NotNow),
-    ];
-    plays(&rt, &mut world, &stays);
-    shows(&rt, &world, 0, rests(4, Some((Owner::Running, 0))));
-    let ends = [(0, OK, DONE), (0, ERR, Outcome::NotNow)];
-    plays(&rt, &mut world, &ends);
+    plays(&rt, &mut world, STAYS_INSIDE);
     Ok(())
 }
+
+const WAKES_ALL: &[Line] = &[
+    Calls(0, RUN, RUNS_NEW),
+    Calls(1, RUN, Outcome::Sleep),
+    Calls(2, WAIT, Outcome::Sleep),
+    Calls(3, WAIT_FORCED, Outcome::Sleep),
+    Calls(4, RUN_FORCED, Outcome::Sleep),
+    Takes(0, Turn::Err, Outcome::Step),
+    Shows(
+        0,
+        (2, None, Some((1, Want::CallOnce)), Some((Debt::Owes, 0))),
+    ),
+    GoesOn(0, Outcome::End(Answer::Failed)),
+    Shows(0, (2, None, None, Some((Debt::Retries, 1)))),
+    GoesOn(1, POISONED),
+    GoesOn(2, POISONED),
+    GoesOn(4, RUNS_POISONED),
+    GoesOn(3, Outcome::Sleep),
+    Shows(
+        0,
+        (12, Some((Owner::Running, 4)), Some((3, Want::Wait)), None),
+    ),
+    Takes(4, Turn::Ok, Outcome::Step),
+    GoesOn(4, DONE),
+    GoesOn(3, DONE),
+    Rests(0, 1, None),
+];
 
 #[test]
 fn a_failed_run_wakes_all_and_a_forced_one_begins(rt: HostRuntime) -> Result<(), Fail> {
     let mut world = World::<ListQueues>::new(rt.alloc(), &[Kind::Once], 5)?;
-    let fails = [
-        (0, calls(RUN), RUNS_NEW),
-        (1, calls(RUN), Outcome::Sleep),
-        (2, calls(WAIT), Outcome::Sleep),
-        (3, calls(WAIT_FORCED), Outcome::Sleep),
-        (4, calls(RUN_FORCED), Outcome::Sleep),
-        (0, ERR, Outcome::Step),
-    ];
-    plays(&rt, &mut world, &fails);
-    let owing = Shown {
-        word: 2,
-        owner: None,
-        waiter: Some((1, Want::CallOnce)),
-        debt: Some((Debt::Owes, 0)),
-    };
-    shows(&rt, &world, 0, Some(owing));
-    let wakes = [(0, Does::GoesOn, Outcome::End(Answer::Failed))];
-    plays(&rt, &mut world, &wakes);
-    let woken = Shown {
-        waiter: None,
-        debt: Some((Debt::Retries, 1)),
-        ..owing
-    };
-    shows(&rt, &world, 0, Some(woken));
-    let begins = [
-        (1, Does::GoesOn, POISONED),
-        (2, Does::GoesOn, POISONED),
-        (4, Does::GoesOn, RUNS_POISONED),
-        (3, Does::GoesOn, Outcome::Sleep),
-    ];
-    plays(&rt, &mut world, &begins);
-    let running = Shown {
-        word: 12,
-        owner: Some((Owner::Running, 4)),
-        waiter: Some((3, Want::Wait)),
-        debt: None,
-    };
-    shows(&rt, &world, 0, Some(running));
-    let ends = [
-        (4, OK, Outcome::Step),
-        (4, Does::GoesOn, DONE),
-        (3, Does::GoesOn, DONE),
-    ];
-    plays(&rt, &mut world, &ends);
-    shows(&rt, &world, 0, rests(1, None));
+    plays(&rt, &mut world, WAKES_ALL);
     Ok(())
 }
+
+const BESIDE_NINE: &[Line] = &[
+    Calls(0, RUN, RUNS_NEW),
+    Calls(1, RUN, Outcome::Sleep),
+    Calls(2, WAIT_FORCED, Outcome::Sleep),
+    Calls(3, RUN_FORCED, Outcome::Sleep),
+    Calls(4, WAIT, Outcome::Sleep),
+    Calls(5, RUN, Outcome::Sleep),
+    Calls(6, WAIT_FORCED, Outcome::Sleep),
+    Calls(7, RUN_FORCED, Outcome::Sleep),
+    Calls(8, WAIT, Outcome::Sleep),
+    Calls(9, RUN, Outcome::Sleep),
+    Takes(0, Turn::Ok, Outcome::Step),
+    Shows(
+        0,
+        (1, None, Some((1, Want::CallOnce)), Some((Debt::Owes, 0))),
+    ),
+    GoesOn(0, DONE),
+    GoesOn(1, DONE),
+    GoesOn(2, DONE),
+    GoesOn(3, DONE),
+    GoesOn(4, DONE),
+    GoesOn(5, DONE),
+    GoesOn(6, DONE),
+    GoesOn(7, DONE),
+    GoesOn(8, DONE),
+    GoesOn(9, DONE),
+    Rests(0, 1, None),
+];
 
 #[test]
 fn a_run_beside_nine_waiters_wakes_them_all(rt: HostRuntime) -> Result<(), Fail> {
     let mut world = World::<ListQueues>::new(rt.alloc(), &[Kind::Once], 10)?;
-    let beside = [
-        (0, calls(RUN), RUNS_NEW),
-        (1, calls(RUN), Outcome::Sleep),
-        (2, calls(WAIT_FORCED), Outcome::Sleep),
-        (3, calls(RUN_FORCED), Outcome::Sleep),
-        (4, calls(WAIT), Outcome::Sleep),
-        (5, calls(RUN), Outcome::Sleep),
-        (6, calls(WAIT_FORCED), Outcome::Sleep),
-        (7, calls(RUN_FORCED), Outcome::Sleep),
-        (8, calls(WAIT), Outcome::Sleep),
-        (9, calls(RUN), Outcome::Sleep),
-        (0, OK, Outcome::Step),
-    ];
-    plays(&rt, &mut world, &beside);
-    let owing = Shown {
-        word: 1,
-        owner: None,
-        waiter: Some((1, Want::CallOnce)),
-        debt: Some((Debt::Owes, 0)),
-    };
-    shows(&rt, &world, 0, Some(owing));
-    let wakes = [(0, Does::GoesOn, DONE)];
-    plays(&rt, &mut world, &wakes);
-    for thread in 1..10 {
-        let ends = [(thread, Does::GoesOn, DONE)];
-        plays(&rt, &mut world, &ends);
-    }
-    shows(&rt, &world, 0, rests(1, None));
+    plays(&rt, &mut world, BESIDE_NINE);
     Ok(())
 }

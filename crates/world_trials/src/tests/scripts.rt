@@ -1,66 +1,41 @@
-//! Scripts: what threads do one after another, and what each of them is told.
+//! Scripts: what threads do one after another, what each of them is told, and what locks show
+//! meanwhile. A test is one script, since each statement of a test is proved.
 use super::same;
 use lot_base::{ListQueues, Want};
-use lot_world::{Call, Debt, Outcome, Owner, Step, Turn, World};
+use lot_world::{Answer, Call, Debt, Outcome, Owner, Step, Turn, World};
 use std::process::Abort;
 
-/// What a thread does in a line of a script.
-#[derive(Clone, Copy, Debug, PartialEq, Eq)]
-pub enum Does {
-    /// A call, alone from its beginning.
-    Calls(Call),
-    Turns(Turn),
-    /// It goes on alone, until it rests.
-    GoesOn,
-}
+pub const DONE: Outcome = Outcome::End(Answer::Ok);
 
 /// What a lock shows: its word, the first of its owners, of those that wait for it, and of those
 /// that owe it a wake or try it again.
-#[derive(Clone, Copy, Debug, PartialEq, Eq)]
-pub struct Shown {
-    pub word: u64,
-    pub owner: Option<(Owner, usize)>,
-    pub waiter: Option<(usize, Want)>,
-    pub debt: Option<(Debt, usize)>,
+type Shown = (
+    u64,
+    Option<(Owner, usize)>,
+    Option<(usize, Want)>,
+    Option<(Debt, usize)>,
+);
+
+#[derive(Clone, Copy)]
+pub enum Line {
+    /// A thread begins a call and goes on alone until it rests: it is told this.
+    Calls(usize, Call, Outcome),
+    /// A thread takes a turn.
+    Takes(usize, Turn, Outcome),
+    /// A thread goes on alone until it rests.
+    GoesOn(usize, Outcome),
+    /// A lock shows this.
+    Shows(usize, Shown),
+    /// A lock for which nobody waits shows this word and this owner.
+    Rests(usize, u64, Option<(Owner, usize)>),
 }
 
-/// What a lock shows that nobody waits for.
-pub fn rests(word: u64, owner: Option<(Owner, usize)>) -> Option<Shown> {
-    Some(Shown {
-        word,
-        owner,
-        waiter: None,
-        debt: None,
-    })
-}
-
-fn told(world: &mut World<ListQueues>, thread: usize, what: Does) -> Outcome {
-    match what {
-        Does::Calls(call) => {
-            let turn = Turn::Begin(call);
-            match world.step(Step { thread, turn }) {
-                Outcome::Step => world.solo(thread),
-                refused => refused,
-            }
-        }
-        Does::Turns(turn) => world.step(Step { thread, turn }),
-        Does::GoesOn => world.solo(thread),
+fn call_alone(world: &mut World<ListQueues>, thread: usize, call: Call) -> Outcome {
+    let turn = Turn::Begin(call);
+    match world.step(Step { thread, turn }) {
+        Outcome::Step => world.solo(thread),
+        refused => refused,
     }
-}
-
-/// The first line of the script whose thread is told something else, and what that is.
-pub fn surprise(
-    world: &mut World<ListQueues>,
-    script: &[(usize, Does, Outcome)],
-) -> Option<(usize, Outcome)> {
-    for (number, line) in script.iter().enumerate() {
-        let (thread, what, wanted) = *line;
-        let outcome = told(world, thread, what);
-        if outcome != wanted {
-            return Some((number, outcome));
-        }
-    }
-    None
 }
 
 /// What a lock that is there shows.
@@ -68,24 +43,45 @@ fn look(world: &World<ListQueues>, lock: usize) -> Option<Shown> {
     if lock >= world.locks() {
         return None;
     }
-    Some(Shown {
-        word: world.word(lock),
-        owner: world.owners(lock).next(),
-        waiter: world
-            .queue(lock)
-            .next()
-            .map(|waiter| (waiter.thread, waiter.want)),
-        debt: world.debt(lock).next(),
-    })
+    let waiter = world.queue(lock).next();
+    Some((
+        world.word(lock),
+        world.owners(lock).next(),
+        waiter.map(|waiter| (waiter.thread, waiter.want)),
+        world.debt(lock).next(),
+    ))
 }
 
-/// Each line of the script is told what stands beside it. All scripts share this one assertion,
-/// since each is proved where it stands.
-pub fn plays(rt: &impl Abort, world: &mut World<ListQueues>, script: &[(usize, Does, Outcome)]) {
+/// Whether a line goes as it says, and what its thread is told, if it has one.
+fn goes(world: &mut World<ListQueues>, line: Line) -> (bool, Option<Outcome>) {
+    let (told, wanted) = match line {
+        Line::Calls(thread, call, wanted) => (call_alone(world, thread, call), wanted),
+        Line::Takes(thread, turn, wanted) => (world.step(Step { thread, turn }), wanted),
+        Line::GoesOn(thread, wanted) => (world.solo(thread), wanted),
+        Line::Shows(lock, shown) => return (look(world, lock) == Some(shown), None),
+        Line::Rests(lock, word, owner) => {
+            return (look(world, lock) == Some((word, owner, None, None)), None);
+        }
+    };
+    (told == wanted, Some(told))
+}
+
+/// The first line of the script that goes otherwise, and what its thread is told, if it has one.
+pub fn surprise(
+    world: &mut World<ListQueues>,
+    script: &[Line],
+) -> Option<(usize, Option<Outcome>)> {
+    for (number, line) in script.iter().enumerate() {
+        let (as_written, told) = goes(world, *line);
+        if !as_written {
+            return Some((number, told));
+        }
+    }
+    None
+}
+
+/// Each line of the script goes as it says. All scripts share this one assertion, since each is
+/// proved where it stands.
+pub fn plays(rt: &impl Abort, world: &mut World<ListQueues>, script: &[Line]) {
     same(rt, surprise(world, script), None);
-}
-
-/// A lock shows this.
-pub fn shows(rt: &impl Abort, world: &World<ListQueues>, lock: usize, wanted: Option<Shown>) {
-    same(rt, look(world, lock), wanted);
 }
