@@ -20,6 +20,11 @@ use std::marker::Brand;
 use std::mem;
 use value_place::{Permit, PermitSlot};
 
+// The word of a mutex that somebody has, and of one for which others may wait besides.
+const LOCKED: u64 = 1;
+
+const LOCKED_AND_PARKED: u64 = 3;
+
 /// The ownership of a mutex whose permit has been taken out. It has to be given back, or the word
 /// stays owned. It takes no memory.
 pub struct OpenHeld {
@@ -169,7 +174,7 @@ impl LotWords {
             (λ taken. IsOpenOf self.now word taken.0 × (taken.1.id ≡ permit_of self.now word)) }
     {
         let words = &self.table.shared;
-        let seen = words.compare_exchange::<Enters<P>>(seat, word.index(), unlocked, 1);
+        let seen = words.compare_exchange::<Enters<P>>(seat, word.index(), unlocked, LOCKED);
         if seen != unlocked {
             return Err(seen);
         }
@@ -177,8 +182,8 @@ impl LotWords {
         Ok(self.open(owner, word))
     }
 
-    // A try where the parked bit has changed since the word was seen unlocked. It is inlined, since
-    // a call would be given a copy of the word, and that be made at each try.
+    // A try where the parked bit has changed since the word was seen unlocked. It is inlined: a
+    // call would be given a copy of the word, which each try would make beforehand.
     #[inline]
     fn try_again<P: PermitPick>(
         &self,
@@ -196,7 +201,7 @@ impl LotWords {
             × (taken.1.id ≡ permit_of self.now word)) }
     {
         let words = &self.table.shared;
-        let seen = words.fetch_or::<Ors<P>>(seat, word.index(), 1);
+        let seen = words.fetch_or::<Ors<P>>(seat, word.index(), LOCKED);
         if seen % 2 != 0 {
             return (seen, None);
         }
@@ -226,7 +231,7 @@ impl LotWords {
         if looked % 2 != 0 {
             return (looked, None);
         }
-        let seen = words.compare_exchange::<TriesSeen<P>>(seat, at, looked, looked + 1);
+        let seen = words.compare_exchange::<TriesSeen<P>>(seat, at, looked, looked + LOCKED);
         if seen == looked {
             let owner = self.keep::<P>(seat, word);
             return (seen, Some(self.open(owner, word)));
@@ -339,13 +344,13 @@ impl LotWords {
         // It is asked for nothing else, so that the flags of the subtraction answer it.
         if self.leave_picked::<Brand>(&mut owner, word, locked) == locked {
             self.go_on(seat, owner);
-            return Ok(1);
+            return Ok(LOCKED);
         }
         if locked == 0 {
             return Err(self.open(owner, word));
         }
         self.go_on(seat, owner);
-        Ok(3)
+        Ok(LOCKED_AND_PARKED)
     }
 
     /// The same where nobody waits. Where somebody does, the seat owns the mutex, and the permit is
@@ -372,13 +377,13 @@ impl LotWords {
         let mut owner = self.close(word, opened, permit);
         if self.leave_alone_picked::<Brand>(&mut owner, word, locked) == locked {
             self.go_on(seat, owner);
-            return Ok(1);
+            return Ok(LOCKED);
         }
         if locked == 0 {
             return Err(self.open(owner, word));
         }
         self.go_on_as(seat, owner);
-        Ok(3)
+        Ok(LOCKED_AND_PARKED)
     }
 
     /// Splits a mutex off that the seat's view names, with the permit of its value. It loads a

@@ -262,7 +262,8 @@ impl ParkingLot {
         let unlocked = u64::from(token.expected.unlocked);
         match self.words.enter_open(&mut token.seat, word, unlocked) {
             Ok(taken) => Ok(taken),
-            Err(seen) if unlocked == 0 => Err(seen),
+            // The token is asked again: what it expects is kept nowhere past the step.
+            Err(seen) if !token.is_recorded() => Err(seen),
             Err(_) => {
                 token.clear_record();
                 self.words.enter_open(&mut token.seat, word, 0)
