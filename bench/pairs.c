@@ -30,6 +30,12 @@ volatile uint8_t flag;
 #define UNLOCK_BY "mov (%[lock]),%%rax\n mov 8(%[lock]),%%rcx\n mov 8(%%rax),%%rdx\n" \
                   "mov 16(%[token]),%%rdi\n lock subq %%rdi,(%%rdx,%%rcx,8)\n"
 
+/* The same of a word that is found by one load: the lock has the address of the words. */
+#define LOCK_NEAR "mov (%[lock]),%%rsi\n mov 8(%[lock]),%%rdx\n mov $1,%%edi\n mov 8(%[token]),%%rax\n" \
+                  "lock cmpxchg %%rdi,(%%rsi,%%rdx,8)\n jne 9f\n"
+#define UNLOCK_NEAR "mov (%[lock]),%%rdx\n mov 8(%[lock]),%%rcx\n mov 16(%[token]),%%rdi\n lock subq %%rdi,(%%rdx,%%rcx,8)\n"
+#define LOOK_AT_COUNTER "mov (%[lock]),%%rax\n mov (%%rax),%%rax\n"
+
 #define LOOP(name, at, body) \
     __attribute__((noinline)) static void name##_##at(struct lock *lock, struct token *token, uint64_t n) { \
         __asm__ volatile(".p2align 6\n .rept " #at "\n nop\n .endr\n 1:\n" body "dec %[n]\n jne 1b\n 9:\n" \
@@ -53,14 +59,19 @@ volatile uint8_t flag;
     LOOP(dropped, at, LOCK SPLIT FLAG UNLOCK "jne 9f\n" FLAG) \
     LOOP(hold, at, LOCK SPLIT FLAG UNLOCK JOIN "jne 9f\n" FLAG) \
     LOOP(numbers, at, LOCK_BY SPLIT FLAG UNLOCK_BY JOIN "jne 9f\n" FLAG) \
+    LOOP(near, at, LOCK_NEAR LOOK_AT_COUNTER FLAG UNLOCK_NEAR LOOK_AT_COUNTER "jne 9f\n" FLAG) \
+    LOOP(near_alone, at, LOCK_NEAR FLAG UNLOCK_NEAR "jne 9f\n" FLAG) \
     LOOP(told, at, TOLD LOCK SPLIT FLAG TOLD UNLOCK JOIN "jne 9f\n" FLAG)
 AT(0) AT(4) AT(8) AT(12) AT(16) AT(20) AT(24) AT(28) AT(32) AT(36) AT(40) AT(44) AT(48) AT(52) AT(56) AT(60)
 
 typedef void (*loop)(struct lock *, struct token *, uint64_t);
-enum { POSITIONS = 16, LOOPS = 8, RUNS = 25, PAIRS = 300000 };
+enum { POSITIONS = 16, LOOPS = 10, RUNS = 25, PAIRS = 300000 };
 static const char *names[LOOPS] = {"a look in a register", "a look through a table", "a pair in a register", "a pair through a table",
-    "an owner apart, dropped", "an owner apart, joined", "a section told by numbers", "a told section"};
-#define ROW(at) {glance_##at, look_##at, bare_##at, take_##at, dropped_##at, hold_##at, numbers_##at, told_##at}
+    "an owner apart, dropped", "an owner apart, joined", "a section told by numbers", "the same, by one load", "by one load, no owner",
+    "a told section"};
+/* The loops of a lock that has the address of the words. */
+static int is_near(int which) { return which == 7 || which == 8; }
+#define ROW(at) {glance_##at, look_##at, bare_##at, take_##at, dropped_##at, hold_##at, numbers_##at, near_##at, near_alone_##at, told_##at}
 static const loop loops[POSITIONS][LOOPS] = {ROW(0), ROW(4), ROW(8), ROW(12), ROW(16), ROW(20), ROW(24), ROW(28),
     ROW(32), ROW(36), ROW(40), ROW(44), ROW(48), ROW(52), ROW(56), ROW(60)};
 
@@ -80,13 +91,14 @@ int main(void) {
     table->words = (uint64_t *)(page + 3072);
     lock->table = table;
     lock->index = 8;
+    struct lock near = {(struct table *)table->words, 8};
     for (int run = 0; run < RUNS; run++)
         for (int at = 0; at < POSITIONS; at++)
             for (int which = 0; which < LOOPS; which++) {
                 table->words[8] = 0;
                 *token = (struct token){.told = 0, .from = 0, .by = 1};
                 double start = now();
-                loops[at][which](lock, token, PAIRS);
+                loops[at][which](is_near(which) ? &near : lock, token, PAIRS);
                 double taken = (now() - start) / PAIRS;
                 if (run == 0 || taken < best[at][which]) best[at][which] = taken;
             }

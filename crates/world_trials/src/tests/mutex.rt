@@ -130,32 +130,9 @@ fn a_fair_mutex_is_handed_to_the_first_waiter(rt: HostRuntime) -> Result<(), Fai
     Ok(())
 }
 
-const TRIES: &[Step] = &[
-    Step {
-        thread: 0,
-        turn: Turn::Begin(TRY_LOCK),
-    },
-    Step {
-        thread: 0,
-        turn: Turn::Go,
-    },
-    Step {
-        thread: 2,
-        turn: Turn::Begin(TRY_LOCK),
-    },
-    Step {
-        thread: 2,
-        turn: Turn::Go,
-    },
-    Step {
-        thread: 7,
-        turn: Turn::Go,
-    },
-    Step {
-        thread: 0,
-        turn: Turn::Late,
-    },
-];
+fn turn(thread: usize, turn: Turn) -> Step {
+    Step { thread, turn }
+}
 
 const TOLD: &[Outcome] = &[
     Outcome::Sleep,
@@ -170,9 +147,17 @@ const TOLD: &[Outcome] = &[
 #[test]
 fn a_run_is_its_steps(rt: HostRuntime) -> Result<(), Fail> {
     let mut world = World::<ListQueues>::new(rt.alloc(), &[Kind::Mutex, Kind::Mutex], 3)?;
+    let steps = [
+        turn(0, Turn::Begin(TRY_LOCK)),
+        turn(0, Turn::Go),
+        turn(2, Turn::Begin(TRY_LOCK)),
+        turn(2, Turn::Go),
+        turn(7, Turn::Go),
+        turn(0, Turn::Late),
+    ];
     let mut outcomes = Vec::new(rt.alloc());
     outcomes.push(Outcome::Sleep).map_err(AllocError::from)?;
-    same(&rt, world.run(TRIES, &mut outcomes), Ok(()));
+    same(&rt, world.run(&steps, &mut outcomes), Ok(()));
     same(&rt, outcomes.as_slice(), TOLD);
     same(&rt, (world.threads(), world.locks()), (3, 2));
     same(&rt, world.kind(1), Kind::Mutex);
