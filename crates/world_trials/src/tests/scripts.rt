@@ -16,6 +16,7 @@ type Shown = (
     Option<(Debt, usize)>,
 );
 
+/// What happens in a script, and what comes of it.
 #[derive(Clone, Copy)]
 pub enum Line {
     /// A thread begins a call and goes on alone until it rests: it is told this.
