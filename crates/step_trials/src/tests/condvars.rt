@@ -18,6 +18,27 @@ const WAIT_TIMED: CondvarCall = CondvarCall::Wait {
     timed: true,
 };
 
+const ENTERS: Act = Act::Enter(Keys::One(6));
+
+/// It shows no mutex any more.
+const HIDES: Act = Act::Word {
+    lock: 3,
+    op: Op::Store(0),
+};
+
+const WAKES_NOBODY: Act = Act::Leave {
+    keys: Keys::Two(6, 10),
+    wakes: Wakes::Nobody,
+};
+
+const WAKES_THE_TAKEN: Act = Act::Leave {
+    keys: Keys::Two(6, 10),
+    wakes: Wakes::All(Note::Normal),
+};
+
+/// What a call is told, and what it does then, where a test asks.
+type Turn = (Reply, Option<Act>);
+
 /// Where a call beside the mutex 5 goes on from a place by a reply, which doesn't end it.
 fn onward(rt: &impl Abort, place: CondvarPlace, reply: Reply) -> CondvarPlace
     ensures { HasMutexKey result }
@@ -28,13 +49,6 @@ fn onward(rt: &impl Abort, place: CondvarPlace, reply: Reply) -> CondvarPlace
     }
 }
 
-/// And by another behind that.
-fn twice(rt: &impl Abort, place: CondvarPlace, first: Reply, second: Reply) -> CondvarPlace
-    ensures { HasMutexKey result }
-{
-    onward(rt, onward(rt, place, first), second)
-}
-
 /// This is what it does, of a call of the condition variable 3.
 fn does(rt: &impl Abort, place: CondvarPlace, act: Act)
     requires { HasMutexKey place }
@@ -42,17 +56,39 @@ fn does(rt: &impl Abort, place: CondvarPlace, act: Act)
     same(rt, place.act(3), act);
 }
 
+/// Where a call goes on behind some turns.
+fn follow(rt: &impl Abort, first: CondvarPlace, turns: &[Turn]) -> CondvarPlace
+    requires { HasMutexKey first }
+    ensures { HasMutexKey result }
+{
+    let mut place = first;
+    for (reply, act) in turns {
+        place = onward(rt, place, *reply);
+        if let Some(act) = act {
+            does(rt, place, *act);
+        }
+    }
+    place
+}
+
 /// So its call ends by a reply.
 fn ends(rt: &impl Abort, place: CondvarPlace, reply: Reply, answer: Answer) {
     ends_as(rt, &place.next(reply), answer);
 }
 
+const LEAVES: &[Turn] = &[
+    (Reply::Done, None),
+    (Reply::Value(0), None),
+    (Reply::Done, None),
+    (Reply::Done, None),
+];
+
 /// A thread that waits and has left the section, before its release.
 fn releases(rt: &impl Abort, call: CondvarCall) -> CondvarPlace
     ensures { HasMutexKey result }
 {
-    let stands = twice(rt, CondvarPlace::first(call), Reply::Done, Reply::Value(0));
-    twice(rt, stands, Reply::Done, Reply::Done)
+    let entered = onward(rt, CondvarPlace::first(call), Reply::Done);
+    follow(rt, entered, LEAVES)
 }
 
 /// A thread that waits asleep, with nobody in the queue of its mutex.
@@ -67,39 +103,61 @@ fn notifies(rt: &impl Abort, all: bool) -> CondvarPlace
     ensures { HasMutexKey result }
 {
     let first = CondvarPlace::first(CondvarCall::Notify { all });
-    twice(rt, first, Reply::Value(6), Reply::Done)
+    let found = onward(rt, first, Reply::Value(6));
+    onward(rt, found, Reply::Done)
 }
+
+const STANDS: &[Turn] = &[
+    (
+        Reply::Value(6),
+        Some(Act::Stand {
+            key: 6,
+            want: Want::Wait,
+        }),
+    ),
+    (Reply::Done, None),
+    (
+        Reply::Done,
+        Some(Act::Word {
+            lock: 5,
+            op: Op::Sub(1),
+        }),
+    ),
+    (Reply::Value(1), None),
+];
 
 #[test]
 fn a_wait_shows_its_mutex_stands_and_releases(rt: HostRuntime) {
     let enters = CondvarPlace::first(WAIT);
-    does(&rt, enters, Act::Enter(Keys::One(6)));
+    does(&rt, enters, ENTERS);
     holds(&rt, !enters.owes_on(3, 3));
     let shows = onward(&rt, enters, Reply::Done);
     let op = Op::Exchange { from: 0, to: 6 };
     does(&rt, shows, Act::Word { lock: 3, op });
     holds(&rt, shows.owes_on(3, 3) && !shows.owes_on(3, 5));
-    let stands = onward(&rt, shows, Reply::Value(6));
-    let want = Want::Wait;
-    does(&rt, stands, Act::Stand { key: 6, want });
-    let releases = twice(&rt, stands, Reply::Done, Reply::Done);
-    let op = Op::Sub(1);
-    does(&rt, releases, Act::Word { lock: 5, op });
-    let asleep = onward(&rt, releases, Reply::Value(1));
+    let asleep = follow(&rt, shows, STANDS);
     same(&rt, asleep.outcome(), Outcome::Sleep);
     holds(&rt, asleep.late_key(3).is_none());
 }
 
+const FINDS_ANOTHER_MUTEX: &[Turn] = &[
+    (Reply::Done, None),
+    (
+        Reply::Value(8),
+        Some(Act::Leave {
+            keys: Keys::One(6),
+            wakes: Wakes::Nobody,
+        }),
+    ),
+];
+
 #[test]
 fn a_wait_beside_another_mutex_is_refused(rt: HostRuntime) {
-    let refused = twice(&rt, CondvarPlace::first(WAIT), Reply::Done, Reply::Value(8));
-    let act = Act::Leave {
-        keys: Keys::One(6),
-        wakes: Wakes::Nobody,
-    };
-    does(&rt, refused, act);
+    let refused = follow(&rt, CondvarPlace::first(WAIT), FINDS_ANOTHER_MUTEX);
     ends(&rt, refused, Reply::Done, Answer::TwoMutexes);
 }
+
+const FINDS_ITS_MUTEX_LOCKED: &[Turn] = &[(Reply::Value(1), None), (Reply::Value(1), None)];
 
 #[test]
 fn who_is_woken_locks_its_mutex_again(rt: HostRuntime) {
@@ -111,16 +169,20 @@ fn who_is_woken_locks_its_mutex_again(rt: HostRuntime) {
     let op = Op::Exchange { from: 0, to: 1 };
     does(&rt, locks, Act::Word { lock: 5, op });
     ends(&rt, locks, Reply::Value(0), Answer::Ok);
-    let decides = twice(&rt, locks, Reply::Value(1), Reply::Value(1));
+    let decides = follow(&rt, locks, FINDS_ITS_MUTEX_LOCKED);
     holds(&rt, decides.looking().is_some());
 }
+
+const IS_HANDED_ITS_MUTEX: &[Turn] = &[
+    (Reply::TakenBy(1), None),
+    (Reply::HandedBy { by: 1, alone: true }, None),
+];
 
 #[test]
 fn who_is_moved_may_be_handed_its_mutex(rt: HostRuntime) {
     let moved = onward(&rt, asleep(&rt, WAIT_TIMED), Reply::MovedTo(10));
     same(&rt, moved.late_key(3), Some(10));
-    let handed = Reply::HandedBy { by: 1, alone: true };
-    let has = twice(&rt, moved, Reply::TakenBy(1), handed);
+    let has = follow(&rt, moved, IS_HANDED_ITS_MUTEX);
     same(&rt, has.outcome(), Outcome::Sleep);
     let accepts = onward(&rt, has, Reply::Woken(Note::HandOff));
     does(&rt, accepts, Act::Accept);
@@ -128,40 +190,60 @@ fn who_is_moved_may_be_handed_its_mutex(rt: HostRuntime) {
     ends(&rt, accepts, Reply::Done, Answer::Notified);
 }
 
+const SEES_WHO_WAITS: &[Turn] = &[
+    (Reply::MovedTo(10), None),
+    (Reply::Value(3), None),
+    (Reply::Done, None),
+];
+
+// It is the first of that queue, and takes itself.
+const TAKES_ITSELF: &[Turn] = &[
+    (Reply::TakenBy(0), None),
+    (
+        Reply::Took {
+            any: true,
+            none_left: false,
+        },
+        Some(Act::Leave {
+            keys: Keys::One(10),
+            wakes: Wakes::All(Note::Normal),
+        }),
+    ),
+    (Reply::Woken(Note::Normal), None),
+    (Reply::Done, None),
+];
+
 #[test]
 fn a_notification_may_come_beside_the_release(rt: HostRuntime) {
-    let moved = onward(&rt, releases(&rt, WAIT), Reply::MovedTo(10));
-    let takes = twice(&rt, moved, Reply::Value(3), Reply::Done);
+    let takes = follow(&rt, releases(&rt, WAIT), SEES_WHO_WAITS);
     holds(&rt, takes.owes_on(3, 5));
-    // It is the first of that queue, and takes itself.
-    let took = Reply::Took {
-        any: true,
-        none_left: false,
-    };
-    let leaves = twice(&rt, takes, Reply::TakenBy(0), took);
-    let wakes = Wakes::All(Note::Normal);
-    let keys = Keys::One(10);
-    does(&rt, leaves, Act::Leave { keys, wakes });
-    let locks = twice(&rt, leaves, Reply::Woken(Note::Normal), Reply::Done);
+    let locks = follow(&rt, takes, TAKES_ITSELF);
     holds(&rt, locks.retries());
     ends(&rt, locks, Reply::Value(0), Answer::Ok);
 }
+
+const GIVES_UP: &[Turn] = &[
+    (Reply::Late, Some(Act::Remove(6))),
+    (Reply::Removed { none_left: true }, Some(HIDES)),
+    (Reply::Value(6), None),
+    (Reply::Done, None),
+];
+
+const GIVES_UP_MOVED: &[Turn] = &[
+    (Reply::MovedTo(10), None),
+    (Reply::Late, Some(Act::Remove(10))),
+    (Reply::Removed { none_left: true }, None),
+    (Reply::Done, None),
+];
 
 #[test]
 fn a_timed_wait_leaves_the_queue_in_which_it_stands(rt: HostRuntime) {
     let late = asleep(&rt, WAIT_TIMED);
     same(&rt, late.late_key(3), Some(6));
-    let removes = onward(&rt, late, Reply::Late);
-    does(&rt, removes, Act::Remove(6));
-    let hides = onward(&rt, removes, Reply::Removed { none_left: true });
-    let op = Op::Store(0);
-    does(&rt, hides, Act::Word { lock: 3, op });
-    let locks = twice(&rt, hides, Reply::Value(6), Reply::Done);
+    let locks = follow(&rt, late, GIVES_UP);
     holds(&rt, !locks.retries());
     ends(&rt, locks, Reply::Value(0), Answer::TimedOut);
-    let moved = twice(&rt, late, Reply::MovedTo(10), Reply::Late);
-    does(&rt, moved, Act::Remove(10));
-    let locks = twice(&rt, moved, Reply::Removed { none_left: true }, Reply::Done);
+    let locks = follow(&rt, late, GIVES_UP_MOVED);
     ends(&rt, locks, Reply::Value(0), Answer::Notified);
 }
 
@@ -176,106 +258,122 @@ fn nobody_is_notified_where_nobody_waits(rt: HostRuntime) {
     }
 }
 
+/// A notification of waiters of the mutex 5 goes so from inside the sections, and answers this.
+fn notification(rt: &impl Abort, all: bool, turns: &[Turn], answer: Answer) {
+    let leaves = follow(rt, notifies(rt, all), turns);
+    ends(rt, leaves, Reply::Done, answer);
+}
+
+const MOVES_THE_FIRST: &[Turn] = &[
+    (Reply::Value(6), None),
+    (
+        Reply::Value(1),
+        Some(Act::Word {
+            lock: 5,
+            op: Op::Exchange { from: 1, to: 3 },
+        }),
+    ),
+    (
+        Reply::Value(1),
+        Some(Act::Requeue {
+            from: 6,
+            to: 10,
+            how: Requeue::One,
+        }),
+    ),
+    (
+        Reply::Requeued {
+            number: 1,
+            none_left: true,
+        },
+        Some(HIDES),
+    ),
+    (Reply::Value(6), Some(WAKES_NOBODY)),
+];
+
 #[test]
 fn the_first_is_moved_to_an_owned_mutex(rt: HostRuntime) {
     let again = notifies(&rt, false);
-    holds(
-        &rt,
-        again.owes_on(3, 3) && again.owes_on(3, 5) && !again.owes_on(3, 4),
-    );
-    let sets = twice(&rt, again, Reply::Value(6), Reply::Value(1));
-    let op = Op::Exchange { from: 1, to: 3 };
-    does(&rt, sets, Act::Word { lock: 5, op });
-    let moves = onward(&rt, sets, Reply::Value(1));
-    let how = Requeue::One;
-    does(
-        &rt,
-        moves,
-        Act::Requeue {
-            from: 6,
-            to: 10,
-            how,
-        },
-    );
-    let moved = Reply::Requeued {
-        number: 1,
-        none_left: true,
-    };
-    let clears = onward(&rt, moves, moved);
-    let op = Op::Store(0);
-    does(&rt, clears, Act::Word { lock: 3, op });
-    let leaves = onward(&rt, clears, Reply::Value(6));
-    let wakes = Wakes::Nobody;
-    let keys = Keys::Two(6, 10);
-    does(&rt, leaves, Act::Leave { keys, wakes });
-    ends(&rt, leaves, Reply::Done, Answer::Yes);
+    holds(&rt, again.owes_on(3, 3) && again.owes_on(3, 5));
+    holds(&rt, !again.owes_on(3, 4));
+    notification(&rt, false, MOVES_THE_FIRST, Answer::Yes);
 }
+
+const WAKES_THE_FIRST: &[Turn] = &[
+    (Reply::Value(6), None),
+    (Reply::Value(1), None),
+    (
+        Reply::Value(0),
+        Some(Act::Take {
+            key: 6,
+            whom: Whom::First,
+        }),
+    ),
+    (
+        Reply::Took {
+            any: true,
+            none_left: false,
+        },
+        Some(WAKES_THE_TAKEN),
+    ),
+];
 
 #[test]
 fn the_first_is_woken_where_the_mutex_is_free(rt: HostRuntime) {
-    let marks = onward(&rt, notifies(&rt, false), Reply::Value(6));
-    let takes = twice(&rt, marks, Reply::Value(1), Reply::Value(0));
-    let whom = Whom::First;
-    does(&rt, takes, Act::Take { key: 6, whom });
-    let took = Reply::Took {
-        any: true,
-        none_left: false,
-    };
-    let leaves = onward(&rt, takes, took);
-    let wakes = Wakes::All(Note::Normal);
-    let keys = Keys::Two(6, 10);
-    does(&rt, leaves, Act::Leave { keys, wakes });
-    ends(&rt, leaves, Reply::Done, Answer::Yes);
+    notification(&rt, false, WAKES_THE_FIRST, Answer::Yes);
 }
+
+const MOVES_THE_REST: &[Turn] = &[
+    (Reply::Value(6), Some(HIDES)),
+    (Reply::Value(6), None),
+    (
+        Reply::Value(0),
+        Some(Act::Requeue {
+            from: 6,
+            to: 10,
+            how: Requeue::TakeOneMoveRest,
+        }),
+    ),
+    (
+        Reply::Requeued {
+            number: 3,
+            none_left: true,
+        },
+        Some(Act::Word {
+            lock: 5,
+            op: Op::Or(2),
+        }),
+    ),
+    (Reply::Value(0), Some(WAKES_THE_TAKEN)),
+];
 
 #[test]
 fn all_are_moved_and_one_is_woken_where_the_mutex_is_free(rt: HostRuntime) {
-    let hides = onward(&rt, notifies(&rt, true), Reply::Value(6));
-    let op = Op::Store(0);
-    does(&rt, hides, Act::Word { lock: 3, op });
-    let moves = twice(&rt, hides, Reply::Value(6), Reply::Value(0));
-    let how = Requeue::TakeOneMoveRest;
-    does(
-        &rt,
-        moves,
-        Act::Requeue {
+    notification(&rt, true, MOVES_THE_REST, Answer::Number(3));
+}
+
+const MOVES_ALL: &[Turn] = &[
+    (Reply::Value(6), None),
+    (Reply::Value(6), None),
+    (Reply::Value(3), None),
+    (
+        Reply::Value(3),
+        Some(Act::Requeue {
             from: 6,
             to: 10,
-            how,
+            how: Requeue::All,
+        }),
+    ),
+    (
+        Reply::Requeued {
+            number: 2,
+            none_left: true,
         },
-    );
-    let moved = Reply::Requeued {
-        number: 3,
-        none_left: true,
-    };
-    let marks = onward(&rt, moves, moved);
-    let op = Op::Or(2);
-    does(&rt, marks, Act::Word { lock: 5, op });
-    let leaves = onward(&rt, marks, Reply::Value(0));
-    let wakes = Wakes::All(Note::Normal);
-    let keys = Keys::Two(6, 10);
-    does(&rt, leaves, Act::Leave { keys, wakes });
-    ends(&rt, leaves, Reply::Done, Answer::Number(3));
-}
+        None,
+    ),
+];
 
 #[test]
 fn all_are_moved_to_an_owned_mutex(rt: HostRuntime) {
-    let marks = twice(&rt, notifies(&rt, true), Reply::Value(6), Reply::Value(6));
-    let moves = twice(&rt, marks, Reply::Value(3), Reply::Value(3));
-    let how = Requeue::All;
-    does(
-        &rt,
-        moves,
-        Act::Requeue {
-            from: 6,
-            to: 10,
-            how,
-        },
-    );
-    let moved = Reply::Requeued {
-        number: 2,
-        none_left: true,
-    };
-    let leaves = onward(&rt, moves, moved);
-    ends(&rt, leaves, Reply::Done, Answer::Number(2));
+    notification(&rt, true, MOVES_ALL, Answer::Number(2));
 }

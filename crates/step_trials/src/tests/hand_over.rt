@@ -6,6 +6,7 @@ use lot_base::{Note, Op, Want};
 use lot_calls::{Access, RwLockCall};
 use lot_rwlock::Admission;
 use lot_rwlock_fair::{HandOverAt, RwLockCallPlace, Taken};
+use std::process::Abort;
 
 fn admission(recursive: bool) -> Admission {
     Admission {
@@ -30,7 +31,7 @@ fn taken(sharers: usize, successor: Option<Want>, none_left: bool) -> Taken {
     }
 }
 
-/// What an exclusive owner stores that has taken these.
+/// What an exclusive owner does that has taken these.
 fn stores(taken: Taken) -> Act {
     at(Access::Exclusive, HandOverAt::Store(taken)).act(0, admission(false))
 }
@@ -40,90 +41,77 @@ fn exchanges(taken: Taken, seen: u64) -> Act {
     at(Access::Upgradable, HandOverAt::Exchange { taken, seen }).act(0, admission(true))
 }
 
+/// An exclusive owner that has taken these stores this word.
+fn stores_word(rt: &impl Abort, taken: Taken, word: u64) {
+    let op = Op::Store(word);
+    holds(rt, stores(taken) == Act::HandOver { lock: 0, op });
+}
+
 #[test]
 fn an_exclusive_owner_stores_the_rights_of_those_it_took(rt: HostRuntime) {
-    let stored = |word: u64| Act::HandOver {
-        lock: 0,
-        op: Op::Store(word),
-    };
-    holds(
-        &rt,
-        stores(taken(1, Some(Want::Exclusive), false)) == stored(25),
-    );
-    holds(
-        &rt,
-        stores(taken(2, Some(Want::Exclusive), true)) == stored(40),
-    );
-    holds(
-        &rt,
-        stores(taken(2, Some(Want::Upgradable), true)) == stored(52),
-    );
-    holds(&rt, stores(taken(0, None, true)) == stored(0));
+    stores_word(&rt, taken(1, Some(Want::Exclusive), false), 25);
+    stores_word(&rt, taken(2, Some(Want::Exclusive), true), 40);
+    stores_word(&rt, taken(2, Some(Want::Upgradable), true), 52);
+    stores_word(&rt, taken(0, None, true), 0);
+}
+
+fn exchange(from: u64, to: u64) -> Op {
+    Op::Exchange { from, to }
 }
 
 #[test]
 fn an_upgradable_owner_hands_over_where_there_is_room(rt: HostRuntime) {
-    let handed = |from: u64, to: u64| Act::HandOver {
-        lock: 0,
-        op: Op::Exchange { from, to },
-    };
-    let released = |from: u64, to: u64| Act::Word {
-        lock: 0,
-        op: Op::Exchange { from, to },
-    };
     let upgradable = Some(Want::Upgradable);
-    holds(
-        &rt,
-        exchanges(taken(0, upgradable, false), 21) == handed(21, 21),
-    );
-    holds(
-        &rt,
-        exchanges(taken(0, upgradable, true), 69) == released(69, 48),
-    );
-    holds(&rt, exchanges(taken(0, None, true), 69) == handed(69, 48));
+    let (lock, op) = (0, exchange(21, 21));
+    let found = exchanges(taken(0, upgradable, false), 21);
+    holds(&rt, found == Act::HandOver { lock, op });
+    let op = exchange(69, 48);
+    let found = exchanges(taken(0, upgradable, true), 69);
+    holds(&rt, found == Act::Word { lock, op });
+    let found = exchanges(taken(0, None, true), 69);
+    holds(&rt, found == Act::HandOver { lock, op });
+}
+
+/// Whom an upgradable owner wakes that has taken another such for a word, and finds this one.
+fn wakes(seen: u64) -> Option<Wakes> {
+    let taken = taken(0, Some(Want::Upgradable), true);
+    let place = at(Access::Upgradable, HandOverAt::Exchange { taken, seen: 69 });
+    let Next::At(next) = place.next(admission(true), Reply::Value(seen)) else {
+        return None;
+    };
+    match next.act(0, admission(true)) {
+        Act::Leave { wakes, .. } => Some(wakes),
+        _ => None,
+    }
 }
 
 #[test]
 fn who_is_not_handed_the_lock_hears_a_normal_note(rt: HostRuntime) {
-    let place = at(
-        Access::Upgradable,
-        HandOverAt::Exchange {
-            taken: taken(0, Some(Want::Upgradable), true),
-            seen: 69,
-        },
-    );
-    let wakes = |seen: u64| match place.next(admission(true), Reply::Value(seen)) {
-        Next::At(place) => match place.act(0, admission(true)) {
-            Act::Leave { wakes, .. } => Some(wakes),
-            _ => None,
-        },
-        Next::End(_) => None,
-    };
     holds(&rt, wakes(69) == Some(Wakes::All(Note::Normal)));
     holds(&rt, wakes(53).is_none());
 }
 
 #[test]
 fn a_bump_begins_with_a_look(rt: HostRuntime) {
-    let load = Act::Word {
-        lock: 0,
-        op: Op::Load,
-    };
+    let (lock, op) = (0, Op::Load);
     for access in [Access::Shared, Access::Upgradable, Access::Exclusive] {
+        let first = RwLockCallPlace::first(RwLockCall::Bump(access));
         holds(
             &rt,
-            RwLockCallPlace::first(RwLockCall::Bump(access)).act(0, admission(false)) == load,
+            first.act(0, admission(false)) == Act::Word { lock, op },
         );
     }
-    let glance = RwLockCallPlace::first(RwLockCall::Bump(Access::Shared));
-    let goes_on = |recursive: bool, seen: u64| {
-        matches!(
-            glance.next(admission(recursive), Reply::Value(seen)),
-            Next::At(_)
-        )
-    };
-    holds(
-        &rt,
-        goes_on(false, 41) && !goes_on(true, 41) && goes_on(true, 25) && !goes_on(false, 33),
-    );
+}
+
+/// Whether the bump of a reader goes on that has seen this word.
+fn bumps_at(recursive: bool, seen: u64) -> bool {
+    let first = RwLockCallPlace::first(RwLockCall::Bump(Access::Shared));
+    let next = first.next(admission(recursive), Reply::Value(seen));
+    matches!(next, Next::At(_))
+}
+
+#[test]
+fn a_bump_goes_on_where_somebody_waits(rt: HostRuntime) {
+    holds(&rt, bumps_at(false, 41) && bumps_at(true, 25));
+    holds(&rt, !bumps_at(true, 41) && !bumps_at(false, 33));
 }

@@ -5,19 +5,57 @@ use lot_calls::{
 };
 use std::process::Abort;
 
+/// Limits, and whether each fits two threads.
+const LIMITS: &[(u64, bool)] = &[
+    (1, false),
+    (2, true),
+    (1152921504606846974, true),
+    (1152921504606846975, false),
+];
+
+const MUTEX_CALLS: &[MutexCall] = &[
+    MutexCall::Lock,
+    MutexCall::LockTimed,
+    MutexCall::TryLock,
+    MutexCall::Unlock,
+    MutexCall::UnlockFair,
+    MutexCall::Bump,
+];
+
+const ONCE_CALLS: &[OnceCall] = &[
+    OnceCall::CallOnce { forced: false },
+    OnceCall::Wait { forced: true },
+];
+
+const RWLOCK_CALLS: &[RwLockCall] = &[
+    RwLockCall::Enter {
+        access: Access::Shared,
+        patience: Patience::Try,
+    },
+    RwLockCall::Release(Access::Upgradable),
+    RwLockCall::Downgrade(Downgrade::ToShared),
+    RwLockCall::Upgrade(Patience::Timed),
+    RwLockCall::ReleaseFair(Access::Shared),
+    RwLockCall::Bump(Access::Exclusive),
+];
+
+/// These kinds have a call of the lock 3, and the others don't.
+fn belongs(rt: &impl Abort, call: Call, kinds: &[Kind], others: &[Kind]) {
+    same(rt, call.lock(), 3);
+    for kind in kinds {
+        holds(rt, kind.has_call(call));
+    }
+    for kind in others {
+        holds(rt, !kind.has_call(call));
+    }
+}
+
 #[test]
 fn a_limit_fits_from_the_threads_to_the_greatest(rt: HostRuntime) {
-    for (limit, fits) in [
-        (1, false),
-        (2, true),
-        (1152921504606846974, true),
-        (1152921504606846975, false),
-    ] {
-        let found = (
-            Kind::RwLock { limit }.fits(2),
-            Kind::Recursive { limit }.fits(2),
-        );
-        same(&rt, (limit, found), (limit, (fits, fits)));
+    for row in LIMITS {
+        let (limit, _) = *row;
+        same(&rt, (limit, Kind::RwLock { limit }.fits(2)), *row);
+        same(&rt, (limit, Kind::Recursive { limit }.fits(2)), *row);
     }
     for kind in [Kind::Mutex, Kind::Fair, Kind::Condvar, Kind::Once] {
         holds(&rt, kind.fits(1024));
@@ -26,101 +64,61 @@ fn a_limit_fits_from_the_threads_to_the_greatest(rt: HostRuntime) {
 
 #[test]
 fn both_mutexes_have_the_calls_of_a_mutex(rt: HostRuntime) {
-    for name in [
-        MutexCall::Lock,
-        MutexCall::LockTimed,
-        MutexCall::TryLock,
-        MutexCall::Unlock,
-        MutexCall::UnlockFair,
-        MutexCall::Bump,
-    ] {
-        let call = Call::Mutex {
-            lock: 3,
-            call: name,
-        };
-        same(&rt, call.lock(), 3);
-        holds(&rt, Kind::Mutex.has_call(call) && Kind::Fair.has_call(call));
-        holds(
-            &rt,
-            !Kind::Once.has_call(call) && !Kind::Condvar.has_call(call),
-        );
+    let kinds = [Kind::Mutex, Kind::Fair];
+    let others = [Kind::Once, Kind::Condvar];
+    for call in MUTEX_CALLS {
+        let (lock, call) = (3, *call);
+        belongs(&rt, Call::Mutex { lock, call }, &kinds, &others);
     }
 }
 
 #[test]
 fn a_once_has_its_calls(rt: HostRuntime) {
-    for name in [
-        OnceCall::CallOnce { forced: false },
-        OnceCall::Wait { forced: true },
-    ] {
-        let call = Call::Once {
-            lock: 3,
-            call: name,
-        };
-        same(&rt, call.lock(), 3);
-        holds(&rt, Kind::Once.has_call(call));
-        holds(
-            &rt,
-            !Kind::Mutex.has_call(call) && !Kind::Condvar.has_call(call),
-        );
+    let others = [Kind::Mutex, Kind::Condvar];
+    for call in ONCE_CALLS {
+        let (lock, call) = (3, *call);
+        belongs(&rt, Call::Once { lock, call }, &[Kind::Once], &others);
     }
 }
 
 #[test]
+fn both_reader_writer_locks_have_their_calls(rt: HostRuntime) {
+    let kinds = [Kind::RwLock { limit: 1 }, Kind::Recursive { limit: 1 }];
+    let others = [Kind::Mutex, Kind::Condvar];
+    for call in RWLOCK_CALLS {
+        let (lock, call) = (3, *call);
+        belongs(&rt, Call::RwLock { lock, call }, &kinds, &others);
+    }
+}
+
+/// A call of the condition variable 3 that needs a right to this lock.
+fn needs(rt: &impl Abort, call: Call, mutex: Option<usize>, right_to: usize) {
+    same(rt, call.mutex(), mutex);
+    same(rt, call.needs_right_to(), right_to);
+}
+
+#[test]
 fn a_wait_needs_a_right_to_its_mutex(rt: HostRuntime) {
+    let (mutex, timed) = (5, true);
     let wait = Call::Condvar {
         lock: 3,
-        call: CondvarCall::Wait {
-            mutex: 5,
-            timed: true,
-        },
+        call: CondvarCall::Wait { mutex, timed },
     };
-    same(&rt, (wait.lock(), wait.mutex()), (3, Some(5)));
-    same(&rt, wait.needs_right_to(), 5);
+    needs(&rt, wait, Some(5), 5);
+    belongs(&rt, wait, &[Kind::Condvar], &[Kind::Mutex]);
     let notify = Call::Condvar {
         lock: 3,
         call: CondvarCall::Notify { all: true },
     };
-    same(&rt, (notify.lock(), notify.mutex()), (3, None));
-    same(&rt, notify.needs_right_to(), 3);
-    holds(
-        &rt,
-        Kind::Condvar.has_call(wait) && Kind::Condvar.has_call(notify),
-    );
-    holds(
-        &rt,
-        !Kind::Mutex.has_call(wait) && !Kind::Once.has_call(notify),
-    );
+    needs(&rt, notify, None, 3);
+    belongs(&rt, notify, &[Kind::Condvar], &[Kind::Once]);
+}
+
+#[test]
+fn kinds_are_told_apart(rt: HostRuntime) {
     holds(
         &rt,
         Kind::Mutex.is_plain_mutex() && !Kind::Fair.is_plain_mutex(),
     );
     holds(&rt, Kind::Condvar.is_condvar() && !Kind::Once.is_condvar());
-}
-
-#[test]
-fn both_reader_writer_locks_have_their_calls(rt: HostRuntime) {
-    for name in [
-        RwLockCall::Enter {
-            access: Access::Shared,
-            patience: Patience::Try,
-        },
-        RwLockCall::Release(Access::Upgradable),
-        RwLockCall::Downgrade(Downgrade::ToShared),
-        RwLockCall::Upgrade(Patience::Timed),
-        RwLockCall::ReleaseFair(Access::Shared),
-        RwLockCall::Bump(Access::Exclusive),
-    ] {
-        let call = Call::RwLock {
-            lock: 3,
-            call: name,
-        };
-        same(&rt, call.lock(), 3);
-        holds(&rt, Kind::RwLock { limit: 1 }.has_call(call));
-        holds(&rt, Kind::Recursive { limit: 1 }.has_call(call));
-        holds(
-            &rt,
-            !Kind::Mutex.has_call(call) && !Kind::Condvar.has_call(call),
-        );
-    }
 }

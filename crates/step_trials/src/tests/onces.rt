@@ -6,6 +6,9 @@ use lot_calls::{Answer, OnceCall, OnceState, Outcome};
 use lot_once::OncePlace;
 use std::process::Abort;
 
+/// What a call is told, and what it does then, where a test asks.
+type Turn = (Reply, Option<Act>);
+
 /// Where a call goes on from a place by a reply, which doesn't end it.
 fn onward(rt: &impl Abort, place: OncePlace, reply: Reply) -> OncePlace {
     match place.next(reply) {
@@ -24,70 +27,114 @@ fn steps(rt: &impl Abort, place: OncePlace, op: Op) {
     does(rt, place, Act::Word { lock: 3, op });
 }
 
+/// Where a call goes on behind some turns.
+fn follow(rt: &impl Abort, first: OncePlace, turns: &[Turn]) -> OncePlace {
+    let mut place = first;
+    for (reply, act) in turns {
+        place = onward(rt, place, *reply);
+        if let Some(act) = act {
+            does(rt, place, *act);
+        }
+    }
+    place
+}
+
+const BEGINS: &[Turn] = &[
+    (
+        Reply::Value(8),
+        Some(Act::Word {
+            lock: 3,
+            op: Op::Exchange { from: 8, to: 12 },
+        }),
+    ),
+    (Reply::Value(8), None),
+];
+
+const CLOSES: &[Turn] = &[
+    (
+        Reply::Closed { succeeded: true },
+        Some(Act::Word {
+            lock: 3,
+            op: Op::Swap(1),
+        }),
+    ),
+    (Reply::Value(12), Some(Act::Enter(Keys::One(6)))),
+    (Reply::Done, None),
+    (
+        Reply::Took {
+            any: true,
+            none_left: true,
+        },
+        Some(Act::Leave {
+            keys: Keys::One(6),
+            wakes: Wakes::All(Note::Normal),
+        }),
+    ),
+];
+
 #[test]
 fn a_call_runs_its_closure_and_wakes_who_waits(rt: HostRuntime) {
     let loads = OncePlace::first(OnceCall::CallOnce { forced: false });
     steps(&rt, loads, Op::Load);
-    let decides = onward(&rt, loads, Reply::Value(8));
-    steps(&rt, decides, Op::Exchange { from: 8, to: 12 });
-    let runs = onward(&rt, decides, Reply::Value(8));
+    let runs = follow(&rt, loads, BEGINS);
     same(&rt, runs.outcome(), Outcome::Closure(OnceState::New));
-    let closes = onward(&rt, runs, Reply::Closed { succeeded: true });
-    steps(&rt, closes, Op::Swap(1));
-    let enters = onward(&rt, closes, Reply::Value(12));
-    does(&rt, enters, Act::Enter(Keys::One(6)));
-    let takes = onward(&rt, enters, Reply::Done);
-    let took = Reply::Took {
-        any: true,
-        none_left: true,
-    };
-    let leaves = onward(&rt, takes, took);
-    let leave = Act::Leave {
-        keys: Keys::One(6),
-        wakes: Wakes::All(Note::Normal),
-    };
-    does(&rt, leaves, leave);
+    let leaves = follow(&rt, runs, CLOSES);
     ends_as(&rt, &leaves.next(Reply::Done), Answer::Ok);
+}
+
+/// Whether a call of a poisoned `Once` ends with that.
+fn is_refused(call: OnceCall) -> bool {
+    let next = OncePlace::first(call).next(Reply::Value(2));
+    matches!(next, Next::End(Answer::Poisoned))
 }
 
 #[test]
 fn a_call_of_a_poisoned_once_goes_on_by_force_alone(rt: HostRuntime) {
-    for (forced, ends) in [(false, true), (true, false)] {
-        for call in [OnceCall::CallOnce { forced }, OnceCall::Wait { forced }] {
-            let next = OncePlace::first(call).next(Reply::Value(2));
-            let poisoned = matches!(next, Next::End(Answer::Poisoned));
-            same(&rt, poisoned, ends);
-        }
+    for forced in [false, true] {
+        same(&rt, is_refused(OnceCall::CallOnce { forced }), !forced);
+        same(&rt, is_refused(OnceCall::Wait { forced }), !forced);
     }
-    let decides = onward(
-        &rt,
-        OncePlace::first(OnceCall::CallOnce { forced: true }),
-        Reply::Value(2),
-    );
-    let runs = onward(&rt, decides, Reply::Value(2));
+}
+
+const BEGINS_POISONED: &[Turn] = &[(Reply::Value(2), None), (Reply::Value(2), None)];
+
+#[test]
+fn a_forced_run_that_fails_poisons_again(rt: HostRuntime) {
+    let looks = OncePlace::first(OnceCall::CallOnce { forced: true });
+    let runs = follow(&rt, looks, BEGINS_POISONED);
     same(&rt, runs.outcome(), Outcome::Closure(OnceState::Poisoned));
     let closes = onward(&rt, runs, Reply::Closed { succeeded: false });
     ends_as(&rt, &closes.next(Reply::Value(4)), Answer::Failed);
 }
 
+/// Where a wait decides that has seen a run.
+fn decides(rt: &impl Abort) -> OncePlace {
+    let looks = OncePlace::first(OnceCall::Wait { forced: false });
+    onward(rt, looks, Reply::Value(4))
+}
+
+#[test]
+fn who_waits_for_a_run_shows_it_or_looks_again(rt: HostRuntime) {
+    let decides = decides(&rt);
+    steps(&rt, decides, Op::Exchange { from: 4, to: 12 });
+    match decides.looking() {
+        Some(looks) => steps(&rt, looks, Op::Load),
+        None => panic!(rt; "it looks no more"),
+    }
+}
+
+const ENTERS: &[Turn] = &[
+    (Reply::Value(4), Some(Act::Enter(Keys::One(6)))),
+    (Reply::Done, None),
+];
+
+const FALLS_ASLEEP: &[Turn] = &[(Reply::Parked(true), None), (Reply::Done, None)];
+
 #[test]
 fn who_waits_sleeps_until_it_is_woken(rt: HostRuntime) {
-    let decides = onward(
-        &rt,
-        OncePlace::first(OnceCall::Wait { forced: false }),
-        Reply::Value(4),
-    );
-    steps(&rt, decides, Op::Exchange { from: 4, to: 12 });
-    let Some(looks) = decides.looking() else {
-        panic!(rt; "it looks no more");
-    };
-    steps(&rt, looks, Op::Load);
-    let enters = onward(&rt, decides, Reply::Value(4));
-    does(&rt, enters, Act::Enter(Keys::One(6)));
-    let checks = onward(&rt, enters, Reply::Done);
+    let checks = follow(&rt, decides(&rt), ENTERS);
     same(&rt, checks.wants(), Some(Want::Wait));
-    let leaves = onward(&rt, checks, Reply::Parked(true));
-    let asleep = onward(&rt, leaves, Reply::Done);
+    let asleep = follow(&rt, checks, FALLS_ASLEEP);
     same(&rt, asleep.outcome(), Outcome::Sleep);
     let again = onward(&rt, asleep, Reply::Woken(Note::Normal));
     holds(&rt, again.retries());

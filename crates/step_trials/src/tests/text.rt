@@ -12,7 +12,7 @@ use lot_text::{
 use std::process::Abort;
 
 /// Outcomes, as they are printed.
-const OUTCOMES: [(Outcome, &str); 18] = [
+const OUTCOMES: &[(Outcome, &str)] = &[
     (Outcome::NotNow, "7 not now\n"),
     (Outcome::Step, "7 step\n"),
     (Outcome::Sleep, "7 sleep\n"),
@@ -131,7 +131,7 @@ const TURNS: [(&str, NamedTurn); 6] = [
 ];
 
 /// Lines that begin a call, and lines that do one.
-const CALLS: [(&str, &str, MutexCall); 4] = [
+const CALLS: &[(&str, &str, MutexCall)] = &[
     ("1023 begin lock m", "1023 do lock m", MutexCall::Lock),
     (
         "1023 begin lock_timed m",
@@ -147,7 +147,7 @@ const CALLS: [(&str, &str, MutexCall); 4] = [
 ];
 
 /// Calls of a reader-writer lock, by their names.
-const RWLOCK_CALLS: [(&str, RwLockCall); 24] = [
+const RWLOCK_CALLS: &[(&str, RwLockCall)] = &[
     (
         "3 begin read m",
         RwLockCall::Enter {
@@ -265,7 +265,7 @@ const RWLOCK_CALLS: [(&str, RwLockCall); 24] = [
 ];
 
 /// Calls of a `Once`, by their names.
-const ONCE_CALLS: [(&str, OnceCall); 4] = [
+const ONCE_CALLS: &[(&str, OnceCall)] = &[
     ("3 begin call_once m", OnceCall::CallOnce { forced: false }),
     (
         "3 begin call_once_force m",
@@ -275,16 +275,40 @@ const ONCE_CALLS: [(&str, OnceCall); 4] = [
     ("3 begin wait_force m", OnceCall::Wait { forced: true }),
 ];
 
+/// Lines that name too few or too many locks: only a wait has a second name, and a timed one always
+/// has.
+const MALFORMED_WAITS: &[&str] = &[
+    "3 begin notify_one c m",
+    "3 begin lock c m",
+    "3 begin wait_force c m",
+    "3 begin wait c m m",
+    "3 begin wait c M",
+    "3 begin wait c ",
+    "3 begin wait_timed c",
+    "3 go c m x y",
+];
+
 // A line has this meaning, or none. All tests here share this one assertion, since each is proved
 // where it stands.
 fn means(rt: &impl Abort, line: &str, wanted: Option<Command>) {
     assert!(rt; meaning(line.as_bytes()) == wanted, "of {line:?}");
 }
 
+fn mean_nothing(rt: &impl Abort, lines: &[&str]) {
+    for line in lines {
+        means(rt, line, None);
+    }
+}
+
+// The lock of this name is there, of this kind.
+fn is_there(lock: &str, kind: Kind) -> Option<Command> {
+    let name = Name::from_word(lock.as_bytes())?;
+    Some(Command::Lock { name, kind })
+}
+
 // The lock m, of this kind.
 fn locks(kind: Kind) -> Option<Command> {
-    let name = Name::from_word(b"m")?;
-    Some(Command::Lock { name, kind })
+    is_there("m", kind)
 }
 
 // A thread takes this turn.
@@ -292,10 +316,15 @@ fn turns(thread: usize, turn: NamedTurn) -> Option<Command> {
     Some(Command::Turn { thread, turn })
 }
 
+// It begins this call of a lock.
+fn begins_of(thread: usize, call: NamedCall, lock: &str) -> Option<Command> {
+    let name = Name::from_word(lock.as_bytes())?;
+    turns(thread, NamedTurn::Begin { call, name })
+}
+
 // It begins this call of the lock m.
 fn begins(thread: usize, call: NamedCall) -> Option<Command> {
-    let name = Name::from_word(b"m")?;
-    turns(thread, NamedTurn::Begin { call, name })
+    begins_of(thread, call, "m")
 }
 
 // And makes it alone.
@@ -306,9 +335,7 @@ fn does(thread: usize, call: NamedCall) -> Option<Command> {
 
 #[test]
 fn malformed_lines_mean_nothing(rt: HostRuntime) {
-    for line in MALFORMED.iter() {
-        means(&rt, line, None);
-    }
+    mean_nothing(&rt, MALFORMED);
 }
 
 #[test]
@@ -319,12 +346,16 @@ fn each_form_has_its_meaning(rt: HostRuntime) {
     let many = Command::Threads(9_999_999_999_999_999_999);
     means(&rt, "threads 9999999999999999999", Some(many));
     means(&rt, "show", Some(Command::Show));
-    for (line, turn) in TURNS {
-        means(&rt, line, turns(7, turn));
+    for (line, turn) in TURNS.iter() {
+        means(&rt, line, turns(7, *turn));
     }
+}
+
+#[test]
+fn calls_of_a_mutex_have_their_meaning(rt: HostRuntime) {
     for (begin, alone, call) in CALLS {
-        means(&rt, begin, begins(1023, NamedCall::Mutex(call)));
-        means(&rt, alone, does(1023, NamedCall::Mutex(call)));
+        means(&rt, begin, begins(1023, NamedCall::Mutex(*call)));
+        means(&rt, alone, does(1023, NamedCall::Mutex(*call)));
     }
 }
 
@@ -343,7 +374,7 @@ fn limits_belong_to_reader_writer_locks(rt: HostRuntime) {
 #[test]
 fn reader_writer_calls_have_their_meaning(rt: HostRuntime) {
     for (line, call) in RWLOCK_CALLS {
-        means(&rt, line, begins(3, NamedCall::RwLock(call)));
+        means(&rt, line, begins(3, NamedCall::RwLock(*call)));
     }
 }
 
@@ -351,58 +382,43 @@ fn reader_writer_calls_have_their_meaning(rt: HostRuntime) {
 fn calls_of_a_once_have_their_meaning(rt: HostRuntime) {
     means(&rt, "lock m once", locks(Kind::Once));
     for (line, call) in ONCE_CALLS {
-        means(&rt, line, begins(3, NamedCall::Once(call)));
+        means(&rt, line, begins(3, NamedCall::Once(*call)));
     }
+}
+
+// It waits on the condition variable c with the mutex m.
+fn waits(timed: bool) -> Option<Command> {
+    let mutex = Name::from_word(b"m")?;
+    begins_of(3, NamedCall::Wait { mutex, timed }, "c")
 }
 
 #[test]
 fn calls_of_a_condition_variable_have_their_meaning(rt: HostRuntime) {
-    let c = Name::from_word(b"c");
-    let m = Name::from_word(b"m");
-    let (Some(name), Some(mutex)) = (c, m) else {
-        return;
+    let condvar = is_there("c", Kind::Condvar);
+    holds(&rt, condvar.is_some());
+    means(&rt, "lock c condvar", condvar);
+    let one = NamedCall::Notify { all: false };
+    means(&rt, "3 begin notify_one c", begins_of(3, one, "c"));
+    let all = NamedCall::Notify { all: true };
+    means(&rt, "3 begin notify_all c", begins_of(3, all, "c"));
+    means(&rt, "3 begin wait c m", waits(false));
+    means(&rt, "3 begin wait_timed c m", waits(true));
+    mean_nothing(&rt, MALFORMED_WAITS);
+}
+
+// Whether a name has the text of its word, and is another than that of all letters and digits but
+// the last.
+fn is_told_apart(word: &str) -> bool {
+    let Some(name) = Name::from_word(word.as_bytes()) else {
+        return false;
     };
-    let kind = Kind::Condvar;
-    means(&rt, "lock c condvar", Some(Command::Lock { name, kind }));
-    for (line, call) in [
-        ("3 begin notify_one c", NamedCall::Notify { all: false }),
-        ("3 begin notify_all c", NamedCall::Notify { all: true }),
-        (
-            "3 begin wait c m",
-            NamedCall::Wait {
-                mutex,
-                timed: false,
-            },
-        ),
-        (
-            "3 begin wait_timed c m",
-            NamedCall::Wait { mutex, timed: true },
-        ),
-    ] {
-        means(&rt, line, turns(3, NamedTurn::Begin { call, name }));
-    }
-    // Only a wait has a second name, and a timed one always has.
-    for line in [
-        "3 begin notify_one c m",
-        "3 begin lock c m",
-        "3 begin wait_force c m",
-        "3 begin wait c m m",
-        "3 begin wait c M",
-        "3 begin wait c ",
-        "3 begin wait_timed c",
-        "3 go c m x y",
-    ] {
-        means(&rt, line, None);
-    }
+    name.text() == word.as_bytes() && Some(name) != Name::from_word(b"abcdefghijklmno8")
 }
 
 #[test]
 fn names_are_told_apart(rt: HostRuntime) {
     for word in ["a", "z9", "abcdefghijklmno9"] {
-        let name = Name::from_word(word.as_bytes());
-        let is_same = name.map(|name| name.text() == word.as_bytes());
-        assert_eq!(rt; is_same, Some(true), "for {word}");
-        assert!(rt; name != Name::from_word(b"abcdefghijklmno8"));
+        assert!(rt; is_told_apart(word), "for {word}");
     }
 }
 
@@ -427,7 +443,7 @@ fn prints_outcomes(rt: HostRuntime) {
     for (outcome, want) in OUTCOMES {
         let mut page = Page::new();
         let mut text = Vec::new(rt.alloc());
-        print_turn(&mut page, &mut text, 7, outcome);
+        print_turn(&mut page, &mut text, 7, *outcome);
         page.finish(&mut text);
         same(&rt, text.as_slice(), want.as_bytes());
     }
