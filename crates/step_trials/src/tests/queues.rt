@@ -1,5 +1,5 @@
 //! The texts, and each call once with ample memory.
-ghost use Rattle.std.specs.Prelude.{◌≡◌, ◌<◌, IfOk, length};
+ghost use Rattle.std.specs.Prelude.{◌≡◌, ◌<◌, ◌≤◌, length, vec_capacity, vec_len};
 
 use super::{holds, same};
 use lot_base::{
@@ -11,16 +11,29 @@ use std::process::Abort;
 use std::test::Fail;
 
 /// Two lines: threads 0, 2 and 4 under key 6, and 1 and 3 under key 7.
-fn two_lines<Q: Queues + Drop>(alloc: Global) -> Result<Q, Fault>
-    ensures { IfOk result (λ queues. Q.capacity queues ≡ 8) }
+fn two_lines<Q: Queues + Drop, A: Abort>(rt: &A, alloc: Global) -> Q
+    ensures { Q.capacity result ≡ 8 }
 {
-    let mut queues = Q::with_capacity(alloc, 8)?;
+    let Ok(mut queues) = Q::with_capacity(alloc, 8) else {
+        panic!(rt; "no memory");
+    };
     queues.append(6, 0, Want::Exclusive);
     queues.append(7, 1, Want::Wait);
     queues.append(6, 2, Want::Shared);
     queues.append(7, 3, Want::CallOnce);
     queues.append(6, 4, Want::Upgradable);
-    Ok(queues)
+    queues
+}
+
+/// Room for those of a line behind the thread 7.
+fn behind_seven<A: Abort>(rt: &A, alloc: Global) -> Vec<usize>
+    ensures { (vec_len result ≡ 1) × (9 ≤ vec_capacity result) }
+{
+    let Ok(mut out) = Vec::with_capacity(alloc, 9) else {
+        panic!(rt; "no memory");
+    };
+    out.push_reserved(7);
+    out
 }
 
 /// So many stand under these keys.
@@ -48,8 +61,8 @@ fn firsts(rt: &impl Abort, queues: &mut ListQueues, wanted: &[(Key, Option<usize
 }
 
 #[test]
-fn first_in_first_out(rt: HostRuntime) -> Result<(), Fail> {
-    let mut queues: ListQueues = two_lines(rt.alloc())?;
+fn first_in_first_out(rt: HostRuntime) {
+    let mut queues: ListQueues = two_lines(&rt, rt.alloc());
     counts(&rt, &queues, &[(6, 3), (7, 2), (8, 0)]);
     let wanted = [
         (6, Some(0)),
@@ -61,12 +74,11 @@ fn first_in_first_out(rt: HostRuntime) -> Result<(), Fail> {
     ];
     firsts(&rt, &mut queues, &wanted);
     counts(&rt, &queues, &[(6, 1), (7, 0)]);
-    Ok(())
 }
 
 #[test]
-fn a_thread_stands_at_most_once(rt: HostRuntime) -> Result<(), Fail> {
-    let mut queues: ListQueues = two_lines(rt.alloc())?;
+fn a_thread_stands_at_most_once(rt: HostRuntime) {
+    let mut queues: ListQueues = two_lines(&rt, rt.alloc());
     stand(&rt, &queues, &[(0, Some(6)), (3, Some(7)), (5, None)]);
     queues.append(7, 0, Want::Wait);
     queues.append(6, 2, Want::Shared);
@@ -81,18 +93,15 @@ fn a_thread_stands_at_most_once(rt: HostRuntime) -> Result<(), Fail> {
         (7, None),
     ];
     firsts(&rt, &mut queues, &wanted);
-    Ok(())
 }
 
 #[test]
-fn takes_all_behind_what_was_taken(rt: HostRuntime) -> Result<(), Fail> {
-    let mut queues: ListQueues = two_lines(rt.alloc())?;
-    let mut out = Vec::with_capacity(rt.alloc(), 9)?;
-    out.push_reserved(7);
+fn takes_all_behind_what_was_taken(rt: HostRuntime) {
+    let mut queues: ListQueues = two_lines(&rt, rt.alloc());
+    let mut out = behind_seven(&rt, rt.alloc());
     queues.take_all(6, &mut out);
     same(&rt, out.as_slice(), [7, 0, 2, 4].as_slice());
     counts(&rt, &queues, &[(6, 0), (7, 2)]);
-    Ok(())
 }
 
 /// Whom a thread takes of a line with these wants, whose threads are numbered from 1, of a normal
@@ -168,10 +177,9 @@ fn picks_readers_and_the_first_who_wants_more(rt: HostRuntime) -> Result<(), Fai
 }
 
 #[test]
-fn takes_by_turns_and_keeps_the_order(rt: HostRuntime) -> Result<(), Fail> {
-    let mut queues: ListQueues = two_lines(rt.alloc())?;
-    let mut out = Vec::with_capacity(rt.alloc(), 9)?;
-    out.push_reserved(7);
+fn takes_by_turns_and_keeps_the_order(rt: HostRuntime) {
+    let mut queues: ListQueues = two_lines(&rt, rt.alloc());
+    let mut out = behind_seven(&rt, rt.alloc());
     queues.take_by(6, LockPicker::Readers, &mut out);
     same(&rt, out.as_slice(), [7, 2].as_slice());
     let wanted = [
@@ -182,7 +190,6 @@ fn takes_by_turns_and_keeps_the_order(rt: HostRuntime) -> Result<(), Fail> {
         (7, Some(3)),
     ];
     firsts(&rt, &mut queues, &wanted);
-    Ok(())
 }
 
 /// Under a key stand these threads with these wants. It answers the place behind them.
@@ -247,9 +254,9 @@ const REQUEUED: &[Requeued] = &[
 ];
 
 #[test]
-fn requeues_behind_the_last(rt: HostRuntime) -> Result<(), Fail> {
+fn requeues_behind_the_last(rt: HostRuntime) {
     for wanted in REQUEUED {
-        let mut queues: ListQueues = two_lines(rt.alloc())?;
+        let mut queues: ListQueues = two_lines(&rt, rt.alloc());
         same(&rt, queues.requeue(6, 7, wanted.op), wanted.answer);
         for (key, line) in [(6, wanted.from), (7, wanted.to)] {
             same(&rt, queues.count(key), line.len());
@@ -257,20 +264,20 @@ fn requeues_behind_the_last(rt: HostRuntime) -> Result<(), Fail> {
         }
         same(&rt, queues.requeue(8, 7, wanted.op), (None, 0));
     }
-    Ok(())
 }
 
 #[test]
-fn walks_a_line(rt: HostRuntime) -> Result<(), Fail> {
-    let queues: ListQueues = two_lines(rt.alloc())?;
+fn walks_a_line(rt: HostRuntime) {
+    let queues: ListQueues = two_lines(&rt, rt.alloc());
     let line = [
         (0, Want::Exclusive),
         (2, Want::Shared),
         (4, Want::Upgradable),
     ];
-    let place = line_is(&rt, &queues, 6, &line).ok_or("the line is too short")?;
-    same(&rt, queues.find(6, place), None);
-    Ok(())
+    match line_is(&rt, &queues, 6, &line) {
+        Some(place) => same(&rt, queues.find(6, place), None),
+        None => panic!(rt; "the line is too short"),
+    }
 }
 
 #[test]
@@ -297,12 +304,18 @@ const FAULTS: &[(Fault, &str)] = &[
     (Fault::LockCountFull, "ReentrantMutex lock count overflow"),
 ];
 
-#[test]
-fn tells_faults(rt: HostRuntime) -> Result<(), Fail> {
-    for (fault, text) in FAULTS {
-        same(&rt, fault.to_string(rt.alloc())?.as_str(), *text);
+fn tells(rt: &impl Abort, alloc: Global, fault: Fault, text: &str) {
+    match fault.to_string(alloc) {
+        Ok(told) => same(rt, told.as_str(), text),
+        Err(_) => panic!(rt; "no memory"),
     }
-    Ok(())
+}
+
+#[test]
+fn tells_faults(rt: HostRuntime) {
+    for (fault, text) in FAULTS {
+        tells(&rt, rt.alloc(), *fault, text);
+    }
 }
 
 /// What an operation makes of a word.
@@ -322,8 +335,9 @@ const OPERATIONS: &[(Op, u64, u64)] = &[
 
 #[test]
 fn applies_operations(rt: HostRuntime) {
-    for (op, seen, want) in OPERATIONS {
-        assert_eq!(rt; op.apply(*seen), *want, "{op:?} at {seen}");
+    for row in OPERATIONS {
+        let (op, seen, _) = *row;
+        same(&rt, (op, seen, op.apply(seen)), *row);
     }
 }
 

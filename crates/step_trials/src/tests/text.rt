@@ -9,6 +9,7 @@ use lot_calls::{
 use lot_text::{
     Command, LINE_LEN, Name, NamedCall, NamedTurn, Page, Reading, meaning, print_turn, read_line,
 };
+use std::alloc::Global;
 use std::process::Abort;
 
 /// Outcomes, as they are printed.
@@ -118,16 +119,6 @@ const MALFORMED: &[&str] = &[
     "shown",
     "sho",
     "drain",
-];
-
-/// Lines of a thread's turn without a call.
-const TURNS: [(&str, NamedTurn); 6] = [
-    ("7 go", NamedTurn::Go),
-    ("7 spin", NamedTurn::Spin),
-    ("7 late", NamedTurn::Late),
-    ("7 ok", NamedTurn::Ok),
-    ("7 err", NamedTurn::Err),
-    ("7 solo", NamedTurn::Solo),
 ];
 
 /// Lines that begin a call, and lines that do one.
@@ -291,7 +282,8 @@ const MALFORMED_WAITS: &[&str] = &[
 // A line has this meaning, or none. All tests here share this one assertion, since each is proved
 // where it stands.
 fn means(rt: &impl Abort, line: &str, wanted: Option<Command>) {
-    assert!(rt; meaning(line.as_bytes()) == wanted, "of {line:?}");
+    let as_wanted = meaning(line.as_bytes()) == wanted;
+    same(rt, (line, as_wanted), (line, true));
 }
 
 fn mean_nothing(rt: &impl Abort, lines: &[&str]) {
@@ -312,25 +304,21 @@ fn locks(kind: Kind) -> Option<Command> {
 }
 
 // A thread takes this turn.
-fn turns(thread: usize, turn: NamedTurn) -> Option<Command> {
-    Some(Command::Turn { thread, turn })
+fn takes(rt: &impl Abort, line: &str, thread: usize, turn: NamedTurn) {
+    means(rt, line, Some(Command::Turn { thread, turn }));
 }
 
-// It begins this call of a lock.
-fn begins_of(thread: usize, call: NamedCall, lock: &str) -> Option<Command> {
-    let name = Name::from_word(lock.as_bytes())?;
-    turns(thread, NamedTurn::Begin { call, name })
+// The thread 3 begins this call of a lock.
+fn begins_of(rt: &impl Abort, line: &str, call: NamedCall, lock: &str) {
+    match Name::from_word(lock.as_bytes()) {
+        Some(name) => takes(rt, line, 3, NamedTurn::Begin { call, name }),
+        None => panic!(rt; "{lock} is no name"),
+    }
 }
 
 // It begins this call of the lock m.
-fn begins(thread: usize, call: NamedCall) -> Option<Command> {
-    begins_of(thread, call, "m")
-}
-
-// And makes it alone.
-fn does(thread: usize, call: NamedCall) -> Option<Command> {
-    let name = Name::from_word(b"m")?;
-    turns(thread, NamedTurn::Do { call, name })
+fn begins(rt: &impl Abort, line: &str, call: NamedCall) {
+    begins_of(rt, line, call, "m");
 }
 
 #[test]
@@ -346,16 +334,39 @@ fn each_form_has_its_meaning(rt: HostRuntime) {
     let many = Command::Threads(9_999_999_999_999_999_999);
     means(&rt, "threads 9999999999999999999", Some(many));
     means(&rt, "show", Some(Command::Show));
-    for (line, turn) in TURNS.iter() {
-        means(&rt, line, turns(7, *turn));
-    }
+}
+
+#[test]
+fn turns_without_a_call_have_their_meaning(rt: HostRuntime) {
+    takes(&rt, "7 go", 7, NamedTurn::Go);
+    takes(&rt, "7 spin", 7, NamedTurn::Spin);
+    takes(&rt, "7 late", 7, NamedTurn::Late);
+    takes(&rt, "7 ok", 7, NamedTurn::Ok);
+    takes(&rt, "7 err", 7, NamedTurn::Err);
+    takes(&rt, "7 solo", 7, NamedTurn::Solo);
+}
+
+// The thread 1023 begins a call of the lock m, and does one alone.
+fn is_called(rt: &impl Abort, begin: &str, alone: &str, call: MutexCall) {
+    let Some(name) = Name::from_word(b"m") else {
+        panic!(rt; "m is no name");
+    };
+    let begins = NamedTurn::Begin {
+        call: NamedCall::Mutex(call),
+        name,
+    };
+    takes(rt, begin, 1023, begins);
+    let does = NamedTurn::Do {
+        call: NamedCall::Mutex(call),
+        name,
+    };
+    takes(rt, alone, 1023, does);
 }
 
 #[test]
 fn calls_of_a_mutex_have_their_meaning(rt: HostRuntime) {
     for (begin, alone, call) in CALLS {
-        means(&rt, begin, begins(1023, NamedCall::Mutex(*call)));
-        means(&rt, alone, does(1023, NamedCall::Mutex(*call)));
+        is_called(&rt, begin, alone, *call);
     }
 }
 
@@ -374,7 +385,7 @@ fn limits_belong_to_reader_writer_locks(rt: HostRuntime) {
 #[test]
 fn reader_writer_calls_have_their_meaning(rt: HostRuntime) {
     for (line, call) in RWLOCK_CALLS {
-        means(&rt, line, begins(3, NamedCall::RwLock(*call)));
+        begins(&rt, line, NamedCall::RwLock(*call));
     }
 }
 
@@ -382,14 +393,16 @@ fn reader_writer_calls_have_their_meaning(rt: HostRuntime) {
 fn calls_of_a_once_have_their_meaning(rt: HostRuntime) {
     means(&rt, "lock m once", locks(Kind::Once));
     for (line, call) in ONCE_CALLS {
-        means(&rt, line, begins(3, NamedCall::Once(*call)));
+        begins(&rt, line, NamedCall::Once(*call));
     }
 }
 
 // It waits on the condition variable c with the mutex m.
-fn waits(timed: bool) -> Option<Command> {
-    let mutex = Name::from_word(b"m")?;
-    begins_of(3, NamedCall::Wait { mutex, timed }, "c")
+fn waits(rt: &impl Abort, line: &str, timed: bool) {
+    match Name::from_word(b"m") {
+        Some(mutex) => begins_of(rt, line, NamedCall::Wait { mutex, timed }, "c"),
+        None => panic!(rt; "m is no name"),
+    }
 }
 
 #[test]
@@ -398,11 +411,11 @@ fn calls_of_a_condition_variable_have_their_meaning(rt: HostRuntime) {
     holds(&rt, condvar.is_some());
     means(&rt, "lock c condvar", condvar);
     let one = NamedCall::Notify { all: false };
-    means(&rt, "3 begin notify_one c", begins_of(3, one, "c"));
+    begins_of(&rt, "3 begin notify_one c", one, "c");
     let all = NamedCall::Notify { all: true };
-    means(&rt, "3 begin notify_all c", begins_of(3, all, "c"));
-    means(&rt, "3 begin wait c m", waits(false));
-    means(&rt, "3 begin wait_timed c m", waits(true));
+    begins_of(&rt, "3 begin notify_all c", all, "c");
+    waits(&rt, "3 begin wait c m", false);
+    waits(&rt, "3 begin wait_timed c m", true);
     mean_nothing(&rt, MALFORMED_WAITS);
 }
 
@@ -418,33 +431,48 @@ fn is_told_apart(word: &str) -> bool {
 #[test]
 fn names_are_told_apart(rt: HostRuntime) {
     for word in ["a", "z9", "abcdefghijklmno9"] {
-        assert!(rt; is_told_apart(word), "for {word}");
+        same(&rt, (word, is_told_apart(word)), (word, true));
     }
+}
+
+// Reads on, and comes to this.
+fn reads(rt: &impl Abort, bytes: &mut &[u8], line: &mut ArrayVec<u8, LINE_LEN>, wanted: Reading) {
+    same(rt, read_line(bytes, line), wanted);
 }
 
 #[test]
 fn reads_lines(rt: HostRuntime) {
     let mut line = ArrayVec::<u8, LINE_LEN>::new();
-    let mut reader = b"show\n\n0 go".as_slice();
+    let mut bytes = b"show\n\n0 go".as_slice();
     for want in [b"show".as_slice(), b"", b"0 go"] {
-        same(&rt, read_line(&mut reader, &mut line), Reading::Line);
+        reads(&rt, &mut bytes, &mut line, Reading::Line);
         same(&rt, line.as_slice(), want);
     }
-    same(&rt, read_line(&mut reader, &mut line), Reading::End);
+    reads(&rt, &mut bytes, &mut line, Reading::End);
+}
+
+#[test]
+fn reads_no_line_that_is_too_long(rt: HostRuntime) {
+    let mut line = ArrayVec::<u8, LINE_LEN>::new();
     let long = [b'x'; LINE_LEN + 1];
-    let mut reader = &long[..LINE_LEN];
-    same(&rt, read_line(&mut reader, &mut line), Reading::Line);
-    let mut reader = long.as_slice();
-    same(&rt, read_line(&mut reader, &mut line), Reading::TooLong);
+    let mut longest = &long[..LINE_LEN];
+    reads(&rt, &mut longest, &mut line, Reading::Line);
+    let mut longer = long.as_slice();
+    reads(&rt, &mut longer, &mut line, Reading::TooLong);
+}
+
+fn printed(alloc: Global, outcome: Outcome) -> Vec<u8> {
+    let mut page = Page::new();
+    let mut text = Vec::new(alloc);
+    print_turn(&mut page, &mut text, 7, outcome);
+    page.finish(&mut text);
+    text
 }
 
 #[test]
 fn prints_outcomes(rt: HostRuntime) {
     for (outcome, want) in OUTCOMES {
-        let mut page = Page::new();
-        let mut text = Vec::new(rt.alloc());
-        print_turn(&mut page, &mut text, 7, *outcome);
-        page.finish(&mut text);
+        let text = printed(rt.alloc(), *outcome);
         same(&rt, text.as_slice(), want.as_bytes());
     }
 }
