@@ -1,11 +1,11 @@
 //! Worlds of condition variables.
 use super::holds;
 use super::scripts::Line::{Calls, GoesOn, Rests, Shows, Takes};
-use super::scripts::{DONE, Line, plays, surprise};
+use super::scripts::{DONE, Line, plays, plays_anew, surprise, world_of};
 use lot_base::{ListQueues, Want};
 use lot_calls::CondvarCall;
 use lot_world::{Answer, Call, Debt, Kind, MutexCall, Outcome, Owner, Turn, World};
-use std::test::Fail;
+use std::process::Abort;
 
 const KINDS: &[Kind] = &[Kind::Mutex, Kind::Condvar];
 
@@ -53,24 +53,24 @@ const NOTIFY_ALL: Call = Call::Condvar {
     call: CondvarCall::Notify { all: true },
 };
 
-// A wait with another lock.
-fn wait_with(mutex: usize) -> Call {
-    Call::Condvar {
-        lock: CONDVAR,
-        call: CondvarCall::Wait {
-            mutex,
-            timed: false,
-        },
-    }
-}
+const WAIT_WITH_THE_OTHER: Call = Call::Condvar {
+    lock: 1,
+    call: CondvarCall::Wait {
+        mutex: 2,
+        timed: false,
+    },
+};
 
 // A call of another mutex.
-fn lock_of(lock: usize) -> Call {
-    Call::Mutex {
-        lock,
-        call: MutexCall::Lock,
-    }
-}
+const LOCK_THE_OTHER: Call = Call::Mutex {
+    lock: 2,
+    call: MutexCall::Lock,
+};
+
+const LOCK_THE_FAIR: Call = Call::Mutex {
+    lock: 3,
+    call: MutexCall::Lock,
+};
 
 // These threads lock the mutex and wait, in their order.
 fn all_wait(world: &mut World<ListQueues>, threads: usize) -> bool {
@@ -97,6 +97,18 @@ fn all_leave(world: &mut World<ListQueues>, threads: usize) -> bool {
     true
 }
 
+// These threads wait, and have the mutex in their order behind what happens meanwhile.
+fn wait_and_leave(
+    rt: &impl Abort,
+    world: &mut World<ListQueues>,
+    threads: usize,
+    meanwhile: &[Line],
+) {
+    holds(rt, all_wait(world, threads));
+    plays(rt, world, meanwhile);
+    holds(rt, all_leave(world, threads));
+}
+
 const IS_NOTIFIED: &[Line] = &[
     Calls(1, NOTIFY_ONE, Outcome::End(Answer::No)),
     Calls(1, NOTIFY_ALL, Outcome::End(Answer::Number(0))),
@@ -115,10 +127,8 @@ const IS_NOTIFIED: &[Line] = &[
 ];
 
 #[test]
-fn a_wait_ends_once_it_is_notified(rt: HostRuntime) -> Result<(), Fail> {
-    let mut world = World::<ListQueues>::new(rt.alloc(), KINDS, 2)?;
-    plays(&rt, &mut world, IS_NOTIFIED);
-    Ok(())
+fn a_wait_ends_once_it_is_notified(rt: HostRuntime) {
+    plays_anew(&rt, rt.alloc(), KINDS, 2, IS_NOTIFIED);
 }
 
 const TAKES_ITSELF: &[Line] = &[
@@ -156,10 +166,8 @@ const TAKES_ITSELF: &[Line] = &[
 ];
 
 #[test]
-fn a_wait_takes_and_wakes_itself(rt: HostRuntime) -> Result<(), Fail> {
-    let mut world = World::<ListQueues>::new(rt.alloc(), KINDS, 2)?;
-    plays(&rt, &mut world, TAKES_ITSELF);
-    Ok(())
+fn a_wait_takes_and_wakes_itself(rt: HostRuntime) {
+    plays_anew(&rt, rt.alloc(), KINDS, 2, TAKES_ITSELF);
 }
 
 const GIVES_UP: &[Line] = &[
@@ -208,10 +216,8 @@ const GIVES_UP: &[Line] = &[
 ];
 
 #[test]
-fn a_timed_wait_gives_up_in_the_queue_where_it_stands(rt: HostRuntime) -> Result<(), Fail> {
-    let mut world = World::<ListQueues>::new(rt.alloc(), KINDS, 3)?;
-    plays(&rt, &mut world, GIVES_UP);
-    Ok(())
+fn a_timed_wait_gives_up_in_the_queue_where_it_stands(rt: HostRuntime) {
+    plays_anew(&rt, rt.alloc(), KINDS, 3, GIVES_UP);
 }
 
 // The first of three has been told to try again, and the second is the first who waits.
@@ -224,6 +230,8 @@ const FIRST_IS_WOKEN: Line = Shows(
         Some((Debt::Retries, 0)),
     ),
 );
+
+const IS_UNLOCKED: &[Line] = &[Rests(MUTEX, 0, None)];
 
 const ALL_ARE_MOVED: &[Line] = &[
     Calls(3, LOCK, DONE),
@@ -247,13 +255,10 @@ const ALL_ARE_MOVED: &[Line] = &[
 ];
 
 #[test]
-fn beside_a_locked_mutex_all_are_moved(rt: HostRuntime) -> Result<(), Fail> {
-    let mut world = World::<ListQueues>::new(rt.alloc(), KINDS, 4)?;
-    holds(&rt, all_wait(&mut world, 3));
-    plays(&rt, &mut world, ALL_ARE_MOVED);
-    holds(&rt, all_leave(&mut world, 3));
-    plays(&rt, &mut world, &[Rests(MUTEX, 0, None)]);
-    Ok(())
+fn beside_a_locked_mutex_all_are_moved(rt: HostRuntime) {
+    let mut world = world_of(&rt, rt.alloc(), KINDS, 4);
+    wait_and_leave(&rt, &mut world, 3, ALL_ARE_MOVED);
+    plays(&rt, &mut world, IS_UNLOCKED);
 }
 
 const THE_REST_ARE_MOVED: &[Line] = &[
@@ -287,41 +292,55 @@ const OVERTAKEN: &[Line] = &[
 ];
 
 #[test]
-fn beside_an_unlocked_mutex_the_first_is_woken_and_the_rest_are_moved(
-    rt: HostRuntime,
-) -> Result<(), Fail> {
-    let mut world = World::<ListQueues>::new(rt.alloc(), KINDS, 5)?;
+fn beside_an_unlocked_mutex_the_first_is_woken_and_the_rest_are_moved(rt: HostRuntime) {
+    let mut world = world_of(&rt, rt.alloc(), KINDS, 5);
+    wait_and_leave(&rt, &mut world, 3, THE_REST_ARE_MOVED);
     holds(&rt, all_wait(&mut world, 3));
-    plays(&rt, &mut world, THE_REST_ARE_MOVED);
-    holds(&rt, all_leave(&mut world, 3) && all_wait(&mut world, 3));
     plays(&rt, &mut world, OVERTAKEN);
-    Ok(())
 }
 
 const SHOWS_THE_SECOND: Line = Shows(CONDVAR, (3, None, Some((1, Want::Wait)), None));
 
+const WAITS_WITH_THE_FIRST: &[Line] = &[
+    Calls(0, LOCK, DONE),
+    Calls(0, WAIT, Outcome::Sleep),
+    Calls(1, LOCK_THE_OTHER, DONE),
+    Calls(1, LOCK_THE_FAIR, DONE),
+];
+
+// What is no plain mutex, or isn't there.
+const NO_MUTEXES: [usize; 3] = [3, CONDVAR, 4];
+
+fn wait_with(mutex: usize) -> Call {
+    Call::Condvar {
+        lock: CONDVAR,
+        call: CondvarCall::Wait {
+            mutex,
+            timed: false,
+        },
+    }
+}
+
+const WAITS_WITH_THE_SECOND: &[Line] = &[
+    Calls(1, WAIT_WITH_THE_OTHER, Outcome::End(Answer::TwoMutexes)),
+    Rests(2, 1, Some((Owner::Exclusive, 1))),
+    // Once nobody waits with the first, it shows the second.
+    Calls(1, NOTIFY_ALL, Outcome::End(Answer::Number(1))),
+    Calls(1, WAIT_WITH_THE_OTHER, Outcome::Sleep),
+    GoesOn(0, DONE),
+    SHOWS_THE_SECOND,
+];
+
 #[test]
-fn a_second_mutex_is_refused(rt: HostRuntime) -> Result<(), Fail> {
+fn a_second_mutex_is_refused(rt: HostRuntime) {
     let kinds = [Kind::Mutex, Kind::Condvar, Kind::Mutex, Kind::Fair];
-    let mut world = World::<ListQueues>::new(rt.alloc(), &kinds, 2)?;
-    let script = [
-        Calls(0, LOCK, DONE),
-        Calls(0, WAIT, Outcome::Sleep),
-        Calls(1, lock_of(2), DONE),
-        Calls(1, lock_of(3), DONE),
-        Calls(1, wait_with(3), Outcome::NotNow),
-        Calls(1, wait_with(CONDVAR), Outcome::NotNow),
-        Calls(1, wait_with(4), Outcome::NotNow),
-        Calls(1, wait_with(2), Outcome::End(Answer::TwoMutexes)),
-        Rests(2, 1, Some((Owner::Exclusive, 1))),
-        // Once nobody waits with the first, it shows the second.
-        Calls(1, NOTIFY_ALL, Outcome::End(Answer::Number(1))),
-        Calls(1, wait_with(2), Outcome::Sleep),
-        GoesOn(0, DONE),
-        SHOWS_THE_SECOND,
-    ];
-    plays(&rt, &mut world, &script);
-    Ok(())
+    let mut world = world_of(&rt, rt.alloc(), &kinds, 2);
+    plays(&rt, &mut world, WAITS_WITH_THE_FIRST);
+    for lock in NO_MUTEXES {
+        let refused = [Calls(1, wait_with(lock), Outcome::NotNow)];
+        plays(&rt, &mut world, &refused);
+    }
+    plays(&rt, &mut world, WAITS_WITH_THE_SECOND);
 }
 
 const ALL_OF_600: &[Line] = &[
@@ -338,13 +357,9 @@ const BESIDE_AN_OWNER: &[Line] = &[
 ];
 
 #[test]
-fn all_of_600_waiters_have_the_mutex_in_their_order(rt: HostRuntime) -> Result<(), Fail> {
-    let mut world = World::<ListQueues>::new(rt.alloc(), KINDS, 601)?;
-    holds(&rt, all_wait(&mut world, 600));
-    plays(&rt, &mut world, ALL_OF_600);
-    holds(&rt, all_leave(&mut world, 600) && all_wait(&mut world, 600));
-    plays(&rt, &mut world, BESIDE_AN_OWNER);
-    holds(&rt, all_leave(&mut world, 600));
-    plays(&rt, &mut world, &[Rests(MUTEX, 0, None)]);
-    Ok(())
+fn all_of_600_waiters_have_the_mutex_in_their_order(rt: HostRuntime) {
+    let mut world = world_of(&rt, rt.alloc(), KINDS, 601);
+    wait_and_leave(&rt, &mut world, 600, ALL_OF_600);
+    wait_and_leave(&rt, &mut world, 600, BESIDE_AN_OWNER);
+    plays(&rt, &mut world, IS_UNLOCKED);
 }

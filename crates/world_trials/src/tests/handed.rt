@@ -1,11 +1,12 @@
 //! Reader-writer locks that are handed over.
 use super::same;
 use super::scripts::Line::{Calls, GoesOn, Rests, Shows};
-use super::scripts::{DONE, Line, plays};
+use super::scripts::{DONE, Line, plays, plays_anew, world_of};
 use lot_base::{ListQueues, Want};
 use lot_calls::{Access, Patience, RwLockCall};
 use lot_world::{Call, Kind, Outcome, Owner, World};
-use std::test::Fail;
+use std::alloc::Global;
+use std::process::Abort;
 
 const LOCK: Kind = Kind::RwLock { limit: 4 };
 
@@ -84,21 +85,23 @@ const FOLLOW: &[Line] = &[
     Rests(0, 8, Some((Owner::Exclusive, 3))),
 ];
 
+/// Who owns the lock, in the order in which they are listed.
+const OWNERS: &[(Owner, usize)] = &[(Owner::Pending, 3), (Owner::Shared, 1), (Owner::Shared, 2)];
+
+fn is_owned<A: Abort>(rt: &A, alloc: Global, world: &World<ListQueues>) {
+    assert!(rt; world.locks() == 1);
+    match world.owners(0).collect::<Vec<(Owner, usize)>>(alloc) {
+        Ok(owners) => same(rt, owners.as_slice(), OWNERS),
+        Err(_) => panic!(rt; "no memory"),
+    }
+}
+
 #[test]
-fn a_fair_release_hands_the_lock_to_readers_and_the_writer_behind_them(
-    rt: HostRuntime,
-) -> Result<(), Fail> {
-    let mut world = World::<ListQueues>::new(rt.alloc(), &[LOCK], 4)?;
+fn a_fair_release_hands_the_lock_to_readers_and_the_writer_behind_them(rt: HostRuntime) {
+    let mut world = world_of(&rt, rt.alloc(), &[LOCK], 4);
     plays(&rt, &mut world, HANDS_OVER);
-    let owners: Vec<(Owner, usize)> = if world.locks() == 1 {
-        world.owners(0).collect(rt.alloc())?
-    } else {
-        Vec::new(rt.alloc())
-    };
-    let wanted = [(Owner::Pending, 3), (Owner::Shared, 1), (Owner::Shared, 2)];
-    same(&rt, owners.as_slice(), wanted.as_slice());
+    is_owned(&rt, rt.alloc(), &world);
     plays(&rt, &mut world, FOLLOW);
-    Ok(())
 }
 
 const GIVES_WAY: &[Line] = &[
@@ -130,10 +133,8 @@ const GIVES_WAY: &[Line] = &[
 ];
 
 #[test]
-fn a_bump_enters_again_behind_those_to_whom_it_gave_way(rt: HostRuntime) -> Result<(), Fail> {
-    let mut world = World::<ListQueues>::new(rt.alloc(), &[LOCK], 3)?;
-    plays(&rt, &mut world, GIVES_WAY);
-    Ok(())
+fn a_bump_enters_again_behind_those_to_whom_it_gave_way(rt: HostRuntime) {
+    plays_anew(&rt, rt.alloc(), &[LOCK], 3, GIVES_WAY);
 }
 
 const LETS_GO: &[Line] = &[
@@ -152,8 +153,6 @@ const LETS_GO: &[Line] = &[
 ];
 
 #[test]
-fn a_fair_release_that_nobody_waits_for_lets_the_lock_go(rt: HostRuntime) -> Result<(), Fail> {
-    let mut world = World::<ListQueues>::new(rt.alloc(), &[LOCK], 2)?;
-    plays(&rt, &mut world, LETS_GO);
-    Ok(())
+fn a_fair_release_that_nobody_waits_for_lets_the_lock_go(rt: HostRuntime) {
+    plays_anew(&rt, rt.alloc(), &[LOCK], 2, LETS_GO);
 }

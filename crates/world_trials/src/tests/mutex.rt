@@ -1,12 +1,12 @@
 //! Worlds of mutexes.
 use super::scripts::Line::{Calls, GoesOn, Rests, Shows, Takes};
-use super::scripts::{DONE, Line, plays};
+use super::scripts::{DONE, Line, plays, plays_anew, runs, world_of};
 use super::{holds, same};
 use lot_base::{ListQueues, Want};
 use lot_steps::Owners;
 use lot_world::{Answer, Call, Debt, Kind, MutexCall, Outcome, Owner, OwnersOf, Step, Turn, World};
-use std::alloc::AllocError;
-use std::test::Fail;
+use std::alloc::Global;
+use std::process::Abort;
 
 const LOCK: Call = Call::Mutex {
     lock: 0,
@@ -63,28 +63,30 @@ const WAKES_A_WAITER: &[Line] = &[
 ];
 
 #[test]
-fn a_waiter_is_woken_by_the_release(rt: HostRuntime) -> Result<(), Fail> {
-    let mut world = World::<ListQueues>::new(rt.alloc(), &[Kind::Mutex], 2)?;
-    plays(&rt, &mut world, WAKES_A_WAITER);
-    Ok(())
+fn a_waiter_is_woken_by_the_release(rt: HostRuntime) {
+    plays_anew(&rt, rt.alloc(), &[Kind::Mutex], 2, WAKES_A_WAITER);
 }
 
+/// The owners of a lock, of which the upgradable one is 2, and the others share it.
+const LISTED: &[(Owner, usize)] = &[
+    (Owner::Upgradable, 2),
+    (Owner::Shared, 0),
+    (Owner::Shared, 1),
+    (Owner::Shared, 1),
+];
+
 #[test]
-fn who_shares_is_listed_behind_the_owners(rt: HostRuntime) -> Result<(), Fail> {
+fn who_shares_is_listed_behind_the_owners(rt: HostRuntime) {
     let owners = Owners {
         upgradable: Some(2),
         ..Owners::NOBODY
     };
     let shares = [1, 2, 0];
-    let listed: Vec<(Owner, usize)> = OwnersOf::new(owners, shares.as_slice()).collect(rt.alloc())?;
-    let wanted = [
-        (Owner::Upgradable, 2),
-        (Owner::Shared, 0),
-        (Owner::Shared, 1),
-        (Owner::Shared, 1),
-    ];
-    same(&rt, listed.as_slice(), wanted.as_slice());
-    Ok(())
+    let owners = OwnersOf::new(owners, shares.as_slice());
+    match owners.collect::<Vec<(Owner, usize)>>(rt.alloc()) {
+        Ok(listed) => same(&rt, listed.as_slice(), LISTED),
+        Err(_) => panic!(rt; "no memory"),
+    }
 }
 
 const HANDS_OVER: &[Line] = &[
@@ -124,15 +126,36 @@ const HANDS_OVER: &[Line] = &[
 ];
 
 #[test]
-fn a_fair_mutex_is_handed_to_the_first_waiter(rt: HostRuntime) -> Result<(), Fail> {
-    let mut world = World::<ListQueues>::new(rt.alloc(), &[Kind::Fair], 3)?;
-    plays(&rt, &mut world, HANDS_OVER);
-    Ok(())
+fn a_fair_mutex_is_handed_to_the_first_waiter(rt: HostRuntime) {
+    plays_anew(&rt, rt.alloc(), &[Kind::Fair], 3, HANDS_OVER);
 }
 
-fn turn(thread: usize, turn: Turn) -> Step {
-    Step { thread, turn }
-}
+const RUN: &[Step] = &[
+    Step {
+        thread: 0,
+        turn: Turn::Begin(TRY_LOCK),
+    },
+    Step {
+        thread: 0,
+        turn: Turn::Go,
+    },
+    Step {
+        thread: 2,
+        turn: Turn::Begin(TRY_LOCK),
+    },
+    Step {
+        thread: 2,
+        turn: Turn::Go,
+    },
+    Step {
+        thread: 7,
+        turn: Turn::Go,
+    },
+    Step {
+        thread: 0,
+        turn: Turn::Late,
+    },
+];
 
 const TOLD: &[Outcome] = &[
     Outcome::Sleep,
@@ -144,25 +167,24 @@ const TOLD: &[Outcome] = &[
     Outcome::NotNow,
 ];
 
+/// The run tells its outcomes behind what was told before.
+fn tells<A: Abort>(rt: &A, alloc: Global, world: &mut World<ListQueues>) {
+    let mut outcomes = Vec::new(alloc);
+    if outcomes.push(Outcome::Sleep).is_err() {
+        panic!(rt; "no memory");
+    }
+    runs(rt, world, RUN, &mut outcomes);
+    same(rt, outcomes.as_slice(), TOLD);
+}
+
+const STRANGER: &[Line] = &[Rests(1, 0, None), GoesOn(9, Outcome::NotNow)];
+
 #[test]
-fn a_run_is_its_steps(rt: HostRuntime) -> Result<(), Fail> {
-    let mut world = World::<ListQueues>::new(rt.alloc(), &[Kind::Mutex, Kind::Mutex], 3)?;
-    let steps = [
-        turn(0, Turn::Begin(TRY_LOCK)),
-        turn(0, Turn::Go),
-        turn(2, Turn::Begin(TRY_LOCK)),
-        turn(2, Turn::Go),
-        turn(7, Turn::Go),
-        turn(0, Turn::Late),
-    ];
-    let mut outcomes = Vec::new(rt.alloc());
-    outcomes.push(Outcome::Sleep).map_err(AllocError::from)?;
-    same(&rt, world.run(&steps, &mut outcomes), Ok(()));
-    same(&rt, outcomes.as_slice(), TOLD);
-    same(&rt, (world.threads(), world.locks()), (3, 2));
+fn a_run_is_its_steps(rt: HostRuntime) {
+    let mut world = world_of(&rt, rt.alloc(), &[Kind::Mutex, Kind::Mutex], 3);
+    tells(&rt, rt.alloc(), &mut world);
+    assert!(rt; world.threads() == 3 && world.locks() == 2);
     same(&rt, world.kind(1), Kind::Mutex);
     holds(&rt, world.place(2).is_idle());
-    let stranger = [Rests(1, 0, None), GoesOn(9, Outcome::NotNow)];
-    plays(&rt, &mut world, &stranger);
-    Ok(())
+    plays(&rt, &mut world, STRANGER);
 }

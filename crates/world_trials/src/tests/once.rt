@@ -1,13 +1,13 @@
 //! Worlds of a `Once`.
 use super::scripts::Line::{Calls, GoesOn, Rests, Shows, Takes};
-use super::scripts::{DONE, Line, plays};
+use super::scripts::{DONE, Line, plays_anew};
+use super::steps::{act_at, comes_to};
 use super::{holds, same};
-use lot_base::{Keys, ListQueues, Note, Want};
+use lot_base::{Keys, Note, Want};
 use lot_calls::{OnceCall, OnceState};
 use lot_steps::lot_once::{LookAt, OncePlace, RunAt};
-use lot_steps::{Act, Answer, Call, Kind, Op, Owners, Phase, Place, Reply, advance, has_right};
-use lot_world::{Debt, Outcome, Owner, Turn, World};
-use std::test::Fail;
+use lot_steps::{Act, Answer, Call, Kind, Op, Owners, Phase, Place, Reply, has_right};
+use lot_world::{Debt, Outcome, Owner, Turn};
 
 const CALL: Call = Call::Once {
     lock: 3,
@@ -45,19 +45,11 @@ fn a_call_of_a_once_begins_with_a_look(rt: HostRuntime) {
     holds(&rt, has_right(CALL, 0, Owners::NOBODY, 0));
     let start = Place::first(Kind::Once, CALL);
     holds(&rt, !start.is_idle());
-    same(
-        &rt,
-        start.act(),
-        Act::Word {
-            lock: 3,
-            op: Op::Load,
-        },
-    );
-    let (_, act) = advance(start, Reply::Value(0));
+    let (lock, op) = (3, Op::Load);
+    same(&rt, act_at(&rt, start), Act::Word { lock, op });
     let op = Op::Exchange { from: 0, to: 4 };
-    same(&rt, act, Act::Word { lock: 3, op });
-    let (end, act) = advance(start, Reply::Value(1));
-    same(&rt, act, Act::End(Answer::Ok));
+    comes_to(&rt, start, Reply::Value(0), Act::Word { lock, op });
+    let end = comes_to(&rt, start, Reply::Value(1), Act::End(Answer::Ok));
     holds(&rt, end.is_idle());
 }
 
@@ -72,11 +64,9 @@ fn the_end_of_a_run_owes_a_wake_to_who_waits(rt: HostRuntime) {
     };
     let running = Owners::NOBODY.with_phase(Phase::InProgress(1));
     same(&rt, close.owners_after(1, 12, running).phase, Phase::Done);
-    let (enter, act) = advance(close, Reply::Value(12));
-    same(&rt, act, Act::Enter(Keys::One(6)));
+    let enter = comes_to(&rt, close, Reply::Value(12), Act::Enter(Keys::One(6)));
     holds(&rt, enter.owes_on(3) && !enter.owes_on(2));
-    let (_, act) = advance(close, Reply::Value(4));
-    same(&rt, act, Act::End(Answer::Ok));
+    comes_to(&rt, close, Reply::Value(4), Act::End(Answer::Ok));
 }
 
 #[test]
@@ -111,10 +101,8 @@ const POISONS: &[Line] = &[
 ];
 
 #[test]
-fn a_run_that_fails_poisons_until_one_is_forced(rt: HostRuntime) -> Result<(), Fail> {
-    let mut world = World::<ListQueues>::new(rt.alloc(), &[Kind::Once], 1)?;
-    plays(&rt, &mut world, POISONS);
-    Ok(())
+fn a_run_that_fails_poisons_until_one_is_forced(rt: HostRuntime) {
+    plays_anew(&rt, rt.alloc(), &[Kind::Once], 1, POISONS);
 }
 
 const WAITS_BEFORE: &[Line] = &[
@@ -133,10 +121,8 @@ const WAITS_BEFORE: &[Line] = &[
 ];
 
 #[test]
-fn who_waits_before_the_run_sees_it_done(rt: HostRuntime) -> Result<(), Fail> {
-    let mut world = World::<ListQueues>::new(rt.alloc(), &[Kind::Once], 2)?;
-    plays(&rt, &mut world, WAITS_BEFORE);
-    Ok(())
+fn who_waits_before_the_run_sees_it_done(rt: HostRuntime) {
+    plays_anew(&rt, rt.alloc(), &[Kind::Once], 2, WAITS_BEFORE);
 }
 
 const STAYS_INSIDE: &[Line] = &[
@@ -154,10 +140,8 @@ const STAYS_INSIDE: &[Line] = &[
 ];
 
 #[test]
-fn only_its_end_takes_a_thread_out_of_its_closure(rt: HostRuntime) -> Result<(), Fail> {
-    let mut world = World::<ListQueues>::new(rt.alloc(), &[Kind::Once], 2)?;
-    plays(&rt, &mut world, STAYS_INSIDE);
-    Ok(())
+fn only_its_end_takes_a_thread_out_of_its_closure(rt: HostRuntime) {
+    plays_anew(&rt, rt.alloc(), &[Kind::Once], 2, STAYS_INSIDE);
 }
 
 const WAKES_ALL: &[Line] = &[
@@ -188,10 +172,8 @@ const WAKES_ALL: &[Line] = &[
 ];
 
 #[test]
-fn a_failed_run_wakes_all_and_a_forced_one_begins(rt: HostRuntime) -> Result<(), Fail> {
-    let mut world = World::<ListQueues>::new(rt.alloc(), &[Kind::Once], 5)?;
-    plays(&rt, &mut world, WAKES_ALL);
-    Ok(())
+fn a_failed_run_wakes_all_and_a_forced_one_begins(rt: HostRuntime) {
+    plays_anew(&rt, rt.alloc(), &[Kind::Once], 5, WAKES_ALL);
 }
 
 const BESIDE_NINE: &[Line] = &[
@@ -224,8 +206,6 @@ const BESIDE_NINE: &[Line] = &[
 ];
 
 #[test]
-fn a_run_beside_nine_waiters_wakes_them_all(rt: HostRuntime) -> Result<(), Fail> {
-    let mut world = World::<ListQueues>::new(rt.alloc(), &[Kind::Once], 10)?;
-    plays(&rt, &mut world, BESIDE_NINE);
-    Ok(())
+fn a_run_beside_nine_waiters_wakes_them_all(rt: HostRuntime) {
+    plays_anew(&rt, rt.alloc(), &[Kind::Once], 10, BESIDE_NINE);
 }

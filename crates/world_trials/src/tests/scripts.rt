@@ -1,8 +1,12 @@
 //! Scripts: what threads do one after another, what each of them is told, and what locks show
 //! meanwhile. A test is one script, since each statement of a test is proved.
+ghost use Rattle.std.specs.Prelude.{◌≤◌, ◌≡◌, All, length, true};
+ghost use Rattle.lot_calls.specs.Kinds.{fits};
+
 use super::same;
 use lot_base::{ListQueues, Want};
-use lot_world::{Answer, Call, Debt, Outcome, Owner, Step, Turn, World};
+use lot_world::{Answer, Call, Debt, Kind, Outcome, Owner, Step, Turn, World};
+use std::alloc::Global;
 use std::process::Abort;
 
 pub const DONE: Outcome = Outcome::End(Answer::Ok);
@@ -85,4 +89,39 @@ pub fn surprise(
 /// proved where it stands.
 pub fn plays(rt: &impl Abort, world: &mut World<ListQueues>, script: &[Line]) {
     same(rt, surprise(world, script), None);
+}
+
+/// A run of these steps goes to its end.
+pub fn runs(
+    rt: &impl Abort,
+    world: &mut World<ListQueues>,
+    steps: &[Step],
+    outcomes: &mut Vec<Outcome>,
+) {
+    same(rt, world.run(steps, outcomes), Ok(()));
+}
+
+/// A world of locks of these kinds, and of so many threads. It gives up where memory is refused, so
+/// that no script has a world to drop in its midst.
+pub fn world_of<A: Abort>(
+    rt: &A,
+    alloc: Global,
+    kinds: &[Kind],
+    threads: usize,
+) -> World<ListQueues>
+    requires few { (1 ≤ threads) × (threads ≤ 1024) × (length kinds.now ≤ 256) }
+    requires fit { All (λ kind. fits kind threads ≡ true) kinds.now }
+{
+    match World::new(alloc, kinds, threads) {
+        Ok(world) => world,
+        Err(_) => panic!(rt; "no memory"),
+    }
+}
+
+/// Each line of the script goes as it says in a new world.
+pub fn plays_anew<A: Abort>(rt: &A, alloc: Global, kinds: &[Kind], threads: usize, script: &[Line])
+    requires few { (1 ≤ threads) × (threads ≤ 1024) × (length kinds.now ≤ 256) }
+    requires fit { All (λ kind. fits kind threads ≡ true) kinds.now }
+{
+    plays(rt, &mut world_of(rt, alloc, kinds, threads), script);
 }

@@ -1,16 +1,44 @@
-ghost use Rattle.std.specs.Prelude.{◌≡◌};
-
 use super::{holds, same};
 use lot_base::{Keys, Note};
 use lot_steps::{
     Act, Answer, Call, Entry, HandOffAt, Kind, LockAt, MutexCall, MutexPlace, Op, Outcome, Owners,
     Place, Reply, UnlockAt, Wakes, advance, has_right,
 };
+use std::process::Abort;
 
-fn call(call: MutexCall) -> Call
-    ensures { result ≡ Call.Mutex 3 call }
-{
+fn call(call: MutexCall) -> Call {
     Call::Mutex { lock: 3, call }
+}
+
+fn first(kind: Kind, name: MutexCall) -> Place {
+    Place::first(kind, call(name))
+}
+
+fn mutex(at: MutexPlace) -> Place {
+    Place::Mutex { lock: 3, at }
+}
+
+/// What a call of the lock 3 does at a place.
+pub fn act_at(rt: &impl Abort, place: Place) -> Act {
+    match place {
+        Place::Mutex { lock: 3, .. } | Place::Once { lock: 3, .. } => place.act(),
+        _ => panic!(rt; "it is in no call of the lock 3"),
+    }
+}
+
+/// Where it goes on by a reply, and what it does then.
+pub fn step(rt: &impl Abort, place: Place, reply: Reply) -> (Place, Act) {
+    match place {
+        Place::Mutex { lock: 3, .. } | Place::Once { lock: 3, .. } => advance(place, reply),
+        _ => panic!(rt; "it is in no call of the lock 3"),
+    }
+}
+
+/// By a reply it comes to a place at which it does this.
+pub fn comes_to(rt: &impl Abort, place: Place, reply: Reply, act: Act) -> Place {
+    let (next, found) = step(rt, place, reply);
+    same(rt, found, act);
+    next
 }
 
 #[test]
@@ -28,137 +56,115 @@ fn a_call_says_what_it_needs(rt: HostRuntime) {
     }
 }
 
+const OWNED: Owners = Owners {
+    exclusive: Some(1),
+    ..Owners::NOBODY
+};
+
 #[test]
 fn a_release_wakes_the_one_that_it_took(rt: HostRuntime) {
-    let start = Place::first(Kind::Mutex, call(MutexCall::Unlock));
+    let start = first(Kind::Mutex, MutexCall::Unlock);
     holds(&rt, !start.is_idle());
-    same(
-        &rt,
-        start.act(),
-        Act::Word {
-            lock: 3,
-            op: Op::Sub(1),
-        },
-    );
-    let (enter, act) = advance(start, Reply::Value(3));
-    same(&rt, act, Act::Enter(Keys::One(6)));
+    let (lock, op) = (3, Op::Sub(1));
+    same(&rt, act_at(&rt, start), Act::Word { lock, op });
+    let enter = comes_to(&rt, start, Reply::Value(3), Act::Enter(Keys::One(6)));
     holds(&rt, enter.owes_on(3));
-    let owners = start.owners_after(1, 3, Owners::NOBODY.with_exclusive(Some(1)));
-    same(&rt, owners, Owners::NOBODY);
-    let (_, act) = advance(start, Reply::Value(1));
+    same(&rt, start.owners_after(1, 3, OWNED), Owners::NOBODY);
+    let (_, act) = step(&rt, start, Reply::Value(1));
     same(&rt, act.outcome(), Outcome::End(Answer::Ok));
-    let leave = Place::Mutex {
-        lock: 3,
-        at: MutexPlace::Unlock(UnlockAt::Leave { any: true }),
-    };
-    let (end, act) = advance(leave, Reply::Done);
-    same(&rt, act, Act::End(Answer::Ok));
+}
+
+#[test]
+fn a_release_ends_behind_its_wake(rt: HostRuntime) {
+    let leave = mutex(MutexPlace::Unlock(UnlockAt::Leave { any: true }));
+    let end = comes_to(&rt, leave, Reply::Done, Act::End(Answer::Ok));
     holds(&rt, end.is_idle());
 }
 
+/// A thread that another has taken in a timed lock.
+const TAKEN: MutexPlace = MutexPlace::Lock {
+    entry: Entry::LockTimed,
+    retries: false,
+    at: LockAt::Taken { by: 1 },
+};
+
 #[test]
 fn a_woken_thread_retries(rt: HostRuntime) {
-    let taken = Place::Mutex {
-        lock: 3,
-        at: MutexPlace::Lock {
-            entry: Entry::LockTimed,
-            retries: false,
-            at: LockAt::Taken { by: 1 },
-        },
-    };
-    same(&rt, taken.act().outcome(), Outcome::Sleep);
+    let taken = mutex(TAKEN);
+    same(&rt, act_at(&rt, taken).outcome(), Outcome::Sleep);
     let woken = taken.after(Reply::Woken(Note::Normal));
     holds(&rt, woken.retries_on(3));
-    same(
-        &rt,
-        woken.act(),
-        Act::Word {
-            lock: 3,
-            op: Op::Load,
-        },
-    );
-    let saw = woken.after(Reply::Value(1));
-    let looks = saw
-        .looking()
-        .map(|again| (again.act(), again.retries_on(3)));
-    same(&rt, looks, Some((woken.act(), true)));
-    holds(&rt, woken.after(Reply::Value(3)).looking().is_none());
+    let (lock, op) = (3, Op::Load);
+    same(&rt, act_at(&rt, woken), Act::Word { lock, op });
 }
 
 #[test]
+fn who_retries_may_look_again(rt: HostRuntime) {
+    let woken = mutex(TAKEN).after(Reply::Woken(Note::Normal));
+    match woken.after(Reply::Value(1)).looking() {
+        Some(again) => {
+            same(&rt, act_at(&rt, again), act_at(&rt, woken));
+            holds(&rt, again.retries_on(3));
+        }
+        None => panic!(rt; "it looks no more"),
+    }
+    holds(&rt, woken.after(Reply::Value(3)).looking().is_none());
+}
+
+const HANDS_OVER: Act = Act::HandOver {
+    lock: 3,
+    op: Op::Store(3),
+};
+
+const LEAVES: Act = Act::Leave {
+    keys: Keys::One(6),
+    wakes: Wakes::All(Note::HandOff),
+};
+
+#[test]
 fn a_bump_hands_the_mutex_over_and_enters_again(rt: HostRuntime) {
-    let start = Place::first(Kind::Mutex, call(MutexCall::Bump));
-    let (_, act) = advance(start, Reply::Value(1));
-    same(&rt, act, Act::End(Answer::Ok));
-    let (enter, act) = advance(start, Reply::Value(3));
-    same(&rt, act, Act::Enter(Keys::One(6)));
+    let start = first(Kind::Mutex, MutexCall::Bump);
+    comes_to(&rt, start, Reply::Value(1), Act::End(Answer::Ok));
+    let enter = comes_to(&rt, start, Reply::Value(3), Act::Enter(Keys::One(6)));
     holds(&rt, enter.owes_on(3));
-    let (take, _) = advance(enter, Reply::Done);
+    let (take, _) = step(&rt, enter, Reply::Done);
     let took = Reply::Took {
         any: true,
         none_left: false,
     };
-    let (store, act) = advance(take, took);
-    let hands_over = Act::HandOver {
-        lock: 3,
-        op: Op::Store(3),
-    };
-    same(&rt, act, hands_over);
-    let owners = store.owners_after(1, 3, Owners::NOBODY.with_exclusive(Some(1)));
-    same(&rt, owners.exclusive, None);
-    let (leave, act) = advance(store, Reply::Value(3));
-    let wakes = Wakes::All(Note::HandOff);
-    let leaves = Act::Leave {
-        keys: Keys::One(6),
-        wakes,
-    };
-    same(&rt, act, leaves);
-    let (again, act) = advance(leave, Reply::Done);
+    let store = comes_to(&rt, take, took, HANDS_OVER);
+    same(&rt, store.owners_after(1, 3, OWNED).exclusive, None);
+    let leave = comes_to(&rt, store, Reply::Value(3), LEAVES);
+    let (again, act) = step(&rt, leave, Reply::Done);
     same(&rt, act.outcome(), Outcome::Step);
     holds(&rt, !again.owes_on(3));
-    let (_, act) = advance(again, Reply::Value(0));
-    same(&rt, act, Act::End(Answer::Ok));
+    comes_to(&rt, again, Reply::Value(0), Act::End(Answer::Ok));
 }
 
 #[test]
 fn a_fair_release_beside_nobody_lets_go(rt: HostRuntime) {
-    let start = Place::first(Kind::Fair, call(MutexCall::Unlock));
-    let fair = Place::first(Kind::Mutex, call(MutexCall::UnlockFair));
-    same(&rt, start.act(), fair.act());
-    let (_, act) = advance(start, Reply::Value(1));
-    same(&rt, act, Act::End(Answer::Ok));
-    let store = Place::Mutex {
-        lock: 3,
-        at: MutexPlace::HandOff {
-            bumps: false,
-            at: HandOffAt::Store {
-                any: false,
-                none_left: true,
-            },
+    let start = first(Kind::Fair, MutexCall::Unlock);
+    let fair = first(Kind::Mutex, MutexCall::UnlockFair);
+    same(&rt, act_at(&rt, start), act_at(&rt, fair));
+    comes_to(&rt, start, Reply::Value(1), Act::End(Answer::Ok));
+    let store = mutex(MutexPlace::HandOff {
+        bumps: false,
+        at: HandOffAt::Store {
+            any: false,
+            none_left: true,
         },
-    };
-    let lets_go = Act::Word {
-        lock: 3,
-        op: Op::Store(0),
-    };
-    same(&rt, store.act(), lets_go);
+    });
+    let (lock, op) = (3, Op::Store(0));
+    same(&rt, act_at(&rt, store), Act::Word { lock, op });
 }
 
 #[test]
 fn a_thread_accepts_what_it_was_handed(rt: HostRuntime) {
-    let taken = Place::Mutex {
-        lock: 3,
-        at: MutexPlace::Lock {
-            entry: Entry::LockTimed,
-            retries: false,
-            at: LockAt::Taken { by: 1 },
-        },
-    };
-    let handed = taken.after(Reply::HandedBy { by: 1, alone: true });
-    same(&rt, handed.act(), Act::Sleep);
+    let by_another = Reply::HandedBy { by: 1, alone: true };
+    let handed = mutex(TAKEN).after(by_another);
+    same(&rt, act_at(&rt, handed), Act::Sleep);
     let woken = handed.after(Reply::Woken(Note::HandOff));
-    same(&rt, woken.act(), Act::Accept);
+    same(&rt, act_at(&rt, woken), Act::Accept);
     holds(&rt, !woken.retries_on(3));
-    let (_, act) = advance(woken, Reply::Done);
-    same(&rt, act, Act::End(Answer::Yes));
+    comes_to(&rt, woken, Reply::Done, Act::End(Answer::Yes));
 }
