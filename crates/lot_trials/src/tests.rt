@@ -7,14 +7,21 @@ mod several;
 mod single;
 mod threads;
 
-ghost use Rattle.std.specs.Prelude.{All, IfSome};
+ghost use Rattle.std.specs.Prelude.{◌≡◌, ◌≤◌, ◌<◌, All, IfSome};
+ghost use Rattle.std.specs.Arc.{arc_value};
+ghost use Rattle.lot_words.specs.Lots.{IsWordOf};
+ghost use Rattle.lot_words.specs.RightsOf.{IsFor, IsRightOf};
+ghost use Rattle.lot_words.specs.declared.words.WordKind.TheVariants.{Mutex};
 ghost use Rattle.parking_lot_core.specs.Tokens.{IsNewTicketOf, IsSameThread, IsTicketOf, IsTokenOf};
 
 use lot_base::TickClock;
-use parking_lot_core::{Key, Keys, Note, ParkingLot, Slept, Ticket, Token, Want, Word};
+use parking_lot_core::{
+    Key, Keys, Note, ParkingLot, Right, Slept, Ticket, Token, Want, Word, WordKind,
+};
+use std::alloc::Global;
 use std::fmt::Debug;
 use std::process::Abort;
-use std::sync::Wait;
+use std::sync::{Arc, Wait};
 use std::thread::yield_now;
 
 // What was found is what was wanted. All tests share this one assertion, since each is proved where
@@ -28,6 +35,51 @@ fn holds(rt: &impl Abort, truth: bool) {
     assert!(rt; truth);
 }
 
+// A lot, the token of the last of its seats, and the tickets of the others. What makes lots and
+// words gives up where memory is refused, so that no test has anything to drop in its midst.
+fn lot_of<A: Abort>(
+    rt: &A,
+    alloc: Global,
+    words: usize,
+    seats: usize,
+) -> (Arc<ParkingLot>, Token, Vec<Ticket>)
+    requires { (0 < words) × (words ≤ 100) × (0 < seats) × (seats ≤ 1024) }
+    ensures lot { (arc_value result.0).records.count ≡ seats }
+    ensures seats { IsTokenOf (arc_value result.0) result.1
+        × All (IsNewTicketOf (arc_value result.0)) result.2.items }
+{
+    let Ok((lot, mut others)) = ParkingLot::new(alloc, words, seats) else {
+        panic!(rt; "no lot");
+    };
+    match others.pop() {
+        Some(ticket) => (lot, ticket.enter(), others),
+        None => panic!(rt; "no seat"),
+    }
+}
+
+// A word of a lot.
+fn word_of<A: Abort>(rt: &A, lot: &ParkingLot, token: &mut Token, kind: WordKind) -> Word
+    requires { IsTokenOf lot.now token.old }
+    ensures own { IsSameThread lot.now token.old token.new }
+    ensures word { IsWordOf lot.now.words result × (result.kind ≡ kind) }
+{
+    match lot.new_word(token, kind) {
+        Ok(word) => word,
+        Err(_) => panic!(rt; "no word"),
+    }
+}
+
+// A lot of one seat and so many words, its token, and a mutex.
+fn mutex_of<A: Abort>(rt: &A, alloc: Global, words: usize) -> (Arc<ParkingLot>, Token, Word)
+    requires { (0 < words) × (words ≤ 100) }
+    ensures { IsTokenOf (arc_value result.0) result.1
+        × IsWordOf (arc_value result.0).words result.2 × (result.2.kind ≡ Mutex) }
+{
+    let (lot, mut token, _) = lot_of(rt, alloc, words, 1);
+    let word = word_of(rt, &lot, &mut token, WordKind::Mutex);
+    (lot, token, word)
+}
+
 // A ticket of those that are left.
 fn next_of(lot: &ParkingLot, tickets: &mut Vec<Ticket>) -> Option<Ticket>
     requires { All (IsNewTicketOf lot.now) tickets.old.items }
@@ -37,14 +89,15 @@ fn next_of(lot: &ParkingLot, tickets: &mut Vec<Ticket>) -> Option<Ticket>
     tickets.pop()
 }
 
-fn next_pair(lot: &ParkingLot, tickets: &mut Vec<Ticket>) -> Option<(Ticket, Ticket)>
+fn ticket_of<A: Abort>(rt: &A, lot: &ParkingLot, tickets: &mut Vec<Ticket>) -> Ticket
     requires { All (IsNewTicketOf lot.now) tickets.old.items }
-    ensures pair { IfSome result (λ pair. IsTicketOf lot.now pair.0 × IsTicketOf lot.now pair.1) }
-    ensures others { All (IsNewTicketOf lot.now) tickets.new.items }
+    ensures one { IsTicketOf lot.now result }
+    ensures left { All (IsNewTicketOf lot.now) tickets.new.items }
 {
-    let one = next_of(lot, tickets)?;
-    let other = next_of(lot, tickets)?;
-    Some((one, other))
+    match next_of(lot, tickets) {
+        Some(ticket) => ticket,
+        None => panic!(rt; "no ticket"),
+    }
 }
 
 // Lets others run so often.
@@ -64,27 +117,47 @@ fn line_up<R: Wait>(rt: &R, lot: &ParkingLot, token: &mut Token, key: Key, want:
     section.leave(rt, token, Note::Normal);
 }
 
-// What a thread is told that sleeps without a limit, so that it is never late. A right that it is
-// handed is forgotten.
+// Takes the first in a line, and wakes it.
+fn take_first<R: Wait>(rt: &R, lot: &ParkingLot, token: &mut Token, key: Key) -> Option<usize>
+    requires { IsTokenOf lot.now token.old }
+    ensures { IsSameThread lot.now token.old token.new }
+{
+    let mut section = lot.enter(rt, token, Keys::One(key));
+    let taken = section.take_first(key);
+    section.leave(rt, token, Note::Normal);
+    taken
+}
+
+// The right that a thread is handed in its sleep, or none where it is told to try again. Its sleep
+// has no limit, so that it is never late.
 fn sleep<R: Wait>(
     rt: &R,
     lot: &ParkingLot,
     token: &mut Token,
     word: Word,
     want: Want,
-) -> Option<Note>
+) -> Option<Right>
+    requires { IsTokenOf lot.now token.old }
+    ensures own { IsSameThread lot.now token.old token.new }
+    ensures right { IfSome result (λ right. IsRightOf lot.now.words right × IsFor word want right) }
+{
+    match lot.sleep(rt, token, word, want, None::<(&TickClock, u64)>) {
+        Slept::Handed(right) => Some(right),
+        Slept::Woken => None,
+        Slept::Late(_section, _) => unreachable!(),
+    }
+}
+
+// What a thread is told in such a sleep. A right that it is handed is forgotten.
+fn told<R: Wait>(rt: &R, lot: &ParkingLot, token: &mut Token, word: Word, want: Want) -> Note
     requires { IsTokenOf lot.now token.old }
     ensures { IsSameThread lot.now token.old token.new }
 {
-    match lot.sleep(rt, token, word, want, None::<(&TickClock, u64)>) {
-        Slept::Handed(right) => {
+    match sleep(rt, lot, token, word, want) {
+        Some(right) => {
             right.forget();
-            Some(Note::HandOff)
+            Note::HandOff
         }
-        Slept::Woken => Some(Note::Normal),
-        Slept::Late(section, _) => {
-            section.leave(rt, token, Note::Normal);
-            None
-        }
+        None => Note::Normal,
     }
 }

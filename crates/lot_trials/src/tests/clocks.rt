@@ -1,12 +1,10 @@
 //! Clocks, and sleepers whose time is up.
 ghost use Rattle.parking_lot_core.specs.Tokens.{IsTokenOf, IsSameThread};
 
-use super::single::one_mutex;
-use super::{line_up, same};
+use super::{line_up, mutex_of, same};
 use lot_base::TickClock;
 use parking_lot_core::{Clock, Key, Note, ParkingLot, Slept, Token, Want, Word};
 use std::sync::Wait;
-use std::test::Fail;
 
 const KEY: Key = 4;
 
@@ -38,16 +36,12 @@ fn sleep_until<R: Wait>(
 }
 
 #[test]
-fn who_is_not_woken_is_late(rt: HostRuntime) -> Result<(), Fail> {
-    let (lot, mut token, word) = one_mutex(rt.alloc())?;
+fn who_is_not_woken_is_late(rt: HostRuntime) {
+    let (lot, mut token, word) = mutex_of(&rt, rt.alloc(), 4);
     line_up(&rt, &lot, &mut token, KEY, Want::Exclusive);
     let clock = TickClock::starting_at(1000);
     let late = sleep_until(&rt, &lot, &mut token, word, (&clock, 1005));
     same(&rt, late, Some((KEY, Some(KEY))));
-    same(
-        &rt,
-        (lot.queued(&rt, &mut token, KEY), clock.now()),
-        (0, 1006),
-    );
-    Ok(())
+    same(&rt, lot.queued(&rt, &mut token, KEY), 0);
+    same(&rt, clock.now(), 1006);
 }

@@ -1,18 +1,18 @@
 //! Several threads that are taken together.
-ghost use Rattle.std.specs.Prelude.{◌≡◌, ◌≤◌, ◌<◌, [], IfOk, IfSome};
+ghost use Rattle.std.specs.Prelude.{◌≡◌, ◌≤◌, ◌<◌, [], IfSome};
 ghost use Rattle.std.specs.Arc.{arc_value};
 ghost use Rattle.lot_words.specs.RightsOf.{IsRightOf};
 ghost use Rattle.parking_lot_core.specs.Sections.{StaysIn, rightless_in};
 ghost use Rattle.parking_lot_core.specs.Tokens.{IsTicketOf, IsTokenOf, IsSameThread};
 
 use super::mutexes::try_lock;
-use super::{delay, line_up, next_pair, same, sleep};
+use super::{delay, line_up, lot_of, same, ticket_of, told, word_of};
 use parking_lot_core::{
-    Fault, Key, Keys, Note, ParkingLot, Right, Section, Ticket, Token, Want, Word, WordKind,
+    Key, Keys, Note, ParkingLot, Right, Section, Ticket, Token, Want, Word, WordKind,
 };
 use std::alloc::Global;
+use std::process::Abort;
 use std::sync::{Arc, Wait};
-use std::test::Fail;
 use std::thread::{Threads, join, yield_now};
 
 const KEY: Key = 0;
@@ -95,18 +95,27 @@ fn take_three<R: Wait>(
 }
 
 /// What a thread that was taken is told. It sleeps until it is.
-pub fn told<R: Wait>(rt: &R, lot: &ParkingLot, ticket: Ticket, word: Word) -> Note
+pub fn told_to<R: Wait>(rt: &R, lot: &ParkingLot, ticket: Ticket, word: Word) -> Note
     requires { IsTicketOf lot.now ticket }
 {
     let mut token = ticket.enter();
-    let note = sleep(rt, lot, &mut token, word, Want::Exclusive);
+    let note = told(rt, lot, &mut token, word, Want::Exclusive);
     drop(token.leave());
-    note.unwrap_or(Note::Normal)
+    note
 }
 
 // What each of three is told that are taken together.
-fn notes_of_three<R: Wait>(rt: &R, alloc: Global, way: Way) -> Result<[Note; 3], Fault> {
-    let (lot, seats) = seat_four(alloc, 4)?;
+fn notes_of_three<R: Wait>(
+    rt: &R,
+    alloc: Global,
+    lot: &ParkingLot,
+    seats: Four,
+    way: Way,
+) -> [Note; 3]
+    requires seats { IsTicketOf lot.now seats.one × IsTicketOf lot.now seats.two
+        × IsTicketOf lot.now seats.three × IsTicketOf lot.now seats.four }
+    requires four { lot.now.records.count ≡ 4 }
+{
     let Four {
         one,
         two,
@@ -115,26 +124,26 @@ fn notes_of_three<R: Wait>(rt: &R, alloc: Global, way: Way) -> Result<[Note; 3],
         word,
     } = seats;
     let mut token = four.enter();
-    let given = take_three(rt, alloc, &lot, &mut token, way);
+    let given = take_three(rt, alloc, lot, &mut token, way);
     drop(token.leave());
-    Ok([
-        told(rt, &lot, three, given.first().copied().unwrap_or(word)),
-        told(rt, &lot, two, given.get(1).copied().unwrap_or(word)),
-        told(rt, &lot, one, given.get(2).copied().unwrap_or(word)),
-    ])
+    [
+        told_to(rt, lot, three, given.first().copied().unwrap_or(word)),
+        told_to(rt, lot, two, given.get(1).copied().unwrap_or(word)),
+        told_to(rt, lot, one, given.get(2).copied().unwrap_or(word)),
+    ]
+}
+
+fn each_gets<R: Wait + Abort>(rt: &R, alloc: Global, way: Way, note: Note) {
+    let (lot, seats) = seat_four(rt, alloc, 4);
+    let notes = notes_of_three(rt, alloc, &lot, seats, way);
+    same(rt, notes, [note, note, note]);
 }
 
 #[test]
-fn each_of_three_gets_its_note(rt: HostRuntime) -> Result<(), Fail> {
-    for (way, note) in [
-        (Way::TakeAll, Note::Normal),
-        (Way::TakePicked, Note::Normal),
-        (Way::HandOff, Note::HandOff),
-    ] {
-        let notes = notes_of_three(&rt, rt.alloc(), way)?;
-        same(&rt, notes, [note, note, note]);
-    }
-    Ok(())
+fn each_of_three_gets_its_note(rt: HostRuntime) {
+    each_gets(&rt, rt.alloc(), Way::TakeAll, Note::Normal);
+    each_gets(&rt, rt.alloc(), Way::TakePicked, Note::Normal);
+    each_gets(&rt, rt.alloc(), Way::HandOff, Note::HandOff);
 }
 
 // Lines up and sleeps. 1 where it was woken.
@@ -143,9 +152,9 @@ fn sleep_in_line<R: Wait>(rt: &R, lot: &ParkingLot, ticket: Ticket, word: Word) 
 {
     let mut token = ticket.enter();
     line_up(rt, lot, &mut token, KEY, Want::Shared);
-    let note = sleep(rt, lot, &mut token, word, Want::Shared);
+    let note = told(rt, lot, &mut token, word, Want::Shared);
     drop(token.leave());
-    usize::from(note == Some(Note::Normal))
+    usize::from(note == Note::Normal)
 }
 
 // Takes all where three stand in the line, and have had time to fall asleep: others run for longer
@@ -221,30 +230,26 @@ struct Four {
     word: Word,
 }
 
-fn seat_four(alloc: Global, most: usize) -> Result<(Arc<ParkingLot>, Four), Fault>
+fn seat_four<A: Abort>(rt: &A, alloc: Global, most: usize) -> (Arc<ParkingLot>, Four)
     requires { (4 ≤ most) × (most ≤ 1024) }
-    ensures { IfOk result
-        (λ made. IsTicketOf (arc_value made.0) made.1.one × IsTicketOf (arc_value made.0) made.1.two
-        × IsTicketOf (arc_value made.0) made.1.three × IsTicketOf (arc_value made.0) made.1.four
-        × ((arc_value made.0).records.count ≡ most)) }
+    ensures lot { (arc_value result.0).records.count ≡ most }
+    ensures seats { IsTicketOf (arc_value result.0) result.1.one
+        × IsTicketOf (arc_value result.0) result.1.two
+        × IsTicketOf (arc_value result.0) result.1.three
+        × IsTicketOf (arc_value result.0) result.1.four }
 {
-    let (lot, mut tickets) = ParkingLot::new(alloc, 8, most)?;
-    let Some((one, two)) = next_pair(&lot, &mut tickets) else {
-        return Err(Fault::NoMemory);
-    };
-    let Some((three, four)) = next_pair(&lot, &mut tickets) else {
-        return Err(Fault::NoMemory);
-    };
-    let mut token = one.enter();
-    let word = lot.new_word(&mut token, WordKind::RwLock)?;
+    let (lot, mut token, mut others) = lot_of(rt, alloc, 8, most);
+    let word = word_of(rt, &lot, &mut token, WordKind::RwLock);
+    let two = ticket_of(rt, &lot, &mut others);
+    let three = ticket_of(rt, &lot, &mut others);
     let seats = Four {
         one: token.leave(),
         two,
         three,
-        four,
+        four: ticket_of(rt, &lot, &mut others),
         word,
     };
-    Ok((lot, seats))
+    (lot, seats)
 }
 
 fn all_four<R: Threads + Wait + Sync>(rt: &R, lot: &ParkingLot, seats: Four) -> usize
@@ -272,8 +277,7 @@ fn all_four<R: Threads + Wait + Sync>(rt: &R, lot: &ParkingLot, seats: Four) -> 
 }
 
 #[test]
-fn the_last_three_sleepers_wake_together(rt: HostRuntime) -> Result<(), Fail> {
-    let (lot, seats) = seat_four(rt.alloc(), 1024)?;
+fn the_last_three_sleepers_wake_together(rt: HostRuntime) {
+    let (lot, seats) = seat_four(&rt, rt.alloc(), 1024);
     same(&rt, all_four(&rt, &lot, seats), 3);
-    Ok(())
 }

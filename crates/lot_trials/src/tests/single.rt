@@ -1,68 +1,36 @@
 //! One thread.
-ghost use Rattle.std.specs.Prelude.{◌≡◌, ◌<◌, ◌≤◌, IfOk};
-ghost use Rattle.std.specs.Arc.{arc_value};
+ghost use Rattle.std.specs.Prelude.{◌≡◌};
 ghost use Rattle.lot_base.specs.declared.keys.Keys.TheVariants.{Two};
 ghost use Rattle.lot_words.specs.Lots.{IsWordOf};
 ghost use Rattle.lot_words.specs.declared.words.WordKind.TheVariants.{Mutex};
 ghost use Rattle.parking_lot_core.specs.Tokens.{IsTokenOf, IsSameThread};
 
 use super::mutexes::{try_lock, unlock};
-use super::{holds, same};
+use super::{holds, lot_of, mutex_of, same, take_first};
 use lot_words::laws::mutex_may_step;
 use parking_lot_core::{
     Did, Fault, Key, Keys, Note, Op, ParkingLot, Requeue, Section, SectionRecord, Ticket, Token,
     Want, Word, WordKind,
 };
-use std::alloc::Global;
-use std::sync::{Arc, Wait};
+use std::process::Abort;
+use std::sync::Wait;
 use std::test::Fail;
 
-// A lot of one seat, and its token.
-fn one_seat(alloc: Global, words: usize) -> Result<(Arc<ParkingLot>, Token), Fault>
-    requires { (0 < words) × (words ≤ 100) }
-    ensures { IfOk result
-        (λ made. ((arc_value made.0).words.count ≡ words) × ((arc_value made.0).records.count ≡ 1)
-        × IsTokenOf (arc_value made.0) made.1) }
-{
-    one_of(alloc, words, 1)
-}
-
-// A lot of so many seats, and one token.
-fn one_of(alloc: Global, words: usize, seats: usize) -> Result<(Arc<ParkingLot>, Token), Fault>
-    requires { (0 < words) × (words ≤ 100) × (0 < seats) × (seats ≤ 100) }
-    ensures { IfOk result (λ made. ((arc_value made.0).words.count ≡ words)
-        × ((arc_value made.0).records.count ≡ seats) × IsTokenOf (arc_value made.0) made.1) }
-{
-    let (lot, mut tickets) = ParkingLot::new(alloc, words, seats)?;
-    match tickets.pop() {
-        Some(ticket) => Ok((lot, ticket.enter())),
-        None => Err(Fault::NoMemory),
-    }
-}
-
-// A lot of one seat, its token, and a mutex.
-pub fn one_mutex(alloc: Global) -> Result<(Arc<ParkingLot>, Token, Word), Fault>
-    ensures { IfOk result
-        (λ made. IsTokenOf (arc_value made.0) made.1 × IsWordOf (arc_value made.0).words made.2
-        × (made.2.kind ≡ Mutex)) }
-{
-    let (lot, mut token) = one_seat(alloc, 4)?;
-    let word = lot.new_word(&mut token, WordKind::Mutex)?;
-    Ok((lot, token, word))
-}
+const SIZES: &[(usize, usize, bool)] = &[
+    (1, 1, true),
+    (1 << 20, 1024, true),
+    (0, 1, false),
+    (1, 0, false),
+    ((1 << 20) + 1, 1, false),
+    (1, 1025, false),
+];
 
 #[test]
 fn sizes_fit_or_not(rt: HostRuntime) {
-    for (words, seats, fits) in [
-        (1, 1, true),
-        (1 << 20, 1024, true),
-        (0, 1, false),
-        (1, 0, false),
-        ((1 << 20) + 1, 1, false),
-        (1, 1025, false),
-    ] {
+    for row in SIZES {
+        let (words, seats, _) = *row;
         let found = ParkingLot::fits(words, seats);
-        same(&rt, (words, seats, found), (words, seats, fits));
+        same(&rt, (words, seats, found), *row);
     }
 }
 
@@ -74,13 +42,17 @@ fn is_new(ticket: Ticket, number: usize) -> bool {
     new
 }
 
+fn are_new(rt: &impl Abort, tickets: Vec<Ticket>) {
+    for (number, ticket) in tickets.into_iter().enumerate() {
+        holds(rt, is_new(ticket, number));
+    }
+}
+
 #[test]
 fn seats_are_numbered(rt: HostRuntime) -> Result<(), Fail> {
     let (_lot, tickets) = ParkingLot::new(rt.alloc(), 1, 1024)?;
     same(&rt, tickets.len(), 1024);
-    for (number, ticket) in tickets.into_iter().enumerate() {
-        holds(&rt, is_new(ticket, number));
-    }
+    are_new(&rt, tickets);
     Ok(())
 }
 
@@ -121,11 +93,10 @@ fn lock_once(
 }
 
 #[test]
-fn a_mutex_is_locked_once(rt: HostRuntime) -> Result<(), Fail> {
-    let (lot, mut token, word) = one_mutex(rt.alloc())?;
+fn a_mutex_is_locked_once(rt: HostRuntime) {
+    let (lot, mut token, word) = mutex_of(&rt, rt.alloc(), 4);
     let locked = lock_once(&lot, &mut token, word);
     same(&rt, locked, Some((word, Want::Exclusive, false, [1, 0])));
-    Ok(())
 }
 
 // What each operation finds, one after another.
@@ -145,11 +116,10 @@ fn found_by_each(lot: &ParkingLot, token: &mut Token, word: Word) -> [u64; 6]
 }
 
 #[test]
-fn each_operation_changes_the_word(rt: HostRuntime) -> Result<(), Fail> {
-    let (lot, mut token, word) = one_mutex(rt.alloc())?;
+fn each_operation_changes_the_word(rt: HostRuntime) {
+    let (lot, mut token, word) = mutex_of(&rt, rt.alloc(), 4);
     let found = found_by_each(&lot, &mut token, word);
     same(&rt, found, [0, 1, 3, 3, 1, 1]);
-    Ok(())
 }
 
 // What a store finds of its owner, and what is there then.
@@ -166,11 +136,10 @@ fn found_by_a_store(lot: &ParkingLot, token: &mut Token, word: Word) -> [u64; 4]
 }
 
 #[test]
-fn an_owner_may_store(rt: HostRuntime) -> Result<(), Fail> {
-    let (lot, mut token, word) = one_mutex(rt.alloc())?;
+fn an_owner_may_store(rt: HostRuntime) {
+    let (lot, mut token, word) = mutex_of(&rt, rt.alloc(), 4);
     let found = found_by_a_store(&lot, &mut token, word);
     same(&rt, found, [0, 3, 1, 1]);
-    Ok(())
 }
 
 type Drawn = Result<(usize, WordKind), Fault>;
@@ -197,6 +166,13 @@ fn draw_pair(lot: &ParkingLot, token: &mut Token) -> [Drawn; 2]
 }
 
 // All but one of a lot of five words.
+const FOUR: [Drawn; 4] = [
+    Ok((0, WordKind::RwLock)),
+    Ok((1, WordKind::Condvar)),
+    Ok((2, WordKind::Mutex)),
+    Ok((3, WordKind::Count)),
+];
+
 fn draw_four(lot: &ParkingLot, token: &mut Token) -> [Drawn; 4]
     requires { IsTokenOf lot.now token.old }
     ensures { IsSameThread lot.now token.old token.new }
@@ -208,6 +184,13 @@ fn draw_four(lot: &ParkingLot, token: &mut Token) -> [Drawn; 4]
 }
 
 // Two where one is left, the one, and one more.
+const THE_LAST: [Drawn; 4] = [
+    Err(Fault::LotFull),
+    Err(Fault::LotFull),
+    Ok((4, WordKind::Once)),
+    Err(Fault::LotFull),
+];
+
 fn draw_the_last(lot: &ParkingLot, token: &mut Token) -> [Drawn; 4]
     requires { IsTokenOf lot.now token.old }
 {
@@ -217,19 +200,10 @@ fn draw_the_last(lot: &ParkingLot, token: &mut Token) -> [Drawn; 4]
 }
 
 #[test]
-fn words_are_drawn_once(rt: HostRuntime) -> Result<(), Fail> {
-    let (lot, mut token) = one_seat(rt.alloc(), 5)?;
-    let four = [
-        Ok((0, WordKind::RwLock)),
-        Ok((1, WordKind::Condvar)),
-        Ok((2, WordKind::Mutex)),
-        Ok((3, WordKind::Count)),
-    ];
-    same(&rt, draw_four(&lot, &mut token), four);
-    let full = Err(Fault::LotFull);
-    let last = [full, full, Ok((4, WordKind::Once)), full];
-    same(&rt, draw_the_last(&lot, &mut token), last);
-    Ok(())
+fn words_are_drawn_once(rt: HostRuntime) {
+    let (lot, mut token, _) = lot_of(&rt, rt.alloc(), 5, 1);
+    same(&rt, draw_four(&lot, &mut token), FOUR);
+    same(&rt, draw_the_last(&lot, &mut token), THE_LAST);
 }
 
 // How many stand under each of two keys, and under which the thread does.
@@ -264,13 +238,12 @@ fn line_up_twice<R: Wait>(
 }
 
 #[test]
-fn a_section_takes_in_order(rt: HostRuntime) -> Result<(), Fail> {
-    let (lot, mut token) = one_seat(rt.alloc(), 1)?;
+fn a_section_takes_in_order(rt: HostRuntime) {
+    let (lot, mut token, _) = lot_of(&rt, rt.alloc(), 1, 1);
     let seen = line_up_twice(&rt, &lot, &mut token);
     same(&rt, seen, ([(1, 0, Some(6)), (0, 1, Some(7))], 0, true));
     same(&rt, token.last_section(), recorded(Did::TakeAll(7), 1));
     same(&rt, lot.queued(&rt, &mut token, 7), 0);
-    Ok(())
 }
 
 // Three line up, and those are taken who are picked: whether they are the first two, with their
@@ -292,8 +265,8 @@ fn pick_of_three<R: Wait>(rt: &R, lot: &ParkingLot, token: &mut Token) -> (bool,
 }
 
 #[test]
-fn a_section_takes_who_is_picked(rt: HostRuntime) -> Result<(), Fail> {
-    let (lot, mut token) = one_of(rt.alloc(), 1, 3)?;
+fn a_section_takes_who_is_picked(rt: HostRuntime) {
+    let (lot, mut token, _) = lot_of(&rt, rt.alloc(), 1, 3);
     same(&rt, pick_of_three(&rt, &lot, &mut token), (true, true, 1));
     let did = Did::TakePicked {
         key: 6,
@@ -301,17 +274,14 @@ fn a_section_takes_who_is_picked(rt: HostRuntime) -> Result<(), Fail> {
         recursive: false,
     };
     same(&rt, token.last_section(), recorded(did, 2));
-    Ok(())
 }
 
-// Three line up, and are requeued: the answer, the first of whom it took, and how many stand under
-// each key.
-fn requeue_three<R: Wait>(
-    rt: &R,
-    lot: &ParkingLot,
-    token: &mut Token,
-    op: Requeue,
-) -> ((Option<usize>, usize), Option<usize>, [usize; 2])
+// The answer of a section that requeues, the first of whom it took, and how many stand under each
+// key.
+type Requeued = ((Option<usize>, usize), Option<usize>, [usize; 2]);
+
+// Three line up, and are requeued.
+fn requeue_three<R: Wait>(rt: &R, lot: &ParkingLot, token: &mut Token, op: Requeue) -> Requeued
     requires { IsTokenOf lot.now token.old × (lot.now.records.count ≡ 3) }
     ensures { IsSameThread lot.now token.old token.new }
 {
@@ -335,42 +305,46 @@ fn recorded(did: Did, number: usize) -> Option<SectionRecord> {
     })
 }
 
-#[test]
-fn a_section_requeues(rt: HostRuntime) -> Result<(), Fail> {
-    let (lot, mut token) = one_of(rt.alloc(), 1, 3)?;
-    for (op, seen, number) in [
-        (Requeue::One, ((None, 1), None, [2, 1]), 1),
-        (Requeue::All, ((None, 3), None, [0, 3]), 3),
-        (Requeue::TakeOneMoveRest, ((Some(2), 2), Some(2), [0, 2]), 3),
-    ] {
-        same(&rt, requeue_three(&rt, &lot, &mut token, op), seen);
-        let did = Did::Requeue { from: 6, to: 1, op };
-        same(&rt, token.last_section(), recorded(did, number));
-    }
-    Ok(())
-}
+// How three are requeued, what is seen of it, and how many are recorded.
+const REQUEUED: &[(Requeue, Requeued, usize)] = &[
+    (Requeue::One, ((None, 1), None, [2, 1]), 1),
+    (Requeue::All, ((None, 3), None, [0, 3]), 3),
+    (Requeue::TakeOneMoveRest, ((Some(2), 2), Some(2), [0, 2]), 3),
+];
 
-fn take_nobody<R: Wait>(rt: &R, lot: &ParkingLot, token: &mut Token) -> Option<usize>
-    requires { IsTokenOf lot.now token.old }
-    ensures { IsSameThread lot.now token.old token.new }
+fn requeues<R: Wait + Abort>(rt: &R, lot: &ParkingLot, token: &mut Token)
+    requires { IsTokenOf lot.now token.old × (lot.now.records.count ≡ 3) }
 {
-    let mut section = lot.enter(rt, token, Keys::One(0));
-    let taken = section.take_first(0);
-    section.leave(rt, token, Note::Normal);
-    taken
+    for (op, seen, number) in REQUEUED {
+        let (op, number) = (*op, *number);
+        same(rt, requeue_three(rt, lot, token, op), *seen);
+        let did = Did::Requeue { from: 6, to: 1, op };
+        same(rt, token.last_section(), recorded(did, number));
+    }
 }
 
 #[test]
-fn a_step_forgets_the_last_section(rt: HostRuntime) -> Result<(), Fail> {
-    let (lot, mut token, word) = one_mutex(rt.alloc())?;
-    same(&rt, take_nobody(&rt, &lot, &mut token), None);
+fn a_section_requeues(rt: HostRuntime) {
+    let (lot, mut token, _) = lot_of(&rt, rt.alloc(), 1, 3);
+    requeues(&rt, &lot, &mut token);
+}
+
+fn forgets<R: Wait + Abort>(rt: &R, lot: &ParkingLot, token: &mut Token, word: Word)
+    requires { IsTokenOf lot.now token.old × IsWordOf lot.now.words word × (word.kind ≡ Mutex) }
+{
+    same(rt, take_first(rt, lot, token, 0), None);
     let record = SectionRecord {
         key: 0,
         did: Did::TakeFirst(0),
         number: 0,
     };
-    same(&rt, token.last_section(), Some(record));
-    lot.word(&mut token, word, Op::Load);
-    same(&rt, token.last_section(), None);
-    Ok(())
+    same(rt, token.last_section(), Some(record));
+    lot.word(token, word, Op::Load);
+    same(rt, token.last_section(), None);
+}
+
+#[test]
+fn a_step_forgets_the_last_section(rt: HostRuntime) {
+    let (lot, mut token, word) = mutex_of(&rt, rt.alloc(), 4);
+    forgets(&rt, &lot, &mut token, word);
 }

@@ -1,5 +1,5 @@
 //! Two threads.
-ghost use Rattle.std.specs.Prelude.{◌≡◌, IfOk, IfSome};
+ghost use Rattle.std.specs.Prelude.{◌≡◌, IfSome};
 ghost use Rattle.std.specs.Arc.{arc_value};
 ghost use Rattle.lot_words.specs.Lots.{IsWordOf};
 ghost use Rattle.lot_words.specs.RightsOf.{IsRightOf};
@@ -8,16 +8,16 @@ ghost use Rattle.lot_words.specs.declared.owners.Owner.TheVariants.{Exclusive};
 ghost use Rattle.parking_lot_core.specs.Tokens.{IsTicketOf, IsTokenOf, IsSameThread};
 
 use super::mutexes::{try_lock, unlock};
-use super::{delay, line_up, next_pair, same};
+use super::{delay, line_up, lot_of, same, sleep, take_first, ticket_of, word_of};
 use lot_base::TickClock;
 use parking_lot_core::{
-    Fault, Key, Keys, Note, ParkingLot, Right, Slept, Ticket, Token, Want, Word, WordKind,
+    Key, Keys, Note, ParkingLot, Right, Slept, Ticket, Token, Want, Word, WordKind,
 };
 use std::alloc::Global;
+use std::process::Abort;
 use std::sync::atomic::AtomicBool;
 use std::sync::atomic::Ordering::SeqCst;
 use std::sync::{Arc, Wait};
-use std::test::Fail;
 use std::thread::{Threads, join, yield_now};
 
 const KEY: Key = 0;
@@ -90,14 +90,7 @@ pub fn take_over<R: Wait>(rt: &R, lot: &ParkingLot, token: &mut Token, word: Wor
     ensures right { IfSome result
         (λ right. IsRightOf lot.now.words right × (right.word ≡ word) × (right.owner ≡ Exclusive)) }
 {
-    match lot.sleep(rt, token, word, Want::Exclusive, None::<(&TickClock, u64)>) {
-        Slept::Handed(right) => Some(right),
-        Slept::Woken => None,
-        Slept::Late(section, _) => {
-            section.leave(rt, token, Note::Normal);
-            None
-        }
-    }
+    sleep(rt, lot, token, word, Want::Exclusive)
 }
 
 // The thread lines up for it.
@@ -146,18 +139,14 @@ fn answer<R: Wait>(rt: &R, lot: &ParkingLot, ticket: Ticket, word: Word) -> usiz
 }
 
 // Two seats of a lot, and a mutex of it.
-fn two_seats(alloc: Global) -> Result<(Arc<ParkingLot>, Ticket, Ticket, Word), Fault>
-    ensures { IfOk result
-        (λ made. IsTicketOf (arc_value made.0) made.1 × IsTicketOf (arc_value made.0) made.2
-        × IsWordOf (arc_value made.0).words made.3 × (made.3.kind ≡ Mutex)) }
+fn two_seats<A: Abort>(rt: &A, alloc: Global) -> (Arc<ParkingLot>, Ticket, Ticket, Word)
+    ensures { IsTicketOf (arc_value result.0) result.1 × IsTicketOf (arc_value result.0) result.2
+        × IsWordOf (arc_value result.0).words result.3 × (result.3.kind ≡ Mutex) }
 {
-    let (lot, mut tickets) = ParkingLot::new(alloc, 1, 2)?;
-    let Some((one, other)) = next_pair(&lot, &mut tickets) else {
-        return Err(Fault::NoMemory);
-    };
-    let mut token = one.enter();
-    let word = lot.new_word(&mut token, WordKind::Mutex)?;
-    Ok((lot, token.leave(), other, word))
+    let (lot, mut token, mut others) = lot_of(rt, alloc, 1, 2);
+    let word = word_of(rt, &lot, &mut token, WordKind::Mutex);
+    let other = ticket_of(rt, &lot, &mut others);
+    (lot, token.leave(), other, word)
 }
 
 fn both_serve<R: Threads + Wait + Sync>(
@@ -178,11 +167,10 @@ fn both_serve<R: Threads + Wait + Sync>(
 }
 
 #[test]
-fn a_right_goes_round(rt: HostRuntime) -> Result<(), Fail> {
-    let (lot, one, other, word) = two_seats(rt.alloc())?;
+fn a_right_goes_round(rt: HostRuntime) {
+    let (lot, one, other, word) = two_seats(&rt, rt.alloc());
     let rounds = both_serve(&rt, &lot, one, other, word);
     same(&rt, rounds, (ROUNDS, ROUNDS));
-    Ok(())
 }
 
 // Wakes the other thread as soon as it stands in the line, by a plain note and by a right in turn.
@@ -199,23 +187,12 @@ fn wake_early<R: Wait>(rt: &R, lot: &ParkingLot, ticket: Ticket, word: Word)
     drop(token.leave());
 }
 
-// Takes the first in the line, and wakes it. Whether somebody stood there.
-fn takes_one<R: Wait>(rt: &R, lot: &ParkingLot, token: &mut Token) -> bool
-    requires { IsTokenOf lot.now token.old }
-    ensures { IsSameThread lot.now token.old token.new }
-{
-    let mut section = lot.enter(rt, token, Keys::One(KEY));
-    let taken = section.take_first(KEY);
-    section.leave(rt, token, Note::Normal);
-    taken.is_some()
-}
-
 fn take_one<R: Wait>(rt: &R, lot: &ParkingLot, token: &mut Token)
     requires { IsTokenOf lot.now token.old }
     ensures { IsSameThread lot.now token.old token.new }
 {
     for _ in rt.forever() {
-        if takes_one(rt, lot, token) {
+        if take_first(rt, lot, token, KEY).is_some() {
             return;
         }
         yield_now();
@@ -242,16 +219,12 @@ fn is_woken<R: Wait>(rt: &R, lot: &ParkingLot, token: &mut Token, word: Word) ->
     requires { IsTokenOf lot.now token.old × (word.kind ≡ Mutex) }
     ensures { IsSameThread lot.now token.old token.new }
 {
-    match lot.sleep(rt, token, word, Want::Exclusive, None::<(&TickClock, u64)>) {
-        Slept::Woken => true,
-        Slept::Handed(right) => {
+    match take_over(rt, lot, token, word) {
+        Some(right) => {
             unlock(lot, token, right);
             false
         }
-        Slept::Late(section, _) => {
-            section.leave(rt, token, Note::Normal);
-            false
-        }
+        None => true,
     }
 }
 
@@ -306,10 +279,9 @@ fn both_wake<R: Threads + Wait + Sync>(
 }
 
 #[test]
-fn an_early_parker_loses_and_doubles_no_wake(rt: HostRuntime) -> Result<(), Fail> {
-    let (lot, one, other, word) = two_seats(rt.alloc())?;
+fn an_early_parker_loses_and_doubles_no_wake(rt: HostRuntime) {
+    let (lot, one, other, word) = two_seats(&rt, rt.alloc());
     same(&rt, both_wake(&rt, &lot, one, other, word), SLOW_ROUNDS);
-    Ok(())
 }
 
 // Whether a sleep in the line ended by a wake, or by the deadline.
@@ -374,7 +346,7 @@ fn wake_until<R: Wait>(rt: &R, lot: &ParkingLot, ticket: Ticket, done: &AtomicBo
         if done.load(SeqCst) {
             break;
         }
-        if takes_one(rt, lot, &mut token) {
+        if take_first(rt, lot, &mut token, KEY).is_some() {
             taken = taken.saturating_add(1);
         }
         yield_now();
@@ -403,10 +375,9 @@ fn both_hurry<R: Threads + Wait + Sync>(
 }
 
 #[test]
-fn who_was_taken_is_woken_and_not_late(rt: HostRuntime) -> Result<(), Fail> {
-    let (lot, one, other, word) = two_seats(rt.alloc())?;
+fn who_was_taken_is_woken_and_not_late(rt: HostRuntime) {
+    let (lot, one, other, word) = two_seats(&rt, rt.alloc());
     let ((woken, late), taken) = both_hurry(&rt, &lot, one, other, word);
     let ended = (woken as u64, woken.saturating_add(late));
     same(&rt, ended, (taken, ROUNDS));
-    Ok(())
 }
