@@ -40,95 +40,86 @@ where
     (text, status)
 }
 
+/// An input leads to this text, and to this status.
+fn leads_to(rt: &impl Abort, replayed: (Vec<u8>, u8), text: &[u8], status: u8) {
+    let (told, ended) = replayed;
+    same(rt, told.as_slice(), text);
+    same(rt, ended, status);
+}
+
+/// Inputs and the texts to which they lead.
+type Rows<'a> = &'a [(&'a [u8], &'a [u8])];
+
+fn answers(rt: &impl Abort, alloc: Global, rows: Rows<'_>) {
+    for (input, text) in rows {
+        leads_to(rt, replayed(alloc, *input), text, 0);
+    }
+}
+
 #[test]
 fn answers_inputs(rt: HostRuntime) {
-    for (input, want, status) in ROWS {
-        let (text, ended) = replayed(rt.alloc(), input);
-        same(&rt, text.as_slice(), want);
-        same(&rt, ended, status);
+    for (input, text, status) in ROWS.iter() {
+        leads_to(&rt, replayed(rt.alloc(), *input), text, *status);
     }
 }
 
 #[test]
 fn answers_inputs_of_reader_writer_locks(rt: HostRuntime) {
-    for (input, want) in RWLOCK_ROWS {
-        let (text, ended) = replayed(rt.alloc(), input);
-        same(&rt, text.as_slice(), want);
-        same(&rt, ended, 0);
-    }
+    answers(&rt, rt.alloc(), &RWLOCK_ROWS);
 }
 
 #[test]
 fn answers_inputs_of_onces(rt: HostRuntime) {
-    for (input, want) in ONCE_ROWS {
-        let (text, ended) = replayed(rt.alloc(), input);
-        same(&rt, text.as_slice(), want);
-        same(&rt, ended, 0);
-    }
+    answers(&rt, rt.alloc(), &ONCE_ROWS);
 }
 
 #[test]
 fn answers_inputs_of_condition_variables(rt: HostRuntime) {
-    let subjects: [&[(&[u8], &[u8])]; 6] = [
-        &RELEASE_ROWS,
-        &MOVE_ROWS,
-        &MEANWHILE_ROWS,
-        &MUTEX_ROWS,
-        &LATE_ROWS,
-        &REFUSED_ROWS,
-    ];
-    for rows in subjects {
-        for row in rows {
-            let (input, want) = *row;
-            let (text, ended) = replayed(rt.alloc(), input);
-            same(&rt, text.as_slice(), want);
-            same(&rt, ended, 0);
-        }
-    }
+    answers(&rt, rt.alloc(), &RELEASE_ROWS);
+    answers(&rt, rt.alloc(), &MOVE_ROWS);
+    answers(&rt, rt.alloc(), &MEANWHILE_ROWS);
+    answers(&rt, rt.alloc(), &MUTEX_ROWS);
+    answers(&rt, rt.alloc(), &LATE_ROWS);
+    answers(&rt, rt.alloc(), &REFUSED_ROWS);
 }
 
 #[test]
 fn answers_inputs_of_fair_releases_and_bumps(rt: HostRuntime) {
-    for (input, want) in FAIR_ROWS {
-        let (text, ended) = replayed(rt.alloc(), input);
-        same(&rt, text.as_slice(), want);
-        same(&rt, ended, 0);
-    }
+    answers(&rt, rt.alloc(), &FAIR_ROWS);
+}
+
+/// What an input leads to that comes in pieces, and breaks off behind them, if it is to.
+fn replayed_in_pieces(alloc: Global, bytes: &[u8], len: usize, is_broken: bool) -> (Vec<u8>, u8) {
+    let pieces = Pieces {
+        bytes,
+        len,
+        is_broken,
+        looks: 0,
+    };
+    replayed(alloc, pieces)
 }
 
 #[test]
 fn reads_pieces(rt: HostRuntime) {
-    for (input, want, status) in ROWS {
+    for (input, want, status) in ROWS.iter() {
         for len in [1, 2, 3, 127, 128, 129, 130] {
-            let (text, ended) = replayed(
-                rt.alloc(),
-                Pieces {
-                    bytes: input,
-                    len,
-                    is_broken: false,
-                    looks: 0,
-                },
-            );
-            assert_eq!(rt; text.as_slice(), want, "in pieces of {len}");
-            assert_eq!(rt; ended, status, "in pieces of {len}");
+            let (text, ended) = replayed_in_pieces(rt.alloc(), input, len, false);
+            same(&rt, (len, ended), (len, *status));
+            same(&rt, (len, text.as_slice()), (len, *want));
         }
     }
 }
 
 #[test]
 fn stops_at_a_malformed_line(rt: HostRuntime) {
-    for (input, want) in MALFORMED {
+    for (input, want) in MALFORMED.iter() {
         let (text, status) = replayed(rt.alloc(), input.as_bytes());
-        assert_eq!(rt; text.as_slice(), want.as_bytes(), "after {input:?}");
-        assert_eq!(rt; status, 2, "after {input:?}");
+        same(&rt, (*input, status), (*input, 2));
+        same(&rt, (*input, text.as_slice()), (*input, want.as_bytes()));
     }
 }
 
-#[test]
-fn answers_threads_that_are_not_there(rt: HostRuntime) {
-    let (text, status) = replayed(
-        rt.alloc(),
-        b"threads 1024
+const STRANGERS: &[u8] = b"threads 1024
 lock abcdefghijklmno9 mutex
 1023 do lock abcdefghijklmno9
 1024 go
@@ -136,22 +127,19 @@ lock abcdefghijklmno9 mutex
 9999999999999999999 solo
 9999999999999999999 do lock abcdefghijklmno9
 show
-"
-            .as_slice(),
-    );
-    same(
-        &rt,
-        text.as_slice(),
-        b"1023 end ok
+";
+
+const STRANGERS_TOLD: &[u8] = b"1023 end ok
 1024 not now
 9999999999999999999 not now
 9999999999999999999 not now
 9999999999999999999 not now
 abcdefghijklmno9 1 own=1023x
-"
-            .as_slice(),
-    );
-    same(&rt, status, 0);
+";
+
+#[test]
+fn answers_threads_that_are_not_there(rt: HostRuntime) {
+    leads_to(&rt, replayed(rt.alloc(), STRANGERS), STRANGERS_TOLD, 0);
 }
 
 /// An input that declares this many locks, and what `show` prints of them.
@@ -169,13 +157,16 @@ fn many_locks(alloc: Global, count: u32) -> Result<(String, String), AllocError>
 #[test]
 fn takes_256_locks(rt: HostRuntime) -> Result<(), Fail> {
     let (input, shown) = many_locks(rt.alloc(), 256)?;
-    let (text, status) = replayed(rt.alloc(), input.as_bytes());
-    same(&rt, text.as_slice(), shown.as_bytes());
-    same(&rt, status, 0);
+    let found = replayed(rt.alloc(), input.as_bytes());
+    leads_to(&rt, found, shown.as_bytes(), 0);
+    Ok(())
+}
+
+#[test]
+fn refuses_257_locks(rt: HostRuntime) -> Result<(), Fail> {
     let (input, _) = many_locks(rt.alloc(), 257)?;
-    let (text, status) = replayed(rt.alloc(), input.as_bytes());
-    same(&rt, text.as_slice(), b"line 258 malformed\n".as_slice());
-    same(&rt, status, 2);
+    let found = replayed(rt.alloc(), input.as_bytes());
+    leads_to(&rt, found, b"line 258 malformed\n", 2);
     Ok(())
 }
 
@@ -198,75 +189,10 @@ fn many_tries(alloc: Global, count: u32) -> Result<(String, String), AllocError>
 fn gets_each_lock_once(rt: HostRuntime) -> Result<(), Fail> {
     for count in [4, 256] {
         let (input, told) = many_tries(rt.alloc(), count)?;
-        let (text, status) = replayed(rt.alloc(), input.as_bytes());
-        same(&rt, text.as_slice(), told.as_bytes());
-        same(&rt, status, 0);
+        let found = replayed(rt.alloc(), input.as_bytes());
+        leads_to(&rt, found, told.as_bytes(), 0);
     }
     Ok(())
-}
-
-#[test]
-fn answers_100_000_lines(rt: HostRuntime) -> Result<(), Fail> {
-    let (input, shown) = many_looks(rt.alloc(), 99_998)?;
-    let (text, status) = replayed(rt.alloc(), input.as_bytes());
-    same(&rt, text.as_slice(), shown.as_bytes());
-    same(&rt, status, 0);
-    Ok(())
-}
-
-#[test]
-fn runs_the_steps_of_an_input(rt: HostRuntime) -> Result<(), Fail> {
-    let mut world = World::<ListQueues>::new(rt.alloc(), &[Kind::Mutex], 1)?;
-    let begin = |call| Step {
-        thread: 0,
-        turn: Turn::Begin(Call::Mutex { lock: 0, call }),
-    };
-    let go = Step {
-        thread: 0,
-        turn: Turn::Go,
-    };
-    let steps = [
-        begin(MutexCall::TryLock),
-        go,
-        begin(MutexCall::TryLock),
-        go,
-        begin(MutexCall::Unlock),
-        go,
-    ];
-    let mut outcomes = Vec::new(rt.alloc());
-    same(&rt, world.run(&steps, &mut outcomes), Ok(()));
-    same(
-        &rt,
-        outcomes.as_slice(),
-        [
-            Outcome::Step,
-            Outcome::End(Answer::Yes),
-            Outcome::Step,
-            Outcome::End(Answer::No),
-            Outcome::Step,
-            Outcome::End(Answer::Ok),
-        ]
-        .as_slice(),
-    );
-    Ok(())
-}
-
-#[test]
-fn a_failing_read_leaves_the_lines_before(rt: HostRuntime) {
-    let third_line = b"threads 1\nlock m mutex\n0 begin try_lock m\n".len();
-    for part in [third_line, third_line + 3] {
-        let (text, status) = replayed(
-            rt.alloc(),
-            Pieces {
-                bytes: &TWO_TRIES[..part],
-                len: 7,
-                is_broken: true,
-                looks: 0,
-            },
-        );
-        same(&rt, text.as_slice(), b"0 step\n".as_slice());
-        same(&rt, status, 4);
-    }
 }
 
 /// An input that looks at a lock this often, and what it prints.
@@ -281,76 +207,125 @@ fn many_looks(alloc: Global, count: u32) -> Result<(String, String), AllocError>
 }
 
 #[test]
+fn answers_100_000_lines(rt: HostRuntime) -> Result<(), Fail> {
+    let (input, shown) = many_looks(rt.alloc(), 99_998)?;
+    let found = replayed(rt.alloc(), input.as_bytes());
+    leads_to(&rt, found, shown.as_bytes(), 0);
+    Ok(())
+}
+
+fn begin(call: MutexCall) -> Step {
+    Step {
+        thread: 0,
+        turn: Turn::Begin(Call::Mutex { lock: 0, call }),
+    }
+}
+
+const GO: Step = Step {
+    thread: 0,
+    turn: Turn::Go,
+};
+
+const TOLD: &[Outcome] = &[
+    Outcome::Step,
+    Outcome::End(Answer::Yes),
+    Outcome::Step,
+    Outcome::End(Answer::No),
+    Outcome::Step,
+    Outcome::End(Answer::Ok),
+];
+
+#[test]
+fn runs_the_steps_of_an_input(rt: HostRuntime) -> Result<(), Fail> {
+    let mut world = World::<ListQueues>::new(rt.alloc(), &[Kind::Mutex], 1)?;
+    let tries = begin(MutexCall::TryLock);
+    let steps = [tries, GO, tries, GO, begin(MutexCall::Unlock), GO];
+    let mut outcomes = Vec::new(rt.alloc());
+    same(&rt, world.run(&steps, &mut outcomes), Ok(()));
+    same(&rt, outcomes.as_slice(), TOLD);
+    Ok(())
+}
+
+#[test]
+fn a_failing_read_leaves_the_lines_before(rt: HostRuntime) {
+    let third_line = b"threads 1\nlock m mutex\n0 begin try_lock m\n".len();
+    for part in [third_line, third_line + 3] {
+        let found = replayed_in_pieces(rt.alloc(), &TWO_TRIES[..part], 7, true);
+        leads_to(&rt, found, b"0 step\n", 4);
+    }
+}
+
+/// What an input leads to where only so many bytes can be written.
+fn replayed_into(alloc: Global, mut input: &[u8], room: usize) -> (Vec<u8>, u8) {
+    let mut writer = Short::new(alloc, room);
+    let mut errors = Vec::new(alloc);
+    let args = ["replay"];
+    let status = start(alloc, &args, &mut input, &mut writer, &mut errors);
+    (writer.taken, status)
+}
+
+/// How often an input looks at a lock, and how many bytes can be written of what it prints.
+const ROOMS: &[(u32, usize)] = &[
+    (1, 3),
+    (1, 0),
+    (1500, 5000),
+    (1500, 5999),
+    (3000, 4096),
+    (3000, 5000),
+];
+
+#[test]
 fn a_failing_write_leaves_a_beginning(rt: HostRuntime) -> Result<(), Fail> {
-    for (looks, room) in [
-        (1, 3),
-        (1, 0),
-        (1500, 5000),
-        (1500, 5999),
-        (3000, 4096),
-        (3000, 5000),
-    ] {
-        let (input, shown) = many_looks(rt.alloc(), looks)?;
-        let mut writer = Short::new(rt.alloc(), room);
-        let mut errors = Vec::new(rt.alloc());
-        let mut reader = input.as_bytes();
-        let status = start(
-            rt.alloc(),
-            &["replay"],
-            &mut reader,
-            &mut writer,
-            &mut errors,
-        );
-        assert_eq!(rt;
-            Some(writer.taken.as_slice()),
-            shown.as_bytes().get(..room),
-            "in {room} bytes"
-        );
-        assert_eq!(rt; status, 4, "in {room} bytes");
+    for (looks, room) in ROOMS {
+        let (input, shown) = many_looks(rt.alloc(), *looks)?;
+        let (text, status) = replayed_into(rt.alloc(), input.as_bytes(), *room);
+        let beginning = shown.as_bytes().get(..*room);
+        same(&rt, (*room, status), (*room, 4));
+        same(&rt, (*room, Some(text.as_slice())), (*room, beginning));
     }
     Ok(())
 }
 
 #[test]
 fn a_slow_write_loses_nothing(rt: HostRuntime) {
-    for (input, want, status) in ROWS {
-        let mut writer = Short::new(rt.alloc(), 9999);
-        let mut errors = Vec::new(rt.alloc());
-        let mut reader = input;
-        let ended = start(
-            rt.alloc(),
-            &["replay"],
-            &mut reader,
-            &mut writer,
-            &mut errors,
-        );
-        same(&rt, writer.taken.as_slice(), want);
-        same(&rt, ended, status);
+    for (input, text, status) in ROWS.iter() {
+        leads_to(&rt, replayed_into(rt.alloc(), input, 9999), text, *status);
     }
 }
 
+/// Arguments that name no job.
+const WRONG: &[&[&str]] = &[
+    &[],
+    &["live"],
+    &[""],
+    &["Replay"],
+    &["replay", "live"],
+    &["replay", "replay"],
+];
+
 #[test]
 fn tells_the_usage(rt: HostRuntime) {
-    let usage = b"usage: lotsim replay | lotsim live\n".as_slice();
-    let wrong: [&[&str]; 6] = [
-        &[],
-        &["live"],
-        &[""],
-        &["Replay"],
-        &["replay", "live"],
-        &["replay", "replay"],
-    ];
-    for args in wrong {
+    for args in WRONG {
         let mut text = Vec::new(rt.alloc());
         let mut errors = Vec::new(rt.alloc());
         let mut reader = TWO_TRIES;
         let status = start(rt.alloc(), args, &mut reader, &mut text, &mut errors);
-        assert_eq!(rt; errors.as_slice(), usage, "at {args:?}");
-        assert_eq!(rt; text.as_slice(), b"".as_slice(), "at {args:?}");
-        assert_eq!(rt; status, 2, "at {args:?}");
+        let usage = b"usage: lotsim replay | lotsim live\n".as_slice();
+        same(&rt, (*args, errors.as_slice()), (*args, usage));
+        same(&rt, (*args, text.as_slice()), (*args, b"".as_slice()));
+        same(&rt, (*args, status), (*args, 2));
+    }
+}
+
+#[test]
+fn a_failing_write_leaves_a_beginning_of_the_usage(rt: HostRuntime) {
+    for args in WRONG {
+        let mut text = Vec::new(rt.alloc());
         let mut errors = Short::new(rt.alloc(), 5);
+        let mut reader = TWO_TRIES;
         let status = start(rt.alloc(), args, &mut reader, &mut text, &mut errors);
-        assert_eq!(rt; errors.taken.as_slice(), b"usage".as_slice(), "at {args:?}");
-        assert_eq!(rt; status, 4, "at {args:?}");
+        let beginning = b"usage".as_slice();
+        same(&rt, (*args, errors.taken.as_slice()), (*args, beginning));
+        same(&rt, (*args, status), (*args, 4));
     }
 }
