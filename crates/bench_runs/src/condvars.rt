@@ -11,6 +11,17 @@ use std::sync::{Arc, Wait};
 // How many items a queue holds.
 const PLACES: u64 = 16;
 
+// What comes of a thread's coming to a meeting.
+#[derive(Clone, Copy)]
+enum Meeting {
+    // Nothing is left to meet for.
+    Over,
+    // It was the last who came.
+    Full,
+    // It waits until more than so many operations are done.
+    Waits { round: u64 },
+}
+
 // What threads share that meet, take turns, or send items to one another.
 #[derive(Drop)]
 struct Tally {
@@ -47,9 +58,33 @@ impl Tally {
         }
     }
 
-    // Puts an item into the queue.
-    fn put(&mut self) {
-        self.at = self.at.wrapping_add(1);
+    // Comes to meet so many.
+    fn meet(&mut self, threads: u64) -> Meeting {
+        if self.left == 0 {
+            return Meeting::Over;
+        }
+        self.turn(threads);
+        if self.at == 0 {
+            self.count();
+            return Meeting::Full;
+        }
+        Meeting::Waits { round: self.done }
+    }
+
+    // Does an operation in its turn, and gives the turn to the next. Whether one was left.
+    fn take_turn(&mut self, threads: u64) -> bool {
+        let any = self.count();
+        self.turn(threads);
+        any
+    }
+
+    // Puts an item into the queue, if one is left. Whether it was.
+    fn put(&mut self) -> bool {
+        let any = self.count();
+        if any {
+            self.at = self.at.wrapping_add(1);
+        }
+        any
     }
 
     // Takes one from it. Whether there was one.
@@ -146,23 +181,24 @@ fn meet<R: Wait>(rt: &R, desk: &Desk, token: &mut Token, threads: u64) -> bool
     ensures { IsTokenOf (condvar_lot desk.now.filled) token.new }
 {
     let mut guard = desk.tally.lock(rt, token);
-    let round = guard.done;
-    if guard.left == 0 {
-        guard.unlock(rt, token);
-        return false;
+    match guard.meet(threads) {
+        Meeting::Over => {
+            guard.unlock(rt, token);
+            false
+        }
+        Meeting::Full => {
+            guard.unlock(rt, token);
+            desk.filled.notify_all(rt, token);
+            true
+        }
+        Meeting::Waits { round } => {
+            let guard = wait_while(rt, &desk.filled, token, guard, move |tally: &mut Tally| {
+                tally.done == round
+            });
+            guard.unlock(rt, token);
+            true
+        }
     }
-    guard.turn(threads);
-    if guard.at == 0 {
-        guard.count();
-        guard.unlock(rt, token);
-        desk.filled.notify_all(rt, token);
-        return true;
-    }
-    let guard = wait_while(rt, &desk.filled, token, guard, move |tally: &mut Tally| {
-        tally.done == round
-    });
-    guard.unlock(rt, token);
-    true
 }
 
 // Waits for its turn, and gives it to the next. Whether anything was left to do.
@@ -174,8 +210,7 @@ fn take_turn<R: Wait>(rt: &R, desk: &Desk, token: &mut Token, number: u64, threa
     let mut guard = wait_while(rt, &desk.filled, token, guard, move |tally: &mut Tally| {
         tally.left != 0 && tally.at != number
     });
-    let any = guard.count();
-    guard.turn(threads);
+    let any = guard.take_turn(threads);
     guard.unlock(rt, token);
     desk.filled.notify_all(rt, token);
     any
@@ -190,13 +225,11 @@ fn send<R: Wait>(rt: &R, desk: &Desk, token: &mut Token) -> bool
     let mut guard = wait_while(rt, &desk.emptied, token, guard, |tally: &mut Tally| {
         tally.left != 0 && tally.at >= PLACES
     });
-    let any = guard.count();
+    let any = guard.put();
+    guard.unlock(rt, token);
     if any {
-        guard.put();
-        guard.unlock(rt, token);
         desk.filled.notify_one(rt, token);
     } else {
-        guard.unlock(rt, token);
         desk.filled.notify_all(rt, token);
         desk.emptied.notify_all(rt, token);
     }
@@ -226,6 +259,17 @@ pub(crate) enum Way {
     Queue,
 }
 
+// The number of a thread, by the order in which they come.
+fn come_to<R: Wait>(rt: &R, desk: &Desk, token: &mut Token) -> u64
+    requires { IsTokenOf (condvar_lot desk.now.filled) token.old }
+    ensures { IsTokenOf (condvar_lot desk.now.filled) token.new }
+{
+    let mut guard = desk.tally.lock(rt, token);
+    let number = guard.come();
+    guard.unlock(rt, token);
+    number
+}
+
 /// Works at a desk until nothing is left. How many operations it took part in.
 pub(crate) fn work_at<R: Wait>(
     rt: &R,
@@ -237,9 +281,7 @@ pub(crate) fn work_at<R: Wait>(
     requires { IsTokenOf (condvar_lot desk.now.filled) token.old }
     ensures { IsTokenOf (condvar_lot desk.now.filled) token.new }
 {
-    let mut guard = desk.tally.lock(rt, token);
-    let number = guard.come();
-    guard.unlock(rt, token);
+    let number = come_to(rt, desk, token);
     let mut done = 0u64;
     for _ in rt.forever() {
         let any = match way {

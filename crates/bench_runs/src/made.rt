@@ -5,6 +5,7 @@
 ghost use Rattle.std.specs.Prelude.{◌≡◌, IfOk, Ok};
 
 use parking_lot::Fault;
+use std::alloc::Global;
 
 /// Both, where both were made.
 pub(crate) fn both<A: Drop, B: Drop>(
@@ -23,5 +24,16 @@ pub(crate) fn unless_refused<A: Drop, V: Drop>(made: Result<A, (Fault, V)>) -> R
     match made {
         Ok(one) => Ok(one),
         Err((fault, _)) => Err(fault),
+    }
+}
+
+/// What was made, in a box: a local is taken apart wherever it is moved or dropped, and that
+/// proved.
+pub(crate) fn boxed<A: Drop>(alloc: Global, made: Result<A, Fault>) -> Result<Box<A>, Fault>
+    ensures { IfOk result (λ boxed. made ≡ Ok boxed.value) }
+{
+    match Box::new(alloc, made?) {
+        Ok(boxed) => Ok(boxed),
+        Err(_) => Err(Fault::NoMemory),
     }
 }

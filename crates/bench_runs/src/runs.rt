@@ -11,7 +11,7 @@ ghost use Rattle.parking_lot.specs.Users.{lot_of};
 ghost use Rattle.parking_lot_core.specs.Tokens.{IsTicketOf, IsTokenOf};
 
 use crate::condvars::{DESK, Desk, Way, desk_for, done_at, notify_nobody, work_at};
-use crate::made::both;
+use crate::made::{both, boxed};
 use crate::mutexes::{
     MUTEXES, Mutexes, lock_raw, lock_value, mutexes_of, try_raw, try_value, value_in as added_to,
 };
@@ -21,7 +21,7 @@ use crate::rwlocks::{
     rwlocks_of, upgrade_value, value_in, write_raw, write_value,
 };
 use crate::shares::Shares;
-use parking_lot::{Fault, Once, ParkingLot, Ticket, Token};
+use parking_lot::{Fault, Once, ParkingLot, RwLock, Ticket, Token};
 use std::alloc::Global;
 use std::io;
 use std::sync::{Arc, Wait};
@@ -40,17 +40,16 @@ pub struct Figures {
     pub high: u64,
 }
 
-// Mutexes, reader-writer locks, a `Once` that is done, and a desk, of one lot. It lies in a box: a
-// local is taken apart wherever it is moved or dropped, and that proved.
+// Mutexes, reader-writer locks, a `Once` that is done, and a desk, of one lot.
 #[derive(Drop)]
 struct Bench {
-    mutexes: Mutexes,
-    rwlocks: RwLocks,
-    done: Once,
-    desk: Desk,
-    ghost together: { (rwlot_of rwlocks.raw ≡ lot_of mutexes.raw)
-        × (once_lot done ≡ lot_of mutexes.raw)
-        × (condvar_lot desk.filled ≡ lot_of mutexes.raw) },
+    mutexes: Box<Mutexes>,
+    rwlocks: Box<RwLocks>,
+    done: Box<Once>,
+    desk: Box<Desk>,
+    ghost together: { (rwlot_of rwlocks.value.raw ≡ lot_of mutexes.value.raw)
+        × (once_lot done.value ≡ lot_of mutexes.value.raw)
+        × (condvar_lot desk.value.filled ≡ lot_of mutexes.value.raw) },
 }
 
 // The locks, drawn from the lot.
@@ -59,26 +58,22 @@ fn bench_of(
     lot: &Arc<ParkingLot>,
     token: &mut Token,
     operations: u64,
-) -> Result<Box<Bench>, Fault>
+) -> Result<Bench, Fault>
     requires { IsTokenOf (arc_value lot.now) token.old }
     ensures token { IsTokenOf (arc_value lot.now) token.new }
-    ensures made { IfOk result (λ bench. lot_of bench.value.mutexes.raw ≡ arc_value lot.now) }
+    ensures made { IfOk result (λ bench. lot_of bench.mutexes.value.raw ≡ arc_value lot.now) }
 {
-    let mutexes = mutexes_of(lot, token);
-    let rwlocks = rwlocks_of(lot, token);
-    let done = Once::new_completed(lot, token);
-    let desk = desk_for(lot, token, operations);
+    let mutexes = boxed(alloc, mutexes_of(lot, token));
+    let rwlocks = boxed(alloc, rwlocks_of(lot, token));
+    let done = boxed(alloc, Once::new_completed(lot, token));
+    let desk = boxed(alloc, desk_for(lot, token, operations));
     let ((mutexes, rwlocks), (done, desk)) = both(both(mutexes, rwlocks), both(done, desk))?;
-    let bench = Bench {
+    Ok(Bench {
         mutexes,
         rwlocks,
         done,
         desk,
-    };
-    match Box::new(alloc, bench) {
-        Ok(bench) => Ok(bench),
-        Err(_) => Err(Fault::NoMemory),
-    }
+    })
 }
 
 // The same by the thread of a ticket, which it gives back.
@@ -87,9 +82,9 @@ fn bench_by(
     lot: &Arc<ParkingLot>,
     ticket: Ticket,
     operations: u64,
-) -> (Result<Box<Bench>, Fault>, Ticket)
+) -> (Result<Bench, Fault>, Ticket)
     requires { IsTicketOf (arc_value lot.now) ticket }
-    ensures { IfOk result.0 (λ bench. lot_of bench.value.mutexes.raw ≡ arc_value lot.now)
+    ensures { IfOk result.0 (λ bench. lot_of bench.mutexes.value.raw ≡ arc_value lot.now)
         × IsTicketOf (arc_value lot.now) result.1 }
 {
     let mut token = ticket.enter();
@@ -110,11 +105,11 @@ fn bench_for(
     alloc: Global,
     threads: usize,
     operations: u64,
-) -> Result<(Box<Bench>, Ticket, Vec<Ticket>), Fault>
+) -> Result<(Bench, Ticket, Vec<Ticket>), Fault>
     requires { threads ≤ 64 }
     ensures { IfOk result
-        (λ made. IsTicketOf (lot_of made.0.value.mutexes.raw) made.1
-        × All (IsTicketOf (lot_of made.0.value.mutexes.raw)) made.2.items) }
+        (λ made. IsTicketOf (lot_of made.0.mutexes.value.raw) made.1
+        × All (IsTicketOf (lot_of made.0.mutexes.value.raw)) made.2.items) }
 {
     let words = MUTEXES + RWLOCKS + 1 + DESK;
     let (lot, mut tickets) = ParkingLot::new(alloc, words, threads + 1)?;
@@ -137,27 +132,74 @@ fn call_once<R: Wait>(rt: &R, once: &Once, token: &mut Token, times: u64)
     }
 }
 
-// Does so many operations.
-fn operate<R: Wait>(rt: &R, mode: Mode, bench: &Bench, token: &mut Token, times: u64)
-    requires { IsTokenOf (lot_of bench.now.mutexes.raw) token.old }
-    ensures { IsTokenOf (lot_of bench.now.mutexes.raw) token.new }
+// Does so many operations of a mutex.
+fn operate_mutex<R: Wait>(rt: &R, mode: Mode, mutexes: &Mutexes, token: &mut Token, times: u64)
+    requires { IsTokenOf (lot_of mutexes.now.raw) token.old }
+    ensures { IsTokenOf (lot_of mutexes.now.raw) token.new }
 {
-    let (mutexes, rwlocks) = (&bench.mutexes, &bench.rwlocks);
     match mode {
         Mode::RawMutex => lock_raw(rt, &mutexes.raw, token, times),
         Mode::RawMutexTry => try_raw(rt, &mutexes.raw, token, times),
         Mode::Mutex => lock_value(rt, &mutexes.value, token, times),
         Mode::MutexTry => try_value(rt, &mutexes.value, token, times),
         Mode::Fair => lock_value(rt, &mutexes.fair, token, times),
+        _ => (),
+    }
+}
+
+// Of a reader-writer lock.
+fn operate_rwlock<R: Wait>(rt: &R, mode: Mode, rwlocks: &RwLocks, token: &mut Token, times: u64)
+    requires { IsTokenOf (rwlot_of rwlocks.now.raw) token.old }
+    ensures { IsTokenOf (rwlot_of rwlocks.now.raw) token.new }
+{
+    match mode {
         Mode::RawRead => read_raw(rt, &rwlocks.raw, token, times),
         Mode::RawWrite => write_raw(rt, &rwlocks.raw, token, times),
         Mode::Read => read_value(rt, &rwlocks.value, token, times),
         Mode::Write => write_value(rt, &rwlocks.value, token, times),
         Mode::RwMix => mix_value(rt, &rwlocks.value, token, times),
         Mode::ReadRecursive => read_value(rt, &rwlocks.recursive, token, times),
-        Mode::Upgradable => come_upgradable(rt, &rwlocks.value, token, times),
-        Mode::Upgrade => upgrade_value(rt, &rwlocks.value, token, times),
-        Mode::Downgrade => downgrade_value(rt, &rwlocks.value, token, times),
+        _ => (),
+    }
+}
+
+// Of one whose right is converted, or may be.
+fn operate_upgradable<R: Wait>(
+    rt: &R,
+    mode: Mode,
+    lock: &RwLock<u64>,
+    token: &mut Token,
+    times: u64,
+)
+    requires { IsTokenOf (rwlot_of lock.now) token.old }
+    ensures { IsTokenOf (rwlot_of lock.now) token.new }
+{
+    match mode {
+        Mode::Upgradable => come_upgradable(rt, lock, token, times),
+        Mode::Upgrade => upgrade_value(rt, lock, token, times),
+        Mode::Downgrade => downgrade_value(rt, lock, token, times),
+        _ => (),
+    }
+}
+
+// Does so many operations.
+fn operate<R: Wait>(rt: &R, mode: Mode, bench: &Bench, token: &mut Token, times: u64)
+    requires { IsTokenOf (lot_of bench.now.mutexes.value.raw) token.old }
+    ensures { IsTokenOf (lot_of bench.now.mutexes.value.raw) token.new }
+{
+    match mode {
+        Mode::RawMutex | Mode::RawMutexTry | Mode::Mutex | Mode::MutexTry | Mode::Fair => {
+            operate_mutex(rt, mode, &bench.mutexes, token, times);
+        }
+        Mode::RawRead
+        | Mode::RawWrite
+        | Mode::Read
+        | Mode::Write
+        | Mode::RwMix
+        | Mode::ReadRecursive => operate_rwlock(rt, mode, &bench.rwlocks, token, times),
+        Mode::Upgradable | Mode::Upgrade | Mode::Downgrade => {
+            operate_upgradable(rt, mode, &bench.rwlocks.value, token, times);
+        }
         Mode::Once => call_once(rt, &bench.done, token, times),
         Mode::Notify => notify_nobody(rt, &bench.desk.filled, token, times),
         // These share no operations in batches.
@@ -177,7 +219,7 @@ fn way_of(mode: Mode) -> Option<Way> {
 
 // Does operations until none is left. How many it did.
 fn work<R: Wait>(rt: &R, plan: Plan, bench: &Bench, ticket: Ticket, shares: &Shares) -> u64
-    requires { IsTicketOf (lot_of bench.now.mutexes.raw) ticket }
+    requires { IsTicketOf (lot_of bench.now.mutexes.value.raw) ticket }
 {
     let mode = plan.mode;
     let mut token = ticket.enter();
@@ -200,7 +242,7 @@ fn work<R: Wait>(rt: &R, plan: Plan, bench: &Bench, ticket: Ticket, shares: &Sha
 }
 
 fn total_of<R: Wait>(rt: &R, mode: Mode, bench: &Bench, maker: Ticket, counts: &[u64]) -> u64
-    requires { IsTicketOf (lot_of bench.now.mutexes.raw) maker }
+    requires { IsTicketOf (lot_of bench.now.mutexes.value.raw) maker }
 {
     let mut token = maker.enter();
     match mode {
@@ -242,7 +284,7 @@ fn time_work<R: Threads + Wait + Sync + Clock>(
     bench: &Bench,
     tickets: Vec<Ticket>,
 ) -> Result<io::Result<(u128, Vec<u64>)>, Fault>
-    requires { All (IsTicketOf (lot_of bench.now.mutexes.raw)) tickets.items }
+    requires { All (IsTicketOf (lot_of bench.now.mutexes.value.raw)) tickets.items }
 {
     let left = &Shares::new(plan.operations);
     let started = match Instant::now(rt) {

@@ -3,4 +3,4 @@ use Rattle.parking_lot_core.specs.Tokens.{IsTokenOf}
 use Rattle.bench_runs.proofs.runs.work.Given as goal
 
 abbrev pub invariant-loop : goal.invariant-loop
-invariant-loop g l = IsTokenOf (lot_of l.bench.mutexes.raw) l.token
+invariant-loop g l = IsTokenOf (lot_of l.bench.mutexes.value.raw) l.token
