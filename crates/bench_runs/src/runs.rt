@@ -17,11 +17,10 @@ use crate::mutexes::{
 };
 use crate::plans::{Mode, Plan};
 use crate::rwlocks::{
-    RWLOCKS, RwLocks, come_upgradable, downgrade_value, mix_value, read_raw, read_value,
-    rwlocks_of, upgrade_value, value_in, write_raw, write_value,
+    RWLOCKS, RwLocks, operate_raw, operate_value, read_value, rwlocks_of, value_in,
 };
 use crate::shares::Shares;
-use parking_lot::{Fault, Once, ParkingLot, RwLock, Ticket, Token};
+use parking_lot::{Fault, Once, ParkingLot, Ticket, Token};
 use std::alloc::Global;
 use std::io;
 use std::sync::{Arc, Wait};
@@ -147,41 +146,6 @@ fn operate_mutex<R: Wait>(rt: &R, mode: Mode, mutexes: &Mutexes, token: &mut Tok
     }
 }
 
-// Of a reader-writer lock.
-fn operate_rwlock<R: Wait>(rt: &R, mode: Mode, rwlocks: &RwLocks, token: &mut Token, times: u64)
-    requires { IsTokenOf (rwlot_of rwlocks.now.raw) token.old }
-    ensures { IsTokenOf (rwlot_of rwlocks.now.raw) token.new }
-{
-    match mode {
-        Mode::RawRead => read_raw(rt, &rwlocks.raw, token, times),
-        Mode::RawWrite => write_raw(rt, &rwlocks.raw, token, times),
-        Mode::Read => read_value(rt, &rwlocks.value, token, times),
-        Mode::Write => write_value(rt, &rwlocks.value, token, times),
-        Mode::RwMix => mix_value(rt, &rwlocks.value, token, times),
-        Mode::ReadRecursive => read_value(rt, &rwlocks.recursive, token, times),
-        _ => (),
-    }
-}
-
-// Of one whose right is converted, or may be.
-fn operate_upgradable<R: Wait>(
-    rt: &R,
-    mode: Mode,
-    lock: &RwLock<u64>,
-    token: &mut Token,
-    times: u64,
-)
-    requires { IsTokenOf (rwlot_of lock.now) token.old }
-    ensures { IsTokenOf (rwlot_of lock.now) token.new }
-{
-    match mode {
-        Mode::Upgradable => come_upgradable(rt, lock, token, times),
-        Mode::Upgrade => upgrade_value(rt, lock, token, times),
-        Mode::Downgrade => downgrade_value(rt, lock, token, times),
-        _ => (),
-    }
-}
-
 // Does so many operations.
 fn operate<R: Wait>(rt: &R, mode: Mode, bench: &Bench, token: &mut Token, times: u64)
     requires { IsTokenOf (lot_of bench.now.mutexes.value.raw) token.old }
@@ -191,15 +155,16 @@ fn operate<R: Wait>(rt: &R, mode: Mode, bench: &Bench, token: &mut Token, times:
         Mode::RawMutex | Mode::RawMutexTry | Mode::Mutex | Mode::MutexTry | Mode::Fair => {
             operate_mutex(rt, mode, &bench.mutexes, token, times);
         }
-        Mode::RawRead
-        | Mode::RawWrite
-        | Mode::Read
+        Mode::RawRead | Mode::RawWrite => {
+            operate_raw(rt, mode, &bench.rwlocks.raw, token, times);
+        }
+        Mode::Read
         | Mode::Write
         | Mode::RwMix
-        | Mode::ReadRecursive => operate_rwlock(rt, mode, &bench.rwlocks, token, times),
-        Mode::Upgradable | Mode::Upgrade | Mode::Downgrade => {
-            operate_upgradable(rt, mode, &bench.rwlocks.value, token, times);
-        }
+        | Mode::Upgradable
+        | Mode::Upgrade
+        | Mode::Downgrade => operate_value(rt, mode, &bench.rwlocks.value, token, times),
+        Mode::ReadRecursive => read_value(rt, &bench.rwlocks.recursive, token, times),
         Mode::Once => call_once(rt, &bench.done, token, times),
         Mode::Notify => notify_nobody(rt, &bench.desk.filled, token, times),
         // These share no operations in batches.
