@@ -4,6 +4,7 @@ ghost use Rattle.std.specs.Arc.{arc_value};
 ghost use Rattle.parking_lot_core.specs.Tokens.{IsTicketOf, IsTokenOf};
 ghost use Rattle.parking_lot.specs.Users.{lot_of};
 
+use super::mutexes::add_one;
 use super::{lot_of_seven, pair, same};
 use parking_lot::{FairMutex, Fault, Mutex, ParkingLot, Ticket, Token};
 use std::alloc::Global;
@@ -82,10 +83,10 @@ fn take_and_keep<R: Wait>(
 {
     let mut token = ticket.enter();
     wait_until(rt, held);
-    let mut guard = mutex.lock(rt, &mut token);
-    *guard = 1;
-    wait_until(rt, told);
-    guard.unlock(rt, &mut token);
+    mutex.with(rt, &mut token, move |value: &mut u8| {
+        *value = 1;
+        wait_until(rt, told);
+    });
     drop(token.leave());
 }
 
@@ -163,10 +164,7 @@ fn is_written<R: Wait>(rt: &R, mutex: &Mutex<u8>, token: &mut Token) -> bool
     requires { IsTokenOf (lot_of mutex.now) token.old }
     ensures { IsTokenOf (lot_of mutex.now) token.new }
 {
-    let guard = mutex.lock(rt, token);
-    let written = *guard == 1;
-    guard.unlock(rt, token);
-    written
+    mutex.with(rt, token, |value: &mut u8| *value == 1)
 }
 
 #[derive(Clone, Copy)]
@@ -252,9 +250,7 @@ fn add_many<R: Wait>(rt: &R, mutex: &FairMutex<u64>, ticket: Ticket)
 {
     let mut token = ticket.enter();
     for _ in 0..TIMES {
-        let mut guard = mutex.lock(rt, &mut token);
-        *guard = guard.wrapping_add(1);
-        guard.unlock(rt, &mut token);
+        add_one(rt, mutex, &mut token);
     }
     drop(token.leave());
 }
