@@ -4,7 +4,7 @@ ghost use Rattle.std.specs.Arc.{arc_value};
 ghost use Rattle.parking_lot_core.specs.Tokens.{IsTicketOf, IsTokenOf};
 ghost use Rattle.parking_lot.specs.Users.{lock_of, lot_of, value_of};
 
-use super::{holds, lone, lot_of_seven, mutex_alone, same};
+use super::{holds, lone, mutex_alone, mutex_of, same, seats};
 use parking_lot::{Fault, Mutex, MutexGuard, Ticket, Token, lock_api, lock_raw};
 use std::alloc::{AllocError, Global};
 use std::mem;
@@ -275,11 +275,9 @@ fn add_many<R: Wait>(rt: &R, mutex: &Mutex<u64>, ticket: Ticket)
 fn six_seats(alloc: Global) -> Result<(Mutex<u64>, Vec<Ticket>), Fault>
     ensures { IfOk result (λ made. All (IsTicketOf (lot_of made.0)) made.1.items) }
 {
-    let (lot, mut token, tickets) = lot_of_seven(alloc)?;
-    match Mutex::new(&lot, &mut token, 0) {
-        Ok(mutex) => Ok((mutex, tickets)),
-        Err((fault, _)) => Err(fault),
-    }
+    let (lot, mut token, tickets) = seats(alloc, 7)?;
+    let mutex = mutex_of(&lot, &mut token, 0)?;
+    Ok((mutex, tickets))
 }
 
 // All threads of these tickets add under one mutex, and what it comes to.
