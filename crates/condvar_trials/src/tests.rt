@@ -7,9 +7,9 @@ mod two;
 ghost use Rattle.std.specs.Prelude.{◌≡◌, ◌<◌, ◌≤◌, All, IfOk, IfSome};
 ghost use Rattle.std.specs.Arc.{arc_value};
 ghost use Rattle.parking_lot.specs.CondvarUsers.{lot_of as condvar_lot};
-ghost use Rattle.parking_lot.specs.Users.{IsTicketOf, IsTokenOf, lot_of};
+ghost use Rattle.parking_lot.specs.Users.{IsTicketOf, IsTokenOf, lock_of, lot_of};
 
-use parking_lot::{Condvar, Fault, Mutex, ParkingLot, Ticket, Token};
+use parking_lot::{Condvar, Fault, Mutex, MutexGuard, ParkingLot, TickClock, Ticket, Token};
 use std::alloc::Global;
 use std::fmt::Debug;
 use std::process::Abort;
@@ -17,6 +17,7 @@ use std::sync::atomic::AtomicBool;
 use std::sync::atomic::Ordering::SeqCst;
 use std::sync::{Arc, Wait};
 use std::thread::yield_now;
+use std::time::Duration;
 
 // What was found is what was wanted. All tests share this one assertion, since each is proved where
 // it stands.
@@ -158,8 +159,56 @@ fn look<T: Copy + Drop, R: Wait>(rt: &R, room: &Room<T>, token: &mut Token) -> T
     requires { IsTokenOf (lot_of room.now.mutex) token.old }
     ensures { IsTokenOf (lot_of room.now.mutex) token.new }
 {
-    let guard = room.mutex.lock(rt, token);
-    let value = *guard;
-    guard.unlock(rt, token);
-    value
+    room.mutex.with(rt, token, |value: &mut T| *value)
+}
+
+// Waits once. Whether it was notified.
+fn wait_once<T: Drop, R: Wait>(
+    rt: &R,
+    room: &Room<T>,
+    token: &mut Token,
+    guard: MutexGuard<'_, T>,
+) -> bool
+    requires token { IsTokenOf (lot_of room.now.mutex) token.old }
+    requires guard { lot_of (lock_of guard) ≡ lot_of room.now.mutex }
+    ensures { IsTokenOf (lot_of room.now.mutex) token.new }
+{
+    match room.condvar.wait(rt, token, guard) {
+        Ok(guard) => {
+            guard.unlock(rt, token);
+            true
+        }
+        Err((_, guard)) => {
+            guard.unlock(rt, token);
+            false
+        }
+    }
+}
+
+// Waits for so many nanoseconds. Whether its time was up, or nothing where it was refused.
+fn wait_for<R: Wait>(
+    rt: &R,
+    room: &Room<u32>,
+    token: &mut Token,
+    guard: MutexGuard<'_, u32>,
+    clock: &TickClock,
+    nanos: u64,
+) -> Option<bool>
+    requires token { IsTokenOf (lot_of room.now.mutex) token.old }
+    requires guard { lot_of (lock_of guard) ≡ lot_of room.now.mutex }
+    ensures { IsTokenOf (lot_of room.now.mutex) token.new }
+{
+    match room
+        .condvar
+        .wait_for(rt, token, guard, clock, Duration::from_nanos(nanos))
+    {
+        Ok((guard, ended)) => {
+            guard.unlock(rt, token);
+            Some(ended.timed_out())
+        }
+        Err((_, guard)) => {
+            guard.unlock(rt, token);
+            None
+        }
+    }
 }

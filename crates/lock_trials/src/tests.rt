@@ -3,7 +3,7 @@ mod fair;
 mod mutexes;
 mod timed;
 
-ghost use Rattle.std.specs.Prelude.{◌≡◌, All, IfOk, IfSome};
+ghost use Rattle.std.specs.Prelude.{◌≡◌, ◌<◌, ◌≤◌, All, IfOk, IfSome};
 ghost use Rattle.std.specs.Arc.{arc_value};
 ghost use Rattle.parking_lot_core.specs.Tokens.{IsTicketOf, IsTokenOf};
 ghost use Rattle.parking_lot.specs.Users.{lot_of};
@@ -25,27 +25,37 @@ fn holds(rt: &impl Abort, truth: bool) {
     assert!(rt; truth);
 }
 
+// A lot of one word and so many threads, with the token of the first and the tickets of the others.
+fn seats(alloc: Global, threads: usize) -> Result<(Arc<ParkingLot>, Token, Vec<Ticket>), Fault>
+    requires { (0 < threads) × (threads ≤ 1024) }
+    ensures { IfOk result (λ made. IsTokenOf (arc_value made.0) made.1
+        × All (IsTicketOf (arc_value made.0)) made.2.items) }
+{
+    let (lot, mut tickets) = ParkingLot::new(alloc, 1, threads)?;
+    let Some(first) = tickets.pop() else {
+        return Err(Fault::NoMemory);
+    };
+    Ok((lot, first.enter(), tickets))
+}
+
 // A lot of one word, with its one thread.
 fn lone(alloc: Global) -> Result<(Arc<ParkingLot>, Token), Fault>
     ensures { IfOk result (λ made. IsTokenOf (arc_value made.0) made.1) }
 {
-    let (lot, mut tickets) = ParkingLot::new(alloc, 1, 1)?;
-    let Some(ticket) = tickets.pop() else {
-        return Err(Fault::NoMemory);
-    };
-    Ok((lot, ticket.enter()))
+    let (lot, token, _others) = seats(alloc, 1)?;
+    Ok((lot, token))
 }
 
-// A lot of one word, with one of its seven threads and the tickets of the other six.
-fn lot_of_seven(alloc: Global) -> Result<(Arc<ParkingLot>, Token, Vec<Ticket>), Fault>
-    ensures { IfOk result (λ made. IsTokenOf (arc_value made.0) made.1
-        × All (IsTicketOf (arc_value made.0)) made.2.items) }
+// A mutex of a lot. The value is dropped where it is refused.
+fn mutex_of<T: Drop>(lot: &Arc<ParkingLot>, token: &mut Token, value: T) -> Result<Mutex<T>, Fault>
+    requires { IsTokenOf (arc_value lot.now) token.old }
+    ensures token { IsTokenOf (arc_value lot.now) token.new }
+    ensures made { IfOk result (λ mutex. lot_of mutex ≡ arc_value lot.now) }
 {
-    let (lot, mut tickets) = ParkingLot::new(alloc, 1, 7)?;
-    let Some(ticket) = tickets.pop() else {
-        return Err(Fault::NoMemory);
-    };
-    Ok((lot, ticket.enter(), tickets))
+    match Mutex::new(lot, token, value) {
+        Ok(mutex) => Ok(mutex),
+        Err((fault, _)) => Err(fault),
+    }
 }
 
 // A mutex that one thread has for itself.
@@ -53,27 +63,15 @@ fn mutex_alone<T: Drop>(alloc: Global, value: T) -> Result<(Mutex<T>, Token), Fa
     ensures { IfOk result (λ made. IsTokenOf (lot_of made.0) made.1) }
 {
     let (lot, mut token) = lone(alloc)?;
-    match Mutex::new(&lot, &mut token, value) {
-        Ok(mutex) => Ok((mutex, token)),
-        Err((fault, _)) => Err(fault),
-    }
+    let mutex = mutex_of(&lot, &mut token, value)?;
+    Ok((mutex, token))
 }
 
 fn next_of(lot: &ParkingLot, tickets: &mut Vec<Ticket>) -> Option<Ticket>
     requires { All (IsTicketOf lot.now) tickets.old.items }
-    ensures left { All (IsTicketOf lot.now) tickets.new.items }
-    ensures one { IfSome result (IsTicketOf lot.now) }
+    ensures { IfSome result (IsTicketOf lot.now) }
 {
     tickets.pop()
-}
-
-fn next_pair(lot: &ParkingLot, tickets: &mut Vec<Ticket>) -> Option<(Ticket, Ticket)>
-    requires { All (IsTicketOf lot.now) tickets.old.items }
-    ensures { IfSome result (λ pair. IsTicketOf lot.now pair.0 × IsTicketOf lot.now pair.1) }
-{
-    let one = next_of(lot, tickets)?;
-    let other = next_of(lot, tickets)?;
-    Some((one, other))
 }
 
 // A lot of one word, with two threads, and its mutex.
@@ -82,13 +80,10 @@ fn pair(alloc: Global) -> Result<(Arc<ParkingLot>, Mutex<u8>, Token, Token), Fau
         (λ made. (lot_of made.1 ≡ arc_value made.0) × IsTokenOf (arc_value made.0) made.2
         × IsTokenOf (arc_value made.0) made.3) }
 {
-    let (lot, mut tickets) = ParkingLot::new(alloc, 1, 2)?;
-    let Some((one, other)) = next_pair(&lot, &mut tickets) else {
-        return Err(Fault::NoMemory);
-    };
-    let mut token = one.enter();
-    match Mutex::new(&lot, &mut token, 0) {
-        Ok(mutex) => Ok((lot, mutex, token, other.enter())),
-        Err((fault, _)) => Err(fault),
+    let (lot, mut token, mut others) = seats(alloc, 2)?;
+    let mutex = mutex_of(&lot, &mut token, 0)?;
+    match next_of(&lot, &mut others) {
+        Some(other) => Ok((lot, mutex, token, other.enter())),
+        None => Err(Fault::NoMemory),
     }
 }

@@ -2,7 +2,7 @@
 mod cells;
 mod meets;
 
-ghost use Rattle.std.specs.Prelude.{◌<◌, ◌≤◌, All, IfOk};
+ghost use Rattle.std.specs.Prelude.{◌≡◌, ◌<◌, ◌≤◌, All, IfOk};
 ghost use Rattle.std.specs.Arc.{arc_value};
 ghost use Rattle.std.specs.Fork.{AcceptsJobs};
 ghost use Rattle.run_once.specs.Users.{IsTicketOf, IsTokenOf, lot_of};
@@ -43,6 +43,29 @@ fn seats(alloc: Global, threads: usize) -> Result<(Arc<ParkingLot>, Token, Vec<T
     Ok((lot, first.enter(), tickets))
 }
 
+// The same with a `Once`.
+fn once_for(
+    alloc: Global,
+    threads: usize,
+) -> Result<(Arc<ParkingLot>, Once, Token, Vec<Ticket>), Fault>
+    requires { (0 < threads) × (threads ≤ 1024) }
+    ensures { IfOk result
+        (λ made. (lot_of made.1 ≡ arc_value made.0) × IsTokenOf (lot_of made.1) made.2
+        × All (IsTicketOf (lot_of made.1)) made.3.items) }
+{
+    let (lot, mut token, tickets) = seats(alloc, threads)?;
+    let once = Once::new(&lot, &mut token)?;
+    Ok((lot, once, token, tickets))
+}
+
+// A `Once` that one thread has for itself.
+fn once_alone(alloc: Global) -> Result<(Once, Token), Fault>
+    ensures { IfOk result (λ made. IsTokenOf (lot_of made.0) made.1) }
+{
+    let (_lot, once, token, _others) = once_for(alloc, 1)?;
+    Ok((once, token))
+}
+
 // How it answers, in a word.
 fn told(answer: Result<(), OnceFault<u32>>) -> &'static str {
     match answer {
@@ -65,27 +88,40 @@ fn count_run<R: Wait>(rt: &R, once: &Once, token: &mut Token, runs: &AtomicUsize
     told(answer)
 }
 
-// A `Once` that one thread has for itself.
-fn once_alone(alloc: Global) -> Result<(Once, Token), Fault>
-    ensures { IfOk result (λ made. IsTokenOf (lot_of made.0) made.1) }
+// What comes of such a call is what was wanted.
+fn answers<R: Wait + Abort>(
+    rt: &R,
+    once: &Once,
+    token: &mut Token,
+    runs: &AtomicUsize,
+    wanted: &'static str,
+)
+    requires { IsTokenOf (lot_of once.now) token.old }
+    ensures { IsTokenOf (lot_of once.now) token.new }
 {
-    let (lot, mut token, _others) = seats(alloc, 1)?;
-    let once = Once::new(&lot, &mut token)?;
-    Ok((once, token))
+    same(rt, count_run(rt, once, token, runs), wanted);
+}
+
+// It stands as it was wanted to, and tells so by both calls that look.
+fn stands(rt: &impl Abort, once: &Once, token: &mut Token, wanted: OnceState)
+    requires { IsTokenOf (lot_of once.now) token.old }
+    ensures { IsTokenOf (lot_of once.now) token.new }
+{
+    same(rt, once.state(token), wanted);
+    same(rt, once.is_completed(token), wanted == OnceState::Done);
 }
 
 #[test]
 fn who_calls_first_runs(rt: HostRuntime) -> Result<(), Fail> {
     let (once, mut token) = once_alone(rt.alloc())?;
     let runs = AtomicUsize::new(0);
-    same(&rt, once.state(&mut token), OnceState::New);
-    holds(&rt, !once.is_completed(&mut token));
-    same(&rt, count_run(&rt, &once, &mut token, &runs), "ok");
-    same(&rt, once.state(&mut token), OnceState::Done);
-    same(&rt, count_run(&rt, &once, &mut token, &runs), "ok");
+    stands(&rt, &once, &mut token, OnceState::New);
+    answers(&rt, &once, &mut token, &runs, "ok");
+    stands(&rt, &once, &mut token, OnceState::Done);
+    answers(&rt, &once, &mut token, &runs, "ok");
     holds(&rt, once.wait(&rt, &mut token).is_ok());
     once.wait_force(&rt, &mut token);
-    holds(&rt, once.is_completed(&mut token));
+    stands(&rt, &once, &mut token, OnceState::Done);
     same(&rt, runs.load(SeqCst), 1);
     Ok(())
 }
@@ -95,8 +131,8 @@ fn what_is_made_done_runs_nothing(rt: HostRuntime) -> Result<(), Fail> {
     let (lot, mut token, _others) = seats(rt.alloc(), 1)?;
     let once = Once::new_completed(&lot, &mut token)?;
     let runs = AtomicUsize::new(0);
-    same(&rt, once.state(&mut token), OnceState::Done);
-    same(&rt, count_run(&rt, &once, &mut token, &runs), "ok");
+    stands(&rt, &once, &mut token, OnceState::Done);
+    answers(&rt, &once, &mut token, &runs, "ok");
     same(&rt, runs.load(SeqCst), 0);
     Ok(())
 }
@@ -131,8 +167,8 @@ fn a_failed_run_poisons(rt: HostRuntime) -> Result<(), Fail> {
     let runs = AtomicUsize::new(0);
     let poisoned = AtomicBool::new(false);
     same(&rt, fail(&rt, &once, &mut token), "failed");
-    same(&rt, once.state(&mut token), OnceState::Poisoned);
-    same(&rt, count_run(&rt, &once, &mut token, &runs), "poisoned");
+    stands(&rt, &once, &mut token, OnceState::Poisoned);
+    answers(&rt, &once, &mut token, &runs, "poisoned");
     same(&rt, runs.load(SeqCst), 0);
     holds(
         &rt,
@@ -140,8 +176,8 @@ fn a_failed_run_poisons(rt: HostRuntime) -> Result<(), Fail> {
     );
     same(&rt, mend(&rt, &once, &mut token, &poisoned), "ok");
     holds(&rt, poisoned.load(SeqCst));
-    same(&rt, once.state(&mut token), OnceState::Done);
-    same(&rt, count_run(&rt, &once, &mut token, &runs), "ok");
+    stands(&rt, &once, &mut token, OnceState::Done);
+    answers(&rt, &once, &mut token, &runs, "ok");
     same(&rt, runs.load(SeqCst), 0);
     Ok(())
 }
@@ -181,8 +217,7 @@ fn stampede<R: Threads + Wait + Sync>(
 
 #[test]
 fn ten_threads_come_at_once(rt: HostRuntime) -> Result<(), Fail> {
-    let (lot, mut token, others) = seats(rt.alloc(), 11)?;
-    let once = Once::new(&lot, &mut token)?;
+    let (_lot, once, mut token, others) = once_for(rt.alloc(), 11)?;
     let runs = AtomicUsize::new(0);
     holds(&rt, stampede(&rt, &once, others, &runs));
     same(&rt, runs.load(SeqCst), 1);

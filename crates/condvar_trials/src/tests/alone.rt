@@ -1,7 +1,7 @@
 //! One thread, which nobody notifies.
 ghost use Rattle.parking_lot.specs.Users.{IsTokenOf, lock_of, lot_of};
 
-use super::{Room, holds, room_for, same};
+use super::{Room, holds, room_for, same, wait_for};
 use parking_lot::{Clock, MutexGuard, TickClock, Token, WaitTimeoutResult};
 use std::sync::Wait;
 use std::test::Fail;
@@ -161,19 +161,8 @@ fn gives_up<R: Wait>(rt: &R, room: &Room<u32>, token: &mut Token, clock: &TickCl
     ensures { IsTokenOf (lot_of room.now.mutex) token.new }
 {
     let guard = room.mutex.lock(rt, token);
-    match room
-        .condvar
-        .wait_for(rt, token, guard, clock, Duration::from_nanos(20))
-    {
-        Ok((guard, ended)) => {
-            guard.unlock(rt, token);
-            ended.timed_out() && !room.mutex.is_locked(token)
-        }
-        Err((_, guard)) => {
-            guard.unlock(rt, token);
-            false
-        }
-    }
+    let timed_out = wait_for(rt, room, token, guard, clock, 20);
+    timed_out == Some(true) && !room.mutex.is_locked(token)
 }
 
 #[test]

@@ -3,7 +3,7 @@ ghost use Rattle.std.specs.Prelude.{◌≡◌, ◌<◌, ◌≤◌, All, IfSome};
 ghost use Rattle.std.specs.Fork.{AcceptsJobs};
 ghost use Rattle.parking_lot.specs.Users.{IsTicketOf, IsTokenOf, lock_of, lot_of};
 
-use super::{Room, TURNS, look, next_of, room_for, room_for_two, same};
+use super::{Room, TURNS, look, next_of, room_for, room_for_two, same, wait_once};
 use parking_lot::{Fault, MutexGuard, ParkingLot, TickClock, Ticket, Token};
 use std::alloc::Global;
 use std::sync::Wait;
@@ -11,23 +11,18 @@ use std::test::Fail;
 use std::thread::{Threads, join, map_vec, yield_now};
 use std::time::Duration;
 
+fn add_one(value: &mut usize) {
+    *value = value.wrapping_add(1);
+}
+
 // Adds 1 under the mutex, and waits. Whether it was notified.
 fn add_and_wait<R: Wait>(rt: &R, room: &Room<usize>, token: &mut Token) -> bool
     requires { IsTokenOf (lot_of room.now.mutex) token.old }
     ensures { IsTokenOf (lot_of room.now.mutex) token.new }
 {
     let mut guard = room.mutex.lock(rt, token);
-    *guard = guard.wrapping_add(1);
-    match room.condvar.wait(rt, token, guard) {
-        Ok(guard) => {
-            guard.unlock(rt, token);
-            true
-        }
-        Err((_, guard)) => {
-            guard.unlock(rt, token);
-            false
-        }
-    }
+    add_one(&mut *guard);
+    wait_once(rt, room, token, guard)
 }
 
 // Waits once more for a short time, and notifies the next.
@@ -99,11 +94,36 @@ fn guard_behind<'r, R: Wait>(
 }
 
 // Whom a thread notifies, and whether it has the mutex then.
-#[derive(Clone, Copy, PartialEq, Eq)]
+#[derive(Clone, Copy)]
 enum Notifies {
     AllUnderMutex,
     AllFree,
     One,
+}
+
+// Notifies, and gives the mutex up: how many it told.
+fn notify<R: Wait>(
+    rt: &R,
+    room: &Room<usize>,
+    token: &mut Token,
+    guard: MutexGuard<'_, usize>,
+    whom: Notifies,
+) -> usize
+    requires token { IsTokenOf (lot_of room.now.mutex) token.old }
+    requires guard { lot_of (lock_of guard) ≡ lot_of room.now.mutex }
+    ensures { IsTokenOf (lot_of room.now.mutex) token.new }
+{
+    if matches!(whom, Notifies::AllUnderMutex) {
+        let number = room.condvar.notify_all(rt, token);
+        guard.unlock(rt, token);
+        return number;
+    }
+    guard.unlock(rt, token);
+    if matches!(whom, Notifies::AllFree) {
+        room.condvar.notify_all(rt, token)
+    } else {
+        usize::from(room.condvar.notify_one(rt, token))
+    }
 }
 
 // Notifies once all wait: how many, and how many a further time.
@@ -120,24 +140,14 @@ fn notify_behind<R: Wait>(
     let Some(guard) = guard_behind(rt, room, &mut token, threads) else {
         return (0, 0);
     };
-    let told = match whom {
-        Notifies::AllUnderMutex => {
-            let number = room.condvar.notify_all(rt, &mut token);
-            guard.unlock(rt, &mut token);
-            (number, room.condvar.notify_all(rt, &mut token))
-        }
-        Notifies::AllFree => {
-            guard.unlock(rt, &mut token);
-            let number = room.condvar.notify_all(rt, &mut token);
-            (number, room.condvar.notify_all(rt, &mut token))
-        }
-        Notifies::One => {
-            guard.unlock(rt, &mut token);
-            (usize::from(room.condvar.notify_one(rt, &mut token)), 0)
-        }
+    let told = notify(rt, room, &mut token, guard, whom);
+    let further = if matches!(whom, Notifies::One) {
+        0
+    } else {
+        room.condvar.notify_all(rt, &mut token)
     };
     drop(token.leave());
-    told
+    (told, further)
 }
 
 fn wait_and_notify<R: Threads + Wait + Sync>(
@@ -155,7 +165,7 @@ fn wait_and_notify<R: Threads + Wait + Sync>(
         rt,
         move ||
             requires { All (IsTicketOf (lot_of room.now.mutex)) tickets.items }
-        { all_wait(rt, room, tickets, whom == Notifies::One) },
+        { all_wait(rt, room, tickets, matches!(whom, Notifies::One)) },
         move ||
             requires { IsTicketOf (lot_of room.now.mutex) ticket }
         { notify_behind(rt, room, ticket, threads, whom) },

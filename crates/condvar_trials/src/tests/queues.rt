@@ -7,9 +7,11 @@ ghost use Rattle.parking_lot.specs.Users.{IsTicketOf, IsTokenOf, lock_of, lot_of
 use super::{holds, seats};
 use parking_lot::{Condvar, Fault, Mutex, MutexGuard, ParkingLot, TickClock, Ticket, Token};
 use std::alloc::Global;
+use std::sync::atomic::AtomicUsize;
+use std::sync::atomic::Ordering::SeqCst;
 use std::sync::{Arc, Wait};
 use std::test::Fail;
-use std::thread::{Threads, join, map_vec};
+use std::thread::{Threads, map_vec};
 use std::time::Duration;
 
 const EACH: u64 = 200;
@@ -63,7 +65,7 @@ struct Pipe {
 }
 
 // How threads wait and notify.
-#[derive(Clone, Copy, PartialEq, Eq)]
+#[derive(Clone, Copy)]
 enum Style {
     One,
     All,
@@ -100,7 +102,7 @@ fn wait_more<'p, R: Wait>(
     ensures token { IsTokenOf (lot_of (lock_of guard.entry)) token.new }
     ensures guard { lock_of result ≡ lock_of guard.entry }
 {
-    if style == Style::Bounded {
+    if matches!(style, Style::Bounded) {
         let clock = TickClock::new();
         match condvar.wait_for(rt, token, guard, &clock, Duration::from_nanos(SHORT)) {
             Ok((guard, _)) => guard,
@@ -118,11 +120,36 @@ fn notify<R: Wait>(rt: &R, condvar: &Condvar, token: &mut Token, style: Style)
     requires { IsTokenOf (condvar_lot condvar.now) token.old }
     ensures { IsTokenOf (condvar_lot condvar.now) token.new }
 {
-    if style == Style::One {
+    if matches!(style, Style::One) {
         condvar.notify_one(rt, token);
     } else {
         condvar.notify_all(rt, token);
     }
+}
+
+// The guard of the line, once that blocks nobody like this one any more.
+fn guard_past<'p, R: Wait, F: Fn(&Line) -> bool + Drop>(
+    rt: &R,
+    pipe: &'p Pipe,
+    condvar: &Condvar,
+    token: &mut Token,
+    style: Style,
+    blocks: F,
+) -> MutexGuard<'p, Line>
+    requires token { IsTokenOf (lot_of pipe.now.line) token.old }
+    requires condvar { condvar_lot condvar.now ≡ lot_of pipe.now.line }
+    requires blocks { F.IsAlwaysCallable blocks }
+    ensures token { IsTokenOf (lot_of pipe.now.line) token.new }
+    ensures guard { lock_of result ≡ pipe.now.line }
+{
+    let mut guard = pipe.line.lock(rt, token);
+    for _ in rt.forever() {
+        if !blocks(&*guard) {
+            break;
+        }
+        guard = wait_more(rt, condvar, token, guard, style);
+    }
+    guard
 }
 
 // Waits until there is room, and sends a number.
@@ -130,13 +157,7 @@ fn send<R: Wait>(rt: &R, pipe: &Pipe, token: &mut Token, number: u64, style: Sty
     requires { IsTokenOf (lot_of pipe.now.line) token.old }
     ensures { IsTokenOf (lot_of pipe.now.line) token.new }
 {
-    let mut guard = pipe.line.lock(rt, token);
-    for _ in rt.forever() {
-        if !guard.is_full() {
-            break;
-        }
-        guard = wait_more(rt, &pipe.emptied, token, guard, style);
-    }
+    let mut guard = guard_past(rt, pipe, &pipe.emptied, token, style, Line::is_full);
     guard.put(number);
     guard.unlock(rt, token);
     notify(rt, &pipe.filled, token, style);
@@ -147,13 +168,7 @@ fn receive<R: Wait>(rt: &R, pipe: &Pipe, token: &mut Token, style: Style) -> boo
     requires { IsTokenOf (lot_of pipe.now.line) token.old }
     ensures { IsTokenOf (lot_of pipe.now.line) token.new }
 {
-    let mut guard = pipe.line.lock(rt, token);
-    for _ in rt.forever() {
-        if !guard.is_blank() {
-            break;
-        }
-        guard = wait_more(rt, &pipe.filled, token, guard, style);
-    }
+    let mut guard = guard_past(rt, pipe, &pipe.filled, token, style, Line::is_blank);
     let any = guard.take();
     guard.unlock(rt, token);
     notify(rt, &pipe.emptied, token, style);
@@ -187,76 +202,46 @@ fn receive_each<R: Wait>(rt: &R, pipe: &Pipe, ticket: Ticket, style: Style) -> u
     taken
 }
 
-fn all_send<R: Threads + Wait + Sync>(
+// The first who come send, and the others receive. How many numbers it took.
+fn take_part<R: Wait>(
     rt: &R,
     pipe: &Pipe,
-    tickets: Vec<Ticket>,
-    style: Style,
-) -> bool
-    requires { All (IsTicketOf (lot_of pipe.now.line)) tickets.items }
-{
-    let sent = map_vec(
-        rt,
-        tickets,
-        &|ticket: Ticket|
-            requires { IsTicketOf (lot_of pipe.now.line) ticket }
-        { send_each(rt, pipe, ticket, style) },
-    );
-    sent.is_ok()
-}
-
-fn all_receive<R: Threads + Wait + Sync>(
-    rt: &R,
-    pipe: &Pipe,
-    tickets: Vec<Ticket>,
+    ticket: Ticket,
+    came: &AtomicUsize,
+    senders: usize,
     style: Style,
 ) -> u64
+    requires { IsTicketOf (lot_of pipe.now.line) ticket }
+{
+    if came.fetch_add(1, SeqCst) < senders {
+        send_each(rt, pipe, ticket, style);
+        0
+    } else {
+        receive_each(rt, pipe, ticket, style)
+    }
+}
+
+// How many numbers all threads of these tickets took, of whom so many send.
+fn send_and_receive<R: Threads + Wait + Sync>(
+    rt: &R,
+    pipe: &Pipe,
+    tickets: Vec<Ticket>,
+    senders: usize,
+    style: Style,
+) -> Option<u64>
     requires { All (IsTicketOf (lot_of pipe.now.line)) tickets.items }
 {
+    let came = &AtomicUsize::new(0);
     let taken = map_vec(
         rt,
         tickets,
         &|ticket: Ticket|
             requires { IsTicketOf (lot_of pipe.now.line) ticket }
-        { receive_each(rt, pipe, ticket, style) },
+        { take_part(rt, pipe, ticket, came, senders, style) },
     );
     match taken {
-        Ok(taken) => taken.iter().fold(0u64, |all, one| all.wrapping_add(*one)),
-        Err(_) => 0,
-    }
-}
-
-fn send_and_receive<R: Threads + Wait + Sync>(
-    rt: &R,
-    pipe: &Pipe,
-    senders: Vec<Ticket>,
-    receivers: Vec<Ticket>,
-    style: Style,
-) -> (bool, u64)
-    requires senders { All (IsTicketOf (lot_of pipe.now.line)) senders.items }
-    requires receivers { All (IsTicketOf (lot_of pipe.now.line)) receivers.items }
-{
-    join(
-        rt,
-        move ||
-            requires { All (IsTicketOf (lot_of pipe.now.line)) senders.items }
-        { all_send(rt, pipe, senders, style) },
-        move ||
-            requires { All (IsTicketOf (lot_of pipe.now.line)) receivers.items }
-        { all_receive(rt, pipe, receivers, style) },
-    )
-}
-
-// The last so many of the tickets, in a list of their own.
-fn some_of(lot: &ParkingLot, tickets: &mut Vec<Ticket>, number: usize) -> Result<Vec<Ticket>, Fault>
-    requires { All (IsTicketOf lot.now) tickets.old.items }
-    ensures left { All (IsTicketOf lot.now) tickets.new.items }
-    ensures some { IfOk result (λ some. All (IsTicketOf lot.now) some.items) }
-{
-    let at = tickets.len().saturating_sub(number);
-    match tickets.split_off(at) {
-        Ok(some) => Ok(some),
-        Err(_) => Err(Fault::NoMemory),
+        Ok(taken) => Some(taken.iter().fold(0u64, |all, one| all.wrapping_add(*one))),
+        Err(_) => None,
     }
 }
 
@@ -271,7 +256,7 @@ fn passes<R: Threads + Wait + Sync>(
     requires { (threads.0 ≤ 100) × (threads.1 ≤ 100) }
 {
     let (senders, receivers) = threads;
-    let (lot, mut token, mut others) = seats(alloc, 3, senders + receivers + 1)?;
+    let (lot, mut token, others) = seats(alloc, 3, senders + receivers + 1)?;
     let to_come = EACH.wrapping_mul(senders as u64);
     let line = Line {
         inside: 0,
@@ -280,8 +265,7 @@ fn passes<R: Threads + Wait + Sync>(
         to_come,
     };
     let pipe = pipe_of(&lot, &mut token, line)?;
-    let sending = some_of(&lot, &mut others, senders)?;
-    let (sent, taken) = send_and_receive(rt, &pipe, sending, others, style);
+    let taken = send_and_receive(rt, &pipe, others, senders, style);
     let Line {
         inside,
         sum,
@@ -289,7 +273,7 @@ fn passes<R: Threads + Wait + Sync>(
         to_come: _,
     } = pipe.line.into_inner();
     let wanted = (senders as u64).wrapping_mul(EACH * (EACH + 1) / 2);
-    Ok(sent && taken == to_come && inside == 0 && sum == wanted)
+    Ok(taken == Some(to_come) && inside == 0 && sum == wanted)
 }
 
 #[test]

@@ -2,23 +2,25 @@
 ghost use Rattle.std.specs.Prelude.{◌≡◌, IfOk};
 ghost use Rattle.std.specs.Arc.{arc_value};
 ghost use Rattle.parking_lot.specs.CondvarUsers.{lot_of as condvar_lot};
-ghost use Rattle.parking_lot.specs.Users.{IsTicketOf, IsTokenOf, lock_of, lot_of};
+ghost use Rattle.parking_lot.specs.Users.{IsTicketOf, IsTokenOf, lot_of};
 
-use super::{Room, await_flag, holds, look, next_pair, room_for_two, same, seats, stand_under};
-use parking_lot::{Condvar, Fault, Mutex, MutexGuard, ParkingLot, TickClock, Ticket, Token};
+use super::{
+    Room, await_flag, holds, look, next_pair, room_for_two, same, seats, stand_under, wait_for,
+    wait_once,
+};
+use parking_lot::{Condvar, Fault, Mutex, ParkingLot, TickClock, Ticket, Token};
 use std::alloc::Global;
 use std::sync::atomic::AtomicBool;
 use std::sync::atomic::Ordering::SeqCst;
 use std::sync::{Arc, Wait};
 use std::test::Fail;
 use std::thread::{Threads, join, yield_now};
-use std::time::Duration;
 
 // So many nanoseconds that no test comes to their end.
 const LONG: u64 = 3_600_000_000_000;
 
 // How the one waits, and how the other comes to notify it.
-#[derive(Clone, Copy, PartialEq, Eq)]
+#[derive(Clone, Copy)]
 enum Way {
     // Under the mutex, for which it had to wait.
     UnderMutex,
@@ -28,56 +30,6 @@ enum Way {
     InLine,
     // As the first, and the other waits with a limit.
     Timed,
-}
-
-// Waits once. Whether it was notified.
-fn wait_once<R: Wait>(
-    rt: &R,
-    room: &Room<u32>,
-    token: &mut Token,
-    guard: MutexGuard<'_, u32>,
-) -> bool
-    requires token { IsTokenOf (lot_of room.now.mutex) token.old }
-    requires guard { lot_of (lock_of guard) ≡ lot_of room.now.mutex }
-    ensures { IsTokenOf (lot_of room.now.mutex) token.new }
-{
-    match room.condvar.wait(rt, token, guard) {
-        Ok(guard) => {
-            guard.unlock(rt, token);
-            true
-        }
-        Err((_, guard)) => {
-            guard.unlock(rt, token);
-            false
-        }
-    }
-}
-
-// The same with a limit.
-fn wait_long<R: Wait>(
-    rt: &R,
-    room: &Room<u32>,
-    token: &mut Token,
-    guard: MutexGuard<'_, u32>,
-) -> bool
-    requires token { IsTokenOf (lot_of room.now.mutex) token.old }
-    requires guard { lot_of (lock_of guard) ≡ lot_of room.now.mutex }
-    ensures { IsTokenOf (lot_of room.now.mutex) token.new }
-{
-    let clock = TickClock::new();
-    match room
-        .condvar
-        .wait_for(rt, token, guard, &clock, Duration::from_nanos(LONG))
-    {
-        Ok((guard, ended)) => {
-            guard.unlock(rt, token);
-            !ended.timed_out()
-        }
-        Err((_, guard)) => {
-            guard.unlock(rt, token);
-            false
-        }
-    }
 }
 
 // Locks, tells so, and waits. Whether it was notified.
@@ -94,9 +46,10 @@ fn lock_and_wait<R: Wait>(
     let mut token = ticket.enter();
     let guard = room.mutex.lock(rt, &mut token);
     locked.store(true, SeqCst);
-    let came = way != Way::InLine || stand_under(rt, lot, &mut token, room.mutex.raw().key(), 1);
-    let notified = if way == Way::Timed {
-        wait_long(rt, room, &mut token, guard)
+    let came = !matches!(way, Way::InLine)
+        || stand_under(rt, lot, &mut token, room.mutex.raw().key(), 1);
+    let notified = if matches!(way, Way::Timed) {
+        wait_for(rt, room, &mut token, guard, &TickClock::new(), LONG) == Some(false)
     } else {
         wait_once(rt, room, &mut token, guard)
     };
@@ -111,7 +64,7 @@ fn notify<R: Wait>(rt: &R, room: &Room<u32>, ticket: Ticket, locked: &AtomicBool
     let mut token = ticket.enter();
     await_flag(rt, locked);
     let guard = room.mutex.lock(rt, &mut token);
-    let notified = if way == Way::Free {
+    let notified = if matches!(way, Way::Free) {
         guard.unlock(rt, &mut token);
         room.condvar.notify_one(rt, &mut token)
     } else {
@@ -121,6 +74,28 @@ fn notify<R: Wait>(rt: &R, room: &Room<u32>, ticket: Ticket, locked: &AtomicBool
     };
     drop(token.leave());
     notified
+}
+
+// One thread locks and waits, and another does its part beside it.
+fn beside_waiter<R: Threads + Wait + Sync, T, F: FnOnce() -> T>(
+    rt: &R,
+    lot: &ParkingLot,
+    room: &Room<u32>,
+    ticket: Ticket,
+    locked: &AtomicBool,
+    way: Way,
+    part: F,
+) -> (bool, T)
+    requires waiter { IsTicketOf lot.now ticket × (lot_of room.now.mutex ≡ lot.now) }
+    requires part { F.pre part }
+{
+    join(
+        rt,
+        move ||
+            requires { IsTicketOf lot.now ticket × (lot_of room.now.mutex ≡ lot.now) }
+        { lock_and_wait(rt, lot, room, ticket, locked, way) },
+        part,
+    )
 }
 
 fn wait_and_notify<R: Threads + Wait + Sync>(
@@ -136,15 +111,10 @@ fn wait_and_notify<R: Threads + Wait + Sync>(
 {
     let flag = AtomicBool::new(false);
     let locked = &flag;
-    join(
-        rt,
-        move ||
-            requires { IsTicketOf lot.now one × (lot_of room.now.mutex ≡ lot.now) }
-        { lock_and_wait(rt, lot, room, one, locked, way) },
-        move ||
-            requires { IsTicketOf (lot_of room.now.mutex) other }
-        { notify(rt, room, other, locked, way) },
-    )
+    let part = move ||
+        requires { IsTicketOf (lot_of room.now.mutex) other }
+    { notify(rt, room, other, locked, way) };
+    beside_waiter(rt, lot, room, one, locked, way, part)
 }
 
 // Whether one was notified that waited, and nobody waits behind it.
@@ -205,18 +175,11 @@ fn wait_beside_bumps<R: Threads + Wait + Sync>(
     requires room { lot_of room.now.mutex ≡ lot.now }
     requires tickets { IsTicketOf lot.now one × IsTicketOf lot.now other }
 {
-    let flag = AtomicBool::new(false);
-    let locked = &flag;
-    let (notified, _) = join(
-        rt,
-        move ||
-            requires { IsTicketOf lot.now one × (lot_of room.now.mutex ≡ lot.now) }
-        { lock_and_wait(rt, lot, room, one, locked, Way::UnderMutex) },
-        move ||
-            requires { IsTicketOf (lot_of room.now.mutex) other }
-        { bump_until_notified(rt, room, other) },
-    );
-    notified
+    let locked = AtomicBool::new(false);
+    let part = move ||
+        requires { IsTicketOf (lot_of room.now.mutex) other }
+    { bump_until_notified(rt, room, other) };
+    beside_waiter(rt, lot, room, one, &locked, Way::UnderMutex, part).0
 }
 
 #[test]
@@ -299,18 +262,12 @@ fn wait_with_two<R: Threads + Wait + Sync>(
     requires tickets { IsTicketOf lot.now tickets.0 × IsTicketOf lot.now tickets.1 }
 {
     let (one, two) = tickets;
-    let flag = AtomicBool::new(false);
-    let locked = &flag;
-    join(
-        rt,
-        move ||
-            requires { IsTicketOf lot.now one × (lot_of room.now.mutex ≡ lot.now) }
-        { lock_and_wait(rt, lot, room, one, locked, Way::UnderMutex) },
-        move ||
-            requires { (lot_of room.now.mutex ≡ lot.now) × (lot_of other.now ≡ lot.now)
-                × IsTicketOf lot.now two }
-        { come_with_another(rt, lot, room, other, two) },
-    )
+    let locked = AtomicBool::new(false);
+    let part = move ||
+        requires { (lot_of room.now.mutex ≡ lot.now) × (lot_of other.now ≡ lot.now)
+            × IsTicketOf lot.now two }
+    { come_with_another(rt, lot, room, other, two) };
+    beside_waiter(rt, lot, room, one, &locked, Way::UnderMutex, part)
 }
 
 // A room, and another mutex of its lot.

@@ -2,10 +2,11 @@
 ghost use Rattle.std.specs.Prelude.{◌≡◌, All, IfOk};
 ghost use Rattle.std.specs.Arc.{arc_value};
 ghost use Rattle.parking_lot_core.specs.Tokens.{IsTicketOf, IsTokenOf};
-ghost use Rattle.parking_lot.specs.Users.{lot_of};
+ghost use Rattle.parking_lot.specs.Users.{lock_of, lot_of};
 
-use super::{lot_of_seven, pair, same};
-use parking_lot::{FairMutex, Fault, Mutex, ParkingLot, Ticket, Token};
+use super::mutexes::add_one;
+use super::{pair, same, seats};
+use parking_lot::{FairMutex, Fault, Mutex, MutexGuard, ParkingLot, Ticket, Token};
 use std::alloc::Global;
 use std::sync::atomic::AtomicBool;
 use std::sync::atomic::Ordering::SeqCst;
@@ -82,11 +83,29 @@ fn take_and_keep<R: Wait>(
 {
     let mut token = ticket.enter();
     wait_until(rt, held);
-    let mut guard = mutex.lock(rt, &mut token);
-    *guard = 1;
-    wait_until(rt, told);
-    guard.unlock(rt, &mut token);
+    mutex.with(rt, &mut token, move |value: &mut u8| {
+        *value = 1;
+        wait_until(rt, told);
+    });
     drop(token.leave());
+}
+
+// Holds the mutex until somebody waits for it. The guard, and whether one came.
+fn hold<'m, R: Wait>(
+    rt: &R,
+    lot: &ParkingLot,
+    mutex: &'m Mutex<u8>,
+    token: &mut Token,
+    held: &AtomicBool,
+) -> (MutexGuard<'m, u8>, bool)
+    requires { IsTokenOf lot.now token.old × (lot_of mutex.now ≡ lot.now) }
+    ensures token { IsTokenOf lot.now token.new }
+    ensures guard { lock_of result.0 ≡ mutex.now }
+{
+    let guard = mutex.lock(rt, token);
+    held.store(true, SeqCst);
+    let came = is_waited_for(rt, lot, mutex, token);
+    (guard, came)
 }
 
 // Hands the mutex to who waits: whether one came, and the mutex refuses tries for as long as that
@@ -102,9 +121,7 @@ fn hand_over<R: Wait>(
     requires { IsTicketOf lot.now ticket × (lot_of mutex.now ≡ lot.now) }
 {
     let mut token = ticket.enter();
-    let guard = mutex.lock(rt, &mut token);
-    held.store(true, SeqCst);
-    let came = is_waited_for(rt, lot, mutex, &mut token);
+    let (guard, came) = hold(rt, lot, mutex, &mut token, held);
     guard.unlock_fair(rt, &mut token);
     let refuses = refuses_tries(rt, mutex, &mut token);
     told.store(true, SeqCst);
@@ -124,9 +141,7 @@ fn bump<R: Wait>(
     requires { IsTicketOf lot.now ticket × (lot_of mutex.now ≡ lot.now) }
 {
     let mut token = ticket.enter();
-    let guard = mutex.lock(rt, &mut token);
-    held.store(true, SeqCst);
-    let came = is_waited_for(rt, lot, mutex, &mut token);
+    let (guard, came) = hold(rt, lot, mutex, &mut token, held);
     let guard = guard.bump(rt, &mut token);
     let had = *guard == 1;
     guard.unlock(rt, &mut token);
@@ -145,28 +160,30 @@ fn release<R: Wait>(
     requires { IsTicketOf lot.now ticket × (lot_of mutex.now ≡ lot.now) }
 {
     let mut token = ticket.enter();
-    let guard = mutex.lock(rt, &mut token);
-    held.store(true, SeqCst);
-    let came = is_waited_for(rt, lot, mutex, &mut token);
+    let (guard, came) = hold(rt, lot, mutex, &mut token, held);
     guard.unlock(rt, &mut token);
+    await_written(rt, mutex, &mut token);
+    drop(token.leave());
+    (came, true)
+}
+
+fn await_written<R: Wait>(rt: &R, mutex: &Mutex<u8>, token: &mut Token)
+    requires { IsTokenOf (lot_of mutex.now) token.old }
+    ensures { IsTokenOf (lot_of mutex.now) token.new }
+{
     for _ in rt.forever() {
-        if is_written(rt, mutex, &mut token) {
+        if is_written(rt, mutex, token) {
             break;
         }
         yield_now();
     }
-    drop(token.leave());
-    (came, true)
 }
 
 fn is_written<R: Wait>(rt: &R, mutex: &Mutex<u8>, token: &mut Token) -> bool
     requires { IsTokenOf (lot_of mutex.now) token.old }
     ensures { IsTokenOf (lot_of mutex.now) token.new }
 {
-    let guard = mutex.lock(rt, token);
-    let written = *guard == 1;
-    guard.unlock(rt, token);
-    written
+    mutex.with(rt, token, |value: &mut u8| *value == 1)
 }
 
 #[derive(Clone, Copy)]
@@ -240,7 +257,7 @@ fn who_waits_has_the_mutex_during_a_bump(rt: HostRuntime) -> Result<(), Fail> {
 fn six_fair_seats(alloc: Global, value: u64) -> Result<(FairMutex<u64>, Vec<Ticket>), Fault>
     ensures { IfOk result (λ made. All (IsTicketOf (lot_of made.0)) made.1.items) }
 {
-    let (lot, mut token, tickets) = lot_of_seven(alloc)?;
+    let (lot, mut token, tickets) = seats(alloc, 7)?;
     match FairMutex::new(&lot, &mut token, value) {
         Ok(mutex) => Ok((mutex, tickets)),
         Err((fault, _)) => Err(fault),
@@ -252,9 +269,7 @@ fn add_many<R: Wait>(rt: &R, mutex: &FairMutex<u64>, ticket: Ticket)
 {
     let mut token = ticket.enter();
     for _ in 0..TIMES {
-        let mut guard = mutex.lock(rt, &mut token);
-        *guard = guard.wrapping_add(1);
-        guard.unlock(rt, &mut token);
+        add_one(rt, mutex, &mut token);
     }
     drop(token.leave());
 }

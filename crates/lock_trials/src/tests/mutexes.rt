@@ -4,7 +4,7 @@ ghost use Rattle.std.specs.Arc.{arc_value};
 ghost use Rattle.parking_lot_core.specs.Tokens.{IsTicketOf, IsTokenOf};
 ghost use Rattle.parking_lot.specs.Users.{lock_of, lot_of, value_of};
 
-use super::{holds, lone, lot_of_seven, mutex_alone, same};
+use super::{holds, lone, mutex_alone, mutex_of, same, seats};
 use parking_lot::{Fault, Mutex, MutexGuard, Ticket, Token, lock_api, lock_raw};
 use std::alloc::{AllocError, Global};
 use std::mem;
@@ -30,11 +30,7 @@ fn replace<R: Wait>(rt: &R, mutex: &Mutex<u8>, token: &mut Token, value: u8) -> 
     requires { IsTokenOf (lot_of mutex.now) token.old }
     ensures { IsTokenOf (lot_of mutex.now) token.new }
 {
-    let mut guard = mutex.lock(rt, token);
-    let before = *guard;
-    *guard = value;
-    guard.unlock(rt, token);
-    before
+    mutex.with(rt, token, move |found: &mut u8| mem::replace(found, value))
 }
 
 // The same with 0, through a guard that goes about.
@@ -179,11 +175,10 @@ fn drops_by_writing<'d, R: Wait>(
 ) -> usize
     requires { IsTokenOf (lot_of mutex.now) token.old }
 {
-    let mut guard = mutex.lock(rt, token);
-    drop(mem::replace(&mut *guard, Counts(drops)));
-    let dropped = drops.load(SeqCst);
-    guard.unlock(rt, token);
-    dropped
+    mutex.with(rt, token, move |value: &mut Counts| {
+        drop(mem::replace(value, Counts(drops)));
+        drops.load(SeqCst)
+    })
 }
 
 #[test]
@@ -233,21 +228,17 @@ fn double<R: Wait>(rt: &R, mutex: &Mutex<u64>, token: &mut Token) -> u64
     requires { IsTokenOf (lot_of mutex.now) token.old }
     ensures { IsTokenOf (lot_of mutex.now) token.new }
 {
-    let mut guard = mutex.lock(rt, token);
-    *guard = guard.wrapping_mul(2);
-    let value = *guard;
-    guard.unlock(rt, token);
-    value
+    mutex.with(rt, token, |value: &mut u64| {
+        *value = value.wrapping_mul(2);
+        *value
+    })
 }
 
 fn double_inside<R: Wait>(rt: &R, mutex: &Mutex<Room>, token: &mut Token) -> u64
     requires { IsTokenOf (lot_of mutex.now) token.old }
     ensures { IsTokenOf (lot_of mutex.now) token.new }
 {
-    let mut guard = mutex.lock(rt, token);
-    let value = guard.double(rt);
-    guard.unlock(rt, token);
-    value
+    mutex.with(rt, token, move |room: &mut Room| room.double(rt))
 }
 
 #[test]
@@ -259,7 +250,7 @@ fn a_mutex_stands_inside_another(rt: HostRuntime) -> Result<(), Fail> {
 }
 
 // Adds 1 under any raw mutex.
-fn add_one<M: lock_raw::RawMutex, R: Wait>(
+pub(super) fn add_one<M: lock_raw::RawMutex, R: Wait>(
     rt: &R,
     mutex: &lock_api::Mutex<M, u64>,
     token: &mut M::Token,
@@ -267,9 +258,7 @@ fn add_one<M: lock_raw::RawMutex, R: Wait>(
     requires { M.is_token_of (M.lot_of mutex.now) token.old }
     ensures { M.is_token_of (M.lot_of mutex.now) token.new }
 {
-    let mut guard = mutex.lock(rt, token);
-    *guard = guard.wrapping_add(1);
-    guard.unlock(rt, token);
+    mutex.with(rt, token, |value: &mut u64| *value = value.wrapping_add(1));
 }
 
 fn add_many<R: Wait>(rt: &R, mutex: &Mutex<u64>, ticket: Ticket)
@@ -286,11 +275,9 @@ fn add_many<R: Wait>(rt: &R, mutex: &Mutex<u64>, ticket: Ticket)
 fn six_seats(alloc: Global) -> Result<(Mutex<u64>, Vec<Ticket>), Fault>
     ensures { IfOk result (λ made. All (IsTicketOf (lot_of made.0)) made.1.items) }
 {
-    let (lot, mut token, tickets) = lot_of_seven(alloc)?;
-    match Mutex::new(&lot, &mut token, 0) {
-        Ok(mutex) => Ok((mutex, tickets)),
-        Err((fault, _)) => Err(fault),
-    }
+    let (lot, mut token, tickets) = seats(alloc, 7)?;
+    let mutex = mutex_of(&lot, &mut token, 0)?;
+    Ok((mutex, tickets))
 }
 
 // All threads of these tickets add under one mutex, and what it comes to.

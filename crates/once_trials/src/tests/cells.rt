@@ -6,6 +6,7 @@ use super::{all_are_content, holds, same, seats};
 use parking_lot_core::{Fault, Ticket, Token};
 use run_once::OnceCell;
 use std::alloc::Global;
+use std::process::Abort;
 use std::sync::Wait;
 use std::sync::atomic::AtomicUsize;
 use std::sync::atomic::Ordering::SeqCst;
@@ -30,6 +31,21 @@ fn value_of<R: Wait>(
     found.ok().copied()
 }
 
+// What it is told that asks is what was wanted.
+fn finds<R: Wait + Abort>(
+    rt: &R,
+    cell: &OnceCell<u64>,
+    token: &mut Token,
+    runs: &AtomicUsize,
+    fails: bool,
+    wanted: Option<u64>,
+)
+    requires { IsTokenOf (lot_of cell.now) token.old }
+    ensures { IsTokenOf (lot_of cell.now) token.new }
+{
+    same(rt, value_of(rt, cell, token, runs, fails), wanted);
+}
+
 // A cell that one thread has for itself.
 fn cell_alone(alloc: Global) -> Result<(OnceCell<u64>, Token), Fault>
     ensures { IfOk result (λ made. IsTokenOf (lot_of made.0) made.1) }
@@ -44,10 +60,10 @@ fn a_value_is_made_once(rt: HostRuntime) -> Result<(), Fail> {
     let (mut cell, mut token) = cell_alone(rt.alloc())?;
     let runs = AtomicUsize::new(0);
     holds(&rt, cell.get().is_none());
-    same(&rt, value_of(&rt, &cell, &mut token, &runs, true), None);
+    finds(&rt, &cell, &mut token, &runs, true, None);
     holds(&rt, cell.get().is_none());
-    same(&rt, value_of(&rt, &cell, &mut token, &runs, false), Some(1));
-    same(&rt, value_of(&rt, &cell, &mut token, &runs, false), Some(1));
+    finds(&rt, &cell, &mut token, &runs, false, Some(1));
+    finds(&rt, &cell, &mut token, &runs, false, Some(1));
     same(&rt, cell.get().copied(), Some(1));
     same(&rt, runs.load(SeqCst), 2);
     if let Some(value) = cell.get_mut() {
@@ -74,10 +90,10 @@ fn sure_value_of<R: Wait>(
 fn a_value_that_cannot_fail_is_made_once(rt: HostRuntime) -> Result<(), Fail> {
     let (cell, mut token) = cell_alone(rt.alloc())?;
     let runs = AtomicUsize::new(0);
-    same(&rt, value_of(&rt, &cell, &mut token, &runs, true), None);
+    finds(&rt, &cell, &mut token, &runs, true, None);
     same(&rt, sure_value_of(&rt, &cell, &mut token, &runs), 8);
     same(&rt, sure_value_of(&rt, &cell, &mut token, &runs), 8);
-    same(&rt, value_of(&rt, &cell, &mut token, &runs, true), Some(8));
+    finds(&rt, &cell, &mut token, &runs, true, Some(8));
     same(&rt, runs.load(SeqCst), 2);
     Ok(())
 }

@@ -1,8 +1,8 @@
 //! Threads that wait for the end of one run.
-ghost use Rattle.std.specs.Prelude.{◌≡◌, All, IfSome};
+ghost use Rattle.std.specs.Prelude.{◌≡◌, All};
 ghost use Rattle.run_once.specs.Users.{IsTicketOf, IsTokenOf, lot_of};
 
-use super::{count_run, fail, holds, seats};
+use super::{all_are_content, count_run, fail, holds, once_for};
 use parking_lot_core::{Fault, ParkingLot, Ticket, Token};
 use run_once::{Once, OnceFault, OnceState};
 use std::alloc::Global;
@@ -10,13 +10,14 @@ use std::sync::Wait;
 use std::sync::atomic::Ordering::SeqCst;
 use std::sync::atomic::{AtomicBool, AtomicUsize};
 use std::test::Fail;
-use std::thread::{Threads, join, yield_now};
+use std::thread::{Threads, yield_now};
 
 const TURNS: usize = 1_000_000;
 
 /// What the threads tell one another.
 #[derive(Drop)]
 struct Told {
+    came: AtomicUsize,
     inside: AtomicBool,
     go: AtomicBool,
     further: AtomicUsize,
@@ -25,6 +26,7 @@ struct Told {
 impl Told {
     fn new() -> Told {
         Told {
+            came: AtomicUsize::new(0),
             inside: AtomicBool::new(false),
             go: AtomicBool::new(false),
             further: AtomicUsize::new(0),
@@ -97,7 +99,7 @@ fn two_wait<R: Wait>(rt: &R, lot: &ParkingLot, once: &Once, token: &mut Token) -
 
 // Lets the run go once two wait for its end. Whether that was seen.
 fn let_go<R: Wait>(rt: &R, lot: &ParkingLot, once: &Once, ticket: Ticket, told: &Told) -> bool
-    requires { IsTicketOf lot.now ticket × (lot_of once.now ≡ lot.now) }
+    requires { IsTicketOf (lot_of once.now) ticket × (lot_of once.now ≡ lot.now) }
 {
     let mut token = ticket.enter();
     let seen = two_wait(rt, lot, once, &mut token);
@@ -106,113 +108,46 @@ fn let_go<R: Wait>(rt: &R, lot: &ParkingLot, once: &Once, ticket: Ticket, told: 
     seen
 }
 
-fn next_of(lot: &ParkingLot, tickets: &mut Vec<Ticket>) -> Option<Ticket>
-    requires { All (IsTicketOf lot.now) tickets.old.items }
-    ensures left { All (IsTicketOf lot.now) tickets.new.items }
-    ensures one { IfSome result (IsTicketOf lot.now) }
+// The threads share the parts among them, by the order in which they come.
+fn take_part<R: Wait>(rt: &R, lot: &ParkingLot, once: &Once, ticket: Ticket, told: &Told) -> bool
+    requires { IsTicketOf (lot_of once.now) ticket × (lot_of once.now ≡ lot.now) }
 {
-    tickets.pop()
+    match told.came.fetch_add(1, SeqCst) {
+        0 => run_long(rt, once, ticket, told),
+        1 => call_beside(rt, once, ticket, told),
+        2 => wait_beside(rt, once, ticket, told),
+        _ => let_go(rt, lot, once, ticket, told),
+    }
 }
 
-fn two_of(lot: &ParkingLot, tickets: &mut Vec<Ticket>) -> Option<(Ticket, Ticket)>
-    requires { All (IsTicketOf lot.now) tickets.old.items }
-    ensures left { All (IsTicketOf lot.now) tickets.new.items }
-    ensures two { IfSome result (λ two. IsTicketOf lot.now two.0 × IsTicketOf lot.now two.1) }
-{
-    let Some(one) = next_of(lot, tickets) else {
-        return None;
-    };
-    let Some(other) = next_of(lot, tickets) else {
-        return None;
-    };
-    Some((one, other))
-}
-
-fn run_and_call<R: Threads + Wait + Sync>(
-    rt: &R,
-    once: &Once,
-    tickets: (Ticket, Ticket),
-    told: &Told,
-) -> bool
-    requires { IsTicketOf (lot_of once.now) tickets.0 × IsTicketOf (lot_of once.now) tickets.1 }
-{
-    let (one, other) = tickets;
-    let (ran, called) = join(
-        rt,
-        move ||
-            requires { IsTicketOf (lot_of once.now) one }
-        { run_long(rt, once, one, told) },
-        move ||
-            requires { IsTicketOf (lot_of once.now) other }
-        { call_beside(rt, once, other, told) },
-    );
-    ran && called
-}
-
-fn wait_and_let_go<R: Threads + Wait + Sync>(
+// Whether who calls and who waits beside a run came through with it, and nothing ran but that.
+fn all_meet<R: Threads + Wait + Sync>(
     rt: &R,
     lot: &ParkingLot,
     once: &Once,
-    tickets: (Ticket, Ticket),
-    told: &Told,
+    tickets: Vec<Ticket>,
 ) -> bool
     requires once { lot_of once.now ≡ lot.now }
-    requires tickets { IsTicketOf (lot_of once.now) tickets.0 × IsTicketOf lot.now tickets.1 }
+    requires tickets { All (IsTicketOf (lot_of once.now)) tickets.items }
 {
-    let (one, other) = tickets;
-    let (waited, seen) = join(
+    let told = &Told::new();
+    let met = all_are_content(
         rt,
-        move ||
-            requires { IsTicketOf (lot_of once.now) one }
-        { wait_beside(rt, once, one, told) },
-        move ||
-            requires { IsTicketOf lot.now other × (lot_of once.now ≡ lot.now) }
-        { let_go(rt, lot, once, other, told) },
+        tickets,
+        &|ticket: Ticket|
+            requires { IsTicketOf (lot_of once.now) ticket × (lot_of once.now ≡ lot.now) }
+        { take_part(rt, lot, once, ticket, told) },
     );
-    waited && seen
+    met && told.further.load(SeqCst) == 0
 }
 
-fn all_four<R: Threads + Wait + Sync>(
-    rt: &R,
-    lot: &ParkingLot,
-    once: &Once,
-    first: (Ticket, Ticket),
-    others: (Ticket, Ticket),
-    told: &Told,
-) -> (bool, bool)
-    requires once { lot_of once.now ≡ lot.now }
-    requires first { IsTicketOf (lot_of once.now) first.0 × IsTicketOf (lot_of once.now) first.1 }
-    requires others { IsTicketOf (lot_of once.now) others.0 × IsTicketOf lot.now others.1 }
-{
-    join(
-        rt,
-        move ||
-            requires { IsTicketOf (lot_of once.now) first.0 × IsTicketOf (lot_of once.now) first.1 }
-        { run_and_call(rt, once, first, told) },
-        move ||
-            requires { (lot_of once.now ≡ lot.now) × IsTicketOf (lot_of once.now) others.0
-                × IsTicketOf lot.now others.1 }
-        { wait_and_let_go(rt, lot, once, others, told) },
-    )
-}
-
-// Whether who calls and who waits beside a run came through with it, and nothing ran but that. An
-// earlier run may have failed.
+// The same of four threads. An earlier run may have failed.
 fn meet<R: Threads + Wait + Sync>(rt: &R, alloc: Global, poisoned: bool) -> Result<bool, Fault> {
-    let (lot, mut token, mut others) = seats(alloc, 5)?;
-    let once = Once::new(&lot, &mut token)?;
+    let (lot, once, mut token, others) = once_for(alloc, 5)?;
     if poisoned && fail(rt, &once, &mut token) != "failed" {
         return Ok(false);
     }
-    let Some(first) = two_of(&lot, &mut others) else {
-        return Err(Fault::NoMemory);
-    };
-    let Some(second) = two_of(&lot, &mut others) else {
-        return Err(Fault::NoMemory);
-    };
-    let told = Told::new();
-    let met = all_four(rt, &lot, &once, first, second, &told);
-    Ok(met == (true, true) && told.further.load(SeqCst) == 0 && once.is_completed(&mut token))
+    Ok(all_meet(rt, &lot, &once, others) && once.is_completed(&mut token))
 }
 
 #[test]
