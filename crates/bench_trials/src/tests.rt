@@ -20,22 +20,25 @@ fn is_plan(args: &[&str]) -> bool {
     plan_of(args).is_some()
 }
 
+/// Three arguments, and whether they are a plan's.
+const TRIPLES: &[([&str; 3], bool)] = &[
+    (["mutex", "1", "1"], true),
+    (["raw_mutex_try", "64", "1000000000000"], true),
+    (["mutexes", "1", "1"], false),
+    (["mutex", "0", "1"], false),
+    (["mutex", "65", "1"], false),
+    (["mutex", "1", "0"], false),
+    (["mutex", "1", "1000000000001"], false),
+    (["mutex", "one", "1"], false),
+    (["mutex", "1", "-1"], false),
+    (["queue", "1", "1"], false),
+    (["queue", "2", "1"], true),
+];
+
 #[test]
 fn reads_plans(rt: HostRuntime) {
-    for (args, wanted) in [
-        (["mutex", "1", "1"], true),
-        (["raw_mutex_try", "64", "1000000000000"], true),
-        (["mutexes", "1", "1"], false),
-        (["mutex", "0", "1"], false),
-        (["mutex", "65", "1"], false),
-        (["mutex", "1", "0"], false),
-        (["mutex", "1", "1000000000001"], false),
-        (["mutex", "one", "1"], false),
-        (["mutex", "1", "-1"], false),
-        (["queue", "1", "1"], false),
-        (["queue", "2", "1"], true),
-    ] {
-        same(&rt, (args, is_plan(&args)), (args, wanted));
+    for (args, wanted) in TRIPLES {
+        same(&rt, (*args, is_plan(args)), (*args, *wanted));
     }
     same(&rt, is_plan(&["mutex", "1"]), false);
     same(&rt, is_plan(&["mutex", "1", "1", "1"]), false);
@@ -66,28 +69,31 @@ fn do_thousand<R: Threads + Wait + Sync + Clock>(
     }
 }
 
+/// The modes that add 1 or take the lock at each operation, by their names.
+const MODES: &[(&str, Mode)] = &[
+    ("raw_mutex", Mode::RawMutex),
+    ("raw_mutex_try", Mode::RawMutexTry),
+    ("mutex", Mode::Mutex),
+    ("mutex_try", Mode::MutexTry),
+    ("fair", Mode::Fair),
+    ("raw_read", Mode::RawRead),
+    ("raw_write", Mode::RawWrite),
+    ("read", Mode::Read),
+    ("write", Mode::Write),
+    ("rw_mix", Mode::RwMix),
+    ("read_recursive", Mode::ReadRecursive),
+    ("upgradable", Mode::Upgradable),
+    ("upgrade", Mode::Upgrade),
+    ("downgrade", Mode::Downgrade),
+    ("once", Mode::Once),
+    ("notify", Mode::Notify),
+];
+
 #[test]
 fn does_every_operation(rt: HostRuntime) -> Result<(), Fail> {
-    for (name, mode) in [
-        ("raw_mutex", Mode::RawMutex),
-        ("raw_mutex_try", Mode::RawMutexTry),
-        ("mutex", Mode::Mutex),
-        ("mutex_try", Mode::MutexTry),
-        ("fair", Mode::Fair),
-        ("raw_read", Mode::RawRead),
-        ("raw_write", Mode::RawWrite),
-        ("read", Mode::Read),
-        ("write", Mode::Write),
-        ("rw_mix", Mode::RwMix),
-        ("read_recursive", Mode::ReadRecursive),
-        ("upgradable", Mode::Upgradable),
-        ("upgrade", Mode::Upgrade),
-        ("downgrade", Mode::Downgrade),
-        ("once", Mode::Once),
-        ("notify", Mode::Notify),
-    ] {
+    for (name, mode) in MODES {
         let done = do_thousand(&rt, rt.alloc(), name)?;
-        same(&rt, (name, done), (name, (mode, 2, 1000, 1000, 1000)));
+        same(&rt, (*name, done), (*name, (*mode, 2, 1000, 1000, 1000)));
     }
     Ok(())
 }
