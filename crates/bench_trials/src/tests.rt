@@ -5,7 +5,6 @@ use std::alloc::Global;
 use std::fmt::Debug;
 use std::process::Abort;
 use std::sync::Wait;
-use std::test::Fail;
 use std::thread::Threads;
 use std::time::Clock;
 
@@ -48,25 +47,25 @@ fn reads_plans(rt: HostRuntime) {
 type Done = (Mode, usize, u64, u64, u64);
 
 // Two threads do a thousand operations.
-fn do_thousand<R: Threads + Wait + Sync + Clock>(
+fn do_thousand<R: Threads + Wait + Sync + Clock + Abort>(
     rt: &R,
     alloc: Global,
     name: &str,
-) -> Result<Done, Fail> {
-    let plan = plan_of(&[name, "2", "1000"]).ok_or("it is a plan")?;
-    match carry_out(rt, alloc, plan)? {
-        Ok(figures) => {
-            let both = figures.low.saturating_add(figures.high);
-            Ok((
-                plan.mode,
-                plan.threads,
-                plan.operations,
-                figures.answer,
-                both,
-            ))
-        }
-        Err(_) => Err("the clock failed".into()),
-    }
+) -> Done {
+    let Some(plan) = plan_of(&[name, "2", "1000"]) else {
+        panic!(rt; "{name} is no plan");
+    };
+    let Ok(Ok(figures)) = carry_out(rt, alloc, plan) else {
+        panic!(rt; "{name} is refused memory or the clock");
+    };
+    let both = figures.low.saturating_add(figures.high);
+    (
+        plan.mode,
+        plan.threads,
+        plan.operations,
+        figures.answer,
+        both,
+    )
 }
 
 /// The modes that add 1 or take the lock at each operation, by their names.
@@ -90,19 +89,17 @@ const MODES: &[(&str, Mode)] = &[
 ];
 
 #[test]
-fn does_every_operation(rt: HostRuntime) -> Result<(), Fail> {
+fn does_every_operation(rt: HostRuntime) {
     for (name, mode) in MODES {
-        let done = do_thousand(&rt, rt.alloc(), name)?;
+        let done = do_thousand(&rt, rt.alloc(), name);
         same(&rt, (*name, done), (*name, (*mode, 2, 1000, 1000, 1000)));
     }
-    Ok(())
 }
 
 #[test]
-fn threads_meet_and_take_turns(rt: HostRuntime) -> Result<(), Fail> {
+fn threads_meet_and_take_turns(rt: HostRuntime) {
     for name in ["notify_all", "pingpong", "queue"] {
-        let (_, _, _, answer, _) = do_thousand(&rt, rt.alloc(), name)?;
+        let (_, _, _, answer, _) = do_thousand(&rt, rt.alloc(), name);
         same(&rt, (name, answer), (name, 1000));
     }
-    Ok(())
 }
