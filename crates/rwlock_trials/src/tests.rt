@@ -6,6 +6,7 @@ mod timed;
 
 ghost use Rattle.std.specs.Prelude.{◌≡◌, ◌<◌, All, IfOk, IfSome};
 ghost use Rattle.std.specs.Arc.{arc_value};
+ghost use Rattle.std.specs.Fork.{AcceptsJobs};
 ghost use Rattle.parking_lot_core.specs.Tokens.{IsTicketOf, IsTokenOf};
 ghost use Rattle.parking_lot.specs.RwLockUsers.{lot_of};
 
@@ -104,6 +105,17 @@ fn seats<const RECURSIVE: bool, T: Drop>(
     };
     let lock = lock_by(&lot, ticket, value)?;
     Ok((lot, lock, tickets))
+}
+
+// Whether each thread of these tickets is content with what came of its part.
+fn all_are_content<R: Threads + Wait + Sync, F: Fn(Ticket) -> bool + Sync>(
+    rt: &R,
+    tickets: Vec<Ticket>,
+    part: &F,
+) -> bool
+    requires { AcceptsJobs F.Fn part.now tickets.items }
+{
+    map_vec(rt, tickets, part).is_ok_and(|found| found.iter().all(|content| *content))
 }
 
 #[test]
@@ -214,14 +226,8 @@ fn finds<R: Wait>(rt: &R, lock: &RecursiveRwLock<u64>, token: &mut Token, value:
     requires { IsTokenOf (lot_of lock.now) token.old }
     ensures { IsTokenOf (lot_of lock.now) token.new }
 {
-    match lock.read(rt, token) {
-        Ok(guard) => {
-            let same = *guard == value;
-            guard.unlock(rt, token);
-            same
-        }
-        Err(_) => false,
-    }
+    lock.with_read(rt, token, move |found: &u64| *found == value)
+        .unwrap_or(false)
 }
 
 // Whether a reader of a recursive lock reads again, and a writer beside it gives up in time.
@@ -250,14 +256,18 @@ fn a_reader_of_a_recursive_lock_reads_again(rt: HostRuntime) -> Result<(), Fail>
     Ok(())
 }
 
+fn add_one(value: &mut u64) -> u64 {
+    *value = value.wrapping_add(1);
+    *value
+}
+
 // Writes, goes on as a reader, and finds what it wrote.
 fn write_and_read<R: Wait>(rt: &R, lock: &RwLock<u64>, token: &mut Token, wrongs: &AtomicUsize)
     requires { IsTokenOf (lot_of lock.now) token.old }
     ensures { IsTokenOf (lot_of lock.now) token.new }
 {
     let mut guard = lock.write(rt, token);
-    *guard = guard.wrapping_add(1);
-    let written = *guard;
+    let written = add_one(&mut *guard);
     let guard = guard.downgrade(rt, token);
     yield_now();
     if *guard != written {

@@ -1,17 +1,27 @@
 //! One thread, which nobody notifies.
+ghost use Rattle.std.specs.Prelude.{IfOk};
 ghost use Rattle.parking_lot.specs.Users.{IsTokenOf, lock_of, lot_of};
 
-use super::{Room, holds, room_for, same, wait_for};
-use parking_lot::{Clock, MutexGuard, TickClock, Token, WaitTimeoutResult};
+use super::{Room, holds, look, room_for, same, wait_for};
+use parking_lot::{Clock, Fault, MutexGuard, TickClock, Token, WaitTimeoutResult};
+use std::alloc::Global;
 use std::sync::Wait;
 use std::test::Fail;
 use std::time::Duration;
 
 const FAR: u64 = 1000;
 
+// A room that one thread has for itself.
+fn room_alone(alloc: Global) -> Result<(Room<u32>, Token), Fault>
+    ensures { IfOk result (λ made. IsTokenOf (lot_of made.0.mutex) made.1) }
+{
+    let (_lot, room, token, _others) = room_for(alloc, 1, 0u32)?;
+    Ok((room, token))
+}
+
 #[test]
 fn nobody_is_notified_where_nobody_waits(rt: HostRuntime) -> Result<(), Fail> {
-    let (_lot, room, mut token, _others) = room_for(rt.alloc(), 1, 0u32)?;
+    let (room, mut token) = room_alone(rt.alloc())?;
     holds(&rt, !room.condvar.notify_one(&rt, &mut token));
     same(&rt, room.condvar.notify_all(&rt, &mut token), 0);
     Ok(())
@@ -30,9 +40,8 @@ fn wait_for_nothing<R: Wait>(rt: &R, room: &Room<u32>, token: &mut Token) -> Opt
         });
     match ended {
         Ok(guard) => {
-            let calls = *guard;
             guard.unlock(rt, token);
-            Some(calls)
+            Some(look(rt, room, token))
         }
         Err((_, guard)) => {
             guard.unlock(rt, token);
@@ -43,7 +52,7 @@ fn wait_for_nothing<R: Wait>(rt: &R, room: &Room<u32>, token: &mut Token) -> Opt
 
 #[test]
 fn a_condition_that_does_not_hold_is_called_once(rt: HostRuntime) -> Result<(), Fail> {
-    let (_lot, room, mut token, _others) = room_for(rt.alloc(), 1, 0u32)?;
+    let (room, mut token) = room_alone(rt.alloc())?;
     same(&rt, wait_for_nothing(&rt, &room, &mut token), Some(1));
     Ok(())
 }
@@ -99,7 +108,7 @@ fn calls_until<R: Wait>(
 
 #[test]
 fn a_condition_is_called_again_where_the_time_is_up(rt: HostRuntime) -> Result<(), Fail> {
-    let (_lot, room, mut token, _others) = room_for(rt.alloc(), 1, 0u32)?;
+    let (room, mut token) = room_alone(rt.alloc())?;
     same(
         &rt,
         calls_until(&rt, &room, &mut token, 1, 0),
@@ -147,7 +156,7 @@ fn calls_within<R: Wait>(
 
 #[test]
 fn a_condition_that_holds_times_out(rt: HostRuntime) -> Result<(), Fail> {
-    let (_lot, room, mut token, _others) = room_for(rt.alloc(), 1, 0u32)?;
+    let (room, mut token) = room_alone(rt.alloc())?;
     let clock = TickClock::starting_at(FAR);
     let told = calls_within(&rt, &room, &mut token, &clock, 30);
     same(&rt, told, Some((2, true)));
@@ -167,7 +176,7 @@ fn gives_up<R: Wait>(rt: &R, room: &Room<u32>, token: &mut Token, clock: &TickCl
 
 #[test]
 fn who_waits_gives_up_in_time(rt: HostRuntime) -> Result<(), Fail> {
-    let (_lot, room, mut token, _others) = room_for(rt.alloc(), 1, 0u32)?;
+    let (room, mut token) = room_alone(rt.alloc())?;
     let clock = TickClock::starting_at(FAR);
     holds(&rt, gives_up(&rt, &room, &mut token, &clock));
     holds(&rt, clock.now() >= FAR + 20);
@@ -177,7 +186,7 @@ fn who_waits_gives_up_in_time(rt: HostRuntime) -> Result<(), Fail> {
 
 #[test]
 fn tells_that_it_is_a_condition_variable(rt: HostRuntime) -> Result<(), Fail> {
-    let (_lot, room, _token, _others) = room_for(rt.alloc(), 1, 0u32)?;
+    let (room, _token) = room_alone(rt.alloc())?;
     same(
         &rt,
         format!(in rt.alloc(); "{:?}", room.condvar)?.as_str(),

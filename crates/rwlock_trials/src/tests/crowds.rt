@@ -3,7 +3,7 @@ ghost use Rattle.std.specs.Prelude.{◌≡◌, ◌<◌};
 ghost use Rattle.parking_lot_core.specs.Tokens.{IsTicketOf, IsTokenOf};
 ghost use Rattle.parking_lot.specs.RwLockUsers.{lot_of};
 
-use super::{holds, same, seats};
+use super::{all_are_content, holds, same, seats};
 use parking_lot::{Fault, RawRwLock, RwLock, Ticket, Token, lock_api_rw};
 use std::alloc::Global;
 use std::sync::Wait;
@@ -33,14 +33,9 @@ fn come_once<const RECURSIVE: bool, R: Wait>(
     ensures { IsTokenOf (lot_of lock.now) token.new }
 {
     if writes {
-        let mut guard = lock.write(rt, token);
-        *guard = guard.wrapping_add(1);
-        guard.unlock(rt, token);
-        return;
-    }
-    match lock.read(rt, token) {
-        Ok(guard) => guard.unlock(rt, token),
-        Err(_) => {}
+        lock.with_write(rt, token, |value: &mut u64| *value = value.wrapping_add(1));
+    } else {
+        drop(lock.with_read(rt, token, |value: &u64| *value));
     }
 }
 
@@ -111,10 +106,7 @@ fn write_once<R: Wait>(rt: &R, lock: &RwLock<i64>, token: &mut Token) -> bool
     requires { IsTokenOf (lot_of lock.now) token.old }
     ensures { IsTokenOf (lot_of lock.now) token.new }
 {
-    let mut guard = lock.write(rt, token);
-    let whole = add_torn(&mut *guard);
-    guard.unlock(rt, token);
-    whole
+    lock.with_write(rt, token, |value: &mut i64| add_torn(value))
 }
 
 // Ten times, each time under a guard of its own.
@@ -142,10 +134,13 @@ fn write_ten_at_once<R: Wait>(rt: &R, lock: &RwLock<i64>, token: &mut Token) -> 
     requires { IsTokenOf (lot_of lock.now) token.old }
     ensures { IsTokenOf (lot_of lock.now) token.new }
 {
-    let mut guard = lock.write(rt, token);
-    let whole = add_ten(&mut *guard);
-    guard.unlock(rt, token);
-    whole
+    lock.with_write(rt, token, |value: &mut i64| add_ten(value))
+}
+
+// The same, and whether it still was what it had been before.
+fn add_to(value: &mut i64, before: i64) -> bool {
+    let same = *value == before;
+    add_torn(value) && same
 }
 
 // Whether a reader finds the value whole, and the same behind its upgrade.
@@ -159,22 +154,17 @@ fn upgrade_once<R: Wait>(rt: &R, lock: &RwLock<i64>, token: &mut Token) -> bool
     let before = *guard;
     yield_now();
     let mut guard = guard.upgrade(rt, token);
-    let same = *guard == before;
-    let whole = add_torn(&mut *guard);
+    let whole = add_to(&mut *guard, before);
     guard.unlock(rt, token);
-    same && whole
+    whole
 }
 
 fn read_once<R: Wait>(rt: &R, lock: &RwLock<i64>, token: &mut Token) -> bool
     requires { IsTokenOf (lot_of lock.now) token.old }
     ensures { IsTokenOf (lot_of lock.now) token.new }
 {
-    let Ok(guard) = lock.read(rt, token) else {
-        return false;
-    };
-    let whole = *guard >= 0;
-    guard.unlock(rt, token);
-    whole
+    lock.with_read(rt, token, |value: &i64| *value >= 0)
+        .unwrap_or(false)
 }
 
 // One writes, the next upgrade, and the others read. Whether this one found the value whole.
@@ -213,14 +203,13 @@ fn tear_and_look<R: Threads + Wait + Sync>(
 {
     let (_lot, lock, tickets) = seats::<false, i64>(alloc, upgraders + 6, 0)?;
     let (shared, came) = (&lock, &AtomicUsize::new(0));
-    let found = map_vec(
+    let whole = all_are_content(
         rt,
         tickets,
         &|ticket: Ticket|
             requires { IsTicketOf (lot_of shared.now) ticket }
         { take_part(rt, shared, ticket, came, upgraders) },
     );
-    let whole = found.is_ok_and(|found| found.iter().all(|whole| *whole));
     Ok((whole, lock.into_inner()))
 }
 

@@ -3,15 +3,15 @@ ghost use Rattle.std.specs.Prelude.{◌≡◌};
 ghost use Rattle.parking_lot_core.specs.Tokens.{IsTicketOf, IsTokenOf};
 ghost use Rattle.parking_lot.specs.RwLockUsers.{lot_of};
 
-use super::guards::{is_waited_for, write_later};
-use super::{holds, next_of, seats};
+use super::guards::{Told, is_waited_for, write_later};
+use super::{all_are_content, holds, seats};
 use parking_lot::{Fault, ParkingLot, RwLock, Ticket, Token};
 use std::alloc::Global;
 use std::sync::Wait;
 use std::sync::atomic::AtomicBool;
 use std::sync::atomic::Ordering::SeqCst;
 use std::test::Fail;
-use std::thread::{Threads, join};
+use std::thread::Threads;
 
 // Whether a reader saw a writer come for whom it gave the lock up, or whom it let in by a bump.
 fn give_as_reader<R: Wait>(
@@ -100,7 +100,7 @@ fn give_as_writer<R: Wait>(
     came && written
 }
 
-#[derive(Clone, Copy, Debug, PartialEq, Eq)]
+#[derive(Clone, Copy)]
 enum Giver {
     Reader,
     Upgradable,
@@ -117,7 +117,7 @@ fn give<R: Wait>(
     giver: Giver,
     bumps: bool,
 ) -> bool
-    requires { IsTicketOf lot.now ticket × (lot_of lock.now ≡ lot.now) }
+    requires { IsTicketOf (lot_of lock.now) ticket × (lot_of lock.now ≡ lot.now) }
 {
     let mut token = ticket.enter();
     let came = match giver {
@@ -130,29 +130,24 @@ fn give<R: Wait>(
     came && read == Ok(7)
 }
 
-fn give_and_write<R: Threads + Wait + Sync>(
+// The first who comes gives the lock up, and the other writes.
+fn give_or_write<R: Wait>(
     rt: &R,
     lot: &ParkingLot,
     lock: &RwLock<u64>,
-    one: Ticket,
-    other: Ticket,
+    ticket: Ticket,
+    told: &Told,
     giver: Giver,
     bumps: bool,
 ) -> bool
-    requires { IsTicketOf lot.now one × IsTicketOf lot.now other × (lot_of lock.now ≡ lot.now) }
+    requires { IsTicketOf (lot_of lock.now) ticket × (lot_of lock.now ≡ lot.now) }
 {
-    let held = AtomicBool::new(false);
-    let is_held = &held;
-    let (gave, _) = join(
-        rt,
-        move ||
-            requires { IsTicketOf lot.now one × (lot_of lock.now ≡ lot.now) }
-        { give(rt, lot, lock, one, is_held, giver, bumps) },
-        move ||
-            requires { IsTicketOf (lot_of lock.now) other }
-        { write_later(rt, lock, other, is_held) },
-    );
-    gave
+    if told.comes_first() {
+        give(rt, lot, lock, ticket, &told.held, giver, bumps)
+    } else {
+        write_later(rt, lock, ticket, &told.held);
+        true
+    }
 }
 
 fn gives_to_a_writer<R: Threads + Wait + Sync>(
@@ -161,14 +156,16 @@ fn gives_to_a_writer<R: Threads + Wait + Sync>(
     giver: Giver,
     bumps: bool,
 ) -> Result<bool, Fault> {
-    let (lot, lock, mut tickets) = seats::<false, u64>(alloc, 2, 0)?;
-    let Some(one) = next_of(&lot, &mut tickets) else {
-        return Err(Fault::NoMemory);
-    };
-    let Some(other) = next_of(&lot, &mut tickets) else {
-        return Err(Fault::NoMemory);
-    };
-    Ok(give_and_write(rt, &lot, &lock, one, other, giver, bumps))
+    let (lot, lock, tickets) = seats::<false, u64>(alloc, 2, 0)?;
+    let (lot, lock, told) = (&*lot, &lock, &Told::new());
+    let gave = all_are_content(
+        rt,
+        tickets,
+        &|ticket: Ticket|
+            requires { IsTicketOf (lot_of lock.now) ticket × (lot_of lock.now ≡ lot.now) }
+        { give_or_write(rt, lot, lock, ticket, told, giver, bumps) },
+    );
+    Ok(gave)
 }
 
 #[test]

@@ -3,90 +3,94 @@ ghost use Rattle.std.specs.Prelude.{◌≡◌, ◌≤◌};
 ghost use Rattle.parking_lot_core.specs.Tokens.{IsTicketOf, IsTokenOf};
 ghost use Rattle.parking_lot.specs.RwLockUsers.{lot_of};
 
-use super::{lock_alone, lone, next_of, reads, same, seats, tries};
+use super::{all_are_content, comes_upgradable, lock_alone, lone, reads, same, seats, writes};
 use parking_lot::{Fault, ParkingLot, RawRwLock, RwLock, Ticket, Token, lock_api_rw};
 use std::alloc::Global;
+use std::process::Abort;
 use std::sync::Wait;
-use std::sync::atomic::AtomicBool;
 use std::sync::atomic::Ordering::SeqCst;
+use std::sync::atomic::{AtomicBool, AtomicUsize};
 use std::test::Fail;
-use std::thread::{Threads, join, yield_now};
+use std::thread::{Threads, yield_now};
 
 const TURNS: usize = 1_000_000;
 
-/// Which tries come in, and what is told of the lock.
-#[derive(Clone, Copy, Debug, PartialEq, Eq)]
-struct Beside {
-    read: bool,
-    upgradable: bool,
-    written: bool,
-    is_locked: bool,
-    is_locked_exclusive: bool,
-}
-
-fn look<R: Wait>(rt: &R, lock: &RwLock<u64>, token: &mut Token) -> Beside
+// Which tries get the lock: to read, to read and upgrade, to write; and whether it is locked then,
+// and is locked exclusively.
+fn look<R: Wait>(rt: &R, lock: &RwLock<u64>, token: &mut Token) -> [bool; 5]
     requires { IsTokenOf (lot_of lock.now) token.old }
     ensures { IsTokenOf (lot_of lock.now) token.new }
 {
-    let [read, upgradable, written] = tries(rt, lock, token);
-    Beside {
-        read,
-        upgradable,
-        written,
-        is_locked: lock.is_locked(token),
-        is_locked_exclusive: lock.is_locked_exclusive(token),
+    [
+        reads(rt, lock, token),
+        comes_upgradable(rt, lock, token),
+        writes(rt, lock, token),
+        lock.is_locked(token),
+        lock.is_locked_exclusive(token),
+    ]
+}
+
+// What is seen beside a reader.
+fn beside_reader<R: Wait>(rt: &R, lock: &RwLock<u64>, token: &mut Token) -> Option<[bool; 5]>
+    requires { IsTokenOf (lot_of lock.now) token.old }
+    ensures { IsTokenOf (lot_of lock.now) token.new }
+{
+    match lock.read(rt, token) {
+        Ok(guard) => {
+            let seen = look(rt, lock, token);
+            guard.unlock(rt, token);
+            Some(seen)
+        }
+        Err(_) => None,
     }
 }
 
-// Beside a reader, beside one that may write later, and beside a writer.
-fn look_beside_each<R: Wait>(rt: &R, lock: &RwLock<u64>, token: &mut Token) -> Option<[Beside; 3]>
+// Beside one that may write later.
+fn beside_upgradable<R: Wait>(rt: &R, lock: &RwLock<u64>, token: &mut Token) -> Option<[bool; 5]>
     requires { IsTokenOf (lot_of lock.now) token.old }
+    ensures { IsTokenOf (lot_of lock.now) token.new }
 {
-    let guard = lock.read(rt, token).ok()?;
-    let reader = look(rt, lock, token);
-    guard.unlock(rt, token);
-    let guard = lock.upgradable_read(rt, token).ok()?;
-    let upgradable = look(rt, lock, token);
-    guard.unlock(rt, token);
-    let guard = lock.write(rt, token);
-    let writer = look(rt, lock, token);
-    guard.unlock(rt, token);
-    Some([reader, upgradable, writer])
+    match lock.upgradable_read(rt, token) {
+        Ok(guard) => {
+            let seen = look(rt, lock, token);
+            guard.unlock(rt, token);
+            Some(seen)
+        }
+        Err(_) => None,
+    }
 }
 
-const WANTED: [Beside; 3] = [
-    Beside {
-        read: true,
-        upgradable: true,
-        written: false,
-        is_locked: true,
-        is_locked_exclusive: false,
-    },
-    Beside {
-        read: true,
-        upgradable: false,
-        written: false,
-        is_locked: true,
-        is_locked_exclusive: false,
-    },
-    Beside {
-        read: false,
-        upgradable: false,
-        written: false,
-        is_locked: true,
-        is_locked_exclusive: true,
-    },
-];
+// And beside a writer.
+fn beside_writer<R: Wait>(rt: &R, lock: &RwLock<u64>, token: &mut Token) -> [bool; 5]
+    requires { IsTokenOf (lot_of lock.now) token.old }
+    ensures { IsTokenOf (lot_of lock.now) token.new }
+{
+    let guard = lock.write(rt, token);
+    let seen = look(rt, lock, token);
+    guard.unlock(rt, token);
+    seen
+}
+
+fn all_keep_out<R: Wait + Abort>(rt: &R, lock: &RwLock<u64>, token: &mut Token)
+    requires { IsTokenOf (lot_of lock.now) token.old }
+{
+    let reader = beside_reader(rt, lock, token);
+    same(rt, reader, Some([true, true, false, true, false]));
+    let upgradable = beside_upgradable(rt, lock, token);
+    same(rt, upgradable, Some([true, false, false, true, false]));
+    let writer = beside_writer(rt, lock, token);
+    same(rt, writer, [false, false, false, true, true]);
+}
 
 #[test]
 fn guards_keep_tries_out(rt: HostRuntime) -> Result<(), Fail> {
     let (lock, mut token) = lock_alone(rt.alloc(), 0u64)?;
-    same(&rt, look_beside_each(&rt, &lock, &mut token), Some(WANTED));
+    all_keep_out(&rt, &lock, &mut token);
     let (lot, mut token) = lone(rt.alloc())?;
     let Ok(lock) = RwLock::with_limit(&lot, &mut token, 0u64, 1024) else {
         return Err("the lock was refused".into());
     };
-    same(&rt, look_beside_each(&rt, &lock, &mut token), Some(WANTED));
+    all_keep_out(&rt, &lock, &mut token);
     Ok(())
 }
 
@@ -111,25 +115,49 @@ pub(super) fn is_waited_for<const RECURSIVE: bool, R: Wait>(
     false
 }
 
-// Reads until a writer waits. Whether one came, and whether a try to read once more came in beside
-// it.
+/// What two threads tell one another.
+#[derive(Drop)]
+pub(super) struct Told {
+    came: AtomicUsize,
+    /// Whether the first of them has the lock.
+    pub(super) held: AtomicBool,
+}
+
+impl Told {
+    pub(super) fn new() -> Told {
+        Told {
+            came: AtomicUsize::new(0),
+            held: AtomicBool::new(false),
+        }
+    }
+
+    /// Whether who asks is the first who does.
+    pub(super) fn comes_first(&self) -> bool {
+        self.came.fetch_add(1, SeqCst) == 0
+    }
+}
+
+// Reads until a writer waits. Whether one came, and a try to read once more came in beside it just
+// where the lock is recursive.
 fn read_twice<const RECURSIVE: bool, R: Wait>(
     rt: &R,
     lot: &ParkingLot,
     lock: &lock_api_rw::RwLock<RawRwLock<RECURSIVE>, u64>,
     ticket: Ticket,
     held: &AtomicBool,
-) -> Option<(bool, bool)>
-    requires { IsTicketOf lot.now ticket × (lot_of lock.now ≡ lot.now) }
+) -> bool
+    requires { IsTicketOf (lot_of lock.now) ticket × (lot_of lock.now ≡ lot.now) }
 {
     let mut token = ticket.enter();
-    let guard = lock.read(rt, &mut token).ok()?;
+    let Ok(guard) = lock.read(rt, &mut token) else {
+        return false;
+    };
     held.store(true, SeqCst);
     let came = is_waited_for(rt, lot, lock, &mut token);
     let again = reads(rt, lock, &mut token);
     guard.unlock(rt, &mut token);
     drop(token.leave());
-    Some((came, again))
+    came && again == RECURSIVE
 }
 
 // Writes once somebody has the lock.
@@ -148,55 +176,50 @@ pub(super) fn write_later<const RECURSIVE: bool, R: Wait>(
         }
         yield_now();
     }
-    let mut guard = lock.write(rt, &mut token);
-    *guard = 7;
-    guard.unlock(rt, &mut token);
+    lock.with_write(rt, &mut token, |value: &mut u64| *value = 7);
     drop(token.leave());
 }
 
-fn read_and_write<const RECURSIVE: bool, R: Threads + Wait + Sync>(
+// The first who comes reads, and the other writes.
+fn read_or_write<const RECURSIVE: bool, R: Wait>(
     rt: &R,
     lot: &ParkingLot,
     lock: &lock_api_rw::RwLock<RawRwLock<RECURSIVE>, u64>,
-    reader: Ticket,
-    writer: Ticket,
-) -> Option<(bool, bool)>
-    requires { IsTicketOf lot.now reader × IsTicketOf lot.now writer × (lot_of lock.now ≡ lot.now) }
+    ticket: Ticket,
+    told: &Told,
+) -> bool
+    requires { IsTicketOf (lot_of lock.now) ticket × (lot_of lock.now ≡ lot.now) }
 {
-    let held = AtomicBool::new(false);
-    let is_held = &held;
-    let (seen, _) = join(
-        rt,
-        move ||
-            requires { IsTicketOf lot.now reader × (lot_of lock.now ≡ lot.now) }
-        { read_twice(rt, lot, lock, reader, is_held) },
-        move ||
-            requires { IsTicketOf (lot_of lock.now) writer }
-        { write_later(rt, lock, writer, is_held) },
-    );
-    seen
+    if told.comes_first() {
+        read_twice(rt, lot, lock, ticket, &told.held)
+    } else {
+        write_later(rt, lock, ticket, &told.held);
+        true
+    }
 }
 
-// What a reader saw beside a writer that waits, and what that wrote.
+// Whether a reader saw a writer that waits, and read beside it where the lock is recursive; and
+// what the writer wrote.
 fn beside_waiting_writer<const RECURSIVE: bool, R: Threads + Wait + Sync>(
     rt: &R,
     alloc: Global,
-) -> Result<(Option<(bool, bool)>, u64), Fault> {
-    let (lot, lock, mut tickets) = seats::<RECURSIVE, u64>(alloc, 2, 0)?;
-    let Some(reader) = next_of(&lot, &mut tickets) else {
-        return Err(Fault::NoMemory);
-    };
-    let Some(writer) = next_of(&lot, &mut tickets) else {
-        return Err(Fault::NoMemory);
-    };
-    let seen = read_and_write(rt, &lot, &lock, reader, writer);
+) -> Result<(bool, u64), Fault> {
+    let (lot, lock, tickets) = seats::<RECURSIVE, u64>(alloc, 2, 0)?;
+    let (lot, shared, told) = (&*lot, &lock, &Told::new());
+    let seen = all_are_content(
+        rt,
+        tickets,
+        &|ticket: Ticket|
+            requires { IsTicketOf (lot_of shared.now) ticket × (lot_of shared.now ≡ lot.now) }
+        { read_or_write(rt, lot, shared, ticket, told) },
+    );
     Ok((seen, lock.into_inner()))
 }
 
 #[test]
 fn a_waiting_writer_keeps_a_reader_out(rt: HostRuntime) -> Result<(), Fail> {
     let seen = beside_waiting_writer::<false, HostRuntime>(&rt, rt.alloc())?;
-    same(&rt, seen, (Some((true, false)), 7));
+    same(&rt, seen, (true, 7));
     Ok(())
 }
 
@@ -205,6 +228,6 @@ fn who_reads_a_recursive_lock_reads_again_beside_a_waiting_writer(
     rt: HostRuntime,
 ) -> Result<(), Fail> {
     let seen = beside_waiting_writer::<true, HostRuntime>(&rt, rt.alloc())?;
-    same(&rt, seen, (Some((true, true)), 7));
+    same(&rt, seen, (true, 7));
     Ok(())
 }
