@@ -10,7 +10,7 @@ ghost use Rattle.std.specs.Arc.{arc_value};
 ghost use Rattle.parking_lot.specs.Users.{IsTicketOf, IsTokenOf, lot_of};
 
 use parking_lot::{Fault, Mutex, ParkingLot, TickClock, Ticket, Token};
-use std::alloc::Global;
+use std::alloc::{AllocError, Global};
 use std::fmt::Debug;
 use std::process::Abort;
 use std::sync::{Arc, Wait};
@@ -27,6 +27,19 @@ fn same<T: PartialEq + Debug + Drop>(rt: &impl Abort, found: T, wanted: T) {
 // What a test asks for holds.
 fn holds(rt: &impl Abort, truth: bool) {
     assert!(rt; truth);
+}
+
+// Whether memory was left for the answers of all threads, and each of them is this one.
+fn all_are<T: PartialEq + Drop>(answers: Result<Vec<T>, AllocError>, wanted: T) -> bool {
+    answers.is_ok_and(|answers| answers.iter().all(|answer| *answer == wanted))
+}
+
+// What the answers of all threads come to.
+fn sum_of(answers: Result<Vec<u64>, AllocError>) -> Result<u64, Fault> {
+    match answers {
+        Ok(answers) => Ok(answers.iter().fold(0u64, |all, one| all.wrapping_add(*one))),
+        Err(_) => Err(Fault::NoMemory),
+    }
 }
 
 // A lot of so many words for three threads: the token of the first of them, and the tickets of the
@@ -135,10 +148,7 @@ fn work_all<R: Threads + Wait + Sync>(
             requires { IsTicketOf (lot_of jobs.now) ticket }
         { work(rt, jobs, ticket) },
     );
-    match done {
-        Ok(done) => Ok(done.iter().fold(0u64, |all, one| all.wrapping_add(*one))),
-        Err(_) => Err(Fault::NoMemory),
-    }
+    sum_of(done)
 }
 
 #[test]
@@ -149,6 +159,10 @@ fn a_workers_queue(rt: HostRuntime) -> Result<(), Fail> {
     Ok(())
 }
 
+fn add_one(value: &mut u64) {
+    *value = value.wrapping_add(1);
+}
+
 // Adds 1 where the mutex is free within a microsecond. Whether it was.
 fn add_soon<R: Wait>(rt: &R, counter: &Mutex<u64>, token: &mut Token, clock: &TickClock) -> bool
     requires { IsTokenOf (lot_of counter.now) token.old }
@@ -156,7 +170,7 @@ fn add_soon<R: Wait>(rt: &R, counter: &Mutex<u64>, token: &mut Token, clock: &Ti
 {
     match counter.try_lock_for(rt, token, clock, Duration::from_micros(1)) {
         Some(mut guard) => {
-            *guard = guard.wrapping_add(1);
+            add_one(&mut *guard);
             guard.unlock(rt, token);
             true
         }

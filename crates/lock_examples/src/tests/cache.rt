@@ -4,7 +4,7 @@ ghost use Rattle.std.specs.Prelude.{◌≡◌, ◌+◌, ◌*◌, ◌/◌, All, I
 ghost use Rattle.parking_lot.specs.RwLockUsers.{lot_of};
 ghost use Rattle.parking_lot.specs.Users.{IsTicketOf, IsTokenOf};
 
-use super::{lot_for_three, same};
+use super::{all_are, lot_for_three, same};
 use parking_lot::{Fault, RwLock, Ticket, Token};
 use std::sync::Wait;
 use std::test::Fail;
@@ -118,8 +118,7 @@ fn all_look_up<R: Threads + Wait + Sync>(
             requires { IsTicketOf (lot_of shared.now) ticket }
         { look_up_all(rt, shared, ticket) },
     );
-    let same = found.is_ok_and(|found| found.iter().all(|total| *total == Ok(2794)));
-    Ok((same, cache.into_inner().len()))
+    Ok((all_are(found, Ok(2794)), cache.into_inner().len()))
 }
 
 #[test]

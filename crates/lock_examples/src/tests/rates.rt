@@ -4,7 +4,7 @@ ghost use Rattle.std.specs.Prelude.{All};
 ghost use Rattle.parking_lot.specs.OnceUsers.{lot_of};
 ghost use Rattle.parking_lot.specs.Users.{IsTicketOf, IsTokenOf};
 
-use super::{holds, lot_for_three, same};
+use super::{all_are, holds, lot_for_three, same};
 use parking_lot::{OnceCell, Ticket, Token};
 use std::num::ParseIntError;
 use std::sync::Wait;
@@ -66,7 +66,7 @@ fn all_find<R: Threads + Wait + Sync>(
             requires { IsTicketOf (lot_of rate.now) ticket }
         { taxed(rt, rate, ticket, reads) },
     );
-    found.is_ok_and(|found| found.iter().all(|price| *price == Some(1190)))
+    all_are(found, Some(1190))
 }
 
 #[test]

@@ -3,7 +3,7 @@ ghost use Rattle.std.specs.Prelude.{All};
 ghost use Rattle.parking_lot.specs.OnceUsers.{lot_of};
 ghost use Rattle.parking_lot.specs.Users.{IsTicketOf};
 
-use super::{holds, lot_for_three, same};
+use super::{all_are, holds, lot_for_three, same};
 use parking_lot::{Fault, Once, OnceFault, Ticket};
 use std::sync::Wait;
 use std::sync::atomic::Ordering::SeqCst;
@@ -50,7 +50,7 @@ fn all_look_up<R: Threads + Wait + Sync>(
             requires { IsTicketOf (lot_of filled.now) ticket }
         { look_up(rt, filled, table, ticket) },
     );
-    found.is_ok_and(|found| found.iter().all(|entry| *entry == 42))
+    all_are(found, 42)
 }
 
 #[test]

@@ -5,7 +5,7 @@ ghost use Rattle.std.specs.Arc.{arc_value};
 ghost use Rattle.parking_lot.specs.CondvarUsers.{lot_of as condvar_lot};
 ghost use Rattle.parking_lot.specs.Users.{IsTicketOf, IsTokenOf, lot_of};
 
-use super::{lot_for_three, same};
+use super::{lot_for_three, same, sum_of};
 use parking_lot::{Condvar, Fault, Mutex, ParkingLot, Ticket, Token};
 use std::alloc::Global;
 use std::sync::{Arc, Wait};
@@ -84,9 +84,8 @@ impl Desk {
         requires { IsTokenOf (lot_of self.now.jobs) token.old }
         ensures { IsTokenOf (lot_of self.now.jobs) token.new }
     {
-        let mut guard = self.jobs.lock(rt, token);
-        guard.closed = true;
-        guard.unlock(rt, token);
+        self.jobs
+            .with(rt, token, |jobs: &mut Jobs| jobs.closed = true);
         self.brought.notify_all(rt, token);
     }
 
@@ -158,10 +157,7 @@ fn work_all<R: Threads + Wait + Sync>(rt: &R, desk: &Desk, tickets: Vec<Ticket>)
             requires { IsTicketOf (lot_of desk.now.jobs) ticket }
         { work(rt, desk, ticket) },
     );
-    match done {
-        Ok(done) => done.iter().fold(0u64, |all, one| all.wrapping_add(*one)),
-        Err(_) => 0,
-    }
+    sum_of(done).unwrap_or(0)
 }
 
 // Whether all jobs were brought, and what the workers did.
