@@ -13,7 +13,7 @@ ghost use Rattle.parking_lot.specs.RwLockUsers.{lot_of};
 
 use parking_lot::{
     Fault, ParkingLot, RawRwLock, RecursiveRwLock, RecursiveRwLockReadGuard, RwLock,
-    RwLockReadGuard, TickClock, Ticket, Token, lock_api_rw,
+    RwLockReadGuard, RwLockUpgradableReadGuard, TickClock, Ticket, Token, lock_api_rw,
 };
 use std::alloc::Global;
 use std::fmt::Debug;
@@ -194,6 +194,24 @@ fn tries<R: Wait>(rt: &R, lock: &RwLock<u64>, token: &mut Token) -> [bool; 3]
     ]
 }
 
+// What tries get beside who may write later, and behind its downgrade.
+fn tries_behind<R: Wait>(
+    rt: &R,
+    lock: &RwLock<u64>,
+    token: &mut Token,
+    guard: RwLockUpgradableReadGuard<'_, u64>,
+) -> [[bool; 3]; 2]
+    requires token { IsTokenOf (lot_of lock.now) token.old }
+    requires guard { lock_of guard ≡ lock.now }
+    ensures { IsTokenOf (lot_of lock.now) token.new }
+{
+    let upgradable = tries(rt, lock, token);
+    let guard = guard.downgrade(rt, token);
+    let reader = tries(rt, lock, token);
+    guard.unlock(rt, token);
+    [upgradable, reader]
+}
+
 // What tries get beside a writer, behind each of its downgrades, and in the end.
 fn tries_beside<R: Wait>(rt: &R, lock: &RwLock<u64>, token: &mut Token) -> [[bool; 3]; 4]
     requires { IsTokenOf (lot_of lock.now) token.old }
@@ -202,10 +220,7 @@ fn tries_beside<R: Wait>(rt: &R, lock: &RwLock<u64>, token: &mut Token) -> [[boo
     let guard = lock.write(rt, token);
     let writer = tries(rt, lock, token);
     let guard = guard.downgrade_to_upgradable(rt, token);
-    let upgradable = tries(rt, lock, token);
-    let guard = guard.downgrade(rt, token);
-    let reader = tries(rt, lock, token);
-    guard.unlock(rt, token);
+    let [upgradable, reader] = tries_behind(rt, lock, token, guard);
     [writer, upgradable, reader, tries(rt, lock, token)]
 }
 
@@ -342,6 +357,20 @@ fn eight_threads_read_what_they_wrote(rt: HostRuntime) -> Result<(), Fail> {
     Ok(())
 }
 
+fn write_by_upgrade<R: Wait>(
+    rt: &R,
+    token: &mut Token,
+    guard: RwLockUpgradableReadGuard<'_, u64>,
+    value: u64,
+)
+    requires { IsTokenOf (lot_of (lock_of guard)) token.old }
+    ensures { IsTokenOf (lot_of (lock_of guard.entry)) token.new }
+{
+    let mut guard = guard.upgrade(rt, token);
+    *guard = value;
+    guard.unlock(rt, token);
+}
+
 // Reads a value, and adds 1 to it by an upgrade.
 fn add_by_upgrade<R: Wait>(rt: &R, lock: &RwLock<u64>, token: &mut Token)
     requires { IsTokenOf (lot_of lock.now) token.old }
@@ -351,9 +380,7 @@ fn add_by_upgrade<R: Wait>(rt: &R, lock: &RwLock<u64>, token: &mut Token)
         Ok(guard) => {
             let seen = *guard;
             yield_now();
-            let mut guard = guard.upgrade(rt, token);
-            *guard = seen.wrapping_add(1);
-            guard.unlock(rt, token);
+            write_by_upgrade(rt, token, guard, seen.wrapping_add(1));
         }
         Err(_) => {}
     }
