@@ -2,13 +2,14 @@
 ghost use Rattle.std.specs.Prelude.{◌≡◌, ◌∷◌, [], IfOk, IfSome};
 ghost use Rattle.std.specs.Arc.{arc_value};
 ghost use Rattle.parking_lot_core.specs.Tokens.{IsTicketOf, IsTokenOf};
-ghost use Rattle.parking_lot.specs.RwLockUsers.{lot_of};
+ghost use Rattle.parking_lot.specs.RwLockGuards.{IsSharedOf};
+ghost use Rattle.parking_lot.specs.RwLockUsers.{lot_of, word_of};
 
 use super::{FREE, READ, UPGRADABLE, WRITTEN, holds, look};
 use parking_lot::lock_raw::{
     RawRwLock as RawLock, RawRwLockTimed, RawRwLockUpgrade, RawRwLockUpgradeTimed,
 };
-use parking_lot::{Clock, Fault, ParkingLot, RawRwLock, TickClock, Ticket, Token};
+use parking_lot::{Clock, Fault, ParkingLot, RawRwLock, RawSharedGuard, TickClock, Ticket, Token};
 use raw_rwlock_fixtures::{await_flag, comes_to, lock_alone, queue_up, seats};
 use std::alloc::Global;
 use std::sync::Wait;
@@ -133,6 +134,25 @@ fn gives_up_beside_a_writer<const RECURSIVE: bool, R: Wait>(
     in_vain && until_in_vain && beside == WRITTEN && look(rt, lock, token) == FREE
 }
 
+// Waits to write beside a reader, whose guard comes back. It gives up in time: that a writer came
+// in beside a reader is refuted by their guards.
+fn give_up_beside<const RECURSIVE: bool, R: Wait>(
+    rt: &R,
+    lock: &RawRwLock<RECURSIVE>,
+    token: &mut Token,
+    guard: RawSharedGuard,
+) -> RawSharedGuard
+    requires token { IsTokenOf (lot_of lock.now) token.old }
+    requires guard { IsSharedOf (lot_of lock.now) (word_of lock.now) guard }
+    ensures token { IsTokenOf (lot_of lock.now) token.new }
+    ensures guard { IsSharedOf (lot_of lock.now) (word_of lock.now) result }
+{
+    match lock.try_lock_exclusive_until(rt, token, &TickClock::new(), EARLY) {
+        Some(writer) => lock.has_writer_and_reader(token, writer, guard),
+        None => guard,
+    }
+}
+
 // Whether a writer that waits beside a reader gives up, and readers come in then.
 fn gives_up_beside_a_reader<const RECURSIVE: bool, R: Wait>(
     rt: &R,
@@ -142,17 +162,13 @@ fn gives_up_beside_a_reader<const RECURSIVE: bool, R: Wait>(
     requires { IsTokenOf (lot_of lock.now) token.old }
     ensures { IsTokenOf (lot_of lock.now) token.new }
 {
-    let clock = TickClock::new();
     let Ok(guard) = lock.lock_shared(rt, token) else {
         return false;
     };
-    let written = match lock.try_lock_exclusive_until(rt, token, &clock, EARLY) {
-        Some(writer) => lock.has_writer_and_reader(token, writer, guard),
-        None => false,
-    };
+    let guard = give_up_beside(rt, lock, token, guard);
     let beside = look(rt, lock, token);
     lock.unlock_shared(rt, token, guard);
-    !written && beside == READ && look(rt, lock, token) == FREE
+    beside == READ && look(rt, lock, token) == FREE
 }
 
 // Whether an upgrade beside a reader gives up and keeps its right, and one alone doesn't.
