@@ -56,23 +56,22 @@ fn hold_and_come<const RECURSIVE: bool, R: Threads + Wait + Sync>(
     )
 }
 
-// Plays a scene: whether all stood where they were to, and all came in, beside none whom they
-// exclude.
-fn play<const RECURSIVE: bool, R: Threads + Wait + Sync>(
+// Plays a scene: all stand where they are to, and all come in, beside none whom they exclude.
+fn play<const RECURSIVE: bool, R: Threads + Wait + Sync + Abort>(
     rt: &R,
     alloc: Global,
     scene: Scene,
-) -> Result<bool, Fault> {
+) -> Result<(), Fault> {
     play_within::<RECURSIVE, R>(rt, alloc, scene, 1000)
 }
 
 // The same on a lock that so many may share.
-fn play_within<const RECURSIVE: bool, R: Threads + Wait + Sync>(
+fn play_within<const RECURSIVE: bool, R: Threads + Wait + Sync + Abort>(
     rt: &R,
     alloc: Global,
     scene: Scene,
     limit: u64,
-) -> Result<bool, Fault>
+) -> Result<(), Fault>
     requires { limit ≤ 1024 }
 {
     let (lot, lock, mut tickets) = seats::<RECURSIVE>(alloc, 4, limit)?;
@@ -81,5 +80,9 @@ fn play_within<const RECURSIVE: bool, R: Threads + Wait + Sync>(
     };
     let told = Told::new();
     let (held, came) = hold_and_come(rt, &lot, &lock, ticket, tickets, &scene, &told);
-    Ok(held && came && told.came.load(SeqCst) == 3 && told.inside.wrongs() == 0)
+    holds(
+        rt,
+        held && came && told.came.load(SeqCst) == 3 && told.inside.wrongs() == 0,
+    );
+    Ok(())
 }

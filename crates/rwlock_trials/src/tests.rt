@@ -7,11 +7,13 @@ mod timed;
 ghost use Rattle.std.specs.Prelude.{◌≡◌, ◌<◌, All, IfOk, IfSome};
 ghost use Rattle.std.specs.Arc.{arc_value};
 ghost use Rattle.std.specs.Fork.{AcceptsJobs};
+ghost use Rattle.lock_api_rw.specs.Guards.{lock_of};
 ghost use Rattle.parking_lot_core.specs.Tokens.{IsTicketOf, IsTokenOf};
 ghost use Rattle.parking_lot.specs.RwLockUsers.{lot_of};
 
 use parking_lot::{
-    Fault, ParkingLot, RawRwLock, RecursiveRwLock, RwLock, TickClock, Ticket, Token, lock_api_rw,
+    Fault, ParkingLot, RawRwLock, RecursiveRwLock, RecursiveRwLockReadGuard, RwLock,
+    RwLockReadGuard, RwLockUpgradableReadGuard, TickClock, Ticket, Token, lock_api_rw,
 };
 use std::alloc::Global;
 use std::fmt::Debug;
@@ -192,6 +194,24 @@ fn tries<R: Wait>(rt: &R, lock: &RwLock<u64>, token: &mut Token) -> [bool; 3]
     ]
 }
 
+// What tries get beside who may write later, and behind its downgrade.
+fn tries_behind<R: Wait>(
+    rt: &R,
+    lock: &RwLock<u64>,
+    token: &mut Token,
+    guard: RwLockUpgradableReadGuard<'_, u64>,
+) -> [[bool; 3]; 2]
+    requires token { IsTokenOf (lot_of lock.now) token.old }
+    requires guard { lock_of guard ≡ lock.now }
+    ensures { IsTokenOf (lot_of lock.now) token.new }
+{
+    let upgradable = tries(rt, lock, token);
+    let guard = guard.downgrade(rt, token);
+    let reader = tries(rt, lock, token);
+    guard.unlock(rt, token);
+    [upgradable, reader]
+}
+
 // What tries get beside a writer, behind each of its downgrades, and in the end.
 fn tries_beside<R: Wait>(rt: &R, lock: &RwLock<u64>, token: &mut Token) -> [[bool; 3]; 4]
     requires { IsTokenOf (lot_of lock.now) token.old }
@@ -200,10 +220,7 @@ fn tries_beside<R: Wait>(rt: &R, lock: &RwLock<u64>, token: &mut Token) -> [[boo
     let guard = lock.write(rt, token);
     let writer = tries(rt, lock, token);
     let guard = guard.downgrade_to_upgradable(rt, token);
-    let upgradable = tries(rt, lock, token);
-    let guard = guard.downgrade(rt, token);
-    let reader = tries(rt, lock, token);
-    guard.unlock(rt, token);
+    let [upgradable, reader] = tries_behind(rt, lock, token, guard);
     [writer, upgradable, reader, tries(rt, lock, token)]
 }
 
@@ -230,20 +247,36 @@ fn finds<R: Wait>(rt: &R, lock: &RecursiveRwLock<u64>, token: &mut Token, value:
         .unwrap_or(false)
 }
 
-// Whether a reader of a recursive lock reads again, and a writer beside it gives up in time.
+// Waits to write beside a reader, whose guard comes back. It gives up in time: that a writer came
+// in beside a reader is refuted by their guards.
+fn give_up_beside<'l, R: Wait>(
+    rt: &R,
+    lock: &'l RecursiveRwLock<u64>,
+    token: &mut Token,
+    guard: RecursiveRwLockReadGuard<'l, u64>,
+) -> RecursiveRwLockReadGuard<'l, u64>
+    requires token { IsTokenOf (lot_of lock.now) token.old }
+    requires guard { lock_of guard ≡ lock.now }
+    ensures token { IsTokenOf (lot_of lock.now) token.new }
+    ensures guard { lock_of result ≡ lock.now }
+{
+    match lock.try_write_until(rt, token, &TickClock::new(), 20) {
+        Some(writer) => writer.has_reader(token, guard),
+        None => guard,
+    }
+}
+
+// Whether a reader of a recursive lock reads again, behind a writer that gave up in time.
 fn reads_again<R: Wait>(rt: &R, lock: &RecursiveRwLock<u64>, token: &mut Token) -> bool
     requires { IsTokenOf (lot_of lock.now) token.old }
 {
     let Ok(guard) = lock.read(rt, token) else {
         return false;
     };
-    let gave_up = match lock.try_write_until(rt, token, &TickClock::new(), 20) {
-        Some(writer) => writer.has_reader(token, guard),
-        None => true,
-    };
+    let guard = give_up_beside(rt, lock, token, guard);
     let again = finds(rt, lock, token, *guard);
     guard.unlock(rt, token);
-    gave_up && again
+    again
 }
 
 #[test]
@@ -261,6 +294,21 @@ fn add_one(value: &mut u64) -> u64 {
     *value
 }
 
+// Reads, and goes: whether it found this value.
+fn goes_behind<R: Wait>(
+    rt: &R,
+    token: &mut Token,
+    guard: RwLockReadGuard<'_, u64>,
+    value: u64,
+) -> bool
+    requires { IsTokenOf (lot_of (lock_of guard)) token.old }
+    ensures { IsTokenOf (lot_of (lock_of guard.entry)) token.new }
+{
+    let same = *guard == value;
+    guard.unlock(rt, token);
+    same
+}
+
 // Writes, goes on as a reader, and finds what it wrote.
 fn write_and_read<R: Wait>(rt: &R, lock: &RwLock<u64>, token: &mut Token, wrongs: &AtomicUsize)
     requires { IsTokenOf (lot_of lock.now) token.old }
@@ -270,10 +318,9 @@ fn write_and_read<R: Wait>(rt: &R, lock: &RwLock<u64>, token: &mut Token, wrongs
     let written = add_one(&mut *guard);
     let guard = guard.downgrade(rt, token);
     yield_now();
-    if *guard != written {
+    if !goes_behind(rt, token, guard, written) {
         wrongs.fetch_add(1, SeqCst);
     }
-    guard.unlock(rt, token);
 }
 
 fn downgrade_many<R: Wait>(rt: &R, lock: &RwLock<u64>, ticket: Ticket, wrongs: &AtomicUsize)
@@ -310,6 +357,20 @@ fn eight_threads_read_what_they_wrote(rt: HostRuntime) -> Result<(), Fail> {
     Ok(())
 }
 
+fn write_by_upgrade<R: Wait>(
+    rt: &R,
+    token: &mut Token,
+    guard: RwLockUpgradableReadGuard<'_, u64>,
+    value: u64,
+)
+    requires { IsTokenOf (lot_of (lock_of guard)) token.old }
+    ensures { IsTokenOf (lot_of (lock_of guard.entry)) token.new }
+{
+    let mut guard = guard.upgrade(rt, token);
+    *guard = value;
+    guard.unlock(rt, token);
+}
+
 // Reads a value, and adds 1 to it by an upgrade.
 fn add_by_upgrade<R: Wait>(rt: &R, lock: &RwLock<u64>, token: &mut Token)
     requires { IsTokenOf (lot_of lock.now) token.old }
@@ -319,9 +380,7 @@ fn add_by_upgrade<R: Wait>(rt: &R, lock: &RwLock<u64>, token: &mut Token)
         Ok(guard) => {
             let seen = *guard;
             yield_now();
-            let mut guard = guard.upgrade(rt, token);
-            *guard = seen.wrapping_add(1);
-            guard.unlock(rt, token);
+            write_by_upgrade(rt, token, guard, seen.wrapping_add(1));
         }
         Err(_) => {}
     }

@@ -2,20 +2,21 @@
 ghost use Rattle.std.specs.Prelude.{◌≡◌, ◌∷◌, [], IfOk, IfSome};
 ghost use Rattle.std.specs.Arc.{arc_value};
 ghost use Rattle.parking_lot_core.specs.Tokens.{IsTicketOf, IsTokenOf};
-ghost use Rattle.parking_lot.specs.RwLockUsers.{lot_of};
+ghost use Rattle.parking_lot.specs.RwLockGuards.{IsSharedOf};
+ghost use Rattle.parking_lot.specs.RwLockUsers.{lot_of, word_of};
 
 use super::{FREE, READ, UPGRADABLE, WRITTEN, holds, look};
 use parking_lot::lock_raw::{
     RawRwLock as RawLock, RawRwLockTimed, RawRwLockUpgrade, RawRwLockUpgradeTimed,
 };
-use parking_lot::{Clock, Fault, ParkingLot, RawRwLock, TickClock, Ticket, Token};
-use raw_rwlock_fixtures::{await_flag, comes_to, lock_alone, next_of, queue_up, seats};
+use parking_lot::{Clock, Fault, ParkingLot, RawRwLock, RawSharedGuard, TickClock, Ticket, Token};
+use raw_rwlock_fixtures::{await_flag, comes_to, lock_alone, queue_up, seats};
 use std::alloc::Global;
 use std::sync::Wait;
 use std::sync::atomic::Ordering::SeqCst;
 use std::sync::atomic::{AtomicBool, AtomicUsize};
 use std::test::Fail;
-use std::thread::{Threads, join, yield_now};
+use std::thread::{Threads, map_vec, yield_now};
 use std::time::Duration;
 
 // A deadline that is come to soon, on a clock that begins at 0.
@@ -133,6 +134,25 @@ fn gives_up_beside_a_writer<const RECURSIVE: bool, R: Wait>(
     in_vain && until_in_vain && beside == WRITTEN && look(rt, lock, token) == FREE
 }
 
+// Waits to write beside a reader, whose guard comes back. It gives up in time: that a writer came
+// in beside a reader is refuted by their guards.
+fn give_up_beside<const RECURSIVE: bool, R: Wait>(
+    rt: &R,
+    lock: &RawRwLock<RECURSIVE>,
+    token: &mut Token,
+    guard: RawSharedGuard,
+) -> RawSharedGuard
+    requires token { IsTokenOf (lot_of lock.now) token.old }
+    requires guard { IsSharedOf (lot_of lock.now) (word_of lock.now) guard }
+    ensures token { IsTokenOf (lot_of lock.now) token.new }
+    ensures guard { IsSharedOf (lot_of lock.now) (word_of lock.now) result }
+{
+    match lock.try_lock_exclusive_until(rt, token, &TickClock::new(), EARLY) {
+        Some(writer) => lock.has_writer_and_reader(token, writer, guard),
+        None => guard,
+    }
+}
+
 // Whether a writer that waits beside a reader gives up, and readers come in then.
 fn gives_up_beside_a_reader<const RECURSIVE: bool, R: Wait>(
     rt: &R,
@@ -142,17 +162,13 @@ fn gives_up_beside_a_reader<const RECURSIVE: bool, R: Wait>(
     requires { IsTokenOf (lot_of lock.now) token.old }
     ensures { IsTokenOf (lot_of lock.now) token.new }
 {
-    let clock = TickClock::new();
     let Ok(guard) = lock.lock_shared(rt, token) else {
         return false;
     };
-    let written = match lock.try_lock_exclusive_until(rt, token, &clock, EARLY) {
-        Some(writer) => lock.has_writer_and_reader(token, writer, guard),
-        None => false,
-    };
+    let guard = give_up_beside(rt, lock, token, guard);
     let beside = look(rt, lock, token);
     lock.unlock_shared(rt, token, guard);
-    !written && beside == READ && look(rt, lock, token) == FREE
+    beside == READ && look(rt, lock, token) == FREE
 }
 
 // Whether an upgrade beside a reader gives up and keeps its right, and one alone doesn't.
@@ -231,9 +247,21 @@ impl Clock for FlagClock<'_> {
 /// What the threads tell one another.
 #[derive(Drop)]
 struct Told {
+    parts: AtomicUsize,
     held: AtomicBool,
     up: AtomicBool,
     came: AtomicUsize,
+}
+
+impl Told {
+    fn new() -> Told {
+        Told {
+            parts: AtomicUsize::new(0),
+            held: AtomicBool::new(false),
+            up: AtomicBool::new(false),
+            came: AtomicUsize::new(0),
+        }
+    }
 }
 
 // Waits beside a reader to own the lock alone, until the time is up. Whether it gave up.
@@ -306,7 +334,7 @@ fn come_behind<R: Wait>(
     ticket: Ticket,
     told: &Told,
 ) -> bool
-    requires { IsTicketOf lot.now ticket × (lot_of lock.now ≡ lot.now) }
+    requires { IsTicketOf (lot_of lock.now) ticket × (lot_of lock.now ≡ lot.now) }
 {
     let mut token = ticket.enter();
     let aside = queue_up(rt, lot, lock, &mut token, 0, 1);
@@ -328,7 +356,7 @@ fn read_on<R: Wait>(
     ticket: Ticket,
     told: &Told,
 ) -> bool
-    requires { IsTicketOf lot.now ticket × (lot_of lock.now ≡ lot.now) }
+    requires { IsTicketOf (lot_of lock.now) ticket × (lot_of lock.now ≡ lot.now) }
 {
     let mut token = ticket.enter();
     let Ok(guard) = lock.lock_shared(rt, &mut token) else {
@@ -342,48 +370,22 @@ fn read_on<R: Wait>(
     stood && came
 }
 
-// Whether the writer gave up, and the reader behind it came in.
-fn give_up_and_come<R: Threads + Wait + Sync>(
+// The first who comes reads, the next gives up, and the third comes behind it.
+fn take_part<R: Wait>(
     rt: &R,
     lot: &ParkingLot,
     lock: &RawRwLock<false>,
-    tickets: (Ticket, Ticket),
+    ticket: Ticket,
     upgrades: bool,
     told: &Told,
 ) -> bool
-    requires lock { lot_of lock.now ≡ lot.now }
-    requires tickets { IsTicketOf (lot_of lock.now) tickets.0 × IsTicketOf lot.now tickets.1 }
+    requires { IsTicketOf (lot_of lock.now) ticket × (lot_of lock.now ≡ lot.now) }
 {
-    let (one, other) = tickets;
-    let (gave_up, came) = join(
-        rt,
-        move || give_up(rt, lock, one, upgrades, told),
-        move || come_behind(rt, lot, lock, other, told),
-    );
-    gave_up && came
-}
-
-fn all_three<R: Threads + Wait + Sync>(
-    rt: &R,
-    lot: &ParkingLot,
-    lock: &RawRwLock<false>,
-    reader: Ticket,
-    tickets: (Ticket, Ticket),
-    upgrades: bool,
-    told: &Told,
-) -> (bool, bool)
-    requires lock { lot_of lock.now ≡ lot.now }
-    requires tickets { IsTicketOf lot.now reader × IsTicketOf (lot_of lock.now) tickets.0
-        × IsTicketOf lot.now tickets.1 }
-{
-    join(
-        rt,
-        move || read_on(rt, lot, lock, reader, told),
-        move ||
-            requires { (lot_of lock.now ≡ lot.now) × IsTicketOf (lot_of lock.now) tickets.0
-                × IsTicketOf lot.now tickets.1 }
-        { give_up_and_come(rt, lot, lock, tickets, upgrades, told) },
-    )
+    match told.parts.fetch_add(1, SeqCst) {
+        0 => read_on(rt, lot, lock, ticket, told),
+        1 => give_up(rt, lock, ticket, upgrades, told),
+        _ => come_behind(rt, lot, lock, ticket, told),
+    }
 }
 
 // Whether a writer that gives up beside a reader lets another reader in.
@@ -392,23 +394,16 @@ fn lets_readers_in<R: Threads + Wait + Sync>(
     alloc: Global,
     upgrades: bool,
 ) -> Result<bool, Fault> {
-    let (lot, lock, mut tickets) = seats::<false>(alloc, 3, 1000)?;
-    let Some(one) = next_of(&lot, &mut tickets) else {
-        return Err(Fault::NoMemory);
-    };
-    let Some(other) = next_of(&lot, &mut tickets) else {
-        return Err(Fault::NoMemory);
-    };
-    let Some(third) = next_of(&lot, &mut tickets) else {
-        return Err(Fault::NoMemory);
-    };
-    let told = Told {
-        held: AtomicBool::new(false),
-        up: AtomicBool::new(false),
-        came: AtomicUsize::new(0),
-    };
-    let (read, came) = all_three(rt, &lot, &lock, one, (other, third), upgrades, &told);
-    Ok(read && came)
+    let (lot, lock, tickets) = seats::<false>(alloc, 3, 1000)?;
+    let (lot, lock, told) = (&*lot, &lock, &Told::new());
+    let ended = map_vec(
+        rt,
+        tickets,
+        &|ticket: Ticket|
+            requires { IsTicketOf (lot_of lock.now) ticket × (lot_of lock.now ≡ lot.now) }
+        { take_part(rt, lot, lock, ticket, upgrades, told) },
+    );
+    Ok(ended.is_ok_and(|ended| ended.iter().all(|well| *well)))
 }
 
 #[test]

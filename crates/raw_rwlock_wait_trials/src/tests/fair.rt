@@ -3,7 +3,7 @@ ghost use Rattle.parking_lot_core.specs.Tokens.{IsTokenOf};
 ghost use Rattle.parking_lot.specs.RwLockUsers.{lot_of};
 
 use super::scenes::{ALL, Coming, Manner, READERS, Scene, WRITERS};
-use super::{holds, play, play_within, same};
+use super::{play, play_within, same};
 use parking_lot::lock_raw::{
     RawRwLock as RawLock, RawRwLockFair, RawRwLockUpgrade, RawRwLockUpgradeFair,
 };
@@ -25,31 +25,16 @@ fn scene(manner: Manner, coming: [Coming; 3], main: usize, second: usize) -> Sce
 
 #[test]
 fn a_writer_hands_the_lock_over(rt: HostRuntime) -> Result<(), Fail> {
-    holds(
-        &rt,
-        play::<false, HostRuntime>(&rt, rt.alloc(), scene(Manner::Handed, ALL, 3, 0))?,
-    );
-    holds(
-        &rt,
-        play::<true, HostRuntime>(&rt, rt.alloc(), scene(Manner::Handed, ALL, 3, 0))?,
-    );
-    holds(
-        &rt,
-        play::<false, HostRuntime>(&rt, rt.alloc(), scene(Manner::Handed, READERS, 3, 0))?,
-    );
+    play::<false, HostRuntime>(&rt, rt.alloc(), scene(Manner::Handed, ALL, 3, 0))?;
+    play::<true, HostRuntime>(&rt, rt.alloc(), scene(Manner::Handed, ALL, 3, 0))?;
+    play::<false, HostRuntime>(&rt, rt.alloc(), scene(Manner::Handed, READERS, 3, 0))?;
     Ok(())
 }
 
 #[test]
 fn a_writer_that_bumps_lets_others_in(rt: HostRuntime) -> Result<(), Fail> {
-    holds(
-        &rt,
-        play::<false, HostRuntime>(&rt, rt.alloc(), scene(Manner::Bumped, ALL, 3, 0))?,
-    );
-    holds(
-        &rt,
-        play::<true, HostRuntime>(&rt, rt.alloc(), scene(Manner::Bumped, READERS, 3, 0))?,
-    );
+    play::<false, HostRuntime>(&rt, rt.alloc(), scene(Manner::Bumped, ALL, 3, 0))?;
+    play::<true, HostRuntime>(&rt, rt.alloc(), scene(Manner::Bumped, READERS, 3, 0))?;
     Ok(())
 }
 
@@ -61,21 +46,15 @@ const TIMED: [Coming; 3] = [
 
 #[test]
 fn who_waits_with_a_deadline_is_handed_the_lock(rt: HostRuntime) -> Result<(), Fail> {
-    holds(
-        &rt,
-        play::<false, HostRuntime>(&rt, rt.alloc(), scene(Manner::Handed, TIMED, 3, 0))?,
-    );
-    holds(
-        &rt,
-        play::<true, HostRuntime>(&rt, rt.alloc(), scene(Manner::Bumped, TIMED, 3, 0))?,
-    );
+    play::<false, HostRuntime>(&rt, rt.alloc(), scene(Manner::Handed, TIMED, 3, 0))?;
+    play::<true, HostRuntime>(&rt, rt.alloc(), scene(Manner::Bumped, TIMED, 3, 0))?;
     let upgradables = [
         Coming::TimedUpgradable,
         Coming::TimedUpgradable,
         Coming::TimedWriter,
     ];
     let handed = scene(Manner::UpgradableHanded, upgradables, 3, 0);
-    holds(&rt, play::<false, HostRuntime>(&rt, rt.alloc(), handed)?);
+    play::<false, HostRuntime>(&rt, rt.alloc(), handed)?;
     Ok(())
 }
 
@@ -85,10 +64,7 @@ fn who_waits_with_a_deadline_is_handed_the_lock(rt: HostRuntime) -> Result<(), F
 fn all_who_are_handed_the_lock_have_it(rt: HostRuntime) -> Result<(), Fail> {
     let readers = [Coming::Reader, Coming::Reader, Coming::Reader];
     let handed = scene(Manner::Handed, readers, 3, 0);
-    holds(
-        &rt,
-        play_within::<false, HostRuntime>(&rt, rt.alloc(), handed, 1)?,
-    );
+    play_within::<false, HostRuntime>(&rt, rt.alloc(), handed, 1)?;
     Ok(())
 }
 
@@ -97,16 +73,16 @@ const UPGRADABLES: [Coming; 3] = [Coming::Upgradable, Coming::Upgradable, Coming
 #[test]
 fn an_upgradable_owner_hands_the_lock_over(rt: HostRuntime) -> Result<(), Fail> {
     let handed = scene(Manner::UpgradableHanded, UPGRADABLES, 3, 0);
-    holds(&rt, play::<false, HostRuntime>(&rt, rt.alloc(), handed)?);
+    play::<false, HostRuntime>(&rt, rt.alloc(), handed)?;
     let bumped = scene(Manner::UpgradableBumped, UPGRADABLES, 3, 0);
-    holds(&rt, play::<false, HostRuntime>(&rt, rt.alloc(), bumped)?);
+    play::<false, HostRuntime>(&rt, rt.alloc(), bumped)?;
     Ok(())
 }
 
 #[test]
 fn a_reader_that_bumps_lets_a_writer_in(rt: HostRuntime) -> Result<(), Fail> {
     let bumped = scene(Manner::ReaderBumped, WRITERS, 2, 1);
-    holds(&rt, play::<false, HostRuntime>(&rt, rt.alloc(), bumped)?);
+    play::<false, HostRuntime>(&rt, rt.alloc(), bumped)?;
     Ok(())
 }
 

@@ -169,7 +169,26 @@ fn hold_upgradable<const RECURSIVE: bool, R: Wait>(
     }
 }
 
-// The same of a reader.
+// Whether a reader comes in, which goes then.
+fn read<const RECURSIVE: bool, R: Wait>(
+    rt: &R,
+    lock: &RawRwLock<RECURSIVE>,
+    token: &mut Token,
+) -> bool
+    requires { IsTokenOf (lot_of lock.now) token.old }
+    ensures { IsTokenOf (lot_of lock.now) token.new }
+{
+    match lock.lock_shared(rt, token) {
+        Ok(guard) => {
+            lock.unlock_shared(rt, token, guard);
+            true
+        }
+        Err(_) => false,
+    }
+}
+
+// Holds the lock as a reader until all stand in its queues, and lets them in. Whether they stood,
+// and came in where it bumps, or it came in again.
 fn hold_shared<const RECURSIVE: bool, R: Wait>(
     rt: &R,
     lot: &ParkingLot,
@@ -185,22 +204,19 @@ fn hold_shared<const RECURSIVE: bool, R: Wait>(
     };
     told.held.store(true, SeqCst);
     let stood = queue_up(rt, lot, lock, token, scene.main, scene.second);
-    if scene.manner == Manner::ReaderBumped {
-        let came = go_shared(rt, lock, token, told, guard);
-        return stood && came;
-    }
-    let again = match scene.manner {
-        Manner::ReaderAgain => match lock.lock_shared(rt, token) {
-            Ok(guard) => {
-                lock.unlock_shared(rt, token, guard);
-                true
-            }
-            Err(_) => false,
-        },
-        _ => true,
+    let went = match scene.manner {
+        Manner::ReaderBumped => go_shared(rt, lock, token, told, guard),
+        Manner::ReaderAgain => {
+            let again = read(rt, lock, token);
+            lock.unlock_shared(rt, token, guard);
+            again
+        }
+        _ => {
+            lock.unlock_shared(rt, token, guard);
+            true
+        }
     };
-    lock.unlock_shared(rt, token, guard);
-    stood && again
+    stood && went
 }
 
 pub(super) fn hold<const RECURSIVE: bool, R: Wait>(

@@ -5,7 +5,7 @@ use std::sync::atomic::{AtomicBool, AtomicUsize};
 use std::thread::yield_now;
 
 /// For what a thread comes.
-#[derive(Clone, Copy, Debug, PartialEq, Eq)]
+#[derive(Clone, Copy)]
 pub(super) enum Coming {
     Reader,
     Upgradable,
@@ -17,7 +17,7 @@ pub(super) enum Coming {
 }
 
 /// How who holds the lock lets the others in.
-#[derive(Clone, Copy, Debug, PartialEq, Eq)]
+#[derive(Clone, Copy)]
 pub(super) enum Manner {
     /// A writer goes.
     Unlocked,

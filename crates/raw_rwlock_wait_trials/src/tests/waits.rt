@@ -66,7 +66,7 @@ fn a_writer_that_goes_lets_all_in(rt: HostRuntime) -> Result<(), Fail> {
         second: 0,
         beside: 0,
     };
-    holds(&rt, play::<false, HostRuntime>(&rt, rt.alloc(), scene)?);
+    play::<false, HostRuntime>(&rt, rt.alloc(), scene)?;
     Ok(())
 }
 
@@ -79,7 +79,7 @@ fn a_writer_that_downgrades_lets_readers_in(rt: HostRuntime) -> Result<(), Fail>
         second: 0,
         beside: 3,
     };
-    holds(&rt, play::<false, HostRuntime>(&rt, rt.alloc(), scene)?);
+    play::<false, HostRuntime>(&rt, rt.alloc(), scene)?;
     Ok(())
 }
 
@@ -92,7 +92,7 @@ fn a_writer_that_keeps_the_upgradable_right_lets_readers_in(rt: HostRuntime) -> 
         second: 0,
         beside: 2,
     };
-    holds(&rt, play::<false, HostRuntime>(&rt, rt.alloc(), scene)?);
+    play::<false, HostRuntime>(&rt, rt.alloc(), scene)?;
     Ok(())
 }
 
@@ -105,7 +105,7 @@ fn who_downgrades_the_upgradable_right_lets_another_have_it(rt: HostRuntime) -> 
         second: 0,
         beside: 3,
     };
-    holds(&rt, play::<false, HostRuntime>(&rt, rt.alloc(), scene)?);
+    play::<false, HostRuntime>(&rt, rt.alloc(), scene)?;
     Ok(())
 }
 
@@ -119,7 +119,7 @@ fn who_gives_the_upgradable_right_up_lets_another_have_it(rt: HostRuntime) -> Re
         second: 0,
         beside: 0,
     };
-    holds(&rt, play::<false, HostRuntime>(&rt, rt.alloc(), scene)?);
+    play::<false, HostRuntime>(&rt, rt.alloc(), scene)?;
     Ok(())
 }
 
@@ -132,7 +132,7 @@ fn the_last_reader_lets_the_writer_in(rt: HostRuntime) -> Result<(), Fail> {
         second: 1,
         beside: 0,
     };
-    holds(&rt, play::<false, HostRuntime>(&rt, rt.alloc(), scene)?);
+    play::<false, HostRuntime>(&rt, rt.alloc(), scene)?;
     let scene = Scene {
         manner: Manner::ReaderGone,
         coming: WRITERS,
@@ -140,7 +140,7 @@ fn the_last_reader_lets_the_writer_in(rt: HostRuntime) -> Result<(), Fail> {
         second: 1,
         beside: 0,
     };
-    holds(&rt, play::<true, HostRuntime>(&rt, rt.alloc(), scene)?);
+    play::<true, HostRuntime>(&rt, rt.alloc(), scene)?;
     Ok(())
 }
 
@@ -155,6 +155,6 @@ fn who_reads_a_recursive_lock_reads_again_beside_a_waiting_writer(
         second: 1,
         beside: 0,
     };
-    holds(&rt, play::<true, HostRuntime>(&rt, rt.alloc(), scene)?);
+    play::<true, HostRuntime>(&rt, rt.alloc(), scene)?;
     Ok(())
 }

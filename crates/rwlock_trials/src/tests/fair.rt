@@ -4,7 +4,7 @@ ghost use Rattle.parking_lot_core.specs.Tokens.{IsTicketOf, IsTokenOf};
 ghost use Rattle.parking_lot.specs.RwLockUsers.{lot_of};
 
 use super::guards::{Told, is_waited_for, write_later};
-use super::{all_are_content, holds, seats};
+use super::{all_are_content, goes_behind, holds, seats};
 use parking_lot::{Fault, ParkingLot, RwLock, Ticket, Token};
 use std::alloc::Global;
 use std::sync::Wait;
@@ -35,11 +35,7 @@ fn give_as_reader<R: Wait>(
         return came;
     }
     match guard.bump(rt, token) {
-        Ok(guard) => {
-            let written = *guard == 7;
-            guard.unlock(rt, token);
-            came && written
-        }
+        Ok(guard) => goes_behind(rt, token, guard, 7) && came,
         Err(_) => false,
     }
 }

@@ -1,9 +1,11 @@
 //! Calls of a reader-writer lock with a value that give up in time.
+ghost use Rattle.std.specs.Prelude.{◌≡◌, MatchResult};
+ghost use Rattle.lock_api_rw.specs.Guards.{lock_of};
 ghost use Rattle.parking_lot_core.specs.Tokens.{IsTokenOf};
 ghost use Rattle.parking_lot.specs.RwLockUsers.{lot_of};
 
 use super::{lock_alone, same};
-use parking_lot::{RwLock, TickClock, Token};
+use parking_lot::{RwLock, RwLockUpgradableReadGuard, RwLockWriteGuard, TickClock, Token};
 use std::sync::Wait;
 use std::test::Fail;
 use std::time::Duration;
@@ -100,6 +102,30 @@ fn come_beside_a_writer<R: Wait>(
     came
 }
 
+// Goes. Whether it had become the writer.
+fn goes_upgraded<'l, R: Wait>(
+    rt: &R,
+    lock: &RwLock<u64>,
+    token: &mut Token,
+    upgraded: Result<RwLockWriteGuard<'l, u64>, RwLockUpgradableReadGuard<'l, u64>>,
+) -> bool
+    requires token { IsTokenOf (lot_of lock.now) token.old }
+    requires guard { MatchResult upgraded (λ guard. lock_of guard ≡ lock.now)
+        (λ guard. lock_of guard ≡ lock.now) }
+    ensures { IsTokenOf (lot_of lock.now) token.new }
+{
+    match upgraded {
+        Ok(guard) => {
+            guard.unlock(rt, token);
+            true
+        }
+        Err(guard) => {
+            guard.unlock(rt, token);
+            false
+        }
+    }
+}
+
 // Whether an upgrade becomes the writer.
 fn upgrades_in_time<R: Wait>(
     rt: &R,
@@ -119,16 +145,7 @@ fn upgrades_in_time<R: Wait>(
     } else {
         guard.try_upgrade_for(rt, token, &clock, soon())
     };
-    match upgraded {
-        Ok(guard) => {
-            guard.unlock(rt, token);
-            Some(true)
-        }
-        Err(guard) => {
-            guard.unlock(rt, token);
-            Some(false)
-        }
-    }
+    Some(goes_upgraded(rt, lock, token, upgraded))
 }
 
 // What upgrades come to beside a reader, of both forms, and then without one.
