@@ -9,17 +9,17 @@ ghost use Rattle.std.specs.Prelude.{◌≡◌, ◌≤◌, All};
 ghost use Rattle.parking_lot_core.specs.Tokens.{IsTicketOf};
 ghost use Rattle.parking_lot.specs.RwLockUsers.{lot_of};
 
-use comers::all_come;
+use comers::come_later;
 use holders::hold;
 use parking_lot::{Fault, ParkingLot, RawRwLock, Ticket};
-use raw_rwlock_fixtures::{next_of, seats};
+use raw_rwlock_fixtures::seats;
 use scenes::{Scene, Told};
 use std::alloc::Global;
 use std::fmt::Debug;
 use std::process::Abort;
 use std::sync::Wait;
 use std::sync::atomic::Ordering::SeqCst;
-use std::thread::{Threads, join};
+use std::thread::{Threads, map_vec};
 
 // What was found is what was wanted. All tests share this one assertion, since each is proved where
 // it stands.
@@ -32,28 +32,45 @@ fn holds(rt: &impl Abort, truth: bool) {
     assert!(rt; truth);
 }
 
-fn hold_and_come<const RECURSIVE: bool, R: Threads + Wait + Sync>(
+// The first who comes holds the lock, and the others come to it then.
+fn take_part<const RECURSIVE: bool, R: Wait>(
     rt: &R,
     lot: &ParkingLot,
     lock: &RawRwLock<RECURSIVE>,
     ticket: Ticket,
+    scene: &Scene,
+    told: &Told,
+) -> bool
+    requires { IsTicketOf (lot_of lock.now) ticket × (lot_of lock.now ≡ lot.now) }
+{
+    if told.comes_first() {
+        hold(rt, lot, lock, ticket, scene, told)
+    } else {
+        come_later(rt, lock, ticket, scene, told);
+        true
+    }
+}
+
+// Whether each thread of these tickets is content with what came of its part.
+fn all_take_part<const RECURSIVE: bool, R: Threads + Wait + Sync>(
+    rt: &R,
+    lot: &ParkingLot,
+    lock: &RawRwLock<RECURSIVE>,
     tickets: Vec<Ticket>,
     scene: &Scene,
     told: &Told,
-) -> (bool, bool)
+) -> bool
     requires lock { lot_of lock.now ≡ lot.now }
-    requires tickets { IsTicketOf lot.now ticket
-        × All (IsTicketOf (lot_of lock.now)) tickets.items }
+    requires tickets { All (IsTicketOf (lot_of lock.now)) tickets.items }
 {
-    join(
+    let ended = map_vec(
         rt,
-        move ||
-            requires { IsTicketOf lot.now ticket × (lot_of lock.now ≡ lot.now) }
-        { hold(rt, lot, lock, ticket, scene, told) },
-        move ||
-            requires { All (IsTicketOf (lot_of lock.now)) tickets.items }
-        { all_come(rt, lock, tickets, scene, told) },
-    )
+        tickets,
+        &|ticket: Ticket|
+            requires { IsTicketOf (lot_of lock.now) ticket × (lot_of lock.now ≡ lot.now) }
+        { take_part(rt, lot, lock, ticket, scene, told) },
+    );
+    ended.is_ok_and(|ended| ended.iter().all(|well| *well))
 }
 
 // Plays a scene: all stand where they are to, and all come in, beside none whom they exclude.
@@ -74,15 +91,12 @@ fn play_within<const RECURSIVE: bool, R: Threads + Wait + Sync + Abort>(
 ) -> Result<(), Fault>
     requires { limit ≤ 1024 }
 {
-    let (lot, lock, mut tickets) = seats::<RECURSIVE>(alloc, 4, limit)?;
-    let Some(ticket) = next_of(&lot, &mut tickets) else {
-        return Err(Fault::NoMemory);
-    };
+    let (lot, lock, tickets) = seats::<RECURSIVE>(alloc, 4, limit)?;
     let told = Told::new();
-    let (held, came) = hold_and_come(rt, &lot, &lock, ticket, tickets, &scene, &told);
+    let ended = all_take_part(rt, &lot, &lock, tickets, &scene, &told);
     holds(
         rt,
-        held && came && told.came.load(SeqCst) == 3 && told.inside.wrongs() == 0,
+        ended && told.came.load(SeqCst) == 3 && told.inside.wrongs() == 0,
     );
     Ok(())
 }

@@ -30,6 +30,21 @@ fn holds(rt: &impl Abort, truth: bool) {
     assert!(rt; truth);
 }
 
+// Nobody waits for the mutex, which is locked or free.
+fn stands<R: Wait + Abort>(
+    rt: &R,
+    lot: &ParkingLot,
+    mutex: &RawMutex,
+    token: &mut Token,
+    locked: bool,
+)
+    requires { IsTokenOf lot.now token.old × (lot_of mutex.now ≡ lot.now) }
+    ensures { IsTokenOf lot.now token.new }
+{
+    same(rt, mutex.is_locked(token), locked);
+    same(rt, lot.queued(rt, token, mutex.key()), 0);
+}
+
 const TURNS: usize = 1_000_000;
 
 // One of the tickets of a lot.
@@ -198,6 +213,21 @@ fn lock_held<R: Wait>(rt: &R, mutex: &RawMutex, ticket: Ticket, held: &AtomicBoo
     locked
 }
 
+// One thread holds the mutex until it is waited for, and another does its part beside it.
+fn beside_holder<R: Threads + Wait + Sync, F: FnOnce() -> bool>(
+    rt: &R,
+    lot: &ParkingLot,
+    mutex: &RawMutex,
+    ticket: Ticket,
+    held: &AtomicBool,
+    part: F,
+) -> (bool, bool)
+    requires holder { IsTicketOf lot.now ticket × (lot_of mutex.now ≡ lot.now) }
+    requires part { F.pre part }
+{
+    join(rt, move || hold(rt, lot, mutex, ticket, held), part)
+}
+
 fn hold_and_wait<R: Threads + Wait + Sync>(
     rt: &R,
     lot: &ParkingLot,
@@ -207,13 +237,9 @@ fn hold_and_wait<R: Threads + Wait + Sync>(
 ) -> (bool, bool)
     requires { IsTicketOf lot.now one × IsTicketOf lot.now other × (lot_of mutex.now ≡ lot.now) }
 {
-    let held = AtomicBool::new(false);
-    let is_held = &held;
-    join(
-        rt,
-        move || hold(rt, lot, mutex, one, is_held),
-        move || lock_held(rt, mutex, other, is_held),
-    )
+    let held = &AtomicBool::new(false);
+    let part = move || lock_held(rt, mutex, other, held);
+    beside_holder(rt, lot, mutex, one, held, part)
 }
 
 #[test]

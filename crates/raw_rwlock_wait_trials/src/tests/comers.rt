@@ -1,5 +1,4 @@
 //! Threads that come to a lock that is held.
-ghost use Rattle.std.specs.Prelude.{All};
 ghost use Rattle.parking_lot_core.specs.Tokens.{IsTicketOf, IsTokenOf};
 ghost use Rattle.parking_lot.specs.RwLockUsers.{lot_of};
 
@@ -11,7 +10,6 @@ use parking_lot::{RawRwLock, TickClock, Ticket, Token};
 use raw_rwlock_fixtures::await_flag;
 use std::sync::Wait;
 use std::sync::atomic::Ordering::SeqCst;
-use std::thread::{Threads, map_vec};
 
 // No clock that a test has comes to it.
 const NEVER: u64 = 18446744073709551615;
@@ -93,7 +91,7 @@ fn come_in_time<const RECURSIVE: bool, R: Wait>(
 }
 
 // Comes in its role, once the lock is held.
-fn come_later<const RECURSIVE: bool, R: Wait>(
+pub(super) fn come_later<const RECURSIVE: bool, R: Wait>(
     rt: &R,
     lock: &RawRwLock<RECURSIVE>,
     ticket: Ticket,
@@ -109,24 +107,4 @@ fn come_later<const RECURSIVE: bool, R: Wait>(
         Some(coming) => come(rt, lock, &mut token, *coming, told),
         None => {}
     }
-}
-
-// Whether all threads of these tickets were through.
-pub(super) fn all_come<const RECURSIVE: bool, R: Threads + Wait + Sync>(
-    rt: &R,
-    lock: &RawRwLock<RECURSIVE>,
-    tickets: Vec<Ticket>,
-    scene: &Scene,
-    told: &Told,
-) -> bool
-    requires { All (IsTicketOf (lot_of lock.now)) tickets.items }
-{
-    let came = map_vec(
-        rt,
-        tickets,
-        &|ticket: Ticket|
-            requires { IsTicketOf (lot_of lock.now) ticket }
-        { come_later(rt, lock, ticket, scene, told) },
-    );
-    came.is_ok()
 }

@@ -227,7 +227,7 @@ pub(super) fn hold<const RECURSIVE: bool, R: Wait>(
     scene: &Scene,
     told: &Told,
 ) -> bool
-    requires { IsTicketOf lot.now ticket × (lot_of lock.now ≡ lot.now) }
+    requires { IsTicketOf (lot_of lock.now) ticket × (lot_of lock.now ≡ lot.now) }
 {
     let mut token = ticket.enter();
     match scene.manner {

@@ -59,6 +59,8 @@ pub(super) struct Scene {
 /// What the threads of a scene tell one another.
 #[derive(Drop)]
 pub(super) struct Told {
+    // How many have begun their parts.
+    begun: AtomicUsize,
     /// Whether somebody holds the lock.
     pub(super) held: AtomicBool,
     /// How many have taken their roles.
@@ -73,12 +75,18 @@ pub(super) struct Told {
 impl Told {
     pub(super) fn new() -> Told {
         Told {
+            begun: AtomicUsize::new(0),
             held: AtomicBool::new(false),
             roles: AtomicUsize::new(0),
             came: AtomicUsize::new(0),
             stays: AtomicBool::new(false),
             inside: Inside::new(),
         }
+    }
+
+    /// Whether who asks is the first who does.
+    pub(super) fn comes_first(&self) -> bool {
+        self.begun.fetch_add(1, SeqCst) == 0
     }
 
     /// Whether anybody has come in.

@@ -4,7 +4,7 @@ ghost use Rattle.std.specs.Arc.{arc_value};
 ghost use Rattle.parking_lot_core.specs.Tokens.{IsTicketOf, IsTokenOf};
 ghost use Rattle.parking_lot.specs.Users.{lot_of};
 
-use super::{hold, holds, same, three_seats};
+use super::{await_flag, beside_holder, holds, same, stands, three_seats};
 use parking_lot::lock_raw::{RawMutex as RawLock, RawMutexTimed as RawTimedLock};
 use parking_lot::{Fault, ParkingLot, RawMutex, TickClock, Ticket, Token, lock_raw};
 use std::alloc::Global;
@@ -41,8 +41,7 @@ fn who_holds_a_mutex_waits_for_it_in_vain(rt: HostRuntime) -> Result<(), Fail> {
             Some(other) => mutex.has_two_guards(&mut token, guard, other),
             None => {}
         }
-        holds(&rt, mutex.is_locked(&mut token));
-        same(&rt, lot.queued(&rt, &mut token, mutex.key()), 0);
+        stands(&rt, &lot, &mutex, &mut token, true);
     }
     mutex.unlock(&rt, &mut token, guard);
     holds(&rt, !mutex.is_locked(&mut token));
@@ -106,12 +105,7 @@ fn wait_for_held<R: Wait>(
     requires { IsTicketOf (lot_of mutex.now) ticket }
 {
     let mut token = ticket.enter();
-    for _ in rt.forever() {
-        if held.load(SeqCst) {
-            break;
-        }
-        yield_now();
-    }
+    await_flag(rt, held);
     let clock = TickClock::new();
     let got = match deadline {
         Some(deadline) => mutex.try_lock_until(rt, &mut token, &clock, deadline),
@@ -130,13 +124,9 @@ fn hold_and_wait<R: Threads + Wait + Sync>(
 ) -> (bool, bool)
     requires { IsTicketOf lot.now one × IsTicketOf lot.now other × (lot_of mutex.now ≡ lot.now) }
 {
-    let held = AtomicBool::new(false);
-    let is_held = &held;
-    join(
-        rt,
-        move || hold(rt, lot, mutex, one, is_held),
-        move || wait_for_held(rt, mutex, other, is_held, deadline),
-    )
+    let held = &AtomicBool::new(false);
+    let part = move || wait_for_held(rt, mutex, other, held, deadline);
+    beside_holder(rt, lot, mutex, one, held, part)
 }
 
 #[test]
@@ -200,7 +190,6 @@ fn deadlines_race_releases(rt: HostRuntime) -> Result<(), Fail> {
     holds(&rt, here + there > 0);
     same(&rt, hits.load(SeqCst), here + there);
     let mut token = third.enter();
-    holds(&rt, !mutex.is_locked(&mut token));
-    same(&rt, lot.queued(&rt, &mut token, mutex.key()), 0);
+    stands(&rt, &lot, &mutex, &mut token, false);
     Ok(())
 }
