@@ -1,7 +1,7 @@
 /* What a lock and an unlock by one thread take, and a look at a word, by their instructions and by where these lie.
 
    Each loop is what a compiler makes of such a pair or look, at sixteen positions four bytes apart. Build and run it with
-   gcc -O2 -o pairs pairs.c && ./pairs; it prints the mean, the least and the greatest nanoseconds of each loop. */
+   gcc -O2 -o pairs pairs.c && ./pairs; it prints the mean, the least and the greatest nanoseconds of each loop, and those at each position. */
 #include <stdint.h>
 #include <stdio.h>
 #include <stdlib.h>
@@ -35,6 +35,9 @@ volatile uint8_t flag;
                   "lock cmpxchg %%rdi,(%%rsi,%%rdx,8)\n jne 9f\n"
 #define UNLOCK_NEAR "mov (%[lock]),%%rdx\n mov 8(%[lock]),%%rcx\n mov 16(%[token]),%%rdi\n lock subq %%rdi,(%%rdx,%%rcx,8)\n"
 #define LOOK_AT_COUNTER "mov (%[lock]),%%rax\n mov (%%rax),%%rax\n"
+/* The same where the address of the words stays in the register in which the step found it. */
+#define SPLIT_NEAR "mov (%%rsi),%%rax\n"
+#define JOIN_NEAR "mov (%%rdx),%%rax\n"
 
 #define LOOP(name, at, body) \
     __attribute__((noinline)) static void name##_##at(struct lock *lock, struct token *token, uint64_t n) { \
@@ -60,18 +63,21 @@ volatile uint8_t flag;
     LOOP(hold, at, LOCK SPLIT FLAG UNLOCK JOIN "jne 9f\n" FLAG) \
     LOOP(numbers, at, LOCK_BY SPLIT FLAG UNLOCK_BY JOIN "jne 9f\n" FLAG) \
     LOOP(near, at, LOCK_NEAR LOOK_AT_COUNTER FLAG UNLOCK_NEAR LOOK_AT_COUNTER "jne 9f\n" FLAG) \
+    LOOP(near_kept, at, LOCK_NEAR SPLIT_NEAR FLAG UNLOCK_NEAR JOIN_NEAR "jne 9f\n" FLAG) \
+    LOOP(near_dropped, at, LOCK_NEAR SPLIT_NEAR FLAG UNLOCK_NEAR "jne 9f\n" FLAG) \
     LOOP(near_alone, at, LOCK_NEAR FLAG UNLOCK_NEAR "jne 9f\n" FLAG) \
     LOOP(told, at, TOLD LOCK SPLIT FLAG TOLD UNLOCK JOIN "jne 9f\n" FLAG)
 AT(0) AT(4) AT(8) AT(12) AT(16) AT(20) AT(24) AT(28) AT(32) AT(36) AT(40) AT(44) AT(48) AT(52) AT(56) AT(60)
 
 typedef void (*loop)(struct lock *, struct token *, uint64_t);
-enum { POSITIONS = 16, LOOPS = 10, RUNS = 25, PAIRS = 300000 };
+enum { POSITIONS = 16, LOOPS = 12, RUNS = 25, PAIRS = 300000 };
 static const char *names[LOOPS] = {"a look in a register", "a look through a table", "a pair in a register", "a pair through a table",
-    "an owner apart, dropped", "an owner apart, joined", "a section told by numbers", "the same, by one load", "by one load, no owner",
-    "a told section"};
+    "an owner apart, dropped", "an owner apart, joined", "a section told by numbers", "the same, by one load", "by one load, kept",
+    "by one load, dropped", "by one load, no owner", "a told section"};
 /* The loops of a lock that has the address of the words. */
-static int is_near(int which) { return which == 7 || which == 8; }
-#define ROW(at) {glance_##at, look_##at, bare_##at, take_##at, dropped_##at, hold_##at, numbers_##at, near_##at, near_alone_##at, told_##at}
+static int is_near(int which) { return 7 <= which && which <= 10; }
+#define ROW(at) {glance_##at, look_##at, bare_##at, take_##at, dropped_##at, hold_##at, numbers_##at, near_##at, near_kept_##at, \
+    near_dropped_##at, near_alone_##at, told_##at}
 static const loop loops[POSITIONS][LOOPS] = {ROW(0), ROW(4), ROW(8), ROW(12), ROW(16), ROW(20), ROW(24), ROW(28),
     ROW(32), ROW(36), ROW(40), ROW(44), ROW(48), ROW(52), ROW(56), ROW(60)};
 
@@ -110,7 +116,9 @@ int main(void) {
             if (taken < least) least = taken;
             if (taken > most) most = taken;
         }
-        printf("%-26s %6.2f %6.2f %6.2f\n", names[which], sum / POSITIONS, least, most);
+        printf("%-26s %6.2f %6.2f %6.2f  ", names[which], sum / POSITIONS, least, most);
+        for (int at = 0; at < POSITIONS; at++) printf(" %4.1f", best[at][which]);
+        printf("\n");
     }
     return 0;
 }
