@@ -1,9 +1,8 @@
-mod clocks;
 mod condvars;
 mod hand_over;
 mod kinds;
 mod onces;
-mod queues;
+mod places;
 mod text;
 
 use lot_acts::Next;

@@ -5,7 +5,6 @@ mod once;
 mod rwlock;
 mod scripts;
 mod sizes;
-mod steps;
 
 use std::fmt::Debug;
 use std::process::Abort;

@@ -1,18 +1,12 @@
 //! Worlds of a `Once`.
 use super::scripts::Line::{Calls, GoesOn, Rests, Shows, Takes};
 use super::scripts::{DONE, Line, plays_anew};
-use super::steps::{act_at, comes_to};
 use super::{holds, same};
-use lot_base::{Keys, Note, Want};
+use lot_base::{Note, Want};
 use lot_calls::{OnceCall, OnceState};
-use lot_steps::lot_once::{LookAt, OncePlace, RunAt};
-use lot_steps::{Act, Answer, Call, Kind, Op, Owners, Phase, Place, Reply, has_right};
+use lot_steps::lot_once::{LookAt, OncePlace};
+use lot_steps::{Answer, Call, Kind, Place, Reply};
 use lot_world::{Debt, Outcome, Owner, Turn};
-
-const CALL: Call = Call::Once {
-    lock: 3,
-    call: OnceCall::CallOnce { forced: false },
-};
 
 const RUN: Call = Call::Once {
     lock: 0,
@@ -39,35 +33,6 @@ const POISONED: Outcome = Outcome::End(Answer::Poisoned);
 const RUNS_NEW: Outcome = Outcome::Closure(OnceState::New);
 
 const RUNS_POISONED: Outcome = Outcome::Closure(OnceState::Poisoned);
-
-#[test]
-fn a_call_of_a_once_begins_with_a_look(rt: HostRuntime) {
-    holds(&rt, has_right(CALL, 0, Owners::NOBODY, 0));
-    let start = Place::first(Kind::Once, CALL);
-    holds(&rt, !start.is_idle());
-    let (lock, op) = (3, Op::Load);
-    same(&rt, act_at(&rt, start), Act::Word { lock, op });
-    let op = Op::Exchange { from: 0, to: 4 };
-    comes_to(&rt, start, Reply::Value(0), Act::Word { lock, op });
-    let end = comes_to(&rt, start, Reply::Value(1), Act::End(Answer::Ok));
-    holds(&rt, end.is_idle());
-}
-
-#[test]
-fn the_end_of_a_run_owes_a_wake_to_who_waits(rt: HostRuntime) {
-    let close = Place::Once {
-        lock: 3,
-        at: OncePlace::Run {
-            forced: false,
-            at: RunAt::Close { succeeded: true },
-        },
-    };
-    let running = Owners::NOBODY.with_phase(Phase::InProgress(1));
-    same(&rt, close.owners_after(1, 12, running).phase, Phase::Done);
-    let enter = comes_to(&rt, close, Reply::Value(12), Act::Enter(Keys::One(6)));
-    holds(&rt, enter.owes_on(3) && !enter.owes_on(2));
-    comes_to(&rt, close, Reply::Value(4), Act::End(Answer::Ok));
-}
 
 #[test]
 fn who_waits_for_a_run_tries_again_when_woken(rt: HostRuntime) {

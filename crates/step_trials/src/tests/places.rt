@@ -1,8 +1,11 @@
+//! The places of any sort of lock: what a thread does there, and where it goes on.
 use super::{holds, same};
 use lot_base::{Keys, Note};
+use lot_calls::OnceCall;
+use lot_steps::lot_once::{OncePlace, RunAt};
 use lot_steps::{
     Act, Answer, Call, Entry, HandOffAt, Kind, LockAt, MutexCall, MutexPlace, Op, Outcome, Owners,
-    Place, Reply, UnlockAt, Wakes, advance, has_right,
+    Phase, Place, Reply, UnlockAt, Wakes, advance, has_right,
 };
 use std::process::Abort;
 
@@ -19,7 +22,7 @@ fn mutex(at: MutexPlace) -> Place {
 }
 
 /// What a call of the lock 3 does at a place.
-pub fn act_at(rt: &impl Abort, place: Place) -> Act {
+fn act_at(rt: &impl Abort, place: Place) -> Act {
     match place {
         Place::Mutex { lock: 3, .. } | Place::Once { lock: 3, .. } => place.act(),
         _ => panic!(rt; "it is in no call of the lock 3"),
@@ -27,7 +30,7 @@ pub fn act_at(rt: &impl Abort, place: Place) -> Act {
 }
 
 /// Where it goes on by a reply, and what it does then.
-pub fn step(rt: &impl Abort, place: Place, reply: Reply) -> (Place, Act) {
+fn step(rt: &impl Abort, place: Place, reply: Reply) -> (Place, Act) {
     match place {
         Place::Mutex { lock: 3, .. } | Place::Once { lock: 3, .. } => advance(place, reply),
         _ => panic!(rt; "it is in no call of the lock 3"),
@@ -35,7 +38,7 @@ pub fn step(rt: &impl Abort, place: Place, reply: Reply) -> (Place, Act) {
 }
 
 /// By a reply it comes to a place at which it does this.
-pub fn comes_to(rt: &impl Abort, place: Place, reply: Reply, act: Act) -> Place {
+fn comes_to(rt: &impl Abort, place: Place, reply: Reply, act: Act) -> Place {
     let (next, found) = step(rt, place, reply);
     same(rt, found, act);
     next
@@ -167,4 +170,38 @@ fn a_thread_accepts_what_it_was_handed(rt: HostRuntime) {
     same(&rt, act_at(&rt, woken), Act::Accept);
     holds(&rt, !woken.retries_on(3));
     comes_to(&rt, woken, Reply::Done, Act::End(Answer::Yes));
+}
+
+const CALL_ONCE: Call = Call::Once {
+    lock: 3,
+    call: OnceCall::CallOnce { forced: false },
+};
+
+#[test]
+fn a_call_of_a_once_begins_with_a_look(rt: HostRuntime) {
+    holds(&rt, has_right(CALL_ONCE, 0, Owners::NOBODY, 0));
+    let start = Place::first(Kind::Once, CALL_ONCE);
+    holds(&rt, !start.is_idle());
+    let (lock, op) = (3, Op::Load);
+    same(&rt, act_at(&rt, start), Act::Word { lock, op });
+    let op = Op::Exchange { from: 0, to: 4 };
+    comes_to(&rt, start, Reply::Value(0), Act::Word { lock, op });
+    let end = comes_to(&rt, start, Reply::Value(1), Act::End(Answer::Ok));
+    holds(&rt, end.is_idle());
+}
+
+#[test]
+fn the_end_of_a_run_owes_a_wake_to_who_waits(rt: HostRuntime) {
+    let close = Place::Once {
+        lock: 3,
+        at: OncePlace::Run {
+            forced: false,
+            at: RunAt::Close { succeeded: true },
+        },
+    };
+    let running = Owners::NOBODY.with_phase(Phase::InProgress(1));
+    same(&rt, close.owners_after(1, 12, running).phase, Phase::Done);
+    let enter = comes_to(&rt, close, Reply::Value(12), Act::Enter(Keys::One(6)));
+    holds(&rt, enter.owes_on(3) && !enter.owes_on(2));
+    comes_to(&rt, close, Reply::Value(4), Act::End(Answer::Ok));
 }
