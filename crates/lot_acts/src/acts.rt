@@ -7,7 +7,7 @@ use lot_base::{Key, Keys, Note, Op, Requeue, Want};
 use lot_calls::{Answer, OnceState, Outcome};
 
 /// The test that a parking thread makes of the word inside the section.
-#[derive(Clone, Copy, Debug, PartialEq, Eq)]
+#[derive(Clone, Copy, PartialEq, Eq)]
 pub enum Check {
     WordIs(u64),
     /// Of a reader-writer lock: its parked bit is set, and its owners keep out who wants this.
@@ -20,7 +20,7 @@ pub enum Check {
 }
 
 /// Whom a thread takes of a queue.
-#[derive(Clone, Copy, Debug, PartialEq, Eq)]
+#[derive(Clone, Copy, PartialEq, Eq)]
 pub enum Whom {
     First,
     /// Whom a reader-writer lock picks, by the right of its own that the thread keeps.
@@ -32,7 +32,7 @@ pub enum Whom {
 }
 
 /// Whom a thread wakes as it leaves its sections.
-#[derive(Clone, Copy, Debug, PartialEq, Eq)]
+#[derive(Clone, Copy, PartialEq, Eq)]
 pub enum Wakes {
     Nobody,
     /// All whom it has taken in them.
@@ -40,7 +40,7 @@ pub enum Wakes {
 }
 
 /// What a thread does in one step.
-#[derive(Clone, Copy, Debug, PartialEq, Eq)]
+#[derive(Clone, Copy, PartialEq, Eq)]
 pub enum Act {
     /// Nothing: the thread is in no call.
     Rest,

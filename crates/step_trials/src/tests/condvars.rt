@@ -53,7 +53,7 @@ fn onward(rt: &impl Abort, place: CondvarPlace, reply: Reply) -> CondvarPlace
 fn does(rt: &impl Abort, place: CondvarPlace, act: Act)
     requires { HasMutexKey place }
 {
-    same(rt, place.act(3), act);
+    holds(rt, place.act(3) == act);
 }
 
 /// Where a call goes on behind some turns.

@@ -19,7 +19,7 @@ fn onward(rt: &impl Abort, place: OncePlace, reply: Reply) -> OncePlace {
 
 /// This is what it does, of a call of the `Once` 3.
 fn does(rt: &impl Abort, place: OncePlace, act: Act) {
-    same(rt, place.act(3), act);
+    holds(rt, place.act(3) == act);
 }
 
 /// This is the step that it takes on the word.

@@ -40,7 +40,7 @@ fn step(rt: &impl Abort, place: Place, reply: Reply) -> (Place, Act) {
 /// By a reply it comes to a place at which it does this.
 fn comes_to(rt: &impl Abort, place: Place, reply: Reply, act: Act) -> Place {
     let (next, found) = step(rt, place, reply);
-    same(rt, found, act);
+    holds(rt, found == act);
     next
 }
 
@@ -69,10 +69,10 @@ fn a_release_wakes_the_one_that_it_took(rt: HostRuntime) {
     let start = first(Kind::Mutex, MutexCall::Unlock);
     holds(&rt, !start.is_idle());
     let (lock, op) = (3, Op::Sub(1));
-    same(&rt, act_at(&rt, start), Act::Word { lock, op });
+    holds(&rt, act_at(&rt, start) == Act::Word { lock, op });
     let enter = comes_to(&rt, start, Reply::Value(3), Act::Enter(Keys::One(6)));
     holds(&rt, enter.owes_on(3));
-    same(&rt, start.owners_after(1, 3, OWNED), Owners::NOBODY);
+    same(&rt, start.owners_after(1, 3, OWNED).exclusive, None);
     let (_, act) = step(&rt, start, Reply::Value(1));
     same(&rt, act.outcome(), Outcome::End(Answer::Ok));
 }
@@ -98,7 +98,7 @@ fn a_woken_thread_retries(rt: HostRuntime) {
     let woken = taken.after(Reply::Woken(Note::Normal));
     holds(&rt, woken.retries_on(3));
     let (lock, op) = (3, Op::Load);
-    same(&rt, act_at(&rt, woken), Act::Word { lock, op });
+    holds(&rt, act_at(&rt, woken) == Act::Word { lock, op });
 }
 
 #[test]
@@ -106,7 +106,7 @@ fn who_retries_may_look_again(rt: HostRuntime) {
     let woken = mutex(TAKEN).after(Reply::Woken(Note::Normal));
     match woken.after(Reply::Value(1)).looking() {
         Some(again) => {
-            same(&rt, act_at(&rt, again), act_at(&rt, woken));
+            holds(&rt, act_at(&rt, again) == act_at(&rt, woken));
             holds(&rt, again.retries_on(3));
         }
         None => panic!(rt; "it looks no more"),
@@ -148,7 +148,7 @@ fn a_bump_hands_the_mutex_over_and_enters_again(rt: HostRuntime) {
 fn a_fair_release_beside_nobody_lets_go(rt: HostRuntime) {
     let start = first(Kind::Fair, MutexCall::Unlock);
     let fair = first(Kind::Mutex, MutexCall::UnlockFair);
-    same(&rt, act_at(&rt, start), act_at(&rt, fair));
+    holds(&rt, act_at(&rt, start) == act_at(&rt, fair));
     comes_to(&rt, start, Reply::Value(1), Act::End(Answer::Ok));
     let store = mutex(MutexPlace::HandOff {
         bumps: false,
@@ -158,16 +158,16 @@ fn a_fair_release_beside_nobody_lets_go(rt: HostRuntime) {
         },
     });
     let (lock, op) = (3, Op::Store(0));
-    same(&rt, act_at(&rt, store), Act::Word { lock, op });
+    holds(&rt, act_at(&rt, store) == Act::Word { lock, op });
 }
 
 #[test]
 fn a_thread_accepts_what_it_was_handed(rt: HostRuntime) {
     let by_another = Reply::HandedBy { by: 1, alone: true };
     let handed = mutex(TAKEN).after(by_another);
-    same(&rt, act_at(&rt, handed), Act::Sleep);
+    holds(&rt, act_at(&rt, handed) == Act::Sleep);
     let woken = handed.after(Reply::Woken(Note::HandOff));
-    same(&rt, act_at(&rt, woken), Act::Accept);
+    holds(&rt, act_at(&rt, woken) == Act::Accept);
     holds(&rt, !woken.retries_on(3));
     comes_to(&rt, woken, Reply::Done, Act::End(Answer::Yes));
 }
@@ -183,7 +183,7 @@ fn a_call_of_a_once_begins_with_a_look(rt: HostRuntime) {
     let start = Place::first(Kind::Once, CALL_ONCE);
     holds(&rt, !start.is_idle());
     let (lock, op) = (3, Op::Load);
-    same(&rt, act_at(&rt, start), Act::Word { lock, op });
+    holds(&rt, act_at(&rt, start) == Act::Word { lock, op });
     let op = Op::Exchange { from: 0, to: 4 };
     comes_to(&rt, start, Reply::Value(0), Act::Word { lock, op });
     let end = comes_to(&rt, start, Reply::Value(1), Act::End(Answer::Ok));
@@ -200,7 +200,8 @@ fn the_end_of_a_run_owes_a_wake_to_who_waits(rt: HostRuntime) {
         },
     };
     let running = Owners::NOBODY.with_phase(Phase::InProgress(1));
-    same(&rt, close.owners_after(1, 12, running).phase, Phase::Done);
+    let closed = close.owners_after(1, 12, running).phase;
+    holds(&rt, matches!(closed, Phase::Done));
     let enter = comes_to(&rt, close, Reply::Value(12), Act::Enter(Keys::One(6)));
     holds(&rt, enter.owes_on(3) && !enter.owes_on(2));
     comes_to(&rt, close, Reply::Value(4), Act::End(Answer::Ok));

@@ -1,6 +1,6 @@
 ghost use Rattle.std.specs.Prelude.{◌≡◌};
 
-use super::same;
+use super::{holds, same};
 use lot_acts::{Act, Next, Reply};
 use lot_base::Keys;
 use lot_calls::{Access, Answer, Downgrade, Patience};
@@ -60,7 +60,8 @@ fn gives(purpose: RwLockPurpose, word: u64) -> (u64, Act) {
 
 // The word that a call leaves, and its first act that is no operation on it.
 fn comes_to(rt: &impl Abort, found: (u64, Act), wanted: (u64, Act)) {
-    same(rt, found, wanted);
+    same(rt, found.0, wanted.0);
+    holds(rt, found.1 == wanted.1);
 }
 
 const OK: Act = Act::End(Answer::Ok);
