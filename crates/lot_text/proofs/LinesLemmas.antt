@@ -1,7 +1,8 @@
 -- The lines of an input that is read in parts.
-use Rattle.std.proofs.Common.{◌≡◌, ◌≢◌, ℕ, ◌<◌, ◌≤◌, zero, suc, ◌==◌, Bool, true, false, cond, List, [], ◌∷◌, ◌++◌, Option, None, Some, IfSome, Result, Ok, Err, IsOk, is_err, ◌↔◌, take-take, take-append-drop, inl, inr, take, drop, length, refl, sym, ap, ◌∙◌, arith, append_assoc, append-nil, length-append, ne_eqb}
+use Rattle.std.proofs.Common.{◌≡◌, ◌≢◌, ℕ, ◌<◌, ◌≤◌, zero, suc, ◌==◌, Bool, true, false, cond, List, [], ◌∷◌, ◌++◌, Option, None, Some, IfSome, Result, Ok, Err, IsOk, is_err, ◌↔◌, take-take, take-append-drop, inl, inr, slice_index, ◌+◌, take, drop, length, refl, sym, ap, ◌∙◌, arith, append_assoc, append-nil, length-append, ne_eqb}
 use Rattle.std.proofs.lemmas.List.Elements.{All-head, All-tail}
 use Rattle.std.proofs.lemmas.Bool.{cases_lt}
+use Rattle.std.proofs.Math.Seq.{take-add, drop-cons}
 use Rattle.std.specs.List.{onto_first}
 use Rattle.std.specs.Io.{StartsWith}
 use Rattle.std.specs.Io.KnownBytes.{Consumes, Keeps, IsAtEnd}
@@ -80,6 +81,24 @@ pub shown_front : (a : Option (List ℕ)) (shown : List ℕ) (n : ℕ) → n ≤
 shown_front None shown n within front = (None, tt)
 shown_front (Some x) shown n within front =
     (Some (drop n x), sym (take-append-drop n x) ∙ ap (λ l. l ++ drop n x) (sym (take-take n (length shown) x within) ∙ ap (take n) front))
+
+line_front : (x shown : List ℕ) (n : ℕ) → n < length shown → slice_index shown n ≡ 10 → StartsWith x shown → x ≡ (take n shown ++ 10 ∷ []) ++ drop (n + 1) x
+line_front x shown n within feed front =
+    let first : take (n + 1) shown ≡ take n shown ++ 10 ∷ [] = take-add n 1 shown ∙ ap (λ l. take n shown ++ take 1 l) (drop-cons shown n 0 within) ∙ ap (λ b. take n shown ++ b ∷ []) feed in
+    sym (take-append-drop (n + 1) x) ∙ ap (λ l. l ++ drop (n + 1) x) (sym (take-take (n + 1) (length shown) x (omega (arith, within))) ∙ ap (take (n + 1)) front ∙ first)
+
+-- a reader may be told to consume what it showed
+pub may_consume : (a : Option (List ℕ)) (k : Option ℕ) (shown : List ℕ) (n : ℕ) → n < length shown → IfSome a (λ _. IfSome k (λ m. length shown ≤ m)) → IfSome a (λ _. IfSome k (λ m. n + 1 ≤ m))
+may_consume None k shown n within h = tt
+may_consume (Some x) None shown n within h = tt
+may_consume (Some x) (Some m) shown n within h = omega arith
+
+-- what the reader showed up to a line feed is consumed with it
+pub shown_line : (a b c : Option (List ℕ)) (shown : List ℕ) (n : ℕ) (P : Type 0) → n < length shown → slice_index shown n ≡ 10 → IfSome a (λ xs. StartsWith xs shown) → Keeps a b
+    → IfSome a (λ _. P) → IfSome b (λ xs. P → c ≡ Some (drop (n + 1) xs)) → Consumes a c (take n shown ++ 10 ∷ [])
+shown_line None b c shown n P within feed front kept may consumed = tt
+shown_line (Some x) None c shown n P within feed front kept may consumed = absurd kept
+shown_line (Some x) (Some y) c shown n P within feed front kept may consumed = rw (consumed may) (rw kept (line_front x shown n within feed front))
 
 -- a push that is refused had no room
 err_not_ok : (T E : Type 0) (x : E) → IsOk {T = T} {E = E} (Err x) → ⊥
