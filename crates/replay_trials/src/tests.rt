@@ -6,7 +6,7 @@ use condvar_rows::meanwhile::MEANWHILE_ROWS;
 use condvar_rows::moves::MOVE_ROWS;
 use condvar_rows::mutexes::MUTEX_ROWS;
 use condvar_rows::releases::RELEASE_ROWS;
-use devices::{Pieces, Short};
+use devices::{Pieces, Refusal, Short};
 use lot_base::ListQueues;
 use lot_replay::start::start;
 use lot_world::{Answer, Call, Kind, MutexCall, Outcome, Step, Turn, World};
@@ -144,7 +144,7 @@ fn answers_threads_that_are_not_there(rt: HostRuntime) {
 
 /// An input that declares this many locks, and what `show` prints of them.
 fn many_locks(alloc: Global, count: u32) -> Result<(String, String), AllocError> {
-    let mut input = String::from_str(alloc, "threads 1\n")?;
+    let mut input = String::from_str(alloc, "threads 1024\n")?;
     let mut shown = String::new(alloc);
     for lock in 0..count {
         write!(input, "lock m{lock} mutex\n")?;
@@ -155,7 +155,7 @@ fn many_locks(alloc: Global, count: u32) -> Result<(String, String), AllocError>
 }
 
 #[test]
-fn takes_256_locks(rt: HostRuntime) -> Result<(), Fail> {
+fn takes_256_locks_of_1024_threads(rt: HostRuntime) -> Result<(), Fail> {
     let (input, shown) = many_locks(rt.alloc(), 256)?;
     let found = replayed(rt.alloc(), input.as_bytes());
     leads_to(&rt, found, shown.as_bytes(), 0);
@@ -255,9 +255,9 @@ fn a_failing_read_leaves_the_lines_before(rt: HostRuntime) {
     }
 }
 
-/// What an input leads to where only so many bytes can be written.
-fn replayed_into(alloc: Global, mut input: &[u8], room: usize) -> (Vec<u8>, u8) {
-    let mut writer = Short::new(alloc, room);
+/// What an input leads to where only so many bytes can be written before a write is refused.
+fn replayed_into(alloc: Global, mut input: &[u8], room: usize, refusal: Refusal) -> (Vec<u8>, u8) {
+    let mut writer = Short::new(alloc, room, refusal);
     let mut errors = Vec::new(alloc);
     let args = ["replay"];
     let status = start(alloc, &args, &mut input, &mut writer, &mut errors);
@@ -278,10 +278,12 @@ const ROOMS: &[(u32, usize)] = &[
 fn a_failing_write_leaves_a_beginning(rt: HostRuntime) -> Result<(), Fail> {
     for (looks, room) in ROOMS {
         let (input, shown) = many_looks(rt.alloc(), *looks)?;
-        let (text, status) = replayed_into(rt.alloc(), input.as_bytes(), *room);
         let beginning = shown.as_bytes().get(..*room);
-        same(&rt, (*room, status), (*room, 4));
-        same(&rt, (*room, Some(text.as_slice())), (*room, beginning));
+        for refusal in [Refusal::Fails, Refusal::TakesNothing] {
+            let (text, status) = replayed_into(rt.alloc(), input.as_bytes(), *room, refusal);
+            same(&rt, (*room, refusal, status), (*room, refusal, 4));
+            same(&rt, (*room, Some(text.as_slice())), (*room, beginning));
+        }
     }
     Ok(())
 }
@@ -289,7 +291,8 @@ fn a_failing_write_leaves_a_beginning(rt: HostRuntime) -> Result<(), Fail> {
 #[test]
 fn a_slow_write_loses_nothing(rt: HostRuntime) {
     for (input, text, status) in ROWS.iter() {
-        leads_to(&rt, replayed_into(rt.alloc(), input, 9999), text, *status);
+        let found = replayed_into(rt.alloc(), input, 9999, Refusal::Fails);
+        leads_to(&rt, found, text, *status);
     }
 }
 
@@ -321,7 +324,7 @@ fn tells_the_usage(rt: HostRuntime) {
 fn a_failing_write_leaves_a_beginning_of_the_usage(rt: HostRuntime) {
     for args in WRONG {
         let mut text = Vec::new(rt.alloc());
-        let mut errors = Short::new(rt.alloc(), 5);
+        let mut errors = Short::new(rt.alloc(), 5, Refusal::Fails);
         let mut reader = TWO_TRIES;
         let status = start(rt.alloc(), args, &mut reader, &mut text, &mut errors);
         let beginning = b"usage".as_slice();

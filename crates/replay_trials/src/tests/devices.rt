@@ -3,20 +3,38 @@ use std::alloc::Global;
 use std::io;
 use std::io::{BufRead, ErrorKind, Read, Write};
 
-/// Takes `room` bytes, a few at a time, is interrupted now and then, and then fails.
+/// How a writer that has no room refuses a write.
+#[derive(Clone, Copy, Debug, PartialEq, Eq)]
+pub enum Refusal {
+    Fails,
+    TakesNothing,
+}
+
+/// Takes `room` bytes, a few at a time, and is interrupted now and then. It refuses one write, and
+/// has room again.
 #[derive(Drop)]
 pub struct Short {
     pub taken: Vec<u8>,
     room: usize,
+    refusal: Refusal,
     calls: u8,
 }
 
 impl Short {
-    pub fn new(alloc: Global, room: usize) -> Short {
+    pub fn new(alloc: Global, room: usize, refusal: Refusal) -> Short {
         Short {
             taken: Vec::new(alloc),
             room,
+            refusal,
             calls: 0,
+        }
+    }
+
+    fn refuse(&mut self) -> io::Result<()> {
+        self.room = usize::MAX;
+        match self.refusal {
+            Refusal::Fails => Err(io::Error::from(ErrorKind::BrokenPipe)),
+            Refusal::TakesNothing => Ok(()),
         }
     }
 }
@@ -29,7 +47,8 @@ impl Write for Short {
         }
         let n = buf.len().min(self.room).min(100);
         if n == 0 {
-            return Err(io::Error::from(ErrorKind::BrokenPipe));
+            self.refuse()?;
+            return Ok(0);
         }
         self.taken.extend_from_slice(&buf[..n])?;
         self.room -= n;
@@ -41,8 +60,8 @@ impl Write for Short {
     }
 }
 
-/// Shows a piece of its bytes at a time, is interrupted now and then, and fails behind them, if it
-/// is to.
+/// Shows a piece of its bytes at a time, is interrupted now and then, and fails behind them once, if
+/// it is to.
 #[derive(Drop)]
 pub struct Pieces<'a> {
     pub bytes: &'a [u8],
@@ -64,6 +83,7 @@ impl BufRead for Pieces<'_> {
             return Err(io::Error::from(ErrorKind::Interrupted));
         }
         if self.bytes.is_empty() && self.is_broken {
+            self.is_broken = false;
             return Err(io::Error::from(ErrorKind::ConnectionReset));
         }
         let n = self.bytes.len().min(self.len);
