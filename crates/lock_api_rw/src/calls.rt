@@ -7,8 +7,9 @@ ghost use Rattle.lot_base.specs.Clocks.{HasElapsed, HasPassed};
 ghost use Rattle.lock_raw.specs.Answers.{IsFull, TriesOrFull, answer_by, counted_answer};
 ghost use Rattle.lock_api_rw.specs.Guards.{lock_of};
 ghost use Rattle.lot_calls.specs.declared.calls.Access.TheVariants as access;
-ghost use Rattle.lot_calls.specs.declared.calls.Patience.TheVariants.{Timed};
-ghost use Rattle.lot_calls.specs.declared.calls.RwLockCall.TheVariants.{Enter};
+ghost use Rattle.lot_calls.specs.declared.calls.Patience.TheVariants.{Patient, Timed};
+ghost use Rattle.lot_calls.specs.declared.calls.RwLockCall.TheVariants.{Enter, Release};
+ghost use Rattle.lot_calls.specs.declared.outcomes.Answer.TheVariants as answers;
 
 use crate::guards::{RwLockReadGuard, RwLockUpgradableReadGuard, RwLockWriteGuard};
 use crate::rwlock::RwLock;
@@ -43,6 +44,13 @@ impl<R: RawRwLock, T> RwLock<R, T> {
         ensures token { R.is_token_of (R.lot_of self.now) token.new × R.stays token.old token.new }
         ensures ran { MatchResult result
             (λ answer. (found : T) × FnOnceReturnsAt F.FnOnce f found answer) IsFull }
+        ensures path { MatchResult result
+            (λ _. (inside : R.Token)
+            × R.walked self.now (Enter access.Shared Patient) answers.Ok token.old inside
+            × R.walked self.now (Release access.Shared) answers.Ok inside token.new)
+            (λ _. R.walked self.now
+            (Enter access.Shared Patient) answers.ReadersFull token.old token.new) }
+        ensures full { IfErr result (λ _. R.saw_full self.now access.Shared token.old token.new) }
     {
         match self.read(rt, token) {
             Ok(guard) => {
@@ -66,6 +74,9 @@ impl<R: RawRwLock, T> RwLock<R, T> {
         requires callable { F.IsAlwaysCallable f }
         ensures token { R.is_token_of (R.lot_of self.now) token.new × R.stays token.old token.new }
         ensures ran { (found : T) × (left : T) × FnOnceReturnsAtMut F.FnOnce f found result left }
+        ensures path { (inside : R.Token)
+            × R.walked self.now (Enter access.Exclusive Patient) answers.Ok token.old inside
+            × R.walked self.now (Release access.Exclusive) answers.Ok inside token.new }
     {
         let mut guard = self.write(rt, token);
         let answer = run_on(&mut *guard, f);

@@ -11,7 +11,7 @@ use std::sync::Wait;
 use std::sync::atomic::AtomicUsize;
 use std::sync::atomic::Ordering::SeqCst;
 use std::test::Fail;
-use std::thread::Threads;
+use std::thread::{Threads, yield_now};
 
 // The value, made of how many have made it before; or none, where making it fails.
 fn value_of<R: Wait>(
@@ -98,6 +98,38 @@ fn a_value_that_cannot_fail_is_made_once(rt: HostRuntime) -> Result<(), Fail> {
     Ok(())
 }
 
+const ASKERS: usize = 10;
+
+// Looks until all who are to ask have come, a million times at most.
+fn await_askers(came: &AtomicUsize) {
+    for _ in 0..1_000_000 {
+        if ASKERS <= came.load(SeqCst) {
+            break;
+        }
+        yield_now();
+    }
+}
+
+// The value, which whoever makes it makes only once all have come to ask: a cell whose value each
+// of them could make would have several made.
+fn shared_value_of<R: Wait>(
+    rt: &R,
+    cell: &OnceCell<u64>,
+    token: &mut Token,
+    came: &AtomicUsize,
+    runs: &AtomicUsize,
+) -> Option<u64>
+    requires { IsTokenOf (lot_of cell.now) token.old }
+    ensures { IsTokenOf (lot_of cell.now) token.new }
+{
+    came.fetch_add(1, SeqCst);
+    let found: Result<&u64, u32> = cell.get_or_try_init(rt, token, move || {
+        await_askers(came);
+        Ok(runs.fetch_add(1, SeqCst) as u64)
+    });
+    found.ok().copied()
+}
+
 fn ask_together<R: Threads + Wait + Sync>(
     rt: &R,
     cell: &OnceCell<u64>,
@@ -106,6 +138,7 @@ fn ask_together<R: Threads + Wait + Sync>(
 ) -> bool
     requires { All (IsTicketOf (lot_of cell.now)) tickets.items }
 {
+    let came = &AtomicUsize::new(0);
     all_are_content(
         rt,
         tickets,
@@ -113,7 +146,7 @@ fn ask_together<R: Threads + Wait + Sync>(
             requires { IsTicketOf (lot_of cell.now) ticket }
         {
             let mut token = ticket.enter();
-            let value = value_of(rt, cell, &mut token, runs, false);
+            let value = shared_value_of(rt, cell, &mut token, came, runs);
             drop(token.leave());
             value == Some(0)
         },
@@ -122,7 +155,7 @@ fn ask_together<R: Threads + Wait + Sync>(
 
 #[test]
 fn ten_threads_ask_at_once(rt: HostRuntime) -> Result<(), Fail> {
-    let (lot, mut token, others) = seats(rt.alloc(), 11)?;
+    let (lot, mut token, others) = seats(rt.alloc(), 1 + ASKERS)?;
     let cell = OnceCell::new(&lot, &mut token)?;
     let runs = AtomicUsize::new(0);
     holds(&rt, ask_together(&rt, &cell, others, &runs));

@@ -22,12 +22,18 @@ use std::time::Duration;
 // A deadline that is come to soon, on a clock that begins at 0.
 const EARLY: u64 = 20;
 
+// As long a time, from the beginning of such a clock.
 fn soon() -> Duration {
-    Duration::from_nanos(5)
+    Duration::from_nanos(EARLY)
 }
 
-// Whether a reader that waits gets in.
-fn reads_in_time<const RECURSIVE: bool, R: Wait>(
+// Whether who gave up did so long before twice its time was up.
+fn gave_up_soon(clock: &TickClock) -> bool {
+    clock.now() < 2 * EARLY - 10
+}
+
+// Whether a reader that waits gives up, and soon.
+fn reads_in_vain<const RECURSIVE: bool, R: Wait>(
     rt: &R,
     lock: &RawRwLock<RECURSIVE>,
     token: &mut Token,
@@ -45,14 +51,15 @@ fn reads_in_time<const RECURSIVE: bool, R: Wait>(
     match taken {
         Ok(Some(guard)) => {
             lock.unlock_shared(rt, token, guard);
-            true
+            false
         }
-        _ => false,
+        Ok(None) => gave_up_soon(&clock),
+        Err(_) => false,
     }
 }
 
 // The same of an upgradable reader.
-fn comes_upgradable_in_time<const RECURSIVE: bool, R: Wait>(
+fn comes_upgradable_in_vain<const RECURSIVE: bool, R: Wait>(
     rt: &R,
     lock: &RawRwLock<RECURSIVE>,
     token: &mut Token,
@@ -70,14 +77,15 @@ fn comes_upgradable_in_time<const RECURSIVE: bool, R: Wait>(
     match taken {
         Ok(Some(guard)) => {
             lock.unlock_upgradable(rt, token, guard);
-            true
+            false
         }
-        _ => false,
+        Ok(None) => gave_up_soon(&clock),
+        Err(_) => false,
     }
 }
 
 // The same of a writer.
-fn writes_in_time<const RECURSIVE: bool, R: Wait>(
+fn writes_in_vain<const RECURSIVE: bool, R: Wait>(
     rt: &R,
     lock: &RawRwLock<RECURSIVE>,
     token: &mut Token,
@@ -95,13 +103,13 @@ fn writes_in_time<const RECURSIVE: bool, R: Wait>(
     match taken {
         Some(guard) => {
             lock.unlock_exclusive(rt, token, guard);
-            true
+            false
         }
-        None => false,
+        None => gave_up_soon(&clock),
     }
 }
 
-// Whether the waits for each right end without it.
+// Whether the waits for each right end without it, and soon.
 fn waits_in_vain<const RECURSIVE: bool, R: Wait>(
     rt: &R,
     lock: &RawRwLock<RECURSIVE>,
@@ -111,10 +119,10 @@ fn waits_in_vain<const RECURSIVE: bool, R: Wait>(
     requires { IsTokenOf (lot_of lock.now) token.old }
     ensures { IsTokenOf (lot_of lock.now) token.new }
 {
-    let read = reads_in_time(rt, lock, token, until);
-    let read_upgradable = comes_upgradable_in_time(rt, lock, token, until);
-    let written = writes_in_time(rt, lock, token, until);
-    !read && !read_upgradable && !written
+    let read = reads_in_vain(rt, lock, token, until);
+    let read_upgradable = comes_upgradable_in_vain(rt, lock, token, until);
+    let written = writes_in_vain(rt, lock, token, until);
+    read && read_upgradable && written
 }
 
 // Whether who waits beside a writer gives up, and leaves the lock as it is.
@@ -171,7 +179,7 @@ fn gives_up_beside_a_reader<const RECURSIVE: bool, R: Wait>(
     beside == READ && look(rt, lock, token) == FREE
 }
 
-// Whether an upgrade beside a reader gives up and keeps its right, and one alone doesn't.
+// Whether an upgrade beside a reader gives up soon and keeps its right, and one alone doesn't.
 fn upgrades_in_time<const RECURSIVE: bool, R: Wait>(
     rt: &R,
     lock: &RawRwLock<RECURSIVE>,
@@ -193,7 +201,11 @@ fn upgrades_in_time<const RECURSIVE: bool, R: Wait>(
         Err(guard) => {
             let seen = look(rt, lock, token);
             lock.unlock_upgradable(rt, token, guard);
-            Some(seen)
+            if gave_up_soon(&clock) {
+                Some(seen)
+            } else {
+                None
+            }
         }
     }
 }
@@ -236,7 +248,7 @@ impl Clock for FlagClock<'_> {
     ghost tells = { λ _ _. Unit {0} };
 
     fn now(&self) -> u64 {
-        if self.0.load(SeqCst) { 2 } else { 0 }
+        if self.0.load(SeqCst) { 1 } else { 0 }
     }
 
     fn pause(&self, _left: u64) {
