@@ -43,7 +43,7 @@ fn lot_of<A: Abort>(
     words: usize,
     seats: usize,
 ) -> (Arc<ParkingLot>, Token, Vec<Ticket>)
-    requires { (0 < words) × (words ≤ 100) × (0 < seats) × (seats ≤ 1024) }
+    requires { (0 < words) × (words ≤ 1048576) × (0 < seats) × (seats ≤ 1024) }
     ensures lot { (arc_value result.0).records.count ≡ seats }
     ensures seats { IsTokenOf (arc_value result.0) result.1
         × All (IsNewTicketOf (arc_value result.0)) result.2.items }
@@ -71,7 +71,7 @@ fn word_of<A: Abort>(rt: &A, lot: &ParkingLot, token: &mut Token, kind: WordKind
 
 // A lot of one seat and so many words, its token, and a mutex.
 fn mutex_of<A: Abort>(rt: &A, alloc: Global, words: usize) -> (Arc<ParkingLot>, Token, Word)
-    requires { (0 < words) × (words ≤ 100) }
+    requires { (0 < words) × (words ≤ 1048576) }
     ensures { IsTokenOf (arc_value result.0) result.1
         × IsWordOf (arc_value result.0).words result.2 × (result.2.kind ≡ Mutex) }
 {

@@ -114,6 +114,36 @@ fn a_try_gets_a_free_mutex_alone(rt: HostRuntime) -> Result<(), Fail> {
     Ok(())
 }
 
+// Adds 1 where nobody has the mutex. The sum.
+fn add_where_free<R: Wait>(rt: &R, mutex: &Mutex<u8>, token: &mut Token) -> Option<u8>
+    requires { IsTokenOf (lot_of mutex.now) token.old }
+    ensures { IsTokenOf (lot_of mutex.now) token.new }
+{
+    mutex.try_with(rt, token, |value: &mut u8| {
+        *value = value.wrapping_add(1);
+        *value
+    })
+}
+
+// The same before who has the mutex, beside it, and behind it.
+fn add_around<R: Wait>(rt: &R, mutex: &Mutex<u8>, token: &mut Token) -> [Option<u8>; 3]
+    requires { IsTokenOf (lot_of mutex.now) token.old }
+{
+    let before = add_where_free(rt, mutex, token);
+    let guard = mutex.lock(rt, token);
+    let beside = add_where_free(rt, mutex, token);
+    guard.unlock(rt, token);
+    [before, beside, add_where_free(rt, mutex, token)]
+}
+
+#[test]
+fn a_closure_is_not_run_beside_who_has_the_mutex(rt: HostRuntime) -> Result<(), Fail> {
+    let (mutex, mut token) = mutex_alone(rt.alloc(), 5)?;
+    let sums = add_around(&rt, &mutex, &mut token);
+    same(&rt, sums, [Some(6), None, Some(7)]);
+    Ok(())
+}
+
 #[test]
 fn the_value_comes_out(rt: HostRuntime) -> Result<(), Fail> {
     let (mut mutex, mut token) = mutex_alone(rt.alloc(), 10)?;

@@ -1,4 +1,5 @@
 //! Calls of a mutex with a value that give up in time.
+ghost use Rattle.std.specs.Prelude.{◌≤◌};
 ghost use Rattle.parking_lot_core.specs.Tokens.{IsTokenOf};
 ghost use Rattle.parking_lot.specs.Users.{lot_of};
 
@@ -59,8 +60,16 @@ fn far_clock() -> TickClock {
     clock
 }
 
+// Whether the clock came to a time, and has not been looked at often since.
+fn is_just_past(clock: &TickClock, time: u64) -> bool
+    requires { time ≤ 10000 }
+{
+    let now = clock.now();
+    time < now && now < time + 10
+}
+
 // Waits in vain, for a time and up to a deadline. Whether it gave up each time, no sooner than it
-// was to, and the first time no later than the deadline.
+// was to, and soon behind that.
 fn gives_up<M: lock_raw::RawMutexTimed, R: Wait>(
     rt: &R,
     mutex: &lock_api::Mutex<M, u8>,
@@ -70,11 +79,10 @@ fn gives_up<M: lock_raw::RawMutexTimed, R: Wait>(
     requires { M.is_token_of (M.lot_of mutex.now) token.old }
     ensures { M.is_token_of (M.lot_of mutex.now) token.new }
 {
-    let got = gets_within(rt, mutex, token, clock, 5);
-    let first = clock.now();
-    let got_later = gets_before(rt, mutex, token, clock, FAR + 40);
-    let second = clock.now();
-    !got && !got_later && FAR + 5 < first && first < FAR + 40 && FAR + 40 < second
+    let got = gets_within(rt, mutex, token, clock, 30);
+    let in_time = is_just_past(clock, FAR + 30);
+    let got_later = gets_before(rt, mutex, token, clock, FAR + 80);
+    !got && in_time && !got_later && is_just_past(clock, FAR + 80)
 }
 
 // Whether it gives up beside who holds the mutex, and gets it in time once that is free.

@@ -5,17 +5,19 @@ use super::{line_up, mutex_of, same};
 use lot_base::TickClock;
 use parking_lot_core::{Clock, Key, Note, ParkingLot, Slept, Token, Want, Word};
 use std::sync::Wait;
+use std::sync::atomic::AtomicU64;
+use std::sync::atomic::Ordering::SeqCst;
 
 const KEY: Key = 4;
 
 // Sleeps up to a deadline. The key under which it was late, and that of its thread, which leaves
 // its place.
-fn sleep_until<R: Wait>(
+fn sleep_until<R: Wait, C: Clock>(
     rt: &R,
     lot: &ParkingLot,
     token: &mut Token,
     word: Word,
-    limit: (&TickClock, u64),
+    limit: (&C, u64),
 ) -> Option<(Key, Option<Key>)>
     requires { IsTokenOf lot.now token.old }
     ensures { IsSameThread lot.now token.old token.new }
@@ -44,4 +46,30 @@ fn who_is_not_woken_is_late(rt: HostRuntime) {
     same(&rt, late, Some((KEY, Some(KEY))));
     same(&rt, lot.queued(&rt, &mut token, KEY), 0);
     same(&rt, clock.now(), 1006);
+}
+
+// A clock on which time passes by pauses alone.
+#[derive(Drop)]
+struct PauseClock(AtomicU64);
+
+impl Clock for PauseClock {
+    ghost tells = { λ _ _. Unit {0} };
+
+    fn now(&self) -> u64 {
+        self.0.load(SeqCst)
+    }
+
+    fn pause(&self, left: u64) {
+        self.0.fetch_add(left, SeqCst);
+    }
+}
+
+#[test]
+fn a_sleeper_pauses_for_what_is_left(rt: HostRuntime) {
+    let (lot, mut token, word) = mutex_of(&rt, rt.alloc(), 4);
+    line_up(&rt, &lot, &mut token, KEY, Want::Exclusive);
+    let clock = PauseClock(AtomicU64::new(1000));
+    let late = sleep_until(&rt, &lot, &mut token, word, (&clock, 1005));
+    same(&rt, late, Some((KEY, Some(KEY))));
+    same(&rt, clock.now(), 1005);
 }

@@ -99,6 +99,13 @@ fn a_mutex_is_locked_once(rt: HostRuntime) {
     same(&rt, locked, Some((word, Want::Exclusive, false, [1, 0])));
 }
 
+#[test]
+fn a_lot_has_as_many_words_as_may_be(rt: HostRuntime) {
+    let (lot, mut token, word) = mutex_of(&rt, rt.alloc(), 1 << 20);
+    let locked = lock_once(&lot, &mut token, word);
+    same(&rt, locked, Some((word, Want::Exclusive, false, [1, 0])));
+}
+
 // What each operation finds, one after another.
 fn found_by_each(lot: &ParkingLot, token: &mut Token, word: Word) -> [u64; 6]
     requires { IsTokenOf lot.now token.old × IsWordOf lot.now.words word × (word.kind ≡ Mutex) }
