@@ -9,7 +9,7 @@ ghost use Rattle.std.specs.Arc.{arc_value};
 ghost use Rattle.parking_lot.specs.CondvarUsers.{lot_of as condvar_lot};
 ghost use Rattle.parking_lot.specs.Users.{IsTicketOf, IsTokenOf, lock_of, lot_of};
 
-use parking_lot::{Condvar, Fault, Mutex, MutexGuard, ParkingLot, TickClock, Ticket, Token};
+use parking_lot::{Clock, Condvar, Fault, Mutex, MutexGuard, ParkingLot, TickClock, Ticket, Token};
 use std::alloc::Global;
 use std::fmt::Debug;
 use std::process::Abort;
@@ -28,6 +28,14 @@ fn same<T: PartialEq + Debug + Drop>(rt: &impl Abort, found: T, wanted: T) {
 // What a test asks for holds.
 fn holds(rt: &impl Abort, truth: bool) {
     assert!(rt; truth);
+}
+
+// Whether the clock came to a time, and has not been looked at often since.
+fn is_just_past(clock: &TickClock, time: u64) -> bool
+    requires { time ≤ 10000 }
+{
+    let now = clock.now();
+    time < now && now < time + 10
 }
 
 const TURNS: usize = 1_000_000;

@@ -2,8 +2,8 @@
 ghost use Rattle.std.specs.Prelude.{IfOk};
 ghost use Rattle.parking_lot.specs.Users.{IsTokenOf, lock_of, lot_of};
 
-use super::{Room, holds, look, room_for, same, wait_for};
-use parking_lot::{Clock, Fault, MutexGuard, TickClock, Token, WaitTimeoutResult};
+use super::{Room, holds, is_just_past, look, room_for, same, wait_for};
+use parking_lot::{Fault, MutexGuard, TickClock, Token, WaitTimeoutResult};
 use std::alloc::Global;
 use std::sync::Wait;
 use std::test::Fail;
@@ -79,12 +79,12 @@ fn calls_until<R: Wait>(
     room: &Room<u32>,
     token: &mut Token,
     most: u32,
+    clock: &TickClock,
     deadline: u64,
 ) -> Option<(u32, bool)>
     requires { IsTokenOf (lot_of room.now.mutex) token.old }
     ensures { IsTokenOf (lot_of room.now.mutex) token.new }
 {
-    let clock = TickClock::new();
     let guard = room.mutex.lock(rt, token);
     let ended = room.condvar.wait_while_until(
         rt,
@@ -94,7 +94,7 @@ fn calls_until<R: Wait>(
             *calls = calls.wrapping_add(1);
             *calls <= most
         },
-        &clock,
+        clock,
         deadline,
     );
     match ended {
@@ -109,16 +109,12 @@ fn calls_until<R: Wait>(
 #[test]
 fn a_condition_is_called_again_where_the_time_is_up(rt: HostRuntime) -> Result<(), Fail> {
     let (room, mut token) = room_alone(rt.alloc())?;
-    same(
-        &rt,
-        calls_until(&rt, &room, &mut token, 1, 0),
-        Some((2, false)),
-    );
-    same(
-        &rt,
-        calls_until(&rt, &room, &mut token, 9, 40),
-        Some((4, true)),
-    );
+    let clock = TickClock::new();
+    let told = calls_until(&rt, &room, &mut token, 1, &clock, 0);
+    same(&rt, told, Some((2, false)));
+    let told = calls_until(&rt, &room, &mut token, 9, &clock, 40);
+    same(&rt, told, Some((4, true)));
+    holds(&rt, is_just_past(&clock, 40));
     Ok(())
 }
 
@@ -160,7 +156,7 @@ fn a_condition_that_holds_times_out(rt: HostRuntime) -> Result<(), Fail> {
     let clock = TickClock::starting_at(FAR);
     let told = calls_within(&rt, &room, &mut token, &clock, 30);
     same(&rt, told, Some((2, true)));
-    holds(&rt, clock.now() >= FAR + 30);
+    holds(&rt, is_just_past(&clock, FAR + 30));
     Ok(())
 }
 
@@ -179,7 +175,7 @@ fn who_waits_gives_up_in_time(rt: HostRuntime) -> Result<(), Fail> {
     let (room, mut token) = room_alone(rt.alloc())?;
     let clock = TickClock::starting_at(FAR);
     holds(&rt, gives_up(&rt, &room, &mut token, &clock));
-    holds(&rt, clock.now() >= FAR + 20);
+    holds(&rt, is_just_past(&clock, FAR + 20));
     holds(&rt, !room.condvar.notify_one(&rt, &mut token));
     Ok(())
 }

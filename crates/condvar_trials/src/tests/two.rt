@@ -5,8 +5,8 @@ ghost use Rattle.parking_lot.specs.CondvarUsers.{lot_of as condvar_lot};
 ghost use Rattle.parking_lot.specs.Users.{IsTicketOf, IsTokenOf, lot_of};
 
 use super::{
-    Room, await_flag, holds, look, next_pair, room_for_two, same, seats, stand_under, wait_for,
-    wait_once,
+    Room, await_flag, holds, is_just_past, look, next_pair, room_for_two, same, seats, stand_under,
+    wait_for, wait_once,
 };
 use parking_lot::{Condvar, Fault, Mutex, ParkingLot, TickClock, Ticket, Token};
 use std::alloc::Global;
@@ -209,7 +209,7 @@ fn is_refused<R: Wait>(rt: &R, condvar: &Condvar, mutex: &Mutex<u32>, token: &mu
     }
 }
 
-// Waits with another mutex, in vain. Whether that timed out.
+// Waits with another mutex, in vain. Whether that timed out, at its deadline.
 fn times_out<R: Wait>(rt: &R, condvar: &Condvar, mutex: &Mutex<u32>, token: &mut Token) -> bool
     requires token { IsTokenOf (lot_of mutex.now) token.old }
     requires condvar { condvar_lot condvar.now ≡ lot_of mutex.now }
@@ -220,7 +220,7 @@ fn times_out<R: Wait>(rt: &R, condvar: &Condvar, mutex: &Mutex<u32>, token: &mut
     match condvar.wait_until(rt, token, guard, &clock, 20) {
         Ok((guard, ended)) => {
             guard.unlock(rt, token);
-            ended.timed_out()
+            ended.timed_out() && is_just_past(&clock, 20)
         }
         Err((_, guard)) => {
             guard.unlock(rt, token);

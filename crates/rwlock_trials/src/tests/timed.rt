@@ -5,7 +5,7 @@ ghost use Rattle.parking_lot_core.specs.Tokens.{IsTokenOf};
 ghost use Rattle.parking_lot.specs.RwLockUsers.{lot_of};
 
 use super::{lock_alone, same};
-use parking_lot::{RwLock, RwLockUpgradableReadGuard, RwLockWriteGuard, TickClock, Token};
+use parking_lot::{Clock, RwLock, RwLockUpgradableReadGuard, RwLockWriteGuard, TickClock, Token};
 use std::sync::Wait;
 use std::test::Fail;
 use std::time::Duration;
@@ -13,11 +13,17 @@ use std::time::Duration;
 // A deadline that is come to soon, on a clock that begins at 0.
 const EARLY: u64 = 20;
 
+// As long a time, from the beginning of such a clock.
 fn soon() -> Duration {
-    Duration::from_nanos(5)
+    Duration::from_nanos(EARLY)
 }
 
-// Whether a reader that waits comes in.
+// Whether somebody waited until almost twice its time was up.
+fn waited_long(clock: &TickClock) -> bool {
+    2 * EARLY - 10 <= clock.now()
+}
+
+// Whether a reader that waits comes in, or gives up late.
 fn reads_in_time<R: Wait>(rt: &R, lock: &RwLock<u64>, token: &mut Token, until: bool) -> bool
     requires { IsTokenOf (lot_of lock.now) token.old }
     ensures { IsTokenOf (lot_of lock.now) token.new }
@@ -33,7 +39,7 @@ fn reads_in_time<R: Wait>(rt: &R, lock: &RwLock<u64>, token: &mut Token, until: 
             guard.unlock(rt, token);
             true
         }
-        _ => false,
+        _ => waited_long(&clock),
     }
 }
 
@@ -58,7 +64,7 @@ fn comes_upgradable_in_time<R: Wait>(
             guard.unlock(rt, token);
             true
         }
-        _ => false,
+        _ => waited_long(&clock),
     }
 }
 
@@ -78,7 +84,7 @@ fn writes_in_time<R: Wait>(rt: &R, lock: &RwLock<u64>, token: &mut Token, until:
             guard.unlock(rt, token);
             true
         }
-        None => false,
+        None => waited_long(&clock),
     }
 }
 
@@ -126,7 +132,7 @@ fn goes_upgraded<'l, R: Wait>(
     }
 }
 
-// Whether an upgrade becomes the writer.
+// Whether an upgrade becomes the writer, where it doesn't give up late.
 fn upgrades_in_time<R: Wait>(
     rt: &R,
     lock: &RwLock<u64>,
@@ -145,7 +151,11 @@ fn upgrades_in_time<R: Wait>(
     } else {
         guard.try_upgrade_for(rt, token, &clock, soon())
     };
-    Some(goes_upgraded(rt, lock, token, upgraded))
+    let is_writer = goes_upgraded(rt, lock, token, upgraded);
+    if waited_long(&clock) {
+        return None;
+    }
+    Some(is_writer)
 }
 
 // What upgrades come to beside a reader, of both forms, and then without one.
