@@ -13,9 +13,13 @@ returns-then-is_err g c =
 pub returns-then-len-shown : goal.returns-then-len-shown
 returns-then-len-shown g c =
     let shown = c.in-Ok.shown.now in
-    let len = c.len_of_line-len in
-    (take len.result shown, len.ensures.before,
-        shown_line _ _ _ shown len.result (IfSome (g.R.BufRead.consumable_len c.fill_buf.follows.lender-at-none) (λ n. len.result + 1 ≤ n)) c.if-len-shown.true (len.ensures.found c.if-len-shown.true)
-            c.in-Ok.ensures.front c.fill_buf.follows.holds-at-none.0
-            (may_consume _ _ shown len.result c.if-len-shown.true (rw c.in-Ok.is at c.fill_buf.follows.holds-at-none.1))
-            c.consume.ensures.bytes, search rules, search rules)
+    let len = c.len_of_line-len in (
+      take len.result shown,
+      len.ensures.before,
+      shown_line _ _ _ shown len.result (IfSome (g.R.BufRead.consumable_len c.fill_buf.follows.lender-at-none) (λ n. len.result + 1 ≤ n)) c.if-len-shown.true (len.ensures.found c.if-len-shown.true)
+          c.in-Ok.ensures.front c.fill_buf.follows.holds-at-none.0
+          (may_consume _ _ shown len.result c.if-len-shown.true (rw c.in-Ok.is at c.fill_buf.follows.holds-at-none.1))
+          c.consume.ensures.bytes,
+      search rules,
+      search rules,
+    )
