@@ -98,7 +98,17 @@ impl<const RECURSIVE: bool> lock_raw::RawRwLock for RawRwLock<RECURSIVE> {
     ghost gave_up = { λ lock call new. GaveUpCall (word_at lock).number
         (admission_of lock) call new };
 
-    fn new(lot: &Arc<ParkingLot>, token: &mut Token) -> Result<RawRwLock<RECURSIVE>, Fault> {
+    fn new(lot: &Arc<ParkingLot>, token: &mut Token) -> Result<RawRwLock<RECURSIVE>, Fault>
+        requires { IsTokenOf (arc_value lot.now) token.old }
+        ensures token { IsTokenOf (arc_value lot.now) token.new × StaysSettled token.old token.new }
+        ensures made { MatchResult result
+            (λ lock. (lot_at lock ≡ arc_value lot.now)
+            × ((admission_of lock).limit ≡ 1152921504606846974))
+            (IsRefusal (FoundFull (arc_value lot.now)) token.old token.new) }
+        ensures drawn { IfOk result
+            (λ lock. Drew RwLock (lot_at lock) (word_at lock) token.old token.new) }
+        ensures chosen { IfOk result (λ lock. (admission_of lock).recursive ≡ RECURSIVE) }
+    {
         <RawRwLock<RECURSIVE> as lock_raw::RawRwLock>::with_limit(lot, token, MOST_READERS)
     }
 
