@@ -79,7 +79,7 @@ MayWrite (Some input) None text status = IsText input text status
 MayWrite (Some input) (Some left) text status = IsText input text status
     ⊎ (((status ≡ 3) × StopsForMemory input text) ⊎ ((status ≡ 4) × StopsEarly input left text))
 
--- all of such a text went out, or a write failed and a beginning of it went out
+-- all of such a text went out, or a write failed and not all of it went out
 abbrev pub Replays : Option (List ℕ) → Option (List ℕ) → Option (List ℕ) → Option (List ℕ) → ℕ
     → Type 0
 Replays old new before after status = (text : List ℕ) × (ending : ℕ) × MayWrite old new text ending
