@@ -89,8 +89,8 @@ fn a_fair_mutex_goes_through_601_threads(rt: HostRuntime) {
 }
 
 #[test]
-fn a_mutex_goes_through_1024_threads(rt: HostRuntime) {
-    goes_from_one_to_the_next(&rt, rt.alloc(), Kind::Mutex, 1024);
+fn a_mutex_goes_through_1023_threads(rt: HostRuntime) {
+    goes_from_one_to_the_next(&rt, rt.alloc(), Kind::Mutex, 1023);
 }
 
 /// A thread that locks and unlocks, so many times.
