@@ -18,7 +18,7 @@ refused_line = codes "no memory\n"
 abbrev pub status_for : Told → ℕ
 status_for told = if told.met then 0 else 1
 
--- the text went out, or a write failed and a beginning of it went out
+-- the text went out, or a write failed and not all of it went out
 abbrev pub Writes : Option (List ℕ) → Option (List ℕ) → List ℕ → ℕ → ℕ → Type 0
 Writes before after text ending status =
     ((status ≡ ending) × Sends before after text []) ⊎ ((status ≡ 4) × SendsFront before after text)

@@ -4,3 +4,4 @@ pub mod ActionLemmas
 pub mod StartLemmas
 pub mod ShowLemmas
 mod StageLemmas
+mod Declaring

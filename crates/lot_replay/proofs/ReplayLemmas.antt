@@ -14,24 +14,27 @@ use Rattle.lot_text.proofs.SentLemmas.{puts_then}
 use Rattle.lot_replay.specs.declared.state.Refusal.{Refusal}
 use Rattle.lot_replay.specs.declared.state.Refusal.TheVariants.{Malformed, NoMemory}
 use Rattle.lot_replay.specs.Stages.{Stage, nothing, obeyed, after_line}
-use Rattle.lot_replay.specs.Answers.{AnswersTo, last_line, last_status}
+use Rattle.lot_replay.specs.Answers.{MayTakeMemory, AnswersTo, last_line, last_status}
 use Rattle.lot_replay.specs.Replay.{MayAnswer, IsMalformed, IsReplay, LinesWrite, IsText, StopsForMemory, MayWrite}
+use Rattle.lot_replay.proofs.Declaring.{StillDeclares, still_declares, declared_before}
 
 -- `done` lines wrote `text`, the k-th is next, and then the others
 pub record Reached (input text : List ℕ) (k : ℕ) (s : Stage) (rest : List (List ℕ)) : Type 0 where
   pub done : List (List ℕ)
   pub lines : lines_of input ≡ done ++ rest
   pub count : length done + 1 ≡ k
+  pub declares : StillDeclares s done
   pub goes : (more : List (List ℕ)) (t : List ℕ) (st : ℕ) → IsReplay k s more t st → LinesWrite (done ++ more) (text ++ t) st
 
 reached_start : (input : List ℕ) → Reached input [] 1 nothing (lines_of input)
-reached_start input = record { done = []; lines = refl; count = refl; goes = λ more t st h. h }
+reached_start input = record { done = []; lines = refl; count = refl; declares = refl; goes = λ more t st h. h }
 
 reached_step : (input text : List ℕ) (k : ℕ) (s : Stage) (line : List ℕ) (rest : List (List ℕ)) (next : Stage) (t : List ℕ) → Reached input text k s (line ∷ rest) → MayAnswer s line next t → Reached input (text ++ t) (k + 1) next rest
 reached_step input text k s line rest next t r e = record {
   done = r.done ++ line ∷ [];
   lines = r.lines ∙ sym (append_assoc r.done (line ∷ []) rest);
   count = omega (arith, length-append r.done (line ∷ []), r.count);
+  declares = still_declares s next t line r.done e r.declares;
   goes = λ more u st h.
       subst (λ ls. LinesWrite ls ((text ++ t) ++ u) st) (sym (append_assoc r.done (line ∷ []) more))
       (subst (λ l. LinesWrite (r.done ++ line ∷ more) l st) (sym (append_assoc text t u)) (r.goes (line ∷ more) (t ++ u) st (inr (next, t, u, e, refl, h))));
@@ -105,14 +108,16 @@ known_failed (Some x) (Some y) (Some z) text k s r q =
 pub nothing_taken : (a : Option (List ℕ)) → TakesPart a a
 nothing_taken a = ([], All-nil (λ b. b ≡ 10 → ⊥), Consumes-nil a)
 
-memory_at : (x text : List ℕ) (k : ℕ) (s : Stage) (line : List ℕ) (rest : List (List ℕ)) (next : Stage) (t : List ℕ) → Reached x text k s (line ∷ rest) → MayAnswer s line next t → StopsForMemory x (text ++ no_memory_line k)
+memory_at : (x text : List ℕ) (k : ℕ) (s : Stage) (line : List ℕ) (rest : List (List ℕ)) (next : Stage) (t : List ℕ) → Reached x text k s (line ∷ rest) → MayAnswer s line next t → MayTakeMemory s → StopsForMemory x (text ++ no_memory_line k)
 unfolding reached_step
-memory_at x text k s line rest next t r e =
-    record {
+memory_at x text k s line rest next t r e m =
+    let declared = declared_before s r.done m r.declares in record {
       done = r.done;
       line = line;
       rest = rest;
       lines = r.lines;
+      declared = declared.0;
+      some_line = declared.1;
       before = text;
       wrote = wrote_so_far x text k s (line ∷ rest) r;
       whole = text ++ t;
@@ -120,12 +125,12 @@ memory_at x text k s line rest next t r e =
       written = ap (λ n. text ++ no_memory_line n) (sym r.count);
     }
 
-known_memory : (a b c d : Option (List ℕ)) (text : List ℕ) (k : ℕ) (s : Stage) (line : List ℕ) (next : Stage) (t : List ℕ) → ReachedKnown a b text k s → TakesLine b c line → MayAnswer s line next t → MayWrite a d (text ++ no_memory_line k) 3
-known_memory None b c d text k s line next t r q e = tt
-known_memory (Some x) None c d text k s line next t r q e = absurd r
-known_memory (Some x) (Some y) None d text k s line next t r q e = absurd q
-known_memory (Some x) (Some y) (Some z) d text k s line next t r q e =
-    may_memory x d (text ++ no_memory_line k) (memory_at x text k s line (lines_of z) next t (subst (Reached x text k s) q r) e)
+known_memory : (a b c d : Option (List ℕ)) (text : List ℕ) (k : ℕ) (s : Stage) (line : List ℕ) (next : Stage) (t : List ℕ) → ReachedKnown a b text k s → TakesLine b c line → MayAnswer s line next t → MayTakeMemory s → MayWrite a d (text ++ no_memory_line k) 3
+known_memory None b c d text k s line next t r q e m = tt
+known_memory (Some x) None c d text k s line next t r q e m = absurd r
+known_memory (Some x) (Some y) None d text k s line next t r q e m = absurd q
+known_memory (Some x) (Some y) (Some z) d text k s line next t r q e m =
+    may_memory x d (text ++ no_memory_line k) (memory_at x text k s line (lines_of z) next t (subst (Reached x text k s) q r) e m)
 
 -- what an answer says
 pub record Answered (w : Option (Stage × List ℕ)) (new : Stage) (a c : Option (List ℕ)) (p q : Held) : Type 0 where
@@ -148,7 +153,7 @@ pub known_refused : (w : Option (Stage × List ℕ)) (refusal : Refusal) (new : 
 known_refused None Malformed new Wrote a b c d text k s line e h r q = known_malformed a b c d text k s line r q e
 known_refused None NoMemory new Wrote a b c d text k s line e h r q = absurd h
 known_refused (Some x) Malformed new Wrote a b c d text k s line e h r q = absurd h
-known_refused (Some x) NoMemory new Wrote a b c d text k s line e h r q = known_memory a b c d text k s line x.0 x.1 r q e
+known_refused (Some x) NoMemory new Wrote a b c d text k s line e h r q = known_memory a b c d text k s line x.0 x.1 r q e h.2
 
 -- the last send
 ended_lost : (y z : Bool) (a b c : Option (List ℕ)) (mid left text : List ℕ) → PutsWhere false y a b [] mid text → PutsWhere y z b c mid left [] → z ≡ true → PutsWhere false true a c [] left (text ++ [])

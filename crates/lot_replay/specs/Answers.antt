@@ -1,9 +1,15 @@
 -- How the program answers a line.
-use Rattle.std.specs.Prelude.{◌≡◌, ℕ, List, [], Option, None, Some, Result, Ok, Err}
+use Rattle.std.specs.Prelude.{◌≡◌, ℕ, List, [], ⊤, Option, None, Some, Result, Ok, Err}
 use Rattle.lot_text.specs.Text.{malformed_line, no_memory_line}
 use Rattle.lot_replay.specs.declared.state.Refusal.{Refusal}
 use Rattle.lot_replay.specs.declared.state.Refusal.TheVariants.{Malformed, NoMemory}
-use Rattle.lot_replay.specs.Stages.{Stage}
+use Rattle.lot_replay.specs.Stages.{Stage, nothing, declaring, running}
+
+-- memory is taken for a lock, and for the world at the first turn or `show`, and never again
+abbrev pub MayTakeMemory : Stage → Type 0
+MayTakeMemory nothing = ⊥
+MayTakeMemory (declaring threads names kinds) = ⊤
+MayTakeMemory (running names w) = ⊥
 
 -- `wanted` is the stage and the text that are right, and `Wrote` says which text was written; of a
 -- line that is refused nothing is written, and the stage stays
@@ -14,7 +20,7 @@ AnswersTo None (Err Malformed) old new Wrote = (new ≡ old) × Wrote []
 AnswersTo None (Err NoMemory) old new Wrote = ⊥
 AnswersTo (Some a) (Ok _) old new Wrote = (new ≡ a.0) × Wrote a.1
 AnswersTo (Some a) (Err Malformed) old new Wrote = ⊥
-AnswersTo (Some a) (Err NoMemory) old new Wrote = (new ≡ old) × Wrote []
+AnswersTo (Some a) (Err NoMemory) old new Wrote = (new ≡ old) × Wrote [] × MayTakeMemory old
 
 -- the last line of a replay that stops
 abbrev pub last_line : Refusal → ℕ → List ℕ

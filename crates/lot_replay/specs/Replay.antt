@@ -1,9 +1,12 @@
 -- The text of a schedule, and what `replay` may leave behind.
-use Rattle.std.specs.Prelude.{◌≡◌, ℕ, ◌+◌, List, [], ◌∷◌, ◌++◌, length, ⊤, Option, None, Some, ◌⊎◌}
+use Rattle.std.specs.Prelude.{◌≡◌, ◌≤◌, ℕ, ◌+◌, Bool, true, false, List, [], ◌∷◌, ◌++◌, length, ⊤, Option, None, Some, ◌⊎◌, All}
 use Rattle.std.specs.Io.KnownBytes.{Appends}
 use Rattle.lot_text.specs.Sent.{SendsFront}
 use Rattle.lot_text.specs.Lines.{lines_of}
 use Rattle.lot_text.specs.Reads.{IsOneLine}
+use Rattle.lot_text.specs.Grammar.{meaning}
+use Rattle.lot_text.specs.declared.grammar.Command.{Command}
+use Rattle.lot_text.specs.declared.grammar.Command as command
 use Rattle.lot_text.specs.Text.{malformed_line, no_memory_line}
 use Rattle.lot_replay.specs.Stages.{Stage, nothing, after_line}
 
@@ -35,12 +38,24 @@ IsText input text status = LinesWrite (lines_of input) text status
 
 -- ---------------------------------------------------------------- where memory or a device fails
 
--- memory was refused at a line that has a text: the text of the lines before it, and the last line
+-- a line says how many threads there are, or declares a lock
+abbrev pub is_declaration : Option Command → Bool
+is_declaration (Some (command.TheVariants.Threads threads)) = true
+is_declaration (Some (command.TheVariants.Lock name kind)) = true
+is_declaration _ = false
+
+abbrev pub Declares : List ℕ → Type 0
+Declares line = is_declaration (meaning line) ≡ true
+
+-- memory was refused at a line that has a text, which isn't the first, and before it no line is a
+-- turn or a `show`: the text of the lines before it, and the last line
 pub record StopsForMemory (input text : List ℕ) : Type 0 where
   pub done : List (List ℕ)
   pub line : List ℕ
   pub rest : List (List ℕ)
   pub lines : lines_of input ≡ done ++ line ∷ rest
+  pub declared : All Declares done
+  pub some_line : 1 ≤ length done
   pub before : List ℕ
   pub wrote : LinesWrite done before 0
   pub whole : List ℕ
@@ -64,7 +79,7 @@ MayWrite (Some input) None text status = IsText input text status
 MayWrite (Some input) (Some left) text status = IsText input text status
     ⊎ (((status ≡ 3) × StopsForMemory input text) ⊎ ((status ≡ 4) × StopsEarly input left text))
 
--- all of such a text went out, or a write failed and a beginning of it went out
+-- all of such a text went out, or a write failed and not all of it went out
 abbrev pub Replays : Option (List ℕ) → Option (List ℕ) → Option (List ℕ) → Option (List ℕ) → ℕ
     → Type 0
 Replays old new before after status = (text : List ℕ) × (ending : ℕ) × MayWrite old new text ending

@@ -1,10 +1,11 @@
 -- What several sends in a row send.
-use Rattle.std.proofs.Common.{◌≡◌, ℕ, ◌+◌, ◌-◌, ◌≤◌, ◌<◌, ◌∷◌, None, Some, Result, Ok, Err, OnErr, is_ok, Bool, true, false, subst, List, [], ◌++◌, Option, take, drop, length, refl, sym, ap, ◌∙◌, append_assoc, append-nil, take-append-drop}
+use Rattle.std.proofs.Common.{◌≡◌, ℕ, ◌+◌, ◌-◌, ◌≤◌, ◌<◌, ◌∷◌, None, Some, Result, Ok, Err, OnErr, is_ok, Bool, true, false, subst, List, [], ◌++◌, Option, take, drop, length, refl, sym, ap, ◌∙◌, inl, inr, arith, append_assoc, append-nil, take-append-drop, length-append, length-drop}
 use Rattle.std.specs.Io.KnownBytes.{Appends, Keeps}
 use Rattle.std.proofs.KnownBytes.{Appends-nil, Appends-trans, Keeps-refl, Keeps-trans}
 use lib.Seq.{take-add, take-take}
-use Rattle.std.specs.Prelude.{decimal}
+use Rattle.std.specs.Prelude.{decimal, ◌==◌}
 use Rattle.std.proofs.lemmas.Fmt.{decimal_digit}
+use Rattle.std.proofs.lemmas.Bool.Decides.{eqb_tells, leb_tells}
 use Rattle.lot_text.specs.Sent.{Sends, SendsFront, Held, Puts, PutsWhere}
 
 -- nothing was sent
@@ -20,7 +21,7 @@ sends_then a b c xs ys text zs p q = record {
 }
 
 pub front_then : (a b c : Option (List ℕ)) (xs ys text : List ℕ) → Sends a b xs ys → SendsFront b c (ys ++ text) → SendsFront a c (xs ++ text)
-front_then a b c xs ys text p q = (q.0, sends_then a b c xs ys text q.0 p q.1)
+front_then a b c xs ys text p q = (q.0, sends_then a b c xs ys text q.0 p q.1, q.2)
 
 -- a beginning of a text begins a longer one
 pub front_longer : (a c : Option (List ℕ)) (xs text : List ℕ) → SendsFront a c xs → SendsFront a c (xs ++ text)
@@ -31,11 +32,25 @@ front_longer a c xs text p = (
     appended = p.1.appended;
     whole = sym (append_assoc p.1.taken p.0 text) ∙ ap (λ l. l ++ text) p.1.whole;
   },
+  omega (arith, length-append p.0 text, p.2),
 )
 
--- some bytes went out
-pub sends_taken : (a c : Option (List ℕ)) (n : ℕ) (bytes : List ℕ) → Appends a c (take n bytes) → SendsFront a c bytes
-sends_taken a c n bytes p = (drop n bytes, record { taken = take n bytes; appended = p; whole = take-append-drop n bytes })
+-- not all bytes went out
+pub sends_taken : (a c : Option (List ℕ)) (n : ℕ) (bytes : List ℕ) → n < length bytes → Appends a c (take n bytes) → SendsFront a c bytes
+sends_taken a c n bytes less p = (
+  drop n bytes,
+  record { taken = take n bytes; appended = p; whole = take-append-drop n bytes },
+  omega (arith, length-drop n bytes, less),
+)
+
+pub less_unless_same : (a b : ℕ) → (a == b) ≡ false → a ≤ b → a < b
+less_unless_same a b e within = elim (eqb_tells a b) [
+  | inl same ↦ let never : true ≡ false = sym same.0 ∙ e in absurd cc
+  | inr other ↦ elim (leb_tells (a + 1) b) [
+    | inl less ↦ omega (arith, less.1)
+    | inr more ↦ absurd (other.1 (omega (arith, more.1, within)))
+  ]
+]
 
 -- what is kept was appended to before
 pub appends_kept : (a b c : Option (List ℕ)) (xs : List ℕ) → Appends a b xs → Keeps b c → Appends a c xs
@@ -51,13 +66,9 @@ appends_more a b c xs sent n within fits p q =
     let joined = ap (λ l. take sent xs ++ l) (take-take n (length xs - sent) (drop sent xs) fits) ∙ sym (take-add sent n xs) in
     subst (Appends a c) joined (Appends-trans a b c _ _ p q)
 
--- a text of which nothing was sent
-pub front_none : (a : Option (List ℕ)) (text : List ℕ) → SendsFront a a text
-front_none a text = (text, sends_none a text)
-
 -- nothing more goes out
 front_kept : (a b c : Option (List ℕ)) (xs : List ℕ) → SendsFront a b xs → Keeps b c → SendsFront a c xs
-front_kept a b c xs p q = (p.0, record { taken = p.1.taken; appended = appends_kept a b c p.1.taken p.1.appended q; whole = p.1.whole })
+front_kept a b c xs p q = (p.0, record { taken = p.1.taken; appended = appends_kept a b c p.1.taken p.1.appended q; whole = p.1.whole }, p.2)
 
 -- two texts, one after the other
 puts_both : (x y z : Bool) (a b c : Option (List ℕ)) (held mid left t u : List ℕ) → PutsWhere x y a b held mid t → PutsWhere y z b c mid left u → PutsWhere x z a c held left (t ++ u)

@@ -113,7 +113,8 @@ impl Page {
 pub fn send_all<W: Write>(writer: &mut W, bytes: &[u8]) -> bool
     ensures sent { result ≡ true → Sends (W.contents writer.old) (W.contents writer.new) bytes.now
         [] }
-    ensures failed { SendsFront (W.contents writer.old) (W.contents writer.new) bytes.now }
+    ensures failed { result ≡ false → SendsFront (W.contents writer.old) (W.contents writer.new)
+        bytes.now }
 {
     send_front(writer, bytes) == bytes.len()
 }

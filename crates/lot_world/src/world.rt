@@ -1,5 +1,5 @@
 //! Any number of threads over locks, by a list of steps.
-ghost use Rattle.std.specs.Prelude.{◌≡◌, ◌<◌, ◌≤◌, ◌++◌, ◌+◌, ◌*◌, IfOk, IfErr, OnOk, All, length, take, true};
+ghost use Rattle.std.specs.Prelude.{◌≡◌, ◌<◌, ◌≤◌, ◌++◌, ◌+◌, ◌*◌, IfOk, IfErr, OnOk, All, length, take, true, vec_len, vec_capacity};
 ghost use Rattle.lot_calls.specs.Kinds.{fits};
 ghost use Rattle.lot_calls.specs.Calls.{lock_in};
 ghost use Rattle.lot_steps.specs.Steps.{first_place};
@@ -188,6 +188,10 @@ impl<Q: Queues + Drop> World<Q> {
         ensures outcomes { OnOk result
             (outcomes.new.items ≡ outcomes.old.items ++ step_outcomes self.old steps.now) }
         ensures taken { IfErr result (λ stopped. stopped.taken < length steps.now) }
+
+        // It is refused only behind the room that there was.
+        ensures room { IfErr result
+            (λ stopped. vec_capacity outcomes.old ≤ vec_len outcomes.old + stopped.taken) }
         ensures stopped { IfErr result
             (λ stopped. self.new ≡ after_steps self.old (take stopped.taken steps.now)) }
         ensures stopped_outcomes { IfErr result

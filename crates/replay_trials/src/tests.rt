@@ -142,12 +142,15 @@ fn answers_threads_that_are_not_there(rt: HostRuntime) {
     leads_to(&rt, replayed(rt.alloc(), STRANGERS), STRANGERS_TOLD, 0);
 }
 
-/// An input that declares this many locks, and what `show` prints of them.
-fn many_locks(alloc: Global, count: u32) -> Result<(String, String), AllocError> {
+const KINDS: [&str; 6] = ["mutex", "fair", "rwlock", "recursive", "condvar", "once"];
+
+/// An input that declares this many locks, of each kind in turn, and what `show` prints of them.
+fn many_locks(alloc: Global, count: usize) -> Result<(String, String), AllocError> {
     let mut input = String::from_str(alloc, "threads 1024\n")?;
     let mut shown = String::new(alloc);
     for lock in 0..count {
-        write!(input, "lock m{lock} mutex\n")?;
+        let kind = KINDS[lock % KINDS.len()];
+        write!(input, "lock m{lock} {kind}\n")?;
         write!(shown, "m{lock} 0\n")?;
     }
     input.push_str("show\n")?;

@@ -10,7 +10,7 @@ pub enum Refusal {
     TakesNothing,
 }
 
-/// Takes `room` bytes, a few at a time, and is interrupted now and then. It refuses one write, and
+/// Takes `room` bytes, three at a time, and is interrupted now and then. It refuses one write, and
 /// has room again.
 #[derive(Drop)]
 pub struct Short {
@@ -45,7 +45,7 @@ impl Write for Short {
         if self.calls % 3 == 0 {
             return Err(io::Error::from(ErrorKind::Interrupted));
         }
-        let n = buf.len().min(self.room).min(100);
+        let n = buf.len().min(self.room).min(3);
         if n == 0 {
             self.refuse()?;
             return Ok(0);
@@ -60,8 +60,8 @@ impl Write for Short {
     }
 }
 
-/// Shows a piece of its bytes at a time, is interrupted now and then, and fails behind them once, if
-/// it is to.
+/// Shows a piece of its bytes at a time, is interrupted at most looks, and fails behind them once,
+/// if it is to.
 #[derive(Drop)]
 pub struct Pieces<'a> {
     pub bytes: &'a [u8],
@@ -79,7 +79,7 @@ impl Read for Pieces<'_> {
 impl BufRead for Pieces<'_> {
     fn fill_buf(&mut self) -> io::Result<&[u8]> {
         self.looks = self.looks.wrapping_add(1);
-        if self.looks % 3 == 0 {
+        if self.looks % 64 > 2 {
             return Err(io::Error::from(ErrorKind::Interrupted));
         }
         if self.bytes.is_empty() && self.is_broken {

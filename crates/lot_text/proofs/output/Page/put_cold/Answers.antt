@@ -6,7 +6,7 @@ use Rattle.lot_text.proofs.output.Page.put_cold.Goals as goal
 
 pub returns-then-not-send_all-clause-puts : goal.returns-then-not-send_all-clause-puts
 returns-then-not-send_all-clause-puts g c =
-    let all = subst (λ l. SendsFront (g.W.Write.contents c.args.writer.now) (g.W.Write.contents c.send_all.new.writer) l) c.as_slice.ensures.value c.send_all.ensures.failed in
+    let all = subst (λ l. SendsFront (g.W.Write.contents c.args.writer.now) (g.W.Write.contents c.send_all.new.writer) l) c.as_slice.ensures.value (c.send_all.ensures.failed c.if-not-send_all.true) in
     subst (λ h. Puts (g.W.Write.contents c.args.writer.now) (g.W.Write.contents c.send_all.new.writer) h (the_view record { bytes = c.self.inside.bytes; is_lost = _ }) c.args.text.now) c.self.view_is
     (puts_lost _ _ (the_view c.self.inside) _ c.args.text.now c.if-self.false refl (front_longer _ _ c.self.inside.bytes.items c.args.text.now all))
 
@@ -14,7 +14,7 @@ pub returns-then-not-send_all-2-clause-puts : goal.returns-then-not-send_all-2-c
 returns-then-not-send_all-2-clause-puts g c =
     let sent = subst (λ l. Sends (g.W.Write.contents c.args.writer.now) (g.W.Write.contents c.send_all.new.writer) l []) c.as_slice.ensures.value (c.send_all.ensures.sent c.if-not-send_all.false) in
     subst (λ h. Puts (g.W.Write.contents c.args.writer.now) (g.W.Write.contents c.send_all-2.new.writer) h (the_view record { bytes = c.try_extend_from_slice.new.self; is_lost = true }) c.args.text.now) c.self.view_is
-    (puts_lost _ _ (the_view c.self.inside) _ c.args.text.now c.if-self.false refl (front_then _ _ _ c.self.inside.bytes.items [] c.args.text.now sent c.send_all-2.ensures.failed))
+    (puts_lost _ _ (the_view c.self.inside) _ c.args.text.now c.if-self.false refl (front_then _ _ _ c.self.inside.bytes.items [] c.args.text.now sent (c.send_all-2.ensures.failed c.if-not-send_all-2.true)))
 
 pub returns-else-not-send_all-2-clause-puts : goal.returns-else-not-send_all-2-clause-puts
 returns-else-not-send_all-2-clause-puts g c =

@@ -15,6 +15,8 @@ loop-taken-preserved g c =
     let more = take_more c.args.steps.now c.loop-taken.taken _ c.loop-taken-test.true in record {
       size = size_more c.args.self.now c.loop-taken.self c.step.new.self before.size c.step.ensures.same_size;
       state = run_state c.args.self.now c.loop-taken.self c.step.new.self (take c.loop-taken.taken c.args.steps.now) (take (c.loop-taken.taken + 1) c.args.steps.now) _ more before.state c.step.ensures.state;
+      count = omega (arith, c.push_reserved.ensures.len, c.reserve.ensures.len, before.count);
+      room = omega (arith, c.push_reserved.ensures.capacity, c.reserve.ensures.capacity, before.room);
       outcomes = rw (c.push_reserved.ensures.items, c.reserve.ensures.items, c.step.ensures.outcome)
           (run_outcomes c.args.self.now c.loop-taken.self (take c.loop-taken.taken c.args.steps.now) (take (c.loop-taken.taken + 1) c.args.steps.now) _ c.args.outcomes.now.items c.loop-taken.outcomes.items more before.state before.outcomes);
     }

@@ -1,0 +1,73 @@
+-- Before the first turn or `show` all lines declare threads and locks.
+use Rattle.std.proofs.Common.{◌≡◌, ℕ, ◌≤◌, Bool, true, false, cond, List, [], ◌∷◌, ◌++◌, Option, None, Some, length, refl, ap, sym, subst, arith, length-append}
+use Rattle.std.proofs.lemmas.List.Elements.{All-nil, All-push}
+use Rattle.std.specs.Prelude.{⊤, All, ◌&&◌, nat_le, option_map, option_and_then}
+use Rattle.lot_calls.specs.declared.kinds.Kind.{Kind}
+use Rattle.lot_machine.specs.Machine.{State, opening}
+use Rattle.lot_text.specs.Lines.{line_len}
+use Rattle.lot_text.specs.Grammar.{meaning}
+use Rattle.lot_text.specs.declared.grammar.Command.{Command}
+use Rattle.lot_text.specs.declared.grammar.Command as command
+use Rattle.lot_replay.specs.declared.actions.Action.{Action}
+use Rattle.lot_replay.specs.Stages.{Stage, nothing, declaring, running, done_by, action_of, acted, played, may_declare, obeyed, after_line}
+use Rattle.lot_replay.specs.Answers.{MayTakeMemory}
+use Rattle.lot_replay.specs.Replay.{Declares, is_declaration}
+
+-- what the lines so far are at a stage
+abbrev pub StillDeclares : Stage → List (List ℕ) → Type 0
+StillDeclares nothing done = done ≡ []
+StillDeclares (declaring threads names kinds) done = All Declares done × (1 ≤ length done)
+StillDeclares (running names w) done = ⊤
+
+none_some : (s : Stage) (t : List ℕ) → ◌≡◌ {A = Option (Stage × List ℕ)} None (Some (s, t)) → ⊥
+none_some s t e = cc
+
+same_stage : (s u : Stage) (t v : List ℕ) → ◌≡◌ {A = Option (Stage × List ℕ)} (Some (s, t)) (Some (u, v)) → s ≡ u
+same_stage s u t v e = let p : ◌≡◌ {A = Stage × List ℕ} (s, t) (u, v) = cc in ap (λ (x : Stage × List ℕ). x.0) p
+
+-- one choice of two
+chosen : (b : Bool) (s next : Stage) (u t : List ℕ) → ◌≡◌ {A = Option (Stage × List ℕ)} (cond b (Some (s, u)) None) (Some (next, t)) → s ≡ next
+chosen true s next u t e = same_stage s next u t e
+chosen false s next u t e = absurd (none_some next t e)
+
+runs_on : (names : List (List ℕ)) (w : State) (next : Stage) (done : List (List ℕ)) → running names w ≡ next → StillDeclares next done
+runs_on names w next done e = subst (λ s. StillDeclares s done) e tt
+
+acts_on : (names : List (List ℕ)) (w : State) (u : ℕ) (o : Option Action) (next : Stage) (t : List ℕ) (done : List (List ℕ)) → option_map (acted names w u) o ≡ Some (next, t) → StillDeclares next done
+acts_on names w u None next t done e = absurd (none_some next t e)
+acts_on names w u (Some a) next t done e = runs_on names (done_by w u a).0 next done (same_stage (acted names w u a).0 next (acted names w u a).1 t e)
+
+plays_on : (names : List (List ℕ)) (w : State) (c : Command) (next : Stage) (t : List ℕ) (done : List (List ℕ)) → played names w c ≡ Some (next, t) → StillDeclares next done
+plays_on names w (command.TheVariants.Turn u turn) next t done e = acts_on names w u (action_of names w turn) next t done e
+plays_on names w command.TheVariants.Show next t done e = runs_on names w next done (same_stage (running names w) next _ t e)
+plays_on names w (command.TheVariants.Threads n) next t done e = absurd (none_some next t e)
+plays_on names w (command.TheVariants.Lock name kind) next t done e = absurd (none_some next t e)
+
+declares_on : (threads : ℕ) (names : List (List ℕ)) (kinds : List Kind) (next : Stage) (line : List ℕ) (done : List (List ℕ)) → declaring threads names kinds ≡ next → All Declares done → Declares line → StillDeclares next (done ++ line ∷ [])
+declares_on threads names kinds next line done e h d = subst (λ s. StillDeclares s (done ++ line ∷ [])) e (All-push Declares done line h d, omega (arith, length-append done (line ∷ [])))
+
+obeys_on : (s : Stage) (c : Command) (next : Stage) (t line : List ℕ) (done : List (List ℕ)) → meaning line ≡ Some c → obeyed s c ≡ Some (next, t) → StillDeclares s done → StillDeclares next (done ++ line ∷ [])
+obeys_on nothing (command.TheVariants.Threads n) next t line done m e h = declares_on n [] [] next line done (chosen (nat_le 1 n && nat_le n 1024) (declaring n [] []) next [] t e) (subst (All Declares) (sym h) (All-nil Declares)) (ap is_declaration m)
+obeys_on nothing (command.TheVariants.Lock name kind) next t line done m e h = absurd (none_some next t e)
+obeys_on nothing (command.TheVariants.Turn u turn) next t line done m e h = absurd (none_some next t e)
+obeys_on nothing command.TheVariants.Show next t line done m e h = absurd (none_some next t e)
+obeys_on (declaring threads names kinds) (command.TheVariants.Lock name kind) next t line done m e h = declares_on threads (names ++ name ∷ []) (kinds ++ kind ∷ []) next line done (chosen (may_declare threads names kind name) (declaring threads (names ++ name ∷ []) (kinds ++ kind ∷ [])) next [] t e) h.0 (ap is_declaration m)
+obeys_on (declaring threads names kinds) (command.TheVariants.Threads n) next t line done m e h = absurd (none_some next t e)
+obeys_on (declaring threads names kinds) (command.TheVariants.Turn u turn) next t line done m e h = plays_on names (opening kinds threads) (command.TheVariants.Turn u turn) next t (done ++ line ∷ []) e
+obeys_on (declaring threads names kinds) command.TheVariants.Show next t line done m e h = plays_on names (opening kinds threads) command.TheVariants.Show next t (done ++ line ∷ []) e
+obeys_on (running names w) c next t line done m e h = plays_on names w c next t (done ++ line ∷ []) e
+
+means_on : (b : Bool) (o : Option Command) (s next : Stage) (t line : List ℕ) (done : List (List ℕ)) → meaning line ≡ o → ◌≡◌ {A = Option (Stage × List ℕ)} (cond b (option_and_then (obeyed s) o) None) (Some (next, t)) → StillDeclares s done → StillDeclares next (done ++ line ∷ [])
+means_on true (Some c) s next t line done m e h = obeys_on s c next t line done m e h
+means_on true None s next t line done m e h = absurd (none_some next t e)
+means_on false o s next t line done m e h = absurd (none_some next t e)
+
+-- a line more
+pub still_declares : (s next : Stage) (t line : List ℕ) (done : List (List ℕ)) → after_line s line ≡ Some (next, t) → StillDeclares s done → StillDeclares next (done ++ line ∷ [])
+still_declares s next t line done = means_on (nat_le (length line) line_len) (meaning line) s next t line done refl
+
+-- where memory is taken, all lines before declare, and there is one
+pub declared_before : (s : Stage) (done : List (List ℕ)) → MayTakeMemory s → StillDeclares s done → All Declares done × (1 ≤ length done)
+declared_before nothing done m h = absurd m
+declared_before (declaring threads names kinds) done m h = h
+declared_before (running names w) done m h = absurd m
