@@ -1,1 +1,2 @@
 mod Stays
+mod WaitsOn

@@ -1,2 +1,4 @@
 pub mod Guards
 pub mod Conditions
+pub mod Visits
+pub mod Waits

@@ -6,6 +6,7 @@ ghost use Rattle.std.specs.Duration.{as_nanos};
 ghost use Rattle.lot_base.specs.Clocks.{HasElapsed, HasPassed};
 ghost use Rattle.lock_raw.specs.Answers.{IsRefusal, answer_by};
 ghost use Rattle.lock_api.specs.Guards.{lock_of};
+ghost use Rattle.lock_api.specs.Visits.{CameAndWent};
 ghost use Rattle.lot_calls.specs.declared.calls.MutexCall.TheVariants.{Lock, LockTimed, TryLock, Unlock};
 ghost use Rattle.lot_calls.specs.declared.outcomes.Answer.TheVariants as answers;
 
@@ -139,10 +140,8 @@ impl<R: RawMutex, T> Mutex<R, T> {
         requires callable { F.IsAlwaysCallable f }
         ensures token { R.is_token_of (R.lot_of self.now) token.new × R.stays token.old token.new }
         ensures ran { (found : T) × (left : T) × FnOnceReturnsAtMut F.FnOnce f found result left }
-        ensures path { (inside : R.Token)
-            × R.walked self.now Lock answers.Ok token.old inside
-            × R.walked self.now Unlock answers.Ok inside token.new
-            × R.released self.now Unlock inside token.new }
+        ensures path { CameAndWent (R.walked self.now) (R.released self.now)
+            Lock answers.Ok Unlock token.old token.new }
     {
         let mut guard = self.lock(rt, token);
         let answer = run_on(&mut *guard, f);
@@ -164,10 +163,8 @@ impl<R: RawMutex, T> Mutex<R, T> {
         ensures ran { IfSome result (λ answer. (found : T) × (left : T)
             × FnOnceReturnsAtMut F.FnOnce f found answer left) }
         ensures path { MatchOption result (R.walked self.now TryLock answers.No token.old token.new)
-            (λ _. (inside : R.Token)
-            × R.walked self.now TryLock answers.Yes token.old inside
-            × R.walked self.now Unlock answers.Ok inside token.new
-            × R.released self.now Unlock inside token.new) }
+            (λ _. CameAndWent (R.walked self.now) (R.released self.now)
+            TryLock answers.Yes Unlock token.old token.new) }
     {
         let mut guard = self.try_lock(token)?;
         let answer = run_on(&mut *guard, f);

@@ -1,11 +1,12 @@
 //! Waits of condition variables that end with a condition, or in time.
-ghost use Rattle.std.specs.Prelude.{◌≡◌, ◌*◌, true};
+ghost use Rattle.std.specs.Prelude.{◌≡◌, ◌⊎◌, ◌*◌, false, true};
 ghost use Rattle.std.specs.Duration.{as_nanos};
 ghost use Rattle.std.specs.Iterator.Runs.{CallKeepsClosure};
 ghost use Rattle.lot_base.specs.Clocks.{HasElapsed, HasPassed};
 ghost use Rattle.lock_raw.specs.Answers.{GivesBack, GivesBackTimed, IsLate, timed_answer};
 ghost use Rattle.lock_api.specs.Guards.{lock_of};
 ghost use Rattle.lock_api.specs.Conditions.{LastAnswered, LastRefused, WaitedOrNot};
+ghost use Rattle.lock_api.specs.Waits.{NeverEnds, WaitsInTime, WaitsWhile};
 
 use crate::condvar::{Condvar, TokenOf, Waited};
 use crate::guards::MutexGuard;
@@ -70,6 +71,8 @@ impl<R: RawCondvar> Condvar<R> {
         ensures token { R.RawMutex.is_token_of (R.lot_of self.now) token.new
             × WaitedOrNot R.RawMutex.stays token.old token.new }
         ensures guard { GivesBack result (λ back. lock_of back ≡ lock_of guard.entry) }
+        ensures path { WaitsWhile (R.waited self.now (lock_of guard.entry) false)
+            result token.old token.new }
         ensures ended { LastRefused F.step (CallKeepsClosure F.FnMut condition) condition result }
     {
         let mut guard = guard;
@@ -180,6 +183,8 @@ impl<R: RawCondvarTimed> Condvar<R> {
         ensures token { R.RawMutex.is_token_of (R.lot_of self.now) token.new
             × WaitedOrNot R.RawMutex.stays token.old token.new }
         ensures guard { GivesBackTimed result (λ back. lock_of back ≡ lock_of guard.entry) }
+        ensures path { WaitsInTime (R.waited self.now (lock_of guard.entry) true)
+            result token.old token.new }
         ensures ended { LastAnswered F.step (CallKeepsClosure F.FnMut condition) condition result }
         ensures late { IsLate result (HasPassed (C.tells clock.now) deadline) }
     {
@@ -226,6 +231,11 @@ impl<R: RawCondvarTimed> Condvar<R> {
         ensures token { R.RawMutex.is_token_of (R.lot_of self.now) token.new
             × WaitedOrNot R.RawMutex.stays token.old token.new }
         ensures guard { GivesBackTimed result (λ back. lock_of back ≡ lock_of guard.entry) }
+        ensures path { WaitsInTime (R.waited self.now (lock_of guard.entry) true)
+            result token.old token.new
+            ⊎ (NeverEnds (C.tells clock.now) (as_nanos timeout)
+            × WaitsWhile (R.waited self.now (lock_of guard.entry) false)
+            result token.old token.new) }
         ensures ended { LastAnswered F.step (CallKeepsClosure F.FnMut condition) condition result }
         ensures late { IsLate result (HasElapsed (C.tells clock.now) (as_nanos timeout)) }
     {

@@ -5,6 +5,7 @@ ghost use Rattle.std.specs.Duration.{as_nanos};
 ghost use Rattle.std.specs.Fn.{FnOnceReturnsAt, FnOnceReturnsAtMut};
 ghost use Rattle.lot_base.specs.Clocks.{HasElapsed, HasPassed};
 ghost use Rattle.lock_raw.specs.Answers.{IsFull, TriesOrFull, answer_by, counted_answer};
+ghost use Rattle.lock_api.specs.Visits.{CameAndWent};
 ghost use Rattle.lock_api_rw.specs.Guards.{lock_of};
 ghost use Rattle.lot_calls.specs.declared.calls.Access.TheVariants as access;
 ghost use Rattle.lot_calls.specs.declared.calls.Patience.TheVariants.{Patient, Timed};
@@ -45,9 +46,8 @@ impl<R: RawRwLock, T> RwLock<R, T> {
         ensures ran { MatchResult result
             (λ answer. (found : T) × FnOnceReturnsAt F.FnOnce f found answer) IsFull }
         ensures path { MatchResult result
-            (λ _. (inside : R.Token)
-            × R.walked self.now (Enter access.Shared Patient) answers.Ok token.old inside
-            × R.walked self.now (Release access.Shared) answers.Ok inside token.new)
+            (λ _. CameAndWent (R.walked self.now) (R.woke self.now)
+            (Enter access.Shared Patient) answers.Ok (Release access.Shared) token.old token.new)
             (λ _. R.walked self.now
             (Enter access.Shared Patient) answers.ReadersFull token.old token.new) }
         ensures full { IfErr result (λ _. R.saw_full self.now access.Shared token.old token.new) }
@@ -74,9 +74,9 @@ impl<R: RawRwLock, T> RwLock<R, T> {
         requires callable { F.IsAlwaysCallable f }
         ensures token { R.is_token_of (R.lot_of self.now) token.new × R.stays token.old token.new }
         ensures ran { (found : T) × (left : T) × FnOnceReturnsAtMut F.FnOnce f found result left }
-        ensures path { (inside : R.Token)
-            × R.walked self.now (Enter access.Exclusive Patient) answers.Ok token.old inside
-            × R.walked self.now (Release access.Exclusive) answers.Ok inside token.new }
+        ensures path { CameAndWent (R.walked self.now) (R.woke self.now)
+            (Enter access.Exclusive Patient) answers.Ok (Release access.Exclusive)
+            token.old token.new }
     {
         let mut guard = self.write(rt, token);
         let answer = run_on(&mut *guard, f);

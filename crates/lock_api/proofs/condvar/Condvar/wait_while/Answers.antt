@@ -1,6 +1,8 @@
-use Rattle.std.proofs.Common.{◌∙◌, inl, refl, of_calls}
+use Rattle.std.proofs.Common.{◌∙◌, inl, refl, of_calls, false}
 use denote.Param.Members.{was_Called}
 use Rattle.lock_api.proofs.Stays.{stays_behind}
+use Rattle.lock_api.proofs.WaitsOn.{waits_on, with_given}
+use Rattle.lot_calls.specs.declared.outcomes.Answer.TheVariants as answers
 use Rattle.lock_api.proofs.condvar.Condvar.wait_while.Goals as goal
 
 pub loop-init : goal.loop-init
@@ -8,6 +10,7 @@ loop-init g c = record {
   turns = (tt, tt);
   thread = c.requires.token;
   stays = inl refl;
+  waits = (0, refl);
   guard = refl;
   callable = search of_calls;
   kept = λ _. refl;
@@ -18,6 +21,7 @@ loop-preserved g c = record {
   turns = (tt, tt);
   thread = c.in-Ok.ensures.token.0;
   stays = stays_behind g.R.RawMutex.RawMutex.stays g.R.RawMutex.RawMutex.stays_on _ _ _ c.loop.invariant.stays c.in-Ok.ensures.token.1;
+  waits = waits_on (λ mutex. g.R.RawCondvar.waited c.args.self.now mutex false answers.Ok) _ _ _ _ _ c.loop.invariant.guard c.loop.invariant.waits c.in-Ok.ensures.path;
   guard = c.in-Ok.ensures.guard ∙ c.loop.invariant.guard;
   callable = search of_calls;
   kept = λ stays. stays _ _ _ (was_Called g.F.FnMut c.args.condition c.loop.condition _ _ _ c.condition.new.self c.condition.ensures.met (c.loop.invariant.kept stays) refl);
@@ -26,3 +30,7 @@ loop-preserved g c = record {
 pub returns-in-Err-clause-token : goal.returns-in-Err-clause-token
 returns-in-Err-clause-token g c =
     (c.in-Err.ensures.token.0, stays_behind g.R.RawMutex.RawMutex.stays g.R.RawMutex.RawMutex.stays_on _ _ _ c.loop.invariant.stays c.in-Err.ensures.token.1)
+
+pub returns-in-Err-clause-path : goal.returns-in-Err-clause-path
+returns-in-Err-clause-path g c =
+    (_, c.loop.invariant.waits, with_given (λ mutex. g.R.RawCondvar.waited c.args.self.now mutex false answers.TwoMutexes) _ _ _ _ c.loop.invariant.guard c.in-Err.ensures.path)

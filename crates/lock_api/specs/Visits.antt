@@ -1,0 +1,12 @@
+-- What a thread did that came in and went again.
+use Rattle.lot_calls.specs.declared.outcomes.Answer.{Answer}
+use Rattle.lot_calls.specs.declared.outcomes.Answer.TheVariants as answers
+
+-- it came in by one call, with this answer, and went by another, which has woken whom it lets in:
+-- of the steps of calls and of what releases have woken, as the lock tells both
+abbrev pub CameAndWent : {Token Call : Type 0} → (Call → Answer → Token → Token → Type 0)
+    → (Call → Token → Token → Type 0) → Call → Answer → Call → Token → Token → Type 0
+CameAndWent {Token = Token} walked woke entry answer release old new = (inside : Token)
+    × walked entry answer old inside
+    × walked release answers.Ok inside new
+    × woke release inside new
