@@ -1,4 +1,6 @@
 //! The system's monotonic clock.
+ghost use Rattle.std.specs.Prelude.{◌≤◌};
+
 use crate::clocks::Clock;
 use std::sync::atomic::AtomicU64;
 use std::sync::atomic::Ordering::SeqCst;
@@ -29,7 +31,9 @@ impl<R: SystemTimes> SystemClock<R> {
     }
 
     // The next slice. It begins anew where more is left than before, as at another sleep.
-    fn next_slice(&self, left: u64) -> u64 {
+    fn next_slice(&self, left: u64) -> u64
+        ensures { result ≤ 1000000 }
+    {
         let before = self.left.swap(left, SeqCst);
         let slice = if left < before {
             self.slice.load(SeqCst).min(LONGEST / 2) * 2
