@@ -34,6 +34,10 @@ StaysKnowing n old new = (new.number ≡ old.number) × OwnsKnowing n (owns_of o
 abbrev pub SawDone : ℕ → Token → Token → Type 0
 SawDone n old new = KnowsIt n (owns_of old) (owns_of new)
 
+-- the value of a cell was there, and its thread took no step, or knows that its `Once` is done
+abbrev pub FoundOrMade : ℕ → Token → Token → Type 0
+FoundOrMade n old new = (new ≡ old) ⊎ SawDone n old new
+
 -- its one step, which begins a run, saw that somebody had stepped on the word before
 abbrev pub MissedStart : ℕ → Token → Token → Type 0
 MissedStart n old new = (seen : ℕ) × (seen ≢ 0)

@@ -1,5 +1,5 @@
 //! `OnceCell`: a value that the first who asks for it makes.
-ghost use Rattle.std.specs.Prelude.{◌≡◌, ◌⊎◌, ◌∷◌, [], Ok, Err, MatchResult};
+ghost use Rattle.std.specs.Prelude.{◌≡◌, ◌⊎◌, ◌∷◌, [], Err, IfErr, IfOk, MatchResult};
 ghost use Rattle.std.specs.Arc.{arc_value};
 ghost use Rattle.lot_words.specs.Draws.{IsDrawn, IsDrawRefused};
 ghost use Rattle.lot_words.specs.declared.words.WordKind.TheVariants as kinds;
@@ -31,7 +31,7 @@ impl<T> Model for OnceCell<T> {
 }
 
 impl<T: Drop> OnceCell<T> {
-    ghost use Rattle.run_once.specs.Ran.{StaysKnowing};
+    ghost use Rattle.run_once.specs.Ran.{FoundOrMade, SawDone, StaysKnowing};
     ghost use Rattle.run_once.specs.Users.{lot_of, number_of};
 
     /// A cell that is empty.
@@ -93,7 +93,8 @@ impl<T: Drop> OnceCell<T> {
         requires callable { F.IsAlwaysCallable f }
         ensures token { IsTokenOf (lot_of self.now) token.new
             × StaysKnowing (number_of self.now) token.old token.new }
-        ensures failed { MatchResult result (λ value. Unit {0}) (λ error. F.post f (Err error)) }
+        ensures failed { IfErr result (λ error. F.post f (Err error)) }
+        ensures made { IfOk result (λ _. FoundOrMade (number_of self.now) token.old token.new) }
     {
         if let Some(value) = self.value.get() {
             return Ok(value);
@@ -113,6 +114,7 @@ impl<T: Drop> OnceCell<T> {
         requires callable { F.IsAlwaysCallable f }
         ensures token { IsTokenOf (lot_of self.now) token.new
             × StaysKnowing (number_of self.now) token.old token.new }
+        ensures made { FoundOrMade (number_of self.now) token.old token.new }
     {
         match self.get_or_try_init(rt, token, move || Ok::<T, Infallible>(f())) {
             Ok(value) => value,
@@ -132,7 +134,8 @@ impl<T: Drop> OnceCell<T> {
         requires callable { F.IsAlwaysCallable f }
         ensures token { IsTokenOf (lot_of self.now) token.new
             × StaysKnowing (number_of self.now) token.old token.new }
-        ensures failed { MatchResult result (λ value. Unit {0}) (λ error. F.post f (Err error)) }
+        ensures ended { MatchResult result (λ _. SawDone (number_of self.now) token.old token.new)
+            (λ error. F.post f (Err error)) }
     {
         let value = &self.value;
         let ran = self.made.call_once_force(rt, token, move |_| {
