@@ -17,7 +17,8 @@ use crate::mutexes::{
 };
 use crate::plans::{Mode, Plan};
 use crate::rwlocks::{
-    RWLOCKS, RwLocks, operate_raw, operate_value, read_value, rwlocks_of, value_in,
+    RWLOCKS, RwLocks, come_upgradable, downgrade_value, mix_value, read_raw, read_value,
+    rwlocks_of, upgrade_value, value_in, write_raw, write_value,
 };
 use crate::shares::Shares;
 use parking_lot::{Fault, Once, ParkingLot, Ticket, Token};
@@ -131,40 +132,28 @@ fn call_once<R: Wait>(rt: &R, once: &Once, token: &mut Token, times: u64)
     }
 }
 
-// Does so many operations of a mutex.
-fn operate_mutex<R: Wait>(rt: &R, mode: Mode, mutexes: &Mutexes, token: &mut Token, times: u64)
-    requires { IsTokenOf (lot_of mutexes.now.raw) token.old }
-    ensures { IsTokenOf (lot_of mutexes.now.raw) token.new }
+// Does so many operations.
+fn operate<R: Wait>(rt: &R, mode: Mode, bench: &Bench, token: &mut Token, times: u64)
+    requires { IsTokenOf (lot_of bench.now.mutexes.value.raw) token.old }
+    ensures { IsTokenOf (lot_of bench.now.mutexes.value.raw) token.new }
 {
+    let mutexes = &bench.mutexes;
+    let rwlocks = &bench.rwlocks;
     match mode {
         Mode::RawMutex => lock_raw(rt, &mutexes.raw, token, times),
         Mode::RawMutexTry => try_raw(rt, &mutexes.raw, token, times),
         Mode::Mutex => lock_value(rt, &mutexes.value, token, times),
         Mode::MutexTry => try_value(rt, &mutexes.value, token, times),
         Mode::Fair => lock_value(rt, &mutexes.fair, token, times),
-        _ => (),
-    }
-}
-
-// Does so many operations.
-fn operate<R: Wait>(rt: &R, mode: Mode, bench: &Bench, token: &mut Token, times: u64)
-    requires { IsTokenOf (lot_of bench.now.mutexes.value.raw) token.old }
-    ensures { IsTokenOf (lot_of bench.now.mutexes.value.raw) token.new }
-{
-    match mode {
-        Mode::RawMutex | Mode::RawMutexTry | Mode::Mutex | Mode::MutexTry | Mode::Fair => {
-            operate_mutex(rt, mode, &bench.mutexes, token, times);
-        }
-        Mode::RawRead | Mode::RawWrite => {
-            operate_raw(rt, mode, &bench.rwlocks.raw, token, times);
-        }
-        Mode::Read
-        | Mode::Write
-        | Mode::RwMix
-        | Mode::Upgradable
-        | Mode::Upgrade
-        | Mode::Downgrade => operate_value(rt, mode, &bench.rwlocks.value, token, times),
-        Mode::ReadRecursive => read_value(rt, &bench.rwlocks.recursive, token, times),
+        Mode::RawRead => read_raw(rt, &rwlocks.raw, token, times),
+        Mode::RawWrite => write_raw(rt, &rwlocks.raw, token, times),
+        Mode::Read => read_value(rt, &rwlocks.value, token, times),
+        Mode::Write => write_value(rt, &rwlocks.value, token, times),
+        Mode::RwMix => mix_value(rt, &rwlocks.value, token, times),
+        Mode::ReadRecursive => read_value(rt, &rwlocks.recursive, token, times),
+        Mode::Upgradable => come_upgradable(rt, &rwlocks.value, token, times),
+        Mode::Upgrade => upgrade_value(rt, &rwlocks.value, token, times),
+        Mode::Downgrade => downgrade_value(rt, &rwlocks.value, token, times),
         Mode::Once => call_once(rt, &bench.done, token, times),
         Mode::Notify => notify_nobody(rt, &bench.desk.filled, token, times),
         // These share no operations in batches.

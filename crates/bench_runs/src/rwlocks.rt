@@ -5,7 +5,6 @@ ghost use Rattle.parking_lot.specs.RwLockUsers.{lot_of};
 ghost use Rattle.parking_lot_core.specs.Tokens.{IsTokenOf};
 
 use crate::made::{both, unless_refused};
-use crate::plans::Mode;
 use parking_lot::lock_raw::{RawRwLock as RawLock, RawRwLockDowngrade, RawRwLockUpgrade};
 use parking_lot::{Fault, ParkingLot, RawRwLock, RecursiveRwLock, RwLock, Token, lock_api_rw};
 use std::sync::{Arc, Wait};
@@ -51,7 +50,7 @@ pub(crate) fn value_in<R: Wait>(rt: &R, lock: &RwLock<u64>, token: &mut Token) -
 
 /// Comes in to read and leaves, so many times.
 #[inline(never)]
-fn read_raw<L: RawLock, R: Wait>(rt: &R, lock: &L, token: &mut L::Token, times: u64)
+pub(crate) fn read_raw<L: RawLock, R: Wait>(rt: &R, lock: &L, token: &mut L::Token, times: u64)
     requires { L.is_token_of (L.lot_of lock.now) token.old }
     ensures { L.is_token_of (L.lot_of lock.now) token.new }
 {
@@ -63,7 +62,7 @@ fn read_raw<L: RawLock, R: Wait>(rt: &R, lock: &L, token: &mut L::Token, times: 
 }
 
 #[inline(never)]
-fn write_raw<L: RawLock, R: Wait>(rt: &R, lock: &L, token: &mut L::Token, times: u64)
+pub(crate) fn write_raw<L: RawLock, R: Wait>(rt: &R, lock: &L, token: &mut L::Token, times: u64)
     requires { L.is_token_of (L.lot_of lock.now) token.old }
     ensures { L.is_token_of (L.lot_of lock.now) token.new }
 {
@@ -112,7 +111,7 @@ pub(crate) fn read_value<L: RawLock, R: Wait>(
 
 /// Adds 1 to the value.
 #[inline(never)]
-fn write_value<L: RawLock, R: Wait>(
+pub(crate) fn write_value<L: RawLock, R: Wait>(
     rt: &R,
     lock: &lock_api_rw::RwLock<L, u64>,
     token: &mut L::Token,
@@ -128,7 +127,7 @@ fn write_value<L: RawLock, R: Wait>(
 
 /// Reads the value, and adds 1 to it now and then.
 #[inline(never)]
-fn mix_value<L: RawLock, R: Wait>(
+pub(crate) fn mix_value<L: RawLock, R: Wait>(
     rt: &R,
     lock: &lock_api_rw::RwLock<L, u64>,
     token: &mut L::Token,
@@ -148,7 +147,7 @@ fn mix_value<L: RawLock, R: Wait>(
 
 /// Comes in to read and perhaps write, and leaves.
 #[inline(never)]
-fn come_upgradable<L: RawRwLockUpgrade, R: Wait>(
+pub(crate) fn come_upgradable<L: RawRwLockUpgrade, R: Wait>(
     rt: &R,
     lock: &lock_api_rw::RwLock<L, u64>,
     token: &mut L::Token,
@@ -167,7 +166,7 @@ fn come_upgradable<L: RawRwLockUpgrade, R: Wait>(
 
 /// Comes in to read, upgrades, and adds 1 to the value.
 #[inline(never)]
-fn upgrade_value<L: RawRwLockUpgrade, R: Wait>(
+pub(crate) fn upgrade_value<L: RawRwLockUpgrade, R: Wait>(
     rt: &R,
     lock: &lock_api_rw::RwLock<L, u64>,
     token: &mut L::Token,
@@ -187,7 +186,7 @@ fn upgrade_value<L: RawRwLockUpgrade, R: Wait>(
 
 /// Adds 1 to the value, and reads on.
 #[inline(never)]
-fn downgrade_value<L: RawRwLockDowngrade, R: Wait>(
+pub(crate) fn downgrade_value<L: RawRwLockDowngrade, R: Wait>(
     rt: &R,
     lock: &lock_api_rw::RwLock<L, u64>,
     token: &mut L::Token,
@@ -200,45 +199,5 @@ fn downgrade_value<L: RawRwLockDowngrade, R: Wait>(
         let mut guard = lock.write(rt, token);
         *guard = guard.wrapping_add(1);
         guard.downgrade(rt, token).unlock(rt, token);
-    }
-}
-
-/// Does so many operations of a lock without a value, in a mode that has such.
-pub(crate) fn operate_raw<L: RawLock, R: Wait>(
-    rt: &R,
-    mode: Mode,
-    lock: &L,
-    token: &mut L::Token,
-    times: u64,
-)
-    requires { L.is_token_of (L.lot_of lock.now) token.old }
-    ensures { L.is_token_of (L.lot_of lock.now) token.new }
-{
-    match mode {
-        Mode::RawRead => read_raw(rt, lock, token, times),
-        Mode::RawWrite => write_raw(rt, lock, token, times),
-        _ => (),
-    }
-}
-
-/// Does so many operations of a lock with a value, in a mode that has such.
-pub(crate) fn operate_value<L: RawRwLockUpgrade + RawRwLockDowngrade, R: Wait>(
-    rt: &R,
-    mode: Mode,
-    lock: &lock_api_rw::RwLock<L, u64>,
-    token: &mut L::Token,
-    times: u64,
-)
-    requires { L.is_token_of (L.lot_of lock.now) token.old }
-    ensures { L.is_token_of (L.lot_of lock.now) token.new }
-{
-    match mode {
-        Mode::Read => read_value(rt, lock, token, times),
-        Mode::Write => write_value(rt, lock, token, times),
-        Mode::RwMix => mix_value(rt, lock, token, times),
-        Mode::Upgradable => come_upgradable(rt, lock, token, times),
-        Mode::Upgrade => upgrade_value(rt, lock, token, times),
-        Mode::Downgrade => downgrade_value(rt, lock, token, times),
-        _ => (),
     }
 }
