@@ -2,9 +2,10 @@
 mod alone;
 mod many;
 mod queues;
+mod rooms;
 mod two;
 
-ghost use Rattle.std.specs.Prelude.{◌≡◌, ◌<◌, ◌≤◌, All, IfOk, IfSome};
+ghost use Rattle.std.specs.Prelude.{◌≡◌, ◌<◌, ◌≤◌, All, IfSome};
 ghost use Rattle.std.specs.Arc.{arc_value};
 ghost use Rattle.parking_lot.specs.CondvarUsers.{lot_of as condvar_lot};
 ghost use Rattle.parking_lot.specs.Users.{IsTicketOf, IsTokenOf, lock_of, lot_of};
@@ -13,10 +14,7 @@ use parking_lot::{Clock, Condvar, Fault, Mutex, MutexGuard, ParkingLot, TickCloc
 use std::alloc::Global;
 use std::fmt::Debug;
 use std::process::Abort;
-use std::sync::atomic::AtomicBool;
-use std::sync::atomic::Ordering::SeqCst;
 use std::sync::{Arc, Wait};
-use std::thread::yield_now;
 use std::time::Duration;
 
 // What was found is what was wanted. All tests share this one assertion, since each is proved where
@@ -40,63 +38,6 @@ fn is_just_past(clock: &TickClock, time: u64) -> bool
 
 const TURNS: usize = 1_000_000;
 
-// A value under a mutex, and a condition variable of the same lot.
-#[derive(Drop)]
-struct Room<T: Drop> {
-    mutex: Mutex<T>,
-    condvar: Condvar,
-    ghost together: { condvar_lot condvar ≡ lot_of mutex },
-}
-
-impl<T: Drop> Room<T> {
-    fn new(lot: &Arc<ParkingLot>, token: &mut Token, value: T) -> Result<Room<T>, Fault>
-        requires { IsTokenOf (arc_value lot.now) token.old }
-        ensures token { IsTokenOf (arc_value lot.now) token.new }
-        ensures made { IfOk result (λ room. lot_of room.mutex ≡ arc_value lot.now) }
-    {
-        let condvar = Condvar::new(lot, token)?;
-        match Mutex::new(lot, token, value) {
-            Ok(mutex) => Ok(Room { mutex, condvar }),
-            Err((fault, _)) => Err(fault),
-        }
-    }
-}
-
-// A lot of so many words and threads, the token of the first thread, and the tickets of the others.
-fn seats(
-    alloc: Global,
-    words: usize,
-    threads: usize,
-) -> Result<(Arc<ParkingLot>, Token, Vec<Ticket>), Fault>
-    requires words { (0 < words) × (words ≤ 1048576) }
-    requires threads { (0 < threads) × (threads ≤ 1024) }
-    ensures { IfOk result
-        (λ made. IsTokenOf (arc_value made.0) made.1
-        × All (IsTicketOf (arc_value made.0)) made.2.items) }
-{
-    let (lot, mut tickets) = ParkingLot::new(alloc, words, threads)?;
-    let Some(first) = tickets.pop() else {
-        return Err(Fault::NoMemory);
-    };
-    Ok((lot, first.enter(), tickets))
-}
-
-// The same with a room.
-fn room_for<T: Drop>(
-    alloc: Global,
-    threads: usize,
-    value: T,
-) -> Result<(Arc<ParkingLot>, Room<T>, Token, Vec<Ticket>), Fault>
-    requires { (0 < threads) × (threads ≤ 1024) }
-    ensures { IfOk result
-        (λ made. (lot_of made.1.mutex ≡ arc_value made.0) × IsTokenOf (arc_value made.0) made.2
-        × All (IsTicketOf (arc_value made.0)) made.3.items) }
-{
-    let (lot, mut token, tickets) = seats(alloc, 2, threads)?;
-    let room = Room::new(&lot, &mut token, value)?;
-    Ok((lot, room, token, tickets))
-}
-
 fn next_of(lot: &ParkingLot, tickets: &mut Vec<Ticket>) -> Option<Ticket>
     requires { All (IsTicketOf lot.now) tickets.old.items }
     ensures left { All (IsTicketOf lot.now) tickets.new.items }
@@ -105,118 +46,121 @@ fn next_of(lot: &ParkingLot, tickets: &mut Vec<Ticket>) -> Option<Ticket>
     tickets.pop()
 }
 
-// Two of the tickets.
-fn next_pair(lot: &ParkingLot, tickets: &mut Vec<Ticket>) -> Option<(Ticket, Ticket)>
-    requires { All (IsTicketOf lot.now) tickets.old.items }
-    ensures left { All (IsTicketOf lot.now) tickets.new.items }
-    ensures pair { IfSome result (λ pair. IsTicketOf lot.now pair.0 × IsTicketOf lot.now pair.1) }
+// A lot of three words and so many threads, the token of the first thread, and the tickets of the
+// others. What makes lots and what is in them gives up where memory is refused, so that no test has
+// anything to drop in its midst.
+fn seats<A: Abort>(rt: &A, alloc: Global, threads: usize) -> (Arc<ParkingLot>, Token, Vec<Ticket>)
+    requires { (0 < threads) × (threads ≤ 1024) }
+    ensures { IsTokenOf (arc_value result.0) result.1
+        × All (IsTicketOf (arc_value result.0)) result.2.items }
 {
-    let one = next_of(lot, tickets)?;
-    let other = next_of(lot, tickets)?;
-    Some((one, other))
+    let Ok((lot, mut tickets)) = ParkingLot::new(alloc, 3, threads) else {
+        panic!(rt; "no lot");
+    };
+    match next_of(&lot, &mut tickets) {
+        Some(first) => (lot, first.enter(), tickets),
+        None => panic!(rt; "no seat"),
+    }
 }
 
-// A room for three threads: the token of the first, and the tickets of two that meet there.
-fn room_for_two<T: Drop>(
-    alloc: Global,
+fn mutex_of<T: Drop, A: Abort>(
+    rt: &A,
+    lot: &Arc<ParkingLot>,
+    token: &mut Token,
     value: T,
-) -> Result<(Arc<ParkingLot>, Room<T>, Token, (Ticket, Ticket)), Fault>
-    ensures { IfOk result
-        (λ made. (lot_of made.1.mutex ≡ arc_value made.0) × IsTokenOf (arc_value made.0) made.2
-        × IsTicketOf (arc_value made.0) made.3.0 × IsTicketOf (arc_value made.0) made.3.1) }
+) -> Mutex<T>
+    requires { IsTokenOf (arc_value lot.now) token.old }
+    ensures token { IsTokenOf (arc_value lot.now) token.new }
+    ensures mutex { lot_of result ≡ arc_value lot.now }
 {
-    let (lot, room, token, mut others) = room_for(alloc, 3, value)?;
-    match next_pair(&lot, &mut others) {
-        Some(tickets) => Ok((lot, room, token, tickets)),
-        None => Err(Fault::NoMemory),
+    match Mutex::new(lot, token, value) {
+        Ok(mutex) => mutex,
+        Err(_) => panic!(rt; "no mutex"),
     }
 }
 
-fn await_flag<R: Wait>(rt: &R, flag: &AtomicBool) {
-    for _ in rt.forever() {
-        if flag.load(SeqCst) {
-            break;
-        }
-        yield_now();
+fn condvar_of<A: Abort>(rt: &A, lot: &Arc<ParkingLot>, token: &mut Token) -> Condvar
+    requires { IsTokenOf (arc_value lot.now) token.old }
+    ensures token { IsTokenOf (arc_value lot.now) token.new }
+    ensures condvar { condvar_lot result ≡ arc_value lot.now }
+{
+    match Condvar::new(lot, token) {
+        Ok(condvar) => condvar,
+        Err(_) => panic!(rt; "no condition variable"),
     }
 }
 
-// Whether so many came to wait for the mutex, or on the condition variable, by the key of its
-// queue.
-fn stand_under<R: Wait>(
+// How long a thread waits: for so many nanoseconds, or up to a deadline.
+#[derive(Clone, Copy)]
+enum Limit {
+    None,
+    For(u64),
+    Until(u64),
+}
+
+// How a wait ended.
+#[derive(Clone, Copy)]
+enum Ended {
+    Notified,
+    Late,
+    Refused(Fault),
+}
+
+impl Ended {
+    fn by_time(late: bool) -> Ended {
+        if late { Ended::Late } else { Ended::Notified }
+    }
+
+    fn is_notified(self) -> bool {
+        matches!(self, Ended::Notified)
+    }
+
+    fn is_late(self) -> bool {
+        matches!(self, Ended::Late)
+    }
+}
+
+// Waits without a limit.
+fn wait_long<'m, T, R: Wait>(
     rt: &R,
-    lot: &ParkingLot,
+    condvar: &Condvar,
     token: &mut Token,
-    key: usize,
-    threads: usize,
-) -> bool
-    requires { IsTokenOf lot.now token.old }
-    ensures { IsTokenOf lot.now token.new }
+    guard: MutexGuard<'m, T>,
+) -> (MutexGuard<'m, T>, Ended)
+    requires token { IsTokenOf (lot_of (lock_of guard)) token.old }
+    requires condvar { condvar_lot condvar.now ≡ lot_of (lock_of guard) }
+    ensures token { IsTokenOf (lot_of (lock_of guard.entry)) token.new }
+    ensures guard { lock_of result.0 ≡ lock_of guard.entry }
 {
-    for _ in 0..TURNS {
-        if lot.queued(rt, token, key) == threads {
-            return true;
-        }
-        yield_now();
-    }
-    false
-}
-
-// What the value is, under the mutex.
-fn look<T: Copy + Drop, R: Wait>(rt: &R, room: &Room<T>, token: &mut Token) -> T
-    requires { IsTokenOf (lot_of room.now.mutex) token.old }
-    ensures { IsTokenOf (lot_of room.now.mutex) token.new }
-{
-    room.mutex.with(rt, token, |value: &mut T| *value)
-}
-
-// Waits once. Whether it was notified.
-fn wait_once<T: Drop, R: Wait>(
-    rt: &R,
-    room: &Room<T>,
-    token: &mut Token,
-    guard: MutexGuard<'_, T>,
-) -> bool
-    requires token { IsTokenOf (lot_of room.now.mutex) token.old }
-    requires guard { lot_of (lock_of guard) ≡ lot_of room.now.mutex }
-    ensures { IsTokenOf (lot_of room.now.mutex) token.new }
-{
-    match room.condvar.wait(rt, token, guard) {
-        Ok(guard) => {
-            guard.unlock(rt, token);
-            true
-        }
-        Err((_, guard)) => {
-            guard.unlock(rt, token);
-            false
-        }
+    match condvar.wait(rt, token, guard) {
+        Ok(guard) => (guard, Ended::Notified),
+        Err((fault, guard)) => (guard, Ended::Refused(fault)),
     }
 }
 
-// Waits for so many nanoseconds. Whether its time was up, or nothing where it was refused.
-fn wait_for<R: Wait>(
+// Waits once.
+fn wait<'m, T, R: Wait>(
     rt: &R,
-    room: &Room<u32>,
+    condvar: &Condvar,
     token: &mut Token,
-    guard: MutexGuard<'_, u32>,
+    guard: MutexGuard<'m, T>,
     clock: &TickClock,
-    nanos: u64,
-) -> Option<bool>
-    requires token { IsTokenOf (lot_of room.now.mutex) token.old }
-    requires guard { lot_of (lock_of guard) ≡ lot_of room.now.mutex }
-    ensures { IsTokenOf (lot_of room.now.mutex) token.new }
+    limit: Limit,
+) -> (MutexGuard<'m, T>, Ended)
+    requires token { IsTokenOf (lot_of (lock_of guard)) token.old }
+    requires condvar { condvar_lot condvar.now ≡ lot_of (lock_of guard) }
+    ensures token { IsTokenOf (lot_of (lock_of guard.entry)) token.new }
+    ensures guard { lock_of result.0 ≡ lock_of guard.entry }
 {
-    match room
-        .condvar
-        .wait_for(rt, token, guard, clock, Duration::from_nanos(nanos))
-    {
-        Ok((guard, ended)) => {
-            guard.unlock(rt, token);
-            Some(ended.timed_out())
+    let ended = match limit {
+        Limit::None => return wait_long(rt, condvar, token, guard),
+        Limit::For(nanos) => {
+            condvar.wait_for(rt, token, guard, clock, Duration::from_nanos(nanos))
         }
-        Err((_, guard)) => {
-            guard.unlock(rt, token);
-            None
-        }
+        Limit::Until(deadline) => condvar.wait_until(rt, token, guard, clock, deadline),
+    };
+    match ended {
+        Ok((guard, ended)) => (guard, Ended::by_time(ended.timed_out())),
+        Err((fault, guard)) => (guard, Ended::Refused(fault)),
     }
 }

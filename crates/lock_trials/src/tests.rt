@@ -1,14 +1,15 @@
 //! Mutexes of one thread, of two and of many.
+mod crowds;
 mod fair;
 mod mutexes;
 mod timed;
 
-ghost use Rattle.std.specs.Prelude.{◌≡◌, ◌<◌, ◌≤◌, All, IfOk, IfSome};
+ghost use Rattle.std.specs.Prelude.{◌≡◌, ◌<◌, ◌≤◌, All, IfSome};
 ghost use Rattle.std.specs.Arc.{arc_value};
 ghost use Rattle.parking_lot_core.specs.Tokens.{IsTicketOf, IsTokenOf};
 ghost use Rattle.parking_lot.specs.Users.{lot_of};
 
-use parking_lot::{Fault, Mutex, ParkingLot, Ticket, Token};
+use parking_lot::{FairMutex, Mutex, ParkingLot, Ticket, Token};
 use std::alloc::Global;
 use std::fmt::Debug;
 use std::process::Abort;
@@ -25,65 +26,91 @@ fn holds(rt: &impl Abort, truth: bool) {
     assert!(rt; truth);
 }
 
-// A lot of one word and so many threads, with the token of the first and the tickets of the others.
-fn seats(alloc: Global, threads: usize) -> Result<(Arc<ParkingLot>, Token, Vec<Ticket>), Fault>
-    requires { (0 < threads) × (threads ≤ 1024) }
-    ensures { IfOk result (λ made. IsTokenOf (arc_value made.0) made.1
-        × All (IsTicketOf (arc_value made.0)) made.2.items) }
-{
-    let (lot, mut tickets) = ParkingLot::new(alloc, 1, threads)?;
-    let Some(first) = tickets.pop() else {
-        return Err(Fault::NoMemory);
-    };
-    Ok((lot, first.enter(), tickets))
-}
-
-// A lot of one word, with its one thread.
-fn lone(alloc: Global) -> Result<(Arc<ParkingLot>, Token), Fault>
-    ensures { IfOk result (λ made. IsTokenOf (arc_value made.0) made.1) }
-{
-    let (lot, token, _others) = seats(alloc, 1)?;
-    Ok((lot, token))
-}
-
-// A mutex of a lot. The value is dropped where it is refused.
-fn mutex_of<T: Drop>(lot: &Arc<ParkingLot>, token: &mut Token, value: T) -> Result<Mutex<T>, Fault>
-    requires { IsTokenOf (arc_value lot.now) token.old }
-    ensures token { IsTokenOf (arc_value lot.now) token.new }
-    ensures made { IfOk result (λ mutex. lot_of mutex ≡ arc_value lot.now) }
-{
-    match Mutex::new(lot, token, value) {
-        Ok(mutex) => Ok(mutex),
-        Err((fault, _)) => Err(fault),
-    }
-}
-
-// A mutex that one thread has for itself.
-fn mutex_alone<T: Drop>(alloc: Global, value: T) -> Result<(Mutex<T>, Token), Fault>
-    ensures { IfOk result (λ made. IsTokenOf (lot_of made.0) made.1) }
-{
-    let (lot, mut token) = lone(alloc)?;
-    let mutex = mutex_of(&lot, &mut token, value)?;
-    Ok((mutex, token))
-}
-
 fn next_of(lot: &ParkingLot, tickets: &mut Vec<Ticket>) -> Option<Ticket>
     requires { All (IsTicketOf lot.now) tickets.old.items }
-    ensures { IfSome result (IsTicketOf lot.now) }
+    ensures left { All (IsTicketOf lot.now) tickets.new.items }
+    ensures one { IfSome result (IsTicketOf lot.now) }
 {
     tickets.pop()
 }
 
-// A lot of one word, with two threads, and its mutex.
-fn pair(alloc: Global) -> Result<(Arc<ParkingLot>, Mutex<u8>, Token, Token), Fault>
-    ensures { IfOk result
-        (λ made. (lot_of made.1 ≡ arc_value made.0) × IsTokenOf (arc_value made.0) made.2
-        × IsTokenOf (arc_value made.0) made.3) }
+// A lot of so many words and threads, with the token of the first and the tickets of the others.
+// What makes lots and mutexes gives up where memory is refused, so that no test has anything to
+// drop in its midst.
+fn seats<A: Abort>(
+    rt: &A,
+    alloc: Global,
+    words: usize,
+    threads: usize,
+) -> (Arc<ParkingLot>, Token, Vec<Ticket>)
+    requires { (0 < words) × (words ≤ 100) × (0 < threads) × (threads ≤ 1024) }
+    ensures { IsTokenOf (arc_value result.0) result.1
+        × All (IsTicketOf (arc_value result.0)) result.2.items }
 {
-    let (lot, mut token, mut others) = seats(alloc, 2)?;
-    let mutex = mutex_of(&lot, &mut token, 0)?;
-    match next_of(&lot, &mut others) {
-        Some(other) => Ok((lot, mutex, token, other.enter())),
-        None => Err(Fault::NoMemory),
+    let Ok((lot, mut tickets)) = ParkingLot::new(alloc, words, threads) else {
+        panic!(rt; "no lot");
+    };
+    match next_of(&lot, &mut tickets) {
+        Some(first) => (lot, first.enter(), tickets),
+        None => panic!(rt; "no seat"),
     }
+}
+
+// A lot of one word, with its one thread.
+fn lone<A: Abort>(rt: &A, alloc: Global) -> (Arc<ParkingLot>, Token)
+    ensures { IsTokenOf (arc_value result.0) result.1 }
+{
+    let (lot, token, _others) = seats(rt, alloc, 1, 1);
+    (lot, token)
+}
+
+// A mutex of a lot.
+fn mutex_of<T: Drop, A: Abort>(
+    rt: &A,
+    lot: &Arc<ParkingLot>,
+    token: &mut Token,
+    value: T,
+) -> Mutex<T>
+    requires { IsTokenOf (arc_value lot.now) token.old }
+    ensures token { IsTokenOf (arc_value lot.now) token.new }
+    ensures mutex { lot_of result ≡ arc_value lot.now }
+{
+    match Mutex::new(lot, token, value) {
+        Ok(mutex) => mutex,
+        Err(_) => panic!(rt; "no mutex"),
+    }
+}
+
+fn fair_mutex_of<T: Drop, A: Abort>(
+    rt: &A,
+    lot: &Arc<ParkingLot>,
+    token: &mut Token,
+    value: T,
+) -> FairMutex<T>
+    requires { IsTokenOf (arc_value lot.now) token.old }
+    ensures token { IsTokenOf (arc_value lot.now) token.new }
+    ensures mutex { lot_of result ≡ arc_value lot.now }
+{
+    match FairMutex::new(lot, token, value) {
+        Ok(mutex) => mutex,
+        Err(_) => panic!(rt; "no fair mutex"),
+    }
+}
+
+// A mutex that one thread has for itself.
+fn mutex_alone<T: Drop, A: Abort>(rt: &A, alloc: Global, value: T) -> (Mutex<T>, Token)
+    ensures { IsTokenOf (lot_of result.0) result.1 }
+{
+    let (lot, mut token) = lone(rt, alloc);
+    let mutex = mutex_of(rt, &lot, &mut token, value);
+    (mutex, token)
+}
+
+// A fair mutex that one thread has for itself.
+fn fair_mutex_alone<A: Abort>(rt: &A, alloc: Global, value: u64) -> (FairMutex<u64>, Token)
+    ensures { IsTokenOf (lot_of result.0) result.1 }
+{
+    let (lot, mut token) = lone(rt, alloc);
+    let mutex = fair_mutex_of(rt, &lot, &mut token, value);
+    (mutex, token)
 }

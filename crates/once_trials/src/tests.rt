@@ -1,22 +1,20 @@
 //! Calls of one `Once`, by one thread and by many.
 mod cells;
+mod crowds;
 mod meets;
 
-ghost use Rattle.std.specs.Prelude.{◌≡◌, ◌<◌, ◌≤◌, All, IfOk};
+ghost use Rattle.std.specs.Prelude.{◌≡◌, ◌<◌, ◌≤◌, All, IfSome};
 ghost use Rattle.std.specs.Arc.{arc_value};
-ghost use Rattle.std.specs.Fork.{AcceptsJobs};
 ghost use Rattle.run_once.specs.Users.{IsTicketOf, IsTokenOf, lot_of};
 
 use parking_lot_core::{Fault, ParkingLot, Ticket, Token};
-use run_once::{Once, OnceFault, OnceState};
+use run_once::{Once, OnceCell, OnceFault, OnceState};
 use std::alloc::Global;
 use std::fmt::Debug;
 use std::process::Abort;
 use std::sync::atomic::Ordering::SeqCst;
 use std::sync::atomic::{AtomicBool, AtomicUsize};
 use std::sync::{Arc, Wait};
-use std::test::Fail;
-use std::thread::{Threads, map_vec};
 
 /// What was found is what was wanted. The tests share this one assertion, since each is proved
 /// where it stands.
@@ -29,41 +27,62 @@ fn holds(rt: &impl Abort, truth: bool) {
     assert!(rt; truth);
 }
 
-// A lot of one word with so many threads, the token of the first, and the tickets of the others.
-fn seats(alloc: Global, threads: usize) -> Result<(Arc<ParkingLot>, Token, Vec<Ticket>), Fault>
-    requires { (0 < threads) × (threads ≤ 1024) }
-    ensures { IfOk result
-        (λ made. IsTokenOf (arc_value made.0) made.1
-        × All (IsTicketOf (arc_value made.0)) made.2.items) }
+fn next_of(lot: &ParkingLot, tickets: &mut Vec<Ticket>) -> Option<Ticket>
+    requires { All (IsTicketOf lot.now) tickets.old.items }
+    ensures left { All (IsTicketOf lot.now) tickets.new.items }
+    ensures one { IfSome result (IsTicketOf lot.now) }
 {
-    let (lot, mut tickets) = ParkingLot::new(alloc, 1, threads)?;
-    let Some(first) = tickets.pop() else {
-        return Err(Fault::NoMemory);
-    };
-    Ok((lot, first.enter(), tickets))
+    tickets.pop()
 }
 
-// The same with a `Once`.
-fn once_for(
-    alloc: Global,
-    threads: usize,
-) -> Result<(Arc<ParkingLot>, Once, Token, Vec<Ticket>), Fault>
+// A lot of two words with so many threads, the token of the first, and the tickets of the others.
+// What makes lots and what is in them gives up where memory is refused, so that no test has
+// anything to drop in its midst.
+fn seats<A: Abort>(rt: &A, alloc: Global, threads: usize) -> (Arc<ParkingLot>, Token, Vec<Ticket>)
     requires { (0 < threads) × (threads ≤ 1024) }
-    ensures { IfOk result
-        (λ made. (lot_of made.1 ≡ arc_value made.0) × IsTokenOf (lot_of made.1) made.2
-        × All (IsTicketOf (lot_of made.1)) made.3.items) }
+    ensures { IsTokenOf (arc_value result.0) result.1
+        × All (IsTicketOf (arc_value result.0)) result.2.items }
 {
-    let (lot, mut token, tickets) = seats(alloc, threads)?;
-    let once = Once::new(&lot, &mut token)?;
-    Ok((lot, once, token, tickets))
+    let Ok((lot, mut tickets)) = ParkingLot::new(alloc, 2, threads) else {
+        panic!(rt; "no lot");
+    };
+    match next_of(&lot, &mut tickets) {
+        Some(first) => (lot, first.enter(), tickets),
+        None => panic!(rt; "no seat"),
+    }
+}
+
+// A `Once` of a lot.
+fn once_of<A: Abort>(rt: &A, lot: &Arc<ParkingLot>, token: &mut Token) -> Once
+    requires { IsTokenOf (arc_value lot.now) token.old }
+    ensures token { IsTokenOf (arc_value lot.now) token.new }
+    ensures once { lot_of result ≡ arc_value lot.now }
+{
+    match Once::new(lot, token) {
+        Ok(once) => once,
+        Err(_) => panic!(rt; "no Once"),
+    }
+}
+
+// A cell of a lot.
+fn cell_of<A: Abort>(rt: &A, lot: &Arc<ParkingLot>, token: &mut Token) -> OnceCell<u64>
+    requires { IsTokenOf (arc_value lot.now) token.old }
+    ensures token { IsTokenOf (arc_value lot.now) token.new }
+    ensures cell { lot_of result ≡ arc_value lot.now }
+{
+    match OnceCell::new(lot, token) {
+        Ok(cell) => cell,
+        Err(_) => panic!(rt; "no cell"),
+    }
 }
 
 // A `Once` that one thread has for itself.
-fn once_alone(alloc: Global) -> Result<(Once, Token), Fault>
-    ensures { IfOk result (λ made. IsTokenOf (lot_of made.0) made.1) }
+fn once_alone<A: Abort>(rt: &A, alloc: Global) -> (Once, Token)
+    ensures { IsTokenOf (lot_of result.0) result.1 }
 {
-    let (_lot, once, token, _others) = once_for(alloc, 1)?;
-    Ok((once, token))
+    let (lot, mut token, _others) = seats(rt, alloc, 1);
+    let once = once_of(rt, &lot, &mut token);
+    (once, token)
 }
 
 // How it answers, in a word.
@@ -112,8 +131,8 @@ fn stands(rt: &impl Abort, once: &Once, token: &mut Token, wanted: OnceState)
 }
 
 #[test]
-fn who_calls_first_runs(rt: HostRuntime) -> Result<(), Fail> {
-    let (once, mut token) = once_alone(rt.alloc())?;
+fn who_calls_first_runs(rt: HostRuntime) {
+    let (once, mut token) = once_alone(&rt, rt.alloc());
     let runs = AtomicUsize::new(0);
     stands(&rt, &once, &mut token, OnceState::New);
     answers(&rt, &once, &mut token, &runs, "ok");
@@ -123,18 +142,18 @@ fn who_calls_first_runs(rt: HostRuntime) -> Result<(), Fail> {
     once.wait_force(&rt, &mut token);
     stands(&rt, &once, &mut token, OnceState::Done);
     same(&rt, runs.load(SeqCst), 1);
-    Ok(())
 }
 
 #[test]
-fn what_is_made_done_runs_nothing(rt: HostRuntime) -> Result<(), Fail> {
-    let (lot, mut token, _others) = seats(rt.alloc(), 1)?;
-    let once = Once::new_completed(&lot, &mut token)?;
+fn what_is_made_done_runs_nothing(rt: HostRuntime) {
+    let (lot, mut token, _others) = seats(&rt, rt.alloc(), 1);
+    let Ok(once) = Once::new_completed(&lot, &mut token) else {
+        panic!(rt; "no Once");
+    };
     let runs = AtomicUsize::new(0);
     stands(&rt, &once, &mut token, OnceState::Done);
     answers(&rt, &once, &mut token, &runs, "ok");
     same(&rt, runs.load(SeqCst), 0);
-    Ok(())
 }
 
 // Its closure fails.
@@ -162,8 +181,8 @@ fn mend<R: Wait>(rt: &R, once: &Once, token: &mut Token, poisoned: &AtomicBool) 
 }
 
 #[test]
-fn a_failed_run_poisons(rt: HostRuntime) -> Result<(), Fail> {
-    let (once, mut token) = once_alone(rt.alloc())?;
+fn a_failed_run_poisons(rt: HostRuntime) {
+    let (once, mut token) = once_alone(&rt, rt.alloc());
     let runs = AtomicUsize::new(0);
     let poisoned = AtomicBool::new(false);
     same(&rt, fail(&rt, &once, &mut token), "failed");
@@ -179,48 +198,4 @@ fn a_failed_run_poisons(rt: HostRuntime) -> Result<(), Fail> {
     stands(&rt, &once, &mut token, OnceState::Done);
     answers(&rt, &once, &mut token, &runs, "ok");
     same(&rt, runs.load(SeqCst), 0);
-    Ok(())
-}
-
-// Whether each thread of these tickets is content with what came of its part.
-fn all_are_content<R: Threads + Wait + Sync, F: Fn(Ticket) -> bool + Sync>(
-    rt: &R,
-    tickets: Vec<Ticket>,
-    part: &F,
-) -> bool
-    requires { AcceptsJobs F.Fn part.now tickets.items }
-{
-    map_vec(rt, tickets, part).is_ok_and(|found| found.iter().all(|content| *content))
-}
-
-fn stampede<R: Threads + Wait + Sync>(
-    rt: &R,
-    once: &Once,
-    tickets: Vec<Ticket>,
-    runs: &AtomicUsize,
-) -> bool
-    requires { All (IsTicketOf (lot_of once.now)) tickets.items }
-{
-    all_are_content(
-        rt,
-        tickets,
-        &|ticket: Ticket|
-            requires { IsTicketOf (lot_of once.now) ticket }
-        {
-            let mut token = ticket.enter();
-            let answer = count_run(rt, once, &mut token, runs);
-            drop(token.leave());
-            answer == "ok"
-        },
-    )
-}
-
-#[test]
-fn ten_threads_come_at_once(rt: HostRuntime) -> Result<(), Fail> {
-    let (_lot, once, mut token, others) = once_for(rt.alloc(), 11)?;
-    let runs = AtomicUsize::new(0);
-    holds(&rt, stampede(&rt, &once, others, &runs));
-    same(&rt, runs.load(SeqCst), 1);
-    holds(&rt, once.is_completed(&mut token));
-    Ok(())
 }

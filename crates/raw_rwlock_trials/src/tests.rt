@@ -1,14 +1,17 @@
 //! Raw reader-writer locks of one thread.
+mod crowds;
 mod mixes;
 mod timed;
 
+ghost use Rattle.std.specs.Prelude.{IfOk, IfSome, MatchResult};
 ghost use Rattle.parking_lot_core.specs.Tokens.{IsTokenOf};
-ghost use Rattle.parking_lot.specs.RwLockUsers.{lot_of};
+ghost use Rattle.parking_lot.specs.RwLockGuards.{IsExclusiveOf, IsSharedOf, IsUpgradableOf};
+ghost use Rattle.parking_lot.specs.RwLockUsers.{lot_of, word_of};
 
 use parking_lot::lock_raw::{
     RawRwLock as RawLock, RawRwLockDowngrade, RawRwLockUpgrade, RawRwLockUpgradeDowngrade,
 };
-use parking_lot::{Fault, RawRwLock, Token};
+use parking_lot::{Fault, RawExclusiveGuard, RawRwLock, RawSharedGuard, RawUpgradableGuard, Token};
 use raw_rwlock_fixtures::lock_alone;
 use std::alloc::Global;
 use std::process::Abort;
@@ -20,6 +23,70 @@ fn holds(rt: &impl Abort, truth: bool) {
     assert!(rt; truth);
 }
 
+// Goes, where it came in to read. Whether it had, or nothing where it was refused.
+fn goes<const RECURSIVE: bool, R: Wait>(
+    rt: &R,
+    lock: &RawRwLock<RECURSIVE>,
+    token: &mut Token,
+    came: Result<Option<RawSharedGuard>, Fault>,
+) -> Option<bool>
+    requires token { IsTokenOf (lot_of lock.now) token.old }
+    requires guard { IfOk came
+        (λ came. IfSome came (IsSharedOf (lot_of lock.now) (word_of lock.now))) }
+    ensures { IsTokenOf (lot_of lock.now) token.new }
+{
+    match came {
+        Ok(Some(guard)) => {
+            lock.unlock_shared(rt, token, guard);
+            Some(true)
+        }
+        Ok(None) => Some(false),
+        Err(_) => None,
+    }
+}
+
+// The same of who has the upgradable right.
+fn goes_upgradable<const RECURSIVE: bool, R: Wait>(
+    rt: &R,
+    lock: &RawRwLock<RECURSIVE>,
+    token: &mut Token,
+    came: Result<Option<RawUpgradableGuard>, Fault>,
+) -> Option<bool>
+    requires token { IsTokenOf (lot_of lock.now) token.old }
+    requires guard { IfOk came
+        (λ came. IfSome came (IsUpgradableOf (lot_of lock.now) (word_of lock.now))) }
+    ensures { IsTokenOf (lot_of lock.now) token.new }
+{
+    match came {
+        Ok(Some(guard)) => {
+            lock.unlock_upgradable(rt, token, guard);
+            Some(true)
+        }
+        Ok(None) => Some(false),
+        Err(_) => None,
+    }
+}
+
+// The same of a writer.
+fn goes_writing<const RECURSIVE: bool, R: Wait>(
+    rt: &R,
+    lock: &RawRwLock<RECURSIVE>,
+    token: &mut Token,
+    came: Option<RawExclusiveGuard>,
+) -> bool
+    requires token { IsTokenOf (lot_of lock.now) token.old }
+    requires guard { IfSome came (IsExclusiveOf (lot_of lock.now) (word_of lock.now)) }
+    ensures { IsTokenOf (lot_of lock.now) token.new }
+{
+    match came {
+        Some(guard) => {
+            lock.unlock_exclusive(rt, token, guard);
+            true
+        }
+        None => false,
+    }
+}
+
 // Whether a try to read gets the lock.
 fn reads<const RECURSIVE: bool, R: Wait>(
     rt: &R,
@@ -29,13 +96,8 @@ fn reads<const RECURSIVE: bool, R: Wait>(
     requires { IsTokenOf (lot_of lock.now) token.old }
     ensures { IsTokenOf (lot_of lock.now) token.new }
 {
-    match lock.try_lock_shared(rt, token) {
-        Ok(Some(guard)) => {
-            lock.unlock_shared(rt, token, guard);
-            true
-        }
-        _ => false,
-    }
+    let came = lock.try_lock_shared(rt, token);
+    matches!(goes(rt, lock, token, came), Some(true))
 }
 
 // Whether a try to come in with the upgradable right gets it.
@@ -47,13 +109,8 @@ fn comes_upgradable<const RECURSIVE: bool, R: Wait>(
     requires { IsTokenOf (lot_of lock.now) token.old }
     ensures { IsTokenOf (lot_of lock.now) token.new }
 {
-    match lock.try_lock_upgradable(rt, token) {
-        Ok(Some(guard)) => {
-            lock.unlock_upgradable(rt, token, guard);
-            true
-        }
-        _ => false,
-    }
+    let came = lock.try_lock_upgradable(rt, token);
+    matches!(goes_upgradable(rt, lock, token, came), Some(true))
 }
 
 // Whether a try to own the lock alone gets it.
@@ -65,13 +122,8 @@ fn writes<const RECURSIVE: bool, R: Wait>(
     requires { IsTokenOf (lot_of lock.now) token.old }
     ensures { IsTokenOf (lot_of lock.now) token.new }
 {
-    match lock.try_lock_exclusive(token) {
-        Some(guard) => {
-            lock.unlock_exclusive(rt, token, guard);
-            true
-        }
-        None => false,
-    }
+    let came = lock.try_lock_exclusive(token);
+    goes_writing(rt, lock, token, came)
 }
 
 // Whether the lock is held, and is held alone, and which tries get it: to read, to read and
@@ -172,6 +224,31 @@ fn sees_turns<const RECURSIVE: bool, R: Wait>(
     lesser == UPGRADABLE && greater == WRITTEN && look(rt, lock, token) == FREE
 }
 
+// Looks, and goes. Whether it had become a writer, and what was seen.
+fn look_and_go<const RECURSIVE: bool, R: Wait>(
+    rt: &R,
+    lock: &RawRwLock<RECURSIVE>,
+    token: &mut Token,
+    turned: Result<RawExclusiveGuard, RawUpgradableGuard>,
+) -> (bool, [bool; 5])
+    requires token { IsTokenOf (lot_of lock.now) token.old }
+    requires guard { MatchResult turned (IsExclusiveOf (lot_of lock.now) (word_of lock.now))
+        (IsUpgradableOf (lot_of lock.now) (word_of lock.now)) }
+    ensures { IsTokenOf (lot_of lock.now) token.new }
+{
+    let seen = look(rt, lock, token);
+    match turned {
+        Ok(guard) => {
+            lock.unlock_exclusive(rt, token, guard);
+            (true, seen)
+        }
+        Err(guard) => {
+            lock.unlock_upgradable(rt, token, guard);
+            (false, seen)
+        }
+    }
+}
+
 // A try to upgrade: whether it succeeded, and what was seen then.
 fn try_to_upgrade<const RECURSIVE: bool, R: Wait>(
     rt: &R,
@@ -184,18 +261,8 @@ fn try_to_upgrade<const RECURSIVE: bool, R: Wait>(
     let Ok(guard) = lock.lock_upgradable(rt, token) else {
         return (false, FREE);
     };
-    match lock.try_upgrade(rt, token, guard) {
-        Ok(guard) => {
-            let seen = look(rt, lock, token);
-            lock.unlock_exclusive(rt, token, guard);
-            (true, seen)
-        }
-        Err(guard) => {
-            let seen = look(rt, lock, token);
-            lock.unlock_upgradable(rt, token, guard);
-            (false, seen)
-        }
-    }
+    let turned = lock.try_upgrade(rt, token, guard);
+    look_and_go(rt, lock, token, turned)
 }
 
 // Whether a try to upgrade fails beside another reader, keeps its right, and succeeds alone.

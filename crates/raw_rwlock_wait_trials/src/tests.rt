@@ -5,13 +5,13 @@ mod holders;
 mod scenes;
 mod waits;
 
-ghost use Rattle.std.specs.Prelude.{◌≡◌, ◌≤◌, All};
-ghost use Rattle.parking_lot_core.specs.Tokens.{IsTicketOf};
+ghost use Rattle.std.specs.Prelude.{◌≡◌, ◌≤◌};
+ghost use Rattle.parking_lot_core.specs.Tokens.{IsTicketOf, IsTokenOf};
 ghost use Rattle.parking_lot.specs.RwLockUsers.{lot_of};
 
 use comers::come_later;
 use holders::hold;
-use parking_lot::{Fault, ParkingLot, RawRwLock, Ticket};
+use parking_lot::{ParkingLot, RawRwLock, Ticket, Token};
 use raw_rwlock_fixtures::seats;
 use scenes::{Scene, Told};
 use std::alloc::Global;
@@ -32,45 +32,24 @@ fn holds(rt: &impl Abort, truth: bool) {
     assert!(rt; truth);
 }
 
-// The first who comes holds the lock, and the others come to it then.
+// The first who comes holds the lock, and the others come to it then. Whether the thread is content
+// with what came of its part.
 fn take_part<const RECURSIVE: bool, R: Wait>(
     rt: &R,
     lot: &ParkingLot,
     lock: &RawRwLock<RECURSIVE>,
-    ticket: Ticket,
+    token: &mut Token,
     scene: &Scene,
     told: &Told,
 ) -> bool
-    requires { IsTicketOf (lot_of lock.now) ticket × (lot_of lock.now ≡ lot.now) }
+    requires { IsTokenOf lot.now token.old × (lot_of lock.now ≡ lot.now) }
 {
     if told.comes_first() {
-        hold(rt, lot, lock, ticket, scene, told)
+        hold(rt, lot, lock, token, scene, told)
     } else {
-        come_later(rt, lock, ticket, scene, told);
+        come_later(rt, lock, token, scene, told);
         true
     }
-}
-
-// Whether each thread of these tickets is content with what came of its part.
-fn all_take_part<const RECURSIVE: bool, R: Threads + Wait + Sync>(
-    rt: &R,
-    lot: &ParkingLot,
-    lock: &RawRwLock<RECURSIVE>,
-    tickets: Vec<Ticket>,
-    scene: &Scene,
-    told: &Told,
-) -> bool
-    requires lock { lot_of lock.now ≡ lot.now }
-    requires tickets { All (IsTicketOf (lot_of lock.now)) tickets.items }
-{
-    let ended = map_vec(
-        rt,
-        tickets,
-        &|ticket: Ticket|
-            requires { IsTicketOf (lot_of lock.now) ticket × (lot_of lock.now ≡ lot.now) }
-        { take_part(rt, lot, lock, ticket, scene, told) },
-    );
-    ended.is_ok_and(|ended| ended.iter().all(|well| *well))
 }
 
 // Plays a scene: all stand where they are to, and all come in, beside none whom they exclude.
@@ -78,25 +57,33 @@ fn play<const RECURSIVE: bool, R: Threads + Wait + Sync + Abort>(
     rt: &R,
     alloc: Global,
     scene: Scene,
-) -> Result<(), Fault> {
-    play_within::<RECURSIVE, R>(rt, alloc, scene, 1000)
+) {
+    play_within::<RECURSIVE, R>(rt, alloc, scene, 1000);
 }
 
-// The same on a lock that so many may share.
+// The same on a lock that so many may share. It gives up where memory is refused.
 fn play_within<const RECURSIVE: bool, R: Threads + Wait + Sync + Abort>(
     rt: &R,
     alloc: Global,
     scene: Scene,
     limit: u64,
-) -> Result<(), Fault>
+)
     requires { limit ≤ 1024 }
 {
-    let (lot, lock, tickets) = seats::<RECURSIVE>(alloc, 4, limit)?;
-    let told = Told::new();
-    let ended = all_take_part(rt, &lot, &lock, tickets, &scene, &told);
-    holds(
+    let Ok((lot, lock, tickets)) = seats::<RECURSIVE>(alloc, 4, limit) else {
+        panic!(rt; "no seats");
+    };
+    let (lot, lock, scene, told) = (&*lot, &lock, &scene, &Told::new());
+    let ended = map_vec(
         rt,
-        ended && told.came.load(SeqCst) == 3 && told.inside.wrongs() == 0,
+        tickets,
+        &|ticket: Ticket|
+            requires { IsTicketOf (lot_of lock.now) ticket × (lot_of lock.now ≡ lot.now) }
+        {
+            let mut token = ticket.enter();
+            take_part(rt, lot, lock, &mut token, scene, told)
+        },
     );
-    Ok(())
+    holds(rt, ended.is_ok_and(|ended| ended.iter().all(|well| *well)));
+    holds(rt, told.came.load(SeqCst) == 3 && told.inside.wrongs() == 0);
 }

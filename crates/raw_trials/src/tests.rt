@@ -3,21 +3,22 @@ mod live;
 mod moved;
 mod timed;
 
-ghost use Rattle.std.specs.Prelude.{◌≡◌, All, IfOk, IfSome};
+ghost use Rattle.std.specs.Prelude.{◌≡◌, ◌≤◌, All, IfSome};
 ghost use Rattle.std.specs.Arc.{arc_value};
 ghost use Rattle.parking_lot_core.specs.Tokens.{IsTicketOf, IsTokenOf};
 ghost use Rattle.parking_lot.specs.Users.{lot_of};
 
+use moved::{hold_and_move, wait_moved};
 use parking_lot::lock_raw::RawMutex as RawLock;
-use parking_lot::{Fault, ParkingLot, RawMutex, Ticket, Token};
+use parking_lot::{ParkingLot, RawMutex, Ticket, Token};
 use std::alloc::Global;
 use std::fmt::Debug;
 use std::process::Abort;
 use std::sync::atomic::Ordering::SeqCst;
-use std::sync::atomic::{AtomicBool, AtomicUsize};
+use std::sync::atomic::{AtomicBool, AtomicU64, AtomicUsize};
 use std::sync::{Arc, Wait};
-use std::test::Fail;
-use std::thread::{Threads, join, yield_now};
+use std::thread::{Threads, map_vec, yield_now};
+use timed::{give_back, race, wait_for_held};
 
 // What was found is what was wanted. All tests share this one assertion, since each is proved where
 // it stands.
@@ -56,52 +57,125 @@ fn one_of(lot: &ParkingLot, tickets: &mut Vec<Ticket>) -> Option<Ticket>
     tickets.pop()
 }
 
-// And three.
-fn three_of(lot: &ParkingLot, tickets: &mut Vec<Ticket>) -> Option<(Ticket, Ticket, Ticket)>
-    requires { All (IsTicketOf lot.now) tickets.old.items }
-    ensures left { All (IsTicketOf lot.now) tickets.new.items }
-    ensures three { IfSome result (λ three. IsTicketOf lot.now three.0 × IsTicketOf lot.now three.1
-        × IsTicketOf lot.now three.2) }
-{
-    let one = one_of(lot, tickets)?;
-    let other = one_of(lot, tickets)?;
-    let third = one_of(lot, tickets)?;
-    Some((one, other, third))
-}
-
-// A mutex of a lot, made by the thread of a ticket.
-fn mutex_by(lot: &Arc<ParkingLot>, ticket: Ticket) -> Result<(RawMutex, Ticket), Fault>
-    requires { IsTicketOf (arc_value lot.now) ticket }
-    ensures { IfOk result
-        (λ made. (lot_of made.0 ≡ arc_value lot.now) × IsTicketOf (arc_value lot.now) made.1) }
-{
-    let mut token = ticket.enter();
-    let mutex = RawMutex::new(lot, &mut token)?;
-    Ok((mutex, token.leave()))
-}
-
-// A lot with three threads, and a mutex of it.
-fn three_seats(
+// A mutex of a lot of so many threads and one more, with the token of this one and the tickets of
+// the others. It gives up where memory is refused, so that no test has anything to drop in its
+// midst.
+fn seats<A: Abort>(
+    rt: &A,
     alloc: Global,
-) -> Result<(Arc<ParkingLot>, RawMutex, (Ticket, Ticket, Ticket)), Fault>
-    ensures { IfOk result
-        (λ made. (lot_of made.1 ≡ arc_value made.0) × IsTicketOf (arc_value made.0) made.2.0
-        × IsTicketOf (arc_value made.0) made.2.1 × IsTicketOf (arc_value made.0) made.2.2) }
+    others: usize,
+) -> (Arc<ParkingLot>, RawMutex, Token, Vec<Ticket>)
+    requires { others ≤ 100 }
+    ensures { (lot_of result.1 ≡ arc_value result.0) × IsTokenOf (arc_value result.0) result.2
+        × All (IsTicketOf (arc_value result.0)) result.3.items }
 {
-    let (lot, mut tickets) = ParkingLot::new(alloc, 1, 3)?;
-    let Some((one, other, third)) = three_of(&lot, &mut tickets) else {
-        return Err(Fault::NoMemory);
+    let Ok((lot, mut tickets)) = ParkingLot::new(alloc, 1, others + 1) else {
+        panic!(rt; "no lot");
     };
-    let (mutex, one) = mutex_by(&lot, one)?;
-    Ok((lot, mutex, (one, other, third)))
+    let Some(ticket) = one_of(&lot, &mut tickets) else {
+        panic!(rt; "no seat");
+    };
+    let mut token = ticket.enter();
+    match RawMutex::new(&lot, &mut token) {
+        Ok(mutex) => (lot, mutex, token, tickets),
+        Err(_) => panic!(rt; "no mutex"),
+    }
+}
+
+/// What two threads do, by the order in which they come.
+#[derive(Clone, Copy)]
+enum Part<'a> {
+    /// Both try once, and hold what they got until both have tried.
+    Try,
+    /// The first holds the mutex until the other waits for it.
+    Meet,
+    /// And the other waits up to a deadline that doesn't come, or for the longest time.
+    MeetTimed(Option<u64>),
+    /// And the first moves the other to a queue in which it doesn't wait.
+    Move,
+    /// Both take the mutex often, and count here how often they got it, and under the mutex.
+    Race(&'a AtomicU64, &'a AtomicU64),
+}
+
+/// What the threads tell one another.
+#[derive(Drop)]
+struct Told {
+    came: AtomicUsize,
+    tried: AtomicUsize,
+    held: AtomicBool,
+    up: AtomicBool,
+    gone: AtomicBool,
+    content: AtomicUsize,
+}
+
+impl Told {
+    fn new() -> Told {
+        Told {
+            came: AtomicUsize::new(0),
+            tried: AtomicUsize::new(0),
+            held: AtomicBool::new(false),
+            up: AtomicBool::new(false),
+            gone: AtomicBool::new(false),
+            content: AtomicUsize::new(0),
+        }
+    }
+}
+
+// Does one thread's part. Whether the thread is content with it.
+fn take_part<R: Wait>(
+    rt: &R,
+    lot: &ParkingLot,
+    mutex: &RawMutex,
+    token: &mut Token,
+    told: &Told,
+    part: Part<'_>,
+) -> bool
+    requires { IsTokenOf lot.now token.old × (lot_of mutex.now ≡ lot.now) }
+    ensures { IsTokenOf lot.now token.new }
+{
+    let is_first = told.came.fetch_add(1, SeqCst) == 0;
+    match part {
+        Part::Try => try_once(rt, mutex, token, &told.tried),
+        Part::Race(got, hits) => race(rt, mutex, token, got, hits),
+        Part::Move if is_first => hold_and_move(rt, lot, mutex, token, told),
+        Part::Move => wait_moved(rt, mutex, token, told),
+        _ if is_first => hold(rt, lot, mutex, token, &told.held),
+        Part::MeetTimed(deadline) => wait_for_held(rt, mutex, token, &told.held, deadline),
+        Part::Meet => lock_held(rt, mutex, token, &told.held),
+    }
+}
+
+// How many of two threads were content with their parts. The mutex is free behind them, and nobody
+// waits for it.
+fn play<R: Threads + Wait + Abort + Sync>(rt: &R, alloc: Global, part: Part<'_>) -> usize {
+    let (lot, mutex, mut token, tickets) = seats(rt, alloc, 2);
+    let told = Told::new();
+    let (lot, mutex, told) = (&*lot, &mutex, &told);
+    let ended = map_vec(
+        rt,
+        tickets,
+        &|ticket: Ticket|
+            requires { IsTicketOf lot.now ticket × (lot_of mutex.now ≡ lot.now) }
+        {
+            let mut token = ticket.enter();
+            if take_part(rt, lot, mutex, &mut token, told, part) {
+                told.content.fetch_add(1, SeqCst);
+            }
+            drop(token.leave());
+        },
+    );
+    holds(rt, ended.is_ok());
+    stands(rt, lot, mutex, &mut token, false);
+    holds(rt, try_alone(rt, mutex, &mut token));
+    told.content.load(SeqCst)
 }
 
 // Tries once, and holds what it got until both have tried.
-fn try_once<R: Wait>(rt: &R, mutex: &RawMutex, ticket: Ticket, tried: &AtomicUsize) -> bool
-    requires { IsTicketOf (lot_of mutex.now) ticket }
+fn try_once<R: Wait>(rt: &R, mutex: &RawMutex, token: &mut Token, tried: &AtomicUsize) -> bool
+    requires { IsTokenOf (lot_of mutex.now) token.old }
+    ensures { IsTokenOf (lot_of mutex.now) token.new }
 {
-    let mut token = ticket.enter();
-    let guard = mutex.try_lock(&mut token);
+    let guard = mutex.try_lock(token);
     tried.fetch_add(1, SeqCst);
     for _ in rt.forever() {
         if tried.load(SeqCst) == 2 {
@@ -109,54 +183,22 @@ fn try_once<R: Wait>(rt: &R, mutex: &RawMutex, ticket: Ticket, tried: &AtomicUsi
         }
         yield_now();
     }
-    let got = match guard {
-        Some(guard) => {
-            mutex.unlock(rt, &mut token, guard);
-            true
-        }
-        None => false,
-    };
-    drop(token.leave());
-    got
-}
-
-fn both_try<R: Threads + Wait + Sync>(
-    rt: &R,
-    mutex: &RawMutex,
-    one: Ticket,
-    other: Ticket,
-) -> (bool, bool)
-    requires { IsTicketOf (lot_of mutex.now) one × IsTicketOf (lot_of mutex.now) other }
-{
-    let tried = AtomicUsize::new(0);
-    let both = &tried;
-    join(
-        rt,
-        move || try_once(rt, mutex, one, both),
-        move || try_once(rt, mutex, other, both),
-    )
+    give_back(rt, mutex, token, guard)
 }
 
 // Whether a try gets the mutex, which is locked then and free afterwards.
-fn try_alone<R: Wait>(rt: &R, mutex: &RawMutex, ticket: Ticket) -> bool
-    requires { IsTicketOf (lot_of mutex.now) ticket }
+fn try_alone<R: Wait>(rt: &R, mutex: &RawMutex, token: &mut Token) -> bool
+    requires { IsTokenOf (lot_of mutex.now) token.old }
+    ensures { IsTokenOf (lot_of mutex.now) token.new }
 {
-    let mut token = ticket.enter();
-    let Some(guard) = mutex.try_lock(&mut token) else {
-        return false;
-    };
-    let locked = mutex.is_locked(&mut token);
-    mutex.unlock(rt, &mut token, guard);
-    locked && !mutex.is_locked(&mut token)
+    let guard = mutex.try_lock(token);
+    let locked = mutex.is_locked(token);
+    give_back(rt, mutex, token, guard) && locked && !mutex.is_locked(token)
 }
 
 #[test]
-fn one_of_two_tries_gets_a_free_mutex(rt: HostRuntime) -> Result<(), Fail> {
-    let (_lot, mutex, (one, other, third)) = three_seats(rt.alloc())?;
-    let (first, second) = both_try(&rt, &mutex, one, other);
-    holds(&rt, first != second);
-    holds(&rt, try_alone(&rt, &mutex, third));
-    Ok(())
+fn one_of_two_tries_gets_a_free_mutex(rt: HostRuntime) {
+    same(&rt, play(&rt, rt.alloc(), Part::Try), 1);
 }
 
 fn await_flag<R: Wait>(rt: &R, flag: &AtomicBool) {
@@ -187,65 +229,31 @@ fn hold<R: Wait>(
     rt: &R,
     lot: &ParkingLot,
     mutex: &RawMutex,
-    ticket: Ticket,
+    token: &mut Token,
     held: &AtomicBool,
 ) -> bool
-    requires { IsTicketOf lot.now ticket × (lot_of mutex.now ≡ lot.now) }
+    requires { IsTokenOf lot.now token.old × (lot_of mutex.now ≡ lot.now) }
+    ensures { IsTokenOf lot.now token.new }
 {
-    let mut token = ticket.enter();
-    let guard = mutex.lock(rt, &mut token);
+    let guard = mutex.lock(rt, token);
     held.store(true, SeqCst);
-    let seen = sees_waiter(rt, lot, &mut token, mutex);
-    mutex.unlock(rt, &mut token, guard);
-    drop(token.leave());
+    let seen = sees_waiter(rt, lot, token, mutex);
+    mutex.unlock(rt, token, guard);
     seen
 }
 
-fn lock_held<R: Wait>(rt: &R, mutex: &RawMutex, ticket: Ticket, held: &AtomicBool) -> bool
-    requires { IsTicketOf (lot_of mutex.now) ticket }
+fn lock_held<R: Wait>(rt: &R, mutex: &RawMutex, token: &mut Token, held: &AtomicBool) -> bool
+    requires { IsTokenOf (lot_of mutex.now) token.old }
+    ensures { IsTokenOf (lot_of mutex.now) token.new }
 {
-    let mut token = ticket.enter();
     await_flag(rt, held);
-    let guard = mutex.lock(rt, &mut token);
-    let locked = mutex.is_locked(&mut token);
-    mutex.unlock(rt, &mut token, guard);
-    drop(token.leave());
+    let guard = mutex.lock(rt, token);
+    let locked = mutex.is_locked(token);
+    mutex.unlock(rt, token, guard);
     locked
 }
 
-// One thread holds the mutex until it is waited for, and another does its part beside it.
-fn beside_holder<R: Threads + Wait + Sync, F: FnOnce() -> bool>(
-    rt: &R,
-    lot: &ParkingLot,
-    mutex: &RawMutex,
-    ticket: Ticket,
-    held: &AtomicBool,
-    part: F,
-) -> (bool, bool)
-    requires holder { IsTicketOf lot.now ticket × (lot_of mutex.now ≡ lot.now) }
-    requires part { F.pre part }
-{
-    join(rt, move || hold(rt, lot, mutex, ticket, held), part)
-}
-
-fn hold_and_wait<R: Threads + Wait + Sync>(
-    rt: &R,
-    lot: &ParkingLot,
-    mutex: &RawMutex,
-    one: Ticket,
-    other: Ticket,
-) -> (bool, bool)
-    requires { IsTicketOf lot.now one × IsTicketOf lot.now other × (lot_of mutex.now ≡ lot.now) }
-{
-    let held = &AtomicBool::new(false);
-    let part = move || lock_held(rt, mutex, other, held);
-    beside_holder(rt, lot, mutex, one, held, part)
-}
-
 #[test]
-fn a_release_wakes_who_waits(rt: HostRuntime) -> Result<(), Fail> {
-    let (lot, mutex, (one, other, _third)) = three_seats(rt.alloc())?;
-    let ended = hold_and_wait(&rt, &lot, &mutex, one, other);
-    same(&rt, ended, (true, true));
-    Ok(())
+fn a_release_wakes_who_waits(rt: HostRuntime) {
+    same(&rt, play(&rt, rt.alloc(), Part::Meet), 2);
 }

@@ -1,10 +1,11 @@
 //! One thread, which nobody notifies.
-ghost use Rattle.std.specs.Prelude.{IfOk};
-ghost use Rattle.parking_lot.specs.Users.{IsTokenOf, lock_of, lot_of};
+ghost use Rattle.parking_lot.specs.Users.{IsTokenOf, lot_of};
 
-use super::{Room, holds, is_just_past, look, room_for, same, wait_for};
-use parking_lot::{Fault, MutexGuard, TickClock, Token, WaitTimeoutResult};
+use super::rooms::{Room, look, room_for};
+use super::{Limit, TURNS, holds, is_just_past, same, wait};
+use parking_lot::{TickClock, Token};
 use std::alloc::Global;
+use std::process::Abort;
 use std::sync::Wait;
 use std::test::Fail;
 use std::time::Duration;
@@ -12,177 +13,133 @@ use std::time::Duration;
 const FAR: u64 = 1000;
 
 // A room that one thread has for itself.
-fn room_alone(alloc: Global) -> Result<(Room<u32>, Token), Fault>
-    ensures { IfOk result (λ made. IsTokenOf (lot_of made.0.mutex) made.1) }
+fn room_alone<A: Abort>(rt: &A, alloc: Global) -> (Room, Token)
+    ensures { IsTokenOf (lot_of result.0.mutex) result.1 }
 {
-    let (_lot, room, token, _others) = room_for(alloc, 1, 0u32)?;
-    Ok((room, token))
+    let (_lot, room, token, _others) = room_for(rt, alloc, 1);
+    (room, token)
 }
 
 #[test]
-fn nobody_is_notified_where_nobody_waits(rt: HostRuntime) -> Result<(), Fail> {
-    let (room, mut token) = room_alone(rt.alloc())?;
+fn nobody_is_notified_where_nobody_waits(rt: HostRuntime) {
+    let (room, mut token) = room_alone(&rt, rt.alloc());
     holds(&rt, !room.condvar.notify_one(&rt, &mut token));
     same(&rt, room.condvar.notify_all(&rt, &mut token), 0);
-    Ok(())
 }
 
-// Counts the calls of a condition that never holds. How many they were.
-fn wait_for_nothing<R: Wait>(rt: &R, room: &Room<u32>, token: &mut Token) -> Option<u32>
+// Waits for as long as a condition was called at most so often, and counts the calls. Whether that
+// was not refused.
+pub(super) fn wait_turns<R: Wait>(rt: &R, room: &Room, token: &mut Token, turns: usize) -> bool
     requires { IsTokenOf (lot_of room.now.mutex) token.old }
+    ensures { IsTokenOf (lot_of room.now.mutex) token.new }
 {
     let guard = room.mutex.lock(rt, token);
     let ended = room
         .condvar
-        .wait_while(rt, token, guard, |calls: &mut u32| {
+        .wait_while(rt, token, guard, move |calls: &mut usize| {
             *calls = calls.wrapping_add(1);
-            false
+            *calls <= turns
         });
-    match ended {
-        Ok(guard) => {
-            guard.unlock(rt, token);
-            Some(look(rt, room, token))
-        }
-        Err((_, guard)) => {
-            guard.unlock(rt, token);
-            None
-        }
-    }
+    let (guard, came) = match ended {
+        Ok(guard) => (guard, true),
+        Err((_, guard)) => (guard, false),
+    };
+    guard.unlock(rt, token);
+    came
 }
 
 #[test]
-fn a_condition_that_does_not_hold_is_called_once(rt: HostRuntime) -> Result<(), Fail> {
-    let (room, mut token) = room_alone(rt.alloc())?;
-    same(&rt, wait_for_nothing(&rt, &room, &mut token), Some(1));
-    Ok(())
+fn a_condition_that_does_not_hold_is_called_once(rt: HostRuntime) {
+    let (room, mut token) = room_alone(&rt, rt.alloc());
+    holds(&rt, wait_turns(&rt, &room, &mut token, 0));
+    same(&rt, look(&rt, &room, &mut token), 1);
 }
 
-// Unlocks. The value, and whether the wait timed out.
-fn close<R: Wait>(
+// The same within a time, or up to a deadline. How often the condition was called, and whether the
+// wait timed out.
+fn calls_in_time<R: Wait>(
     rt: &R,
+    room: &Room,
     token: &mut Token,
-    guard: MutexGuard<'_, u32>,
-    ended: WaitTimeoutResult,
-) -> Option<(u32, bool)>
-    requires { IsTokenOf (lot_of (lock_of guard)) token.old }
-    ensures { IsTokenOf (lot_of (lock_of guard.entry)) token.new }
-{
-    let value = *guard;
-    guard.unlock(rt, token);
-    Some((value, ended.timed_out()))
-}
-
-// Waits for as long as a condition was called at most so often, up to a deadline. How often it was
-// called, and whether it timed out.
-fn calls_until<R: Wait>(
-    rt: &R,
-    room: &Room<u32>,
-    token: &mut Token,
-    most: u32,
+    turns: usize,
     clock: &TickClock,
-    deadline: u64,
-) -> Option<(u32, bool)>
+    limit: Limit,
+) -> Option<(usize, bool)>
     requires { IsTokenOf (lot_of room.now.mutex) token.old }
     ensures { IsTokenOf (lot_of room.now.mutex) token.new }
 {
     let guard = room.mutex.lock(rt, token);
-    let ended = room.condvar.wait_while_until(
-        rt,
-        token,
-        guard,
-        move |calls: &mut u32| {
-            *calls = calls.wrapping_add(1);
-            *calls <= most
-        },
-        clock,
-        deadline,
-    );
-    match ended {
-        Ok((guard, ended)) => close(rt, token, guard, ended),
-        Err((_, guard)) => {
-            guard.unlock(rt, token);
-            None
+    let again = move |calls: &mut usize| {
+        *calls = calls.wrapping_add(1);
+        *calls <= turns
+    };
+    let ended = match limit {
+        Limit::Until(deadline) => room
+            .condvar
+            .wait_while_until(rt, token, guard, again, clock, deadline),
+        Limit::For(nanos) => {
+            let time = Duration::from_nanos(nanos);
+            room.condvar
+                .wait_while_for(rt, token, guard, again, clock, time)
         }
-    }
+        Limit::None => {
+            guard.unlock(rt, token);
+            return None;
+        }
+    };
+    let (guard, late) = match ended {
+        Ok((guard, ended)) => (guard, Some(ended.timed_out())),
+        Err((_, guard)) => (guard, None),
+    };
+    let calls = *guard;
+    guard.unlock(rt, token);
+    late.map(|late| (calls, late))
 }
 
 #[test]
-fn a_condition_is_called_again_where_the_time_is_up(rt: HostRuntime) -> Result<(), Fail> {
-    let (room, mut token) = room_alone(rt.alloc())?;
+fn a_condition_is_called_again_where_the_time_is_up(rt: HostRuntime) {
+    let (room, mut token) = room_alone(&rt, rt.alloc());
     let clock = TickClock::new();
-    let told = calls_until(&rt, &room, &mut token, 1, &clock, 0);
+    let told = calls_in_time(&rt, &room, &mut token, 1, &clock, Limit::Until(0));
     same(&rt, told, Some((2, false)));
-    let told = calls_until(&rt, &room, &mut token, 9, &clock, 40);
+    let told = calls_in_time(&rt, &room, &mut token, 9, &clock, Limit::Until(40));
     same(&rt, told, Some((4, true)));
     holds(&rt, is_just_past(&clock, 40));
-    Ok(())
 }
 
-// The same by a time that passes, of a clock that is far from 0.
-fn calls_within<R: Wait>(
-    rt: &R,
-    room: &Room<u32>,
-    token: &mut Token,
-    clock: &TickClock,
-    nanos: u64,
-) -> Option<(u32, bool)>
-    requires { IsTokenOf (lot_of room.now.mutex) token.old }
-    ensures { IsTokenOf (lot_of room.now.mutex) token.new }
-{
-    let guard = room.mutex.lock(rt, token);
-    let ended = room.condvar.wait_while_for(
-        rt,
-        token,
-        guard,
-        |calls: &mut u32| {
-            *calls = calls.wrapping_add(1);
-            true
-        },
-        clock,
-        Duration::from_nanos(nanos),
-    );
-    match ended {
-        Ok((guard, ended)) => close(rt, token, guard, ended),
-        Err((_, guard)) => {
-            guard.unlock(rt, token);
-            None
-        }
-    }
-}
-
+// By a time that passes, of a clock that is far from 0.
 #[test]
-fn a_condition_that_holds_times_out(rt: HostRuntime) -> Result<(), Fail> {
-    let (room, mut token) = room_alone(rt.alloc())?;
+fn a_condition_that_holds_times_out(rt: HostRuntime) {
+    let (room, mut token) = room_alone(&rt, rt.alloc());
     let clock = TickClock::starting_at(FAR);
-    let told = calls_within(&rt, &room, &mut token, &clock, 30);
+    let told = calls_in_time(&rt, &room, &mut token, TURNS, &clock, Limit::For(30));
     same(&rt, told, Some((2, true)));
     holds(&rt, is_just_past(&clock, FAR + 30));
-    Ok(())
 }
 
 // Waits for so long, in vain. Whether it timed out, and the mutex is free behind it.
-fn gives_up<R: Wait>(rt: &R, room: &Room<u32>, token: &mut Token, clock: &TickClock) -> bool
+fn gives_up<R: Wait>(rt: &R, room: &Room, token: &mut Token, clock: &TickClock) -> bool
     requires { IsTokenOf (lot_of room.now.mutex) token.old }
     ensures { IsTokenOf (lot_of room.now.mutex) token.new }
 {
     let guard = room.mutex.lock(rt, token);
-    let timed_out = wait_for(rt, room, token, guard, clock, 20);
-    timed_out == Some(true) && !room.mutex.is_locked(token)
+    let (guard, ended) = wait(rt, &room.condvar, token, guard, clock, Limit::For(20));
+    guard.unlock(rt, token);
+    ended.is_late() && !room.mutex.is_locked(token)
 }
 
 #[test]
-fn who_waits_gives_up_in_time(rt: HostRuntime) -> Result<(), Fail> {
-    let (room, mut token) = room_alone(rt.alloc())?;
+fn who_waits_gives_up_in_time(rt: HostRuntime) {
+    let (room, mut token) = room_alone(&rt, rt.alloc());
     let clock = TickClock::starting_at(FAR);
     holds(&rt, gives_up(&rt, &room, &mut token, &clock));
     holds(&rt, is_just_past(&clock, FAR + 20));
     holds(&rt, !room.condvar.notify_one(&rt, &mut token));
-    Ok(())
 }
 
 #[test]
 fn tells_that_it_is_a_condition_variable(rt: HostRuntime) -> Result<(), Fail> {
-    let (room, _token) = room_alone(rt.alloc())?;
+    let (room, _token) = room_alone(&rt, rt.alloc());
     same(
         &rt,
         format!(in rt.alloc(); "{:?}", room.condvar)?.as_str(),

@@ -1,18 +1,16 @@
 //! Threads that send numbers to one another through a queue that is bounded.
-ghost use Rattle.std.specs.Prelude.{◌≡◌, ◌<◌, ◌≤◌, All, IfOk};
-ghost use Rattle.std.specs.Arc.{arc_value};
+ghost use Rattle.std.specs.Prelude.{◌≡◌, ◌≤◌, All};
 ghost use Rattle.parking_lot.specs.CondvarUsers.{lot_of as condvar_lot};
 ghost use Rattle.parking_lot.specs.Users.{IsTicketOf, IsTokenOf, lock_of, lot_of};
 
-use super::{holds, seats};
-use parking_lot::{Condvar, Fault, Mutex, MutexGuard, ParkingLot, TickClock, Ticket, Token};
+use super::{Limit, condvar_of, holds, mutex_of, seats, wait};
+use parking_lot::{Condvar, Mutex, MutexGuard, TickClock, Ticket, Token};
 use std::alloc::Global;
-use std::sync::atomic::AtomicUsize;
+use std::process::Abort;
+use std::sync::Wait;
 use std::sync::atomic::Ordering::SeqCst;
-use std::sync::{Arc, Wait};
-use std::test::Fail;
+use std::sync::atomic::{AtomicU64, AtomicUsize};
 use std::thread::{Threads, map_vec};
-use std::time::Duration;
 
 const EACH: u64 = 200;
 
@@ -73,45 +71,11 @@ enum Style {
     Bounded,
 }
 
-fn pipe_of(lot: &Arc<ParkingLot>, token: &mut Token, line: Line) -> Result<Pipe, Fault>
-    requires { IsTokenOf (arc_value lot.now) token.old }
-    ensures { IfOk result (λ pipe. lot_of pipe.line ≡ arc_value lot.now) }
-{
-    let filled = Condvar::new(lot, token)?;
-    let emptied = Condvar::new(lot, token)?;
-    match Mutex::new(lot, token, line) {
-        Ok(line) => Ok(Pipe {
-            line,
-            filled,
-            emptied,
-        }),
-        Err((fault, _)) => Err(fault),
-    }
-}
-
-// Waits once more, bounded or not. The guard that it has then.
-fn wait_more<'p, R: Wait>(
-    rt: &R,
-    condvar: &Condvar,
-    token: &mut Token,
-    guard: MutexGuard<'p, Line>,
-    style: Style,
-) -> MutexGuard<'p, Line>
-    requires token { IsTokenOf (lot_of (lock_of guard)) token.old }
-    requires condvar { condvar_lot condvar.now ≡ lot_of (lock_of guard) }
-    ensures token { IsTokenOf (lot_of (lock_of guard.entry)) token.new }
-    ensures guard { lock_of result ≡ lock_of guard.entry }
-{
-    if matches!(style, Style::Bounded) {
-        let clock = TickClock::new();
-        match condvar.wait_for(rt, token, guard, &clock, Duration::from_nanos(SHORT)) {
-            Ok((guard, _)) => guard,
-            Err((_, guard)) => guard,
-        }
-    } else {
-        match condvar.wait(rt, token, guard) {
-            Ok(guard) => guard,
-            Err((_, guard)) => guard,
+impl Style {
+    fn limit(self) -> Limit {
+        match self {
+            Style::Bounded => Limit::For(SHORT),
+            _ => Limit::None,
         }
     }
 }
@@ -142,12 +106,13 @@ fn guard_past<'p, R: Wait, F: Fn(&Line) -> bool + Drop>(
     ensures token { IsTokenOf (lot_of pipe.now.line) token.new }
     ensures guard { lock_of result ≡ pipe.now.line }
 {
+    let clock = TickClock::new();
     let mut guard = pipe.line.lock(rt, token);
     for _ in rt.forever() {
         if !blocks(&*guard) {
             break;
         }
-        guard = wait_more(rt, condvar, token, guard, style);
+        (guard, _) = wait(rt, condvar, token, guard, &clock, style.limit());
     }
     guard
 }
@@ -175,53 +140,30 @@ fn receive<R: Wait>(rt: &R, pipe: &Pipe, token: &mut Token, style: Style) -> boo
     any
 }
 
-fn send_each<R: Wait>(rt: &R, pipe: &Pipe, ticket: Ticket, style: Style)
-    requires { IsTicketOf (lot_of pipe.now.line) ticket }
+fn send_each<R: Wait>(rt: &R, pipe: &Pipe, token: &mut Token, style: Style)
+    requires { IsTokenOf (lot_of pipe.now.line) token.old }
+    ensures { IsTokenOf (lot_of pipe.now.line) token.new }
 {
-    let mut token = ticket.enter();
     for number in 1..=EACH {
-        send(rt, pipe, &mut token, number, style);
+        send(rt, pipe, token, number, style);
     }
-    pipe.filled.notify_all(rt, &mut token);
-    drop(token.leave());
+    pipe.filled.notify_all(rt, token);
 }
 
-// How many numbers it took, until none came any more.
-fn receive_each<R: Wait>(rt: &R, pipe: &Pipe, ticket: Ticket, style: Style) -> u64
-    requires { IsTicketOf (lot_of pipe.now.line) ticket }
+// Takes numbers until none come any more, and counts them.
+fn receive_each<R: Wait>(rt: &R, pipe: &Pipe, token: &mut Token, style: Style, taken: &AtomicU64)
+    requires { IsTokenOf (lot_of pipe.now.line) token.old }
+    ensures { IsTokenOf (lot_of pipe.now.line) token.new }
 {
-    let mut token = ticket.enter();
-    let mut taken = 0u64;
     for _ in rt.forever() {
-        if !receive(rt, pipe, &mut token, style) {
+        if !receive(rt, pipe, token, style) {
             break;
         }
-        taken = taken.wrapping_add(1);
-    }
-    drop(token.leave());
-    taken
-}
-
-// The first who come send, and the others receive. How many numbers it took.
-fn take_part<R: Wait>(
-    rt: &R,
-    pipe: &Pipe,
-    ticket: Ticket,
-    came: &AtomicUsize,
-    senders: usize,
-    style: Style,
-) -> u64
-    requires { IsTicketOf (lot_of pipe.now.line) ticket }
-{
-    if came.fetch_add(1, SeqCst) < senders {
-        send_each(rt, pipe, ticket, style);
-        0
-    } else {
-        receive_each(rt, pipe, ticket, style)
+        taken.fetch_add(1, SeqCst);
     }
 }
 
-// How many numbers all threads of these tickets took, of whom so many send.
+// How many numbers all threads of these tickets took, of whom the first who come send.
 fn send_and_receive<R: Threads + Wait + Sync>(
     rt: &R,
     pipe: &Pipe,
@@ -231,95 +173,99 @@ fn send_and_receive<R: Threads + Wait + Sync>(
 ) -> Option<u64>
     requires { All (IsTicketOf (lot_of pipe.now.line)) tickets.items }
 {
-    let came = &AtomicUsize::new(0);
-    let taken = map_vec(
+    let (came, taken) = (&AtomicUsize::new(0), &AtomicU64::new(0));
+    let ended = map_vec(
         rt,
         tickets,
         &|ticket: Ticket|
             requires { IsTicketOf (lot_of pipe.now.line) ticket }
-        { take_part(rt, pipe, ticket, came, senders, style) },
+        {
+            let mut token = ticket.enter();
+            if came.fetch_add(1, SeqCst) < senders {
+                send_each(rt, pipe, &mut token, style);
+            } else {
+                receive_each(rt, pipe, &mut token, style, taken);
+            }
+            drop(token.leave());
+        },
     );
-    match taken {
-        Ok(taken) => Some(taken.iter().fold(0u64, |all, one| all.wrapping_add(*one))),
-        Err(_) => None,
+    if ended.is_err() {
+        return None;
     }
+    Some(taken.load(SeqCst))
 }
 
-// Whether all numbers were taken that were sent, and their sum is right.
-fn passes<R: Threads + Wait + Sync>(
-    rt: &R,
+// A queue for so many threads, which as many as these send to.
+fn pipe_for<A: Abort>(
+    rt: &A,
     alloc: Global,
-    threads: (usize, usize),
+    threads: usize,
+    senders: usize,
     most: u64,
-    style: Style,
-) -> Result<bool, Fault>
-    requires { (threads.0 ≤ 100) × (threads.1 ≤ 100) }
+) -> (Pipe, Vec<Ticket>)
+    requires { threads ≤ 200 }
+    ensures { All (IsTicketOf (lot_of result.0.line)) result.1.items }
 {
-    let (senders, receivers) = threads;
-    let (lot, mut token, others) = seats(alloc, 3, senders + receivers + 1)?;
-    let to_come = EACH.wrapping_mul(senders as u64);
+    let (lot, mut token, others) = seats(rt, alloc, threads + 1);
     let line = Line {
         inside: 0,
         sum: 0,
         most,
-        to_come,
+        to_come: EACH.wrapping_mul(senders as u64),
     };
-    let pipe = pipe_of(&lot, &mut token, line)?;
+    let line = mutex_of(rt, &lot, &mut token, line);
+    let filled = condvar_of(rt, &lot, &mut token);
+    let emptied = condvar_of(rt, &lot, &mut token);
+    let pipe = Pipe {
+        line,
+        filled,
+        emptied,
+    };
+    (pipe, others)
+}
+
+// Whether all numbers are taken that are sent, and their sum is right: by so many senders and
+// receivers, through so many places.
+fn passes<R: Threads + Wait + Abort + Sync>(
+    rt: &R,
+    alloc: Global,
+    senders: usize,
+    receivers: usize,
+    most: u64,
+    style: Style,
+) -> bool
+    requires { (senders ≤ 100) × (receivers ≤ 100) }
+{
+    let (pipe, others) = pipe_for(rt, alloc, senders + receivers, senders, most);
     let taken = send_and_receive(rt, &pipe, others, senders, style);
-    let Line {
-        inside,
-        sum,
-        most: _,
-        to_come: _,
-    } = pipe.line.into_inner();
+    let line = pipe.line.into_inner();
+    let sent = EACH.wrapping_mul(senders as u64);
     let wanted = (senders as u64).wrapping_mul(EACH * (EACH + 1) / 2);
-    Ok(taken == Some(to_come) && inside == 0 && sum == wanted)
+    taken == Some(sent) && line.inside == 0 && line.sum == wanted
 }
 
 #[test]
-fn one_sends_to_one_through_one_place(rt: HostRuntime) -> Result<(), Fail> {
-    holds(&rt, passes(&rt, rt.alloc(), (1, 1), 1, Style::All)?);
-    Ok(())
+fn one_sends_to_one(rt: HostRuntime) {
+    // Through one place, in bounded waits, and through a hundred places.
+    for (most, style) in [(1, Style::All), (1, Style::Bounded), (100, Style::All)] {
+        holds(&rt, passes(&rt, rt.alloc(), 1, 1, most, style));
+    }
 }
 
 #[test]
-fn one_sends_to_one_in_bounded_waits(rt: HostRuntime) -> Result<(), Fail> {
-    holds(&rt, passes(&rt, rt.alloc(), (1, 1), 1, Style::Bounded)?);
-    Ok(())
+fn one_sends_to_five(rt: HostRuntime) {
+    holds(&rt, passes(&rt, rt.alloc(), 1, 5, 1, Style::All));
 }
 
 #[test]
-fn one_sends_to_five(rt: HostRuntime) -> Result<(), Fail> {
-    holds(&rt, passes(&rt, rt.alloc(), (1, 5), 1, Style::All)?);
-    Ok(())
+fn ten_send_to_one(rt: HostRuntime) {
+    holds(&rt, passes(&rt, rt.alloc(), 10, 1, 1, Style::All));
 }
 
 #[test]
-fn one_sends_to_one_through_a_hundred_places(rt: HostRuntime) -> Result<(), Fail> {
-    holds(&rt, passes(&rt, rt.alloc(), (1, 1), 100, Style::All)?);
-    Ok(())
-}
-
-#[test]
-fn ten_send_to_one(rt: HostRuntime) -> Result<(), Fail> {
-    holds(&rt, passes(&rt, rt.alloc(), (10, 1), 1, Style::All)?);
-    Ok(())
-}
-
-#[test]
-fn ten_send_to_ten_and_notify_all(rt: HostRuntime) -> Result<(), Fail> {
-    holds(&rt, passes(&rt, rt.alloc(), (10, 10), 1, Style::All)?);
-    Ok(())
-}
-
-#[test]
-fn ten_send_to_ten_and_notify_one(rt: HostRuntime) -> Result<(), Fail> {
-    holds(&rt, passes(&rt, rt.alloc(), (10, 10), 1, Style::One)?);
-    Ok(())
-}
-
-#[test]
-fn ten_send_to_ten_in_bounded_waits(rt: HostRuntime) -> Result<(), Fail> {
-    holds(&rt, passes(&rt, rt.alloc(), (10, 10), 5, Style::Bounded)?);
-    Ok(())
+fn ten_send_to_ten(rt: HostRuntime) {
+    // Who notify all, who notify one, and in bounded waits.
+    for (most, style) in [(1, Style::All), (1, Style::One), (5, Style::Bounded)] {
+        holds(&rt, passes(&rt, rt.alloc(), 10, 10, most, style));
+    }
 }

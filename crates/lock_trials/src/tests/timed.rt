@@ -1,12 +1,11 @@
 //! Calls of a mutex with a value that give up in time.
 ghost use Rattle.std.specs.Prelude.{◌≤◌};
-ghost use Rattle.parking_lot_core.specs.Tokens.{IsTokenOf};
+ghost use Rattle.parking_lot_core.specs.Tokens.{IsTicketOf, IsTokenOf};
 ghost use Rattle.parking_lot.specs.Users.{lot_of};
 
-use super::{lone, mutex_alone, pair, same};
-use parking_lot::{Clock, FairMutex, Mutex, TickClock, Token, lock_api, lock_raw};
+use super::{fair_mutex_alone, mutex_alone, mutex_of, next_of, same, seats};
+use parking_lot::{Clock, Mutex, TickClock, Ticket, Token, lock_api, lock_raw};
 use std::sync::Wait;
-use std::test::Fail;
 use std::time::Duration;
 
 const FAR: u64 = 1000;
@@ -14,7 +13,7 @@ const FAR: u64 = 1000;
 // Whether it gets any mutex within so many nanoseconds.
 fn gets_within<M: lock_raw::RawMutexTimed, R: Wait>(
     rt: &R,
-    mutex: &lock_api::Mutex<M, u8>,
+    mutex: &lock_api::Mutex<M, u64>,
     token: &mut M::Token,
     clock: &TickClock,
     nanos: u64,
@@ -34,7 +33,7 @@ fn gets_within<M: lock_raw::RawMutexTimed, R: Wait>(
 // Whether it gets any mutex before the clock comes to a time.
 fn gets_before<M: lock_raw::RawMutexTimed, R: Wait>(
     rt: &R,
-    mutex: &lock_api::Mutex<M, u8>,
+    mutex: &lock_api::Mutex<M, u64>,
     token: &mut M::Token,
     clock: &TickClock,
     deadline: u64,
@@ -72,7 +71,7 @@ fn is_just_past(clock: &TickClock, time: u64) -> bool
 // was to, and soon behind that.
 fn gives_up<M: lock_raw::RawMutexTimed, R: Wait>(
     rt: &R,
-    mutex: &lock_api::Mutex<M, u8>,
+    mutex: &lock_api::Mutex<M, u64>,
     token: &mut M::Token,
     clock: &TickClock,
 ) -> bool
@@ -88,7 +87,7 @@ fn gives_up<M: lock_raw::RawMutexTimed, R: Wait>(
 // Whether it gives up beside who holds the mutex, and gets it in time once that is free.
 fn gives_up_and_gets<M: lock_raw::RawMutexTimed, R: Wait>(
     rt: &R,
-    mutex: &lock_api::Mutex<M, u8>,
+    mutex: &lock_api::Mutex<M, u64>,
     token: &mut M::Token,
 ) -> [bool; 3]
     requires { M.is_token_of (M.lot_of mutex.now) token.old }
@@ -102,51 +101,44 @@ fn gives_up_and_gets<M: lock_raw::RawMutexTimed, R: Wait>(
 }
 
 #[test]
-fn who_waits_gives_up_in_time(rt: HostRuntime) -> Result<(), Fail> {
-    let (mutex, mut token) = mutex_alone(rt.alloc(), 0u8)?;
-    same(
-        &rt,
-        gives_up_and_gets(&rt, &mutex, &mut token),
-        [true, true, false],
-    );
-    Ok(())
+fn who_waits_gives_up_in_time(rt: HostRuntime) {
+    let (mutex, mut token) = mutex_alone(&rt, rt.alloc(), 0u64);
+    let seen = gives_up_and_gets(&rt, &mutex, &mut token);
+    same(&rt, seen, [true, true, false]);
 }
 
 #[test]
-fn who_waits_for_a_fair_mutex_gives_up_in_time(rt: HostRuntime) -> Result<(), Fail> {
-    let (lot, mut token) = lone(rt.alloc())?;
-    let Ok(mutex) = FairMutex::new(&lot, &mut token, 0u8) else {
-        return Err("the mutex was refused".into());
-    };
-    same(
-        &rt,
-        gives_up_and_gets(&rt, &mutex, &mut token),
-        [true, true, false],
-    );
-    Ok(())
+fn who_waits_for_a_fair_mutex_gives_up_in_time(rt: HostRuntime) {
+    let (mutex, mut token) = fair_mutex_alone(&rt, rt.alloc(), 0);
+    let seen = gives_up_and_gets(&rt, &mutex, &mut token);
+    same(&rt, seen, [true, true, false]);
 }
 
-// Whether it gets the mutex past the deadline: free, held, and free again.
+// Whether it gets the mutex past the deadline: free, held by another thread, and free again.
 fn tries_in_turn<R: Wait>(
     rt: &R,
-    mutex: &Mutex<u8>,
+    mutex: &Mutex<u64>,
     holder: &mut Token,
-    waiter: &mut Token,
+    waiter: Ticket,
 ) -> [bool; 3]
-    requires { IsTokenOf (lot_of mutex.now) holder.old × IsTokenOf (lot_of mutex.now) waiter.old }
+    requires { IsTokenOf (lot_of mutex.now) holder.old × IsTicketOf (lot_of mutex.now) waiter }
 {
+    let mut waiter = waiter.enter();
     let clock = TickClock::new();
-    let before = gets_before(rt, mutex, waiter, &clock, 0);
+    let before = gets_before(rt, mutex, &mut waiter, &clock, 0);
     let guard = mutex.lock(rt, holder);
-    let held = gets_before(rt, mutex, waiter, &clock, 0);
+    let held = gets_before(rt, mutex, &mut waiter, &clock, 0);
     guard.unlock(rt, holder);
-    [before, held, gets_before(rt, mutex, waiter, &clock, 0)]
+    [before, held, gets_before(rt, mutex, &mut waiter, &clock, 0)]
 }
 
 #[test]
-fn a_free_mutex_is_got_past_the_deadline(rt: HostRuntime) -> Result<(), Fail> {
-    let (_lot, mutex, mut holder, mut waiter) = pair(rt.alloc())?;
-    let got = tries_in_turn(&rt, &mutex, &mut holder, &mut waiter);
+fn a_free_mutex_is_got_past_the_deadline(rt: HostRuntime) {
+    let (lot, mut holder, mut others) = seats(&rt, rt.alloc(), 1, 2);
+    let mutex = mutex_of(&rt, &lot, &mut holder, 0u64);
+    let Some(waiter) = next_of(&lot, &mut others) else {
+        panic!(rt; "no second thread");
+    };
+    let got = tries_in_turn(&rt, &mutex, &mut holder, waiter);
     same(&rt, got, [true, false, true]);
-    Ok(())
 }

@@ -1,38 +1,17 @@
 //! Threads that wait for the end of one run.
-ghost use Rattle.std.specs.Prelude.{◌≡◌, All};
-ghost use Rattle.run_once.specs.Users.{IsTicketOf, IsTokenOf, lot_of};
+ghost use Rattle.std.specs.Prelude.{◌≡◌};
+ghost use Rattle.run_once.specs.Users.{IsTokenOf, lot_of};
 
-use super::{all_are_content, count_run, fail, holds, once_for};
-use parking_lot_core::{Fault, ParkingLot, Ticket, Token};
+use super::crowds::{Part, Told, play};
+use super::{count_run, same};
+use parking_lot_core::{ParkingLot, Token};
 use run_once::{Once, OnceFault, OnceState};
-use std::alloc::Global;
 use std::sync::Wait;
+use std::sync::atomic::AtomicBool;
 use std::sync::atomic::Ordering::SeqCst;
-use std::sync::atomic::{AtomicBool, AtomicUsize};
-use std::test::Fail;
-use std::thread::{Threads, yield_now};
+use std::thread::yield_now;
 
 const TURNS: usize = 1_000_000;
-
-/// What the threads tell one another.
-#[derive(Drop)]
-struct Told {
-    came: AtomicUsize,
-    inside: AtomicBool,
-    go: AtomicBool,
-    further: AtomicUsize,
-}
-
-impl Told {
-    fn new() -> Told {
-        Told {
-            came: AtomicUsize::new(0),
-            inside: AtomicBool::new(false),
-            go: AtomicBool::new(false),
-            further: AtomicUsize::new(0),
-        }
-    }
-}
 
 fn await_flag<R: Wait>(rt: &R, flag: &AtomicBool) {
     for _ in rt.forever() {
@@ -44,43 +23,38 @@ fn await_flag<R: Wait>(rt: &R, flag: &AtomicBool) {
 }
 
 // A forced call whose closure waits to be let go. Whether it ended well.
-fn run_long<R: Wait>(rt: &R, once: &Once, ticket: Ticket, told: &Told) -> bool
-    requires { IsTicketOf (lot_of once.now) ticket }
+pub(super) fn run_long<R: Wait>(rt: &R, once: &Once, token: &mut Token, told: &Told) -> bool
+    requires { IsTokenOf (lot_of once.now) token.old }
+    ensures { IsTokenOf (lot_of once.now) token.new }
 {
-    let mut token = ticket.enter();
     let answer: Result<(), OnceFault<u32>> = once.call_once_force(
         rt,
-        &mut token,
+        token,
         move |_before: OnceState| {
             told.inside.store(true, SeqCst);
             await_flag(rt, &told.go);
             Ok(())
         },
     );
-    drop(token.leave());
     answer.is_ok()
 }
 
 // A call beside a run. Whether it ended well.
-fn call_beside<R: Wait>(rt: &R, once: &Once, ticket: Ticket, told: &Told) -> bool
-    requires { IsTicketOf (lot_of once.now) ticket }
+pub(super) fn call_beside<R: Wait>(rt: &R, once: &Once, token: &mut Token, told: &Told) -> bool
+    requires { IsTokenOf (lot_of once.now) token.old }
+    ensures { IsTokenOf (lot_of once.now) token.new }
 {
-    let mut token = ticket.enter();
     await_flag(rt, &told.inside);
-    let answer = count_run(rt, once, &mut token, &told.further);
-    drop(token.leave());
-    answer == "ok"
+    count_run(rt, once, token, &told.runs) == "ok"
 }
 
 // A wait beside a run.
-fn wait_beside<R: Wait>(rt: &R, once: &Once, ticket: Ticket, told: &Told) -> bool
-    requires { IsTicketOf (lot_of once.now) ticket }
+pub(super) fn wait_beside<R: Wait>(rt: &R, once: &Once, token: &mut Token, told: &Told) -> bool
+    requires { IsTokenOf (lot_of once.now) token.old }
+    ensures { IsTokenOf (lot_of once.now) token.new }
 {
-    let mut token = ticket.enter();
     await_flag(rt, &told.inside);
-    let waited = once.wait(rt, &mut token).is_ok();
-    drop(token.leave());
-    waited
+    once.wait(rt, token).is_ok()
 }
 
 // Whether two came to wait for the end of its run.
@@ -98,66 +72,29 @@ fn two_wait<R: Wait>(rt: &R, lot: &ParkingLot, once: &Once, token: &mut Token) -
 }
 
 // Lets the run go once two wait for its end. Whether that was seen.
-fn let_go<R: Wait>(rt: &R, lot: &ParkingLot, once: &Once, ticket: Ticket, told: &Told) -> bool
-    requires { IsTicketOf (lot_of once.now) ticket × (lot_of once.now ≡ lot.now) }
-{
-    let mut token = ticket.enter();
-    let seen = two_wait(rt, lot, once, &mut token);
-    told.go.store(true, SeqCst);
-    drop(token.leave());
-    seen
-}
-
-// The threads share the parts among them, by the order in which they come.
-fn take_part<R: Wait>(rt: &R, lot: &ParkingLot, once: &Once, ticket: Ticket, told: &Told) -> bool
-    requires { IsTicketOf (lot_of once.now) ticket × (lot_of once.now ≡ lot.now) }
-{
-    match told.came.fetch_add(1, SeqCst) {
-        0 => run_long(rt, once, ticket, told),
-        1 => call_beside(rt, once, ticket, told),
-        2 => wait_beside(rt, once, ticket, told),
-        _ => let_go(rt, lot, once, ticket, told),
-    }
-}
-
-// Whether who calls and who waits beside a run came through with it, and nothing ran but that.
-fn all_meet<R: Threads + Wait + Sync>(
+pub(super) fn let_go<R: Wait>(
     rt: &R,
     lot: &ParkingLot,
     once: &Once,
-    tickets: Vec<Ticket>,
+    token: &mut Token,
+    told: &Told,
 ) -> bool
-    requires once { lot_of once.now ≡ lot.now }
-    requires tickets { All (IsTicketOf (lot_of once.now)) tickets.items }
+    requires { IsTokenOf lot.now token.old × (lot_of once.now ≡ lot.now) }
+    ensures { IsTokenOf lot.now token.new }
 {
-    let told = &Told::new();
-    let met = all_are_content(
-        rt,
-        tickets,
-        &|ticket: Ticket|
-            requires { IsTicketOf (lot_of once.now) ticket × (lot_of once.now ≡ lot.now) }
-        { take_part(rt, lot, once, ticket, told) },
-    );
-    met && told.further.load(SeqCst) == 0
-}
-
-// The same of four threads. An earlier run may have failed.
-fn meet<R: Threads + Wait + Sync>(rt: &R, alloc: Global, poisoned: bool) -> Result<bool, Fault> {
-    let (lot, once, mut token, others) = once_for(alloc, 5)?;
-    if poisoned && fail(rt, &once, &mut token) != "failed" {
-        return Ok(false);
-    }
-    Ok(all_meet(rt, &lot, &once, others) && once.is_completed(&mut token))
+    let seen = two_wait(rt, lot, once, token);
+    told.go.store(true, SeqCst);
+    seen
 }
 
 #[test]
-fn who_comes_beside_a_run_waits_for_its_end(rt: HostRuntime) -> Result<(), Fail> {
-    holds(&rt, meet(&rt, rt.alloc(), false)?);
-    Ok(())
+fn who_comes_beside_a_run_waits_for_its_end(rt: HostRuntime) {
+    let found = play(&rt, rt.alloc(), 4, Part::Meet { poisoned: false });
+    same(&rt, found, (true, true, 0));
 }
 
 #[test]
-fn who_comes_beside_a_forced_run_waits_for_it(rt: HostRuntime) -> Result<(), Fail> {
-    holds(&rt, meet(&rt, rt.alloc(), true)?);
-    Ok(())
+fn who_comes_beside_a_forced_run_waits_for_it(rt: HostRuntime) {
+    let found = play(&rt, rt.alloc(), 4, Part::Meet { poisoned: true });
+    same(&rt, found, (true, true, 0));
 }

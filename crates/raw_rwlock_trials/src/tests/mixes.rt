@@ -1,29 +1,23 @@
 //! Threads that do all that a reader-writer lock has, each in an order of its own.
-ghost use Rattle.std.specs.Prelude.{◌≡◌, IfOk, IfSome};
-ghost use Rattle.parking_lot_core.specs.Tokens.{IsTicketOf, IsTokenOf};
+ghost use Rattle.std.specs.Prelude.{IfOk, IfSome};
+ghost use Rattle.parking_lot_core.specs.Tokens.{IsTokenOf};
 ghost use Rattle.parking_lot.specs.RwLockGuards.{IsExclusiveOf, IsSharedOf, IsUpgradableOf};
 ghost use Rattle.parking_lot.specs.RwLockUsers.{lot_of, word_of};
 
+use super::crowds::{Part, play};
 use super::holds;
 use parking_lot::lock_raw::{
     RawRwLock as RawLock, RawRwLockDowngrade, RawRwLockFair, RawRwLockTimed, RawRwLockUpgrade,
     RawRwLockUpgradeDowngrade, RawRwLockUpgradeFair, RawRwLockUpgradeTimed,
 };
 use parking_lot::{
-    Fault, RawExclusiveGuard, RawRwLock, RawSharedGuard, RawUpgradableGuard, TickClock, Ticket,
-    Token,
+    Fault, RawExclusiveGuard, RawRwLock, RawSharedGuard, RawUpgradableGuard, TickClock, Token,
 };
-use raw_rwlock_fixtures::{Inside, seats};
-use std::alloc::Global;
+use raw_rwlock_fixtures::Inside;
 use std::sync::Wait;
-use std::sync::atomic::AtomicUsize;
-use std::sync::atomic::Ordering::SeqCst;
 use std::test::Fail;
-use std::thread::{Threads, map_vec};
 
 const ROUNDS: usize = 300;
-
-const THREADS: usize = 6;
 
 // Reads where it came in, and goes.
 fn read_by<const RECURSIVE: bool, R: Wait>(
@@ -291,54 +285,38 @@ fn turn<const RECURSIVE: bool, R: Wait>(
     }
 }
 
-fn mix<const RECURSIVE: bool, R: Wait>(
+// Many turns of a thread, in an order of its own.
+pub(super) fn mix<const RECURSIVE: bool, R: Wait>(
     rt: &R,
     lock: &RawRwLock<RECURSIVE>,
-    ticket: Ticket,
+    token: &mut Token,
     inside: &Inside,
-    next: &AtomicUsize,
-)
-    requires { IsTicketOf (lot_of lock.now) ticket }
+    start: usize,
+) -> bool
+    requires { IsTokenOf (lot_of lock.now) token.old }
+    ensures { IsTokenOf (lot_of lock.now) token.new }
 {
-    let start = next.fetch_add(1, SeqCst);
-    let mut token = ticket.enter();
     for round in 0..ROUNDS {
-        turn(
-            rt,
-            lock,
-            &mut token,
-            inside,
-            start.wrapping_mul(round).wrapping_add(round / 5),
-        );
+        let number = start.wrapping_mul(round).wrapping_add(round / 5);
+        turn(rt, lock, token, inside, number);
     }
-    drop(token.leave());
-}
-
-// Whether all threads were through, and nobody found whom nobody may find.
-fn all_mix<const RECURSIVE: bool, R: Threads + Wait + Sync>(
-    rt: &R,
-    alloc: Global,
-) -> Result<bool, Fault> {
-    let (_lot, lock, tickets) = seats::<RECURSIVE>(alloc, THREADS, 1000)?;
-    let (shared, inside, next) = (&lock, &Inside::new(), &AtomicUsize::new(1));
-    let mixed = map_vec(
-        rt,
-        tickets,
-        &|ticket: Ticket|
-            requires { IsTicketOf (lot_of shared.now) ticket }
-        { mix(rt, shared, ticket, inside, next) },
-    );
-    Ok(mixed.is_ok() && inside.wrongs() == 0)
+    true
 }
 
 #[test]
 fn six_threads_mix_all_calls(rt: HostRuntime) -> Result<(), Fail> {
-    holds(&rt, all_mix::<false, HostRuntime>(&rt, rt.alloc())?);
+    holds(
+        &rt,
+        play::<false, HostRuntime>(&rt, rt.alloc(), 6, Part::Mix)?,
+    );
     Ok(())
 }
 
 #[test]
 fn six_threads_mix_all_calls_of_a_recursive_lock(rt: HostRuntime) -> Result<(), Fail> {
-    holds(&rt, all_mix::<true, HostRuntime>(&rt, rt.alloc())?);
+    holds(
+        &rt,
+        play::<true, HostRuntime>(&rt, rt.alloc(), 6, Part::Mix)?,
+    );
     Ok(())
 }

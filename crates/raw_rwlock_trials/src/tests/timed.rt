@@ -1,22 +1,24 @@
 //! Waits for a reader-writer lock that end in time.
-ghost use Rattle.std.specs.Prelude.{◌≡◌, ◌∷◌, [], IfOk, IfSome};
-ghost use Rattle.std.specs.Arc.{arc_value};
-ghost use Rattle.parking_lot_core.specs.Tokens.{IsTicketOf, IsTokenOf};
+ghost use Rattle.std.specs.Prelude.{◌≡◌};
+ghost use Rattle.parking_lot_core.specs.Tokens.{IsTokenOf};
 ghost use Rattle.parking_lot.specs.RwLockGuards.{IsSharedOf};
 ghost use Rattle.parking_lot.specs.RwLockUsers.{lot_of, word_of};
 
-use super::{FREE, READ, UPGRADABLE, WRITTEN, holds, look};
+use super::crowds::{Part, Told, play};
+use super::{
+    FREE, READ, UPGRADABLE, WRITTEN, goes, goes_upgradable, goes_writing, holds, look, look_and_go,
+};
 use parking_lot::lock_raw::{
     RawRwLock as RawLock, RawRwLockTimed, RawRwLockUpgrade, RawRwLockUpgradeTimed,
 };
-use parking_lot::{Clock, Fault, ParkingLot, RawRwLock, RawSharedGuard, TickClock, Ticket, Token};
-use raw_rwlock_fixtures::{await_flag, comes_to, lock_alone, queue_up, seats};
+use parking_lot::{Clock, Fault, ParkingLot, RawRwLock, RawSharedGuard, TickClock, Token};
+use raw_rwlock_fixtures::{await_flag, comes_to, lock_alone, queue_up};
 use std::alloc::Global;
 use std::sync::Wait;
+use std::sync::atomic::AtomicBool;
 use std::sync::atomic::Ordering::SeqCst;
-use std::sync::atomic::{AtomicBool, AtomicUsize};
 use std::test::Fail;
-use std::thread::{Threads, map_vec, yield_now};
+use std::thread::yield_now;
 use std::time::Duration;
 
 // A deadline that is come to soon, on a clock that begins at 0.
@@ -48,14 +50,7 @@ fn reads_in_vain<const RECURSIVE: bool, R: Wait>(
     } else {
         lock.try_lock_shared_for(rt, token, &clock, soon())
     };
-    match taken {
-        Ok(Some(guard)) => {
-            lock.unlock_shared(rt, token, guard);
-            false
-        }
-        Ok(None) => gave_up_soon(&clock),
-        Err(_) => false,
-    }
+    matches!(goes(rt, lock, token, taken), Some(false)) && gave_up_soon(&clock)
 }
 
 // The same of an upgradable reader.
@@ -74,14 +69,7 @@ fn comes_upgradable_in_vain<const RECURSIVE: bool, R: Wait>(
     } else {
         lock.try_lock_upgradable_for(rt, token, &clock, soon())
     };
-    match taken {
-        Ok(Some(guard)) => {
-            lock.unlock_upgradable(rt, token, guard);
-            false
-        }
-        Ok(None) => gave_up_soon(&clock),
-        Err(_) => false,
-    }
+    matches!(goes_upgradable(rt, lock, token, taken), Some(false)) && gave_up_soon(&clock)
 }
 
 // The same of a writer.
@@ -100,13 +88,7 @@ fn writes_in_vain<const RECURSIVE: bool, R: Wait>(
     } else {
         lock.try_lock_exclusive_for(rt, token, &clock, soon())
     };
-    match taken {
-        Some(guard) => {
-            lock.unlock_exclusive(rt, token, guard);
-            false
-        }
-        None => gave_up_soon(&clock),
-    }
+    !goes_writing(rt, lock, token, taken) && gave_up_soon(&clock)
 }
 
 // Whether the waits for each right end without it, and soon.
@@ -192,21 +174,12 @@ fn upgrades_in_time<const RECURSIVE: bool, R: Wait>(
     let Ok(guard) = lock.lock_upgradable(rt, token) else {
         return None;
     };
-    match lock.try_upgrade_for(rt, token, guard, &clock, soon()) {
-        Ok(guard) => {
-            let seen = look(rt, lock, token);
-            lock.unlock_exclusive(rt, token, guard);
-            Some(seen)
-        }
-        Err(guard) => {
-            let seen = look(rt, lock, token);
-            lock.unlock_upgradable(rt, token, guard);
-            if gave_up_soon(&clock) {
-                Some(seen)
-            } else {
-                None
-            }
-        }
+    let turned = lock.try_upgrade_for(rt, token, guard, &clock, soon());
+    let (upgraded, seen) = look_and_go(rt, lock, token, turned);
+    if upgraded || gave_up_soon(&clock) {
+        Some(seen)
+    } else {
+        None
     }
 }
 
@@ -256,61 +229,35 @@ impl Clock for FlagClock<'_> {
     }
 }
 
-/// What the threads tell one another.
-#[derive(Drop)]
-struct Told {
-    parts: AtomicUsize,
-    held: AtomicBool,
-    up: AtomicBool,
-    came: AtomicUsize,
-}
-
-impl Told {
-    fn new() -> Told {
-        Told {
-            parts: AtomicUsize::new(0),
-            held: AtomicBool::new(false),
-            up: AtomicBool::new(false),
-            came: AtomicUsize::new(0),
-        }
-    }
-}
-
 // Waits beside a reader to own the lock alone, until the time is up. Whether it gave up.
-fn write_in_vain<R: Wait>(
+fn write_in_vain<const RECURSIVE: bool, R: Wait>(
     rt: &R,
-    lock: &RawRwLock<false>,
+    lock: &RawRwLock<RECURSIVE>,
     token: &mut Token,
     clock: &FlagClock<'_>,
 ) -> bool
     requires { IsTokenOf (lot_of lock.now) token.old }
+    ensures { IsTokenOf (lot_of lock.now) token.new }
 {
-    match lock.try_lock_exclusive_until(rt, token, clock, 1) {
-        Some(guard) => {
-            lock.unlock_exclusive(rt, token, guard);
-            false
-        }
-        None => true,
-    }
+    let came = lock.try_lock_exclusive_until(rt, token, clock, 1);
+    !goes_writing(rt, lock, token, came)
 }
 
 // The same of an upgrade.
-fn upgrade_in_vain<R: Wait>(
+fn upgrade_in_vain<const RECURSIVE: bool, R: Wait>(
     rt: &R,
-    lock: &RawRwLock<false>,
+    lock: &RawRwLock<RECURSIVE>,
     token: &mut Token,
     clock: &FlagClock<'_>,
 ) -> bool
     requires { IsTokenOf (lot_of lock.now) token.old }
+    ensures { IsTokenOf (lot_of lock.now) token.new }
 {
     let Ok(guard) = lock.lock_upgradable(rt, token) else {
         return false;
     };
     match lock.try_upgrade_until(rt, token, guard, clock, 1) {
-        Ok(guard) => {
-            lock.unlock_exclusive(rt, token, guard);
-            false
-        }
+        Ok(guard) => !goes_writing(rt, lock, token, Some(guard)),
         Err(guard) => {
             lock.unlock_upgradable(rt, token, guard);
             true
@@ -319,41 +266,41 @@ fn upgrade_in_vain<R: Wait>(
 }
 
 // Waits once a reader holds the lock. Whether it gave up.
-fn give_up<R: Wait>(
+pub(super) fn give_up<const RECURSIVE: bool, R: Wait>(
     rt: &R,
-    lock: &RawRwLock<false>,
-    ticket: Ticket,
+    lock: &RawRwLock<RECURSIVE>,
+    token: &mut Token,
     upgrades: bool,
     told: &Told,
 ) -> bool
-    requires { IsTicketOf (lot_of lock.now) ticket }
+    requires { IsTokenOf (lot_of lock.now) token.old }
+    ensures { IsTokenOf (lot_of lock.now) token.new }
 {
     await_flag(rt, &told.held);
-    let mut token = ticket.enter();
     let clock = FlagClock(&told.up);
     if upgrades {
-        upgrade_in_vain(rt, lock, &mut token, &clock)
+        upgrade_in_vain(rt, lock, token, &clock)
     } else {
-        write_in_vain(rt, lock, &mut token, &clock)
+        write_in_vain(rt, lock, token, &clock)
     }
 }
 
 // Reads once a writer waits, which keeps it out at first.
-fn come_behind<R: Wait>(
+pub(super) fn come_behind<const RECURSIVE: bool, R: Wait>(
     rt: &R,
     lot: &ParkingLot,
-    lock: &RawRwLock<false>,
-    ticket: Ticket,
+    lock: &RawRwLock<RECURSIVE>,
+    token: &mut Token,
     told: &Told,
 ) -> bool
-    requires { IsTicketOf (lot_of lock.now) ticket × (lot_of lock.now ≡ lot.now) }
+    requires { IsTokenOf lot.now token.old × (lot_of lock.now ≡ lot.now) }
+    ensures { IsTokenOf lot.now token.new }
 {
-    let mut token = ticket.enter();
-    let aside = queue_up(rt, lot, lock, &mut token, 0, 1);
-    match lock.lock_shared(rt, &mut token) {
+    let aside = queue_up(rt, lot, lock, token, 0, 1);
+    match lock.lock_shared(rt, token) {
         Ok(guard) => {
             told.came.fetch_add(1, SeqCst);
-            lock.unlock_shared(rt, &mut token, guard);
+            lock.unlock_shared(rt, token, guard);
             aside
         }
         Err(_) => false,
@@ -361,71 +308,41 @@ fn come_behind<R: Wait>(
 }
 
 // Reads until the writer gave up, and another reader came in for that reason.
-fn read_on<R: Wait>(
+pub(super) fn read_on<const RECURSIVE: bool, R: Wait>(
     rt: &R,
     lot: &ParkingLot,
-    lock: &RawRwLock<false>,
-    ticket: Ticket,
+    lock: &RawRwLock<RECURSIVE>,
+    token: &mut Token,
     told: &Told,
 ) -> bool
-    requires { IsTicketOf (lot_of lock.now) ticket × (lot_of lock.now ≡ lot.now) }
+    requires { IsTokenOf lot.now token.old × (lot_of lock.now ≡ lot.now) }
+    ensures { IsTokenOf lot.now token.new }
 {
-    let mut token = ticket.enter();
-    let Ok(guard) = lock.lock_shared(rt, &mut token) else {
+    let Ok(guard) = lock.lock_shared(rt, token) else {
         return false;
     };
     told.held.store(true, SeqCst);
-    let stood = queue_up(rt, lot, lock, &mut token, 1, 1);
+    let stood = queue_up(rt, lot, lock, token, 1, 1);
     told.up.store(true, SeqCst);
     let came = comes_to(&told.came, 1);
-    lock.unlock_shared(rt, &mut token, guard);
+    lock.unlock_shared(rt, token, guard);
     stood && came
-}
-
-// The first who comes reads, the next gives up, and the third comes behind it.
-fn take_part<R: Wait>(
-    rt: &R,
-    lot: &ParkingLot,
-    lock: &RawRwLock<false>,
-    ticket: Ticket,
-    upgrades: bool,
-    told: &Told,
-) -> bool
-    requires { IsTicketOf (lot_of lock.now) ticket × (lot_of lock.now ≡ lot.now) }
-{
-    match told.parts.fetch_add(1, SeqCst) {
-        0 => read_on(rt, lot, lock, ticket, told),
-        1 => give_up(rt, lock, ticket, upgrades, told),
-        _ => come_behind(rt, lot, lock, ticket, told),
-    }
-}
-
-// Whether a writer that gives up beside a reader lets another reader in.
-fn lets_readers_in<R: Threads + Wait + Sync>(
-    rt: &R,
-    alloc: Global,
-    upgrades: bool,
-) -> Result<bool, Fault> {
-    let (lot, lock, tickets) = seats::<false>(alloc, 3, 1000)?;
-    let (lot, lock, told) = (&*lot, &lock, &Told::new());
-    let ended = map_vec(
-        rt,
-        tickets,
-        &|ticket: Ticket|
-            requires { IsTicketOf (lot_of lock.now) ticket × (lot_of lock.now ≡ lot.now) }
-        { take_part(rt, lot, lock, ticket, upgrades, told) },
-    );
-    Ok(ended.is_ok_and(|ended| ended.iter().all(|well| *well)))
 }
 
 #[test]
 fn a_writer_that_gives_up_lets_readers_in(rt: HostRuntime) -> Result<(), Fail> {
-    holds(&rt, lets_readers_in(&rt, rt.alloc(), false)?);
+    holds(
+        &rt,
+        play::<false, HostRuntime>(&rt, rt.alloc(), 3, Part::LetIn(false))?,
+    );
     Ok(())
 }
 
 #[test]
 fn an_upgrade_that_gives_up_lets_readers_in(rt: HostRuntime) -> Result<(), Fail> {
-    holds(&rt, lets_readers_in(&rt, rt.alloc(), true)?);
+    holds(
+        &rt,
+        play::<false, HostRuntime>(&rt, rt.alloc(), 3, Part::LetIn(true))?,
+    );
     Ok(())
 }

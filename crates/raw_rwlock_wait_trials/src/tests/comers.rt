@@ -1,12 +1,12 @@
 //! Threads that come to a lock that is held.
-ghost use Rattle.parking_lot_core.specs.Tokens.{IsTicketOf, IsTokenOf};
+ghost use Rattle.parking_lot_core.specs.Tokens.{IsTokenOf};
 ghost use Rattle.parking_lot.specs.RwLockUsers.{lot_of};
 
 use super::scenes::{Coming, Scene, Told};
 use parking_lot::lock_raw::{
     RawRwLock as RawLock, RawRwLockTimed, RawRwLockUpgrade, RawRwLockUpgradeTimed,
 };
-use parking_lot::{RawRwLock, TickClock, Ticket, Token};
+use parking_lot::{RawRwLock, TickClock, Token};
 use raw_rwlock_fixtures::await_flag;
 use std::sync::Wait;
 use std::sync::atomic::Ordering::SeqCst;
@@ -94,17 +94,16 @@ fn come_in_time<const RECURSIVE: bool, R: Wait>(
 pub(super) fn come_later<const RECURSIVE: bool, R: Wait>(
     rt: &R,
     lock: &RawRwLock<RECURSIVE>,
-    ticket: Ticket,
+    token: &mut Token,
     scene: &Scene,
     told: &Told,
 )
-    requires { IsTicketOf (lot_of lock.now) ticket }
+    requires { IsTokenOf (lot_of lock.now) token.old }
 {
     await_flag(rt, &told.held);
     let role = told.roles.fetch_add(1, SeqCst);
-    let mut token = ticket.enter();
     match scene.coming.get(role) {
-        Some(coming) => come(rt, lock, &mut token, *coming, told),
+        Some(coming) => come(rt, lock, token, *coming, told),
         None => {}
     }
 }

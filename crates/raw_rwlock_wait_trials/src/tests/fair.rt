@@ -24,18 +24,16 @@ fn scene(manner: Manner, coming: [Coming; 3], main: usize, second: usize) -> Sce
 }
 
 #[test]
-fn a_writer_hands_the_lock_over(rt: HostRuntime) -> Result<(), Fail> {
-    play::<false, HostRuntime>(&rt, rt.alloc(), scene(Manner::Handed, ALL, 3, 0))?;
-    play::<true, HostRuntime>(&rt, rt.alloc(), scene(Manner::Handed, ALL, 3, 0))?;
-    play::<false, HostRuntime>(&rt, rt.alloc(), scene(Manner::Handed, READERS, 3, 0))?;
-    Ok(())
+fn a_writer_hands_the_lock_over(rt: HostRuntime) {
+    play::<false, HostRuntime>(&rt, rt.alloc(), scene(Manner::Handed, ALL, 3, 0));
+    play::<true, HostRuntime>(&rt, rt.alloc(), scene(Manner::Handed, ALL, 3, 0));
+    play::<false, HostRuntime>(&rt, rt.alloc(), scene(Manner::Handed, READERS, 3, 0));
 }
 
 #[test]
-fn a_writer_that_bumps_lets_others_in(rt: HostRuntime) -> Result<(), Fail> {
-    play::<false, HostRuntime>(&rt, rt.alloc(), scene(Manner::Bumped, ALL, 3, 0))?;
-    play::<true, HostRuntime>(&rt, rt.alloc(), scene(Manner::Bumped, READERS, 3, 0))?;
-    Ok(())
+fn a_writer_that_bumps_lets_others_in(rt: HostRuntime) {
+    play::<false, HostRuntime>(&rt, rt.alloc(), scene(Manner::Bumped, ALL, 3, 0));
+    play::<true, HostRuntime>(&rt, rt.alloc(), scene(Manner::Bumped, READERS, 3, 0));
 }
 
 const TIMED: [Coming; 3] = [
@@ -45,45 +43,41 @@ const TIMED: [Coming; 3] = [
 ];
 
 #[test]
-fn who_waits_with_a_deadline_is_handed_the_lock(rt: HostRuntime) -> Result<(), Fail> {
-    play::<false, HostRuntime>(&rt, rt.alloc(), scene(Manner::Handed, TIMED, 3, 0))?;
-    play::<true, HostRuntime>(&rt, rt.alloc(), scene(Manner::Bumped, TIMED, 3, 0))?;
+fn who_waits_with_a_deadline_is_handed_the_lock(rt: HostRuntime) {
+    play::<false, HostRuntime>(&rt, rt.alloc(), scene(Manner::Handed, TIMED, 3, 0));
+    play::<true, HostRuntime>(&rt, rt.alloc(), scene(Manner::Bumped, TIMED, 3, 0));
     let upgradables = [
         Coming::TimedUpgradable,
         Coming::TimedUpgradable,
         Coming::TimedWriter,
     ];
     let handed = scene(Manner::UpgradableHanded, upgradables, 3, 0);
-    play::<false, HostRuntime>(&rt, rt.alloc(), handed)?;
-    Ok(())
+    play::<false, HostRuntime>(&rt, rt.alloc(), handed);
 }
 
 // An exclusive owner hands the lock to all who read, also where they are more than may come in by
 // themselves.
 #[test]
-fn all_who_are_handed_the_lock_have_it(rt: HostRuntime) -> Result<(), Fail> {
+fn all_who_are_handed_the_lock_have_it(rt: HostRuntime) {
     let readers = [Coming::Reader, Coming::Reader, Coming::Reader];
     let handed = scene(Manner::Handed, readers, 3, 0);
-    play_within::<false, HostRuntime>(&rt, rt.alloc(), handed, 1)?;
-    Ok(())
+    play_within::<false, HostRuntime>(&rt, rt.alloc(), handed, 1);
 }
 
 const UPGRADABLES: [Coming; 3] = [Coming::Upgradable, Coming::Upgradable, Coming::Writer];
 
 #[test]
-fn an_upgradable_owner_hands_the_lock_over(rt: HostRuntime) -> Result<(), Fail> {
+fn an_upgradable_owner_hands_the_lock_over(rt: HostRuntime) {
     let handed = scene(Manner::UpgradableHanded, UPGRADABLES, 3, 0);
-    play::<false, HostRuntime>(&rt, rt.alloc(), handed)?;
+    play::<false, HostRuntime>(&rt, rt.alloc(), handed);
     let bumped = scene(Manner::UpgradableBumped, UPGRADABLES, 3, 0);
-    play::<false, HostRuntime>(&rt, rt.alloc(), bumped)?;
-    Ok(())
+    play::<false, HostRuntime>(&rt, rt.alloc(), bumped);
 }
 
 #[test]
-fn a_reader_that_bumps_lets_a_writer_in(rt: HostRuntime) -> Result<(), Fail> {
+fn a_reader_that_bumps_lets_a_writer_in(rt: HostRuntime) {
     let bumped = scene(Manner::ReaderBumped, WRITERS, 2, 1);
-    play::<false, HostRuntime>(&rt, rt.alloc(), bumped)?;
-    Ok(())
+    play::<false, HostRuntime>(&rt, rt.alloc(), bumped);
 }
 
 // What is seen of a lock that one thread has to itself, where it bumps each right and releases it

@@ -1,6 +1,6 @@
 //! Threads that hold a lock until others wait for it, and let them in.
 ghost use Rattle.std.specs.Prelude.{◌≡◌};
-ghost use Rattle.parking_lot_core.specs.Tokens.{IsTicketOf, IsTokenOf};
+ghost use Rattle.parking_lot_core.specs.Tokens.{IsTokenOf};
 ghost use Rattle.parking_lot.specs.RwLockGuards.{IsExclusiveOf, IsSharedOf, IsUpgradableOf};
 ghost use Rattle.parking_lot.specs.RwLockUsers.{lot_of, word_of};
 
@@ -10,7 +10,7 @@ use parking_lot::lock_raw::{
     RawRwLockUpgradeDowngrade, RawRwLockUpgradeFair,
 };
 use parking_lot::{
-    ParkingLot, RawExclusiveGuard, RawRwLock, RawSharedGuard, RawUpgradableGuard, Ticket, Token,
+    ParkingLot, RawExclusiveGuard, RawRwLock, RawSharedGuard, RawUpgradableGuard, Token,
 };
 use raw_rwlock_fixtures::{comes_to, queue_up};
 use std::sync::Wait;
@@ -223,25 +223,24 @@ pub(super) fn hold<const RECURSIVE: bool, R: Wait>(
     rt: &R,
     lot: &ParkingLot,
     lock: &RawRwLock<RECURSIVE>,
-    ticket: Ticket,
+    token: &mut Token,
     scene: &Scene,
     told: &Told,
 ) -> bool
-    requires { IsTicketOf (lot_of lock.now) ticket × (lot_of lock.now ≡ lot.now) }
+    requires { IsTokenOf lot.now token.old × (lot_of lock.now ≡ lot.now) }
 {
-    let mut token = ticket.enter();
     match scene.manner {
         Manner::Unlocked
         | Manner::Downgraded
         | Manner::ToUpgradable
         | Manner::Handed
-        | Manner::Bumped => { hold_alone(rt, lot, lock, &mut token, scene, told) }
+        | Manner::Bumped => { hold_alone(rt, lot, lock, token, scene, told) }
         Manner::UpgradableToReader
         | Manner::UpgradableGone
         | Manner::UpgradableHanded
-        | Manner::UpgradableBumped => { hold_upgradable(rt, lot, lock, &mut token, scene, told) }
+        | Manner::UpgradableBumped => { hold_upgradable(rt, lot, lock, token, scene, told) }
         Manner::ReaderGone | Manner::ReaderAgain | Manner::ReaderBumped => {
-            hold_shared(rt, lot, lock, &mut token, scene, told)
+            hold_shared(rt, lot, lock, token, scene, told)
         }
     }
 }

@@ -3,16 +3,125 @@ ghost use Rattle.std.specs.Prelude.{◌≡◌, ◌<◌};
 ghost use Rattle.parking_lot_core.specs.Tokens.{IsTicketOf, IsTokenOf};
 ghost use Rattle.parking_lot.specs.RwLockUsers.{lot_of};
 
-use super::{all_are_content, holds, same, seats};
-use parking_lot::{Fault, RawRwLock, RwLock, Ticket, Token, lock_api_rw};
+use super::fair::{Giver, give};
+use super::guards::read_twice;
+use super::{
+    Lock, end_reader, end_writer, holds, read_upgradable, replace, same, seats, value_of, write,
+};
+use parking_lot::{ParkingLot, Ticket, Token};
 use std::alloc::Global;
+use std::process::Abort;
 use std::sync::Wait;
-use std::sync::atomic::AtomicUsize;
 use std::sync::atomic::Ordering::SeqCst;
-use std::test::Fail;
+use std::sync::atomic::{AtomicBool, AtomicU64, AtomicUsize};
 use std::thread::{Threads, map_vec, yield_now};
 
 const TIMES: u64 = 1000;
+
+// What a value is while somebody writes.
+const TORN: u64 = u64::MAX;
+
+// Adds 1 to a value that is torn meanwhile. What it was before.
+fn add_torn(value: &mut u64) -> u64 {
+    let before = *value;
+    *value = TORN;
+    yield_now();
+    *value = before.wrapping_add(1);
+    before
+}
+
+// The same so often. Whether it found it whole each time.
+fn add_torn_often(value: &mut u64, times: usize) -> bool {
+    let mut whole = true;
+    for _ in 0..times {
+        whole = add_torn(value) != TORN && whole;
+    }
+    whole
+}
+
+// Adds 1 so often, under one guard.
+fn add_at_once<const RECURSIVE: bool, R: Wait>(
+    rt: &R,
+    lock: &Lock<RECURSIVE>,
+    token: &mut Token,
+    times: usize,
+) -> bool
+    requires { IsTokenOf (lot_of lock.now) token.old }
+    ensures { IsTokenOf (lot_of lock.now) token.new }
+{
+    lock.with_write(rt, token, move |value: &mut u64| {
+        add_torn_often(value, times)
+    })
+}
+
+// Adds 1, goes on as a reader, and finds what it wrote.
+fn add_and_read<const RECURSIVE: bool, R: Wait>(
+    rt: &R,
+    lock: &Lock<RECURSIVE>,
+    token: &mut Token,
+) -> bool
+    requires { IsTokenOf (lot_of lock.now) token.old }
+    ensures { IsTokenOf (lot_of lock.now) token.new }
+{
+    let mut guard = write(rt, lock, token);
+    let before = add_torn(&mut *guard);
+    let guard = guard.downgrade(rt, token);
+    yield_now();
+    let found = end_reader(rt, token, guard);
+    before != TORN && found == before.wrapping_add(1)
+}
+
+// Reads, and adds 1 by an upgrade. Whether it found the value whole, and the same behind its
+// upgrade.
+fn add_by_upgrade<const RECURSIVE: bool, R: Wait>(
+    rt: &R,
+    lock: &Lock<RECURSIVE>,
+    token: &mut Token,
+) -> bool
+    requires { IsTokenOf (lot_of lock.now) token.old }
+    ensures { IsTokenOf (lot_of lock.now) token.new }
+{
+    let Some(guard) = read_upgradable(rt, lock, token) else {
+        return false;
+    };
+    let before = *guard;
+    yield_now();
+    let mut guard = guard.upgrade(rt, token);
+    let found = add_torn(&mut *guard);
+    end_writer(rt, token, guard);
+    found == before && before != TORN
+}
+
+// How 1 is added.
+#[derive(Clone, Copy)]
+pub(super) enum Way {
+    Write,
+    Downgrade,
+    Upgrade,
+}
+
+// Adds 1 so often, each time under a guard of its own. Whether all was well each time.
+fn add_often<const RECURSIVE: bool, R: Wait>(
+    rt: &R,
+    lock: &Lock<RECURSIVE>,
+    token: &mut Token,
+    way: Way,
+    times: usize,
+) -> bool
+    requires { IsTokenOf (lot_of lock.now) token.old }
+    ensures { IsTokenOf (lot_of lock.now) token.new }
+{
+    let mut well = true;
+    for _ in 0..times {
+        let found = match way {
+            Way::Write => add_at_once(rt, lock, token, 1),
+            Way::Downgrade => add_and_read(rt, lock, token),
+            Way::Upgrade => add_by_upgrade(rt, lock, token),
+        };
+        well = found && well;
+    }
+    well
+}
 
 // Whether a thread writes next: one time in ten, by numbers that are the same in each run.
 fn writes_next(number: &mut u64) -> bool {
@@ -22,205 +131,198 @@ fn writes_next(number: &mut u64) -> bool {
     (*number >> 33) % 10 == 0
 }
 
-// Adds 1, or reads.
-fn come_once<const RECURSIVE: bool, R: Wait>(
-    rt: &R,
-    lock: &lock_api_rw::RwLock<RawRwLock<RECURSIVE>, u64>,
-    token: &mut Token,
-    writes: bool,
-)
-    requires { IsTokenOf (lot_of lock.now) token.old }
-    ensures { IsTokenOf (lot_of lock.now) token.new }
-{
-    if writes {
-        lock.with_write(rt, token, |value: &mut u64| *value = value.wrapping_add(1));
-    } else {
-        drop(lock.with_read(rt, token, |value: &u64| *value));
-    }
-}
-
-// Comes many times, and tells how often it wrote.
+// Adds 1 or reads, many times, and tells how often it wrote.
 fn come_often<const RECURSIVE: bool, R: Wait>(
     rt: &R,
-    lock: &lock_api_rw::RwLock<RawRwLock<RECURSIVE>, u64>,
-    ticket: Ticket,
-) -> u64
-    requires { IsTicketOf (lot_of lock.now) ticket }
+    lock: &Lock<RECURSIVE>,
+    token: &mut Token,
+    written: &AtomicU64,
+) -> bool
+    requires { IsTokenOf (lot_of lock.now) token.old }
+    ensures { IsTokenOf (lot_of lock.now) token.new }
 {
-    let mut token = ticket.enter();
     let mut number = token.number() as u64;
-    let mut written = 0u64;
+    let mut whole = true;
     for _ in 0..TIMES {
-        let writes = writes_next(&mut number);
-        come_once(rt, lock, &mut token, writes);
-        written = written.wrapping_add(u64::from(writes));
-    }
-    drop(token.leave());
-    written
-}
-
-// How often ten threads wrote, and what they wrote comes to.
-fn all_come<const RECURSIVE: bool, R: Threads + Wait + Sync>(
-    rt: &R,
-    alloc: Global,
-) -> Result<(u64, u64), Fault> {
-    let (_lot, lock, tickets) = seats::<RECURSIVE, u64>(alloc, 10, 0)?;
-    let shared = &lock;
-    let written = map_vec(
-        rt,
-        tickets,
-        &|ticket: Ticket|
-            requires { IsTicketOf (lot_of shared.now) ticket }
-        { come_often(rt, shared, ticket) },
-    );
-    match written {
-        Ok(written) => {
-            let times = written.iter().fold(0u64, |all, one| all.wrapping_add(*one));
-            Ok((times, lock.into_inner()))
+        if writes_next(&mut number) {
+            whole = add_at_once(rt, lock, token, 1) && whole;
+            written.fetch_add(1, SeqCst);
+        } else {
+            whole = is_whole(rt, lock, token) && whole;
         }
-        Err(_) => Err(Fault::NoMemory),
-    }
-}
-
-#[test]
-fn ten_threads_read_and_write(rt: HostRuntime) -> Result<(), Fail> {
-    let (times, value) = all_come::<false, HostRuntime>(&rt, rt.alloc())?;
-    holds(&rt, 500 < times);
-    same(&rt, value, times);
-    let (times, value) = all_come::<true, HostRuntime>(&rt, rt.alloc())?;
-    holds(&rt, 500 < times);
-    same(&rt, value, times);
-    Ok(())
-}
-
-// Adds 1 to a value that is negative meanwhile. Whether it found it whole.
-fn add_torn(value: &mut i64) -> bool {
-    let before = *value;
-    *value = -1;
-    yield_now();
-    *value = before.wrapping_add(1);
-    before >= 0
-}
-
-fn write_once<R: Wait>(rt: &R, lock: &RwLock<i64>, token: &mut Token) -> bool
-    requires { IsTokenOf (lot_of lock.now) token.old }
-    ensures { IsTokenOf (lot_of lock.now) token.new }
-{
-    lock.with_write(rt, token, |value: &mut i64| add_torn(value))
-}
-
-// Ten times, each time under a guard of its own.
-fn write_ten<R: Wait>(rt: &R, lock: &RwLock<i64>, token: &mut Token) -> bool
-    requires { IsTokenOf (lot_of lock.now) token.old }
-    ensures { IsTokenOf (lot_of lock.now) token.new }
-{
-    let mut whole = true;
-    for _ in 0..10 {
-        whole = write_once(rt, lock, token) && whole;
     }
     whole
 }
 
-fn add_ten(value: &mut i64) -> bool {
-    let mut whole = true;
-    for _ in 0..10 {
-        whole = add_torn(value) && whole;
-    }
-    whole
-}
-
-// Ten times, under one guard.
-fn write_ten_at_once<R: Wait>(rt: &R, lock: &RwLock<i64>, token: &mut Token) -> bool
-    requires { IsTokenOf (lot_of lock.now) token.old }
-    ensures { IsTokenOf (lot_of lock.now) token.new }
-{
-    lock.with_write(rt, token, |value: &mut i64| add_ten(value))
-}
-
-// The same, and whether it still was what it had been before.
-fn add_to(value: &mut i64, before: i64) -> bool {
-    let same = *value == before;
-    add_torn(value) && same
-}
-
-// Whether a reader finds the value whole, and the same behind its upgrade.
-fn upgrade_once<R: Wait>(rt: &R, lock: &RwLock<i64>, token: &mut Token) -> bool
-    requires { IsTokenOf (lot_of lock.now) token.old }
-    ensures { IsTokenOf (lot_of lock.now) token.new }
-{
-    let Ok(guard) = lock.upgradable_read(rt, token) else {
-        return false;
-    };
-    let before = *guard;
-    yield_now();
-    let mut guard = guard.upgrade(rt, token);
-    let whole = add_to(&mut *guard, before);
-    guard.unlock(rt, token);
-    whole
-}
-
-fn read_once<R: Wait>(rt: &R, lock: &RwLock<i64>, token: &mut Token) -> bool
-    requires { IsTokenOf (lot_of lock.now) token.old }
-    ensures { IsTokenOf (lot_of lock.now) token.new }
-{
-    lock.with_read(rt, token, |value: &i64| *value >= 0)
-        .unwrap_or(false)
-}
-
-// One writes, the next upgrade, and the others read. Whether this one found the value whole.
-fn take_part<R: Wait>(
+// Whether who reads finds the value whole.
+fn is_whole<const RECURSIVE: bool, R: Wait>(
     rt: &R,
-    lock: &RwLock<i64>,
-    ticket: Ticket,
-    came: &AtomicUsize,
+    lock: &Lock<RECURSIVE>,
+    token: &mut Token,
+) -> bool
+    requires { IsTokenOf (lot_of lock.now) token.old }
+    ensures { IsTokenOf (lot_of lock.now) token.new }
+{
+    value_of(rt, lock, token).unwrap_or(TORN) != TORN
+}
+
+// The thread of place 0 writes, ten times or at once, the next upgrade, and the others read.
+// Whether this one found the value whole.
+fn tear_or_look<const RECURSIVE: bool, R: Wait>(
+    rt: &R,
+    lock: &Lock<RECURSIVE>,
+    token: &mut Token,
+    place: usize,
     upgraders: usize,
 ) -> bool
-    requires { IsTicketOf (lot_of lock.now) ticket }
+    requires { IsTokenOf (lot_of lock.now) token.old }
+    ensures { IsTokenOf (lot_of lock.now) token.new }
 {
-    let mut token = ticket.enter();
-    let place = came.fetch_add(1, SeqCst);
-    let whole = if place == 0 && upgraders == 0 {
-        write_ten_at_once(rt, lock, &mut token)
+    if place == 0 && upgraders == 0 {
+        add_at_once(rt, lock, token, 10)
     } else if place == 0 {
-        write_ten(rt, lock, &mut token)
+        add_often(rt, lock, token, Way::Write, 10)
     } else if place <= upgraders {
-        upgrade_once(rt, lock, &mut token)
+        add_by_upgrade(rt, lock, token)
     } else {
-        read_once(rt, lock, &mut token)
-    };
-    drop(token.leave());
-    whole
+        is_whole(rt, lock, token)
+    }
 }
 
-// Whether a writer, so many upgraders and five readers all found the value whole, and what it came
-// to.
-fn tear_and_look<R: Threads + Wait + Sync>(
+// Writes once somebody has the lock.
+fn write_later<const RECURSIVE: bool, R: Wait>(
+    rt: &R,
+    lock: &Lock<RECURSIVE>,
+    token: &mut Token,
+    held: &AtomicBool,
+) -> bool
+    requires { IsTokenOf (lot_of lock.now) token.old }
+    ensures { IsTokenOf (lot_of lock.now) token.new }
+{
+    for _ in rt.forever() {
+        if held.load(SeqCst) {
+            break;
+        }
+        yield_now();
+    }
+    replace(rt, lock, token, 7) == 0
+}
+
+/// What each thread of a crowd does.
+#[derive(Clone, Copy)]
+pub(super) enum Part<'a> {
+    /// Adds 1, a hundred times.
+    Add(Way),
+    /// Reads mostly, and counts here how often it writes.
+    Come(&'a AtomicU64),
+    /// Writes as the first, upgrades as one of the next, and reads as another.
+    Tear(usize),
+    /// Reads once more beside a writer, as the first.
+    ReadTwice,
+    /// Gives the lock up to a writer, as the first.
+    Give(Giver, bool),
+}
+
+// What the threads of a crowd tell one another.
+#[derive(Drop)]
+struct Told {
+    came: AtomicUsize,
+    // Whether the first of them has the lock.
+    held: AtomicBool,
+}
+
+// Does one thread's part. Whether the thread is content with it.
+fn take_part<const RECURSIVE: bool, R: Wait>(
+    rt: &R,
+    lot: &ParkingLot,
+    lock: &Lock<RECURSIVE>,
+    token: &mut Token,
+    told: &Told,
+    part: Part<'_>,
+) -> bool
+    requires { IsTokenOf lot.now token.old × (lot_of lock.now ≡ lot.now) }
+    ensures { IsTokenOf lot.now token.new }
+{
+    let place = told.came.fetch_add(1, SeqCst);
+    let held = &told.held;
+    match part {
+        Part::Add(way) => add_often(rt, lock, token, way, 100),
+        Part::Come(written) => come_often(rt, lock, token, written),
+        Part::Tear(upgraders) => tear_or_look(rt, lock, token, place, upgraders),
+        Part::ReadTwice if place == 0 => read_twice(rt, lot, lock, token, held),
+        Part::Give(giver, bumps) if place == 0 => give(rt, lot, lock, token, held, giver, bumps),
+        _ => write_later(rt, lock, token, held),
+    }
+}
+
+// Whether all threads of a crowd were content with their part, and what the value came to.
+pub(super) fn play<const RECURSIVE: bool, R: Threads + Wait + Abort + Sync>(
     rt: &R,
     alloc: Global,
-    upgraders: usize,
-) -> Result<(bool, i64), Fault>
-    requires { upgraders < 10 }
+    threads: usize,
+    part: Part<'_>,
+) -> (bool, u64)
+    requires { threads < 100 }
 {
-    let (_lot, lock, tickets) = seats::<false, i64>(alloc, upgraders + 6, 0)?;
-    let (shared, came) = (&lock, &AtomicUsize::new(0));
-    let whole = all_are_content(
+    let (lot, lock, _token, tickets) = seats::<RECURSIVE, R>(rt, alloc, threads, 0, false);
+    let told = Told {
+        came: AtomicUsize::new(0),
+        held: AtomicBool::new(false),
+    };
+    let (lot, shared, told) = (&*lot, &lock, &told);
+    let found = map_vec(
         rt,
         tickets,
         &|ticket: Ticket|
-            requires { IsTicketOf (lot_of shared.now) ticket }
-        { take_part(rt, shared, ticket, came, upgraders) },
+            requires { IsTicketOf (lot_of shared.now) ticket × (lot_of shared.now ≡ lot.now) }
+        {
+            let mut token = ticket.enter();
+            let content = take_part(rt, lot, shared, &mut token, told, part);
+            drop(token.leave());
+            content
+        },
     );
-    Ok((whole, lock.into_inner()))
+    let content = found.is_ok_and(|found| found.iter().all(|content| *content));
+    (content, lock.into_inner())
 }
 
 #[test]
-fn readers_find_no_writer_in_the_act(rt: HostRuntime) -> Result<(), Fail> {
-    same(&rt, tear_and_look(&rt, rt.alloc(), 0)?, (true, 10));
-    Ok(())
+fn eight_threads_read_what_they_wrote(rt: HostRuntime) {
+    let found = play::<false, HostRuntime>(&rt, rt.alloc(), 8, Part::Add(Way::Downgrade));
+    same(&rt, found, (true, 800));
 }
 
 #[test]
-fn upgraders_find_no_writer_in_the_act(rt: HostRuntime) -> Result<(), Fail> {
-    same(&rt, tear_and_look(&rt, rt.alloc(), 5)?, (true, 15));
-    Ok(())
+fn upgrades_let_nobody_write_between(rt: HostRuntime) {
+    let found = play::<false, HostRuntime>(&rt, rt.alloc(), 6, Part::Add(Way::Upgrade));
+    same(&rt, found, (true, 600));
+}
+
+// Ten threads find what they wrote between them.
+fn all_come<const RECURSIVE: bool, R: Threads + Wait + Abort + Sync>(rt: &R, alloc: Global) {
+    let written = AtomicU64::new(0);
+    let found = play::<RECURSIVE, R>(rt, alloc, 10, Part::Come(&written));
+    let times = written.load(SeqCst);
+    holds(rt, 500 < times);
+    same(rt, found, (true, times));
+}
+
+#[test]
+fn ten_threads_read_and_write(rt: HostRuntime) {
+    all_come::<false, HostRuntime>(&rt, rt.alloc());
+    all_come::<true, HostRuntime>(&rt, rt.alloc());
+}
+
+// A writer, and five readers beside it.
+#[test]
+fn readers_find_no_writer_in_the_act(rt: HostRuntime) {
+    let found = play::<false, HostRuntime>(&rt, rt.alloc(), 6, Part::Tear(0));
+    same(&rt, found, (true, 10));
+}
+
+// A writer, five upgraders and five readers.
+#[test]
+fn upgraders_find_no_writer_in_the_act(rt: HostRuntime) {
+    let found = play::<false, HostRuntime>(&rt, rt.alloc(), 11, Part::Tear(5));
+    same(&rt, found, (true, 15));
 }

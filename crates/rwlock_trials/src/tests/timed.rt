@@ -4,10 +4,12 @@ ghost use Rattle.lock_api_rw.specs.Guards.{lock_of};
 ghost use Rattle.parking_lot_core.specs.Tokens.{IsTokenOf};
 ghost use Rattle.parking_lot.specs.RwLockUsers.{lot_of};
 
-use super::{lock_alone, same};
-use parking_lot::{Clock, RwLock, RwLockUpgradableReadGuard, RwLockWriteGuard, TickClock, Token};
+use super::{
+    Lock, Upgradable, Writer, end_reader, end_upgradable, end_writer, lock_alone, read,
+    read_upgradable, same, write,
+};
+use parking_lot::{Clock, TickClock, Token};
 use std::sync::Wait;
-use std::test::Fail;
 use std::time::Duration;
 
 // A deadline that is come to soon, on a clock that begins at 0.
@@ -24,7 +26,7 @@ fn waited_long(clock: &TickClock) -> bool {
 }
 
 // Whether a reader that waits comes in, or gives up late.
-fn reads_in_time<R: Wait>(rt: &R, lock: &RwLock<u64>, token: &mut Token, until: bool) -> bool
+fn reads_in_time<R: Wait>(rt: &R, lock: &Lock<false>, token: &mut Token, until: bool) -> bool
     requires { IsTokenOf (lot_of lock.now) token.old }
     ensures { IsTokenOf (lot_of lock.now) token.new }
 {
@@ -36,7 +38,7 @@ fn reads_in_time<R: Wait>(rt: &R, lock: &RwLock<u64>, token: &mut Token, until: 
     };
     match taken {
         Ok(Some(guard)) => {
-            guard.unlock(rt, token);
+            end_reader(rt, token, guard);
             true
         }
         _ => waited_long(&clock),
@@ -46,7 +48,7 @@ fn reads_in_time<R: Wait>(rt: &R, lock: &RwLock<u64>, token: &mut Token, until: 
 // The same of an upgradable reader.
 fn comes_upgradable_in_time<R: Wait>(
     rt: &R,
-    lock: &RwLock<u64>,
+    lock: &Lock<false>,
     token: &mut Token,
     until: bool,
 ) -> bool
@@ -61,7 +63,7 @@ fn comes_upgradable_in_time<R: Wait>(
     };
     match taken {
         Ok(Some(guard)) => {
-            guard.unlock(rt, token);
+            end_upgradable(rt, token, guard);
             true
         }
         _ => waited_long(&clock),
@@ -69,7 +71,7 @@ fn comes_upgradable_in_time<R: Wait>(
 }
 
 // The same of a writer.
-fn writes_in_time<R: Wait>(rt: &R, lock: &RwLock<u64>, token: &mut Token, until: bool) -> bool
+fn writes_in_time<R: Wait>(rt: &R, lock: &Lock<false>, token: &mut Token, until: bool) -> bool
     requires { IsTokenOf (lot_of lock.now) token.old }
     ensures { IsTokenOf (lot_of lock.now) token.new }
 {
@@ -81,7 +83,7 @@ fn writes_in_time<R: Wait>(rt: &R, lock: &RwLock<u64>, token: &mut Token, until:
     };
     match taken {
         Some(guard) => {
-            guard.unlock(rt, token);
+            end_writer(rt, token, guard);
             true
         }
         None => waited_long(&clock),
@@ -91,29 +93,29 @@ fn writes_in_time<R: Wait>(rt: &R, lock: &RwLock<u64>, token: &mut Token, until:
 // Who comes in beside a writer: a reader, an upgradable one, another writer.
 fn come_beside_a_writer<R: Wait>(
     rt: &R,
-    lock: &RwLock<u64>,
+    lock: &Lock<false>,
     token: &mut Token,
     until: bool,
 ) -> [bool; 3]
     requires { IsTokenOf (lot_of lock.now) token.old }
     ensures { IsTokenOf (lot_of lock.now) token.new }
 {
-    let guard = lock.write(rt, token);
+    let guard = write(rt, lock, token);
     let came = [
         reads_in_time(rt, lock, token, until),
         comes_upgradable_in_time(rt, lock, token, until),
         writes_in_time(rt, lock, token, until),
     ];
-    guard.unlock(rt, token);
+    end_writer(rt, token, guard);
     came
 }
 
 // Goes. Whether it had become the writer.
 fn goes_upgraded<'l, R: Wait>(
     rt: &R,
-    lock: &RwLock<u64>,
+    lock: &Lock<false>,
     token: &mut Token,
-    upgraded: Result<RwLockWriteGuard<'l, u64>, RwLockUpgradableReadGuard<'l, u64>>,
+    upgraded: Result<Writer<'l, false>, Upgradable<'l, false>>,
 ) -> bool
     requires token { IsTokenOf (lot_of lock.now) token.old }
     requires guard { MatchResult upgraded (λ guard. lock_of guard ≡ lock.now)
@@ -122,11 +124,11 @@ fn goes_upgraded<'l, R: Wait>(
 {
     match upgraded {
         Ok(guard) => {
-            guard.unlock(rt, token);
+            end_writer(rt, token, guard);
             true
         }
         Err(guard) => {
-            guard.unlock(rt, token);
+            end_upgradable(rt, token, guard);
             false
         }
     }
@@ -135,7 +137,7 @@ fn goes_upgraded<'l, R: Wait>(
 // Whether an upgrade becomes the writer, where it doesn't give up late.
 fn upgrades_in_time<R: Wait>(
     rt: &R,
-    lock: &RwLock<u64>,
+    lock: &Lock<false>,
     token: &mut Token,
     until: bool,
 ) -> Option<bool>
@@ -143,9 +145,7 @@ fn upgrades_in_time<R: Wait>(
     ensures { IsTokenOf (lot_of lock.now) token.new }
 {
     let clock = TickClock::new();
-    let Ok(guard) = lock.upgradable_read(rt, token) else {
-        return None;
-    };
+    let guard = read_upgradable(rt, lock, token)?;
     let upgraded = if until {
         guard.try_upgrade_until(rt, token, &clock, EARLY)
     } else {
@@ -158,46 +158,37 @@ fn upgrades_in_time<R: Wait>(
     Some(is_writer)
 }
 
-// What upgrades come to beside a reader, of both forms, and then without one.
-fn upgrades_beside_a_reader<R: Wait>(
-    rt: &R,
-    lock: &RwLock<u64>,
-    token: &mut Token,
-) -> [Option<bool>; 4]
+// What upgrades come to, of both forms.
+fn upgrades<R: Wait>(rt: &R, lock: &Lock<false>, token: &mut Token) -> [Option<bool>; 2]
     requires { IsTokenOf (lot_of lock.now) token.old }
+    ensures { IsTokenOf (lot_of lock.now) token.new }
 {
-    let Ok(guard) = lock.read(rt, token) else {
-        return [None; 4];
-    };
-    let within = upgrades_in_time(rt, lock, token, false);
-    let until = upgrades_in_time(rt, lock, token, true);
-    guard.unlock(rt, token);
     [
-        within,
-        until,
         upgrades_in_time(rt, lock, token, false),
         upgrades_in_time(rt, lock, token, true),
     ]
 }
 
+// What they come to beside a reader, and then without one.
+fn upgrades_beside_a_reader<R: Wait>(
+    rt: &R,
+    lock: &Lock<false>,
+    token: &mut Token,
+) -> Option<[[Option<bool>; 2]; 2]>
+    requires { IsTokenOf (lot_of lock.now) token.old }
+{
+    let guard = read(rt, lock, token)?;
+    let beside = upgrades(rt, lock, token);
+    end_reader(rt, token, guard);
+    Some([beside, upgrades(rt, lock, token)])
+}
+
 #[test]
-fn who_waits_gives_up_in_time(rt: HostRuntime) -> Result<(), Fail> {
-    let (lock, mut token) = lock_alone(rt.alloc(), 0u64)?;
-    same(
-        &rt,
-        come_beside_a_writer(&rt, &lock, &mut token, false),
-        [false; 3],
-    );
-    same(
-        &rt,
-        come_beside_a_writer(&rt, &lock, &mut token, true),
-        [false; 3],
-    );
+fn who_waits_gives_up_in_time(rt: HostRuntime) {
+    let (lock, mut token) = lock_alone(&rt, rt.alloc(), 0, false);
+    let within = come_beside_a_writer(&rt, &lock, &mut token, false);
+    let until = come_beside_a_writer(&rt, &lock, &mut token, true);
+    same(&rt, [within, until], [[false; 3]; 2]);
     let upgraded = upgrades_beside_a_reader(&rt, &lock, &mut token);
-    same(
-        &rt,
-        upgraded,
-        [Some(false), Some(false), Some(true), Some(true)],
-    );
-    Ok(())
+    same(&rt, upgraded, Some([[Some(false); 2], [Some(true); 2]]));
 }

@@ -1,0 +1,90 @@
+//! Threads that meet at one reader-writer lock.
+ghost use Rattle.std.specs.Prelude.{◌≡◌, ◌<◌};
+ghost use Rattle.parking_lot_core.specs.Tokens.{IsTicketOf, IsTokenOf};
+ghost use Rattle.parking_lot.specs.RwLockUsers.{lot_of};
+
+use super::mixes::mix;
+use super::timed::{come_behind, give_up, read_on};
+use parking_lot::{Fault, ParkingLot, RawRwLock, Ticket, Token};
+use raw_rwlock_fixtures::{Inside, seats};
+use std::alloc::Global;
+use std::sync::Wait;
+use std::sync::atomic::Ordering::SeqCst;
+use std::sync::atomic::{AtomicBool, AtomicUsize};
+use std::thread::{Threads, map_vec};
+
+/// What each thread does.
+#[derive(Clone, Copy)]
+pub(super) enum Part {
+    /// Makes all calls, in an order of its own.
+    Mix,
+    /// Reads as the first, gives up as the next, by an upgrade or not, and comes behind it as the
+    /// third.
+    LetIn(bool),
+}
+
+/// What the threads tell one another.
+#[derive(Drop)]
+pub(super) struct Told {
+    parts: AtomicUsize,
+    pub(super) held: AtomicBool,
+    pub(super) up: AtomicBool,
+    pub(super) came: AtomicUsize,
+}
+
+// Does one thread's part. Whether the thread is content with it.
+fn take_part<const RECURSIVE: bool, R: Wait>(
+    rt: &R,
+    lot: &ParkingLot,
+    lock: &RawRwLock<RECURSIVE>,
+    token: &mut Token,
+    told: &Told,
+    inside: &Inside,
+    part: Part,
+) -> bool
+    requires { IsTokenOf lot.now token.old × (lot_of lock.now ≡ lot.now) }
+    ensures { IsTokenOf lot.now token.new }
+{
+    let place = told.parts.fetch_add(1, SeqCst);
+    match part {
+        Part::Mix => mix(rt, lock, token, inside, place.wrapping_add(1)),
+        Part::LetIn(upgrades) => match place {
+            0 => read_on(rt, lot, lock, token, told),
+            1 => give_up(rt, lock, token, upgrades, told),
+            _ => come_behind(rt, lot, lock, token, told),
+        },
+    }
+}
+
+// Whether all threads were content with their parts, and nobody found whom nobody may find.
+pub(super) fn play<const RECURSIVE: bool, R: Threads + Wait + Sync>(
+    rt: &R,
+    alloc: Global,
+    threads: usize,
+    part: Part,
+) -> Result<bool, Fault>
+    requires { threads < 1024 }
+{
+    let (lot, lock, tickets) = seats::<RECURSIVE>(alloc, threads, 1000)?;
+    let told = Told {
+        parts: AtomicUsize::new(0),
+        held: AtomicBool::new(false),
+        up: AtomicBool::new(false),
+        came: AtomicUsize::new(0),
+    };
+    let (lot, lock, told, inside) = (&*lot, &lock, &told, &Inside::new());
+    let ended = map_vec(
+        rt,
+        tickets,
+        &|ticket: Ticket|
+            requires { IsTicketOf (lot_of lock.now) ticket × (lot_of lock.now ≡ lot.now) }
+        {
+            let mut token = ticket.enter();
+            let content = take_part(rt, lot, lock, &mut token, told, inside, part);
+            drop(token.leave());
+            content
+        },
+    );
+    let content = ended.is_ok_and(|ended| ended.iter().all(|content| *content));
+    Ok(content && inside.wrongs() == 0)
+}
