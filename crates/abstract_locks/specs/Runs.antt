@@ -170,8 +170,8 @@ abbrev pub is_among : ℕ → List Queued → Bool
 is_among u q = nat_le 1 (times u q)
 
 -- what a notification makes of those whom it moves to their mutex, or takes
-abbrev pub befallen : ℕ → List Queued → CallState → CallState
-befallen u moved c = if is_among u moved then record c { recalls = WasMoved } else c
+abbrev pub if_moved : ℕ → List Queued → CallState → CallState
+if_moved u moved c = if is_among u moved then record c { recalls = WasMoved } else c
 
 -- and any other thread: whoever is woken tries the lock again, and who was handed it doesn't; who
 -- was notified knows it
@@ -183,7 +183,7 @@ woken w t (AtLock l (HandOff x successor)) u c =
     if is_taken_by t ((w.locks l).taken u)
     then record c { retries = None; recalls = behind_wake c.recalls }
     else c
-woken w t (Moves l m all owned number) u c = befallen u (moved_of all (w.locks l).queue) c
+woken w t (Moves l m all owned number) u c = if_moved u (moved_of all (w.locks l).queue) c
 woken w t event u c = c
 
 -- a call that ends is forgotten; a wait's own release of its mutex may wake it

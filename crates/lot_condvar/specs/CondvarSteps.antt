@@ -121,12 +121,12 @@ befalls (HandedBy by alone) = true
 befalls (Woken by) = true
 befalls reply = false
 
-abbrev pub befallen : Stands → Reply → Stands
-befallen s (TakenBy by) = stands.InHand by
-befallen s (MovedTo key) = stands.Moved
-befallen s (HandedBy by alone) = stands.Handed by
-befallen s (Woken by) = stands.Noted by
-befallen s reply = s
+abbrev pub stands_after : Stands → Reply → Stands
+stands_after s (TakenBy by) = stands.InHand by
+stands_after s (MovedTo key) = stands.Moved
+stands_after s (HandedBy by alone) = stands.Handed by
+stands_after s (Woken by) = stands.Noted by
+stands_after s reply = s
 
 -- where a thread begins to lock its mutex again
 abbrev pub first_lock : Bool → MutexPlace
@@ -162,11 +162,11 @@ relocked timed timed_out (End answer) = End (waited timed timed_out)
 
 abbrev pub asleep_next : Stands → Reply → WaitAt
 asleep_next s Late = late_place s
-asleep_next s reply = behind (befallen s reply)
+asleep_next s reply = behind (stands_after s reply)
 
 abbrev pub release_next : Stands → MutexPlace → Reply → WaitAt
 release_next s at reply =
-    if befalls reply then wait.Release (befallen s reply) at else released s (mutex_next at reply)
+    if befalls reply then wait.Release (stands_after s reply) at else released s (mutex_next at reply)
 
 abbrev pub next_wait : ℕ → Bool → WaitAt → Reply → Next WaitAt
 next_wait m timed wait.Enter Done = At wait.Show

@@ -17,7 +17,7 @@
 //! | `Lock` | locks its mutex, as `lock` does | ends |
 ghost use Rattle.std.specs.Prelude.{◌≡◌, ◌<◌, ◌^◌};
 ghost use Rattle.lot_condvar.specs.CondvarProfiles.{is_woken, taker_of, want_of, wait_row};
-ghost use Rattle.lot_condvar.specs.CondvarSteps.{befalls, behind, first_lock, late_place, relocked, released, waited, befallen, asleep_next, next_wait, wait_act};
+ghost use Rattle.lot_condvar.specs.CondvarSteps.{befalls, behind, first_lock, late_place, relocked, released, waited, stands_after, asleep_next, next_wait, wait_act};
 
 use crate::places::{shown, shows};
 use lot_acts::{Act, Next, Reply, Wakes};
@@ -136,8 +136,8 @@ pub(super) fn befalls(reply: Reply) -> bool
 }
 
 /// How a thread stands behind what befell it.
-pub(super) fn befallen(stands: Stands, reply: Reply) -> Stands
-    ensures { result ≡ befallen stands reply }
+pub(super) fn stands_after(stands: Stands, reply: Reply) -> Stands
+    ensures { result ≡ stands_after stands reply }
 {
     match reply {
         Reply::TakenBy(by) => Stands::InHand { by },
@@ -230,7 +230,7 @@ fn asleep_next(stands: Stands, reply: Reply) -> WaitAt
 {
     match reply {
         Reply::Late => late_place(stands),
-        reply => behind(befallen(stands, reply)),
+        reply => behind(stands_after(stands, reply)),
     }
 }
 
@@ -253,7 +253,7 @@ pub(super) fn next_wait(mutex: usize, timed: bool, at: WaitAt, reply: Reply) -> 
         (WaitAt::Refuse, Reply::Done) => Next::End(Answer::TwoMutexes),
         (WaitAt::Release { stands, at }, reply) => if befalls(reply) {
             Next::At(WaitAt::Release {
-                stands: befallen(stands, reply),
+                stands: stands_after(stands, reply),
                 at,
             })
         } else {

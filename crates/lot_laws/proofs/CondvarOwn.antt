@@ -24,7 +24,7 @@ use Rattle.lot_condvar.specs.declared.wait.WaitAt.{WaitAt}
 use Rattle.lot_condvar.specs.declared.wait.WaitAt.TheVariants as wait
 use Rattle.lot_condvar.specs.CondvarCalls.{IsLockOf, IsReached}
 use Rattle.lot_condvar.specs.CondvarProfiles.{wait_row}
-use Rattle.lot_condvar.specs.CondvarSteps.{befallen, befalls, behind, condvar_act, condvar_next, release_next, released}
+use Rattle.lot_condvar.specs.CondvarSteps.{stands_after, befalls, behind, condvar_act, condvar_next, release_next, released}
 use Rattle.lot_steps.specs.declared.places.Place.{Place}
 use Rattle.lot_steps.specs.declared.places.Place.TheVariants.{Idle, Condvar}
 use Rattle.lot_steps.specs.Steps.{condvar_goes, next_place}
@@ -52,10 +52,10 @@ module _ (l : ℕ) where
     where
       told : (s2 : Stands) (r : Reply) → Befalls r
           → StandsAt l (Wait m timed (wait.Release s a)) (next_place (Condvar l (Wait m timed (wait.Release s2 a))) r)
-      told s2 (TakenBy t) h = (Wait m timed (wait.Release (befallen s2 (TakenBy t)) a), refl, (befallen s2 (TakenBy t), refl))
-      told s2 (MovedTo key) h = (Wait m timed (wait.Release (befallen s2 (MovedTo key)) a), refl, (befallen s2 (MovedTo key), refl))
-      told s2 (HandedBy t alone) h = (Wait m timed (wait.Release (befallen s2 (HandedBy t alone)) a), refl, (befallen s2 (HandedBy t alone), refl))
-      told s2 (Woken n) h = (Wait m timed (wait.Release (befallen s2 (Woken n)) a), refl, (befallen s2 (Woken n), refl))
+      told s2 (TakenBy t) h = (Wait m timed (wait.Release (stands_after s2 (TakenBy t)) a), refl, (stands_after s2 (TakenBy t), refl))
+      told s2 (MovedTo key) h = (Wait m timed (wait.Release (stands_after s2 (MovedTo key)) a), refl, (stands_after s2 (MovedTo key), refl))
+      told s2 (HandedBy t alone) h = (Wait m timed (wait.Release (stands_after s2 (HandedBy t alone)) a), refl, (stands_after s2 (HandedBy t alone), refl))
+      told s2 (Woken n) h = (Wait m timed (wait.Release (stands_after s2 (Woken n)) a), refl, (stands_after s2 (Woken n), refl))
       told s2 r h = absurd h
 
   -- who notifies is deaf
@@ -117,7 +117,7 @@ release_stage m s a r = by_reply (befalls r)
     by_next (next.At b) = refl
     by_next (next.End answer) = by_behind s
 
-    by_reply : (b : Bool) → (wait_row m (if b then wait.Release (befallen s r) a else released s (mutex_next a r))).stage ≡ None
+    by_reply : (b : Bool) → (wait_row m (if b then wait.Release (stands_after s r) a else released s (mutex_next a r))).stage ≡ None
     by_reply true = refl
     by_reply false = by_next (mutex_next a r)
 

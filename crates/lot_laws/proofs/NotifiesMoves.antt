@@ -51,7 +51,7 @@ use Rattle.lot_condvar.proofs.CondvarActs.{notifies_move}
 use Rattle.lot_laws.proofs.CondvarHears.{notifier_hears}
 use Rattle.std.specs.Prelude.{nat_le}
 use Rattle.abstract_locks.specs.Purposes.{WasMoved}
-use Rattle.abstract_locks.specs.Runs.{befallen}
+use Rattle.abstract_locks.specs.Runs.{if_moved}
 use Rattle.lot_laws.proofs.OneStep.{queued_times}
 
 -- ---------------------------------------------------------------- the lists
@@ -221,23 +221,23 @@ module _ (w : State) (t l m : ℕ) (all locked : Bool) (steady : IsSteady w) (is
       -- the others' calls say so: who is taken or moved knows it
       knows : ((u : ℕ) → locks.times u (moved_of all (map queued_of line)) ≡ times u gone + times u moved) → (u : ℕ) → u ≢ t
           → (r : ℕ → Rights)
-          → call_state (behind u) r ≡ befallen u (moved_of all (map queued_of line)) (call_state (place_at w u) r)
+          → call_state (behind u) r ≡ if_moved u (moved_of all (map queued_of line)) (call_state (place_at w u) r)
       knows counted u ne r = ap (λ q. call_state q r) (put_other goes_across t p2 u ne) ∙ either (member u gone) (member u moved) refl refl
         where
           goes_across : ℕ → Place
           goes_across = goes w t l m apart steady p2 gone moved left counts lefts across one_gone out bare now_l (in_hand (not locked) false) now_m alike_t fits
 
-          known : 1 ≤ times u gone + times u moved → befallen u (moved_of all (map queued_of line)) (call_state (place_at w u) r) ≡ record (call_state (place_at w u) r) { recalls = WasMoved }
+          known : 1 ≤ times u gone + times u moved → if_moved u (moved_of all (map queued_of line)) (call_state (place_at w u) r) ≡ record (call_state (place_at w u) r) { recalls = WasMoved }
           known some = ap (λ b. if b then record (call_state (place_at w u) r) { recalls = WasMoved } else call_state (place_at w u) r) (is_some (locks.times u (moved_of all (map queued_of line))) (let a = counted u in omega arith))
 
           unknown : times u gone + times u moved ≡ 0
-              → befallen u (moved_of all (map queued_of line)) (call_state (place_at w u) r) ≡ call_state (place_at w u) r
+              → if_moved u (moved_of all (map queued_of line)) (call_state (place_at w u) r) ≡ call_state (place_at w u) r
           unknown none = ap (λ n. if nat_le 1 n then record (call_state (place_at w u) r) { recalls = WasMoved } else call_state (place_at w u) r) (counted u ∙ none)
 
           either : (a b : Bool) → member u gone ≡ a → member u moved ≡ b
               → call_state
               (if a then next_place (place_at w u) (TakenBy t) else if b then next_place (place_at w u) (MovedTo (key_of m Main)) else place_at w u) r
-              ≡ befallen u (moved_of all (map queued_of line)) (call_state (place_at w u) r)
+              ≡ if_moved u (moved_of all (map queued_of line)) (call_state (place_at w u) r)
           either true b e f = let n : 1 ≤ times u gone = member_times u gone e in knows_taken w t l m steady apart sort_l all locked is kept u (let a = counts u in omega arith) r ∙ sym (known (omega arith))
           either false true e f = let n : 1 ≤ times u moved = member_times u moved f in knows_moved w t l m steady apart sort_l all locked is kept u (let a = counts u in omega arith) r ∙ sym (known (omega arith))
           either false false e f = sym (unknown (let a = stranger_times u gone e in let b = stranger_times u moved f in omega arith))
@@ -324,7 +324,7 @@ module _ (w : State) (t l m : ℕ) (all locked : Bool) (steady : IsSteady w) (is
       -- the others' calls say so
       pub requeued_calls : ((u : ℕ) → locks.times u (moved_of all (map queued_of line)) ≡ times u gone + times u moved) → (u : ℕ)
           → u ≢ t → (r : ℕ → Rights)
-          → call_state (place_at v u) r ≡ befallen u (moved_of all (map queued_of line)) (call_state (place_at w u) r)
+          → call_state (place_at v u) r ≡ if_moved u (moved_of all (map queued_of line)) (call_state (place_at w u) r)
       requeued_calls counted u ne r = ap (λ (f : ℕ → Place). call_state (f u) r) places_now
           ∙ knows gone moved (left_behind how line) (all_counted how line) (left_waits (stations_of (place_at w)) l how line (steady.stands.waits l Main)) (one_taken how line) none_gone some_gone left_is gone_is moved_is counted u ne r
 
@@ -405,7 +405,7 @@ module _ (w : State) (t l m : ℕ) (all locked : Bool) (steady : IsSteady w) (is
 
       pub taken_calls : ((u : ℕ) → locks.times u (moved_of all (map queued_of line)) ≡ times u (take 1 line) + 0) → (u : ℕ)
           → u ≢ t → (r : ℕ → Rights)
-          → call_state (place_at taken_state u) r ≡ befallen u (moved_of all (map queued_of line)) (call_state (place_at w u) r)
+          → call_state (place_at taken_state u) r ≡ if_moved u (moved_of all (map queued_of line)) (call_state (place_at w u) r)
       taken_calls once u ne r = ap (λ (f : ℕ → Place). call_state (f u) r) first_places
           ∙ knows (take 1 line) [] (drop 1 line) (counted line) (left_lined line (steady.stands.waits l Main)) (one_taken requeue.TakeOneMoveRest line) no_locked (λ e. some) left_is gone_is moved_is once u ne r
 
@@ -490,7 +490,7 @@ module _ (w : State) (t l m : ℕ) (steady : IsSteady w) (is_there : t < length 
       → (u : ℕ) → u ≢ t → (r : ℕ → Rights)
       → call_state
       (place_at (put (state_after_act w t (Condvar l (moves_at all locked)) (move_act all locked l m)) t (next_of all locked)) u) r
-      ≡ befallen u (moved_of all (map queued_of waiting)) (call_state (place_at w u) r)
+      ≡ if_moved u (moved_of all (map queued_of waiting)) (call_state (place_at w u) r)
   moves_calls true true is fits = requeued_calls w t l m true true steady is_there apart sort_l sort_m kept is (told_of true true) ((notifies_move l m (map queued_of waiting) true (notify.Move true) tt).2 _ _) refl
       (notifier_hears w t l m true (notify.Move true) steady kept aside is refl) fits requeue.All line_l line_m (λ e. refl) (λ e. absurd cc) refl refl (under_lined (key_of m Main) waiting) (λ u. let a = queued_times u waiting in omega arith)
   moves_calls true false is fits = requeued_calls w t l m true false steady is_there apart sort_l sort_m kept is (told_of true false) ((notifies_move l m (map queued_of waiting) true (notify.Move false) tt).2 _ _) refl

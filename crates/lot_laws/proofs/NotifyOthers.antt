@@ -18,7 +18,7 @@ use Rattle.lot_condvar.specs.CondvarSteps.{condvar_next, move_act, notify_act}
 use Rattle.abstract_locks.specs.Condvars.{IsCondvar, WaitsAside, moved_of}
 use Rattle.abstract_locks.specs.Locks as locks
 use Rattle.abstract_locks.specs.Locks.{Rights, rights_of, LockState, putting}
-use Rattle.abstract_locks.specs.Runs.{AtLock, Event, Moves, Nothing, befallen}
+use Rattle.abstract_locks.specs.Runs.{AtLock, Event, Moves, Nothing, if_moved}
 use Rattle.abstract_locks.specs.Sites.{Main}
 use Rattle.lot_machine.specs.Machine.{State, place_at, put, reply_to, state_after_act, state_with_sections, word_at}
 use Rattle.lot_laws.specs.Refinement.{call_state, lock_state}
@@ -83,7 +83,7 @@ module _ (w v : State) (t l m : ℕ) (all owned : Bool) (number : ℕ) (h : Happ
       ∙ put_rights (lock_state w) l (locks.left_behind all (lock_state w l)) u (left_rights u) k
 
   -- so the others follow where whoever is moved or taken knows it
-  moves_follow : ((u : ℕ) → u ≢ t → (r : ℕ → Rights) → call_state (place_at v u) r ≡ befallen u (moved_of all (lock_state w l).queue) (call_state (place_at w u) r))
+  moves_follow : ((u : ℕ) → u ≢ t → (r : ℕ → Rights) → call_state (place_at v u) r ≡ if_moved u (moved_of all (lock_state w l).queue) (call_state (place_at w u) r))
       → OthersFollow w v t (Moves l m all owned number)
   moves_follow knows u ne = ap (call_state (place_at v u)) (λ i k. moved_rights u k i) ∙ knows u ne (rights w u)
 

@@ -22,7 +22,7 @@ use Rattle.lot_condvar.specs.declared.wait.Stands.TheVariants as stands
 use Rattle.lot_condvar.specs.declared.wait.WaitAt.{WaitAt}
 use Rattle.lot_condvar.specs.declared.wait.WaitAt.TheVariants as wait
 use Rattle.lot_condvar.specs.CondvarCalls.{IsReached}
-use Rattle.lot_condvar.specs.CondvarSteps.{befallen, behind, condvar_next, first_lock, in_wait, is_shown, released, wait_act}
+use Rattle.lot_condvar.specs.CondvarSteps.{stands_after, behind, condvar_next, first_lock, in_wait, is_shown, released, wait_act}
 use Rattle.lot_steps.specs.declared.places.Place.{Place}
 use Rattle.lot_steps.specs.declared.places.Place.TheVariants.{Condvar}
 use Rattle.lot_steps.specs.Steps.{next_place}
@@ -49,10 +49,10 @@ module _ (t l m : ℕ) (keeps : Keeps t) (timed : Bool) where
 
   told_there : (at : UnlockAt) (s : Stands) (r : Reply) → Befalls r
       → InRelease at (next_place (Condvar l (Wait m timed (releasing s at))) r)
-  told_there at s (TakenBy u) h = (befallen s (TakenBy u), refl)
-  told_there at s (MovedTo key) h = (befallen s (MovedTo key), refl)
-  told_there at s (HandedBy u alone) h = (befallen s (HandedBy u alone), refl)
-  told_there at s (Woken n) h = (befallen s (Woken n), refl)
+  told_there at s (TakenBy u) h = (stands_after s (TakenBy u), refl)
+  told_there at s (MovedTo key) h = (stands_after s (MovedTo key), refl)
+  told_there at s (HandedBy u alone) h = (stands_after s (HandedBy u alone), refl)
+  told_there at s (Woken n) h = (stands_after s (Woken n), refl)
   told_there at s r h = absurd h
 
   module _ (w : State) (s : Stands) (at : UnlockAt) (g : Alone w (releasing s at)) where

@@ -43,7 +43,7 @@ use Rattle.lot_condvar.specs.declared.wait.Stands.TheVariants as stands
 use Rattle.lot_condvar.specs.declared.wait.WaitAt.{WaitAt}
 use Rattle.lot_condvar.specs.declared.wait.WaitAt.TheVariants as wait
 use Rattle.lot_condvar.specs.CondvarProfiles.{may_give_up}
-use Rattle.lot_condvar.specs.CondvarSteps.{befallen, befalls, behind, condvar_next, in_notify, in_wait, is_shown, late_place, look_next, mutex_shown, notified, next_notify, next_wait, released, relocked}
+use Rattle.lot_condvar.specs.CondvarSteps.{stands_after, befalls, behind, condvar_next, in_notify, in_wait, is_shown, late_place, look_next, mutex_shown, notified, next_notify, next_wait, released, relocked}
 use Rattle.lot_steps.specs.declared.places.Place.{Place}
 use Rattle.lot_steps.specs.declared.places.Place.TheVariants.{Idle, Mutex, RwLock, Once, Condvar}
 use Rattle.lot_steps.specs.Steps.{condvar_goes, first_place, mutex_goes, next_place, once_goes, rwlock_goes}
@@ -206,12 +206,12 @@ module _ (locks : ℕ) (kinds : ℕ → Kind) (c : ℕ) where
     wait_timely (wait.Release s at) reply h r = releases s at reply
       where
         releases : (s : Stands) (at : MutexPlace) (reply : Reply) → TimelyNext (next_wait m timed (wait.Release s at) reply)
-        releases s at reply = elim (befalls reply) as (λ b. IsTimely (Wait m timed (if b then wait.Release (befallen s reply) at else released s (mutex_next at reply)))) [
+        releases s at reply = elim (befalls reply) as (λ b. IsTimely (Wait m timed (if b then wait.Release (stands_after s reply) at else released s (mutex_next at reply)))) [
           | true ↦ tt
           | false ↦ releases_timely s at (mutex_next at reply) false
         ]
     wait_timely (wait.Asleep s) Late h r = late_timely s r
-    wait_timely (wait.Asleep s) reply h r = behind_timely (befallen s reply)
+    wait_timely (wait.Asleep s) reply h r = behind_timely (stands_after s reply)
     wait_timely wait.Remove (Removed none_left) h r = either none_left
       where
         either : (b : Bool) → TimelyNext (if b then next.TheVariants.At wait.Hide else next.TheVariants.At wait.GiveUp)
