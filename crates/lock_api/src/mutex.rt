@@ -190,6 +190,7 @@ impl<R: RawMutexTimed, T> Mutex<R, T> {
         ensures token { R.is_token_of (R.lot_of self.now) token.new × R.stays token.old token.new }
         ensures guard { IfSome result (λ guard. lock_of guard ≡ self.now) }
         ensures path { R.walked self.now LockTimed (answer_by result) token.old token.new }
+        ensures left { IfNone result (R.gave_up self.now token.new) }
         ensures late { IfNone result (HasElapsed (C.tells clock.now) (as_nanos timeout)) }
     {
         let lot = self.raw.lot();
@@ -211,6 +212,7 @@ impl<R: RawMutexTimed, T> Mutex<R, T> {
         ensures token { R.is_token_of (R.lot_of self.now) token.new × R.stays token.old token.new }
         ensures guard { IfSome result (λ guard. lock_of guard ≡ self.now) }
         ensures path { R.walked self.now LockTimed (answer_by result) token.old token.new }
+        ensures left { IfNone result (R.gave_up self.now token.new) }
         ensures late { IfNone result (HasPassed (C.tells clock.now) deadline) }
     {
         let lot = self.raw.lot();

@@ -212,6 +212,10 @@ pub trait RawMutexFair: RawMutex {
 
 /// A mutex whose waiters may give up.
 pub trait RawMutexTimed: RawMutex {
+    // It gave up: the last section that it left was that of the mutex, in which it left the queue
+    // and took nobody.
+    ghost gave_up: { Self → Self.Token → Type 0 };
+
     /// Waits until nobody has the mutex, and takes it. None only where so much time, in nanoseconds
     /// of the clock, had passed.
     ///
@@ -228,6 +232,7 @@ pub trait RawMutexTimed: RawMutex {
             × Self.stays token.old token.new }
         ensures guard { IfSome result (Self.is_guard_of self.now) }
         ensures path { Self.walked self.now LockTimed (answer_by result) token.old token.new }
+        ensures left { IfNone result (gave_up self.now token.new) }
         ensures late { IfNone result (HasElapsed (C.tells clock.now) (as_nanos timeout)) };
 
     /// Waits until nobody has the mutex, and takes it. None only where the clock had come to the
@@ -244,5 +249,6 @@ pub trait RawMutexTimed: RawMutex {
             × Self.stays token.old token.new }
         ensures guard { IfSome result (Self.is_guard_of self.now) }
         ensures path { Self.walked self.now LockTimed (answer_by result) token.old token.new }
+        ensures left { IfNone result (gave_up self.now token.new) }
         ensures late { IfNone result (HasPassed (C.tells clock.now) deadline) };
 }

@@ -57,7 +57,7 @@ closed up base owns aim p state inside last e none fits same = (subst (λ (i : O
 module _ (up : Type 0) (base owns : List Ownership) where
   mutex_ended : (n : ℕ) (purpose : Purpose) (answer : Answer) (inside : Option Inside) (last : Option SectionRecord) → IsMutexOver up n base purpose answer (stage owns inside last) → IsMutexOver up n base purpose answer (stage owns None last)
   mutex_ended n (enters e) answer inside last (inl h) = inl (h.0, (h.1.0, refl))
-  mutex_ended n (enters e) answer inside last (inr h) = inr (h.0, h.1, (h.2.0, refl))
+  mutex_ended n (enters e) answer inside last (inr h) = inr (h.0, h.1, (h.2.0, refl), h.3)
   mutex_ended n releases answer inside last h = (h.0, (h.1.0, refl), h.2)
   mutex_ended n hands_over answer inside last h = (h.0, (h.1.0, refl), h.2)
 

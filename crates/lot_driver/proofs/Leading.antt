@@ -192,7 +192,7 @@ module _ (up : Type 0) (n : ℕ) (base : List Ownership) (st : Stage) where
       lock_leads lock.TheVariants.Remove f (Removed true) b = ((f.0, stays rest _ _ b refl refl f.1), refl)
       lock_leads lock.TheVariants.Remove f (Removed false) b = ((f.0, stays rest _ _ b refl refl f.1), refl)
       lock_leads lock.TheVariants.Clear f (Value seen) b = ((f.0, stays rest _ _ b.1 (clear_quiet seen b.0.1.0) refl f.1), refl)
-      lock_leads lock.TheVariants.GiveUp f Done b = inr (refl, f.0, (b.0 ∙ f.1.0, b.1))
+      lock_leads lock.TheVariants.GiveUp f Done b = inr (refl, f.0, (b.0 ∙ f.1.0, b.1), subst (λ (i : Option Inside). IsLeft i new.last) f.1.1 b.2)
       lock_leads lock.TheVariants.Accept f Done b = inl (refl, (owns_of _ b ∙ f.0, inside_of _ b ∙ f.1))
       lock_leads (lock.TheVariants.Taken by) f reply b = absurd f
       lock_leads (lock.TheVariants.Handed by) f reply b = absurd f

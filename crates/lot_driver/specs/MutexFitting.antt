@@ -20,7 +20,7 @@ use Rattle.lot_words.specs.Steps.{has, without}
 use Rattle.lot_words.specs.Views.{owning}
 use Rattle.lot_words.specs.declared.owners.Owner.TheVariants.{Exclusive}
 use Rattle.lot_words.specs.declared.owners.Ownership.{Ownership}
-use Rattle.parking_lot_core.specs.declared.tokens.Did.TheVariants.{TakeFirst}
+use Rattle.parking_lot_core.specs.declared.tokens.Did.TheVariants.{Nothing, TakeFirst}
 use Rattle.parking_lot_core.specs.declared.tokens.SectionRecord.{SectionRecord}
 use Rattle.lot_driver.specs.Paths.{mutex_at}
 use Rattle.lot_driver.specs.Stages.{Stage, entered_now, having_taken, is_there, listed}
@@ -76,6 +76,11 @@ abbrev pub TookAt : ℕ → Option SectionRecord → Type 0
 TookAt n last = (number : ℕ)
     × (last ≡ Some (record { key = 2 * n; did = TakeFirst (2 * n); number = number }))
 
+-- or where nobody was taken: who gives up has left the queue there
+abbrev pub TookNobodyAt : ℕ → Option SectionRecord → Type 0
+TookNobodyAt n last = (number : ℕ)
+    × (last ≡ Some (record { key = 2 * n; did = Nothing; number = number }))
+
 -- a release, behind its subtraction
 abbrev pub FitsUnlock : ℕ → List Ownership → UnlockAt → Stage → Type 0
 FitsUnlock n base unlock.TheVariants.Subtract st = ⊥
@@ -126,7 +131,8 @@ module _ (up : Type 0) where
   abbrev pub IsMutexOver : ℕ → List Ownership → Purpose → Answer → Stage → Type 0
   IsMutexOver n base (enters e) answer st =
       ((answer ≡ entered e) × Outside (held n ∷ beside n e base) st)
-      ⊎ ((answer ≡ answers.TheVariants.No) × GaveUp e × Outside (beside n e base) st)
+      ⊎ ((answer ≡ answers.TheVariants.No) × GaveUp e × Outside (beside n e base) st
+      × TookNobodyAt n st.last)
   IsMutexOver n base releases answer st =
       (answer ≡ answers.TheVariants.Ok) × Outside base st × TookAt n st.last
   IsMutexOver n base hands_over answer st = (answer ≡ answers.TheVariants.Ok)

@@ -17,7 +17,7 @@ ghost use Rattle.lot_words.specs.declared.views.WordStep.{WordStep};
 ghost use Rattle.lot_driver.specs.Calls.{MeetAt, purpose_in, IsUnfinished, HasWalked, Sees, Releases, WalksBehind};
 ghost use Rattle.lot_driver.specs.Drawing.{Drew, FoundFull};
 ghost use Rattle.raw_mutexes.specs.MutexGuards.{IsGuardOf, IsGuardOf-prop, IsOpenGuardOf, IsOpenGuardOf-prop, permit_in, StaysAs, StaysAs-on};
-ghost use Rattle.lot_driver.specs.MutexFitting.{IsMutexOver, held, releases};
+ghost use Rattle.lot_driver.specs.MutexFitting.{IsMutexOver, TookNobodyAt, held, releases};
 ghost use Rattle.lot_driver.specs.Stages.{stage_of};
 ghost use Rattle.lot_driver.specs.Telling.{owns_of, steps_of};
 
@@ -188,6 +188,8 @@ impl RawMutex {
         ensures guard { IfSome result (IsGuardOf (lot_of self.now) (word_of self.now)) }
         ensures path { HasWalked (word_of self.now).number LockTimed
             (answer_by result) token.old token.new }
+        ensures left { IfNone result
+            (TookNobodyAt (word_of self.now).number (last_of token.new)) }
         ensures late { IfNone result (IsUp C.tells limit.entry) }
     {
         match self.lot.enter_open(token, self.word) {
@@ -215,6 +217,8 @@ impl RawMutex {
             → HasBegun (word_of self.now).number LockTimed seen before token.old
             → StaysAs before token.new
             × HasWalked (word_of self.now).number LockTimed (answer_by result) before token.new }
+        ensures left { IfNone result
+            (TookNobodyAt (word_of self.now).number (last_of token.new)) }
         ensures late { IfNone result (IsUp C.tells limit.entry) }
     {
         let lot: &ParkingLot = &self.lot;
@@ -382,6 +386,8 @@ impl lock_raw::RawMutexFair for RawMutex {
 }
 
 impl lock_raw::RawMutexTimed for RawMutex {
+    ghost gave_up = { λ mutex token. TookNobodyAt mutex.word.number (last_of token) };
+
     fn try_lock_for<R: Wait, C: Clock>(
         &self,
         rt: &R,
