@@ -212,8 +212,7 @@ pub trait RawMutexFair: RawMutex {
 
 /// A mutex whose waiters may give up.
 pub trait RawMutexTimed: RawMutex {
-    // It gave up: the last section that it left was that of the mutex, in which it left the queue
-    // and took nobody.
+    // It gave up: the last section that it left was that of the mutex's queue, where it took nobody.
     ghost gave_up: { Self → Self.Token → Type 0 };
 
     /// Waits until nobody has the mutex, and takes it. None only where so much time, in nanoseconds

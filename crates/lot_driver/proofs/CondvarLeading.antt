@@ -57,7 +57,7 @@ use Rattle.lot_driver.specs.CondvarFitting.{Between, FitsCondvar, FitsNotify, Fi
 use Rattle.lot_driver.specs.Fitting.{AreWordsBeside, Fits, Looks, Reached, ReachedBy, aim_of, answer_of, of_mutex, of_notify, of_wait, sleeper_at}
 use Rattle.lot_driver.specs.MutexFitting.{FitsMutex, Outside, Within, enters, held, releases}
 use Rattle.lot_driver.specs.Paths.{at_mutex, condvar_at, mutex_at, mutexes}
-use Rattle.lot_driver.specs.Stages.{ActNeeds, Awoke, Became, HasKey, Inside, IsCounted, IsFresh, MayLeave, Stage, Stepped, entered_now, having_taken, listed, moving, note_of, stage, took_as}
+use Rattle.lot_driver.specs.Stages.{ActNeeds, Awoke, Became, HasKey, Inside, IsLeft, IsFresh, MayLeave, Stage, Stepped, entered_now, having_taken, listed, moving, note_of, stage, took_as}
 use Rattle.lot_driver.specs.declared.sleepers.Sleeper.{Sleeper}
 
 -- what is known of a mutex's places
@@ -469,10 +469,10 @@ module _ (up : Type 0) (c m : ℕ) (kinds : ℕ → WordKind) (at : ℕ → ℕ)
       move_leads false true f reply b = absurd b
       move_leads false false f reply b = absurd b.0
 
-      leave_leads : (a any : Bool) (number : ℕ) → FitsNotify c m a base (notify.Leave any number) st → (new.owns ≡ st.owns) × (new.inside ≡ None) × IsCounted st.inside new.last → IsNotifyOver c m a base (notified a number) new
-      leave_leads a any number (inl f) b = ((b.0 ∙ f.1.0, b.1), inl (ap (notified a) f.0, subst (λ (i : Option Inside). IsCounted i new.last) f.1.1 b.2))
-      leave_leads true any number (inr f) b = ((b.0 ∙ f.0, b.1), inr (f.1, number, refl, subst (λ (i : Option Inside). IsCounted i new.last) f.4 b.2 ∙ ap (λ (k : ℕ). Some (record { key = 2 * c; did = move_did true f.1 c m; number = k })) (sym f.5)))
-      leave_leads false any number (inr f) b = ((b.0 ∙ f.0, b.1), inr (f.1, length (threads_of f.2) + f.3, ap (notified false) f.5, subst (λ (i : Option Inside). IsCounted i new.last) f.4 b.2))
+      leave_leads : (a any : Bool) (number : ℕ) → FitsNotify c m a base (notify.Leave any number) st → (new.owns ≡ st.owns) × (new.inside ≡ None) × IsLeft st.inside new.last → IsNotifyOver c m a base (notified a number) new
+      leave_leads a any number (inl f) b = ((b.0 ∙ f.1.0, b.1), inl (ap (notified a) f.0, subst (λ (i : Option Inside). IsLeft i new.last) f.1.1 b.2))
+      leave_leads true any number (inr f) b = ((b.0 ∙ f.0, b.1), inr (f.1, number, refl, subst (λ (i : Option Inside). IsLeft i new.last) f.4 b.2 ∙ ap (λ (k : ℕ). Some (record { key = 2 * c; did = move_did true f.1 c m; number = k })) (sym f.5)))
+      leave_leads false any number (inr f) b = ((b.0 ∙ f.0, b.1), inr (f.1, length (threads_of f.2) + f.3, ap (notified false) f.5, subst (λ (i : Option Inside). IsLeft i new.last) f.4 b.2))
 
       again : (b e : Bool) → Between c m base new → ReachedBy up base (of_notify c m all) (Condvar c (Notify all m (if b then notify.Leave false 0 else if e then notify.Hide else notify.Mark))) (answer_of (notify_act all c m (if b then notify.Leave false 0 else if e then notify.Hide else notify.Mark))) new
       again true e f = (inl (refl, f), refl)

@@ -25,7 +25,8 @@ use Rattle.parking_lot_core.specs.declared.tokens.Did.TheVariants.{TakeFirst}
 use Rattle.lot_driver.specs.Fitting.{Reached, sleeper_at}
 use Rattle.lot_driver.specs.MutexFitting.{FitsHandOff, held}
 use Rattle.lot_driver.specs.Paths.{mutex_at, mutexes, at_mutex}
-use Rattle.lot_driver.specs.Stages.{Stage, Inside, ActNeeds, Became, HasKey, HandsEach, IsFresh, IsUngiven, MayLeave, IsLeft, is_there, listed, having_taken, took_as, all_given, wanted_in}
+use Rattle.lot_driver.specs.Stages.{Stage, Inside, ActNeeds, Became, HasKey, HandsEach, IsFresh, IsUngiven, MayLeave, is_there, listed, having_taken, took_as, all_given, wanted_in}
+use Rattle.lot_driver.proofs.Leaving.{has_done}
 
 -- an owner finds the word locked
 pub finds_locked : (n seen : ℕ) (owns : List Ownership) → has (held n) owns ≡ true → CodesWith kinds.TheVariants.Mutex (mutex_at n) seen owns → seen % 2 ≡ 1
@@ -103,6 +104,6 @@ module _ (n : ℕ) (base : List Ownership) (st : Stage) where
       where
         left_by : (bumps : Bool) → Reached up base (Mutex n (HandOff bumps (at.Leave any))) Done new
         left_by true = ((b.0 ∙ f.2.0, b.1), refl)
-        left_by false = (refl, (b.0 ∙ f.2.0, b.1), subst (λ (i : Option Inside). IsLeft i new.last) f.2.1 b.2)
+        left_by false = (refl, (b.0 ∙ f.2.0, b.1), has_done _ _ _ f.2.1 b.2)
     hand_off_leads at.Take f reply b = absurd b.0
     hand_off_leads at f reply b = absurd b

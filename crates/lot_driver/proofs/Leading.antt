@@ -44,6 +44,7 @@ use Rattle.lot_driver.specs.declared.sleepers.Sleeper.{Sleeper}
 use Rattle.lot_driver.specs.Stages.{Stage, Inside, ActNeeds, Became, HasKey, IsFresh, MayLeave, IsLeft, took_as, listed, entered_now, stage, stepped}
 use Rattle.lot_driver.proofs.HandingOver.{hand_off_needs, hand_off_leads}
 use Rattle.lot_driver.proofs.CondvarLeading.{condvar_place_leads}
+use Rattle.lot_driver.proofs.Leaving.{has_done}
 use Rattle.lot_driver.proofs.OnceLeading.{once_place_leads}
 use Rattle.lot_driver.proofs.RwLockLeading.{rwlock_place_leads}
 
@@ -205,7 +206,7 @@ module _ (up : Type 0) (n : ℕ) (base : List Ownership) (st : Stage) where
     unlock_leads unlock.TheVariants.Take f (Took any true) b = ((b.0.0, b.0.1, (b.1 ∙ f.0, b.0.2 ∙ ap (took_as (TakeFirst (2 * n)) (listed b.0.0)) f.1)), refl)
     unlock_leads unlock.TheVariants.Take f (Took any false) b = ((b.0.0, b.0.1, (b.1 ∙ f.0, b.0.2 ∙ ap (took_as (TakeFirst (2 * n)) (listed b.0.0)) f.1)), refl)
     unlock_leads (unlock.TheVariants.Clear any) f (Value seen) b = ((f.0, f.1, stays base _ _ b.1 (clear_quiet seen b.0.1.0) refl f.2), refl)
-    unlock_leads (unlock.TheVariants.Leave any) f Done b = (refl, (b.0 ∙ f.2.0, b.1), subst (λ (i : Option Inside). IsLeft i new.last) f.2.1 b.2)
+    unlock_leads (unlock.TheVariants.Leave any) f Done b = (refl, (b.0 ∙ f.2.0, b.1), has_done _ _ _ f.2.1 b.2)
     unlock_leads unlock.TheVariants.Take f reply b = absurd b.0
     unlock_leads at f reply b = absurd b
 

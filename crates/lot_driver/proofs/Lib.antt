@@ -1,5 +1,6 @@
 pub mod Paths
 pub mod Ending
+pub mod Leaving
 pub mod HandingOver
 pub mod RwLockDeciding
 pub mod RwLockNeeds

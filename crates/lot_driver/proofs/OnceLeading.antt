@@ -33,7 +33,8 @@ use Rattle.parking_lot_core.specs.declared.tokens.Did.TheVariants.{TakeAll}
 use Rattle.lot_driver.specs.Fitting.{Fits, Looks, Reached, ReachedBy, aim_of, answer_of, of_once, sleeper_at}
 use Rattle.lot_driver.specs.OnceFitting.{FitsLook, FitsOnce, FitsRun, OwnsBehind, StandsOutside, StandsWithin, goes_on, knowing}
 use Rattle.lot_driver.specs.Paths.{once_at, onces, at_once}
-use Rattle.lot_driver.specs.Stages.{Stage, Inside, ActNeeds, Became, HasKey, IsFresh, IsLeft, MayLeave, stage, stepped, took_as}
+use Rattle.lot_driver.specs.Stages.{Stage, Inside, ActNeeds, Became, HasKey, IsFresh, MayLeave, stage, stepped, took_as}
+use Rattle.lot_driver.proofs.Leaving.{has_done}
 
 -- of the seven codes
 pub each_once_code : (P : ℕ → Type 0) → P 0 → P 1 → P 2 → P 4 → P 8 → P 10 → P 12 → (n : ℕ) → IsOnceWord n → P n
@@ -197,7 +198,7 @@ module _ (l : ℕ) (base : List Ownership) (st : Stage) where
     run_leads : (forced : Bool) (at : RunAt) → FitsRun l base at st → (reply : Reply) → Became up onces (at_once l) (sleeper_at (Once l (Run forced at))) st (run_act l at) reply new → Reached up base (Once l (Run forced at)) reply new
     run_leads forced (run.Enter succeeded) f Done b = ((same_behind succeeded f.0 (owns_of _ b), inside_of _ b), refl)
     run_leads forced (run.Take succeeded) f (Took any left) b = ((same_behind succeeded f.0 b.1, b.0.0, b.0.1, b.0.2 ∙ ap (took_as (TakeAll (2 * l)) b.0.0) f.1), refl)
-    run_leads forced (run.Leave succeeded any) f Done b = (b.1, refl, same_behind succeeded f.0 b.0, subst (λ (i : Option Inside). IsLeft i new.last) f.3 b.2)
+    run_leads forced (run.Leave succeeded any) f Done b = (b.1, refl, same_behind succeeded f.0 b.0, has_done _ _ _ f.3 b.2)
     run_leads forced (run.Take succeeded) f reply b = absurd b.0
     run_leads forced (run.Close succeeded) f reply b = absurd f
     run_leads forced at f reply b = absurd b

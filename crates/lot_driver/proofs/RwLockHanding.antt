@@ -48,7 +48,8 @@ use Rattle.lot_driver.specs.Fitting.{Reached, ReachedBy, answer_of, handing_aim,
 use Rattle.lot_driver.specs.Paths.{at_rwlock, closure_of, rwlock_at, rwlocks}
 use Rattle.lot_driver.specs.RwLockFitting.{AreTaken, FitsHandOver, FitsRwLock, GaveFairly, HandsOver, HasInHand, HasPicked, IsBeside, IsUpgradableWord, OwnsRight, still_rightless}
 use Rattle.lot_driver.specs.Takes.{more_in, sharers_in, successor_in}
-use Rattle.lot_driver.specs.Stages.{ActNeeds, Became, HandsEach, HasKey, Inside, IsFresh, IsLeft, IsUngiven, MayLeave, Stage, Stepped, all_given, entered_now, handed, having_taken, owns_when_handed, stage, stepped, took_as, wanted_in}
+use Rattle.lot_driver.specs.Stages.{ActNeeds, Became, HandsEach, HasDone, HasKey, Inside, IsFresh, IsLeft, IsUngiven, MayLeave, Stage, Stepped, all_given, entered_now, handed, having_taken, owns_when_handed, stage, stepped, took_as, wanted_in}
+use Rattle.lot_driver.proofs.Leaving.{has_done}
 use Rattle.lot_driver.proofs.RwLockHands.{exchange_hands, exchange_leaves, exchange_needs, free_word, given_word, may_give_up, nobody_taken, owns_given_up, sees_own, store_hands, store_leaves, store_needs}
 use Rattle.lot_driver.proofs.RwLockKeeping.{look_upgradable, missed_same}
 use Rattle.lot_driver.proofs.RwLockNeeds.{has_right, left_beside}
@@ -165,9 +166,9 @@ module _ (up : Type 0) (l : ℕ) (a : Admission) (base : List Ownership) (room :
 
   -- behind the section
   left_section : (x : Access) (any given : Bool) → HandsOver x (handing.Leave any given) → FitsHandOver l base a x (handing.Leave any given) st → new.owns ≡ st.owns → new.inside ≡ None → IsLeft st.inside new.last → Reach x (released x bumps)
-  left_section x any given h f same none left = gave_up x none (subst (IsBeside l base) (sym same) f.0) (by_access x h (subst (λ (i : Option Inside). IsLeft i new.last) f.1.2 left))
+  left_section x any given h f same none left = gave_up x none (subst (IsBeside l base) (sym same) f.0) (by_access x h (has_done _ _ _ f.1.2 left))
     where
-      by_access : (x : Access) → HandsOver x (handing.Leave any given) → IsLeft (Some (having_taken (One (2 * l)) (did.TakePicked (2 * l) None a.recursive) f.1.0 (still_rightless given f.1.0))) new.last → GaveFairly l a x new.last
+      by_access : (x : Access) → HandsOver x (handing.Leave any given) → HasDone (2 * l) (did.TakePicked (2 * l) None a.recursive) new.last → GaveFairly l a x new.last
       by_access access.Upgradable h took = inr took
       by_access access.Exclusive h took = took
       by_access access.Shared h took = absurd h

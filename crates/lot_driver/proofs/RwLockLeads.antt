@@ -53,11 +53,12 @@ use Rattle.lot_words.specs.declared.words.WordKind.TheVariants as kinds
 use Rattle.lot_words.proofs.RwLockOwning.{fits}
 use Rattle.lot_driver.specs.Fitting.{sleeper_at}
 use Rattle.lot_driver.specs.Paths.{rwlock_at, rwlocks, at_rwlock}
-use Rattle.lot_driver.specs.RwLockFitting.{Answers, FitsRwLock, HasGivenWay, HasSeen, IsBeside, IsCounted, IsRwLockOver, IsWithin, LeftAlone, MayGiveUp, OwnsBeside, OwnsRight, TookWoken, did_wake, woken_line}
+use Rattle.lot_driver.specs.RwLockFitting.{Answers, FitsRwLock, HasGivenWay, HasSeen, IsBeside, IsCounted, IsRwLockOver, IsWithin, MayGiveUp, OwnsBeside, OwnsRight, TookWoken, did_wake, woken_line}
 use Rattle.lot_driver.specs.declared.sleepers.Sleeper.{Sleeper}
-use Rattle.lot_driver.specs.Stages.{Stage, Inside, Became, IsLeft, Stepped, entered_now, listed, stage, took_as}
+use Rattle.lot_driver.specs.Stages.{Stage, Inside, Became, HasDone, IsLeft, Stepped, TookNobodyAt, entered_now, listed, stage, took_as}
 use Rattle.lot_driver.proofs.RwLockDeciding.{marks, marks_aside, marks_clear, refuses, takes_shared, takes_upgradable, takes_exclusive, upgrades}
 use Rattle.lot_driver.proofs.RwLockKeeping as keeping
+use Rattle.lot_driver.proofs.Leaving.{has_done}
 
 never : {A : Type 0} → false ≡ true → A
 never e = absurd cc
@@ -515,8 +516,8 @@ module _ (up : Type 0) (l : ℕ) (a : Admission) (base : List Ownership) (q : Rw
         owns : IsBeside l base new.owns
         owns = kept_owns None same f.owns
 
-        left_alone : LeftAlone l new.last
-        left_alone = subst (λ (i : Option Inside). IsLeft i new.last) f.within left
+        took_nobody : TookNobodyAt l new.last
+        took_nobody = subst (λ (i : Option Inside). IsLeft i new.last) f.within left
 
         may : (how : Patience) → HasDeadline how → up → MayGiveUp up how
         may Timed d u = u
@@ -524,9 +525,9 @@ module _ (up : Type 0) (l : ℕ) (a : Admission) (base : List Ownership) (q : Rw
         may Try d u = absurd d
 
         by_purpose : (r : RwLockPurpose) → StandsAt r again (at.Park parking.GiveUp) → (late_at is_late r (at.Park parking.GiveUp) ≡ true → up) → Answers up l base a r No new
-        by_purpose (purpose.Enter access.Shared how) stands late = inr (inl (refl, may how stands (late refl), owns, inr (inl left_alone)))
-        by_purpose (purpose.Enter access.Upgradable how) stands late = inr (inl (refl, may how stands (late refl), owns, inr (inl left_alone)))
-        by_purpose (purpose.Enter access.Exclusive how) stands late = inr (inl (refl, may how stands (late refl), owns, inr (inl left_alone)))
+        by_purpose (purpose.Enter access.Shared how) stands late = inr (inl (refl, may how stands (late refl), owns, inr (inl took_nobody)))
+        by_purpose (purpose.Enter access.Upgradable how) stands late = inr (inl (refl, may how stands (late refl), owns, inr (inl took_nobody)))
+        by_purpose (purpose.Enter access.Exclusive how) stands late = inr (inl (refl, may how stands (late refl), owns, inr (inl took_nobody)))
         by_purpose (purpose.Upgrade Try) stands late = absurd stands
         by_purpose (purpose.Upgrade Patient) stands late = absurd stands
         by_purpose (purpose.Upgrade Timed) stands late = absurd stands
@@ -654,7 +655,7 @@ module _ (up : Type 0) (l : ℕ) (a : Admission) (base : List Ownership) (q : Rw
 
     -- the section that is left is one where it took those whom it wakes
     took_woken : (m : Line) (any : Bool) → woken_line q ≡ m → IsWithin l a q (Some m) true st.inside → IsLeft st.inside new.last → TookWoken l a q new.last
-    took_woken m any is within left = subst (λ (k : Line). (number : ℕ) × (new.last ≡ Some (record { key = key_of l k; did = did_wake l a q k; number = number }))) (sym is) (subst (λ (i : Option Inside). IsLeft i new.last) within.1 left)
+    took_woken m any is within left = subst (λ (k : Line). HasDone (key_of l k) (did_wake l a q k) new.last) (sym is) (has_done _ _ _ within.1 left)
 
     wake_ends : (m : Line) (any : Bool) → Fits (at.Wake m (waking.Leave any)) → new.owns ≡ st.owns → new.inside ≡ None → IsLeft st.inside new.last → Reach (End (ends_with q))
     wake_ends m any f same none left = (none, by_purpose q refl f.stands.place (kept_owns (kept_claim (start_of q)) same f.owns) f.late)

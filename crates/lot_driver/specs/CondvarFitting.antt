@@ -29,7 +29,7 @@ use Rattle.parking_lot_core.specs.declared.tokens.Did.{Did}
 use Rattle.parking_lot_core.specs.declared.tokens.Did.TheVariants as did
 use Rattle.parking_lot_core.specs.declared.tokens.SectionRecord.{SectionRecord}
 use Rattle.lot_driver.specs.MutexFitting.{FitsLock, FitsUnlock, Outside, Within, held}
-use Rattle.lot_driver.specs.Stages.{Stage, entered_now, having_taken}
+use Rattle.lot_driver.specs.Stages.{HasLeft, Stage, TookNobodyAt, entered_now, having_taken}
 use Rattle.lot_driver.specs.declared.sleepers.Sleeper.{Sleeper}
 
 -- a thread that waits sleeps for its mutex, and may be moved to the queue of that meanwhile
@@ -103,11 +103,10 @@ FitsNotify c m all base (notify.Leave any number) st =
 -- mutex shown, or none, or it moved waiters, and who notifies all tells the record's number
 abbrev pub AnswersBy : ℕ → ℕ → Bool → Answer → Option SectionRecord → Type 0
 AnswersBy c m all answer last =
-    ((answer ≡ notified all 0)
-    × (last ≡ Some (record { key = 2 * c; did = did.Nothing; number = 0 })))
+    ((answer ≡ notified all 0) × TookNobodyAt c last)
     ⊎ ((locked : Bool) × (number : ℕ)
     × (answer ≡ (if all then answers.Number number else answers.Yes))
-    × (last ≡ Some (record { key = 2 * c; did = move_did all locked c m; number = number })))
+    × HasLeft (2 * c) (move_did all locked c m) number last)
 
 abbrev pub IsNotifyOver : ℕ → ℕ → Bool → List Ownership → Answer → Stage → Type 0
 IsNotifyOver c m all base answer st = Outside base st × AnswersBy c m all answer st.last

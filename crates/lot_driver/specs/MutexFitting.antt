@@ -20,10 +20,10 @@ use Rattle.lot_words.specs.Steps.{has, without}
 use Rattle.lot_words.specs.Views.{owning}
 use Rattle.lot_words.specs.declared.owners.Owner.TheVariants.{Exclusive}
 use Rattle.lot_words.specs.declared.owners.Ownership.{Ownership}
-use Rattle.parking_lot_core.specs.declared.tokens.Did.TheVariants.{Nothing, TakeFirst}
+use Rattle.parking_lot_core.specs.declared.tokens.Did.TheVariants.{TakeFirst}
 use Rattle.parking_lot_core.specs.declared.tokens.SectionRecord.{SectionRecord}
 use Rattle.lot_driver.specs.Paths.{mutex_at}
-use Rattle.lot_driver.specs.Stages.{Stage, entered_now, having_taken, is_there, listed}
+use Rattle.lot_driver.specs.Stages.{HasDone, Stage, TookNobodyAt, entered_now, having_taken, is_there, listed}
 
 -- what a call of a mutex is for: to enter, to end a release that has given the lock up, or to hand
 -- it over
@@ -73,13 +73,7 @@ HasTook n any owns st = (first : Option Waiter) × (any ≡ is_there first)
 
 -- the section that was left last is one of this key, where the first of the queue was taken
 abbrev pub TookAt : ℕ → Option SectionRecord → Type 0
-TookAt n last = (number : ℕ)
-    × (last ≡ Some (record { key = 2 * n; did = TakeFirst (2 * n); number = number }))
-
--- or where nobody was taken: who gives up has left the queue there
-abbrev pub TookNobodyAt : ℕ → Option SectionRecord → Type 0
-TookNobodyAt n last = (number : ℕ)
-    × (last ≡ Some (record { key = 2 * n; did = Nothing; number = number }))
+TookAt n last = HasDone (2 * n) (TakeFirst (2 * n)) last
 
 -- a release, behind its subtraction
 abbrev pub FitsUnlock : ℕ → List Ownership → UnlockAt → Stage → Type 0

@@ -22,7 +22,7 @@ use Rattle.lot_words.specs.declared.owners.Ownership.{Ownership}
 use Rattle.parking_lot_core.specs.declared.tokens.Did.TheVariants.{TakeAll}
 use Rattle.parking_lot_core.specs.declared.tokens.SectionRecord.{SectionRecord}
 use Rattle.lot_driver.specs.Paths.{once_at}
-use Rattle.lot_driver.specs.Stages.{Inside, Stage, entered_now, having_taken}
+use Rattle.lot_driver.specs.Stages.{HasDone, Inside, Stage, entered_now, having_taken}
 
 -- what is owned by who has found a `Once` done so often, beside the rest
 abbrev pub knowing : ℕ → ℕ → List Ownership → List Ownership
@@ -88,8 +88,7 @@ FitsOnce l base (Run forced at) st = FitsRun l base at st
 
 -- the section that was left last is one of the main key, where all that waited were taken
 abbrev pub WokeAll : ℕ → Option SectionRecord → Type 0
-WokeAll l last = (number : ℕ)
-    × (last ≡ Some (record { key = 2 * l; did = TakeAll (2 * l); number = number }))
+WokeAll l last = HasDone (2 * l) (TakeAll (2 * l)) last
 
 -- what an answer says of a call that runs nothing
 abbrev pub LooksAnswer : ℕ → OnceCall → List Ownership → Answer → List Ownership → Type 0

@@ -49,7 +49,7 @@ use Rattle.parking_lot_core.specs.declared.tokens.Did.TheVariants as did
 use Rattle.parking_lot_core.specs.declared.tokens.SectionRecord.{SectionRecord}
 use Rattle.lot_driver.specs.Paths.{rwlock_at}
 use Rattle.lot_driver.specs.Takes.{more_in, sharers_in, successor_in}
-use Rattle.lot_driver.specs.Stages.{Inside, Stage, entered_now, having_taken}
+use Rattle.lot_driver.specs.Stages.{HasDone, Inside, Stage, TookNobodyAt, entered_now, having_taken}
 
 -- ---------------------------------------------------------------- what is owned
 
@@ -123,14 +123,7 @@ woken_line q = Main
 
 -- the section that was left last is one where the call took those whom it wakes
 abbrev pub TookWoken : ℕ → Admission → RwLockPurpose → Option SectionRecord → Type 0
-TookWoken l a q last = (number : ℕ)
-    × (last ≡ Some (record
-    { key = key_of l (woken_line q); did = did_wake l a q (woken_line q); number = number }))
-
--- who leaves the queue late has done nothing else in its section
-abbrev pub LeftAlone : ℕ → Option SectionRecord → Type 0
-LeftAlone l last = (number : ℕ)
-    × (last ≡ Some (record { key = key_of l Main; did = did.Nothing; number = number }))
+TookWoken l a q last = HasDone (key_of l (woken_line q)) (did_wake l a q (woken_line q)) last
 
 -- whoever reads is counted, and may find the lock full of readers
 abbrev pub IsCounted : Access → Type 0
@@ -277,7 +270,7 @@ module _ (up : Type 0) where
   Answers l base a (purpose.Enter x how) answer st =
       ((answer ≡ entered how) × OwnsRight l (wanted x) base st.owns)
       ⊎ (((answer ≡ answers.No) × MayGiveUp how × IsBeside l base st.owns
-      × ((st.last ≡ None) ⊎ (LeftAlone l st.last ⊎ TookWoken l a (purpose.Enter x how) st.last)))
+      × ((st.last ≡ None) ⊎ (TookNobodyAt l st.last ⊎ TookWoken l a (purpose.Enter x how) st.last)))
       ⊎ ((answer ≡ answers.ReadersFull) × IsCounted x × IsBeside l base st.owns))
   Answers l base a (purpose.Release x) answer st =
       (answer ≡ answers.Ok) × IsBeside l base st.owns × TookWoken l a (purpose.Release x) st.last

@@ -1,10 +1,12 @@
 -- What a thread has between two acts of a call, and what each act needs and changes, whatever the
 -- lock is.
 use Rattle.std.specs.Prelude.{ℕ, ◌≡◌, ◌≢◌, ◌≤◌, ◌==◌, ◌+◌, not, length, ◌++◌, List, [], ◌∷◌, Option, Some, None, Bool, true, false, ◌<◌, ◌^◌, if◌then◌else◌}
+use Rattle.lot_base.specs.Keys.{key_of}
 use Rattle.lot_base.specs.Lines.{threads_of}
 use Rattle.lot_base.specs.Words.{apply}
 use Rattle.lot_base.specs.declared.keys.Keys.{Keys}
 use Rattle.lot_base.specs.declared.keys.Keys.TheVariants.{One}
+use Rattle.lot_base.specs.declared.keys.Line.TheVariants.{Main}
 use Rattle.lot_base.specs.declared.notes.Note.{Note}
 use Rattle.lot_base.specs.declared.notes.Note.TheVariants.{Normal, HandOff}
 use Rattle.lot_base.specs.declared.ops.Op.{Op}
@@ -217,21 +219,25 @@ handed kind at op seen st = if takes_effect op seen
     (all_given st.inside) None
     else stepped kind at op seen st
 
--- what a section that is left leaves behind
+-- the section that was left last is one of this key, where this was done, to so many
+abbrev pub HasLeft : ℕ → Did → ℕ → Option SectionRecord → Type 0
+HasLeft key did number last = last ≡ Some (record { key = key; did = did; number = number })
+
+-- to some number of threads
+abbrev pub HasDone : ℕ → Did → Option SectionRecord → Type 0
+HasDone key did last = (number : ℕ) × HasLeft key did number last
+
+-- it is that of a lock's main queue, where nobody was taken or moved: who gives up leaves the queue
+-- there
+abbrev pub TookNobodyAt : ℕ → Option SectionRecord → Type 0
+TookNobodyAt lock last = HasLeft (key_of lock Main) Nothing 0 last
+
+-- what a section that is left leaves behind: a record of what was done there, which counts whom it
+-- took and moved
 abbrev pub IsLeft : Option Inside → Option SectionRecord → Type 0
 IsLeft None last = ⊥
-IsLeft (Some inside) last = (number : ℕ)
-    × (last ≡ Some (record { key = first_key inside.keys; did = inside.did; number = number }))
-
--- which counts whom it took and moved
-abbrev pub IsCounted : Option Inside → Option SectionRecord → Type 0
-IsCounted None last = ⊥
-IsCounted (Some inside) last =
-    last ≡ Some (record {
-      key = first_key inside.keys;
-      did = inside.did;
-      number = length inside.taken + inside.moved;
-    })
+IsLeft (Some inside) last =
+    HasLeft (first_key inside.keys) inside.did (length inside.taken + inside.moved) last
 
 -- whom a take took, by its reply; of those who were picked one at most wants more than to share,
 -- and a list holds them
@@ -299,7 +305,6 @@ Became up kinds at sleeper st (act.TheVariants.Requeue from to how)
 Became up kinds at sleeper st (act.TheVariants.Remove key) (Removed none_left) new = new ≡ st
 Became up kinds at sleeper st (act.TheVariants.Leave keys wakes) Done new =
     (new.owns ≡ st.owns) × (new.inside ≡ None) × IsLeft st.inside new.last
-    × IsCounted st.inside new.last
 Became up kinds at sleeper st act.TheVariants.Sleep reply new =
     Awoke up (kinds sleeper.lock) (at sleeper.lock) sleeper st reply new
 Became up kinds at sleeper st act.TheVariants.Accept Done new = new ≡ st

@@ -15,7 +15,7 @@ ghost use Rattle.lot_driver.specs.Fitting.{sleeper_at};
 ghost use Rattle.lot_driver.specs.Paths.{closure_of, step};
 ghost use Rattle.lot_driver.specs.Telling.{AreWaiting, HasStepped, MayFind, MayTake, MayTakeAt, StandsLast, TellsQueues, TellsTake, index_of, is_empty_at, owns_of, steps_of};
 ghost use Rattle.lot_driver.specs.Words.{AreWordsOf, word_in, kind_in, at_in};
-ghost use Rattle.lot_driver.specs.Stages.{Adds, Awoke, AwokeLate, HandsEach, HasKey, IsCounted, IsFresh, IsUngiven, MayLeave, IsIn, IsLeft, TookBy, handed, note_of, inside_of, stage_of, waiting_of, wanted_in, entered_now, ActNeeds, Became};
+ghost use Rattle.lot_driver.specs.Stages.{Adds, Awoke, AwokeLate, HandsEach, HasKey, IsFresh, IsUngiven, MayLeave, IsIn, IsLeft, TookBy, handed, note_of, inside_of, stage_of, waiting_of, wanted_in, entered_now, ActNeeds, Became};
 
 use crate::sleepers::{Sleeper, sleeper_at};
 use crate::taking::{requeue, take_all, take_first, take_picked, tell_wants};
@@ -175,8 +175,7 @@ pub(crate) fn leave<R: Wait>(
     ensures own { IsSameThread lot.now token.old token.new
         × (view_of token.new ≡ view_of token.old) }
     ensures left { (inside_of section.new ≡ None) × IsIn lot.now section.new
-        × IsLeft (inside_of section.old) (last_of token.new)
-        × IsCounted (inside_of section.old) (last_of token.new) }
+        × IsLeft (inside_of section.old) (last_of token.new) }
 {
     match section.take() {
         Some(inside) => inside.leave(rt, token, note),

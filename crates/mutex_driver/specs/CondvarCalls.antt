@@ -24,6 +24,7 @@ use Rattle.parking_lot_core.specs.declared.tokens.Token.{Token}
 use Rattle.lot_driver.specs.Calls.{MeetAt}
 use Rattle.lot_driver.specs.CondvarFitting.{move_did}
 use Rattle.lot_driver.specs.Paths.{Walks, condvar_at, mutex_at, step}
+use Rattle.lot_driver.specs.Stages.{HasLeft}
 use Rattle.lot_driver.specs.Telling.{owns_of, steps_of}
 
 -- a thread of the lot, a mutex of it, and a condition variable of it of another number, whose keys
@@ -76,7 +77,7 @@ Notifies c all answer old new = (m : ℕ) × Walks (at_condvar c m) (notify_begi
 abbrev pub TellsMoved : ℕ → Bool → Answer → Option SectionRecord → Type 0
 TellsMoved c all answer last = (answer ≡ notified all 0) ⊎ ((m : ℕ) × (locked : Bool) × (number : ℕ)
     × (answer ≡ (if all then Number number else Yes))
-    × (last ≡ Some (record { key = 2 * c; did = move_did all locked c m; number = number })))
+    × HasLeft (2 * c) (move_did all locked c m) number last)
 
 -- the steps of a raw wait lead to its answer; a mutex of the condition variable's own number, which
 -- nobody draws, is refused at once
@@ -106,4 +107,4 @@ IsNumber false n number = n ≡ 1
 -- it moved nobody, or left both queues with so many
 abbrev pub HasMoved : ℕ → Bool → ℕ → Token → Type 0
 HasMoved c all n new = (n ≡ 0) ⊎ ((m : ℕ) × (locked : Bool) × (number : ℕ) × IsNumber all n number
-    × (last_of new ≡ Some (record { key = 2 * c; did = move_did all locked c m; number = number })))
+    × HasLeft (2 * c) (move_did all locked c m) number (last_of new))

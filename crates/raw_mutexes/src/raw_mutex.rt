@@ -17,7 +17,8 @@ ghost use Rattle.lot_words.specs.declared.views.WordStep.{WordStep};
 ghost use Rattle.lot_driver.specs.Calls.{MeetAt, purpose_in, IsUnfinished, HasWalked, Sees, Releases, WalksBehind};
 ghost use Rattle.lot_driver.specs.Drawing.{Drew, FoundFull};
 ghost use Rattle.raw_mutexes.specs.MutexGuards.{IsGuardOf, IsGuardOf-prop, IsOpenGuardOf, IsOpenGuardOf-prop, permit_in, StaysAs, StaysAs-on};
-ghost use Rattle.lot_driver.specs.MutexFitting.{IsMutexOver, TookNobodyAt, held, releases};
+ghost use Rattle.lot_driver.specs.MutexFitting.{IsMutexOver, held, releases};
+ghost use Rattle.lot_driver.specs.Stages.{TookNobodyAt};
 ghost use Rattle.lot_driver.specs.Stages.{stage_of};
 ghost use Rattle.lot_driver.specs.Telling.{owns_of, steps_of};
 

@@ -14,7 +14,8 @@ use Rattle.parking_lot_core.specs.Tokens.{view_of, last_of}
 use Rattle.parking_lot_core.specs.declared.tokens.SectionRecord.{SectionRecord}
 use Rattle.parking_lot_core.specs.declared.tokens.Token.{Token}
 use Rattle.lot_driver.specs.Paths.{rwlock_at, step}
-use Rattle.lot_driver.specs.RwLockFitting.{LeftAlone, TookWoken}
+use Rattle.lot_driver.specs.RwLockFitting.{TookWoken}
+use Rattle.lot_driver.specs.Stages.{TookNobodyAt}
 
 -- the last of its steps saw that nobody keeps this right out, and that as many share the lock as
 -- may
@@ -27,7 +28,7 @@ SawFull l a x old new = (before : List WordStep) × (op : Op) × (seen : ℕ)
 -- kept out; one that enters may also have left the queue, and done nothing else there
 abbrev pub LeftBy : ℕ → Admission → RwLockPurpose → Option SectionRecord → Type 0
 LeftBy l a (purpose.Upgrade how) last = (last ≡ None) ⊎ TookWoken l a (purpose.Upgrade how) last
-LeftBy l a q last = (last ≡ None) ⊎ (LeftAlone l last ⊎ TookWoken l a q last)
+LeftBy l a q last = (last ≡ None) ⊎ (TookNobodyAt l last ⊎ TookWoken l a q last)
 
 abbrev pub GaveUp : ℕ → Admission → RwLockPurpose → Token → Type 0
 GaveUp l a q new = LeftBy l a q (last_of new)
