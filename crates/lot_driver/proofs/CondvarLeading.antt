@@ -500,7 +500,7 @@ module _ (up : Type 0) (c m : ℕ) (kinds : ℕ → WordKind) (at : ℕ → ℕ)
       notify_leads (notify.Clear any) f (Value seen) b = let e = subst (λ (k : WordKind). Stepped k (at c) (Store 0) seen st new) words.1 b in
           (inr (subst (λ (a : Bool). HasMoved c m all 1 base new) f.0 (keeps_moved 1 f.1 (owns_of _ e.1) (inside_of _ e.1))), refl)
       notify_leads (notify.MarkMoved number) f (Value seen) b = let s = stepped_there (Or 2) seen st new b in (inr (keeps_moved number f (owns_of _ s.1 ∙ sets_bit seen s.0.1.0) (inside_of _ s.1)), refl)
-      notify_leads (notify.Leave any number) f Done b = leave_leads all any number f (b.0, b.1, b.3)
+      notify_leads (notify.Leave any number) f Done b = leave_leads all any number f b
       notify_leads n f reply b = absurd b
 
 -- each place of a condition variable's call leads on
