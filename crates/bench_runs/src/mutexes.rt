@@ -5,7 +5,7 @@ ghost use Rattle.parking_lot.specs.Users.{lock_of, lot_of};
 ghost use Rattle.parking_lot_core.specs.Tokens.{IsTokenOf};
 
 use crate::made::{both, unless_refused};
-use parking_lot::lock_raw::RawMutex as RawLock;
+use parking_lot::lock_api::RawMutex as RawLock;
 use parking_lot::{FairMutex, Fault, Mutex, ParkingLot, RawMutex, Token, lock_api};
 use std::sync::{Arc, Wait};
 

@@ -5,7 +5,7 @@ ghost use Rattle.parking_lot.specs.RwLockUsers.{lot_of};
 ghost use Rattle.parking_lot_core.specs.Tokens.{IsTokenOf};
 
 use crate::made::{both, unless_refused};
-use parking_lot::lock_raw::{RawRwLock as RawLock, RawRwLockDowngrade, RawRwLockUpgrade};
+use parking_lot::lock_api_rw::{RawRwLock as RawLock, RawRwLockDowngrade, RawRwLockUpgrade};
 use parking_lot::{Fault, ParkingLot, RawRwLock, RecursiveRwLock, RwLock, Token, lock_api_rw};
 use std::sync::{Arc, Wait};
 

@@ -12,7 +12,6 @@ pub mod waits;
 
 pub use condvar::Condvar;
 pub use guards::MutexGuard;
-pub use lock_raw;
 pub use lock_raw::{RawCondvar, RawCondvarTimed, RawMutex, RawMutexFair, RawMutexTimed};
 pub use mutex::Mutex;
 pub use waits::WaitTimeoutResult;

@@ -6,16 +6,9 @@
 
 pub mod places;
 
-pub use lot_acts;
 pub use lot_acts::{
     Act, Check, Fallback, Next, Op, Owner, Owners, Pending, Phase, Reply, Wakes, Whom,
 };
-pub use lot_calls;
 pub use lot_calls::{Answer, Call, Kind, MutexCall, OnceState, Outcome, Step, Turn};
-pub use lot_condvar;
-pub use lot_mutex;
 pub use lot_mutex::{Entry, HandOffAt, LockAt, MutexPlace, UnlockAt};
-pub use lot_once;
-pub use lot_rwlock;
-pub use lot_rwlock_fair;
 pub use places::{Place, advance, has_right};

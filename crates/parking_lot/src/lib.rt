@@ -4,10 +4,8 @@
 pub use lock_api;
 pub use lock_api::WaitTimeoutResult;
 pub use lock_api_rw;
-pub use lock_raw;
 pub use lot_base::{ListQueues, Queues};
 pub use lot_calls::{Answer, MutexCall};
-pub use lot_steps;
 pub use lot_world;
 pub use parking_lot_core::{
     Clock, Did, Fault, Key, Keys, Note, Op, ParkingLot, Requeue, Right, Section, SectionRecord,

@@ -10,7 +10,7 @@ ghost use Rattle.parking_lot_core.specs.Tokens.{IsTicketOf, IsTokenOf};
 ghost use Rattle.parking_lot.specs.RwLockUsers.{admission_of, lot_of};
 
 pub use inside::Inside;
-use parking_lot::lock_raw::RawRwLock as RawLock;
+use parking_lot::lock_api_rw::RawRwLock as RawLock;
 use parking_lot::{Fault, ParkingLot, RawRwLock, Ticket, Token};
 use std::alloc::Global;
 use std::sync::atomic::Ordering::SeqCst;

@@ -8,7 +8,7 @@ ghost use Rattle.parking_lot_core.specs.Tokens.{IsTokenOf};
 ghost use Rattle.parking_lot.specs.RwLockGuards.{IsExclusiveOf, IsSharedOf, IsUpgradableOf};
 ghost use Rattle.parking_lot.specs.RwLockUsers.{lot_of, word_of};
 
-use parking_lot::lock_raw::{
+use parking_lot::lock_api_rw::{
     RawRwLock as RawLock, RawRwLockDowngrade, RawRwLockUpgrade, RawRwLockUpgradeDowngrade,
 };
 use parking_lot::{Fault, RawExclusiveGuard, RawRwLock, RawSharedGuard, RawUpgradableGuard, Token};

@@ -9,7 +9,7 @@ ghost use Rattle.parking_lot_core.specs.Tokens.{IsTicketOf, IsTokenOf};
 ghost use Rattle.parking_lot.specs.Users.{lot_of};
 
 use moved::{hold_and_move, wait_moved};
-use parking_lot::lock_raw::RawMutex as RawLock;
+use parking_lot::lock_api::RawMutex as RawLock;
 use parking_lot::{ParkingLot, RawMutex, Ticket, Token};
 use std::alloc::Global;
 use std::fmt::Debug;

@@ -5,7 +5,7 @@ ghost use Rattle.parking_lot.specs.Users.{lot_of};
 
 use super::fair::{GivesUp, give_up, take_and_keep};
 use super::{fair_mutex_of, mutex_of, same, seats};
-use parking_lot::{FairMutex, Mutex, ParkingLot, Ticket, Token, lock_api, lock_raw};
+use parking_lot::{FairMutex, Mutex, ParkingLot, Ticket, Token, lock_api};
 use std::alloc::Global;
 use std::process::Abort;
 use std::sync::Wait;
@@ -37,7 +37,7 @@ pub(super) enum Part {
 }
 
 // Adds 1 under any raw mutex.
-fn add_one<M: lock_raw::RawMutex, R: Wait>(
+fn add_one<M: lock_api::RawMutex, R: Wait>(
     rt: &R,
     mutex: &lock_api::Mutex<M, u64>,
     token: &mut M::Token,

@@ -4,14 +4,14 @@ ghost use Rattle.parking_lot_core.specs.Tokens.{IsTicketOf, IsTokenOf};
 ghost use Rattle.parking_lot.specs.Users.{lot_of};
 
 use super::{fair_mutex_alone, mutex_alone, mutex_of, next_of, same, seats};
-use parking_lot::{Clock, Mutex, TickClock, Ticket, Token, lock_api, lock_raw};
+use parking_lot::{Clock, Mutex, TickClock, Ticket, Token, lock_api};
 use std::sync::Wait;
 use std::time::Duration;
 
 const FAR: u64 = 1000;
 
 // Whether it gets any mutex within so many nanoseconds.
-fn gets_within<M: lock_raw::RawMutexTimed, R: Wait>(
+fn gets_within<M: lock_api::RawMutexTimed, R: Wait>(
     rt: &R,
     mutex: &lock_api::Mutex<M, u64>,
     token: &mut M::Token,
@@ -31,7 +31,7 @@ fn gets_within<M: lock_raw::RawMutexTimed, R: Wait>(
 }
 
 // Whether it gets any mutex before the clock comes to a time.
-fn gets_before<M: lock_raw::RawMutexTimed, R: Wait>(
+fn gets_before<M: lock_api::RawMutexTimed, R: Wait>(
     rt: &R,
     mutex: &lock_api::Mutex<M, u64>,
     token: &mut M::Token,
@@ -69,7 +69,7 @@ fn is_just_past(clock: &TickClock, time: u64) -> bool
 
 // Waits in vain, for a time and up to a deadline. Whether it gave up each time, no sooner than it
 // was to, and soon behind that.
-fn gives_up<M: lock_raw::RawMutexTimed, R: Wait>(
+fn gives_up<M: lock_api::RawMutexTimed, R: Wait>(
     rt: &R,
     mutex: &lock_api::Mutex<M, u64>,
     token: &mut M::Token,
@@ -85,7 +85,7 @@ fn gives_up<M: lock_raw::RawMutexTimed, R: Wait>(
 }
 
 // Whether it gives up beside who holds the mutex, and gets it in time once that is free.
-fn gives_up_and_gets<M: lock_raw::RawMutexTimed, R: Wait>(
+fn gives_up_and_gets<M: lock_api::RawMutexTimed, R: Wait>(
     rt: &R,
     mutex: &lock_api::Mutex<M, u64>,
     token: &mut M::Token,

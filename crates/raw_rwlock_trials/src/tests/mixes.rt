@@ -6,7 +6,7 @@ ghost use Rattle.parking_lot.specs.RwLockUsers.{lot_of, word_of};
 
 use super::crowds::{Part, play};
 use super::holds;
-use parking_lot::lock_raw::{
+use parking_lot::lock_api_rw::{
     RawRwLock as RawLock, RawRwLockDowngrade, RawRwLockFair, RawRwLockTimed, RawRwLockUpgrade,
     RawRwLockUpgradeDowngrade, RawRwLockUpgradeFair, RawRwLockUpgradeTimed,
 };

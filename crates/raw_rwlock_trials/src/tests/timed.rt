@@ -8,7 +8,7 @@ use super::crowds::{Part, Told, play};
 use super::{
     FREE, READ, UPGRADABLE, WRITTEN, goes, goes_upgradable, goes_writing, holds, look, look_and_go,
 };
-use parking_lot::lock_raw::{
+use parking_lot::lock_api_rw::{
     RawRwLock as RawLock, RawRwLockTimed, RawRwLockUpgrade, RawRwLockUpgradeTimed,
 };
 use parking_lot::{Clock, Fault, ParkingLot, RawRwLock, RawSharedGuard, TickClock, Token};

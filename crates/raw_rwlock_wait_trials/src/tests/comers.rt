@@ -3,7 +3,7 @@ ghost use Rattle.parking_lot_core.specs.Tokens.{IsTokenOf};
 ghost use Rattle.parking_lot.specs.RwLockUsers.{lot_of};
 
 use super::scenes::{Coming, Scene, Told};
-use parking_lot::lock_raw::{
+use parking_lot::lock_api_rw::{
     RawRwLock as RawLock, RawRwLockTimed, RawRwLockUpgrade, RawRwLockUpgradeTimed,
 };
 use parking_lot::{RawRwLock, TickClock, Token};

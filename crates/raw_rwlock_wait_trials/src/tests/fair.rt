@@ -4,7 +4,7 @@ ghost use Rattle.parking_lot.specs.RwLockUsers.{lot_of};
 
 use super::scenes::{ALL, Coming, Manner, READERS, Scene, WRITERS};
 use super::{play, play_within, same};
-use parking_lot::lock_raw::{
+use parking_lot::lock_api_rw::{
     RawRwLock as RawLock, RawRwLockFair, RawRwLockUpgrade, RawRwLockUpgradeFair,
 };
 use parking_lot::{RawRwLock, Token};

@@ -5,7 +5,7 @@ ghost use Rattle.parking_lot.specs.RwLockGuards.{IsExclusiveOf, IsSharedOf, IsUp
 ghost use Rattle.parking_lot.specs.RwLockUsers.{lot_of, word_of};
 
 use super::scenes::{Manner, Scene, Told};
-use parking_lot::lock_raw::{
+use parking_lot::lock_api_rw::{
     RawRwLock as RawLock, RawRwLockDowngrade, RawRwLockFair, RawRwLockUpgrade,
     RawRwLockUpgradeDowngrade, RawRwLockUpgradeFair,
 };

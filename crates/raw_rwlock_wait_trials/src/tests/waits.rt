@@ -4,7 +4,7 @@ ghost use Rattle.parking_lot.specs.RwLockUsers.{lot_of};
 
 use super::scenes::{ALL, Coming, Manner, READERS, Scene, WRITERS};
 use super::{holds, play};
-use parking_lot::lock_raw::RawRwLock as RawLock;
+use parking_lot::lock_api_rw::RawRwLock as RawLock;
 use parking_lot::{Fault, RawRwLock, Ticket};
 use raw_rwlock_fixtures::{comes_to, seats};
 use std::alloc::Global;

@@ -5,7 +5,7 @@ ghost use Rattle.parking_lot.specs.Users.{lot_of};
 
 use super::timed::give_back;
 use super::{Part, Told, await_flag, play, same, sees_waiter};
-use parking_lot::lock_raw::{RawMutex as RawLock, RawMutexTimed as RawTimedLock};
+use parking_lot::lock_api::{RawMutex as RawLock, RawMutexTimed as RawTimedLock};
 use parking_lot::{Clock, Key, Keys, Note, ParkingLot, RawMutex, Requeue, Token};
 use std::sync::Wait;
 use std::sync::atomic::AtomicBool;

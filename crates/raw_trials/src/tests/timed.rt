@@ -4,8 +4,8 @@ ghost use Rattle.parking_lot_core.specs.Tokens.{IsTokenOf};
 ghost use Rattle.parking_lot.specs.Users.{lot_of};
 
 use super::{Part, await_flag, holds, play, same, seats, stands};
-use parking_lot::lock_raw::{RawMutex as RawLock, RawMutexTimed as RawTimedLock};
-use parking_lot::{RawMutex, TickClock, Token, lock_raw};
+use parking_lot::lock_api::{RawMutex as RawLock, RawMutexTimed as RawTimedLock};
+use parking_lot::{RawMutex, TickClock, Token};
 use std::sync::Wait;
 use std::sync::atomic::Ordering::SeqCst;
 use std::sync::atomic::{AtomicBool, AtomicU64};
@@ -31,7 +31,7 @@ fn who_holds_a_mutex_waits_for_it_in_vain(rt: HostRuntime) {
 }
 
 // Unlocks, if it was got. Whether it was.
-pub(super) fn give_back<M: lock_raw::RawMutex, R: Wait>(
+pub(super) fn give_back<M: RawLock, R: Wait>(
     rt: &R,
     mutex: &M,
     token: &mut M::Token,
@@ -51,7 +51,7 @@ pub(super) fn give_back<M: lock_raw::RawMutex, R: Wait>(
 }
 
 // Takes the mutex by each timed call, through the bound. Whether it got it each time.
-fn takes_a_free_one<M: lock_raw::RawMutexTimed, R: Wait>(
+fn takes_a_free_one<M: RawTimedLock, R: Wait>(
     rt: &R,
     mutex: &M,
     token: &mut M::Token,

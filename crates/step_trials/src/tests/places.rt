@@ -2,7 +2,7 @@
 use super::{holds, same};
 use lot_base::{Keys, Note};
 use lot_calls::OnceCall;
-use lot_steps::lot_once::{OncePlace, RunAt};
+use lot_once::{OncePlace, RunAt};
 use lot_steps::{
     Act, Answer, Call, Entry, HandOffAt, Kind, LockAt, MutexCall, MutexPlace, Op, Outcome, Owners,
     Phase, Place, Reply, UnlockAt, Wakes, advance, has_right,

@@ -4,7 +4,7 @@ use super::scripts::{DONE, Line, plays_anew};
 use super::{holds, same};
 use lot_base::{Note, Want};
 use lot_calls::{OnceCall, OnceState};
-use lot_steps::lot_once::{LookAt, OncePlace};
+use lot_once::{LookAt, OncePlace};
 use lot_steps::{Answer, Call, Kind, Place, Reply};
 use lot_world::{Debt, Outcome, Owner, Turn};
 
