@@ -42,12 +42,14 @@ waits_so_far waited back given true old last new same before then =
 -- a call that ends then has waited in time
 pub waits_in_time : {Token : Type 0} (waited : Answer → Token → Token → Type 0) (late : Bool)
     (old new : Token) → WaitedSoFar waited late old new
-    → (last : Token) × Waits (waited answers.Notified) old last × ((new ≡ last) ⊎ waited answers.TimedOut last new)
+    → (last : Token) × Waits (waited answers.Notified) old last
+    × ((new ≡ last) ⊎ waited answers.TimedOut last new)
 waits_in_time waited false old new so_far = (new, so_far, inl refl)
 waits_in_time waited true old new so_far = (so_far.0, so_far.1, inr so_far.2)
 
--- a condition that holds ends a call that is late alone
-pub late_or_holds : {late holds : Bool} → ((late ≡ true) ⊎ ((late ≡ false) × (holds ≡ false))) → holds ≡ true → late ≡ true
+-- where the condition holds still, only its time ends a call
+pub late_or_holds : {late holds : Bool} → ((late ≡ true) ⊎ ((late ≡ false) × (holds ≡ false)))
+    → holds ≡ true → late ≡ true
 late_or_holds (inl late) held = late
 late_or_holds (inr neither) held = cc
 

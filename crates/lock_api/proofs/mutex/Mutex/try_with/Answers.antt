@@ -5,9 +5,10 @@ pub returns-clause-ran : goal.returns-clause-ran
 returns-clause-ran g c = (_, _, c.run_on-answer.ensures)
 
 pub returns-clause-token : goal.returns-clause-token
-returns-clause-token g c =
-    ( thread_of g.R.RawMutex.is_token_of g.R.RawMutex.lot_of _ _ _ c.in_ok-guard.ensures.guard c.unlock.ensures.token.0
-    , g.R.RawMutex.stays_on _ _ _ c.in_ok-guard.ensures.token.1 c.unlock.ensures.token.1 )
+returns-clause-token g c = (
+  thread_of g.R.RawMutex.is_token_of g.R.RawMutex.lot_of _ _ _ c.in_ok-guard.ensures.guard c.unlock.ensures.token.0,
+  g.R.RawMutex.stays_on _ _ _ c.in_ok-guard.ensures.token.1 c.unlock.ensures.token.1,
+)
 
 pub returns-clause-path : goal.returns-clause-path
 returns-clause-path g c =
