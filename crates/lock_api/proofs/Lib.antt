@@ -1,2 +1,3 @@
 mod Stays
 mod WaitsOn
+mod Visits

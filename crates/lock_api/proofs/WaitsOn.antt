@@ -1,5 +1,5 @@
 -- Waits one after another, and one more.
-use Rattle.std.proofs.Common.{◌≡◌, suc, Bool, true, false, subst}
+use Rattle.std.proofs.Common.{◌≡◌, ◌⊎◌, suc, Bool, true, false, inl, inr, refl, subst}
 use Rattle.lock_raw.specs.Answers.{late_answer}
 use Rattle.lot_calls.specs.declared.outcomes.Answer.{Answer}
 use Rattle.lot_calls.specs.declared.outcomes.Answer.TheVariants as answers
@@ -38,3 +38,21 @@ waits_so_far waited back given false old last new same before then =
     waits_on (λ mutex. waited mutex answers.Notified) back given old last new same before then
 waits_so_far waited back given true old last new same before then =
     (last, before, with_given (λ mutex. waited mutex answers.TimedOut) back given last new same then)
+
+-- a call that ends then has waited in time
+pub waits_in_time : {Token : Type 0} (waited : Answer → Token → Token → Type 0) (late : Bool)
+    (old new : Token) → WaitedSoFar waited late old new
+    → (last : Token) × Waits (waited answers.Notified) old last
+    × ((new ≡ last) ⊎ waited answers.TimedOut last new)
+waits_in_time waited false old new so_far = (new, so_far, inl refl)
+waits_in_time waited true old new so_far = (so_far.0, so_far.1, inr so_far.2)
+
+-- where the condition holds still, only its time ends a call
+pub late_or_holds : {late holds : Bool} → ((late ≡ true) ⊎ ((late ≡ false) × (holds ≡ false)))
+    → holds ≡ true → late ≡ true
+late_or_holds (inl late) held = late
+late_or_holds (inr neither) held = cc
+
+-- a wait that has not begun is not late
+pub not_begun : {A : Type 0} → false ≡ true → A
+not_begun late = cc

@@ -62,8 +62,8 @@ impl<R: RawCondvar> Condvar<R> {
         &self,
         rt: &W,
         token: &mut TokenOf<R>,
-        guard: MutexGuard<'a, R::RawMutex, T>,
-        condition: F,
+        mut guard: MutexGuard<'a, R::RawMutex, T>,
+        mut condition: F,
     ) -> Waited<'a, R, T>
         requires token { R.RawMutex.is_token_of (R.lot_of self.now) token.old }
         requires lot { R.RawMutex.lot_of (lock_of guard) ≡ R.lot_of self.now }
@@ -75,8 +75,6 @@ impl<R: RawCondvar> Condvar<R> {
             result token.old token.new }
         ensures ended { LastRefused F.step (CallKeepsClosure F.FnMut condition) condition result }
     {
-        let mut guard = guard;
-        let mut condition = condition;
         for _ in rt.forever() {
             if !condition(&mut *guard) {
                 return Ok(guard);
@@ -172,8 +170,8 @@ impl<R: RawCondvarTimed> Condvar<R> {
         &self,
         rt: &W,
         token: &mut TokenOf<R>,
-        guard: MutexGuard<'a, R::RawMutex, T>,
-        condition: F,
+        mut guard: MutexGuard<'a, R::RawMutex, T>,
+        mut condition: F,
         clock: &C,
         deadline: u64,
     ) -> WaitedFor<'a, R, T>
@@ -188,8 +186,6 @@ impl<R: RawCondvarTimed> Condvar<R> {
         ensures ended { LastAnswered F.step (CallKeepsClosure F.FnMut condition) condition result }
         ensures late { IsLate result (HasPassed (C.tells clock.now) deadline) }
     {
-        let mut guard = guard;
-        let mut condition = condition;
         let mut late = false;
         for _ in rt.forever() {
             let holds = condition(&mut *guard);

@@ -1,4 +1,5 @@
-use Rattle.std.proofs.Common.{◌∙◌, inl, refl, of_calls, false}
+use Rattle.std.proofs.Common.{◌∙◌, ap, inl, refl, false}
+use denote.Param.Always.{mut_next}
 use denote.Param.Members.{was_Called}
 use Rattle.lock_api.proofs.Stays.{stays_behind}
 use Rattle.lock_api.proofs.WaitsOn.{waits_on, with_given}
@@ -12,7 +13,7 @@ loop-init g c = record {
   stays = inl refl;
   waits = (0, refl);
   guard = refl;
-  callable = search of_calls;
+  callable = c.requires.callable;
   kept = λ _. refl;
 }
 
@@ -23,7 +24,7 @@ loop-preserved g c = record {
   stays = stays_behind g.R.RawMutex.RawMutex.stays g.R.RawMutex.RawMutex.stays_on _ _ _ c.loop.invariant.stays c.in-Ok.ensures.token.1;
   waits = waits_on (λ mutex. g.R.RawCondvar.waited c.args.self.now mutex false answers.Ok) _ _ _ _ _ c.loop.invariant.guard c.loop.invariant.waits c.in-Ok.ensures.path;
   guard = c.in-Ok.ensures.guard ∙ c.loop.invariant.guard;
-  callable = search of_calls;
+  callable = mut_next g.F.FnMut _ _ _ _ _ (record { met = c.condition.ensures.met }) refl c.loop.invariant.callable;
   kept = λ stays. stays _ _ _ (was_Called g.F.FnMut c.args.condition c.loop.condition _ _ _ c.condition.new.self c.condition.ensures.met (c.loop.invariant.kept stays) refl);
 }
 
@@ -34,3 +35,24 @@ returns-in-Err-clause-token g c =
 pub returns-in-Err-clause-path : goal.returns-in-Err-clause-path
 returns-in-Err-clause-path g c =
     (_, c.loop.invariant.waits, with_given (λ mutex. g.R.RawCondvar.waited c.args.self.now mutex false answers.TwoMutexes) _ _ _ _ c.loop.invariant.guard c.in-Err.ensures.path)
+
+pub returns-in-Err-clause-guard : goal.returns-in-Err-clause-guard
+returns-in-Err-clause-guard g c = (c.in-Err.ensures.guard.0, c.in-Err.ensures.guard.1 ∙ c.loop.invariant.guard)
+
+pub wait-requires-clause-token : goal.wait-requires-clause-token
+wait-requires-clause-token g c = c.loop.invariant.thread
+
+pub wait-requires-clause-lot : goal.wait-requires-clause-lot
+wait-requires-clause-lot g c = ap g.R.RawMutex.RawMutex.lot_of c.loop.invariant.guard ∙ c.requires.lot
+
+pub returns-then-not-condition-clause-token : goal.returns-then-not-condition-clause-token
+returns-then-not-condition-clause-token g c = (c.loop.invariant.thread, c.loop.invariant.stays)
+
+pub returns-then-not-condition-clause-guard : goal.returns-then-not-condition-clause-guard
+returns-then-not-condition-clause-guard g c = c.loop.invariant.guard
+
+pub returns-then-not-condition-clause-path : goal.returns-then-not-condition-clause-path
+returns-then-not-condition-clause-path g c = c.loop.invariant.waits
+
+pub returns-then-not-condition-clause-ended : goal.returns-then-not-condition-clause-ended
+returns-then-not-condition-clause-ended g c = (_, _, _, _, c.if-not-condition.ensures, refl, c.loop.invariant.kept)
