@@ -35,8 +35,25 @@ fn holds(rt: &impl Abort, truth: bool) {
     assert!(rt; truth);
 }
 
-// A lot, the token of the last of its seats, and the tickets of the others. What makes lots and
-// words gives up where memory is refused, so that no test has anything to drop in its midst.
+// What makes lots and words gives up where memory is refused, so that no test has anything to drop
+// in its midst.
+fn new_lot<A: Abort>(
+    rt: &A,
+    alloc: Global,
+    words: usize,
+    seats: usize,
+) -> (Arc<ParkingLot>, Vec<Ticket>)
+    requires { (0 < words) × (words ≤ 1048576) × (0 < seats) × (seats ≤ 1024) }
+    ensures lot { (arc_value result.0).records.count ≡ seats }
+    ensures seats { All (IsNewTicketOf (arc_value result.0)) result.1.items }
+{
+    match ParkingLot::new(alloc, words, seats) {
+        Ok(made) => made,
+        Err(_) => panic!(rt; "no lot"),
+    }
+}
+
+// A lot, the token of the last of its seats, and the tickets of the others.
 fn lot_of<A: Abort>(
     rt: &A,
     alloc: Global,
@@ -48,13 +65,9 @@ fn lot_of<A: Abort>(
     ensures seats { IsTokenOf (arc_value result.0) result.1
         × All (IsNewTicketOf (arc_value result.0)) result.2.items }
 {
-    let Ok((lot, mut others)) = ParkingLot::new(alloc, words, seats) else {
-        panic!(rt; "no lot");
-    };
-    match others.pop() {
-        Some(ticket) => (lot, ticket.enter(), others),
-        None => panic!(rt; "no seat"),
-    }
+    let (lot, mut others) = new_lot(rt, alloc, words, seats);
+    let ticket = ticket_of(rt, &lot, &mut others);
+    (lot, ticket.enter(), others)
 }
 
 // A word of a lot.
@@ -78,6 +91,24 @@ fn mutex_of<A: Abort>(rt: &A, alloc: Global, words: usize) -> (Arc<ParkingLot>, 
     let (lot, mut token, _) = lot_of(rt, alloc, words, 1);
     let word = word_of(rt, &lot, &mut token, WordKind::Mutex);
     (lot, token, word)
+}
+
+// A lot of one word, which is a mutex, the token of the last of its seats, and the tickets of the
+// others.
+fn seats_of<A: Abort>(
+    rt: &A,
+    alloc: Global,
+    seats: usize,
+) -> (Arc<ParkingLot>, Token, Vec<Ticket>, Word)
+    requires { (0 < seats) × (seats ≤ 1024) }
+    ensures lot { (arc_value result.0).records.count ≡ seats }
+    ensures seats { IsTokenOf (arc_value result.0) result.1
+        × All (IsNewTicketOf (arc_value result.0)) result.2.items }
+    ensures word { IsWordOf (arc_value result.0).words result.3 × (result.3.kind ≡ Mutex) }
+{
+    let (lot, mut token, others) = lot_of(rt, alloc, 1, seats);
+    let word = word_of(rt, &lot, &mut token, WordKind::Mutex);
+    (lot, token, others, word)
 }
 
 // A ticket of those that are left.

@@ -2,8 +2,10 @@
 ghost use Rattle.std.specs.Prelude.{◌≡◌, ◌≤◌, ◌<◌, [], IfSome};
 ghost use Rattle.std.specs.Arc.{arc_value};
 ghost use Rattle.lot_words.specs.RightsOf.{IsRightOf};
-ghost use Rattle.parking_lot_core.specs.Sections.{StaysIn, rightless_in};
+ghost use Rattle.parking_lot_core.specs.Keys.{IsKeyOf};
+ghost use Rattle.parking_lot_core.specs.Sections.{MayNote, StaysIn, TookAs, rightless_in, taken_in};
 ghost use Rattle.parking_lot_core.specs.Tokens.{IsTicketOf, IsTokenOf, IsSameThread};
+ghost use Rattle.parking_lot_core.specs.declared.tokens.Did.TheVariants.{Nothing};
 
 use super::mutexes::try_lock;
 use super::{delay, line_up, lot_of, same, ticket_of, told, word_of};
@@ -18,6 +20,8 @@ use std::thread::{Threads, join, yield_now};
 const KEY: Key = 0;
 
 const TURNS: usize = 2000;
+
+const ALL_SHARED: (Want, Want, Want) = (Want::Shared, Want::Shared, Want::Shared);
 
 // The right of a mutex that is drawn for it. The mutex is pushed to those that were given.
 fn some_right(lot: &ParkingLot, token: &mut Token, given: &mut Vec<Word>) -> Option<Right>
@@ -63,6 +67,57 @@ enum Way {
     HandOff,
 }
 
+/// Three threads line up in a section, under one of its keys.
+pub fn append_three(
+    section: &mut Section,
+    key: Key,
+    threads: (usize, usize, usize),
+    wants: (Want, Want, Want),
+)
+    requires key { IsKeyOf section.old.keys key }
+    requires threads { (threads.0 < section.old.lot.now.records.count)
+        × (threads.1 < section.old.lot.now.records.count)
+        × (threads.2 < section.old.lot.now.records.count) }
+    ensures { StaysIn section.old section.new × TookAs section.old section.new
+        × (rightless_in section.new ≡ rightless_in section.old) }
+{
+    section.append(key, threads.0, wants.0);
+    section.append(key, threads.1, wants.1);
+    section.append(key, threads.2, wants.2);
+}
+
+// Takes those who stand in the line. It gives the note that is then right for them.
+fn take_together<R: Wait>(
+    rt: &R,
+    lot: &ParkingLot,
+    token: &mut Token,
+    section: &mut Section,
+    way: Way,
+    given: &mut Vec<Word>,
+) -> Note
+    requires own { IsTokenOf lot.now token.old × (section.old.lot.now ≡ lot.now) }
+    requires section { IsKeyOf section.old.keys 0 × (section.old.did ≡ Nothing) }
+    ensures own { IsSameThread lot.now token.old token.new }
+    ensures note { StaysIn section.old section.new
+        × MayNote result (taken_in section.new) (rightless_in section.new) }
+{
+    match way {
+        Way::TakeAll => {
+            section.take_all(KEY);
+            Note::Normal
+        }
+        Way::TakePicked => {
+            section.take_picked(KEY, None, false);
+            Note::Normal
+        }
+        Way::HandOff => {
+            section.take_picked(KEY, None, false);
+            give_each(rt, lot, token, section, given);
+            Note::HandOff
+        }
+    }
+}
+
 // Three threads line up, and are taken together. It gives the mutexes whose rights they were given,
 // in their order.
 fn take_three<R: Wait>(
@@ -77,20 +132,9 @@ fn take_three<R: Wait>(
 {
     let mut given = Vec::new(alloc);
     let mut section = lot.enter(rt, token, Keys::One(KEY));
-    section.append(KEY, 1, Want::Shared);
-    section.append(KEY, 2, Want::Shared);
-    section.append(KEY, 3, Want::Shared);
-    match way {
-        Way::TakeAll => section.take_all(KEY),
-        Way::TakePicked | Way::HandOff => section.take_picked(KEY, None, false),
-    }
-    match way {
-        Way::HandOff => {
-            give_each(rt, lot, token, &mut section, &mut given);
-            section.leave(rt, token, Note::HandOff);
-        }
-        _ => section.leave(rt, token, Note::Normal),
-    }
+    append_three(&mut section, KEY, (1, 2, 3), ALL_SHARED);
+    let note = take_together(rt, lot, token, &mut section, way, &mut given);
+    section.leave(rt, token, note);
     given
 }
 

@@ -7,12 +7,11 @@ ghost use Rattle.lot_words.specs.declared.words.WordKind.TheVariants.{Mutex};
 ghost use Rattle.lot_words.specs.declared.owners.Owner.TheVariants.{Exclusive};
 ghost use Rattle.parking_lot_core.specs.Tokens.{IsTicketOf, IsTokenOf, IsSameThread};
 
+use super::clocks::told_until;
 use super::mutexes::{try_lock, unlock};
-use super::{delay, line_up, lot_of, same, sleep, take_first, ticket_of, word_of};
+use super::{delay, line_up, same, seats_of, sleep, take_first, ticket_of};
 use lot_base::TickClock;
-use parking_lot_core::{
-    Key, Keys, Note, ParkingLot, Right, Slept, Ticket, Token, Want, Word, WordKind,
-};
+use parking_lot_core::{Key, Keys, Note, ParkingLot, Right, Ticket, Token, Want, Word};
 use std::alloc::Global;
 use std::process::Abort;
 use std::sync::atomic::AtomicBool;
@@ -29,16 +28,6 @@ const SLOW_ROUNDS: usize = 20;
 
 // How often a thread lets others run then.
 const PAUSE: usize = 5;
-
-fn stands<R: Wait>(rt: &R, lot: &ParkingLot, token: &mut Token) -> bool
-    requires { IsTokenOf lot.now token.old }
-    ensures { IsSameThread lot.now token.old token.new }
-{
-    let section = lot.enter(rt, token, Keys::One(KEY));
-    let key = section.key_of(token.number());
-    section.leave(rt, token, Note::Normal);
-    key.is_some()
-}
 
 // Gives a right to the first in the line, and back where nobody stands there.
 pub fn try_hand_over<R: Wait>(
@@ -143,8 +132,7 @@ fn two_seats<A: Abort>(rt: &A, alloc: Global) -> (Arc<ParkingLot>, Ticket, Ticke
     ensures { IsTicketOf (arc_value result.0) result.1 × IsTicketOf (arc_value result.0) result.2
         × IsWordOf (arc_value result.0).words result.3 × (result.3.kind ≡ Mutex) }
 {
-    let (lot, mut token, mut others) = lot_of(rt, alloc, 1, 2);
-    let word = word_of(rt, &lot, &mut token, WordKind::Mutex);
+    let (lot, token, mut others, word) = seats_of(rt, alloc, 2);
     let other = ticket_of(rt, &lot, &mut others);
     (lot, token.leave(), other, word)
 }
@@ -237,12 +225,12 @@ fn sleeps_late<R: Wait>(rt: &R, lot: &ParkingLot, token: &mut Token, word: Word)
     line_up(rt, lot, token, KEY, Want::Exclusive);
     delay(PAUSE);
     let by_note = is_woken(rt, lot, token, word);
-    let standing = stands(rt, lot, token);
+    let standing = lot.queued(rt, token, KEY);
     let Some(right) = receive(rt, lot, token, word) else {
         return false;
     };
     unlock(lot, token, right);
-    by_note && !standing && !stands(rt, lot, token)
+    by_note && standing == 0 && lot.queued(rt, token, KEY) == 0
 }
 
 // In how many rounds it was, up to the first in which it was not.
@@ -284,32 +272,6 @@ fn an_early_parker_loses_and_doubles_no_wake(rt: HostRuntime) {
     same(&rt, both_wake(&rt, &lot, one, other, word), SLOW_ROUNDS);
 }
 
-// Whether a sleep in the line ended by a wake, or by the deadline.
-fn nap<R: Wait>(
-    rt: &R,
-    lot: &ParkingLot,
-    token: &mut Token,
-    word: Word,
-    limit: (&TickClock, u64),
-) -> Option<bool>
-    requires { IsTokenOf lot.now token.old × (word.kind ≡ Mutex) }
-    ensures { IsSameThread lot.now token.old token.new }
-{
-    line_up(rt, lot, token, KEY, Want::Exclusive);
-    match lot.sleep(rt, token, word, Want::Exclusive, Some(limit)) {
-        Slept::Woken => Some(true),
-        Slept::Handed(right) => {
-            unlock(lot, token, right);
-            None
-        }
-        Slept::Late(mut section, _) => {
-            section.remove(token.number());
-            section.leave(rt, token, Note::Normal);
-            Some(false)
-        }
-    }
-}
-
 // How many rounds ended by a wake, and how many by the deadline.
 fn sleep_briefly<R: Wait>(
     rt: &R,
@@ -325,10 +287,11 @@ fn sleep_briefly<R: Wait>(
     let (mut woken, mut late) = (0, 0);
     for round in 0..ROUNDS {
         clock.restart();
-        match nap(rt, lot, &mut token, word, (&clock, round as u64 % 8)) {
-            Some(true) => woken += 1,
-            Some(false) => late += 1,
-            None => {}
+        line_up(rt, lot, &mut token, KEY, Want::Exclusive);
+        match told_until(rt, lot, &mut token, word, (&clock, round as u64 % 8)) {
+            Ok(Note::Normal) => woken += 1,
+            Ok(Note::HandOff) => {}
+            Err(_) => late += 1,
         }
     }
     done.store(true, SeqCst);
