@@ -2,6 +2,7 @@
 mod clocks;
 mod many;
 mod mutexes;
+mod parts;
 mod rights;
 mod several;
 mod single;
@@ -88,25 +89,24 @@ fn mutex_of<A: Abort>(rt: &A, alloc: Global, words: usize) -> (Arc<ParkingLot>, 
     ensures { IsTokenOf (arc_value result.0) result.1
         × IsWordOf (arc_value result.0).words result.2 × (result.2.kind ≡ Mutex) }
 {
-    let (lot, mut token, _) = lot_of(rt, alloc, words, 1);
-    let word = word_of(rt, &lot, &mut token, WordKind::Mutex);
+    let (lot, token, _, word) = seats_of(rt, alloc, words, 1);
     (lot, token, word)
 }
 
-// A lot of one word, which is a mutex, the token of the last of its seats, and the tickets of the
-// others.
+// A lot, the token of the last of its seats, the tickets of the others, and a mutex.
 fn seats_of<A: Abort>(
     rt: &A,
     alloc: Global,
+    words: usize,
     seats: usize,
 ) -> (Arc<ParkingLot>, Token, Vec<Ticket>, Word)
-    requires { (0 < seats) × (seats ≤ 1024) }
+    requires { (0 < words) × (words ≤ 1048576) × (0 < seats) × (seats ≤ 1024) }
     ensures lot { (arc_value result.0).records.count ≡ seats }
     ensures seats { IsTokenOf (arc_value result.0) result.1
         × All (IsNewTicketOf (arc_value result.0)) result.2.items }
     ensures word { IsWordOf (arc_value result.0).words result.3 × (result.3.kind ≡ Mutex) }
 {
-    let (lot, mut token, others) = lot_of(rt, alloc, 1, seats);
+    let (lot, mut token, others) = lot_of(rt, alloc, words, seats);
     let word = word_of(rt, &lot, &mut token, WordKind::Mutex);
     (lot, token, others, word)
 }

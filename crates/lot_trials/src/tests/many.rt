@@ -48,7 +48,7 @@ fn count_woken<R: Wait>(rt: &R, lot: &ParkingLot, tickets: Vec<Ticket>, word: Wo
 
 #[test]
 fn one_leave_wakes_1023_threads(rt: HostRuntime) {
-    let (lot, mut server, others, word) = seats_of(&rt, rt.alloc(), THREADS);
+    let (lot, mut server, others, word) = seats_of(&rt, rt.alloc(), 1, THREADS);
     take_all(&rt, &lot, &mut server, THREADS - 1);
     same(&rt, count_woken(&rt, &lot, others, word), THREADS - 1);
 }
@@ -105,7 +105,7 @@ fn count_served<R: Wait>(
 
 #[test]
 fn a_right_goes_to_each_of_1023_threads(rt: HostRuntime) {
-    let (lot, mut server, others, word) = seats_of(&rt, rt.alloc(), THREADS);
+    let (lot, mut server, others, word) = seats_of(&rt, rt.alloc(), 1, THREADS);
     let served = count_served(&rt, &lot, &mut server, others, word);
     same(&rt, served, THREADS - 1);
 }

@@ -1,14 +1,17 @@
 //! Several threads that are taken together.
 ghost use Rattle.std.specs.Prelude.{◌≡◌, ◌≤◌, ◌<◌, [], IfSome};
 ghost use Rattle.std.specs.Arc.{arc_value};
+ghost use Rattle.lot_words.specs.Lots.{IsWordOf};
 ghost use Rattle.lot_words.specs.RightsOf.{IsRightOf};
+ghost use Rattle.lot_words.specs.declared.words.WordKind.TheVariants.{Mutex};
 ghost use Rattle.parking_lot_core.specs.Keys.{IsKeyOf};
 ghost use Rattle.parking_lot_core.specs.Sections.{MayNote, StaysIn, TookAs, rightless_in, taken_in};
 ghost use Rattle.parking_lot_core.specs.Tokens.{IsTicketOf, IsTokenOf, IsSameThread};
 ghost use Rattle.parking_lot_core.specs.declared.tokens.Did.TheVariants.{Nothing};
 
 use super::mutexes::try_lock;
-use super::{delay, line_up, lot_of, same, ticket_of, told, word_of};
+use super::parts::{Part, Score, play_beside};
+use super::{delay, line_up, same, seats_of, ticket_of, told};
 use parking_lot_core::{
     Key, Keys, Note, ParkingLot, Right, Section, Ticket, Token, Want, Word, WordKind,
 };
@@ -191,13 +194,11 @@ fn each_of_three_gets_its_note(rt: HostRuntime) {
 }
 
 // Lines up and sleeps. 1 where it was woken.
-fn sleep_in_line<R: Wait>(rt: &R, lot: &ParkingLot, ticket: Ticket, word: Word) -> usize
-    requires { IsTicketOf lot.now ticket }
+pub fn sleep_in_line<R: Wait>(rt: &R, lot: &ParkingLot, token: &mut Token, word: Word) -> usize
+    requires { IsTokenOf lot.now token.old }
 {
-    let mut token = ticket.enter();
-    line_up(rt, lot, &mut token, KEY, Want::Shared);
-    let note = told(rt, lot, &mut token, word, Want::Shared);
-    drop(token.leave());
+    line_up(rt, lot, token, KEY, Want::Shared);
+    let note = told(rt, lot, token, word, Want::Shared);
     usize::from(note == Note::Normal)
 }
 
@@ -217,51 +218,15 @@ fn takes_three<R: Wait>(rt: &R, lot: &ParkingLot, token: &mut Token) -> bool
     all
 }
 
-fn wake_three<R: Wait>(rt: &R, lot: &ParkingLot, ticket: Ticket)
-    requires { IsTicketOf lot.now ticket }
+pub fn wake_three<R: Wait>(rt: &R, lot: &ParkingLot, token: &mut Token)
+    requires { IsTokenOf lot.now token.old }
 {
-    let mut token = ticket.enter();
     for _ in rt.forever() {
-        if takes_three(rt, lot, &mut token) {
+        if takes_three(rt, lot, token) {
             break;
         }
         yield_now();
     }
-    drop(token.leave());
-}
-
-fn two_sleep<R: Threads + Wait + Sync>(
-    rt: &R,
-    lot: &ParkingLot,
-    one: Ticket,
-    other: Ticket,
-    word: Word,
-) -> usize
-    requires { IsTicketOf lot.now one × IsTicketOf lot.now other }
-{
-    let (first, second) = join(
-        rt,
-        move || sleep_in_line(rt, lot, one, word),
-        move || sleep_in_line(rt, lot, other, word),
-    );
-    first.saturating_add(second)
-}
-
-fn one_sleeps<R: Threads + Wait + Sync>(
-    rt: &R,
-    lot: &ParkingLot,
-    one: Ticket,
-    other: Ticket,
-    word: Word,
-) -> usize
-    requires { IsTicketOf lot.now one × IsTicketOf lot.now other }
-{
-    let (woken, _) = join(
-        rt,
-        move || sleep_in_line(rt, lot, one, word),
-        move || wake_three(rt, lot, other),
-    );
-    woken
 }
 
 // The last four seats of a lot, and a word of it.
@@ -277,13 +242,13 @@ struct Four {
 fn seat_four<A: Abort>(rt: &A, alloc: Global, most: usize) -> (Arc<ParkingLot>, Four)
     requires { (4 ≤ most) × (most ≤ 1024) }
     ensures lot { (arc_value result.0).records.count ≡ most }
+    ensures word { IsWordOf (arc_value result.0).words result.1.word × (result.1.word.kind ≡ Mutex) }
     ensures seats { IsTicketOf (arc_value result.0) result.1.one
         × IsTicketOf (arc_value result.0) result.1.two
         × IsTicketOf (arc_value result.0) result.1.three
         × IsTicketOf (arc_value result.0) result.1.four }
 {
-    let (lot, mut token, mut others) = lot_of(rt, alloc, 8, most);
-    let word = word_of(rt, &lot, &mut token, WordKind::RwLock);
+    let (lot, token, mut others, word) = seats_of(rt, alloc, 8, most);
     let two = ticket_of(rt, &lot, &mut others);
     let three = ticket_of(rt, &lot, &mut others);
     let seats = Four {
@@ -296,10 +261,12 @@ fn seat_four<A: Abort>(rt: &A, alloc: Global, most: usize) -> (Arc<ParkingLot>, 
     (lot, seats)
 }
 
+// Three sleep, and the fourth wakes them. How many of them were woken.
 fn all_four<R: Threads + Wait + Sync>(rt: &R, lot: &ParkingLot, seats: Four) -> usize
-    requires { IsTicketOf lot.now seats.one × IsTicketOf lot.now seats.two
+    requires seats { IsTicketOf lot.now seats.one × IsTicketOf lot.now seats.two
         × IsTicketOf lot.now seats.three
         × IsTicketOf lot.now seats.four }
+    requires word { IsWordOf lot.now.words seats.word × (seats.word.kind ≡ Mutex) }
 {
     let Four {
         one,
@@ -310,14 +277,31 @@ fn all_four<R: Threads + Wait + Sync>(rt: &R, lot: &ParkingLot, seats: Four) -> 
     } = seats;
     let (some, others) = join(
         rt,
-        move || -> usize
-            requires { IsTicketOf lot.now one × IsTicketOf lot.now two }
-        { two_sleep(rt, lot, one, two, word) },
-        move || -> usize
-            requires { IsTicketOf lot.now three × IsTicketOf lot.now four }
-        { one_sleeps(rt, lot, three, four, word) },
+        move || -> (Score, Score)
+            requires { IsTicketOf lot.now one × IsTicketOf lot.now two × IsWordOf lot.now.words word × (word.kind ≡ Mutex) }
+        {
+            play_beside(
+                rt,
+                lot,
+                (one, two),
+                word,
+                (Part::SleepInLine, Part::SleepInLine),
+            )
+        },
+        move || -> (Score, Score)
+            requires { IsTicketOf lot.now three × IsTicketOf lot.now four × IsWordOf lot.now.words word × (word.kind ≡ Mutex) }
+        {
+            play_beside(
+                rt,
+                lot,
+                (three, four),
+                word,
+                (Part::SleepInLine, Part::WakeThree),
+            )
+        },
     );
-    some.saturating_add(others)
+    let ((first, _), (second, _)) = some;
+    first.saturating_add(second).saturating_add(others.0.0)
 }
 
 #[test]

@@ -239,7 +239,7 @@ fn taken_alone(section: &mut Section, key: Key) -> (usize, bool)
 {
     let before = section.taken().len();
     section.take_all(key);
-    (before, section.taken() == [0].as_slice())
+    (before, matches!(section.taken(), [0]))
 }
 
 // A thread lines up under a key and then under another, and is taken there. Where it stood each
@@ -280,8 +280,8 @@ fn pick_of_three<R: Wait>(rt: &R, lot: &ParkingLot, token: &mut Token) -> (bool,
     let mut section = lot.enter(rt, token, Keys::One(6));
     append_three(&mut section, 6, (2, 1, 0), SHARED_OR_NOT);
     section.take_picked(6, None, false);
-    let taken = section.taken() == [2, 1].as_slice();
-    let wants = section.wants() == [Want::Shared, Want::Exclusive].as_slice();
+    let taken = matches!(section.taken(), [2, 1]);
+    let wants = matches!(section.wants(), [Want::Shared, Want::Exclusive]);
     let left = section.count(6);
     section.leave(rt, token, Note::Normal);
     (taken, wants, left)
