@@ -1,6 +1,6 @@
 //! One thread.
 ghost use Rattle.std.specs.Prelude.{◌≡◌, ◌<◌};
-ghost use Rattle.lot_base.specs.declared.keys.Keys.TheVariants.{Two};
+ghost use Rattle.lot_base.specs.declared.keys.Keys.TheVariants.{One, Two};
 ghost use Rattle.lot_words.specs.Lots.{IsWordOf};
 ghost use Rattle.lot_words.specs.declared.words.WordKind.TheVariants.{Mutex};
 ghost use Rattle.parking_lot_core.specs.Keys.{IsKeyOf};
@@ -271,8 +271,18 @@ fn a_section_takes_in_order(rt: HostRuntime) {
 
 const SHARED_OR_NOT: (Want, Want, Want) = (Want::Shared, Want::Exclusive, Want::Shared);
 
-// Three line up, and those are taken who are picked: whether they are the first two, with their
-// wants, and how many stay.
+// Whether the first two of three were taken, with their wants, and how many stay.
+fn first_two(section: &Section) -> (bool, bool, usize)
+    requires { section.now.keys ≡ One 6 }
+{
+    (
+        matches!(section.taken(), [2, 1]),
+        matches!(section.wants(), [Want::Shared, Want::Exclusive]),
+        section.count(6),
+    )
+}
+
+// Three line up, and those are taken who are picked.
 fn pick_of_three<R: Wait>(rt: &R, lot: &ParkingLot, token: &mut Token) -> (bool, bool, usize)
     requires { IsTokenOf lot.now token.old × (lot.now.records.count ≡ 3) }
     ensures { IsSameThread lot.now token.old token.new }
@@ -280,11 +290,9 @@ fn pick_of_three<R: Wait>(rt: &R, lot: &ParkingLot, token: &mut Token) -> (bool,
     let mut section = lot.enter(rt, token, Keys::One(6));
     append_three(&mut section, 6, (2, 1, 0), SHARED_OR_NOT);
     section.take_picked(6, None, false);
-    let taken = matches!(section.taken(), [2, 1]);
-    let wants = matches!(section.wants(), [Want::Shared, Want::Exclusive]);
-    let left = section.count(6);
+    let seen = first_two(&section);
     section.leave(rt, token, Note::Normal);
-    (taken, wants, left)
+    seen
 }
 
 #[test]
