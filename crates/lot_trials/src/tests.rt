@@ -13,17 +13,21 @@ ghost use Rattle.std.specs.Arc.{arc_value};
 ghost use Rattle.lot_words.specs.Lots.{IsWordOf};
 ghost use Rattle.lot_words.specs.RightsOf.{IsFor, IsRightOf};
 ghost use Rattle.lot_words.specs.declared.words.WordKind.TheVariants.{Mutex};
+ghost use Rattle.parking_lot_core.specs.Keys.{IsKeyOf};
+ghost use Rattle.parking_lot_core.specs.Sections.{IsUntouched, StaysIn, rightless_in, taken_in};
 ghost use Rattle.parking_lot_core.specs.Tokens.{IsNewTicketOf, IsSameThread, IsTicketOf, IsTokenOf};
 
 use lot_base::TickClock;
 use parking_lot_core::{
-    Key, Keys, Note, ParkingLot, Right, Slept, Ticket, Token, Want, Word, WordKind,
+    Key, Keys, Note, ParkingLot, Right, Section, Slept, Ticket, Token, Want, Word, WordKind,
 };
 use std::alloc::Global;
 use std::fmt::Debug;
 use std::process::Abort;
 use std::sync::{Arc, Wait};
 use std::thread::yield_now;
+
+const TURNS: usize = 2000;
 
 // What was found is what was wanted. All tests share this one assertion, since each is proved where
 // it stands.
@@ -138,25 +142,66 @@ fn delay(turns: usize) {
     }
 }
 
-// The thread stands behind the last under a key.
-fn line_up<R: Wait>(rt: &R, lot: &ParkingLot, token: &mut Token, key: Key, want: Want)
-    requires { IsTokenOf lot.now token.old }
-    ensures { IsSameThread lot.now token.old token.new }
-{
-    let mut section = lot.enter(rt, token, Keys::One(key));
-    section.append(key, token.number(), want);
-    section.leave(rt, token, Note::Normal);
+// What a thread does in a section of one key.
+#[derive(Clone, Copy)]
+enum Task {
+    LineUp(Want),
+    TakeFirst,
+    TakeThree,
 }
 
-// Takes the first in a line, and wakes it.
-fn take_first<R: Wait>(rt: &R, lot: &ParkingLot, token: &mut Token, key: Key) -> Option<usize>
+// Does it. It gives the first who was taken, if any.
+fn perform(section: &mut Section, key: Key, thread: usize, task: Task) -> Option<usize>
+    requires section { IsKeyOf section.old.keys key × IsUntouched section.old }
+    requires thread { thread < section.old.lot.now.records.count }
+    ensures { StaysIn section.old section.new × (rightless_in section.new ≡ taken_in section.new) }
+{
+    match task {
+        Task::LineUp(want) => {
+            section.append(key, thread, want);
+            None
+        }
+        Task::TakeFirst => section.take_first(key),
+        Task::TakeThree => {
+            if section.count(key) != 3 {
+                return None;
+            }
+            // They have time to fall asleep: others run for longer than a thread polls before.
+            delay(TURNS);
+            section.take_all(key);
+            section.taken().first().copied()
+        }
+    }
+}
+
+// Does it, and wakes who was taken.
+fn in_section<R: Wait>(
+    rt: &R,
+    lot: &ParkingLot,
+    token: &mut Token,
+    key: Key,
+    task: Task,
+) -> Option<usize>
     requires { IsTokenOf lot.now token.old }
     ensures { IsSameThread lot.now token.old token.new }
 {
     let mut section = lot.enter(rt, token, Keys::One(key));
-    let taken = section.take_first(key);
+    let taken = perform(&mut section, key, token.number(), task);
     section.leave(rt, token, Note::Normal);
     taken
+}
+
+// Does it again and again, until somebody was taken.
+fn until_taken<R: Wait>(rt: &R, lot: &ParkingLot, token: &mut Token, key: Key, task: Task)
+    requires { IsTokenOf lot.now token.old }
+    ensures { IsSameThread lot.now token.old token.new }
+{
+    for _ in rt.forever() {
+        if in_section(rt, lot, token, key, task).is_some() {
+            return;
+        }
+        yield_now();
+    }
 }
 
 // The right that a thread is handed in its sleep, or none where it is told to try again. Its sleep

@@ -1,7 +1,7 @@
 //! Clocks, and sleepers whose time is up.
 ghost use Rattle.parking_lot_core.specs.Tokens.{IsTokenOf, IsSameThread};
 
-use super::{line_up, mutex_of, same};
+use super::{Task, in_section, mutex_of, same};
 use lot_base::TickClock;
 use parking_lot_core::{Clock, Key, Note, ParkingLot, Slept, Token, Want, Word};
 use std::alloc::Global;
@@ -42,7 +42,7 @@ pub fn told_until<R: Wait, C: Clock>(
 // Nobody wakes a thread up to this time.
 fn is_late<R: Wait + Abort, C: Clock>(rt: &R, alloc: Global, limit: (&C, u64)) {
     let (lot, mut token, word) = mutex_of(rt, alloc, 4);
-    line_up(rt, &lot, &mut token, KEY, Want::Exclusive);
+    in_section(rt, &lot, &mut token, KEY, Task::LineUp(Want::Exclusive));
     let told = told_until(rt, &lot, &mut token, word, limit);
     same(rt, told, Err((KEY, Some(KEY))));
     same(rt, lot.queued(rt, &mut token, KEY), 0);

@@ -8,7 +8,7 @@ ghost use Rattle.parking_lot_core.specs.Tokens.{IsNewTicketOf, IsSameThread, IsT
 use super::mutexes::{try_lock, unlock};
 use super::several::told_to;
 use super::threads::{take_over, try_hand_over};
-use super::{line_up, next_of, same, seats_of};
+use super::{Task, in_section, next_of, same, seats_of};
 use parking_lot_core::{Key, Keys, Note, ParkingLot, Ticket, Token, Want, Word};
 use std::sync::Wait;
 
@@ -64,7 +64,7 @@ fn serve<R: Wait>(rt: &R, lot: &ParkingLot, server: &mut Token, ticket: Ticket, 
         drop(token.leave());
         return false;
     };
-    line_up(rt, lot, &mut token, KEY, Want::Exclusive);
+    in_section(rt, lot, &mut token, KEY, Task::LineUp(Want::Exclusive));
     if let Some(left) = try_hand_over(rt, lot, server, right, 0) {
         left.forget();
     }

@@ -4,9 +4,9 @@ ghost use Rattle.lot_words.specs.Lots.{IsWordOf};
 ghost use Rattle.lot_words.specs.declared.words.WordKind.TheVariants.{Mutex};
 ghost use Rattle.parking_lot_core.specs.Tokens.{IsTicketOf, IsTokenOf};
 
-use super::several::{sleep_in_line, wake_three};
+use super::several::{KEY, sleep_in_line};
 use super::threads::{answer, serve, sleep_briefly, sleep_late, wake_early, wake_until};
-use super::{seats_of, ticket_of};
+use super::{Task, seats_of, ticket_of, until_taken};
 use parking_lot_core::{ParkingLot, Ticket, Token, Word};
 use std::alloc::Global;
 use std::process::Abort;
@@ -52,7 +52,7 @@ fn act<R: Wait>(
         Part::WakeUntilDone => (wake_until(rt, lot, token, done), 0),
         Part::SleepInLine => (sleep_in_line(rt, lot, token, word), 0),
         Part::WakeThree => {
-            wake_three(rt, lot, token);
+            until_taken(rt, lot, token, KEY, Task::TakeThree);
             (0, 0)
         }
     }

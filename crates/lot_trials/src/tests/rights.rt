@@ -7,7 +7,7 @@ ghost use Rattle.parking_lot_core.specs.Tokens.{IsTokenOf, IsSameThread};
 use super::clocks::told_until;
 use super::mutexes::try_lock;
 use super::threads::try_hand_over;
-use super::{holds, line_up, mutex_of, same, word_of};
+use super::{Task, holds, in_section, mutex_of, same, word_of};
 use lot_base::TickClock;
 use parking_lot_core::{Key, ParkingLot, Token, Want, Word, WordKind};
 use std::sync::Wait;
@@ -22,7 +22,7 @@ fn hand_to_itself<R: Wait>(rt: &R, lot: &ParkingLot, token: &mut Token, word: Wo
     requires { IsTokenOf lot.now token.old × IsWordOf lot.now.words word × (word.kind ≡ Mutex) }
     ensures { IsSameThread lot.now token.old token.new }
 {
-    line_up(rt, lot, token, KEY, Want::Exclusive);
+    in_section(rt, lot, token, KEY, Task::LineUp(Want::Exclusive));
     let Some(right) = try_lock(lot, token, word) else {
         return false;
     };
@@ -40,7 +40,7 @@ fn a_right_to_another_mutex_wakes_nobody(rt: HostRuntime) {
     let (lot, mut token, one) = mutex_of(&rt, rt.alloc(), 2);
     let other = word_of(&rt, &lot, &mut token, WordKind::Mutex);
     holds(&rt, hand_to_itself(&rt, &lot, &mut token, other));
-    line_up(&rt, &lot, &mut token, KEY, Want::Exclusive);
+    in_section(&rt, &lot, &mut token, KEY, Task::LineUp(Want::Exclusive));
     let clock = TickClock::new();
     let late = told_until(&rt, &lot, &mut token, one, (&clock, EARLY));
     same(&rt, late, Err((KEY, Some(KEY))));

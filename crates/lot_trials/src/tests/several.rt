@@ -11,7 +11,7 @@ ghost use Rattle.parking_lot_core.specs.declared.tokens.Did.TheVariants.{Nothing
 
 use super::mutexes::try_lock;
 use super::parts::{Part, Score, play_beside};
-use super::{delay, line_up, same, seats_of, ticket_of, told};
+use super::{Task, in_section, same, seats_of, ticket_of, told};
 use parking_lot_core::{
     Key, Keys, Note, ParkingLot, Right, Section, Ticket, Token, Want, Word, WordKind,
 };
@@ -20,9 +20,7 @@ use std::process::Abort;
 use std::sync::{Arc, Wait};
 use std::thread::{Threads, join, yield_now};
 
-const KEY: Key = 0;
-
-const TURNS: usize = 2000;
+pub const KEY: Key = 0;
 
 const ALL_SHARED: (Want, Want, Want) = (Want::Shared, Want::Shared, Want::Shared);
 
@@ -197,36 +195,9 @@ fn each_of_three_gets_its_note(rt: HostRuntime) {
 pub fn sleep_in_line<R: Wait>(rt: &R, lot: &ParkingLot, token: &mut Token, word: Word) -> usize
     requires { IsTokenOf lot.now token.old }
 {
-    line_up(rt, lot, token, KEY, Want::Shared);
+    in_section(rt, lot, token, KEY, Task::LineUp(Want::Shared));
     let note = told(rt, lot, token, word, Want::Shared);
     usize::from(note == Note::Normal)
-}
-
-// Takes all where three stand in the line, and have had time to fall asleep: others run for longer
-// than a thread polls before it sleeps. Whether they did.
-fn takes_three<R: Wait>(rt: &R, lot: &ParkingLot, token: &mut Token) -> bool
-    requires { IsTokenOf lot.now token.old }
-    ensures { IsSameThread lot.now token.old token.new }
-{
-    let mut section = lot.enter(rt, token, Keys::One(KEY));
-    let all = section.count(KEY) == 3;
-    if all {
-        delay(TURNS);
-        section.take_all(KEY);
-    }
-    section.leave(rt, token, Note::Normal);
-    all
-}
-
-pub fn wake_three<R: Wait>(rt: &R, lot: &ParkingLot, token: &mut Token)
-    requires { IsTokenOf lot.now token.old }
-{
-    for _ in rt.forever() {
-        if takes_three(rt, lot, token) {
-            break;
-        }
-        yield_now();
-    }
 }
 
 // The last four seats of a lot, and a word of it.

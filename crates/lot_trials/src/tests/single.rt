@@ -10,7 +10,7 @@ ghost use Rattle.parking_lot_core.specs.declared.tokens.Did.TheVariants.{Nothing
 
 use super::mutexes::{try_lock, unlock};
 use super::several::append_three;
-use super::{holds, lot_of, mutex_of, same, take_first};
+use super::{Task, holds, in_section, lot_of, mutex_of, same};
 use lot_words::laws::mutex_may_step;
 use parking_lot_core::{
     Did, Fault, Key, Keys, Note, Op, ParkingLot, Requeue, Section, SectionRecord, Ticket, Token,
@@ -363,7 +363,7 @@ fn a_section_requeues(rt: HostRuntime) {
 fn forgets<R: Wait + Abort>(rt: &R, lot: &ParkingLot, token: &mut Token, word: Word)
     requires { IsTokenOf lot.now token.old × IsWordOf lot.now.words word × (word.kind ≡ Mutex) }
 {
-    same(rt, take_first(rt, lot, token, 0), None);
+    same(rt, in_section(rt, lot, token, 0, Task::TakeFirst), None);
     let record = SectionRecord {
         key: 0,
         did: Did::TakeFirst(0),

@@ -9,7 +9,7 @@ ghost use Rattle.parking_lot_core.specs.Tokens.{IsTokenOf, IsSameThread};
 use super::clocks::told_until;
 use super::mutexes::{try_lock, unlock};
 use super::parts::{Part, play};
-use super::{delay, line_up, same, sleep, take_first};
+use super::{Task, delay, in_section, same, sleep, until_taken};
 use lot_base::TickClock;
 use parking_lot_core::{Key, Keys, Note, ParkingLot, Right, Token, Want, Word};
 use std::sync::Wait;
@@ -87,7 +87,7 @@ fn receive<R: Wait>(rt: &R, lot: &ParkingLot, token: &mut Token, word: Word) -> 
     ensures right { IfSome result
         (λ right. IsRightOf lot.now.words right × (right.word ≡ word) × (right.owner ≡ Exclusive)) }
 {
-    line_up(rt, lot, token, KEY, Want::Exclusive);
+    in_section(rt, lot, token, KEY, Task::LineUp(Want::Exclusive));
     take_over(rt, lot, token, word)
 }
 
@@ -133,37 +133,11 @@ pub fn wake_early<R: Wait>(rt: &R, lot: &ParkingLot, token: &mut Token, word: Wo
     requires { IsTokenOf lot.now token.old × IsWordOf lot.now.words word × (word.kind ≡ Mutex) }
 {
     for _ in 0..SLOW_ROUNDS {
-        take_one(rt, lot, token);
-        let right = lock(rt, lot, token, word);
-        hand_over(rt, lot, token, right, PAUSE);
-    }
-}
-
-fn take_one<R: Wait>(rt: &R, lot: &ParkingLot, token: &mut Token)
-    requires { IsTokenOf lot.now token.old }
-    ensures { IsSameThread lot.now token.old token.new }
-{
-    for _ in rt.forever() {
-        if take_first(rt, lot, token, KEY).is_some() {
-            return;
-        }
-        yield_now();
-    }
-}
-
-fn lock<R: Wait>(rt: &R, lot: &ParkingLot, token: &mut Token, word: Word) -> Right
-    requires { IsTokenOf lot.now token.old × IsWordOf lot.now.words word × (word.kind ≡ Mutex) }
-    ensures own { IsSameThread lot.now token.old token.new }
-    ensures right { IsRightOf lot.now.words result × (result.word ≡ word)
-        × (result.owner ≡ Exclusive) }
-{
-    for _ in rt.forever() {
+        until_taken(rt, lot, token, KEY, Task::TakeFirst);
         if let Some(right) = try_lock(lot, token, word) {
-            return right;
+            hand_over(rt, lot, token, right, PAUSE);
         }
-        yield_now();
     }
-    unreachable!()
 }
 
 // Whether a thread is woken by a note. A right that it is handed is given up.
@@ -186,7 +160,7 @@ fn sleeps_late<R: Wait>(rt: &R, lot: &ParkingLot, token: &mut Token, word: Word)
     requires { IsTokenOf lot.now token.old × IsWordOf lot.now.words word × (word.kind ≡ Mutex) }
     ensures { IsSameThread lot.now token.old token.new }
 {
-    line_up(rt, lot, token, KEY, Want::Exclusive);
+    in_section(rt, lot, token, KEY, Task::LineUp(Want::Exclusive));
     delay(PAUSE);
     let by_note = is_woken(rt, lot, token, word);
     let standing = lot.queued(rt, token, KEY);
@@ -230,7 +204,7 @@ pub fn sleep_briefly<R: Wait>(
     let (mut woken, mut late) = (0, 0);
     for round in 0..ROUNDS {
         clock.restart();
-        line_up(rt, lot, token, KEY, Want::Exclusive);
+        in_section(rt, lot, token, KEY, Task::LineUp(Want::Exclusive));
         match told_until(rt, lot, token, word, (&clock, round as u64 % 8)) {
             Ok(Note::Normal) => woken += 1,
             Ok(Note::HandOff) => {}
@@ -250,7 +224,7 @@ pub fn wake_until<R: Wait>(rt: &R, lot: &ParkingLot, token: &mut Token, done: &A
         if done.load(SeqCst) {
             break;
         }
-        if take_first(rt, lot, token, KEY).is_some() {
+        if in_section(rt, lot, token, KEY, Task::TakeFirst).is_some() {
             taken = taken.saturating_add(1);
         }
         yield_now();
