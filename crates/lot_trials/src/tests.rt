@@ -2,6 +2,7 @@
 mod clocks;
 mod many;
 mod mutexes;
+mod parts;
 mod rights;
 mod several;
 mod single;
@@ -12,17 +13,21 @@ ghost use Rattle.std.specs.Arc.{arc_value};
 ghost use Rattle.lot_words.specs.Lots.{IsWordOf};
 ghost use Rattle.lot_words.specs.RightsOf.{IsFor, IsRightOf};
 ghost use Rattle.lot_words.specs.declared.words.WordKind.TheVariants.{Mutex};
+ghost use Rattle.parking_lot_core.specs.Keys.{IsKeyOf};
+ghost use Rattle.parking_lot_core.specs.Sections.{IsUntouched, StaysIn, rightless_in, taken_in};
 ghost use Rattle.parking_lot_core.specs.Tokens.{IsNewTicketOf, IsSameThread, IsTicketOf, IsTokenOf};
 
 use lot_base::TickClock;
 use parking_lot_core::{
-    Key, Keys, Note, ParkingLot, Right, Slept, Ticket, Token, Want, Word, WordKind,
+    Key, Keys, Note, ParkingLot, Right, Section, Slept, Ticket, Token, Want, Word, WordKind,
 };
 use std::alloc::Global;
 use std::fmt::Debug;
 use std::process::Abort;
 use std::sync::{Arc, Wait};
 use std::thread::yield_now;
+
+const TURNS: usize = 2000;
 
 // What was found is what was wanted. All tests share this one assertion, since each is proved where
 // it stands.
@@ -35,8 +40,25 @@ fn holds(rt: &impl Abort, truth: bool) {
     assert!(rt; truth);
 }
 
-// A lot, the token of the last of its seats, and the tickets of the others. What makes lots and
-// words gives up where memory is refused, so that no test has anything to drop in its midst.
+// What makes lots and words gives up where memory is refused, so that no test has anything to drop
+// in its midst.
+fn new_lot<A: Abort>(
+    rt: &A,
+    alloc: Global,
+    words: usize,
+    seats: usize,
+) -> (Arc<ParkingLot>, Vec<Ticket>)
+    requires { (0 < words) × (words ≤ 1048576) × (0 < seats) × (seats ≤ 1024) }
+    ensures lot { (arc_value result.0).records.count ≡ seats }
+    ensures seats { All (IsNewTicketOf (arc_value result.0)) result.1.items }
+{
+    match ParkingLot::new(alloc, words, seats) {
+        Ok(made) => made,
+        Err(_) => panic!(rt; "no lot"),
+    }
+}
+
+// A lot, the token of the last of its seats, and the tickets of the others.
 fn lot_of<A: Abort>(
     rt: &A,
     alloc: Global,
@@ -48,13 +70,9 @@ fn lot_of<A: Abort>(
     ensures seats { IsTokenOf (arc_value result.0) result.1
         × All (IsNewTicketOf (arc_value result.0)) result.2.items }
 {
-    let Ok((lot, mut others)) = ParkingLot::new(alloc, words, seats) else {
-        panic!(rt; "no lot");
-    };
-    match others.pop() {
-        Some(ticket) => (lot, ticket.enter(), others),
-        None => panic!(rt; "no seat"),
-    }
+    let (lot, mut others) = new_lot(rt, alloc, words, seats);
+    let ticket = ticket_of(rt, &lot, &mut others);
+    (lot, ticket.enter(), others)
 }
 
 // A word of a lot.
@@ -75,9 +93,26 @@ fn mutex_of<A: Abort>(rt: &A, alloc: Global, words: usize) -> (Arc<ParkingLot>, 
     ensures { IsTokenOf (arc_value result.0) result.1
         × IsWordOf (arc_value result.0).words result.2 × (result.2.kind ≡ Mutex) }
 {
-    let (lot, mut token, _) = lot_of(rt, alloc, words, 1);
-    let word = word_of(rt, &lot, &mut token, WordKind::Mutex);
+    let (lot, token, _, word) = seats_of(rt, alloc, words, 1);
     (lot, token, word)
+}
+
+// A lot, the token of the last of its seats, the tickets of the others, and a mutex.
+fn seats_of<A: Abort>(
+    rt: &A,
+    alloc: Global,
+    words: usize,
+    seats: usize,
+) -> (Arc<ParkingLot>, Token, Vec<Ticket>, Word)
+    requires { (0 < words) × (words ≤ 1048576) × (0 < seats) × (seats ≤ 1024) }
+    ensures lot { (arc_value result.0).records.count ≡ seats }
+    ensures seats { IsTokenOf (arc_value result.0) result.1
+        × All (IsNewTicketOf (arc_value result.0)) result.2.items }
+    ensures word { IsWordOf (arc_value result.0).words result.3 × (result.3.kind ≡ Mutex) }
+{
+    let (lot, mut token, others) = lot_of(rt, alloc, words, seats);
+    let word = word_of(rt, &lot, &mut token, WordKind::Mutex);
+    (lot, token, others, word)
 }
 
 // A ticket of those that are left.
@@ -107,25 +142,66 @@ fn delay(turns: usize) {
     }
 }
 
-// The thread stands behind the last under a key.
-fn line_up<R: Wait>(rt: &R, lot: &ParkingLot, token: &mut Token, key: Key, want: Want)
-    requires { IsTokenOf lot.now token.old }
-    ensures { IsSameThread lot.now token.old token.new }
-{
-    let mut section = lot.enter(rt, token, Keys::One(key));
-    section.append(key, token.number(), want);
-    section.leave(rt, token, Note::Normal);
+// What a thread does in a section of one key.
+#[derive(Clone, Copy)]
+enum Task {
+    LineUp(Want),
+    TakeFirst,
+    TakeThree,
 }
 
-// Takes the first in a line, and wakes it.
-fn take_first<R: Wait>(rt: &R, lot: &ParkingLot, token: &mut Token, key: Key) -> Option<usize>
+// Does it. It gives the first who was taken, if any.
+fn perform(section: &mut Section, key: Key, thread: usize, task: Task) -> Option<usize>
+    requires section { IsKeyOf section.old.keys key × IsUntouched section.old }
+    requires thread { thread < section.old.lot.now.records.count }
+    ensures { StaysIn section.old section.new × (rightless_in section.new ≡ taken_in section.new) }
+{
+    match task {
+        Task::LineUp(want) => {
+            section.append(key, thread, want);
+            None
+        }
+        Task::TakeFirst => section.take_first(key),
+        Task::TakeThree => {
+            if section.count(key) != 3 {
+                return None;
+            }
+            // They have time to fall asleep: others run for longer than a thread polls before.
+            delay(TURNS);
+            section.take_all(key);
+            section.taken().first().copied()
+        }
+    }
+}
+
+// Does it, and wakes who was taken.
+fn in_section<R: Wait>(
+    rt: &R,
+    lot: &ParkingLot,
+    token: &mut Token,
+    key: Key,
+    task: Task,
+) -> Option<usize>
     requires { IsTokenOf lot.now token.old }
     ensures { IsSameThread lot.now token.old token.new }
 {
     let mut section = lot.enter(rt, token, Keys::One(key));
-    let taken = section.take_first(key);
+    let taken = perform(&mut section, key, token.number(), task);
     section.leave(rt, token, Note::Normal);
     taken
+}
+
+// Does it again and again, until somebody was taken.
+fn until_taken<R: Wait>(rt: &R, lot: &ParkingLot, token: &mut Token, key: Key, task: Task)
+    requires { IsTokenOf lot.now token.old }
+    ensures { IsSameThread lot.now token.old token.new }
+{
+    for _ in rt.forever() {
+        if in_section(rt, lot, token, key, task).is_some() {
+            return;
+        }
+        yield_now();
+    }
 }
 
 // The right that a thread is handed in its sleep, or none where it is told to try again. Its sleep

@@ -1,24 +1,26 @@
 //! Clocks, and sleepers whose time is up.
 ghost use Rattle.parking_lot_core.specs.Tokens.{IsTokenOf, IsSameThread};
 
-use super::{line_up, mutex_of, same};
+use super::{Task, in_section, mutex_of, same};
 use lot_base::TickClock;
 use parking_lot_core::{Clock, Key, Note, ParkingLot, Slept, Token, Want, Word};
+use std::alloc::Global;
+use std::process::Abort;
 use std::sync::Wait;
 use std::sync::atomic::AtomicU64;
 use std::sync::atomic::Ordering::SeqCst;
 
 const KEY: Key = 4;
 
-// Sleeps up to a deadline. The key under which it was late, and that of its thread, which leaves
-// its place.
-fn sleep_until<R: Wait, C: Clock>(
+// What a thread is told in a sleep up to a deadline, or the key under which it was late, and that
+// under which it stood. Who is late leaves its place, and a right that it is handed is forgotten.
+pub fn told_until<R: Wait, C: Clock>(
     rt: &R,
     lot: &ParkingLot,
     token: &mut Token,
     word: Word,
     limit: (&C, u64),
-) -> Option<(Key, Option<Key>)>
+) -> Result<Note, (Key, Option<Key>)>
     requires { IsTokenOf lot.now token.old }
     ensures { IsSameThread lot.now token.old token.new }
 {
@@ -27,24 +29,29 @@ fn sleep_until<R: Wait, C: Clock>(
             let stood = section.key_of(token.number());
             section.remove(token.number());
             section.leave(rt, token, Note::Normal);
-            Some((key, stood))
+            Err((key, stood))
         }
         Slept::Handed(right) => {
             right.forget();
-            None
+            Ok(Note::HandOff)
         }
-        Slept::Woken => None,
+        Slept::Woken => Ok(Note::Normal),
     }
+}
+
+// Nobody wakes a thread up to this time.
+fn is_late<R: Wait + Abort, C: Clock>(rt: &R, alloc: Global, limit: (&C, u64)) {
+    let (lot, mut token, word) = mutex_of(rt, alloc, 4);
+    in_section(rt, &lot, &mut token, KEY, Task::LineUp(Want::Exclusive));
+    let told = told_until(rt, &lot, &mut token, word, limit);
+    same(rt, told, Err((KEY, Some(KEY))));
+    same(rt, lot.queued(rt, &mut token, KEY), 0);
 }
 
 #[test]
 fn who_is_not_woken_is_late(rt: HostRuntime) {
-    let (lot, mut token, word) = mutex_of(&rt, rt.alloc(), 4);
-    line_up(&rt, &lot, &mut token, KEY, Want::Exclusive);
     let clock = TickClock::starting_at(1000);
-    let late = sleep_until(&rt, &lot, &mut token, word, (&clock, 1005));
-    same(&rt, late, Some((KEY, Some(KEY))));
-    same(&rt, lot.queued(&rt, &mut token, KEY), 0);
+    is_late(&rt, rt.alloc(), (&clock, 1005));
     same(&rt, clock.now(), 1006);
 }
 
@@ -66,10 +73,7 @@ impl Clock for PauseClock {
 
 #[test]
 fn a_sleeper_pauses_for_what_is_left(rt: HostRuntime) {
-    let (lot, mut token, word) = mutex_of(&rt, rt.alloc(), 4);
-    line_up(&rt, &lot, &mut token, KEY, Want::Exclusive);
     let clock = PauseClock(AtomicU64::new(1000));
-    let late = sleep_until(&rt, &lot, &mut token, word, (&clock, 1005));
-    same(&rt, late, Some((KEY, Some(KEY))));
+    is_late(&rt, rt.alloc(), (&clock, 1005));
     same(&rt, clock.now(), 1005);
 }

@@ -8,8 +8,8 @@ ghost use Rattle.parking_lot_core.specs.Tokens.{IsNewTicketOf, IsSameThread, IsT
 use super::mutexes::{try_lock, unlock};
 use super::several::told_to;
 use super::threads::{take_over, try_hand_over};
-use super::{line_up, lot_of, next_of, same, word_of};
-use parking_lot_core::{Key, Keys, Note, ParkingLot, Ticket, Token, Want, Word, WordKind};
+use super::{Task, in_section, next_of, same, seats_of};
+use parking_lot_core::{Key, Keys, Note, ParkingLot, Ticket, Token, Want, Word};
 use std::sync::Wait;
 
 const KEY: Key = 0;
@@ -48,8 +48,7 @@ fn count_woken<R: Wait>(rt: &R, lot: &ParkingLot, tickets: Vec<Ticket>, word: Wo
 
 #[test]
 fn one_leave_wakes_1023_threads(rt: HostRuntime) {
-    let (lot, mut server, others) = lot_of(&rt, rt.alloc(), 1, THREADS);
-    let word = word_of(&rt, &lot, &mut server, WordKind::Mutex);
+    let (lot, mut server, others, word) = seats_of(&rt, rt.alloc(), 1, THREADS);
     take_all(&rt, &lot, &mut server, THREADS - 1);
     same(&rt, count_woken(&rt, &lot, others, word), THREADS - 1);
 }
@@ -65,7 +64,7 @@ fn serve<R: Wait>(rt: &R, lot: &ParkingLot, server: &mut Token, ticket: Ticket, 
         drop(token.leave());
         return false;
     };
-    line_up(rt, lot, &mut token, KEY, Want::Exclusive);
+    in_section(rt, lot, &mut token, KEY, Task::LineUp(Want::Exclusive));
     if let Some(left) = try_hand_over(rt, lot, server, right, 0) {
         left.forget();
     }
@@ -106,8 +105,7 @@ fn count_served<R: Wait>(
 
 #[test]
 fn a_right_goes_to_each_of_1023_threads(rt: HostRuntime) {
-    let (lot, mut server, others) = lot_of(&rt, rt.alloc(), 1, THREADS);
-    let word = word_of(&rt, &lot, &mut server, WordKind::Mutex);
+    let (lot, mut server, others, word) = seats_of(&rt, rt.alloc(), 1, THREADS);
     let served = count_served(&rt, &lot, &mut server, others, word);
     same(&rt, served, THREADS - 1);
 }

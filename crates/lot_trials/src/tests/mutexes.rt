@@ -16,8 +16,8 @@ pub fn try_lock(lot: &ParkingLot, token: &mut Token, word: Word) -> Option<Right
     ensures right { IfSome result
         (λ right. IsRightOf lot.now.words right × (right.word ≡ word) × (right.owner ≡ Exclusive)) }
 {
-    let found = lot.word(token, word, Op::Or(1));
-    if found % 2 == 1 {
+    let found = lot.word(token, word, Op::Exchange { from: 0, to: 1 });
+    if found != 0 {
         return None;
     }
     Some(lot.split_right(token, word, Want::Exclusive))

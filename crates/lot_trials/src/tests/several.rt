@@ -1,12 +1,17 @@
 //! Several threads that are taken together.
 ghost use Rattle.std.specs.Prelude.{◌≡◌, ◌≤◌, ◌<◌, [], IfSome};
 ghost use Rattle.std.specs.Arc.{arc_value};
+ghost use Rattle.lot_words.specs.Lots.{IsWordOf};
 ghost use Rattle.lot_words.specs.RightsOf.{IsRightOf};
-ghost use Rattle.parking_lot_core.specs.Sections.{StaysIn, rightless_in};
+ghost use Rattle.lot_words.specs.declared.words.WordKind.TheVariants.{Mutex};
+ghost use Rattle.parking_lot_core.specs.Keys.{IsKeyOf};
+ghost use Rattle.parking_lot_core.specs.Sections.{MayNote, StaysIn, TookAs, rightless_in, taken_in};
 ghost use Rattle.parking_lot_core.specs.Tokens.{IsTicketOf, IsTokenOf, IsSameThread};
+ghost use Rattle.parking_lot_core.specs.declared.tokens.Did.TheVariants.{Nothing};
 
 use super::mutexes::try_lock;
-use super::{delay, line_up, lot_of, same, ticket_of, told, word_of};
+use super::parts::{Part, Score, play_beside};
+use super::{Task, in_section, same, seats_of, ticket_of, told};
 use parking_lot_core::{
     Key, Keys, Note, ParkingLot, Right, Section, Ticket, Token, Want, Word, WordKind,
 };
@@ -15,9 +20,9 @@ use std::process::Abort;
 use std::sync::{Arc, Wait};
 use std::thread::{Threads, join, yield_now};
 
-const KEY: Key = 0;
+pub const KEY: Key = 0;
 
-const TURNS: usize = 2000;
+const ALL_SHARED: (Want, Want, Want) = (Want::Shared, Want::Shared, Want::Shared);
 
 // The right of a mutex that is drawn for it. The mutex is pushed to those that were given.
 fn some_right(lot: &ParkingLot, token: &mut Token, given: &mut Vec<Word>) -> Option<Right>
@@ -63,6 +68,57 @@ enum Way {
     HandOff,
 }
 
+/// Three threads line up in a section, under one of its keys.
+pub fn append_three(
+    section: &mut Section,
+    key: Key,
+    threads: (usize, usize, usize),
+    wants: (Want, Want, Want),
+)
+    requires key { IsKeyOf section.old.keys key }
+    requires threads { (threads.0 < section.old.lot.now.records.count)
+        × (threads.1 < section.old.lot.now.records.count)
+        × (threads.2 < section.old.lot.now.records.count) }
+    ensures { StaysIn section.old section.new × TookAs section.old section.new
+        × (rightless_in section.new ≡ rightless_in section.old) }
+{
+    section.append(key, threads.0, wants.0);
+    section.append(key, threads.1, wants.1);
+    section.append(key, threads.2, wants.2);
+}
+
+// Takes those who stand in the line. It gives the note that is then right for them.
+fn take_together<R: Wait>(
+    rt: &R,
+    lot: &ParkingLot,
+    token: &mut Token,
+    section: &mut Section,
+    way: Way,
+    given: &mut Vec<Word>,
+) -> Note
+    requires own { IsTokenOf lot.now token.old × (section.old.lot.now ≡ lot.now) }
+    requires section { IsKeyOf section.old.keys 0 × (section.old.did ≡ Nothing) }
+    ensures own { IsSameThread lot.now token.old token.new }
+    ensures note { StaysIn section.old section.new
+        × MayNote result (taken_in section.new) (rightless_in section.new) }
+{
+    match way {
+        Way::TakeAll => {
+            section.take_all(KEY);
+            Note::Normal
+        }
+        Way::TakePicked => {
+            section.take_picked(KEY, None, false);
+            Note::Normal
+        }
+        Way::HandOff => {
+            section.take_picked(KEY, None, false);
+            give_each(rt, lot, token, section, given);
+            Note::HandOff
+        }
+    }
+}
+
 // Three threads line up, and are taken together. It gives the mutexes whose rights they were given,
 // in their order.
 fn take_three<R: Wait>(
@@ -77,20 +133,9 @@ fn take_three<R: Wait>(
 {
     let mut given = Vec::new(alloc);
     let mut section = lot.enter(rt, token, Keys::One(KEY));
-    section.append(KEY, 1, Want::Shared);
-    section.append(KEY, 2, Want::Shared);
-    section.append(KEY, 3, Want::Shared);
-    match way {
-        Way::TakeAll => section.take_all(KEY),
-        Way::TakePicked | Way::HandOff => section.take_picked(KEY, None, false),
-    }
-    match way {
-        Way::HandOff => {
-            give_each(rt, lot, token, &mut section, &mut given);
-            section.leave(rt, token, Note::HandOff);
-        }
-        _ => section.leave(rt, token, Note::Normal),
-    }
+    append_three(&mut section, KEY, (1, 2, 3), ALL_SHARED);
+    let note = take_together(rt, lot, token, &mut section, way, &mut given);
+    section.leave(rt, token, note);
     given
 }
 
@@ -147,77 +192,12 @@ fn each_of_three_gets_its_note(rt: HostRuntime) {
 }
 
 // Lines up and sleeps. 1 where it was woken.
-fn sleep_in_line<R: Wait>(rt: &R, lot: &ParkingLot, ticket: Ticket, word: Word) -> usize
-    requires { IsTicketOf lot.now ticket }
-{
-    let mut token = ticket.enter();
-    line_up(rt, lot, &mut token, KEY, Want::Shared);
-    let note = told(rt, lot, &mut token, word, Want::Shared);
-    drop(token.leave());
-    usize::from(note == Note::Normal)
-}
-
-// Takes all where three stand in the line, and have had time to fall asleep: others run for longer
-// than a thread polls before it sleeps. Whether they did.
-fn takes_three<R: Wait>(rt: &R, lot: &ParkingLot, token: &mut Token) -> bool
+pub fn sleep_in_line<R: Wait>(rt: &R, lot: &ParkingLot, token: &mut Token, word: Word) -> usize
     requires { IsTokenOf lot.now token.old }
-    ensures { IsSameThread lot.now token.old token.new }
 {
-    let mut section = lot.enter(rt, token, Keys::One(KEY));
-    let all = section.count(KEY) == 3;
-    if all {
-        delay(TURNS);
-        section.take_all(KEY);
-    }
-    section.leave(rt, token, Note::Normal);
-    all
-}
-
-fn wake_three<R: Wait>(rt: &R, lot: &ParkingLot, ticket: Ticket)
-    requires { IsTicketOf lot.now ticket }
-{
-    let mut token = ticket.enter();
-    for _ in rt.forever() {
-        if takes_three(rt, lot, &mut token) {
-            break;
-        }
-        yield_now();
-    }
-    drop(token.leave());
-}
-
-fn two_sleep<R: Threads + Wait + Sync>(
-    rt: &R,
-    lot: &ParkingLot,
-    one: Ticket,
-    other: Ticket,
-    word: Word,
-) -> usize
-    requires { IsTicketOf lot.now one × IsTicketOf lot.now other }
-{
-    let (first, second) = join(
-        rt,
-        move || sleep_in_line(rt, lot, one, word),
-        move || sleep_in_line(rt, lot, other, word),
-    );
-    first.saturating_add(second)
-}
-
-fn one_sleeps<R: Threads + Wait + Sync>(
-    rt: &R,
-    lot: &ParkingLot,
-    one: Ticket,
-    other: Ticket,
-    word: Word,
-) -> usize
-    requires { IsTicketOf lot.now one × IsTicketOf lot.now other }
-{
-    let (woken, _) = join(
-        rt,
-        move || sleep_in_line(rt, lot, one, word),
-        move || wake_three(rt, lot, other),
-    );
-    woken
+    in_section(rt, lot, token, KEY, Task::LineUp(Want::Shared));
+    let note = told(rt, lot, token, word, Want::Shared);
+    usize::from(note == Note::Normal)
 }
 
 // The last four seats of a lot, and a word of it.
@@ -233,13 +213,13 @@ struct Four {
 fn seat_four<A: Abort>(rt: &A, alloc: Global, most: usize) -> (Arc<ParkingLot>, Four)
     requires { (4 ≤ most) × (most ≤ 1024) }
     ensures lot { (arc_value result.0).records.count ≡ most }
+    ensures word { IsWordOf (arc_value result.0).words result.1.word × (result.1.word.kind ≡ Mutex) }
     ensures seats { IsTicketOf (arc_value result.0) result.1.one
         × IsTicketOf (arc_value result.0) result.1.two
         × IsTicketOf (arc_value result.0) result.1.three
         × IsTicketOf (arc_value result.0) result.1.four }
 {
-    let (lot, mut token, mut others) = lot_of(rt, alloc, 8, most);
-    let word = word_of(rt, &lot, &mut token, WordKind::RwLock);
+    let (lot, token, mut others, word) = seats_of(rt, alloc, 8, most);
     let two = ticket_of(rt, &lot, &mut others);
     let three = ticket_of(rt, &lot, &mut others);
     let seats = Four {
@@ -252,10 +232,12 @@ fn seat_four<A: Abort>(rt: &A, alloc: Global, most: usize) -> (Arc<ParkingLot>, 
     (lot, seats)
 }
 
+// Three sleep, and the fourth wakes them. How many of them were woken.
 fn all_four<R: Threads + Wait + Sync>(rt: &R, lot: &ParkingLot, seats: Four) -> usize
-    requires { IsTicketOf lot.now seats.one × IsTicketOf lot.now seats.two
+    requires seats { IsTicketOf lot.now seats.one × IsTicketOf lot.now seats.two
         × IsTicketOf lot.now seats.three
         × IsTicketOf lot.now seats.four }
+    requires word { IsWordOf lot.now.words seats.word × (seats.word.kind ≡ Mutex) }
 {
     let Four {
         one,
@@ -266,14 +248,31 @@ fn all_four<R: Threads + Wait + Sync>(rt: &R, lot: &ParkingLot, seats: Four) -> 
     } = seats;
     let (some, others) = join(
         rt,
-        move || -> usize
-            requires { IsTicketOf lot.now one × IsTicketOf lot.now two }
-        { two_sleep(rt, lot, one, two, word) },
-        move || -> usize
-            requires { IsTicketOf lot.now three × IsTicketOf lot.now four }
-        { one_sleeps(rt, lot, three, four, word) },
+        move || -> (Score, Score)
+            requires { IsTicketOf lot.now one × IsTicketOf lot.now two × IsWordOf lot.now.words word × (word.kind ≡ Mutex) }
+        {
+            play_beside(
+                rt,
+                lot,
+                (one, two),
+                word,
+                (Part::SleepInLine, Part::SleepInLine),
+            )
+        },
+        move || -> (Score, Score)
+            requires { IsTicketOf lot.now three × IsTicketOf lot.now four × IsWordOf lot.now.words word × (word.kind ≡ Mutex) }
+        {
+            play_beside(
+                rt,
+                lot,
+                (three, four),
+                word,
+                (Part::SleepInLine, Part::WakeThree),
+            )
+        },
     );
-    some.saturating_add(others)
+    let ((first, _), (second, _)) = some;
+    first.saturating_add(second).saturating_add(others.0.0)
 }
 
 #[test]

@@ -1,12 +1,16 @@
 //! One thread.
-ghost use Rattle.std.specs.Prelude.{◌≡◌};
-ghost use Rattle.lot_base.specs.declared.keys.Keys.TheVariants.{Two};
+ghost use Rattle.std.specs.Prelude.{◌≡◌, ◌<◌};
+ghost use Rattle.lot_base.specs.declared.keys.Keys.TheVariants.{One, Two};
 ghost use Rattle.lot_words.specs.Lots.{IsWordOf};
 ghost use Rattle.lot_words.specs.declared.words.WordKind.TheVariants.{Mutex};
+ghost use Rattle.parking_lot_core.specs.Keys.{IsKeyOf};
+ghost use Rattle.parking_lot_core.specs.Sections.{StaysIn, TookAs, moved_in, rightless_in, taken_in};
 ghost use Rattle.parking_lot_core.specs.Tokens.{IsTokenOf, IsSameThread};
+ghost use Rattle.parking_lot_core.specs.declared.tokens.Did.TheVariants.{Nothing, TakeAll};
 
 use super::mutexes::{try_lock, unlock};
-use super::{holds, lot_of, mutex_of, same, take_first};
+use super::several::append_three;
+use super::{Task, holds, in_section, lot_of, mutex_of, same};
 use lot_words::laws::mutex_may_step;
 use parking_lot_core::{
     Did, Fault, Key, Keys, Note, Op, ParkingLot, Requeue, Section, SectionRecord, Ticket, Token,
@@ -216,10 +220,26 @@ fn words_are_drawn_once(rt: HostRuntime) {
 // How many stand under each of two keys, and under which the thread does.
 type Standing = (usize, usize, Option<Key>);
 
-fn standing(section: &Section) -> Standing
-    requires { section.now.keys ≡ Two 6 7 }
+fn stand_under(section: &mut Section, key: Key) -> Standing
+    requires keys { (section.old.keys ≡ Two 6 7) × IsKeyOf section.old.keys key }
+    requires thread { 0 < section.old.lot.now.records.count }
+    ensures { StaysIn section.old section.new × TookAs section.old section.new }
 {
+    section.append(key, 0, Want::Exclusive);
     (section.count(6), section.count(7), section.key_of(0))
+}
+
+// How many were taken before all under a key were, and whether the thread alone was taken.
+fn taken_alone(section: &mut Section, key: Key) -> (usize, bool)
+    requires { IsKeyOf section.old.keys key × (section.old.did ≡ Nothing) }
+    ensures { StaysIn section.old section.new
+        × (rightless_in section.new ≡ taken_in section.new)
+        × (section.new.did ≡ TakeAll key)
+        × (moved_in section.new ≡ 0) }
+{
+    let before = section.taken().len();
+    section.take_all(key);
+    (before, matches!(section.taken(), [0]))
 }
 
 // A thread lines up under a key and then under another, and is taken there. Where it stood each
@@ -233,13 +253,9 @@ fn line_up_twice<R: Wait>(
     ensures { IsSameThread lot.now token.old token.new }
 {
     let mut section = lot.enter(rt, token, Keys::Two(6, 7));
-    section.append(6, 0, Want::Exclusive);
-    let first = standing(&section);
-    section.append(7, 0, Want::Exclusive);
-    let second = standing(&section);
-    let before = section.taken().len();
-    section.take_all(7);
-    let alone = section.taken() == [0].as_slice();
+    let first = stand_under(&mut section, 6);
+    let second = stand_under(&mut section, 7);
+    let (before, alone) = taken_alone(&mut section, 7);
     section.leave(rt, token, Note::Normal);
     ([first, second], before, alone)
 }
@@ -253,22 +269,30 @@ fn a_section_takes_in_order(rt: HostRuntime) {
     same(&rt, lot.queued(&rt, &mut token, 7), 0);
 }
 
-// Three line up, and those are taken who are picked: whether they are the first two, with their
-// wants, and how many stay.
+const SHARED_OR_NOT: (Want, Want, Want) = (Want::Shared, Want::Exclusive, Want::Shared);
+
+// Whether the first two of three were taken, with their wants, and how many stay.
+fn first_two(section: &Section) -> (bool, bool, usize)
+    requires { section.now.keys ≡ One 6 }
+{
+    (
+        matches!(section.taken(), [2, 1]),
+        matches!(section.wants(), [Want::Shared, Want::Exclusive]),
+        section.count(6),
+    )
+}
+
+// Three line up, and those are taken who are picked.
 fn pick_of_three<R: Wait>(rt: &R, lot: &ParkingLot, token: &mut Token) -> (bool, bool, usize)
     requires { IsTokenOf lot.now token.old × (lot.now.records.count ≡ 3) }
     ensures { IsSameThread lot.now token.old token.new }
 {
     let mut section = lot.enter(rt, token, Keys::One(6));
-    section.append(6, 2, Want::Shared);
-    section.append(6, 1, Want::Exclusive);
-    section.append(6, 0, Want::Shared);
+    append_three(&mut section, 6, (2, 1, 0), SHARED_OR_NOT);
     section.take_picked(6, None, false);
-    let taken = section.taken() == [2, 1].as_slice();
-    let wants = section.wants() == [Want::Shared, Want::Exclusive].as_slice();
-    let left = section.count(6);
+    let seen = first_two(&section);
     section.leave(rt, token, Note::Normal);
-    (taken, wants, left)
+    seen
 }
 
 #[test]
@@ -287,15 +311,15 @@ fn a_section_takes_who_is_picked(rt: HostRuntime) {
 // key.
 type Requeued = ((Option<usize>, usize), Option<usize>, [usize; 2]);
 
+const ALL_WAIT: (Want, Want, Want) = (Want::Wait, Want::Wait, Want::Wait);
+
 // Three line up, and are requeued.
 fn requeue_three<R: Wait>(rt: &R, lot: &ParkingLot, token: &mut Token, op: Requeue) -> Requeued
     requires { IsTokenOf lot.now token.old × (lot.now.records.count ≡ 3) }
     ensures { IsSameThread lot.now token.old token.new }
 {
     let mut section = lot.enter(rt, token, Keys::Two(6, 1));
-    section.append(6, 2, Want::Wait);
-    section.append(6, 1, Want::Wait);
-    section.append(6, 0, Want::Wait);
+    append_three(&mut section, 6, (2, 1, 0), ALL_WAIT);
     let answer = section.requeue(6, 1, op);
     let taken = section.taken().first().copied();
     let standing = [section.count(6), section.count(1)];
@@ -339,7 +363,7 @@ fn a_section_requeues(rt: HostRuntime) {
 fn forgets<R: Wait + Abort>(rt: &R, lot: &ParkingLot, token: &mut Token, word: Word)
     requires { IsTokenOf lot.now token.old × IsWordOf lot.now.words word × (word.kind ≡ Mutex) }
 {
-    same(rt, take_first(rt, lot, token, 0), None);
+    same(rt, in_section(rt, lot, token, 0, Task::TakeFirst), None);
     let record = SectionRecord {
         key: 0,
         did: Did::TakeFirst(0),

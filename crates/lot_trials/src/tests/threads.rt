@@ -1,24 +1,21 @@
 //! Two threads.
 ghost use Rattle.std.specs.Prelude.{◌≡◌, IfSome};
-ghost use Rattle.std.specs.Arc.{arc_value};
 ghost use Rattle.lot_words.specs.Lots.{IsWordOf};
 ghost use Rattle.lot_words.specs.RightsOf.{IsRightOf};
 ghost use Rattle.lot_words.specs.declared.words.WordKind.TheVariants.{Mutex};
 ghost use Rattle.lot_words.specs.declared.owners.Owner.TheVariants.{Exclusive};
-ghost use Rattle.parking_lot_core.specs.Tokens.{IsTicketOf, IsTokenOf, IsSameThread};
+ghost use Rattle.parking_lot_core.specs.Tokens.{IsTokenOf, IsSameThread};
 
+use super::clocks::told_until;
 use super::mutexes::{try_lock, unlock};
-use super::{delay, line_up, lot_of, same, sleep, take_first, ticket_of, word_of};
+use super::parts::{Part, play};
+use super::{Task, delay, in_section, same, sleep, until_taken};
 use lot_base::TickClock;
-use parking_lot_core::{
-    Key, Keys, Note, ParkingLot, Right, Slept, Ticket, Token, Want, Word, WordKind,
-};
-use std::alloc::Global;
-use std::process::Abort;
+use parking_lot_core::{Key, Keys, Note, ParkingLot, Right, Token, Want, Word};
+use std::sync::Wait;
 use std::sync::atomic::AtomicBool;
 use std::sync::atomic::Ordering::SeqCst;
-use std::sync::{Arc, Wait};
-use std::thread::{Threads, join, yield_now};
+use std::thread::yield_now;
 
 const KEY: Key = 0;
 
@@ -29,16 +26,6 @@ const SLOW_ROUNDS: usize = 20;
 
 // How often a thread lets others run then.
 const PAUSE: usize = 5;
-
-fn stands<R: Wait>(rt: &R, lot: &ParkingLot, token: &mut Token) -> bool
-    requires { IsTokenOf lot.now token.old }
-    ensures { IsSameThread lot.now token.old token.new }
-{
-    let section = lot.enter(rt, token, Keys::One(KEY));
-    let key = section.key_of(token.number());
-    section.leave(rt, token, Note::Normal);
-    key.is_some()
-}
 
 // Gives a right to the first in the line, and back where nobody stands there.
 pub fn try_hand_over<R: Wait>(
@@ -100,118 +87,57 @@ fn receive<R: Wait>(rt: &R, lot: &ParkingLot, token: &mut Token, word: Word) -> 
     ensures right { IfSome result
         (λ right. IsRightOf lot.now.words right × (right.word ≡ word) × (right.owner ≡ Exclusive)) }
 {
-    line_up(rt, lot, token, KEY, Want::Exclusive);
+    in_section(rt, lot, token, KEY, Task::LineUp(Want::Exclusive));
     take_over(rt, lot, token, word)
 }
 
 // Hands the right over and gets it back, so many times.
-fn serve<R: Wait>(rt: &R, lot: &ParkingLot, ticket: Ticket, word: Word) -> usize
-    requires { IsTicketOf lot.now ticket × IsWordOf lot.now.words word × (word.kind ≡ Mutex) }
+pub fn serve<R: Wait>(rt: &R, lot: &ParkingLot, token: &mut Token, word: Word) -> usize
+    requires { IsTokenOf lot.now token.old × IsWordOf lot.now.words word × (word.kind ≡ Mutex) }
 {
-    let mut token = ticket.enter();
     let mut served = 0;
     for round in 0..ROUNDS {
-        if let Some(right) = try_lock(lot, &mut token, word) {
-            hand_over(rt, lot, &mut token, right, 0);
-            if let Some(right) = receive(rt, lot, &mut token, word) {
-                unlock(lot, &mut token, right);
+        if let Some(right) = try_lock(lot, token, word) {
+            hand_over(rt, lot, token, right, 0);
+            if let Some(right) = receive(rt, lot, token, word) {
+                unlock(lot, token, right);
                 served = round + 1;
             }
         }
     }
-    drop(token.leave());
     served
 }
 
-fn answer<R: Wait>(rt: &R, lot: &ParkingLot, ticket: Ticket, word: Word) -> usize
-    requires { IsTicketOf lot.now ticket × IsWordOf lot.now.words word × (word.kind ≡ Mutex) }
+pub fn answer<R: Wait>(rt: &R, lot: &ParkingLot, token: &mut Token, word: Word) -> usize
+    requires { IsTokenOf lot.now token.old × IsWordOf lot.now.words word × (word.kind ≡ Mutex) }
 {
-    let mut token = ticket.enter();
     let mut answered = 0;
     for round in 0..ROUNDS {
-        if let Some(right) = receive(rt, lot, &mut token, word) {
-            hand_over(rt, lot, &mut token, right, 0);
+        if let Some(right) = receive(rt, lot, token, word) {
+            hand_over(rt, lot, token, right, 0);
             answered = round + 1;
         }
     }
-    drop(token.leave());
     answered
-}
-
-// Two seats of a lot, and a mutex of it.
-fn two_seats<A: Abort>(rt: &A, alloc: Global) -> (Arc<ParkingLot>, Ticket, Ticket, Word)
-    ensures { IsTicketOf (arc_value result.0) result.1 × IsTicketOf (arc_value result.0) result.2
-        × IsWordOf (arc_value result.0).words result.3 × (result.3.kind ≡ Mutex) }
-{
-    let (lot, mut token, mut others) = lot_of(rt, alloc, 1, 2);
-    let word = word_of(rt, &lot, &mut token, WordKind::Mutex);
-    let other = ticket_of(rt, &lot, &mut others);
-    (lot, token.leave(), other, word)
-}
-
-fn both_serve<R: Threads + Wait + Sync>(
-    rt: &R,
-    lot: &ParkingLot,
-    one: Ticket,
-    other: Ticket,
-    word: Word,
-) -> (usize, usize)
-    requires { IsTicketOf lot.now one × IsTicketOf lot.now other × IsWordOf lot.now.words word
-        × (word.kind ≡ Mutex) }
-{
-    join(
-        rt,
-        move || serve(rt, lot, one, word),
-        move || answer(rt, lot, other, word),
-    )
 }
 
 #[test]
 fn a_right_goes_round(rt: HostRuntime) {
-    let (lot, one, other, word) = two_seats(&rt, rt.alloc());
-    let rounds = both_serve(&rt, &lot, one, other, word);
-    same(&rt, rounds, (ROUNDS, ROUNDS));
+    let (served, answered) = play(&rt, rt.alloc(), (Part::Serve, Part::Answer));
+    same(&rt, (served.0, answered.0), (ROUNDS, ROUNDS));
 }
 
 // Wakes the other thread as soon as it stands in the line, by a plain note and by a right in turn.
 // A right lies in the record for a while before the note is there.
-fn wake_early<R: Wait>(rt: &R, lot: &ParkingLot, ticket: Ticket, word: Word)
-    requires { IsTicketOf lot.now ticket × IsWordOf lot.now.words word × (word.kind ≡ Mutex) }
-{
-    let mut token = ticket.enter();
-    for _ in 0..SLOW_ROUNDS {
-        take_one(rt, lot, &mut token);
-        let right = lock(rt, lot, &mut token, word);
-        hand_over(rt, lot, &mut token, right, PAUSE);
-    }
-    drop(token.leave());
-}
-
-fn take_one<R: Wait>(rt: &R, lot: &ParkingLot, token: &mut Token)
-    requires { IsTokenOf lot.now token.old }
-    ensures { IsSameThread lot.now token.old token.new }
-{
-    for _ in rt.forever() {
-        if take_first(rt, lot, token, KEY).is_some() {
-            return;
-        }
-        yield_now();
-    }
-}
-
-fn lock<R: Wait>(rt: &R, lot: &ParkingLot, token: &mut Token, word: Word) -> Right
+pub fn wake_early<R: Wait>(rt: &R, lot: &ParkingLot, token: &mut Token, word: Word)
     requires { IsTokenOf lot.now token.old × IsWordOf lot.now.words word × (word.kind ≡ Mutex) }
-    ensures own { IsSameThread lot.now token.old token.new }
-    ensures right { IsRightOf lot.now.words result × (result.word ≡ word)
-        × (result.owner ≡ Exclusive) }
 {
-    for _ in rt.forever() {
+    for _ in 0..SLOW_ROUNDS {
+        until_taken(rt, lot, token, KEY, Task::TakeFirst);
         if let Some(right) = try_lock(lot, token, word) {
-            return right;
+            hand_over(rt, lot, token, right, PAUSE);
         }
-        yield_now();
     }
-    unreachable!()
 }
 
 // Whether a thread is woken by a note. A right that it is handed is given up.
@@ -234,150 +160,81 @@ fn sleeps_late<R: Wait>(rt: &R, lot: &ParkingLot, token: &mut Token, word: Word)
     requires { IsTokenOf lot.now token.old × IsWordOf lot.now.words word × (word.kind ≡ Mutex) }
     ensures { IsSameThread lot.now token.old token.new }
 {
-    line_up(rt, lot, token, KEY, Want::Exclusive);
+    in_section(rt, lot, token, KEY, Task::LineUp(Want::Exclusive));
     delay(PAUSE);
     let by_note = is_woken(rt, lot, token, word);
-    let standing = stands(rt, lot, token);
+    let standing = lot.queued(rt, token, KEY);
     let Some(right) = receive(rt, lot, token, word) else {
         return false;
     };
     unlock(lot, token, right);
-    by_note && !standing && !stands(rt, lot, token)
+    by_note && standing == 0 && lot.queued(rt, token, KEY) == 0
 }
 
 // In how many rounds it was, up to the first in which it was not.
-fn sleep_late<R: Wait>(rt: &R, lot: &ParkingLot, ticket: Ticket, word: Word) -> usize
-    requires { IsTicketOf lot.now ticket × IsWordOf lot.now.words word × (word.kind ≡ Mutex) }
+pub fn sleep_late<R: Wait>(rt: &R, lot: &ParkingLot, token: &mut Token, word: Word) -> usize
+    requires { IsTokenOf lot.now token.old × IsWordOf lot.now.words word × (word.kind ≡ Mutex) }
 {
-    let mut token = ticket.enter();
     let mut woken = 0;
     for round in 0..SLOW_ROUNDS {
-        if sleeps_late(rt, lot, &mut token, word) && woken == round {
+        if sleeps_late(rt, lot, token, word) && woken == round {
             woken = round + 1;
         }
     }
-    drop(token.leave());
-    woken
-}
-
-fn both_wake<R: Threads + Wait + Sync>(
-    rt: &R,
-    lot: &ParkingLot,
-    one: Ticket,
-    other: Ticket,
-    word: Word,
-) -> usize
-    requires { IsTicketOf lot.now one × IsTicketOf lot.now other × IsWordOf lot.now.words word
-        × (word.kind ≡ Mutex) }
-{
-    let (woken, ()) = join(
-        rt,
-        move || sleep_late(rt, lot, one, word),
-        move || wake_early(rt, lot, other, word),
-    );
     woken
 }
 
 #[test]
 fn an_early_parker_loses_and_doubles_no_wake(rt: HostRuntime) {
-    let (lot, one, other, word) = two_seats(&rt, rt.alloc());
-    same(&rt, both_wake(&rt, &lot, one, other, word), SLOW_ROUNDS);
+    let (woken, _) = play(&rt, rt.alloc(), (Part::SleepLate, Part::WakeEarly));
+    same(&rt, woken.0, SLOW_ROUNDS);
 }
 
-// Whether a sleep in the line ended by a wake, or by the deadline.
-fn nap<R: Wait>(
+// How many rounds ended by a wake, and how many by the deadline.
+pub fn sleep_briefly<R: Wait>(
     rt: &R,
     lot: &ParkingLot,
     token: &mut Token,
     word: Word,
-    limit: (&TickClock, u64),
-) -> Option<bool>
-    requires { IsTokenOf lot.now token.old × (word.kind ≡ Mutex) }
-    ensures { IsSameThread lot.now token.old token.new }
-{
-    line_up(rt, lot, token, KEY, Want::Exclusive);
-    match lot.sleep(rt, token, word, Want::Exclusive, Some(limit)) {
-        Slept::Woken => Some(true),
-        Slept::Handed(right) => {
-            unlock(lot, token, right);
-            None
-        }
-        Slept::Late(mut section, _) => {
-            section.remove(token.number());
-            section.leave(rt, token, Note::Normal);
-            Some(false)
-        }
-    }
-}
-
-// How many rounds ended by a wake, and how many by the deadline.
-fn sleep_briefly<R: Wait>(
-    rt: &R,
-    lot: &ParkingLot,
-    ticket: Ticket,
-    word: Word,
     done: &AtomicBool,
 ) -> (usize, usize)
-    requires { IsTicketOf lot.now ticket × IsWordOf lot.now.words word × (word.kind ≡ Mutex) }
+    requires { IsTokenOf lot.now token.old }
 {
-    let mut token = ticket.enter();
     let clock = TickClock::new();
     let (mut woken, mut late) = (0, 0);
     for round in 0..ROUNDS {
         clock.restart();
-        match nap(rt, lot, &mut token, word, (&clock, round as u64 % 8)) {
-            Some(true) => woken += 1,
-            Some(false) => late += 1,
-            None => {}
+        in_section(rt, lot, token, KEY, Task::LineUp(Want::Exclusive));
+        match told_until(rt, lot, token, word, (&clock, round as u64 % 8)) {
+            Ok(Note::Normal) => woken += 1,
+            Ok(Note::HandOff) => {}
+            Err(_) => late += 1,
         }
     }
     done.store(true, SeqCst);
-    drop(token.leave());
     (woken, late)
 }
 
 // How many it took.
-fn wake_until<R: Wait>(rt: &R, lot: &ParkingLot, ticket: Ticket, done: &AtomicBool) -> u64
-    requires { IsTicketOf lot.now ticket }
+pub fn wake_until<R: Wait>(rt: &R, lot: &ParkingLot, token: &mut Token, done: &AtomicBool) -> usize
+    requires { IsTokenOf lot.now token.old }
 {
-    let mut token = ticket.enter();
-    let mut taken: u64 = 0;
+    let mut taken = 0usize;
     for _ in rt.forever() {
         if done.load(SeqCst) {
             break;
         }
-        if take_first(rt, lot, &mut token, KEY).is_some() {
+        if in_section(rt, lot, token, KEY, Task::TakeFirst).is_some() {
             taken = taken.saturating_add(1);
         }
         yield_now();
     }
-    drop(token.leave());
     taken
-}
-
-fn both_hurry<R: Threads + Wait + Sync>(
-    rt: &R,
-    lot: &ParkingLot,
-    one: Ticket,
-    other: Ticket,
-    word: Word,
-) -> ((usize, usize), u64)
-    requires { IsTicketOf lot.now one × IsTicketOf lot.now other × IsWordOf lot.now.words word
-        × (word.kind ≡ Mutex) }
-{
-    let done = AtomicBool::new(false);
-    let seen = &done;
-    join(
-        rt,
-        move || sleep_briefly(rt, lot, one, word, seen),
-        move || wake_until(rt, lot, other, seen),
-    )
 }
 
 #[test]
 fn who_was_taken_is_woken_and_not_late(rt: HostRuntime) {
-    let (lot, one, other, word) = two_seats(&rt, rt.alloc());
-    let ((woken, late), taken) = both_hurry(&rt, &lot, one, other, word);
-    let ended = (woken as u64, woken.saturating_add(late));
-    same(&rt, ended, (taken, ROUNDS));
+    let ((woken, late), taken) = play(&rt, rt.alloc(), (Part::SleepBriefly, Part::WakeUntilDone));
+    let ended = (woken, woken.saturating_add(late));
+    same(&rt, ended, (taken.0, ROUNDS));
 }
