@@ -8,7 +8,7 @@ use Rattle.lot_words.specs.Permits.{out_after, slots_of}
 use Rattle.lot_words.specs.Rights.{named_by}
 use Rattle.lot_words.specs.Steps.{after_step, has, listed}
 use Rattle.lot_words.specs.Plays.{TakesStep, TakesStepOf, left_over, stepping}
-use Rattle.lot_words.specs.Lots.{IsSeatOf, IsWordOf}
+use Rattle.lot_words.specs.Lots.{IsSeatOf}
 use Rattle.lot_words.specs.declared.table.LotWords.{LotWords}
 use Rattle.lot_words.specs.declared.owners.Owner.TheVariants.{Exclusive}
 use Rattle.lot_words.specs.declared.views.View.{View}

@@ -35,8 +35,8 @@ fn empty_records(
     words: &LotWords,
     seats: usize,
 ) -> Result<KeyedLocks<LotWords, WakeRecord>, AllocError>
-    ensures { IfOk result (λ records. (records.count ≡ seats)
-        × (records.table.shared.key ≡ words.now)) }
+    ensures { IfOk result (λ records. (records.table.shared.key ≡ words.now)
+        × (records.count ≡ seats)) }
 {
     let mut records = Vec::with_capacity(alloc, seats)?;
     for _ in 0..seats {

@@ -1,4 +1,4 @@
-use Rattle.std.proofs.Common.{◌≡◌, Some, None, refl, arith}
+use Rattle.std.proofs.Common.{◌≡◌, ◌∙◌, ℕ, Some, None, IfOk, refl, subst, arith}
 use Rattle.keyed_locks.specs.Guards.{HasValue}
 use Rattle.lot_words.specs.RightsOf.{IsRightOf}
 use Rattle.parking_lot_core.specs.declared.waiters.WakeRecord.{WakeRecord}
@@ -13,3 +13,6 @@ loop-preserved c = let more = c.in_ok-push.ensures.items in (
 
 pub new-requires : goal.new-requires
 new-requires c = all_empty (λ (wake_record : WakeRecord). wake_record.right) (IsRightOf c.args.words.now) c.loop.records.items c.loop.invariant.1
+
+pub returns : goal.returns
+returns c = subst (λ (seats : ℕ). IfOk c.new.result (λ records. (records.table.shared.key ≡ c.args.words.now) × (records.count ≡ seats))) (c.loop.invariant.0 ∙ omega (arith, c.loop-test.false, c.loop.auto.counter-end)) c.new.ensures
