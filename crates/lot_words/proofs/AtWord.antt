@@ -12,7 +12,7 @@ use Rattle.lot_words.specs.Rights.{leaving_alone, named_by, piece_of, takes_perm
 use Rattle.lot_words.specs.Rule.{LotRule}
 use Rattle.value_place.specs.declared.slot.PermitSlot.{PermitSlot}
 use Rattle.lot_words.specs.Steps.{MayStep, has}
-use Rattle.lot_words.specs.Plays.{TakesExpected, TakesStep, goes_on_with, stepping, takes_in, takes_out, lays_back, saw_set, sees_locked, sees_shown, tries_seen}
+use Rattle.lot_words.specs.Plays.{TakesExpected, TakesStep, TakesStepOf, goes_on_with, stepping, takes_in, takes_out, lays_back, saw_set, sees_locked, sees_shown, tries_seen}
 use Rattle.lot_words.specs.Lots.{IsSeatOf, IsWordOf}
 use Rattle.lot_words.specs.declared.table.LotWords.{LotWords}
 use Rattle.lot_words.specs.declared.owners.Owner.{Owner}
@@ -30,6 +30,14 @@ use Rattle.lot_words.proofs.Trades.{owned_some, zero_either}
 use Rattle.lot_words.specs.declared.words.WordKind.{WordKind}
 use Rattle.lot_words.specs.declared.words.WordKind.TheVariants.{Mutex, Condvar}
 use Rattle.lot_words.proofs.Indices.{rank_lt, word_kind_at-index}
+
+-- what a step at an index tells, by the word that has this index and the operation that was matched
+pub tells_step : {at : ℕ} {op op' : Op} (family number : ℕ) (kind : WordKind) (me after : Me PermitSlot View) (found : ℕ) → at ≡ word_index number kind → op ≡ op'
+    → TakesStep family at op' me found after → TakesStepOf family kind (word_index number kind) op me found after
+tells_step {at} {op} {op'} family number kind me after found there is told =
+    subst (λ (x : Op). TakesStepOf family kind (word_index number kind) x me found after) (sym is)
+    (subst (λ (k : WordKind). TakesStepOf family k (word_index number kind) op' me found after) (word_kind_at-index number kind)
+    (subst (λ (i : ℕ). TakesStep family i op' me found after) there told))
 
 -- a step at an index is allowed to a seat that goes on by this
 abbrev pub AllowedAt : LotWords → Seat PermitSlot View → ℕ → (ℕ → ℕ) → (ℕ → Me PermitSlot View → Type 0) → Type 0

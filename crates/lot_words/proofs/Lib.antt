@@ -17,4 +17,5 @@ pub mod OnceKnowledge
 pub mod TiedSteps
 mod Alone
 mod AtWord
+mod Tries
 mod RuleLaws

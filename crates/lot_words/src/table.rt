@@ -39,6 +39,7 @@ impl LotWords {
     ghost use Rattle.lot_words.specs.Permits.{out_after};
     ghost use Rattle.lot_words.specs.Views.{blank, shown};
     ghost use Rattle.lot_base.specs.declared.ops.Op.TheVariants.{Or};
+    ghost use Rattle.lot_words.specs.Plays.{TakesStepOf};
     ghost use Rattle.lot_words.specs.Steps.{MayStep, CodesWith, after_step};
     ghost use Rattle.lot_words.specs.Lots.{IsSeatOf, IsWordOf};
 
@@ -79,15 +80,9 @@ impl LotWords {
         requires own { IsSeatOf self.now seat.old × IsWordOf self.now word }
         requires may { MayStep word.kind (word_index word.number word.kind)
             (Or bits) seat.old.me.0.owns }
-        ensures own { IsSeatOf self.now seat.new }
-        ensures stepped { shown seat.new.me.0
-            ≡ after_step word.kind (word_index word.number word.kind)
-            (Or bits) result seat.old.me.0 }
-        ensures out { seat.new.me.0.out
-            ≡ out_after word.kind (word_index word.number word.kind)
-            (Or bits) result seat.old.me.0.out }
-        ensures coded { CodesWith word.kind
-            (word_index word.number word.kind) result seat.old.me.0.owns }
+        ensures { (seat.new.table_id ≡ seat.old.table_id)
+            × TakesStepOf P.family word.kind (word_index word.number word.kind) (Or bits)
+            seat.old.me result seat.new.me }
     {
         let at = word.index();
         let words = &self.table.shared;
@@ -103,14 +98,9 @@ impl LotWords {
         requires pick { P.family ≡ self.now.table.shared.key.1.family }
         requires own { IsSeatOf self.now seat.old × IsWordOf self.now word }
         requires may { MayStep word.kind (word_index word.number word.kind) op seat.old.me.0.owns }
-        ensures own { IsSeatOf self.now seat.new }
-        ensures stepped { shown seat.new.me.0
-            ≡ after_step word.kind (word_index word.number word.kind) op result seat.old.me.0 }
-        ensures out { seat.new.me.0.out
-            ≡ out_after word.kind (word_index word.number word.kind) op result
-            seat.old.me.0.out }
-        ensures coded { CodesWith word.kind
-            (word_index word.number word.kind) result seat.old.me.0.owns }
+        ensures { (seat.new.table_id ≡ seat.old.table_id)
+            × TakesStepOf P.family word.kind (word_index word.number word.kind) op
+            seat.old.me result seat.new.me }
     {
         let at = word.index();
         let words = &self.table.shared;

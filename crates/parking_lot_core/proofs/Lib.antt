@@ -1,2 +1,3 @@
 mod Lists
 mod Giving
+mod Sleeps

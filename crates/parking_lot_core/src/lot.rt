@@ -1,8 +1,7 @@
 //! The lot: its words, its queues, and how its threads are woken.
-ghost use Rattle.std.specs.Prelude.{◌≡◌, ◌<◌, ◌≤◌, IfOk, IfErr, IsTrue, ◌↔◌, All, None, length, map};
+ghost use Rattle.std.specs.Prelude.{◌≡◌, ◌<◌, ◌≤◌, IfOk, IfErr, IsTrue, ◌↔◌, All, length, map};
 ghost use Rattle.std.specs.List.{range_with_len};
 ghost use Rattle.std.specs.Arc.{arc_value};
-ghost use Rattle.keyed_locks.specs.Guards.{HasValue};
 ghost use Rattle.lot_words.specs.Indices.{most_words};
 
 use crate::tokens::Ticket;
@@ -31,15 +30,19 @@ pub struct ParkingLot {
         × (length next_taken.items ≡ records.count) },
 }
 
-fn empty_records(alloc: Global, seats: usize) -> Result<Vec<Option<WakeRecord>>, AllocError>
-    ensures { IfOk result (λ records. (length records.items ≡ seats)
-        × All (HasValue (λ wake_record. wake_record.right ≡ None)) records.items) }
+fn empty_records(
+    alloc: Global,
+    words: &LotWords,
+    seats: usize,
+) -> Result<KeyedLocks<LotWords, WakeRecord>, AllocError>
+    ensures { IfOk result (λ records. (records.table.shared.key ≡ words.now)
+        × (records.count ≡ seats)) }
 {
     let mut records = Vec::with_capacity(alloc, seats)?;
     for _ in 0..seats {
         records.push(Some(WakeRecord::empty()))?;
     }
-    Ok(records)
+    KeyedLocks::new(alloc, records, words)
 }
 
 fn no_links(alloc: Global, seats: usize) -> Result<Vec<AtomicUsize>, AllocError>
@@ -83,7 +86,7 @@ impl ParkingLot {
         alloc: Global,
         words: usize,
         seats: usize,
-        queueing: Queueing,
+        queueing: Mutex<Queueing>,
     ) -> Result<(Arc<ParkingLot>, Vec<Ticket>), AllocError>
         requires { (0 < words) × (words ≤ most_words) }
         ensures lot { IfOk result (λ made. ((arc_value made.0).words.count ≡ words)
@@ -92,11 +95,11 @@ impl ParkingLot {
             × All (IsNewTicketOf (arc_value made.0)) made.1.items) }
     {
         let (words, first) = LotWords::new(alloc, words)?;
-        let records = KeyedLocks::new(alloc, empty_records(alloc, seats)?, &words)?;
+        let records = empty_records(alloc, &words, seats)?;
         let (tickets, unparkers) = ParkingLot::tickets(alloc, &words, first, seats)?;
         let lot = ParkingLot {
             words,
-            queueing: Mutex::new(queueing),
+            queueing,
             records,
             unparkers,
             next_taken: no_links(alloc, seats)?,
@@ -133,7 +136,7 @@ impl ParkingLot {
             × All (IsNewTicketOf (arc_value made.0)) made.1.items) }
         ensures err { IfErr result (λ fault. fault ≡ Fault.NoMemory) }
     {
-        let queueing = Queueing::with_capacity(alloc, seats)?;
+        let queueing = Mutex::new(Queueing::with_capacity(alloc, seats)?);
         match ParkingLot::build(alloc, words, seats, queueing) {
             Ok(made) => Ok(made),
             Err(_) => Err(Fault::NoMemory),

@@ -1,8 +1,10 @@
-use Rattle.std.proofs.Common.{◌+◌, ◌∙◌, ap, arith, length, sym}
-use Rattle.lot_base.specs.declared.ops.Op.TheVariants.{Exchange}
+use Rattle.std.proofs.Common.{ℕ, ◌+◌, [], ◌∷◌, ◌++◌, ◌∙◌, ap, arith, length, sym}
+use Rattle.lot_base.specs.declared.ops.Op.TheVariants.{Exchange, Load}
+use Rattle.lot_words.specs.Indices.{counter}
 use Rattle.lot_words.specs.Permits.{slots_of}
+use Rattle.lot_words.specs.Plays.{numbered}
 use Rattle.lot_words.proofs.Keeps.{look, draw_so_many}
-use Rattle.lot_words.proofs.Looks.{next_look}
+use Rattle.lot_words.proofs.Looks.{Looked-from, first_look, next_look}
 use Rattle.lot_words.proofs.table.LotWords.draw.Goals as goal
 
 pub load-seen-requires : goal.load-seen-requires
@@ -23,3 +25,38 @@ loop-seen-preserved g c = let same = c.loop-seen.invariant in let before = c.loo
       last = (before.steps, Exchange c.loop-seen.seen (c.loop-seen.seen + length c.args.kinds.now), steps);
       looked = next_look c.args.seat.now.me.0.steps before.steps after.steps c.loop-seen.seen c.compare_exchange-found.result c.args.self.now.count (c.loop-seen.seen + length c.args.kinds.now) same.looked failed.0 c.loop-seen-test.true c.if-found-seen.false steps;
     }
+
+pub loop-seen-init : goal.loop-seen-init
+loop-seen-init g c = let old = c.args.seat.now.me.0 in let new = c.load-seen.new.seat.me.0 in let looked = c.load-seen.ensures.2 in
+    let steps = ap (λ m. m.0.steps) looked in record {
+      own = ((c.load-seen.ensures.0 ∙ c.requires.own.0, ap (λ m. m.1) looked ∙ c.requires.own.1 ∙ sym (ap (λ m. slots_of c.args.self.now.table.shared.key.1.family m.0.out) looked)), ap (λ m. m.0.owns) looked);
+      drawn = ap (λ m. m.0.drawn) looked;
+      saw = ap (λ m. m.0.saw) looked;
+      last = (old.steps, Load, steps);
+      looked = first_look old.steps new.steps c.load-seen.result c.args.self.now.count steps;
+    }
+
+pub returns-then-found-seen-clause-own : goal.returns-then-found-seen-clause-own
+returns-then-found-seen-clause-own g c = let same = c.loop-seen.invariant in let drew = c.compare_exchange-found.ensures.2.0 c.if-found-seen.true in
+    ((c.compare_exchange-found.ensures.0 ∙ same.own.0.0, ap (λ m. m.1) drew ∙ same.own.0.1 ∙ sym (ap (λ m. slots_of c.args.self.now.table.shared.key.1.family m.0.out) drew)), ap (λ m. m.0.owns) drew ∙ same.own.1)
+
+pub returns-then-found-seen-clause-drawn : goal.returns-then-found-seen-clause-drawn
+returns-then-found-seen-clause-drawn g c = let same = c.loop-seen.invariant in let drew = c.compare_exchange-found.ensures.2.0 c.if-found-seen.true in
+    let seen = c.loop-seen.seen in let before = c.loop-seen.seat.me.0 in let kinds = c.args.kinds.now in (
+      omega (arith, c.if-needed-words.true, c.loop-seen-test.true),
+      ap (λ m. m.0.drawn) drew ∙ ap (λ (n : ℕ). numbered n g.K.Kinds.kinds ++ before.drawn) c.if-found-seen.true ∙ ap (λ ks. numbered seen ks ++ before.drawn) c.requires.kinds.0 ∙ ap (λ d. numbered seen kinds ++ d) same.drawn,
+      (
+        before.steps,
+        Looked-from c.args.seat.now.me.0.steps before.steps seen c.args.self.now.count same.looked,
+        ap (λ m. m.0.steps) drew
+            ∙ ap (λ (n : ℕ). before.steps ++ record { at = counter; op = Exchange seen (seen + length kinds); seen = n } ∷ []) c.if-found-seen.true,
+      ),
+    )
+
+pub returns-else-needed-words-clause-drawn : goal.returns-else-needed-words-clause-drawn
+returns-else-needed-words-clause-drawn g c = let same = c.loop-seen.invariant in let seen = c.loop-seen.seen in
+    (same.drawn, Looked-from c.args.seat.now.me.0.steps c.loop-seen.seat.me.0.steps seen c.args.self.now.count same.looked, (seen, same.last, omega (arith, c.if-needed-words.false)))
+
+pub returns-after-loop-seen-clause-drawn : goal.returns-after-loop-seen-clause-drawn
+returns-after-loop-seen-clause-drawn g c = let same = c.loop-seen.invariant in let seen = c.loop-seen.seen in
+    (same.drawn, Looked-from c.args.seat.now.me.0.steps c.loop-seen.seat.me.0.steps seen c.args.self.now.count same.looked, (seen, same.last, omega (arith, c.loop-seen-test.false, c.requires.kinds.1)))
