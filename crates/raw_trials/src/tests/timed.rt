@@ -51,11 +51,7 @@ pub(super) fn give_back<M: RawLock, R: Wait>(
 }
 
 // Takes the mutex by each timed call, through the bound. Whether it got it each time.
-fn takes_a_free_one<M: RawTimedLock, R: Wait>(
-    rt: &R,
-    mutex: &M,
-    token: &mut M::Token,
-) -> bool
+fn takes_a_free_one<M: RawTimedLock, R: Wait>(rt: &R, mutex: &M, token: &mut M::Token) -> bool
     requires { M.is_token_of (M.lot_of mutex.now) token.old }
     ensures { M.is_token_of (M.lot_of mutex.now) token.new }
 {
