@@ -7,8 +7,8 @@ ghost use Rattle.parking_lot_core.specs.Tokens.{IsNewTicketOf, IsSameThread, IsT
 
 use super::mutexes::{try_lock, unlock};
 use super::several::told_to;
-use super::threads::{take_over, try_hand_over};
-use super::{Task, in_section, next_of, same, seats_of};
+use super::threads::try_hand_over;
+use super::{Task, in_section, next_of, same, seats_of, sleep};
 use parking_lot_core::{Key, Keys, Note, ParkingLot, Ticket, Token, Want, Word};
 use std::sync::Wait;
 
@@ -68,7 +68,7 @@ fn serve<R: Wait>(rt: &R, lot: &ParkingLot, server: &mut Token, ticket: Ticket, 
     if let Some(left) = try_hand_over(rt, lot, server, right, 0) {
         left.forget();
     }
-    let handed = match take_over(rt, lot, &mut token, word) {
+    let handed = match sleep(rt, lot, &mut token, word, Want::Exclusive) {
         Some(right) => {
             unlock(lot, &mut token, right);
             true

@@ -2,12 +2,12 @@
 ghost use Rattle.std.specs.Prelude.{◌≡◌};
 ghost use Rattle.lot_words.specs.Lots.{IsWordOf};
 ghost use Rattle.lot_words.specs.declared.words.WordKind.TheVariants.{Mutex};
-ghost use Rattle.parking_lot_core.specs.Tokens.{IsTicketOf, IsTokenOf};
+ghost use Rattle.parking_lot_core.specs.Tokens.{IsTicketOf};
 
 use super::several::{KEY, sleep_in_line};
 use super::threads::{answer, serve, sleep_briefly, sleep_late, wake_early, wake_until};
 use super::{Task, seats_of, ticket_of, until_taken};
-use parking_lot_core::{ParkingLot, Ticket, Token, Word};
+use parking_lot_core::{ParkingLot, Ticket, Word};
 use std::alloc::Global;
 use std::process::Abort;
 use std::sync::Wait;
@@ -30,35 +30,8 @@ pub enum Part {
 /// How often a thread did what it is there for, and how often it was late.
 pub type Score = (usize, usize);
 
+// A thread enters, plays its part, and leaves.
 fn act<R: Wait>(
-    rt: &R,
-    lot: &ParkingLot,
-    token: &mut Token,
-    word: Word,
-    part: Part,
-    done: &AtomicBool,
-) -> Score
-    requires { IsTokenOf lot.now token.old × IsWordOf lot.now.words word × (word.kind ≡ Mutex) }
-{
-    match part {
-        Part::Serve => (serve(rt, lot, token, word), 0),
-        Part::Answer => (answer(rt, lot, token, word), 0),
-        Part::SleepLate => (sleep_late(rt, lot, token, word), 0),
-        Part::WakeEarly => {
-            wake_early(rt, lot, token, word);
-            (0, 0)
-        }
-        Part::SleepBriefly => sleep_briefly(rt, lot, token, word, done),
-        Part::WakeUntilDone => (wake_until(rt, lot, token, done), 0),
-        Part::SleepInLine => (sleep_in_line(rt, lot, token, word), 0),
-        Part::WakeThree => {
-            until_taken(rt, lot, token, KEY, Task::TakeThree);
-            (0, 0)
-        }
-    }
-}
-
-fn enter_and_act<R: Wait>(
     rt: &R,
     lot: &ParkingLot,
     ticket: Ticket,
@@ -69,7 +42,22 @@ fn enter_and_act<R: Wait>(
     requires { IsTicketOf lot.now ticket × IsWordOf lot.now.words word × (word.kind ≡ Mutex) }
 {
     let mut token = ticket.enter();
-    let score = act(rt, lot, &mut token, word, part, done);
+    let score = match part {
+        Part::Serve => (serve(rt, lot, &mut token, word), 0),
+        Part::Answer => (answer(rt, lot, &mut token, word), 0),
+        Part::SleepLate => (sleep_late(rt, lot, &mut token, word), 0),
+        Part::WakeEarly => {
+            wake_early(rt, lot, &mut token, word);
+            (0, 0)
+        }
+        Part::SleepBriefly => sleep_briefly(rt, lot, &mut token, word, done),
+        Part::WakeUntilDone => (wake_until(rt, lot, &mut token, done), 0),
+        Part::SleepInLine => (sleep_in_line(rt, lot, &mut token, word), 0),
+        Part::WakeThree => {
+            until_taken(rt, lot, &mut token, KEY, Task::TakeThree);
+            (0, 0)
+        }
+    };
     drop(token.leave());
     score
 }
@@ -90,8 +78,8 @@ pub fn play_beside<R: Threads + Wait + Sync>(
     let (one, other) = seats;
     join(
         rt,
-        move || enter_and_act(rt, lot, one, word, parts.0, shared),
-        move || enter_and_act(rt, lot, other, word, parts.1, shared),
+        move || act(rt, lot, one, word, parts.0, shared),
+        move || act(rt, lot, other, word, parts.1, shared),
     )
 }
 

@@ -232,6 +232,10 @@ fn seat_four<A: Abort>(rt: &A, alloc: Global, most: usize) -> (Arc<ParkingLot>, 
     (lot, seats)
 }
 
+const SLEEPERS: (Part, Part) = (Part::SleepInLine, Part::SleepInLine);
+
+const SLEEPER_AND_WAKER: (Part, Part) = (Part::SleepInLine, Part::WakeThree);
+
 // Three sleep, and the fourth wakes them. How many of them were woken.
 fn all_four<R: Threads + Wait + Sync>(rt: &R, lot: &ParkingLot, seats: Four) -> usize
     requires seats { IsTicketOf lot.now seats.one × IsTicketOf lot.now seats.two
@@ -250,26 +254,10 @@ fn all_four<R: Threads + Wait + Sync>(rt: &R, lot: &ParkingLot, seats: Four) -> 
         rt,
         move || -> (Score, Score)
             requires { IsTicketOf lot.now one × IsTicketOf lot.now two × IsWordOf lot.now.words word × (word.kind ≡ Mutex) }
-        {
-            play_beside(
-                rt,
-                lot,
-                (one, two),
-                word,
-                (Part::SleepInLine, Part::SleepInLine),
-            )
-        },
+        { play_beside(rt, lot, (one, two), word, SLEEPERS) },
         move || -> (Score, Score)
             requires { IsTicketOf lot.now three × IsTicketOf lot.now four × IsWordOf lot.now.words word × (word.kind ≡ Mutex) }
-        {
-            play_beside(
-                rt,
-                lot,
-                (three, four),
-                word,
-                (Part::SleepInLine, Part::WakeThree),
-            )
-        },
+        { play_beside(rt, lot, (three, four), word, SLEEPER_AND_WAKER) },
     );
     let ((first, _), (second, _)) = some;
     first.saturating_add(second).saturating_add(others.0.0)

@@ -70,17 +70,7 @@ fn hand_over<R: Wait>(rt: &R, lot: &ParkingLot, token: &mut Token, right: Right,
     unreachable!()
 }
 
-// The right that somebody hands over to a thread that stands in the line.
-pub fn take_over<R: Wait>(rt: &R, lot: &ParkingLot, token: &mut Token, word: Word) -> Option<Right>
-    requires { IsTokenOf lot.now token.old × (word.kind ≡ Mutex) }
-    ensures own { IsSameThread lot.now token.old token.new }
-    ensures right { IfSome result
-        (λ right. IsRightOf lot.now.words right × (right.word ≡ word) × (right.owner ≡ Exclusive)) }
-{
-    sleep(rt, lot, token, word, Want::Exclusive)
-}
-
-// The thread lines up for it.
+// A thread lines up for a right. None where it is woken by a note.
 fn receive<R: Wait>(rt: &R, lot: &ParkingLot, token: &mut Token, word: Word) -> Option<Right>
     requires { IsTokenOf lot.now token.old × (word.kind ≡ Mutex) }
     ensures own { IsSameThread lot.now token.old token.new }
@@ -88,7 +78,7 @@ fn receive<R: Wait>(rt: &R, lot: &ParkingLot, token: &mut Token, word: Word) -> 
         (λ right. IsRightOf lot.now.words right × (right.word ≡ word) × (right.owner ≡ Exclusive)) }
 {
     in_section(rt, lot, token, KEY, Task::LineUp(Want::Exclusive));
-    take_over(rt, lot, token, word)
+    sleep(rt, lot, token, word, Want::Exclusive)
 }
 
 // Hands the right over and gets it back, so many times.
@@ -145,7 +135,7 @@ fn is_woken<R: Wait>(rt: &R, lot: &ParkingLot, token: &mut Token, word: Word) ->
     requires { IsTokenOf lot.now token.old × (word.kind ≡ Mutex) }
     ensures { IsSameThread lot.now token.old token.new }
 {
-    match take_over(rt, lot, token, word) {
+    match sleep(rt, lot, token, word, Want::Exclusive) {
         Some(right) => {
             unlock(lot, token, right);
             false
