@@ -206,12 +206,12 @@ AwaitsBy forced case = ⊥
 
 -- what a wait does to its condition variable: it gives up only where it has a deadline, and hides
 -- only after it gave up
-abbrev pub WaitsThere : ℕ → Bool → Option ℕ → LockCase → Type 0
-WaitsThere m timed gave_up (OfCondvar (Show shown)) = shown ≡ m
-WaitsThere m timed gave_up (OfCondvar Hide) = gave_up ≢ None
-WaitsThere m timed gave_up (Park x) = x ≡ Wait
-WaitsThere m timed gave_up Late = (timed ≡ true) × (gave_up ≡ None)
-WaitsThere m timed gave_up case = ⊥
+abbrev pub WaitsThere : ℕ → Bool → Option ℕ → Bool → LockCase → Type 0
+WaitsThere m timed gave_up released (OfCondvar (Show shown)) = (shown ≡ m) × (released ≡ false)
+WaitsThere m timed gave_up released (OfCondvar Hide) = gave_up ≢ None
+WaitsThere m timed gave_up released (Park x) = (x ≡ Wait) × (released ≡ false)
+WaitsThere m timed gave_up released Late = (timed ≡ true) × (gave_up ≡ None)
+WaitsThere m timed gave_up released case = ⊥
 
 -- it releases its mutex once
 abbrev pub ReleasesOnce : Bool → LockCase → Type 0
@@ -227,10 +227,10 @@ WaitsBeside timed gave_up released recalls case =
 
 -- what a notification does to its condition variable, and to the mutex that it has seen; its move
 -- is one event of both
-abbrev pub NotifiesThere : LockCase → Type 0
-NotifiesThere (OfCondvar (Look seen)) = Unit {0}
-NotifiesThere (OfCondvar Hide) = Unit {0}
-NotifiesThere case = ⊥
+abbrev pub NotifiesThere : Recall → LockCase → Type 0
+NotifiesThere recalls (OfCondvar (Look seen)) = recalls ≡ Blank
+NotifiesThere recalls (OfCondvar Hide) = Unit {0}
+NotifiesThere recalls case = ⊥
 
 abbrev pub NotifiesBeside : Recall → ℕ → LockCase → Type 0
 NotifiesBeside recalls m (SeeOwner owned) = recalls ≡ Saw m
@@ -249,7 +249,7 @@ IsMadeOf (Bumps l x) gave_up released recalls k case =
 IsMadeOf (CallsOnce l forced) gave_up released recalls k case = (k ≡ l) × CallsOnceBy forced case
 IsMadeOf (Awaits l forced) gave_up released recalls k case = (k ≡ l) × AwaitsBy forced case
 IsMadeOf (Waits l m timed) gave_up released recalls k case =
-    ((k ≡ l) × WaitsThere m timed gave_up case)
+    ((k ≡ l) × WaitsThere m timed gave_up released case)
     ⊎ ((k ≡ m) × WaitsBeside timed gave_up released recalls case)
 IsMadeOf (Notifies l all) gave_up released recalls k case =
-    ((k ≡ l) × NotifiesThere case) ⊎ NotifiesBeside recalls k case
+    ((k ≡ l) × NotifiesThere recalls case) ⊎ NotifiesBeside recalls k case

@@ -151,7 +151,7 @@ module _ (v : CondvarSite) (s : LockState) (t c : ℕ) where
     may = tt;
     becomes = λ w rights now is has. none_shown w (call_at c (mutex_shown seen) (Look all) rights) all (now ∙ none refl) refl (λ k. has k ∙ ap (λ (f : ℕ → Rights). f k) (same_rights t (mutex_shown seen) s s rights is refl));
   }
-  looks all seen false none = keeps c (mutex_shown seen) t _ _ (Value seen) (AtLock c (OfCondvar (cases.Look (Some (mutex_shown seen))))) v.shown s s (inl (refl, tt), tt) refl (λ rights. refl)
+  looks all seen false none = keeps c (mutex_shown seen) t _ _ (Value seen) (AtLock c (OfCondvar (cases.Look (Some (mutex_shown seen))))) v.shown s s (inl (refl, refl), tt) refl (λ rights. refl)
 
 shows_none : (o : Option ℕ) → (word_of o == 0) ≡ true → o ≡ None
 shows_none None e = refl

@@ -216,7 +216,7 @@ module _ (v : CondvarSite) (limit : ℕ) (s : Site) (t c m : ℕ) (timed : Bool)
   shows : (seen : ℕ) (b : Bool)
       → CallFollows c m (place wait.Show) (Value seen) (event_by c (case_there (if b then Show m ∷ [] else SeeOther m ∷ []))) (deeds.after_all (if b then Show m ∷ [] else SeeOther m ∷ []) v t).shown s.lock s.lock t
       (in_wait m timed (if b then At wait.Stand else At wait.Refuse))
-  shows seen true = keeps c m t _ _ (Value seen) (AtLock c (OfCondvar (cases.Show m))) (Some m) s.lock _ (inl (refl, refl), tt) refl (λ rights. refl)
+  shows seen true = keeps c m t _ _ (Value seen) (AtLock c (OfCondvar (cases.Show m))) (Some m) s.lock _ (inl (refl, (refl, refl)), tt) refl (λ rights. refl)
   shows seen false = keeps c m t _ _ (Value seen) Nothing v.shown s.lock _ tt refl (λ rights. refl)
 
   unlisted : (b : Bool) → timed ≡ true
@@ -240,7 +240,7 @@ module _ (v : CondvarSite) (limit : ℕ) (s : Site) (t c m : ℕ) (timed : Bool)
   tells : (at : WaitAt) (whom : Option ℕ) (told : Reply) → IsAt v t (place at) → s.doing t ≡ (wait_row m at).doing → MayHearWaiter r s t at whom told → IsReached (place at) → Follows at whom told
   tells wait.Enter whom Done a is f reached = keeps c m t _ _ Done Nothing v.shown s.lock _ tt refl (λ rights. refl)
   tells wait.Show whom (Value seen) a is f reached = shows seen ((seen == 0) || is_shown seen m)
-  tells wait.Stand whom Done a is f reached = keeps c m t _ _ Done (AtLock c (Park WaitHere)) v.shown s.lock _ (inl (refl, refl), tt) refl (λ rights. refl)
+  tells wait.Stand whom Done a is f reached = keeps c m t _ _ Done (AtLock c (Park WaitHere)) v.shown s.lock _ (inl (refl, (refl, refl)), tt) refl (λ rights. refl)
   tells wait.Leave whom Done a is f reached = keeps c m t _ _ Done Nothing v.shown s.lock _ tt refl (λ rights. refl)
   tells wait.Refuse whom Done a is f reached = record {
     may = tt;

@@ -5,6 +5,7 @@ use mathlib.Core.Option.{none}
 use native.Mathlib.Decide.{ℕ_discrete}
 use Rattle.atomic_table.specs.Table.{Allows, Me, step}
 use Rattle.atomic_table.specs.declared.shared.Seat.{Seat}
+use Rattle.seat_moves.specs.Changes.{Stirs}
 use Rattle.lot_words.specs.Indices.{word_index, word_kind_at}
 use Rattle.lot_words.specs.Codes.{exclusive}
 use Rattle.lot_words.specs.Views.{blank, owned}
@@ -43,6 +44,11 @@ tells_step {at} {op} {op'} family number kind me after found there is told =
 abbrev pub AllowedAt : LotWords → Seat PermitSlot View → ℕ → (ℕ → ℕ) → (ℕ → Me PermitSlot View → Type 0) → Type 0
 AllowedAt lot seat i change then = (seat.table_id ≡ lot.table.shared.table_id) × (i < lot.table.shared.table_id.words)
     × Allows (LotRule lot.table.shared.key.0 lot.table.shared.key.1.family) lot.table.shared.table_id.slots seat.id seat.me i change then
+
+-- the same with no step
+abbrev pub StirsAt : LotWords → Seat PermitSlot View → (Me PermitSlot View → Type 0) → Type 0
+StirsAt lot seat then = (seat.table_id ≡ lot.table.shared.table_id)
+    × Stirs (LotRule lot.table.shared.key.0 lot.table.shared.key.1.family) lot.table.shared.table_id.slots seat.id seat.me then
 
 module _ (lot : LotWords) (seat : Seat PermitSlot View) (word : Word) (own : IsSeatOf lot seat × IsWordOf lot word) where
   abbrev words : ℕ
@@ -103,13 +109,12 @@ module _ (lot : LotWords) (seat : Seat PermitSlot View) (word : Word) (own : IsS
 
   -- a load of the counter, behind which the permit of a mutex that the seat owns is out
   pub table_takes_out : (family at : ℕ) → family ≡ from → at ≡ word_index word.number word.kind → word.kind ≡ Mutex → has (named_by word Exclusive) seat.me.0.owns ≡ true
-      → AllowedAt lot seat 0 (λ n. n) (takes_out family at (step slots 0 0 0 none) seat.me)
+      → StirsAt lot seat (takes_out family at seat.me)
   table_takes_out family at same there is owns = let sized = lot.sized in let seated = own.0 in
       let i : ℕ = word_index word.number Mutex in
-      let Goal : ℕ → ℕ → Type 0 = λ f j. Allows (LotRule words from) slots seat.id seat.me 0 (λ n. n) (takes_out f j (step slots 0 0 0 none) seat.me) in
+      let Goal : ℕ → ℕ → Type 0 = λ f j. Stirs (LotRule words from) slots seat.id seat.me (takes_out f j seat.me) in
       let mine = owned_some (word_index word.number word.kind) Exclusive seat.me.0.owns owns exclusive (omega arith) in (
         seated.0,
-        omega (arith, sized.0, sized.1, below),
         subst (λ (f : ℕ). Goal f at) (sym same) (subst (λ (j : ℕ). Goal from j) (sym (there ∙ at_mutex is))
             (takes_out_allowed words from slots seat.id seat.me word.number below (subst (λ (r : ℕ). 0 < owned r exclusive seat.me.0.owns) (at_mutex is) mine) seated.1)),
       )
@@ -149,9 +154,9 @@ module _ (lot : LotWords) (seat : Seat PermitSlot View) (word : Word) (own : IsS
       )
 
 -- a load of the counter, behind which nothing is out
-pub table_lays_back : (lot : LotWords) (seat : Seat PermitSlot View) → IsSeatOf lot seat → AllowedAt lot seat 0 (λ n. n) (lays_back (step lot.table.shared.table_id.slots 0 0 0 none) seat.me)
-table_lays_back lot seat own = let sized = lot.sized in
-    (own.0, omega (arith, sized.0, sized.1), lays_back_allowed lot.table.shared.key.0 lot.table.shared.key.1.family lot.table.shared.table_id.slots seat.id seat.me own.1)
+pub table_lays_back : (lot : LotWords) (seat : Seat PermitSlot View) → IsSeatOf lot seat → StirsAt lot seat (lays_back seat.me)
+table_lays_back lot seat own =
+    (own.0, lays_back_allowed lot.table.shared.key.0 lot.table.shared.key.1.family lot.table.shared.table_id.slots seat.id seat.me own.1)
 
 -- who goes on behind an exchange that leaves a mutex where nobody waits has left it so
 pub goes_leaving : (v : View) (word : Word) (seen : ℕ) → goes_on_with v (leaving_alone blank word seen) ≡ leaving_alone v word seen

@@ -11,6 +11,7 @@ use Rattle.lot_words.specs.Indices.{word_index, counter, table_size}
 use Rattle.lot_words.specs.Views.{blank, shown, with_out, total, total_below, owned, named, counted, steps_at, outs, drew}
 use Rattle.lot_words.specs.Codes.{Codes, IsMutexCode, exclusive}
 use Rattle.lot_words.specs.Permits.{slot_at, slots_of, laid}
+use Rattle.seat_moves.specs.Changes.{Stirs}
 use Rattle.lot_words.specs.Plays.{lays_back, takes_out}
 use Rattle.lot_words.specs.Rule.{LotRule, MayHaveOut}
 use Rattle.lot_words.specs.declared.owners.Ownership.{Ownership}
@@ -94,26 +95,21 @@ module _ (words family : ℕ) (s : State PermitSlot View) (o : LotRule words fam
             (λ ne. set_else s.homes i r none ne ∙ o.permits number' below' (omega (arith, total-set (outs r) s.views id v w at, none_out r v.out nothing, cond_other i r 1 (λ e. ne (sym e)))))),
       )
 
--- the same words, and the views and homes that a load leaves
-loaded : (words family : ℕ) (s : State PermitSlot View) (i : ℕ) (homes : List (Option PermitSlot)) (views : List View) → LotRule words family (record { words = s.words; homes = homes; views = views })
-    → LotRule words family (record { words = set s.words i (get_or s.words i 0); homes = homes; views = views })
-loaded words family s i homes views o = subst (λ (xs : List ℕ). LotRule words family (record { words = xs; homes = homes; views = views })) (sym (set-get_or s.words i 0)) o
-
 -- a seat has nothing out
 pub lays_back_allowed : (words family slots id : ℕ) (me : Me PermitSlot View) → me.1 ≡ slots_of family me.0.out
-    → Allows (LotRule words family) slots id me 0 (λ n. n) (lays_back (step slots 0 0 0 none) me)
-lays_back_allowed words family slots id me held s o wide at fits = (
+    → Stirs (LotRule words family) slots id me (lays_back me)
+lays_back_allowed words family slots id me held s o wide at = (
   shown me.0,
   gives,
   tt,
-  loaded words family s 0 _ _ (subst (λ (c : List (ℕ × PermitSlot)). LotRule words family (record { words = s.words; homes = put_back s.homes c; views = set s.views id (shown me.0) })) (sym held) (laid_back words family s o id me.0 at)),
+  subst (λ (c : List (ℕ × PermitSlot)). LotRule words family (record { words = s.words; homes = put_back s.homes c; views = set s.views id (shown me.0) })) (sym held) (laid_back words family s o id me.0 at),
   ap (λ c. (shown me.0, c)) (ap rest held ∙ rest_none words family me.0.out me.0.owns (o.carried id me.0 at)),
 )
 
 -- who owns a mutex has its permit out, and no other
 pub takes_out_allowed : (words family slots id : ℕ) (me : Me PermitSlot View) (number : ℕ) → number < words → 0 < owned (word_index number Mutex) exclusive me.0.owns → me.1 ≡ slots_of family me.0.out
-    → Allows (LotRule words family) slots id me 0 (λ n. n) (takes_out family (word_index number Mutex) (step slots 0 0 0 none) me)
-takes_out_allowed words family slots id me number below some' held s o wide at fits =
+    → Stirs (LotRule words family) slots id me (takes_out family (word_index number Mutex) me)
+takes_out_allowed words family slots id me number below some' held s o wide at =
     let i : ℕ = word_index number Mutex in let v = me.0 in let w = with_out (i ∷ []) v in
     let homes = put_back s.homes (slots_of family v.out) in
     let s₁ : State PermitSlot View = record { words = s.words; homes = homes; views = set s.views id (shown v) } in
@@ -124,7 +120,7 @@ takes_out_allowed words family slots id me number below some' held s o wide at f
       w,
       chain gives (takes i (slot_at family i)),
       (tt, subst (λ (c : List (ℕ × PermitSlot)). get_elem? (put_back s.homes c) i ≡ some (some (slot_at family i))) (sym held) out.0),
-      loaded words family s 0 _ _ (subst (λ (c : List (ℕ × PermitSlot)). LotRule words family (record { words = s.words; homes = set (put_back s.homes c) i none; views = set s.views id w })) (sym held) there),
+      subst (λ (c : List (ℕ × PermitSlot)). LotRule words family (record { words = s.words; homes = set (put_back s.homes c) i none; views = set s.views id w })) (sym held) there,
       ap (λ c. (w, (i, slot_at family i) ∷ c)) (ap rest held ∙ rest_none words family v.out v.owns (o.carried id v at)),
     )
 

@@ -151,11 +151,10 @@ tries_seen family st me found after =
     × ((found ≢ st.first → IsEven found → after ≡ me)
     × ((IsEven found → ⊥) → TakesStep family st.word (Or 1) me found after))
 
--- who owns the mutex of an index has its permit out, and no other, behind a load of any word
-abbrev pub takes_out : ℕ → ℕ → Play PermitSlot
-takes_out family at st me found after =
-    after ≡ (with_out (at ∷ []) me.0, slots_of family (at ∷ []))
+-- who owns the mutex of an index has its permit out, and no other
+abbrev pub takes_out : ℕ → ℕ → Me PermitSlot View → Me PermitSlot View → Type 0
+takes_out family at me after = after ≡ (with_out (at ∷ []) me.0, slots_of family (at ∷ []))
 
 -- a seat has none out
-abbrev pub lays_back : Play PermitSlot
-lays_back st me found after = after ≡ (shown me.0, [])
+abbrev pub lays_back : Me PermitSlot View → Me PermitSlot View → Type 0
+lays_back me after = after ≡ (shown me.0, [])

@@ -1,6 +1,6 @@
 //! The permits of the values that mutexes guard: each lies beside the word of its mutex while that
 //! is unlocked, and is out with who owns it.
-ghost use Rattle.std.specs.Prelude.{◌≡◌, ◌≢◌, ◌⊎◌, ◌%◌, ◌<◌, ◌≤◌, [], ◌∷◌, true, IfOk, MatchOption, MatchResult};
+ghost use Rattle.std.specs.Prelude.{IsTrue, ◌↔◌, ◌≡◌, ◌≢◌, ◌⊎◌, ◌%◌, ◌<◌, ◌≤◌, [], ◌∷◌, true, IfOk, MatchOption, MatchResult};
 ghost use Rattle.lot_base.specs.declared.ops.Op.TheVariants.{Exchange, Or, Sub};
 ghost use Rattle.lot_words.specs.Indices.{word_index};
 ghost use Rattle.lot_words.specs.Plays.{goes_on_with, left_over, stepping, takes_in};
@@ -11,14 +11,16 @@ ghost use Rattle.lot_words.specs.declared.owners.Owner.TheVariants.{Exclusive};
 ghost use Rattle.lot_words.specs.declared.words.WordKind.TheVariants.{Mutex};
 
 use crate::plays::{
-    Enters, GoesOn, GoesOnAs, KeepsOwner, LaysBack, Leaves, LeavesAlone, Ors, PermitPick,
+    Enters, GoesOn, GoesOnAs, KeepsOwner, LaysBack, Leaves, LeavesAlone, Ors, OwnershipRule, PermitPick,
     SeesLocked, TakesOut, TriesSeen,
 };
 use crate::table::{LotWords, Seat};
+use crate::views::View;
 use crate::words::Word;
+use seat_moves::{join_seat, split_seat, stir};
 use std::marker::Brand;
 use std::mem;
-use value_place::{Permit, PermitSlot};
+use value_place::{Permit, PermitSlot, Permits};
 
 // The word of a mutex that somebody has, and of one for which others may wait besides.
 const LOCKED: u64 = 1;
@@ -48,7 +50,7 @@ impl LotWords {
             ≡ with_out (word_index word.number word.kind ∷ []) seat.old.me.0 }
     {
         let _mutex = word;
-        self.table.shared.load::<TakesOut<P>>(seat, 0);
+        stir::<PermitSlot, View, (usize, Permits), OwnershipRule, TakesOut<P>>(&self.table.shared, seat);
     }
 
     // None is out with it.
@@ -58,7 +60,7 @@ impl LotWords {
         ensures own { IsSeatOf self.now seat.new }
         ensures laid { seat.new.me.0 ≡ shown seat.old.me.0 }
     {
-        self.table.shared.load::<LaysBack>(seat, 0);
+        stir::<PermitSlot, View, (usize, Permits), OwnershipRule, LaysBack>(&self.table.shared, seat);
     }
 
     // The seat of a mutex's owner, split off one with which the mutex's permit is out.
@@ -72,7 +74,7 @@ impl LotWords {
         ensures left { seat.new.me.0 ≡ left_over (named_by word Exclusive) seat.old.me.0 }
     {
         let _mutex = word;
-        let next = self.table.shared.split_seat::<KeepsOwner<P>>(seat);
+        let next = split_seat::<PermitSlot, View, (usize, Permits), OwnershipRule, KeepsOwner<P>>(&self.table.shared, seat);
         mem::replace(seat, next)
     }
 
@@ -133,7 +135,7 @@ impl LotWords {
         ensures own { IsSeatOf self.now seat.new }
         ensures gone_on { shown seat.new.me.0 ≡ goes_on_with seat.old.me.0 owner.me.0 }
     {
-        self.table.shared.join_seat::<GoesOn>(seat, owner);
+        join_seat::<PermitSlot, View, (usize, Permits), OwnershipRule, GoesOn>(&self.table.shared, seat, owner);
     }
 
     // The same of an owner with which a permit is out: it is out with the thread then.
@@ -147,7 +149,7 @@ impl LotWords {
     {
         self.lay_back(seat);
         let thread = mem::replace(seat, owner);
-        self.table.shared.join_seat::<GoesOnAs>(seat, thread);
+        join_seat::<PermitSlot, View, (usize, Permits), OwnershipRule, GoesOnAs>(&self.table.shared, seat, thread);
     }
 
     // The steps that enter and leave, in which the pick says whose permit it is.
@@ -346,7 +348,7 @@ impl LotWords {
             self.go_on(seat, owner);
             return Ok(LOCKED);
         }
-        if locked == 0 {
+        if is_no_step(locked) {
             return Err(self.open(owner, word));
         }
         self.go_on(seat, owner);
@@ -415,4 +417,13 @@ impl LotWords {
         let again = self.close(word, opened, permit);
         self.go_on_as(seat, again);
     }
+}
+
+// Asked out of line, so that the flags of the subtraction are asked first.
+#[cold]
+#[inline(never)]
+fn is_no_step(locked: u64) -> bool
+    ensures { IsTrue result ↔ (locked ≡ 0) }
+{
+    locked == 0
 }

@@ -9,6 +9,7 @@ ghost use Rattle.lot_words.specs.declared.words.WordKind.{WordKind};
 
 use crate::views::View;
 use atomic_table::{Join, Play, Split, TableRule};
+use seat_moves::Change;
 use std::marker::{Brand, PhantomData};
 use value_place::{PermitSlot, Permits};
 
@@ -252,14 +253,14 @@ pub struct TakesOut<P: PermitPick> {
     pick: PhantomData<P>,
 }
 
-impl<P: PermitPick> Play<PermitSlot, View> for TakesOut<P> {
+impl<P: PermitPick> Change<PermitSlot, View> for TakesOut<P> {
     ghost then = { takes_out P.family P.at };
 }
 
 /// What is out with a seat is laid back.
 pub struct LaysBack;
 
-impl Play<PermitSlot, View> for LaysBack {
+impl Change<PermitSlot, View> for LaysBack {
     ghost then = { lays_back };
 }
 

@@ -6,11 +6,14 @@ ghost use Rattle.lot_words.specs.declared.owners.Owner.TheVariants.{Exclusive};
 ghost use Rattle.lot_words.specs.declared.words.WordKind.TheVariants.{Mutex};
 
 use crate::owners::Owner;
-use crate::plays::{Piece, SplitsOff, TakesIn};
+use crate::plays::{OwnershipRule, Piece, SplitsOff, TakesIn};
 use crate::table::{LotWords, Seat};
+use crate::views::View;
 use crate::words::Word;
 use lot_base::Want;
+use seat_moves::{join_seat, split_seat};
 use std::marker::Brand;
+use value_place::{PermitSlot, Permits};
 
 /// An ownership, split off the view of a seat, as who knows its word keeps it. It borrows nothing,
 /// and takes no memory.
@@ -18,6 +21,25 @@ use std::marker::Brand;
 /// It has to be given back, or the word stays owned.
 pub struct Held {
     pub(crate) seat: Seat,
+}
+
+impl Held {
+    /// Its seat, which stays a right to what its view names.
+    #[inline]
+    pub fn into_seat(self) -> Seat
+        ensures { (result.table_id ≡ self.seat.table_id) × (result.me ≡ self.seat.me) }
+    {
+        let Held { seat } = self;
+        seat
+    }
+
+    /// What a seat owns, as a right.
+    #[inline]
+    pub fn of_seat(seat: Seat) -> Held
+        ensures { (result.seat.table_id ≡ seat.table_id) × (result.seat.me ≡ seat.me) }
+    {
+        Held { seat }
+    }
 }
 
 /// The same with its word and owner, as it goes to a thread that is to be told them. Who is handed
@@ -88,7 +110,7 @@ impl LotWords {
         ensures split { IsSeatOf self.now result × (result.me.0 ≡ piece P.owned) }
     {
         let _named = (word, owner);
-        self.table.shared.split_seat::<SplitsOff<P>>(seat)
+        split_seat::<PermitSlot, View, (usize, Permits), OwnershipRule, SplitsOff<P>>(&self.table.shared, seat)
     }
 
     /// Splits an ownership off that the seat's view names, of a word that guards no value. It loads
@@ -114,7 +136,7 @@ impl LotWords {
     {
         let _named = (word, owner);
         let Held { seat: other } = held;
-        self.table.shared.join_seat::<TakesIn>(seat, other);
+        join_seat::<PermitSlot, View, (usize, Permits), OwnershipRule, TakesIn>(&self.table.shared, seat, other);
     }
 
     /// The same with its word and owner, and with the permit where it is a mutex that is owned.
@@ -151,7 +173,7 @@ impl LotWords {
         if owner.takes_permit(word.kind()) {
             self.go_on_as(seat, other);
         } else {
-            self.table.shared.join_seat::<TakesIn>(seat, other);
+            join_seat::<PermitSlot, View, (usize, Permits), OwnershipRule, TakesIn>(&self.table.shared, seat, other);
         }
     }
 }

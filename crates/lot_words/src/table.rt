@@ -8,7 +8,7 @@ use crate::plays::{
 };
 use crate::views::View;
 use crate::words::Word;
-use atomic_table::Table;
+use atomic_table::{Shared, Table};
 use lot_base::Op;
 use std::alloc::{AllocError, Global};
 use std::marker::Brand;
@@ -61,6 +61,14 @@ impl LotWords {
             Ok((table, seat)) => Ok((LotWords { table, count, tag }, seat)),
             Err(_) => Err(AllocError),
         }
+    }
+
+    /// The table, whose rule holds for whoever steps on it.
+    #[inline]
+    pub fn seats(&self) -> &Shared<PermitSlot, View, (usize, Permits), OwnershipRule>
+        ensures { result.now ≡ self.now.table.shared }
+    {
+        &self.table.shared
     }
 
     /// A seat for one more thread.

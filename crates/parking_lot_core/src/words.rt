@@ -46,6 +46,27 @@ impl ParkingLot {
         self.words.step(&mut token.seat, word, op)
     }
 
+    /// The same of who has stepped on a word since it left its last section, so that there is none to
+    /// forget.
+    #[inline]
+    pub fn word_again(&self, token: &mut Token, word: Word, op: Op) -> u64
+        requires own { IsTokenOf self.now token.old × IsWordOf self.now.words word }
+        requires may { MayStep word.kind (word_index word.number word.kind) op
+            (view_of token.old).owns }
+        requires forgotten { last_of token.old ≡ None }
+        ensures own { IsSameThread self.now token.old token.new × (last_of token.new ≡ None) }
+        ensures stepped { view_of token.new
+            ≡ after_step word.kind (word_index word.number word.kind) op result
+            (view_of token.old) }
+        ensures out { out_of token.new
+            ≡ out_after word.kind (word_index word.number word.kind) op result
+            (out_of token.old) }
+        ensures coded { CodesWith word.kind (word_index word.number word.kind) result
+            (view_of token.old).owns }
+    {
+        self.words.step(&mut token.seat, word, op)
+    }
+
     /// One load of a word, as a step: what `word` does with `Op::Load`, for who does no more than
     /// look.
     #[inline]

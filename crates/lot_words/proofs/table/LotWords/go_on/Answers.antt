@@ -8,6 +8,5 @@ join_seat-requires c = let lot = c.args.self.now in let sized = lot.sized in let
   c.requires.own.0.0,
   c.requires.own.1.0,
   c.requires.own.1.1 ∙ ap (slots_of family) c.requires.left.1,
-  omega arith,
   goes_on lot.table.shared.key.0 family c.args.seat.now.id c.args.seat.now.me.0 c.args.owner.id c.args.owner.me.0 c.requires.left.0 c.requires.left.1,
 )

@@ -10,6 +10,5 @@ join_seat-requires c = let lot = c.args.self.now in let sized = lot.sized in let
       ap (λ s. s.table_id) is ∙ c.requires.own.1.0,
       ap (λ s. s.table_id) was ∙ c.lay_back.ensures.own.0,
       ap (λ s. s.me.1) was ∙ c.lay_back.ensures.own.1 ∙ ap (λ v. slots_of family v.out) laid,
-      omega arith,
       goes_on_as lot.table.shared.key.0 family owner.id owner.me.0 thread.id thread.me.0 (ap (λ s. s.me.0.drawn) is ∙ c.requires.left) (ap (λ s. s.me.0.out) was ∙ ap (λ v. v.out) laid),
     )

@@ -9,6 +9,5 @@ join_seat-requires c = let lot = c.args.self.now in let sized = lot.sized in let
   c.requires.0.0,
   c.requires.1.0.0,
   c.requires.1.0.1 ∙ ap (λ v. slots_of family v.out) c.requires.1.1,
-  omega arith,
   takes_back lot.table.shared.key.0 family c.args.seat.now.id c.args.seat.now.me.0 held.seat.id (named_by c.args.word c.args.owner) held.seat.me.0 c.requires.1.1,
 )

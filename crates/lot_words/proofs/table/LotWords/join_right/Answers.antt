@@ -10,6 +10,5 @@ join_seat-requires c = let lot = c.args.self.now in let sized = lot.sized in let
       c.requires.0.0,
       c.requires.1.0.0,
       c.requires.1.0.1 ∙ ap (λ v. slots_of family v.out) names,
-      omega arith,
       takes_back lot.table.shared.key.0 family c.args.seat.now.id c.args.seat.now.me.0 right.seat.id (named_by right.word right.owner) right.seat.me.0 names,
     )

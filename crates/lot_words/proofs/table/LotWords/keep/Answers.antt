@@ -15,7 +15,6 @@ split_seat-next-requires g c = let lot = c.args.self.now in let seat = c.args.se
     let own : IsSeatOf lot seat × IsWordOf lot word = (c.requires.own.0, c.requires.own.1) in let here = at_mutex lot seat word own c.requires.own.2 in
     let v = seat.me.0 in (
       c.requires.own.0.0,
-      omega arith,
       subst (λ (i : ℕ). Splits (LotRule lot.table.shared.key.0 lot.table.shared.key.1.family) seat.id v (with_out (i ∷ []) (piece (owning i Exclusive))) (left_over (owning i Exclusive) v)) (sym (c.requires.pick ∙ here))
           (keeps_owner lot.table.shared.key.0 lot.table.shared.key.1.family seat.id v word.number (below lot seat word own) (c.requires.out ∙ ap (λ (i : ℕ). i ∷ []) here)
           (subst (λ (i : ℕ). has (owning i Exclusive) v.owns ≡ true) here c.requires.named)),
