@@ -9,6 +9,29 @@ pub const MOST_THREADS: usize = 64;
 /// The most operations.
 pub const MOST_OPERATIONS: u64 = 1_000_000_000_000;
 
+/// Every mode.
+pub const MODES: &[Mode] = &[
+    Mode::RawMutex,
+    Mode::RawMutexTry,
+    Mode::Mutex,
+    Mode::MutexTry,
+    Mode::Fair,
+    Mode::RawRead,
+    Mode::RawWrite,
+    Mode::Read,
+    Mode::Write,
+    Mode::RwMix,
+    Mode::ReadRecursive,
+    Mode::Upgradable,
+    Mode::Upgrade,
+    Mode::Downgrade,
+    Mode::Once,
+    Mode::Notify,
+    Mode::NotifyAll,
+    Mode::PingPong,
+    Mode::Queue,
+];
+
 /// What an operation is.
 #[derive(Clone, Copy, Debug, PartialEq, Eq)]
 pub enum Mode {

@@ -1,4 +1,4 @@
-//! Mutexes with a value, tried by threads. Nothing is here but tests: they meet the mutexes as
+//! Mutexes, raw and with a value, tried by threads. Nothing is here but tests: they meet the mutexes as
 //! their users do.
 #![tactic(auto)]
 

@@ -1,7 +1,8 @@
-//! Mutexes of one thread, of two and of many.
+//! Mutexes of one thread, of two and of many, raw and with a value; and what a live run writes.
 mod crowds;
 mod fair;
 mod mutexes;
+mod raw;
 mod timed;
 
 ghost use Rattle.std.specs.Prelude.{◌≡◌, ◌<◌, ◌≤◌, All, IfSome};

@@ -1,3 +1,4 @@
 pub mod MutexSteps
 pub mod MutexProfiles
 pub mod MutexDeeds
+pub mod MutexLaws

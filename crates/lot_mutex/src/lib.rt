@@ -2,6 +2,7 @@
 #![tactic(auto)]
 
 pub mod hand_off;
+pub mod laws;
 pub mod lock;
 pub mod places;
 pub mod unlock;

@@ -1,5 +1,5 @@
 //! What the program does for its arguments.
-use bench_runs::plans::{Plan, plan_of};
+use bench_runs::plans::{MODES, Plan, plan_of};
 use bench_runs::runs::{Figures, carry_out};
 use parking_lot::Fault;
 use std::alloc::Global;
@@ -21,7 +21,7 @@ pub(crate) const NO_MEMORY: u8 = 3;
 pub(crate) const BROKEN: u8 = 4;
 
 const USAGE: &str =
-    "usage: lotbench raw_mutex|raw_mutex_try|mutex|mutex_try|fair|raw_read|raw_write|read|write|rw_mix|read_recursive|upgradable|upgrade|downgrade|once|notify|notify_all|pingpong|queue THREADS N";
+    "usage: lotbench raw_mutex|raw_mutex_try|mutex|mutex_try|fair|raw_read|raw_write|read|write|rw_mix|read_recursive|upgradable|upgrade|downgrade|once|notify|notify_all|pingpong|queue THREADS N, or lotbench each";
 
 /// Carries out the plan of the arguments and tells its figures, and gives the status of the
 /// process.
@@ -33,6 +33,11 @@ pub(crate) fn start<R: Threads + Wait + Sync + Clock + Print + Eprint>(
     if args.is_empty() {
         println!(rt; "{}", USAGE)?;
         return Ok(DONE);
+    }
+    if let [word] = args {
+        if *word == "each" {
+            return try_each(rt, alloc);
+        }
     }
     let Some(plan) = plan_of(args) else {
         eprintln!(rt;
@@ -46,12 +51,38 @@ pub(crate) fn start<R: Threads + Wait + Sync + Clock + Print + Eprint>(
             tell(rt, plan, told?)?;
             Ok(DONE)
         }
-        Err(Fault::NoMemory) => {
-            eprintln!(rt; "lotbench: no memory, or no thread could be started")?;
-            Ok(NO_MEMORY)
-        }
+        Err(Fault::NoMemory) => refused(rt),
         Err(_) => Ok(BROKEN),
     }
+}
+
+// Carries out a thousand operations of each mode by two threads, and tells its name and its answer,
+// which no schedule changes.
+fn try_each<R: Threads + Wait + Sync + Clock + Print + Eprint>(
+    rt: &R,
+    alloc: Global,
+) -> io::Result<u8> {
+    for mode in MODES {
+        let plan = Plan {
+            mode: *mode,
+            threads: 2,
+            operations: 1000,
+        };
+        match carry_out(rt, alloc, plan) {
+            Ok(told) => {
+                let name = mode.name();
+                let answer = told?.answer;
+                println!(rt; "{name} {answer}")?;
+            }
+            Err(_) => return refused(rt),
+        }
+    }
+    Ok(DONE)
+}
+
+fn refused(rt: &impl Eprint) -> io::Result<u8> {
+    eprintln!(rt; "lotbench: no memory, or no thread could be started")?;
+    Ok(NO_MEMORY)
 }
 
 // MODE THREADS N NANOS ANSWER LOW HIGH

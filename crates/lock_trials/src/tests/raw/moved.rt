@@ -3,8 +3,9 @@ ghost use Rattle.std.specs.Prelude.{◌≡◌};
 ghost use Rattle.parking_lot_core.specs.Tokens.{IsTokenOf};
 ghost use Rattle.parking_lot.specs.Users.{lot_of};
 
+use super::super::same;
 use super::timed::give_back;
-use super::{Part, Told, await_flag, play, same, sees_waiter};
+use super::{Part, Told, await_flag, play, sees_waiter};
 use parking_lot::lock_api::{RawMutex as RawLock, RawMutexTimed as RawTimedLock};
 use parking_lot::{Clock, Key, Keys, Note, ParkingLot, RawMutex, Requeue, Token};
 use std::sync::Wait;

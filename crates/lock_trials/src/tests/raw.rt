@@ -3,33 +3,22 @@ mod live;
 mod moved;
 mod timed;
 
-ghost use Rattle.std.specs.Prelude.{◌≡◌, ◌≤◌, All, IfSome};
+ghost use Rattle.std.specs.Prelude.{◌≡◌, ◌≤◌, All};
 ghost use Rattle.std.specs.Arc.{arc_value};
 ghost use Rattle.parking_lot_core.specs.Tokens.{IsTicketOf, IsTokenOf};
 ghost use Rattle.parking_lot.specs.Users.{lot_of};
 
+use super::{holds, next_of, same};
 use moved::{hold_and_move, wait_moved};
 use parking_lot::lock_api::RawMutex as RawLock;
 use parking_lot::{ParkingLot, RawMutex, Ticket, Token};
 use std::alloc::Global;
-use std::fmt::Debug;
 use std::process::Abort;
 use std::sync::atomic::Ordering::SeqCst;
 use std::sync::atomic::{AtomicBool, AtomicU64, AtomicUsize};
 use std::sync::{Arc, Wait};
 use std::thread::{Threads, map_vec, yield_now};
 use timed::{give_back, race, wait_for_held};
-
-// What was found is what was wanted. All tests share this one assertion, since each is proved where
-// it stands.
-fn same<T: PartialEq + Debug + Drop>(rt: &impl Abort, found: T, wanted: T) {
-    assert_eq!(rt; found, wanted);
-}
-
-// What a test asks for holds.
-fn holds(rt: &impl Abort, truth: bool) {
-    assert!(rt; truth);
-}
 
 // Nobody waits for the mutex, which is locked or free.
 fn stands<R: Wait + Abort>(
@@ -48,15 +37,6 @@ fn stands<R: Wait + Abort>(
 
 const TURNS: usize = 1_000_000;
 
-// One of the tickets of a lot.
-fn one_of(lot: &ParkingLot, tickets: &mut Vec<Ticket>) -> Option<Ticket>
-    requires { All (IsTicketOf lot.now) tickets.old.items }
-    ensures left { All (IsTicketOf lot.now) tickets.new.items }
-    ensures one { IfSome result (IsTicketOf lot.now) }
-{
-    tickets.pop()
-}
-
 // A mutex of a lot of so many threads and one more, with the token of this one and the tickets of
 // the others. It gives up where memory is refused, so that no test has anything to drop in its
 // midst.
@@ -72,7 +52,7 @@ fn seats<A: Abort>(
     let Ok((lot, mut tickets)) = ParkingLot::new(alloc, 1, others + 1) else {
         panic!(rt; "no lot");
     };
-    let Some(ticket) = one_of(&lot, &mut tickets) else {
+    let Some(ticket) = next_of(&lot, &mut tickets) else {
         panic!(rt; "no seat");
     };
     let mut token = ticket.enter();

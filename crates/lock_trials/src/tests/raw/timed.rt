@@ -3,7 +3,8 @@ ghost use Rattle.std.specs.Prelude.{IfSome};
 ghost use Rattle.parking_lot_core.specs.Tokens.{IsTokenOf};
 ghost use Rattle.parking_lot.specs.Users.{lot_of};
 
-use super::{Part, await_flag, holds, play, same, seats, stands};
+use super::super::{holds, same};
+use super::{Part, await_flag, play, seats, stands};
 use parking_lot::lock_api::{RawMutex as RawLock, RawMutexTimed as RawTimedLock};
 use parking_lot::{RawMutex, TickClock, Token};
 use std::sync::Wait;

@@ -1,5 +1,5 @@
 //! What is written, and how it ends where nothing more can be.
-use super::same;
+use super::super::same;
 use lot_live::{BROKEN, DONE, live};
 use std::test::Fail;
 

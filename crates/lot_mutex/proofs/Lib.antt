@@ -1,0 +1,3 @@
+pub mod MutexWords
+pub mod MutexFit
+pub mod MutexCode

@@ -1,0 +1,18 @@
+//! What the steps of a mutex do to it.
+ghost use Rattle.lot_mutex.specs.MutexLaws.{MutexHandOversCode, MutexStepsCode, MutexStepsFollow};
+
+/// Each step of a mutex may do to it what its deeds say, and its next place says what the thread
+/// does then.
+pub fn mutex_steps_follow()
+    ensures { MutexStepsFollow }
+{}
+
+/// The word and the owner that an operation leaves are those of the mutex behind its deeds.
+pub fn mutex_steps_code()
+    ensures { MutexStepsCode }
+{}
+
+/// An operation that hands the mutex over leaves its word too, and the heir owns it.
+pub fn mutex_hand_overs_code()
+    ensures { MutexHandOversCode }
+{}

@@ -1,6 +1,0 @@
-//! Raw mutexes, and what a live run writes, tried by threads. Nothing is here but tests: they meet
-//! the mutexes as their users do.
-#![tactic(auto)]
-
-#[cfg(test)]
-mod tests;
