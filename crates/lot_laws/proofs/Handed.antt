@@ -17,6 +17,7 @@ use Rattle.abstract_locks.specs.Locks as locks
 use Rattle.lot_machine.specs.Machine.{State, place_at, shares_at, state_after_telling, held, pending_for, owners_of_successor, shares_handed_over, owners_handed_over, state_after_reply}
 use Rattle.lot_laws.specs.Refinement.{lock_seen, taken_at}
 use Rattle.lot_laws.specs.MutexDeeds.{queued}
+pub use Rattle.lot_mutex.specs.MutexLaws.{heir}
 use Rattle.lot_laws.specs.Stations.{Station, hand}
 use Rattle.lot_laws.specs.SitesOf.{carried_at, hand_at, Hands}
 use Rattle.lot_laws.proofs.Glue.{mutex, put_other, stays, untaken, IsOf, station_elsewhere, WantsAlone, none_given, IsApart, held_tells, in_hand_where, Base, LetGo, IsInHandOf, successor_in, successor_is, told_in}
@@ -71,11 +72,6 @@ pub lets_nobody : {one : ℕ → Type 0} (places : ℕ → Place) (hands : Hands
 lets_nobody places hands t l p2 none u ne = rw (put_other places t p2 u ne) (stays t l (places u) (untaken (places u) t l (λ h. let a : carried_at (places t) l ≡ Some false = hands.taken t u l false h in absurd cc)))
 
 -- ---------------------------------------------------------------- a lock is handed over
-
--- to whom the lock goes, if to anybody
-abbrev pub heir : Option ℕ → Option Queued
-heir None = None
-heir (Some u) = Some (queued u)
 
 -- the lock goes from t to those in hand
 pub handed_is : (t : ℕ) (n : Base) (o : Owners) (m s : List Waiter) (p : ℕ → Place) (l : ℕ) (to : Option ℕ)

@@ -77,7 +77,6 @@ pub mod CondvarLines
 pub mod OwnHand
 pub mod SingleCalls
 pub mod CallEvents
-pub mod MutexCalls
 pub mod LockEvents
 pub mod HandsEvents
 pub mod OtherCalls

@@ -55,64 +55,10 @@ use Rattle.lot_laws.proofs.Waiters.{calls_mutex_at}
 use Rattle.lot_condvar.specs.declared.places.CondvarPlace.{CondvarPlace}
 use Rattle.lot_condvar.specs.CondvarProfiles.{mutex_side}
 use Rattle.lot_laws.proofs.Glue.{IsTakenAt, put_same, same, IsMutexCall, taken_elsewhere, IsSingle, single_taken}
-use Rattle.lot_laws.proofs.Handed.{heir}
+use Rattle.lot_mutex.specs.MutexLaws.{heir}
+use Rattle.lot_mutex.proofs.HandOffRights.{got, neither, own_counts}
 use Rattle.lot_laws.proofs.MutexTable.{mutex}
 use Rattle.lot_laws.proofs.CallEvents.{put_is, rights, rights_led, led_here, led_elsewhere, Happens, Others, OthersFollow}
-
--- ---------------------------------------------------------------- rights
-
-none_counts : (t : ℕ) (o : Option ℕ) → o ≡ None → is_thread t o ≡ 0
-none_counts t o e = ap (is_thread t) e
-
-pub own_counts : (t : ℕ) → is_thread t (Some t) ≡ 1
-own_counts t = grind (arith, nat_tests)
-
-other_counts : (u t : ℕ) → u ≢ t → is_thread u (Some t) ≡ 0
-other_counts u t ne = grind (arith, nat_tests)
-
-module _ (s : LockState) (t : ℕ) where
-  abbrev given : LockState
-  given = locks.sharing_handed t (locks.without_owner t Exclusive s)
-
-  -- where a mutex goes to its heir, it alone owns it
-  module _ (state : IsLockState mutex s) (to : Option ℕ) where
-    handed_rights : (u : ℕ) → rights_of (locks.handed t Exclusive (heir to) s) u ≡ record (rights_of s u) { exclusive = is_thread u to }
-    handed_rights u = by_heir to
-      where
-        shared : locks.sharing_from t s.taken 0 s.shared ≡ s.shared
-        shared = sharing_same mutex s t 0 s.shared state (λ h. h)
-
-        by_heir : (to : Option ℕ) → rights_of (locks.with_successor (heir to) given) u ≡ record (rights_of s u) { exclusive = is_thread u to }
-        by_heir None = λ i. record (rights_of s u) { exclusive = 0; shared = slice_index (shared i) u }
-        by_heir (Some x) = ap (λ (n : ℕ). rights_of (if n == 0 then locks.with_owner x Exclusive given else locks.pending_for x false given) u) (ap (λ (xs : List ℕ). sum xs) shared ∙ state.unshared (λ h. h))
-            ∙ (λ i. record (rights_of s u) { exclusive = is_thread u (Some x); shared = slice_index (shared i) u })
-
-    module _ (own : s.exclusive ≡ Some t) (apart : to ≢ Some t) where
-      gave : with_right Exclusive (rights_of (locks.handed t Exclusive (heir to) s) t) ≡ rights_of s t
-      gave = ap (with_right Exclusive) (handed_rights t) ∙ (λ i. record (rights_of s t) { exclusive = one i })
-        where
-          none : (o : Option ℕ) → o ≢ Some t → is_thread t o ≡ 0
-          none None ne = refl
-          none (Some x) ne = other_counts t x (λ e. ne (ap Some (sym e)))
-
-          one : is_thread t to + 1 ≡ is_thread t s.exclusive
-          one = ap (λ n. n + 1) (none to apart) ∙ sym (own_counts t) ∙ ap (is_thread t) (sym own)
-
-      got : (u : ℕ) → to ≡ Some u → rights_of (locks.handed t Exclusive (heir to) s) u ≡ with_right Exclusive (rights_of s u)
-      got u e = handed_rights u ∙ (λ i. record (rights_of s u) { exclusive = one i })
-        where
-          one : is_thread u to ≡ is_thread u s.exclusive + 1
-          one = ap (is_thread u) e ∙ own_counts u ∙ ap (λ n. n + 1) (sym (ap (is_thread u) own ∙ other_counts u t (λ f. apart (e ∙ ap Some f))))
-
-      neither : (u : ℕ) → u ≢ t → to ≢ Some u → rights_of (locks.handed t Exclusive (heir to) s) u ≡ rights_of s u
-      neither u nt nu = handed_rights u ∙ (λ i. record (rights_of s u) { exclusive = none i })
-        where
-          not_heir : (o : Option ℕ) → o ≢ Some u → is_thread u o ≡ 0
-          not_heir None ne = refl
-          not_heir (Some x) ne = other_counts u x (λ e. ne (ap Some (sym e)))
-
-          none : is_thread u to ≡ is_thread u s.exclusive
-          none = not_heir to nu ∙ sym (ap (is_thread u) own ∙ other_counts u t nt)
 
 -- ---------------------------------------------------------------- whom a thread has in hand
 
@@ -287,11 +233,11 @@ module _ (w v : State) (t l : ℕ) (to : Option ℕ) (h : Happens w v t (AtLock 
   -- the heir has the right that it didn't have
   module _ (u : ℕ) (e : to ≡ Some u) where
     has : (k : ℕ) → rights v u k ≡ one_more_at l Exclusive (rights w u) k
-    has = led_to u (with_right Exclusive (rights w u l)) (got (lock_state w l) t state to h.needs.0 apart u e)
+    has = led_to u (with_right Exclusive (rights w u l)) (got 0 (lock_state w l) t state to h.needs.0 apart u e)
 
     had : (k : ℕ) → one_less_at l Exclusive (rights v u) k ≡ rights w u k
     had k = sym (put_is (rights v u) l (without_right Exclusive (rights v u l)) k (rights w u k)
-        (λ f. rw f (sym (ap (without_right Exclusive) (ap (λ s. rights_of s u) (led_here w v t l (Some (HandsOff Exclusive (heir to))) h) ∙ got (lock_state w l) t state to h.needs.0 apart u e) ∙ one_less)))
+        (λ f. rw f (sym (ap (without_right Exclusive) (ap (λ s. rights_of s u) (led_here w v t l (Some (HandsOff Exclusive (heir to))) h) ∙ got 0 (lock_state w l) t state to h.needs.0 apart u e) ∙ one_less)))
         (λ ne. sym (ap (λ s. rights_of s u) (led_elsewhere w v t l (Some (HandsOff Exclusive (heir to))) h k ne))))
       where
         one_less : without_right Exclusive (with_right Exclusive (rights w u l)) ≡ rights w u l
@@ -352,9 +298,4 @@ module _ (w v : State) (t l : ℕ) (to : Option ℕ) (h : Happens w v t (AtLock 
           (rights v u)
           ≡ (if is_taken_by t (taken_at (place_at w u) l) then record (call_state (place_at w u) (rights w u)) { retries = None; recalls = behind_wake (call_state (place_at w u) (rights w u)).recalls } else call_state (place_at w u) (rights w u))
       either (inl e) = let taken : is_taken_by t (taken_at (place_at w u) l) ≡ true = rw (heir_of u e) (same t) in rw taken (handed_goes_on u e ne alone taken)
-      either (inr other) = rw (no_heir u other) (ap (call_state (place_at w u)) (λ i k. (led_to u (rights w u l) (neither (lock_state w l) t state to h.needs.0 apart u ne other) k ∙ put_same (rights w u) l (rights w u l) refl k) i))
-
--- who has an heir that isn't itself gives its right up
-pub gives_right : (s : Site) (t : ℕ) (to : Option ℕ) → IsSite mutex s → Needs mutex (HandsOff Exclusive (heir to)) s.lock t
-    → s.lock.taken t ≡ None → with_right Exclusive (rights_of (locks.handed t Exclusive (heir to) s.lock) t) ≡ rights_of s.lock t
-gives_right s t to site needs awake = gave s.lock t site.state to needs.0 (λ e. let g : s.lock.taken t ≡ Some (record { by = t; want = Exclusive }) = ((needs.2 t Exclusive).0 (ap heir e)).0 in let none : s.lock.taken t ≡ None = awake in cc)
+      either (inr other) = rw (no_heir u other) (ap (call_state (place_at w u)) (λ i k. (led_to u (rights w u l) (neither 0 (lock_state w l) t state to h.needs.0 apart u ne other) k ∙ put_same (rights w u) l (rights w u l) refl k) i))

@@ -114,8 +114,10 @@ use Rattle.lot_laws.proofs.PlacePromises.{standing_by}
 use Rattle.lot_laws.proofs.CallEvents.{put_is, rights, Others, OthersFollow, Happens, LeadsTo, happens, needed_then, others_follow, goes_by}
 use Rattle.lot_laws.proofs.LockEvents.{Befalls, wakes_others, hands_others}
 use Rattle.lot_laws.proofs.OtherCalls.{IsLonely, IsCalm, lonely, takes, calm, befalls, befalls_nobody, no_hand_off, tells_handed}
-use Rattle.lot_laws.proofs.MutexCalls.{Tells, Rests, row_of}
-use Rattle.lot_laws.proofs.MutexEvents.{Hears, owned_word, mutex_tells, claims_at, deeds_are, are_claims}
+use Rattle.lot_mutex.proofs.MutexCalls.{Tells, Rests}
+use Rattle.lot_mutex.specs.MutexLaws.{next_row}
+use Rattle.lot_mutex.proofs.MutexTells.{Hears, mutex_tells}
+use Rattle.lot_laws.proofs.MutexEvents.{owned_word, claims_at, deeds_are, are_claims}
 
 -- ---------------------------------------------------------------- a thread goes on
 
@@ -178,8 +180,8 @@ module _ (w : State) (t : ℕ) (shape : IsShaped w) (steady : IsSteady w) (there
       goes : Goes w behind l (acts t (mutex_deeds at whom told) ++ claims_at at whom told)
       goes = subst (Goes w behind l) (deeds_are t at whom told) (gone_goes w t steady shape there l at is lt can).1
 
-      tells : Tells l t (lock_state w l) at (mutex_deeds at whom told) (mutex_next at told)
-      tells = mutex_tells (site_of w l) t l (subst (λ r. IsSite r (site_of w l)) rules (steady.sites.site l)) at whom told (own_doing w steady t l at is)
+      tells : Tells 0 l t (lock_state w l) at (mutex_deeds at whom told) (mutex_next at told)
+      tells = mutex_tells 0 (site_of w l) t l (subst (λ r. IsSite r (site_of w l)) rules (steady.sites.site l)) at whom told (own_doing w steady t l at is)
           (subst (λ r. AllNeeded r (mutex_deeds at whom told) (site_of w l) t) rules (needed_then (rules_in w l) t (mutex_deeds at whom told) (claims_at at whom told) (site_of w l) goes.follows.needed)) (hears at is can timed)
 
       -- whom it has in hand, by its place
@@ -193,11 +195,11 @@ module _ (w : State) (t : ℕ) (shape : IsShaped w) (steady : IsSteady w) (there
       happens_so = happens w behind t l (mutex_row at).carries (mutex_deeds at whom told) (claims_at at whom told) steady goes (are_claims at whom told) tells.follows.one (λ none. in_no_hand w steady t l (λ h. none (sym carries ∙ h)))
 
       -- where it is then
-      leads : LeadsTo behind t l (row_of (mutex_next at told)) (outcome_of (mutex_does l (mutex_next at told)))
+      leads : LeadsTo behind t l (next_row (mutex_next at told)) (outcome_of (mutex_does l (mutex_next at told)))
       leads = by_next (mutex_next at told) (get_or-set_same (state_after_act w t (Mutex l at) (mutex_act l at)).places t _ Idle (rw (performed_counts w t (Mutex l at) (mutex_act l at)).0 there)) tells.rests
         where
           by_next : (n : Next MutexPlace) → place_at behind t ≡ mutex_goes l n → Rests l n
-              → LeadsTo behind t l (row_of n) (outcome_of (mutex_does l n))
+              → LeadsTo behind t l (next_row n) (outcome_of (mutex_does l n))
           by_next (next.At at2) e rests = (
             rw e refl,
             rw e refl,
@@ -215,8 +217,8 @@ module _ (w : State) (t : ℕ) (shape : IsShaped w) (steady : IsSteady w) (there
 
       goes_if : OthersFollow w behind t (event_by l happened)
           → GoesOn (locks_of w) t (outcome_of (next_act (Mutex l at) told)) (locks_of behind)
-      goes_if others = goes_by w behind t l happened happens_so (Mutex l at) is refl tt tells.follows.may (row_of (mutex_next at told)) _
-          (subst (λ r. ComesTo r l (mutex_row at) (event_by l happened) (lock_state w l) (after_event r (event_by l happened) (lock_state w l) t) t (row_of (mutex_next at told))) (sym rules) tells.follows.comes)
+      goes_if others = goes_by w behind t l happened happens_so (Mutex l at) is refl tt tells.follows.may (next_row (mutex_next at told)) _
+          (subst (λ r. ComesTo r l (mutex_row at) (event_by l happened) (lock_state w l) (after_event r (event_by l happened) (lock_state w l) t) t (next_row (mutex_next at told))) (sym rules) tells.follows.comes)
           leads others (begins_nothing (locks_of w) l (mutex_row at) happened _ runs tells.follows.may (tells_none (mutex_next at told)))
         where
           promises : RowPromises locks.Mutex l (mutex_row at) (mutex_act l at)

@@ -39,7 +39,7 @@ use Rattle.abstract_locks.specs.Locks.{first_thread}
 use Rattle.abstract_locks.specs.Picks.{queued_of}
 use Rattle.lot_laws.specs.Refinement.{owner_at, taken_at}
 use Rattle.lot_laws.specs.Solo.{Rests}
-use Rattle.lot_laws.proofs.MutexCalls.{decides}
+use Rattle.lot_mutex.proofs.MutexCalls.{decides}
 use Rattle.lot_laws.proofs.Counts.{first_times}
 use Rattle.lot_laws.proofs.Glue.{taken_held, put_here, own_stance, differ, aparts}
 use Rattle.lot_laws.proofs.Handed.{successor_one, of_carries}

@@ -1,3 +1,6 @@
 pub mod MutexWords
 pub mod MutexFit
 pub mod MutexCode
+pub mod HandOffRights
+pub mod MutexCalls
+pub mod MutexTells

@@ -1,6 +1,6 @@
 -- The laws of each step of a mutex, at one lock and in no machine: it may do what its deeds say, its
 -- next place says what the thread does then, and it leaves the word and the owner behind them.
-use Rattle.std.specs.Prelude.{ℕ, Bool, true, Option, Some, None, ◌==◌, not, ◌≡◌, drop, is_none}
+use Rattle.std.specs.Prelude.{ℕ, Bool, true, Option, Some, None, ◌==◌, not, ◌≡◌, ◌≢◌, drop, is_none}
 use Rattle.lot_base.specs.declared.ops.Op.{Op}
 use Rattle.lot_base.specs.Words.{apply}
 use Rattle.lot_acts.specs.declared.acts.Act.TheVariants as act
@@ -9,6 +9,7 @@ use Rattle.lot_acts.specs.declared.acts.Next.TheVariants as next
 use Rattle.lot_acts.specs.declared.acts.Reply.{Reply}
 use Rattle.lot_acts.specs.declared.acts.Reply.TheVariants.{Done, Value, Parked, Took, Removed, Late}
 use Rattle.lot_acts.specs.declared.owners.Owners.{Owners}
+use Rattle.lot_acts.specs.Calls.{CallFollows}
 use Rattle.lot_acts.specs.Moves.{IsFree, StandsAlone}
 use Rattle.lot_acts.specs.Profiles.{Profile, bringing_nobody}
 use Rattle.abstract_locks.specs.Codes.{code}
@@ -150,3 +151,18 @@ MutexHandOversCode =
     (r : Rules) (s : Site) (t l : ℕ) (p : MutexPlace) (whom : Option ℕ) (op : Op)
     → IsAt r s t p → MayHear r s t p whom (Value (code r s)) → mutex_act l p ≡ act.HandOver l op
     → HandsOver r s t p whom op
+
+-- ---------------------------------------------------------------- what a step makes of its call
+
+abbrev pub next_row : Next MutexPlace → Next Profile
+next_row (next.At p) = next.At (mutex_row p)
+next_row (next.End answer) = next.End answer
+
+-- the row of the next place says it, the step is the case that the call is made of, and its answer
+-- is true; that its time is up is no step of its own
+abbrev pub MutexStepsTell : Type 0
+MutexStepsTell =
+    (r : Rules) (s : Site) (t l : ℕ) (p : MutexPlace) (whom : Option ℕ) (told : Reply)
+    → IsAt r s t p → MayHear r s t p whom told → told ≢ Late
+    → CallFollows r s.lock t l (mutex_row p) (mutex_deeds p whom told)
+    (next_row (mutex_next p told))

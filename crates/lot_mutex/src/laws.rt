@@ -1,5 +1,5 @@
 //! What the steps of a mutex do to it.
-ghost use Rattle.lot_mutex.specs.MutexLaws.{MutexHandOversCode, MutexStepsCode, MutexStepsFollow};
+ghost use Rattle.lot_mutex.specs.MutexLaws.{MutexHandOversCode, MutexStepsCode, MutexStepsFollow, MutexStepsTell};
 
 /// Each step of a mutex may do to it what its deeds say, and its next place says what the thread
 /// does then.
@@ -15,4 +15,10 @@ pub fn mutex_steps_code()
 /// An operation that hands the mutex over leaves its word too, and the heir owns it.
 pub fn mutex_hand_overs_code()
     ensures { MutexHandOversCode }
+{}
+
+/// Each step makes of its call what its next row says, the call is made of the step's case, and its
+/// answer is true.
+pub fn mutex_steps_tell()
+    ensures { MutexStepsTell }
 {}

@@ -19,26 +19,20 @@ use Rattle.lot_mutex.specs.declared.lock.LockAt.TheVariants.{First, Load, Decide
 use Rattle.lot_mutex.specs.declared.unlock.UnlockAt.TheVariants as unlock
 use Rattle.lot_mutex.specs.declared.hand_off.HandOffAt.TheVariants as hand_off
 use Rattle.lot_mutex.specs.MutexSteps.{is_locked, is_timed, entered, looked, in_lock, in_unlock, in_hand_off, lock_act, hand_off_act, mutex_act}
-use Rattle.abstract_locks.specs.Locks.{LockState, LockCase, Rights, Queued, Enter, Leave as GivesBack, Park, TakeFirst, HandOff as HandsOff, Owns, after_case, rights_of, with_right, without_right}
+use Rattle.abstract_locks.specs.Locks.{LockState, LockCase, Mutex, Rules, Rights, Queued, Enter, Leave as GivesBack, Park, TakeFirst, HandOff as HandsOff, Owns, after_case, rights_of, with_right, without_right}
 use Rattle.abstract_locks.specs.Locks as locks
 use Rattle.abstract_locks.specs.Purposes.{IsMadeOf, Blank}
 use Rattle.abstract_locks.specs.Runs.{LocksState, CallState, AtLock, going_on, AnswerHolds, rights_in, one_more_at, one_less_at}
 use Rattle.abstract_locks.specs.Sites.{Deed, Main, End, Out, Mark, Case}
 use Rattle.abstract_locks.specs.Deeds.{AreOneCase, case_of, after_event}
 use Rattle.abstract_locks.proofs.Rights.{unchanged, changed, agree, entered_alone, left, regained}
-use Rattle.lot_laws.specs.MutexDeeds.{mutex_row, mutex_station, enters, takes, hands_over, queued}
-use Rattle.lot_laws.specs.Refinement.{is_bump, entry_purpose, release_purpose, before_release}
-use Rattle.lot_laws.proofs.Glue.{mutex}
-use Rattle.lot_laws.proofs.Handed.{heir}
-
--- where a call goes on, by its row, or what it answers
-abbrev pub row_of : Next MutexPlace → Next Profile
-row_of (next.At at) = next.At (mutex_row at)
-row_of (next.End a) = next.End a
+use Rattle.lot_mutex.specs.MutexDeeds.{enters, takes, hands_over, queued}
+use Rattle.lot_mutex.specs.MutexLaws.{heir, mutex_row, next_row}
+use Rattle.lot_mutex.specs.MutexProfiles.{is_bump, entry_purpose, release_purpose, before_release}
 
 -- it goes on, or sleeps in its line
 abbrev pub Rests : ℕ → Next MutexPlace → Type 0
-Rests l (next.At at) = (outcome_of (mutex_act l at) ≡ outcome.Step) ⊎ ((outcome_of (mutex_act l at) ≡ outcome.Sleep) × ((mutex_station at).stands ≡ Some Main))
+Rests l (next.At at) = (outcome_of (mutex_act l at) ≡ outcome.Step) ⊎ ((outcome_of (mutex_act l at) ≡ outcome.Sleep) × ((mutex_row at).stands ≡ Some Main))
 Rests l (next.End a) = Unit {0}
 
 -- whatever it decides by, a thread that decides goes on
@@ -58,10 +52,13 @@ stores_so : (l : ℕ) (any none_left : Bool) → outcome_of (hand_off_act l (han
 stores_so l true none_left = refl
 stores_so l false none_left = refl
 
-module _ (l t : ℕ) (s : LockState) where
+module _ (limit l t : ℕ) (s : LockState) where
+  abbrev mutex : Rules
+  mutex = record { sort = Mutex; limit = limit }
+
   -- the step of a place with these deeds leads there
   pub record Tells (at : MutexPlace) (ds : List Deed) (n : Next MutexPlace) : Type 0 where
-    pub follows : CallFollows mutex s t l (mutex_row at) ds (row_of n)
+    pub follows : CallFollows mutex s t l (mutex_row at) ds (next_row n)
     pub rests : Rests l n
 
   -- a thread's rights, seen anew
