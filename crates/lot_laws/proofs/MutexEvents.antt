@@ -17,8 +17,6 @@ use Rattle.lot_laws.specs.MutexDeeds.{Act, acts, deeds, claims_of, mutex_doing, 
 use Rattle.lot_laws.proofs.Glue.{mutex}
 use Rattle.lot_laws.proofs.Handed.{heir}
 use Rattle.lot_laws.proofs.CallEvents.{AreClaims}
-use Rattle.lot_laws.proofs.LockEvents.{gives_right}
-use Rattle.lot_laws.proofs.MutexCalls.{Tells, first, loads, exchanges, checks, leaves_line, removes, gives_up, accepts, tries, subtracts, takes_one, wakes_taken, unlocks_fairly, bumps, takes_fairly, stores, leaves_fairly, goes_to}
 
 -- the word tells whether the mutex is owned
 pub free_word : (v : ℕ) (o : Option ℕ) → IsMutexWord v o → is_locked v ≡ false → o ≡ None
