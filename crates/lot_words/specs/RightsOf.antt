@@ -24,9 +24,13 @@ IsHeldOf lot word owner held = IsSeatOf lot held.seat × (held.seat.me.0 ≡ pie
 abbrev pub IsRightOf : LotWords → Right → Type 0
 IsRightOf lot right = IsSeatOf lot right.seat × IsWordOf lot right.word
 
+-- a word of this number and kind: of one lot, this word
+abbrev pub IsSame : Word → Word → Type 0
+IsSame word other = (word.number ≡ other.number) × (word.kind ≡ other.kind)
+
 -- it names a word, and an owner whom a want may be handed
 abbrev pub IsFor : Word → Want → Right → Type 0
-IsFor word want right = (right.word ≡ word) × MayHand word.kind want right.owner
+IsFor word want right = IsSame right.word word × MayHand word.kind want right.owner
 
 -- the seat of a mutex's owner, with the mutex's slot
 abbrev pub IsOwnerOf : LotWords → Word → Seat PermitSlot View → Type 0

@@ -1,5 +1,6 @@
 -- What views name, added up.
-use Rattle.std.specs.Prelude.{ℕ, zero, suc, ◌+◌, List, [], ◌∷◌, cond, ◌==◌}
+use Rattle.std.specs.Prelude.{ℕ, zero, suc, ◌+◌, ◌++◌, ◌≡◌, List, [], ◌∷◌, cond, ◌==◌}
+use Rattle.lot_base.specs.declared.ops.Op.TheVariants.{Load}
 use Rattle.lot_words.specs.declared.owners.Owner.{Owner}
 use Rattle.lot_words.specs.declared.owners.Owner.TheVariants.{Exclusive}
 use Rattle.lot_words.specs.declared.owners.Ownership.{Ownership}
@@ -54,6 +55,12 @@ named at weight views = total (λ (v : View). owned at weight v.owns) views
 -- what the owners of the mutex at an index say that its count word is
 abbrev pub counted : ℕ → List Ownership → ℕ
 counted at owns = total (λ (x : Ownership). cond (x.at == at) x.count 0) owns
+
+-- one of the steps was a load at an index that saw this value
+abbrev pub HasSeen : ℕ → ℕ → List WordStep → Type 0
+HasSeen at seen steps =
+    (before more : List WordStep)
+    × (steps ≡ before ++ (record { at = at; op = Load; seen = seen }) ∷ more)
 
 -- how many steps at an index a view lists
 abbrev pub steps_at : ℕ → View → ℕ

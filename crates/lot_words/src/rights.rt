@@ -79,7 +79,7 @@ impl Right {
     pub fn is_for(&self, word: Word, want: Want) -> bool
         ensures { IsTrue result ↔ IsFor word want self.now }
     {
-        self.word == word && self.owner.suits(word.kind(), want)
+        self.word.is_same(word) && self.owner.suits(word.kind(), want)
     }
 
     /// Lets the right go without a step. Its word stays owned for good.

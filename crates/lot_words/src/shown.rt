@@ -4,7 +4,7 @@ ghost use Rattle.lot_base.specs.declared.ops.Op.TheVariants.{Load};
 ghost use Rattle.lot_words.specs.Codes.{ShowsBeside};
 ghost use Rattle.lot_words.specs.Indices.{word_index};
 ghost use Rattle.lot_words.specs.Steps.{after_step};
-ghost use Rattle.lot_words.specs.Views.{shown};
+ghost use Rattle.lot_words.specs.Views.{HasSeen, shown};
 ghost use Rattle.lot_words.specs.declared.words.WordKind.TheVariants.{Condvar, Mutex};
 
 use crate::plays::{CondvarPick, PermitPick, SeesShown};
@@ -45,11 +45,16 @@ impl LotWords {
         self.look_picked::<Brand, Brand>(seat, condvar)
     }
 
-    /// The mutex that a condition variable shows by this value, by one more than its number.
-    pub fn mutex_shown(&self, seen: u64) -> Word
+    /// Names the mutex that a seat has seen shown by a condition variable, by one more than its
+    /// number. So a `Word` comes from a draw, or from a look at what the owner of that mutex has shown.
+    pub fn mutex_shown(&self, seat: &Seat, condvar: Word, seen: u64) -> Word
+        requires own { IsWordOf self.now condvar × (condvar.kind ≡ Condvar) }
+        requires looked { HasSeen (word_index condvar.number Condvar) seen seat.now.me.0.steps }
         requires shown { (seen ≢ 0) × (seen ≤ self.now.count) }
         ensures { IsWordOf self.now result × (result.kind ≡ Mutex) × (seen ≡ result.number + 1) }
     {
+        let _condvar = condvar;
+        let _seat = seat;
         Word::new((seen - 1) as usize, WordKind::Mutex, self.tag)
     }
 }

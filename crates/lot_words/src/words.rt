@@ -1,5 +1,5 @@
 //! The words of a lot, by number and kind.
-ghost use Rattle.std.specs.Prelude.{◌≡◌, ◌<◌};
+ghost use Rattle.std.specs.Prelude.{IsTrue, ◌≡◌, ◌<◌, ◌↔◌};
 ghost use Rattle.lot_words.specs.Indices.{rank, word_index, most_words};
 
 /// What a word is for. It is fixed as the word is drawn.
@@ -33,8 +33,8 @@ impl WordKind {
 /// are given once.
 ///
 /// Only the lot that drew a word is known to have it: a step with a word of another lot meets no
-/// condition.
-#[derive(Clone, Copy, Debug, PartialEq, Eq)]
+/// condition. So words are not compared by `==`, which would tell that two lots have one tag.
+#[derive(Clone, Copy, Debug)]
 pub struct Word {
     number: usize,
     kind: WordKind,
@@ -46,6 +46,8 @@ pub struct Word {
 }
 
 impl Word {
+    ghost use Rattle.lot_words.specs.RightsOf.{IsSame};
+
     // Each number has eight indices, so that no two locks share a cache line.
     #[inline]
     pub(crate) fn new(number: usize, kind: WordKind, tag: u32) -> Word
@@ -72,6 +74,15 @@ impl Word {
         ensures { result ≡ self.kind }
     {
         self.kind
+    }
+
+    /// Tells whether this word has the number and the kind of another. Of one lot they are the same
+    /// word then.
+    #[inline]
+    pub fn is_same(self, other: Word) -> bool
+        ensures { IsTrue result ↔ IsSame self other }
+    {
+        self.number == other.number && self.kind == other.kind
     }
 
     #[inline]

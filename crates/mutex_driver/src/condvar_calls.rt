@@ -114,6 +114,6 @@ pub fn notify_behind<R: Wait>(
     ensures owns { owns_of token.new ≡ owns_of token.old }
     ensures record { TellsMoved condvar.number all result (last_of token.new) }
 {
-    let mutex = lot.mutex_shown(seen);
+    let mutex = lot.mutex_shown(token, condvar, seen);
     notify_shown(rt, lot, token, condvar, mutex, all)
 }

@@ -4,8 +4,10 @@
 pub use lock_api;
 pub use lock_api::WaitTimeoutResult;
 pub use lock_api_rw;
-pub use lot_base::{ListQueues, Queues};
-pub use lot_calls::{Answer, MutexCall};
+pub use lot_base::{ListQueues, LockPicker, Pick, Picker, Queues, Waiter};
+pub use lot_calls::{
+    Access, Answer, Call, CondvarCall, Downgrade, Kind, MutexCall, OnceCall, Patience, RwLockCall,
+};
 pub use lot_world;
 pub use parking_lot_core::{
     Clock, Did, Fault, Key, Keys, Note, Op, ParkingLot, Requeue, Right, Section, SectionRecord,

@@ -4,6 +4,7 @@
 ghost use Rattle.std.specs.Prelude.{◌≡◌, ◌≢◌, ℕ, ◌+◌, ◌%◌, ◌<◌, ◌≤◌, ◌⊎◌, ◌∷◌, [], true, None, IfOk, MatchOption, MatchResult};
 ghost use Rattle.lot_words.specs.Indices.{word_index};
 ghost use Rattle.lot_words.specs.Codes.{IsCountCode, ShowsBeside};
+ghost use Rattle.lot_words.specs.Views.{HasSeen};
 ghost use Rattle.lot_words.specs.Steps.{MayStep, CodesWith, after_step, has};
 ghost use Rattle.lot_words.specs.Draws.{IsDrawn, IsDrawRefused};
 ghost use Rattle.lot_words.specs.Lots.{IsWordOf, permit_of};
@@ -120,14 +121,18 @@ impl ParkingLot {
         self.words.look_shown(&mut token.seat, condvar)
     }
 
-    /// The mutex that a condition variable of this lot shows by this value, by one more than its
-    /// number.
-    pub fn mutex_shown(&self, seen: u64) -> Word
+    /// Names the mutex that the thread has seen shown by a condition variable of this lot, by one
+    /// more than its number.
+    pub fn mutex_shown(&self, token: &Token, condvar: Word, seen: u64) -> Word
+        requires own { IsTokenOf self.now token.now × IsWordOf self.now.words condvar
+            × (condvar.kind ≡ Condvar) }
+        requires looked { HasSeen (word_index condvar.number Condvar) seen
+            (view_of token.now).steps }
         requires shown { (seen ≢ 0) × (seen ≤ self.now.words.count) }
         ensures { IsWordOf self.now.words result × (result.kind ≡ Mutex)
             × (seen ≡ result.number + 1) }
     {
-        self.words.mutex_shown(seen)
+        self.words.mutex_shown(&token.seat, condvar, seen)
     }
 
     /// Counts once more how often the thread has locked a mutex that it owns. It answers the count

@@ -24,13 +24,16 @@ use lot_once::{DONE, RUNNING};
 use lot_words::laws::once_may_step;
 use parking_lot_core::{Fault, Key, Op, ParkingLot, Token, Word, WordKind};
 use std::sync::{Arc, Wait};
+use thiserror::Error;
 
 /// Why a call of a `Once` came to no end that is done.
-#[derive(Debug, Drop)]
+#[derive(Debug, Drop, Error)]
 pub enum OnceFault<E> {
     /// An earlier run failed, and the call was not one that forces a further one.
+    #[error("{0}")]
     Refused(Fault),
     /// The call's own closure failed, and leaves the `Once` poisoned.
+    #[error("the closure failed, and the Once instance is poisoned")]
     Failed(E),
 }
 
@@ -130,7 +133,9 @@ impl Once {
             ⊎ ((fault ≡ Fault.LotFull)
             × (FoundFull (arc_value lot.now) token.old token.new
             ⊎ DrewUsed (arc_value lot.now) token.old token.new))) }
-        ensures stays { (number : ℕ) × StaysKnowing number token.old token.new }
+        ensures stays { MatchResult result
+            (λ once. StaysKnowing (number_of once) token.old token.new)
+            (λ _. (number : ℕ) × StaysKnowing number token.old token.new) }
     {
         let once = Once::new(lot, token)?;
         if once.complete(token) {

@@ -41,7 +41,9 @@ impl<T: Drop> OnceCell<T> {
     /// `LotFull`, and `NoMemory`.
     pub fn new(lot: &Arc<ParkingLot>, token: &mut Token) -> Result<OnceCell<T>, Fault>
         requires { IsTokenOf (arc_value lot.now) token.old }
-        ensures token { IsTokenOf (arc_value lot.now) token.new }
+        ensures token { IsTokenOf (arc_value lot.now) token.new
+            × (token.new.number ≡ token.old.number)
+            × ((view_of token.new).owns ≡ (view_of token.old).owns) }
         ensures made { MatchResult result (λ cell. lot_of cell ≡ arc_value lot.now)
             (λ fault. (fault ≡ Fault.NoMemory) ⊎ (fault ≡ Fault.LotFull)) }
         ensures drawn { MatchResult result
