@@ -12,3 +12,4 @@ pub mod Condvars
 pub mod Permits
 pub mod Deeds
 pub mod UserLaws
+pub mod Headline

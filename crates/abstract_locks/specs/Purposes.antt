@@ -141,11 +141,12 @@ IsReleasing purpose released k = ⊥
 
 -- the rules of a lock of each kind
 abbrev pub rules_of : Kind → Rules
+rules_of kind.TheVariants.Mutex = record { sort = Mutex; limit = 0 }
+rules_of kind.TheVariants.Fair = record { sort = Mutex; limit = 0 }
 rules_of (kind.TheVariants.RwLock limit) = record { sort = Normal; limit = limit }
 rules_of (kind.TheVariants.Recursive limit) = record { sort = Recursive; limit = limit }
-rules_of kind.TheVariants.Once = record { sort = Once; limit = 0 }
 rules_of kind.TheVariants.Condvar = record { sort = Condvar; limit = 0 }
-rules_of k = record { sort = Mutex; limit = 0 }
+rules_of kind.TheVariants.Once = record { sort = Once; limit = 0 }
 
 -- ---------------------------------------------------------------- which cases a call is made of
 

@@ -37,7 +37,7 @@ use Rattle.lot_machine.specs.Machine.{Alone as Ran, State, after, after_steps, a
 use Rattle.lot_laws.specs.Refinement.{call_at, call_state, lock_state, locks_of}
 use Rattle.lot_laws.specs.SitesOf.{IsSteady, IsWorld, key_of, rules_in, site_of}
 use Rattle.lot_laws.specs.Stations.{doing_on}
-use Rattle.lot_laws.specs.Solo.{BumpsShared, ComesBack, EndsAlone, EntersAlone, GivesWay, MayEnterAtOnce, NeedsNoWay, Rests, WaitsAlone, WaitsForReaders}
+use Rattle.lot_laws.specs.Solo.{BumpsShared, ComesBack, EndsAlone, locks_behind, EntersAlone, GivesWay, MayEnterAtOnce, NeedsNoWay, Rests, WaitsAlone, WaitsForReaders}
 use Rattle.lot_laws.specs.WorldRuns.{IsWorldRun}
 use Rattle.lot_laws.proofs.Glue.{doing_here, inside_is, put_here}
 use Rattle.lot_laws.proofs.Leads.{Leads}
@@ -257,10 +257,9 @@ module _ (w : State) (t l : ℕ) (a : Admission) (x : Access) (holds : IsWorld w
         ∙ ap (λ f. f l) (sym (ap (λ p. (call_state p (λ k. rights_of (lock_state between k) t)).former) e.alone.place ∙ former_at x (λ k. rights_of (lock_state between k) t))
         ∙ former_kept e.steps (locks_of w) (locks_of between) t run_there ∙ began)
 
-    comes_back : ComesBack (locks_of w) t l (wanted x) o (locks_of v2)
+    comes_back : ComesBack (locks_behind w t) (locks_of w) t l (wanted x) o (locks_of v2)
     comes_back = record {
       steps = e.steps;
-      between = locks_of between;
       run = run_there;
       given_up = gave_up;
       enters = enters_so (word_at plain_w l ≡ 0) (locks_of plain_w) (locks_of between) (locks_of (solo e.room plain_w t outcome.NotNow).state) (locks_of v2) t l (solo e.room plain_w t outcome.NotNow).outcome o
@@ -273,7 +272,7 @@ module _ (w : State) (t l : ℕ) (a : Admission) (x : Access) (holds : IsWorld w
     }
 
   pub bumps_shared : ((u : ℕ) → section_at w (key_of l Main) ≡ Some u → u ≡ t) → Ends t l a (gives_way a x word) x w v2 o
-      → BumpsShared (has_parked word ≡ false) (locks_of w) t l (wanted x) o (locks_of v2)
+      → BumpsShared (has_parked word ≡ false) (locks_behind w t) (locks_of w) t l (wanted x) o (locks_of v2)
   bumps_shared way h = record {
     gives_way = λ g. comes_back (h.0 (gives_so x refl way g));
     stays = λ none. let told = h.1 (keeps_so x refl none) in (told, ends_owning told);

@@ -289,7 +289,7 @@ module _ (r : Rules) (a : Admission) (l : ℕ) (admits : Admits r a) where
       either true y z = (λ e. cc, λ m e. cc)
       either false y z = (λ e. cc, λ m e. cc)
 
-  hands_awake : (x : Access) (to : HandOverAt) → hand_over_act l a x to ≢ Sleep
+  pub hands_awake : (x : Access) (to : HandOverAt) → hand_over_act l a x to ≢ Sleep
   hands_awake x handing.Load e = cc
   hands_awake x (handing.Free seen) e = cc
   hands_awake x handing.Enter e = cc

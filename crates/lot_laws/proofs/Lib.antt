@@ -164,3 +164,8 @@ pub mod ReleaseOwn
 pub mod CondvarGo
 pub mod Placed
 pub mod CondvarBegins
+pub mod HandsInside
+pub mod Filled
+pub mod Tries
+pub mod Sleepers
+pub mod HeadlineHolds

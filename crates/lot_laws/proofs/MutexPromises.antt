@@ -103,12 +103,16 @@ module _ (w : State) (l : ℕ) (kept : IsKept w) (of_mutex : is_mutex (kind_at w
   going_owes : (t : ℕ) → GoesToRelease w t l → IsShownToOwe w t l ⊎ IsWait (call_at w t).purpose
   going_owes t g = elim (kept.going_owes t l Main (g.0, elim g.1 [ inl releases ↦ inl (inl releases) | inr released ↦ inr (inr released) ])) [ inl owes ↦ inl (ap is_line owes) | inr waits ↦ inr waits ]
 
+  mark_inside : (u : ℕ) → IsInside w u l Main ⊎ ((sort_at w l ≡ locks.Once) × Owes w u l Main) → IsInside w u l Main
+  mark_inside u (inl inside) = inside
+  mark_inside u (inr once) = absurd (let both : locks.Once ≡ locks.Mutex = sym once.0 ∙ sort w l of_mutex in cc)
+
   pub mutex_kept : IsMutexKept w l
   mutex_kept = record {
     coded = codes_by (owner_at w l) (is_parked (word_at w l)) (word_at w l) (kept.coded l ∙ ap (λ r. word_by r.sort r.limit (lock_state w l) (aside_in r.sort (word_at w l)) (parked_in r.sort (word_at w l))) (rules w l of_mutex));
     parked = λ t waits. elim (kept.parked t l waits) [
       | inl set ↦ inl (subst (λ r. parked_in r.sort (word_at w l) ≡ true) (rules w l of_mutex) set)
-      | inr sets ↦ inr sets
+      | inr marks ↦ inr (marks.0, mark_inside marks.0 marks.1.1, marks.1.0)
     ];
     owing = owing;
     inside_owes = λ t i. ap is_line (kept.inside_owes t l Main i);

@@ -73,13 +73,13 @@ word_0 [] l = refl
 word_0 (x ∷ xs) zero = refl
 word_0 (x ∷ xs) (suc l) = word_0 xs l
 
-kind_is : (kinds : List Kind) (l : ℕ)
+pub kind_is : (kinds : List Kind) (l : ℕ)
     → (get_or (map unlocked kinds) l (unlocked kind.TheVariants.Mutex)).kind ≡ get_or kinds l kind.TheVariants.Mutex
 kind_is [] l = refl
 kind_is (x ∷ xs) zero = refl
 kind_is (x ∷ xs) (suc l) = kind_is xs l
 
-unfilled_0 : (kinds : List Kind) (l : ℕ) → (get_or (map unlocked kinds) l (unlocked kind.TheVariants.Mutex)).filled ≡ false
+pub unfilled_0 : (kinds : List Kind) (l : ℕ) → (get_or (map unlocked kinds) l (unlocked kind.TheVariants.Mutex)).filled ≡ false
 unfilled_0 [] l = refl
 unfilled_0 (x ∷ xs) zero = refl
 unfilled_0 (x ∷ xs) (suc l) = unfilled_0 xs l

@@ -23,6 +23,7 @@ use Rattle.lot_laws.specs.Refinement.{RunsClosure, locks_of, lock_state, lock_se
 use Rattle.lot_laws.specs.Owing.{Owes, sort_at}
 use Rattle.lot_laws.specs.Promises.{IsKept, KnowsRights, WaitsFor, WakesWaiters, IsDebtorOf, IsLookedAfter, IsOpenNow, WasNeverFull, HasOrPends, IsHandedOver, IsOwedWake, IsWithinLimit, want_of, HasReleased}
 use Rattle.lot_laws.proofs.Closures.{runs_one}
+use Rattle.lot_laws.proofs.HandsInside.{hands_inside, is_to_mark}
 use Rattle.lot_laws.proofs.ShownMutex.{shows_waiters}
 use Rattle.lot_laws.proofs.SitesPromise.{not_empty}
 use Rattle.lot_laws.proofs.RowPromises.{CallsOneLock, IsDebtorIn, HasClaimed, HasDebt, WasHanded, RowLooksAfter}
@@ -397,6 +398,7 @@ module _ (w : State) (steady : IsSteady w) where
   kept condvars running = record {
     state = λ l. (steady.sites.site l).state;
     one_place = one_place;
+    in_hand = hands_inside w steady;
     waiting = waits;
     known = known;
     coded = λ l. steady.sites.word l;
@@ -410,7 +412,10 @@ module _ (w : State) (steady : IsSteady w) where
     second_line = second_line;
     retrying = retrying;
     handing = λ t h. handed_over t h.0 h.1;
-    parked = λ t l waiting. (steady.sites.site l).parked (not_empty t (lock_state w l).queue waiting);
+    parked = λ t l waiting. elim ((steady.sites.site l).parked (not_empty t (lock_state w l).queue waiting)) [
+      | inl set ↦ inl set
+      | inr sets ↦ inr (sets.0, is_to_mark w steady sets.0 l sets.1)
+    ];
     aside_parked = λ l. (steady.sites.site l).aside_parked;
     shown = λ l sort free. shows_waiters w l (condvars l sort) free;
   }

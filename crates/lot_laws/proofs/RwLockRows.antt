@@ -169,7 +169,7 @@ decided_awake l q seen decisions.Mark e = cc
 decided_awake l q seen decisions.Park e = cc
 decided_awake l q seen (decisions.Refuse answer) e = cc
 
-awake_at : (l : ℕ) (a : Admission) (p : RwLockPlace) (to : RwLockAt) → IsAwakeAt to → act_at l a p to ≢ Sleep
+pub awake_at : (l : ℕ) (a : Admission) (p : RwLockPlace) (to : RwLockAt) → IsAwakeAt to → act_at l a p to ≢ Sleep
 awake_at l a p at.First h e = cc
 awake_at l a p at.Load h e = cc
 awake_at l a p (at.Decide seen) h e = decided_awake l p.purpose seen (decided a p seen) e

@@ -47,6 +47,7 @@ use Rattle.lot_laws.proofs.MutexSolo.{LockEnds, UnlockEnds, bump_leads, fair_res
 use Rattle.lot_laws.proofs.MutexTable.{mutex, queued_behind}
 use Rattle.lot_laws.proofs.StandsMoved.{mutex_rules}
 use Rattle.lot_laws.proofs.MutexEvents.{free_word, owned_word}
+use Rattle.lot_laws.proofs.Tries.{first_busy, stands_there}
 use Rattle.lot_laws.proofs.CallBegins.{purpose_is}
 use Rattle.lot_laws.proofs.Counts.{first_times}
 use Rattle.lot_steps.specs.Steps.{is_lock}
@@ -361,17 +362,6 @@ module _ (w : State) (t : ℕ) (shape : IsShaped w) (steady : IsSteady w) (count
       by_kind k e = tt
 
 -- ---------------------------------------------------------------- as the world is told them
-
-stands_there : (xs : List Place) (t : ℕ) → get_or xs t Idle ≢ Idle → t < length xs
-stands_there [] t busy = absurd (busy refl)
-stands_there (x ∷ xs) zero busy = omega arith
-stands_there (x ∷ xs) (suc t) busy = let ih : t < length xs = stands_there xs t busy in omega arith
-
-first_busy : (k : Kind) (c : Call) (p : Place) → p ≡ first_place k c → p ≢ Idle
-first_busy k (call.TheVariants.Mutex l c) p is idle = let e : Mutex l (mutex_first (is_fair k) c) ≡ Idle = sym is ∙ idle in cc
-first_busy k (call.TheVariants.RwLock l c) p is idle = let e : RwLock l (admission_of k) (call_first c) ≡ Idle = sym is ∙ idle in cc
-first_busy k (call.TheVariants.Once l c) p is idle = let e : Once l (once_first c) ≡ Idle = sym is ∙ idle in cc
-first_busy k (call.TheVariants.Condvar l c) p is idle = let e : Condvar l (condvar_first c) ≡ Idle = sym is ∙ idle in cc
 
 module _ (w : State) (t : ℕ) (shape : IsShaped w) (steady : IsSteady w) (counted : AreCounted w) (condvars : AreCondvars w)
     (running : RunsInClosures w) where

@@ -14,12 +14,15 @@ use Rattle.lot_laws.proofs.CondvarSteps.{after_condvars}
 use Rattle.lot_laws.proofs.CountsKept.{counted_after}
 use Rattle.lot_laws.proofs.Owing.{owes_since}
 use Rattle.lot_laws.proofs.Fair.{is_fair}
+use Rattle.lot_laws.proofs.Filled.{filled_after}
 use Rattle.lot_laws.proofs.LockSteps.{after_step}
 use Rattle.lot_laws.proofs.OneThing.{one_thing, touches}
 use Rattle.lot_laws.specs.SitesOf.{IsWorld}
 use Rattle.lot_laws.proofs.Promises.{kept}
 use Rattle.lot_laws.proofs.RunsKept.{running_after}
 use Rattle.lot_machine.proofs.Shape.{after_shaped}
+use Rattle.lot_laws.proofs.Sleepers.{sleepers_stay}
+use Rattle.lot_laws.proofs.Tries.{tries_at_once}
 use Rattle.lot_laws.proofs.TurnsKept.{after_steady}
 
 pub world_after : (w : State) (s : Step) → IsWorld w → IsWorld (after w s)
@@ -39,6 +42,9 @@ world_step w s h = record {
   refines = after_step w s h.shaped h.steady h.counted h.condvars;
   one_thing = one_thing w s h.steady;
   touches = touches w s;
+  filled = filled_after w s (world_after w s h);
+  sleepers = sleepers_stay w s;
+  tries = tries_at_once w s h.steady;
   owing = owes_since w s h.shaped h.steady h.counted h.condvars;
   fair = is_fair w s h.shaped h.steady h.counted h.condvars;
   kept = world_kept (after w s) (world_after w s h);

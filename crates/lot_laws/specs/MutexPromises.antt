@@ -56,10 +56,11 @@ GoesToRelease w t l = (act_of (place_at w t) ≡ Enter (One (2 * l)))
 pub record IsMutexKept (w : State) (l : ℕ) : Type 0 where
   -- the word says whether the mutex is owned
   pub coded : IsMutexWord (word_at w l) (owner_at w l)
-  -- a waiter implies the parked bit, or a thread that has just moved it from a condition variable
-  -- and is about to set the bit
+  -- a waiter implies the parked bit, or a thread inside the section that has just moved it from a
+  -- condition variable and is about to set the bit
   pub parked : (t : ℕ) → WaitsFor w t l
-      → (is_parked (word_at w l) ≡ true) ⊎ ((u : ℕ) × IsAboutToMark w u l)
+      → (is_parked (word_at w l) ≡ true)
+      ⊎ ((u : ℕ) × IsInside w u l Main × IsAboutToMark w u l)
   -- who is shown to owe a wake is inside the section of the queue, or releases the mutex, or has in
   -- a wait, on its way into it
   pub owing : (t : ℕ) → IsShownToOwe w t l → IsInside w t l Main ⊎ GoesToRelease w t l

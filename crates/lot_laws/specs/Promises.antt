@@ -1,21 +1,22 @@
 -- What is promised of every state, before and after each step, under every schedule. Each clause is
 -- told by the sort of lock, so that it stays as it is for sorts that have no call yet.
 use Rattle.abstract_locks.specs.Locks as locks
-use Rattle.std.specs.Prelude.{ℕ, Bool, false, true, None, Option, ◌≡◌, ◌≢◌, ◌<◌, ◌≤◌, ◌⊎◌, ◌↔◌, Some, ◌*◌, ◌+◌, []}
+use Rattle.std.specs.Prelude.{ℕ, Bool, false, true, None, Option, ◌≡◌, ◌≢◌, ◌≤◌, ◌⊎◌, ◌↔◌, Some, ◌*◌, ◌+◌, []}
 use Rattle.lot_base.specs.declared.keys.Keys.TheVariants.{One}
 use Rattle.lot_base.specs.declared.wants.Want.{Want}
-use Rattle.lot_base.specs.declared.wants.Want.TheVariants.{Exclusive, Upgradable, Shared}
+use Rattle.lot_base.specs.declared.wants.Want.TheVariants.{Shared}
 use Rattle.lot_acts.specs.declared.acts.Act.TheVariants.{Enter, Leave, Sleep}
 use Rattle.lot_acts.specs.declared.acts.Wakes as wakes
 use Rattle.lot_base.specs.declared.notes.Note.TheVariants.{HandOff}
 use Rattle.lot_steps.specs.Steps.{act_of, taker, retries_on}
 use Rattle.lot_machine.specs.Machine.{State, place_at, word_at, filled_at, section_at}
-use Rattle.abstract_locks.specs.Locks.{LockState, Sort, Recursive, Semaphore, Once, Rules, Knows, IsSomePending, times, standing, readers, count, has_caller, Owns}
+use Rattle.abstract_locks.specs.Locks.{LockState, Sort, Recursive, Once, Rules, Taken, Knows, times, standing, readers, count, has_caller}
 use Rattle.abstract_locks.specs.Onces.{InProgress, IsRunning}
 use Rattle.abstract_locks.specs.Codes.{word_by, parked_in, aside_in}
 use Rattle.abstract_locks.specs.Runs.{AreLockStates}
-use Rattle.abstract_locks.specs.Sites.{Line, Main, Second, IsOpen, counts_some, has_readers}
-use Rattle.abstract_locks.specs.Purposes.{Purpose, Enters, Releases, Converts, Bumps, CallsOnce, Awaits, MayWait, Waits, Notifies, Recall, Saw, SawOwner, HasMoved}
+use Rattle.abstract_locks.specs.Sites.{Line, Main, Second, counts_some, has_readers}
+pub use Rattle.abstract_locks.specs.Headline.{want_of, mutex_seen, WakesWaiters, IsOpenNow, HasOrPends}
+use Rattle.abstract_locks.specs.Purposes.{Purpose, Enters, Releases, Converts, Bumps, CallsOnce, Awaits, MayWait, Waits, Notifies}
 use Rattle.lot_laws.specs.Refinement.{RunsClosure, lock_state, locks_of, call_at}
 use Rattle.lot_laws.specs.Stations.{doing_on}
 use Rattle.lot_laws.specs.SitesOf.{rules_in, key_of}
@@ -45,6 +46,11 @@ IsCoded w l =
 abbrev pub IsAboutToMark : State → ℕ → ℕ → Type 0
 IsAboutToMark w t l = (doing_on (place_at w t) l).sets ≡ true
 
+-- and it is inside the section, or, of a `Once`, owes those waiters their wake
+abbrev pub IsToMark : State → ℕ → ℕ → Type 0
+IsToMark w t l = IsAboutToMark w t l
+    × (IsInside w t l Main ⊎ ((sort_at w l ≡ Once) × Owes w t l Main))
+
 -- ---------------------------------------------------------------- debts
 
 -- a bump of a shared right, which wakes the writer aside behind its release
@@ -66,30 +72,6 @@ GoesToWake w t l m =
     ⊎ (WakesAside (call_at w t).purpose l m
     ⊎ HasReleased (call_at w t).purpose (call_at w t).released l m))
 
--- the mutex that a notification has seen
-abbrev pub mutex_seen : Recall → Option ℕ
-mutex_seen (Saw m) = Some m
-mutex_seen (SawOwner m owned) = Some m
-mutex_seen (HasMoved m number) = Some m
-mutex_seen recalls = None
-
--- a call that wakes whom it takes of the main line: a release that hands nothing over, a conversion
--- that lets others in, or a writer beside readers that has given up; or a call that runs the
--- closure of a `Once`; a wait, of its mutex, and a notification, of the mutex that it has seen
-abbrev pub WakesWaiters : Sort → Option Purpose → Option ℕ → Recall → ℕ → Type 0
-WakesWaiters sort (Some (Releases k x fair)) gave_up recalls l =
-    (k ≡ l) × ((fair ≡ false) ⊎ (x ≡ Upgradable))
-WakesWaiters sort (Some (Converts k x y how)) gave_up recalls l =
-    (k ≡ l) × ((y ≢ Exclusive) ⊎ ((gave_up ≡ Some l) × (has_readers sort ≡ true)))
-WakesWaiters sort (Some (Enters k x how)) gave_up recalls l =
-    (k ≡ l) × (gave_up ≡ Some l) × (has_readers sort ≡ true)
-WakesWaiters sort (Some (Bumps k x)) gave_up recalls l = (k ≡ l) × (x ≢ Exclusive)
-WakesWaiters sort (Some (CallsOnce k forced)) gave_up recalls l = k ≡ l
-WakesWaiters sort (Some (Awaits k forced)) gave_up recalls l = ⊥
-WakesWaiters sort (Some (Waits k m timed)) gave_up recalls l = m ≡ l
-WakesWaiters sort (Some (Notifies k all)) gave_up recalls l = mutex_seen recalls ≡ Some l
-WakesWaiters sort None gave_up recalls l = ⊥
-
 -- a call is for rights that its lock knows
 abbrev pub KnowsRights : (ℕ → Sort) → Option Purpose → Type 0
 KnowsRights sort (Some (Enters l x how)) = Knows (sort l) x
@@ -101,14 +83,6 @@ KnowsRights sort (Some (Awaits l forced)) = sort l ≡ Once
 KnowsRights sort (Some (Waits l m timed)) = (sort l ≡ locks.Condvar) × (sort m ≡ locks.Mutex)
 KnowsRights sort (Some (Notifies l all)) = sort l ≡ locks.Condvar
 KnowsRights sort None = Unit {0}
-
--- what a call is to own in the end; a wait, its mutex again
-abbrev pub want_of : Option Purpose → Option Want
-want_of (Some (Enters l x how)) = Some x
-want_of (Some (Converts l x y how)) = Some y
-want_of (Some (Bumps l x)) = Some x
-want_of (Some (Waits l m timed)) = Some Exclusive
-want_of purpose = None
 
 -- it owes a wake on the main line, and its call wakes whom it takes; or it was woken, is about to
 -- try again, and wants what passes the turn on (of a mutex anything, of a reader-writer lock more
@@ -129,11 +103,6 @@ pub record IsLookedAfter (w : State) (l : ℕ) (m : Line) : Type 0 where
   pub awake : act_of (place_at w debtor) ≢ Sleep
   pub stands_nowhere : (k : ℕ) → (standing debtor (lock_state w k) ≡ 0)
       ⊎ (HasReleased (call_at w debtor).purpose (call_at w debtor).released l m × Owes w debtor l m)
-
--- nobody bars the way of who stands first in the main line: nobody owns the mutex, no writer is
--- there, or a permit is free
-abbrev pub IsOpenNow : Rules → LockState → Type 0
-IsOpenNow r s = IsOpen r.sort s ⊎ ((r.sort ≡ Semaphore) × (readers s < r.limit))
 
 -- a lock that is shared was never at its limit
 abbrev pub WasNeverFull : State → ℕ → Type 0
@@ -159,11 +128,6 @@ pub record IsOwedWake (w : State) (l : ℕ) : Type 0 where
 -- a thread sleeps, and stands in no queue, nor was it taken from one
 abbrev pub IsAsleepNowhere : State → ℕ → Type 0
 IsAsleepNowhere w t = (act_of (place_at w t) ≡ Sleep) × ((l : ℕ) → standing t (lock_state w l) ≡ 0)
-
--- it owns what it waited for; a writer of a lock that is shared may be pending
-abbrev pub HasOrPends : Sort → LockState → ℕ → Want → Type 0
-HasOrPends sort s t x = Owns s t x
-    ⊎ ((x ≡ Exclusive) × (has_readers sort ≡ true) × IsSomePending s.pending t)
 
 -- it has what it waited for, and the thread inside the section has it in its hand, and wakes all
 -- whom it has there as it leaves
@@ -196,7 +160,10 @@ pub record IsKept (w : State) : Type 0 where
   -- and at one lock at most
   pub one_place : (t l k : ℕ) → 1 ≤ standing t (lock_state w l) → 1 ≤ standing t (lock_state w k)
       → l ≡ k
-  -- in a call that waits for it
+  -- whoever is taken is in the hand of a thread that is inside a section of the lock
+  pub in_hand : (u l : ℕ) (h : Taken) → (lock_state w l).taken u ≡ Some h
+      → (m : Line) × IsInside w h.by l m
+  -- whoever stands, or is taken, does so in a call that waits for the lock
   pub waiting : (t l : ℕ) → 1 ≤ standing t (lock_state w l) → MayWait (call_at w t).purpose l
   -- and each call is for rights that its lock knows
   pub known : (t : ℕ) → KnowsRights (sort_at w) (call_at w t).purpose
@@ -226,10 +193,11 @@ pub record IsKept (w : State) : Type 0 where
   -- who is asleep but stands nowhere was handed the lock that it waited for, by a thread that is
   -- inside the section and wakes it
   pub handing : (t : ℕ) → IsAsleepNowhere w t → IsHandedOver w t
-  -- a waiter implies the parked bit, or somebody who has just brought it and is about to set the
-  -- bit
+  -- a waiter implies the parked bit while nobody is inside the section: else the thread inside has
+  -- just brought it and is about to set the bit; or the thread that has ended a run of a `Once` and
+  -- cleared the bit owes it its wake
   pub parked : (t l : ℕ) → WaitsFor w t l
-      → (has_parked_bit w l ≡ true) ⊎ ((u : ℕ) × IsAboutToMark w u l)
+      → (has_parked_bit w l ≡ true) ⊎ ((u : ℕ) × IsToMark w u l)
   -- and a writer aside implies its own
   pub aside_parked : (l : ℕ) → (lock_state w l).aside ≢ None → has_aside_bit w l ≡ true
   -- while nobody is inside its section, a condition variable shows a mutex exactly while somebody

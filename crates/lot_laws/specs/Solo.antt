@@ -13,7 +13,7 @@ use Rattle.lot_condvar.specs.declared.places.CondvarPlace.TheVariants.{Look}
 use Rattle.lot_steps.specs.declared.places.Place.{Place}
 use Rattle.lot_steps.specs.declared.places.Place.TheVariants.{Idle, Condvar}
 use Rattle.lot_steps.specs.Steps.{act_of, beside_of, lock_of}
-use Rattle.lot_machine.specs.Machine.{State, place_at, word_at, kind_at, section_at, go_of, runs_closure}
+use Rattle.lot_machine.specs.Machine.{State, place_at, word_at, kind_at, section_at, go_of, after_steps, runs_closure}
 use Rattle.abstract_locks.specs.Locks.{Sort, Mutex, Recursive, Rules, LockState, first_thread, Queued, MayEnter, IsBlocked, Owns, count, readers, with_right}
 use Rattle.abstract_locks.specs.Sites.{Line, Main, Second, has_readers}
 use Rattle.abstract_locks.specs.Purposes.{rules_of, Purpose, Enters, Releases, Converts, Bumps, CallsOnce, Awaits, Patience, Patient, Try, Waits, Notifies}
@@ -144,19 +144,20 @@ abbrev pub NeedsNoWay : Type 0 → Rules → LockState → Want → Type 0
 NeedsNoWay unparked r s Shared = GivesWay r s Shared → ⊥
 NeedsNoWay unparked r s x = unparked
 
--- it gives its right up, and from there comes to what a call comes to that waits for that right
-pub record ComesBack (w : LocksState) (t l : ℕ) (x : Want) (o : Outcome)
+-- by so many of its steps it gives its right up, and from there comes to what a call comes to that
+-- waits for that right; later are the locks behind each number of them
+pub record ComesBack (later : ℕ → LocksState) (w : LocksState) (t l : ℕ) (x : Want) (o : Outcome)
     (v : LocksState) : Type 0 where
   pub steps : ℕ
-  pub between : LocksState
-  pub run : IsRun w (replicate steps (go_of t)) (replicate steps outcome.TheVariants.Step) between
-  pub given_up : with_right x (rights_in between t l) ≡ rights_in w t l
-  pub enters : EntersAlone ⊥ between t l x Patient o v
+  pub run : IsRun w (replicate steps (go_of t)) (replicate steps outcome.TheVariants.Step)
+      (later steps)
+  pub given_up : with_right x (rights_in (later steps) t l) ≡ rights_in w t l
+  pub enters : EntersAlone ⊥ (later steps) t l x Patient o v
 
 -- a bump of a lock that is shared gives way, or ends with its right
-pub record BumpsShared (unparked : Type 0) (w : LocksState) (t l : ℕ) (x : Want) (o : Outcome)
-    (v : LocksState) : Type 0 where
-  pub gives_way : GivesWay (rules_at w l) (w.locks l) x → ComesBack w t l x o v
+pub record BumpsShared (unparked : Type 0) (later : ℕ → LocksState) (w : LocksState) (t l : ℕ)
+    (x : Want) (o : Outcome) (v : LocksState) : Type 0 where
+  pub gives_way : GivesWay (rules_at w l) (w.locks l) x → ComesBack later w t l x o v
   pub stays : NeedsNoWay unparked (rules_at w l) (w.locks l) x
       → (o ≡ outcome.TheVariants.End answer.TheVariants.Ok) × Owns (v.locks l) t x
 
@@ -192,26 +193,32 @@ NotifiesAlone false (x ∷ q) o q2 = (o ≡ outcome.TheVariants.End answer.TheVa
 NotifiesAlone true q o q2 =
     (o ≡ outcome.TheVariants.End (answer.TheVariants.Number (length q))) × (q2 ≡ [])
 
-abbrev pub EndsBy : (ℕ → ℕ) → LocksState → ℕ → Option Purpose → Outcome → LocksState → Type 0
-EndsBy words w t (Some (Enters l x how)) o v = EntersAlone (words l ≡ 0) w t l x how o v
-EndsBy words w t (Some (Releases l x fair)) o v = ReleasesAlone w t l x fair o v
-EndsBy words w t (Some (Converts l x y how)) o v = ConvertsAlone (w.locks l) t y how o (v.locks l)
-EndsBy words w t (Some (Bumps l x)) o v =
+abbrev pub EndsBy : (ℕ → ℕ) → (ℕ → LocksState) → LocksState → ℕ → Option Purpose → Outcome
+    → LocksState → Type 0
+EndsBy words later w t (Some (Enters l x how)) o v = EntersAlone (words l ≡ 0) w t l x how o v
+EndsBy words later w t (Some (Releases l x fair)) o v = ReleasesAlone w t l x fair o v
+EndsBy words later w t (Some (Converts l x y how)) o v = ConvertsAlone (w.locks l) t y how o (v.locks l)
+EndsBy words later w t (Some (Bumps l x)) o v =
     ((rules_at w l).sort ≡ Mutex → BumpsAlone t l (w.locks l).queue o (v.locks l))
     × (has_readers (rules_at w l).sort ≡ true
-    → BumpsShared (has_parked (words l) ≡ false) w t l x o v)
-EndsBy words w t (Some (CallsOnce l forced)) o v =
+    → BumpsShared (has_parked (words l) ≡ false) later w t l x o v)
+EndsBy words later w t (Some (CallsOnce l forced)) o v =
     CallsOnceAlone (w.locks l).phase (w.locks l) t forced o (v.locks l)
-EndsBy words w t (Some (Awaits l forced)) o v =
+EndsBy words later w t (Some (Awaits l forced)) o v =
     AwaitsAlone (w.locks l).phase (w.locks l) t forced o (v.locks l)
-EndsBy words w t (Some (Waits l m timed)) o v = StandsAlone w t l m o v
-EndsBy words w t (Some (Notifies l all)) o v =
+EndsBy words later w t (Some (Waits l m timed)) o v = StandsAlone w t l m o v
+EndsBy words later w t (Some (Notifies l all)) o v =
     NotifiesAlone all (w.locks l).queue o (v.locks l).queue
-EndsBy words w t None o v = Unit {0}
+EndsBy words later w t None o v = Unit {0}
+
+-- the locks behind so many steps of the thread alone
+abbrev pub locks_behind : State → ℕ → ℕ → LocksState
+locks_behind w t steps = locks_of (after_steps w (replicate steps (go_of t)))
 
 -- what a call comes to, by what it is for
 abbrev pub EndsAlone : State → ℕ → Option Purpose → Outcome → State → Type 0
-EndsAlone w t purpose o v = EndsBy (word_at w) (locks_of w) t purpose o (locks_of v)
+EndsAlone w t purpose o v =
+    EndsBy (word_at w) (locks_behind w t) (locks_of w) t purpose o (locks_of v)
 
 -- the last of what was told, and NotNow where nothing was
 abbrev pub last_told : List Outcome → Outcome

@@ -1,13 +1,23 @@
 -- A run of the world: it leads by its steps from one state to another, and of each step all holds
 -- that is promised of steps.
-use Rattle.std.specs.Prelude.{ℕ, ◌≡◌, ◌++◌, List, [], ◌∷◌}
+use Rattle.std.specs.Prelude.{ℕ, Bool, true, false, ◌==◌, ◌≡◌, ◌≢◌, ◌⊎◌, ◌++◌, Some, List, [], ◌∷◌, is_none}
+use Rattle.lot_calls.specs.declared.calls.Access.TheVariants.{Exclusive}
+use Rattle.lot_calls.specs.declared.calls.Call as call
+use Rattle.lot_calls.specs.declared.calls.MutexCall.TheVariants as mutex_call
+use Rattle.lot_calls.specs.declared.calls.Patience.TheVariants.{Try}
+use Rattle.lot_calls.specs.declared.calls.RwLockCall.TheVariants as rwlock_call
 use Rattle.lot_calls.specs.declared.calls.Turn.{Turn}
 use Rattle.lot_calls.specs.declared.calls.Turn as turn
 use Rattle.lot_calls.specs.declared.calls.Step.{Step}
+use Rattle.lot_calls.specs.declared.outcomes.Answer as answer
 use Rattle.lot_calls.specs.declared.outcomes.Outcome.{Outcome}
+use Rattle.lot_calls.specs.declared.outcomes.Outcome as outcome
 use Rattle.abstract_locks.specs.Runs.{IsStep}
-use Rattle.lot_machine.specs.Machine.{State, word_at, queue_at}
-use Rattle.lot_laws.specs.Refinement.{locks_of, ChangesOneThing}
+use Rattle.abstract_locks.specs.Headline.{full_by}
+use Rattle.lot_acts.specs.declared.acts.Act.TheVariants.{Sleep}
+use Rattle.lot_steps.specs.Steps.{act_of, first_place, taker}
+use Rattle.lot_machine.specs.Machine.{State, place_at, kind_at, word_at, queue_at, filled_at}
+use Rattle.lot_laws.specs.Refinement.{locks_of, lock_state, ChangesOneThing}
 use Rattle.lot_laws.specs.Fair.{IsFair}
 use Rattle.lot_laws.specs.Owing.{OwesSince}
 use Rattle.lot_laws.specs.Promises.{IsKept}
@@ -24,6 +34,29 @@ TouchesOnlyByGoing w turn.TheVariants.Spin v = IsUntouched w v
 TouchesOnlyByGoing w turn.TheVariants.Late v = IsUntouched w v
 TouchesOnlyByGoing w x v = Unit {0}
 
+-- another thread that sleeps does so on, unless this one has it in hand
+abbrev pub SleepersStay : State → ℕ → State → Type 0
+SleepersStay w t v =
+    (u : ℕ) → u ≢ t → act_of (place_at w u) ≡ Sleep
+    → (taker (place_at w u) ≡ Some t) ⊎ (act_of (place_at v u) ≡ Sleep)
+
+-- the answer of a try
+abbrev pub tried : Bool → Outcome
+tried true = outcome.TheVariants.End answer.TheVariants.Yes
+tried false = outcome.TheVariants.End answer.TheVariants.No
+
+-- a try to lock a mutex, or to write, ends as its thread goes on from its first place, whoever is
+-- inside a section: with the mutex exactly where nobody owns it, and as the writer of a lock that is
+-- shared exactly where the word is 0
+pub record TriesAtOnce (w : State) (t : ℕ) (o : Outcome) : Type 0 where
+  pub locks : (l : ℕ)
+      → place_at w t ≡ first_place (kind_at w l) (call.TheVariants.Mutex l mutex_call.TryLock)
+      → o ≡ tried (is_none (lock_state w l).exclusive)
+  pub writes : (l : ℕ)
+      → place_at w t
+      ≡ first_place (kind_at w l) (call.TheVariants.RwLock l (rwlock_call.Enter Exclusive Try))
+      → o ≡ tried (word_at w l == 0)
+
 -- a step of the world, from w to v
 pub record IsWorldStep (w : State) (s : Step) (o : Outcome) (v : State) : Type 0 where
   -- it is a step of the abstract locks
@@ -31,6 +64,10 @@ pub record IsWorldStep (w : State) (s : Step) (o : Outcome) (v : State) : Type 0
   -- it changes one word at most, or queues inside whose sections its thread is
   pub one_thing : ChangesOneThing w s.thread v
   pub touches : TouchesOnlyByGoing w s.turn v
+  -- a lock is filled where it was before, or where as many share it now as its limit allows
+  pub filled : (l : ℕ) → filled_at v l ≡ full_by (filled_at w) (locks_of v) l
+  pub sleepers : SleepersStay w s.thread v
+  pub tries : s.turn ≡ turn.TheVariants.Go → TriesAtOnce w s.thread o
   -- its thread begins and ends to owe a wake by what it sees and where it is
   pub owing : OwesSince w s.thread o v
   -- a fair release gives to those whom it has taken in one step: of a mutex to the first waiter, of

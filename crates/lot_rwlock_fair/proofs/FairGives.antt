@@ -1,4 +1,5 @@
 -- A fair release gives the lock to all whom it has taken, in one step.
+use Rattle.std.specs.Prelude.{slice_index}
 use Rattle.std.proofs.lemmas.Bool.{eqb-true}
 use Rattle.std.proofs.lemmas.Bool.Decides.{nat_tests}
 use Rattle.std.proofs.Common.{ℕ, Bool, true, false, Option, Some, None, List, [], ◌∷◌, if◌then◌else◌, ◌==◌, ◌&&◌, ◌≡◌, ◌≢◌, ◌<◌, ◌≤◌, ◌+◌, ◌-◌, ◌⊎◌, inl, inr, refl, sym, ap, subst, ◌∙◌, arith}
@@ -40,6 +41,7 @@ use Rattle.lot_rwlock_fair.specs.FairLaws.{HandsOver as Over, lock_behind}
 use Rattle.lot_rwlock_fair.specs.FairGives.{IsToGive, HasGot, GivesToAll, LetsGo, WakesThem, FairReleasesGive}
 use Rattle.lot_rwlock_fair.proofs.HandOvers.{counts as counts_then, upgradable_gone, wants_more}
 use Rattle.lot_rwlock_fair.proofs.HandOversGive.{hand_overs_give}
+use Rattle.lot_rwlock_fair.proofs.SharesGiven.{shares_given}
 
 -- ---------------------------------------------------------------- calls
 
@@ -67,18 +69,19 @@ right_is l y false released x h = (h.0, h.2)
 
 -- ---------------------------------------------------------------- what is got
 
-got_by : (s : LockState) (u : ℕ) (x : Want) (alone : Bool) → (readers s == 0) ≡ alone → HasClaim s u (Some (claim_handed alone x)) → HasGot s u x
-got_by s u Exclusive true e h = inl h
-got_by s u Exclusive false e h = inr (refl, h, some_reader (readers s) e)
+got_by : (s s2 : LockState) (u : ℕ) (x : Want) (alone : Bool) → (readers s2 == 0) ≡ alone → (x ≡ Shared → slice_index s2.shared u ≡ slice_index s.shared u + 1)
+    → HasClaim s2 u (Some (claim_handed alone x)) → HasGot s s2 u x
+got_by s s2 u Exclusive true e more h = inl h
+got_by s s2 u Exclusive false e more h = inr (h, some_reader (readers s2) e)
   where
     some_reader : (n : ℕ) → (n == 0) ≡ false → 1 ≤ n
     some_reader n e = grind (arith, nat_tests)
-got_by s u Upgradable true e h = inl h
-got_by s u Upgradable false e h = inl h
-got_by s u Shared true e h = inl h
-got_by s u Shared false e h = inl h
-got_by s u x true e h = absurd h
-got_by s u x false e h = absurd h
+got_by s s2 u Upgradable true e more h = h
+got_by s s2 u Upgradable false e more h = h
+got_by s s2 u Shared true e more h = more refl
+got_by s s2 u Shared false e more h = more refl
+got_by s s2 u x true e more h = absurd h
+got_by s s2 u x false e more h = absurd h
 
 module _ (r : Rules) (a : Admission) (s : Site) (t l : ℕ) (h : IsSite r s) where
   -- who carries nobody has taken nobody
@@ -138,7 +141,9 @@ module _ (r : Rules) (a : Admission) (s : Site) (t l : ℕ) (op : Op) (whom : Op
   -- to all in hand
   gives_all : (c : RwLockCallPlace) → Over r a s t c whom → call_act l a c ≡ act.HandOver l op → takes_effect op (code r s) ≡ true → (s.doing t).covers ≡ true → GivesToAll s.lock (lock_behind r a s t c whom) t
   gives_all c over e won covers = record {
-    all = λ u x mine there. got_by (lock_behind r a s t c whom) u x _ refl (hand_overs_give r a s t l u c op whom x over e won mine there);
+    all = λ u x mine there. got_by s.lock (lock_behind r a s t c whom) u x _ refl
+        (λ shares. shares_given r a s t l u c op whom over e won (subst (IsTaken s.lock t u) shares mine) there)
+        (hand_overs_give r a s t l u c op whom x over e won mine there);
     some = some_or_none r a s t l over.call.site covers;
   }
 

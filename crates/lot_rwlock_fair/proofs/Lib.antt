@@ -7,6 +7,7 @@ pub mod FairSections
 pub mod FairStands
 pub mod FairOpenings
 pub mod HandOversGive
+pub mod SharesGiven
 pub mod FairRights
 pub mod FairTells
 pub mod FairCallTells

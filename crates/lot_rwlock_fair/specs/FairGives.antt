@@ -1,9 +1,9 @@
 -- What a fair release, or a bump, of more than a shared right makes of those whom it takes: all of
 -- them have what they waited for in one step, or, where the limit would be passed, none of them.
-use Rattle.std.specs.Prelude.{ℕ, Bool, true, false, Option, Some, None, ◌≡◌, ◌≢◌, ◌<◌, ◌≤◌, ◌⊎◌, [], length}
+use Rattle.std.specs.Prelude.{ℕ, Bool, true, false, Option, Some, None, ◌≡◌, ◌≢◌, ◌<◌, ◌≤◌, ◌+◌, ◌⊎◌, [], length, slice_index}
 use Rattle.lot_base.specs.declared.ops.Op.{Op}
 use Rattle.lot_base.specs.declared.wants.Want.{Want}
-use Rattle.lot_base.specs.declared.wants.Want.TheVariants.{Exclusive, Upgradable, Shared}
+use Rattle.lot_base.specs.declared.wants.Want.TheVariants.{Exclusive, Upgradable, Shared, Wait, CallOnce}
 use Rattle.lot_acts.specs.declared.acts.Act.TheVariants as act
 use Rattle.abstract_locks.specs.Locks.{LockState, Rules, Queued, Owns, IsTaken, HasTakenNobody, IsSuccessor, count, handed, readers}
 use Rattle.abstract_locks.specs.Purposes.{Purpose, Releases, Bumps}
@@ -23,17 +23,21 @@ IsToGive (Releases l x fair) released y = (x ≡ y) × (fair ≡ true) × (relea
 IsToGive (Bumps l x) released y = (x ≡ y) × (released ≡ false)
 IsToGive purpose released y = ⊥
 
--- the right is the thread's, or, beside readers, a writer is pending
-abbrev pub HasGot : LockState → ℕ → Want → Type 0
-HasGot s u x =
-    Owns s u x
-    ⊎ ((x ≡ Exclusive) × (s.pending ≡ Some (record { thread = u; falls_back = false }))
-    × (1 ≤ readers s))
+-- from s to s2 the thread has got one right more to share, or the right that one thread has at a
+-- time; beside readers a writer is pending
+abbrev pub HasGot : LockState → LockState → ℕ → Want → Type 0
+HasGot s s2 u Shared = slice_index s2.shared u ≡ slice_index s.shared u + 1
+HasGot s s2 u Upgradable = s2.upgradable ≡ Some u
+HasGot s s2 u Exclusive =
+    (s2.exclusive ≡ Some u)
+    ⊎ ((s2.pending ≡ Some (record { thread = u; falls_back = false })) × (1 ≤ readers s2))
+HasGot s s2 u Wait = ⊥
+HasGot s s2 u CallOnce = ⊥
 
 -- from s to s2 everybody whom it had taken gets what it waited for; it had taken somebody, or
 -- nobody waits
 pub record GivesToAll (s s2 : LockState) (t : ℕ) : Type 0 where
-  pub all : (u : ℕ) (x : Want) → IsTaken s t u x → u < length s.shared → HasGot s2 u x
+  pub all : (u : ℕ) (x : Want) → IsTaken s t u x → u < length s.shared → HasGot s s2 u x
   pub some : ((u : ℕ) × ((x : Want) × IsTaken s t u x)) ⊎ (s.queue ≡ [])
 
 -- it lets the lock go: it had taken nobody, and the word tells of nobody who waits

@@ -1,18 +1,19 @@
 //! Any number of threads over locks, by a list of steps.
-ghost use Rattle.std.specs.Prelude.{◌≡◌, ◌<◌, ◌≤◌, ◌++◌, ◌+◌, ◌*◌, IfOk, IfErr, OnOk, All, length, take, true, vec_len, vec_capacity};
+ghost use Rattle.std.specs.Prelude.{ℕ, List, [], ◌∷◌, ◌≡◌, ◌<◌, ◌≤◌, ◌++◌, ◌+◌, ◌*◌, IfOk, IfErr, OnOk, All, length, take, true, false, vec_len, vec_capacity};
 ghost use Rattle.lot_calls.specs.Kinds.{fits};
 ghost use Rattle.lot_calls.specs.Calls.{lock_in};
 ghost use Rattle.lot_steps.specs.Steps.{first_place};
-ghost use Rattle.lot_machine.specs.Machine.{opening, place_at, word_at, kind_at, queue_at, after, step_outcome, after_steps, step_outcomes, solo};
+ghost use Rattle.lot_machine.specs.Machine.{opening, place_at, word_at, kind_at, filled_at, queue_at, after, step_outcome, after_steps, step_outcomes, solo};
 ghost use Rattle.lot_machine.specs.Fits.{SameSize};
 ghost use Rattle.abstract_locks.specs.Runs.{IsOpening, IsStep, IsRun, purpose_at};
+ghost use Rattle.abstract_locks.specs.Headline.{Behaves, MayTell, Opens, full_by};
 ghost use Rattle.abstract_locks.specs.UserLaws.{ReadersStayOut, RereadersPass, UpgradesLetNobodyWrite, DowngradesOwn};
 ghost use Rattle.abstract_locks.specs.CondvarLaws.{NobodyWakesByItself};
 ghost use Rattle.lot_laws.specs.Refinement.{locks_of, ChangesOneThing};
 ghost use Rattle.lot_laws.specs.Promises.{IsKept};
 ghost use Rattle.lot_laws.specs.Fair.{IsFair};
 ghost use Rattle.lot_laws.specs.Owing.{OwesSince};
-ghost use Rattle.lot_laws.specs.WorldRuns.{IsWorldRun, Tells, TouchesOnlyByGoing};
+ghost use Rattle.lot_laws.specs.WorldRuns.{IsWorldRun, Tells, SleepersStay, TouchesOnlyByGoing, TriesAtOnce};
 ghost use Rattle.lot_laws.specs.Solo.{IsUnderWay, HasItsWay, Rests, EndsAlone, IsSoloRun};
 ghost use Rattle.lot_machine.specs.Views.{StandUnder, owners_of, queue_of, debts_of};
 
@@ -64,6 +65,10 @@ impl<Q: Queues + Drop> World<Q> {
         requires fit { All (λ kind. fits kind threads ≡ true) kinds.now }
         ensures ok { IfOk result (λ world. world ≡ opening kinds.now threads) }
         ensures opening { IfOk result (λ world. IsOpening (locks_of world) × IsKept world) }
+
+        // The run of the headline begins here: no lock was at its limit yet.
+        ensures headline { IfOk result (λ world. Opens kinds.now threads (locks_of world)
+            × ((lock : ℕ) → filled_at world lock ≡ false)) }
         ensures err { IfErr result (λ fault. fault ≡ Fault.NoMemory) }
     {
         Ok(World {
@@ -75,6 +80,14 @@ impl<Q: Queues + Drop> World<Q> {
     pub fn step(&mut self, step: Step) -> Outcome
         ensures state { self.new ≡ after self.old step }
         ensures outcome { result ≡ step_outcome self.old step }
+
+        // One step of the headline: nobody is forgotten before it, nor behind it.
+        ensures headline { Behaves (filled_at self.old) (locks_of self.old) (step ∷ [])
+            (result ∷ []) (locks_of self.new) }
+
+        // A lock is filled where it was before, or where as many share it now as its limit allows.
+        ensures filled { (lock : ℕ) → filled_at self.new lock
+            ≡ full_by (filled_at self.old) (locks_of self.new) lock }
 
         // The step is one of the abstract locks: one case of one lock, a notification's move of
         // waiters between two, or nothing, and its answer is true.
@@ -91,6 +104,13 @@ impl<Q: Queues + Drop> World<Q> {
         // bars, a requeued waiter too, has a thread that owes its wake or tries again. Outside its
         // section a condition variable shows a mutex exactly while somebody waits.
         ensures kept { IsKept self.new }
+
+        // A try to lock a mutex, or to write, ends in one step, whoever is inside a section: it has
+        // the mutex exactly where nobody owns it, and a shared lock exactly where the word is 0.
+        ensures tries { step.turn ≡ Turn.Go → TriesAtOnce self.old step.thread result }
+
+        // Another thread that sleeps does so on, unless this one has it in hand and wakes it.
+        ensures sleepers { SleepersStay self.old step.thread self.new }
 
         // While a writer is pending on a lock that isn't recursive, nobody begins to share it.
         ensures readers_stay_out { ReadersStayOut (locks_of self.old) (locks_of self.new) }
@@ -166,6 +186,17 @@ impl<Q: Queues + Drop> World<Q> {
     pub fn run(&mut self, steps: &[Step], outcomes: &mut Vec<Outcome>) -> Result<(), Stopped>
         ensures same_size { SameSize self.old self.new }
 
+        // The headline, from the opening state on: some run of the abstract locks tells these
+        // outcomes, and in each of its states nobody is forgotten.
+        ensures headline { (kinds : List Kind) (threads : ℕ) → self.old ≡ opening kinds threads
+            → OnOk result (Tells outcomes.old.items outcomes.new.items
+            (MayTell kinds threads steps.now)) }
+
+        // And from any state on, so that one run may follow another.
+        ensures behaves { OnOk result (Tells outcomes.old.items outcomes.new.items
+            (λ told. Behaves (filled_at self.old) (locks_of self.old) steps.now told
+            (locks_of self.new))) }
+
         // Every run of the world is a run of the abstract locks, with the outcomes that it tells,
         // from the state that it finds to the one that it leaves.
         ensures refines { OnOk result (Tells outcomes.old.items outcomes.new.items
@@ -184,6 +215,14 @@ impl<Q: Queues + Drop> World<Q> {
             (locks_of self.new))) }
         ensures stopped_run { IfErr result (λ stopped. Tells outcomes.old.items outcomes.new.items
             (λ told. IsWorldRun self.old (take stopped.taken steps.now) told self.new)) }
+        ensures stopped_headline { (kinds : List Kind) (threads : ℕ)
+            → self.old ≡ opening kinds threads
+            → IfErr result (λ stopped. Tells outcomes.old.items outcomes.new.items
+            (MayTell kinds threads (take stopped.taken steps.now))) }
+        ensures stopped_behaves { IfErr result
+            (λ stopped. Tells outcomes.old.items outcomes.new.items
+            (λ told. Behaves (filled_at self.old) (locks_of self.old)
+            (take stopped.taken steps.now) told (locks_of self.new))) }
         ensures state { OnOk result (self.new ≡ after_steps self.old steps.now) }
         ensures outcomes { OnOk result
             (outcomes.new.items ≡ outcomes.old.items ++ step_outcomes self.old steps.now) }
@@ -237,6 +276,15 @@ impl<Q: Queues + Drop> World<Q> {
         ensures { result ≡ word_at self.now lock }
     {
         self.machine.word(lock)
+    }
+
+    /// Whether as many threads as its limit allows once shared a lock. One that nobody shares, such
+    /// as a mutex, is never filled.
+    pub fn filled(&self, lock: usize) -> bool
+        requires { lock < length self.now.locks }
+        ensures { result ≡ filled_at self.now lock }
+    {
+        self.machine.filled(lock)
     }
 
     /// Where a thread stands.

@@ -1,6 +1,7 @@
 use Rattle.lot_machine.proofs.Shape.{opening_shaped}
 use Rattle.lot_laws.proofs.CountsPut.{opening_counted}
-use Rattle.lot_laws.proofs.OpeningSites.{opening_condvars, opening_steady}
+use Rattle.lot_laws.proofs.HeadlineHolds.{opens}
+use Rattle.lot_laws.proofs.OpeningSites.{opening_condvars, opening_steady, unfilled_0}
 use Rattle.lot_laws.proofs.Promises.{kept, opening_is}
 use Rattle.lot_laws.proofs.RunsKept.{opening_running}
 use Rattle.lot_world.proofs.world.World.new.Goals as goal
@@ -18,3 +19,6 @@ pub returns-clause-opening : goal.returns-clause-opening
 returns-clause-opening g c =
     let steady = opening_steady c.args.kinds.now c.args.threads c.requires.some c.requires.fit in
     rw c.in_ok-new.ensures.ok (opening_is c.args.kinds.now c.args.threads, kept _ steady (opening_condvars c.args.kinds.now c.args.threads) (opening_running c.args.kinds.now c.args.threads))
+
+pub returns-clause-headline : goal.returns-clause-headline
+returns-clause-headline g c = rw c.in_ok-new.ensures.ok (opens c.args.kinds.now c.args.threads, unfilled_0 c.args.kinds.now)

@@ -5,6 +5,7 @@ use Rattle.lot_laws.proofs.OneThing.{one_thing, touches}
 use Rattle.lot_laws.proofs.Fair.{is_fair}
 use Rattle.abstract_locks.proofs.NobodyWakes.{nobody_wakes}
 use Rattle.lot_laws.proofs.Owing.{owes_since}
+use Rattle.lot_laws.proofs.HeadlineHolds.{step_behaves}
 use Rattle.lot_laws.proofs.WorldRuns.{of_step, world_after, world_step}
 use Rattle.abstract_locks.proofs.UserLaws.{readers_stay_out, rereaders_pass, upgrades_hold, downgrades_hold}
 use Rattle.lot_world.proofs.world.World.step.Goals as goal
@@ -68,3 +69,23 @@ pub returns-clause-nobody_wakes_by_itself : goal.returns-clause-nobody_wakes_by_
 returns-clause-nobody_wakes_by_itself g c =
     let before : IsWorld c.self.inside.machine = c.self.invariant in
     rw (c.turn.ensures.state, ← c.self.view_is) (of_step nobody_wakes c.self.inside.machine c.args.step before)
+
+pub returns-clause-headline : goal.returns-clause-headline
+returns-clause-headline g c =
+    let before : IsWorld c.self.inside.machine = c.self.invariant in
+    rw (c.turn.ensures.outcome, c.turn.ensures.state, ← c.self.view_is) (step_behaves c.self.inside.machine c.args.step before)
+
+pub returns-clause-filled : goal.returns-clause-filled
+returns-clause-filled g c =
+    let before : IsWorld c.self.inside.machine = c.self.invariant in
+    rw (c.turn.ensures.state, ← c.self.view_is) ((world_step c.self.inside.machine c.args.step before).filled)
+
+pub returns-clause-tries : goal.returns-clause-tries
+returns-clause-tries g c goes =
+    let before : IsWorld c.self.inside.machine = c.self.invariant in
+    rw (c.turn.ensures.outcome, ← c.self.view_is) ((world_step c.self.inside.machine c.args.step before).tries goes)
+
+pub returns-clause-sleepers : goal.returns-clause-sleepers
+returns-clause-sleepers g c =
+    let before : IsWorld c.self.inside.machine = c.self.invariant in
+    rw (c.turn.ensures.state, ← c.self.view_is) ((world_step c.self.inside.machine c.args.step before).sleepers)
