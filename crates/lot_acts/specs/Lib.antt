@@ -5,3 +5,4 @@ pub mod Profiles
 pub mod Stations
 pub mod Calls
 pub mod Moves
+pub mod Rows

@@ -3,7 +3,7 @@
 use Rattle.std.proofs.Common.{ℕ, Bool, true, false, Option, Some, None, if◌then◌else◌, ◌==◌, ◌≡◌, ◌≢◌, ◌⊎◌, ◌≤◌, List, [], ◌∷◌, ◌++◌, inl, inr, refl, sym, ◌∙◌, ap, subst, arith}
 use Rattle.abstract_locks.specs.Condvars.{line_of, moved_of, taken_of}
 use Rattle.abstract_locks.specs.Runs.{Nothing, Moves, gives_up, joined_by}
-use Rattle.lot_laws.specs.Promises.{KnowsRights}
+use Rattle.lot_acts.specs.Rows.{KnowsRights}
 use Rattle.abstract_locks.specs.Locks.{Once, OfOnce, Sort, CondvarCase, Look, Show, Hide}
 use Rattle.abstract_locks.specs.Purposes.{Enters, Releases, Converts, Bumps, CallsOnce, Awaits, lock_for, Recall, Blank, Saw, SawOwner, HasMoved, WasMoved, WasNotified, Waits, Notifies}
 use Rattle.abstract_locks.specs.Runs.{is_closure}

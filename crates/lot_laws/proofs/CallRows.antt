@@ -43,7 +43,8 @@ use Rattle.lot_rwlock_fair.specs.FairCalls.{CallStands, HandsOverAt, IsOfBump, W
 use Rattle.abstract_locks.specs.Locks.{Rules, Sort}
 use Rattle.abstract_locks.specs.Purposes.{Bumps, MayWait, lock_for}
 use Rattle.abstract_locks.specs.Sites.{Has, has_readers}
-use Rattle.lot_laws.specs.Promises.{KnowsRights, WakesAside, want_of}
+use Rattle.lot_laws.specs.Promises.{want_of}
+use Rattle.lot_acts.specs.Rows.{KnowsRights, WakesAside}
 use Rattle.lot_laws.proofs.RowPromises.{is_acting, IsWaiting, WasHanded, LetsIn, LetsInAt, IsDebtorIn, HasClaimed, HasDebt, RowLooksAfter, RowPromises}
 use Rattle.lot_laws.proofs.RwLockRows.{knows, no_bump, of, rwlock_promises}
 

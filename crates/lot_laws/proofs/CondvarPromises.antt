@@ -25,7 +25,7 @@ use Rattle.lot_laws.specs.Refinement.{call_state, taken_at}
 use Rattle.lot_laws.specs.Stations.{nowhere, station, station_at, station_by}
 use Rattle.lot_laws.specs.SitesOf.{FitsItsLock}
 use Rattle.lot_laws.specs.Owing.{sort_at}
-use Rattle.lot_laws.specs.Promises.{KnowsRights}
+use Rattle.lot_acts.specs.Rows.{KnowsRights}
 use Rattle.lot_laws.proofs.Glue.{condvar_apart, differ, plain_rules, same}
 use Rattle.lot_laws.proofs.Waiters.{notifier_stands}
 

@@ -22,7 +22,7 @@ use Rattle.abstract_locks.specs.Runs.{AtLock, CallState, Event, GoesOn, IsStep, 
 use Rattle.abstract_locks.specs.Sites.{Main}
 use Rattle.lot_machine.specs.Fits.{IsShaped}
 use Rattle.lot_machine.specs.Machine.{State, after, kind_at, place_at, section_at, step_outcome}
-use Rattle.lot_laws.specs.Promises.{KnowsRights}
+use Rattle.lot_acts.specs.Rows.{KnowsRights}
 use Rattle.lot_laws.specs.Refinement.{call_at, call_state, lock_state, locks_of}
 use Rattle.lot_laws.specs.Stations.{station_at}
 use Rattle.lot_laws.specs.SitesOf.{AreCondvars, AreCounted, FitsCondvar, FitsItsLock, IsSteady, condvar_of, key_of, rules_in}

@@ -18,7 +18,7 @@ use Rattle.lot_once.specs.OnceDeeds.{end_of}
 use Rattle.abstract_locks.specs.Runs.{Closes}
 use Rattle.abstract_locks.specs.Locks.{Rules}
 use Rattle.abstract_locks.specs.Locks as locks
-use Rattle.lot_laws.proofs.MutexRows.{mutex_promises}
+use Rattle.lot_mutex.proofs.MutexRowCheck.{mutex_promises}
 use Rattle.lot_laws.proofs.RowPromises.{RowPromises}
 use Rattle.lot_laws.proofs.CallEvents.{RunsNothing, begins_nothing, runs_nothing}
 use Rattle.abstract_locks.specs.Runs.{is_closure}

@@ -14,7 +14,8 @@ use Rattle.lot_machine.specs.Machine.{State, place_at, word_at, kind_at}
 use Rattle.lot_laws.specs.Refinement.{owner_at, lock_state, call_at}
 use Rattle.lot_laws.specs.SitesOf.{is_mutex, rules_in}
 use Rattle.lot_laws.specs.Owing.{Owes, IsInside, IsWait, ReleasesLock, LetsOthersIn, SeesWaiters, OwesSince, OnlyLooks, LooksFirst, line_let_in, tells_by, sort_at}
-use Rattle.lot_laws.specs.Promises.{KnowsRights, WakesAside, WakesWaiters, IsKept, IsLookedAfter, IsOpenNow}
+use Rattle.lot_laws.specs.Promises.{WakesWaiters, IsKept, IsLookedAfter, IsOpenNow}
+use Rattle.lot_acts.specs.Rows.{KnowsRights, WakesAside}
 use Rattle.lot_laws.specs.MutexPromises.{HasDebtor, HasReleasedIt, IsShownToOwe, WakesOne, GoesToRelease, SeesParkedBit, IsMutexKept, MutexesAreKept, OwesMutexSince, MutexesOwe}
 use Rattle.lot_laws.proofs.MutexTable.{mutex}
 use Rattle.lot_laws.proofs.StandsMoved.{mutex_rules}

@@ -1,6 +1,6 @@
 -- What is promised of a thread at any place of a call, by its row, and what that says of the state.
 use Rattle.std.proofs.Common.{ℕ, Bool, true, false, Option, Some, None, if◌then◌else◌, ◌≡◌, ◌≢◌, ◌*◌, ◌+◌, ◌≤◌, ◌⊎◌, ◌↔◌, inl, inr, refl, sym, ◌∙◌, ap, subst, arith, ◌&&◌, not}
-use Rattle.lot_laws.proofs.OnceRows.{once_promises}
+use Rattle.lot_once.proofs.OnceRowCheck.{once_promises}
 use Rattle.lot_base.specs.declared.keys.Keys.TheVariants.{One}
 use Rattle.lot_base.specs.Lines.{first_of}
 use Rattle.lot_base.specs.Lines as Lines
@@ -19,8 +19,10 @@ use Rattle.lot_machine.specs.Machine.{State, place_at, kind_at, queue_at}
 use Rattle.lot_laws.specs.Refinement.{lock_state, call_on, call_at, taken_at}
 use Rattle.lot_laws.specs.Stations.{Station, nowhere, station, station_at, doing_on, station_by}
 use Rattle.lot_laws.specs.SitesOf.{IsSteady, FitsItsLock, key_of, stood_in, rules_in}
-use Rattle.lot_laws.specs.Owing.{Owes, IsInside, LetsOthersIn, IsDowngrade, sort_at}
-use Rattle.lot_laws.specs.Promises.{GoesToWake, HasReleased, WakesAside}
+use Rattle.lot_laws.specs.Owing.{Owes, IsInside, LetsOthersIn, sort_at}
+use Rattle.lot_acts.specs.Rows.{IsDowngrade}
+use Rattle.lot_laws.specs.Promises.{GoesToWake, HasReleased}
+use Rattle.lot_acts.specs.Rows.{WakesAside}
 use Rattle.lot_laws.proofs.Counts.{none_first, first_out}
 use Rattle.lot_laws.proofs.SingleCalls.{call_here, call_none}
 use Rattle.lot_laws.proofs.CondvarPromises.{StandsAt, two_stand_main}
@@ -29,7 +31,7 @@ use Rattle.lot_laws.proofs.Glue.{same, differ, taken_out, calls_none, inside_is,
 use Rattle.lot_laws.proofs.MutexTable.{queued_times}
 use Rattle.lot_laws.proofs.StandsMoved.{mutex_rules}
 use Rattle.lot_laws.proofs.LineActs.{IsOfLine, IsLineAct, line_act}
-use Rattle.lot_laws.proofs.MutexRows.{mutex_promises}
+use Rattle.lot_mutex.proofs.MutexRowCheck.{mutex_promises}
 use Rattle.lot_laws.proofs.RowPromises.{CallsOneLock, LetsIn, LetsInAt, IsWaiting, calls_one as purpose_of_one, taken_of, RowPromises}
 use Rattle.lot_laws.proofs.CallEvents.{rights}
 use Rattle.lot_laws.proofs.CallRows.{call_promises}

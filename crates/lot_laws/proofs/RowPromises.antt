@@ -1,5 +1,4 @@
--- What the row of a place, and what its thread does next, must say, so that each state keeps what is promised of the thread: whatever the
--- sort of its lock.
+-- What the row of a place says of a step to the next one, whatever the sort of its lock.
 use Rattle.std.proofs.Common.{ℕ, Bool, true, false, Option, Some, None, if◌then◌else◌, ◌||◌, ◌≡◌, ◌≢◌, ◌*◌, ◌⊎◌, inl, inr, refl, sym, ◌∙◌}
 use Rattle.lot_base.specs.declared.keys.Keys.TheVariants.{One}
 use Rattle.lot_base.specs.declared.notes.Note.TheVariants as note
@@ -19,16 +18,13 @@ use Rattle.abstract_locks.specs.Locks as sorts
 use Rattle.abstract_locks.specs.Purposes.{Purpose, Enters, Releases, Converts, Bumps, CallsOnce, Awaits, MayWait, IsReleasing, lock_for, Waits, Notifies}
 use Rattle.abstract_locks.specs.Runs.{IsTimed}
 use Rattle.abstract_locks.specs.Sites.{Claim, Doing, Line, Main, Second, Has, Pends, IsDebtor, counts_some, has_readers}
+pub use Rattle.lot_acts.specs.Rows.{is_acting, taken_of, IsWaiting, HasClaimed, WasHanded, LetsIn, LetsInAt, RowOwes, IsDebtorIn, HasDebt, RowLooksAfter, RowIsLate, RowPromises}
 pub use Rattle.lot_machine.proofs.Acted.{Befalls}
 use Rattle.lot_laws.specs.SitesOf.{key_of}
-use Rattle.lot_laws.specs.Owing.{IsDowngrade, LooksFirst, line_let_in, tells_by, tells_of}
-use Rattle.lot_laws.specs.Promises.{KnowsRights, WakesAside, WakesWaiters, want_of}
-
--- what a thread in a call does
-abbrev pub is_acting : Act → Bool
-is_acting Rest = false
-is_acting (End answer) = false
-is_acting a = true
+use Rattle.lot_laws.specs.Owing.{LooksFirst, line_let_in, tells_by, tells_of}
+use Rattle.lot_acts.specs.Rows.{IsDowngrade}
+use Rattle.lot_laws.specs.Promises.{WakesWaiters, want_of}
+use Rattle.lot_acts.specs.Rows.{KnowsRights, WakesAside}
 
 -- a call is of one lock
 abbrev pub CallsOneLock : Option Purpose → Type 0
@@ -62,93 +58,6 @@ downgrades_for (CallsOnce k forced) l h = absurd h
 downgrades_for (Awaits k forced) l h = absurd h
 downgrades_for (Waits k m timed) l h = absurd h
 downgrades_for (Notifies k all) l h = absurd h
-
--- by whom it was taken from a queue of its lock
-abbrev pub taken_of : Profile → Option Taken
-taken_of row = taken_from row.hand row.wants true
-
--- it stands in a line, or was taken from one
-abbrev pub IsWaiting : Profile → Type 0
-IsWaiting row = (row.stands ≢ None) ⊎ (taken_of row ≢ None)
-
--- it has this right, or, to a lock that is shared, its pending one
-abbrev pub HasClaimed : Sort → Option Claim → Want → Type 0
-HasClaimed sort claims x =
-    (claims ≡ Some (Has x)) ⊎ ((x ≡ Exclusive) × (has_readers sort ≡ true) × ((b : Bool) × (claims ≡ Some (Pends b))))
-
--- it was handed what it waited for
-pub record WasHanded (sort : Sort) (l : ℕ) (row : Profile) : Type 0 where
-  pub by : ℕ
-  pub in_hand : row.hand ≡ hand by true
-  pub waited : MayWait (Some (row.purpose l)) l
-  pub want : Want
-  pub wants : want_of (Some (row.purpose l)) ≡ Some want
-  pub has : HasClaimed sort row.doing.claims want
-
--- its call lets others in
-abbrev pub LetsIn : Sort → ℕ → Profile → Type 0
-LetsIn sort l row =
-    IsReleasing (Some (row.purpose l)) row.released l
-    ⊎ ((has_readers sort ≡ true) × (IsDowngrade (Some (row.purpose l)) l ⊎ ((row.gave_up ≡ true) × (row.doing.inside ≡ None))))
-
--- on its way into the section of this line
-abbrev pub LetsInAt : Sort → ℕ → Profile → Line → Type 0
-LetsInAt sort l row m = LetsIn sort l row ⊎ WakesAside (Some (row.purpose l)) l m
-
--- who owes a wake on a line is inside its section, or lets others in and is on its way into it
-pub record RowOwes (sort : Sort) (l : ℕ) (row : Profile) (a : Act) : Type 0 where
-  pub owes : (m : Line) → row.owes ≡ Some m
-      → (row.doing.inside ≡ Some m) ⊎ ((a ≡ Enter (One (key_of l m))) × LetsInAt sort l row m)
-  pub inside : (m : Line) → row.doing.inside ≡ Some m → row.owes ≡ Some m
-  pub entering : (m : Line) → a ≡ Enter (One (key_of l m)) → LetsInAt sort l row m → row.owes ≡ Some m
-  pub second : row.owes ≡ Some Second → has_readers sort ≡ true
-
--- it is to look after the waiters of a line, by what it does
-abbrev pub IsDebtorIn : Sort → Doing → Line → Type 0
-IsDebtorIn sort d Main = IsDebtor sort d
-IsDebtorIn sort d Second = d.wakes ≡ Some Second
-
-abbrev pub HasDebt : Sort → ℕ → Profile → Line → Type 0
-HasDebt sort l row Main =
-    ((row.owes ≡ Some Main) × WakesWaiters sort (Some (row.purpose l)) (if row.gave_up then Some l else None) row.recalls l)
-    ⊎ ((row.retries ≡ true) × (counts_some sort (want_of (Some (row.purpose l))) ≡ true))
-HasDebt sort l row Second = row.owes ≡ Some Second
-
--- it has the debt, is awake, stands in no line and isn't taken
-pub record RowLooksAfter (sort : Sort) (l : ℕ) (row : Profile) (a : Act) (m : Line) : Type 0 where
-  pub debt : HasDebt sort l row m
-  pub awake : a ≢ Sleep
-  pub stands : row.stands ≡ None
-  pub taken : taken_of row ≡ None
-
--- who sleeps and may give up stands in the line, in a call that has a deadline and lets nobody in
-pub record RowIsLate (sort : Sort) (l : ℕ) (row : Profile) (a : Act) (m : Line) : Type 0 where
-  pub stands : row.stands ≡ Some m
-  pub asleep : a ≡ Sleep
-  pub timed : IsTimed (Some (row.purpose l)) row.recalls l
-  pub shut : LetsIn sort l row → ⊥
-
-pub record RowPromises (sort : Sort) (l : ℕ) (row : Profile) (a : Act) : Type 0 where
-  -- its call is of the lock
-  pub own : lock_for (row.purpose l) ≡ l
-  -- it has something to do
-  pub acts : is_acting a ≡ true
-  -- who waits is in a call that may
-  pub waits : IsWaiting row → MayWait (Some (row.purpose l)) l
-  -- and it is for rights that the lock knows
-  pub known : (sorts : ℕ → Sort) → sorts l ≡ sort → KnowsRights sorts (Some (row.purpose l))
-  -- in the second line stands only who is pending
-  pub aside : row.stands ≡ Some Second → (b : Bool) × (row.doing.claims ≡ Some (Pends b))
-  pub owing : RowOwes sort l row a
-  pub debtor : (m : Line) → IsDebtorIn sort row.doing m → (row.doing.claims ≡ Some (Has Exclusive) → ⊥)
-      → RowLooksAfter sort l row a m
-  pub asleep : a ≡ Sleep → IsWaiting row ⊎ WasHanded sort l row
-  -- who has handed the lock over leaves its section next, and tells so
-  pub tells : row.carries ≡ Some true
-      → (a ≡ Leave (One (2 * l)) (wakes.TheVariants.All note.HandOff)) × (row.doing.inside ≡ Some Main)
-  pub late : (m : Line) → row.late_line ≡ Some m → RowIsLate sort l row a m
-  pub may_be_late : (m : Line) → row.stands ≡ Some m → a ≡ Sleep → IsTimed (Some (row.purpose l)) row.recalls l
-      → row.late_line ≡ Some m
 
 -- ---------------------------------------------------------------- a step
 

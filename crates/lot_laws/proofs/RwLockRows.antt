@@ -37,7 +37,7 @@ use Rattle.abstract_locks.specs.Locks as sorts
 use Rattle.abstract_locks.specs.Purposes.{MayWait, lock_for, Blank}
 use Rattle.abstract_locks.specs.Runs.{IsTimed}
 use Rattle.abstract_locks.specs.Sites.{Pends, Claim, counts_some, has_readers, idle}
-use Rattle.lot_laws.specs.Promises.{KnowsRights, WakesAside}
+use Rattle.lot_acts.specs.Rows.{KnowsRights, WakesAside}
 use Rattle.lot_laws.proofs.RowPromises.{is_acting, LetsIn, IsDebtorIn, HasDebt, RowLooksAfter, RowIsLate, RowPromises}
 
 -- ---------------------------------------------------------------- the call

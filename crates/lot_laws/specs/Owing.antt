@@ -1,5 +1,6 @@
 -- Who owes a wake on a line, by what has happened: from the step that saw waiters, or from entering
 -- the section, until the section is left.
+use Rattle.lot_acts.specs.Rows.{IsDowngrade}
 use Rattle.std.specs.Prelude.{ℕ, Bool, true, false, if◌then◌else◌, ◌==◌, ◌&&◌, ◌||◌, Option, Some, ◌≡◌, ◌≢◌, ◌⊎◌, ◌↔◌}
 use Rattle.lot_base.specs.declared.wants.Want.TheVariants.{Exclusive, Shared}
 use Rattle.lot_calls.specs.declared.outcomes.Outcome.{Outcome}
@@ -34,11 +35,6 @@ IsWait purpose = ⊥
 -- its call releases the lock
 abbrev pub ReleasesLock : State → ℕ → ℕ → Type 0
 ReleasesLock w t l = IsReleasing (call_at w t).purpose (call_at w t).released l
-
--- a call that turns its right into a lesser one
-abbrev pub IsDowngrade : Option Purpose → ℕ → Type 0
-IsDowngrade (Some (Converts k x y how)) l = (k ≡ l) × (y ≢ Exclusive)
-IsDowngrade purpose l = ⊥
 
 -- it has given up to wait for the lock, and is inside none of its sections
 abbrev pub HasGivenUp : State → ℕ → ℕ → Type 0

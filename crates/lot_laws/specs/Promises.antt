@@ -1,5 +1,6 @@
 -- What is promised of every state, before and after each step, under every schedule. Each clause is
 -- told by the sort of lock, so that it stays as it is for sorts that have no call yet.
+use Rattle.lot_acts.specs.Rows.{KnowsRights, WakesAside}
 use Rattle.abstract_locks.specs.Locks as locks
 use Rattle.std.specs.Prelude.{ℕ, Bool, false, true, None, Option, ◌≡◌, ◌≢◌, ◌≤◌, ◌⊎◌, ◌↔◌, Some, ◌*◌, ◌+◌, []}
 use Rattle.lot_base.specs.declared.keys.Keys.TheVariants.{One}
@@ -53,12 +54,6 @@ IsToMark w t l = IsAboutToMark w t l
 
 -- ---------------------------------------------------------------- debts
 
--- a bump of a shared right, which wakes the writer aside behind its release
-abbrev pub WakesAside : Option Purpose → ℕ → Line → Type 0
-WakesAside purpose l Main = ⊥
-WakesAside (Some (Bumps k Shared)) l Second = k ≡ l
-WakesAside purpose l Second = ⊥
-
 -- a wait that has released its mutex, whose waiters it wakes then
 abbrev pub HasReleased : Option Purpose → Bool → ℕ → Line → Type 0
 HasReleased (Some (Waits l n timed)) released k Main = (n ≡ k) × (released ≡ true)
@@ -71,18 +66,6 @@ GoesToWake w t l m =
     × (LetsOthersIn w t l
     ⊎ (WakesAside (call_at w t).purpose l m
     ⊎ HasReleased (call_at w t).purpose (call_at w t).released l m))
-
--- a call is for rights that its lock knows
-abbrev pub KnowsRights : (ℕ → Sort) → Option Purpose → Type 0
-KnowsRights sort (Some (Enters l x how)) = Knows (sort l) x
-KnowsRights sort (Some (Releases l x fair)) = Knows (sort l) x
-KnowsRights sort (Some (Converts l x y how)) = Knows (sort l) x × Knows (sort l) y
-KnowsRights sort (Some (Bumps l x)) = Knows (sort l) x
-KnowsRights sort (Some (CallsOnce l forced)) = sort l ≡ Once
-KnowsRights sort (Some (Awaits l forced)) = sort l ≡ Once
-KnowsRights sort (Some (Waits l m timed)) = (sort l ≡ locks.Condvar) × (sort m ≡ locks.Mutex)
-KnowsRights sort (Some (Notifies l all)) = sort l ≡ locks.Condvar
-KnowsRights sort None = Unit {0}
 
 -- it owes a wake on the main line, and its call wakes whom it takes; or it was woken, is about to
 -- try again, and wants what passes the turn on (of a mutex anything, of a reader-writer lock more

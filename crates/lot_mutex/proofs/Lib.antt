@@ -4,3 +4,4 @@ pub mod MutexCode
 pub mod HandOffRights
 pub mod MutexCalls
 pub mod MutexTells
+pub mod MutexRowCheck

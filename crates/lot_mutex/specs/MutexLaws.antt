@@ -12,6 +12,7 @@ use Rattle.lot_acts.specs.declared.owners.Owners.{Owners}
 use Rattle.lot_acts.specs.Calls.{CallFollows}
 use Rattle.lot_acts.specs.Moves.{IsFree, StandsAlone}
 use Rattle.lot_acts.specs.Profiles.{Profile, bringing_nobody}
+use Rattle.lot_acts.specs.Rows.{RowPromises}
 use Rattle.abstract_locks.specs.Codes.{code}
 use Rattle.abstract_locks.specs.Deeds.{AllNeeded, after_all}
 use Rattle.abstract_locks.specs.Locks.{HasTakenNobody, IsSuccessor, Mutex, Queued, Rules, first_thread, standing}
@@ -166,3 +167,8 @@ MutexStepsTell =
     → IsAt r s t p → MayHear r s t p whom told → told ≢ Late
     → CallFollows r s.lock t l (mutex_row p) (mutex_deeds p whom told)
     (next_row (mutex_next p told))
+
+-- ---------------------------------------------------------------- what a row owes the promises
+
+abbrev pub MutexRowsKeep : Type 0
+MutexRowsKeep = (l : ℕ) (at : MutexPlace) → RowPromises Mutex l (mutex_row at) (mutex_act l at)

@@ -1,5 +1,5 @@
 //! What the steps of a mutex do to it.
-ghost use Rattle.lot_mutex.specs.MutexLaws.{MutexHandOversCode, MutexStepsCode, MutexStepsFollow, MutexStepsTell};
+ghost use Rattle.lot_mutex.specs.MutexLaws.{MutexHandOversCode, MutexRowsKeep, MutexStepsCode, MutexStepsFollow, MutexStepsTell};
 
 /// Each step of a mutex may do to it what its deeds say, and its next place says what the thread
 /// does then.
@@ -21,4 +21,9 @@ pub fn mutex_hand_overs_code()
 /// answer is true.
 pub fn mutex_steps_tell()
     ensures { MutexStepsTell }
+{}
+
+/// Each row keeps what is promised of its thread: it owes wake-ups, sleeps and ends as it may.
+pub fn mutex_rows_keep()
+    ensures { MutexRowsKeep }
 {}

@@ -3,3 +3,4 @@ pub mod OnceProfiles
 pub mod OnceDeeds
 pub mod OnceCalls
 pub mod OnceMoves
+pub mod OnceRows

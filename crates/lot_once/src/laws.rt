@@ -1,6 +1,7 @@
 //! What the steps of a `Once` do to it.
 ghost use Rattle.lot_once.specs.OnceCalls.{OnceSectionsTell, OnceSleepersHear, OnceStepsTell};
 ghost use Rattle.lot_once.specs.OnceMoves.{OnceActsMove, OnceSleepersMove};
+ghost use Rattle.lot_once.specs.OnceRows.{OnceRowsKeep};
 ghost use Rattle.lot_once.specs.OnceDeeds.{OnceOwnersFollow, OnceSectionsFollow, OnceStepsCode, OnceStepsFollow};
 
 /// Each step on the word of a `Once` may do to it what its deeds say, and its next place says what
@@ -49,4 +50,9 @@ pub fn once_acts_move()
 /// And so does what befalls it asleep.
 pub fn once_sleepers_move()
     ensures { OnceSleepersMove }
+{}
+
+/// Each row keeps what is promised of its thread: it owes wake-ups, sleeps and ends as it may.
+pub fn once_rows_keep()
+    ensures { OnceRowsKeep }
 {}
