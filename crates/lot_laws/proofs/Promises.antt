@@ -24,6 +24,7 @@ use Rattle.lot_laws.specs.Owing.{Owes, sort_at}
 use Rattle.lot_laws.specs.Promises.{IsKept, KnowsRights, WaitsFor, WakesWaiters, IsDebtorOf, IsLookedAfter, IsOpenNow, WasNeverFull, HasOrPends, IsHandedOver, IsOwedWake, IsWithinLimit, want_of, HasReleased}
 use Rattle.lot_laws.proofs.Closures.{runs_one}
 use Rattle.lot_laws.proofs.HandsInside.{hands_inside, is_to_mark}
+use Rattle.lot_laws.proofs.Held.{held}
 use Rattle.lot_laws.proofs.TriesGo.{tries_go}
 use Rattle.lot_laws.proofs.ShownMutex.{shows_waiters}
 use Rattle.lot_laws.proofs.SitesPromise.{not_empty}
@@ -400,6 +401,7 @@ module _ (w : State) (steady : IsSteady w) where
     state = λ l. (steady.sites.site l).state;
     one_place = one_place;
     in_hand = hands_inside w steady;
+    held = held w steady;
     waiting = waits;
     known = known;
     coded = λ l. steady.sites.word l;

@@ -153,6 +153,15 @@ pub record ShowsItsWaiters (w : State) (l : ℕ) : Type 0 where
   pub one : (t m : ℕ) → (lock_state w l).shown ≡ Some m → WaitsFor w t l
       → (timed : Bool) × ((call_at w t).purpose ≡ Some (Waits l m timed))
 
+-- by whom a thread was taken
+abbrev pub holder : Option Taken → Option ℕ
+holder None = None
+holder (Some h) = Some h.by
+
+-- a thread is inside a section of the lock, and awake
+abbrev pub IsInsideAwake : State → ℕ → ℕ → Type 0
+IsInsideAwake w t l = ((m : Line) × IsInside w t l m) × (act_of (place_at w t) ≢ Sleep)
+
 -- a call that tries
 abbrev pub IsTry : Option Purpose → Type 0
 IsTry None = ⊥
@@ -176,9 +185,12 @@ pub record IsKept (w : State) : Type 0 where
   -- and at one lock at most
   pub one_place : (t l k : ℕ) → 1 ≤ standing t (lock_state w l) → 1 ≤ standing t (lock_state w k)
       → l ≡ k
-  -- whoever is taken is in the hand of a thread that is inside a section of the lock
-  pub in_hand : (u l : ℕ) (h : Taken) → (lock_state w l).taken u ≡ Some h
-      → (m : Line) × IsInside w h.by l m
+  -- whoever is taken is in the hand of such a thread
+  pub in_hand : (u l : ℕ) (h : Taken) → (lock_state w l).taken u ≡ Some h → IsInsideAwake w h.by l
+  -- and by its place in that hand; whoever stands in a line is in nobody's, so that no other
+  -- thread's step wakes it
+  pub held : (t l : ℕ) → 1 ≤ standing t (lock_state w l)
+      → taker (place_at w t) ≡ holder ((lock_state w l).taken t)
   -- whoever stands, or is taken, does so in a call that waits for the lock
   pub waiting : (t l : ℕ) → 1 ≤ standing t (lock_state w l) → MayWait (call_at w t).purpose l
   -- and each call is for rights that its lock knows
