@@ -165,6 +165,8 @@ pub mod CondvarGo
 pub mod Placed
 pub mod CondvarBegins
 pub mod HandsInside
+pub mod Held
+pub mod TriesGo
 pub mod Filled
 pub mod Tries
 pub mod Sleepers

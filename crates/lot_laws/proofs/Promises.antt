@@ -25,6 +25,8 @@ use Rattle.lot_laws.specs.Promises.{IsKept, WaitsFor, WakesWaiters, IsDebtorOf, 
 use Rattle.lot_acts.specs.Rows.{KnowsRights}
 use Rattle.lot_laws.proofs.Closures.{runs_one}
 use Rattle.lot_laws.proofs.HandsInside.{hands_inside, is_to_mark}
+use Rattle.lot_laws.proofs.Held.{held}
+use Rattle.lot_laws.proofs.TriesGo.{tries_go}
 use Rattle.lot_laws.proofs.ShownMutex.{shows_waiters}
 use Rattle.lot_laws.proofs.SitesPromise.{not_empty}
 use Rattle.lot_laws.proofs.RowPromises.{CallsOneLock, IsDebtorIn, HasClaimed, HasDebt, WasHanded, RowLooksAfter}
@@ -400,6 +402,7 @@ module _ (w : State) (steady : IsSteady w) where
     state = λ l. (steady.sites.site l).state;
     one_place = one_place;
     in_hand = hands_inside w steady;
+    held = held w steady;
     waiting = waits;
     known = known;
     coded = λ l. steady.sites.word l;
@@ -412,6 +415,7 @@ module _ (w : State) (steady : IsSteady w) where
     going_owes = λ t. going_owes_so w t steady;
     second_line = second_line;
     retrying = retrying;
+    tries = tries_go w steady;
     handing = λ t h. handed_over t h.0 h.1;
     parked = λ t l waiting. elim ((steady.sites.site l).parked (not_empty t (lock_state w l).queue waiting)) [
       | inl set ↦ inl set

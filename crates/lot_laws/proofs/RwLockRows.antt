@@ -191,7 +191,7 @@ awake_at l a p (at.Wake m (waking.Leave any)) h e = cc
 
 -- ---------------------------------------------------------------- waiting
 
-parks_wait : (how : Patience) (to : ParkAt) → ParksBy how to → how ≢ Try
+pub parks_wait : (how : Patience) (to : ParkAt) → ParksBy how to → how ≢ Try
 parks_wait Patient to h e = cc
 parks_wait Timed to h e = cc
 parks_wait Try parking.Remove h e = h

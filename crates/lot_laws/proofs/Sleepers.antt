@@ -163,7 +163,7 @@ unless_sleeps : (l : ℕ) (a : Admission) (o : Option RwLockCallPlace) (n : Next
 unless_sleeps l a None n given stays = stays
 unless_sleeps l a (Some c) n given stays = (c, (refl, given))
 
-hands_awake : (l : ℕ) (a : Admission) (x : Access) (to : HandOverAt) → hand_over_act l a x to ≡ Sleep → ⊥
+pub hands_awake : (l : ℕ) (a : Admission) (x : Access) (to : HandOverAt) → hand_over_act l a x to ≡ Sleep → ⊥
 hands_awake l a x (handing.Exchange k seen) h = either (has_room a.limit k seen) _ _ h
   where
     either : (b : Bool) (y z : ℕ) → (if b then act.HandOver l (operation.Exchange seen y) else act.Word l (operation.Exchange seen z)) ≡ Sleep → ⊥

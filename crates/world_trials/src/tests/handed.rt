@@ -1,5 +1,5 @@
 //! Reader-writer locks that are handed over.
-use super::same;
+use super::{holds, same};
 use super::scripts::Line::{Calls, GoesOn, Rests, Shows};
 use super::scripts::{DONE, Line, plays, plays_anew, world_of};
 use lot_base::{ListQueues, Want};
@@ -155,4 +155,25 @@ const LETS_GO: &[Line] = &[
 #[test]
 fn a_fair_release_that_nobody_waits_for_lets_the_lock_go(rt: HostRuntime) {
     plays_anew(&rt, rt.alloc(), &[LOCK], 2, LETS_GO);
+}
+
+const NARROW: Kind = Kind::RwLock { limit: 2 };
+
+const READS: &[Line] = &[Calls(0, READ, DONE)];
+
+const LEAVES_IT_FULL: &[Line] = &[
+    Calls(1, READ, DONE),
+    Calls(0, END_READING, DONE),
+    Calls(1, END_READING, DONE),
+];
+
+#[test]
+fn a_lock_is_filled_from_the_step_on_by_which_it_is_full(rt: HostRuntime) {
+    let mut world = world_of(&rt, rt.alloc(), &[NARROW], 2);
+    plays(&rt, &mut world, READS);
+    assert!(rt; world.locks() == 1);
+    holds(&rt, !world.filled(0));
+    plays(&rt, &mut world, LEAVES_IT_FULL);
+    assert!(rt; world.locks() == 1);
+    holds(&rt, world.filled(0));
 }
