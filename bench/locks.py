@@ -3,14 +3,17 @@
 
 It needs cargo, the package librust-parking-lot-dev of Debian, and for the count of instructions valgrind.
 
-python3 bench/locks.py [MODE ..] [--n N] [--runs N] [--sittings N] [--built], else every mode with 10 million
-operations, nine times, in one sitting. It prints a table: the median of nanoseconds for an operation, the best in
+python3 bench/locks.py [MODE ..] [--n N] [--runs N] [--sittings N] [--busy N] [--built], else every mode with 10
+million operations, nine times, in one sitting. It prints a table: the median of nanoseconds for an operation, the best in
 brackets, and what the busiest thread of ours did for one of the idlest, as the median and the greatest of the runs.
 With several sittings, each of so many runs, the ratio is the median of theirs, the least and the greatest in brackets,
-and so is how much longer ours took. With --built it takes both programs as they lie in their folders.
+and so is how much longer ours took. With --busy N, N processes run beside both programs that do nothing but keep a
+processor busy; then one thread alone is left out, and no instructions are counted. With --built it takes both programs
+as they lie in their folders.
 """
 
 import argparse
+import contextlib
 import os
 import re
 import statistics
@@ -34,6 +37,8 @@ THREADS = [1, 2, 4, 8]
 # Where threads wait for one another: for how many, and one operation for so many of another mode.
 TOGETHER = {"notify_all": [2, 4, 8], "pingpong": [2], "queue": [2, 4, 8]}
 FEWER = 100
+# A process that keeps a processor busy, until its parent ends.
+LOOP = "import os\nparent = os.getppid()\nwhile os.getppid() == parent:\n    for _ in range(1000000):\n        pass"
 COLLECTED = re.compile(r"Collected\s*:\s*(\d+)")
 
 
@@ -44,6 +49,18 @@ def build():
     flags = [word for setting in source for word in ("--config", setting)]
     cargo = ["cargo", "build", "--quiet", "--release", "--offline", "--target-dir", "out"]
     subprocess.run([*cargo, *flags], cwd=RUST, check=True)
+
+
+@contextlib.contextmanager
+def busy_beside(count):
+    """So many busy processes, for as long as the block lasts."""
+    loops = [subprocess.Popen([sys.executable, "-c", LOOP]) for _ in range(count)]
+    try:
+        yield
+    finally:
+        for loop in loops:
+            loop.kill()
+            loop.wait()
 
 
 def run(program, mode, threads, operations):
@@ -106,30 +123,42 @@ def for_one(program, mode):
     return (instructions(program, mode, many) - instructions(program, mode, few)) / (many - few)
 
 
-def main():
-    parser = argparse.ArgumentParser(description=__doc__, formatter_class=argparse.RawDescriptionHelpFormatter)
-    parser.add_argument("modes", nargs="*", metavar="MODE", help=", ".join(MODES))
-    parser.add_argument("--n", type=int, default=10_000_000)
-    parser.add_argument("--runs", type=int, default=9)
-    parser.add_argument("--sittings", type=int, default=1)
-    parser.add_argument("--built", action="store_true")
-    asked = parser.parse_args()
-    modes = asked.modes or MODES
-    if not asked.built:
-        build()
+def print_times(asked, modes):
     print("| mode | threads | ours, ns | Rust, ns | ratio | ns more | ours, busiest by idlest |")
     print("|---|---|---|---|---|---|---|")
     for mode in modes:
         for other in BESIDE.get(mode, [mode]):
             operations = asked.n // FEWER if mode in TOGETHER else asked.n
             for threads in TOGETHER.get(mode, THREADS):
-                print(row(mode, other, threads, operations, asked.runs, asked.sittings), flush=True)
+                if threads > 1 or not asked.busy:
+                    print(row(mode, other, threads, operations, asked.runs, asked.sittings), flush=True)
+
+
+def print_instructions(modes):
     print()
     print("| mode | ours, instructions | Rust, instructions |")
     print("|---|---|---|")
     for mode in (mode for mode in modes if mode not in TOGETHER):
         for other in BESIDE.get(mode, [mode]):
             print(f"| `{other}` | {for_one(OURS, mode):.1f} | {for_one(THEIRS, other):.1f} |", flush=True)
+
+
+def main():
+    parser = argparse.ArgumentParser(description=__doc__, formatter_class=argparse.RawDescriptionHelpFormatter)
+    parser.add_argument("modes", nargs="*", metavar="MODE", help=", ".join(MODES))
+    parser.add_argument("--n", type=int, default=10_000_000)
+    parser.add_argument("--runs", type=int, default=9)
+    parser.add_argument("--sittings", type=int, default=1)
+    parser.add_argument("--busy", type=int, default=0)
+    parser.add_argument("--built", action="store_true")
+    asked = parser.parse_args()
+    modes = asked.modes or MODES
+    if not asked.built:
+        build()
+    with busy_beside(asked.busy):
+        print_times(asked, modes)
+    if not asked.busy:
+        print_instructions(modes)
 
 
 if __name__ == "__main__":

@@ -23,7 +23,9 @@ use std::sync::atomic::Ordering::SeqCst;
 use std::sync::{MutexGuard, Wait};
 
 // How often a thread tries to enter a section before it sleeps until it may, and for how many
-// rounds it pauses behind a try.
+// rounds it pauses behind a try: in all 5 microseconds, where a round takes 11 nanoseconds. Several
+// sections take no longer, unless their threads do not run. The lock then spins for a microsecond
+// more and parks; neither yields.
 const TRIES: u32 = 40;
 
 const PAUSE: u32 = 12;

@@ -9,15 +9,13 @@ use crate::tokens::Token;
 use lot_base::{Clock, Key, Keys, Note, Want};
 use lot_words::{Right, Word};
 use std::sync::Wait;
-use std::thread::yield_now;
 
-// How often a thread polls its note before it sleeps, so that who is one of several in a queue is
-// mostly told meanwhile. It was found by trial, with the bounded queues of `lotbench`.
-const POLLS: u32 = 64;
-
-// Behind so many of them it pauses, for so many rounds; behind a later one it lets others run, who
-// may be about to wake it.
-const PAUSED_POLLS: u32 = 12;
+// How often a thread polls its note before it parks, and the rounds of the pause behind each poll:
+// in all 0.8 microseconds, where a round takes 11 nanoseconds, and up to four times as long on other
+// processors. A thread that is answered at once sees it meanwhile. A longer spin takes time from the
+// thread that is waited for, where each processor has more than one to run. It never yields: beside
+// busy processes the scheduler gives the processor back a whole slice later.
+const POLLS: u32 = 12;
 
 const PAUSE: u32 = 6;
 
@@ -31,14 +29,6 @@ pub enum Slept<'a> {
     Late(Section<'a>, Key),
 }
 
-// Lets time pass behind a poll.
-fn pass(polls: u32) {
-    if polls >= PAUSED_POLLS {
-        return yield_now();
-    }
-    pause(PAUSE);
-}
-
 impl ParkingLot {
     ghost use Rattle.parking_lot_core.specs.Tokens.{IsTokenOf, IsSameThread};
     ghost use Rattle.parking_lot_core.specs.Sleeps.{IsWoken, IsLate, IsSlept, WasLate};
@@ -47,11 +37,11 @@ impl ParkingLot {
     fn linger(&self, thread: usize)
         requires { thread < self.now.records.count }
     {
-        for polls in 0..POLLS {
+        for _ in 0..POLLS {
             if self.records.is_marked(thread) {
                 return;
             }
-            pass(polls);
+            pause(PAUSE);
         }
     }
 

@@ -44,7 +44,7 @@ impl ParkingLot {
             (view_of token.old).owns }
     {
         token.forget_section();
-        self.words.step(&mut token.seat, word, op)
+        self.word_again(token, word, op)
     }
 
     /// The same of who has stepped on a word since it left its last section, so that there is none to

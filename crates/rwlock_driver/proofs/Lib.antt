@@ -5,3 +5,4 @@ pub mod RwLockTakes
 pub mod RwLockFull
 pub mod RwLockRights
 pub mod RwLockFairCalls
+mod RwLockHalves

@@ -1,2 +1,3 @@
 pub mod RwLockRefusals
 pub mod Courses
+pub mod Halves

@@ -1,5 +1,5 @@
 //! The calls of a reader-writer lock, each from its first step to its answer.
-ghost use Rattle.std.specs.Prelude.{◌≡◌, List, None};
+ghost use Rattle.std.specs.Prelude.{◌≡◌, List, None, MatchResult};
 ghost use Rattle.lot_acts.specs.declared.acts.Reply.TheVariants.{Value};
 ghost use Rattle.lot_base.specs.Clocks.{IsUp};
 ghost use Rattle.lot_rwlock.specs.declared.purposes.RwLockPurpose.TheVariants.{Enter};
@@ -8,8 +8,9 @@ ghost use Rattle.lot_words.specs.Lots.{IsWordOf};
 ghost use Rattle.lot_words.specs.declared.owners.Ownership.{Ownership};
 ghost use Rattle.lot_words.specs.declared.words.WordKind.TheVariants.{RwLock};
 ghost use Rattle.parking_lot_core.specs.Tokens.{IsTokenOf, IsSameThread};
-ghost use Rattle.rwlock_driver.specs.Courses.{course_of};
-ghost use Rattle.rwlock_driver.specs.declared.courses.Course.TheVariants.{Takes};
+ghost use Rattle.parking_lot_core.specs.declared.tokens.Token.{Token};
+ghost use Rattle.rwlock_driver.specs.Halves.{HasBegun, HasEnded};
+ghost use Rattle.rwlock_driver.specs.declared.calls.Rest.TheVariants.{GoesOn, Missed};
 ghost use Rattle.lot_driver.specs.Fitting.{AreWordsFor, Fits, IsOver, Reached, aim_of, of_rwlock};
 ghost use Rattle.lot_driver.specs.Paths.{Rests, Walks, at_rwlock};
 ghost use Rattle.lot_driver.specs.RwLockCalls.{AnswersCall, BeginsWith, HasWalkedRwLock, MeetsAt, WakesBy, rwlock_begin, rwlock_deciding};
@@ -28,6 +29,15 @@ use lot_steps::{Place, Reply, advance};
 use parking_lot_core::pauses::{SHORT_PAUSE, pause};
 use parking_lot_core::{Clock, Op, ParkingLot, Token, Word};
 use std::sync::Wait;
+
+/// What the fast half of a call leaves to the slow one.
+#[derive(Clone, Copy)]
+pub enum Rest {
+    /// Its first step saw this, and it goes on.
+    GoesOn(u64),
+    /// Its first step saw one value, and the exchange by which it takes its right found another.
+    Missed { seen: u64, found: u64 },
+}
 
 /// Runs a call that steps on one word from a place to its answer.
 pub(crate) fn run_out<R: Wait, C: Clock>(
@@ -182,9 +192,9 @@ fn rest_behind<R: Wait, C: Clock>(
     run_out(rt, lot, token, *word, *limit, start)
 }
 
-// The rest of a call whose first step saw this.
+/// The slow half of a call whose first step saw this, and that goes on.
 #[inline(always)]
-fn behind<R: Wait, C: Clock>(
+pub fn behind<R: Wait, C: Clock>(
     rt: &R,
     lot: &ParkingLot,
     token: &mut Token,
@@ -195,16 +205,14 @@ fn behind<R: Wait, C: Clock>(
     seen: u64,
 ) -> Answer
     requires own { MeetsAt lot.now token.old word.now admission.now }
-    requires fits { (base : List Ownership) × Fits (IsUp C.tells limit.now) base
-        (next_place (rwlock_begin word.now.number admission.now purpose) (Value seen)) (stage_of token.old None) }
+    requires begun { (before : Token) × (base : List Ownership)
+        × BeginsWith word.now.number purpose base (owns_of before)
+        × HasBegun word.now admission.now purpose (GoesOn seen) before token.old }
     ensures own { IsSameThread lot.now token.old token.new }
-    ensures path { Walks (at_rwlock word.now.number)
-        (next_place (rwlock_begin word.now.number admission.now purpose) (Value seen))
-        (steps_of token.old) (steps_of token.new) result }
-    ensures over { (base : List Ownership) → Fits (IsUp C.tells limit.now) base
-        (next_place (rwlock_begin word.now.number admission.now purpose) (Value seen)) (stage_of token.old None)
-        → IsOver (IsUp C.tells limit.now) base
-        (aim_of (next_place (rwlock_begin word.now.number admission.now purpose) (Value seen))) result (stage_of token.new None) }
+    ensures over { (before : Token) (base : List Ownership)
+        → BeginsWith word.now.number purpose base (owns_of before)
+        → HasBegun word.now admission.now purpose (GoesOn seen) before token.old
+        → HasEnded (IsUp C.tells limit.now) word.now admission.now purpose result before token.new }
 {
     rest_behind(
         rt,
@@ -258,9 +266,9 @@ fn rest_missed<R: Wait, C: Clock>(
     }
 }
 
-// The rest of a call whose exchange expected one value and found this one.
+/// The slow half of a call whose first step saw one value, and whose exchange found another.
 #[inline(always)]
-fn missed<R: Wait, C: Clock>(
+pub fn missed<R: Wait, C: Clock>(
     rt: &R,
     lot: &ParkingLot,
     token: &mut Token,
@@ -268,21 +276,18 @@ fn missed<R: Wait, C: Clock>(
     admission: &Admission,
     limit: &Option<(&C, u64)>,
     purpose: RwLockPurpose,
-    expected: u64,
+    seen: u64,
     found: u64,
 ) -> Answer
     requires own { MeetsAt lot.now token.old word.now admission.now }
-    requires reached { (base : List Ownership) × Reached (IsUp C.tells limit.now) base
-        (rwlock_deciding word.now.number admission.now purpose expected) (Value found) (stage_of token.old None) }
+    requires begun { (before : Token) × (base : List Ownership)
+        × BeginsWith word.now.number purpose base (owns_of before)
+        × HasBegun word.now admission.now purpose (Missed seen found) before token.old }
     ensures own { IsSameThread lot.now token.old token.new }
-    ensures path { Rests (at_rwlock word.now.number)
-        (rwlock_deciding word.now.number admission.now purpose expected) (Value found)
-        (steps_of token.old) (steps_of token.new) result }
-    ensures over { (base : List Ownership) → Reached (IsUp C.tells limit.now) base
-        (rwlock_deciding word.now.number admission.now purpose expected) (Value found) (stage_of token.old None)
-        → IsOver (IsUp C.tells limit.now) base
-        (of_rwlock word.now.number admission.now purpose) result
-        (stage_of token.new None) }
+    ensures over { (before : Token) (base : List Ownership)
+        → BeginsWith word.now.number purpose base (owns_of before)
+        → HasBegun word.now admission.now purpose (Missed seen found) before token.old
+        → HasEnded (IsUp C.tells limit.now) word.now admission.now purpose result before token.new }
 {
     rest_missed(
         rt,
@@ -292,42 +297,44 @@ fn missed<R: Wait, C: Clock>(
         admission,
         limit,
         lasting(purpose),
-        expected,
+        seen,
         found,
     )
 }
 
-// The rest of a call that may take its right: where nobody comes between, that is one exchange.
+/// The fast half of a call of who has the right that it needs: a step or two, which are all where it
+/// meets nobody. Else it answers what is left to `behind` or `missed`.
 #[inline(always)]
-fn take_right<R: Wait, C: Clock>(
-    rt: &R,
+pub fn call_fast<C: Clock>(
     lot: &ParkingLot,
     token: &mut Token,
     word: &Word,
     admission: &Admission,
-    limit: &Option<(&C, u64)>,
+    _limit: &Option<(&C, u64)>,
     purpose: RwLockPurpose,
-    seen: u64,
-) -> Answer
+) -> Result<Answer, Rest>
     requires own { MeetsAt lot.now token.old word.now admission.now }
-    requires takes { course_of admission.now purpose seen ≡ Takes }
-    requires fits { (base : List Ownership) × Fits (IsUp C.tells limit.now) base
-        (next_place (rwlock_begin word.now.number admission.now purpose) (Value seen)) (stage_of token.old None) }
+    requires right { (base : List Ownership)
+        × BeginsWith word.now.number purpose base (owns_of token.old) }
     ensures own { IsSameThread lot.now token.old token.new }
-    ensures path { Walks (at_rwlock word.now.number)
-        (next_place (rwlock_begin word.now.number admission.now purpose) (Value seen))
-        (steps_of token.old) (steps_of token.new) result }
-    ensures over { (base : List Ownership) → Fits (IsUp C.tells limit.now) base
-        (next_place (rwlock_begin word.now.number admission.now purpose) (Value seen)) (stage_of token.old None)
-        → IsOver (IsUp C.tells limit.now) base
-        (aim_of (next_place (rwlock_begin word.now.number admission.now purpose) (Value seen))) result (stage_of token.new None) }
+    ensures over { MatchResult result
+        (λ answer. HasEnded (IsUp C.tells _limit.now) word.now admission.now purpose answer
+        token.old token.new)
+        (λ rest. HasBegun word.now admission.now purpose rest token.old token.new) }
 {
-    let to = purpose.taken(seen);
-    let found = lot.word(token, *word, Op::Exchange { from: seen, to });
-    if found == seen {
-        return answer_with(purpose);
+    let seen = lot.word(token, *word, opening(purpose));
+    match course_of(*admission, purpose, seen) {
+        Course::Ends(answer) => Ok(answer),
+        Course::GoesOn => Err(Rest::GoesOn(seen)),
+        Course::Takes => {
+            let to = purpose.taken(seen);
+            let found = lot.word_again(token, *word, Op::Exchange { from: seen, to });
+            if found == seen {
+                return Ok(answer_with(purpose));
+            }
+            Err(Rest::Missed { seen, found })
+        }
     }
-    missed(rt, lot, token, word, admission, limit, purpose, seen, found)
 }
 
 /// A whole call of who has the right that it needs. Where it meets nobody it is a step or two, with
@@ -354,10 +361,11 @@ pub fn call<R: Wait, C: Clock>(
         (stage_of token.new None) }
     ensures record { WakesBy word.now.number admission.now purpose token.old token.new }
 {
-    let seen = lot.word(token, *word, opening(purpose));
-    match course_of(*admission, purpose, seen) {
-        Course::Ends(answer) => answer,
-        Course::Takes => take_right(rt, lot, token, word, admission, limit, purpose, seen),
-        Course::GoesOn => behind(rt, lot, token, word, admission, limit, purpose, seen),
+    match call_fast(lot, token, word, admission, limit, purpose) {
+        Ok(answer) => answer,
+        Err(Rest::GoesOn(seen)) => { behind(rt, lot, token, word, admission, limit, purpose, seen) }
+        Err(Rest::Missed { seen, found }) => {
+            missed(rt, lot, token, word, admission, limit, purpose, seen, found)
+        }
     }
 }
