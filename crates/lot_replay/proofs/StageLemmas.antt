@@ -5,6 +5,7 @@ use Rattle.std.proofs.lemmas.Bool.Decides.{leb_tells}
 use Rattle.lot_machine.specs.Machine.{State}
 use Rattle.lot_text.specs.declared.grammar.Command as command
 use Rattle.lot_text.specs.declared.grammar.NamedTurn.{NamedTurn}
+use Rattle.lot_base.specs.declared.queues.Queues.{Ghosts}
 use Rattle.lot_replay.specs.declared.session.Session.{Session}
 use Rattle.lot_replay.specs.Sessions.{session_stage, session_world, stage_with, world_with}
 use Rattle.lot_replay.specs.Stages.{Stage, obeyed, played, after_line}
@@ -13,10 +14,10 @@ use Rattle.lot_text.specs.Grammar.{meaning}
 use Rattle.lot_text.specs.Turns.{named_turn, IsTurn}
 use Rattle.lot_text.specs.declared.turns.PlainTurn.{PlainTurn}
 
-pub turn_obeyed : (s : Session) (t : ℕ) (turn : NamedTurn) → obeyed (session_stage s) (command.TheVariants.Turn t turn) ≡ played s.names.items (session_world s) (command.TheVariants.Turn t turn)
+pub turn_obeyed : {Q : Type 0} {queues : Ghosts Q} (s : Session Q queues) (t : ℕ) (turn : NamedTurn) → obeyed (session_stage s) (command.TheVariants.Turn t turn) ≡ played s.names (session_world s) (command.TheVariants.Turn t turn)
 turn_obeyed s t turn = by_world s.world
   where
-    by_world : (o : Option State) → obeyed (stage_with s.threads s.names.items s.kinds.items o) (command.TheVariants.Turn t turn) ≡ played s.names.items (world_with s.threads s.kinds.items o) (command.TheVariants.Turn t turn)
+    by_world : (o : Option State) → obeyed (stage_with s.threads s.names s.kinds.items o) (command.TheVariants.Turn t turn) ≡ played s.names (world_with s.threads s.kinds.items o) (command.TheVariants.Turn t turn)
     by_world None = refl
     by_world (Some w) = refl
 

@@ -2,6 +2,7 @@
 use Rattle.std.specs.Prelude.{ℕ, List, Option, None, Some}
 use Rattle.lot_calls.specs.declared.kinds.Kind.{Kind}
 use Rattle.lot_machine.specs.Machine.{State, opening}
+use Rattle.lot_base.specs.declared.queues.Queues.{Ghosts}
 use Rattle.lot_replay.specs.declared.session.Session.{Session}
 use Rattle.lot_replay.specs.Stages.{Stage, nothing, declaring, running}
 
@@ -9,10 +10,10 @@ abbrev pub stage_with : ℕ → List (List ℕ) → List Kind → Option State �
 stage_with threads names kinds None = declaring threads names kinds
 stage_with threads names kinds (Some w) = running names w
 
-abbrev pub session_stage : Session → Stage
-session_stage s = stage_with s.threads s.names.items s.kinds.items s.world
+abbrev pub session_stage : {Q : Type 0} {queues : Ghosts Q} → Session Q queues → Stage
+session_stage s = stage_with s.threads s.names s.kinds.items s.world
 
-abbrev pub stage_of : Option Session → Stage
+abbrev pub stage_of : {Q : Type 0} {queues : Ghosts Q} → Option (Session Q queues) → Stage
 stage_of None = nothing
 stage_of (Some s) = session_stage s
 
@@ -21,5 +22,5 @@ world_with threads kinds None = opening kinds threads
 world_with threads kinds (Some w) = w
 
 -- the world that there is, or is to be made
-abbrev pub session_world : Session → State
+abbrev pub session_world : {Q : Type 0} {queues : Ghosts Q} → Session Q queues → State
 session_world s = world_with s.threads s.kinds.items s.world

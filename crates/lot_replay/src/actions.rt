@@ -6,9 +6,9 @@ ghost use Rattle.lot_replay.specs.Sessions.{session_world};
 ghost use Rattle.lot_replay.specs.Stages.{call_named, action_of, done_by, is_bare_wait};
 
 use crate::session::Session;
-use lot_base::ListQueues;
+use lot_base::Queues;
 use lot_calls::{CondvarCall, OnceCall};
-use lot_text::{Name, NamedCall, NamedTurn, PlainTurn, lock_named};
+use lot_text::{Name, NamedCall, NamedTurn, PlainTurn};
 use lot_world::{Call, Kind, Outcome, Step, Turn, World};
 
 /// What a thread does, of locks by their numbers.
@@ -19,10 +19,10 @@ pub enum Action {
     Do(Call),
 }
 
-impl Session {
+impl<Q: Queues + Drop> Session<Q> {
     /// The same turn, of locks by their numbers.
     pub(crate) fn action_of(&self, turn: NamedTurn) -> Option<Action>
-        ensures { result ≡ action_of self.now.names.items (session_world self.now) turn }
+        ensures { result ≡ action_of self.now.names (session_world self.now) turn }
     {
         match turn {
             NamedTurn::Begin { call, name } => {
@@ -43,9 +43,9 @@ impl Session {
     }
 
     fn call_named(&self, call: NamedCall, name: Name) -> Option<Call>
-        ensures { result ≡ call_named self.now.names.items (session_world self.now) call name }
+        ensures { result ≡ call_named self.now.names (session_world self.now) call name }
     {
-        let lock = lock_named(self.names.as_slice(), name)?;
+        let lock = self.names.find(name)?;
         let on_condvar = self.kind_of(lock).is_condvar();
         match call {
             NamedCall::Mutex(call) => Some(Call::Mutex { lock, call }),
@@ -59,7 +59,7 @@ impl Session {
                 if !on_condvar {
                     return None;
                 }
-                let mutex = lock_named(self.names.as_slice(), mutex)?;
+                let mutex = self.names.find(mutex)?;
                 let call = CondvarCall::Wait { mutex, timed };
                 Some(Call::Condvar { lock, call })
             }
@@ -67,7 +67,7 @@ impl Session {
     }
 
     fn kind_of(&self, lock: usize) -> Kind
-        requires { lock < length self.now.names.items }
+        requires { lock < length self.now.names }
         ensures { result ≡ kind_at (session_world self.now) lock }
     {
         match &self.world {
@@ -102,7 +102,7 @@ pub fn plain_action(turn: PlainTurn) -> Action
 
 /// Does it, and answers the last outcome.
 #[inline(always)]
-pub fn perform(world: &mut World<ListQueues>, thread: usize, action: Action) -> Outcome
+pub fn perform<Q: Queues + Drop>(world: &mut World<Q>, thread: usize, action: Action) -> Outcome
     ensures state { world.new ≡ (done_by world.old thread action).0 }
     ensures outcome { result ≡ (done_by world.old thread action).1 }
     ensures same_locks { length world.new.locks ≡ length world.old.locks }

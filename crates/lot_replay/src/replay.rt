@@ -7,24 +7,29 @@ ghost use Rattle.lot_replay.specs.Replay.{MayWrite, Replays, BeginningsBegin, Ea
 use crate::state::{Refusal, State};
 use crate::status::{BROKEN, DONE, MALFORMED, NO_MEMORY};
 use arrayvec::ArrayVec;
+use lot_base::Queues;
 use lot_text::{LINE_LEN, Next, Page, print_malformed, print_no_memory, read_next};
 use std::alloc::Global;
 use std::io::{BufRead, Write};
 
 /// Answers the lines of an input, and gives the status. All of the input's text goes out, or where
 /// a write fails a beginning of it.
-pub fn replay<R: BufRead, W: Write>(alloc: Global, reader: &mut R, writer: &mut W) -> u8
+pub fn replay<Q: Queues + Drop, R: BufRead, W: Write>(
+    alloc: Global,
+    reader: &mut R,
+    writer: &mut W,
+) -> u8
     ensures { Replays (R.remaining reader.old) (R.remaining reader.new) (W.contents writer.old)
         (W.contents writer.new) result }
 {
     let mut page = Page::new();
-    let status = answer_lines(alloc, reader, writer, &mut page);
+    let status = answer_lines::<Q, R, W>(alloc, reader, writer, &mut page);
     page.finish(writer);
     if page.is_lost() { BROKEN } else { status }
 }
 
 /// Answers the lines up to the end, or to the first that cannot be answered.
-fn answer_lines<R: BufRead, W: Write>(
+fn answer_lines<Q: Queues + Drop, R: BufRead, W: Write>(
     alloc: Global,
     reader: &mut R,
     writer: &mut W,
@@ -35,7 +40,7 @@ fn answer_lines<R: BufRead, W: Write>(
         × Puts (W.contents writer.old) (W.contents writer.new) page.old page.new text
         × (page.new.lost ≡ false → result ≡ ending) }
 {
-    let mut state = State::new();
+    let mut state = State::<Q>::new();
     let mut line = ArrayVec::<u8, LINE_LEN>::new();
     for number in 1..u64::MAX {
         let said = match read_next(reader, &mut line) {

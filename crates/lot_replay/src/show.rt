@@ -4,17 +4,17 @@ ghost use Rattle.lot_machine.specs.Views.{StandUnder};
 ghost use Rattle.lot_text.specs.Sent.{Puts};
 ghost use Rattle.lot_replay.specs.Shows.{owner_letter, want_letter, owners_text, waiters_text, debtors_text, show_line, show_lines};
 
-use lot_base::{ListQueues, Waiter, Want, main_key};
+use lot_base::{Queues, Waiter, Want, main_key};
 use lot_text::{Name, Page};
 use lot_world::{Debt, DebtBook, Debts, MOST_LOCKS, Owner, OwnersOf, QueueOf, World};
 use std::io::Write;
 
 /// Prints a line for each lock.
-pub fn show_locks<W: Write>(
+pub fn show_locks<Q: Queues + Drop, W: Write>(
     page: &mut Page,
     writer: &mut W,
     names: &[Name],
-    world: &World<ListQueues>,
+    world: &World<Q>,
 )
     requires named { length names.now ≡ length world.now.locks }
     requires few { length names.now ≤ MOST_LOCKS }
@@ -27,11 +27,11 @@ pub fn show_locks<W: Write>(
     }
 }
 
-fn show_lock<W: Write>(
+fn show_lock<Q: Queues + Drop, W: Write>(
     page: &mut Page,
     writer: &mut W,
     name: Name,
-    world: &World<ListQueues>,
+    world: &World<Q>,
     debts: &DebtBook<'_>,
     lock: usize,
 )
@@ -66,10 +66,10 @@ fn print_owners<W: Write>(page: &mut Page, writer: &mut W, owners: OwnersOf<'_>)
 
 /// Prints who waits for a lock: its main queue, each with a letter for what it wants, and who waits
 /// aside.
-fn print_waiters<W: Write>(
+fn print_waiters<Q: Queues + Drop, W: Write>(
     page: &mut Page,
     writer: &mut W,
-    queue: QueueOf<'_, ListQueues>,
+    queue: QueueOf<'_, Q>,
     lock: usize,
 )
     requires { lock < MOST_LOCKS }

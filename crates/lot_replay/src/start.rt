@@ -7,13 +7,14 @@ ghost use Rattle.lot_replay.specs.Start.{TellsUsage, texts_of};
 
 use crate::replay::replay;
 use crate::status::{BROKEN, MALFORMED};
+use lot_base::Queues;
 use lot_text::send_all;
 use std::alloc::Global;
 use std::io::{BufRead, Write};
 
 /// Does the job that the arguments name, and gives the status of the process. Where they name none,
 /// the usage goes to `errors`.
-pub fn start<R: BufRead, W: Write, E: Write>(
+pub fn start<Q: Queues + Drop, R: BufRead, W: Write, E: Write>(
     alloc: Global,
     args: &[&str],
     reader: &mut R,
@@ -33,7 +34,7 @@ pub fn start<R: BufRead, W: Write, E: Write>(
         → Keeps (W.contents writer.old) (W.contents writer.new) }
 {
     if is_job(args, "replay") {
-        return replay(alloc, reader, writer);
+        return replay::<Q, R, W>(alloc, reader, writer);
     }
     if send_all(errors, b"usage: lotsim replay | lotsim live\n") {
         MALFORMED

@@ -11,7 +11,8 @@ ghost use Rattle.lot_replay.specs.Answers.{AnswersTo};
 use crate::actions::{Action, perform, plain_action};
 use crate::session::Session;
 use crate::show::show_locks;
-use lot_text::{Command, Line, Name, Page, PlainTurn, lock_named, meaning, print_turn};
+use lot_base::Queues;
+use lot_text::{Command, Line, Name, Names, Page, PlainTurn, meaning, print_turn};
 use lot_world::{Kind, MOST_LOCKS, MOST_THREADS, World};
 use std::alloc::Global;
 use std::io::Write;
@@ -25,12 +26,12 @@ pub enum Refusal {
 
 /// What the lines of a replay have led to: nothing before the threads are there.
 #[derive(Drop)]
-pub struct State {
-    session: Option<Session>,
+pub struct State<Q: Queues + Drop> {
+    session: Option<Session<Q>>,
 }
 
-impl State {
-    pub fn new() -> State
+impl<Q: Queues + Drop> State<Q> {
+    pub fn new() -> State<Q>
         ensures { stage_of result.session ≡ nothing }
     {
         State { session: None }
@@ -115,15 +116,15 @@ impl State {
     }
 }
 
-impl Session {
-    fn new(alloc: Global, threads: usize) -> Session
+impl<Q: Queues + Drop> Session<Q> {
+    fn new(alloc: Global, threads: usize) -> Session<Q>
         requires some { 1 ≤ threads }
         requires few { threads ≤ MOST_THREADS }
         ensures { session_stage result ≡ declaring threads [] [] }
     {
         Session {
             threads,
-            names: Vec::new(alloc),
+            names: Names::new(alloc),
             kinds: Vec::new(alloc),
             world: None,
         }
@@ -158,7 +159,7 @@ impl Session {
     {
         match command {
             Command::Threads(_) => Err(Refusal::Malformed),
-            Command::Lock { name, kind } => self.declare(name, kind),
+            Command::Lock { name, kind } => self.declare(alloc, name, kind),
             Command::Turn { thread, turn } => match self.action_of(turn) {
                 Some(action) => self.act(alloc, page, writer, thread, action),
                 None => Err(Refusal::Malformed),
@@ -168,20 +169,19 @@ impl Session {
     }
 
     /// Adds a lock, where its name is new and no turn was taken yet.
-    fn declare(&mut self, name: Name, kind: Kind) -> Result<(), Refusal>
+    fn declare(&mut self, alloc: Global, name: Name, kind: Kind) -> Result<(), Refusal>
         ensures { AnswersTo (obeyed (session_stage self.old) (Command.Lock name kind)) result
             (session_stage self.old) (session_stage self.new) (λ text. text ≡ []) }
     {
         if self.world.is_some() || self.names.len() >= MOST_LOCKS {
             return Err(Refusal::Malformed);
         }
-        if !kind.fits(self.threads) || lock_named(self.names.as_slice(), name).is_some() {
+        if !kind.fits(self.threads) || self.names.find(name).is_some() {
             return Err(Refusal::Malformed);
         }
-        if self.names.reserve(1).is_err() || self.kinds.reserve(1).is_err() {
+        if self.kinds.reserve(1).is_err() || self.names.push(alloc, name).is_err() {
             return Err(Refusal::NoMemory);
         }
-        self.names.push_reserved(name);
         self.kinds.push_reserved(kind);
         Ok(())
     }
@@ -190,7 +190,7 @@ impl Session {
     #[inline(always)]
     fn make_world(&mut self, alloc: Global)
         ensures made { IfSome self.new.world
-            (λ w. session_stage self.new ≡ running self.old.names.items (session_world self.old)) }
+            (λ w. session_stage self.new ≡ running self.old.names (session_world self.old)) }
         ensures refused { IfNone self.new.world (session_stage self.new ≡ session_stage self.old) }
     {
         if self.world.is_none() {
@@ -209,7 +209,7 @@ impl Session {
         action: Action,
     ) -> Result<(), Refusal>
         ensures { AnswersTo
-            (Some (acted self.old.names.items (session_world self.old) thread action)) result
+            (Some (acted self.old.names (session_world self.old) thread action)) result
             (session_stage self.old) (session_stage self.new)
             (Puts (W.contents writer.old) (W.contents writer.new) page.old page.new) }
     {
@@ -231,7 +231,7 @@ impl Session {
         page: &mut Page,
         writer: &mut W,
     ) -> Result<(), Refusal>
-        ensures { AnswersTo (played self.old.names.items (session_world self.old) Command.Show)
+        ensures { AnswersTo (played self.old.names (session_world self.old) Command.Show)
             result
             (session_stage self.old) (session_stage self.new)
             (Puts (W.contents writer.old) (W.contents writer.new) page.old page.new) }

@@ -1,5 +1,6 @@
 pub mod GrammarLemmas
 pub mod NameLemmas
+pub mod NamesOnce
 pub mod LinesLemmas
 pub mod NumberLaw
 pub mod SentLemmas

@@ -1,5 +1,5 @@
 -- The names of locks.
-use Rattle.std.specs.Prelude.{ℕ, Bool, false, ◌-◌, ◌==◌, ◌&&◌, ◌||◌, List, [], ◌∷◌, ◌++◌, length, nat_le, nat_lt, replicate, Option, Some, None, if◌then◌else◌}
+use Rattle.std.specs.Prelude.{ℕ, ◌≡◌, ◌<◌, slice_index_or, Bool, false, ◌-◌, ◌==◌, ◌&&◌, ◌||◌, List, [], ◌∷◌, ◌++◌, length, nat_le, nat_lt, replicate, Option, Some, None, if◌then◌else◌}
 use Rattle.std.specs.List.{before_first, list_all, position}
 use Rattle.std.specs.Str.{bytes_eq}
 
@@ -24,6 +24,11 @@ name_of word = if is_name word then Some word else None
 -- the number of the lock that has a name, where the locks have these names
 abbrev pub lock_named : List (List ℕ) → List ℕ → Option ℕ
 lock_named names name = position (λ other. bytes_eq other name) names
+
+-- each name is found where it stands, so it stands nowhere else
+abbrev pub StandOnce : List (List ℕ) → Type 0
+StandOnce names =
+    (k : ℕ) → k < length names → lock_named names (slice_index_or names k []) ≡ Some k
 
 -- a name is kept in 16 bytes, with zeros behind it
 abbrev pub padded : List ℕ → List ℕ

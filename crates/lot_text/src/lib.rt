@@ -12,6 +12,6 @@ mod words;
 pub use answers::{print_malformed, print_no_memory, print_turn};
 pub use grammar::{Command, NamedCall, NamedTurn, meaning, numbers_are_decimal};
 pub use input::{LINE_LEN, Reading, read_line};
-pub use names::{Name, lock_named};
+pub use names::{Name, Names};
 pub use output::{Page, send_all};
 pub use turns::{Line, Next, PlainTurn, read_next};

@@ -1,9 +1,18 @@
 //! The names of locks.
-ghost use Rattle.std.specs.Prelude.{◌≡◌, ◌≢◌, ◌<◌, ◌≤◌, ◌||◌, ℕ, Some, None, if◌then◌else◌, length, slice_index};
+ghost use Rattle.std.specs.Prelude.{◌≡◌, ◌≢◌, ◌<◌, ◌≤◌, ◌||◌, ◌++◌, ◌∷◌, [], ℕ, Some, None, IfErr, IfOk, if◌then◌else◌, length, slice_index};
 ghost use Rattle.std.specs.Str.{bytes_eq};
 ghost use Rattle.lot_text.specs.Names.{is_letter, is_digit, are_name_bytes, name_of, lock_named, padded};
 
+use std::alloc::{AllocError, Global};
 use std::marker::Model;
+
+/// The multiplier of a name's hash: 2 to the 128 divided by the golden ratio, made odd.
+const GOLDEN: u128 = 0x9E3779B97F4A7C15F39CC0605CEDC835;
+
+/// How many bits a hash has, and how many hints there are.
+const HASH_BITS: u32 = 12;
+
+const HINTS: usize = 1 << 12;
 
 /// The longest name.
 pub const NAME_LEN: usize = 16;
@@ -57,6 +66,12 @@ impl Name {
         same
     }
 
+    /// A hash of `HASH_BITS` bits.
+    fn hash(&self) -> usize {
+        let bytes = u128::from_le_bytes(self.bytes);
+        (bytes.wrapping_mul(GOLDEN) >> (128 - HASH_BITS)) as usize
+    }
+
     /// The name as it is written.
     pub fn text(&self) -> &[u8]
         ensures { result.now ≡ self.now }
@@ -101,9 +116,86 @@ fn is_name_byte(byte: u8) -> bool
     byte.is_ascii_lowercase() || byte.is_ascii_digit()
 }
 
-/// The number of the lock that has a name.
-pub fn lock_named(names: &[Name], name: Name) -> Option<usize>
-    ensures { result ≡ lock_named names.now name }
-{
-    names.iter().position(|other| other.is_same(&name))
+/// The names of locks, each once, in the order in which they came.
+#[derive(Drop)]
+pub struct Names {
+    names: Vec<Name>,
+    // By the hash of a name, at which place it may stand. Another of this hash may have come since.
+    hints: Vec<usize>,
+}
+
+impl Model for Names {
+    ghost use Rattle.std.specs.Prelude.{ℕ, List};
+    ghost use Rattle.lot_text.specs.Names.{StandOnce};
+
+    ghost Value = { List (List ℕ) };
+
+    ghost view = { λ n. n.names.items };
+
+    ghost invariant = { λ n. StandOnce n.names.items };
+}
+
+impl Names {
+    /// No names.
+    pub fn new(alloc: Global) -> Names
+        ensures { result ≡ [] }
+    {
+        Names {
+            names: Vec::new(alloc),
+            hints: Vec::new(alloc),
+        }
+    }
+
+    /// How many there are.
+    pub fn len(&self) -> usize
+        ensures { result ≡ length self.now }
+    {
+        self.names.len()
+    }
+
+    /// All of them, in their order.
+    pub fn as_slice(&self) -> &[Name]
+        ensures { result.now ≡ self.now }
+    {
+        self.names.as_slice()
+    }
+
+    /// At which place a name stands. Almost always a hint tells it at once.
+    pub fn find(&self, name: Name) -> Option<usize>
+        ensures { result ≡ lock_named self.now name }
+    {
+        if let Some(hint) = self.hints.get(name.hash()) {
+            if *hint < self.names.len() && self.names[*hint].is_same(&name) {
+                return Some(*hint);
+            }
+        }
+        self.names.iter().position(|other| other.is_same(&name))
+    }
+
+    /// Adds a name that isn't there yet. Where memory is refused, nothing changes.
+    pub fn push(&mut self, alloc: Global, name: Name) -> Result<(), AllocError>
+        requires { lock_named self.old name ≡ None }
+        ensures ok { IfOk result (λ _. self.new ≡ self.old ++ name ∷ []) }
+        ensures err { IfErr result (λ _. self.new ≡ self.old) }
+    {
+        make_room(alloc, &mut self.hints)?;
+        self.names.reserve(1)?;
+        set_hint(&mut self.hints, name.hash(), self.names.len());
+        self.names.push_reserved(name);
+        Ok(())
+    }
+}
+
+/// Makes room for all hints, where there is none yet.
+fn make_room(alloc: Global, hints: &mut Vec<usize>) -> Result<(), AllocError> {
+    if hints.is_empty() {
+        *hints = Vec::from_elem(alloc, 0, HINTS)?;
+    }
+    Ok(())
+}
+
+fn set_hint(hints: &mut [usize], hash: usize, place: usize) {
+    if let Some(hint) = hints.get_mut(hash) {
+        *hint = place;
+    }
 }

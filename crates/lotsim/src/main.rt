@@ -1,6 +1,7 @@
 //! Any number of threads over named locks, by a list of lines; or real threads on one lot.
 #![tactic(auto)]
 
+use bucket_queues::BucketQueues;
 use lot_live::live;
 use lot_replay::start::start;
 use lot_replay::status;
@@ -45,7 +46,7 @@ fn run(rt: &HostRuntime) -> io::Result<u8> {
         .map(|arg| arg.as_str())
         .collect::<Vec<&str>>(rt.alloc())?;
     let mut reader = BufReader::new(rt.alloc(), rt.reader())?;
-    Ok(start(
+    Ok(start::<BucketQueues, _, _, _>(
         rt.alloc(),
         words.as_slice(),
         &mut reader,

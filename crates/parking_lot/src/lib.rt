@@ -1,6 +1,7 @@
 //! Locks for real threads. Each call runs the steps that the simulated world runs.
 #![tactic(auto)]
 
+pub use bucket_queues::BucketQueues;
 pub use lock_api;
 pub use lock_api::WaitTimeoutResult;
 pub use lock_api_rw;

@@ -1,13 +1,14 @@
 //! Inputs through `start`: what they answer, and what a broken device leaves.
 mod devices;
 
+use bucket_queues::BucketQueues;
 use condvar_rows::lates::LATE_ROWS;
 use condvar_rows::meanwhile::MEANWHILE_ROWS;
 use condvar_rows::moves::MOVE_ROWS;
 use condvar_rows::mutexes::MUTEX_ROWS;
 use condvar_rows::releases::RELEASE_ROWS;
 use devices::{Pieces, Refusal, Short};
-use lot_base::ListQueues;
+use lot_base::{ListQueues, Queues};
 use lot_replay::start::start;
 use lot_world::{Answer, Call, Kind, MutexCall, Outcome, Step, Turn, World};
 use replay_rows::fair::FAIR_ROWS;
@@ -28,16 +29,27 @@ fn same<T: PartialEq + Debug + Drop>(rt: &impl Abort, found: T, wanted: T) {
     assert_eq!(rt; found, wanted);
 }
 
-/// What an input leads to.
-fn replayed<R: BufRead>(alloc: Global, mut reader: R) -> (Vec<u8>, u8)
-where
-    R: Drop,
-{
+/// What an input leads to over a kind of queues.
+fn replayed_over<Q: Queues + Drop, R: BufRead + Drop>(
+    alloc: Global,
+    mut reader: R,
+) -> (Vec<u8>, u8) {
     let mut text = Vec::new(alloc);
     let mut errors = Vec::new(alloc);
     let args = ["replay"];
-    let status = start(alloc, &args, &mut reader, &mut text, &mut errors);
+    let status = start::<Q, _, _, _>(alloc, &args, &mut reader, &mut text, &mut errors);
     (text, status)
+}
+
+/// What an input leads to over buckets.
+fn replayed<R: BufRead + Drop>(alloc: Global, reader: R) -> (Vec<u8>, u8) {
+    replayed_over::<BucketQueues, R>(alloc, reader)
+}
+
+/// An input leads to this text, and to this status, over each kind of queues.
+fn leads_both_to(rt: &impl Abort, alloc: Global, input: &[u8], text: &[u8], status: u8) {
+    leads_to(rt, replayed_over::<ListQueues, _>(alloc, input), text, status);
+    leads_to(rt, replayed_over::<BucketQueues, _>(alloc, input), text, status);
 }
 
 /// An input leads to this text, and to this status.
@@ -52,14 +64,14 @@ type Rows<'a> = &'a [(&'a [u8], &'a [u8])];
 
 fn answers(rt: &impl Abort, alloc: Global, rows: Rows<'_>) {
     for (input, text) in rows {
-        leads_to(rt, replayed(alloc, *input), text, 0);
+        leads_both_to(rt, alloc, input, text, 0);
     }
 }
 
 #[test]
 fn answers_inputs(rt: HostRuntime) {
     for (input, text, status) in ROWS.iter() {
-        leads_to(&rt, replayed(rt.alloc(), *input), text, *status);
+        leads_both_to(&rt, rt.alloc(), input, text, *status);
     }
 }
 
@@ -113,9 +125,7 @@ fn reads_pieces(rt: HostRuntime) {
 #[test]
 fn stops_at_a_malformed_line(rt: HostRuntime) {
     for (input, want) in MALFORMED.iter() {
-        let (text, status) = replayed(rt.alloc(), input.as_bytes());
-        same(&rt, (*input, status), (*input, 2));
-        same(&rt, (*input, text.as_slice()), (*input, want.as_bytes()));
+        leads_both_to(&rt, rt.alloc(), input.as_bytes(), want.as_bytes(), 2);
     }
 }
 
@@ -139,7 +149,7 @@ abcdefghijklmno9 1 own=1023x
 
 #[test]
 fn answers_threads_that_are_not_there(rt: HostRuntime) {
-    leads_to(&rt, replayed(rt.alloc(), STRANGERS), STRANGERS_TOLD, 0);
+    leads_both_to(&rt, rt.alloc(), STRANGERS, STRANGERS_TOLD, 0);
 }
 
 const KINDS: [&str; 6] = ["mutex", "fair", "rwlock", "recursive", "condvar", "once"];
@@ -160,16 +170,14 @@ fn many_locks(alloc: Global, count: usize) -> Result<(String, String), AllocErro
 #[test]
 fn takes_256_locks_of_1024_threads(rt: HostRuntime) -> Result<(), Fail> {
     let (input, shown) = many_locks(rt.alloc(), 256)?;
-    let found = replayed(rt.alloc(), input.as_bytes());
-    leads_to(&rt, found, shown.as_bytes(), 0);
+    leads_both_to(&rt, rt.alloc(), input.as_bytes(), shown.as_bytes(), 0);
     Ok(())
 }
 
 #[test]
 fn refuses_257_locks(rt: HostRuntime) -> Result<(), Fail> {
     let (input, _) = many_locks(rt.alloc(), 257)?;
-    let found = replayed(rt.alloc(), input.as_bytes());
-    leads_to(&rt, found, b"line 258 malformed\n", 2);
+    leads_both_to(&rt, rt.alloc(), input.as_bytes(), b"line 258 malformed\n", 2);
     Ok(())
 }
 
@@ -192,8 +200,7 @@ fn many_tries(alloc: Global, count: u32) -> Result<(String, String), AllocError>
 fn gets_each_lock_once(rt: HostRuntime) -> Result<(), Fail> {
     for count in [4, 256] {
         let (input, told) = many_tries(rt.alloc(), count)?;
-        let found = replayed(rt.alloc(), input.as_bytes());
-        leads_to(&rt, found, told.as_bytes(), 0);
+        leads_both_to(&rt, rt.alloc(), input.as_bytes(), told.as_bytes(), 0);
     }
     Ok(())
 }
@@ -212,8 +219,7 @@ fn many_looks(alloc: Global, count: u32) -> Result<(String, String), AllocError>
 #[test]
 fn answers_100_000_lines(rt: HostRuntime) -> Result<(), Fail> {
     let (input, shown) = many_looks(rt.alloc(), 99_998)?;
-    let found = replayed(rt.alloc(), input.as_bytes());
-    leads_to(&rt, found, shown.as_bytes(), 0);
+    leads_both_to(&rt, rt.alloc(), input.as_bytes(), shown.as_bytes(), 0);
     Ok(())
 }
 
@@ -238,15 +244,20 @@ const TOLD: &[Outcome] = &[
     Outcome::End(Answer::Ok),
 ];
 
-#[test]
-fn runs_the_steps_of_an_input(rt: HostRuntime) -> Result<(), Fail> {
-    let mut world = World::<ListQueues>::new(rt.alloc(), &[Kind::Mutex], 1)?;
+fn runs_over<Q: Queues + Drop>(rt: &impl Abort, alloc: Global) -> Result<(), Fail> {
+    let mut world = World::<Q>::new(alloc, &[Kind::Mutex], 1)?;
     let tries = begin(MutexCall::TryLock);
     let steps = [tries, GO, tries, GO, begin(MutexCall::Unlock), GO];
-    let mut outcomes = Vec::new(rt.alloc());
-    same(&rt, world.run(&steps, &mut outcomes), Ok(()));
-    same(&rt, outcomes.as_slice(), TOLD);
+    let mut outcomes = Vec::new(alloc);
+    same(rt, world.run(&steps, &mut outcomes), Ok(()));
+    same(rt, outcomes.as_slice(), TOLD);
     Ok(())
+}
+
+#[test]
+fn runs_the_steps_of_an_input(rt: HostRuntime) -> Result<(), Fail> {
+    runs_over::<ListQueues>(&rt, rt.alloc())?;
+    runs_over::<BucketQueues>(&rt, rt.alloc())
 }
 
 #[test]
@@ -263,7 +274,8 @@ fn replayed_into(alloc: Global, mut input: &[u8], room: usize, refusal: Refusal)
     let mut writer = Short::new(alloc, room, refusal);
     let mut errors = Vec::new(alloc);
     let args = ["replay"];
-    let status = start(alloc, &args, &mut input, &mut writer, &mut errors);
+    let status =
+        start::<BucketQueues, _, _, _>(alloc, &args, &mut input, &mut writer, &mut errors);
     (writer.taken, status)
 }
 
@@ -315,7 +327,13 @@ fn tells_the_usage(rt: HostRuntime) {
         let mut text = Vec::new(rt.alloc());
         let mut errors = Vec::new(rt.alloc());
         let mut reader = TWO_TRIES;
-        let status = start(rt.alloc(), args, &mut reader, &mut text, &mut errors);
+        let status = start::<BucketQueues, _, _, _>(
+            rt.alloc(),
+            args,
+            &mut reader,
+            &mut text,
+            &mut errors,
+        );
         let usage = b"usage: lotsim replay | lotsim live\n".as_slice();
         same(&rt, (*args, errors.as_slice()), (*args, usage));
         same(&rt, (*args, text.as_slice()), (*args, b"".as_slice()));
@@ -329,7 +347,13 @@ fn a_failing_write_leaves_a_beginning_of_the_usage(rt: HostRuntime) {
         let mut text = Vec::new(rt.alloc());
         let mut errors = Short::new(rt.alloc(), 5, Refusal::Fails);
         let mut reader = TWO_TRIES;
-        let status = start(rt.alloc(), args, &mut reader, &mut text, &mut errors);
+        let status = start::<BucketQueues, _, _, _>(
+            rt.alloc(),
+            args,
+            &mut reader,
+            &mut text,
+            &mut errors,
+        );
         let beginning = b"usage".as_slice();
         same(&rt, (*args, errors.taken.as_slice()), (*args, beginning));
         same(&rt, (*args, status), (*args, 4));

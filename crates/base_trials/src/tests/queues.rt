@@ -2,6 +2,7 @@
 ghost use Rattle.std.specs.Prelude.{◌≡◌, ◌<◌, ◌≤◌, length, vec_capacity, vec_len};
 
 use super::{holds, same};
+use bucket_queues::BucketQueues;
 use lot_base::{
     Fault, Key, ListQueues, LockPicker, Op, Pick, Picker, Queues, Requeue, Waiter, Want, main_key,
     second_key,
@@ -11,7 +12,7 @@ use std::process::Abort;
 use std::test::Fail;
 
 /// Two lines: threads 0, 2 and 4 under key 6, and 1 and 3 under key 7.
-fn two_lines<Q: Queues + Drop, A: Abort>(rt: &A, alloc: Global) -> Q
+fn two_lines<Q: Queues + Drop>(rt: &impl Abort, alloc: Global) -> Q
     ensures { Q.capacity result ≡ 8 }
 {
     let Ok(mut queues) = Q::with_capacity(alloc, 8) else {
@@ -26,7 +27,7 @@ fn two_lines<Q: Queues + Drop, A: Abort>(rt: &A, alloc: Global) -> Q
 }
 
 /// Room for those of a line behind the thread 7.
-fn behind_seven<A: Abort>(rt: &A, alloc: Global) -> Vec<usize>
+fn behind_seven(rt: &impl Abort, alloc: Global) -> Vec<usize>
     ensures { (vec_len result ≡ 1) × (9 ≤ vec_capacity result) }
 {
     let Ok(mut out) = Vec::with_capacity(alloc, 9) else {
@@ -37,7 +38,7 @@ fn behind_seven<A: Abort>(rt: &A, alloc: Global) -> Vec<usize>
 }
 
 /// So many stand under these keys.
-fn counts(rt: &impl Abort, queues: &ListQueues, wanted: &[(Key, usize)]) {
+fn counts<Q: Queues + Drop>(rt: &impl Abort, queues: &Q, wanted: &[(Key, usize)]) {
     for row in wanted {
         let (key, _) = *row;
         same(rt, (key, queues.count(key)), *row);
@@ -45,7 +46,7 @@ fn counts(rt: &impl Abort, queues: &ListQueues, wanted: &[(Key, usize)]) {
 }
 
 /// These threads stand under these keys.
-fn stand(rt: &impl Abort, queues: &ListQueues, wanted: &[(usize, Option<Key>)]) {
+fn stand<Q: Queues + Drop>(rt: &impl Abort, queues: &Q, wanted: &[(usize, Option<Key>)]) {
     for row in wanted {
         let (thread, _) = *row;
         same(rt, (thread, queues.key_of(thread)), *row);
@@ -53,17 +54,16 @@ fn stand(rt: &impl Abort, queues: &ListQueues, wanted: &[(usize, Option<Key>)]) 
 }
 
 /// The first under each key, taken one after another, are these.
-fn firsts(rt: &impl Abort, queues: &mut ListQueues, wanted: &[(Key, Option<usize>)]) {
+fn firsts<Q: Queues + Drop>(rt: &impl Abort, queues: &mut Q, wanted: &[(Key, Option<usize>)]) {
     for row in wanted {
         let (key, _) = *row;
         same(rt, (key, queues.take_first(key)), *row);
     }
 }
 
-#[test]
-fn first_in_first_out(rt: HostRuntime) {
-    let mut queues: ListQueues = two_lines(&rt, rt.alloc());
-    counts(&rt, &queues, &[(6, 3), (7, 2), (8, 0)]);
+fn first_in_first_out<Q: Queues + Drop>(rt: &impl Abort, alloc: Global) {
+    let mut queues = two_lines::<Q>(rt, alloc);
+    counts(rt, &queues, &[(6, 3), (7, 2), (8, 0)]);
     let wanted = [
         (6, Some(0)),
         (7, Some(1)),
@@ -72,18 +72,17 @@ fn first_in_first_out(rt: HostRuntime) {
         (7, Some(3)),
         (7, None),
     ];
-    firsts(&rt, &mut queues, &wanted);
-    counts(&rt, &queues, &[(6, 1), (7, 0)]);
+    firsts(rt, &mut queues, &wanted);
+    counts(rt, &queues, &[(6, 1), (7, 0)]);
 }
 
-#[test]
-fn a_thread_stands_at_most_once(rt: HostRuntime) {
-    let mut queues: ListQueues = two_lines(&rt, rt.alloc());
-    stand(&rt, &queues, &[(0, Some(6)), (3, Some(7)), (5, None)]);
+fn a_thread_stands_at_most_once<Q: Queues + Drop>(rt: &impl Abort, alloc: Global) {
+    let mut queues = two_lines::<Q>(rt, alloc);
+    stand(rt, &queues, &[(0, Some(6)), (3, Some(7)), (5, None)]);
     queues.append(7, 0, Want::Wait);
     queues.append(6, 2, Want::Shared);
     queues.remove(3);
-    stand(&rt, &queues, &[(0, Some(7)), (3, None)]);
+    stand(rt, &queues, &[(0, Some(7)), (3, None)]);
     let wanted = [
         (6, Some(4)),
         (6, Some(2)),
@@ -92,16 +91,15 @@ fn a_thread_stands_at_most_once(rt: HostRuntime) {
         (7, Some(0)),
         (7, None),
     ];
-    firsts(&rt, &mut queues, &wanted);
+    firsts(rt, &mut queues, &wanted);
 }
 
-#[test]
-fn takes_all_behind_what_was_taken(rt: HostRuntime) {
-    let mut queues: ListQueues = two_lines(&rt, rt.alloc());
-    let mut out = behind_seven(&rt, rt.alloc());
+fn takes_all_behind_what_was_taken<Q: Queues + Drop>(rt: &impl Abort, alloc: Global) {
+    let mut queues = two_lines::<Q>(rt, alloc);
+    let mut out = behind_seven(rt, alloc);
     queues.take_all(6, &mut out);
-    same(&rt, out.as_slice(), [7, 0, 2, 4].as_slice());
-    counts(&rt, &queues, &[(6, 0), (7, 2)]);
+    same(rt, out.as_slice(), [7, 0, 2, 4].as_slice());
+    counts(rt, &queues, &[(6, 0), (7, 2)]);
 }
 
 /// Whom a thread takes of a line with these wants, whose threads are numbered from 1, of a normal
@@ -151,10 +149,14 @@ const PICKS: &[Picks] = &[
     },
 ];
 
-fn taken_by(alloc: Global, wants: &[Want], picker: LockPicker) -> Result<Vec<usize>, Fail>
+fn taken_by<Q: Queues + Drop>(
+    alloc: Global,
+    wants: &[Want],
+    picker: LockPicker,
+) -> Result<Vec<usize>, Fail>
     requires { length wants.now < 8 }
 {
-    let mut queues = ListQueues::with_capacity(alloc, 8)?;
+    let mut queues = Q::with_capacity(alloc, 8)?;
     for (place, want) in wants.iter().enumerate() {
         queues.append(6, place + 1, *want);
     }
@@ -163,25 +165,26 @@ fn taken_by(alloc: Global, wants: &[Want], picker: LockPicker) -> Result<Vec<usi
     Ok(out)
 }
 
-#[test]
-fn picks_readers_and_the_first_who_wants_more(rt: HostRuntime) -> Result<(), Fail> {
+fn picks_readers_and_the_first_who_wants_more<Q: Queues + Drop>(
+    rt: &impl Abort,
+    alloc: Global,
+) -> Result<(), Fail> {
     for picks in PICKS {
         assert!(rt; picks.wants.len() < 8);
         for (recursive, taken) in [(false, picks.normal), (true, picks.recursive)] {
             let picker = LockPicker::new(picks.start, recursive);
-            let found = taken_by(rt.alloc(), picks.wants, picker)?;
-            same(&rt, found.as_slice(), taken);
+            let found = taken_by::<Q>(alloc, picks.wants, picker)?;
+            same(rt, found.as_slice(), taken);
         }
     }
     Ok(())
 }
 
-#[test]
-fn takes_by_turns_and_keeps_the_order(rt: HostRuntime) {
-    let mut queues: ListQueues = two_lines(&rt, rt.alloc());
-    let mut out = behind_seven(&rt, rt.alloc());
+fn takes_by_turns_and_keeps_the_order<Q: Queues + Drop>(rt: &impl Abort, alloc: Global) {
+    let mut queues = two_lines::<Q>(rt, alloc);
+    let mut out = behind_seven(rt, alloc);
     queues.take_by(6, LockPicker::Readers, &mut out);
-    same(&rt, out.as_slice(), [7, 2].as_slice());
+    same(rt, out.as_slice(), [7, 2].as_slice());
     let wanted = [
         (6, Some(0)),
         (6, Some(4)),
@@ -189,13 +192,13 @@ fn takes_by_turns_and_keeps_the_order(rt: HostRuntime) {
         (7, Some(1)),
         (7, Some(3)),
     ];
-    firsts(&rt, &mut queues, &wanted);
+    firsts(rt, &mut queues, &wanted);
 }
 
 /// Under a key stand these threads with these wants. It answers the place behind them.
-fn line_is(
+fn line_is<Q: Queues + Drop>(
     rt: &impl Abort,
-    queues: &ListQueues,
+    queues: &Q,
     key: Key,
     line: &[(usize, Want)],
 ) -> Option<usize> {
@@ -253,40 +256,131 @@ const REQUEUED: &[Requeued] = &[
     },
 ];
 
-#[test]
-fn requeues_behind_the_last(rt: HostRuntime) {
+fn requeues_behind_the_last<Q: Queues + Drop>(rt: &impl Abort, alloc: Global) {
     for wanted in REQUEUED {
-        let mut queues: ListQueues = two_lines(&rt, rt.alloc());
-        same(&rt, queues.requeue(6, 7, wanted.op), wanted.answer);
+        let mut queues = two_lines::<Q>(rt, alloc);
+        same(rt, queues.requeue(6, 7, wanted.op), wanted.answer);
         for (key, line) in [(6, wanted.from), (7, wanted.to)] {
-            same(&rt, queues.count(key), line.len());
-            holds(&rt, line_is(&rt, &queues, key, line).is_some());
+            same(rt, queues.count(key), line.len());
+            holds(rt, line_is(rt, &queues, key, line).is_some());
         }
-        same(&rt, queues.requeue(8, 7, wanted.op), (None, 0));
+        same(rt, queues.requeue(8, 7, wanted.op), (None, 0));
     }
 }
 
-#[test]
-fn walks_a_line(rt: HostRuntime) {
-    let queues: ListQueues = two_lines(&rt, rt.alloc());
+fn walks_a_line<Q: Queues + Drop>(rt: &impl Abort, alloc: Global) {
+    let queues = two_lines::<Q>(rt, alloc);
     let line = [
         (0, Want::Exclusive),
         (2, Want::Shared),
         (4, Want::Upgradable),
     ];
-    match line_is(&rt, &queues, 6, &line) {
-        Some(place) => same(&rt, queues.find(6, place), None),
+    match line_is(rt, &queues, 6, &line) {
+        Some(place) => same(rt, queues.find(6, place), None),
         None => panic!(rt; "the line is too short"),
     }
 }
 
+fn refuses_too_much_memory<Q: Queues + Drop>(rt: &impl Abort, alloc: Global) {
+    let refused = Q::with_capacity(alloc, usize::MAX).err();
+    same(rt, refused, Some(Fault::NoMemory));
+}
+
+/// Takes all under a key of queues of four threads: these, in order.
+fn takes_all<Q: Queues + Drop>(
+    rt: &impl Abort,
+    alloc: Global,
+    queues: &mut Q,
+    key: Key,
+    wanted: &[usize],
+) -> Result<(), Fail>
+    requires { Q.capacity queues.old ≡ 4 }
+    ensures { Q.capacity queues.new ≡ 4 }
+{
+    let mut out = Vec::with_capacity(alloc, 4)?;
+    queues.take_all(key, &mut out);
+    same(rt, out.as_slice(), wanted);
+    Ok(())
+}
+
+/// Three threads under two keys, which share a bucket where there are buckets.
+fn moves_between_keys_of_one_bucket<Q: Queues + Drop>(
+    rt: &impl Abort,
+    alloc: Global,
+) -> Result<(), Fail> {
+    let mut queues = Q::with_capacity(alloc, 4)?;
+    queues.append(0, 0, Want::Exclusive);
+    queues.append(2, 1, Want::Exclusive);
+    queues.append(0, 2, Want::Exclusive);
+    same(rt, queues.take_first(0), Some(0));
+    same(rt, queues.requeue(0, 2, Requeue::All), (None, 1));
+    takes_all(rt, alloc, &mut queues, 2, &[1, 2])?;
+    takes_all(rt, alloc, &mut queues, 0, &[])
+}
+
+/// All of these over one kind of queues.
+fn answers_as_queues<Q: Queues + Drop>(rt: &impl Abort, alloc: Global) -> Result<(), Fail> {
+    first_in_first_out::<Q>(rt, alloc);
+    a_thread_stands_at_most_once::<Q>(rt, alloc);
+    takes_all_behind_what_was_taken::<Q>(rt, alloc);
+    picks_readers_and_the_first_who_wants_more::<Q>(rt, alloc)?;
+    takes_by_turns_and_keeps_the_order::<Q>(rt, alloc);
+    requeues_behind_the_last::<Q>(rt, alloc);
+    walks_a_line::<Q>(rt, alloc);
+    refuses_too_much_memory::<Q>(rt, alloc);
+    moves_between_keys_of_one_bucket::<Q>(rt, alloc)
+}
+
 #[test]
-fn refuses_too_much_memory(rt: HostRuntime) {
-    same(
-        &rt,
-        ListQueues::with_capacity(rt.alloc(), usize::MAX).err(),
-        Some(Fault::NoMemory),
-    );
+fn one_list_answers_as_queues(rt: HostRuntime) -> Result<(), Fail> {
+    answers_as_queues::<ListQueues>(&rt, rt.alloc())
+}
+
+#[test]
+fn buckets_answer_as_queues(rt: HostRuntime) -> Result<(), Fail> {
+    answers_as_queues::<BucketQueues>(&rt, rt.alloc())
+}
+
+/// How many buckets there are for so many threads, and the bucket of a key.
+const BUCKETS: &[(usize, usize, Key, usize)] = &[
+    (1, 1, 77, 0),
+    (4, 4, 0, 0),
+    (4, 4, 1, 2),
+    (4, 4, 2, 0),
+    (9, 16, 0, 0),
+    (1024, 1024, 3, 874),
+];
+
+#[test]
+fn tells_the_bucket_of_a_key(rt: HostRuntime) -> Result<(), Fail> {
+    for row in BUCKETS {
+        let (threads, _, key, _) = *row;
+        let queues = BucketQueues::with_capacity(rt.alloc(), threads)?;
+        let found = (threads, queues.buckets(), key, queues.bucket(key));
+        same(&rt, found, *row);
+    }
+    Ok(())
+}
+
+/// Two lines of one bucket keep their own order, where whoever leaves stands first, in the midst
+/// or last of its chain.
+#[test]
+fn keys_of_one_bucket_keep_their_own_order(rt: HostRuntime) -> Result<(), Fail> {
+    let mut queues = BucketQueues::with_capacity(rt.alloc(), 4)?;
+    queues.append(2, 3, Want::Shared);
+    queues.append(0, 0, Want::Exclusive);
+    queues.append(2, 1, Want::Exclusive);
+    queues.append(0, 2, Want::Shared);
+    counts(&rt, &queues, &[(0, 2), (2, 2)]);
+    stand(&rt, &queues, &[(1, Some(2)), (4, None)]);
+    queues.append(0, 3, Want::Shared);
+    let mut out = Vec::with_capacity(rt.alloc(), 4)?;
+    queues.take_by(0, LockPicker::Readers, &mut out);
+    same(&rt, out.as_slice(), [2, 3].as_slice());
+    queues.remove(0);
+    firsts(&rt, &mut queues, &[(0, None), (2, Some(1)), (2, None)]);
+    stand(&rt, &queues, &[(1, None)]);
+    Ok(())
 }
 
 const FAULTS: &[(Fault, &str)] = &[

@@ -4,7 +4,8 @@ ghost use Rattle.std.specs.Prelude.{◌≤◌, ◌≡◌, All, length, true};
 ghost use Rattle.lot_calls.specs.Kinds.{fits};
 
 use super::same;
-use lot_base::{ListQueues, Want};
+use bucket_queues::BucketQueues;
+use lot_base::{ListQueues, Queues, Want};
 use lot_world::{Answer, Call, Debt, Kind, Outcome, Owner, Step, Turn, World};
 use std::alloc::Global;
 use std::process::Abort;
@@ -35,7 +36,7 @@ pub enum Line {
     Rests(usize, u64, Option<(Owner, usize)>),
 }
 
-fn call_alone(world: &mut World<ListQueues>, thread: usize, call: Call) -> Outcome {
+fn call_alone<Q: Queues + Drop>(world: &mut World<Q>, thread: usize, call: Call) -> Outcome {
     let turn = Turn::Begin(call);
     match world.step(Step { thread, turn }) {
         Outcome::Step => world.solo(thread),
@@ -44,7 +45,7 @@ fn call_alone(world: &mut World<ListQueues>, thread: usize, call: Call) -> Outco
 }
 
 /// What a lock that is there shows.
-fn look(world: &World<ListQueues>, lock: usize) -> Option<Shown> {
+fn look<Q: Queues + Drop>(world: &World<Q>, lock: usize) -> Option<Shown> {
     if lock >= world.locks() {
         return None;
     }
@@ -58,7 +59,7 @@ fn look(world: &World<ListQueues>, lock: usize) -> Option<Shown> {
 }
 
 /// Whether a line goes as it says, and what its thread is told, if it has one.
-fn goes(world: &mut World<ListQueues>, line: Line) -> (bool, Option<Outcome>) {
+fn goes<Q: Queues + Drop>(world: &mut World<Q>, line: Line) -> (bool, Option<Outcome>) {
     let (told, wanted) = match line {
         Line::Calls(thread, call, wanted) => (call_alone(world, thread, call), wanted),
         Line::Takes(thread, turn, wanted) => (world.step(Step { thread, turn }), wanted),
@@ -72,8 +73,8 @@ fn goes(world: &mut World<ListQueues>, line: Line) -> (bool, Option<Outcome>) {
 }
 
 /// The first line of the script that goes otherwise, and what its thread is told, if it has one.
-pub fn surprise(
-    world: &mut World<ListQueues>,
+pub fn surprise<Q: Queues + Drop>(
+    world: &mut World<Q>,
     script: &[Line],
 ) -> Option<(usize, Option<Outcome>)> {
     for (number, line) in script.iter().enumerate() {
@@ -87,7 +88,7 @@ pub fn surprise(
 
 /// Each line of the script goes as it says. All scripts share this one assertion, since each is
 /// proved where it stands.
-pub fn plays(rt: &impl Abort, world: &mut World<ListQueues>, script: &[Line]) {
+pub fn plays<Q: Queues + Drop>(rt: &impl Abort, world: &mut World<Q>, script: &[Line]) {
     same(rt, surprise(world, script), None);
 }
 
@@ -101,8 +102,8 @@ pub fn runs(
     same(rt, world.run(steps, outcomes), Ok(()));
 }
 
-/// A world of locks of these kinds, and of so many threads. It gives up where memory is refused, so
-/// that no script has a world to drop in its midst.
+/// A world of locks of these kinds, and of so many threads, over one list. It gives up where memory
+/// is refused, so that no script has a world to drop in its midst.
 pub fn world_of<A: Abort>(
     rt: &A,
     alloc: Global,
@@ -112,16 +113,31 @@ pub fn world_of<A: Abort>(
     requires few { (1 ≤ threads) × (threads ≤ 1024) × (length kinds.now ≤ 256) }
     requires fit { All (λ kind. fits kind threads ≡ true) kinds.now }
 {
+    world_over::<ListQueues, A>(rt, alloc, kinds, threads)
+}
+
+/// The same over any kind of queues.
+fn world_over<Q: Queues + Drop, A: Abort>(
+    rt: &A,
+    alloc: Global,
+    kinds: &[Kind],
+    threads: usize,
+) -> World<Q>
+    requires few { (1 ≤ threads) × (threads ≤ 1024) × (length kinds.now ≤ 256) }
+    requires fit { All (λ kind. fits kind threads ≡ true) kinds.now }
+{
     match World::new(alloc, kinds, threads) {
         Ok(world) => world,
         Err(_) => panic!(rt; "no memory"),
     }
 }
 
-/// Each line of the script goes as it says in a new world.
+/// Each line of the script goes as it says in a new world, over each kind of queues.
 pub fn plays_anew<A: Abort>(rt: &A, alloc: Global, kinds: &[Kind], threads: usize, script: &[Line])
     requires few { (1 ≤ threads) × (threads ≤ 1024) × (length kinds.now ≤ 256) }
     requires fit { All (λ kind. fits kind threads ≡ true) kinds.now }
 {
     plays(rt, &mut world_of(rt, alloc, kinds, threads), script);
+    let mut world = world_over::<BucketQueues, A>(rt, alloc, kinds, threads);
+    plays(rt, &mut world, script);
 }

@@ -13,5 +13,5 @@ returns g c =
     let s = c.args.self.now in
     let w = session_world s in
     subst (λ wanted. AnswersTo wanted c.act.result (session_stage s) (session_stage c.act.new.self) (Puts (g.W.Write.contents c.args.writer.now) (g.W.Write.contents c.act.new.writer) c.args.page.now c.act.new.page))
-    (sym (turn_obeyed s c.args.thread (named_turn c.args.turn) ∙ ap (option_map (acted s.names.items w c.args.thread)) (c.plain_action.ensures s.names.items w)))
+    (sym (turn_obeyed s c.args.thread (named_turn c.args.turn) ∙ ap (option_map (acted s.names w c.args.thread)) (c.plain_action.ensures s.names w)))
     c.act.ensures
