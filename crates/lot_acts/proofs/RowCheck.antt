@@ -480,10 +480,13 @@ module _ (sort : Sort) (l : ℕ) (row : Profile) (a : Act) (g : Going) (own : lo
   lets_so h = elim (either (releases (row.purpose l) row.released) _ h) [
     | inl r ↦ inl (subst (λ k. IsReleasing (Some (row.purpose l)) row.released k) own (releases_so (row.purpose l) row.released r))
     | inr s ↦ let p : (has_readers sort ≡ true) × ((downgrades (row.purpose l) || (row.gave_up && no_line row.doing.inside)) ≡ true) = both _ _ s in
-        inr (p.0, elim (either (downgrades (row.purpose l)) _ p.1) [
-          | inl d ↦ inl (subst (λ k. IsDowngrade (Some (row.purpose l)) k) own (downgrades_so (row.purpose l) d))
-          | inr u ↦ let v : (row.gave_up ≡ true) × (no_line row.doing.inside ≡ true) = both _ _ u in inr (v.0, none_is row.doing.inside v.1)
-        ])
+        inr (
+          p.0,
+          elim (either (downgrades (row.purpose l)) _ p.1) [
+            | inl d ↦ inl (subst (λ k. IsDowngrade (Some (row.purpose l)) k) own (downgrades_so (row.purpose l) d))
+            | inr u ↦ let v : (row.gave_up ≡ true) × (no_line row.doing.inside ≡ true) = both _ _ u in inr (v.0, none_is row.doing.inside v.1)
+          ],
+        )
   ]
 
   lets_is : is_single (row.purpose l) ≡ true → LetsIn sort l row → lets_in sort row (row.purpose l) ≡ true
@@ -633,4 +636,3 @@ module _ (sort : Sort) (l : ℕ) (row : Profile) (a : Act) (g : Going) (own : lo
             timed = subst (λ k. IsTimed (Some (row.purpose l)) row.recalls k) own (deadline_so (row.purpose l) row.recalls s.0);
             shut = λ lets. no (lets_in sort row (row.purpose l)) s.1 (lets_is t.single lets);
           }
-

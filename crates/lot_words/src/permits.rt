@@ -11,8 +11,8 @@ ghost use Rattle.lot_words.specs.declared.owners.Owner.TheVariants.{Exclusive};
 ghost use Rattle.lot_words.specs.declared.words.WordKind.TheVariants.{Mutex};
 
 use crate::plays::{
-    Enters, GoesOn, GoesOnAs, KeepsOwner, LaysBack, Leaves, LeavesAlone, Ors, OwnershipRule, PermitPick,
-    SeesLocked, TakesOut, TriesSeen,
+    Enters, GoesOn, GoesOnAs, KeepsOwner, LaysBack, Leaves, LeavesAlone, Ors, OwnershipRule,
+    PermitPick, SeesLocked, TakesOut, TriesSeen,
 };
 use crate::table::{LotWords, Seat};
 use crate::views::View;
@@ -50,7 +50,10 @@ impl LotWords {
             ≡ with_out (word_index word.number word.kind ∷ []) seat.old.me.0 }
     {
         let _mutex = word;
-        stir::<PermitSlot, View, (usize, Permits), OwnershipRule, TakesOut<P>>(&self.table.shared, seat);
+        stir::<PermitSlot, View, (usize, Permits), OwnershipRule, TakesOut<P>>(
+            &self.table.shared,
+            seat,
+        );
     }
 
     // None is out with it.
@@ -60,7 +63,10 @@ impl LotWords {
         ensures own { IsSeatOf self.now seat.new }
         ensures laid { seat.new.me.0 ≡ shown seat.old.me.0 }
     {
-        stir::<PermitSlot, View, (usize, Permits), OwnershipRule, LaysBack>(&self.table.shared, seat);
+        stir::<PermitSlot, View, (usize, Permits), OwnershipRule, LaysBack>(
+            &self.table.shared,
+            seat,
+        );
     }
 
     // The seat of a mutex's owner, split off one with which the mutex's permit is out.
@@ -74,7 +80,10 @@ impl LotWords {
         ensures left { seat.new.me.0 ≡ left_over (named_by word Exclusive) seat.old.me.0 }
     {
         let _mutex = word;
-        let next = split_seat::<PermitSlot, View, (usize, Permits), OwnershipRule, KeepsOwner<P>>(&self.table.shared, seat);
+        let next = split_seat::<PermitSlot, View, (usize, Permits), OwnershipRule, KeepsOwner<P>>(
+            &self.table.shared,
+            seat,
+        );
         mem::replace(seat, next)
     }
 
@@ -135,7 +144,11 @@ impl LotWords {
         ensures own { IsSeatOf self.now seat.new }
         ensures gone_on { shown seat.new.me.0 ≡ goes_on_with seat.old.me.0 owner.me.0 }
     {
-        join_seat::<PermitSlot, View, (usize, Permits), OwnershipRule, GoesOn>(&self.table.shared, seat, owner);
+        join_seat::<PermitSlot, View, (usize, Permits), OwnershipRule, GoesOn>(
+            &self.table.shared,
+            seat,
+            owner,
+        );
     }
 
     // The same of an owner with which a permit is out: it is out with the thread then.
@@ -149,7 +162,11 @@ impl LotWords {
     {
         self.lay_back(seat);
         let thread = mem::replace(seat, owner);
-        join_seat::<PermitSlot, View, (usize, Permits), OwnershipRule, GoesOnAs>(&self.table.shared, seat, thread);
+        join_seat::<PermitSlot, View, (usize, Permits), OwnershipRule, GoesOnAs>(
+            &self.table.shared,
+            seat,
+            thread,
+        );
     }
 
     // The steps that enter and leave, in which the pick says whose permit it is.

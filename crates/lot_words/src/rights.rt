@@ -110,7 +110,10 @@ impl LotWords {
         ensures split { IsSeatOf self.now result × (result.me.0 ≡ piece P.owned) }
     {
         let _named = (word, owner);
-        split_seat::<PermitSlot, View, (usize, Permits), OwnershipRule, SplitsOff<P>>(&self.table.shared, seat)
+        split_seat::<PermitSlot, View, (usize, Permits), OwnershipRule, SplitsOff<P>>(
+            &self.table.shared,
+            seat,
+        )
     }
 
     /// Splits an ownership off that the seat's view names, of a word that guards no value. It loads
@@ -136,7 +139,11 @@ impl LotWords {
     {
         let _named = (word, owner);
         let Held { seat: other } = held;
-        join_seat::<PermitSlot, View, (usize, Permits), OwnershipRule, TakesIn>(&self.table.shared, seat, other);
+        join_seat::<PermitSlot, View, (usize, Permits), OwnershipRule, TakesIn>(
+            &self.table.shared,
+            seat,
+            other,
+        );
     }
 
     /// The same with its word and owner, and with the permit where it is a mutex that is owned.
@@ -173,7 +180,11 @@ impl LotWords {
         if owner.takes_permit(word.kind()) {
             self.go_on_as(seat, other);
         } else {
-            join_seat::<PermitSlot, View, (usize, Permits), OwnershipRule, TakesIn>(&self.table.shared, seat, other);
+            join_seat::<PermitSlot, View, (usize, Permits), OwnershipRule, TakesIn>(
+                &self.table.shared,
+                seat,
+                other,
+            );
         }
     }
 }
