@@ -8,16 +8,16 @@ use Rattle.lot_base.specs.declared.wants.Want.{Want}
 use Rattle.lot_base.specs.declared.wants.Want.TheVariants as w
 use Rattle.lot_base.specs.Keys.{key_of}
 use Rattle.lot_acts.specs.declared.acts.Act.{Act}
-use Rattle.lot_acts.specs.declared.acts.Act.TheVariants.{Rest, Enter, Leave, Sleep, End}
+use Rattle.lot_acts.specs.declared.acts.Act.TheVariants.{Enter, Leave, Sleep}
 use Rattle.lot_acts.specs.declared.acts.Wakes as wakes
 use Rattle.lot_acts.specs.Profiles.{Profile, Hand, Of, hand}
-use Rattle.lot_acts.specs.Rows.{is_acting, taken_of, IsWaiting, HasClaimed, WasHanded, LetsIn, LetsInAt, RowOwes, IsDebtorIn, HasDebt, RowLooksAfter, RowIsLate, RowPromises, IsDowngrade, WakesAside, KnowsRights}
+use Rattle.lot_acts.specs.Rows.{is_acting, taken_of, IsWaiting, HasClaimed, WasHanded, LetsIn, LetsInAt, IsDebtorIn, HasDebt, RowLooksAfter, RowIsLate, RowPromises, IsDowngrade, WakesAside, KnowsRights}
 use Rattle.abstract_locks.specs.Headline.{WakesWaiters, want_of}
 use Rattle.abstract_locks.specs.Locks.{Sort, Taken, Knows, wants_exclusive}
 use Rattle.abstract_locks.specs.Locks as sorts
 use Rattle.abstract_locks.specs.Purposes.{Purpose, Enters, Releases, Converts, Bumps, CallsOnce, Awaits, Waits, Notifies, MayWait, IsReleasing, lock_for, Patience, Try, Timed, Patient, Recall}
 use Rattle.abstract_locks.specs.Runs.{IsTimed}
-use Rattle.abstract_locks.specs.Sites.{Claim, Doing, Has, Pends, Runs, Ran, IsDebtor, counts_some, has_readers}
+use Rattle.abstract_locks.specs.Sites.{Claim, Doing, Has, Pends, counts_some, has_readers}
 
 -- ---------------------------------------------------------------- the test of a row
 

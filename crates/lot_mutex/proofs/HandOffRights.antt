@@ -1,5 +1,5 @@
 -- The rights behind a hand-off: its thread gives its right up, the heir has it, and nobody else's change.
-use Rattle.std.proofs.Common.{ℕ, Bool, true, false, Option, Some, None, if◌then◌else◌, ◌==◌, ◌≡◌, ◌≢◌, ◌+◌, List, refl, sym, ◌∙◌, ap, arith}
+use Rattle.std.proofs.Common.{ℕ, false, Option, Some, None, if◌then◌else◌, ◌==◌, ◌≡◌, ◌≢◌, ◌+◌, List, refl, sym, ◌∙◌, ap, arith}
 use Rattle.std.proofs.lemmas.Bool.Decides.{nat_tests}
 use Rattle.std.specs.Prelude.{slice_index, sum}
 use Rattle.lot_base.specs.declared.wants.Want.TheVariants.{Exclusive}

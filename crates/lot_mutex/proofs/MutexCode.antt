@@ -1,8 +1,8 @@
 -- Each operation of a mutex leaves the word of the mutex behind its deeds, and the owner.
-use Rattle.std.proofs.Common.{ℕ, Bool, true, false, Option, Some, None, if◌then◌else◌, ◌==◌, ◌≡◌, ◌≢◌, ◌+◌, ◌*◌, List, [], ◌∷◌, refl, sym, ap, ◌∙◌, subst, arith}
+use Rattle.std.proofs.Common.{ℕ, Bool, true, false, Option, Some, None, if◌then◌else◌, ◌==◌, ◌≡◌, ◌+◌, ◌*◌, List, [], ◌∷◌, refl, sym, ap, ◌∙◌, subst, arith}
 use Rattle.std.proofs.lemmas.Bool.{eqb-true}
 use Rattle.std.proofs.lemmas.Bool.Decides.{nat_tests}
-use Rattle.std.specs.Prelude.{not, is_none, sum, ◌&&◌}
+use Rattle.std.specs.Prelude.{not, ◌&&◌}
 use Rattle.lot_base.specs.declared.keys.Keys.TheVariants.{One}
 use Rattle.lot_base.specs.declared.ops.Op.{Op}
 use Rattle.lot_base.specs.declared.ops.Op.TheVariants as op
@@ -14,11 +14,10 @@ use Rattle.lot_acts.specs.declared.acts.Reply.TheVariants.{Value}
 use Rattle.lot_acts.specs.declared.owners.Owners.{Owners}
 use Rattle.lot_acts.specs.Owners.{with_exclusive}
 use Rattle.abstract_locks.proofs.LockKeeps.{sharing_same}
-use Rattle.abstract_locks.specs.Codes.{bit, code}
+use Rattle.abstract_locks.specs.Codes.{code}
 use Rattle.abstract_locks.specs.Deeds.{after_all}
-use Rattle.abstract_locks.specs.Locks.{HandOff as HandsOff, Leave, LockState, Mutex, Rules, handed, let_go, one_if_some, pending_for, with_owner, with_successor, without_owner}
+use Rattle.abstract_locks.specs.Locks.{Leave, LockState, Mutex, Rules, handed, let_go, pending_for, with_owner, with_successor, without_owner}
 use Rattle.abstract_locks.specs.Sites.{Case, Deed, Doing, End, Has, IsSite, Main, Mark, Site}
-use Rattle.lot_mutex.specs.declared.lock.Entry.{Entry}
 use Rattle.lot_mutex.specs.declared.lock.LockAt.TheVariants as lock
 use Rattle.lot_mutex.specs.declared.places.MutexPlace.{MutexPlace}
 use Rattle.lot_mutex.specs.declared.places.MutexPlace.TheVariants.{Lock, TryLock, Unlock, UnlockFair, Bump, HandOff}
@@ -26,8 +25,8 @@ use Rattle.lot_mutex.specs.declared.places.TheConstants.{NOT_PARKED}
 use Rattle.lot_mutex.specs.declared.unlock.UnlockAt.TheVariants as unlock
 use Rattle.lot_mutex.specs.declared.hand_off.HandOffAt.TheVariants as hand_off
 use Rattle.lot_mutex.specs.MutexDeeds.{enters, hands_over, mutex_deeds, queued}
-use Rattle.lot_mutex.specs.MutexLaws.{HandsOver, IsAt, LeavesMutex, MayHear, MutexHandOversCode, MutexStepsCode, heir, mutex_doing}
-use Rattle.lot_mutex.specs.MutexSteps.{decided, hand_off_store, hand_off_word, is_locked, is_parked, mutex_act, mutex_owners}
+use Rattle.lot_mutex.specs.MutexLaws.{HandsOver, LeavesMutex, MayHear, MutexHandOversCode, MutexStepsCode, mutex_doing}
+use Rattle.lot_mutex.specs.MutexSteps.{decided, hand_off_word, is_locked, is_parked, mutex_act, mutex_owners}
 use Rattle.lot_mutex.proofs.MutexWords.{cleared, entered_free, entered_zero, less_one, one, owned_word, tried_free, tried_owned, word_of}
 
 module _ (limit : ℕ) (s : Site) (t l : ℕ) (h : IsSite (record { sort = Mutex; limit = limit }) s) where

@@ -1,44 +1,30 @@
 -- Each step of a mutex may do to it what its deeds say, and leaves its word and its owner.
-use Rattle.std.proofs.Common.{ℕ, Bool, true, false, Option, Some, None, if◌then◌else◌, ◌==◌, ◌≡◌, ◌≢◌, ◌+◌, ◌*◌, ◌⊎◌, inl, inr, List, [], ◌∷◌, refl, sym, ap, ◌∙◌, subst, arith}
-use Rattle.std.proofs.lemmas.Bool.{eqb-true}
-use Rattle.std.proofs.lemmas.Bool.Decides.{nat_tests}
-use Rattle.std.specs.Prelude.{not, drop, is_none, sum, ◌≤◌, ◌&&◌}
-use Rattle.lot_base.specs.declared.keys.Keys.TheVariants.{One}
-use Rattle.lot_base.specs.declared.ops.Op.{Op}
-use Rattle.lot_base.specs.declared.ops.Op.TheVariants as op
+use Rattle.std.proofs.Common.{ℕ, Bool, true, false, Option, Some, None, if◌then◌else◌, ◌==◌, ◌≡◌, ◌≢◌, ◌⊎◌, inl, inr, List, [], ◌∷◌, refl, sym, ap, ◌∙◌, subst, arith}
+use Rattle.std.specs.Prelude.{not, drop, is_none, ◌&&◌}
 use Rattle.lot_base.specs.declared.wants.Want.TheVariants.{Exclusive}
-use Rattle.lot_base.specs.Words.{apply}
 use Rattle.lot_calls.specs.declared.outcomes.Answer.TheVariants as answer
-use Rattle.lot_acts.specs.declared.acts.Act.{Act}
-use Rattle.lot_acts.specs.declared.acts.Act.TheVariants as act
 use Rattle.lot_acts.specs.declared.acts.Next.{Next}
 use Rattle.lot_acts.specs.declared.acts.Next.TheVariants.{At, End as Over}
 use Rattle.lot_acts.specs.declared.acts.Reply.{Reply}
 use Rattle.lot_acts.specs.declared.acts.Reply.TheVariants.{Done, Value, Parked, Took, Removed, Late}
-use Rattle.lot_acts.specs.declared.owners.Owners.{Owners}
 use Rattle.lot_acts.specs.Moves.{IsFree, StandsAlone}
-use Rattle.lot_acts.specs.Owners.{with_exclusive}
-use Rattle.abstract_locks.proofs.LockKeeps.{sharing_same}
-use Rattle.abstract_locks.specs.Codes.{bit, code}
 use Rattle.abstract_locks.specs.Deeds.{AllNeeded, after_all}
-use Rattle.abstract_locks.specs.Locks.{Enter, HandOff as HandsOff, HasTakenNobody, IsSomePending, IsSuccessor, LockState, Late as GivesUp, Leave, Mutex, Pending, Rules, aside_without, handed, let_go, one_if_some, pending_for, putting, standing, times, with_owner, with_successor, without, without_owner}
+use Rattle.abstract_locks.specs.Locks.{Enter, HandOff as HandsOff, HasTakenNobody, IsSomePending, IsSuccessor, Late as GivesUp, Leave, Mutex, Pending, Rules, aside_without, putting, standing, without}
 use Rattle.abstract_locks.specs.Sites.{Case, Clear, Deed, Doing, End, Has, In, IsSite, Main, Mark, Out, Second, Site, StandsIn, after_deed, counts_some, found, idle, is_empty, late_found, leaves, seen_main, wakened}
 use Rattle.lot_mutex.specs.declared.lock.Entry.{Entry}
-use Rattle.lot_mutex.specs.declared.lock.Entry.TheVariants as entry
 use Rattle.lot_mutex.specs.declared.lock.LockAt.{LockAt}
 use Rattle.lot_mutex.specs.declared.lock.LockAt.TheVariants as lock
 use Rattle.lot_mutex.specs.declared.places.MutexPlace.{MutexPlace}
 use Rattle.lot_mutex.specs.declared.places.MutexPlace.TheVariants.{Lock, TryLock, Unlock, UnlockFair, Bump, HandOff}
-use Rattle.lot_mutex.specs.declared.places.TheConstants.{NOT_PARKED}
 use Rattle.lot_mutex.specs.declared.unlock.UnlockAt.{UnlockAt}
 use Rattle.lot_mutex.specs.declared.unlock.UnlockAt.TheVariants as unlock
 use Rattle.lot_mutex.specs.declared.hand_off.HandOffAt.{HandOffAt}
 use Rattle.lot_mutex.specs.declared.hand_off.HandOffAt.TheVariants as hand_off
 use Rattle.lot_mutex.specs.MutexDeeds.{enters, hands_over, mutex_deeds, queued, takes}
-use Rattle.lot_mutex.specs.MutexLaws.{Follows, HandsOver, IsAt, LeavesMutex, MayHear, MayHearHandingOff, MayHearLocking, MayHearUnlocking, MutexHandOversCode, MutexStepsCode, MutexStepsFollow, TakesFirst, doing_next, heir, mutex_doing}
+use Rattle.lot_mutex.specs.MutexLaws.{Follows, MayHear, MayHearHandingOff, MayHearLocking, MayHearUnlocking, MutexStepsFollow, TakesFirst, doing_next, heir, mutex_doing}
 use Rattle.lot_mutex.specs.MutexProfiles.{again, carrying, inside, owner, seen_empty}
-use Rattle.lot_mutex.specs.MutexSteps.{decided, entered, hand_off_store, hand_off_word, in_hand_off, in_lock, in_unlock, is_locked, is_parked, looked, mutex_act, mutex_next, mutex_owners}
-use Rattle.lot_mutex.proofs.MutexWords.{cleared, entered_free, entered_zero, first_is, less_one, locked_owned, nobody_first, one, owned_word, parked_is, put_same, three, tried_free, tried_owned, unlocked_free, word_of, zero_free}
+use Rattle.lot_mutex.specs.MutexSteps.{entered, in_hand_off, in_lock, in_unlock, is_locked, is_parked, looked, mutex_next}
+use Rattle.lot_mutex.proofs.MutexWords.{first_is, nobody_first, one, parked_is, put_same, three, unlocked_free, word_of, zero_free}
 
 module _ (limit : ℕ) (s : Site) (t : ℕ) (h : IsSite (record { sort = Mutex; limit = limit }) s) where
   abbrev r : Rules

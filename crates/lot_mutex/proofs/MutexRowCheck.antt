@@ -1,11 +1,9 @@
 -- Each place of a mutex says of its thread what is promised of it, by the test of its row.
-use Rattle.std.proofs.Common.{ℕ, Bool, true, false, Some, if◌then◌else◌, ◌==◌, not, ◌&&◌, ◌≡◌, ◌≢◌, ◌*◌, ◌+◌, refl}
+use Rattle.std.proofs.Common.{ℕ, Bool, true, false, if◌then◌else◌, ◌==◌, not, ◌&&◌, ◌≡◌, ◌*◌, ◌+◌, refl}
 use Rattle.lot_base.specs.declared.keys.Keys.TheVariants.{One}
-use Rattle.lot_base.specs.declared.keys.Line.{Line}
-use Rattle.lot_base.specs.declared.keys.Line.TheVariants.{Main, Second}
+use Rattle.lot_base.specs.declared.keys.Line.TheVariants.{Main}
 use Rattle.lot_base.specs.declared.ops.Op.TheVariants as op
 use Rattle.lot_acts.specs.declared.acts.Act.TheVariants as act
-use Rattle.lot_acts.specs.Profiles.{Profile, bringing_nobody}
 use Rattle.abstract_locks.specs.Locks.{Mutex}
 use Rattle.abstract_locks.specs.Purposes.{lock_for}
 use Rattle.lot_mutex.specs.declared.lock.Entry.{Entry}
@@ -17,11 +15,9 @@ use Rattle.lot_mutex.specs.declared.unlock.UnlockAt.TheVariants as unlock
 use Rattle.lot_mutex.specs.declared.hand_off.HandOffAt.{HandOffAt}
 use Rattle.lot_mutex.specs.declared.hand_off.HandOffAt.TheVariants as hand_off
 use Rattle.lot_mutex.specs.declared.places.MutexPlace.{MutexPlace}
-use Rattle.lot_mutex.specs.declared.places.MutexPlace.TheVariants.{Lock, TryLock, Unlock, UnlockFair, Bump, HandOff}
-use Rattle.lot_mutex.specs.MutexSteps.{decided, hand_off_act, is_locked, lock_act, mutex_act, unlock_act}
-use Rattle.lot_mutex.specs.MutexProfiles.{mutex_profile}
+use Rattle.lot_mutex.specs.declared.places.MutexPlace.TheVariants.{Lock, Unlock, HandOff}
+use Rattle.lot_mutex.specs.MutexSteps.{hand_off_act, is_locked, lock_act, mutex_act, unlock_act}
 use Rattle.lot_mutex.specs.MutexLaws.{MutexRowsKeep, mutex_row}
-use Rattle.lot_acts.specs.Rows.{RowPromises}
 use Rattle.lot_acts.proofs.RowCheck.{Going, Into, HandsOver, Asleep, Other, GoesAs, keeps_row, by_test, both}
 
 -- ---------------------------------------------------------------- what a thread does next

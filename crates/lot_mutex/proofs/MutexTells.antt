@@ -1,10 +1,9 @@
 -- Whatever a thread in a call of a mutex is told of its step, the step makes of its call what its next row says.
-use Rattle.std.proofs.Common.{ℕ, Bool, true, false, Option, Some, None, if◌then◌else◌, ◌==◌, not, ◌≡◌, ◌≢◌, inl, inr, List, [], ◌∷◌, refl, sym, ◌∙◌, ap, subst}
+use Rattle.std.proofs.Common.{ℕ, Bool, true, false, Option, Some, None, if◌then◌else◌, ◌==◌, not, ◌≡◌, ◌≢◌, inl, [], ◌∷◌, refl, sym, ◌∙◌, ap, subst}
 use Rattle.lot_base.specs.declared.wants.Want.TheVariants.{Exclusive}
 use Rattle.lot_acts.specs.declared.acts.Reply.{Reply}
 use Rattle.lot_acts.specs.declared.acts.Reply.TheVariants.{Done, Value, Parked, Took, Removed, Late}
 use Rattle.lot_acts.specs.Calls.{CallFollows}
-use Rattle.abstract_locks.specs.Codes.{code}
 use Rattle.abstract_locks.specs.Deeds.{AllNeeded}
 use Rattle.abstract_locks.specs.Locks.{Mutex, Needs, Rules, HandOff as HandsOff}
 use Rattle.abstract_locks.specs.Sites.{Site, IsSite, Doing, Has, Main, In, End, Mark, Clear as Clears}
@@ -14,12 +13,12 @@ use Rattle.lot_mutex.specs.declared.lock.LockAt.TheVariants.{First, Load, Decide
 use Rattle.lot_mutex.specs.declared.unlock.UnlockAt.TheVariants as unlock
 use Rattle.lot_mutex.specs.declared.hand_off.HandOffAt.TheVariants as hand_off
 use Rattle.lot_mutex.specs.MutexDeeds.{mutex_deeds, enters, hands_over}
-use Rattle.lot_mutex.specs.MutexLaws.{IsAt, MayHear, MutexStepsTell, heir, mutex_doing, mutex_row, next_row}
+use Rattle.lot_mutex.specs.MutexLaws.{MayHear, MutexStepsTell, heir, mutex_doing, mutex_row, next_row}
 use Rattle.lot_mutex.specs.MutexSteps.{is_locked, is_parked, is_timed, mutex_next}
 use Rattle.lot_mutex.proofs.HandOffRights.{gives_right}
 use Rattle.lot_mutex.proofs.MutexCalls.{Tells, first, loads, exchanges, checks, leaves_line, removes, gives_up, accepts, tries, subtracts, takes_one, wakes_taken, unlocks_fairly, bumps, takes_fairly, stores, leaves_fairly, goes_to}
 use Rattle.lot_mutex.proofs.MutexFit.{mutex_steps_follow}
-use Rattle.lot_mutex.proofs.MutexWords.{coded, locked_owned, word_of}
+use Rattle.lot_mutex.proofs.MutexWords.{locked_owned}
 
 -- what a thread may be told of its own step, as far as its call goes
 abbrev pub Hears : Site → ℕ → MutexPlace → Reply → Type 0

@@ -1,8 +1,6 @@
 -- Each place of a `Once` says of its thread what is promised of it, by the test of its row.
-use Rattle.std.proofs.Common.{ℕ, Bool, true, false, Some, ◌&&◌, ◌≡◌, ◌≢◌, ◌*◌, ◌+◌, refl}
-use Rattle.lot_base.specs.declared.keys.Keys.TheVariants.{One}
-use Rattle.lot_base.specs.declared.keys.Line.{Line}
-use Rattle.lot_base.specs.declared.keys.Line.TheVariants.{Main, Second}
+use Rattle.std.proofs.Common.{ℕ, Bool, true, false, ◌&&◌, ◌≡◌, refl}
+use Rattle.lot_base.specs.declared.keys.Line.TheVariants.{Main}
 use Rattle.lot_calls.specs.declared.calls.OnceCall.{OnceCall}
 use Rattle.lot_calls.specs.declared.calls.OnceCall.TheVariants.{CallOnce, Wait}
 use Rattle.abstract_locks.specs.Locks.{Once}
@@ -12,11 +10,9 @@ use Rattle.lot_once.specs.declared.look.Course.{Course}
 use Rattle.lot_once.specs.declared.look.Course.TheVariants as course
 use Rattle.lot_once.specs.declared.run.RunAt.{RunAt}
 use Rattle.lot_once.specs.declared.run.RunAt.TheVariants as run
-use Rattle.lot_once.specs.declared.places.OncePlace.{OncePlace}
 use Rattle.lot_once.specs.declared.places.OncePlace.TheVariants.{Look, Run}
-use Rattle.lot_once.specs.OnceSteps.{course_act, course_of, look_act, once_act, run_act}
+use Rattle.lot_once.specs.OnceSteps.{course_act, course_of, look_act, run_act}
 use Rattle.lot_once.specs.OnceProfiles.{once_profile}
-use Rattle.lot_acts.specs.Rows.{RowPromises}
 use Rattle.lot_acts.proofs.RowCheck.{Going, Into, Asleep, Other, GoesAs, keeps_row, by_test, both}
 use Rattle.lot_once.specs.OnceRows.{OnceRowsKeep}
 use Rattle.abstract_locks.specs.Purposes.{lock_for, once_purpose}

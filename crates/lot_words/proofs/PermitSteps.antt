@@ -2,10 +2,9 @@
 use Rattle.std.proofs.Common.{◌≡◌, ℕ, zero, suc, ◌+◌, ◌<◌, ◌≤◌, ⊎_elim, inl, inr, List, [], ◌∷◌, ◌++◌, length, get_or, set, map, cond, eqb, sym, refl, ap, ◌∙◌, subst, arith, length-set}
 use mathlib.Core.Logic.{dite}
 use mathlib.Core.Option.{Option, some, none, some-injective, some-ne-none}
-use Rattle.std.proofs.lemmas.List.{set-get_or}
 use native.Mathlib.Decide.{ℕ_discrete}
 use lib.ListN.{get_elem?, replicate, length-replicate, get_or-replicate}
-use Rattle.atomic_table.specs.Table.{State, Me, step, takes, gives, chain, rest, put_back, Allows, opening}
+use Rattle.atomic_table.specs.Table.{State, Me, takes, gives, chain, rest, put_back, opening}
 use Rattle.atomic_table.proofs.Lists.{at_set}
 use Rattle.lot_words.specs.Indices.{word_index, counter, table_size}
 use Rattle.lot_words.specs.Views.{blank, shown, with_out, total, total_below, owned, named, counted, steps_at, outs, drew}

@@ -1,4 +1,4 @@
-use Rattle.std.proofs.Common.{ap, arith, ◌∙◌}
+use Rattle.std.proofs.Common.{ap, ◌∙◌}
 use Rattle.lot_words.specs.Permits.{slots_of}
 use Rattle.lot_words.proofs.Seats.{goes_on_as}
 use Rattle.lot_words.proofs.table.LotWords.go_on_as.Goals as goal

@@ -1,4 +1,4 @@
-use Rattle.std.proofs.Common.{ap, arith, ◌∙◌}
+use Rattle.std.proofs.Common.{ap, ◌∙◌}
 use Rattle.lot_words.specs.Permits.{slots_of}
 use Rattle.lot_words.specs.Rights.{named_by}
 use Rattle.lot_words.proofs.Seats.{takes_back}

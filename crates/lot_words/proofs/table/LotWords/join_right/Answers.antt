@@ -1,4 +1,4 @@
-use Rattle.std.proofs.Common.{◌≡◌, cond, ap, arith, sym, ◌∙◌}
+use Rattle.std.proofs.Common.{◌≡◌, cond, ap, sym, ◌∙◌}
 use Rattle.lot_words.specs.Permits.{slots_of}
 use Rattle.lot_words.specs.Rights.{named_by, piece_of, takes_permit, with_permit}
 use Rattle.lot_words.proofs.Seats.{takes_back}

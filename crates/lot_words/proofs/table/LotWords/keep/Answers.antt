@@ -1,4 +1,4 @@
-use Rattle.std.proofs.Common.{◌≡◌, ℕ, ◌∷◌, [], true, ◌∙◌, ap, sym, subst, arith}
+use Rattle.std.proofs.Common.{◌≡◌, ℕ, ◌∷◌, [], true, ◌∙◌, ap, sym, subst}
 use Rattle.atomic_table.specs.Table.{Splits}
 use Rattle.lot_words.specs.Lots.{IsSeatOf, IsWordOf}
 use Rattle.lot_words.specs.Plays.{left_over, piece}

@@ -1,4 +1,4 @@
-use Rattle.std.proofs.Common.{◌≡◌, ℕ, cond, eqb, arith, sym, subst}
+use Rattle.std.proofs.Common.{◌≡◌, ℕ, cond, eqb, sym, subst}
 use Rattle.lot_words.specs.Codes.{exclusive}
 use Rattle.lot_words.specs.Indices.{word_kind_at}
 use Rattle.lot_words.specs.declared.owners.Ownership.{Ownership}
