@@ -16,7 +16,6 @@ use Rattle.lot_acts.specs.Owners.{is_thread, with_exclusive}
 use Rattle.abstract_locks.specs.Locks as locks
 use Rattle.lot_machine.specs.Machine.{State, place_at, shares_at, state_after_telling, held, pending_for, owners_of_successor, shares_handed_over, owners_handed_over, state_after_reply}
 use Rattle.lot_laws.specs.Refinement.{lock_seen, taken_at}
-use Rattle.lot_laws.specs.MutexDeeds.{queued}
 pub use Rattle.lot_mutex.specs.MutexLaws.{heir}
 use Rattle.lot_laws.specs.Stations.{Station, hand}
 use Rattle.lot_laws.specs.SitesOf.{carried_at, hand_at, Hands}

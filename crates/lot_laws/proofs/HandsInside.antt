@@ -1,13 +1,11 @@
 -- Who has taken others is inside the section from whose line it took them; and who is yet to set a parked bit beside waiters is inside too, or
 -- has ended its run of a `Once` and owes them their wake.
-use Rattle.std.proofs.Common.{ℕ, Bool, true, false, Option, Some, None, if◌then◌else◌, ◌==◌, ◌≡◌, ◌≢◌, ◌⊎◌, inl, inr, refl, sym, ◌∙◌, ap, subst}
+use Rattle.std.proofs.Common.{ℕ, Bool, true, false, Option, Some, None, if◌then◌else◌, ◌==◌, ◌≡◌, ◌≢◌, inl, inr, refl, sym, ◌∙◌}
 use Rattle.lot_base.specs.declared.wants.Want.{Want}
-use Rattle.lot_calls.specs.declared.kinds.Kind.{Kind}
 use Rattle.lot_acts.specs.declared.acts.Act.{Act}
 use Rattle.lot_acts.specs.declared.acts.Act.TheVariants.{Sleep}
 use Rattle.lot_acts.specs.Profiles.{Profile}
 use Rattle.abstract_locks.specs.Locks.{Taken}
-use Rattle.abstract_locks.specs.Locks as locks
 use Rattle.abstract_locks.specs.Sites.{Claim, Doing, Line, Main, Second, idle}
 use Rattle.lot_mutex.specs.declared.places.MutexPlace.{MutexPlace}
 use Rattle.lot_mutex.specs.declared.places.MutexPlace.TheVariants as mutex
@@ -21,7 +19,6 @@ use Rattle.lot_once.specs.declared.places.OncePlace.{OncePlace}
 use Rattle.lot_once.specs.declared.places.OncePlace.TheVariants as once
 use Rattle.lot_once.specs.declared.look.LookAt.{LookAt}
 use Rattle.lot_once.specs.declared.look.LookAt.TheVariants as look
-use Rattle.lot_once.specs.declared.run.RunAt.{RunAt}
 use Rattle.lot_once.specs.declared.run.RunAt.TheVariants as run
 use Rattle.lot_once.specs.OnceProfiles.{again_of, look_row, once_profile}
 use Rattle.lot_once.specs.OnceSteps.{once_act}
@@ -54,11 +51,11 @@ use Rattle.lot_condvar.specs.CondvarSteps.{condvar_act, notify_act, wait_act}
 use Rattle.lot_steps.specs.declared.places.Place.{Place}
 use Rattle.lot_steps.specs.declared.places.Place.TheVariants.{Idle, Mutex, RwLock, Once, Condvar}
 use Rattle.lot_steps.specs.Steps.{act_of, beside_of, calls, is_lock, line_owed, or_else, profile, profile_beside}
-use Rattle.lot_machine.specs.Machine.{State, place_at, section_at}
+use Rattle.lot_machine.specs.Machine.{State, place_at}
 use Rattle.lot_laws.specs.Refinement.{lock_state}
 use Rattle.lot_laws.specs.Stations.{doing_on}
-use Rattle.lot_laws.specs.SitesOf.{IsSteady, key_of, rules_in}
-use Rattle.lot_laws.specs.Owing.{IsInside, Owes, sort_at}
+use Rattle.lot_laws.specs.SitesOf.{IsSteady}
+use Rattle.lot_laws.specs.Owing.{IsInside}
 use Rattle.lot_laws.specs.Promises.{IsAboutToMark, IsInsideAwake, IsToMark}
 use Rattle.lot_laws.proofs.Glue.{inside_is}
 use Rattle.lot_laws.proofs.Sleepers.{hands_awake}

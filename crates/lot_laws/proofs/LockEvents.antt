@@ -4,14 +4,12 @@ use Rattle.lot_rwlock.specs.declared.places.Admission.{Admission}
 use Rattle.lot_once.specs.declared.places.OncePlace.{OncePlace}
 use Rattle.lot_once.specs.OnceProfiles.{once_profile}
 use Rattle.lot_mutex.specs.MutexProfiles.{mutex_profile}
-use Rattle.std.proofs.Common.{ℕ, Bool, true, false, Option, Some, None, if◌then◌else◌, ◌==◌, ◌≡◌, ◌≢◌, ◌+◌, ◌-◌, ◌⊎◌, inl, inr, List, refl, sym, ◌∙◌, ap, arith}
+use Rattle.std.proofs.Common.{ℕ, Bool, true, false, Option, Some, None, if◌then◌else◌, ◌==◌, ◌≡◌, ◌≢◌, ◌+◌, ◌-◌, ◌⊎◌, inl, inr, refl, sym, ◌∙◌, ap, arith}
 use Rattle.lot_rwlock.proofs.RwLockCallPlaces.{taken_goes, woken_goes}
 use Rattle.lot_rwlock.specs.RwLockProfiles.{rwlock_profile}
 use Rattle.lot_acts.specs.Profiles.{Hand, Of, hand, taken_from}
 use Rattle.lot_base.specs.declared.wants.Want.{Want}
-use Rattle.std.specs.Prelude.{slice_index, sum}
 use Rattle.std.proofs.lemmas.Bool.{cases_eq, eqb-true}
-use Rattle.std.proofs.lemmas.Bool.Decides.{nat_tests}
 use Rattle.lot_base.specs.declared.notes.Note.TheVariants.{Normal}
 use Rattle.lot_base.specs.declared.wants.Want.{Want}
 use Rattle.lot_base.specs.declared.wants.Want.TheVariants.{Exclusive, Shared}
@@ -39,8 +37,6 @@ use Rattle.abstract_locks.specs.Locks.{LockState, Queued, Taken as LockTaken, Ri
 use Rattle.abstract_locks.specs.Locks as locks
 use Rattle.abstract_locks.specs.Purposes.{Bumps, Blank}
 use Rattle.abstract_locks.specs.Runs.{CallState, behind_wake, is_taken_by, AtLock, one_more_at, one_less_at}
-use Rattle.abstract_locks.specs.Sites.{Site, IsSite}
-use Rattle.abstract_locks.proofs.LockKeeps.{sharing_same}
 use Rattle.lot_machine.specs.Machine.{State, place_at}
 use Rattle.lot_laws.specs.Refinement.{owner_at, lock_state, taken_at, is_bump, before_entry, mutex_call_state, call_state, call_by}
 use Rattle.lot_laws.specs.MutexDeeds.{queued}
@@ -56,7 +52,7 @@ use Rattle.lot_condvar.specs.declared.places.CondvarPlace.{CondvarPlace}
 use Rattle.lot_condvar.specs.CondvarProfiles.{mutex_side}
 use Rattle.lot_laws.proofs.Glue.{IsTakenAt, put_same, same, IsMutexCall, taken_elsewhere, IsSingle, single_taken}
 use Rattle.lot_mutex.specs.MutexLaws.{heir}
-use Rattle.lot_mutex.proofs.HandOffRights.{got, neither, own_counts}
+use Rattle.lot_mutex.proofs.HandOffRights.{got, neither}
 use Rattle.lot_laws.proofs.MutexTable.{mutex}
 use Rattle.lot_laws.proofs.CallEvents.{put_is, rights, rights_led, led_here, led_elsewhere, Happens, Others, OthersFollow}
 

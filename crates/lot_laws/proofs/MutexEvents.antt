@@ -1,21 +1,13 @@
 -- What the word of a mutex tells, and who claims the mutex by a step.
-use Rattle.std.proofs.Common.{ℕ, Bool, true, false, Option, Some, None, if◌then◌else◌, ◌==◌, not, ◌≡◌, ◌≢◌, inl, inr, List, [], ◌∷◌, ◌++◌, refl, ◌∙◌, ap}
-use Rattle.lot_base.specs.declared.wants.Want.TheVariants.{Exclusive}
+use Rattle.std.proofs.Common.{ℕ, true, false, Option, Some, None, ◌≡◌, inl, inr, List, [], ◌∷◌, ◌++◌, refl, ap}
 use Rattle.lot_acts.specs.declared.acts.Reply.{Reply}
-use Rattle.lot_acts.specs.declared.acts.Reply.TheVariants.{Done, Value, Parked, Took, Removed}
+use Rattle.lot_acts.specs.declared.acts.Reply.TheVariants.{Value}
 use Rattle.lot_mutex.specs.declared.places.MutexPlace.{MutexPlace}
-use Rattle.lot_mutex.specs.declared.places.MutexPlace.TheVariants.{Lock, TryLock, Unlock, UnlockFair, Bump, HandOff}
-use Rattle.lot_mutex.specs.declared.lock.LockAt.TheVariants.{First, Load, Decide, Check, Leave, Accept, Remove, Clear, GiveUp}
-use Rattle.lot_mutex.specs.declared.unlock.UnlockAt.TheVariants as unlock
+use Rattle.lot_mutex.specs.declared.places.MutexPlace.TheVariants.{HandOff}
 use Rattle.lot_mutex.specs.declared.hand_off.HandOffAt.TheVariants as hand_off
-use Rattle.lot_mutex.specs.MutexSteps.{is_locked, is_parked, is_timed, mutex_next}
-use Rattle.abstract_locks.specs.Locks.{Needs, HandOff as HandsOff}
-use Rattle.abstract_locks.specs.Sites.{Site, IsSite, Doing, Has, Main, In, End, Mark, Clear as Clears}
-use Rattle.abstract_locks.specs.Deeds.{AllNeeded}
+use Rattle.lot_mutex.specs.MutexSteps.{is_locked}
 use Rattle.lot_laws.specs.MutexPromises.{IsMutexWord}
-use Rattle.lot_laws.specs.MutexDeeds.{Act, acts, deeds, claims_of, mutex_doing, mutex_deeds, enters, hands_over}
-use Rattle.lot_laws.proofs.Glue.{mutex}
-use Rattle.lot_laws.proofs.Handed.{heir}
+use Rattle.lot_laws.specs.MutexDeeds.{Act, acts, deeds, claims_of, mutex_deeds}
 use Rattle.lot_laws.proofs.CallEvents.{AreClaims}
 
 -- the word tells whether the mutex is owned

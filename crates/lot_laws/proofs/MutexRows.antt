@@ -1,5 +1,5 @@
 -- What else is asked of the rows of a mutex, beside their promises.
-use Rattle.std.proofs.Common.{ℕ, Bool, true, false, Some, if◌then◌else◌, not, ◌≡◌, ◌≢◌, ◌+◌, ◌*◌, inl, inr, refl}
+use Rattle.std.proofs.Common.{ℕ, Bool, true, false, if◌then◌else◌, not, ◌≡◌, ◌≢◌, ◌+◌, ◌*◌, inl, inr, refl}
 use Rattle.lot_base.specs.declared.keys.Keys.TheVariants.{One}
 use Rattle.lot_base.specs.declared.ops.Op as op
 use Rattle.lot_acts.specs.declared.acts.Act.TheVariants as act

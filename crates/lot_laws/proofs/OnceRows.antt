@@ -1,5 +1,5 @@
 -- What else is asked of the rows of a `Once`, beside their promises.
-use Rattle.std.proofs.Common.{ℕ, Bool, true, false, Option, Some, ◌≡◌, ◌≢◌, inl, inr, refl, sym, ◌∙◌, subst}
+use Rattle.std.proofs.Common.{ℕ, Bool, true, false, Option, Some, ◌≡◌, inl, inr, refl, subst}
 use Rattle.lot_base.specs.declared.wants.Want.{Want}
 use Rattle.lot_calls.specs.declared.calls.OnceCall.{OnceCall}
 use Rattle.lot_calls.specs.declared.calls.OnceCall.TheVariants.{CallOnce, Wait}

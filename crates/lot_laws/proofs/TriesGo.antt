@@ -1,6 +1,5 @@
 -- A try neither sleeps nor enters a section.
-use Rattle.std.proofs.Common.{ℕ, Bool, true, false, Option, Some, None, if◌then◌else◌, ◌&&◌, nat_le, ◌==◌, ◌≡◌, refl, subst}
-use Rattle.lot_base.specs.declared.wants.Want.{Want}
+use Rattle.std.proofs.Common.{ℕ, Bool, true, false, None, if◌then◌else◌, ◌&&◌, nat_le, ◌==◌, ◌≡◌, refl}
 use Rattle.lot_calls.specs.declared.calls.Access.{Access}
 use Rattle.lot_calls.specs.declared.calls.Access.TheVariants as access
 use Rattle.lot_calls.specs.declared.calls.OnceCall.TheVariants as once_call
@@ -14,7 +13,6 @@ use Rattle.lot_mutex.specs.declared.lock.Entry.TheVariants as entry
 use Rattle.lot_once.specs.declared.places.OncePlace.{OncePlace}
 use Rattle.lot_once.specs.declared.places.OncePlace.TheVariants as once
 use Rattle.lot_rwlock.specs.declared.places.Admission.{Admission}
-use Rattle.lot_rwlock.specs.declared.places.RwLockPlace.{RwLockPlace}
 use Rattle.lot_rwlock.specs.declared.places.RwLockAt.{RwLockAt}
 use Rattle.lot_rwlock.specs.declared.places.RwLockAt.TheVariants as at
 use Rattle.lot_rwlock.specs.declared.enter.Decision.{Decision}
@@ -35,7 +33,7 @@ use Rattle.lot_steps.specs.declared.places.Place.{Place}
 use Rattle.lot_steps.specs.declared.places.Place.TheVariants.{Idle, Mutex, RwLock, Once, Condvar}
 use Rattle.lot_steps.specs.Steps.{act_of}
 use Rattle.lot_machine.specs.Machine.{State, place_at}
-use Rattle.lot_laws.specs.Refinement.{call_at, call_state, keys_entered, locks_of, sleeps}
+use Rattle.lot_laws.specs.Refinement.{call_at, call_state, keys_entered, sleeps}
 use Rattle.lot_laws.specs.SitesOf.{FitsItsLock, IsSteady}
 use Rattle.lot_laws.specs.Promises.{IsTry}
 use Rattle.lot_laws.proofs.RwLockRows.{parks_wait}

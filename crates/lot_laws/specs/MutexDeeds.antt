@@ -7,12 +7,11 @@ use Rattle.lot_mutex.specs.declared.hand_off.HandOffAt.TheVariants as hand_off
 use Rattle.lot_acts.specs.declared.acts.Reply.{Reply}
 use Rattle.lot_acts.specs.declared.acts.Reply.TheVariants.{Value}
 use Rattle.lot_laws.specs.Stations.{Station, station_by}
-use Rattle.lot_acts.specs.Profiles.{Profile, bringing_nobody}
 pub use Rattle.lot_mutex.specs.MutexDeeds.{enters, hands_over, hand_off_deeds, lock_deeds, mutex_deeds, queued, takes, unlock_deeds}
 pub use Rattle.lot_mutex.specs.MutexLaws.{mutex_doing, mutex_row}
 pub use Rattle.lot_mutex.specs.MutexProfiles.{mutex_profile, owner, inside, again, carrying}
 pub use Rattle.lot_acts.specs.Profiles.{Hand, Of, hand, hand_owner, in_hand}
-use Rattle.abstract_locks.specs.Sites.{Doing, Has, Deed, Begin}
+use Rattle.abstract_locks.specs.Sites.{Has, Deed, Begin}
 
 abbrev pub mutex_station : MutexPlace → Station
 mutex_station at = station_by (mutex_row at)

@@ -14,7 +14,7 @@ use Rattle.lot_laws.specs.SitesOf.{rules_in, key_of}
 use Rattle.abstract_locks.specs.Codes.{parked_in, aside_in, count_in}
 use Rattle.abstract_locks.specs.Locks.{Sort}
 use Rattle.abstract_locks.specs.Sites.{Line, Main, Second, has_readers}
-use Rattle.abstract_locks.specs.Purposes.{Purpose, Releases, Converts, Bumps, Waits, IsReleasing}
+use Rattle.abstract_locks.specs.Purposes.{Purpose, Releases, Bumps, Waits, IsReleasing}
 
 abbrev pub sort_at : State → ℕ → Sort
 sort_at w l = (rules_in w l).sort
