@@ -5,7 +5,7 @@ ghost use Rattle.parking_lot.specs.Users.{lock_of, lot_of};
 
 use super::crowds::{Part, play};
 use super::{fair_mutex_alone, same};
-use parking_lot::{Mutex, MutexGuard, ParkingLot, Token};
+use parking_lot::{Mutex, MutexGuard, ParkingLot, RawFairMutex, Token, lock_api};
 use std::sync::Wait;
 use std::sync::atomic::AtomicBool;
 use std::sync::atomic::Ordering::SeqCst;
@@ -194,7 +194,9 @@ fn who_waits_has_the_mutex_during_a_bump(rt: HostRuntime) {
 
 #[test]
 fn the_value_of_a_fair_mutex_comes_out(rt: HostRuntime) {
-    let (mut mutex, _token) = fair_mutex_alone(&rt, rt.alloc(), 10);
+    let (mutex, _token) = fair_mutex_alone(&rt, rt.alloc(), 10);
+    // A `FairMutex` is this one, by type.
+    let mut mutex: lock_api::Mutex<RawFairMutex, u64> = mutex;
     same(&rt, *mutex.get_mut(), 10);
     *mutex.get_mut() = 20;
     same(&rt, mutex.into_inner(), 20);

@@ -16,8 +16,8 @@ const KEY: Key = 0;
 
 const THREADS: usize = 1024;
 
-// All but the last stand in one line, and are taken together.
-fn take_all<R: Wait>(rt: &R, lot: &ParkingLot, token: &mut Token, threads: usize)
+// All but the last stand in one line, and are taken together. How many were queued.
+fn take_all<R: Wait>(rt: &R, lot: &ParkingLot, token: &mut Token, threads: usize) -> usize
     requires { IsTokenOf lot.now token.old × (threads ≤ lot.now.records.count) }
     ensures { IsSameThread lot.now token.old token.new }
 {
@@ -25,8 +25,12 @@ fn take_all<R: Wait>(rt: &R, lot: &ParkingLot, token: &mut Token, threads: usize
     for thread in 0..threads {
         section.append(KEY, thread, Want::Exclusive);
     }
+    section.leave(rt, token, Note::Normal);
+    let queued = lot.queued(rt, token, KEY);
+    let mut section = lot.enter(rt, token, Keys::One(KEY));
     section.take_all(KEY);
     section.leave(rt, token, Note::Normal);
+    queued
 }
 
 // How many were told to try again, each of whom sleeps until it is told something.
@@ -49,7 +53,8 @@ fn count_woken<R: Wait>(rt: &R, lot: &ParkingLot, tickets: Vec<Ticket>, word: Wo
 #[test]
 fn one_leave_wakes_1023_threads(rt: HostRuntime) {
     let (lot, mut server, others, word) = seats_of(&rt, rt.alloc(), 1, THREADS);
-    take_all(&rt, &lot, &mut server, THREADS - 1);
+    let queued = take_all(&rt, &lot, &mut server, THREADS - 1);
+    same(&rt, queued, THREADS - 1);
     same(&rt, count_woken(&rt, &lot, others, word), THREADS - 1);
 }
 

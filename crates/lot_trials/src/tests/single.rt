@@ -69,17 +69,17 @@ fn a_lot_is_made_or_refused(rt: HostRuntime) {
     }
 }
 
-// Locks a mutex, and tries it once more: what the right names, whether the second try got it, and
-// the word before it was unlocked and after.
+// Locks a mutex, and tries it once more: whether the right names it, for what want, whether the
+// second try got it, and the word before it was unlocked and after.
 fn lock_once(
     lot: &ParkingLot,
     token: &mut Token,
     word: Word,
-) -> Option<(Word, Want, bool, [u64; 2])>
+) -> Option<(bool, Want, bool, [u64; 2])>
     requires { IsTokenOf lot.now token.old × IsWordOf lot.now.words word × (word.kind ≡ Mutex) }
 {
     let right = try_lock(lot, token, word)?;
-    let (named, want) = (right.word(), right.want());
+    let (named, want) = (right.word().is_same(word), right.want());
     let again = match try_lock(lot, token, word) {
         Some(other) => {
             other.forget();
@@ -100,14 +100,14 @@ fn lock_once(
 fn a_mutex_is_locked_once(rt: HostRuntime) {
     let (lot, mut token, word) = mutex_of(&rt, rt.alloc(), 4);
     let locked = lock_once(&lot, &mut token, word);
-    same(&rt, locked, Some((word, Want::Exclusive, false, [1, 0])));
+    same(&rt, locked, Some((true, Want::Exclusive, false, [1, 0])));
 }
 
 #[test]
 fn a_lot_has_as_many_words_as_may_be(rt: HostRuntime) {
     let (lot, mut token, word) = mutex_of(&rt, rt.alloc(), 1 << 20);
     let locked = lock_once(&lot, &mut token, word);
-    same(&rt, locked, Some((word, Want::Exclusive, false, [1, 0])));
+    same(&rt, locked, Some((true, Want::Exclusive, false, [1, 0])));
 }
 
 // What each operation finds, one after another.

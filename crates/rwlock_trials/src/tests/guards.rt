@@ -8,7 +8,7 @@ use super::{
     Lock, comes_upgradable, end_reader, end_upgradable, end_writer, lock_alone, read,
     read_upgradable, reads, same, write, writes,
 };
-use parking_lot::{ParkingLot, Token};
+use parking_lot::{ParkingLot, RecursiveRwLock, RwLock, Token};
 use std::process::Abort;
 use std::sync::Wait;
 use std::sync::atomic::AtomicBool;
@@ -82,6 +82,18 @@ fn guards_keep_tries_out(rt: HostRuntime) {
         let (lock, mut token) = lock_alone(&rt, rt.alloc(), 0, limited);
         all_keep_out(&rt, &lock, &mut token);
     }
+}
+
+#[test]
+fn public_names_are_of_these_locks(rt: HostRuntime) {
+    let (normal, mut token) = lock_alone(&rt, rt.alloc(), 0, false);
+    let normal: RwLock<u64> = normal;
+    let normal: Lock<false> = normal;
+    same(&rt, normal.is_locked(&mut token), false);
+    let (recursive, mut token) = lock_alone(&rt, rt.alloc(), 0, false);
+    let recursive: RecursiveRwLock<u64> = recursive;
+    let recursive: Lock<true> = recursive;
+    same(&rt, recursive.is_locked(&mut token), false);
 }
 
 // Tells that the thread has the lock. Whether somebody comes to wait then, for the lock or for its
