@@ -1,4 +1,4 @@
--- Whoever stands at a lock is in the hand, by its place, of the thread that has taken it, and of nobody while it stands in a line.
+-- A thread that stands at a lock is by its place in the hand of the one that has taken it, and of nobody while it stands in a line.
 use Rattle.std.proofs.Common.{ℕ, Bool, true, false, Option, Some, None, if◌then◌else◌, ◌==◌, ◌≡◌, ◌≢◌, ◌≤◌, inl, inr, refl, sym, ◌∙◌, ap, subst}
 use Rattle.std.proofs.lemmas.Bool.{eqb-true}
 use Rattle.lot_acts.specs.Owners.{is_thread}
@@ -44,7 +44,7 @@ use Rattle.lot_laws.specs.Promises.{holder}
 use Rattle.lot_laws.proofs.Glue.{held_tells, taken_held}
 use Rattle.lot_laws.proofs.PlacePromises.{stands_there}
 
--- who stands in a line is in no hand
+-- a thread that stands in a line is in no hand
 abbrev IsUnheld : Profile → Type 0
 IsUnheld row = (m : Line) → row.stands ≡ Some m → row.hand ≡ None
 

@@ -168,6 +168,7 @@ pub mod CondvarBegins
 pub mod HandsInside
 pub mod Held
 pub mod TriesGo
+pub mod InsideGoes
 pub mod Filled
 pub mod Tries
 pub mod Sleepers
