@@ -169,6 +169,7 @@ pub mod HandsInside
 pub mod Held
 pub mod TriesGo
 pub mod InsideGoes
+pub mod LooksOnce
 pub mod Filled
 pub mod Tries
 pub mod Sleepers

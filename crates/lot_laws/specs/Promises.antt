@@ -5,14 +5,18 @@ use Rattle.std.specs.Prelude.{ℕ, Bool, false, true, None, Option, ◌≡◌, �
 use Rattle.lot_base.specs.declared.keys.Keys.TheVariants.{One}
 use Rattle.lot_base.specs.declared.wants.Want.{Want}
 use Rattle.lot_base.specs.declared.wants.Want.TheVariants.{Shared}
-use Rattle.lot_acts.specs.declared.acts.Act.TheVariants.{Enter, Leave, Sleep}
+use Rattle.lot_base.specs.declared.ops.Op.TheVariants.{Exchange}
+use Rattle.lot_acts.specs.declared.acts.Act.{Act}
+use Rattle.lot_acts.specs.declared.acts.Act.TheVariants.{Enter, Leave, Sleep, Word}
 use Rattle.lot_acts.specs.declared.acts.Wakes as wakes
 use Rattle.lot_base.specs.declared.notes.Note.TheVariants.{HandOff}
 use Rattle.lot_steps.specs.Steps.{act_of, taker, retries_on}
 use Rattle.lot_machine.specs.Machine.{State, place_at, word_at, filled_at, section_at}
 use Rattle.abstract_locks.specs.Locks.{LockState, Sort, Recursive, Once, Rules, Taken, Knows, times, standing, readers, count, has_caller}
 use Rattle.abstract_locks.specs.Onces.{InProgress, IsRunning}
-use Rattle.abstract_locks.specs.Codes.{word_by, parked_in, aside_in}
+use Rattle.abstract_locks.specs.Codes.{word_by, parked_in, aside_in, has_aside, is_running}
+use Rattle.lot_rwlock.specs.RwLockSteps.{plus}
+use Rattle.lot_once.specs.OnceSteps.{marked}
 use Rattle.abstract_locks.specs.Runs.{AreLockStates}
 use Rattle.abstract_locks.specs.Sites.{Line, Main, Second, counts_some, has_readers}
 pub use Rattle.abstract_locks.specs.Headline.{want_of, mutex_seen, WakesWaiters, IsOpenNow, HasOrPends, GoesFreely}
@@ -158,6 +162,24 @@ abbrev pub holder : Option Taken → Option ℕ
 holder None = None
 holder (Some h) = Some h.by
 
+-- an exchange by which a thread sets a parked bit before it sleeps: of a mutex that is owned; of a
+-- lock that is shared, for either line, while no writer waits aside; of a `Once` that is running
+abbrev pub SetsBit : Sort → (seen now : ℕ) → Type 0
+SetsBit locks.Mutex seen now = (seen ≡ 1) × (now ≡ 3)
+SetsBit locks.Normal seen now =
+    (has_aside seen ≡ false) × ((now ≡ plus seen 1) ⊎ (now ≡ plus seen 2))
+SetsBit locks.Recursive seen now =
+    (has_aside seen ≡ false) × ((now ≡ plus seen 1) ⊎ (now ≡ plus seen 2))
+SetsBit locks.Semaphore seen now = ⊥
+SetsBit locks.Once seen now = (is_running seen ≡ true) × (now ≡ marked seen)
+SetsBit locks.Condvar seen now = ⊥
+
+-- by its next act a thread does so, or goes aside as a pending writer
+abbrev pub LeadsToSleep : Sort → ℕ → Act → Type 0
+LeadsToSleep sort l a =
+    ((seen : ℕ) × (now : ℕ) × (a ≡ Word l (Exchange seen now)) × SetsBit sort seen now)
+    ⊎ (a ≡ Enter (One (key_of l Second)))
+
 -- a call that tries
 abbrev pub IsTry : Option Purpose → Type 0
 IsTry None = ⊥
@@ -211,6 +233,9 @@ pub record IsKept (w : State) : Type 0 where
   -- who is shown to try a lock again was woken on it, and has got neither the lock nor a place in a
   -- queue since
   pub retrying : (t l : ℕ) → retries_on (place_at w t) l ≡ true ↔ (call_at w t).retries ≡ Some l
+  -- a thread may look at a word once more only in place of such an act
+  pub looks : (t : ℕ) → ((locks_of w).stances t).may_spin ≡ true
+      → (l : ℕ) × LeadsToSleep (sort_at w l) l (act_of (place_at w t))
   -- a thread that is inside a section goes on freely: it is awake, and enters no other
   pub inside_goes : (t l : ℕ) (m : Line) → IsInside w t l m → GoesFreely ((locks_of w).stances t)
   -- so does a try, wherever it is
