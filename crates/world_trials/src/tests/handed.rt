@@ -1,7 +1,7 @@
 //! Reader-writer locks that are handed over.
-use super::{holds, same};
 use super::scripts::Line::{Calls, GoesOn, Rests, Shows};
 use super::scripts::{DONE, Line, plays, plays_anew, world_of};
+use super::{holds, same};
 use lot_base::{ListQueues, Want};
 use lot_calls::{Access, Patience, RwLockCall};
 use lot_world::{Call, Kind, Outcome, Owner, World};
