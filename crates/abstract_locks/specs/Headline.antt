@@ -9,17 +9,17 @@ use Rattle.lot_calls.specs.declared.calls.Step.{Step}
 use Rattle.lot_calls.specs.declared.kinds.Kind.{Kind}
 use Rattle.lot_calls.specs.declared.kinds.Kind.TheVariants as kind
 use Rattle.lot_calls.specs.declared.outcomes.Outcome.{Outcome}
-use Rattle.abstract_locks.specs.Locks.{Sort, Semaphore, LockState, Rules, Owns, IsSomePending, readers, standing, times}
+use Rattle.abstract_locks.specs.Locks.{Sort, Semaphore, LockState, Rules, Taken, Owns, IsSomePending, readers, standing, times}
 use Rattle.abstract_locks.specs.Purposes.{Purpose, Enters, Releases, Converts, Bumps, CallsOnce, Awaits, Waits, Notifies, Recall, Blank, Saw, SawOwner, HasMoved, WasMoved, WasNotified, MayWait}
 use Rattle.abstract_locks.specs.Sites.{Line, Main, Second, IsOpen, counts_some, has_readers, is_full}
-use Rattle.abstract_locks.specs.Runs.{LocksState, rules_at, IsOpening, IsStep}
+use Rattle.abstract_locks.specs.Runs.{LocksState, Stance, rules_at, IsOpening, IsStep}
 
 abbrev pub sort_in : LocksState → ℕ → Sort
 sort_in w l = (rules_at w l).sort
 
--- ---------------------------------------------------------------- who is to wake the next waiter
+-- ---------------------------------------------------------------- threads that wake the next waiter
 
--- what a call is to own in the end; a wait, its mutex again
+-- the right that a call is to have in the end; a wait, its mutex again
 abbrev pub want_of : Option Purpose → Option Want
 want_of None = None
 want_of (Some (Enters l x how)) = Some x
@@ -40,8 +40,8 @@ mutex_seen (HasMoved m number) = Some m
 mutex_seen WasMoved = None
 mutex_seen WasNotified = None
 
--- a call that wakes whom it takes of the main line: a release that hands nothing over, a conversion
--- that lets others in, or a writer beside readers that has given up; or a call that runs the
+-- a call that wakes those that it takes from the main line of l: a release that hands nothing over,
+-- a conversion that lets others in, a writer beside readers that has given up, a call that runs the
 -- closure of a `Once`; a wait, of its mutex, and a notification, of the mutex that it has seen
 abbrev pub WakesWaiters : Sort → Option Purpose → Option ℕ → Recall → ℕ → Type 0
 WakesWaiters sort None gave_up recalls l = ⊥
@@ -62,8 +62,8 @@ abbrev pub IsAtLine : LocksState → ℕ → ℕ → Line → Type 0
 IsAtLine w t l m =
     (w.inside (key_of l m) ≡ Some t) ⊎ ((w.stances t).enters ≡ Some (One (key_of l m)))
 
--- it is there, in a call that wakes whom it takes; or it was woken, is about to try again, and will
--- pass the turn on
+-- it is there, in a call that wakes those that it takes; or it was woken, is about to try again, and
+-- will pass the turn on
 abbrev pub IsDebtor : LocksState → ℕ → ℕ → Line → Type 0
 IsDebtor w t l Main =
     (IsAtLine w t l Main
@@ -80,8 +80,8 @@ pub record IsLookedAfter (w : LocksState) (l : ℕ) (m : Line) : Type 0 where
 
 -- ---------------------------------------------------------------- nobody is forgotten
 
--- nobody bars the way of who stands first in the main line: nobody owns the mutex, no writer is
--- there, or a permit is free
+-- nobody bars the way of the first waiter of the main line: nobody owns the mutex, no writer is
+-- there, nobody runs the `Once` for which a call waits, or a permit is free
 abbrev pub IsOpenNow : Rules → LockState → Type 0
 IsOpenNow r s = IsOpen r.sort s ⊎ ((r.sort ≡ Semaphore) × (readers s < r.limit))
 
@@ -90,7 +90,7 @@ abbrev pub HasOrPends : Sort → LockState → ℕ → Want → Type 0
 HasOrPends sort s t x = Owns s t x
     ⊎ ((x ≡ Exclusive) × (has_readers sort ≡ true) × IsSomePending s.pending t)
 
--- it has what it waited for, and the thread inside the section, which is awake, has yet to wake it
+-- it has what it waited for, and the thread inside the section has yet to wake it
 pub record IsHandedOver (w : LocksState) (t : ℕ) : Type 0 where
   pub lock : ℕ
   pub by : ℕ
@@ -98,20 +98,29 @@ pub record IsHandedOver (w : LocksState) (t : ℕ) : Type 0 where
   pub waited : MayWait (w.calls t).purpose lock × (want_of (w.calls t).purpose ≡ Some want)
   pub owner : HasOrPends (sort_in w lock) (w.locks lock) t want
   pub inside : w.inside (key_of lock Main) ≡ Some by
-  pub awake : (w.stances by).asleep ≡ false
+
+-- it is awake, runs no closure, and enters no section next: no other thread keeps it from going on
+abbrev pub GoesFreely : Stance → Type 0
+GoesFreely stance =
+    (stance.asleep ≡ false) × (stance.in_closure ≡ false) × (stance.enters ≡ None)
 
 -- in a state in which these locks were once at their limit
 pub record NobodyForgotten (w : LocksState) (was_full : ℕ → Bool) : Type 0 where
-  -- whoever waits for a lock whose way nobody bars is looked after
+  -- a thread that waits for a lock whose way nobody bars is looked after
   pub main : (t l : ℕ) → 1 ≤ times t (w.locks l).queue → IsOpenNow (rules_at w l) (w.locks l)
       → (has_readers (sort_in w l) ≡ true → was_full l ≡ false)
       → IsLookedAfter w l Main
-  -- and so is a writer aside of whom nobody shares any more
+  -- and so is a writer aside when the last reader has gone
   pub second : (l : ℕ) → (w.locks l).aside ≢ None → readers (w.locks l) ≡ 0
       → IsLookedAfter w l Second
-  -- and whoever sleeps, but stands in no queue and is in no hand, was handed its lock
+  -- a thread that was taken is in the hand of one that is inside a section of the lock
+  pub in_hand : (t l : ℕ) (h : Taken) → (w.locks l).taken t ≡ Some h
+      → (m : Line) × (w.inside (key_of l m) ≡ Some h.by)
+  -- and a thread that sleeps, but stands in no queue and is in no hand, was handed its lock
   pub asleep : (t : ℕ) → (w.stances t).asleep ≡ true → ((l : ℕ) → standing t (w.locks l) ≡ 0)
       → IsHandedOver w t
+  -- a thread that is inside a section goes on freely
+  pub inside : (t l : ℕ) (m : Line) → w.inside (key_of l m) ≡ Some t → GoesFreely (w.stances t)
 
 -- ---------------------------------------------------------------- the headline
 

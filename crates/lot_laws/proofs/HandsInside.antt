@@ -1,11 +1,11 @@
--- Who has taken others is inside the section from whose line it took them; and who is yet to set a parked bit beside waiters is inside too, or
--- has ended its run of a `Once` and owes them their wake.
-use Rattle.std.proofs.Common.{ℕ, Bool, true, false, Option, Some, None, if◌then◌else◌, ◌==◌, ◌≡◌, ◌≢◌, inl, inr, refl, sym, ◌∙◌}
+-- A thread that has taken others is inside the section from whose line it took them. One that is yet to set a parked bit beside waiters is inside
+-- too, or has ended its run of a `Once` and owes them their wake.
+use Rattle.std.proofs.Common.{ℕ, Bool, true, false, Option, Some, None, if◌then◌else◌, ◌==◌, ◌≡◌, ◌⊎◌, inl, inr, refl, sym, ◌∙◌, ap, subst}
 use Rattle.lot_base.specs.declared.wants.Want.{Want}
-use Rattle.lot_acts.specs.declared.acts.Act.{Act}
-use Rattle.lot_acts.specs.declared.acts.Act.TheVariants.{Sleep}
+use Rattle.lot_calls.specs.declared.kinds.Kind.{Kind}
 use Rattle.lot_acts.specs.Profiles.{Profile}
 use Rattle.abstract_locks.specs.Locks.{Taken}
+use Rattle.abstract_locks.specs.Locks as locks
 use Rattle.abstract_locks.specs.Sites.{Claim, Doing, Line, Main, Second, idle}
 use Rattle.lot_mutex.specs.declared.places.MutexPlace.{MutexPlace}
 use Rattle.lot_mutex.specs.declared.places.MutexPlace.TheVariants as mutex
@@ -14,14 +14,13 @@ use Rattle.lot_mutex.specs.declared.lock.LockAt.TheVariants as lock
 use Rattle.lot_mutex.specs.declared.unlock.UnlockAt.TheVariants as unlock
 use Rattle.lot_mutex.specs.declared.hand_off.HandOffAt.TheVariants as hand_off
 use Rattle.lot_mutex.specs.MutexProfiles.{lock_row, mutex_profile, inside}
-use Rattle.lot_mutex.specs.MutexSteps.{mutex_act}
 use Rattle.lot_once.specs.declared.places.OncePlace.{OncePlace}
 use Rattle.lot_once.specs.declared.places.OncePlace.TheVariants as once
 use Rattle.lot_once.specs.declared.look.LookAt.{LookAt}
 use Rattle.lot_once.specs.declared.look.LookAt.TheVariants as look
+use Rattle.lot_once.specs.declared.run.RunAt.{RunAt}
 use Rattle.lot_once.specs.declared.run.RunAt.TheVariants as run
 use Rattle.lot_once.specs.OnceProfiles.{again_of, look_row, once_profile}
-use Rattle.lot_once.specs.OnceSteps.{once_act}
 use Rattle.lot_rwlock.specs.declared.places.Admission.{Admission}
 use Rattle.lot_rwlock.specs.declared.places.RwLockAt.{RwLockAt}
 use Rattle.lot_rwlock.specs.declared.places.RwLockAt.TheVariants as at
@@ -30,16 +29,12 @@ use Rattle.lot_rwlock.specs.declared.park.ParkAt.TheVariants as parking
 use Rattle.lot_rwlock.specs.declared.release.WakeAt.{WakeAt}
 use Rattle.lot_rwlock.specs.declared.release.WakeAt.TheVariants as waking
 use Rattle.lot_rwlock.specs.declared.purposes.RwLockPurpose.{RwLockPurpose}
-use Rattle.lot_rwlock.specs.declared.places.RwLockPlace.{RwLockPlace}
 use Rattle.lot_rwlock.specs.RwLockDeeds.{doing_at, parking_doing, waking_doing}
-use Rattle.lot_rwlock.specs.RwLockSteps.{act_at, wake_act, wanted}
-use Rattle.lot_calls.specs.declared.calls.Access.{Access}
 use Rattle.lot_rwlock_fair.specs.declared.places.RwLockCallPlace.{RwLockCallPlace}
 use Rattle.lot_rwlock_fair.specs.declared.places.RwLockCallPlace.TheVariants as fair
 use Rattle.lot_rwlock_fair.specs.declared.hand_over.HandOverAt.{HandOverAt}
 use Rattle.lot_rwlock_fair.specs.declared.hand_over.HandOverAt.TheVariants as handing
 use Rattle.lot_rwlock_fair.specs.FairDeeds.{call_doing, hand_over_doing}
-use Rattle.lot_rwlock_fair.specs.FairSteps.{call_act, hand_over_act}
 use Rattle.lot_condvar.specs.declared.places.CondvarPlace.{CondvarPlace}
 use Rattle.lot_condvar.specs.declared.places.CondvarPlace.TheVariants as condvar
 use Rattle.lot_condvar.specs.declared.wait.WaitAt.{WaitAt}
@@ -47,120 +42,114 @@ use Rattle.lot_condvar.specs.declared.wait.WaitAt.TheVariants as wait
 use Rattle.lot_condvar.specs.declared.notify.NotifyAt.{NotifyAt}
 use Rattle.lot_condvar.specs.declared.notify.NotifyAt.TheVariants as notify
 use Rattle.lot_condvar.specs.CondvarProfiles.{condvar_row, has_moved, notify_row, wait_row}
-use Rattle.lot_condvar.specs.CondvarSteps.{condvar_act, notify_act, wait_act}
 use Rattle.lot_steps.specs.declared.places.Place.{Place}
 use Rattle.lot_steps.specs.declared.places.Place.TheVariants.{Idle, Mutex, RwLock, Once, Condvar}
-use Rattle.lot_steps.specs.Steps.{act_of, beside_of, calls, is_lock, line_owed, or_else, profile, profile_beside}
-use Rattle.lot_machine.specs.Machine.{State, place_at}
+use Rattle.lot_steps.specs.Steps.{beside_of, calls, is_lock, line_owed, or_else, profile, profile_beside}
+use Rattle.lot_machine.specs.Machine.{State, place_at, section_at}
 use Rattle.lot_laws.specs.Refinement.{lock_state}
 use Rattle.lot_laws.specs.Stations.{doing_on}
-use Rattle.lot_laws.specs.SitesOf.{IsSteady}
-use Rattle.lot_laws.specs.Owing.{IsInside}
-use Rattle.lot_laws.specs.Promises.{IsAboutToMark, IsInsideAwake, IsToMark}
+use Rattle.lot_laws.specs.SitesOf.{IsSteady, key_of, rules_in}
+use Rattle.lot_laws.specs.Owing.{IsInside, Owes, sort_at}
+use Rattle.lot_laws.specs.Promises.{IsAboutToMark, IsToMark}
 use Rattle.lot_laws.proofs.Glue.{inside_is}
-use Rattle.lot_laws.proofs.Sleepers.{hands_awake}
 
--- ---------------------------------------------------------------- whoever is taken
+-- ---------------------------------------------------------------- threads that are taken
 
--- whoever has others in hand is inside a section, and awake
-abbrev Carries : Doing → Act → Type 0
-Carries d a = d.carries ≡ true → ((m : Line) × (d.inside ≡ Some m)) × (a ≢ Sleep)
+-- a thread that has others in hand is inside a section
+abbrev CarriesInside : Doing → Type 0
+CarriesInside d = d.carries ≡ true → (m : Line) × (d.inside ≡ Some m)
 
-differs : (b : Bool) → b ≡ false → b ≡ true → ⊥
-differs b e f = let both : false ≡ true = sym e ∙ f in cc
+lock_inside : (timed retries : Bool) (at : LockAt) → (lock_row timed retries at).doing.carries ≡ false
+lock_inside timed retries lock.First = refl
+lock_inside timed retries at = refl
 
-lock_empty : (timed retries : Bool) (at : LockAt) → (lock_row timed retries at).doing.carries ≡ false
-lock_empty timed retries lock.First = refl
-lock_empty timed retries at = refl
+mutex_inside : (at : MutexPlace) → CarriesInside (mutex_profile at).doing
+mutex_inside (mutex.Unlock (unlock.Clear any)) h = (Main, refl)
+mutex_inside (mutex.Unlock (unlock.Leave any)) h = (Main, refl)
+mutex_inside (mutex.Unlock at) h = absurd cc
+mutex_inside (mutex.HandOff bumps (hand_off.Store any none_left)) h = (Main, refl)
+mutex_inside (mutex.HandOff bumps (hand_off.Leave any)) h = (Main, refl)
+mutex_inside (mutex.HandOff bumps at) h = absurd cc
+mutex_inside (mutex.Lock e retries at) h = absurd (let n : (lock_row _ retries at).doing.carries ≡ false = lock_inside _ retries at in let both : false ≡ true = sym n ∙ h in cc)
+mutex_inside at h = absurd cc
 
-mutex_carries : (l : ℕ) (at : MutexPlace) → Carries (mutex_profile at).doing (mutex_act l at)
-mutex_carries l (mutex.Unlock (unlock.Clear any)) h = ((Main, refl), λ e. cc)
-mutex_carries l (mutex.Unlock (unlock.Leave any)) h = ((Main, refl), λ e. cc)
-mutex_carries l (mutex.Unlock at) h = absurd cc
-mutex_carries l (mutex.HandOff bumps (hand_off.Store true none_left)) h = ((Main, refl), λ e. cc)
-mutex_carries l (mutex.HandOff bumps (hand_off.Store false none_left)) h = ((Main, refl), λ e. cc)
-mutex_carries l (mutex.HandOff bumps (hand_off.Leave any)) h = ((Main, refl), λ e. cc)
-mutex_carries l (mutex.HandOff bumps at) h = absurd cc
-mutex_carries l (mutex.Lock e retries at) h = absurd (differs _ (lock_empty _ retries at) h)
-mutex_carries l at h = absurd cc
+parking_inside : (m : Line) (again : Option Want) (claims : Option Claim) (to : ParkAt) → (parking_doing m again claims to).carries ≡ false
+parking_inside m again claims (parking.Leave true) = refl
+parking_inside m again claims (parking.Leave false) = refl
+parking_inside m again claims to = refl
 
-parking_empty : (m : Line) (again : Option Want) (claims : Option Claim) (to : ParkAt) → (parking_doing m again claims to).carries ≡ false
-parking_empty m again claims (parking.Leave true) = refl
-parking_empty m again claims (parking.Leave false) = refl
-parking_empty m again claims to = refl
+waking_inside : (start : Option Want) (m : Line) (to : WakeAt) → CarriesInside (waking_doing start m to)
+waking_inside start m (waking.Clear any) h = (m, refl)
+waking_inside start m (waking.Leave any) h = (m, refl)
+waking_inside start m to h = absurd cc
 
-waking_carries : (l : ℕ) (a : Admission) (q : RwLockPurpose) (start : Option Want) (m : Line) (to : WakeAt) → Carries (waking_doing start m to) (wake_act l a q m to)
-waking_carries l a q start m (waking.Clear any) h = ((m, refl), λ e. cc)
-waking_carries l a q start m (waking.Leave any) h = ((m, refl), λ e. cc)
-waking_carries l a q start m to h = absurd cc
+rwlock_inside : (again : Option Want) (q : RwLockPurpose) (to : RwLockAt) → CarriesInside (doing_at again q to)
+rwlock_inside again q (at.Wake m to) h = waking_inside _ m to h
+rwlock_inside again q (at.Park to) h = absurd (let both : false ≡ true = sym (parking_inside Main again None to) ∙ h in cc)
+rwlock_inside again q (at.Aside to) h = absurd (let both : false ≡ true = sym (parking_inside Second again _ to) ∙ h in cc)
+rwlock_inside again q to h = absurd cc
 
-rwlock_carries : (l : ℕ) (a : Admission) (again : Option Want) (p : RwLockPlace) (to : RwLockAt) → Carries (doing_at again p.purpose to) (act_at l a p to)
-rwlock_carries l a again p (at.Wake m to) h = waking_carries l a p.purpose _ m to h
-rwlock_carries l a again p (at.Park to) h = absurd (differs _ (parking_empty Main again None to) h)
-rwlock_carries l a again p (at.Aside to) h = absurd (differs _ (parking_empty Second again _ to) h)
-rwlock_carries l a again p to h = absurd cc
+handing_inside : (x : Want) (to : HandOverAt) → CarriesInside (hand_over_doing x to)
+handing_inside x (handing.Store k) h = (Main, refl)
+handing_inside x (handing.Look k) h = (Main, refl)
+handing_inside x (handing.Exchange k seen) h = (Main, refl)
+handing_inside x (handing.Leave any handed) h = (Main, refl)
+handing_inside x to h = absurd cc
 
-handing_carries : (l : ℕ) (a : Admission) (x : Access) (to : HandOverAt) → Carries (hand_over_doing (wanted x) to) (hand_over_act l a x to)
-handing_carries l a x (handing.Store k) h = ((Main, refl), hands_awake l a x (handing.Store k))
-handing_carries l a x (handing.Look k) h = ((Main, refl), hands_awake l a x (handing.Look k))
-handing_carries l a x (handing.Exchange k seen) h = ((Main, refl), hands_awake l a x (handing.Exchange k seen))
-handing_carries l a x (handing.Leave any handed) h = ((Main, refl), hands_awake l a x (handing.Leave any handed))
-handing_carries l a x to h = absurd cc
+call_inside : (c : RwLockCallPlace) → CarriesInside (call_doing c)
+call_inside (fair.Plain p) h = rwlock_inside _ p.purpose p.at h
+call_inside (fair.Bump p) h = rwlock_inside _ p.purpose p.at h
+call_inside (fair.HandOver x b to) h = handing_inside _ to h
+call_inside c h = absurd cc
 
-call_carries : (l : ℕ) (a : Admission) (c : RwLockCallPlace) → Carries (call_doing c) (call_act l a c)
-call_carries l a (fair.Plain p) h = rwlock_carries l a _ p p.at h
-call_carries l a (fair.Bump p) h = rwlock_carries l a _ p p.at h
-call_carries l a (fair.HandOver x b to) h = handing_carries l a x to h
-call_carries l a c h = absurd cc
+look_inside : (wanted : Option Want) (at : LookAt) → (look_row wanted at).doing.carries ≡ false
+look_inside wanted look.Load = refl
+look_inside wanted at = refl
 
-look_empty : (wanted : Option Want) (at : LookAt) → (look_row wanted at).doing.carries ≡ false
-look_empty wanted look.Load = refl
-look_empty wanted at = refl
+once_inside : (at : OncePlace) → CarriesInside (once_profile at).doing
+once_inside (once.Look c retries at) h = absurd (let both : false ≡ true = sym (look_inside (again_of c retries) at) ∙ h in cc)
+once_inside (once.Run forced (run.Leave succeeded any)) h = (Main, refl)
+once_inside (once.Run forced at) h = absurd cc
 
-once_carries : (l : ℕ) (at : OncePlace) → Carries (once_profile at).doing (once_act l at)
-once_carries l (once.Look c retries at) h = absurd (differs _ (look_empty (again_of c retries) at) h)
-once_carries l (once.Run forced (run.Leave succeeded any)) h = ((Main, refl), λ e. cc)
-once_carries l (once.Run forced at) h = absurd cc
+wait_inside : (m : ℕ) (at : WaitAt) → CarriesInside (wait_row m at).doing
+wait_inside m (wait.Release s at) h = mutex_inside at h
+wait_inside m (wait.Lock timed_out at) h = mutex_inside at h
+wait_inside m at h = absurd cc
 
-wait_carries : (l m : ℕ) (at : WaitAt) → Carries (wait_row m at).doing (wait_act l m at)
-wait_carries l m (wait.Release s at) h = mutex_carries m at h
-wait_carries l m (wait.Lock timed_out at) h = mutex_carries m at h
-wait_carries l m at h = absurd cc
+told_inside : (any b : Bool) → CarriesInside (if b then inside else has_moved any false)
+told_inside any true h = absurd cc
+told_inside any false h = (Main, refl)
 
-told_carries : (a : Act) → a ≢ Sleep → (any b : Bool) → Carries (if b then inside else has_moved any false) a
-told_carries a awake any true h = absurd cc
-told_carries a awake any false h = ((Main, refl), awake)
+notify_inside : (all : Bool) (m : ℕ) (at : NotifyAt) → CarriesInside (notify_row all m at).doing
+notify_inside all m (notify.Clear any) h = (Main, refl)
+notify_inside all m (notify.MarkMoved number) h = (Main, refl)
+notify_inside all m (notify.Leave any number) h = told_inside any (number == 0) h
+notify_inside all m at h = absurd cc
 
-notify_carries : (l : ℕ) (all : Bool) (m : ℕ) (at : NotifyAt) → Carries (notify_row all m at).doing (notify_act all l m at)
-notify_carries l all m (notify.Clear any) h = ((Main, refl), λ e. cc)
-notify_carries l all m (notify.MarkMoved number) h = ((Main, refl), λ e. cc)
-notify_carries l all m (notify.Leave any number) h = told_carries (notify_act all l m (notify.Leave any number)) (λ e. cc) any (number == 0) h
-notify_carries l all m at h = absurd cc
+row_inside : (at : CondvarPlace) → CarriesInside (condvar_row at).doing
+row_inside (condvar.Wait m timed at) h = wait_inside m at h
+row_inside (condvar.Look all) h = absurd cc
+row_inside (condvar.Notify all m at) h = notify_inside all m at h
 
-row_carries : (l : ℕ) (at : CondvarPlace) → Carries (condvar_row at).doing (condvar_act l at)
-row_carries l (condvar.Wait m timed at) h = wait_carries l m at h
-row_carries l (condvar.Look all) h = absurd cc
-row_carries l (condvar.Notify all m at) h = notify_carries l all m at h
+place_inside : (p : Place) → CarriesInside (profile p).doing
+place_inside Idle h = absurd cc
+place_inside (Mutex l at) h = mutex_inside at h
+place_inside (RwLock l a (fair.Plain p)) h = call_inside (fair.Plain p) h
+place_inside (RwLock l a (fair.Bump p)) h = call_inside (fair.Bump p) h
+place_inside (RwLock l a c) h = call_inside c h
+place_inside (Once l at) h = once_inside at h
+place_inside (Condvar l at) h = absurd cc
 
-place_carries : (p : Place) → Carries (profile p).doing (act_of p)
-place_carries Idle h = absurd cc
-place_carries (Mutex l at) h = mutex_carries l at h
-place_carries (RwLock l a (fair.Plain p)) h = call_carries l a (fair.Plain p) h
-place_carries (RwLock l a (fair.Bump p)) h = call_carries l a (fair.Bump p) h
-place_carries (RwLock l a c) h = call_carries l a c h
-place_carries (Once l at) h = once_carries l at h
-place_carries (Condvar l at) h = absurd cc
+beside_inside : (p : Place) → CarriesInside (profile_beside p).doing
+beside_inside (Condvar l at) h = row_inside at h
+beside_inside p h = absurd cc
 
-beside_carries : (p : Place) → Carries (profile_beside p).doing (act_of p)
-beside_carries (Condvar l at) h = row_carries l at h
-beside_carries p h = absurd cc
-
-doing_carries : (p : Place) (l : ℕ) → Carries (doing_on p l) (act_of p)
-doing_carries p l = by_locks (calls p l) (is_lock l (beside_of p))
+doing_inside : (p : Place) (l : ℕ) → CarriesInside (doing_on p l)
+doing_inside p l = by_locks (calls p l) (is_lock l (beside_of p))
   where
-    by_locks : (b c : Bool) → Carries (if b then (profile p).doing else if c then (profile_beside p).doing else idle) (act_of p)
-    by_locks true c h = place_carries p h
-    by_locks false true h = beside_carries p h
+    by_locks : (b c : Bool) → CarriesInside (if b then (profile p).doing else if c then (profile_beside p).doing else idle)
+    by_locks true c h = place_inside p h
+    by_locks false true h = beside_inside p h
     by_locks false false h = absurd cc
 
 module _ (w : State) (steady : IsSteady w) where
@@ -168,16 +157,19 @@ module _ (w : State) (steady : IsSteady w) where
   holds_section : (t l : ℕ) (m : Line) → (doing_on (place_at w t) l).inside ≡ Some m → IsInside w t l m
   holds_section t l m h = (steady.stands.sections t l m).0 (sym (inside_is (place_at w t) l) ∙ h)
 
-  pub hands_inside : (u l : ℕ) (h : Taken) → (lock_state w l).taken u ≡ Some h → IsInsideAwake w h.by l
+  pub hands_inside : (u l : ℕ) (h : Taken) → (lock_state w l).taken u ≡ Some h → (m : Line) × IsInside w h.by l m
   hands_inside u l h e =
-      let there = doing_carries (place_at w h.by) l ((steady.sites.site l).carried u h e) in
-      ((there.0.0, holds_section h.by l there.0.0 there.0.1), there.1)
+      let there = doing_inside (place_at w h.by) l ((steady.sites.site l).carried u h e) in
+      (there.0, holds_section h.by l there.0 there.1)
 
--- ---------------------------------------------------------------- whoever is yet to set a bit
+-- ---------------------------------------------------------------- threads that are yet to set a bit
 
 -- a row whose thread is to take waiters beside a clear bit owes them their wake
 abbrev Owed : Profile → Type 0
 Owed row = row.doing.sets ≡ true → row.doing.wakes ≡ Some Main → row.owes ≡ Some Main
+
+unset : (b : Bool) → b ≡ false → b ≡ true → ⊥
+unset b e f = let both : false ≡ true = sym e ∙ f in cc
 
 lock_unset : (timed retries : Bool) (at : LockAt) → (lock_row timed retries at).doing.sets ≡ false
 lock_unset timed retries lock.First = refl
@@ -211,43 +203,43 @@ handing_unset x (handing.Store k) = refl
 handing_unset x to = refl
 
 call_owed : (a : Admission) (c : RwLockCallPlace) → Owed (profile (RwLock 0 a c))
-call_owed a (fair.Plain p) = λ sets wakes. absurd (differs _ (rwlock_unset _ p.purpose p.at) sets)
-call_owed a (fair.Bump p) = λ sets wakes. absurd (differs _ (rwlock_unset _ p.purpose p.at) sets)
-call_owed a (fair.HandOver x b to) = λ sets wakes. absurd (differs _ (handing_unset _ to) sets)
-call_owed a (fair.Glance x) = λ sets wakes. absurd (differs _ refl sets)
-call_owed a (fair.Handed x how b to) = λ sets wakes. absurd (differs _ refl sets)
+call_owed a (fair.Plain p) = λ sets wakes. absurd (unset _ (rwlock_unset _ p.purpose p.at) sets)
+call_owed a (fair.Bump p) = λ sets wakes. absurd (unset _ (rwlock_unset _ p.purpose p.at) sets)
+call_owed a (fair.HandOver x b to) = λ sets wakes. absurd (unset _ (handing_unset _ to) sets)
+call_owed a (fair.Glance x) = λ sets wakes. absurd (unset _ refl sets)
+call_owed a (fair.Handed x how b to) = λ sets wakes. absurd (unset _ refl sets)
 
 look_unset : (wanted : Option Want) (at : LookAt) → (look_row wanted at).doing.sets ≡ false
 look_unset wanted look.Load = refl
 look_unset wanted at = refl
 
 once_owed : (at : OncePlace) → Owed (once_profile at)
-once_owed (once.Look c retries at) = λ sets wakes. absurd (differs _ (look_unset (again_of c retries) at) sets)
+once_owed (once.Look c retries at) = λ sets wakes. absurd (unset _ (look_unset (again_of c retries) at) sets)
 once_owed (once.Run forced (run.Enter succeeded)) = λ sets wakes. refl
 once_owed (once.Run forced (run.Take succeeded)) = λ sets wakes. refl
-once_owed (once.Run forced at) = λ sets wakes. absurd (differs _ refl sets)
+once_owed (once.Run forced at) = λ sets wakes. absurd (unset _ refl sets)
 
 -- a notification that is to set the bit has taken the first of those whom it has brought
 abbrev Never : Doing → Type 0
 Never d = d.sets ≡ true → d.wakes ≡ Some Main → ⊥
 
 wait_never : (m : ℕ) (at : WaitAt) → Never (wait_row m at).doing
-wait_never m (wait.Release s at) = λ sets wakes. differs _ (mutex_unset at) sets
-wait_never m (wait.Lock timed_out at) = λ sets wakes. differs _ (mutex_unset at) sets
-wait_never m at = λ sets wakes. differs _ refl sets
+wait_never m (wait.Release s at) = λ sets wakes. unset _ (mutex_unset at) sets
+wait_never m (wait.Lock timed_out at) = λ sets wakes. unset _ (mutex_unset at) sets
+wait_never m at = λ sets wakes. unset _ refl sets
 
 told_never : (any b : Bool) → Never (if b then inside else has_moved any false)
-told_never any true = λ sets wakes. differs _ refl sets
-told_never any false = λ sets wakes. differs _ refl sets
+told_never any true = λ sets wakes. unset _ refl sets
+told_never any false = λ sets wakes. unset _ refl sets
 
 notify_never : (all : Bool) (m : ℕ) (at : NotifyAt) → Never (notify_row all m at).doing
 notify_never all m (notify.MarkMoved number) = λ sets wakes. cc
 notify_never all m (notify.Leave any number) = told_never any (number == 0)
-notify_never all m at = λ sets wakes. differs _ refl sets
+notify_never all m at = λ sets wakes. unset _ refl sets
 
 row_never : (at : CondvarPlace) → Never (condvar_row at).doing
 row_never (condvar.Wait m timed at) = wait_never m at
-row_never (condvar.Look all) = λ sets wakes. differs _ refl sets
+row_never (condvar.Look all) = λ sets wakes. unset _ refl sets
 row_never (condvar.Notify all m at) = notify_never all m at
 
 -- at the lock that it calls
@@ -258,15 +250,15 @@ own_owed row false owed sets wakes = absurd cc
 
 owes_soon : (p : Place) (l : ℕ) → (doing_on p l).sets ≡ true → (doing_on p l).wakes ≡ Some Main → line_owed p l ≡ Some Main
 owes_soon Idle l sets wakes = absurd cc
-owes_soon (Mutex k at) l sets wakes = own_owed (profile (Mutex k at)) (calls (Mutex k at) l) (λ set wake. absurd (differs _ refl set)) sets wakes
+owes_soon (Mutex k at) l sets wakes = own_owed (profile (Mutex k at)) (calls (Mutex k at) l) (λ set wake. absurd (unset _ refl set)) sets wakes
 owes_soon (RwLock k a c) l sets wakes = own_owed (profile (RwLock k a c)) (calls (RwLock k a c) l) (call_owed a c) sets wakes
 owes_soon (Once k at) l sets wakes = own_owed (profile (Once k at)) (calls (Once k at) l) (once_owed at) sets wakes
 owes_soon (Condvar k at) l sets wakes = absurd (by_locks (calls (Condvar k at) l) (is_lock l (beside_of (Condvar k at))) sets wakes)
   where
     by_locks : (b c : Bool) → Never (if b then (profile (Condvar k at)).doing else if c then (profile_beside (Condvar k at)).doing else idle)
-    by_locks true c = λ sets wakes. differs _ refl sets
+    by_locks true c = λ sets wakes. unset _ refl sets
     by_locks false true = row_never at
-    by_locks false false = λ sets wakes. differs _ refl sets
+    by_locks false false = λ sets wakes. unset _ refl sets
 
 module _ (w : State) (steady : IsSteady w) where
   pub is_to_mark : (u l : ℕ) → IsAboutToMark w u l → IsToMark w u l

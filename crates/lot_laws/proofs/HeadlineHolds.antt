@@ -1,5 +1,5 @@
--- What is promised of the world says the headline: in the words of the abstract locks alone, nobody is forgotten.
-use Rattle.std.proofs.Common.{ℕ, true, false, List, [], ◌∷◌, ◌++◌, ◌≡◌, ◌≢◌, inl, inr, refl, sym, ap, subst}
+-- The promises of the world say the headline: in the words of the abstract locks alone, nobody is forgotten.
+use Rattle.std.proofs.Common.{ℕ, Bool, true, false, Option, Some, None, List, [], ◌∷◌, ◌++◌, ◌≡◌, ◌≢◌, ◌⊎◌, inl, inr, refl, sym, ap, subst, length}
 use Rattle.std.proofs.lemmas.List.{length-replicate, length-map}
 use Rattle.lot_base.specs.declared.keys.Line.{Line}
 use Rattle.lot_base.specs.declared.keys.Line.TheVariants.{Main, Second}
@@ -13,11 +13,11 @@ use Rattle.lot_steps.specs.Steps.{act_of}
 use Rattle.abstract_locks.specs.Headline as headline
 use Rattle.abstract_locks.specs.Headline.{MayTell, Behaves, Opens, full_by}
 use Rattle.lot_machine.specs.Machine.{State, opening, unlocked, place_at, filled_at, after, step_outcome, after_steps, step_outcomes}
-use Rattle.lot_laws.specs.Refinement.{locks_of, sleeps, keys_entered}
+use Rattle.lot_laws.specs.Refinement.{locks_of, lock_state, sleeps, keys_entered}
 use Rattle.lot_laws.specs.Promises.{IsKept, IsDebtorOf, IsLookedAfter, IsHandedOver}
 use Rattle.lot_laws.specs.Owing.{Owes}
 use Rattle.lot_laws.specs.SitesOf.{IsWorld}
-use Rattle.lot_laws.specs.WorldRuns.{IsWorldRun, Tells}
+use Rattle.lot_laws.specs.WorldRuns.{IsWorldRun, IsWorldStep, Tells}
 use Rattle.lot_laws.proofs.OpeningSites.{kind_is, unfilled_0}
 use Rattle.lot_laws.proofs.Promises.{opening_is}
 use Rattle.lot_laws.proofs.WorldRuns.{world_kept, world_run, world_step}
@@ -33,7 +33,7 @@ asleep_is a h = absurd cc
 -- ---------------------------------------------------------------- a state
 
 module _ (w : State) (k : IsKept w) where
-  -- who owes a wake is inside the section, or enters it next
+  -- a thread that owes a wake is inside the section, or enters it next
   at_line : (t l : ℕ) (m : Line) → Owes w t l m → headline.IsAtLine (locks_of w) t l m
   at_line t l m owes = elim (k.owing t l m owes) [ inl inside ↦ inl inside | inr goes ↦ inr (ap keys_entered goes.0) ]
 
@@ -57,14 +57,15 @@ module _ (w : State) (k : IsKept w) where
     waited = h.waited;
     owner = h.owner;
     inside = h.inside;
-    awake = ap sleeps h.wakes;
   }
 
   pub nobody_forgotten : headline.NobodyForgotten (locks_of w) (filled_at w)
   nobody_forgotten = record {
     main = λ t l waits way full. looked_after l Main (k.nobody_forgotten.main t l waits way full);
     second = λ l aside alone. looked_after l Second (k.nobody_forgotten.second l aside alone);
+    in_hand = k.in_hand;
     asleep = λ t sleeping nowhere. handed_over t (k.handing t (asleep_is (act_of (place_at w t)) sleeping, nowhere));
+    inside = k.inside_goes;
   }
 
 -- ---------------------------------------------------------------- a run
@@ -104,7 +105,7 @@ run_tells kinds threads steps told w v is k run = record {
     filled_first : (l : ℕ) → filled_at w l ≡ false
     filled_first l = subst (λ u. filled_at u l ≡ false) (sym is) (unfilled_0 kinds l)
 
--- ---------------------------------------------------------------- what was told stands behind what was there
+-- ---------------------------------------------------------------- outcomes behind those that were there
 
 module _ (w v : State) (ss : List Step) (before now : List Outcome) (h : IsWorld w) (led : v ≡ after_steps w ss)
     (answers : now ≡ before ++ step_outcomes w ss) where

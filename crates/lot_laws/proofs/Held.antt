@@ -1,11 +1,11 @@
--- Whoever stands at a lock is in the hand, by its place, of the thread that has taken it, and of nobody while it stands in a line.
-use Rattle.std.proofs.Common.{ℕ, Bool, true, false, Option, Some, None, if◌then◌else◌, ◌≡◌, ◌≢◌, ◌≤◌, inl, inr, refl, sym, ◌∙◌, ap}
+-- A thread that stands at a lock is by its place in the hand of the one that has taken it, and of nobody while it stands in a line.
+use Rattle.std.proofs.Common.{ℕ, Bool, true, false, Option, Some, None, if◌then◌else◌, ◌==◌, ◌≡◌, ◌≢◌, ◌≤◌, inl, inr, refl, sym, ◌∙◌, ap, subst}
 use Rattle.std.proofs.lemmas.Bool.{eqb-true}
 use Rattle.lot_acts.specs.Owners.{is_thread}
-use Rattle.lot_acts.specs.Profiles.{Profile, hand_owner}
+use Rattle.lot_acts.specs.Profiles.{Hand, Profile, hand_owner}
 use Rattle.lot_acts.specs.Stations.{nowhere, station_by}
 use Rattle.abstract_locks.specs.Locks.{Taken, standing}
-use Rattle.abstract_locks.specs.Sites.{Line, Main}
+use Rattle.abstract_locks.specs.Sites.{Line, Main, Second}
 use Rattle.lot_mutex.specs.declared.places.MutexPlace.{MutexPlace}
 use Rattle.lot_mutex.specs.declared.places.MutexPlace.TheVariants as mutex
 use Rattle.lot_mutex.specs.declared.lock.LockAt.{LockAt}
@@ -44,7 +44,7 @@ use Rattle.lot_laws.specs.Promises.{holder}
 use Rattle.lot_laws.proofs.Glue.{held_tells, taken_held}
 use Rattle.lot_laws.proofs.PlacePromises.{stands_there}
 
--- who stands in a line is in no hand
+-- a thread that stands in a line is in no hand
 abbrev IsUnheld : Profile → Type 0
 IsUnheld row = (m : Line) → row.stands ≡ Some m → row.hand ≡ None
 

@@ -167,6 +167,8 @@ pub mod CondvarBegins
 pub mod HandsInside
 pub mod Held
 pub mod TriesGo
+pub mod InsideGoes
+pub mod LooksOnce
 pub mod Filled
 pub mod Tries
 pub mod Sleepers

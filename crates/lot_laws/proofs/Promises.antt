@@ -26,6 +26,8 @@ use Rattle.lot_acts.specs.Rows.{KnowsRights}
 use Rattle.lot_laws.proofs.Closures.{runs_one}
 use Rattle.lot_laws.proofs.HandsInside.{hands_inside, is_to_mark}
 use Rattle.lot_laws.proofs.Held.{held}
+use Rattle.lot_laws.proofs.InsideGoes.{inside_goes}
+use Rattle.lot_laws.proofs.LooksOnce.{looks}
 use Rattle.lot_laws.proofs.TriesGo.{tries_go}
 use Rattle.lot_laws.proofs.ShownMutex.{shows_waiters}
 use Rattle.lot_laws.proofs.SitesPromise.{not_empty}
@@ -415,6 +417,8 @@ module _ (w : State) (steady : IsSteady w) where
     going_owes = λ t. going_owes_so w t steady;
     second_line = second_line;
     retrying = retrying;
+    looks = looks w steady;
+    inside_goes = inside_goes w steady;
     tries = tries_go w steady;
     handing = λ t h. handed_over t h.0 h.1;
     parked = λ t l waiting. elim ((steady.sites.site l).parked (not_empty t (lock_state w l).queue waiting)) [

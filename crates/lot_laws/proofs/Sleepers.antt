@@ -1,4 +1,4 @@
--- Whoever sleeps does so on, whatever befalls it but a wake; and another thread wakes only those whom it has in hand.
+-- A thread that sleeps does so on, whatever befalls it but a wake; and another thread wakes only those that it has in hand.
 use Rattle.std.proofs.Common.{ℕ, Bool, true, false, Option, Some, None, if◌then◌else◌, ◌==◌, ◌≡◌, ◌≢◌, ◌⊎◌, inl, inr, List, [], ◌∷◌, length, map, set, get_or, refl, sym, ◌∙◌, ap, subst, get_or-set_other, get_or-set_same}
 use Rattle.std.proofs.Math.ListN.{get_or-map}
 use Rattle.std.proofs.lemmas.Bool.{cases_eq, cases_lt, eqb-true}
@@ -68,7 +68,7 @@ use Rattle.lot_laws.specs.WorldRuns.{SleepersStay}
 use Rattle.lot_laws.proofs.MutexRows.{decided_awake}
 use Rattle.lot_laws.proofs.RwLockRows.{awake_at}
 
--- what befalls a thread, but for a wake
+-- a reply that befalls a thread, but for a wake
 abbrev Quiet : Reply → Type 0
 Quiet (TakenBy t) = Unit {0}
 Quiet (MovedTo key) = Unit {0}
@@ -139,7 +139,7 @@ rwlock_quiet l a q retries to r quiet h = absurd cc
 abbrev CallStays : ℕ → Admission → Next RwLockCallPlace → Type 0
 CallStays l a n = (c : RwLockCallPlace) × ((n ≡ At c) × (call_act l a c ≡ Sleep))
 
--- whoever is handed the lock sleeps on until it is told so
+-- a thread that is handed the lock sleeps on until it is told so
 abbrev SleepsIfGiven : ℕ → Admission → Option RwLockCallPlace → Type 0
 SleepsIfGiven l a None = Unit {0}
 SleepsIfGiven l a (Some c) = call_act l a c ≡ Sleep
@@ -162,7 +162,7 @@ unless_sleeps : (l : ℕ) (a : Admission) (o : Option RwLockCallPlace) (n : Next
 unless_sleeps l a None n given stays = stays
 unless_sleeps l a (Some c) n given stays = (c, (refl, given))
 
-pub hands_awake : (l : ℕ) (a : Admission) (x : Access) (to : HandOverAt) → hand_over_act l a x to ≡ Sleep → ⊥
+hands_awake : (l : ℕ) (a : Admission) (x : Access) (to : HandOverAt) → hand_over_act l a x to ≡ Sleep → ⊥
 hands_awake l a x (handing.Exchange k seen) h = either (has_room a.limit k seen) _ _ h
   where
     either : (b : Bool) (y z : ℕ) → (if b then act.HandOver l (operation.Exchange seen y) else act.Word l (operation.Exchange seen z)) ≡ Sleep → ⊥
@@ -283,7 +283,7 @@ module _ (w : State) (t u : ℕ) (asleep : act_of (place_at w u) ≡ Sleep) wher
       either true = place_quiet r q (place_at w u) asleep
       either false = asleep
 
-  -- a wake is told those whom it has in hand alone
+  -- a wake is told only those that the thread has in hand
   wake_sleeps : (r : Reply) → is_thread t (taker (place_at w u)) ≡ false → act_of (get_or (map (place_after_telling t r) w.places) u Idle) ≡ Sleep
   wake_sleeps r free = ap act_of (get_or-map (place_after_telling t r) w.places u Idle) ∙ ap (λ b. act_of (if b then next_place (place_at w u) r else place_at w u)) free ∙ asleep
 

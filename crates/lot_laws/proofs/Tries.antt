@@ -27,7 +27,7 @@ use Rattle.lot_laws.proofs.Glue.{IsSingle}
 use Rattle.lot_laws.proofs.MutexEvents.{free_word, owned_word}
 use Rattle.lot_laws.proofs.OwnPlace.{told_from_there}
 
--- ---------------------------------------------------------------- who is in a call is there
+-- ---------------------------------------------------------------- a thread in a call is there
 
 pub stands_there : (xs : List Place) (t : ℕ) → get_or xs t Idle ≢ Idle → t < length xs
 stands_there [] t busy = absurd (busy refl)

@@ -1,5 +1,6 @@
 -- A try neither sleeps nor enters a section.
-use Rattle.std.proofs.Common.{ℕ, Bool, true, false, None, if◌then◌else◌, ◌&&◌, nat_le, ◌==◌, ◌≡◌, refl}
+use Rattle.std.proofs.Common.{ℕ, Bool, true, false, Option, Some, None, if◌then◌else◌, ◌&&◌, nat_le, ◌==◌, ◌≡◌, refl, subst}
+use Rattle.lot_base.specs.declared.wants.Want.{Want}
 use Rattle.lot_calls.specs.declared.calls.Access.{Access}
 use Rattle.lot_calls.specs.declared.calls.Access.TheVariants as access
 use Rattle.lot_calls.specs.declared.calls.OnceCall.TheVariants as once_call
@@ -13,6 +14,7 @@ use Rattle.lot_mutex.specs.declared.lock.Entry.TheVariants as entry
 use Rattle.lot_once.specs.declared.places.OncePlace.{OncePlace}
 use Rattle.lot_once.specs.declared.places.OncePlace.TheVariants as once
 use Rattle.lot_rwlock.specs.declared.places.Admission.{Admission}
+use Rattle.lot_rwlock.specs.declared.places.RwLockPlace.{RwLockPlace}
 use Rattle.lot_rwlock.specs.declared.places.RwLockAt.{RwLockAt}
 use Rattle.lot_rwlock.specs.declared.places.RwLockAt.TheVariants as at
 use Rattle.lot_rwlock.specs.declared.enter.Decision.{Decision}
@@ -33,20 +35,21 @@ use Rattle.lot_steps.specs.declared.places.Place.{Place}
 use Rattle.lot_steps.specs.declared.places.Place.TheVariants.{Idle, Mutex, RwLock, Once, Condvar}
 use Rattle.lot_steps.specs.Steps.{act_of}
 use Rattle.lot_machine.specs.Machine.{State, place_at}
-use Rattle.lot_laws.specs.Refinement.{call_at, call_state, keys_entered, sleeps}
+use Rattle.lot_laws.specs.Refinement.{call_at, call_state, keys_entered, runs_closure, sleeps}
 use Rattle.lot_laws.specs.SitesOf.{FitsItsLock, IsSteady}
 use Rattle.lot_laws.specs.Promises.{IsTry}
 use Rattle.lot_laws.proofs.RwLockRows.{parks_wait}
 
-abbrev IsFree : Act → Type 0
-IsFree a = (sleeps a ≡ false) × (keys_entered a ≡ None)
+-- it lets no other thread keep it from going on
+abbrev pub IsFree : Act → Type 0
+IsFree a = (sleeps a ≡ false) × (runs_closure a ≡ false) × (keys_entered a ≡ None)
 
 -- ---------------------------------------------------------------- a reader-writer lock
 
 -- a try that is to decide takes what it wants
 by_decision : (l : ℕ) (q : RwLockPurpose) (seen : ℕ) (d : Decision) → (d ≡ decisions.Park → ⊥) → IsNoRefusal d → IsFree (decided_act l q seen d)
-by_decision l q seen decisions.Take never some = (refl, refl)
-by_decision l q seen decisions.Mark never some = (refl, refl)
+by_decision l q seen decisions.Take never some = (refl, refl, refl)
+by_decision l q seen decisions.Mark never some = (refl, refl, refl)
 by_decision l q seen decisions.Park never some = absurd (never refl)
 by_decision l q seen (decisions.Refuse a) never some = absurd some
 
@@ -70,7 +73,7 @@ place q again to = fair.Plain (record { purpose = q; retries = again; at = to })
 
 writes_free : (l : ℕ) (a : Admission) (again : Bool) (to : RwLockAt) → StandsAt (purpose.Enter access.Exclusive Try) again to
     → IsFree (act_of (RwLock l a (place (purpose.Enter access.Exclusive Try) again to)))
-writes_free l a again at.First stands = (refl, refl)
+writes_free l a again at.First stands = (refl, refl, refl)
 writes_free l a again (at.Park to) stands = absurd (parks_wait Try to stands refl)
 writes_free l a again (at.Aside to) stands = absurd (parks_wait Try to stands refl)
 writes_free l a again (at.Wake Main to) stands = absurd stands
@@ -80,18 +83,18 @@ writes_free l a again to stands = absurd stands
 shares_free : (l : ℕ) (a : Admission) (x : Access) (again : Bool) (to : RwLockAt) → StandsAt (purpose.Enter x Try) again to
     → IsDecided a (purpose.Enter x Try) to → IsFree (act_of (RwLock l a (place (purpose.Enter x Try) again to)))
 shares_free l a access.Exclusive again to stands decided = writes_free l a again to stands
-shares_free l a access.Shared again at.Load stands decided = (refl, refl)
+shares_free l a access.Shared again at.Load stands decided = (refl, refl, refl)
 shares_free l a access.Shared again (at.Decide seen) stands decided = by_decision l (purpose.Enter access.Shared Try) seen (decided_for a (purpose.Enter access.Shared Try) seen) (never_parks a access.Shared seen) decided
 shares_free l a access.Shared again (at.Park to) stands decided = absurd (parks_wait Try to stands refl)
 shares_free l a access.Shared again to stands decided = absurd stands
-shares_free l a access.Upgradable again at.Load stands decided = (refl, refl)
+shares_free l a access.Upgradable again at.Load stands decided = (refl, refl, refl)
 shares_free l a access.Upgradable again (at.Decide seen) stands decided = by_decision l (purpose.Enter access.Upgradable Try) seen (decided_for a (purpose.Enter access.Upgradable Try) seen) (never_parks a access.Upgradable seen) decided
 shares_free l a access.Upgradable again (at.Park to) stands decided = absurd (parks_wait Try to stands refl)
 shares_free l a access.Upgradable again to stands decided = absurd stands
 
 upgrades_free : (l : ℕ) (a : Admission) (again : Bool) (to : RwLockAt) → StandsAt (purpose.Upgrade Try) again to
     → IsDecided a (purpose.Upgrade Try) to → IsFree (act_of (RwLock l a (place (purpose.Upgrade Try) again to)))
-upgrades_free l a again at.Load stands decided = (refl, refl)
+upgrades_free l a again at.Load stands decided = (refl, refl, refl)
 upgrades_free l a again (at.Decide seen) stands decided = by_decision l (purpose.Upgrade Try) seen (decided_for a (purpose.Upgrade Try) seen) (never_upgrades a seen) decided
 upgrades_free l a again to stands decided = absurd stands
 
@@ -123,7 +126,7 @@ call_free l a (fair.Handed x how b to) stands rights h = handed_free l a x how b
 -- ---------------------------------------------------------------- any place
 
 mutex_free : (l : ℕ) (at : MutexPlace) (rights : ℕ → Rights) → IsTry (call_state (Mutex l at) rights).purpose → IsFree (act_of (Mutex l at))
-mutex_free l mutex.TryLock rights h = (refl, refl)
+mutex_free l mutex.TryLock rights h = (refl, refl, refl)
 mutex_free l (mutex.Lock entry.Lock again to) rights h = absurd cc
 mutex_free l (mutex.Lock entry.LockTimed again to) rights h = absurd cc
 mutex_free l (mutex.Lock entry.Bump again to) rights h = absurd h

@@ -5,17 +5,22 @@ use Rattle.abstract_locks.specs.Locks as locks
 use Rattle.std.specs.Prelude.{ℕ, Bool, false, true, None, Option, ◌≡◌, ◌≢◌, ◌≤◌, ◌⊎◌, ◌↔◌, Some, ◌*◌, ◌+◌, []}
 use Rattle.lot_base.specs.declared.keys.Keys.TheVariants.{One}
 use Rattle.lot_base.specs.declared.wants.Want.{Want}
-use Rattle.lot_acts.specs.declared.acts.Act.TheVariants.{Enter, Leave, Sleep}
+use Rattle.lot_base.specs.declared.wants.Want.TheVariants.{Shared}
+use Rattle.lot_base.specs.declared.ops.Op.TheVariants.{Exchange}
+use Rattle.lot_acts.specs.declared.acts.Act.{Act}
+use Rattle.lot_acts.specs.declared.acts.Act.TheVariants.{Enter, Leave, Sleep, Word}
 use Rattle.lot_acts.specs.declared.acts.Wakes as wakes
 use Rattle.lot_base.specs.declared.notes.Note.TheVariants.{HandOff}
 use Rattle.lot_steps.specs.Steps.{act_of, taker, retries_on}
 use Rattle.lot_machine.specs.Machine.{State, place_at, word_at, filled_at, section_at}
 use Rattle.abstract_locks.specs.Locks.{LockState, Sort, Recursive, Once, Rules, Taken, Knows, times, standing, readers, count, has_caller}
 use Rattle.abstract_locks.specs.Onces.{InProgress, IsRunning}
-use Rattle.abstract_locks.specs.Codes.{word_by, parked_in, aside_in}
-use Rattle.abstract_locks.specs.Runs.{AreLockStates, Stance}
+use Rattle.abstract_locks.specs.Codes.{word_by, parked_in, aside_in, has_aside, is_running}
+use Rattle.lot_rwlock.specs.RwLockSteps.{plus}
+use Rattle.lot_once.specs.OnceSteps.{marked}
+use Rattle.abstract_locks.specs.Runs.{AreLockStates}
 use Rattle.abstract_locks.specs.Sites.{Line, Main, Second, counts_some, has_readers}
-pub use Rattle.abstract_locks.specs.Headline.{want_of, mutex_seen, WakesWaiters, IsOpenNow, HasOrPends}
+pub use Rattle.abstract_locks.specs.Headline.{want_of, mutex_seen, WakesWaiters, IsOpenNow, HasOrPends, GoesFreely}
 use Rattle.abstract_locks.specs.Purposes.{Purpose, Enters, Releases, Converts, Bumps, CallsOnce, Awaits, MayWait, Try, Waits, Notifies}
 use Rattle.lot_laws.specs.Refinement.{RunsClosure, lock_state, locks_of, call_at}
 use Rattle.lot_laws.specs.Stations.{doing_on}
@@ -46,7 +51,7 @@ IsCoded w l =
 abbrev pub IsAboutToMark : State → ℕ → ℕ → Type 0
 IsAboutToMark w t l = (doing_on (place_at w t) l).sets ≡ true
 
--- and it is inside the section, or, of a `Once`, owes those waiters their wake
+-- and it is inside the section, or, at a `Once`, owes those waiters their wake
 abbrev pub IsToMark : State → ℕ → ℕ → Type 0
 IsToMark w t l = IsAboutToMark w t l
     × (IsInside w t l Main ⊎ ((sort_at w l ≡ Once) × Owes w t l Main))
@@ -140,9 +145,23 @@ abbrev pub holder : Option Taken → Option ℕ
 holder None = None
 holder (Some h) = Some h.by
 
--- a thread is inside a section of the lock, and awake
-abbrev pub IsInsideAwake : State → ℕ → ℕ → Type 0
-IsInsideAwake w t l = ((m : Line) × IsInside w t l m) × (act_of (place_at w t) ≢ Sleep)
+-- an exchange by which a thread sets a parked bit before it sleeps: of a mutex that is owned; of a
+-- lock that is shared, for either line, while no writer waits aside; of a `Once` that is running
+abbrev pub SetsBit : Sort → (seen now : ℕ) → Type 0
+SetsBit locks.Mutex seen now = (seen ≡ 1) × (now ≡ 3)
+SetsBit locks.Normal seen now =
+    (has_aside seen ≡ false) × ((now ≡ plus seen 1) ⊎ (now ≡ plus seen 2))
+SetsBit locks.Recursive seen now =
+    (has_aside seen ≡ false) × ((now ≡ plus seen 1) ⊎ (now ≡ plus seen 2))
+SetsBit locks.Semaphore seen now = ⊥
+SetsBit locks.Once seen now = (is_running seen ≡ true) × (now ≡ marked seen)
+SetsBit locks.Condvar seen now = ⊥
+
+-- by its next act a thread does so, or goes aside as a pending writer
+abbrev pub LeadsToSleep : Sort → ℕ → Act → Type 0
+LeadsToSleep sort l a =
+    ((seen : ℕ) × (now : ℕ) × (a ≡ Word l (Exchange seen now)) × SetsBit sort seen now)
+    ⊎ (a ≡ Enter (One (key_of l Second)))
 
 -- a call that tries
 abbrev pub IsTry : Option Purpose → Type 0
@@ -156,10 +175,6 @@ IsTry (Some (Awaits l forced)) = ⊥
 IsTry (Some (Waits l m timed)) = ⊥
 IsTry (Some (Notifies l all)) = ⊥
 
--- it is awake, and enters no section next
-abbrev pub GoesFreely : Stance → Type 0
-GoesFreely stance = (stance.asleep ≡ false) × (stance.enters ≡ None)
-
 pub record IsKept (w : State) : Type 0 where
   -- owners exclude each other, and a thread stands at most once in the queue of a lock, aside of it
   -- or taken from it
@@ -167,13 +182,14 @@ pub record IsKept (w : State) : Type 0 where
   -- and at one lock at most
   pub one_place : (t l k : ℕ) → 1 ≤ standing t (lock_state w l) → 1 ≤ standing t (lock_state w k)
       → l ≡ k
-  -- whoever is taken is in the hand of such a thread
-  pub in_hand : (u l : ℕ) (h : Taken) → (lock_state w l).taken u ≡ Some h → IsInsideAwake w h.by l
-  -- and by its place in that hand; whoever stands in a line is in nobody's, so that no other
+  -- a thread that is taken is in the hand of one that is inside a section of the lock
+  pub in_hand : (u l : ℕ) (h : Taken) → (lock_state w l).taken u ≡ Some h
+      → (m : Line) × IsInside w h.by l m
+  -- and by its place in that hand; one that stands in a line is in nobody's, so that no other
   -- thread's step wakes it
   pub held : (t l : ℕ) → 1 ≤ standing t (lock_state w l)
       → taker (place_at w t) ≡ holder ((lock_state w l).taken t)
-  -- whoever stands, or is taken, does so in a call that waits for the lock
+  -- one that stands there, or is taken, is in a call that waits for the lock
   pub waiting : (t l : ℕ) → 1 ≤ standing t (lock_state w l) → MayWait (call_at w t).purpose l
   -- and each call is for rights that its lock knows
   pub known : (t : ℕ) → KnowsRights (sort_at w) (call_at w t).purpose
@@ -200,7 +216,12 @@ pub record IsKept (w : State) : Type 0 where
   -- who is shown to try a lock again was woken on it, and has got neither the lock nor a place in a
   -- queue since
   pub retrying : (t l : ℕ) → retries_on (place_at w t) l ≡ true ↔ (call_at w t).retries ≡ Some l
-  -- a try neither sleeps nor enters a section, so that no other thread keeps it from going on
+  -- a thread may look at a word once more only in place of such an act
+  pub looks : (t : ℕ) → ((locks_of w).stances t).may_spin ≡ true
+      → (l : ℕ) × LeadsToSleep (sort_at w l) l (act_of (place_at w t))
+  -- a thread that is inside a section goes on freely: it is awake, and enters no other
+  pub inside_goes : (t l : ℕ) (m : Line) → IsInside w t l m → GoesFreely ((locks_of w).stances t)
+  -- so does a try, wherever it is
   pub tries : (t : ℕ) → IsTry (call_at w t).purpose → GoesFreely ((locks_of w).stances t)
   -- who is asleep but stands nowhere was handed the lock that it waited for, by a thread that is
   -- inside the section and wakes it

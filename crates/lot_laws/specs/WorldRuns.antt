@@ -45,9 +45,9 @@ abbrev pub tried : Bool → Outcome
 tried true = outcome.TheVariants.End answer.TheVariants.Yes
 tried false = outcome.TheVariants.End answer.TheVariants.No
 
--- a try to lock a mutex, or to write, ends as its thread goes on from its first place, whoever is
--- inside a section: with the mutex exactly where nobody owns it, and as the writer of a lock that is
--- shared exactly where the word is 0
+-- a try to lock a mutex, or to write, ends as its thread goes on from its first place, also while
+-- others are inside sections: with the mutex exactly where nobody owns it, and as the writer of a
+-- lock that is shared exactly where the word is 0
 pub record TriesAtOnce (w : State) (t : ℕ) (o : Outcome) : Type 0 where
   pub locks : (l : ℕ)
       → place_at w t ≡ first_place (kind_at w l) (call.TheVariants.Mutex l mutex_call.TryLock)

@@ -1,4 +1,4 @@
--- Behind a hand-over each in hand that wants to share has one right more than before.
+-- A hand-over gives each in hand that wants to share one right more.
 use Rattle.std.proofs.lemmas.Bool.Decides.{nat_tests}
 use Rattle.std.proofs.Common.{ℕ, zero, suc, Bool, true, false, Option, Some, None, List, [], ◌∷◌, if◌then◌else◌, ◌==◌, ◌≡◌, ◌≢◌, ◌+◌, ◌<◌, refl, ap, sym, subst, ◌∙◌, length, arith}
 use Rattle.std.specs.Prelude.{slice_index}
@@ -25,7 +25,7 @@ use Rattle.lot_rwlock_fair.specs.FairCalls.{IsInCall, in_hand_of}
 use Rattle.lot_rwlock_fair.specs.FairLaws.{lock_behind, HandsOver}
 use Rattle.lot_rwlock_fair.proofs.HandOverCodes.{settled_lock}
 
--- whoever succeeds and wants more than to share changes no number of shared rights
+-- a successor that wants more than to share changes no number of shared rights
 shared_kept : (o : Option Queued) (now : LockState) → ((y : Queued) → o ≡ Some y → y.want ≢ Shared)
     → (with_successor o now).shared ≡ now.shared
 shared_kept None now more = refl
@@ -69,7 +69,7 @@ module _ (t u : ℕ) (s : LockState) (mine : IsTaken s t u Shared) (there : u < 
       by_right Shared ne = absurd (ne refl)
       by_right x ne = ap (λ ns. slice_index ns u) (shared_kept successor (sharing_handed t (without_owner t x s)) wants_more) ∙ given_one t s.taken 0 u s.shared there one
 
--- what holds of a lock behind each hand-over that there is holds of it behind this one
+-- a fact of the lock behind each hand-over that there is holds behind this one
 module _ (r : Rules) (a : Admission) (s : Site) (t l : ℕ) (c : RwLockCallPlace) (op : Op) (whom : Option ℕ) (over : HandsOver r a s t c whom)
     (e : call_act l a c ≡ act.HandOver l op) (won : takes_effect op (code r s) ≡ true) (P : LockState → Type 0)
     (each : (right : Want) (successor : Option Queued) → IsSuccessor s.lock t successor → right ≢ Shared → P (handed t right successor s.lock)) where

@@ -105,8 +105,9 @@ impl<Q: Queues + Drop> World<Q> {
         // section a condition variable shows a mutex exactly while somebody waits.
         ensures kept { IsKept self.new }
 
-        // A try to lock a mutex, or to write, ends in one step, whoever is inside a section: it has
-        // the mutex exactly where nobody owns it, and a shared lock exactly where the word is 0.
+        // A try to lock a mutex, or to write, ends in one step, also while others are inside
+        // sections: with the mutex exactly where nobody owns it, and with a lock that is shared
+        // exactly where the word is 0.
         ensures tries { step.turn ≡ Turn.Go → TriesAtOnce self.old step.thread result }
 
         // Another thread that sleeps does so on, unless this one has it in hand and wakes it.
