@@ -1,2 +1,3 @@
 pub mod RwLockGuards
 pub mod RwLockUsers
+pub mod RwLockHalves

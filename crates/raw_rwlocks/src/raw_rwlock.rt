@@ -133,13 +133,16 @@ impl<const RECURSIVE: bool> lock_raw::RawRwLock for RawRwLock<RECURSIVE> {
 
     #[inline(always)]
     fn lock_shared<R: Wait>(&self, rt: &R, token: &mut Token) -> Result<RawSharedGuard, Fault> {
-        match self
-            .lock
-            .enter(rt, token, FOR_EVER, Access::Shared, Patience::Patient)
-        {
-            Ok(Some(right)) => Ok(RawSharedGuard { right }),
-            Ok(None) => unreachable!(),
-            Err(fault) => Err(fault),
+        let (lock, access, patience) = (&self.lock, Access::Shared, Patience::Patient);
+        match lock.enter_fast(token, FOR_EVER, access, patience) {
+            Ok(Ok(Some(right))) => Ok(RawSharedGuard { right }),
+            Ok(Ok(None)) => unreachable!(),
+            Ok(Err(fault)) => Err(fault),
+            Err(rest) => match lock.enter_slow(rt, token, FOR_EVER, access, patience, rest) {
+                Ok(Some(right)) => Ok(RawSharedGuard { right }),
+                Ok(None) => unreachable!(),
+                Err(fault) => Err(fault),
+            },
         }
     }
 
@@ -162,17 +165,21 @@ impl<const RECURSIVE: bool> lock_raw::RawRwLock for RawRwLock<RECURSIVE> {
     #[inline]
     fn unlock_shared<R: Wait>(&self, rt: &R, token: &mut Token, guard: RawSharedGuard) {
         let RawSharedGuard { right } = guard;
-        self.lock.release(rt, token, Access::Shared, right);
+        if let Some(rest) = self.lock.release_fast(token, Access::Shared, right) {
+            self.lock.release_slow(rt, token, Access::Shared, rest);
+        }
     }
 
     #[inline]
     fn lock_exclusive<R: Wait>(&self, rt: &R, token: &mut Token) -> RawExclusiveGuard {
-        match self
-            .lock
-            .enter(rt, token, FOR_EVER, Access::Exclusive, Patience::Patient)
-        {
-            Ok(Some(right)) => RawExclusiveGuard { right },
-            Ok(None) | Err(_) => unreachable!(),
+        let (lock, access, patience) = (&self.lock, Access::Exclusive, Patience::Patient);
+        match lock.enter_fast(token, FOR_EVER, access, patience) {
+            Ok(Ok(Some(right))) => RawExclusiveGuard { right },
+            Ok(Ok(None) | Err(_)) => unreachable!(),
+            Err(rest) => match lock.enter_slow(rt, token, FOR_EVER, access, patience, rest) {
+                Ok(Some(right)) => RawExclusiveGuard { right },
+                Ok(None) | Err(_) => unreachable!(),
+            },
         }
     }
 
@@ -185,7 +192,9 @@ impl<const RECURSIVE: bool> lock_raw::RawRwLock for RawRwLock<RECURSIVE> {
     #[inline]
     fn unlock_exclusive<R: Wait>(&self, rt: &R, token: &mut Token, guard: RawExclusiveGuard) {
         let RawExclusiveGuard { right } = guard;
-        self.lock.release(rt, token, Access::Exclusive, right);
+        if let Some(rest) = self.lock.release_fast(token, Access::Exclusive, right) {
+            self.lock.release_slow(rt, token, Access::Exclusive, rest);
+        }
     }
 
     #[inline]
@@ -256,13 +265,16 @@ impl<const RECURSIVE: bool> lock_raw::RawRwLockUpgrade for RawRwLock<RECURSIVE> 
         rt: &R,
         token: &mut Token,
     ) -> Result<RawUpgradableGuard, Fault> {
-        match self
-            .lock
-            .enter(rt, token, FOR_EVER, Access::Upgradable, Patience::Patient)
-        {
-            Ok(Some(right)) => Ok(RawUpgradableGuard { right }),
-            Ok(None) => unreachable!(),
-            Err(fault) => Err(fault),
+        let (lock, access, patience) = (&self.lock, Access::Upgradable, Patience::Patient);
+        match lock.enter_fast(token, FOR_EVER, access, patience) {
+            Ok(Ok(Some(right))) => Ok(RawUpgradableGuard { right }),
+            Ok(Ok(None)) => unreachable!(),
+            Ok(Err(fault)) => Err(fault),
+            Err(rest) => match lock.enter_slow(rt, token, FOR_EVER, access, patience, rest) {
+                Ok(Some(right)) => Ok(RawUpgradableGuard { right }),
+                Ok(None) => unreachable!(),
+                Err(fault) => Err(fault),
+            },
         }
     }
 
@@ -285,7 +297,9 @@ impl<const RECURSIVE: bool> lock_raw::RawRwLockUpgrade for RawRwLock<RECURSIVE> 
     #[inline]
     fn unlock_upgradable<R: Wait>(&self, rt: &R, token: &mut Token, guard: RawUpgradableGuard) {
         let RawUpgradableGuard { right } = guard;
-        self.lock.release(rt, token, Access::Upgradable, right);
+        if let Some(rest) = self.lock.release_fast(token, Access::Upgradable, right) {
+            self.lock.release_slow(rt, token, Access::Upgradable, rest);
+        }
     }
 
     #[inline]

@@ -1,5 +1,5 @@
 //! A reader-writer lock of a lot, whose rights are got, given up and turned into others.
-ghost use Rattle.std.specs.Prelude.{◌≡◌, ◌⊎◌, ◌<◌, ◌≤◌, ◌+◌, ◌*◌, ◌-◌, ◌^◌, ◌++◌, ◌∷◌, [], ℕ, true, IfErr, IfNone, IfOk, IfSome, MatchResult};
+ghost use Rattle.std.specs.Prelude.{◌≡◌, ◌⊎◌, ◌<◌, ◌≤◌, ◌+◌, ◌*◌, ◌-◌, ◌^◌, ◌++◌, ◌∷◌, [], ℕ, true, IfErr, IfNone, IfOk, IfSome, MatchOption, MatchResult};
 ghost use Rattle.std.specs.Arc.{arc_value};
 ghost use Rattle.lock_raw.specs.Answers.{IsRefusal, answer_by, reading_answer};
 ghost use Rattle.lot_base.specs.Clocks.{IsUp};
@@ -25,6 +25,8 @@ ghost use Rattle.lot_driver.specs.RwLockCalls.{Exclude, HasWalkedCall, HasWalked
 ghost use Rattle.lot_driver.specs.RwLockFitting.{IsCounted, MayGiveUp};
 ghost use Rattle.rwlock_driver.specs.RwLockRefusals.{GaveUp, SawFull};
 ghost use Rattle.lot_driver.specs.Telling.{owns_of, steps_of};
+ghost use Rattle.parking_lot_core.specs.declared.tokens.Token.{Token};
+ghost use Rattle.rwlock_driver.specs.Halves.{HasBegun, HasEnded};
 
 use lot_base::{main_key, second_key};
 use lot_calls::{Access, Answer, Downgrade, Patience};
@@ -33,7 +35,7 @@ use lot_rwlock::places::WRITER;
 use lot_rwlock::purposes::wanted;
 use lot_rwlock::{Admission, RwLockPurpose};
 use parking_lot_core::{Clock, Fault, Held, Key, Op, ParkingLot, Token, Want, Word, WordKind};
-use rwlock_driver::calls::call;
+use rwlock_driver::calls::{Rest, behind, call, call_fast, missed};
 use rwlock_driver::courses::{greater, lesser};
 use rwlock_driver::fair_calls::{bump, release_exclusive, release_upgradable};
 use std::sync::{Arc, Wait};
@@ -57,6 +59,7 @@ pub struct LotRwLock {
 
 impl LotRwLock {
     ghost use Rattle.raw_rwlocks.specs.RwLockUsers.{admission_in, lot_in, word_in};
+    ghost use Rattle.raw_rwlocks.specs.RwLockHalves.{HasBegunRelease, HasEntered, HasReleased};
 
     pub(crate) fn with_limit(
         lot: &Arc<ParkingLot>,
@@ -131,6 +134,97 @@ impl LotRwLock {
         lot.join_held(token, self.word, want, right);
     }
 
+    // What a call to enter gives that is over with this answer.
+    #[inline(always)]
+    fn entered<C: Clock>(
+        &self,
+        lot: &ParkingLot,
+        token: &mut Token,
+        _limit: &Option<(&C, u64)>,
+        access: Access,
+        _patience: Patience,
+        answer: Answer,
+    ) -> Result<Option<Held>, Fault>
+        requires lot { lot.now ≡ lot_in self.now }
+        requires own { IsTokenOf (lot_in self.now) token.old }
+        requires ended { (before : Token) × HasEnded (IsUp C.tells _limit.now) (word_in self.now)
+            (admission_in self.now) (Enter access _patience) answer before token.old }
+        ensures own { IsTokenOf (lot_in self.now) token.new }
+        ensures entered { (before : Token)
+            → HasEnded (IsUp C.tells _limit.now) (word_in self.now) (admission_in self.now)
+            (Enter access _patience) answer before token.old
+            → HasEntered (IsUp C.tells _limit.now) self.now access _patience result
+            before token.new }
+    {
+        match answer {
+            Answer::Ok | Answer::Yes => Ok(Some(self.split(lot, token, wanted(access)))),
+            Answer::No => Ok(None),
+            _ => Err(Fault::ReadersFull),
+        }
+    }
+
+    /// The fast half of `enter`: all of it, where the thread meets nobody. Else it answers what is
+    /// left to `enter_slow`.
+    #[inline(always)]
+    pub(crate) fn enter_fast<C: Clock>(
+        &self,
+        token: &mut Token,
+        limit: &Option<(&C, u64)>,
+        access: Access,
+        patience: Patience,
+    ) -> Result<Result<Option<Held>, Fault>, Rest>
+        requires { IsTokenOf (lot_in self.now) token.old }
+        ensures own { IsTokenOf (lot_in self.now) token.new }
+        ensures over { MatchResult result
+            (λ entered. HasEntered (IsUp C.tells limit.now) self.now access patience entered
+            token.old token.new)
+            (λ rest. HasBegun (word_in self.now) (admission_in self.now) (Enter access patience)
+            rest token.old token.new) }
+    {
+        let lot: &ParkingLot = &self.lot;
+        let purpose = RwLockPurpose::Enter { access, patience };
+        match call_fast(lot, token, &self.word, &self.admission, limit, purpose) {
+            Ok(answer) => Ok(self.entered(lot, token, limit, access, patience, answer)),
+            Err(rest) => Err(rest),
+        }
+    }
+
+    /// The slow half of `enter`.
+    #[inline(always)]
+    pub(crate) fn enter_slow<R: Wait, C: Clock>(
+        &self,
+        rt: &R,
+        token: &mut Token,
+        limit: &Option<(&C, u64)>,
+        access: Access,
+        patience: Patience,
+        rest: Rest,
+    ) -> Result<Option<Held>, Fault>
+        requires own { IsTokenOf (lot_in self.now) token.old }
+        requires begun { (before : Token) × HasBegun (word_in self.now) (admission_in self.now)
+            (Enter access patience) rest before token.old }
+        ensures own { IsTokenOf (lot_in self.now) token.new }
+        ensures entered { (before : Token)
+            → HasBegun (word_in self.now) (admission_in self.now) (Enter access patience) rest
+            before token.old
+            → HasEntered (IsUp C.tells limit.now) self.now access patience result
+            before token.new }
+    {
+        let lot: &ParkingLot = &self.lot;
+        let (word, admission) = (&self.word, &self.admission);
+        let purpose = RwLockPurpose::Enter { access, patience };
+        match rest {
+            Rest::GoesOn(seen) => {
+                let answer = behind(rt, lot, token, word, admission, limit, purpose, seen);
+                self.entered(lot, token, limit, access, patience, answer)
+            }
+            Rest::Missed { seen, found } => {
+                let answer = missed(rt, lot, token, word, admission, limit, purpose, seen, found);
+                self.entered(lot, token, limit, access, patience, answer)
+            }
+        }
+    }
+
     /// Waits for a right: for ever, up to the limit, or not at all. None only where a try finds the
     /// lock blocked, or the time is up.
     ///
@@ -165,20 +259,9 @@ impl LotRwLock {
         ensures left { IfOk result (λ entered. IfNone entered
             (GaveUp (word_in self.now).number (admission_in self.now) (Enter access patience) token.new)) }
     {
-        let lot: &ParkingLot = &self.lot;
-        let answer = call(
-            rt,
-            lot,
-            token,
-            &self.word,
-            &self.admission,
-            limit,
-            RwLockPurpose::Enter { access, patience },
-        );
-        match answer {
-            Answer::Ok | Answer::Yes => Ok(Some(self.split(lot, token, wanted(access)))),
-            Answer::No => Ok(None),
-            _ => Err(Fault::ReadersFull),
+        match self.enter_fast(token, limit, access, patience) {
+            Ok(entered) => entered,
+            Err(rest) => self.enter_slow(rt, token, limit, access, patience, rest),
         }
     }
 
@@ -202,6 +285,62 @@ impl LotRwLock {
         None
     }
 
+    /// The fast half of a release: all of it, where there is nobody to wake. Else it answers what is
+    /// left to `release_slow`.
+    #[inline(always)]
+    pub(crate) fn release_fast(
+        &self,
+        token: &mut Token,
+        access: Access,
+        right: Held,
+    ) -> Option<Rest>
+        requires token { IsTokenOf (lot_in self.now) token.old }
+        requires right { IsRwLockRight (lot_in self.now) (word_in self.now)
+            (owner_for (wanted access)) right }
+        ensures own { IsTokenOf (lot_in self.now) token.new }
+        ensures over { MatchOption result (HasReleased self.now access token.old token.new)
+            (λ rest. HasBegunRelease self.now access rest token.old token.new) }
+    {
+        let lot: &ParkingLot = &self.lot;
+        self.join(lot, token, wanted(access), right);
+        let purpose = RwLockPurpose::Release(access);
+        match call_fast(lot, token, &self.word, &self.admission, FOR_EVER, purpose) {
+            Ok(_answer) => None,
+            Err(rest) => Some(rest),
+        }
+    }
+
+    /// The slow half of a release.
+    #[inline(always)]
+    pub(crate) fn release_slow<R: Wait>(
+        &self,
+        rt: &R,
+        token: &mut Token,
+        access: Access,
+        rest: Rest,
+    )
+        requires own { IsTokenOf (lot_in self.now) token.old }
+        requires begun { (before : Token) × HasBegunRelease self.now access rest
+            before token.old }
+        ensures own { IsTokenOf (lot_in self.now) token.new }
+        ensures over { (before : Token) → HasBegunRelease self.now access rest before token.old
+            → HasReleased self.now access before token.new }
+    {
+        let lot: &ParkingLot = &self.lot;
+        let (word, admission) = (&self.word, &self.admission);
+        let purpose = RwLockPurpose::Release(access);
+        match rest {
+            Rest::GoesOn(seen) => {
+                behind(rt, lot, token, word, admission, FOR_EVER, purpose, seen);
+            }
+            Rest::Missed { seen, found } => {
+                missed(
+                    rt, lot, token, word, admission, FOR_EVER, purpose, seen, found,
+                );
+            }
+        }
+    }
+
     /// Gives a right up, and wakes whom that lets in.
     #[inline(always)]
     pub(crate) fn release<R: Wait>(&self, rt: &R, token: &mut Token, access: Access, right: Held)
@@ -215,17 +354,9 @@ impl LotRwLock {
         ensures record { WakesBy (word_in self.now).number (admission_in self.now)
             (Release access) token.old token.new }
     {
-        let lot: &ParkingLot = &self.lot;
-        self.join(lot, token, wanted(access), right);
-        call(
-            rt,
-            lot,
-            token,
-            &self.word,
-            &self.admission,
-            FOR_EVER,
-            RwLockPurpose::Release(access),
-        );
+        if let Some(rest) = self.release_fast(token, access, right) {
+            self.release_slow(rt, token, access, rest);
+        }
     }
 
     /// Gives the exclusive right up, and hands the lock to those who wait.

@@ -1,0 +1,30 @@
+-- A release by halves: from where its right is joined to its end.
+use Rattle.std.proofs.Common.{◌≡◌, ◌∷◌, List, refl, ap, ◌∙◌, subst}
+use Rattle.lot_calls.specs.declared.calls.Access.{Access}
+use Rattle.lot_calls.specs.declared.outcomes.Answer.{Answer}
+use Rattle.lot_driver.specs.Paths.{Walks, at_rwlock, rwlock_at}
+use Rattle.lot_driver.specs.RwLockCalls.{BeginsWith, Wakes, rwlock_begin}
+use Rattle.lot_rwlock.specs.RwLockSteps.{wanted}
+use Rattle.lot_rwlock.specs.declared.purposes.RwLockPurpose.TheVariants.{Release}
+use Rattle.lot_words.specs.Plays.{piece, takes_in}
+use Rattle.lot_words.specs.Rights.{owner_for}
+use Rattle.lot_words.specs.Views.{owning}
+use Rattle.lot_words.specs.declared.views.View.{View}
+use Rattle.lot_words.specs.declared.views.WordStep.{WordStep}
+use Rattle.parking_lot_core.specs.Tokens.{view_of, last_of}
+use Rattle.parking_lot_core.specs.declared.tokens.Token.{Token}
+use Rattle.raw_rwlocks.specs.RwLockHalves.{HasReleased}
+use Rattle.raw_rwlocks.specs.declared.rwlock_rights.LotRwLock.{LotRwLock}
+use Rattle.rwlock_driver.specs.Halves.{HasEnded}
+
+module _ (lock : LotRwLock) (x : Access) (old joined : Token) (same : joined.number ≡ old.number) (view : view_of joined ≡ takes_in (view_of old) (piece (owning (rwlock_at lock.word.number) (owner_for (wanted x))))) where
+  pub begins_releasing : BeginsWith lock.word.number (Release x) (view_of old).owns (view_of joined).owns
+  begins_releasing = (owner_for (wanted x), (view_of old).owns, refl, (λ settled. refl), ap (λ (v : View). v.owns) view)
+
+  pub released : (new : Token) (answer : Answer) → HasEnded ⊥ lock.word lock.admission (Release x) answer joined new → HasReleased lock x old new
+  released new answer ended = let over = ended.2 (view_of old).owns begins_releasing in (
+    (ended.0 ∙ same, over.1),
+    subst (λ (a : Answer). Walks (at_rwlock lock.word.number) (rwlock_begin lock.word.number lock.admission (Release x)) (view_of old).steps (view_of new).steps a) over.0
+        (subst (λ (steps : List WordStep). Walks (at_rwlock lock.word.number) (rwlock_begin lock.word.number lock.admission (Release x)) steps (view_of new).steps answer) (ap (λ (v : View). v.steps) view) ended.1),
+    subst (λ (steps : List WordStep). Wakes lock.word.number lock.admission (Release x) steps (view_of new).steps (last_of new)) (ap (λ (v : View). v.steps) view) ended.3,
+  )

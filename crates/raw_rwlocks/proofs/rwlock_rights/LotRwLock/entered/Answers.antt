@@ -1,0 +1,69 @@
+use Rattle.std.proofs.Common.{◌≡◌, List, None, true, ap, ◌∙◌, sym, subst, refl}
+use Rattle.std.specs.Arc.{arc_value}
+use Rattle.lot_base.specs.Clocks.{IsUp}
+use Rattle.lot_base.specs.declared.wants.Want.{Want}
+use Rattle.lot_calls.specs.declared.outcomes.Answer.{Answer}
+use Rattle.lot_rwlock.specs.declared.purposes.RwLockPurpose.TheVariants.{Enter}
+use Rattle.lot_rwlock.specs.RwLockSteps.{wanted, entered}
+use Rattle.lot_words.specs.Rights.{owner_for}
+use Rattle.lot_words.specs.Steps.{has, without}
+use Rattle.lot_words.specs.Views.{owning}
+use Rattle.lot_words.specs.declared.views.View.{View}
+use Rattle.lot_words.specs.declared.views.WordStep.{WordStep}
+use Rattle.parking_lot_core.specs.Tokens.{view_of}
+use Rattle.lot_driver.specs.Paths.{Walks, at_rwlock, rwlock_at}
+use Rattle.lot_driver.specs.RwLockCalls.{IsRwLockRight, rwlock_begin}
+use Rattle.lot_driver.specs.RwLockFitting.{IsBeside}
+use Rattle.lot_driver.specs.Stages.{stage_of}
+use Rattle.rwlock_driver.proofs.RwLockCalling.{begins_entering, entered_right, found_full, gave_up_left, gave_up_may}
+use Rattle.rwlock_driver.proofs.RwLockFull.{sees_full}
+use Rattle.lot_driver.proofs.RwLockNeeds.{has_right, left_beside}
+use Rattle.raw_rwlocks.proofs.rwlock_rights.LotRwLock.entered.Goals as goal
+
+pub split-requires-clause-held : goal.split-requires-clause-held
+split-requires-clause-held g c = let n = c.args.self.now.word.number in let ended = c.requires.ended in let owns = (view_of ended.0).owns in
+    let over = ended.1.2 owns (begins_entering n c.args.access c.args._patience owns) in
+    let right = (entered_right (IsUp g.C.Clock.tells c.args._limit.now) n owns c.args.self.now.admission c.args.access c.args._patience c.args.answer (stage_of c.args.token.now None) over c.in-Ok.is).1 in
+    subst (λ (w : Want). has (owning (rwlock_at c.args.self.now.word.number) (owner_for w)) (view_of c.args.token.now).owns ≡ true) (sym c.wanted.ensures) (has_right n (owner_for (wanted c.args.access)) owns (view_of c.args.token.now).owns right)
+
+pub returns-in-Ok-clause-entered : goal.returns-in-Ok-clause-entered
+returns-in-Ok-clause-entered g c = λ before ended. let n = c.args.self.now.word.number in let owns = (view_of before).owns in
+    let over = ended.2 owns (begins_entering n c.args.access c.args._patience owns) in
+    let right = entered_right (IsUp g.C.Clock.tells c.args._limit.now) n owns c.args.self.now.admission c.args.access c.args._patience c.args.answer (stage_of c.args.token.now None) over c.in-Ok.is in
+    let left = subst (λ (w : Want). IsBeside c.args.self.now.word.number (view_of before).owns (without (owning (rwlock_at c.args.self.now.word.number) (owner_for w)) (view_of c.args.token.now).owns)) (sym c.wanted.ensures) (left_beside n (owner_for (wanted c.args.access)) owns (view_of c.args.token.now).owns right.1) in (
+      (c.split.ensures.own.0.1 ∙ ended.0, λ settled. ap (λ (v : View). v.owns) c.split.ensures.left ∙ left settled),
+      subst (λ (w : Want). IsRwLockRight (arc_value c.args.self.now.lot) c.args.self.now.word (owner_for w) c.split.result) c.wanted.ensures c.split.ensures.right,
+      subst (λ (steps : List WordStep). Walks (at_rwlock c.args.self.now.word.number) (rwlock_begin c.args.self.now.word.number c.args.self.now.admission (Enter c.args.access c.args._patience)) (view_of before).steps steps (entered c.args._patience)) (sym (ap (λ (v : View). v.steps) c.split.ensures.left))
+          (subst (λ (answer : Answer). Walks (at_rwlock c.args.self.now.word.number) (rwlock_begin c.args.self.now.word.number c.args.self.now.admission (Enter c.args.access c.args._patience)) (view_of before).steps (view_of c.args.token.now).steps answer) right.0 ended.1),
+      tt,
+      tt,
+      tt,
+      tt,
+    )
+
+pub returns-in-No-clause-entered : goal.returns-in-No-clause-entered
+returns-in-No-clause-entered g c = λ before ended. let n = c.args.self.now.word.number in let owns = (view_of before).owns in
+    let over = ended.2 owns (begins_entering n c.args.access c.args._patience owns) in
+    let gave_up = gave_up_may (IsUp g.C.Clock.tells c.args._limit.now) n owns c.args.self.now.admission c.args.access c.args._patience c.args.answer (stage_of c.args.token.now None) over c.in-No.is in (
+      (ended.0, gave_up.1),
+      tt,
+      subst (λ (answer : Answer). Walks (at_rwlock c.args.self.now.word.number) (rwlock_begin c.args.self.now.word.number c.args.self.now.admission (Enter c.args.access c.args._patience)) (view_of before).steps (view_of c.args.token.now).steps answer) c.in-No.is ended.1,
+      gave_up.0,
+      tt,
+      tt,
+      gave_up_left (IsUp g.C.Clock.tells c.args._limit.now) n owns c.args.self.now.admission c.args.access c.args._patience c.args.answer (stage_of c.args.token.now None) over c.in-No.is,
+    )
+
+pub returns-in_default-clause-entered : goal.returns-in_default-clause-entered
+returns-in_default-clause-entered g c = λ before ended. let n = c.args.self.now.word.number in let owns = (view_of before).owns in
+    let over = ended.2 owns (begins_entering n c.args.access c.args._patience owns) in
+    let full = found_full (IsUp g.C.Clock.tells c.args._limit.now) n owns c.args.self.now.admission c.args.access c.args._patience c.args.answer (stage_of c.args.token.now None) over c.in_default.not-Ok c.in_default.not-Yes c.in_default.not-No in
+    let walks = subst (λ (answer : Answer). Walks (at_rwlock c.args.self.now.word.number) (rwlock_begin c.args.self.now.word.number c.args.self.now.admission (Enter c.args.access c.args._patience)) (view_of before).steps (view_of c.args.token.now).steps answer) full.0 ended.1 in (
+      (ended.0, full.2),
+      refl,
+      walks,
+      tt,
+      full.1,
+      sees_full c.args.access c.args._patience n c.args.self.now.admission before c.args.token.now walks,
+      tt,
+    )

@@ -1,0 +1,52 @@
+-- What the halves of a call of a reader-writer lock come to, of which the fast one may be all.
+use Rattle.std.specs.Prelude.{◌≡◌, ◌++◌, ◌∷◌, Option, List, IfErr, IfNone, IfOk, IfSome, MatchResult}
+use Rattle.std.specs.declared.result.Result.{Result}
+use Rattle.lot_base.specs.declared.faults.Fault.{Fault}
+use Rattle.lot_base.specs.declared.faults.Fault.TheVariants.{ReadersFull}
+use Rattle.lot_calls.specs.declared.calls.Access.{Access}
+use Rattle.lot_calls.specs.declared.calls.Patience.{Patience}
+use Rattle.lot_calls.specs.declared.outcomes.Answer.TheVariants.{Ok as ok}
+use Rattle.lot_driver.specs.Paths.{rwlock_at}
+use Rattle.lot_driver.specs.RwLockCalls.{HasWalkedRwLock, IsRwLockRight, StaysBeside, WakesBy, entry_answer}
+use Rattle.lot_driver.specs.RwLockFitting.{IsCounted, MayGiveUp}
+use Rattle.lot_rwlock.specs.RwLockSteps.{wanted}
+use Rattle.lot_rwlock.specs.declared.purposes.RwLockPurpose.TheVariants.{Enter, Release}
+use Rattle.lot_words.specs.Plays.{piece, takes_in}
+use Rattle.lot_words.specs.Rights.{owner_for}
+use Rattle.lot_words.specs.Views.{owning}
+use Rattle.lot_words.specs.declared.rights.Held.{Held}
+use Rattle.parking_lot_core.specs.Tokens.{view_of}
+use Rattle.parking_lot_core.specs.declared.tokens.Token.{Token}
+use Rattle.raw_rwlocks.specs.RwLockUsers.{admission_in, lot_in, word_in}
+use Rattle.raw_rwlocks.specs.declared.rwlock_rights.LotRwLock.{LotRwLock}
+use Rattle.rwlock_driver.specs.Halves.{HasBegun}
+use Rattle.rwlock_driver.specs.RwLockRefusals.{GaveUp, SawFull}
+use Rattle.rwlock_driver.specs.declared.calls.Rest.{Rest}
+
+-- a call that enters gave this: the right, nothing where it gave up, or that the lock is full
+abbrev pub HasEntered : Type 0 → LotRwLock → Access → Patience → Result (Option Held) Fault → Token
+    → Token → Type 0
+HasEntered up lock x how entered old new = StaysBeside (word_in lock).number old new
+    × MatchResult entered
+    (λ right. IfSome right (IsRwLockRight (lot_in lock) (word_in lock) (owner_for (wanted x))))
+    (λ fault. fault ≡ ReadersFull)
+    × HasWalkedRwLock (word_in lock).number (admission_in lock) (Enter x how)
+    (entry_answer how entered) old new
+    × IfOk entered (λ right. IfNone right (MayGiveUp up how))
+    × IfErr entered (λ fault. IsCounted x)
+    × IfErr entered (λ fault. SawFull (word_in lock).number (admission_in lock) x old new)
+    × IfOk entered
+    (λ right. IfNone right (GaveUp (word_in lock).number (admission_in lock) (Enter x how) new))
+
+-- a release has joined the right that it spends, and has begun
+abbrev pub HasBegunRelease : LotRwLock → Access → Rest → Token → Token → Type 0
+HasBegunRelease lock x rest old new = (joined : Token) × (joined.number ≡ old.number)
+    × (view_of joined ≡ takes_in (view_of old)
+    (piece (owning (rwlock_at (word_in lock).number) (owner_for (wanted x)))))
+    × HasBegun (word_in lock) (admission_in lock) (Release x) rest joined new
+
+-- a release is over
+abbrev pub HasReleased : LotRwLock → Access → Token → Token → Type 0
+HasReleased lock x old new = StaysBeside (word_in lock).number old new
+    × HasWalkedRwLock (word_in lock).number (admission_in lock) (Release x) ok old new
+    × WakesBy (word_in lock).number (admission_in lock) (Release x) old new
