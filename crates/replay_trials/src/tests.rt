@@ -48,8 +48,18 @@ fn replayed<R: BufRead + Drop>(alloc: Global, reader: R) -> (Vec<u8>, u8) {
 
 /// An input leads to this text, and to this status, over each kind of queues.
 fn leads_both_to(rt: &impl Abort, alloc: Global, input: &[u8], text: &[u8], status: u8) {
-    leads_to(rt, replayed_over::<ListQueues, _>(alloc, input), text, status);
-    leads_to(rt, replayed_over::<BucketQueues, _>(alloc, input), text, status);
+    leads_to(
+        rt,
+        replayed_over::<ListQueues, _>(alloc, input),
+        text,
+        status,
+    );
+    leads_to(
+        rt,
+        replayed_over::<BucketQueues, _>(alloc, input),
+        text,
+        status,
+    );
 }
 
 /// An input leads to this text, and to this status.
@@ -177,7 +187,13 @@ fn takes_256_locks_of_1024_threads(rt: HostRuntime) -> Result<(), Fail> {
 #[test]
 fn refuses_257_locks(rt: HostRuntime) -> Result<(), Fail> {
     let (input, _) = many_locks(rt.alloc(), 257)?;
-    leads_both_to(&rt, rt.alloc(), input.as_bytes(), b"line 258 malformed\n", 2);
+    leads_both_to(
+        &rt,
+        rt.alloc(),
+        input.as_bytes(),
+        b"line 258 malformed\n",
+        2,
+    );
     Ok(())
 }
 
@@ -274,8 +290,7 @@ fn replayed_into(alloc: Global, mut input: &[u8], room: usize, refusal: Refusal)
     let mut writer = Short::new(alloc, room, refusal);
     let mut errors = Vec::new(alloc);
     let args = ["replay"];
-    let status =
-        start::<BucketQueues, _, _, _>(alloc, &args, &mut input, &mut writer, &mut errors);
+    let status = start::<BucketQueues, _, _, _>(alloc, &args, &mut input, &mut writer, &mut errors);
     (writer.taken, status)
 }
 
