@@ -1,10 +1,14 @@
 #!/usr/bin/env python3
 """Times `lotsim replay` on random schedules of a million lines, in which every thread takes locks and releases them.
 
-Build the proved program first: `rt run -- replay < stdin` in crates/lotsim. Then: python3 bench/replay.py
-With an argument, the schedules are written into that folder too.
+Build the proved program first: `rt run -- replay < stdin` in crates/lotsim. Then: python3 bench/replay.py [PROGRAM..]
+Several programs are run in turn, so that what else the machine does slows all of them. Each kind of queues is a program:
+in a clone `lot_base::ListQueues` takes the place of `bucket_queues::BucketQueues` in crates/lotsim/src/main.rt, and
+`lot_base` that of `bucket_queues` in the line of `lotsim` in crates.txt; it is built there likewise.
+With `--keep FOLDER` the schedules are written into that folder too.
 """
 
+import argparse
 import os
 import random
 import subprocess
@@ -48,28 +52,46 @@ def schedule(kind, threads, locks, lines, shows, seed):
     return "\n".join(out) + "\n"
 
 
-def measure(name, kind, threads, locks, shows):
+def time_of(program, path):
+    with open(path) as stdin:
+        start = time.perf_counter()
+        status = subprocess.run([program, "replay"], stdin=stdin, stdout=subprocess.DEVNULL).returncode
+        taken = time.perf_counter() - start
+    if status != 0:
+        sys.exit(f"{program}: status {status}")
+    return taken
+
+
+def measure(programs, keep, name, kind, threads, locks, shows):
     text = schedule(kind, threads, locks, LINES, shows, 1)
-    if len(sys.argv) > 1:
-        with open(os.path.join(sys.argv[1], f"{kind}-{threads}-{shows}.schedule"), "w") as kept:
+    if keep:
+        with open(os.path.join(keep, f"{kind}-{threads}-{shows}.schedule"), "w") as kept:
             kept.write(text)
     with tempfile.NamedTemporaryFile("w", suffix=".schedule") as file:
         file.write(text)
         file.flush()
-        best = float("inf")
+        best = [float("inf")] * len(programs)
         for _ in range(12):
-            with open(file.name) as stdin:
-                start = time.perf_counter()
-                status = subprocess.run([PROGRAM, "replay"], stdin=stdin, stdout=subprocess.DEVNULL).returncode
-                best = min(best, time.perf_counter() - start)
-            if status != 0:
-                sys.exit(f"{name}: status {status}")
-    print(f"{name}: {LINES / best / 1e6:.1f} million lines a second")
+            for number, program in enumerate(programs):
+                best[number] = min(best[number], time_of(program, file.name))
+    print(f"{name}: {', '.join(f'{LINES / taken / 1e6:.1f}' for taken in best)} million lines a second", flush=True)
+
+
+def main():
+    parser = argparse.ArgumentParser()
+    parser.add_argument("programs", nargs="*", default=[PROGRAM], metavar="PROGRAM")
+    parser.add_argument("--keep", metavar="FOLDER")
+    given = parser.parse_args()
+    for kind in GETS:
+        for threads, locks, shows, often in [
+            (8, 4, 1_000, "a show in 1,000 lines"),
+            (1024, 256, LINES * 100, "no show"),
+            (1024, 256, 10_000, "a show in 10,000 lines"),
+            (1024, 256, 1_000, "a show in 1,000 lines"),
+        ]:
+            name = f"{kind}: {threads:,} threads, {locks} locks, {often}"
+            measure(given.programs, given.keep, name, kind, threads, locks, shows)
 
 
 if __name__ == "__main__":
-    for kind in GETS:
-        measure(f"{kind}: 8 threads, 4 locks, a show in 1,000 lines", kind, 8, 4, 1_000)
-        measure(f"{kind}: 1,024 threads, 256 locks, no show", kind, 1024, 256, LINES * 100)
-        measure(f"{kind}: 1,024 threads, 256 locks, a show in 10,000 lines", kind, 1024, 256, 10_000)
-        measure(f"{kind}: 1,024 threads, 256 locks, a show in 1,000 lines", kind, 1024, 256, 1_000)
+    main()
