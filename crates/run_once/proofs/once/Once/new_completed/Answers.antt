@@ -5,7 +5,7 @@ use Rattle.run_once.proofs.once.Once.new_completed.Goals as goal
 pub returns-then-complete-clause-stays : goal.returns-then-complete-clause-stays
 returns-then-complete-clause-stays c = let n = c.in_ok-once.once.word.number in let drawn = c.new.ensures.token in
     let done = c.complete.ensures.done c.if-complete.true in
-    (n, (c.complete.ensures.token.1 ∙ drawn.1, (suc done.0, done.1 ∙ ap (knowing n (suc done.0)) drawn.2)))
+    (c.complete.ensures.token.1 ∙ drawn.1, (suc done.0, done.1 ∙ ap (knowing n (suc done.0)) drawn.2))
 
 pub returns-else-complete-clause-made : goal.returns-else-complete-clause-made
 returns-else-complete-clause-made c = let missed = c.complete.ensures.missed c.if-complete.false in
