@@ -3,7 +3,6 @@ use Rattle.std.proofs.Common.{ℕ, zero, suc, Bool, true, false, Option, Some, N
 use Rattle.lot_base.specs.declared.keys.Keys.{Keys}
 use Rattle.lot_base.specs.declared.keys.Keys.TheVariants.{One, Two}
 use Rattle.lot_base.specs.declared.ops.Op.{Op}
-use Rattle.lot_base.specs.declared.wants.Want.{Want}
 use Rattle.lot_base.specs.Lines.{first_of}
 use Rattle.lot_calls.specs.declared.kinds.Kind as kind
 use Rattle.lot_calls.specs.declared.calls.Step.{Step}
@@ -11,7 +10,6 @@ use Rattle.lot_calls.specs.declared.calls.Turn.{Turn}
 use Rattle.lot_calls.specs.declared.calls.Turn as turn
 use Rattle.lot_acts.specs.declared.acts.Act.{Act}
 use Rattle.lot_acts.specs.declared.acts.Act.TheVariants as act
-use Rattle.lot_acts.specs.declared.acts.Check.{Check}
 use Rattle.lot_acts.specs.declared.acts.Wakes.{Wakes}
 use Rattle.lot_acts.specs.declared.acts.Wakes as wakes
 use Rattle.lot_acts.specs.declared.acts.Whom as whom

@@ -11,12 +11,11 @@ use Rattle.lot_base.specs.Requeues.{taken_by}
 use Rattle.lot_calls.specs.declared.calls.Step.{Step}
 use Rattle.lot_calls.specs.declared.calls.Turn.{Turn}
 use Rattle.lot_calls.specs.declared.calls.Turn.TheVariants as turn
-use Rattle.lot_calls.specs.Calls.{lock_in}
 use Rattle.lot_acts.specs.declared.acts.Act.{Act}
 use Rattle.lot_acts.specs.declared.acts.Act.TheVariants as act
 use Rattle.lot_acts.specs.declared.acts.Act.TheVariants.{Sleep}
 use Rattle.lot_acts.specs.declared.acts.Next.{Next}
-use Rattle.lot_acts.specs.declared.acts.Next.TheVariants.{At, End}
+use Rattle.lot_acts.specs.declared.acts.Next.TheVariants.{At}
 use Rattle.lot_acts.specs.declared.acts.Reply.{Reply}
 use Rattle.lot_acts.specs.declared.acts.Reply.TheVariants.{TakenBy, MovedTo, HandedBy, Woken}
 use Rattle.lot_acts.specs.declared.acts.Wakes.TheVariants as wakes

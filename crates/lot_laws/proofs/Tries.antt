@@ -10,8 +10,6 @@ use Rattle.lot_calls.specs.declared.calls.Patience.TheVariants.{Try}
 use Rattle.lot_calls.specs.declared.calls.RwLockCall.TheVariants.{Enter}
 use Rattle.lot_calls.specs.declared.calls.Step.{Step}
 use Rattle.lot_calls.specs.declared.calls.Turn.TheVariants as turn
-use Rattle.lot_calls.specs.declared.outcomes.Answer.TheVariants as answer
-use Rattle.lot_calls.specs.declared.outcomes.Outcome.{Outcome}
 use Rattle.lot_calls.specs.declared.outcomes.Outcome.TheVariants as outcome
 use Rattle.lot_acts.specs.Acts.{outcome_of}
 use Rattle.lot_mutex.specs.declared.places.MutexPlace.TheVariants as mutex
