@@ -1,11 +1,9 @@
 -- A thread that has taken others is inside the section from whose line it took them. One that is yet to set a parked bit beside waiters is inside
 -- too, or has ended its run of a `Once` and owes them their wake.
-use Rattle.std.proofs.Common.{ℕ, Bool, true, false, Option, Some, None, if◌then◌else◌, ◌==◌, ◌≡◌, ◌⊎◌, inl, inr, refl, sym, ◌∙◌, ap, subst}
+use Rattle.std.proofs.Common.{ℕ, Bool, true, false, Option, Some, None, if◌then◌else◌, ◌==◌, ◌≡◌, inl, inr, refl, sym, ◌∙◌}
 use Rattle.lot_base.specs.declared.wants.Want.{Want}
-use Rattle.lot_calls.specs.declared.kinds.Kind.{Kind}
 use Rattle.lot_acts.specs.Profiles.{Profile}
 use Rattle.abstract_locks.specs.Locks.{Taken}
-use Rattle.abstract_locks.specs.Locks as locks
 use Rattle.abstract_locks.specs.Sites.{Claim, Doing, Line, Main, Second, idle}
 use Rattle.lot_mutex.specs.declared.places.MutexPlace.{MutexPlace}
 use Rattle.lot_mutex.specs.declared.places.MutexPlace.TheVariants as mutex
@@ -18,7 +16,6 @@ use Rattle.lot_once.specs.declared.places.OncePlace.{OncePlace}
 use Rattle.lot_once.specs.declared.places.OncePlace.TheVariants as once
 use Rattle.lot_once.specs.declared.look.LookAt.{LookAt}
 use Rattle.lot_once.specs.declared.look.LookAt.TheVariants as look
-use Rattle.lot_once.specs.declared.run.RunAt.{RunAt}
 use Rattle.lot_once.specs.declared.run.RunAt.TheVariants as run
 use Rattle.lot_once.specs.OnceProfiles.{again_of, look_row, once_profile}
 use Rattle.lot_rwlock.specs.declared.places.Admission.{Admission}
@@ -45,11 +42,11 @@ use Rattle.lot_condvar.specs.CondvarProfiles.{condvar_row, has_moved, notify_row
 use Rattle.lot_steps.specs.declared.places.Place.{Place}
 use Rattle.lot_steps.specs.declared.places.Place.TheVariants.{Idle, Mutex, RwLock, Once, Condvar}
 use Rattle.lot_steps.specs.Steps.{beside_of, calls, is_lock, line_owed, or_else, profile, profile_beside}
-use Rattle.lot_machine.specs.Machine.{State, place_at, section_at}
+use Rattle.lot_machine.specs.Machine.{State, place_at}
 use Rattle.lot_laws.specs.Refinement.{lock_state}
 use Rattle.lot_laws.specs.Stations.{doing_on}
-use Rattle.lot_laws.specs.SitesOf.{IsSteady, key_of, rules_in}
-use Rattle.lot_laws.specs.Owing.{IsInside, Owes, sort_at}
+use Rattle.lot_laws.specs.SitesOf.{IsSteady}
+use Rattle.lot_laws.specs.Owing.{IsInside}
 use Rattle.lot_laws.specs.Promises.{IsAboutToMark, IsToMark}
 use Rattle.lot_laws.proofs.Glue.{inside_is}
 

@@ -1,5 +1,5 @@
 -- The promises of the world say the headline: in the words of the abstract locks alone, nobody is forgotten.
-use Rattle.std.proofs.Common.{ℕ, Bool, true, false, Option, Some, None, List, [], ◌∷◌, ◌++◌, ◌≡◌, ◌≢◌, ◌⊎◌, inl, inr, refl, sym, ap, subst, length}
+use Rattle.std.proofs.Common.{ℕ, true, false, List, [], ◌∷◌, ◌++◌, ◌≡◌, ◌≢◌, inl, inr, refl, sym, ap, subst}
 use Rattle.std.proofs.lemmas.List.{length-replicate, length-map}
 use Rattle.lot_base.specs.declared.keys.Line.{Line}
 use Rattle.lot_base.specs.declared.keys.Line.TheVariants.{Main, Second}
@@ -13,11 +13,11 @@ use Rattle.lot_steps.specs.Steps.{act_of}
 use Rattle.abstract_locks.specs.Headline as headline
 use Rattle.abstract_locks.specs.Headline.{MayTell, Behaves, Opens, full_by}
 use Rattle.lot_machine.specs.Machine.{State, opening, unlocked, place_at, filled_at, after, step_outcome, after_steps, step_outcomes}
-use Rattle.lot_laws.specs.Refinement.{locks_of, lock_state, sleeps, keys_entered}
+use Rattle.lot_laws.specs.Refinement.{locks_of, sleeps, keys_entered}
 use Rattle.lot_laws.specs.Promises.{IsKept, IsDebtorOf, IsLookedAfter, IsHandedOver}
 use Rattle.lot_laws.specs.Owing.{Owes}
 use Rattle.lot_laws.specs.SitesOf.{IsWorld}
-use Rattle.lot_laws.specs.WorldRuns.{IsWorldRun, IsWorldStep, Tells}
+use Rattle.lot_laws.specs.WorldRuns.{IsWorldRun, Tells}
 use Rattle.lot_laws.proofs.OpeningSites.{kind_is, unfilled_0}
 use Rattle.lot_laws.proofs.Promises.{opening_is}
 use Rattle.lot_laws.proofs.WorldRuns.{world_kept, world_run, world_step}

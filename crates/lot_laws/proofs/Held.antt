@@ -1,11 +1,11 @@
 -- A thread that stands at a lock is by its place in the hand of the one that has taken it, and of nobody while it stands in a line.
-use Rattle.std.proofs.Common.{ℕ, Bool, true, false, Option, Some, None, if◌then◌else◌, ◌==◌, ◌≡◌, ◌≢◌, ◌≤◌, inl, inr, refl, sym, ◌∙◌, ap, subst}
+use Rattle.std.proofs.Common.{ℕ, Bool, true, false, Option, Some, None, if◌then◌else◌, ◌≡◌, ◌≢◌, ◌≤◌, inl, inr, refl, sym, ◌∙◌, ap}
 use Rattle.std.proofs.lemmas.Bool.{eqb-true}
 use Rattle.lot_acts.specs.Owners.{is_thread}
-use Rattle.lot_acts.specs.Profiles.{Hand, Profile, hand_owner}
+use Rattle.lot_acts.specs.Profiles.{Profile, hand_owner}
 use Rattle.lot_acts.specs.Stations.{nowhere, station_by}
 use Rattle.abstract_locks.specs.Locks.{Taken, standing}
-use Rattle.abstract_locks.specs.Sites.{Line, Main, Second}
+use Rattle.abstract_locks.specs.Sites.{Line, Main}
 use Rattle.lot_mutex.specs.declared.places.MutexPlace.{MutexPlace}
 use Rattle.lot_mutex.specs.declared.places.MutexPlace.TheVariants as mutex
 use Rattle.lot_mutex.specs.declared.lock.LockAt.{LockAt}

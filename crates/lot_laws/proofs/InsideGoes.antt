@@ -1,5 +1,5 @@
 -- A thread that is inside a section is awake, in no closure, and enters no other section.
-use Rattle.std.proofs.Common.{ℕ, Bool, true, false, Option, Some, None, if◌then◌else◌, ◌==◌, ◌≡◌, refl, sym, ◌∙◌}
+use Rattle.std.proofs.Common.{ℕ, Bool, true, false, Option, Some, None, if◌then◌else◌, ◌≡◌, refl, ◌∙◌}
 use Rattle.lot_base.specs.declared.ops.Op.TheVariants as operation
 use Rattle.lot_base.specs.declared.wants.Want.{Want}
 use Rattle.lot_calls.specs.declared.calls.Access.{Access}
@@ -12,7 +12,7 @@ use Rattle.lot_mutex.specs.declared.lock.LockAt.{LockAt}
 use Rattle.lot_mutex.specs.declared.lock.LockAt.TheVariants as lock
 use Rattle.lot_mutex.specs.declared.unlock.UnlockAt.TheVariants as unlock
 use Rattle.lot_mutex.specs.declared.hand_off.HandOffAt.TheVariants as hand_off
-use Rattle.lot_mutex.specs.MutexProfiles.{lock_row, mutex_profile, inside}
+use Rattle.lot_mutex.specs.MutexProfiles.{lock_row, mutex_profile}
 use Rattle.lot_mutex.specs.MutexSteps.{lock_act, mutex_act}
 use Rattle.lot_once.specs.declared.places.OncePlace.{OncePlace}
 use Rattle.lot_once.specs.declared.places.OncePlace.TheVariants as once

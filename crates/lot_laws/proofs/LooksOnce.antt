@@ -10,7 +10,6 @@ use Rattle.lot_acts.specs.declared.acts.Act.{Act}
 use Rattle.lot_acts.specs.declared.acts.Act.TheVariants as act
 use Rattle.lot_mutex.specs.declared.places.MutexPlace.{MutexPlace}
 use Rattle.lot_mutex.specs.declared.places.MutexPlace.TheVariants as mutex
-use Rattle.lot_mutex.specs.declared.lock.Entry.{Entry}
 use Rattle.lot_mutex.specs.declared.lock.LockAt.TheVariants as lock
 use Rattle.lot_mutex.specs.MutexSteps.{decided, mutex_act, mutex_looking}
 use Rattle.lot_once.specs.declared.places.OncePlace.{OncePlace}
@@ -30,7 +29,6 @@ use Rattle.lot_rwlock.specs.RwLockSteps.{act_at, count_act, decided as decides, 
 use Rattle.lot_rwlock.specs.RwLockProfiles.{gone_to, is_mark, looking_at}
 use Rattle.lot_rwlock_fair.specs.FairProfiles.{in_call}
 use Rattle.lot_condvar.specs.CondvarSteps.{in_lock}
-use Rattle.lot_rwlock_fair.specs.declared.places.RwLockCallPlace.{RwLockCallPlace}
 use Rattle.lot_rwlock_fair.specs.declared.places.RwLockCallPlace.TheVariants as fair
 use Rattle.lot_condvar.specs.declared.places.CondvarPlace.TheVariants as condvar
 use Rattle.lot_condvar.specs.declared.wait.WaitAt.TheVariants as wait
@@ -38,7 +36,7 @@ use Rattle.lot_steps.specs.declared.places.Place.{Place}
 use Rattle.lot_steps.specs.declared.places.Place.TheVariants.{Idle, Mutex, RwLock, Once, Condvar}
 use Rattle.lot_steps.specs.Steps.{act_of, in_condvar, in_mutex, in_once, in_rwlock, looking}
 use Rattle.lot_machine.specs.Machine.{State, place_at, kind_at}
-use Rattle.lot_laws.specs.SitesOf.{FitsItsLock, IsSteady, rules_in}
+use Rattle.lot_laws.specs.SitesOf.{FitsItsLock, IsSteady}
 use Rattle.lot_laws.specs.Owing.{sort_at}
 use Rattle.lot_laws.specs.Promises.{LeadsToSleep, SetsBit}
 use Rattle.lot_laws.proofs.Glue.{plain_rules}

@@ -1,6 +1,5 @@
 -- A try neither sleeps nor enters a section.
-use Rattle.std.proofs.Common.{ℕ, Bool, true, false, Option, Some, None, if◌then◌else◌, ◌&&◌, nat_le, ◌==◌, ◌≡◌, refl, subst}
-use Rattle.lot_base.specs.declared.wants.Want.{Want}
+use Rattle.std.proofs.Common.{ℕ, Bool, true, false, None, if◌then◌else◌, ◌&&◌, nat_le, ◌==◌, ◌≡◌, refl}
 use Rattle.lot_calls.specs.declared.calls.Access.{Access}
 use Rattle.lot_calls.specs.declared.calls.Access.TheVariants as access
 use Rattle.lot_calls.specs.declared.calls.OnceCall.TheVariants as once_call
@@ -14,7 +13,6 @@ use Rattle.lot_mutex.specs.declared.lock.Entry.TheVariants as entry
 use Rattle.lot_once.specs.declared.places.OncePlace.{OncePlace}
 use Rattle.lot_once.specs.declared.places.OncePlace.TheVariants as once
 use Rattle.lot_rwlock.specs.declared.places.Admission.{Admission}
-use Rattle.lot_rwlock.specs.declared.places.RwLockPlace.{RwLockPlace}
 use Rattle.lot_rwlock.specs.declared.places.RwLockAt.{RwLockAt}
 use Rattle.lot_rwlock.specs.declared.places.RwLockAt.TheVariants as at
 use Rattle.lot_rwlock.specs.declared.enter.Decision.{Decision}

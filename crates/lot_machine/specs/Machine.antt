@@ -47,9 +47,9 @@ use Rattle.abstract_locks.specs.Purposes.{rules_of}
 use Rattle.lot_machine.specs.declared.locks.Lock.{Lock}
 use Rattle.lot_machine.specs.declared.hands.Successor.{Successor}
 
--- Each thread's place, each lock, each thread's number of shared rights of each lock, who is inside
--- the section of each key, and the line of each key. A condition variable's mutex and a semaphore's
--- permits are what its word says, and stand nowhere else.
+-- Each thread's place, each lock, each thread's number of shared rights of each lock, which thread is
+-- inside the section of each key, and the line of each key. The mutex that a condition variable
+-- shows stands with its owners, and its word says it too.
 pub record State : Type 0 where
   pub places : List Place
   pub locks : List Lock
