@@ -1,20 +1,25 @@
 -- How far a replay has come.
-use Rattle.std.proofs.Common.{◌≡◌, ℕ, ◌+◌, ◌<◌, Bool, true, false, cond, List, [], ◌∷◌, ◌++◌, Option, None, Some, Ok, Err, inl, inr, length, refl, sym, ap, subst, ◌∙◌, arith, append_assoc, append-nil, length-append}
+use Rattle.std.proofs.Common.{◌≡◌, ℕ, ◌+◌, ◌-◌, ◌<◌, Bool, true, false, cond, List, [], ◌∷◌, ◌++◌, Option, None, Some, Ok, Err, inl, inr, length, refl, sym, ap, subst, ◌∙◌, arith, append_assoc, append-nil, length-append, take, drop, take-append-drop, IfSome}
 use Rattle.std.proofs.lemmas.List.Elements.{All-nil}
 use Rattle.std.proofs.lemmas.Bool.Decides.{leb_tells}
 use Rattle.std.specs.Prelude.{⊤, option_and_then}
-use Rattle.std.specs.Io.KnownBytes.{Appends, IsAtEnd}
-use Rattle.std.proofs.KnownBytes.{Consumes-nil}
+use Rattle.std.specs.Io.{StartsWith}
+use Rattle.std.specs.Io.KnownBytes.{Appends, Consumes, IsAtEnd, Keeps}
+use Rattle.std.proofs.KnownBytes.{Consumes-nil, starts_with_rest}
+use Rattle.std.proofs.lemmas.List.{append_cancel_left, drop-drop}
+use Rattle.std.proofs.Math.Seq.{take-append_seam, drop-append_seam}
 use Rattle.lot_text.specs.Lines.{line_len, lines_of}
 use Rattle.lot_text.specs.Grammar.{meaning}
 use Rattle.lot_text.specs.Text.{malformed_line, no_memory_line}
-use Rattle.lot_text.specs.Reads.{TakesLine, StartsTooLong, TakesPart}
+use Rattle.lot_text.proofs.LinesLemmas.{lines_feed}
+use Rattle.lot_text.specs.Reads.{IsOneLine, TakesLine, StartsTooLong, TakesPart}
 use Rattle.lot_text.specs.Sent.{Held, Puts, PutsWhere, Sends, SendsFront}
 use Rattle.lot_text.proofs.SentLemmas.{puts_then}
 use Rattle.lot_replay.specs.declared.state.Refusal.{Refusal}
 use Rattle.lot_replay.specs.declared.state.Refusal.TheVariants.{Malformed, NoMemory}
 use Rattle.lot_replay.specs.Stages.{Stage, nothing, obeyed, after_line}
 use Rattle.lot_replay.specs.Answers.{MayTakeMemory, AnswersTo, last_line, last_status}
+use Rattle.lot_replay.specs.Fronts.{AnswersRead, MayAnswerAll, BeginsWithLines, TakesLines, Refuses, RefusesFirst, RefusesRead}
 use Rattle.lot_replay.specs.Replay.{MayAnswer, IsMalformed, IsReplay, LinesWrite, IsText, StopsForMemory, MayWrite}
 use Rattle.lot_replay.proofs.Declaring.{StillDeclares, still_declares, declared_before}
 
@@ -175,3 +180,92 @@ ended_sent false false a b c mid left text p q e f =
 
 pub finish_sent : (a b c : Option (List ℕ)) (p q : Held) (text : List ℕ) → Puts a b (record { bytes = []; lost = false }) p text → Puts b c p q [] → q.lost ≡ false → q.bytes ≡ [] → (p.lost ≡ false) × Appends a c text
 finish_sent a b c p q text h k e f = ended_sent p.lost q.lost a b c p.bytes q.bytes text h k e f
+
+-- lines one after another
+reached_all : (input text : List ℕ) (k : ℕ) (s : Stage) (lines rest : List (List ℕ)) (next : Stage) (t : List ℕ) → Reached input text k s (lines ++ rest) → MayAnswerAll s lines next t → Reached input (text ++ t) (k + length lines) next rest
+reached_all input text k s [] rest next t r h =
+    let same : text ≡ text ++ t = sym (ap (λ l. text ++ l) h.1 ∙ append-nil text) in
+    let none : k ≡ k + 0 = omega arith in
+    subst (λ n. Reached input (text ++ t) n next rest) none (subst (λ l. Reached input l k next rest) same (subst (λ m. Reached input text k m rest) (sym h.0) r))
+reached_all input text k s (l ∷ ls) rest next t r h =
+    let step = reached_step input text k s l (ls ++ rest) h.0 h.1 r h.3 in
+    let all = reached_all input (text ++ h.1) (k + 1) h.0 ls rest next h.2 step h.4 in
+    let told : (text ++ h.1) ++ h.2 ≡ text ++ t = append_assoc text h.1 h.2 ∙ ap (λ l. text ++ l) (sym h.5) in
+    let counted : k + 1 + length ls ≡ k + length (l ∷ ls) = omega arith in
+    subst (λ n. Reached input (text ++ t) n next rest) counted (subst (λ u. Reached input u (k + 1 + length ls) next rest) told all)
+
+pub known_all : (a b c : Option (List ℕ)) (text : List ℕ) (k : ℕ) (s : Stage) (lines : List (List ℕ)) (next : Stage) (t : List ℕ) → ReachedKnown a b text k s → TakesLines b c lines → MayAnswerAll s lines next t → ReachedKnown a c (text ++ t) (k + length lines) next
+known_all None b c text k s lines next t r q h = tt
+known_all (Some x) None c text k s lines next t r q h = absurd r
+known_all (Some x) (Some y) None text k s lines next t r q h = absurd q
+known_all (Some x) (Some y) (Some z) text k s lines next t r q h = reached_all x text k s lines (lines_of z) next t (subst (Reached x text k s) q r) h
+
+-- one line more
+pub answered_more : (s : Stage) (lines : List (List ℕ)) (between next : Stage) (t u line : List ℕ) → MayAnswerAll s lines between t → MayAnswer between line next u → MayAnswerAll s (lines ++ line ∷ []) next (t ++ u)
+answered_more s [] between next t u line h e =
+    (next, u, [], subst (λ m. MayAnswer m line next u) h.0 e, (refl, refl), ap (λ l. l ++ u) h.1 ∙ sym (append-nil u))
+answered_more s (l ∷ ls) between next t u line h e =
+    (h.0, h.1, h.2 ++ u, h.3, answered_more h.0 ls between next h.2 u line h.4 e, ap (λ l. l ++ u) h.5 ∙ append_assoc h.1 h.2 u)
+
+pub begins_more : (text left line rest : List ℕ) (lines : List (List ℕ)) → BeginsWithLines text lines left → left ≡ line ++ 10 ∷ rest → IsOneLine line → BeginsWithLines text (lines ++ line ∷ []) rest
+begins_more text left line rest lines h e one = λ more.
+    h more
+    ∙ ap (λ ls. lines ++ ls) (ap (λ l. lines_of (l ++ more)) e ∙ ap lines_of (append_assoc line (10 ∷ rest) more) ∙ lines_feed line (rest ++ more) one)
+    ∙ sym (append_assoc lines (line ∷ []) (lines_of (rest ++ more)))
+
+-- what the reader still has, where the front of what it showed was taken
+still_left : (x y shown : List ℕ) (n : ℕ) → StartsWith x shown → x ≡ take n shown ++ y → drop n shown ++ drop (length shown) x ≡ y
+still_left x y shown n front taken =
+    append_cancel_left (take n shown) _ _
+    (sym (append_assoc (take n shown) (drop n shown) (drop (length shown) x)) ∙ ap (λ l. l ++ drop (length shown) x) (take-append-drop n shown) ∙ sym (starts_with_rest x shown front) ∙ taken)
+
+pub takes_front : (a b : Option (List ℕ)) (shown : List ℕ) (n : ℕ) (lines : List (List ℕ)) → IfSome a (λ xs. StartsWith xs shown) → Consumes a b (take n shown) → BeginsWithLines shown lines (drop n shown) → TakesLines a b lines
+takes_front None b shown n lines front taken h = tt
+takes_front (Some x) None shown n lines front taken h = absurd taken
+takes_front (Some x) (Some y) shown n lines front taken h =
+    ap lines_of (starts_with_rest x shown front) ∙ h (drop (length shown) x) ∙ ap (λ l. lines ++ lines_of l) (still_left x y shown n front taken)
+
+pub refuses_read : (refusal : Option Refusal) (s : Stage) (a b : Option (List ℕ)) (shown : List ℕ) (n : ℕ) → IfSome a (λ xs. StartsWith xs shown) → Consumes a b (take n shown) → RefusesFirst refusal s (drop n shown) → RefusesRead refusal s a b
+refuses_read None s a b shown n front taken h = tt
+refuses_read (Some refusal) s None b shown n front taken h = tt
+refuses_read (Some refusal) s (Some x) None shown n front taken h = absurd taken
+refuses_read (Some refusal) s (Some x) (Some y) shown n front taken h =
+    let more = drop (length shown) x in
+    (h.0, Some (h.1 ++ more), ap lines_of (sym (still_left x y shown n front taken) ∙ ap (λ l. l ++ more) h.2 ∙ append_assoc h.0 (10 ∷ h.1) more) ∙ lines_feed h.0 (h.1 ++ more) h.3, h.4)
+
+pub known_read_refused : (a b c d : Option (List ℕ)) (refusal : Refusal) (text told : List ℕ) (k n : ℕ) (s next : Stage) → ReachedKnown a b text k s → ReachedKnown a c told n next → RefusesRead (Some refusal) next b c → MayWrite a d (told ++ last_line refusal n) (last_status refusal)
+known_read_refused None b c d refusal text told k n s next r q h = tt
+known_read_refused (Some x) None c d refusal text told k n s next r q h = absurd r
+known_read_refused (Some x) (Some y) c d refusal text told k n s next r q h = known_refused (after_line next h.0) refusal next (λ t. t ≡ []) (Some x) c h.1 d told n next h.0 refl h.3 q h.2
+
+-- of a line that is refused nothing is told
+pub refused_first : (w : Option (Stage × List ℕ)) (refusal : Refusal) (old new : Stage) (Wrote : List ℕ → Type 0) → AnswersTo w (Err refusal) old new Wrote → (new ≡ old) × Wrote [] × AnswersTo w (Err refusal) old old (λ t. t ≡ [])
+refused_first None Malformed old new Wrote h = (h.0, h.1, (refl, refl))
+refused_first None NoMemory old new Wrote h = absurd h
+refused_first (Some x) Malformed old new Wrote h = absurd h
+refused_first (Some x) NoMemory old new Wrote h = (h.0, h.1, (refl, refl, h.2))
+
+pub keeps_lines : (a b : Option (List ℕ)) → Keeps a b → TakesLines a b []
+keeps_lines None b h = tt
+keeps_lines (Some x) None h = absurd h
+keeps_lines (Some x) (Some y) h = ap lines_of (sym h)
+
+-- the lines that were read lead on
+pub known_read : (a b c : Option (List ℕ)) (text : List ℕ) (k n number : ℕ) (s next : Stage) (Wrote : List ℕ → Type 0) → ReachedKnown a b text k s → (read : AnswersRead b c number s next Wrote) → n ≡ k + number → ReachedKnown a c (text ++ read.1) n next
+known_read a b c text k n number s next Wrote r read e =
+    let at : k + length read.0 ≡ n = ap (λ m. k + m) (sym read.3) ∙ sym e in
+    subst (λ m. ReachedKnown a c (text ++ read.1) m next) at (known_all a b c text k s read.0 next read.1 r read.2 read.4)
+
+-- the line that comes first, and what is left behind it
+pub kept_line : (text line rest : List ℕ) (len : ℕ) → text ≡ line ++ 10 ∷ rest → len ≡ length line + 1 → take (len - 1) text ≡ line
+kept_line text line rest len e f =
+    let n : len - 1 ≡ length line = omega (arith, f) in
+    ap (λ k. take k text) n ∙ ap (take (length line)) e ∙ take-append_seam line (10 ∷ rest)
+
+pub left_behind : (shown line rest : List ℕ) (n len : ℕ) → drop n shown ≡ line ++ 10 ∷ rest → len ≡ length line + 1 → drop (n + len) shown ≡ rest
+left_behind shown line rest n len e f =
+    let long : len ≡ length (line ++ 10 ∷ []) = f ∙ sym (length-append line (10 ∷ [])) in
+    sym (drop-drop len n shown)
+    ∙ ap (drop len) (e ∙ sym (append_assoc line (10 ∷ []) rest))
+    ∙ ap (λ k. drop k ((line ++ 10 ∷ []) ++ rest)) long
+    ∙ drop-append_seam (line ++ 10 ∷ []) rest

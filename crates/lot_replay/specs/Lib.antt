@@ -8,4 +8,5 @@ pub mod Stages
 pub mod Sessions
 pub mod Answers
 pub mod Replay
+pub mod Fronts
 pub mod Start

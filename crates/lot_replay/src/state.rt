@@ -12,7 +12,7 @@ use crate::actions::{Action, perform, plain_action};
 use crate::session::Session;
 use crate::show::show_locks;
 use lot_base::Queues;
-use lot_text::{Command, Line, Name, Names, Page, PlainTurn, meaning, print_turn};
+use lot_text::{Command, LINE_LEN, Line, Name, Names, Page, PlainTurn, meaning, print_turn};
 use lot_world::{Kind, MOST_LOCKS, MOST_THREADS, World};
 use std::alloc::Global;
 use std::io::Write;
@@ -37,8 +37,9 @@ impl<Q: Queues + Drop> State<Q> {
         State { session: None }
     }
 
-    /// Answers a line that was read, whose text is `kept` where it is no plain turn. One that is
-    /// refused changes nothing, and nothing is said of it here.
+    /// Answers a line that says this, and has the text `kept`. One that is refused changes nothing,
+    /// and nothing is said of it here.
+    #[inline]
     pub fn answer_next<W: Write>(
         &mut self,
         alloc: Global,
@@ -47,15 +48,19 @@ impl<Q: Queues + Drop> State<Q> {
         said: Line,
         kept: &[u8],
     ) -> Result<(), Refusal>
-        requires { length kept.now ≤ line_len }
-        ensures { (line : List ℕ) → Says said kept.now line
-            → AnswersTo (after_line (stage_of self.old.session) line) result
+        requires { Says said kept.now }
+        ensures { AnswersTo (after_line (stage_of self.old.session) kept.now) result
             (stage_of self.old.session) (stage_of self.new.session)
             (Puts (W.contents writer.old) (W.contents writer.new) page.old page.new) }
     {
         match said {
             Line::Turn { thread, turn } => self.take_turn(alloc, page, writer, thread, turn),
-            Line::Text => self.answer(alloc, page, writer, kept),
+            Line::Text => {
+                if kept.len() > LINE_LEN {
+                    return Err(Refusal::Malformed);
+                }
+                self.answer(alloc, page, writer, kept)
+            }
         }
     }
 

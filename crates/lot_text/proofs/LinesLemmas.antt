@@ -82,7 +82,7 @@ shown_front None shown n within front = (None, tt)
 shown_front (Some x) shown n within front =
     (Some (drop n x), sym (take-append-drop n x) ∙ ap (λ l. l ++ drop n x) (sym (take-take n (length shown) x within) ∙ ap (take n) front))
 
-line_front : (x shown : List ℕ) (n : ℕ) → n < length shown → slice_index shown n ≡ 10 → StartsWith x shown → x ≡ (take n shown ++ 10 ∷ []) ++ drop (n + 1) x
+pub line_front : (x shown : List ℕ) (n : ℕ) → n < length shown → slice_index shown n ≡ 10 → StartsWith x shown → x ≡ (take n shown ++ 10 ∷ []) ++ drop (n + 1) x
 line_front x shown n within feed front =
     let first : take (n + 1) shown ≡ take n shown ++ 10 ∷ [] = take-add n 1 shown ∙ ap (λ l. take n shown ++ take 1 l) (drop-cons shown n 0 within) ∙ ap (λ b. take n shown ++ b ∷ []) feed in
     sym (take-append-drop (n + 1) x) ∙ ap (λ l. l ++ drop (n + 1) x) (sym (take-take (n + 1) (length shown) x (omega (arith, within))) ∙ ap (take (n + 1)) front ∙ first)

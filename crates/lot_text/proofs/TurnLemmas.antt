@@ -1,21 +1,19 @@
 -- A text that begins with the line of a turn.
-use Rattle.std.proofs.Common.{◌≡◌, ◌≢◌, ℕ, ◌+◌, ◌≤◌, ◌<◌, Bool, true, false, cond, eqb, List, [], ◌∷◌, ◌++◌, Option, Some, All, take, drop, length, get_or, refl, sym, ap, subst, ◌∙◌, arith, ne_eqb, eq-eqb, take-append-drop, append_assoc, length-append, length-take-le}
+use Rattle.std.proofs.Common.{◌≡◌, ◌≢◌, ℕ, ◌+◌, ◌≤◌, ◌<◌, Bool, true, false, cond, eqb, List, [], ◌∷◌, ◌++◌, Some, All, take, drop, take_all, slice_index, length, get_or, refl, sym, ap, ◌∙◌, arith, ne_eqb, eq-eqb, take-append-drop, append_assoc, length-append, length-take-le}
 use Rattle.std.specs.Prelude.{codes, option_map}
 use Rattle.std.specs.Str.{bytes_eq}
-use Rattle.std.specs.Io.KnownBytes.{Consumes}
-use Rattle.std.proofs.KnownBytes.{Consumes-nil}
 use Rattle.std.proofs.lemmas.List.Elements.{All-nil, All-cons, All-append}
 use Rattle.std.proofs.lemmas.List.Splits.{slice_split_at}
-use Rattle.std.proofs.Math.Seq.{take-append_seam}
 use Rattle.std.proofs.lemmas.Slice.Eq.{bytes_eq-Decides}
-use Rattle.lot_text.specs.Reads.{TakesLine}
+use Rattle.lot_text.specs.Reads.{IsOneLine}
 use Rattle.lot_text.specs.Grammar.{words_of, number_of, turn_of, turn_command, command_of, meaning}
-use Rattle.lot_text.specs.Turns.{named_turn, word_of, IsTurn, BeginsWithWord, BeginsWithTurn}
+use Rattle.lot_text.specs.Turns.{named_turn, word_of, BeginsWithWord, BeginsWithTurn, BeginsWithLine}
 use Rattle.lot_text.specs.declared.grammar.Command.TheVariants.{Threads, Turn}
 use Rattle.lot_text.specs.declared.grammar.NamedTurn.{NamedTurn}
 use Rattle.lot_text.specs.declared.turns.PlainTurn.{PlainTurn}
 use Rattle.lot_text.specs.declared.turns.PlainTurn.TheVariants.{Go, Spin, Late}
-use Rattle.lot_text.proofs.LinesLemmas.{takes_fed}
+use Rattle.lot_text.proofs.LinesLemmas.{line_front}
+use Rattle.lot_text.specs.declared.turns.Line.TheVariants.{Text}
 use Rattle.lot_text.proofs.NumberLaw.{AreDigits, number_is, none_some}
 
 -- digits are no other bytes
@@ -96,17 +94,14 @@ turn_begins text digits t len turn within e w =
       (omega (arith, long, is.few, plain_short turn), turn_means word t turn e is.digits),
     )
 
--- the line of a turn is within what was shown, and is taken with its line feed
-pub turn_within : (shown : List ℕ) (t len : ℕ) (turn : PlainTurn) → BeginsWithTurn shown t turn len → len ≤ length shown
-turn_within shown t len turn w = omega (arith, ap length w.2, length-append w.0 (10 ∷ w.1), w.3)
-
-shown_line : (shown line rest : List ℕ) (len : ℕ) → shown ≡ line ++ 10 ∷ rest → len ≡ length line + 1 → take len shown ≡ line ++ 10 ∷ []
-shown_line shown line rest len e f =
-    let fed = line ++ 10 ∷ [] in
-    let long : len ≡ length fed = f ∙ sym (length-append line (10 ∷ [])) in
-    let whole : shown ≡ fed ++ rest = e ∙ sym (append_assoc line (10 ∷ []) rest) in
-    ap (λ n. take n shown) long ∙ ap (take (length fed)) whole ∙ take-append_seam fed rest
-
-pub turn_taken : (a b : Option (List ℕ)) (shown : List ℕ) (t len : ℕ) (turn : PlainTurn) → BeginsWithTurn shown t turn len → Consumes a b (take len shown) → (line : List ℕ) × TakesLine a b line × IsTurn line t turn
-turn_taken a b shown t len turn w taken =
-    (w.0, takes_fed a a b [] w.0 (Consumes-nil a) (subst (Consumes a b) (shown_line shown w.0 w.1 len w.2 w.3) taken) w.4, w.5)
+-- a text up to its first line feed, and behind it
+pub text_begins : (text : List ℕ) (n : ℕ) → n ≤ length text → IsOneLine (take n text) → (n < length text → slice_index text n ≡ 10) → n ≢ length text → BeginsWithLine text Text (n + 1)
+text_begins text n within one feed some =
+    let below : n < length text = omega (arith, within, some) in (
+      take n text,
+      drop (n + 1) text,
+      line_front text text n below (feed below) (take_all (length text) text (omega arith)) ∙ append_assoc (take n text) (10 ∷ []) (drop (n + 1) text),
+      omega (arith, length-take-le n text within),
+      one,
+      tt,
+    )

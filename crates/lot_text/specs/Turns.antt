@@ -1,8 +1,7 @@
--- The plain turns of a schedule, and what reading its next line takes from a reader.
-use Rattle.std.specs.Prelude.{◌≡◌, ℕ, ◌+◌, ◌≤◌, List, ◌∷◌, ◌++◌, length, Option, Some, codes}
-use Rattle.std.specs.Io.KnownBytes.{Keeps, IsAtEnd}
+-- The plain turns of a schedule, and the line with which a text begins.
+use Rattle.std.specs.Prelude.{◌≡◌, ℕ, ◌+◌, ◌≤◌, List, ◌∷◌, ◌++◌, length, ⊤, Some, codes}
 use Rattle.lot_text.specs.Lines.{line_len}
-use Rattle.lot_text.specs.Reads.{IsOneLine, TakesLine, StartsTooLong, TakesPart}
+use Rattle.lot_text.specs.Reads.{IsOneLine}
 use Rattle.lot_text.specs.Grammar.{meaning}
 use Rattle.lot_text.specs.declared.grammar.Command.TheVariants as command
 use Rattle.lot_text.specs.declared.grammar.NamedTurn.{NamedTurn}
@@ -11,10 +10,6 @@ use Rattle.lot_text.specs.declared.turns.PlainTurn.{PlainTurn}
 use Rattle.lot_text.specs.declared.turns.PlainTurn.TheVariants as plain
 use Rattle.lot_text.specs.declared.turns.Line.{Line}
 use Rattle.lot_text.specs.declared.turns.Line.TheVariants as lines
-use Rattle.lot_text.specs.declared.turns.Next.{Next}
-use Rattle.lot_text.specs.declared.turns.Next.TheVariants as next
-use Rattle.lot_text.specs.declared.turns.Look.{Look}
-use Rattle.lot_text.specs.declared.turns.Look.TheVariants as look
 
 abbrev pub named_turn : PlainTurn → NamedTurn
 named_turn plain.Go = named.Go
@@ -42,23 +37,13 @@ BeginsWithTurn text thread turn len = (line : List ℕ) × (rest : List ℕ) × 
     × (len ≡ length line + 1)
     × IsOneLine line × IsTurn line thread turn
 
--- what a look for a turn does to the known bytes
-abbrev pub TakesTurn : Option (List ℕ) → Option (List ℕ) → Look → Type 0
-TakesTurn old new (look.Turn thread turn) = (line : List ℕ) × TakesLine old new line
-    × IsTurn line thread turn
-TakesTurn old new look.Other = Keeps old new
-TakesTurn old new look.End = IsAtEnd old
-TakesTurn old new look.Failed = Keeps old new
+-- what a line says
+abbrev pub Says : Line → List ℕ → Type 0
+Says (lines.Turn thread turn) line = IsTurn line thread turn
+Says lines.Text line = ⊤
 
--- what a line says, where `kept` is the text that was kept
-abbrev pub Says : Line → List ℕ → List ℕ → Type 0
-Says (lines.Turn thread turn) kept line = IsTurn line thread turn
-Says lines.Text kept line = (length line ≤ line_len) × (line ≡ kept)
-
--- what `read_next` does to the known bytes, where `kept` is the text that it kept
-abbrev pub ReadsNext : Option (List ℕ) → Option (List ℕ) → Next → List ℕ → Type 0
-ReadsNext old new (next.Line said) kept = (line : List ℕ) × TakesLine old new line
-    × Says said kept line
-ReadsNext old new next.TooLong kept = StartsTooLong old
-ReadsNext old new next.End kept = IsAtEnd old
-ReadsNext old new next.Failed kept = TakesPart old new
+-- a text begins with a line that says this and with its line feed, which are so many bytes
+abbrev pub BeginsWithLine : List ℕ → Line → ℕ → Type 0
+BeginsWithLine text said len = (line : List ℕ) × (rest : List ℕ) × (text ≡ line ++ 10 ∷ rest)
+    × (len ≡ length line + 1)
+    × IsOneLine line × Says said line

@@ -83,7 +83,7 @@ fn take_piece<R: BufRead>(reader: &mut R, line: &mut ArrayVec<u8, LINE_LEN>) -> 
 }
 
 /// How many bytes come before the first line feed, or all.
-fn len_of_line(bytes: &[u8]) -> usize
+pub(crate) fn len_of_line(bytes: &[u8]) -> usize
     ensures within { result ≤ length bytes.now }
     ensures before { IsOneLine (take result bytes.now) }
     ensures found { result < length bytes.now → slice_index bytes.now result ≡ 10 }

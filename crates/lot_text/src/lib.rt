@@ -14,4 +14,4 @@ pub use grammar::{Command, NamedCall, NamedTurn, meaning, numbers_are_decimal};
 pub use input::{LINE_LEN, Reading, read_line};
 pub use names::{Name, Names};
 pub use output::{Page, send_all};
-pub use turns::{Line, Next, PlainTurn, read_next};
+pub use turns::{Line, PlainTurn, ShownLine, first_line};

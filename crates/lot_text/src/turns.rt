@@ -1,13 +1,11 @@
 //! The turns that most lines of a schedule are. They are read where the reader shows them: to copy
 //! a line and to take all its words apart costs more than the turn.
 ghost use Rattle.std.specs.Prelude.{◌≡◌, ◌≤◌, IfSome, length};
-ghost use Rattle.lot_text.specs.Turns.{BeginsWithTurn, BeginsWithWord, ReadsNext, TakesTurn};
+ghost use Rattle.lot_text.specs.Turns.{BeginsWithLine, BeginsWithTurn, BeginsWithWord};
 
 use crate::grammar::number;
-use crate::input::{LINE_LEN, Reading, read_line};
+use crate::input::len_of_line;
 use crate::words::begins_with;
-use arrayvec::ArrayVec;
-use std::io::{BufRead, ErrorKind};
 
 /// A turn that most lines are: it begins no call, no closure answers in it, and its thread doesn't
 /// go on alone.
@@ -18,29 +16,18 @@ pub enum PlainTurn {
     Late,
 }
 
-/// A line of a schedule: a plain turn, or one whose text is kept.
+/// What a line says: a plain turn, or what its whole text means.
 #[derive(Clone, Copy)]
 pub enum Line {
     Turn { thread: usize, turn: PlainTurn },
     Text,
 }
 
-/// What came of reading a line of a schedule.
+/// A line that is shown whole, and how many bytes it has with its line feed.
 #[derive(Clone, Copy)]
-pub enum Next {
-    Line(Line),
-    TooLong,
-    End,
-    Failed,
-}
-
-/// What came of a look for a plain turn.
-#[derive(Clone, Copy)]
-pub enum Look {
-    Turn { thread: usize, turn: PlainTurn },
-    Other,
-    End,
-    Failed,
+pub struct ShownLine {
+    pub said: Line,
+    pub len: usize,
 }
 
 /// A plain turn, and how many bytes its line has with its line feed.
@@ -51,56 +38,29 @@ struct TurnLine {
     len: usize,
 }
 
-/// Reads the next line. Its text comes to `line`, except of a plain turn that the reader shows
-/// whole.
-pub fn read_next<R: BufRead>(reader: &mut R, line: &mut ArrayVec<u8, LINE_LEN>) -> Next
-    ensures { ReadsNext (R.remaining reader.old) (R.remaining reader.new) result line.new.items }
+/// The line that comes first, where its line feed is there.
+#[inline]
+pub fn first_line(text: &[u8]) -> Option<ShownLine>
+    ensures { IfSome result (λ first. BeginsWithLine text.now first.said first.len) }
 {
-    match take_turn(reader) {
-        Look::Turn { thread, turn } => Next::Line(Line::Turn { thread, turn }),
-        Look::Other => read_text(reader, line),
-        Look::End => Next::End,
-        Look::Failed => Next::Failed,
+    if let Some(TurnLine { thread, turn, len }) = turn_line(text) {
+        let said = Line::Turn { thread, turn };
+        return Some(ShownLine { said, len });
     }
+    text_line(text)
 }
 
-/// Reads the next line into `line`.
+/// The text that comes first, where its line feed is there.
 #[inline(never)]
-fn read_text<R: BufRead>(reader: &mut R, line: &mut ArrayVec<u8, LINE_LEN>) -> Next
-    ensures { ReadsNext (R.remaining reader.old) (R.remaining reader.new) result line.new.items }
+fn text_line(text: &[u8]) -> Option<ShownLine>
+    ensures { IfSome result (λ first. BeginsWithLine text.now first.said first.len) }
 {
-    match read_line(reader, line) {
-        Reading::Line => Next::Line(Line::Text),
-        Reading::TooLong => Next::TooLong,
-        Reading::End => Next::End,
-        Reading::Failed => Next::Failed,
+    let len = len_of_line(text);
+    if len == text.len() {
+        return None;
     }
-}
-
-/// Takes the next line, where it is a plain turn that the reader shows whole.
-fn take_turn<R: BufRead>(reader: &mut R) -> Look
-    ensures { TakesTurn (R.remaining reader.old) (R.remaining reader.new) result }
-{
-    let shown = match reader.fill_buf() {
-        Ok(shown) => shown,
-        Err(e) => {
-            if e.kind() == ErrorKind::Interrupted {
-                return Look::Other;
-            }
-            return Look::Failed;
-        }
-    };
-    if shown.is_empty() {
-        return Look::End;
-    }
-    let Some(line) = turn_line(shown) else {
-        return Look::Other;
-    };
-    reader.consume(line.len);
-    Look::Turn {
-        thread: line.thread,
-        turn: line.turn,
-    }
+    let said = Line::Text;
+    Some(ShownLine { said, len: len + 1 })
 }
 
 /// The plain turn whose line comes first.

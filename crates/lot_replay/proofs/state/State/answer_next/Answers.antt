@@ -8,15 +8,9 @@ use Rattle.lot_replay.proofs.StageLemmas.{turn_after}
 use Rattle.lot_replay.proofs.state.State.answer_next.Goals as goal
 
 pub returns-in-Turn : goal.returns-in-Turn
-returns-in-Turn g c = λ line says.
+returns-in-Turn g c =
+    let line = c.args.kept.now in
     let stage = stage_of c.args.self.now.session in
-    let turn = subst (λ said. Says said c.args.kept.now line) c.in-Turn.is says in
+    let turn = subst (λ said. Says said line) c.in-Turn.is c.requires in
     subst (λ wanted. AnswersTo wanted c.take_turn.result stage (stage_of c.take_turn.new.self.session) (Puts (g.W.Write.contents c.args.writer.now) (g.W.Write.contents c.take_turn.new.writer) c.args.page.now c.take_turn.new.page))
     (sym (turn_after stage line c.in-Turn.thread c.in-Turn.turn turn)) c.take_turn.ensures
-
-pub returns-in-Text : goal.returns-in-Text
-returns-in-Text g c = λ line says.
-    let stage = stage_of c.args.self.now.session in
-    let kept = subst (λ said. Says said c.args.kept.now line) c.in-Text.is says in
-    subst (λ text. AnswersTo (after_line stage text) c.answer.result stage (stage_of c.answer.new.self.session) (Puts (g.W.Write.contents c.args.writer.now) (g.W.Write.contents c.answer.new.writer) c.args.page.now c.answer.new.page))
-    (sym kept.1) c.answer.ensures
