@@ -1,11 +1,15 @@
 //! A clock for tests, on which time passes by looks alone.
 use crate::clocks::Clock;
+use std::hint::spin_loop;
 use std::sync::atomic::AtomicU64;
 use std::sync::atomic::Ordering::SeqCst;
-use std::thread::yield_now;
 
-/// A clock on which each look takes a nanosecond, whichever thread looks. A pause lets other
-/// threads run.
+// The rounds of a pause: a third of a microsecond, where a round takes 11 nanoseconds, as long as a
+// yield takes where nobody else wants the processor. Beside busy processes each yield of the many
+// that a deadline takes would last a whole slice.
+const PAUSE: u32 = 30;
+
+/// A clock on which each look takes a nanosecond, whichever thread looks. A pause spins.
 #[derive(Drop)]
 pub struct TickClock {
     start: u64,
@@ -40,6 +44,8 @@ impl Clock for TickClock {
     }
 
     fn pause(&self, _left: u64) {
-        yield_now();
+        for _ in 0..PAUSE {
+            spin_loop();
+        }
     }
 }
