@@ -99,6 +99,8 @@ impl ParkingLot {
         ensures stepped { view_of token.new
             ≡ after_step Condvar (word_index condvar.number Condvar)
             (Exchange 0 (mutex.number + 1)) result (view_of token.old) }
+        ensures coded { CodesWith Condvar (word_index condvar.number Condvar) result
+            (view_of token.old).owns }
     {
         condvar_may_step();
         let to = mutex.number() as u64 + 1;
