@@ -1,7 +1,10 @@
 //! Who is inside a lock. No contract knows what an atomic holds, so none says what is told here.
+use parking_lot_core::pauses::{SHORT_PAUSE, pause};
 use std::sync::atomic::AtomicUsize;
 use std::sync::atomic::Ordering::SeqCst;
-use std::thread::yield_now;
+
+// The rounds for which a thread stays inside: long enough for others to come meanwhile.
+const LINGER: u32 = 8 * SHORT_PAUSE;
 
 /// Who is inside a lock, as its threads told it, and how often somebody found whom nobody may find
 /// there.
@@ -39,7 +42,7 @@ impl Inside {
     pub fn read(&self) {
         self.readers.fetch_add(1, SeqCst);
         self.expect(self.writers.load(SeqCst) == 0);
-        yield_now();
+        pause(LINGER);
         self.expect(self.writers.load(SeqCst) == 0);
         self.readers.fetch_sub(1, SeqCst);
     }
@@ -56,7 +59,7 @@ impl Inside {
     pub fn write(&self) {
         let others = self.writers.fetch_add(1, SeqCst);
         self.expect(others == 0 && self.readers.load(SeqCst) == 0);
-        yield_now();
+        pause(LINGER);
         self.expect(self.upgradables.load(SeqCst) == 0 && self.readers.load(SeqCst) == 0);
         self.writers.fetch_sub(1, SeqCst);
     }
