@@ -1,6 +1,8 @@
 //! Raw reader-writer locks of one thread.
 mod crowds;
+mod fixtures;
 mod mixes;
+mod scenes;
 mod timed;
 
 ghost use Rattle.std.specs.Prelude.{IfOk, IfSome, MatchResult};
@@ -8,11 +10,11 @@ ghost use Rattle.parking_lot_core.specs.Tokens.{IsTokenOf};
 ghost use Rattle.parking_lot.specs.RwLockGuards.{IsExclusiveOf, IsSharedOf, IsUpgradableOf};
 ghost use Rattle.parking_lot.specs.RwLockUsers.{lot_of, word_of};
 
+use fixtures::lock_alone;
 use parking_lot::lock_api_rw::{
     RawRwLock as RawLock, RawRwLockDowngrade, RawRwLockUpgrade, RawRwLockUpgradeDowngrade,
 };
 use parking_lot::{Fault, RawExclusiveGuard, RawRwLock, RawSharedGuard, RawUpgradableGuard, Token};
-use raw_rwlock_fixtures::lock_alone;
 use std::alloc::Global;
 use std::process::Abort;
 use std::sync::Wait;

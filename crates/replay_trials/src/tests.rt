@@ -1,22 +1,23 @@
 //! Inputs through `start`: what they answer, and what a broken device leaves.
 mod devices;
+mod rows;
 
 use bucket_queues::BucketQueues;
-use condvar_rows::lates::LATE_ROWS;
-use condvar_rows::meanwhile::MEANWHILE_ROWS;
-use condvar_rows::moves::MOVE_ROWS;
-use condvar_rows::mutexes::MUTEX_ROWS;
-use condvar_rows::releases::RELEASE_ROWS;
 use devices::{Pieces, Refusal, Short};
 use lot_base::{ListQueues, Queues};
 use lot_replay::start::start;
 use lot_world::{Answer, Call, Kind, MutexCall, Outcome, Step, Turn, World};
-use replay_rows::fair::FAIR_ROWS;
-use replay_rows::malformed::MALFORMED;
-use replay_rows::mutexes::{ROWS, TWO_TRIES};
-use replay_rows::onces::ONCE_ROWS;
-use replay_rows::refused::REFUSED_ROWS;
-use replay_rows::rwlocks::RWLOCK_ROWS;
+use rows::condvars::MUTEX_ROWS;
+use rows::fair::FAIR_ROWS;
+use rows::lates::LATE_ROWS;
+use rows::malformed::MALFORMED;
+use rows::meanwhile::MEANWHILE_ROWS;
+use rows::moves::MOVE_ROWS;
+use rows::mutexes::{ROWS, TWO_TRIES};
+use rows::onces::ONCE_ROWS;
+use rows::refused::REFUSED_ROWS;
+use rows::releases::RELEASE_ROWS;
+use rows::rwlocks::RWLOCK_ROWS;
 use std::alloc::{AllocError, Global};
 use std::fmt::Debug;
 use std::io::BufRead;

@@ -1,8 +1,10 @@
+mod clocks;
 mod condvars;
 mod hand_over;
 mod kinds;
 mod onces;
 mod places;
+mod queues;
 mod text;
 
 use lot_acts::Next;

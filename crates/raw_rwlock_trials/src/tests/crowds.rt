@@ -3,10 +3,10 @@ ghost use Rattle.std.specs.Prelude.{◌≡◌, ◌<◌};
 ghost use Rattle.parking_lot_core.specs.Tokens.{IsTicketOf, IsTokenOf};
 ghost use Rattle.parking_lot.specs.RwLockUsers.{lot_of};
 
+use super::fixtures::{Inside, seats};
 use super::mixes::mix;
 use super::timed::{come_behind, give_up, read_on};
 use parking_lot::{Fault, ParkingLot, RawRwLock, Ticket, Token};
-use raw_rwlock_fixtures::{Inside, seats};
 use std::alloc::Global;
 use std::sync::Wait;
 use std::sync::atomic::Ordering::SeqCst;

@@ -5,6 +5,7 @@ ghost use Rattle.parking_lot.specs.RwLockGuards.{IsExclusiveOf, IsSharedOf, IsUp
 ghost use Rattle.parking_lot.specs.RwLockUsers.{lot_of, word_of};
 
 use super::crowds::{Part, play};
+use super::fixtures::Inside;
 use super::holds;
 use parking_lot::lock_api_rw::{
     RawRwLock as RawLock, RawRwLockDowngrade, RawRwLockFair, RawRwLockTimed, RawRwLockUpgrade,
@@ -13,7 +14,6 @@ use parking_lot::lock_api_rw::{
 use parking_lot::{
     Fault, RawExclusiveGuard, RawRwLock, RawSharedGuard, RawUpgradableGuard, TickClock, Token,
 };
-use raw_rwlock_fixtures::Inside;
 use std::sync::Wait;
 use std::test::Fail;
 

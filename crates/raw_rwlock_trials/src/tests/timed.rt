@@ -5,6 +5,7 @@ ghost use Rattle.parking_lot.specs.RwLockGuards.{IsSharedOf};
 ghost use Rattle.parking_lot.specs.RwLockUsers.{lot_of, word_of};
 
 use super::crowds::{Part, Told, play};
+use super::fixtures::{await_flag, comes_to, lock_alone, queue_up};
 use super::{
     FREE, READ, UPGRADABLE, WRITTEN, goes, goes_upgradable, goes_writing, holds, look, look_and_go,
 };
@@ -12,7 +13,6 @@ use parking_lot::lock_api_rw::{
     RawRwLock as RawLock, RawRwLockTimed, RawRwLockUpgrade, RawRwLockUpgradeTimed,
 };
 use parking_lot::{Clock, Fault, ParkingLot, RawRwLock, RawSharedGuard, TickClock, Token};
-use raw_rwlock_fixtures::{await_flag, comes_to, lock_alone, queue_up};
 use std::alloc::Global;
 use std::sync::Wait;
 use std::sync::atomic::AtomicBool;

@@ -9,6 +9,7 @@ use super::{
     Lock, end_reader, end_writer, holds, read_upgradable, replace, same, seats, value_of, write,
 };
 use parking_lot::{ParkingLot, Ticket, Token};
+use parking_lot_core::pauses::{SHORT_PAUSE, pause};
 use std::alloc::Global;
 use std::process::Abort;
 use std::sync::Wait;
@@ -18,6 +19,9 @@ use std::thread::{Threads, map_vec, yield_now};
 
 const TIMES: u64 = 1000;
 
+// The rounds for which a thread holds the lock: long enough for others to come meanwhile.
+const LINGER: u32 = 8 * SHORT_PAUSE;
+
 // What a value is while somebody writes.
 const TORN: u64 = u64::MAX;
 
@@ -25,7 +29,7 @@ const TORN: u64 = u64::MAX;
 fn add_torn(value: &mut u64) -> u64 {
     let before = *value;
     *value = TORN;
-    yield_now();
+    pause(LINGER);
     *value = before.wrapping_add(1);
     before
 }
@@ -66,7 +70,7 @@ fn add_and_read<const RECURSIVE: bool, R: Wait>(
     let mut guard = write(rt, lock, token);
     let before = add_torn(&mut *guard);
     let guard = guard.downgrade(rt, token);
-    yield_now();
+    pause(LINGER);
     let found = end_reader(rt, token, guard);
     before != TORN && found == before.wrapping_add(1)
 }
@@ -85,7 +89,7 @@ fn add_by_upgrade<const RECURSIVE: bool, R: Wait>(
         return false;
     };
     let before = *guard;
-    yield_now();
+    pause(LINGER);
     let mut guard = guard.upgrade(rt, token);
     let found = add_torn(&mut *guard);
     end_writer(rt, token, guard);

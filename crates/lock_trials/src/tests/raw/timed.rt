@@ -7,13 +7,16 @@ use super::super::{holds, same};
 use super::{Part, await_flag, play, seats, stands};
 use parking_lot::lock_api::{RawMutex as RawLock, RawMutexTimed as RawTimedLock};
 use parking_lot::{RawMutex, TickClock, Token};
+use parking_lot_core::pauses::{SHORT_PAUSE, pause};
 use std::sync::Wait;
 use std::sync::atomic::Ordering::SeqCst;
 use std::sync::atomic::{AtomicBool, AtomicU64};
-use std::thread::yield_now;
 use std::time::Duration;
 
 const ROUNDS: u64 = 200;
+
+// The rounds for which a thread holds the mutex: long enough for others to come meanwhile.
+const LINGER: u32 = 8 * SHORT_PAUSE;
 
 #[test]
 fn who_holds_a_mutex_waits_for_it_in_vain(rt: HostRuntime) {
@@ -117,7 +120,7 @@ pub(super) fn race<R: Wait>(
         match mutex.try_lock_until(rt, token, &clock, round % 8) {
             Some(guard) => {
                 let seen = hits.load(SeqCst);
-                yield_now();
+                pause(LINGER);
                 hits.store(seen.wrapping_add(1), SeqCst);
                 mutex.unlock(rt, token, guard);
                 got.fetch_add(1, SeqCst);

@@ -1,0 +1,85 @@
+//! Scenes of threads at one lock: one holds it until others wait for it, and lets them in.
+mod comers;
+mod fair;
+mod holders;
+mod scene;
+mod waits;
+
+ghost use Rattle.std.specs.Prelude.{◌≡◌, ◌≤◌};
+ghost use Rattle.parking_lot_core.specs.Tokens.{IsTicketOf, IsTokenOf};
+ghost use Rattle.parking_lot.specs.RwLockUsers.{lot_of};
+
+use super::fixtures::seats;
+use super::holds;
+use comers::come_later;
+use holders::hold;
+use parking_lot::{ParkingLot, RawRwLock, Ticket, Token};
+use scene::{Scene, Told};
+use std::alloc::Global;
+use std::fmt::Debug;
+use std::process::Abort;
+use std::sync::Wait;
+use std::sync::atomic::Ordering::SeqCst;
+use std::thread::{Threads, map_vec};
+
+// What was found is what was wanted. All tests share this one assertion, since each is proved where
+// it stands.
+fn same<T: PartialEq + Debug + Drop>(rt: &impl Abort, found: T, wanted: T) {
+    assert_eq!(rt; found, wanted);
+}
+
+// The first who comes holds the lock, and the others come to it then. Whether the thread is content
+// with what came of its part.
+fn take_part<const RECURSIVE: bool, R: Wait>(
+    rt: &R,
+    lot: &ParkingLot,
+    lock: &RawRwLock<RECURSIVE>,
+    token: &mut Token,
+    scene: &Scene,
+    told: &Told,
+) -> bool
+    requires { IsTokenOf lot.now token.old × (lot_of lock.now ≡ lot.now) }
+{
+    if told.comes_first() {
+        hold(rt, lot, lock, token, scene, told)
+    } else {
+        come_later(rt, lock, token, scene, told);
+        true
+    }
+}
+
+// Plays a scene: all stand where they are to, and all come in, beside none whom they exclude.
+fn play<const RECURSIVE: bool, R: Threads + Wait + Sync + Abort>(
+    rt: &R,
+    alloc: Global,
+    scene: Scene,
+) {
+    play_within::<RECURSIVE, R>(rt, alloc, scene, 1000);
+}
+
+// The same on a lock that so many may share. It gives up where memory is refused.
+fn play_within<const RECURSIVE: bool, R: Threads + Wait + Sync + Abort>(
+    rt: &R,
+    alloc: Global,
+    scene: Scene,
+    limit: u64,
+)
+    requires { limit ≤ 1024 }
+{
+    let Ok((lot, lock, tickets)) = seats::<RECURSIVE>(alloc, 4, limit) else {
+        panic!(rt; "no seats");
+    };
+    let (lot, lock, scene, told) = (&*lot, &lock, &scene, &Told::new());
+    let ended = map_vec(
+        rt,
+        tickets,
+        &|ticket: Ticket|
+            requires { IsTicketOf (lot_of lock.now) ticket × (lot_of lock.now ≡ lot.now) }
+        {
+            let mut token = ticket.enter();
+            take_part(rt, lot, lock, &mut token, scene, told)
+        },
+    );
+    holds(rt, ended.is_ok_and(|ended| ended.iter().all(|well| *well)));
+    holds(rt, told.came.load(SeqCst) == 3 && told.inside.wrongs() == 0);
+}

@@ -1,0 +1,119 @@
+//! Threads to whom a reader-writer lock is handed over.
+ghost use Rattle.parking_lot_core.specs.Tokens.{IsTokenOf};
+ghost use Rattle.parking_lot.specs.RwLockUsers.{lot_of};
+
+use super::super::fixtures::lock_alone;
+use super::scene::{ALL, Coming, Manner, READERS, Scene, WRITERS};
+use super::{play, play_within, same};
+use parking_lot::lock_api_rw::{
+    RawRwLock as RawLock, RawRwLockFair, RawRwLockUpgrade, RawRwLockUpgradeFair,
+};
+use parking_lot::{RawRwLock, Token};
+use std::sync::Wait;
+use std::test::Fail;
+
+// So many of those who come stand in each queue.
+fn scene(manner: Manner, coming: [Coming; 3], main: usize, second: usize) -> Scene {
+    Scene {
+        manner,
+        coming,
+        main,
+        second,
+        beside: 0,
+    }
+}
+
+#[test]
+fn a_writer_hands_the_lock_over(rt: HostRuntime) {
+    play::<false, HostRuntime>(&rt, rt.alloc(), scene(Manner::Handed, ALL, 3, 0));
+    play::<true, HostRuntime>(&rt, rt.alloc(), scene(Manner::Handed, ALL, 3, 0));
+    play::<false, HostRuntime>(&rt, rt.alloc(), scene(Manner::Handed, READERS, 3, 0));
+}
+
+#[test]
+fn a_writer_that_bumps_lets_others_in(rt: HostRuntime) {
+    play::<false, HostRuntime>(&rt, rt.alloc(), scene(Manner::Bumped, ALL, 3, 0));
+    play::<true, HostRuntime>(&rt, rt.alloc(), scene(Manner::Bumped, READERS, 3, 0));
+}
+
+const TIMED: [Coming; 3] = [
+    Coming::TimedReader,
+    Coming::TimedUpgradable,
+    Coming::TimedWriter,
+];
+
+#[test]
+fn who_waits_with_a_deadline_is_handed_the_lock(rt: HostRuntime) {
+    play::<false, HostRuntime>(&rt, rt.alloc(), scene(Manner::Handed, TIMED, 3, 0));
+    play::<true, HostRuntime>(&rt, rt.alloc(), scene(Manner::Bumped, TIMED, 3, 0));
+    let upgradables = [
+        Coming::TimedUpgradable,
+        Coming::TimedUpgradable,
+        Coming::TimedWriter,
+    ];
+    let handed = scene(Manner::UpgradableHanded, upgradables, 3, 0);
+    play::<false, HostRuntime>(&rt, rt.alloc(), handed);
+}
+
+// An exclusive owner hands the lock to all who read, also where they are more than may come in by
+// themselves.
+#[test]
+fn all_who_are_handed_the_lock_have_it(rt: HostRuntime) {
+    let readers = [Coming::Reader, Coming::Reader, Coming::Reader];
+    let handed = scene(Manner::Handed, readers, 3, 0);
+    play_within::<false, HostRuntime>(&rt, rt.alloc(), handed, 1);
+}
+
+const UPGRADABLES: [Coming; 3] = [Coming::Upgradable, Coming::Upgradable, Coming::Writer];
+
+#[test]
+fn an_upgradable_owner_hands_the_lock_over(rt: HostRuntime) {
+    let handed = scene(Manner::UpgradableHanded, UPGRADABLES, 3, 0);
+    play::<false, HostRuntime>(&rt, rt.alloc(), handed);
+    let bumped = scene(Manner::UpgradableBumped, UPGRADABLES, 3, 0);
+    play::<false, HostRuntime>(&rt, rt.alloc(), bumped);
+}
+
+#[test]
+fn a_reader_that_bumps_lets_a_writer_in(rt: HostRuntime) {
+    let bumped = scene(Manner::ReaderBumped, WRITERS, 2, 1);
+    play::<false, HostRuntime>(&rt, rt.alloc(), bumped);
+}
+
+// What is seen of a lock that one thread has to itself, where it bumps each right and releases it
+// fairly.
+fn goes_alone<const RECURSIVE: bool, R: Wait>(
+    rt: &R,
+    lock: &RawRwLock<RECURSIVE>,
+    token: &mut Token,
+) -> [bool; 3]
+    requires { IsTokenOf (lot_of lock.now) token.old }
+    ensures { IsTokenOf (lot_of lock.now) token.new }
+{
+    let mut free = [false; 3];
+    if let Ok(guard) = lock.lock_shared(rt, token)
+        && let Ok(guard) = lock.bump_shared(rt, token, guard)
+    {
+        lock.unlock_shared_fair(rt, token, guard);
+        free[0] = !lock.is_locked(token);
+    }
+    if let Ok(guard) = lock.lock_upgradable(rt, token)
+        && let Ok(guard) = lock.bump_upgradable(rt, token, guard)
+    {
+        lock.unlock_upgradable_fair(rt, token, guard);
+        free[1] = !lock.is_locked(token);
+    }
+    let guard = lock.lock_exclusive(rt, token);
+    let guard = lock.bump_exclusive(rt, token, guard);
+    let kept = lock.is_locked_exclusive(token);
+    lock.unlock_exclusive_fair(rt, token, guard);
+    free[2] = kept && !lock.is_locked(token);
+    free
+}
+
+#[test]
+fn who_is_alone_keeps_its_right_as_it_bumps(rt: HostRuntime) -> Result<(), Fail> {
+    let (lock, mut token) = lock_alone::<false>(rt.alloc(), 1)?;
+    same(&rt, goes_alone(&rt, &lock, &mut token), [true, true, true]);
+    Ok(())
+}

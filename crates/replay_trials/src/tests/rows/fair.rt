@@ -1,0 +1,274 @@
+//! Worked schedules of fair releases and bumps of reader-writer locks, with the text that they lead
+//! to.
+
+/// Inputs, with the text that they lead to.
+pub(crate) const FAIR_ROWS: [(&[u8], &[u8]); 11] = [
+    // A fair release would pass the limit: it wakes whom it has taken.
+    (
+        b"threads 3
+lock r recursive 3
+0 do upgradable r
+1 do read r
+2 do upgradable r
+0 do upgrade_timed r
+1 do read r
+1 do read r
+0 late
+0 solo
+show
+0 do unlock_upgradable_fair r
+show
+2 solo
+",
+        b"0 end ok
+1 end ok
+2 sleep
+0 sleep
+1 end ok
+1 end ok
+0 step
+0 end no
+r 69 own=0u,1s,1s,1s queue=2u
+0 end ok
+r 48 own=1s,1s,1s retry=2
+2 end readers full
+",
+    ),
+    // A fair release of the upgradable right hands it over, and leaves who is behind.
+    (
+        b"threads 3
+lock r rwlock
+0 do upgradable r
+1 do upgradable r
+2 do write r
+0 do unlock_upgradable_fair r
+show
+",
+        b"0 end ok
+1 sleep
+2 sleep
+0 end ok
+r 21 own=1u queue=2x
+",
+    ),
+    // A bump of a shared right gives way to a pending writer, and waits.
+    (
+        b"threads 2
+lock r recursive
+0 do read r
+1 do write r
+0 do bump_shared r
+show
+1 solo
+show
+",
+        b"0 end ok
+1 sleep
+0 sleep
+r 9 own=1p queue=0s retry=1
+1 end ok
+r 9 own=1x queue=0s
+",
+    ),
+    // A bump of the exclusive right hands over to a reader, and is pending beside it.
+    (
+        b"threads 2
+lock r rwlock
+0 do write r
+1 do read r
+0 do bump_exclusive r
+show
+",
+        b"0 end ok
+1 sleep
+0 sleep
+r 26 own=0p,1s aside=0
+",
+    ),
+    // A fair release hands over to all whom it picks at once: a writer beside readers is pending.
+    (
+        b"threads 4
+lock r rwlock
+0 do write r
+1 do read r
+2 do write r
+3 do read r
+show
+0 do unlock_exclusive_fair r
+show
+",
+        b"0 end ok
+1 sleep
+2 sleep
+3 sleep
+r 9 own=0x queue=1s,2x,3s
+0 end ok
+r 25 own=2p,1s queue=3s
+",
+    ),
+    // On a recursive lock the readers behind the writer are picked too.
+    (
+        b"threads 4
+lock r recursive
+0 do write r
+1 do read r
+2 do write r
+3 do read r
+show
+0 do unlock_exclusive_fair r
+show
+",
+        b"0 end ok
+1 sleep
+2 sleep
+3 sleep
+r 9 own=0x queue=1s,2x,3s
+0 end ok
+r 40 own=2p,1s,3s
+",
+    ),
+    // A bump of the upgradable right hands it over, and waits for it again.
+    (
+        b"threads 3
+lock r rwlock
+0 do upgradable r
+1 do upgradable r
+0 do bump_upgradable r
+show
+1 go
+1 do unlock_upgradable r
+show
+0 solo
+show
+",
+        b"0 end ok
+1 sleep
+0 sleep
+r 21 own=1u queue=0u
+1 end ok
+1 end ok
+r 0 retry=0
+0 end ok
+r 20 own=0u
+",
+    ),
+    // Where nobody waits a bump ends with its right.
+    (
+        b"threads 2
+lock r rwlock
+0 do write r
+0 do bump_exclusive r
+show
+0 do unlock_exclusive_fair r
+1 do upgradable r
+1 do bump_upgradable r
+0 do read r
+0 do bump_shared r
+show
+1 do unlock_upgradable_fair r
+0 do unlock_shared_fair r
+show
+",
+        b"0 end ok
+0 end ok
+r 8 own=0x
+0 end ok
+1 end ok
+1 end ok
+0 end ok
+0 end ok
+r 36 own=1u,0s
+1 end ok
+0 end ok
+r 0
+",
+    ),
+    // A bump of a shared right of a recursive lock stays beside another reader.
+    (
+        b"threads 3
+lock r recursive
+0 do read r
+1 do read r
+2 do write r
+0 do bump_shared r
+show
+",
+        b"0 end ok
+1 end ok
+2 sleep
+0 end ok
+r 42 own=2p,0s,1s aside=2
+",
+    ),
+    // A bump that finds the lock full has given its right up.
+    (
+        b"threads 3
+lock r recursive 3
+0 do upgradable r
+1 do read r
+2 do upgradable r
+0 do upgrade_timed r
+1 do read r
+1 do read r
+0 late
+0 solo
+show
+0 do bump_upgradable r
+show
+2 solo
+show
+",
+        b"0 end ok
+1 end ok
+2 sleep
+0 sleep
+1 end ok
+1 end ok
+0 step
+0 end no
+r 69 own=0u,1s,1s,1s queue=2u
+0 end readers full
+r 48 own=1s,1s,1s retry=2
+2 end readers full
+r 48 own=1s,1s,1s
+",
+    ),
+    // Whom a hand-over has given its right owns though it sleeps, and the one who hands over owes
+    // the wake.
+    (
+        b"threads 3
+lock r rwlock
+0 do write r
+1 do upgradable r
+2 do read r
+0 begin unlock_exclusive_fair r
+0 go
+0 go
+0 go
+show
+0 go
+show
+1 go
+0 go
+1 go
+2 go
+show
+",
+        b"0 end ok
+1 sleep
+2 sleep
+0 step
+0 step
+0 step
+0 step
+r 9 own=0x owe=0
+0 step
+r 36 own=1u,2s owe=0
+1 not now
+0 end ok
+1 end ok
+2 end ok
+r 36 own=1u,2s
+",
+    ),
+];

@@ -1,0 +1,183 @@
+//! Worked schedules in which waiters are moved to the queue of their mutex.
+
+/// Inputs, with the text that they lead to.
+pub(crate) const MOVE_ROWS: [(&[u8], &[u8]); 4] = [
+    // Beside an unlocked mutex the first of all is woken, and the rest wait for the mutex.
+    (
+        b"threads 5
+lock m mutex
+lock c condvar
+0 do lock m
+0 do wait c m
+1 do lock m
+1 do wait c m
+2 do lock m
+2 do wait c m
+3 do notify_all c
+show
+3 do notify_all c
+",
+        b"0 end ok
+0 sleep
+1 end ok
+1 sleep
+2 end ok
+2 sleep
+3 end 3
+m 2 queue=1x,2x retry=0
+c 0
+3 end 0
+",
+    ),
+    // Beside a locked mutex all wait for it.
+    (
+        b"threads 5
+lock m mutex
+lock c condvar
+0 do lock m
+0 do wait c m
+1 do lock m
+1 do wait c m
+2 do lock m
+2 do wait c m
+3 do lock m
+3 do notify_all c
+show
+",
+        b"0 end ok
+0 sleep
+1 end ok
+1 sleep
+2 end ok
+2 sleep
+3 end ok
+3 end 3
+m 3 own=3x queue=0x,1x,2x
+c 0
+",
+    ),
+    // Who owes while all are moved to a locked mutex; it goes from one to the next in their order.
+    (
+        b"threads 5
+lock m mutex
+lock c condvar
+0 do lock m
+0 do wait c m
+1 do lock m
+1 do wait c m
+2 do lock m
+2 do wait c m
+3 do lock m
+4 begin notify_all c
+4 go
+show
+4 go
+show
+4 go
+4 go
+show
+4 go
+4 go
+show
+4 go
+show
+3 begin unlock m
+3 go
+show
+3 go
+4 go
+show
+3 solo
+show
+0 solo
+0 do unlock m
+1 solo
+1 do unlock m
+2 solo
+2 do unlock m
+show
+",
+        b"0 end ok
+0 sleep
+1 end ok
+1 sleep
+2 end ok
+2 sleep
+3 end ok
+4 step
+4 step
+m 1 own=3x
+c 1 queue=0w,1w,2w
+4 step
+m 1 own=3x owe=4
+c 1 queue=0w,1w,2w owe=4
+4 step
+4 step
+m 1 own=3x owe=4
+c 0 queue=0w,1w,2w owe=4
+4 step
+4 step
+m 3 own=3x owe=4
+c 0 queue=0w,1w,2w owe=4
+4 step
+m 3 own=3x queue=0x,1x,2x owe=4
+c 0 owe=4
+3 step
+3 step
+m 2 queue=0x,1x,2x owe=3,4
+c 0 owe=4
+3 not now
+4 end 3
+m 2 queue=0x,1x,2x owe=3
+c 0
+3 end ok
+m 2 queue=1x,2x retry=0
+c 0
+0 end ok
+0 end ok
+1 end ok
+1 end ok
+2 end ok
+2 end ok
+m 0
+c 0
+",
+    ),
+    // Waiters that come behind its look are moved with the others.
+    (
+        b"threads 4
+lock m mutex
+lock c condvar
+0 do lock m
+0 do wait c m
+3 begin notify_all c
+3 go
+1 do lock m
+1 do wait c m
+2 do notify_one c
+0 solo
+0 do wait c m
+3 solo
+show
+1 solo
+1 do unlock m
+0 solo
+",
+        b"0 end ok
+0 sleep
+3 step
+3 step
+1 end ok
+1 sleep
+2 end yes
+0 end ok
+0 sleep
+3 end 2
+m 2 queue=0x retry=1
+c 0
+1 end ok
+1 end ok
+0 end ok
+",
+    ),
+];

@@ -1,0 +1,125 @@
+//! Worked schedules of `Once`, with the text that they lead to.
+
+/// Inputs, with the text that they lead to.
+pub(crate) const ONCE_ROWS: [(&[u8], &[u8]); 4] = [
+    // A run that fails poisons, and a forced call mends.
+    (
+        b"threads 1
+lock o once
+0 do call_once o
+show
+0 err
+show
+0 do call_once o
+0 do call_once_force o
+0 ok
+show
+0 do call_once o
+",
+        b"0 closure New
+o 4 own=0r
+0 end failed
+o 2
+0 end poisoned
+0 closure Poisoned
+0 end ok
+o 1
+0 end ok
+",
+    ),
+    // Who waits sleeps until another's run succeeds, and that one wakes it.
+    (
+        b"threads 2
+lock o once
+0 do wait o
+show
+1 do call_once o
+show
+1 ok
+show
+1 solo
+0 solo
+",
+        b"0 sleep
+o 8 queue=0w
+1 closure New
+o 12 own=1r queue=0w
+1 step
+o 1 queue=0w owe=1
+1 end ok
+0 end ok
+",
+    ),
+    // A run that fails wakes all who wait, and each is told of it.
+    (
+        b"threads 3
+lock o once
+0 do call_once o
+1 do call_once o
+2 do wait o
+show
+0 err
+show
+0 solo
+show
+1 solo
+2 solo
+1 do call_once_force o
+2 do wait_force o
+1 ok
+1 solo
+2 solo
+show
+",
+        b"0 closure New
+1 sleep
+2 sleep
+o 12 own=0r queue=1c,2w
+0 step
+o 2 queue=1c,2w owe=0
+0 end failed
+o 2 retry=1,2
+1 end poisoned
+2 end poisoned
+1 closure Poisoned
+2 sleep
+1 step
+1 end ok
+2 end ok
+o 1
+",
+    ),
+    // A closure ends by its answer alone, and only its own thread has one.
+    (
+        b"threads 2
+lock o once
+lock m mutex
+0 do call_once m
+0 do lock o
+0 ok
+0 do call_once o
+0 go
+0 spin
+0 do wait o
+1 ok
+1 err
+0 ok
+0 ok
+show
+",
+        b"0 not now
+0 not now
+0 not now
+0 closure New
+0 not now
+0 not now
+0 not now
+1 not now
+1 not now
+0 end ok
+0 not now
+o 1
+m 0
+",
+    ),
+];
