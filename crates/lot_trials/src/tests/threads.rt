@@ -75,7 +75,7 @@ fn receive<R: Wait>(rt: &R, lot: &ParkingLot, token: &mut Token, word: Word) -> 
     requires { IsTokenOf lot.now token.old × (word.kind ≡ Mutex) }
     ensures own { IsSameThread lot.now token.old token.new }
     ensures right { IfSome result
-        (λ right. IsRightOf lot.now.words right × (right.word ≡ word) × (right.owner ≡ Exclusive)) }
+        (λ right. IsRightOf lot.now.words right × (right.word.kind ≡ Mutex) × (right.owner ≡ Exclusive)) }
 {
     in_section(rt, lot, token, KEY, Task::LineUp(Want::Exclusive));
     sleep(rt, lot, token, word, Want::Exclusive)
