@@ -1,6 +1,7 @@
 //! Inputs through `start`: what they answer, and what a broken device leaves.
 mod devices;
 mod rows;
+mod text;
 
 use bucket_queues::BucketQueues;
 use devices::{Pieces, Refusal, Short};
@@ -28,6 +29,11 @@ use std::test::Fail;
 // it stands.
 fn same<T: PartialEq + Debug + Drop>(rt: &impl Abort, found: T, wanted: T) {
     assert_eq!(rt; found, wanted);
+}
+
+// What a test asks for holds.
+fn holds(rt: &impl Abort, truth: bool) {
+    assert!(rt; truth);
 }
 
 /// What an input leads to over a kind of queues.

@@ -1,5 +1,5 @@
-//! Queues, operations and clocks, the words of a schedule, and the steps of calls, tried. Nothing is
-//! here but tests, so that no library beneath is proved a second time for its own.
+//! Queues, operations, clocks and the steps of calls, tried. Nothing is here but tests, so that no
+//! library beneath is proved a second time for its own.
 #![tactic(auto)]
 
 #[cfg(test)]

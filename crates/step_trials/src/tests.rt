@@ -5,7 +5,6 @@ mod kinds;
 mod onces;
 mod places;
 mod queues;
-mod text;
 
 use lot_acts::Next;
 use lot_calls::Answer;
