@@ -9,6 +9,10 @@ pub use lot_base::{ListQueues, LockPicker, Pick, Picker, Queues, Waiter};
 pub use lot_calls::{
     Access, Answer, Call, CondvarCall, Downgrade, Kind, MutexCall, OnceCall, Patience, RwLockCall,
 };
+pub use lot_condvar::{CondvarPlace, NotifyAt, Stands, WaitAt};
+pub use lot_once::{LookAt, OncePlace, RunAt};
+pub use lot_rwlock::{Admission, RwLockAt, RwLockPlace, RwLockPurpose};
+pub use lot_rwlock_fair::{HandOverAt, HandedAt, RwLockCallPlace, Taken};
 pub use lot_world;
 pub use parking_lot_core::{
     Clock, Did, Fault, Key, Keys, Note, Op, ParkingLot, Requeue, Right, Section, SectionRecord,
