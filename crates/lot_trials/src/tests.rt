@@ -18,6 +18,7 @@ ghost use Rattle.parking_lot_core.specs.Sections.{IsUntouched, StaysIn, rightles
 ghost use Rattle.parking_lot_core.specs.Tokens.{IsNewTicketOf, IsSameThread, IsTicketOf, IsTokenOf};
 
 use lot_base::TickClock;
+use parking_lot_core::pauses::{SHORT_PAUSE, pause};
 use parking_lot_core::{
     Key, Keys, Note, ParkingLot, Right, Section, Slept, Ticket, Token, Want, Word, WordKind,
 };
@@ -135,10 +136,10 @@ fn ticket_of<A: Abort>(rt: &A, lot: &ParkingLot, tickets: &mut Vec<Ticket>) -> T
     }
 }
 
-// Lets others run so often.
+// Lets so many short pauses pass, in which others run.
 fn delay(turns: usize) {
     for _ in 0..turns {
-        yield_now();
+        pause(SHORT_PAUSE);
     }
 }
 

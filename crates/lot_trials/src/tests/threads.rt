@@ -24,7 +24,7 @@ const ROUNDS: usize = 200;
 // Of rounds in which both threads let time pass.
 const SLOW_ROUNDS: usize = 20;
 
-// How often a thread lets others run then.
+// For how many short pauses a thread lets others run then.
 const PAUSE: usize = 5;
 
 // Gives a right to the first in the line, and back where nobody stands there.
