@@ -54,12 +54,14 @@ wanted access.Exclusive = Exclusive
 
 -- the greater right of a downgrade, and the lesser one
 abbrev pub from_of : Downgrade → Access
+from_of downgrade.ToShared = access.Exclusive
+from_of downgrade.ToUpgradable = access.Exclusive
 from_of downgrade.UpgradableToShared = access.Upgradable
-from_of d = access.Exclusive
 
 abbrev pub to_of : Downgrade → Access
+to_of downgrade.ToShared = access.Shared
 to_of downgrade.ToUpgradable = access.Upgradable
-to_of d = access.Shared
+to_of downgrade.UpgradableToShared = access.Shared
 
 -- a shared right is given up as by any release, in a fair release and in a bump too
 abbrev pub is_fair_bump : Want → Bool
@@ -92,7 +94,24 @@ purpose_of (kind.TheVariants.Recursive limit) (call.TheVariants.RwLock l c) =
     Some (rwlock_purpose l c)
 purpose_of kind.TheVariants.Condvar (call.TheVariants.Condvar l c) = Some (condvar_purpose l c)
 purpose_of kind.TheVariants.Once (call.TheVariants.Once l c) = Some (once_purpose l c)
-purpose_of k c = None
+purpose_of kind.TheVariants.Mutex (call.TheVariants.RwLock l c) = None
+purpose_of kind.TheVariants.Mutex (call.TheVariants.Once l c) = None
+purpose_of kind.TheVariants.Mutex (call.TheVariants.Condvar l c) = None
+purpose_of kind.TheVariants.Fair (call.TheVariants.RwLock l c) = None
+purpose_of kind.TheVariants.Fair (call.TheVariants.Once l c) = None
+purpose_of kind.TheVariants.Fair (call.TheVariants.Condvar l c) = None
+purpose_of (kind.TheVariants.RwLock limit) (call.TheVariants.Mutex l c) = None
+purpose_of (kind.TheVariants.RwLock limit) (call.TheVariants.Once l c) = None
+purpose_of (kind.TheVariants.RwLock limit) (call.TheVariants.Condvar l c) = None
+purpose_of (kind.TheVariants.Recursive limit) (call.TheVariants.Mutex l c) = None
+purpose_of (kind.TheVariants.Recursive limit) (call.TheVariants.Once l c) = None
+purpose_of (kind.TheVariants.Recursive limit) (call.TheVariants.Condvar l c) = None
+purpose_of kind.TheVariants.Condvar (call.TheVariants.Mutex l c) = None
+purpose_of kind.TheVariants.Condvar (call.TheVariants.RwLock l c) = None
+purpose_of kind.TheVariants.Condvar (call.TheVariants.Once l c) = None
+purpose_of kind.TheVariants.Once (call.TheVariants.Mutex l c) = None
+purpose_of kind.TheVariants.Once (call.TheVariants.RwLock l c) = None
+purpose_of kind.TheVariants.Once (call.TheVariants.Condvar l c) = None
 
 -- what a call of a condition variable remembers of its own steps, and of what a notification did to
 -- it
@@ -128,7 +147,9 @@ MayWait (Some (Bumps l x)) k = l ≡ k
 MayWait (Some (CallsOnce l forced)) k = l ≡ k
 MayWait (Some (Awaits l forced)) k = l ≡ k
 MayWait (Some (Waits l m timed)) k = (l ≡ k) ⊎ (m ≡ k)
-MayWait purpose k = ⊥
+MayWait (Some (Releases l x fair)) k = ⊥
+MayWait (Some (Notifies l all)) k = ⊥
+MayWait None k = ⊥
 
 -- a call that releases the lock; a bump does so until it has, and then it enters; and a call that
 -- runs a closure, once its run has begun

@@ -387,7 +387,10 @@ HasRight w t (Some (Converts l x y how)) = Owns (w.locks l) t x
 HasRight w t (Some (Bumps l x)) = Owns (w.locks l) t x
 HasRight w t (Some (Waits l m timed)) =
     (is_plain_mutex (w.kinds m) ≡ true) × Owns (w.locks m) t Exclusive
-HasRight w t (Some purpose) = Unit {0}
+HasRight w t (Some (Enters l x how)) = Unit {0}
+HasRight w t (Some (CallsOnce l forced)) = Unit {0}
+HasRight w t (Some (Awaits l forced)) = Unit {0}
+HasRight w t (Some (Notifies l all)) = Unit {0}
 
 abbrev pub purpose_at : LocksState → Call → Option Purpose
 purpose_at w c = purpose_of (w.kinds (lock_in c)) c

@@ -1,5 +1,5 @@
 -- One turn of the driver: the steps that it added bring the reply, and that leads on.
-use Rattle.std.proofs.Common.{ℕ, ◌≡◌, Bool, true, List, [], Option, Some, None, refl, sym, ap, ◌∙◌, subst}
+use Rattle.std.proofs.Common.{ℕ, ◌≡◌, ◌≢◌, Bool, true, List, [], Option, Some, None, refl, sym, ap, ◌∙◌, subst}
 use Rattle.std.proofs.lemmas.List.{append-nil}
 use Rattle.lot_base.specs.declared.ops.Op.{Op}
 use Rattle.lot_calls.specs.declared.outcomes.OnceState.{OnceState}
@@ -35,36 +35,47 @@ use Rattle.parking_lot_core.specs.Tokens.{view_of, last_of}
 use Rattle.parking_lot_core.specs.declared.sections.Section.{Section}
 use Rattle.parking_lot_core.specs.declared.tokens.SectionRecord.{SectionRecord}
 use Rattle.parking_lot_core.specs.declared.tokens.Token.{Token}
-use Rattle.lot_driver.specs.Fitting.{AreWordsFor, answer_of}
-use Rattle.lot_driver.specs.Paths.{Brings, Told, closure_of, step, word, hands, parks, other, is_wordless, is_valueless}
+use Rattle.lot_driver.specs.Fitting.{AreWordsFor, answer_of, sleeper_at}
+use Rattle.lot_driver.specs.Paths.{Brings, MayReply, Told, closure_of, step, word, hands, parks, other, is_wordless, is_valueless}
 use Rattle.lot_driver.specs.Stages.{Stage, Became, Stepped, Adds, stage, stage_of, inside_of}
-use Rattle.lot_driver.specs.declared.sleepers.Sleeper.{Sleeper}
+use Rattle.lot_driver.specs.Sleepers.{late_at}
 
-wordless : (at : ℕ → ℕ) (p : Place) (a : Act) (reply : Reply) (before behind : List WordStep) → act_of p ≡ a → is_wordless a ≡ true → is_valueless reply ≡ true → behind ≡ before → Told at p reply before behind
-wordless at p a reply before behind is quiet valueless e = ([], e ∙ sym (append-nil before), other p reply (ap is_wordless is ∙ quiet) valueless)
+wordless : (at : ℕ → ℕ) (p : Place) (a : Act) (reply : Reply) (before behind : List WordStep) → act_of p ≡ a → is_wordless a ≡ true → is_valueless reply ≡ true → MayReply p reply → behind ≡ before → Told at p reply before behind
+wordless at p a reply before behind is quiet valueless may e = ([], e ∙ sym (append-nil before), other p reply (ap is_wordless is ∙ quiet) valueless may)
+
+-- the key under which a sleeper may be late is its place's
+is_late_at : (p : Place) → (sleeper_at p).late ≡ late_at p
+is_late_at Idle = refl
+is_late_at (Mutex l at) = refl
+is_late_at (RwLock l a c) = refl
+is_late_at (Once l at) = refl
+is_late_at (Condvar l at) = refl
+
+has_deadline : (p : Place) (key : ℕ) → (sleeper_at p).late ≡ Some key → late_at p ≢ None
+has_deadline p key late none = let one : Some key ≡ None = sym late ∙ is_late_at p ∙ none in cc
 
 some_closure : {state : OnceState} → Some state ≡ None → ⊥
 some_closure e = cc
 
-pub told : (up : Type 0) (at : ℕ → ℕ) (kinds : ℕ → WordKind) (sleeper : Sleeper) (p : Place) (a : Act) → act_of p ≡ a → closure_of a ≡ None → (st new : Stage) (reply : Reply) (before behind : List WordStep) → Became up kinds at sleeper st a reply new → Adds at a reply before behind → Told at p reply before behind
-told up at kinds sleeper p (act.TheVariants.Word l op) is runs st new (Value seen) before behind b e = (step (at l) op seen, e, word p l op seen is)
-told up at kinds sleeper p (act.TheVariants.HandOver l op) is runs st new (Value seen) before behind b e = (step (at l) op seen, e, hands p l op seen is)
-told up at kinds sleeper p (act.TheVariants.Park l key check want) is runs st new (Parked parked) before behind b e = (step (at l) Load e.0, e.2, subst (λ (x : Bool). Brings at p (step (at l) Load e.0) (Parked x)) (sym e.1) (parks p l key check want e.0 is))
-told up at kinds sleeper p (act.TheVariants.Enter keys) is runs st new Done before behind b e = wordless at p (act.TheVariants.Enter keys) Done before behind is refl refl e
-told up at kinds sleeper p (act.TheVariants.Stand key want) is runs st new Done before behind b e = wordless at p (act.TheVariants.Stand key want) Done before behind is refl refl e
-told up at kinds sleeper p (act.TheVariants.Take key whom.TheVariants.First) is runs st new (Took any left) before behind b e = wordless at p (act.TheVariants.Take key whom.TheVariants.First) (Took any left) before behind is refl refl e
-told up at kinds sleeper p (act.TheVariants.Take key whom.TheVariants.All) is runs st new (Took any left) before behind b e = wordless at p (act.TheVariants.Take key whom.TheVariants.All) (Took any left) before behind is refl refl e
-told up at kinds sleeper p (act.TheVariants.Take key (whom.TheVariants.Picked start recursive)) is runs st new (Picked sharers successor left) before behind b e = wordless at p (act.TheVariants.Take key (whom.TheVariants.Picked start recursive)) (Picked sharers successor left) before behind is refl refl e
-told up at kinds sleeper p (act.TheVariants.Take key who) is runs st new reply before behind b e = absurd b.0
-told up at kinds sleeper p (act.TheVariants.Requeue from to how) is runs st new (Requeued number left) before behind b e = wordless at p (act.TheVariants.Requeue from to how) (Requeued number left) before behind is refl refl e
-told up at kinds sleeper p (act.TheVariants.Remove key) is runs st new (Removed left) before behind b e = wordless at p (act.TheVariants.Remove key) (Removed left) before behind is refl refl e
-told up at kinds sleeper p (act.TheVariants.Leave keys wakes) is runs st new Done before behind b e = wordless at p (act.TheVariants.Leave keys wakes) Done before behind is refl refl e
-told up at kinds sleeper p act.TheVariants.Sleep is runs st new (Woken note) before behind b e = wordless at p act.TheVariants.Sleep (Woken note) before behind is refl refl e
-told up at kinds sleeper p act.TheVariants.Sleep is runs st new Late before behind b e = wordless at p act.TheVariants.Sleep Late before behind is refl refl e
-told up at kinds sleeper p act.TheVariants.Sleep is runs st new (MovedTo key) before behind b e = wordless at p act.TheVariants.Sleep (MovedTo key) before behind is refl refl e
-told up at kinds sleeper p act.TheVariants.Accept is runs st new Done before behind b e = wordless at p act.TheVariants.Accept Done before behind is refl refl e
-told up at kinds sleeper p (act.TheVariants.Closure state) is runs st new reply before behind b e = absurd (some_closure runs)
-told up at kinds sleeper p a is runs st new reply before behind b e = absurd b
+pub told : (up : Type 0) (at : ℕ → ℕ) (kinds : ℕ → WordKind) (p : Place) (a : Act) → act_of p ≡ a → closure_of a ≡ None → (st new : Stage) (reply : Reply) (before behind : List WordStep) → Became up kinds at (sleeper_at p) st a reply new → Adds at a reply before behind → Told at p reply before behind
+told up at kinds p (act.TheVariants.Word l op) is runs st new (Value seen) before behind b e = (step (at l) op seen, e, word p l op seen is)
+told up at kinds p (act.TheVariants.HandOver l op) is runs st new (Value seen) before behind b e = (step (at l) op seen, e, hands p l op seen is)
+told up at kinds p (act.TheVariants.Park l key check want) is runs st new (Parked parked) before behind b e = (step (at l) Load e.0, e.2, subst (λ (x : Bool). Brings at p (step (at l) Load e.0) (Parked x)) (sym e.1) (parks p l key check want e.0 is))
+told up at kinds p (act.TheVariants.Enter keys) is runs st new Done before behind b e = wordless at p (act.TheVariants.Enter keys) Done before behind is refl refl tt e
+told up at kinds p (act.TheVariants.Stand key want) is runs st new Done before behind b e = wordless at p (act.TheVariants.Stand key want) Done before behind is refl refl tt e
+told up at kinds p (act.TheVariants.Take key whom.TheVariants.First) is runs st new (Took any left) before behind b e = wordless at p (act.TheVariants.Take key whom.TheVariants.First) (Took any left) before behind is refl refl tt e
+told up at kinds p (act.TheVariants.Take key whom.TheVariants.All) is runs st new (Took any left) before behind b e = wordless at p (act.TheVariants.Take key whom.TheVariants.All) (Took any left) before behind is refl refl tt e
+told up at kinds p (act.TheVariants.Take key (whom.TheVariants.Picked start recursive)) is runs st new (Picked sharers successor left) before behind b e = wordless at p (act.TheVariants.Take key (whom.TheVariants.Picked start recursive)) (Picked sharers successor left) before behind is refl refl tt e
+told up at kinds p (act.TheVariants.Take key who) is runs st new reply before behind b e = absurd b.0
+told up at kinds p (act.TheVariants.Requeue from to how) is runs st new (Requeued number left) before behind b e = wordless at p (act.TheVariants.Requeue from to how) (Requeued number left) before behind is refl refl tt e
+told up at kinds p (act.TheVariants.Remove key) is runs st new (Removed left) before behind b e = wordless at p (act.TheVariants.Remove key) (Removed left) before behind is refl refl tt e
+told up at kinds p (act.TheVariants.Leave keys wakes) is runs st new Done before behind b e = wordless at p (act.TheVariants.Leave keys wakes) Done before behind is refl refl tt e
+told up at kinds p act.TheVariants.Sleep is runs st new (Woken note) before behind b e = wordless at p act.TheVariants.Sleep (Woken note) before behind is refl refl tt e
+told up at kinds p act.TheVariants.Sleep is runs st new Late before behind b e = wordless at p act.TheVariants.Sleep Late before behind is refl refl (has_deadline p b.0 b.1.0) e
+told up at kinds p act.TheVariants.Sleep is runs st new (MovedTo key) before behind b e = wordless at p act.TheVariants.Sleep (MovedTo key) before behind is refl refl (λ none. b.2 (is_late_at p ∙ none)) e
+told up at kinds p act.TheVariants.Accept is runs st new Done before behind b e = wordless at p act.TheVariants.Accept Done before behind is refl refl tt e
+told up at kinds p (act.TheVariants.Closure state) is runs st new reply before behind b e = absurd (some_closure runs)
+told up at kinds p a is runs st new reply before behind b e = absurd b
 
 -- the words of a call serve it to its end
 pub words_on : (p : Place) (reply : Reply) (kinds : ℕ → WordKind) (at : ℕ → ℕ) → AreWordsFor p kinds at → AreWordsFor (next_place p reply) kinds at

@@ -39,7 +39,7 @@ module _ (up : Type 0) (lot : ParkingLot) (words : Words) (p : Place) (old new :
   turned_by a reply is none at same inside became adds = (
     same,
     inside,
-    told up (at_in words) (kind_in words) (sleeper_at p) p a is none (stage_of old section) (stage_of new now) reply (steps_of old) (steps_of new) became adds,
+    told up (at_in words) (kind_in words) p a is none (stage_of old section) (stage_of new now) reply (steps_of old) (steps_of new) became adds,
     λ base fits. (places_lead up (kind_in words) (at_in words) base p (stage_of old section) at.3 fits).2 reply (stage_of new now)
         (subst (λ (b : Act). Became up (kind_in words) (at_in words) (sleeper_at p) (stage_of old section) b reply (stage_of new now)) (sym is) became),
   )

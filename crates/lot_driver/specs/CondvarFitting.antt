@@ -4,10 +4,8 @@ use Rattle.lot_base.specs.Lines.{threads_of}
 use Rattle.lot_base.specs.declared.keys.Keys.TheVariants.{Two}
 use Rattle.lot_base.specs.declared.requeues.Requeue.TheVariants as requeue
 use Rattle.lot_base.specs.declared.wants.Waiter.{Waiter}
-use Rattle.lot_base.specs.declared.wants.Want.TheVariants as wants
 use Rattle.lot_calls.specs.declared.outcomes.Answer.{Answer}
 use Rattle.lot_calls.specs.declared.outcomes.Answer.TheVariants as answers
-use Rattle.lot_condvar.specs.CondvarProfiles.{condvar_late_key}
 use Rattle.lot_condvar.specs.CondvarSteps.{notified, waited}
 use Rattle.lot_condvar.specs.declared.notify.NotifyAt.{NotifyAt}
 use Rattle.lot_condvar.specs.declared.notify.NotifyAt.TheVariants as notify
@@ -21,8 +19,6 @@ use Rattle.lot_mutex.specs.declared.lock.Entry.TheVariants as entry
 use Rattle.lot_mutex.specs.declared.places.MutexPlace.{MutexPlace}
 use Rattle.lot_mutex.specs.declared.places.MutexPlace.TheVariants.{Lock, Unlock}
 use Rattle.lot_mutex.specs.declared.unlock.UnlockAt.TheVariants as unlock
-use Rattle.lot_steps.specs.Steps.{late_key}
-use Rattle.lot_steps.specs.declared.places.Place.TheVariants.{Mutex}
 use Rattle.lot_words.specs.Steps.{has, without}
 use Rattle.lot_words.specs.declared.owners.Ownership.{Ownership}
 use Rattle.parking_lot_core.specs.declared.tokens.Did.{Did}
@@ -30,28 +26,6 @@ use Rattle.parking_lot_core.specs.declared.tokens.Did.TheVariants as did
 use Rattle.parking_lot_core.specs.declared.tokens.SectionRecord.{SectionRecord}
 use Rattle.lot_driver.specs.MutexFitting.{FitsLock, FitsUnlock, Outside, Within, held}
 use Rattle.lot_driver.specs.Stages.{HasLeft, Stage, TookNobodyAt, entered_now, having_taken}
-use Rattle.lot_driver.specs.declared.sleepers.Sleeper.{Sleeper}
-
--- a thread that waits sleeps for its mutex, and may be moved to the queue of that meanwhile
-abbrev pub condvar_sleeper : ℕ → CondvarPlace → Sleeper
-condvar_sleeper c (Wait m timed (wait.Lock timed_out at)) =
-    record {
-      lock = m;
-      want = wants.Exclusive;
-      late = late_key (Mutex m at);
-      moved = None;
-      takes_over = true;
-    }
-condvar_sleeper c (Wait m timed at) =
-    record {
-      lock = m;
-      want = wants.Exclusive;
-      late = condvar_late_key c (Wait m timed at);
-      moved = Some (2 * m);
-      takes_over = true;
-    }
-condvar_sleeper c p = record
-    { lock = c; want = wants.Exclusive; late = None; moved = None; takes_over = false }
 
 -- who waits owned its mutex as the call began
 abbrev pub OwnsIt : ℕ → List Ownership → Type 0

@@ -4,7 +4,7 @@ use Rattle.std.specs.Prelude.{ℕ, ◌≡◌, ◌≢◌, List, Option, Some, Non
 use Rattle.lot_rwlock_fair.specs.FairProfiles.{call_wants}
 use Rattle.lot_base.specs.declared.wants.Want.TheVariants.{Exclusive}
 use Rattle.lot_calls.specs.declared.outcomes.Answer.{Answer}
-use Rattle.lot_steps.specs.Steps.{act_of, late_key, next_place, next_act, looking, HasKeys}
+use Rattle.lot_steps.specs.Steps.{act_of, next_place, next_act, looking, HasKeys}
 use Rattle.lot_acts.specs.declared.acts.Act.{Act}
 use Rattle.lot_acts.specs.declared.acts.Act as act
 use Rattle.lot_acts.specs.declared.acts.Reply.{Reply}
@@ -29,7 +29,8 @@ use Rattle.lot_condvar.specs.CondvarSteps.{mutex_beside}
 use Rattle.lot_condvar.specs.declared.places.CondvarPlace.{CondvarPlace}
 use Rattle.lot_condvar.specs.declared.places.CondvarPlace.TheVariants as condvars
 use Rattle.lot_words.specs.declared.words.WordKind.TheVariants as kind
-use Rattle.lot_driver.specs.CondvarFitting.{FitsCondvar, IsNotifyOver, IsWaitOver, condvar_sleeper}
+use Rattle.lot_driver.specs.Sleepers.{condvar_sleeper, late_at}
+use Rattle.lot_driver.specs.CondvarFitting.{FitsCondvar, IsNotifyOver, IsWaitOver}
 use Rattle.lot_calls.specs.declared.calls.Patience.TheVariants.{Patient}
 use Rattle.lot_driver.specs.MutexFitting.{Purpose, purpose_at, FitsMutex, IsMutexOver}
 use Rattle.lot_driver.specs.RwLockFitting.{FitsCall, IsFairlyOver, IsRwLockOver, may_be_handed, purpose_in}
@@ -95,12 +96,12 @@ aim_of (Condvar l at) = condvar_aim l at
 -- where it is handed the lock. Nobody is moved from the queue of a lock
 abbrev pub sleeper_at : Place → Sleeper
 sleeper_at Idle = record
-    { lock = 0; want = Exclusive; late = None; moved = None; takes_over = false }
+    { lock = 0; want = Exclusive; late = late_at Idle; moved = None; takes_over = false }
 sleeper_at (Mutex l at) =
     record {
       lock = l;
       want = Exclusive;
-      late = late_key (Mutex l at);
+      late = late_at (Mutex l at);
       moved = None;
       takes_over = true;
     }
@@ -108,7 +109,7 @@ sleeper_at (RwLock l a c) =
     record {
       lock = l;
       want = unwrap_or (call_wants c) Exclusive;
-      late = late_key (RwLock l a c);
+      late = late_at (RwLock l a c);
       moved = None;
       takes_over = may_be_handed c;
     }
@@ -116,7 +117,7 @@ sleeper_at (Once l at) =
     record {
       lock = l;
       want = unwrap_or (once_wants at) Exclusive;
-      late = late_key (Once l at);
+      late = late_at (Once l at);
       moved = None;
       takes_over = false;
     }

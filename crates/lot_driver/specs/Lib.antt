@@ -1,5 +1,6 @@
 pub mod Words
 pub mod Takes
+pub mod Sleepers
 pub mod Paths
 pub mod Stages
 pub mod Telling

@@ -1,5 +1,5 @@
 -- The word steps of a call are a path of its transitions.
-use Rattle.std.specs.Prelude.{ℕ, ◌≡◌, Bool, true, false, Option, Some, None, List, [], ◌∷◌, ◌++◌, ◌⊎◌}
+use Rattle.std.specs.Prelude.{ℕ, ◌≡◌, ◌≢◌, Bool, true, false, Option, Some, None, List, [], ◌∷◌, ◌++◌, ◌⊎◌}
 use Rattle.lot_base.specs.declared.ops.Op.{Op}
 use Rattle.lot_base.specs.declared.ops.Op.TheVariants.{Load}
 use Rattle.lot_base.specs.declared.wants.Want.{Want}
@@ -12,10 +12,11 @@ use Rattle.lot_acts.specs.declared.acts.Act.{Act}
 use Rattle.lot_acts.specs.declared.acts.Act as act
 use Rattle.lot_acts.specs.declared.acts.Check.{Check}
 use Rattle.lot_acts.specs.declared.acts.Reply.{Reply}
-use Rattle.lot_acts.specs.declared.acts.Reply.TheVariants.{Value, Parked}
+use Rattle.lot_acts.specs.declared.acts.Reply.TheVariants.{Done, Value, Parked, Took, Picked, Requeued, Removed, TakenBy, MovedTo, HandedBy, Late, Woken, Closed}
 use Rattle.lot_calls.specs.declared.outcomes.Answer.{Answer}
 use Rattle.lot_calls.specs.declared.outcomes.OnceState.{OnceState}
 use Rattle.lot_steps.specs.declared.places.Place.{Place}
+use Rattle.lot_driver.specs.Sleepers.{late_at}
 use Rattle.lot_driver.specs.declared.driver.Stop.{Stop}
 use Rattle.lot_driver.specs.declared.driver.Stop.TheVariants.{Ended, Paused}
 
@@ -82,6 +83,23 @@ is_valueless (Value seen) = false
 is_valueless (Parked parked) = false
 is_valueless _ = true
 
+-- only a sleeper whose call has a deadline is late, in the queue where it stands or in the one to
+-- which it was moved
+abbrev pub MayReply : Place → Reply → Type 0
+MayReply p Done = Unit {0}
+MayReply p (Value seen) = Unit {0}
+MayReply p (Parked parked) = Unit {0}
+MayReply p (Took any none_left) = Unit {0}
+MayReply p (Picked sharers successor none_left) = Unit {0}
+MayReply p (Requeued number none_left) = Unit {0}
+MayReply p (Removed none_left) = Unit {0}
+MayReply p (TakenBy by) = Unit {0}
+MayReply p (MovedTo key) = late_at p ≢ None
+MayReply p (HandedBy by alone) = Unit {0}
+MayReply p Late = late_at p ≢ None
+MayReply p (Woken note) = Unit {0}
+MayReply p (Closed succeeded) = Unit {0}
+
 -- at a place these steps on words bring the reply, by where the word of each lock stands
 pub data Brings (at : ℕ → ℕ) : Place → List WordStep → Reply → Type 0 where
   word : (p : Place) (lock : ℕ) (op : Op) (seen : ℕ) → act_of p ≡ act.TheVariants.Word lock op
@@ -92,7 +110,7 @@ pub data Brings (at : ℕ → ℕ) : Place → List WordStep → Reply → Type 
       → act_of p ≡ act.TheVariants.Park lock key check want
       → Brings at p (step (at lock) Load seen) (Parked (holds check seen))
   other : (p : Place) (reply : Reply) → is_wordless (act_of p) ≡ true → is_valueless reply ≡ true
-      → Brings at p [] reply
+      → MayReply p reply → Brings at p [] reply
 
 -- these steps were added, and bring the reply
 abbrev pub Told : (ℕ → ℕ) → Place → Reply → List WordStep → List WordStep → Type 0

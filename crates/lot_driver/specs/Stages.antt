@@ -277,6 +277,7 @@ Awoke up kind at sleeper st (Woken HandOff) new =
     × (sleeper.takes_over ≡ true)
 Awoke up kind at sleeper st Late new = (key : ℕ) × AwokeLate key sleeper st Late new × up
 Awoke up kind at sleeper st (MovedTo to) new = AwokeLate to sleeper st (MovedTo to) new × up
+    × (sleeper.late ≢ None)
 Awoke up kind at sleeper st _ new = ⊥
 
 -- after a step on a word, which found the code of owners among whom these are

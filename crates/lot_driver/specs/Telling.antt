@@ -1,14 +1,15 @@
 -- Words for what a clause of the driver says of tokens and sections.
-use Rattle.std.specs.Prelude.{ℕ, ◌≡◌, ◌==◌, ◌+◌, ◌++◌, ◌∷◌, [], not, Bool, List, Option, length, MatchBool}
+use Rattle.std.specs.Prelude.{ℕ, ◌≡◌, ◌==◌, ◌+◌, ◌++◌, ◌∷◌, [], not, Bool, List, Option, Some, length, MatchBool}
 use Rattle.lot_acts.specs.declared.acts.Act.{Act}
 use Rattle.lot_acts.specs.declared.acts.Act as act
 use Rattle.lot_acts.specs.declared.acts.Reply.{Reply}
-use Rattle.lot_acts.specs.declared.acts.Reply.TheVariants.{Done, Parked, Took, Picked, Requeued, Removed}
+use Rattle.lot_acts.specs.declared.acts.Reply.TheVariants.{Done, Late, Parked, Took, Picked, Requeued, Removed}
 use Rattle.lot_acts.specs.declared.acts.Whom.{Whom}
 use Rattle.lot_acts.specs.declared.acts.Whom as whom
-use Rattle.lot_base.specs.Lines.{line, lines, waiter, without, without_first, without_key}
+use Rattle.lot_base.specs.Lines.{key_of as queued_under, line, lines, waiter, without, without_first, without_key}
 use Rattle.lot_base.specs.Picks.{lock_picked, without_lock_picked}
 use Rattle.lot_base.specs.Requeues.{moved_by, requeued}
+use Rattle.lot_base.specs.declared.keys.Keys.TheVariants.{One}
 use Rattle.lot_base.specs.declared.ops.Op.{Op}
 use Rattle.lot_base.specs.declared.requeues.Requeue.{Requeue}
 use Rattle.lot_base.specs.declared.wants.Waiter.{Waiter}
@@ -24,7 +25,7 @@ use Rattle.parking_lot_core.specs.declared.sections.Section.{Section}
 use Rattle.parking_lot_core.specs.declared.tokens.Did.{Did}
 use Rattle.parking_lot_core.specs.declared.tokens.Token.{Token}
 use Rattle.lot_queues.specs.Wants.{wants_of}
-use Rattle.lot_driver.specs.Stages.{HasKey, IsFresh, IsIn, first_in, inside_of, is_there, listed, taken_of, took_as, waiting_of}
+use Rattle.lot_driver.specs.Stages.{HasKey, IsFresh, IsIn, entered_now, first_in, inside_of, is_there, listed, taken_of, took_as, waiting_of}
 use Rattle.lot_driver.specs.Takes.{sharers_in, successor_in}
 
 -- what a thread owns, and the steps that it took
@@ -100,6 +101,12 @@ TellsRequeue from to how number none_left old new =
     (moved_by how (line_in from old)))
     × AreWaiting (requeued how from to (waiting_of old)) new × (none_left ≡ is_empty_at from new)
 
+-- a sleeper that is late stands in the queue still, inside whose section it is: another that takes it
+-- or moves it first makes it no late one
+abbrev pub StandsWhereLate : ℕ → Option Section → Type 0
+StandsWhereLate thread section = (key : ℕ) × (inside_of section ≡ entered_now (One key))
+    × (queued_under thread (waiting_of section) ≡ Some key)
+
 -- what an act of this thread tells of the queues is so, and it leaves them as it says
 abbrev pub TellsQueues : Act → Reply → ℕ → Option Section → Option Section → Type 0
 TellsQueues (act.TheVariants.Park lock key check want) (Parked parked) me old new =
@@ -110,4 +117,5 @@ TellsQueues (act.TheVariants.Requeue from to how) (Requeued number none_left) me
     TellsRequeue from to how number none_left old new
 TellsQueues (act.TheVariants.Remove key) (Removed none_left) me old new =
     AreWaiting (without me (waiting_of old)) new × (none_left ≡ is_empty_at key new)
+TellsQueues act.TheVariants.Sleep Late me old new = StandsWhereLate me new
 TellsQueues a reply me old new = Unit {0}

@@ -1,7 +1,8 @@
 //! What a thread does in one act of any call, whatever the lock is.
 ghost use Rattle.std.specs.Prelude.{◌≡◌, ◌++◌, ◌∷◌, ◌==◌, ℕ, [], None, Some, length, MatchBool};
 ghost use Rattle.lot_base.specs.Clocks.{IsUp};
-ghost use Rattle.lot_base.specs.Lines.{waiter, line, lines, without};
+ghost use Rattle.lot_base.specs.Lines.{key_of as queued_under, waiter, line, lines, without};
+ghost use Rattle.lot_acts.specs.declared.acts.Act.TheVariants.{Sleep};
 ghost use Rattle.lot_base.specs.declared.keys.Keys.TheVariants.{One};
 ghost use Rattle.lot_base.specs.declared.ops.Op.TheVariants.{Load};
 ghost use Rattle.lot_acts.specs.Acts.{holds};
@@ -10,6 +11,7 @@ ghost use Rattle.lot_words.specs.Lots.{IsWordOf};
 ghost use Rattle.lot_words.specs.Indices.{word_index};
 ghost use Rattle.lot_words.specs.Steps.{MayStep, CodesWith, after_step};
 ghost use Rattle.parking_lot_core.specs.Keys.{AreKeys};
+ghost use Rattle.parking_lot_core.specs.Sections.{waiting_in};
 ghost use Rattle.parking_lot_core.specs.Tokens.{IsTokenOf, IsSameThread, view_of, last_of};
 ghost use Rattle.lot_driver.specs.Fitting.{sleeper_at};
 ghost use Rattle.lot_driver.specs.Paths.{closure_of, step};
@@ -222,11 +224,13 @@ fn awake_late<'a, R: Wait>(
 ) -> Reply
     requires own { IsTokenOf inside.lot.now token.old × (inside_of section.old ≡ None) }
     requires late { inside_of (Some inside) ≡ entered_now (One key) }
+    requires stands { queued_under token.old.number (waiting_in inside) ≡ Some key }
     ensures own { IsSameThread inside.entry.lot.now token.old token.new
         × IsIn inside.entry.lot.now section.new
         × (steps_of token.new ≡ steps_of token.old) }
     ensures awoke { AwokeLate key sleeper (stage_of token.old section.old) result
         (stage_of token.new section.new) }
+    ensures queues { TellsQueues Sleep result token.old.number section.old section.new }
 {
     if sleeper.late == Some(key) {
         match section.replace(inside) {
@@ -262,6 +266,7 @@ pub(crate) fn sleep<'a, R: Wait, C: Clock>(
         × (steps_of token.new ≡ steps_of token.old) }
     ensures awoke { Awoke (IsUp C.tells limit.entry) word.kind (index_of word) sleeper
         (stage_of token.old section.old) result (stage_of token.new section.new) }
+    ensures queues { TellsQueues Sleep result token.old.number section.old section.new }
 {
     let limit = sleeper.late.and(limit);
     match lot.sleep(rt, token, word, sleeper.want, limit) {

@@ -2,7 +2,7 @@
 ghost use Rattle.std.specs.Prelude.{◌≡◌};
 ghost use Rattle.lot_steps.specs.Steps.{HasKeys};
 ghost use Rattle.lot_steps.specs.declared.places.Place.TheVariants.{Condvar};
-ghost use Rattle.lot_driver.specs.CondvarFitting.{condvar_sleeper};
+ghost use Rattle.lot_driver.specs.Sleepers.{condvar_sleeper};
 ghost use Rattle.lot_driver.specs.Fitting.{sleeper_at};
 ghost use Rattle.lot_driver.specs.RwLockFitting.{may_be_handed};
 

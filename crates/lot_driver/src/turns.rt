@@ -6,7 +6,7 @@ ghost use Rattle.lot_acts.specs.declared.acts.Reply.TheVariants.{Done, Requeued,
 ghost use Rattle.lot_acts.specs.declared.acts.Whom.TheVariants as whom;
 ghost use Rattle.std.specs.Prelude.{◌≡◌};
 ghost use Rattle.lot_steps.specs.Steps.{act_of};
-ghost use Rattle.lot_driver.specs.Telling.{StandsLast, TellsRequeue, TellsTake};
+ghost use Rattle.lot_driver.specs.Telling.{StandsLast, TellsQueues, TellsRequeue, TellsTake};
 ghost use Rattle.lot_driver.specs.Turns.{HasDone, HasTurned, IsAt, MayDo};
 
 pub use crate::acting::end;
@@ -151,8 +151,9 @@ pub fn turn_sleep<'a, R: Wait, C: Clock>(
 ) -> Reply
     requires at { IsAt (IsUp C.tells limit) lot.now words place token.old section.old }
     requires act { act_of place ≡ acts.Sleep }
-    ensures { HasTurned (IsUp C.tells limit.entry) lot.now words place result token.old section.old
-        token.new section.new }
+    ensures turned { HasTurned (IsUp C.tells limit.entry) lot.now words place result token.old
+        section.old token.new section.new }
+    ensures queues { TellsQueues acts.Sleep result token.old.number section.old section.new }
 {
     let sleeper = sleeper_at(place);
     sleep(

@@ -11,7 +11,7 @@ use std::alloc::Global;
 use std::sync::atomic::AtomicUsize;
 use std::sync::atomic::Ordering::SeqCst;
 use std::sync::{Arc, Wait};
-use std::thread::{Threads, map_vec, yield_now};
+use std::thread::{Threads, scope, scope_env, yield_now};
 
 // So many threads read at once.
 const READERS: usize = 2;
@@ -133,7 +133,8 @@ fn count<R: Wait>(rt: &R, total: &Mutex<u64>, ticket: Ticket)
     drop(token.leave());
 }
 
-// Whether two readers met.
+// Whether two readers met. A thread that the system refuses is told as such, and its call is not run
+// in another's place.
 fn met<R: Threads + Wait + Sync>(
     rt: &R,
     lock: &RwLock<u64>,
@@ -141,12 +142,29 @@ fn met<R: Threads + Wait + Sync>(
 ) -> Result<bool, Fault>
     requires { All (IsTicketOf (rwlot_of lock.now)) tickets.items }
 {
-    let flags = AtomicUsize::new(0);
-    let arrived = &flags;
-    match map_vec(rt, tickets, &|ticket| meets(rt, lock, ticket, arrived)) {
-        Ok(seen) => Ok(seen.iter().all(|met| *met)),
-        Err(_) => Err(Fault::NoMemory),
+    let (arrivals, meetings) = (AtomicUsize::new(0), AtomicUsize::new(0));
+    let (arrived, seen) = (&arrivals, &meetings);
+    let all_run = scope(scope_env(), rt, |scope|
+        requires { All (IsTicketOf (rwlot_of lock.now)) tickets.items }
+    {
+        for ticket in tickets {
+            let reader = move ||
+                requires { IsTicketOf (rwlot_of lock.now) ticket }
+            {
+                if meets(rt, lock, ticket, arrived) {
+                    seen.fetch_add(1, SeqCst);
+                }
+            };
+            if scope.spawn(reader).is_err() {
+                return false;
+            }
+        }
+        true
+    });
+    if !all_run {
+        return Err(Fault::NoMemory);
     }
+    Ok(meetings.load(SeqCst) == READERS)
 }
 
 fn all_count<R: Threads + Wait + Sync>(
@@ -157,10 +175,25 @@ fn all_count<R: Threads + Wait + Sync>(
     requires { All (IsTicketOf (lot_of total)) tickets.items }
 {
     let shared = &total;
-    match map_vec(rt, tickets, &|ticket| count(rt, shared, ticket)) {
-        Ok(_) => Ok(total.into_inner()),
-        Err(_) => Err(Fault::NoMemory),
+    let all_run = scope(scope_env(), rt, |scope|
+        requires { All (IsTicketOf (lot_of shared.now)) tickets.items }
+    {
+        for ticket in tickets {
+            let counter = move ||
+                requires { IsTicketOf (lot_of shared.now) ticket }
+            {
+                count(rt, shared, ticket);
+            };
+            if scope.spawn(counter).is_err() {
+                return false;
+            }
+        }
+        true
+    });
+    if !all_run {
+        return Err(Fault::NoMemory);
     }
+    Ok(total.into_inner())
 }
 
 /// Runs all of them, one job after the other.

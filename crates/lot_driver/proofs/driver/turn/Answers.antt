@@ -20,7 +20,7 @@ pub returns-clause-told : goal.returns-clause-told
 returns-clause-told g c = let old = (view_of c.args.token.now).steps in let new = (view_of c.perform.new.token).steps in let words = c.args.words in
     let adds = subst (λ (a : Act). Adds (at_in c.args.words) a c.perform.result (view_of c.args.token.now).steps (view_of c.perform.new.token).steps) c.requires.act c.perform.ensures.adds in
     let became = subst (λ (a : Act). Became (IsUp g.C.Clock.tells c.args.limit) (kind_in c.args.words) (at_in c.args.words) (sleeper_at c.args.place) (stage_of c.args.token.now c.args.section.now) a c.perform.result (stage_of c.perform.new.token c.perform.new.section)) c.requires.act c.perform.ensures.became in
-    told (IsUp g.C.Clock.tells c.args.limit) (at_in words) (kind_in words) (sleeper_at c.args.place) c.args.place (act_of c.args.place) refl c.requires.no_closure (stage_of c.args.token.now c.args.section.now) (stage_of c.perform.new.token c.perform.new.section) c.perform.result old new became adds
+    told (IsUp g.C.Clock.tells c.args.limit) (at_in words) (kind_in words) c.args.place (act_of c.args.place) refl c.requires.no_closure (stage_of c.args.token.now c.args.section.now) (stage_of c.perform.new.token c.perform.new.section) c.perform.result old new became adds
 
 pub returns-clause-reached : goal.returns-clause-reached
 returns-clause-reached g c = let words = c.args.words in let st = stage_of c.args.token.now c.args.section.now in
