@@ -414,7 +414,7 @@ value_seen : (l : ℕ) (p : Place) (xs : List WordStep) (told : Reply) → Bring
 value_seen l p _ _ (word _ lock op s e) seen is = let same : s ≡ seen = cc in (op, ap (step (rwlock_at l) op) same)
 value_seen l p _ _ (hands _ lock op s e) seen is = let same : s ≡ seen = cc in (op, ap (step (rwlock_at l) op) same)
 value_seen l p _ _ (parks _ lock key check _ s e) seen is = absurd cc
-value_seen l p _ _ (other _ told e none) seen is = let told_none : is_valueless (reply.Value seen) ≡ true = subst (λ (r : Reply). is_valueless r ≡ true) is none in absurd cc
+value_seen l p _ _ (other _ told e none may) seen is = let told_none : is_valueless (reply.Value seen) ≡ true = subst (λ (r : Reply). is_valueless r ≡ true) is none in absurd cc
 
 -- who is told so is kept out by nobody, and sees as many readers as there may be
 module _ (a : Admission) (how : Patience) (seen : ℕ) where
