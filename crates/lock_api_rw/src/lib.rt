@@ -5,9 +5,10 @@ mod calls;
 mod fair;
 pub mod guards;
 pub mod held;
-pub mod inner;
+pub mod reaches;
 pub mod rights;
 pub mod rwlock;
+pub mod shows;
 
 pub use guards::{RwLockReadGuard, RwLockUpgradableReadGuard, RwLockWriteGuard};
 pub use lock_raw::{
