@@ -27,10 +27,7 @@ use std::time::Duration;
 pub type RwLockReadGuard<'a, R, T> = Held<Reading<'a, R, T>, Seen<'a, T>>;
 
 /// The value may be read, and written later.
-pub type RwLockUpgradableReadGuard<'a, R, T> = Held<
-    Upgrading<'a, R, T>,
-    Seen<'a, T>,
->;
+pub type RwLockUpgradableReadGuard<'a, R, T> = Held<Upgrading<'a, R, T>, Seen<'a, T>>;
 
 /// The value may be read and written.
 pub type RwLockWriteGuard<'a, R, T> = Held<Writing<'a, R, T>, Open<'a, T>>;

@@ -227,7 +227,10 @@ impl<R: RawRwLock, T> RwLock<R, T> {
 
 impl<R: RawRwLockUpgrade, T> RwLock<R, T> {
     #[inline]
-    pub(crate) fn open_upgradable(&self, raw: R::UpgradableGuard) -> RwLockUpgradableReadGuard<'_, R, T>
+    pub(crate) fn open_upgradable(
+        &self,
+        raw: R::UpgradableGuard,
+    ) -> RwLockUpgradableReadGuard<'_, R, T>
         requires { R.is_upgradable_of self.now raw }
         ensures { lock_of result ≡ self.now }
     {

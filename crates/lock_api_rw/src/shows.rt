@@ -4,6 +4,7 @@ ghost use Rattle.std.specs.Borrow.{Lends, sem};
 ghost use Rattle.lot_place.specs.Ownership.{PlaceId};
 ghost use Rattle.lot_place.specs.Written.{with_value};
 ghost use Rattle.lot_words.specs.declared.views.View.{View};
+ghost use Rattle.lock_api_rw.specs.Written.{seen_with_value};
 
 use lot_place::{Open, Seen};
 use std::ops::{Deref, DerefMut};
@@ -26,6 +27,14 @@ pub trait Shows {
     ghost opened_by: { Self → View };
     // What it shows.
     ghost shown: { Self → Self.Value };
+    // The same with another value, whose place is open by the same right.
+    ghost written: { Self → Self.Value → Self };
+
+    ghost stays_opened: { (lent : Self) (value : Self.Value)
+        → opened (written lent value) ≡ opened lent };
+
+    ghost stays_opened_by: { (lent : Self) (value : Self.Value)
+        → opened_by (written lent value) ≡ opened_by lent };
 
     fn show(&self) -> &Self::Value
         ensures { result.now ≡ shown self.now };
@@ -33,23 +42,14 @@ pub trait Shows {
 
 /// One that may be written through.
 pub trait ShowsMut: Shows {
-    // The same, once this was written: its place is open by the same right then.
-    ghost written: { Self → Self.Value → Self };
-
-    ghost stays_opened: { (lent : Self) (value : Self.Value)
-        → Self.opened (written lent value) ≡ Self.opened lent };
-
-    ghost stays_opened_by: { (lent : Self) (value : Self.Value)
-        → Self.opened_by (written lent value) ≡ Self.opened_by lent };
-
     fn show_mut(&mut self) -> &mut Self::Value
         ensures* writes_back { sem 𝓛
-            (Lends Self.row Self.Value.row self.entry result (written self.old)) }
+            (Lends Self.row Self.Value.row self.entry result (Self.written self.old)) }
         ensures shows { result.now ≡ Self.shown self.old };
 
     // What was written is shown.
     ghost shows_written: { (lent : Self) (value : Self.Value)
-        → Self.shown (written lent value) ≡ value };
+        → Self.Shows.shown (Self.Shows.written lent value) ≡ value };
 }
 
 impl<T> Shows for Seen<'_, T> {
@@ -60,6 +60,12 @@ impl<T> Shows for Seen<'_, T> {
     ghost opened_by = { λ seen. seen.view };
 
     ghost shown = { λ seen. seen.value };
+
+    ghost written = { seen_with_value };
+
+    ghost stays_opened = { λ _ _. refl };
+
+    ghost stays_opened_by = { λ _ _. refl };
 
     #[inline]
     fn show(&self) -> &T {
@@ -76,6 +82,12 @@ impl<T> Shows for Open<'_, T> {
 
     ghost shown = { λ lent. lent.value };
 
+    ghost written = { with_value };
+
+    ghost stays_opened = { λ _ _. refl };
+
+    ghost stays_opened_by = { λ _ _. refl };
+
     #[inline]
     fn show(&self) -> &T {
         self.deref()
@@ -83,12 +95,6 @@ impl<T> Shows for Open<'_, T> {
 }
 
 impl<T> ShowsMut for Open<'_, T> {
-    ghost written = { with_value };
-
-    ghost stays_opened = { λ _ _. refl };
-
-    ghost stays_opened_by = { λ _ _. refl };
-
     ghost shows_written = { λ _ _. refl };
 
     #[inline]
