@@ -4,14 +4,18 @@
 pub mod condvar;
 pub mod guarded;
 pub mod guards;
+pub mod mapped;
 pub mod mutex;
 pub mod reaches;
+pub mod showing;
 pub mod shows;
 pub mod taken;
 pub mod waits;
 
 pub use condvar::Condvar;
 pub use guards::MutexGuard;
+pub use mapped::MappedMutexGuard;
 pub use lock_raw::{RawCondvar, RawCondvarTimed, RawMutex, RawMutexFair, RawMutexTimed};
 pub use mutex::Mutex;
+pub use projections::{LockName, Mapped, Project, Shown, Then, ThenError};
 pub use waits::WaitTimeoutResult;

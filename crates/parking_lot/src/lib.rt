@@ -22,7 +22,8 @@ pub use raw_mutexes::{OpenGuard, RawCondvar, RawFairMutex, RawGuard, RawMutex};
 pub use raw_rwlocks::{
     RawExclusiveGuard, RawRwLock, RawRwLockRecursive, RawSharedGuard, RawUpgradableGuard,
 };
-pub use run_once::{Once, OnceCell, OnceFault, OnceState};
+pub use projections::{LockName, Mapped, Project, Shown, Then, ThenError};
+pub use run_once::{Once, OnceCell, OnceFault, OnceShown, OnceState};
 
 /// A mutex of a lot, with its value.
 pub type Mutex<T> = lock_api::Mutex<RawMutex, T>;
@@ -30,11 +31,17 @@ pub type Mutex<T> = lock_api::Mutex<RawMutex, T>;
 /// The guard of a [`Mutex`]. It shows the value, and is spent by `unlock`, or by `unlock_fair`.
 pub type MutexGuard<'a, T> = lock_api::MutexGuard<'a, RawMutex, T>;
 
+/// Guards the part of a [`Mutex`]'s value that a projection finds.
+pub type MappedMutexGuard<'a, T, P> = lock_api::MappedMutexGuard<'a, RawMutex, T, P>;
+
 /// A mutex of a lot, with its value, whose guard hands it to the first who waits.
 pub type FairMutex<T> = lock_api::Mutex<RawFairMutex, T>;
 
 /// The guard of a [`FairMutex`].
 pub type FairMutexGuard<'a, T> = lock_api::MutexGuard<'a, RawFairMutex, T>;
+
+/// Guards the part of a [`FairMutex`]'s value that a projection finds.
+pub type MappedFairMutexGuard<'a, T, P> = lock_api::MappedMutexGuard<'a, RawFairMutex, T, P>;
 
 /// Where who has the guard of a [`Mutex`] gives it up and waits to be notified.
 ///
