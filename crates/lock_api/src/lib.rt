@@ -14,8 +14,8 @@ pub mod waits;
 
 pub use condvar::Condvar;
 pub use guards::MutexGuard;
-pub use mapped::MappedMutexGuard;
 pub use lock_raw::{RawCondvar, RawCondvarTimed, RawMutex, RawMutexFair, RawMutexTimed};
+pub use mapped::MappedMutexGuard;
 pub use mutex::Mutex;
 pub use projections::{LockName, Mapped, Project, Shown, Then, ThenError};
 pub use waits::WaitTimeoutResult;

@@ -15,8 +15,8 @@ written_at : {K X : Type 0} (test : K → Bool) (e : K × X) (es : List (K × X)
 written_at test e es n v w true is deeper there = ap (λ b. cond b (Some w) (lookup test es)) is
 written_at test e es n v w false is deeper there =
     ap (λ k. lookup test (set_value_at (e ∷ es) k w)) (one-add n)
-      ∙ ap (λ b. cond b (Some e.1) (lookup test (set_value_at es n w))) is
-      ∙ deeper there
+    ∙ ap (λ b. cond b (Some e.1) (lookup test (set_value_at es n w))) is
+    ∙ deeper there
 
 pub written_there : {K X : Type 0} (test : K → Bool) (es : List (K × X)) (v w : X) → lookup test es ≡ Some v
     → lookup test (set_value_at es (position_or_len test (map (λ e. e.0) es)) w) ≡ Some w

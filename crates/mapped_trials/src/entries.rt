@@ -16,11 +16,13 @@ pub struct Entry<Q, E> {
     pub missing: E,
 }
 
-impl<K: Eq + Hash, V, S: BuildHasher, A: Allocator, Q: Equivalent<K>, E: Copy> Project<IndexMap<K, V, S, A>>
-    for Entry<Q, E> {
+impl<K: Eq + Hash, V, S: BuildHasher, A: Allocator, Q: Equivalent<K>, E: Copy> Project<
+    IndexMap<K, V, S, A>,
+> for Entry<Q, E> {
     ghost use Rattle.mapped_trials.specs.EntryLaws.{found_again};
 
     type Target = V;
+
     type Error = E;
 
     ghost finds = { λ by entries. ok_or (get_by (Q.equivalent by.key) entries) by.missing };

@@ -18,11 +18,11 @@ pub use parking_lot_core::{
     Clock, Did, Fault, Key, Keys, Note, Op, ParkingLot, Requeue, Right, Section, SectionRecord,
     Slept, SystemClock, TickClock, Ticket, Token, Want, Word, WordKind, to_deadline,
 };
+pub use projections::{LockName, Mapped, Project, Shown, Then, ThenError};
 pub use raw_mutexes::{OpenGuard, RawCondvar, RawFairMutex, RawGuard, RawMutex};
 pub use raw_rwlocks::{
     RawExclusiveGuard, RawRwLock, RawRwLockRecursive, RawSharedGuard, RawUpgradableGuard,
 };
-pub use projections::{LockName, Mapped, Project, Shown, Then, ThenError};
 pub use run_once::{Once, OnceCell, OnceFault, OnceShown, OnceState};
 
 /// A mutex of a lot, with its value.

@@ -18,7 +18,12 @@ fn text_of<A: Abort, T: Debug>(rt: &A, alloc: Global, shown: &T) -> String {
     }
 }
 
-fn free_text<R: Wait + Abort>(rt: &R, alloc: Global, mutex: &Mutex<[u8; 2]>, token: &mut Token) -> String
+fn free_text<R: Wait + Abort>(
+    rt: &R,
+    alloc: Global,
+    mutex: &Mutex<[u8; 2]>,
+    token: &mut Token,
+) -> String
     requires { IsTokenOf (lot_of mutex.now) token.old }
     ensures { IsTokenOf (lot_of mutex.now) token.new }
 {
@@ -28,7 +33,12 @@ fn free_text<R: Wait + Abort>(rt: &R, alloc: Global, mutex: &Mutex<[u8; 2]>, tok
     text
 }
 
-fn locked_text<R: Wait + Abort>(rt: &R, alloc: Global, mutex: &Mutex<[u8; 2]>, token: &mut Token) -> String
+fn locked_text<R: Wait + Abort>(
+    rt: &R,
+    alloc: Global,
+    mutex: &Mutex<[u8; 2]>,
+    token: &mut Token,
+) -> String
     requires { IsTokenOf (lot_of mutex.now) token.old }
     ensures { IsTokenOf (lot_of mutex.now) token.new }
 {
