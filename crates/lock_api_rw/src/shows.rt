@@ -35,6 +35,9 @@ pub trait Shows {
 
     ghost stays_opened_by: { (lent : Self) (value : Self.Value)
         → opened_by (written lent value) ≡ opened_by lent };
+    // What was written is shown.
+    ghost shows_written: { (lent : Self) (value : Self.Value)
+        → shown (written lent value) ≡ value };
 
     fn show(&self) -> &Self::Value
         ensures { result.now ≡ shown self.now };
@@ -46,10 +49,6 @@ pub trait ShowsMut: Shows {
         ensures* writes_back { sem 𝓛
             (Lends Self.row Self.Value.row self.entry result (Self.written self.old)) }
         ensures shows { result.now ≡ Self.shown self.old };
-
-    // What was written is shown.
-    ghost shows_written: { (lent : Self) (value : Self.Value)
-        → Self.Shows.shown (Self.Shows.written lent value) ≡ value };
 }
 
 impl<T> Shows for Seen<'_, T> {
@@ -66,6 +65,8 @@ impl<T> Shows for Seen<'_, T> {
     ghost stays_opened = { λ _ _. refl };
 
     ghost stays_opened_by = { λ _ _. refl };
+
+    ghost shows_written = { λ _ _. refl };
 
     #[inline]
     fn show(&self) -> &T {
@@ -88,6 +89,8 @@ impl<T> Shows for Open<'_, T> {
 
     ghost stays_opened_by = { λ _ _. refl };
 
+    ghost shows_written = { λ _ _. refl };
+
     #[inline]
     fn show(&self) -> &T {
         self.deref()
@@ -95,8 +98,6 @@ impl<T> Shows for Open<'_, T> {
 }
 
 impl<T> ShowsMut for Open<'_, T> {
-    ghost shows_written = { λ _ _. refl };
-
     #[inline]
     fn show_mut(&mut self) -> &mut T {
         self.deref_mut()
