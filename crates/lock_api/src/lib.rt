@@ -4,8 +4,10 @@
 pub mod condvar;
 pub mod guarded;
 pub mod guards;
+pub mod mapped;
 pub mod mutex;
 pub mod reaches;
+pub mod showing;
 pub mod shows;
 pub mod taken;
 pub mod waits;
@@ -13,5 +15,7 @@ pub mod waits;
 pub use condvar::Condvar;
 pub use guards::MutexGuard;
 pub use lock_raw::{RawCondvar, RawCondvarTimed, RawMutex, RawMutexFair, RawMutexTimed};
+pub use mapped::MappedMutexGuard;
 pub use mutex::Mutex;
+pub use projections::{LockName, Mapped, Project, Shown, Then, ThenError};
 pub use waits::WaitTimeoutResult;

@@ -25,6 +25,9 @@ pub trait Shows {
 
     ghost stays_open: { (place : Self) (value : Self.Value)
         → opened_by (written place value) ≡ opened_by place };
+    // What was written is shown.
+    ghost shows_written: { (place : Self) (value : Self.Value)
+        → shown (written place value) ≡ value };
 
     fn show(&self) -> &Self::Value
         ensures { result.now ≡ shown self.now };
@@ -36,10 +39,6 @@ pub trait ShowsMut: Shows {
         ensures* writes_back { sem 𝓛
             (Lends Self.row Self.Value.row self.entry result (Self.written self.old)) }
         ensures shows { result.now ≡ Self.shown self.old };
-
-    // What was written is shown.
-    ghost shows_written: { (place : Self) (value : Self.Value)
-        → Self.Shows.shown (Self.Shows.written place value) ≡ value };
 }
 
 impl<T> Shows for Open<'_, T> {
@@ -53,6 +52,8 @@ impl<T> Shows for Open<'_, T> {
 
     ghost stays_open = { λ _ _. refl };
 
+    ghost shows_written = { λ _ _. refl };
+
     #[inline]
     fn show(&self) -> &T {
         self.deref()
@@ -60,8 +61,6 @@ impl<T> Shows for Open<'_, T> {
 }
 
 impl<T> ShowsMut for Open<'_, T> {
-    ghost shows_written = { λ _ _. refl };
-
     #[inline]
     fn show_mut(&mut self) -> &mut T {
         self.deref_mut()

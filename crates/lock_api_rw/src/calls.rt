@@ -114,7 +114,7 @@ impl<R: RawRwLockTimed, T> RwLock<R, T> {
             (λ entered. IfNone entered (HasElapsed (C.tells clock.now) (as_nanos timeout))) }
     {
         match self.raw().try_lock_shared_for(rt, token, clock, timeout) {
-            Ok(Some(raw)) => Ok(Some(self.open_shared(rt, raw))),
+            Ok(Some(raw)) => Ok(Some(self.open_shared(raw))),
             Ok(None) => Ok(None),
             Err(fault) => Err(fault),
         }
@@ -145,7 +145,7 @@ impl<R: RawRwLockTimed, T> RwLock<R, T> {
             (λ entered. IfNone entered (HasPassed (C.tells clock.now) deadline)) }
     {
         match self.raw().try_lock_shared_until(rt, token, clock, deadline) {
-            Ok(Some(raw)) => Ok(Some(self.open_shared(rt, raw))),
+            Ok(Some(raw)) => Ok(Some(self.open_shared(raw))),
             Ok(None) => Ok(None),
             Err(fault) => Err(fault),
         }
@@ -174,7 +174,7 @@ impl<R: RawRwLockTimed, T> RwLock<R, T> {
         let raw = self
             .raw()
             .try_lock_exclusive_for(rt, token, clock, timeout)?;
-        Some(self.open_exclusive(rt, raw))
+        Some(self.open_exclusive(raw))
     }
 
     /// The same, up to a deadline. None only where the clock had come to it.
@@ -197,7 +197,7 @@ impl<R: RawRwLockTimed, T> RwLock<R, T> {
         let raw = self
             .raw()
             .try_lock_exclusive_until(rt, token, clock, deadline)?;
-        Some(self.open_exclusive(rt, raw))
+        Some(self.open_exclusive(raw))
     }
 }
 
@@ -235,7 +235,7 @@ impl<R: RawRwLockUpgradeTimed, T> RwLock<R, T> {
             .raw()
             .try_lock_upgradable_for(rt, token, clock, timeout)
         {
-            Ok(Some(raw)) => Ok(Some(self.open_upgradable(rt, raw))),
+            Ok(Some(raw)) => Ok(Some(self.open_upgradable(raw))),
             Ok(None) => Ok(None),
             Err(fault) => Err(fault),
         }
@@ -271,7 +271,7 @@ impl<R: RawRwLockUpgradeTimed, T> RwLock<R, T> {
             .raw()
             .try_lock_upgradable_until(rt, token, clock, deadline)
         {
-            Ok(Some(raw)) => Ok(Some(self.open_upgradable(rt, raw))),
+            Ok(Some(raw)) => Ok(Some(self.open_upgradable(raw))),
             Ok(None) => Ok(None),
             Err(fault) => Err(fault),
         }

@@ -11,10 +11,10 @@ use crate::held::Held;
 use crate::rights::{Reading, Upgrading, Writing};
 use lock_raw::{RawRwLockFair, RawRwLockUpgradeFair};
 use lot_base::Fault;
-use std::sync;
+use lot_place::{Open, Seen};
 use std::sync::Wait;
 
-impl<'a, R: RawRwLockFair, T> Held<Reading<'a, R, T>, sync::RwLockReadGuard<'a, T>> {
+impl<'a, R: RawRwLockFair, T> Held<Reading<'a, R, T>, Seen<'a, T>> {
     /// Gives the right to read up. The last reader wakes the writer that waits for it, which has
     /// the lock by then.
     #[inline]
@@ -55,13 +55,13 @@ impl<'a, R: RawRwLockFair, T> Held<Reading<'a, R, T>, sync::RwLockReadGuard<'a, 
     {
         let (lock, raw) = self.close_shared();
         match lock.raw().bump_shared(rt, token, raw) {
-            Ok(raw) => Ok(lock.open_shared(rt, raw)),
+            Ok(raw) => Ok(lock.open_shared(raw)),
             Err(fault) => Err(fault),
         }
     }
 }
 
-impl<'a, R: RawRwLockUpgradeFair, T> Held<Upgrading<'a, R, T>, sync::RwLockReadGuard<'a, T>> {
+impl<'a, R: RawRwLockUpgradeFair, T> Held<Upgrading<'a, R, T>, Seen<'a, T>> {
     /// Hands the lock to those who wait for it and may have it together. Where nobody waits, gives
     /// the right up; where those who wait would be more than may read, they are woken to try again.
     #[inline]
@@ -102,13 +102,13 @@ impl<'a, R: RawRwLockUpgradeFair, T> Held<Upgrading<'a, R, T>, sync::RwLockReadG
     {
         let (lock, raw) = self.close_upgradable();
         match lock.raw().bump_upgradable(rt, token, raw) {
-            Ok(raw) => Ok(lock.open_upgradable(rt, raw)),
+            Ok(raw) => Ok(lock.open_upgradable(raw)),
             Err(fault) => Err(fault),
         }
     }
 }
 
-impl<'a, R: RawRwLockFair, T> Held<Writing<'a, R, T>, sync::RwLockWriteGuard<'a, T>> {
+impl<'a, R: RawRwLockFair, T> Held<Writing<'a, R, T>, Open<'a, T>> {
     /// Hands the lock to those who wait for it and may have it together. Where nobody waits, gives
     /// it up.
     #[inline]
@@ -138,6 +138,6 @@ impl<'a, R: RawRwLockFair, T> Held<Writing<'a, R, T>, sync::RwLockWriteGuard<'a,
     {
         let (lock, raw) = self.close_exclusive();
         let raw = lock.raw().bump_exclusive(rt, token, raw);
-        lock.open_exclusive(rt, raw)
+        lock.open_exclusive(raw)
     }
 }

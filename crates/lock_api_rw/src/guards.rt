@@ -19,32 +19,28 @@ use lock_raw::{
     RawRwLockUpgradeTimed,
 };
 use lot_base::Clock;
-use std::sync;
+use lot_place::{Open, Seen};
 use std::sync::Wait;
 use std::time::Duration;
 
 /// The value may be read, beside others that read.
-pub type RwLockReadGuard<'a, R, T> = Held<Reading<'a, R, T>, sync::RwLockReadGuard<'a, T>>;
+pub type RwLockReadGuard<'a, R, T> = Held<Reading<'a, R, T>, Seen<'a, T>>;
 
 /// The value may be read, and written later.
-pub type RwLockUpgradableReadGuard<'a, R, T> = Held<
-    Upgrading<'a, R, T>,
-    sync::RwLockReadGuard<'a, T>,
->;
+pub type RwLockUpgradableReadGuard<'a, R, T> = Held<Upgrading<'a, R, T>, Seen<'a, T>>;
 
 /// The value may be read and written.
-pub type RwLockWriteGuard<'a, R, T> = Held<Writing<'a, R, T>, sync::RwLockWriteGuard<'a, T>>;
+pub type RwLockWriteGuard<'a, R, T> = Held<Writing<'a, R, T>, Open<'a, T>>;
 
-impl<'a, R: RawRwLock, T> Held<Reading<'a, R, T>, sync::RwLockReadGuard<'a, T>> {
-    // Closes the inner lock, and only then gives the raw guard.
+impl<'a, R: RawRwLock, T> Held<Reading<'a, R, T>, Seen<'a, T>> {
+    // Shuts the place of the value, which gives the raw guard.
     #[inline]
     pub(crate) fn close_shared(self) -> (&'a RwLock<R, T>, R::SharedGuard)
         ensures { (result.0.now ≡ lock_of self.entry)
             × R.is_shared_of (lock_of self.entry) result.1 }
     {
         let Held { right, value } = self;
-        drop(value);
-        right.parts()
+        right.close(value)
     }
 
     /// Gives the right to read up. The last reader wakes the writer that waits for it.
@@ -62,15 +58,14 @@ impl<'a, R: RawRwLock, T> Held<Reading<'a, R, T>, sync::RwLockReadGuard<'a, T>> 
     }
 }
 
-impl<'a, R: RawRwLockUpgrade, T> Held<Upgrading<'a, R, T>, sync::RwLockReadGuard<'a, T>> {
+impl<'a, R: RawRwLockUpgrade, T> Held<Upgrading<'a, R, T>, Seen<'a, T>> {
     #[inline]
     pub(crate) fn close_upgradable(self) -> (&'a RwLock<R, T>, R::UpgradableGuard)
         ensures { (result.0.now ≡ lock_of self.entry)
             × R.is_upgradable_of (lock_of self.entry) result.1 }
     {
         let Held { right, value } = self;
-        drop(value);
-        right.parts()
+        right.close(value)
     }
 
     /// Gives the right up, and wakes whom that lets in.
@@ -112,7 +107,7 @@ impl<'a, R: RawRwLockUpgrade, T> Held<Upgrading<'a, R, T>, sync::RwLockReadGuard
     {
         let (lock, raw) = self.close_upgradable();
         let raw = lock.raw().upgrade(rt, token, raw);
-        lock.open_exclusive(rt, raw)
+        lock.open_exclusive(raw)
     }
 
     /// The same where nobody else reads.
@@ -136,13 +131,13 @@ impl<'a, R: RawRwLockUpgrade, T> Held<Upgrading<'a, R, T>, sync::RwLockReadGuard
     {
         let (lock, raw) = self.close_upgradable();
         match lock.raw().try_upgrade(rt, token, raw) {
-            Ok(raw) => Ok(lock.open_exclusive(rt, raw)),
-            Err(raw) => Err(lock.open_upgradable(rt, raw)),
+            Ok(raw) => Ok(lock.open_exclusive(raw)),
+            Err(raw) => Err(lock.open_upgradable(raw)),
         }
     }
 }
 
-impl<'a, R: RawRwLockUpgradeTimed, T> Held<Upgrading<'a, R, T>, sync::RwLockReadGuard<'a, T>> {
+impl<'a, R: RawRwLockUpgradeTimed, T> Held<Upgrading<'a, R, T>, Seen<'a, T>> {
     /// Upgrades, and gives up once so much time, in nanoseconds of the clock, had passed, and not
     /// before.
     ///
@@ -170,8 +165,8 @@ impl<'a, R: RawRwLockUpgradeTimed, T> Held<Upgrading<'a, R, T>, sync::RwLockRead
     {
         let (lock, raw) = self.close_upgradable();
         match lock.raw().try_upgrade_for(rt, token, raw, clock, timeout) {
-            Ok(raw) => Ok(lock.open_exclusive(rt, raw)),
-            Err(raw) => Err(lock.open_upgradable(rt, raw)),
+            Ok(raw) => Ok(lock.open_exclusive(raw)),
+            Err(raw) => Err(lock.open_upgradable(raw)),
         }
     }
 
@@ -204,13 +199,13 @@ impl<'a, R: RawRwLockUpgradeTimed, T> Held<Upgrading<'a, R, T>, sync::RwLockRead
             .raw()
             .try_upgrade_until(rt, token, raw, clock, deadline)
         {
-            Ok(raw) => Ok(lock.open_exclusive(rt, raw)),
-            Err(raw) => Err(lock.open_upgradable(rt, raw)),
+            Ok(raw) => Ok(lock.open_exclusive(raw)),
+            Err(raw) => Err(lock.open_upgradable(raw)),
         }
     }
 }
 
-impl<'a, R: RawRwLockUpgradeDowngrade, T> Held<Upgrading<'a, R, T>, sync::RwLockReadGuard<'a, T>> {
+impl<'a, R: RawRwLockUpgradeDowngrade, T> Held<Upgrading<'a, R, T>, Seen<'a, T>> {
     /// Goes on as a reader, and wakes whom that lets in.
     #[inline]
     pub fn downgrade<W: Wait>(self, rt: &W, token: &mut R::Token) -> RwLockReadGuard<'a, R, T>
@@ -225,19 +220,18 @@ impl<'a, R: RawRwLockUpgradeDowngrade, T> Held<Upgrading<'a, R, T>, sync::RwLock
     {
         let (lock, raw) = self.close_upgradable();
         let raw = lock.raw().downgrade_upgradable(rt, token, raw);
-        lock.open_shared(rt, raw)
+        lock.open_shared(raw)
     }
 }
 
-impl<'a, R: RawRwLock, T> Held<Writing<'a, R, T>, sync::RwLockWriteGuard<'a, T>> {
+impl<'a, R: RawRwLock, T> Held<Writing<'a, R, T>, Open<'a, T>> {
     #[inline]
     pub(crate) fn close_exclusive(self) -> (&'a RwLock<R, T>, R::ExclusiveGuard)
         ensures { (result.0.now ≡ lock_of self.entry)
             × R.is_exclusive_of (lock_of self.entry) result.1 }
     {
         let Held { right, value } = self;
-        drop(value);
-        right.parts()
+        right.close(value)
     }
 
     /// Gives the lock up, and wakes whom that lets in.
@@ -276,7 +270,7 @@ impl<'a, R: RawRwLock, T> Held<Writing<'a, R, T>, sync::RwLockWriteGuard<'a, T>>
     }
 }
 
-impl<'a, R: RawRwLockUpgrade, T> Held<Writing<'a, R, T>, sync::RwLockWriteGuard<'a, T>> {
+impl<'a, R: RawRwLockUpgrade, T> Held<Writing<'a, R, T>, Open<'a, T>> {
     /// A guard that may write excludes one that may write later: this can't be called either.
     pub fn has_upgradable(
         self,
@@ -292,7 +286,7 @@ impl<'a, R: RawRwLockUpgrade, T> Held<Writing<'a, R, T>, sync::RwLockWriteGuard<
     }
 }
 
-impl<'a, R: RawRwLockDowngrade, T> Held<Writing<'a, R, T>, sync::RwLockWriteGuard<'a, T>> {
+impl<'a, R: RawRwLockDowngrade, T> Held<Writing<'a, R, T>, Open<'a, T>> {
     /// Goes on as a reader, and wakes whom that lets in.
     #[inline]
     pub fn downgrade<W: Wait>(self, rt: &W, token: &mut R::Token) -> RwLockReadGuard<'a, R, T>
@@ -307,11 +301,11 @@ impl<'a, R: RawRwLockDowngrade, T> Held<Writing<'a, R, T>, sync::RwLockWriteGuar
     {
         let (lock, raw) = self.close_exclusive();
         let raw = lock.raw().downgrade(rt, token, raw);
-        lock.open_shared(rt, raw)
+        lock.open_shared(raw)
     }
 }
 
-impl<'a, R: RawRwLockUpgradeDowngrade, T> Held<Writing<'a, R, T>, sync::RwLockWriteGuard<'a, T>> {
+impl<'a, R: RawRwLockUpgradeDowngrade, T> Held<Writing<'a, R, T>, Open<'a, T>> {
     /// Goes on as a reader with the upgradable right, and wakes whom that lets in.
     #[inline]
     pub fn downgrade_to_upgradable<W: Wait>(
@@ -330,6 +324,6 @@ impl<'a, R: RawRwLockUpgradeDowngrade, T> Held<Writing<'a, R, T>, sync::RwLockWr
     {
         let (lock, raw) = self.close_exclusive();
         let raw = lock.raw().downgrade_to_upgradable(rt, token, raw);
-        lock.open_upgradable(rt, raw)
+        lock.open_upgradable(raw)
     }
 }

@@ -5,11 +5,15 @@ mod calls;
 mod fair;
 pub mod guards;
 pub mod held;
-pub mod inner;
+pub mod mapped;
+pub mod reaches;
 pub mod rights;
 pub mod rwlock;
+pub mod showing;
+pub mod shows;
 
 pub use guards::{RwLockReadGuard, RwLockUpgradableReadGuard, RwLockWriteGuard};
+pub use mapped::{MappedRwLockReadGuard, MappedRwLockWriteGuard};
 pub use lock_raw::{
     RawRwLock, RawRwLockDowngrade, RawRwLockFair, RawRwLockTimed, RawRwLockUpgrade,
     RawRwLockUpgradeDowngrade, RawRwLockUpgradeFair, RawRwLockUpgradeTimed,

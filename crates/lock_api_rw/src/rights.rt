@@ -1,15 +1,15 @@
-//! Reader-writer locks that are held, each with the raw guard of who holds it.
+//! Reader-writer locks that are held, each by a right that lies in the place of its value.
 ghost use Rattle.std.specs.Prelude.{◌≡◌};
 
 use crate::rwlock::RwLock;
+use crate::shows::Holds;
 use lock_raw::{RawRwLock, RawRwLockUpgrade};
+use lot_place::{Open, Seen};
 use std::marker::Model;
 
 /// A lock that is held to read.
 pub struct Reading<'a, R: RawRwLock, T> {
     lock: &'a RwLock<R, T>,
-    guard: R::SharedGuard,
-    ghost owned: { R.is_shared_of lock.now guard } by { R.shared_once lock.now guard },
 }
 
 // In a clause it is the raw lock.
@@ -19,30 +19,34 @@ impl<'a, R: RawRwLock, T> Model for Reading<'a, R, T> {
     ghost view = { λ right. right.lock.now };
 }
 
+impl<R: RawRwLock, T> Holds for Reading<'_, R, T> {
+    ghost place = { λ lock. R.place_of lock };
+
+    ghost right_view = { λ lock. R.shared_view lock };
+}
+
 impl<'a, R: RawRwLock, T> Reading<'a, R, T> {
     #[inline]
-    pub(crate) fn new(lock: &'a RwLock<R, T>, guard: R::SharedGuard) -> Reading<'a, R, T>
-        requires { R.is_shared_of lock.now guard }
+    pub(crate) fn new(lock: &'a RwLock<R, T>) -> Reading<'a, R, T>
         ensures { result ≡ lock.now }
     {
-        Reading { lock, guard }
+        Reading { lock }
     }
 
-    // The lock, and the raw guard of it.
+    // Shuts the place of the value, which gives the raw guard.
     #[inline]
-    pub(crate) fn parts(self) -> (&'a RwLock<R, T>, R::SharedGuard)
+    pub(crate) fn close(self, value: Seen<'_, T>) -> (&'a RwLock<R, T>, R::SharedGuard)
+        requires { (value.of ≡ R.place_of self) × (value.view ≡ R.shared_view self) }
         ensures { (result.0.now ≡ self.entry) × R.is_shared_of self.entry result.1 }
     {
-        let Reading { lock, guard } = self;
-        (lock, guard)
+        let Reading { lock } = self;
+        (lock, lock.raw().shut_shared(value))
     }
 }
 
 /// A lock that is held to read, and to own alone later.
 pub struct Upgrading<'a, R: RawRwLockUpgrade, T> {
     lock: &'a RwLock<R, T>,
-    guard: R::UpgradableGuard,
-    ghost owned: { R.is_upgradable_of lock.now guard } by { R.upgradable_once lock.now guard },
 }
 
 // In a clause it is the raw lock.
@@ -52,30 +56,34 @@ impl<'a, R: RawRwLockUpgrade, T> Model for Upgrading<'a, R, T> {
     ghost view = { λ right. right.lock.now };
 }
 
+impl<R: RawRwLockUpgrade, T> Holds for Upgrading<'_, R, T> {
+    ghost place = { λ lock. R.place_of lock };
+
+    ghost right_view = { λ lock. R.upgradable_view lock };
+}
+
 impl<'a, R: RawRwLockUpgrade, T> Upgrading<'a, R, T> {
     #[inline]
-    pub(crate) fn new(lock: &'a RwLock<R, T>, guard: R::UpgradableGuard) -> Upgrading<'a, R, T>
-        requires { R.is_upgradable_of lock.now guard }
+    pub(crate) fn new(lock: &'a RwLock<R, T>) -> Upgrading<'a, R, T>
         ensures { result ≡ lock.now }
     {
-        Upgrading { lock, guard }
+        Upgrading { lock }
     }
 
-    // The lock, and the raw guard of it.
+    // Shuts the place of the value, which gives the raw guard.
     #[inline]
-    pub(crate) fn parts(self) -> (&'a RwLock<R, T>, R::UpgradableGuard)
+    pub(crate) fn close(self, value: Seen<'_, T>) -> (&'a RwLock<R, T>, R::UpgradableGuard)
+        requires { (value.of ≡ R.place_of self) × (value.view ≡ R.upgradable_view self) }
         ensures { (result.0.now ≡ self.entry) × R.is_upgradable_of self.entry result.1 }
     {
-        let Upgrading { lock, guard } = self;
-        (lock, guard)
+        let Upgrading { lock } = self;
+        (lock, lock.raw().shut_upgradable(value))
     }
 }
 
 /// A lock that is held alone.
 pub struct Writing<'a, R: RawRwLock, T> {
     lock: &'a RwLock<R, T>,
-    guard: R::ExclusiveGuard,
-    ghost owned: { R.is_exclusive_of lock.now guard } by { R.exclusive_once lock.now guard },
 }
 
 // In a clause it is the raw lock.
@@ -85,21 +93,27 @@ impl<'a, R: RawRwLock, T> Model for Writing<'a, R, T> {
     ghost view = { λ right. right.lock.now };
 }
 
+impl<R: RawRwLock, T> Holds for Writing<'_, R, T> {
+    ghost place = { λ lock. R.place_of lock };
+
+    ghost right_view = { λ lock. R.exclusive_view lock };
+}
+
 impl<'a, R: RawRwLock, T> Writing<'a, R, T> {
     #[inline]
-    pub(crate) fn new(lock: &'a RwLock<R, T>, guard: R::ExclusiveGuard) -> Writing<'a, R, T>
-        requires { R.is_exclusive_of lock.now guard }
+    pub(crate) fn new(lock: &'a RwLock<R, T>) -> Writing<'a, R, T>
         ensures { result ≡ lock.now }
     {
-        Writing { lock, guard }
+        Writing { lock }
     }
 
-    // The lock, and the raw guard of it.
+    // Shuts the place of the value, which gives the raw guard.
     #[inline]
-    pub(crate) fn parts(self) -> (&'a RwLock<R, T>, R::ExclusiveGuard)
+    pub(crate) fn close(self, value: Open<'_, T>) -> (&'a RwLock<R, T>, R::ExclusiveGuard)
+        requires { (value.of ≡ R.place_of self) × (value.view ≡ R.exclusive_view self) }
         ensures { (result.0.now ≡ self.entry) × R.is_exclusive_of self.entry result.1 }
     {
-        let Writing { lock, guard } = self;
-        (lock, guard)
+        let Writing { lock } = self;
+        (lock, lock.raw().shut_exclusive(value))
     }
 }

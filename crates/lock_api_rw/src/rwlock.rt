@@ -13,20 +13,33 @@ use crate::held::Held;
 use crate::rights::{Reading, Upgrading, Writing};
 use lock_raw::{RawRwLock, RawRwLockUpgrade};
 use lot_base::Fault;
+use lot_place::{NamesPlace, Place};
 use std::marker::Model;
-use std::sync;
 use std::sync::{Arc, Wait};
 
-/// A value that many threads may read, or one may write. The inner lock is opened only under the
-/// raw guard, so nobody ever waits for it.
+// What says which place a lock's value stands in.
 #[derive(Drop)]
-pub struct RwLock<R, T> {
+struct Names<'a, R> {
+    raw: &'a R,
+}
+
+impl<R: RawRwLock> NamesPlace for Names<'_, R> {
+    ghost place = { λ names. R.place_of names.raw.now };
+}
+
+/// A value that many threads may read, or one may write. It stands in a plain place, which is
+/// opened by the right of who has the raw lock.
+#[derive(Drop)]
+pub struct RwLock<R: RawRwLock, T> {
     raw: R,
-    inner: sync::RwLock<T>,
+    pub(crate) place: Place<T>,
+    ghost named: { place ≡ R.place_of raw },
 }
 
 // In a clause a lock is its raw one: the value changes behind a shared reference, so none tells it.
-impl<R, T> Model for RwLock<R, T> {
+impl<R: RawRwLock, T> Model for RwLock<R, T> {
+    ghost use Rattle.std.specs.Prelude.{◌≡◌};
+
     ghost Value = { R };
 
     ghost view = { λ lock. lock.raw };
@@ -54,10 +67,10 @@ impl<R: RawRwLock, T> RwLock<R, T> {
         ensures drawn { IfOk result (λ lock. R.drew lock token.old token.new) }
     {
         match R::new(lot, token) {
-            Ok(raw) => Ok(RwLock {
-                raw,
-                inner: sync::RwLock::new(value),
-            }),
+            Ok(raw) => {
+                let place = Place::new(value, &Names { raw: &raw });
+                Ok(RwLock { raw, place })
+            }
             Err(fault) => Err((fault, value)),
         }
     }
@@ -85,72 +98,34 @@ impl<R: RawRwLock, T> RwLock<R, T> {
         ensures drawn { IfOk result (λ lock. R.drew lock token.old token.new) }
     {
         match R::with_limit(lot, token, limit) {
-            Ok(raw) => Ok(RwLock {
-                raw,
-                inner: sync::RwLock::new(value),
-            }),
+            Ok(raw) => {
+                let place = Place::new(value, &Names { raw: &raw });
+                Ok(RwLock { raw, place })
+            }
             Err(fault) => Err((fault, value)),
         }
     }
 
-    // The inner lock, opened under a right to read. A try gets it: nobody has it to write.
-    #[inline(always)]
-    fn read_inner<W: Wait>(&self, rt: &W) -> sync::RwLockReadGuard<'_, T> {
-        match self.inner.try_read() {
-            Some(value) => value,
-            None => self.await_inner(rt),
-        }
-    }
-
-    #[cold]
-    #[inline(never)]
-    fn await_inner<W: Wait>(&self, rt: &W) -> sync::RwLockReadGuard<'_, T> {
-        self.inner.read(rt)
-    }
-
-    // The same under the right to write: nobody else has it.
-    #[inline(always)]
-    fn write_inner<W: Wait>(&self, rt: &W) -> sync::RwLockWriteGuard<'_, T> {
-        match self.inner.try_write() {
-            Some(value) => value,
-            None => self.await_inner_alone(rt),
-        }
-    }
-
-    #[cold]
-    #[inline(never)]
-    fn await_inner_alone<W: Wait>(&self, rt: &W) -> sync::RwLockWriteGuard<'_, T> {
-        self.inner.write(rt)
-    }
-
     // The guard of who has the raw one.
     #[inline]
-    pub(crate) fn open_shared<W: Wait>(
-        &self,
-        rt: &W,
-        raw: R::SharedGuard,
-    ) -> RwLockReadGuard<'_, R, T>
+    pub(crate) fn open_shared(&self, raw: R::SharedGuard) -> RwLockReadGuard<'_, R, T>
         requires { R.is_shared_of self.now raw }
         ensures { lock_of result ≡ self.now }
     {
         Held {
-            right: Reading::new(self, raw),
-            value: self.read_inner(rt),
+            right: Reading::new(self),
+            value: self.raw.open_shared(&self.place, raw),
         }
     }
 
     #[inline]
-    pub(crate) fn open_exclusive<W: Wait>(
-        &self,
-        rt: &W,
-        raw: R::ExclusiveGuard,
-    ) -> RwLockWriteGuard<'_, R, T>
+    pub(crate) fn open_exclusive(&self, raw: R::ExclusiveGuard) -> RwLockWriteGuard<'_, R, T>
         requires { R.is_exclusive_of self.now raw }
         ensures { lock_of result ≡ self.now }
     {
         Held {
-            right: Writing::new(self, raw),
-            value: self.write_inner(rt),
+            right: Writing::new(self),
+            value: self.raw.open_exclusive(&self.place, raw),
         }
     }
 
@@ -173,7 +148,7 @@ impl<R: RawRwLock, T> RwLock<R, T> {
         ensures full { IfErr result (λ _. R.saw_full self.now access.Shared token.old token.new) }
     {
         match self.raw.lock_shared(rt, token) {
-            Ok(raw) => Ok(self.open_shared(rt, raw)),
+            Ok(raw) => Ok(self.open_shared(raw)),
             Err(fault) => Err(fault),
         }
     }
@@ -197,7 +172,7 @@ impl<R: RawRwLock, T> RwLock<R, T> {
         ensures full { IfErr result (λ _. R.saw_full self.now access.Shared token.old token.new) }
     {
         match self.raw.try_lock_shared(rt, token) {
-            Ok(Some(raw)) => Ok(Some(self.open_shared(rt, raw))),
+            Ok(Some(raw)) => Ok(Some(self.open_shared(raw))),
             Ok(None) => Ok(None),
             Err(fault) => Err(fault),
         }
@@ -213,16 +188,12 @@ impl<R: RawRwLock, T> RwLock<R, T> {
             (Enter access.Exclusive Patient) answers.Ok token.old token.new }
     {
         let raw = self.raw.lock_exclusive(rt, token);
-        self.open_exclusive(rt, raw)
+        self.open_exclusive(raw)
     }
 
     /// Takes the lock where nobody has it, and nobody waits.
     #[inline]
-    pub fn try_write<W: Wait>(
-        &self,
-        rt: &W,
-        token: &mut R::Token,
-    ) -> Option<RwLockWriteGuard<'_, R, T>>
+    pub fn try_write(&self, token: &mut R::Token) -> Option<RwLockWriteGuard<'_, R, T>>
         requires { R.is_token_of (R.lot_of self.now) token.old }
         ensures token { R.is_token_of (R.lot_of self.now) token.new × R.stays token.old token.new }
         ensures guard { IfSome result (λ guard. lock_of guard ≡ self.now) }
@@ -230,7 +201,7 @@ impl<R: RawRwLock, T> RwLock<R, T> {
             (answer_by result) token.old token.new }
     {
         let raw = self.raw.try_lock_exclusive(token)?;
-        Some(self.open_exclusive(rt, raw))
+        Some(self.open_exclusive(raw))
     }
 
     /// Whether somebody has the lock, or a writer waits for its last readers.
@@ -256,17 +227,16 @@ impl<R: RawRwLock, T> RwLock<R, T> {
 
 impl<R: RawRwLockUpgrade, T> RwLock<R, T> {
     #[inline]
-    pub(crate) fn open_upgradable<W: Wait>(
+    pub(crate) fn open_upgradable(
         &self,
-        rt: &W,
         raw: R::UpgradableGuard,
     ) -> RwLockUpgradableReadGuard<'_, R, T>
         requires { R.is_upgradable_of self.now raw }
         ensures { lock_of result ≡ self.now }
     {
         Held {
-            right: Upgrading::new(self, raw),
-            value: self.read_inner(rt),
+            right: Upgrading::new(self),
+            value: self.raw.open_upgradable(&self.place, raw),
         }
     }
 
@@ -291,7 +261,7 @@ impl<R: RawRwLockUpgrade, T> RwLock<R, T> {
             (λ _. R.saw_full self.now access.Upgradable token.old token.new) }
     {
         match self.raw.lock_upgradable(rt, token) {
-            Ok(raw) => Ok(self.open_upgradable(rt, raw)),
+            Ok(raw) => Ok(self.open_upgradable(raw)),
             Err(fault) => Err(fault),
         }
     }
@@ -316,14 +286,14 @@ impl<R: RawRwLockUpgrade, T> RwLock<R, T> {
             (λ _. R.saw_full self.now access.Upgradable token.old token.new) }
     {
         match self.raw.try_lock_upgradable(rt, token) {
-            Ok(Some(raw)) => Ok(Some(self.open_upgradable(rt, raw))),
+            Ok(Some(raw)) => Ok(Some(self.open_upgradable(raw))),
             Ok(None) => Ok(None),
             Err(fault) => Err(fault),
         }
     }
 }
 
-impl<R, T> RwLock<R, T> {
+impl<R: RawRwLock, T> RwLock<R, T> {
     /// The raw lock.
     #[inline]
     pub fn raw(&self) -> &R
@@ -331,20 +301,13 @@ impl<R, T> RwLock<R, T> {
     {
         &self.raw
     }
-
-    /// The value, of a lock that nobody else can use meanwhile. It takes no step, and the lock is
-    /// the same behind it.
-    #[inline]
-    pub fn get_mut(&mut self) -> &mut T {
-        self.inner.get_mut()
-    }
 }
 
-impl<R: Drop, T> RwLock<R, T> {
+impl<R: RawRwLock + Drop, T> RwLock<R, T> {
     /// The value of a lock that nobody has. It takes no step.
     #[inline]
     pub fn into_inner(self) -> T {
-        let RwLock { raw: _, inner } = self;
-        inner.into_inner()
+        let RwLock { raw: _, place } = self;
+        place.into_inner()
     }
 }

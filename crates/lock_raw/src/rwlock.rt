@@ -11,9 +11,12 @@ ghost use Rattle.lot_calls.specs.declared.calls.RwLockCall.{RwLockCall};
 ghost use Rattle.lot_calls.specs.declared.calls.RwLockCall.TheVariants.{Enter, Release, Downgrade, Upgrade};
 ghost use Rattle.lot_calls.specs.declared.outcomes.Answer.{Answer};
 ghost use Rattle.lot_calls.specs.declared.outcomes.Answer.TheVariants as answers;
+ghost use Rattle.lot_place.specs.Ownership.{PlaceId};
+ghost use Rattle.lot_words.specs.declared.views.View.{View};
 ghost use Rattle.lock_raw.specs.Answers.{IsFull, IsRefusal, TriesOrFull, answer_by, counted_answer, reading_answer, upgrade_answer};
 
 use lot_base::{Clock, Fault};
+use lot_place::{Open, Place, Seen};
 use std::sync::{Arc, Wait};
 use std::time::Duration;
 
@@ -51,6 +54,13 @@ pub trait RawRwLock {
         → IsProp (is_exclusive_of lock guard) };
     // So many may share a lock.
     ghost limit_of: { Self → ℕ };
+    // The place of the value that a lock guards.
+    ghost place_of: { Self → PlaceId };
+    // A place that is open to read keeps this of who reads, and one that is open to write that of
+    // who has the lock alone.
+    ghost shared_view: { Self → View };
+
+    ghost exclusive_view: { Self → View };
     // Between the two states of a thread it drew the word of this lock, which nobody has stepped
     // on.
     ghost drew: { Self → Self.Token → Self.Token → Type 0 };
@@ -182,6 +192,31 @@ pub trait RawRwLock {
         requires { is_token_of (lot_of self.now) token.old }
         ensures token { is_token_of (lot_of self.now) token.new × stays token.old token.new }
         ensures seen { looked_for_writer self.now result token.old token.new };
+
+    /// Opens the value to read, by the right to read, which lies in the value's place meanwhile. It
+    /// does nothing at run time.
+    fn open_shared<'a, T>(&self, place: &'a Place<T>, guard: Self::SharedGuard) -> Seen<'a, T>
+        requires { is_shared_of self.now guard × (place.now ≡ place_of self.now) }
+        ensures { (result.of ≡ place_of self.now) × (result.view ≡ shared_view self.now) };
+
+    /// Shuts it, and gives the right back, as little at run time.
+    fn shut_shared<T>(&self, seen: Seen<'_, T>) -> Self::SharedGuard
+        requires { (seen.of ≡ place_of self.now) × (seen.view ≡ shared_view self.now) }
+        ensures { is_shared_of self.now result };
+
+    /// Opens the value to write, by the right of who has the lock alone.
+    fn open_exclusive<'a, T>(
+        &self,
+        place: &'a Place<T>,
+        guard: Self::ExclusiveGuard,
+    ) -> Open<'a, T>
+        requires { is_exclusive_of self.now guard × (place.now ≡ place_of self.now) }
+        ensures { (result.of ≡ place_of self.now) × (result.view ≡ exclusive_view self.now) };
+
+    /// Shuts it, and gives that right back.
+    fn shut_exclusive<T>(&self, lent: Open<'_, T>) -> Self::ExclusiveGuard
+        requires { (lent.of ≡ place_of self.now) × (lent.view ≡ exclusive_view self.now) }
+        ensures { is_exclusive_of self.now result };
 
     /// Two that have a lock alone exclude each other: nobody ever has both guards, so this can't be
     /// called.
@@ -332,6 +367,8 @@ pub trait RawRwLockUpgrade: RawRwLock {
 
     ghost upgradable_once: { (lock : Self) (guard : Self.UpgradableGuard)
         → IsProp (is_upgradable_of lock guard) };
+    // A place that is open to read keeps this of who has this right.
+    ghost upgradable_view: { Self → View };
 
     /// Waits until nobody has the lock alone or with this right, and comes in.
     ///
@@ -421,6 +458,21 @@ pub trait RawRwLockUpgrade: RawRwLock {
             (is_upgradable_of self.now) }
         ensures path { Self.walked self.now (Upgrade Try)
             (upgrade_answer result) token.old token.new };
+
+    /// Opens the value to read, by this right, which lies in the value's place meanwhile. It does
+    /// nothing at run time.
+    fn open_upgradable<'a, T>(
+        &self,
+        place: &'a Place<T>,
+        guard: Self::UpgradableGuard,
+    ) -> Seen<'a, T>
+        requires { is_upgradable_of self.now guard × (place.now ≡ Self.place_of self.now) }
+        ensures { (result.of ≡ Self.place_of self.now) × (result.view ≡ upgradable_view self.now) };
+
+    /// Shuts it, and gives the right back, as little at run time.
+    fn shut_upgradable<T>(&self, seen: Seen<'_, T>) -> Self::UpgradableGuard
+        requires { (seen.of ≡ Self.place_of self.now) × (seen.view ≡ upgradable_view self.now) }
+        ensures { is_upgradable_of self.now result };
 
     /// One thread at a time has this right, so this can't be called.
     fn has_two_upgradables(

@@ -18,11 +18,12 @@ pub use parking_lot_core::{
     Clock, Did, Fault, Key, Keys, Note, Op, ParkingLot, Requeue, Right, Section, SectionRecord,
     Slept, SystemClock, TickClock, Ticket, Token, Want, Word, WordKind, to_deadline,
 };
+pub use projections::{LockName, Mapped, Project, Shown, Then, ThenError};
 pub use raw_mutexes::{OpenGuard, RawCondvar, RawFairMutex, RawGuard, RawMutex};
 pub use raw_rwlocks::{
     RawExclusiveGuard, RawRwLock, RawRwLockRecursive, RawSharedGuard, RawUpgradableGuard,
 };
-pub use run_once::{Once, OnceCell, OnceFault, OnceState};
+pub use run_once::{Once, OnceCell, OnceFault, OnceShown, OnceState};
 
 /// A mutex of a lot, with its value.
 pub type Mutex<T> = lock_api::Mutex<RawMutex, T>;
@@ -30,11 +31,17 @@ pub type Mutex<T> = lock_api::Mutex<RawMutex, T>;
 /// The guard of a [`Mutex`]. It shows the value, and is spent by `unlock`, or by `unlock_fair`.
 pub type MutexGuard<'a, T> = lock_api::MutexGuard<'a, RawMutex, T>;
 
+/// Guards the part of a [`Mutex`]'s value that a projection finds.
+pub type MappedMutexGuard<'a, T, P> = lock_api::MappedMutexGuard<'a, RawMutex, T, P>;
+
 /// A mutex of a lot, with its value, whose guard hands it to the first who waits.
 pub type FairMutex<T> = lock_api::Mutex<RawFairMutex, T>;
 
 /// The guard of a [`FairMutex`].
 pub type FairMutexGuard<'a, T> = lock_api::MutexGuard<'a, RawFairMutex, T>;
+
+/// Guards the part of a [`FairMutex`]'s value that a projection finds.
+pub type MappedFairMutexGuard<'a, T, P> = lock_api::MappedMutexGuard<'a, RawFairMutex, T, P>;
 
 /// Where who has the guard of a [`Mutex`] gives it up and waits to be notified.
 ///
@@ -59,6 +66,22 @@ pub type RwLockUpgradableReadGuard<'a, T> = lock_api_rw::RwLockUpgradableReadGua
 /// The guard of who writes.
 pub type RwLockWriteGuard<'a, T> = lock_api_rw::RwLockWriteGuard<'a, RawRwLock<false>, T>;
 
+/// Guards the part of an [`RwLock`]'s value that a projection finds, to read it.
+pub type MappedRwLockReadGuard<'a, T, P> = lock_api_rw::MappedRwLockReadGuard<
+    'a,
+    RawRwLock<false>,
+    T,
+    P,
+>;
+
+/// Guards the part of an [`RwLock`]'s value that a projection finds, to write it.
+pub type MappedRwLockWriteGuard<'a, T, P> = lock_api_rw::MappedRwLockWriteGuard<
+    'a,
+    RawRwLock<false>,
+    T,
+    P,
+>;
+
 /// The same, of a value whose readers may read again beside a writer that waits for them.
 pub type RecursiveRwLock<T> = lock_api_rw::RwLock<RawRwLockRecursive, T>;
 
@@ -77,4 +100,20 @@ pub type RecursiveRwLockWriteGuard<'a, T> = lock_api_rw::RwLockWriteGuard<
     'a,
     RawRwLockRecursive,
     T,
+>;
+
+/// Guards the part of a [`RecursiveRwLock`]'s value that a projection finds, to read it.
+pub type MappedRecursiveRwLockReadGuard<'a, T, P> = lock_api_rw::MappedRwLockReadGuard<
+    'a,
+    RawRwLockRecursive,
+    T,
+    P,
+>;
+
+/// Guards the part of a [`RecursiveRwLock`]'s value that a projection finds, to write it.
+pub type MappedRecursiveRwLockWriteGuard<'a, T, P> = lock_api_rw::MappedRwLockWriteGuard<
+    'a,
+    RawRwLockRecursive,
+    T,
+    P,
 >;

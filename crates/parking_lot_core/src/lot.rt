@@ -107,6 +107,14 @@ impl ParkingLot {
         Ok((Arc::new(alloc, lot)?, tickets))
     }
 
+    /// Its words.
+    #[inline]
+    pub fn words(&self) -> &LotWords
+        ensures { result.now ≡ self.now.words }
+    {
+        &self.words
+    }
+
     /// Whether a lot may have so many words and threads: 1 to 2^20, and 1 to 1024.
     pub fn fits(words: usize, seats: usize) -> bool
         ensures { IsTrue result

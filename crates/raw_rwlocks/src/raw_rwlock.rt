@@ -5,6 +5,9 @@ ghost use Rattle.parking_lot_core.specs.Tokens.{IsTokenOf};
 ghost use Rattle.lot_driver.specs.RwLockCalls.{HasWalkedCall, SeesBy, StaysSettled, StaysSettled-on, WakesByCall, is_held, is_held_alone};
 ghost use Rattle.rwlock_driver.specs.RwLockRefusals.{GaveUpCall, SawFull};
 ghost use Rattle.lock_raw.specs.Answers.{IsRefusal};
+ghost use Rattle.lot_place.specs.Places.{place_of as place_at};
+ghost use Rattle.lot_words.specs.Rights.{piece_of};
+ghost use Rattle.lot_words.specs.declared.owners.Owner.TheVariants.{Exclusive, Shared, Upgradable};
 ghost use Rattle.lot_words.specs.declared.words.WordKind.TheVariants.{RwLock};
 ghost use Rattle.lot_driver.specs.Drawing.{Drew, FoundFull};
 ghost use Rattle.raw_rwlocks.specs.RwLockGuards.{IsExclusiveOf, IsExclusiveOf-prop, IsSharedOf, IsSharedOf-prop, IsUpgradableOf, IsUpgradableOf-prop};
@@ -14,6 +17,8 @@ use crate::rwlock_rights::LotRwLock;
 use lot_acts::bits::{count_in, has_writer};
 use lot_calls::{Access, Downgrade, Patience};
 use lot_driver::driver::FOR_EVER;
+use lot_place::calls;
+use lot_place::{Open, Place, Seen};
 use parking_lot_core::{Fault, Key, ParkingLot, Token, Want};
 use std::sync::{Arc, Wait};
 
@@ -76,6 +81,12 @@ impl<const RECURSIVE: bool> lock_raw::RawRwLock for RawRwLock<RECURSIVE> {
     ghost exclusive_once = { λ lock guard. IsExclusiveOf-prop (lot_at lock) (word_at lock) guard };
 
     ghost limit_of = { λ lock. (admission_of lock).limit };
+
+    ghost place_of = { λ lock. place_at (lot_at lock).words (word_at lock) };
+
+    ghost shared_view = { λ lock. piece_of (word_at lock) Shared };
+
+    ghost exclusive_view = { λ lock. piece_of (word_at lock) Exclusive };
 
     ghost drew = { λ lock old new. Drew RwLock (lot_at lock) (word_at lock) old new };
 
@@ -209,6 +220,30 @@ impl<const RECURSIVE: bool> lock_raw::RawRwLock for RawRwLock<RECURSIVE> {
         has_writer(seen) && count_in(seen) == 0
     }
 
+    #[inline]
+    fn open_shared<'a, T>(&self, place: &'a Place<T>, guard: RawSharedGuard) -> Seen<'a, T> {
+        let RawSharedGuard { right } = guard;
+        calls::open_shared(self.lock.words(), place, self.lock.word(), right)
+    }
+
+    #[inline]
+    fn shut_shared<T>(&self, seen: Seen<'_, T>) -> RawSharedGuard {
+        let right = calls::shut_shared(self.lock.words(), self.lock.word(), seen);
+        RawSharedGuard { right }
+    }
+
+    #[inline]
+    fn open_exclusive<'a, T>(&self, place: &'a Place<T>, guard: RawExclusiveGuard) -> Open<'a, T> {
+        let RawExclusiveGuard { right } = guard;
+        calls::open_alone(self.lock.words(), place, self.lock.word(), right)
+    }
+
+    #[inline]
+    fn shut_exclusive<T>(&self, lent: Open<'_, T>) -> RawExclusiveGuard {
+        let right = calls::shut_alone(self.lock.words(), self.lock.word(), lent);
+        RawExclusiveGuard { right }
+    }
+
     fn has_two_writers(
         &self,
         token: &mut Token,
@@ -258,6 +293,8 @@ impl<const RECURSIVE: bool> lock_raw::RawRwLockUpgrade for RawRwLock<RECURSIVE> 
 
     ghost upgradable_once = { λ lock guard. IsUpgradableOf-prop (lot_at lock)
         (word_at lock) guard };
+
+    ghost upgradable_view = { λ lock. piece_of (word_at lock) Upgradable };
 
     #[inline]
     fn lock_upgradable<R: Wait>(
@@ -331,6 +368,22 @@ impl<const RECURSIVE: bool> lock_raw::RawRwLockUpgrade for RawRwLock<RECURSIVE> 
             Ok(right) => Ok(RawExclusiveGuard { right }),
             Err(right) => Err(RawUpgradableGuard { right }),
         }
+    }
+
+    #[inline]
+    fn open_upgradable<'a, T>(
+        &self,
+        place: &'a Place<T>,
+        guard: RawUpgradableGuard,
+    ) -> Seen<'a, T> {
+        let RawUpgradableGuard { right } = guard;
+        calls::open_upgradable(self.lock.words(), place, self.lock.word(), right)
+    }
+
+    #[inline]
+    fn shut_upgradable<T>(&self, seen: Seen<'_, T>) -> RawUpgradableGuard {
+        let right = calls::shut_upgradable(self.lock.words(), self.lock.word(), seen);
+        RawUpgradableGuard { right }
     }
 
     fn has_two_upgradables(

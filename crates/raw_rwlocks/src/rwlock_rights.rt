@@ -34,6 +34,7 @@ use lot_driver::driver::FOR_EVER;
 use lot_rwlock::places::WRITER;
 use lot_rwlock::purposes::wanted;
 use lot_rwlock::{Admission, RwLockPurpose};
+use lot_words::LotWords;
 use parking_lot_core::{Clock, Fault, Held, Key, Op, ParkingLot, Token, Want, Word, WordKind};
 use rwlock_driver::calls::{Rest, behind, call, call_fast, missed};
 use rwlock_driver::courses::{greater, lesser};
@@ -101,6 +102,23 @@ impl LotRwLock {
         ensures { result ≡ 2 * (word_in self.now).number + 1 }
     {
         second_key(self.word.number())
+    }
+
+    /// The words of its lot.
+    #[inline]
+    pub(crate) fn words(&self) -> &LotWords
+        ensures { result.now ≡ (lot_in self.now).words }
+    {
+        self.lot.words()
+    }
+
+    /// Its word, which is one of these.
+    #[inline]
+    pub(crate) fn word(&self) -> Word
+        ensures { (result ≡ word_in self.now) × IsWordOf (lot_in self.now).words result
+            × (result.kind ≡ RwLock) }
+    {
+        self.word
     }
 
     #[inline(always)]

@@ -4,7 +4,9 @@
 pub mod once;
 mod once_calls;
 pub mod once_cell;
+pub mod showing;
 
 pub use lot_calls::OnceState;
 pub use once::{Once, OnceFault};
 pub use once_cell::OnceCell;
+pub use showing::OnceShown;

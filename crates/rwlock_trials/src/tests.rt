@@ -3,6 +3,7 @@ mod crowds;
 mod fair;
 mod guards;
 mod timed;
+mod values;
 
 ghost use Rattle.std.specs.Prelude.{◌≡◌, ◌<◌, All, IfSome};
 ghost use Rattle.std.specs.Arc.{arc_value};
@@ -281,7 +282,7 @@ fn writes<const RECURSIVE: bool, R: Wait>(rt: &R, lock: &Lock<RECURSIVE>, token:
     requires { IsTokenOf (lot_of lock.now) token.old }
     ensures { IsTokenOf (lot_of lock.now) token.new }
 {
-    match lock.try_write(rt, token) {
+    match lock.try_write(token) {
         Some(guard) => {
             end_writer(rt, token, guard);
             true

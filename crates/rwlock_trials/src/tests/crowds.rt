@@ -5,6 +5,7 @@ ghost use Rattle.parking_lot.specs.RwLockUsers.{lot_of};
 
 use super::fair::{Giver, give};
 use super::guards::read_twice;
+use super::values::read_together;
 use super::{
     Lock, end_reader, end_writer, holds, read_upgradable, replace, same, seats, value_of, write,
 };
@@ -223,6 +224,8 @@ pub(super) enum Part<'a> {
     Tear(usize),
     /// Reads once more beside a writer, as the first.
     ReadTwice,
+    /// Reads until so many do at once, who count themselves here.
+    Meet(&'a AtomicUsize, usize),
     /// Gives the lock up to a writer, as the first.
     Give(Giver, bool),
 }
@@ -253,6 +256,7 @@ fn take_part<const RECURSIVE: bool, R: Wait>(
         Part::Add(way) => add_often(rt, lock, token, way, 100),
         Part::Come(written) => come_often(rt, lock, token, written),
         Part::Tear(upgraders) => tear_or_look(rt, lock, token, place, upgraders),
+        Part::Meet(inside, wanted) => read_together(rt, lock, token, inside, wanted),
         Part::ReadTwice if place == 0 => read_twice(rt, lot, lock, token, held),
         Part::Give(giver, bumps) if place == 0 => give(rt, lot, lock, token, held, giver, bumps),
         _ => write_later(rt, lock, token, held),

@@ -1,0 +1,6 @@
+-- What a place that is open to read is, would this stand in it.
+use Rattle.lot_place.specs.declared.place.Seen.{Seen}
+
+module _ {X : Type 0} where
+  abbrev pub seen_with_value : Seen X → X → Seen X
+  seen_with_value it w = record { place = it.place; marker = it.marker; of = it.of; view = it.view; value = w }

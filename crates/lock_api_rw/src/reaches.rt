@@ -1,0 +1,22 @@
+//! Who has a reader-writer lock for itself reaches its value without a step.
+ghost use Rattle.std.specs.Prelude.{◌≡◌};
+ghost use Rattle.std.specs.Borrow.{Lends, sem};
+ghost use Rattle.lock_api_rw.specs.contracts.rwlock.RwLock.{the_row};
+
+use crate::rwlock::RwLock;
+use lock_raw::RawRwLock;
+
+impl<R: RawRwLock, T> RwLock<R, T> {
+    /// The value, of a lock that nobody else can use meanwhile. It takes no step, and the lock is
+    /// the same behind it.
+    #[inline]
+    pub fn get_mut(&mut self) -> &mut T
+        ensures* same { sem 𝓛
+            (Lends (the_row R.row T.row R.Lot.row R.Token.row R.SharedGuard.row
+            R.ExclusiveGuard.row R.RawRwLock)
+            T.row
+            self.entry result (λ _. self.old)) }
+    {
+        self.place.get_mut()
+    }
+}

@@ -1,0 +1,4 @@
+pub mod Finds
+pub mod Then
+pub mod Mapped
+pub mod Shown

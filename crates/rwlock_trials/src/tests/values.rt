@@ -1,0 +1,172 @@
+//! Values of reader-writer locks: several see one at once, conversions keep it, and each is dropped
+//! once.
+ghost use Rattle.std.specs.Prelude.{◌≡◌};
+ghost use Rattle.lock_api_rw.specs.Guards.{lock_of};
+ghost use Rattle.parking_lot_core.specs.Tokens.{IsTokenOf};
+ghost use Rattle.parking_lot.specs.RwLockUsers.{lot_of};
+
+use super::crowds::{Part, play};
+use super::{Lock, Upgradable, end_reader, lock_alone, next_of, read, read_upgradable, same};
+use parking_lot::{ParkingLot, RwLock, Token};
+use std::alloc::Global;
+use std::process::Abort;
+use std::sync::Wait;
+use std::sync::atomic::Ordering::SeqCst;
+use std::sync::atomic::{AtomicU64, AtomicUsize};
+use std::thread::yield_now;
+
+// Reads until so many do at once. Whether the value was whole throughout.
+pub(super) fn read_together<const RECURSIVE: bool, R: Wait>(
+    rt: &R,
+    lock: &Lock<RECURSIVE>,
+    token: &mut Token,
+    inside: &AtomicUsize,
+    wanted: usize,
+) -> bool
+    requires { IsTokenOf (lot_of lock.now) token.old }
+    ensures { IsTokenOf (lot_of lock.now) token.new }
+{
+    let Some(guard) = read(rt, lock, token) else {
+        return false;
+    };
+    let before = *guard;
+    inside.fetch_add(1, SeqCst);
+    for _ in rt.forever() {
+        if inside.load(SeqCst) == wanted {
+            break;
+        }
+        yield_now();
+    }
+    end_reader(rt, token, guard) == before
+}
+
+#[test]
+fn four_threads_read_a_value_at_once(rt: HostRuntime) {
+    let inside = AtomicUsize::new(0);
+    let found = play::<false, HostRuntime>(&rt, rt.alloc(), 4, Part::Meet(&inside, 4));
+    same(&rt, found, (true, 0));
+}
+
+// Two guards of one thread show the value at once: what they show.
+fn shown_twice<R: Wait>(rt: &R, lock: &Lock<false>, token: &mut Token) -> Option<(u64, u64)>
+    requires { IsTokenOf (lot_of lock.now) token.old }
+    ensures { IsTokenOf (lot_of lock.now) token.new }
+{
+    let later = read_upgradable(rt, lock, token)?;
+    let Some(guard) = read(rt, lock, token) else {
+        later.unlock(rt, token);
+        return None;
+    };
+    let (one, other) = (&*later, &*guard);
+    let shown = (*one, *other);
+    end_reader(rt, token, guard);
+    later.unlock(rt, token);
+    Some(shown)
+}
+
+// Upgrades where nobody else reads, adds 1, and goes on as a reader by way of the upgradable right:
+// what each right showed.
+fn convert<R: Wait>(rt: &R, token: &mut Token, guard: Upgradable<'_, false>) -> Option<[u64; 4]>
+    requires { IsTokenOf (lot_of (lock_of guard)) token.old }
+    ensures { IsTokenOf (lot_of (lock_of guard.entry)) token.new }
+{
+    let first = *guard;
+    match guard.try_upgrade(rt, token) {
+        Ok(mut guard) => {
+            *guard = guard.wrapping_add(1);
+            let written = *guard;
+            let guard = guard.downgrade_to_upgradable(rt, token);
+            let kept = *guard;
+            let guard = guard.downgrade(rt, token);
+            Some([first, written, kept, end_reader(rt, token, guard)])
+        }
+        Err(guard) => {
+            guard.unlock(rt, token);
+            None
+        }
+    }
+}
+
+// A conversion beside another reader, and one behind it.
+fn convert_twice<R: Wait>(rt: &R, lock: &Lock<false>, token: &mut Token) -> [Option<[u64; 4]>; 2]
+    requires { IsTokenOf (lot_of lock.now) token.old }
+    ensures { IsTokenOf (lot_of lock.now) token.new }
+{
+    let Some(guard) = read(rt, lock, token) else {
+        return [None, None];
+    };
+    let beside = convert_in(rt, lock, token);
+    end_reader(rt, token, guard);
+    [beside, convert_in(rt, lock, token)]
+}
+
+// Comes in with the upgradable right, and converts it.
+fn convert_in<R: Wait>(rt: &R, lock: &Lock<false>, token: &mut Token) -> Option<[u64; 4]>
+    requires { IsTokenOf (lot_of lock.now) token.old }
+    ensures { IsTokenOf (lot_of lock.now) token.new }
+{
+    let guard = read_upgradable(rt, lock, token)?;
+    convert(rt, token, guard)
+}
+
+#[test]
+fn rights_show_the_value_through_conversions(rt: HostRuntime) {
+    let (lock, mut token) = lock_alone(&rt, rt.alloc(), 5, false);
+    same(&rt, shown_twice(&rt, &lock, &mut token), Some((5, 5)));
+    same(
+        &rt,
+        convert_twice(&rt, &lock, &mut token),
+        [None, Some([5, 6, 6, 6])],
+    );
+    same(&rt, lock.into_inner(), 6);
+}
+
+// A value whose drops are counted.
+struct Counted<'a> {
+    drops: &'a AtomicU64,
+}
+
+impl Drop for Counted<'_> {
+    fn drop(self) {
+        let Counted { drops } = self;
+        drops.fetch_add(1, SeqCst);
+    }
+}
+
+// A lock with such a value, which was opened to write and to read.
+fn used<'a, R: Wait + Abort>(rt: &R, alloc: Global, drops: &'a AtomicU64) -> RwLock<Counted<'a>> {
+    let Ok((lot, mut tickets)) = ParkingLot::new(alloc, 1, 1) else {
+        panic!(rt; "no lot");
+    };
+    let Some(ticket) = next_of(&lot, &mut tickets) else {
+        panic!(rt; "no seat");
+    };
+    let mut token = ticket.enter();
+    let Ok(lock) = RwLock::new(&lot, &mut token, Counted { drops }) else {
+        panic!(rt; "no lock");
+    };
+    let guard = lock.write(rt, &mut token);
+    let guard = guard.downgrade(rt, &mut token);
+    guard.unlock(rt, &mut token);
+    lock
+}
+
+fn counts(drops: &AtomicU64) -> u64 {
+    drops.load(SeqCst)
+}
+
+#[test]
+fn a_value_is_dropped_once(rt: HostRuntime) {
+    let drops = AtomicU64::new(0);
+    let value = used(&rt, rt.alloc(), &drops).into_inner();
+    same(&rt, counts(&drops), 0);
+    drop(value);
+    same(&rt, counts(&drops), 1);
+    drop(used(&rt, rt.alloc(), &drops));
+    same(&rt, counts(&drops), 2);
+    let mut lock = used(&rt, rt.alloc(), &drops);
+    *lock.get_mut() = Counted { drops: &drops };
+    same(&rt, counts(&drops), 3);
+    drop(lock);
+    same(&rt, counts(&drops), 4);
+}
