@@ -18,7 +18,7 @@ pub lock_again-requires : goal.lock_again-requires
 lock_again-requires g c = let pair = c.args.pair in let at = wait_at pair.condvar pair.mutex c.args.timed in let up = IsUp g.C.Clock.tells c.args.limit in
     let here = begins up c.args.lot.now pair.words (at (wait.Asleep Listed)) c.args.token.now c.args.section c.requires in
     let turned = subst (λ (p : Place). HasTurned up c.args.lot.now pair.words p c.turn_sleep-reply.result c.args.token.now c.args.section
-    c.turn_sleep-reply.new.token c.turn_sleep-reply.new.section) c.waits-place.ensures c.turn_sleep-reply.ensures in
+    c.turn_sleep-reply.new.token c.turn_sleep-reply.new.section) c.waits-place.ensures c.turn_sleep-reply.ensures.turned in
     let woken : c.turn_sleep-reply.result ≡ Woken Normal = search rules in
     let on : (next_place (at (wait.Asleep Listed)) c.turn_sleep-reply.result ≡ at (locks_at lock.First)) × (answer_of (next_act (at (wait.Asleep Listed)) c.turn_sleep-reply.result) ≡ None) = rw woken (refl, refl) in
     let awake = turns_to here c.turn_sleep-reply.result c.turn_sleep-reply.new.token c.turn_sleep-reply.new.section turned (at (locks_at lock.First)) on in
@@ -28,7 +28,7 @@ pub returns-then-matches : goal.returns-then-matches
 returns-then-matches g c = let pair = c.args.pair in let at = wait_at pair.condvar pair.mutex c.args.timed in let up = IsUp g.C.Clock.tells c.args.limit in
     let here = begins up c.args.lot.now pair.words (at (wait.Asleep Listed)) c.args.token.now c.args.section c.requires in
     let turned = subst (λ (p : Place). HasTurned up c.args.lot.now pair.words p c.turn_sleep-reply.result c.args.token.now c.args.section
-    c.turn_sleep-reply.new.token c.turn_sleep-reply.new.section) c.waits-place.ensures c.turn_sleep-reply.ensures in
+    c.turn_sleep-reply.new.token c.turn_sleep-reply.new.section) c.waits-place.ensures c.turn_sleep-reply.ensures.turned in
     let woken : c.turn_sleep-reply.result ≡ Woken Normal = search rules in
     let on : (next_place (at (wait.Asleep Listed)) c.turn_sleep-reply.result ≡ at (locks_at lock.First)) × (answer_of (next_act (at (wait.Asleep Listed)) c.turn_sleep-reply.result) ≡ None) = rw woken (refl, refl) in
     let awake = turns_to here c.turn_sleep-reply.result c.turn_sleep-reply.new.token c.turn_sleep-reply.new.section turned (at (locks_at lock.First)) on in
@@ -38,7 +38,7 @@ pub rest-requires-clause-at : goal.rest-requires-clause-at
 rest-requires-clause-at g c = let pair = c.args.pair in let at = wait_at pair.condvar pair.mutex c.args.timed in let up = IsUp g.C.Clock.tells c.args.limit in
     let here = begins up c.args.lot.now pair.words (at (wait.Asleep Listed)) c.args.token.now c.args.section c.requires in
     let turned = subst (λ (p : Place). HasTurned up c.args.lot.now pair.words p c.turn_sleep-reply.result c.args.token.now c.args.section
-    c.turn_sleep-reply.new.token c.turn_sleep-reply.new.section) c.waits-place.ensures c.turn_sleep-reply.ensures in
+    c.turn_sleep-reply.new.token c.turn_sleep-reply.new.section) c.waits-place.ensures c.turn_sleep-reply.ensures.turned in
     let awake = turns_to here c.turn_sleep-reply.result c.turn_sleep-reply.new.token c.turn_sleep-reply.new.section turned
     (next_place (at (wait.Asleep Listed)) c.turn_sleep-reply.result) (refl, sleeps_on pair.condvar pair.mutex c.args.timed c.turn_sleep-reply.result) in
     let there = named awake (sym (c.after-next.ensures ∙ ap (λ (p : Place). next_place p c.turn_sleep-reply.result) c.waits-place.ensures)) in
@@ -52,7 +52,7 @@ pub returns : goal.returns
 returns g c = let pair = c.args.pair in let at = wait_at pair.condvar pair.mutex c.args.timed in let up = IsUp g.C.Clock.tells c.args.limit in
     let here = begins up c.args.lot.now pair.words (at (wait.Asleep Listed)) c.args.token.now c.args.section c.requires in
     let turned = subst (λ (p : Place). HasTurned up c.args.lot.now pair.words p c.turn_sleep-reply.result c.args.token.now c.args.section
-    c.turn_sleep-reply.new.token c.turn_sleep-reply.new.section) c.waits-place.ensures c.turn_sleep-reply.ensures in
+    c.turn_sleep-reply.new.token c.turn_sleep-reply.new.section) c.waits-place.ensures c.turn_sleep-reply.ensures.turned in
     let awake = turns_to here c.turn_sleep-reply.result c.turn_sleep-reply.new.token c.turn_sleep-reply.new.section turned
     (next_place (at (wait.Asleep Listed)) c.turn_sleep-reply.result) (refl, sleeps_on pair.condvar pair.mutex c.args.timed c.turn_sleep-reply.result) in
     let there = named awake (sym (c.after-next.ensures ∙ ap (λ (p : Place). next_place p c.turn_sleep-reply.result) c.waits-place.ensures)) in
