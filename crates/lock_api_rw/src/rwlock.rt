@@ -75,7 +75,8 @@ impl<R: RawRwLock, T> RwLock<R, T> {
         }
     }
 
-    /// A lock that nobody has and so many may share, with its value.
+    /// Makes a lock that nobody has and so many may share, with its value: at least as many as the
+    /// lot has threads, so that a hand-over to all who wait never passes the limit.
     ///
     /// # Errors
     ///
@@ -89,7 +90,8 @@ impl<R: RawRwLock, T> RwLock<R, T> {
         limit: u64,
     ) -> Result<RwLock<R, T>, (Fault, T)>
         requires token { R.is_token_of (arc_value lot.now) token.old }
-        requires limit { limit ≤ 1152921504606846974 }
+        requires limit { (R.seats_of (arc_value lot.now) ≤ limit)
+            × (limit ≤ 1152921504606846974) }
         ensures token { R.is_token_of (arc_value lot.now) token.new × R.stays token.old token.new }
         ensures made { MatchResult result
             (λ lock. (R.lot_of lock ≡ arc_value lot.now) × (R.limit_of lock ≡ limit))

@@ -54,6 +54,8 @@ pub trait RawRwLock {
         → IsProp (is_exclusive_of lock guard) };
     // So many may share a lock.
     ghost limit_of: { Self → ℕ };
+    // A lot is of so many threads.
+    ghost seats_of: { Self.Lot → ℕ };
     // The place of the value that a lock guards.
     ghost place_of: { Self → PlaceId };
     // A place that is open to read keeps this of who reads, and one that is open to write that of
@@ -95,14 +97,16 @@ pub trait RawRwLock {
             (IsRefusal (found_full (arc_value lot.now)) token.old token.new) }
         ensures drawn { IfOk result (λ lock. drew lock token.old token.new) };
 
-    /// A lock that nobody has, and that so many may share.
+    /// Makes a lock that nobody has, and that so many may share: at least as many as the lot has
+    /// threads, so that a hand-over to all who wait never passes the limit.
     ///
     /// # Errors
     ///
     /// `LotFull`, where the lot has no word left, and `NoMemory`, where memory was refused.
     fn with_limit(lot: &Arc<Self::Lot>, token: &mut Self::Token, limit: u64) -> Result<Self, Fault>
         requires token { is_token_of (arc_value lot.now) token.old }
-        requires limit { limit ≤ 1152921504606846974 }
+        requires limit { (seats_of (arc_value lot.now) ≤ limit)
+            × (limit ≤ 1152921504606846974) }
         ensures token { is_token_of (arc_value lot.now) token.new × stays token.old token.new }
         ensures made { MatchResult result
             (λ lock. (lot_of lock ≡ arc_value lot.now) × (limit_of lock ≡ limit))

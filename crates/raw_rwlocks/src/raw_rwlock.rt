@@ -80,6 +80,8 @@ impl<const RECURSIVE: bool> lock_raw::RawRwLock for RawRwLock<RECURSIVE> {
 
     ghost exclusive_once = { λ lock guard. IsExclusiveOf-prop (lot_at lock) (word_at lock) guard };
 
+    ghost seats_of = { λ lot. lot.records.count };
+
     ghost limit_of = { λ lock. (admission_of lock).limit };
 
     ghost place_of = { λ lock. place_at (lot_at lock).words (word_at lock) };
@@ -120,7 +122,8 @@ impl<const RECURSIVE: bool> lock_raw::RawRwLock for RawRwLock<RECURSIVE> {
             (λ lock. Drew RwLock (lot_at lock) (word_at lock) token.old token.new) }
         ensures chosen { IfOk result (λ lock. (admission_of lock).recursive ≡ RECURSIVE) }
     {
-        <RawRwLock<RECURSIVE> as lock_raw::RawRwLock>::with_limit(lot, token, MOST_READERS)
+        let lock = LotRwLock::with_limit(lot, token, RECURSIVE, MOST_READERS)?;
+        Ok(RawRwLock { lock })
     }
 
     fn with_limit(
@@ -129,7 +132,8 @@ impl<const RECURSIVE: bool> lock_raw::RawRwLock for RawRwLock<RECURSIVE> {
         limit: u64,
     ) -> Result<RawRwLock<RECURSIVE>, Fault>
         requires token { IsTokenOf (arc_value lot.now) token.old }
-        requires limit { limit ≤ 1152921504606846974 }
+        requires limit { ((arc_value lot.now).records.count ≤ limit)
+            × (limit ≤ 1152921504606846974) }
         ensures token { IsTokenOf (arc_value lot.now) token.new × StaysSettled token.old token.new }
         ensures made { MatchResult result
             (λ lock. (lot_at lock ≡ arc_value lot.now) × ((admission_of lock).limit ≡ limit))

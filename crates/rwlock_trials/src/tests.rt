@@ -68,7 +68,8 @@ fn lock_in<const RECURSIVE: bool, A: Abort>(
     value: u64,
     limited: bool,
 ) -> Lock<RECURSIVE>
-    requires { IsTokenOf (arc_value lot.now) token.old }
+    requires { IsTokenOf (arc_value lot.now) token.old
+        × ((arc_value lot.now).records.count ≤ 1024) }
     ensures token { IsTokenOf (arc_value lot.now) token.new }
     ensures lock { lot_of result ≡ arc_value lot.now }
 {

@@ -63,7 +63,7 @@ pub(super) fn play<const RECURSIVE: bool, R: Threads + Wait + Sync>(
     threads: usize,
     part: Part,
 ) -> Result<bool, Fault>
-    requires { threads < 1024 }
+    requires { threads < 1000 }
 {
     let (lot, lock, tickets) = seats::<RECURSIVE>(alloc, threads, 1000)?;
     let told = Told {

@@ -23,7 +23,8 @@ fn lock_by<const RECURSIVE: bool>(
     ticket: Ticket,
     limit: u64,
 ) -> Result<RawRwLock<RECURSIVE>, Fault>
-    requires { IsTicketOf (arc_value lot.now) ticket × (limit ≤ 1024) }
+    requires { IsTicketOf (arc_value lot.now) ticket
+        × ((arc_value lot.now).records.count ≤ limit) × (limit ≤ 1024) }
     ensures lot { IfOk result (λ lock. lot_of lock ≡ arc_value lot.now) }
     ensures limit { IfOk result (λ lock. (admission_of lock).limit ≡ limit) }
 {
@@ -43,7 +44,7 @@ pub(super) fn seats<const RECURSIVE: bool>(
     threads: usize,
     limit: u64,
 ) -> Result<(Arc<ParkingLot>, RawRwLock<RECURSIVE>, Vec<Ticket>), Fault>
-    requires { (threads < 1024) × (limit ≤ 1024) }
+    requires { (threads < limit) × (limit ≤ 1024) }
     ensures lot { IfOk result (λ made. lot_of made.1 ≡ arc_value made.0) }
     ensures limit { IfOk result (λ made. (admission_of made.1).limit ≡ limit) }
     ensures tickets { IfOk result (λ made. All (IsTicketOf (arc_value made.0)) made.2.items) }
@@ -75,7 +76,7 @@ pub(super) fn lock_alone<const RECURSIVE: bool>(
     alloc: Global,
     limit: u64,
 ) -> Result<(RawRwLock<RECURSIVE>, Token), Fault>
-    requires { limit ≤ 1024 }
+    requires { (2 ≤ limit) × (limit ≤ 1024) }
     ensures limit { IfOk result (λ made. (admission_of made.0).limit ≡ limit) }
     ensures token { IfOk result (λ made. IsTokenOf (lot_of made.0) made.1) }
 {

@@ -64,7 +64,7 @@ fn play_within<const RECURSIVE: bool, R: Threads + Wait + Sync + Abort>(
     scene: Scene,
     limit: u64,
 )
-    requires { limit ≤ 1024 }
+    requires { (5 ≤ limit) × (limit ≤ 1024) }
 {
     let Ok((lot, lock, tickets)) = seats::<RECURSIVE>(alloc, 4, limit) else {
         panic!(rt; "no seats");

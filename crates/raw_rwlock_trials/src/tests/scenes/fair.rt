@@ -55,13 +55,13 @@ fn who_waits_with_a_deadline_is_handed_the_lock(rt: HostRuntime) {
     play::<false, HostRuntime>(&rt, rt.alloc(), handed);
 }
 
-// An exclusive owner hands the lock to all who read, also where they are more than may come in by
-// themselves.
+// An exclusive owner hands the lock to all who read, on a lock that no more may share than there are
+// threads.
 #[test]
 fn all_who_are_handed_the_lock_have_it(rt: HostRuntime) {
     let readers = [Coming::Reader, Coming::Reader, Coming::Reader];
     let handed = scene(Manner::Handed, readers, 3, 0);
-    play_within::<false, HostRuntime>(&rt, rt.alloc(), handed, 1);
+    play_within::<false, HostRuntime>(&rt, rt.alloc(), handed, 5);
 }
 
 const UPGRADABLES: [Coming; 3] = [Coming::Upgradable, Coming::Upgradable, Coming::Writer];
@@ -113,7 +113,7 @@ fn goes_alone<const RECURSIVE: bool, R: Wait>(
 
 #[test]
 fn who_is_alone_keeps_its_right_as_it_bumps(rt: HostRuntime) -> Result<(), Fail> {
-    let (lock, mut token) = lock_alone::<false>(rt.alloc(), 1)?;
+    let (lock, mut token) = lock_alone::<false>(rt.alloc(), 2)?;
     same(&rt, goes_alone(&rt, &lock, &mut token), [true, true, true]);
     Ok(())
 }
