@@ -1,7 +1,7 @@
 -- Which threads have debts on a lock, by the links of a book.
-use Rattle.std.proofs.Common.{◌≡◌, ◌≢◌, ◌∙◌, ℕ, suc, zero, ◌+◌, ◌-◌, ◌<◌, ◌≤◌, Bool, true, false, inl, inr, Option, Some, None, List, [], ◌∷◌, length, get_or, set, drop, refl, sym, ap, subst, replicate, get_or-set_same, get_or-set_other, length-set, ne_eqb, arith}
+use Rattle.std.proofs.Common.{◌≡◌, ◌≢◌, ◌∙◌, ℕ, suc, zero, ◌+◌, ◌-◌, ◌<◌, ◌≤◌, Bool, true, false, inl, inr, Option, Some, None, List, [], ◌∷◌, ◌++◌, length, get_or, set, drop, refl, sym, ap, subst, replicate, get_or-set_same, get_or-set_other, length-set, ne_eqb, arith}
 use Rattle.std.proofs.lemmas.Bool.{cases_eq, cases_lt}
-use Rattle.std.proofs.lemmas.List.{get_or-drop, get_or_past, get_or-replicate, length-replicate}
+use Rattle.std.proofs.lemmas.List.{drop_more, get_or-drop, get_or_past, get_or-replicate, length-replicate}
 use Rattle.std.proofs.Math.Seq.{drop-nil}
 use Rattle.std.specs.Prelude.{◌&&◌}
 use Rattle.lot_steps.specs.declared.places.Place.{Place}
@@ -62,7 +62,7 @@ tells_nowhere own p only owes retries debt l e = elim (cases_eq own l) [
 
 -- so many places without the debt at the head of a list
 skips_front : (debt : Debt) (l : ℕ) (ps : List Place) (n k : ℕ) → ((i : ℕ) → i < k → has_debt (place_of ps i) debt l ≡ false) → debtors debt l n ps ≡ debtors debt l (n + k) (drop k ps)
-skips_front debt l ps n zero none = refl
+skips_front debt l ps n zero none = let same : n ≡ n + 0 = omega arith in ap (λ (m : ℕ). debtors debt l m ps) same
 skips_front debt l [] n (suc k) none = refl
 skips_front debt l (p ∷ ps) n (suc k) none =
     let first : has_debt p debt l ≡ false = none 0 (omega arith) in
@@ -81,8 +81,25 @@ skips_debtors places debt l from to le none =
     let k = to - from in
     let there : from + k ≡ to = omega (arith, le) in
     skips_front debt l (drop from places) from k (λ i lt. rw (get_or-drop from places i Idle) (none (from + i) (omega arith) (omega (arith, lt, le)) debt))
-      ∙ ap (λ ps. debtors debt l (from + k) ps) (drop_on from k places)
-      ∙ ap (λ m. debtors debt l m (drop m places)) there
+    ∙ ap (λ ps. debtors debt l (from + k) ps) (drop_on from k places)
+    ∙ ap (λ m. debtors debt l m (drop m places)) there
+
+-- the one who has the debt comes first, and then those from the next one on
+pub debtor_there : (places : List Place) (debt : Debt) (l t next : ℕ) → t < length places → has_debt (place_of places t) debt l ≡ true → t < next → Skips places l (t + 1) next → debtors debt l t (drop t places) ≡ (debt, t) ∷ debtors debt l next (drop next places)
+debtor_there places debt l t next there has later none =
+    ap (λ ps. debtors debt l t ps) (drop_more places t Idle there)
+    ∙ rw has (ap (λ rest. (debt, t) ∷ rest) (skips_debtors places debt l (t + 1) next (omega (arith, later)) none))
+
+pub debtor_past : (places : List Place) (debt : Debt) (l t next : ℕ) → t < length places → has_debt (place_of places t) debt l ≡ false → t < next → Skips places l (t + 1) next → debtors debt l t (drop t places) ≡ debtors debt l next (drop next places)
+debtor_past places debt l t next there none later skips =
+    ap (λ ps. debtors debt l t ps) (drop_more places t Idle there)
+    ∙ rw none (skips_debtors places debt l (t + 1) next (omega (arith, later)) skips)
+
+-- all who have debts stand from the first one on
+pub debts_from : (places : List Place) (l first : ℕ) → Skips places l 0 first → debtors Owes l first (drop first places) ++ debtors Retries l first (drop first places) ≡ debtors Owes l 0 places ++ debtors Retries l 0 places
+debts_from places l first none =
+    ap (λ owing. owing ++ debtors Retries l first (drop first places)) (sym (skips_debtors places Owes l 0 first (omega arith) none))
+    ∙ ap (λ retrying. debtors Owes l 0 places ++ retrying) (sym (skips_debtors places Retries l 0 first (omega arith) none))
 
 -- ---------------------------------------------------------------- how a thread is linked
 
@@ -102,6 +119,7 @@ links_none n places t l there on = absurd (none (subst (λ (x : Link). x.lock �
       | inl lt ↦ get_or-replicate n t unlinked unlinked lt
       | inr ge ↦ get_or_past (replicate n unlinked) t unlinked (rw (length-replicate {A = Link} n unlinked) ge)
     ]
+
     none : {l : ℕ} → None ≡ Some l → ⊥
     none e = cc
 
@@ -141,7 +159,7 @@ module _ (links : List Link) (first : List ℕ) (places : List Place) (t : ℕ) 
 
   -- a thread that may have debts on one lock stands before those of its chain
   module _ (own : ℕ) (lt : own < 256) (tells : Tells (On own) (place_of places t)) where
-    own_link : Link
+    abbrev pub own_link : Link
     own_link = record { lock = Some own; next = get_or first own 0 }
 
     begun : (l : ℕ) → l < 256 → (t ≤ get_or (set first own t) l 0) × (get_or (set first own t) l 0 ≤ length places) × Skips places l t (get_or (set first own t) l 0)
@@ -150,7 +168,7 @@ module _ (links : List Link) (first : List ℕ) (places : List Place) (t : ℕ) 
       | inr ne ↦ rw (get_or-set_other first own l t 0 ne) (goes_before l below (λ debt. tells debt l (ne_eqb own l (λ same. ne (sym same)))))
     ]
 
-    Leads : ℕ → ℕ → Link → Type 0
+    abbrev Leads : ℕ → ℕ → Link → Type 0
     Leads u l x = (u < x.next) × (x.next ≤ length places) × Skips places l (u + 1) x.next
 
     here : (l : ℕ) → own_link.lock ≡ Some l → Leads t l own_link

@@ -68,19 +68,11 @@ impl<'a> DebtBook<'a> {
     pub fn new(places: &'a [Place]) -> DebtBook<'a>
         ensures { result ≡ places.now }
     {
-        let threads = places.len();
+        let linked = linked_of(places.len());
         let mut links = [UNLINKED; LINKED];
-        let mut first = [0; LOCKS];
-        if threads > LINKED {
-            return DebtBook {
-                places,
-                links,
-                first,
-            };
-        }
-        first = [threads as u16; LOCKS];
-        for behind in 0..threads {
-            link(places, &mut links, &mut first, threads - behind - 1);
+        let mut first = [linked as u16; LOCKS];
+        for behind in 0..linked {
+            put_before(places, &mut links, &mut first, linked - behind - 1);
         }
         DebtBook {
             places,
@@ -89,16 +81,23 @@ impl<'a> DebtBook<'a> {
         }
     }
 
+    // The first thread that may have debts on a lock.
+    #[inline]
+    fn first_on(&self, lock: usize) -> usize
+        ensures { Skips self.now lock 0 result }
+    {
+        if lock < LOCKS {
+            return self.first[lock] as usize;
+        }
+        0
+    }
+
     /// The threads that owe a wake on a lock, then those that try again, each by their numbers.
     pub fn on(&self, lock: usize) -> Debts<'_>
         ensures { result
             ≡ debtors Debt.Owes lock 0 self.now ++ debtors Debt.Retries lock 0 self.now }
     {
-        let first = if lock < LOCKS {
-            self.first[lock] as usize
-        } else {
-            0
-        };
+        let first = self.first_on(lock);
         Debts {
             places: self.places,
             links: &self.links,
@@ -109,8 +108,15 @@ impl<'a> DebtBook<'a> {
     }
 }
 
+/// How many of so many threads a book links: all, or none.
+fn linked_of(threads: usize) -> usize
+    ensures { (result ≤ threads) × (0 < result → (result ≡ threads) × (threads ≤ 1024)) }
+{
+    if threads > LINKED { 0 } else { threads }
+}
+
 /// Puts a thread before those that are linked already, which are all behind it.
-fn link(places: &[Place], links: &mut [Link; LINKED], first: &mut [u16; LOCKS], thread: usize)
+fn put_before(places: &[Place], links: &mut [Link; LINKED], first: &mut [u16; LOCKS], thread: usize)
     requires there { (thread < length places.now) × (length places.now ≤ 1024) }
     requires linked { AreLinkedFrom links.old first.old places.now (thread + 1) }
     ensures { AreLinkedFrom links.new first.new places.now thread }
@@ -118,15 +124,15 @@ fn link(places: &[Place], links: &mut [Link; LINKED], first: &mut [u16; LOCKS], 
     match tag_of(&places[thread]) {
         Tag::Nowhere => {}
         Tag::On(lock) => {
-            if let Ok(named) = u8::try_from(lock) {
+            if lock < LOCKS {
                 links[thread] = Link {
-                    lock: Some(named),
+                    lock: Some(lock as u8),
                     next: first[lock],
                 };
                 first[lock] = thread as u16;
             }
         }
-        Tag::Anywhere => *first = [thread as u16; LOCKS],
+        Tag::Anywhere => first.fill(thread as u16),
     }
 }
 
@@ -217,9 +223,11 @@ fn next_on(places: &[Place], links: &[Link], thread: usize, lock: usize) -> usiz
 {
     let _all = places;
     if thread < links.len() {
-        let Link { lock: linked, next } = links[thread];
-        if linked.map(usize::from) == Some(lock) {
-            return usize::from(next);
+        let link = links[thread];
+        if let Some(own) = link.lock {
+            if usize::from(own) == lock {
+                return link.next as usize;
+            }
         }
     }
     thread + 1
