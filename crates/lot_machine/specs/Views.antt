@@ -1,18 +1,15 @@
 -- What the views of a lock show, in the order of a printed line.
-use Rattle.std.specs.Prelude.{ℕ, Bool, true, false, Option, Some, None, if◌then◌else◌, ◌+◌, ◌*◌, ◌==◌, List, [], ◌∷◌, ◌++◌, replicate, slice_index_or, ◌≡◌, All}
+use Rattle.std.specs.Prelude.{ℕ, Bool, true, false, Option, Some, None, if◌then◌else◌, ◌+◌, ◌*◌, ◌==◌, List, [], ◌∷◌, ◌++◌, replicate, ◌≡◌, All}
 use Rattle.lot_acts.specs.declared.owners.Owner.{Owner}
 use Rattle.lot_acts.specs.declared.owners.Owner.TheVariants.{Exclusive, Pending, Upgradable, Running, Shared}
 use Rattle.lot_acts.specs.declared.owners.Owners.{Owners}
 use Rattle.lot_acts.specs.declared.owners.Pending as pending
 use Rattle.lot_acts.specs.Owners.{runner}
 use Rattle.lot_steps.specs.declared.places.Place.{Place}
-use Rattle.lot_steps.specs.declared.places.Place.TheVariants.{Idle}
 use Rattle.lot_steps.specs.Steps.{owes_on, retries_on}
 use Rattle.lot_base.specs.declared.wants.Waiter.{Waiter}
-use Rattle.lot_machine.specs.declared.views.Debt.{Debt}
-use Rattle.lot_machine.specs.declared.views.Tag.{Tag}
-use Rattle.lot_machine.specs.declared.views.Tag.TheVariants.{Nowhere, On, Anywhere}
-use Rattle.lot_machine.specs.declared.views.Debt.TheVariants.{Owes, Retries}
+use Rattle.lot_machine.specs.declared.debts.Debt.{Debt}
+use Rattle.lot_machine.specs.declared.debts.Debt.TheVariants.{Owes, Retries}
 use Rattle.lot_machine.specs.Machine.{State, owners_at, shares_at, queue_at}
 
 abbrev pub owner_of : Owner → Option ℕ → List (Owner × ℕ)
@@ -62,22 +59,3 @@ debtors debt l t (p ∷ ps) =
 -- who owes a wake on a lock, then who tries again
 abbrev pub debts_of : State → ℕ → List (Debt × ℕ)
 debts_of w l = debtors Owes l 0 w.places ++ debtors Retries l 0 w.places
-
--- whether a thread with this tag may have a debt on a lock
-abbrev pub may_have : Tag → ℕ → Bool
-may_have Nowhere l = false
-may_have (On own) l = own == l
-may_have Anywhere l = true
-
--- a tag tells of a place that has no debt on the locks which the tag leaves out
-abbrev pub Tells : Tag → Place → Type 0
-Tells tag p = (debt : Debt) (l : ℕ) → may_have tag l ≡ false → has_debt p debt l ≡ false
-
--- each of some tags tells of the place beside it
-abbrev pub TellAll : List Tag → List Place → Type 0
-TellAll tags places = (t : ℕ)
-    → Tells (slice_index_or tags t Anywhere) (slice_index_or places t Idle)
-
--- a place has no debts but on one lock
-abbrev pub HasDebtsOnlyOn : ℕ → Place → Type 0
-HasDebtsOnlyOn own p = (debt : Debt) (l : ℕ) → (own == l) ≡ false → has_debt p debt l ≡ false

@@ -1,13 +1,15 @@
 //! The world's machine: places, locks, sections and queues, and each act of a thread, exactly.
 #![tactic(auto)]
 
+pub mod debts;
 pub mod hands;
 pub mod locks;
 pub mod machine;
 pub mod shares;
 pub mod views;
 
+pub use debts::{Debt, DebtBook, Debts};
 pub use hands::Successor;
 pub use locks::Lock;
 pub use machine::Machine;
-pub use views::{Debt, DebtBook, Debts, OwnersOf, QueueOf};
+pub use views::{OwnersOf, QueueOf};

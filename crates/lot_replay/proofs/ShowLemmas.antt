@@ -4,8 +4,8 @@ use Rattle.std.specs.Prelude.{codes, decimal, if◌then◌else◌, ◌==◌}
 use Rattle.std.proofs.lemmas.List.Elements.{All-nil, All-cons, All-head, All-tail}
 use Rattle.lot_base.specs.declared.wants.Waiter.{Waiter}
 use Rattle.lot_steps.specs.declared.places.Place.{Place}
-use Rattle.lot_machine.specs.declared.views.Debt.{Debt}
-use Rattle.lot_machine.specs.declared.views.Debt.TheVariants.{Owes, Retries}
+use Rattle.lot_machine.specs.declared.debts.Debt.{Debt}
+use Rattle.lot_machine.specs.declared.debts.Debt.TheVariants.{Owes, Retries}
 use Rattle.lot_machine.specs.Machine.{State}
 use Rattle.lot_machine.specs.Views.{StandUnder, has_debt, debtors}
 use Rattle.lot_replay.specs.Shows.{show_line, show_lines, waiter_text, aside_text, debtor_text, group, waiters_text}

@@ -6,8 +6,8 @@ use Rattle.lot_base.specs.declared.wants.Want.{Want}
 use Rattle.lot_base.specs.declared.wants.Want as want
 use Rattle.lot_acts.specs.declared.owners.Owner.{Owner}
 use Rattle.lot_acts.specs.declared.owners.Owner as owner
-use Rattle.lot_machine.specs.declared.views.Debt.{Debt}
-use Rattle.lot_machine.specs.declared.views.Debt.TheVariants.{Owes, Retries}
+use Rattle.lot_machine.specs.declared.debts.Debt.{Debt}
+use Rattle.lot_machine.specs.declared.debts.Debt.TheVariants.{Owes, Retries}
 use Rattle.lot_machine.specs.Machine.{State, word_at, queue_at}
 use Rattle.lot_machine.specs.Views.{owners_of, debtors}
 

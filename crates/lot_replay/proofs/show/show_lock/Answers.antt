@@ -1,6 +1,6 @@
 use Rattle.std.proofs.Common.{◌+◌, ◌*◌, ◌++◌}
 use Rattle.std.specs.Prelude.{codes, decimal}
-use Rattle.lot_machine.specs.declared.views.Debt.TheVariants.{Owes, Retries}
+use Rattle.lot_machine.specs.declared.debts.Debt.TheVariants.{Owes, Retries}
 use Rattle.lot_machine.specs.Machine.{word_at, queue_at}
 use Rattle.lot_machine.specs.Views.{owners_of, debtors}
 use Rattle.lot_replay.specs.Shows.{owners_text, waiters_text, debtors_text}
