@@ -1,4 +1,4 @@
-//! Who has a reader-writer lock for itself reaches its value without a step.
+//! The value of a reader-writer lock that nobody else can use, reached without a step.
 ghost use Rattle.std.specs.Prelude.{◌≡◌};
 ghost use Rattle.std.specs.Borrow.{Lends, sem};
 ghost use Rattle.lock_api_rw.specs.contracts.rwlock.RwLock.{the_row};

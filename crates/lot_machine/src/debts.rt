@@ -1,4 +1,4 @@
-//! Who has debts on a lock: the threads that owe a wake, and those that try again.
+//! The debts on a lock: which threads owe a wake, and which try again.
 ghost use Rattle.std.specs.Prelude.{◌≡◌, ◌<◌, ◌≤◌, ◌+◌, ◌++◌, ◌∷◌, [], MatchOption, length, drop};
 ghost use Rattle.std.specs.Iterator.{YieldsFirst, item_count};
 ghost use Rattle.lot_machine.specs.Views.{debtors, has_debt};
@@ -43,8 +43,8 @@ const UNLINKED: Link = Link {
     next: 0,
 };
 
-/// Who has a debt: all places, and for each lock a chain of the threads that may have debts there. So
-/// a look goes over these threads alone.
+/// Lists debts: it has all places, and for each lock a chain of the threads that may have debts there,
+/// so that a look goes over these alone.
 #[derive(Drop)]
 pub struct DebtBook<'a> {
     places: &'a [Place],
