@@ -13,9 +13,9 @@ pub mod showing;
 pub mod shows;
 
 pub use guards::{RwLockReadGuard, RwLockUpgradableReadGuard, RwLockWriteGuard};
-pub use mapped::{MappedRwLockReadGuard, MappedRwLockWriteGuard};
 pub use lock_raw::{
     RawRwLock, RawRwLockDowngrade, RawRwLockFair, RawRwLockTimed, RawRwLockUpgrade,
     RawRwLockUpgradeDowngrade, RawRwLockUpgradeFair, RawRwLockUpgradeTimed,
 };
+pub use mapped::{MappedRwLockReadGuard, MappedRwLockWriteGuard};
 pub use rwlock::RwLock;

@@ -11,11 +11,7 @@ use std::sync::Wait;
 impl<R: RawRwLock, T> RwLock<R, T> {
     /// Shows the lock, by one try to read: its value where that comes in, and `<locked>` where a
     /// writer keeps it out or as many read as may. What is shown is spent by `close`, which unlocks.
-    pub fn show<W: Wait>(
-        &self,
-        rt: &W,
-        token: &mut R::Token,
-    ) -> Shown<RwLockReadGuard<'_, R, T>>
+    pub fn show<W: Wait>(&self, rt: &W, token: &mut R::Token) -> Shown<RwLockReadGuard<'_, R, T>>
         requires { R.is_token_of (R.lot_of self.now) token.old }
         ensures token { R.is_token_of (R.lot_of self.now) token.new × R.stays token.old token.new }
         ensures guard { IfSome result.guard (λ guard. lock_of guard ≡ self.now) }

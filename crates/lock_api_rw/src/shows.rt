@@ -1,4 +1,4 @@
-//! What an open place shows, and what the lock that is held left there, as guards see them.
+//! The value that an open place shows, and the right of its lock that lies there, as guards see them.
 ghost use Rattle.std.specs.Prelude.{◌≡◌, refl};
 ghost use Rattle.std.specs.Borrow.{Lends, sem};
 ghost use Rattle.lot_place.specs.Ownership.{PlaceId};

@@ -7,7 +7,7 @@ ghost use Rattle.lot_machine.specs.Debts.{AreLinked, AreLinkedFrom, HasDebtsOnly
 use lot_steps::Place;
 use std::marker::Model;
 
-/// What a thread still has to do for a lock's waiters.
+/// Names a task that a thread still has for a lock's waiters.
 #[derive(Clone, Copy, Debug, PartialEq, Eq)]
 pub enum Debt {
     /// It owes a wake.

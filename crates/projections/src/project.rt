@@ -1,4 +1,4 @@
-//! What finds a part of a value.
+//! Projections: how a part of a value is found.
 ghost use Rattle.std.specs.Prelude.{◌≡◌, Result, Ok, IsOk};
 ghost use Rattle.std.specs.Borrow.{Lends, sem};
 ghost use Rattle.projections.specs.Finds.{checked};

@@ -1,4 +1,4 @@
-//! What a lock shows of its value.
+//! The value of a lock, in print.
 ghost use Rattle.std.specs.Prelude.{◌≡◌, MatchOption};
 ghost use Rattle.projections.specs.Shown.{Closed, MayClose};
 
