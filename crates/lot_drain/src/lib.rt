@@ -1,0 +1,3 @@
+//! The schedule that drains a world of one lock, and that it does: whoever is in a call ends it,
+//! and whoever owns gives its right up.
+#![tactic(auto)]
