@@ -7,3 +7,4 @@ pub use Rattle.lot_steps.specs.Steps
 pub mod Machine
 pub mod Fits
 pub mod Views
+pub mod Copies
