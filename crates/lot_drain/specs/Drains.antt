@@ -3,7 +3,7 @@
 use Rattle.std.specs.Prelude.{ℕ, Bool, true, false, Option, Some, None, ◌≡◌, ◌≢◌, ◌≤◌, ◌+◌, ◌*◌, List, [], ◌∷◌, length}
 use Rattle.lot_calls.specs.declared.calls.Step.{Step}
 use Rattle.lot_calls.specs.declared.outcomes.Outcome.TheVariants as outcome
-use Rattle.abstract_locks.specs.Locks.{Rights, Sort, Mutex, Normal, Recursive, Once, Condvar, rights_of, with_right}
+use Rattle.abstract_locks.specs.Locks.{Rights, Sort, Mutex, Normal, Recursive, Semaphore, Once, Condvar, rights_of, with_right}
 use Rattle.abstract_locks.specs.Purposes.{Purpose, Enters, Releases, Converts, Bumps, CallsOnce, Awaits, Waits, Notifies}
 use Rattle.abstract_locks.specs.Runs.{CallState, no_rights}
 use Rattle.abstract_locks.specs.Sites.{Line}
@@ -12,11 +12,12 @@ use Rattle.lot_machine.specs.Machine.{State, after, after_steps, filled_at, plac
 use Rattle.lot_laws.specs.Refinement.{call_at, lock_state}
 use Rattle.lot_laws.specs.SitesOf.{key_of, rules_in}
 
--- the sorts of lock that a drain knows: those that have owners
+-- the sorts of lock that a drain knows: those that have owners, and no permits
 abbrev pub Drains : Sort → Type 0
 Drains Mutex = Unit {0}
 Drains Normal = Unit {0}
 Drains Recursive = Unit {0}
+Drains Semaphore = ⊥
 Drains Once = ⊥
 Drains Condvar = ⊥
 
