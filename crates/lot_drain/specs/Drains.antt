@@ -55,6 +55,18 @@ InACall (Some purpose) holds = holds purpose
 abbrev pub HasNoneBefore : CallState → Type 0
 HasNoneBefore c = InACall c.purpose (λ p. HadNone p c.released (c.former 0))
 
+-- between its calls, and in a call that only gives a right up, a thread isn't pending
+abbrev pub PendsInCall : Option Purpose → Rights → Type 0
+PendsInCall None now = now.pending ≡ 0
+PendsInCall (Some (Releases l x fair)) now = now.pending ≡ 0
+PendsInCall (Some (Enters l x how)) now = Unit {0}
+PendsInCall (Some (Converts l x y how)) now = Unit {0}
+PendsInCall (Some (Bumps l x)) now = Unit {0}
+PendsInCall (Some (CallsOnce l forced)) now = Unit {0}
+PendsInCall (Some (Awaits l forced)) now = Unit {0}
+PendsInCall (Some (Waits l m timed)) now = Unit {0}
+PendsInCall (Some (Notifies l all)) now = Unit {0}
+
 -- One mutex or reader-writer lock, whose readers were never as many as its limit. Each thread has
 -- one right at most, and none where its call is to get one.
 pub record IsDrainable (w : State) : Type 0 where
@@ -65,8 +77,8 @@ pub record IsDrainable (w : State) : Type 0 where
   -- there is a thread, and whoever owns is one
   pub some : 1 ≤ length w.places
   pub past : (t : ℕ) → length w.places ≤ t → rights_of (lock_state w 0) t ≡ no_rights
-  -- only a call is pending
-  pub unpending : (t : ℕ) → place_at w t ≡ Idle → (rights_of (lock_state w 0) t).pending ≡ 0
+  -- only a thread that waits for a right is pending
+  pub unpending : (t : ℕ) → PendsInCall (call_at w t).purpose (rights_of (lock_state w 0) t)
 
 -- nobody is in a call or queued, no owner is left, and the word is 0
 pub record IsDrained (w : State) : Type 0 where
