@@ -1,10 +1,10 @@
 -- Each thread of one lock has one right at most, and calls began with what they need and no more.
-use Rattle.std.specs.Prelude.{ℕ, Option, Some, None, ◌≡◌, ◌≢◌, ◌≤◌, ◌+◌, ◌⊎◌}
+use Rattle.std.specs.Prelude.{ℕ, Bool, true, false, Option, Some, None, ◌≡◌, ◌≢◌, ◌≤◌, ◌+◌, ◌⊎◌}
 use Rattle.lot_calls.specs.declared.outcomes.Outcome.{Outcome}
 use Rattle.lot_calls.specs.declared.calls.Call.{Call}
 use Rattle.abstract_locks.specs.Locks.{Rights, standing, with_right}
 use Rattle.abstract_locks.specs.Purposes.{Purpose, Enters, Releases, Converts, Bumps, CallsOnce, Awaits, Waits, Notifies, lock_for}
-use Rattle.abstract_locks.specs.Runs.{LocksState, AreLockStates, GoesOn, Stays, HasRight, new_call, no_rights, purpose_at, rights_in}
+use Rattle.abstract_locks.specs.Runs.{CallState, LocksState, AreLockStates, GoesOn, Stays, HasRight, new_call, no_rights, purpose_at, rights_in}
 
 -- how many rights a thread has
 abbrev pub number : Rights → ℕ
@@ -30,6 +30,40 @@ HasFew (Some (CallsOnce l forced)) before now = ⊥
 HasFew (Some (Awaits l forced)) before now = ⊥
 HasFew (Some (Waits l m timed)) before now = ⊥
 HasFew (Some (Notifies l all)) before now = ⊥
+
+-- What a call that gets a right had as it began: nothing. A bump gets its right once it has given
+-- it up, and then had no other.
+abbrev pub HadNone : Purpose → (released : Bool) → (former : Rights) → Type 0
+HadNone (Enters l x how) released former = former ≡ no_rights
+HadNone (Bumps l x) true former = former ≡ with_right x no_rights
+HadNone (Bumps l x) false former = Unit {0}
+HadNone (Releases l x fair) released former = Unit {0}
+HadNone (Converts l x y how) released former = Unit {0}
+HadNone (CallsOnce l forced) released former = Unit {0}
+HadNone (Awaits l forced) released former = Unit {0}
+HadNone (Waits l m timed) released former = Unit {0}
+HadNone (Notifies l all) released former = Unit {0}
+
+abbrev pub InACall : Option Purpose → (Purpose → Type 0) → Type 0
+InACall None holds = Unit {0}
+InACall (Some purpose) holds = holds purpose
+
+-- from an earlier call a thread has nothing of lock 0, where its call needs no right or is a bump
+-- that has given its own up
+abbrev pub HasNoneBefore : CallState → Type 0
+HasNoneBefore c = InACall c.purpose (λ p. HadNone p c.released (c.former 0))
+
+-- between its calls, and in a call that only gives a right up, a thread isn't pending
+abbrev pub PendsInCall : Option Purpose → Rights → Type 0
+PendsInCall None now = now.pending ≡ 0
+PendsInCall (Some (Releases l x fair)) now = now.pending ≡ 0
+PendsInCall (Some (Enters l x how)) now = Unit {0}
+PendsInCall (Some (Converts l x y how)) now = Unit {0}
+PendsInCall (Some (Bumps l x)) now = Unit {0}
+PendsInCall (Some (CallsOnce l forced)) now = Unit {0}
+PendsInCall (Some (Awaits l forced)) now = Unit {0}
+PendsInCall (Some (Waits l m timed)) now = Unit {0}
+PendsInCall (Some (Notifies l all)) now = Unit {0}
 
 abbrev pub AllHaveFew : LocksState → ℕ → Type 0
 AllHaveFew w l =

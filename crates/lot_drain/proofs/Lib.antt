@@ -1,0 +1,7 @@
+pub mod Progress
+pub mod Starts
+pub mod NextTurns
+pub mod Turned
+pub mod Passes
+pub mod Passing
+pub mod Drained
