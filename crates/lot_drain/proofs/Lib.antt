@@ -3,5 +3,3 @@ pub mod Starts
 pub mod NextTurns
 pub mod Turned
 pub mod Passes
-pub mod Passing
-pub mod Drained
