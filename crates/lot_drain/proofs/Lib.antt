@@ -3,3 +3,4 @@ pub mod Starts
 pub mod NextTurns
 pub mod Turned
 pub mod Passes
+pub mod Passing

@@ -52,21 +52,23 @@ pub record GoesOn (w : State) (s : Step) : Type 0 where
 
 up_found : (w : State) (t n : ℕ) (s : Step) → first_up w t n ≡ Some s → GoesOn w s
 up_found w t zero s e = absurd (no_step s e)
-up_found w t (suc n) s e = by_up (is_up (place_at w t)) refl e
+up_found w t (suc n) s e = by_up (is_up (place_at w t)) refl e (up_found w (suc t) n s)
   where
-    by_up : (b : Bool) → is_up (place_at w t) ≡ b → (if b then Some (go_of t) else first_up w (suc t) n) ≡ Some s → GoesOn w s
-    by_up true up f = record { thread = t; step = sym (same_step (go_of t) s f); up = up }
-    by_up false up f = up_found w (suc t) n s f
+    by_up : (b : Bool) → is_up (place_at w t) ≡ b → (if b then Some (go_of t) else first_up w (suc t) n) ≡ Some s
+        → (first_up w (suc t) n ≡ Some s → GoesOn w s) → GoesOn w s
+    by_up true up f later = record { thread = t; step = sym (same_step (go_of t) s f); up = up }
+    by_up false up f later = later f
 
 none_up : (w : State) (t n u : ℕ) → first_up w t n ≡ None → t ≤ u → u < t + n → is_up (place_at w u) ≡ false
 none_up w t zero u e from below = absurd (omega arith)
-none_up w t (suc n) u e from below = by_up (is_up (place_at w t)) refl e
+none_up w t (suc n) u e from below = by_up (is_up (place_at w t)) refl e (λ f next. none_up w (suc t) n u f next (omega arith))
   where
-    by_up : (b : Bool) → is_up (place_at w t) ≡ b → (if b then Some (go_of t) else first_up w (suc t) n) ≡ None → is_up (place_at w u) ≡ false
-    by_up true up f = absurd (some_step (go_of t) f)
-    by_up false up f = elim (cases_eq u t) [
+    by_up : (b : Bool) → is_up (place_at w t) ≡ b → (if b then Some (go_of t) else first_up w (suc t) n) ≡ None
+        → (first_up w (suc t) n ≡ None → suc t ≤ u → is_up (place_at w u) ≡ false) → is_up (place_at w u) ≡ false
+    by_up true up f later = absurd (some_step (go_of t) f)
+    by_up false up f later = elim (cases_eq u t) [
       | inl same ↦ subst (λ x. is_up (place_at w x) ≡ false) (sym same) up
-      | inr ne ↦ none_up w (suc t) n u f (omega arith) (omega arith)
+      | inr ne ↦ later f (omega arith)
     ]
 
 -- ---------------------------------------------------------------- who may release
@@ -110,42 +112,49 @@ pub record BeginsRelease (w : State) (s : Step) : Type 0 where
 begin_found : (w : State) (t : ℕ) (cs : List Call) (s : Step) → AllGive (kind_at w 0) cs → t < length w.places
     → first_begin w t cs ≡ Some s → BeginsRelease w s
 begin_found w t [] s give there e = absurd (no_step s e)
-begin_found w t (c ∷ cs) s give there e = by_can (can_begin w t c) refl e
+begin_found w t (c ∷ cs) s give there e = by_can (can_begin w t c) refl e (begin_found w t cs s give.1 there)
   where
-    by_can : (b : Bool) → can_begin w t c ≡ b → (if b then Some (begin_of t c) else first_begin w t cs) ≡ Some s → BeginsRelease w s
-    by_can true can f = record { thread = t; call = c; step = sym (same_step (begin_of t c) s f); gives = give.0; there = there; can = can }
-    by_can false can f = begin_found w t cs s give.1 there f
+    by_can : (b : Bool) → can_begin w t c ≡ b → (if b then Some (begin_of t c) else first_begin w t cs) ≡ Some s
+        → (first_begin w t cs ≡ Some s → BeginsRelease w s) → BeginsRelease w s
+    by_can true can f later = record { thread = t; call = c; step = sym (same_step (begin_of t c) s f); gives = give.0; there = there; can = can }
+    by_can false can f later = later f
 
 release_found : (w : State) (t n : ℕ) (s : Step) → AllGive (kind_at w 0) (releases (kind_at w 0)) → t + n ≤ length w.places
     → first_release w t n ≡ Some s → BeginsRelease w s
 release_found w t zero s give below e = absurd (no_step s e)
-release_found w t (suc n) s give below e = by_begin (first_begin w t (releases (kind_at w 0))) refl e
+release_found w t (suc n) s give below e = by_begin (first_begin w t (releases (kind_at w 0))) refl e (release_found w (suc t) n s give (omega arith))
   where
-    by_begin : (o : Option Step) → first_begin w t (releases (kind_at w 0)) ≡ o → or_else o (first_release w (suc t) n) ≡ Some s → BeginsRelease w s
-    by_begin (Some x) found f = begin_found w t (releases (kind_at w 0)) s give (omega arith) (found ∙ f)
-    by_begin None found f = release_found w (suc t) n s give (omega arith) f
+    by_begin : (o : Option Step) → first_begin w t (releases (kind_at w 0)) ≡ o → or_else o (first_release w (suc t) n) ≡ Some s
+        → (first_release w (suc t) n ≡ Some s → BeginsRelease w s) → BeginsRelease w s
+    by_begin (Some x) found f later = begin_found w t (releases (kind_at w 0)) s give (omega arith) (found ∙ f)
+    by_begin None found f later = later f
 
 none_begins : (w : State) (t : ℕ) (cs : List Call) (k : ℕ) (c : Call) → first_begin w t cs ≡ None → k < length cs → slice_index_or cs k c ≡ c
     → can_begin w t c ≡ false
 none_begins w t [] k c e lt is = absurd (omega arith)
-none_begins w t (x ∷ cs) k c e lt is = by_can (can_begin w t x) refl e k lt is
+none_begins w t (x ∷ cs) zero c e lt is = by_can (can_begin w t x) refl e
   where
-    by_can : (b : Bool) → can_begin w t x ≡ b → (if b then Some (begin_of t x) else first_begin w t cs) ≡ None
-        → (k : ℕ) → k < length (x ∷ cs) → slice_index_or (x ∷ cs) k c ≡ c → can_begin w t c ≡ false
-    by_can true can f k lt is = absurd (some_step (begin_of t x) f)
-    by_can false can f zero lt is = subst (λ y. can_begin w t y ≡ false) is can
-    by_can false can f (suc k) lt is = none_begins w t cs k c f (omega arith) is
+    by_can : (b : Bool) → can_begin w t x ≡ b → (if b then Some (begin_of t x) else first_begin w t cs) ≡ None → can_begin w t c ≡ false
+    by_can true can f = absurd (some_step (begin_of t x) f)
+    by_can false can f = subst (λ y. can_begin w t y ≡ false) is can
+none_begins w t (x ∷ cs) (suc k) c e lt is = by_can (can_begin w t x) e (λ f. none_begins w t cs k c f (omega arith) is)
+  where
+    by_can : (b : Bool) → (if b then Some (begin_of t x) else first_begin w t cs) ≡ None
+        → (first_begin w t cs ≡ None → can_begin w t c ≡ false) → can_begin w t c ≡ false
+    by_can true f later = absurd (some_step (begin_of t x) f)
+    by_can false f later = later f
 
 none_releases : (w : State) (t n u : ℕ) → first_release w t n ≡ None → t ≤ u → u < t + n → first_begin w u (releases (kind_at w 0)) ≡ None
 none_releases w t zero u e from below = absurd (omega arith)
-none_releases w t (suc n) u e from below = by_begin (first_begin w t (releases (kind_at w 0))) refl e
+none_releases w t (suc n) u e from below = by_begin (first_begin w t (releases (kind_at w 0))) refl e (λ f next. none_releases w (suc t) n u f next (omega arith))
   where
     by_begin : (o : Option Step) → first_begin w t (releases (kind_at w 0)) ≡ o → or_else o (first_release w (suc t) n) ≡ None
+        → (first_release w (suc t) n ≡ None → suc t ≤ u → first_begin w u (releases (kind_at w 0)) ≡ None)
         → first_begin w u (releases (kind_at w 0)) ≡ None
-    by_begin (Some x) found f = absurd (some_step x f)
-    by_begin None found f = elim (cases_eq u t) [
+    by_begin (Some x) found f later = absurd (some_step x f)
+    by_begin None found f later = elim (cases_eq u t) [
       | inl same ↦ subst (λ x. first_begin w x (releases (kind_at w 0)) ≡ None) (sym same) found
-      | inr ne ↦ none_releases w (suc t) n u f (omega arith) (omega arith)
+      | inr ne ↦ later f (omega arith)
     ]
 
 -- ---------------------------------------------------------------- the next turn
@@ -196,7 +205,7 @@ module _ (w : State) (strict : IsStrict w) (none : HasNone w) where
           let there : ReleaseThere w t = owners_may_release w t strict idle
               (λ f. let g : (number (rights_of (lock_state w 0) t) == 0) ≡ true = ap (λ r. number r == 0) f in let k : true ≡ false = sym g ∙ e in cc) in
           absurd (let can : can_begin w t there.call ≡ true = begin_possible w t there.call there.may in
-          let cannot : can_begin w t there.call ≡ false = none_begins w t (releases (kind_at w 0)) there.listed.0 there.call (none_releases w 0 (length w.places) t none.release (omega arith) (there.may.thread)) there.listed.1 there.listed.2 in
+          let cannot : can_begin w t there.call ≡ false = none_begins w t (releases (kind_at w 0)) there.listed.0 there.call (none_releases w 0 (length w.places) t none.release (omega arith) (let lt : t < length w.places = there.may.thread in omega arith)) there.listed.1 there.listed.2 in
           let k : true ≡ false = sym can ∙ cannot in cc)
 
   pub quiet : IsQuiet w

@@ -20,6 +20,7 @@ use Rattle.lot_acts.specs.declared.acts.Act.TheVariants as act
 use Rattle.lot_acts.specs.declared.acts.Reply.{Reply}
 use Rattle.lot_acts.specs.declared.acts.Reply.TheVariants.{Done, Value, Took, Picked, TakenBy}
 use Rattle.lot_acts.specs.declared.acts.Wakes.TheVariants as wakes
+use Rattle.lot_acts.specs.declared.acts.Whom.{Whom}
 use Rattle.lot_acts.specs.declared.acts.Whom.TheVariants as whoms
 use Rattle.lot_acts.specs.Acts.{outcome_of}
 use Rattle.lot_steps.specs.declared.places.Place.{Place}
@@ -125,6 +126,9 @@ module _ (k : Kind) (w : State) (p : Place) (v : ℕ) (f : Passes k w p v) where
   second_empty = f.alone.queue Second
 
   -- of the first
+  abbrev left : State
+  left = record w { queues = queues_without_first w.queues 0 }
+
   pub none_first : (n : ℕ) (e : ℕ) → act_of p ≡ act.Take 0 whoms.First → outcome_of (next_act p (Took false true)) ≡ outcome.Step
       → (Passes k (after w (go_of 0)) (next_place p (Took false true)) v → Leads n (after w (go_of 0)) 0 (Ended k e))
       → Leads (n + 1) w 0 (Ended k e)
@@ -132,9 +136,6 @@ module _ (k : Kind) (w : State) (p : Place) (v : ℕ) (f : Passes k w p v) where
     where
       nobody : first_of (queue_at w 0) ≡ None
       nobody = ap first_of empty
-
-      abbrev left : State
-      left = record w { queues = queues_without_first w.queues 0 }
 
       c : Comes w 0 0 (next_place p (reply_to w 0 (act.Take 0 whoms.First))) (outcome_of (next_act p (reply_to w 0 (act.Take 0 whoms.First)))) v (λ m. queue_at (state_after_take w 0 0 whoms.First) (key_of 0 m))
       c = take_comes w 0 0 p v no_lines f.alone 0 whoms.First is (ap (λ o. word_at (state_after_taking left 0 o) 0) nobody) (λ key. ap (λ o. section_at (state_after_taking left 0 o) key) nobody)
@@ -160,27 +161,27 @@ module _ (k : Kind) (w : State) (p : Place) (v : ℕ) (f : Passes k w p v) where
     no_successor u [] h = refl
     no_successor u (x ∷ ps) h = ap (λ o. successor_or u (wants_more_in_hand 0 o) (successor_from 0 (suc u) ps)) (h 0) ∙ no_successor (suc u) ps (λ i. h (suc i))
 
+    abbrev picking : Bool → Whom
+    picking recursive = whoms.Picked None recursive
+
     pub none_picked : (n : ℕ) (e : ℕ) (recursive : Bool) → act_of p ≡ act.Take 0 (whoms.Picked None recursive)
         → outcome_of (next_act p (Picked 0 None true)) ≡ outcome.Step
         → (Passes k (after w (go_of 0)) (next_place p (Picked 0 None true)) v → Leads n (after w (go_of 0)) 0 (Ended k e))
         → Leads (n + 1) w 0 (Ended k e)
     none_picked n e recursive is step more = goes_on n e _ _ _ step (subst (λ r. Comes w 0 0 (next_place p r) (outcome_of (next_act p r)) v no_lines) heard (c.0, same_lines (after w (go_of 0)) _ v _ lines c.1)) more
       where
-        abbrev whom : _
-        whom = whoms.Picked None recursive
+        c : Comes w 0 0 (next_place p (reply_to w 0 (act.Take 0 (picking recursive)))) (outcome_of (next_act p (reply_to w 0 (act.Take 0 (picking recursive))))) v (λ m. queue_at (state_after_take w 0 0 (picking recursive)) (key_of 0 m))
+        c = take_comes w 0 0 p v no_lines f.alone 0 (picking recursive) is refl (λ key. refl)
 
-        c : Comes w 0 0 (next_place p (reply_to w 0 (act.Take 0 whom))) (outcome_of (next_act p (reply_to w 0 (act.Take 0 whom)))) v (λ m. queue_at (state_after_take w 0 0 whom) (key_of 0 m))
-        c = take_comes w 0 0 p v no_lines f.alone 0 whom is refl (λ key. refl)
-
-        places : (state_after_take w 0 0 whom).places ≡ w.places
+        places : (state_after_take w 0 0 (picking recursive)).places ≡ w.places
         places = ap (λ q. places_told (TakenBy 0) (threads_of (lock_picked None recursive q)) w.places) empty
 
-        heard : reply_to w 0 (act.Take 0 whom) ≡ Picked 0 None true
+        heard : reply_to w 0 (act.Take 0 (picking recursive)) ≡ Picked 0 None true
         heard = λ i. Picked ((ap (sharers 0) places ∙ no_sharers w.places none_held) i)
             ((ap (λ ps. want_of_successor (successor_from 0 0 ps)) places ∙ ap want_of_successor (no_successor 0 w.places none_held)) i)
             ((ap (λ q. length (without_lock_picked None recursive 0 q) == 0) empty) i)
 
-        lines : (m : Line) → queue_at (state_after_take w 0 0 whom) (key_of 0 m) ≡ []
+        lines : (m : Line) → queue_at (state_after_take w 0 0 (picking recursive)) (key_of 0 m) ≡ []
         lines Main = get_or-set_same w.queues 0 _ [] line_there ∙ ap (without_lock_picked None recursive 0) empty
         lines Second = get_or-set_other w.queues 0 1 _ [] (λ h. omega arith) ∙ second_empty
 

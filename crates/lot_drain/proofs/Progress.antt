@@ -79,13 +79,14 @@ goes_within w n m d e le h = record { come = h.come; few = let a = h.few in omeg
 pub alone_state : (n : ℕ) (d : Progress) (t : ℕ) (last : Outcome) → (alone n d t).state ≡ (solo n d.state t last).state
 unfolding alone solo
 alone_state zero d t last = refl
-alone_state (suc n) d t last = by_outcome (step_outcome d.state (go_of t))
+alone_state (suc n) d t last = by_outcome (step_outcome d.state (go_of t)) (alone_state n (one_more d (go_of t)) t outcome.Step)
   where
-    by_outcome : (o : Outcome) → (alone_by o d (one_more d (go_of t)) (alone n (one_more d (go_of t)) t)).state
+    by_outcome : (o : Outcome) → (alone n (one_more d (go_of t)) t).state ≡ (solo n (after d.state (go_of t)) t outcome.Step).state
+        → (alone_by o d (one_more d (go_of t)) (alone n (one_more d (go_of t)) t)).state
         ≡ (alone_after o d.state (after d.state (go_of t)) last (solo n (after d.state (go_of t)) t outcome.Step)).state
-    by_outcome outcome.NotNow = refl
-    by_outcome outcome.Step = alone_state n (one_more d (go_of t)) t outcome.Step
-    by_outcome o = refl
+    by_outcome outcome.NotNow more = refl
+    by_outcome outcome.Step more = more
+    by_outcome o more = refl
 
 pub alone_goes : (w : State) (n : ℕ) (d : Progress) (t : ℕ) → HasCome w d → HasGone w n d (alone n d t)
 unfolding alone
