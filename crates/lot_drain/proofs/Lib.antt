@@ -4,3 +4,5 @@ pub mod NextTurns
 pub mod Turned
 pub mod Passes
 pub mod Passing
+pub mod Clears
+pub mod Cleared

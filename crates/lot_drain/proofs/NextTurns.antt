@@ -1,7 +1,7 @@
 -- What the next turn of a drain is: a thread that is up, or one between its calls that may release; and where there is none, everybody rests and nobody owns between calls.
 use Rattle.std.proofs.Common.{ℕ, zero, suc, Bool, true, false, Option, Some, None, if◌then◌else◌, ◌==◌, ◌&&◌, not, ◌≡◌, ◌≢◌, ◌+◌, ◌≤◌, ◌<◌, ◌⊎◌, List, [], ◌∷◌, length, inl, inr, refl, sym, ◌∙◌, ap, subst, arith}
 use Rattle.std.specs.Prelude.{Contains, slice_index, slice_index_or}
-use Rattle.std.proofs.lemmas.Bool.{cases_eq, cases_lt}
+use Rattle.std.proofs.lemmas.Bool.{cases_eq, cases_lt, eqb-true}
 use Rattle.std.proofs.lemmas.Bool.Decides.{nat_tests}
 use Rattle.std.proofs.lemmas.List.{get_or_past}
 use Rattle.lot_base.specs.declared.wants.Want.{Want}
@@ -199,7 +199,7 @@ module _ (w : State) (strict : IsStrict w) (none : HasNone w) where
   owns_nothing t idle = by_number (number (rights_of (lock_state w 0) t) == 0) refl
     where
       by_number : (b : Bool) → (number (rights_of (lock_state w 0) t) == 0) ≡ b → rights_of (lock_state w 0) t ≡ no_rights
-      by_number true e = let n : number (rights_of (lock_state w 0) t) ≡ 0 = grind (arith, nat_tests) in
+      by_number true e = let n : number (rights_of (lock_state w 0) t) ≡ 0 = eqb-true (number (rights_of (lock_state w 0) t)) 0 e in
           rights_are (rights_of (lock_state w 0) t) no_rights (omega arith) (omega arith) (omega arith) (omega arith)
       by_number false e =
           let there : ReleaseThere w t = owners_may_release w t strict idle

@@ -26,7 +26,7 @@ use Rattle.lot_drain.proofs.Passes.{Ended, Passes, by_hand, into, none_first, no
 
 module _ (k : Kind) where
   -- the run of the thread from a place on, where the word is v, ends with the word e
-  abbrev Runs : ℕ → Place → (v e : ℕ) → Type 0
+  abbrev pub Runs : ℕ → Place → (v e : ℕ) → Type 0
   Runs n p v e = (w : State) → Passes k w p v → Leads n w 0 (Ended k e)
 
   -- ---------------------------------------------------------------- a mutex
