@@ -1,7 +1,7 @@
 -- The schedule that drains a world of one lock. Whoever is inside a section leaves it. Then one
 -- thread after another goes on alone until it rests: the first that is up, and where none is, the
 -- first between its calls that may release the lock, which it does.
-use Rattle.std.specs.Prelude.{ℕ, zero, suc, Bool, true, false, if◌then◌else◌, Option, Some, None, ◌==◌, ◌&&◌, not, ◌+◌, ◌*◌, List, [], ◌∷◌, ◌++◌, length}
+use Rattle.std.specs.Prelude.{ℕ, zero, suc, Bool, true, false, if◌then◌else◌, Option, Some, None, ◌==◌, ◌+◌, ◌*◌, List, [], ◌∷◌, ◌++◌, length}
 use Rattle.lot_calls.specs.declared.calls.Access.TheVariants as access
 use Rattle.lot_calls.specs.declared.calls.Call.{Call}
 use Rattle.lot_calls.specs.declared.calls.Call.TheVariants as call
@@ -14,11 +14,10 @@ use Rattle.lot_calls.specs.declared.calls.Turn.TheVariants as turn
 use Rattle.lot_calls.specs.declared.kinds.Kind.{Kind}
 use Rattle.lot_calls.specs.declared.outcomes.Outcome.{Outcome}
 use Rattle.lot_calls.specs.declared.outcomes.Outcome.TheVariants as outcome
-use Rattle.lot_steps.specs.declared.places.Place.{Place}
-use Rattle.lot_steps.specs.Steps.{act_of, is_idle}
 use Rattle.lot_machine.specs.Machine.{State, after, can_begin, go_of, kind_at, place_at, section_at, step_outcome, word_at}
 use Rattle.lot_machine.specs.Fits.{is_rwlock}
-use Rattle.lot_laws.specs.Refinement.{sleeps}
+pub use Rattle.drain_runs.specs.Owners.{releases}
+pub use Rattle.drain_runs.specs.Turns.{begin_of, is_up}
 
 -- a schedule so far: its steps, and where they have led
 pub record Progress : Type 0 where
@@ -46,9 +45,6 @@ alone (suc n) d t = alone_by (step_outcome d.state (go_of t)) d (one_more d (go_
 abbrev pub go_alone : Progress → ℕ → Progress
 go_alone d t = alone 64 d t
 
-abbrev pub begin_of : ℕ → Call → Step
-begin_of t c = record { thread = t; turn = turn.Begin c }
-
 -- a thread begins a call, and goes on until it rests
 abbrev pub call_alone : Progress → ℕ → Call → Progress
 call_alone d t c = go_alone (one_more d (begin_of t c)) t
@@ -71,23 +67,10 @@ out_of_main d = where_inside (section_at d.state 0) d (go_alone d)
 
 -- ---------------------------------------------------------------- turns
 
--- it is in a call, awake
-abbrev pub is_up : Place → Bool
-is_up p = not (is_idle p) && not (sleeps (act_of p))
-
 -- the first of n threads from t on that is up
 abbrev pub first_up : State → ℕ → ℕ → Option Step
 first_up w t zero = None
 first_up w t (suc n) = if is_up (place_at w t) then Some (go_of t) else first_up w (suc t) n
-
--- the releases of a kind of lock
-abbrev pub releases : Kind → List Call
-releases kind =
-    if is_rwlock kind
-    then call.RwLock 0 (rwlock_call.Release access.Exclusive)
-        ∷ call.RwLock 0 (rwlock_call.Release access.Upgradable)
-        ∷ call.RwLock 0 (rwlock_call.Release access.Shared) ∷ []
-    else call.Mutex 0 mutex_call.Unlock ∷ []
 
 -- the first of some calls that a thread may begin
 abbrev pub first_begin : State → ℕ → List Call → Option Step
