@@ -7,3 +7,7 @@ pub mod Passing
 pub mod Clears
 pub mod Cleared
 pub mod Drains
+pub mod DrainLemmas
+mod GainsTell
+pub mod DrainableTells
+pub mod StandsOnce
