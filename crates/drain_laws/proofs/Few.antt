@@ -1,5 +1,5 @@
 -- Each thread of one lock has one right at most, whoever goes on.
-use Rattle.std.proofs.Common.{ℕ, Bool, true, false, Option, Some, None, if◌then◌else◌, ◌==◌, ◌≡◌, ◌≢◌, ◌+◌, ◌≤◌, ◌⊎◌, inl, inr, refl, sym, ◌∙◌, ap, subst, arith}
+use Rattle.std.proofs.Common.{ℕ, Bool, true, false, Option, Some, None, if◌then◌else◌, ◌==◌, ◌≡◌, ◌≢◌, ◌+◌, ◌≤◌, inl, inr, refl, sym, ◌∙◌, ap, subst, arith}
 use Rattle.std.proofs.lemmas.Bool.{cases_eq}
 use Rattle.std.proofs.lemmas.Bool.Decides.{nat_tests}
 use Rattle.lot_base.specs.declared.wants.Want.{Want}
@@ -8,8 +8,8 @@ use Rattle.lot_calls.specs.declared.outcomes.Answer.{Answer}
 use Rattle.lot_calls.specs.declared.outcomes.Answer.TheVariants as answer
 use Rattle.lot_calls.specs.declared.outcomes.Outcome.{Outcome}
 use Rattle.lot_calls.specs.declared.outcomes.Outcome.TheVariants as outcome
-use Rattle.abstract_locks.specs.Onces.{OnceCase, Start, Finish, Fail, Rest, TakeAll}
-use Rattle.abstract_locks.specs.Locks.{LockState, LockCase, IsLockState, IsTaken, Needs, Owns, Queued, Rights, Taken, Enter, Pend, Settle, Leave, Convert, Park, Aside, TakeFirst, TakeAside, TakePicked, Wake, HandOff, Late, Rollback, OfOnce, OfCondvar, SeeOwner, Look, Show, Hide, after_case, one_if_some, putting, rights_of, standing, with_right, without_right}
+use Rattle.abstract_locks.specs.Onces.{Start, Fail, Rest}
+use Rattle.abstract_locks.specs.Locks.{LockState, LockCase, Needs, Owns, Queued, Rights, Taken, Enter, Pend, Settle, Leave, Convert, Park, Aside, TakeFirst, TakeAside, TakePicked, Wake, HandOff, Late, Rollback, OfOnce, OfCondvar, SeeOwner, Look, after_case, one_if_some, putting, rights_of, with_right, without_right}
 use Rattle.abstract_locks.specs.Purposes.{Purpose, Enters, Releases, Converts, Bumps, CallsOnce, Awaits, Waits, Notifies, Patience, Patient, Timed, Try, Recall, lock_for}
 use Rattle.abstract_locks.specs.Runs.{Agrees, AnswerHolds, AreLockStates, AtLock, CallState, Event, GoesOn, LocksState, MayHappen, Moves, Nothing, Stays, calls_after, going_on, gives_up, locks_after, new_call, EntersAnswer, ConvertsAnswer, Keeps, Gains, Loses, Replaces, HasRight, no_call, no_rights, one_more_at, purpose_at, rights_in, rules_at, unless_ended, woken}
 use Rattle.abstract_locks.proofs.Rights.{others_keep, regained}
@@ -197,7 +197,7 @@ module _ (v : LocksState) (t : ℕ) (c : CallState) (l : ℕ) where
       let f : number (with_right x (rights_in v t l)) ≡ number (with_right y (with_right x no_rights)) = ap number e in
       let g = one_few y in
       let none : (rights_in v t l).pending ≡ 0 =
-          sym (pending_stays x (rights_in v t l)) ∙ ap (λ (r : Rights). r.pending) e ∙ pending_stays y (with_right x no_rights) ∙ pending_stays x no_rights in
+      sym (pending_stays x (rights_in v t l)) ∙ ap (λ (r : Rights). r.pending) e ∙ pending_stays y (with_right x no_rights) ∙ pending_stays x no_rights in
       omega arith
 
   converts_few : (x y : Want) (how : Patience) (a : Answer) → c.former l ≡ with_right x no_rights → ConvertsAnswer v t c l x y how a

@@ -1,5 +1,5 @@
 -- Each thread of one lock has one right at most, and calls began with what they need and no more.
-use Rattle.std.specs.Prelude.{ℕ, Bool, true, false, Option, Some, None, ◌≡◌, ◌≢◌, ◌≤◌, ◌+◌, ◌⊎◌}
+use Rattle.std.specs.Prelude.{ℕ, Bool, true, false, Option, Some, None, ◌≡◌, ◌≢◌, ◌≤◌, ◌+◌}
 use Rattle.lot_calls.specs.declared.outcomes.Outcome.{Outcome}
 use Rattle.lot_calls.specs.declared.calls.Call.{Call}
 use Rattle.abstract_locks.specs.Locks.{Rights, standing, with_right}

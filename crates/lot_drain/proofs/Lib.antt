@@ -6,4 +6,4 @@ pub mod Passes
 pub mod Passing
 pub mod Clears
 pub mod Cleared
-pub mod Drains
+pub mod ScheduleEnds

@@ -1,7 +1,7 @@
 -- The schedule that drains a world of one lock. Whoever is inside a section leaves it. Then one
 -- thread after another goes on alone until it rests: the first that is up, and where none is, the
 -- first between its calls that may release the lock, which it does.
-use Rattle.std.specs.Prelude.{ℕ, zero, suc, Bool, true, false, if◌then◌else◌, Option, Some, None, ◌==◌, ◌+◌, ◌*◌, List, [], ◌∷◌, ◌++◌, length}
+use Rattle.std.specs.Prelude.{ℕ, zero, suc, if◌then◌else◌, Option, Some, None, ◌==◌, ◌+◌, ◌*◌, List, [], ◌∷◌, ◌++◌, length}
 use Rattle.lot_calls.specs.declared.calls.Access.TheVariants as access
 use Rattle.lot_calls.specs.declared.calls.Call.{Call}
 use Rattle.lot_calls.specs.declared.calls.Call.TheVariants as call
