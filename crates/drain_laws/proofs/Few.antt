@@ -18,7 +18,7 @@ use Rattle.drain_laws.specs.Few.{AllHaveFew, FewBegin, FewGoOn, HasFew, IsPlain,
 
 -- ---------------------------------------------------------------- calls
 
--- what a call remembers of how it began
+-- a call remembers how it began
 pub record SameBeginning (c d : CallState) : Type 0 where
   pub purpose : d.purpose ≡ c.purpose
   pub former : d.former ≡ c.former
@@ -98,7 +98,7 @@ put_same f l x = ap (λ b. if b then x else f l) (let e : (l == l) ≡ true = gr
 put_other : {A : Type 0} (f : ℕ → A) (l : ℕ) (x : A) (k : ℕ) → k ≢ l → putting f l x k ≡ f k
 put_other f l x k ne = ap (λ b. if b then x else f k) (let e : (k == l) ≡ false = grind (arith, nat_tests) in e)
 
--- what a case of another thread leaves of those who are in no hand
+-- a case of another thread leaves those who are in no hand
 case_leaves : (w : LocksState) (l t u : ℕ) → AreLockStates w → u ≢ t → (w.locks l).taken u ≡ None → (case : LockCase)
     → Needs (rules_at w l) case (w.locks l) t
     → rights_of (after_case (rules_at w l) case (w.locks l) t) u ≡ rights_of (w.locks l) u
@@ -209,7 +209,7 @@ module _ (v : LocksState) (t : ℕ) (c : CallState) (l : ℕ) where
   converts_few x y Try answer.No before h = few_same (with_right x no_rights) (rights_in v t l) (h.1 l ∙ before) (own_few x)
   converts_few x y how a before h = absurd h
 
--- what a call began with it has begun with, whatever its thread owns now
+-- a call has begun with what it began with, whatever its thread owns now
 called : (p : Purpose) (before now later : Rights) → HasFew (Some p) before now → HasFew (Some p) before later
 called (Enters k x how) before now later h = h
 called (Releases k x fair) before now later h = h
@@ -256,7 +256,7 @@ module _ (w v : LocksState) (l t : ℕ) (o : Outcome) (state : AreLockStates w) 
       let alike : SameBeginning (w.calls u) (v.calls u) = subst (SameBeginning (w.calls u)) (sym led) (woken_same w t goes.event u (w.calls u)) in
       alike.purpose
 
-  -- who didn't go on
+  -- a thread that didn't go on
   of_other : (u : ℕ) → u ≢ t → HasFew (v.calls u).purpose ((v.calls u).former l) (rights_in v u l)
   of_other u ne = by_purpose (w.calls u).purpose refl
     where

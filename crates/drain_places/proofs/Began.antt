@@ -1,4 +1,4 @@
--- What a thread's call began with, by its place and by what the thread owns now.
+-- How a thread's call began, by its place and by what the thread owns now.
 use Rattle.std.proofs.Common.{ℕ, Bool, true, false, Some, ◌≡◌, ◌-◌, ◌≤◌, refl, sym, ◌∙◌, ap, arith}
 use Rattle.abstract_locks.specs.Locks.{Rights, with_right, without_right}
 use Rattle.abstract_locks.specs.Purposes.{Patience, Enters, Releases, Converts, Bumps}
@@ -141,7 +141,7 @@ module _ (rights : ℕ → Rights) (few : IsFew (rights 0)) where
     release_began access.Upgradable b to stands just had none = absurd stands
     release_began access.Exclusive b to stands just had none = absurd stands
 
-    -- what is left of a right that was turned into a lesser one
+    -- the right before it was turned into a lesser one
     back : (x y : Want) → rights 0 ≡ with_right y no_rights → one_more_at 0 x (one_less_at 0 y rights) 0 ≡ with_right x no_rights
     back x y just = here (one_less_at 0 y rights) 0 _ ∙ ap (with_right x) (here rights 0 _ ∙ ap (without_right y) just ∙ gone y)
 

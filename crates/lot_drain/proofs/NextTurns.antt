@@ -1,4 +1,4 @@
--- What the next turn of a drain is: a thread that is up, or one between its calls that may release; and where there is none, everybody rests and nobody owns between calls.
+-- The next turn of a drain: a thread that is up, or one between its calls that may release; and where there is none, everybody rests and nobody owns between calls.
 use Rattle.std.proofs.Common.{ℕ, zero, suc, Bool, true, false, Option, Some, None, if◌then◌else◌, ◌==◌, ◌&&◌, not, ◌≡◌, ◌+◌, ◌≤◌, ◌<◌, ◌⊎◌, List, [], ◌∷◌, length, inl, inr, refl, sym, ◌∙◌, ap, subst, arith}
 use Rattle.std.specs.Prelude.{slice_index, slice_index_or}
 use Rattle.std.proofs.lemmas.Bool.{cases_eq, cases_lt, eqb-true}
@@ -226,7 +226,7 @@ may_release w s strict b = (
 one_thread : (t : ℕ) → is_thread t (Some t) ≡ 1
 one_thread t = grind (arith, nat_tests)
 
--- who owns has a right
+-- an owner has a right
 owner_has : (s : LockState) (t : ℕ) (x : Want) → Owns s t x → rights_of s t ≡ no_rights → ⊥
 owner_has s t Exclusive owns none = let a : is_thread t s.exclusive ≡ 1 = ap (is_thread t) owns ∙ one_thread t in let b : is_thread t s.exclusive ≡ 0 = ap (λ (r : Rights). r.exclusive) none in omega arith
 owner_has s t Upgradable owns none = let a : is_thread t s.upgradable ≡ 1 = ap (is_thread t) owns ∙ one_thread t in let b : is_thread t s.upgradable ≡ 0 = ap (λ (r : Rights). r.upgradable) none in omega arith

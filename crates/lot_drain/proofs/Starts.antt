@@ -71,7 +71,7 @@ begun_at (Condvar l at) rights (inr there) few just had none = absurd there.1
 one_pending : (t : ℕ) (falls_back : Bool) → is_pending t (Some (record { thread = t; falls_back = falls_back })) ≡ 1
 one_pending t falls_back = grind (arith, nat_tests)
 
--- who has one right at most has what its place says, and no more
+-- a thread of one right at most has what its place says, and no more
 just_that : (s : LockState) (t : ℕ) (c : Claim) → Holds s t c → IsFew (rights_of s t) → IsJust (Some c) (rights_of s t)
 just_that s t (Has x) owns few = only_right s t x owns few
 just_that s t (Pends falls_back) holds few =

@@ -25,7 +25,7 @@ use Rattle.lot_drain.specs.Schedules.{Progress, call_alone, go_alone, most_turns
 use Rattle.lot_drain.proofs.NextTurns.{BeginsRelease, may_release, none_is, quiet, turn_is}
 use Rattle.lot_drain.proofs.Progress.{HasCome, HasGone, alone_goes, alone_state, call_goes, go_possible, goes_one, goes_then, goes_within, stays}
 
--- what holds at the head of each turn
+-- this holds at the head of each turn
 pub record IsReady (w : State) : Type 0 where
   pub draining : IsDraining w
   pub strict : IsStrict w

@@ -29,7 +29,7 @@ one_more d s = record { state = after d.state s; steps = d.steps ++ s ∷ [] }
 
 -- ---------------------------------------------------------------- one thread
 
--- what one more step of a thread came to: none was possible, the thread goes on, or it rests
+-- one more step of a thread: none was possible, the thread goes on, or it rests
 abbrev pub alone_by : Outcome → Progress → Progress → Progress → Progress
 alone_by outcome.NotNow d next more = d
 alone_by outcome.Step d next more = more

@@ -1,4 +1,4 @@
-//! What the schedule that drains a world comes to.
+//! The schedule that drains a world, and its end.
 ghost use Rattle.lot_drain.specs.Laws.{SchedulesDrain};
 
 /// Shows that the schedule of a world that may be drained is short, that each of its steps is
