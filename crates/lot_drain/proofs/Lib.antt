@@ -1,9 +1,9 @@
 pub mod Progress
+pub mod Clears
 pub mod Starts
 pub mod NextTurns
 pub mod Turned
 pub mod Passes
 pub mod Passing
-pub mod Clears
 pub mod Cleared
 pub mod ScheduleEnds

@@ -2,7 +2,6 @@
 use Rattle.std.proofs.Common.{ℕ, zero, suc, Bool, true, false, Option, Some, None, if◌then◌else◌, ◌==◌, ◌&&◌, not, ◌≡◌, ◌+◌, ◌≤◌, ◌<◌, ◌⊎◌, List, [], ◌∷◌, length, inl, inr, refl, sym, ◌∙◌, ap, subst, arith}
 use Rattle.std.specs.Prelude.{slice_index, slice_index_or}
 use Rattle.std.proofs.lemmas.Bool.{cases_eq, cases_lt, eqb-true}
-use Rattle.std.proofs.lemmas.Bool.Decides.{nat_tests}
 use Rattle.std.proofs.lemmas.List.{get_or_past}
 use Rattle.lot_base.specs.declared.wants.Want.{Want}
 use Rattle.lot_base.specs.declared.wants.Want.TheVariants.{Exclusive, Upgradable, Shared, Wait, CallOnce}
@@ -29,6 +28,7 @@ use Rattle.drain_runs.specs.Full.{IsStrict}
 use Rattle.drain_runs.specs.Owners.{ReleaseThere, releases}
 use Rattle.drain_runs.specs.Turns.{awake, begin_of, is_up}
 use Rattle.drain_runs.proofs.Owners.{owners_may_release}
+use Rattle.drain_runs.proofs.Releases.{one_thread}
 use Rattle.drain_runs.proofs.Turns.{idle_is}
 use Rattle.lot_drain.specs.Schedules.{first_begin, first_release, first_up, next_turn, or_else}
 
@@ -222,9 +222,6 @@ may_release w s strict b = (
   (begin_goes w b.thread b.call strict.ordered.world.shaped strict.ordered.world.steady b.there b.can).0,
   ap (λ l. purpose_of (kind_at w l) b.call) b.gives.here ∙ b.gives.purpose,
 )
-
-one_thread : (t : ℕ) → is_thread t (Some t) ≡ 1
-one_thread t = grind (arith, nat_tests)
 
 -- an owner has a right
 owner_has : (s : LockState) (t : ℕ) (x : Want) → Owns s t x → rights_of s t ≡ no_rights → ⊥

@@ -1,6 +1,5 @@
 -- A world that may be drained has all that a drain keeps: each call began with what it needs and no more, and nobody is forgotten.
 use Rattle.std.proofs.Common.{ℕ, Bool, true, false, Option, Some, None, ◌≡◌, ◌≤◌, inl, inr, refl, sym, ◌∙◌, ap, subst, arith}
-use Rattle.std.proofs.lemmas.Bool.Decides.{nat_tests}
 use Rattle.lot_base.specs.declared.wants.Want.{Want}
 use Rattle.abstract_locks.specs.Locks.{LockState, Rights, is_pending, rights_of, with_right}
 use Rattle.abstract_locks.specs.Purposes.{Purpose, Releases}
@@ -23,6 +22,7 @@ use Rattle.drain_runs.specs.Full.{IsStrict}
 use Rattle.drain_runs.proofs.Quiet.{OnlyHere, only_here}
 use Rattle.drain_runs.proofs.Releases.{only_right}
 use Rattle.lot_drain.specs.Drains.{IsDrainable}
+use Rattle.lot_drain.proofs.Clears.{one_pending}
 
 -- a release that has its right yet has no other
 abbrev IsFresh : CallState → Type 0
@@ -68,14 +68,11 @@ begun_at (Once l at) rights (inr there) few just had none = absurd there.1
 begun_at (Condvar l at) rights (inl e) few just had none = absurd cc
 begun_at (Condvar l at) rights (inr there) few just had none = absurd there.1
 
-one_pending : (t : ℕ) (falls_back : Bool) → is_pending t (Some (record { thread = t; falls_back = falls_back })) ≡ 1
-one_pending t falls_back = grind (arith, nat_tests)
-
 -- a thread of one right at most has what its place says, and no more
 just_that : (s : LockState) (t : ℕ) (c : Claim) → Holds s t c → IsFew (rights_of s t) → IsJust (Some c) (rights_of s t)
 just_that s t (Has x) owns few = only_right s t x owns few
 just_that s t (Pends falls_back) holds few =
-    let one : is_pending t s.pending ≡ 1 = ap (is_pending t) holds ∙ one_pending t falls_back in
+    let one : is_pending t s.pending ≡ 1 = ap (is_pending t) holds ∙ one_pending (record { thread = t; falls_back = falls_back }) in
     let all : number (rights_of s t) ≤ 1 = few in
     rights_are (rights_of s t) (record no_rights { pending = 1 }) (omega arith) one (omega arith) (omega arith)
 just_that s t Runs holds few = tt
