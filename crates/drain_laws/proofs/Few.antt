@@ -1,5 +1,5 @@
 -- Each thread of one lock has one right at most, whoever goes on.
-use Rattle.std.proofs.Common.{ℕ, Bool, true, false, Option, Some, None, if◌then◌else◌, ◌==◌, ◌≡◌, ◌≢◌, ◌+◌, ◌≤◌, ◌⊎◌, inl, inr, refl, sym, ◌∙◌, ap, subst, arith}
+use Rattle.std.proofs.Common.{ℕ, Bool, true, false, Option, Some, None, if◌then◌else◌, ◌==◌, ◌≡◌, ◌≢◌, ◌+◌, ◌≤◌, inl, inr, refl, sym, ◌∙◌, ap, subst, arith}
 use Rattle.std.proofs.lemmas.Bool.{cases_eq}
 use Rattle.std.proofs.lemmas.Bool.Decides.{nat_tests}
 use Rattle.lot_base.specs.declared.wants.Want.{Want}
@@ -8,8 +8,8 @@ use Rattle.lot_calls.specs.declared.outcomes.Answer.{Answer}
 use Rattle.lot_calls.specs.declared.outcomes.Answer.TheVariants as answer
 use Rattle.lot_calls.specs.declared.outcomes.Outcome.{Outcome}
 use Rattle.lot_calls.specs.declared.outcomes.Outcome.TheVariants as outcome
-use Rattle.abstract_locks.specs.Onces.{OnceCase, Start, Finish, Fail, Rest, TakeAll}
-use Rattle.abstract_locks.specs.Locks.{LockState, LockCase, IsLockState, IsTaken, Needs, Owns, Queued, Rights, Taken, Enter, Pend, Settle, Leave, Convert, Park, Aside, TakeFirst, TakeAside, TakePicked, Wake, HandOff, Late, Rollback, OfOnce, OfCondvar, SeeOwner, Look, Show, Hide, after_case, one_if_some, putting, rights_of, standing, with_right, without_right}
+use Rattle.abstract_locks.specs.Onces.{Start, Fail, Rest}
+use Rattle.abstract_locks.specs.Locks.{LockState, LockCase, Needs, Owns, Queued, Rights, Taken, Enter, Pend, Settle, Leave, Convert, Park, Aside, TakeFirst, TakeAside, TakePicked, Wake, HandOff, Late, Rollback, OfOnce, OfCondvar, SeeOwner, Look, after_case, one_if_some, putting, rights_of, with_right, without_right}
 use Rattle.abstract_locks.specs.Purposes.{Purpose, Enters, Releases, Converts, Bumps, CallsOnce, Awaits, Waits, Notifies, Patience, Patient, Timed, Try, Recall, lock_for}
 use Rattle.abstract_locks.specs.Runs.{Agrees, AnswerHolds, AreLockStates, AtLock, CallState, Event, GoesOn, LocksState, MayHappen, Moves, Nothing, Stays, calls_after, going_on, gives_up, locks_after, new_call, EntersAnswer, ConvertsAnswer, Keeps, Gains, Loses, Replaces, HasRight, no_call, no_rights, one_more_at, purpose_at, rights_in, rules_at, unless_ended, woken}
 use Rattle.abstract_locks.proofs.Rights.{others_keep, regained}
@@ -18,7 +18,7 @@ use Rattle.drain_laws.specs.Few.{AllHaveFew, FewBegin, FewGoOn, HasFew, IsPlain,
 
 -- ---------------------------------------------------------------- calls
 
--- what a call remembers of how it began
+-- a call remembers how it began
 pub record SameBeginning (c d : CallState) : Type 0 where
   pub purpose : d.purpose ≡ c.purpose
   pub former : d.former ≡ c.former
@@ -98,7 +98,7 @@ put_same f l x = ap (λ b. if b then x else f l) (let e : (l == l) ≡ true = gr
 put_other : {A : Type 0} (f : ℕ → A) (l : ℕ) (x : A) (k : ℕ) → k ≢ l → putting f l x k ≡ f k
 put_other f l x k ne = ap (λ b. if b then x else f k) (let e : (k == l) ≡ false = grind (arith, nat_tests) in e)
 
--- what a case of another thread leaves of those who are in no hand
+-- a case of another thread leaves those who are in no hand
 case_leaves : (w : LocksState) (l t u : ℕ) → AreLockStates w → u ≢ t → (w.locks l).taken u ≡ None → (case : LockCase)
     → Needs (rules_at w l) case (w.locks l) t
     → rights_of (after_case (rules_at w l) case (w.locks l) t) u ≡ rights_of (w.locks l) u
@@ -197,7 +197,7 @@ module _ (v : LocksState) (t : ℕ) (c : CallState) (l : ℕ) where
       let f : number (with_right x (rights_in v t l)) ≡ number (with_right y (with_right x no_rights)) = ap number e in
       let g = one_few y in
       let none : (rights_in v t l).pending ≡ 0 =
-          sym (pending_stays x (rights_in v t l)) ∙ ap (λ (r : Rights). r.pending) e ∙ pending_stays y (with_right x no_rights) ∙ pending_stays x no_rights in
+      sym (pending_stays x (rights_in v t l)) ∙ ap (λ (r : Rights). r.pending) e ∙ pending_stays y (with_right x no_rights) ∙ pending_stays x no_rights in
       omega arith
 
   converts_few : (x y : Want) (how : Patience) (a : Answer) → c.former l ≡ with_right x no_rights → ConvertsAnswer v t c l x y how a
@@ -209,7 +209,7 @@ module _ (v : LocksState) (t : ℕ) (c : CallState) (l : ℕ) where
   converts_few x y Try answer.No before h = few_same (with_right x no_rights) (rights_in v t l) (h.1 l ∙ before) (own_few x)
   converts_few x y how a before h = absurd h
 
--- what a call began with it has begun with, whatever its thread owns now
+-- a call has begun with what it began with, whatever its thread owns now
 called : (p : Purpose) (before now later : Rights) → HasFew (Some p) before now → HasFew (Some p) before later
 called (Enters k x how) before now later h = h
 called (Releases k x fair) before now later h = h
@@ -256,7 +256,7 @@ module _ (w v : LocksState) (l t : ℕ) (o : Outcome) (state : AreLockStates w) 
       let alike : SameBeginning (w.calls u) (v.calls u) = subst (SameBeginning (w.calls u)) (sym led) (woken_same w t goes.event u (w.calls u)) in
       alike.purpose
 
-  -- who didn't go on
+  -- a thread that didn't go on
   of_other : (u : ℕ) → u ≢ t → HasFew (v.calls u).purpose ((v.calls u).former l) (rights_in v u l)
   of_other u ne = by_purpose (w.calls u).purpose refl
     where

@@ -1,7 +1,7 @@
--- What a drain comes to, told of one lock and of what each thread does about it: no word, no place
--- and no loop.
-use Rattle.std.specs.Prelude.{ℕ, Bool, true, false, Option, Some, None, ◌≡◌, ◌≢◌, ◌≤◌, ◌<◌, ◌+◌, [], List, length, slice_index}
-use Rattle.abstract_locks.specs.Locks.{LockState, Rules, Sort, Mutex, Normal, Recursive, Semaphore, Once, Condvar, Taken, is_thread, readers}
+-- The end of a drain, told of one lock and of each thread's part in it: no word, no place and no
+-- loop.
+use Rattle.std.specs.Prelude.{ℕ, true, false, Some, None, ◌≡◌, ◌≢◌, ◌≤◌, ◌<◌, ◌+◌, [], length, slice_index}
+use Rattle.abstract_locks.specs.Locks.{LockState, Rules, Sort, Mutex, Normal, Recursive, Semaphore, Once, Condvar, is_thread, readers}
 use Rattle.abstract_locks.specs.Sites.{Doing, Site, IsSite, is_full, after_deed, Needed, Deed}
 
 -- a thread that is in no call, or sleeps: it is to wake nobody, has nobody in hand, and wasn't woken

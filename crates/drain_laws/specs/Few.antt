@@ -1,5 +1,5 @@
 -- Each thread of one lock has one right at most, and calls began with what they need and no more.
-use Rattle.std.specs.Prelude.{ℕ, Bool, true, false, Option, Some, None, ◌≡◌, ◌≢◌, ◌≤◌, ◌+◌, ◌⊎◌}
+use Rattle.std.specs.Prelude.{ℕ, Bool, true, false, Option, Some, None, ◌≡◌, ◌≢◌, ◌≤◌, ◌+◌}
 use Rattle.lot_calls.specs.declared.outcomes.Outcome.{Outcome}
 use Rattle.lot_calls.specs.declared.calls.Call.{Call}
 use Rattle.abstract_locks.specs.Locks.{Rights, standing, with_right}
@@ -17,8 +17,8 @@ IsFew r = number r ≤ 1
 abbrev pub IsPlain : Rights → Type 0
 IsPlain r = number r + r.pending ≤ 1
 
--- What a thread has between its calls, or had as its call began: nothing where that is to get a
--- right, the one right that it turns into another or gives up for a while, and of a release that
+-- A thread has few rights between its calls, or had as its call began: nothing where that is to get
+-- a right, the one right that it turns into another or gives up for a while, and of a release that
 -- right and one more at most.
 abbrev pub HasFew : Option Purpose → (before now : Rights) → Type 0
 HasFew None before now = IsPlain now
@@ -31,7 +31,7 @@ HasFew (Some (Awaits l forced)) before now = ⊥
 HasFew (Some (Waits l m timed)) before now = ⊥
 HasFew (Some (Notifies l all)) before now = ⊥
 
--- What a call that gets a right had as it began: nothing. A bump gets its right once it has given
+-- A call that gets a right had nothing as it began. A bump gets its right once it has given
 -- it up, and then had no other.
 abbrev pub HadNone : Purpose → (released : Bool) → (former : Rights) → Type 0
 HadNone (Enters l x how) released former = former ≡ no_rights

@@ -1,7 +1,7 @@
--- What a thread's call began with, by its place and by what the thread owns now.
-use Rattle.std.proofs.Common.{ℕ, Bool, true, false, Option, Some, None, if◌then◌else◌, ◌≡◌, ◌+◌, ◌-◌, ◌≤◌, refl, sym, ◌∙◌, ap, subst, arith}
-use Rattle.abstract_locks.specs.Locks.{Rights, putting, with_right, without_right}
-use Rattle.abstract_locks.specs.Purposes.{Purpose, Patience, Enters, Releases, Converts, Bumps}
+-- How a thread's call began, by its place and by what the thread owns now.
+use Rattle.std.proofs.Common.{ℕ, Bool, true, false, Some, ◌≡◌, ◌-◌, ◌≤◌, refl, sym, ◌∙◌, ap, arith}
+use Rattle.abstract_locks.specs.Locks.{Rights, with_right, without_right}
+use Rattle.abstract_locks.specs.Purposes.{Patience, Enters, Releases, Converts, Bumps}
 use Rattle.abstract_locks.specs.Runs.{no_rights, one_less_at, one_more_at}
 use Rattle.lot_base.specs.declared.keys.Line.TheVariants.{Main, Second}
 use Rattle.lot_base.specs.declared.wants.Want.{Want}
@@ -27,7 +27,6 @@ use Rattle.lot_rwlock.specs.declared.park.ParkAt.{ParkAt}
 use Rattle.lot_rwlock.specs.declared.park.ParkAt.TheVariants as parking
 use Rattle.lot_rwlock.specs.declared.release.WakeAt.{WakeAt}
 use Rattle.lot_rwlock.specs.declared.release.WakeAt.TheVariants as waking
-use Rattle.lot_rwlock.specs.declared.places.RwLockPlace.{RwLockPlace}
 use Rattle.lot_rwlock.specs.declared.purposes.RwLockPurpose.{RwLockPurpose}
 use Rattle.lot_rwlock.specs.declared.purposes.RwLockPurpose.TheVariants as purpose
 use Rattle.lot_rwlock.specs.RwLockCalls.{StandsAt}
@@ -142,7 +141,7 @@ module _ (rights : ℕ → Rights) (few : IsFew (rights 0)) where
     release_began access.Upgradable b to stands just had none = absurd stands
     release_began access.Exclusive b to stands just had none = absurd stands
 
-    -- what is left of a right that was turned into a lesser one
+    -- the right before it was turned into a lesser one
     back : (x y : Want) → rights 0 ≡ with_right y no_rights → one_more_at 0 x (one_less_at 0 y rights) 0 ≡ with_right x no_rights
     back x y just = here (one_less_at 0 y rights) 0 _ ∙ ap (with_right x) (here rights 0 _ ∙ ap (without_right y) just ∙ gone y)
 

@@ -1,5 +1,5 @@
--- What a thread's call began with, by its place and by what the thread owns now, where that is one
--- right at most.
+-- How a thread's call began, by its place and by what the thread owns now, where that is one right at
+-- most.
 use Rattle.std.specs.Prelude.{ℕ, Option, Some, None, ◌≡◌}
 use Rattle.abstract_locks.specs.Locks.{Rights, with_right}
 use Rattle.abstract_locks.specs.Runs.{no_rights}

@@ -1,8 +1,7 @@
 -- Where the turns are over, the word is 0, or a thread clears it.
-use Rattle.std.proofs.Common.{ℕ, zero, suc, Bool, true, false, Option, Some, None, if◌then◌else◌, ◌==◌, ◌≡◌, ◌≢◌, ◌+◌, ◌*◌, ◌≤◌, ◌<◌, ◌⊎◌, List, [], ◌∷◌, length, length-set, inl, inr, refl, sym, ◌∙◌, ap, subst, arith}
+use Rattle.std.proofs.Common.{ℕ, zero, suc, Bool, true, false, Option, Some, None, if◌then◌else◌, ◌==◌, ◌≡◌, ◌≢◌, ◌≤◌, ◌<◌, length, length-set, inl, inr, refl, sym, ◌∙◌, ap, subst, arith}
 use Rattle.std.specs.Prelude.{replicate, slice_index_or, sum}
 use Rattle.std.proofs.lemmas.Bool.{eqb-true}
-use Rattle.lot_base.specs.declared.keys.Line.{Line}
 use Rattle.lot_base.specs.declared.wants.Want.TheVariants.{Exclusive}
 use Rattle.lot_calls.specs.declared.calls.Call.{Call}
 use Rattle.lot_calls.specs.declared.kinds.Kind.{Kind}
@@ -12,9 +11,8 @@ use Rattle.lot_calls.specs.Calls.{lock_in}
 use Rattle.abstract_locks.specs.Codes.{code}
 use Rattle.abstract_locks.specs.Locks.{IsLockState, MayEnter, Owns, readers, rights_of}
 use Rattle.abstract_locks.specs.Purposes.{Enters, Patient, purpose_of, rules_of}
-use Rattle.abstract_locks.specs.Runs.{HasRight, MayBegin, no_rights, purpose_at}
+use Rattle.abstract_locks.specs.Runs.{HasRight, purpose_at}
 use Rattle.abstract_locks.specs.Sites.{has_readers}
-use Rattle.lot_steps.specs.declared.places.Place.{Place}
 use Rattle.lot_steps.specs.declared.places.Place.TheVariants.{Idle}
 use Rattle.lot_steps.specs.Steps.{first_place}
 use Rattle.lot_machine.specs.Machine.{State, after, can_begin, kind_at, place_at, section_at, solo, state_after_begin, word_at}
@@ -29,10 +27,10 @@ use Rattle.drain_runs.specs.Drains.{IsOver}
 use Rattle.drain_runs.specs.Turns.{NobodyInside, begin_of}
 use Rattle.lot_drain.specs.Drains.{IsDrained}
 use Rattle.lot_drain.specs.Schedules.{Progress, call_alone, clear, entry_of, fair_release_of, one_more, passed_through}
-use Rattle.lot_drain.proofs.Clears.{IsFree, IsLeft, free_by_code, free_of, free_rights, mutex_word, shared_word}
+use Rattle.lot_drain.proofs.Clears.{IsFree, free_by_code, free_of, free_rights, mutex_word, shared_word}
 use Rattle.lot_drain.proofs.Passes.{Passes, begins, led, may}
 use Rattle.lot_drain.proofs.Passing.{Runs, lock_runs, release_runs_1, release_runs_2, release_runs_3, unlock_runs, write_runs_1, write_runs_2, write_runs_3}
-use Rattle.lot_drain.proofs.Progress.{HasCome, HasGone, alone_state, call_goes, goes_then, goes_within, stays}
+use Rattle.lot_drain.proofs.Progress.{HasCome, HasGone, alone_state, call_goes, goes_then, stays}
 use Rattle.lot_drain.proofs.Turned.{IsReady}
 
 -- ---------------------------------------------------------------- a call of the thread
@@ -91,8 +89,12 @@ module _ (k : Kind) (v : ℕ) (w : State) (f : Passes k w Idle v) (c : Call) (he
       let b : ◌≡◌ {A = Option ℕ} None (Some u) = sym a ∙ inside in cc)
 
   free_then : IsFree (lock_state w1 0)
-  free_then = subst (λ x. IsFree (lock_state x 0)) (sym leads) (record { exclusive = free.exclusive; pending = free.pending; upgradable = free.upgradable;
-    readers = ap (λ n. sum (slice_index_or w.shares 0 (replicate n 0))) (length-set w.places 0 (first_place (kind_at w (lock_in c)) c)) ∙ free.readers })
+  free_then = subst (λ x. IsFree (lock_state x 0)) (sym leads) (record {
+    exclusive = free.exclusive;
+    pending = free.pending;
+    upgradable = free.upgradable;
+    readers = ap (λ n. sum (slice_index_or w.shares 0 (replicate n 0))) (length-set w.places 0 (first_place (kind_at w (lock_in c)) c)) ∙ free.readers;
+  })
 
   may_enter : Drains (rules_of k).sort → MayEnter (rules_of k) (lock_state w1 0) Exclusive
   may_enter drains = by_kind k drains
@@ -111,10 +113,10 @@ module _ (k : Kind) (v : ℕ) (w : State) (f : Passes k w Idle v) (c : Call) (he
   pub owns : Drains (rules_of k).sort → Owns (lock_state ended 0) 0 Exclusive
   owns drains =
       let ends : EndsAlone w1 0 (purpose_at (locks_of w1) c) (solo 64 w1 0 outcome.NotNow).outcome ended =
-          ends_alone w1 0 g.alone.shape g.alone.steady g.alone.counted g.alone.condvars g.alone.running c (g.alone.place ∙ ap (λ j. first_place j c) (sym kind_there)) way in
+      ends_alone w1 0 g.alone.shape g.alone.steady g.alone.counted g.alone.condvars g.alone.running c (g.alone.place ∙ ap (λ j. first_place j c) (sym kind_there)) way in
       let told : purpose_at (locks_of w1) c ≡ Some (Enters 0 Exclusive Patient) = ap (λ j. purpose_of j c) kind_there ∙ enters in
       let by_right : EndsBy (word_at w1) (locks_behind w1 0) (locks_of w1) 0 (Some (Enters 0 Exclusive Patient)) (solo 64 w1 0 outcome.NotNow).outcome (locks_of ended) =
-          subst (λ q. EndsAlone w1 0 q (solo 64 w1 0 outcome.NotNow).outcome ended) told ends in
+      subst (λ q. EndsAlone w1 0 q (solo 64 w1 0 outcome.NotNow).outcome ended) told ends in
       (by_right.owns (subst (λ j. MayEnter (rules_of j) (lock_state w1 0) Exclusive × (has_readers (rules_of j).sort ≡ true → readers (lock_state w1 0) ≡ 0)) (sym g.kind) (may_enter drains, λ shares. free_then.readers))).1
 
 -- ---------------------------------------------------------------- both calls
@@ -170,7 +172,11 @@ module _ (w : State) (d : Progress) (ready : IsReady d.state) (over : IsOver d.s
   stands : (k : Kind) → kind_at s 0 ≡ k → (v : ℕ) → word_at s 0 ≡ v → Passes k s Idle v
   stands k e v is = record {
     alone = record {
-      shape = world.shaped; steady = world.steady; counted = world.counted; condvars = world.condvars; running = world.running;
+      shape = world.shaped;
+      steady = world.steady;
+      counted = world.counted;
+      condvars = world.condvars;
+      running = world.running;
       thread = let a : 1 ≤ length s.places = some in omega arith;
       lock = let one : length s.locks ≡ 1 = ready.strict.ordered.lock.one in omega arith;
       place = over.idle 0;

@@ -1,5 +1,5 @@
 -- A lock whose word is 0 has no owner; and where nobody owns it, its word is 0 or tells of waiters that are gone.
-use Rattle.std.proofs.Common.{ℕ, zero, suc, Bool, true, false, Option, Some, None, if◌then◌else◌, ◌≡◌, ◌≢◌, ◌+◌, ◌*◌, ◌≤◌, ◌<◌, ◌⊎◌, length, inl, inr, refl, sym, ◌∙◌, ap, subst, arith}
+use Rattle.std.proofs.Common.{ℕ, Bool, true, false, Option, Some, None, ◌≡◌, ◌+◌, ◌*◌, ◌≤◌, ◌⊎◌, inl, inr, refl, ap, arith}
 use Rattle.std.specs.Prelude.{slice_index, sum}
 use Rattle.std.proofs.lemmas.Bool.Decides.{nat_tests}
 use Rattle.lot_calls.specs.declared.kinds.Kind.{Kind}
@@ -12,6 +12,7 @@ use Rattle.abstract_locks.specs.Sites.{Site}
 use Rattle.drain_laws.specs.Drained.{Drains}
 use Rattle.drain_laws.proofs.Few.{rights_are}
 use Rattle.drain_runs.proofs.Owners.{index_sum}
+use Rattle.drain_runs.proofs.Releases.{one_thread}
 use Rattle.drain_runs.proofs.Quiet.{zero_sum}
 
 -- nobody owns it
@@ -21,10 +22,7 @@ pub record IsFree (s : LockState) : Type 0 where
   pub upgradable : s.upgradable ≡ None
   pub readers : readers s ≡ 0
 
-one_thread : (t : ℕ) → is_thread t (Some t) ≡ 1
-one_thread t = grind (arith, nat_tests)
-
-one_pending : (p : Pending) → is_pending p.thread (Some p) ≡ 1
+pub one_pending : (p : Pending) → is_pending p.thread (Some p) ≡ 1
 one_pending p = grind (arith, nat_tests)
 
 no_thread : (o : Option ℕ) → ((t : ℕ) → is_thread t o ≡ 0) → o ≡ None

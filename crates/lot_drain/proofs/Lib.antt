@@ -6,7 +6,7 @@ pub mod Passes
 pub mod Passing
 pub mod Clears
 pub mod Cleared
-pub mod Drains
+pub mod ScheduleEnds
 pub mod DrainLemmas
 mod GainsTell
 pub mod DrainableTells

@@ -1,8 +1,7 @@
--- What the next turn of a drain is: a thread that is up, or one between its calls that may release; and where there is none, everybody rests and nobody owns between calls.
-use Rattle.std.proofs.Common.{ℕ, zero, suc, Bool, true, false, Option, Some, None, if◌then◌else◌, ◌==◌, ◌&&◌, not, ◌≡◌, ◌≢◌, ◌+◌, ◌≤◌, ◌<◌, ◌⊎◌, List, [], ◌∷◌, length, inl, inr, refl, sym, ◌∙◌, ap, subst, arith}
-use Rattle.std.specs.Prelude.{Contains, slice_index, slice_index_or}
+-- The next turn of a drain: a thread that is up, or one between its calls that may release; and where there is none, everybody rests and nobody owns between calls.
+use Rattle.std.proofs.Common.{ℕ, zero, suc, Bool, true, false, Option, Some, None, if◌then◌else◌, ◌==◌, ◌&&◌, not, ◌≡◌, ◌+◌, ◌≤◌, ◌<◌, ◌⊎◌, List, [], ◌∷◌, length, inl, inr, refl, sym, ◌∙◌, ap, subst, arith}
+use Rattle.std.specs.Prelude.{slice_index, slice_index_or}
 use Rattle.std.proofs.lemmas.Bool.{cases_eq, cases_lt, eqb-true}
-use Rattle.std.proofs.lemmas.Bool.Decides.{nat_tests}
 use Rattle.std.proofs.lemmas.List.{get_or_past}
 use Rattle.lot_base.specs.declared.wants.Want.{Want}
 use Rattle.lot_base.specs.declared.wants.Want.TheVariants.{Exclusive, Upgradable, Shared, Wait, CallOnce}
@@ -16,7 +15,6 @@ use Rattle.lot_acts.specs.declared.acts.Act.TheVariants as act
 use Rattle.abstract_locks.specs.Locks.{LockState, Owns, Rights, is_thread, rights_of}
 use Rattle.abstract_locks.specs.Purposes.{Releases, purpose_of, rules_of}
 use Rattle.abstract_locks.specs.Runs.{HasRight, MayBegin, no_rights, purpose_at}
-use Rattle.lot_steps.specs.declared.places.Place.{Place}
 use Rattle.lot_steps.specs.declared.places.Place.TheVariants.{Idle}
 use Rattle.lot_steps.specs.Steps.{act_of, is_idle}
 use Rattle.lot_machine.specs.Machine.{State, can_begin, go_of, kind_at, place_at}
@@ -30,6 +28,7 @@ use Rattle.drain_runs.specs.Full.{IsStrict}
 use Rattle.drain_runs.specs.Owners.{ReleaseThere, releases}
 use Rattle.drain_runs.specs.Turns.{awake, begin_of, is_up}
 use Rattle.drain_runs.proofs.Owners.{owners_may_release}
+use Rattle.drain_runs.proofs.Releases.{one_thread}
 use Rattle.drain_runs.proofs.Turns.{idle_is}
 use Rattle.lot_drain.specs.Schedules.{first_begin, first_release, first_up, next_turn, or_else}
 
@@ -89,13 +88,17 @@ all_give kind.Mutex d = (record { right = Exclusive; fair = false; here = refl; 
 all_give kind.Fair d = (record { right = Exclusive; fair = true; here = refl; purpose = refl }, tt)
 all_give (kind.RwLock limit) d = (
   record { right = Exclusive; fair = false; here = refl; purpose = refl },
-  (record { right = Upgradable; fair = false; here = refl; purpose = refl },
-  (record { right = Shared; fair = false; here = refl; purpose = refl }, tt)),
+  (
+    record { right = Upgradable; fair = false; here = refl; purpose = refl },
+    (record { right = Shared; fair = false; here = refl; purpose = refl }, tt),
+  ),
 )
 all_give (kind.Recursive limit) d = (
   record { right = Exclusive; fair = false; here = refl; purpose = refl },
-  (record { right = Upgradable; fair = false; here = refl; purpose = refl },
-  (record { right = Shared; fair = false; here = refl; purpose = refl }, tt)),
+  (
+    record { right = Upgradable; fair = false; here = refl; purpose = refl },
+    (record { right = Shared; fair = false; here = refl; purpose = refl }, tt),
+  ),
 )
 all_give kind.Once d = absurd d
 all_give kind.Condvar d = absurd d
@@ -203,7 +206,7 @@ module _ (w : State) (strict : IsStrict w) (none : HasNone w) where
           rights_are (rights_of (lock_state w 0) t) no_rights (omega arith) (omega arith) (omega arith) (omega arith)
       by_number false e =
           let there : ReleaseThere w t = owners_may_release w t strict idle
-              (λ f. let g : (number (rights_of (lock_state w 0) t) == 0) ≡ true = ap (λ r. number r == 0) f in let k : true ≡ false = sym g ∙ e in cc) in
+          (λ f. let g : (number (rights_of (lock_state w 0) t) == 0) ≡ true = ap (λ r. number r == 0) f in let k : true ≡ false = sym g ∙ e in cc) in
           absurd (let can : can_begin w t there.call ≡ true = begin_possible w t there.call there.may in
           let cannot : can_begin w t there.call ≡ false = none_begins w t (releases (kind_at w 0)) there.listed.0 there.call (none_releases w 0 (length w.places) t none.release (omega arith) (let lt : t < length w.places = there.may.thread in omega arith)) there.listed.1 there.listed.2 in
           let k : true ≡ false = sym can ∙ cannot in cc)
@@ -220,10 +223,7 @@ may_release w s strict b = (
   ap (λ l. purpose_of (kind_at w l) b.call) b.gives.here ∙ b.gives.purpose,
 )
 
-one_thread : (t : ℕ) → is_thread t (Some t) ≡ 1
-one_thread t = grind (arith, nat_tests)
-
--- who owns has a right
+-- an owner has a right
 owner_has : (s : LockState) (t : ℕ) (x : Want) → Owns s t x → rights_of s t ≡ no_rights → ⊥
 owner_has s t Exclusive owns none = let a : is_thread t s.exclusive ≡ 1 = ap (is_thread t) owns ∙ one_thread t in let b : is_thread t s.exclusive ≡ 0 = ap (λ (r : Rights). r.exclusive) none in omega arith
 owner_has s t Upgradable owns none = let a : is_thread t s.upgradable ≡ 1 = ap (is_thread t) owns ∙ one_thread t in let b : is_thread t s.upgradable ≡ 0 = ap (λ (r : Rights). r.upgradable) none in omega arith

@@ -1,5 +1,5 @@
 -- A thread alone at a lock in whose lines nobody stands, while all others are in no call: what each of its acts leads to.
-use Rattle.std.proofs.Common.{ℕ, zero, suc, Bool, true, false, Option, Some, None, if◌then◌else◌, cond, ◌==◌, ◌≡◌, ◌≢◌, ◌+◌, ◌*◌, ◌≤◌, ◌<◌, List, [], ◌∷◌, length, drop, get_or, refl, sym, ◌∙◌, ap, subst, arith, get_or-set_same, get_or-set_other}
+use Rattle.std.proofs.Common.{ℕ, zero, suc, Bool, true, false, None, if◌then◌else◌, cond, ◌==◌, ◌≡◌, ◌≢◌, ◌+◌, ◌*◌, ◌<◌, List, [], ◌∷◌, length, drop, get_or, refl, sym, ◌∙◌, ap, subst, arith, get_or-set_same, get_or-set_other}
 use Rattle.std.specs.List.{filter}
 use Rattle.std.proofs.lemmas.Bool.{lt-ltb}
 use Rattle.lot_base.specs.declared.keys.Line.{Line}
@@ -17,7 +17,6 @@ use Rattle.lot_calls.specs.declared.outcomes.Outcome.{Outcome}
 use Rattle.lot_calls.specs.declared.outcomes.Outcome.TheVariants as outcome
 use Rattle.lot_calls.specs.Calls.{lock_in}
 use Rattle.lot_acts.specs.declared.acts.Act.TheVariants as act
-use Rattle.lot_acts.specs.declared.acts.Reply.{Reply}
 use Rattle.lot_acts.specs.declared.acts.Reply.TheVariants.{Done, Value, Took, Picked, TakenBy}
 use Rattle.lot_acts.specs.declared.acts.Wakes.TheVariants as wakes
 use Rattle.lot_acts.specs.declared.acts.Whom.{Whom}
@@ -26,7 +25,7 @@ use Rattle.lot_acts.specs.Acts.{outcome_of}
 use Rattle.lot_steps.specs.declared.places.Place.{Place}
 use Rattle.lot_steps.specs.declared.places.Place.TheVariants.{Idle}
 use Rattle.lot_steps.specs.Steps.{act_of, first_place, next_act, next_place}
-use Rattle.lot_machine.specs.Machine.{State, after, can_begin, go_of, held, is_possible, is_there, kind_at, place_at, places_told, queue_at, queues_without_first, reply_to, section_at, shares_in_hand, sharers, state_after_act, state_after_begin, state_after_go, state_after_take, state_after_taking, step_outcome, successor_from, successor_or, want_of_successor, wants_more_in_hand, word_at}
+use Rattle.lot_machine.specs.Machine.{State, after, can_begin, go_of, held, is_possible, is_there, kind_at, place_at, places_told, queue_at, queues_without_first, reply_to, section_at, shares_in_hand, sharers, state_after_act, state_after_begin, state_after_go, state_after_take, state_after_taking, successor_from, successor_or, want_of_successor, wants_more_in_hand, word_at}
 use Rattle.lot_machine.specs.Fits.{SameSize}
 use Rattle.lot_machine.proofs.Acted.{acted_keeps}
 use Rattle.lot_machine.proofs.Shape.{after_shaped, after_size}
@@ -68,8 +67,16 @@ others_stay w u ne idle = either (is_possible w (go_of 0))
 -- the same lines
 same_lines : (w : State) (p : Place) (v : ℕ) (q : Line → List Waiter) → ((m : Line) → q m ≡ []) → StepsAlone w 0 0 p v q → StepsAlone w 0 0 p v no_lines
 same_lines w p v q e f = record {
-  shape = f.shape; steady = f.steady; counted = f.counted; condvars = f.condvars; running = f.running;
-  thread = f.thread; lock = f.lock; place = f.place; single = f.single; word = f.word;
+  shape = f.shape;
+  steady = f.steady;
+  counted = f.counted;
+  condvars = f.condvars;
+  running = f.running;
+  thread = f.thread;
+  lock = f.lock;
+  place = f.place;
+  single = f.single;
+  word = f.word;
   queue = λ m. f.queue m ∙ e m;
   way = f.way;
 }
@@ -125,7 +132,7 @@ module _ (k : Kind) (w : State) (p : Place) (v : ℕ) (f : Passes k w p v) where
   second_empty : queue_at w 1 ≡ []
   second_empty = f.alone.queue Second
 
-  -- of the first
+  -- the first of nobody
   abbrev left : State
   left = record w { queues = queues_without_first w.queues 0 }
 
@@ -147,7 +154,7 @@ module _ (k : Kind) (w : State) (p : Place) (v : ℕ) (f : Passes k w p v) where
       lines Main = ap (λ o. queue_at (state_after_taking left 0 o) 0) nobody ∙ get_or-set_same w.queues 0 _ [] line_there ∙ ap (drop 1) empty
       lines Second = ap (λ o. queue_at (state_after_taking left 0 o) 1) nobody ∙ get_or-set_other w.queues 0 1 _ [] (λ h. omega arith) ∙ second_empty
 
-  -- of those whom the lock would let in
+  -- nobody whom the lock would let in
   module _ (nobody_held : held p ≡ None) where
     none_held : (u : ℕ) → held (place_at w u) ≡ None
     none_held zero = ap held f.alone.place ∙ nobody_held

@@ -1,5 +1,5 @@
 -- Where a bit is left in the word of a lock that nobody owns, a thread takes the lock alone and releases it fairly: the word is 0 then.
-use Rattle.std.proofs.Common.{ℕ, zero, suc, Bool, true, false, Option, Some, None, if◌then◌else◌, ◌≡◌, ◌≢◌, ◌+◌, ◌*◌, ◌≤◌, ◌<◌, ◌⊎◌, List, [], ◌∷◌, length, inl, inr, refl, sym, ◌∙◌, ap, subst, arith}
+use Rattle.std.proofs.Common.{ℕ, true, false, None, refl}
 use Rattle.lot_base.specs.declared.ops.Op.TheVariants as op
 use Rattle.lot_calls.specs.declared.calls.Access.TheVariants as access
 use Rattle.lot_calls.specs.declared.calls.Patience.TheVariants as patience

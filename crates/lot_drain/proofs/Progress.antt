@@ -1,5 +1,5 @@
 -- A schedule so far: its steps lead to its state, each was possible, and they are few.
-use Rattle.std.proofs.Common.{ℕ, zero, suc, Bool, true, false, Option, Some, None, if◌then◌else◌, ◌≡◌, ◌≢◌, ◌+◌, ◌≤◌, List, [], ◌∷◌, ◌++◌, length, refl, sym, ◌∙◌, ap, subst, arith}
+use Rattle.std.proofs.Common.{ℕ, zero, suc, true, if◌then◌else◌, ◌≡◌, ◌≢◌, ◌+◌, ◌≤◌, List, [], ◌∷◌, ◌++◌, length, refl, sym, ◌∙◌, ap, subst, arith}
 use Rattle.lot_acts.specs.declared.acts.Act.{Act}
 use Rattle.lot_acts.specs.declared.acts.Act.TheVariants.{Sleep, Closure, End}
 use Rattle.lot_acts.specs.Acts.{outcome_of}
@@ -11,7 +11,7 @@ use Rattle.lot_steps.specs.Steps.{act_of, next_act}
 use Rattle.lot_machine.specs.Machine.{State, after, after_steps, alone_after, go_of, go_outcome, is_possible, place_at, reply_to, solo, state_after_act, step_outcome}
 use Rattle.drain_runs.specs.Turns.{begin_of}
 use Rattle.lot_drain.specs.Drains.{AllPossible}
-use Rattle.lot_drain.specs.Schedules.{Progress, alone, alone_by, call_alone, go_alone, one_more}
+use Rattle.lot_drain.specs.Schedules.{Progress, alone, alone_by, call_alone, one_more}
 
 -- ---------------------------------------------------------------- possible steps
 

@@ -1,20 +1,19 @@
 -- A world that may be drained has all that a drain keeps: each call began with what it needs and no more, and nobody is forgotten.
-use Rattle.std.proofs.Common.{ℕ, Bool, true, false, Option, Some, None, if◌then◌else◌, ◌==◌, ◌≡◌, ◌≢◌, ◌+◌, ◌≤◌, ◌⊎◌, inl, inr, refl, sym, ◌∙◌, ap, subst, arith}
-use Rattle.std.proofs.lemmas.Bool.Decides.{nat_tests}
+use Rattle.std.proofs.Common.{ℕ, Bool, true, false, Option, Some, None, ◌≡◌, ◌≤◌, inl, inr, refl, sym, ◌∙◌, ap, subst, arith}
 use Rattle.lot_base.specs.declared.wants.Want.{Want}
-use Rattle.abstract_locks.specs.Locks.{LockState, Pending, Rights, is_pending, rights_of, with_right}
+use Rattle.abstract_locks.specs.Locks.{LockState, Rights, is_pending, rights_of, with_right}
 use Rattle.abstract_locks.specs.Purposes.{Purpose, Releases}
 use Rattle.abstract_locks.specs.Runs.{CallState, no_rights}
-use Rattle.abstract_locks.specs.Sites.{Claim, Has, Pends, Runs, Ran, Holds, IsSite, Site, is_full}
+use Rattle.abstract_locks.specs.Sites.{Claim, Has, Pends, Runs, Ran, Holds, IsSite, is_full}
 use Rattle.lot_steps.specs.declared.places.Place.{Place}
 use Rattle.lot_steps.specs.declared.places.Place.TheVariants.{Idle, Mutex, RwLock, Once, Condvar}
-use Rattle.lot_steps.specs.Steps.{calls, is_lock, lock_of, profile}
+use Rattle.lot_steps.specs.Steps.{is_lock, lock_of, profile}
 use Rattle.lot_machine.specs.Machine.{State, filled_at, place_at}
 use Rattle.lot_laws.specs.Refinement.{call_at, call_state, lock_state}
 use Rattle.lot_laws.specs.SitesOf.{IsWorld, rules_in, site_of}
 use Rattle.lot_laws.specs.Stations.{doing_on}
 use Rattle.drain_laws.specs.Drained.{as_now}
-use Rattle.drain_laws.specs.Few.{HadNone, HasFew, HasNoneBefore, IsFew, IsPlain, PendsInCall, number}
+use Rattle.drain_laws.specs.Few.{HadNone, HasFew, HasNoneBefore, IsFew, PendsInCall, number}
 use Rattle.drain_laws.proofs.Few.{rights_are}
 use Rattle.drain_places.specs.Began.{IsJust}
 use Rattle.drain_places.proofs.Began.{places_began}
@@ -23,6 +22,7 @@ use Rattle.drain_runs.specs.Full.{IsStrict}
 use Rattle.drain_runs.proofs.Quiet.{OnlyHere, only_here}
 use Rattle.drain_runs.proofs.Releases.{only_right}
 use Rattle.lot_drain.specs.Drains.{IsDrainable}
+use Rattle.lot_drain.proofs.Clears.{one_pending}
 
 -- a release that has its right yet has no other
 abbrev IsFresh : CallState → Type 0
@@ -68,14 +68,11 @@ begun_at (Once l at) rights (inr there) few just had none = absurd there.1
 begun_at (Condvar l at) rights (inl e) few just had none = absurd cc
 begun_at (Condvar l at) rights (inr there) few just had none = absurd there.1
 
-one_pending : (t : ℕ) (falls_back : Bool) → is_pending t (Some (record { thread = t; falls_back = falls_back })) ≡ 1
-one_pending t falls_back = grind (arith, nat_tests)
-
--- who has one right at most has what its place says, and no more
+-- a thread of one right at most has what its place says, and no more
 just_that : (s : LockState) (t : ℕ) (c : Claim) → Holds s t c → IsFew (rights_of s t) → IsJust (Some c) (rights_of s t)
 just_that s t (Has x) owns few = only_right s t x owns few
 just_that s t (Pends falls_back) holds few =
-    let one : is_pending t s.pending ≡ 1 = ap (is_pending t) holds ∙ one_pending t falls_back in
+    let one : is_pending t s.pending ≡ 1 = ap (is_pending t) holds ∙ one_pending (record { thread = t; falls_back = falls_back }) in
     let all : number (rights_of s t) ≤ 1 = few in
     rights_are (rights_of s t) (record no_rights { pending = 1 }) (omega arith) one (omega arith) (omega arith)
 just_that s t Runs holds few = tt

@@ -1,11 +1,10 @@
 -- A drain comes to its end, turn after turn.
-use Rattle.std.proofs.Common.{ℕ, zero, suc, Bool, true, false, Option, Some, None, if◌then◌else◌, ◌≡◌, ◌≢◌, ◌+◌, ◌*◌, ◌≤◌, ◌<◌, ◌⊎◌, List, [], ◌∷◌, length, inl, inr, refl, sym, ◌∙◌, ap, subst, arith}
+use Rattle.std.proofs.Common.{ℕ, zero, suc, true, Option, Some, None, ◌≡◌, ◌+◌, ◌*◌, ◌≤◌, length, inl, inr, refl, sym, ◌∙◌, ap, subst, arith}
 use Rattle.std.proofs.lemmas.Bool.{lt-ltb}
-use Rattle.lot_calls.specs.declared.calls.Call.{Call}
 use Rattle.lot_calls.specs.declared.calls.Step.{Step}
 use Rattle.lot_calls.specs.declared.outcomes.Outcome.TheVariants as outcome
 use Rattle.abstract_locks.specs.Locks.{rights_of}
-use Rattle.lot_machine.specs.Machine.{State, after, go_of, is_possible, place_at, section_at}
+use Rattle.lot_machine.specs.Machine.{State, after, go_of, place_at, section_at}
 use Rattle.lot_laws.specs.Refinement.{lock_state}
 use Rattle.drain_laws.proofs.Potential.{potential_most}
 use Rattle.drain_runs.specs.Course.{left_in}
@@ -23,10 +22,10 @@ use Rattle.drain_runs.proofs.Quiet.{quiet_is_over}
 use Rattle.drain_runs.proofs.Releases.{each_release_falls}
 use Rattle.drain_runs.proofs.Turns.{each_turn_falls}
 use Rattle.lot_drain.specs.Schedules.{Progress, call_alone, go_alone, most_turns, next_turn, one_more, out_of_main, out_of_second, turn_taken, turns, where_inside, where_some}
-use Rattle.lot_drain.proofs.NextTurns.{BeginsRelease, GoesOn, may_release, none_is, quiet, turn_is}
+use Rattle.lot_drain.proofs.NextTurns.{BeginsRelease, may_release, none_is, quiet, turn_is}
 use Rattle.lot_drain.proofs.Progress.{HasCome, HasGone, alone_goes, alone_state, call_goes, go_possible, goes_one, goes_then, goes_within, stays}
 
--- what holds at the head of each turn
+-- this holds at the head of each turn
 pub record IsReady (w : State) : Type 0 where
   pub draining : IsDraining w
   pub strict : IsStrict w

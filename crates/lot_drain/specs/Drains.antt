@@ -5,11 +5,8 @@ use Rattle.lot_calls.specs.declared.calls.Step.{Step}
 use Rattle.lot_calls.specs.declared.outcomes.Outcome.TheVariants as outcome
 use Rattle.abstract_locks.specs.Locks.{rights_of}
 use Rattle.abstract_locks.specs.Runs.{no_rights}
-use Rattle.abstract_locks.specs.Sites.{Line}
-use Rattle.lot_steps.specs.declared.places.Place.TheVariants.{Idle}
-use Rattle.lot_machine.specs.Machine.{State, after, after_steps, filled_at, place_at, queue_at, step_outcome, word_at}
+use Rattle.lot_machine.specs.Machine.{State, after, after_steps, filled_at, step_outcome, word_at}
 use Rattle.lot_laws.specs.Refinement.{call_at, lock_state}
-use Rattle.lot_laws.specs.SitesOf.{IsWorld, key_of}
 pub use Rattle.drain_laws.specs.Drained.{Drains}
 pub use Rattle.drain_laws.specs.Few.{HadNone, HasNoneBefore, InACall, IsFew, PendsInCall, number}
 pub use Rattle.drain_runs.specs.Drains.{HasOneLock, IsOver}

@@ -1,7 +1,7 @@
 -- The schedule that drains a world of one lock. Whoever is inside a section leaves it. Then one
 -- thread after another goes on alone until it rests: the first that is up, and where none is, the
 -- first between its calls that may release the lock, which it does.
-use Rattle.std.specs.Prelude.{ℕ, zero, suc, Bool, true, false, if◌then◌else◌, Option, Some, None, ◌==◌, ◌+◌, ◌*◌, List, [], ◌∷◌, ◌++◌, length}
+use Rattle.std.specs.Prelude.{ℕ, zero, suc, if◌then◌else◌, Option, Some, None, ◌==◌, ◌+◌, ◌*◌, List, [], ◌∷◌, ◌++◌, length}
 use Rattle.lot_calls.specs.declared.calls.Access.TheVariants as access
 use Rattle.lot_calls.specs.declared.calls.Call.{Call}
 use Rattle.lot_calls.specs.declared.calls.Call.TheVariants as call
@@ -29,7 +29,7 @@ one_more d s = record { state = after d.state s; steps = d.steps ++ s ∷ [] }
 
 -- ---------------------------------------------------------------- one thread
 
--- what one more step of a thread came to: none was possible, the thread goes on, or it rests
+-- one more step of a thread: none was possible, the thread goes on, or it rests
 abbrev pub alone_by : Outcome → Progress → Progress → Progress → Progress
 alone_by outcome.NotNow d next more = d
 alone_by outcome.Step d next more = more

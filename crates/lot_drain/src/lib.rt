@@ -5,14 +5,7 @@
 pub mod drainable;
 pub mod draining;
 mod gains;
-
-ghost use Rattle.lot_drain.specs.Laws.{SchedulesDrain};
+pub mod laws;
 
 pub use drainable::is_drainable;
 pub use draining::schedule;
-
-/// Shows that the schedule of a world that may be drained is short, that each of its steps is
-/// possible, and that nobody is in a call, queued or an owner at its end, where the word is 0.
-pub fn schedules_drain()
-    ensures { SchedulesDrain }
-{}

@@ -1,6 +1,5 @@
 -- The schedule of a world that may be drained does so.
-use Rattle.std.proofs.Common.{ℕ, zero, suc, Bool, true, false, Option, Some, None, if◌then◌else◌, ◌==◌, ◌≡◌, ◌≢◌, ◌+◌, ◌*◌, ◌≤◌, ◌⊎◌, List, [], ◌∷◌, length, inl, inr, refl, sym, ◌∙◌, ap, subst, arith}
-use Rattle.std.proofs.lemmas.Bool.Decides.{nat_tests}
+use Rattle.std.proofs.Common.{ℕ, zero, suc, true, Option, Some, None, if◌then◌else◌, ◌==◌, ◌≡◌, ◌+◌, ◌*◌, ◌≤◌, List, [], ◌∷◌, length, refl, sym, ◌∙◌, ap, subst, arith}
 use Rattle.lot_calls.specs.declared.calls.Step.{Step}
 use Rattle.abstract_locks.specs.Sites.{Line, Main, Second}
 use Rattle.lot_steps.specs.declared.places.Place.TheVariants.{Idle}
@@ -12,7 +11,7 @@ use Rattle.lot_laws.specs.Stations.{station_at}
 use Rattle.drain_runs.specs.Course.{left_in}
 use Rattle.lot_drain.specs.Drains.{IsDrain, IsDrainable, IsDrained}
 use Rattle.lot_drain.specs.Laws.{SchedulesDrain}
-use Rattle.lot_drain.specs.Schedules.{Progress, clear, drain_of, go_alone, most_turns, next_turn, one_more, out_of_main, out_of_second, passed_through, schedule_of, turn_taken, turns, where_inside, where_some}
+use Rattle.lot_drain.specs.Schedules.{Progress, clear, go_alone, most_turns, next_turn, one_more, out_of_main, out_of_second, passed_through, schedule_of, turn_taken, turns, where_inside, where_some}
 use Rattle.lot_drain.proofs.Cleared.{IsCleared, clears}
 use Rattle.lot_drain.proofs.NextTurns.{nobody_next}
 use Rattle.lot_drain.proofs.Progress.{HasCome}
