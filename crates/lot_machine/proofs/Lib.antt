@@ -9,3 +9,4 @@ pub mod Suits
 pub mod Shown
 pub mod Shape
 pub mod DebtLemmas
+pub mod CopyLemmas

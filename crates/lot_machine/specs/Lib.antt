@@ -8,3 +8,4 @@ pub mod Machine
 pub mod Fits
 pub mod Views
 pub mod Debts
+pub mod Copies

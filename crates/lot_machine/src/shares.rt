@@ -114,3 +114,18 @@ pub(crate) fn unshared_locks(
     }
     Ok(shares)
 }
+
+/// The same numbers of rights.
+pub(crate) fn copied_shares(
+    alloc: Global,
+    shares: &[Vec<usize>],
+) -> Result<Vec<Vec<usize>>, AllocError>
+    ensures { IfOk result (λ copy. map (λ row. row.items) copy.items
+        ≡ map (λ row. row.items) shares.now) }
+{
+    let mut copy = Vec::with_capacity(alloc, shares.len())?;
+    for row in shares {
+        copy.push(Vec::from_slice(alloc, row.as_slice())?)?;
+    }
+    Ok(copy)
+}

@@ -5,3 +5,4 @@ pub mod Grammar
 pub mod Sent
 pub mod Text
 pub mod Turns
+pub mod Steps

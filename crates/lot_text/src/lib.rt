@@ -6,6 +6,7 @@ pub mod grammar;
 pub mod input;
 pub mod names;
 pub mod output;
+pub mod steps;
 pub mod turns;
 mod words;
 
@@ -14,4 +15,5 @@ pub use grammar::{Command, NamedCall, NamedTurn, meaning, numbers_are_decimal};
 pub use input::{LINE_LEN, Reading, read_line};
 pub use names::{Name, Names};
 pub use output::{Page, send_all};
+pub use steps::{print_drain_refused, print_drain_step};
 pub use turns::{Line, PlainTurn, ShownLine, first_line};

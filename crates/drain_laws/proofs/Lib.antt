@@ -1,0 +1,5 @@
+pub mod Drained
+pub mod AsNow
+pub mod Crowded
+pub mod Potential
+pub mod Few

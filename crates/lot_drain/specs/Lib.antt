@@ -1,0 +1,4 @@
+pub mod Drains
+pub mod Schedules
+pub mod Laws
+pub mod Drainable
