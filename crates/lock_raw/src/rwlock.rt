@@ -209,11 +209,7 @@ pub trait RawRwLock {
         ensures { is_shared_of self.now result };
 
     /// Opens the value to write, by the right of who has the lock alone.
-    fn open_exclusive<'a, T>(
-        &self,
-        place: &'a Place<T>,
-        guard: Self::ExclusiveGuard,
-    ) -> Open<'a, T>
+    fn open_exclusive<'a, T>(&self, place: &'a Place<T>, guard: Self::ExclusiveGuard) -> Open<'a, T>
         requires { is_exclusive_of self.now guard × (place.now ≡ place_of self.now) }
         ensures { (result.of ≡ place_of self.now) × (result.view ≡ exclusive_view self.now) };
 

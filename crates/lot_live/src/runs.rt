@@ -144,23 +144,27 @@ fn met<R: Threads + Wait + Sync>(
 {
     let (arrivals, meetings) = (AtomicUsize::new(0), AtomicUsize::new(0));
     let (arrived, seen) = (&arrivals, &meetings);
-    let all_run = scope(scope_env(), rt, |scope|
-        requires { All (IsTicketOf (rwlot_of lock.now)) tickets.items }
-    {
-        for ticket in tickets {
-            let reader = move ||
-                requires { IsTicketOf (rwlot_of lock.now) ticket }
-            {
-                if meets(rt, lock, ticket, arrived) {
-                    seen.fetch_add(1, SeqCst);
+    let all_run = scope(
+        scope_env(),
+        rt,
+        |scope|
+            requires { All (IsTicketOf (rwlot_of lock.now)) tickets.items }
+        {
+            for ticket in tickets {
+                let reader = move ||
+                    requires { IsTicketOf (rwlot_of lock.now) ticket }
+                {
+                    if meets(rt, lock, ticket, arrived) {
+                        seen.fetch_add(1, SeqCst);
+                    }
+                };
+                if scope.spawn(reader).is_err() {
+                    return false;
                 }
-            };
-            if scope.spawn(reader).is_err() {
-                return false;
             }
-        }
-        true
-    });
+            true
+        },
+    );
     if !all_run {
         return Err(Fault::NoMemory);
     }
@@ -175,21 +179,25 @@ fn all_count<R: Threads + Wait + Sync>(
     requires { All (IsTicketOf (lot_of total)) tickets.items }
 {
     let shared = &total;
-    let all_run = scope(scope_env(), rt, |scope|
-        requires { All (IsTicketOf (lot_of shared.now)) tickets.items }
-    {
-        for ticket in tickets {
-            let counter = move ||
-                requires { IsTicketOf (lot_of shared.now) ticket }
-            {
-                count(rt, shared, ticket);
-            };
-            if scope.spawn(counter).is_err() {
-                return false;
+    let all_run = scope(
+        scope_env(),
+        rt,
+        |scope|
+            requires { All (IsTicketOf (lot_of shared.now)) tickets.items }
+        {
+            for ticket in tickets {
+                let counter = move ||
+                    requires { IsTicketOf (lot_of shared.now) ticket }
+                {
+                    count(rt, shared, ticket);
+                };
+                if scope.spawn(counter).is_err() {
+                    return false;
+                }
             }
-        }
-        true
-    });
+            true
+        },
+    );
     if !all_run {
         return Err(Fault::NoMemory);
     }

@@ -17,8 +17,7 @@ use crate::rwlock_rights::LotRwLock;
 use lot_acts::bits::{count_in, has_writer};
 use lot_calls::{Access, Downgrade, Patience};
 use lot_driver::driver::FOR_EVER;
-use lot_place::calls;
-use lot_place::{Open, Place, Seen};
+use lot_place::{Open, Place, Seen, calls};
 use parking_lot_core::{Fault, Key, ParkingLot, Token, Want};
 use std::sync::{Arc, Wait};
 
