@@ -136,7 +136,7 @@ impl<R: RawRwLock, T> RwLock<R, T> {
     /// # Errors
     ///
     /// `ReadersFull`, where as many share the lock as may.
-    #[inline]
+    #[inline(always)]
     pub fn read<W: Wait>(
         &self,
         rt: &W,
@@ -248,7 +248,7 @@ impl<R: RawRwLockUpgrade, T> RwLock<R, T> {
     /// # Errors
     ///
     /// `ReadersFull`, where as many share the lock as may.
-    #[inline]
+    #[inline(always)]
     pub fn upgradable_read<W: Wait>(
         &self,
         rt: &W,

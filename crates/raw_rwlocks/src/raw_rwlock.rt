@@ -299,7 +299,7 @@ impl<const RECURSIVE: bool> lock_raw::RawRwLockUpgrade for RawRwLock<RECURSIVE> 
 
     ghost upgradable_view = { λ lock. piece_of (word_at lock) Upgradable };
 
-    #[inline]
+    #[inline(always)]
     fn lock_upgradable<R: Wait>(
         &self,
         rt: &R,

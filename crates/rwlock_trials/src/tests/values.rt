@@ -15,6 +15,16 @@ use std::sync::atomic::Ordering::SeqCst;
 use std::sync::atomic::{AtomicU64, AtomicUsize};
 use std::thread::yield_now;
 
+// Waits until so many have come.
+fn wait_until<R: Wait>(rt: &R, came: &AtomicUsize, wanted: usize) {
+    for _ in rt.forever() {
+        if came.load(SeqCst) == wanted {
+            break;
+        }
+        yield_now();
+    }
+}
+
 // Reads until so many do at once. Whether the value was whole throughout.
 pub(super) fn read_together<const RECURSIVE: bool, R: Wait>(
     rt: &R,
@@ -31,12 +41,7 @@ pub(super) fn read_together<const RECURSIVE: bool, R: Wait>(
     };
     let before = *guard;
     inside.fetch_add(1, SeqCst);
-    for _ in rt.forever() {
-        if inside.load(SeqCst) == wanted {
-            break;
-        }
-        yield_now();
-    }
+    wait_until(rt, inside, wanted);
     end_reader(rt, token, guard) == before
 }
 
