@@ -1,5 +1,5 @@
 -- A pending thread is in a call that waits for a right.
-use Rattle.std.proofs.Common.{ℕ, Bool, true, false, Option, Some, None, if◌then◌else◌, ◌==◌, ◌≡◌, ◌≢◌, ◌+◌, ◌≤◌, ◌⊎◌, inl, inr, refl, sym, ◌∙◌, ap, subst, arith}
+use Rattle.std.proofs.Common.{ℕ, Bool, true, false, Option, Some, None, if◌then◌else◌, ◌==◌, ◌≡◌, ◌≢◌, inl, inr, refl, sym, ◌∙◌, ap, subst, arith}
 use Rattle.std.proofs.lemmas.Bool.{cases_eq}
 use Rattle.std.proofs.lemmas.Bool.Decides.{nat_tests}
 use Rattle.lot_base.specs.declared.wants.Want.{Want}
@@ -9,7 +9,7 @@ use Rattle.lot_calls.specs.declared.outcomes.Outcome.{Outcome}
 use Rattle.lot_calls.specs.declared.outcomes.Outcome.TheVariants as outcome
 use Rattle.abstract_locks.specs.Locks.{LockState, LockCase, Needs, Rights, Taken, Leave, TakeFirst, TakeAside, TakePicked, Wake, HandOff, after_case, one_if_some, putting, rights_of, with_right}
 use Rattle.abstract_locks.specs.Purposes.{MayWait, Purpose, Enters, Releases, Converts, Bumps, CallsOnce, Awaits, Waits, Notifies, Patience, Patient, Timed, Try, ReleasesBy, lock_for}
-use Rattle.abstract_locks.specs.Runs.{Agrees, AnswerHolds, AreLockStates, AtLock, BumpsAnswer, CallState, ConvertsAnswer, EntersAnswer, Event, Gains, GoesOn, Keeps, LocksState, Loses, MayDo, MayHappen, Moves, Nothing, Replaces, going_on, locks_after, no_call, one_more_at, rights_in, rules_at, unless_ended, woken}
+use Rattle.abstract_locks.specs.Runs.{Agrees, AnswerHolds, AreLockStates, AtLock, BumpsAnswer, CallState, ConvertsAnswer, EntersAnswer, Event, Gains, GoesOn, Keeps, LocksState, Loses, MayDo, MayHappen, Moves, Nothing, Replaces, going_on, locks_after, no_call, rights_in, rules_at, unless_ended, woken}
 use Rattle.abstract_locks.proofs.Rights.{left}
 use Rattle.lot_laws.proofs.HandRights.{giver_has}
 use Rattle.drain_laws.specs.Few.{IsOfOneLock}

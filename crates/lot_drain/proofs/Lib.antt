@@ -7,3 +7,4 @@ pub mod Passes
 pub mod Passing
 pub mod Cleared
 pub mod ScheduleEnds
+pub mod Reached

@@ -1,3 +1,4 @@
 pub mod Drains
 pub mod Schedules
 pub mod Laws
+pub mod Reached
