@@ -92,14 +92,14 @@ cancel Shared r s e h = let a : r.exclusive ≡ s.exclusive = ap (λ (y : Rights
 cancel Wait r s e h = few_same s r e h
 cancel CallOnce r s e h = few_same s r e h
 
-put_same : {A : Type 0} (f : ℕ → A) (l : ℕ) (x : A) → putting f l x l ≡ x
+pub put_same : {A : Type 0} (f : ℕ → A) (l : ℕ) (x : A) → putting f l x l ≡ x
 put_same f l x = ap (λ b. if b then x else f l) (let e : (l == l) ≡ true = grind (arith, nat_tests) in e)
 
-put_other : {A : Type 0} (f : ℕ → A) (l : ℕ) (x : A) (k : ℕ) → k ≢ l → putting f l x k ≡ f k
+pub put_other : {A : Type 0} (f : ℕ → A) (l : ℕ) (x : A) (k : ℕ) → k ≢ l → putting f l x k ≡ f k
 put_other f l x k ne = ap (λ b. if b then x else f k) (let e : (k == l) ≡ false = grind (arith, nat_tests) in e)
 
 -- a case of another thread leaves those who are in no hand
-case_leaves : (w : LocksState) (l t u : ℕ) → AreLockStates w → u ≢ t → (w.locks l).taken u ≡ None → (case : LockCase)
+pub case_leaves : (w : LocksState) (l t u : ℕ) → AreLockStates w → u ≢ t → (w.locks l).taken u ≡ None → (case : LockCase)
     → Needs (rules_at w l) case (w.locks l) t
     → rights_of (after_case (rules_at w l) case (w.locks l) t) u ≡ rights_of (w.locks l) u
 case_leaves w l t u state ne free (HandOff x successor) needs = others_have (rules_at w l) (w.locks l) t x successor (state l) needs u ne (λ y e. let g : ◌≡◌ {A = Option Taken} None (Some (record { by = t; want = y })) = sym free ∙ e in cc)
@@ -152,7 +152,7 @@ numbered Shared r = omega arith
 numbered Wait r = omega arith
 numbered CallOnce r = omega arith
 
-pending_stays : (x : Want) (r : Rights) → (with_right x r).pending ≡ r.pending
+pub pending_stays : (x : Want) (r : Rights) → (with_right x r).pending ≡ r.pending
 pending_stays Exclusive r = refl
 pending_stays Upgradable r = refl
 pending_stays Shared r = refl

@@ -3,3 +3,4 @@ pub mod AsNow
 pub mod Crowded
 pub mod Potential
 pub mod Few
+pub mod Pending

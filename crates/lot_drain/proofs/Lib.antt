@@ -7,6 +7,7 @@ pub mod Passing
 pub mod Clears
 pub mod Cleared
 pub mod ScheduleEnds
+pub mod Reached
 pub mod DrainLemmas
 mod GainsTell
 pub mod DrainableTells

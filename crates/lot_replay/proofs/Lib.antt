@@ -5,3 +5,4 @@ pub mod StartLemmas
 pub mod ShowLemmas
 mod StageLemmas
 mod Declaring
+mod DrainLemmas

@@ -15,13 +15,14 @@ use Rattle.lot_text.proofs.LinesLemmas.{lines_feed}
 use Rattle.lot_text.specs.Reads.{IsOneLine, TakesLine, StartsTooLong, TakesPart}
 use Rattle.lot_text.specs.Sent.{Held, Puts, PutsWhere, Sends, SendsFront}
 use Rattle.lot_text.proofs.SentLemmas.{puts_then}
+use Rattle.lot_text.specs.declared.grammar.Command.{Command}
 use Rattle.lot_replay.specs.declared.state.Refusal.{Refusal}
 use Rattle.lot_replay.specs.declared.state.Refusal.TheVariants.{Malformed, NoMemory}
 use Rattle.lot_replay.specs.Stages.{Stage, nothing, obeyed, after_line}
 use Rattle.lot_replay.specs.Answers.{MayTakeMemory, AnswersTo, last_line, last_status}
 use Rattle.lot_replay.specs.Fronts.{AnswersRead, MayAnswerAll, BeginsWithLines, TakesLines, Refuses, RefusesFirst, RefusesRead}
 use Rattle.lot_replay.specs.Replay.{MayAnswer, IsMalformed, IsReplay, LinesWrite, IsText, StopsForMemory, MayWrite}
-use Rattle.lot_replay.proofs.Declaring.{StillDeclares, still_declares, declared_before}
+use Rattle.lot_replay.proofs.Declaring.{StillDeclares, still_declares, lacked_before}
 
 -- `done` lines wrote `text`, the k-th is next, and then the others
 pub record Reached (input text : List ℕ) (k : ℕ) (s : Stage) (rest : List (List ℕ)) : Type 0 where
@@ -113,16 +114,16 @@ known_failed (Some x) (Some y) (Some z) text k s r q =
 pub nothing_taken : (a : Option (List ℕ)) → TakesPart a a
 nothing_taken a = ([], All-nil (λ b. b ≡ 10 → ⊥), Consumes-nil a)
 
-memory_at : (x text : List ℕ) (k : ℕ) (s : Stage) (line : List ℕ) (rest : List (List ℕ)) (next : Stage) (t : List ℕ) → Reached x text k s (line ∷ rest) → MayAnswer s line next t → MayTakeMemory s → StopsForMemory x (text ++ no_memory_line k)
+memory_at : (x text : List ℕ) (k : ℕ) (s : Stage) (line : List ℕ) (rest : List (List ℕ)) (next : Stage) (t : List ℕ) → Reached x text k s (line ∷ rest) → MayAnswer s line next t → MayTakeMemory (meaning line) s → StopsForMemory x (text ++ no_memory_line k)
 unfolding reached_step
 memory_at x text k s line rest next t r e m =
-    let declared = declared_before s r.done m r.declares in record {
+    let before = lacked_before s line r.done m r.declares in record {
       done = r.done;
       line = line;
       rest = rest;
       lines = r.lines;
-      declared = declared.0;
-      some_line = declared.1;
+      lacked = before.0;
+      some_line = before.1;
       before = text;
       wrote = wrote_so_far x text k s (line ∷ rest) r;
       whole = text ++ t;
@@ -130,7 +131,7 @@ memory_at x text k s line rest next t r e m =
       written = ap (λ n. text ++ no_memory_line n) (sym r.count);
     }
 
-known_memory : (a b c d : Option (List ℕ)) (text : List ℕ) (k : ℕ) (s : Stage) (line : List ℕ) (next : Stage) (t : List ℕ) → ReachedKnown a b text k s → TakesLine b c line → MayAnswer s line next t → MayTakeMemory s → MayWrite a d (text ++ no_memory_line k) 3
+known_memory : (a b c d : Option (List ℕ)) (text : List ℕ) (k : ℕ) (s : Stage) (line : List ℕ) (next : Stage) (t : List ℕ) → ReachedKnown a b text k s → TakesLine b c line → MayAnswer s line next t → MayTakeMemory (meaning line) s → MayWrite a d (text ++ no_memory_line k) 3
 known_memory None b c d text k s line next t r q e m = tt
 known_memory (Some x) None c d text k s line next t r q e m = absurd r
 known_memory (Some x) (Some y) None d text k s line next t r q e m = absurd q
@@ -143,18 +144,18 @@ pub record Answered (w : Option (Stage × List ℕ)) (new : Stage) (a c : Option
   pub wanted : w ≡ Some (new, text)
   pub puts : Puts a c p q text
 
-pub as_answered : (w : Option (Stage × List ℕ)) (u : Unit {0}) (old new : Stage) (a c : Option (List ℕ)) (p q : Held) → AnswersTo w (Ok u) old new (Puts a c p q) → Answered w new a c p q
-as_answered None u old new a c p q h = absurd h
-as_answered (Some x) u old new a c p q h = record { text = x.1; wanted = ap (λ (s : Stage). Some (s, x.1)) (sym h.0); puts = h.1 }
+pub as_answered : (said : Option Command) (w : Option (Stage × List ℕ)) (u : Unit {0}) (old new : Stage) (a c : Option (List ℕ)) (p q : Held) → AnswersTo said w (Ok u) old new (Puts a c p q) → Answered w new a c p q
+as_answered said None u old new a c p q h = absurd h
+as_answered said (Some x) u old new a c p q h = record { text = x.1; wanted = ap (λ (s : Stage). Some (s, x.1)) (sym h.0); puts = h.1 }
 
-pub refused_puts : (w : Option (Stage × List ℕ)) (refusal : Refusal) (old new : Stage) (Wrote : List ℕ → Type 0) → AnswersTo w (Err refusal) old new Wrote → Wrote []
-refused_puts None Malformed old new Wrote h = h.1
-refused_puts None NoMemory old new Wrote h = absurd h
-refused_puts (Some x) Malformed old new Wrote h = absurd h
-refused_puts (Some x) NoMemory old new Wrote h = h.1
+pub refused_puts : (said : Option Command) (w : Option (Stage × List ℕ)) (refusal : Refusal) (old new : Stage) (Wrote : List ℕ → Type 0) → AnswersTo said w (Err refusal) old new Wrote → Wrote []
+refused_puts said None Malformed old new Wrote h = h.1
+refused_puts said None NoMemory old new Wrote h = absurd h
+refused_puts said (Some x) Malformed old new Wrote h = absurd h
+refused_puts said (Some x) NoMemory old new Wrote h = h.1
 
 pub known_refused : (w : Option (Stage × List ℕ)) (refusal : Refusal) (new : Stage) (Wrote : List ℕ → Type 0) (a b c d : Option (List ℕ)) (text : List ℕ) (k : ℕ) (s : Stage) (line : List ℕ)
-    → after_line s line ≡ w → AnswersTo w (Err refusal) s new Wrote → ReachedKnown a b text k s → TakesLine b c line → MayWrite a d (text ++ last_line refusal k) (last_status refusal)
+    → after_line s line ≡ w → AnswersTo (meaning line) w (Err refusal) s new Wrote → ReachedKnown a b text k s → TakesLine b c line → MayWrite a d (text ++ last_line refusal k) (last_status refusal)
 known_refused None Malformed new Wrote a b c d text k s line e h r q = known_malformed a b c d text k s line r q e
 known_refused None NoMemory new Wrote a b c d text k s line e h r q = absurd h
 known_refused (Some x) Malformed new Wrote a b c d text k s line e h r q = absurd h
@@ -239,11 +240,11 @@ known_read_refused (Some x) None c d refusal text told k n s next r q h = absurd
 known_read_refused (Some x) (Some y) c d refusal text told k n s next r q h = known_refused (after_line next h.0) refusal next (λ t. t ≡ []) (Some x) c h.1 d told n next h.0 refl h.3 q h.2
 
 -- of a line that is refused nothing is told
-pub refused_first : (w : Option (Stage × List ℕ)) (refusal : Refusal) (old new : Stage) (Wrote : List ℕ → Type 0) → AnswersTo w (Err refusal) old new Wrote → (new ≡ old) × Wrote [] × AnswersTo w (Err refusal) old old (λ t. t ≡ [])
-refused_first None Malformed old new Wrote h = (h.0, h.1, (refl, refl))
-refused_first None NoMemory old new Wrote h = absurd h
-refused_first (Some x) Malformed old new Wrote h = absurd h
-refused_first (Some x) NoMemory old new Wrote h = (h.0, h.1, (refl, refl, h.2))
+pub refused_first : (said : Option Command) (w : Option (Stage × List ℕ)) (refusal : Refusal) (old new : Stage) (Wrote : List ℕ → Type 0) → AnswersTo said w (Err refusal) old new Wrote → (new ≡ old) × Wrote [] × AnswersTo said w (Err refusal) old old (λ t. t ≡ [])
+refused_first said None Malformed old new Wrote h = (h.0, h.1, (refl, refl))
+refused_first said None NoMemory old new Wrote h = absurd h
+refused_first said (Some x) Malformed old new Wrote h = absurd h
+refused_first said (Some x) NoMemory old new Wrote h = (h.0, h.1, (refl, refl, h.2))
 
 pub keeps_lines : (a b : Option (List ℕ)) → Keeps a b → TakesLines a b []
 keeps_lines None b h = tt

@@ -1,6 +1,7 @@
 -- Lines that are answered where a reader shows them.
 use Rattle.std.specs.Prelude.{◌≡◌, ℕ, List, [], ◌∷◌, ◌++◌, length, ⊤, Option, None, Some, Err}
 use Rattle.lot_text.specs.Lines.{lines_of}
+use Rattle.lot_text.specs.Grammar.{meaning}
 use Rattle.lot_text.specs.Reads.{IsOneLine, TakesLine}
 use Rattle.lot_replay.specs.declared.state.Refusal.{Refusal}
 use Rattle.lot_replay.specs.Stages.{Stage, after_line}
@@ -41,7 +42,7 @@ AnswersRead before after number old new Wrote = (lines : List (List ℕ)) × (to
 -- a line isn't answered for this reason, where there is one
 abbrev pub Refuses : Refusal → Stage → List ℕ → Type 0
 Refuses refusal stage line =
-    AnswersTo (after_line stage line) (Err refusal) stage stage (λ told. told ≡ [])
+    AnswersTo (meaning line) (after_line stage line) (Err refusal) stage stage (λ told. told ≡ [])
 
 -- nor is the first line of a text
 abbrev pub RefusesFirst : Option Refusal → Stage → List ℕ → Type 0

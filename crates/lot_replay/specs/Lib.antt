@@ -1,9 +1,11 @@
 pub use Rattle.lot_text.specs.Lines
 pub use Rattle.lot_text.specs.Grammar
 pub use Rattle.lot_text.specs.Text
+pub use Rattle.lot_text.specs.Steps
 pub use Rattle.lot_machine.specs.Machine
 pub use Rattle.lot_machine.specs.Views
 pub mod Shows
+pub mod Drains
 pub mod Stages
 pub mod Sessions
 pub mod Answers

@@ -9,6 +9,7 @@ use Rattle.lot_text.specs.declared.grammar.Command.{Command}
 use Rattle.lot_text.specs.declared.grammar.Command as command
 use Rattle.lot_text.specs.Text.{malformed_line, no_memory_line}
 use Rattle.lot_replay.specs.Stages.{Stage, nothing, after_line}
+use Rattle.lot_replay.specs.Answers.{is_drain}
 
 -- ---------------------------------------------------------------- the text of a schedule
 
@@ -47,14 +48,18 @@ is_declaration _ = false
 abbrev pub Declares : List ℕ → Type 0
 Declares line = is_declaration (meaning line) ≡ true
 
--- memory was refused at a line that has a text, which isn't the first, and before it no line is a
--- turn or a `show`: the text of the lines before it, and the last line
+-- memory may be refused at a `drain`, and where no line before is a turn, a `show` or a `drain`
+abbrev pub MayLackMemory : List (List ℕ) → List ℕ → Type 0
+MayLackMemory done line = All Declares done ⊎ (is_drain (meaning line) ≡ true)
+
+-- memory was refused at a line that has a text, which isn't the first: the text of the lines before
+-- it, and the last line
 pub record StopsForMemory (input text : List ℕ) : Type 0 where
   pub done : List (List ℕ)
   pub line : List ℕ
   pub rest : List (List ℕ)
   pub lines : lines_of input ≡ done ++ line ∷ rest
-  pub declared : All Declares done
+  pub lacked : MayLackMemory done line
   pub some_line : 1 ≤ length done
   pub before : List ℕ
   pub wrote : LinesWrite done before 0

@@ -14,7 +14,9 @@ use Rattle.lot_calls.specs.declared.calls.CondvarCall.TheVariants as condvar
 use Rattle.lot_calls.specs.declared.calls.OnceCall.{OnceCall}
 use Rattle.lot_calls.specs.declared.calls.OnceCall.TheVariants.{Wait}
 use Rattle.lot_calls.specs.Kinds.{fits, is_condvar}
-use Rattle.lot_machine.specs.Machine.{State, kind_at, opening, is_possible, after, step_outcome, solo}
+use Rattle.lot_machine.specs.Machine.{State, kind_at, opening, is_possible, after, after_steps, step_outcome, solo}
+use Rattle.lot_drain.specs.Drainable.{is_drainable}
+use Rattle.lot_drain.specs.Schedules.{schedule_of}
 use Rattle.lot_text.specs.declared.grammar.Command.{Command}
 use Rattle.lot_text.specs.declared.grammar.Command as command
 use Rattle.lot_text.specs.declared.grammar.NamedTurn.{NamedTurn}
@@ -23,6 +25,8 @@ use Rattle.lot_text.specs.Lines.{line_len}
 use Rattle.lot_text.specs.Names.{lock_named}
 use Rattle.lot_text.specs.Grammar.{meaning}
 use Rattle.lot_replay.specs.Shows.{show_lines}
+use Rattle.lot_replay.specs.Drains.{drain_lines}
+use Rattle.lot_text.specs.Steps.{drain_refused_line}
 use Rattle.lot_text.specs.Text.{turn_line}
 use Rattle.lot_replay.specs.declared.actions.Action.{Action}
 use Rattle.lot_replay.specs.declared.actions.Action as actions
@@ -100,11 +104,21 @@ done_by w t (actions.TheVariants.Do call) = did w t call
 abbrev pub acted : List (List ℕ) → State → ℕ → Action → Stage × List ℕ
 acted names w t action = (running names (done_by w t action).0, turn_line t (done_by w t action).1)
 
--- what a turn or a `show` leads to in a world, or none where it names no lock or is neither
+-- and after a `drain`: its schedule is written and its steps are taken, or the world isn't one that
+-- may be drained
+abbrev pub drained : List (List ℕ) → State → Stage × List ℕ
+drained names w =
+    if is_drainable w
+    then (running names (after_steps w (schedule_of w)), drain_lines names (schedule_of w))
+    else (running names w, drain_refused_line)
+
+-- what a turn, a `show` or a `drain` leads to in a world, or none where it names no lock or is none
+-- of these
 abbrev pub played : List (List ℕ) → State → Command → Option (Stage × List ℕ)
 played names w (command.TheVariants.Turn t turn) =
     option_map (acted names w t) (action_of names w turn)
 played names w command.TheVariants.Show = Some (running names w, show_lines w 0 names)
+played names w command.TheVariants.Drain = Some (drained names w)
 played names w _ = None
 
 -- the locks are fewer than 256, the kind fits the threads, and the name is new

@@ -2,6 +2,7 @@
 #![tactic(auto)]
 
 pub mod actions;
+pub mod drains;
 pub mod replay;
 mod session;
 pub mod show;

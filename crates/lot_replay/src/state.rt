@@ -1,14 +1,16 @@
 //! The threads and locks of a replay, and what they answer to a line.
-ghost use Rattle.std.specs.Prelude.{◌≡◌, ◌≤◌, ℕ, List, [], Some, IfSome, IfNone, length};
+ghost use Rattle.std.specs.Prelude.{◌≡◌, ◌≤◌, ℕ, List, [], Option, Some, IfSome, IfNone, length};
 ghost use Rattle.lot_world.specs.declared.world.TheConstants.{MOST_THREADS, MOST_LOCKS};
 ghost use Rattle.lot_text.specs.Lines.{line_len};
 ghost use Rattle.lot_text.specs.Sent.{Puts};
+ghost use Rattle.lot_text.specs.Grammar.{meaning};
 ghost use Rattle.lot_text.specs.Turns.{Says, named_turn};
 ghost use Rattle.lot_replay.specs.Stages.{nothing, declaring, running, acted, played, obeyed, after_line};
 ghost use Rattle.lot_replay.specs.Sessions.{session_stage, session_world, stage_of};
 ghost use Rattle.lot_replay.specs.Answers.{AnswersTo};
 
 use crate::actions::{Action, perform, plain_action};
+use crate::drains::drain_world;
 use crate::session::Session;
 use crate::show::show_locks;
 use lot_base::Queues;
@@ -49,8 +51,8 @@ impl<Q: Queues + Drop> State<Q> {
         kept: &[u8],
     ) -> Result<(), Refusal>
         requires { Says said kept.now }
-        ensures { AnswersTo (after_line (stage_of self.old.session) kept.now) result
-            (stage_of self.old.session) (stage_of self.new.session)
+        ensures { AnswersTo (meaning kept.now) (after_line (stage_of self.old.session) kept.now)
+            result (stage_of self.old.session) (stage_of self.new.session)
             (Puts (W.contents writer.old) (W.contents writer.new) page.old page.new) }
     {
         match said {
@@ -72,8 +74,8 @@ impl<Q: Queues + Drop> State<Q> {
         thread: usize,
         turn: PlainTurn,
     ) -> Result<(), Refusal>
-        ensures { AnswersTo (obeyed (stage_of self.old.session)
-            (Command.Turn thread (named_turn turn))) result
+        ensures { AnswersTo (Some (Command.Turn thread (named_turn turn)))
+            (obeyed (stage_of self.old.session) (Command.Turn thread (named_turn turn))) result
             (stage_of self.old.session) (stage_of self.new.session)
             (Puts (W.contents writer.old) (W.contents writer.new) page.old page.new) }
     {
@@ -92,8 +94,8 @@ impl<Q: Queues + Drop> State<Q> {
         line: &[u8],
     ) -> Result<(), Refusal>
         requires { length line.now ≤ line_len }
-        ensures { AnswersTo (after_line (stage_of self.old.session) line.now) result
-            (stage_of self.old.session) (stage_of self.new.session)
+        ensures { AnswersTo (meaning line.now) (after_line (stage_of self.old.session) line.now)
+            result (stage_of self.old.session) (stage_of self.new.session)
             (Puts (W.contents writer.old) (W.contents writer.new) page.old page.new) }
     {
         let Some(command) = meaning(line) else {
@@ -108,8 +110,8 @@ impl<Q: Queues + Drop> State<Q> {
     /// The first line has to say how many threads there are.
     fn open(&mut self, alloc: Global, command: Command) -> Result<(), Refusal>
         requires { stage_of self.old.session ≡ nothing }
-        ensures { AnswersTo (obeyed nothing command) result nothing (stage_of self.new.session)
-            (λ text. text ≡ []) }
+        ensures { AnswersTo (Some command) (obeyed nothing command) result nothing
+            (stage_of self.new.session) (λ text. text ≡ []) }
     {
         match command {
             Command::Threads(threads) if 1 <= threads && threads <= MOST_THREADS => {
@@ -143,8 +145,8 @@ impl<Q: Queues + Drop> Session<Q> {
         thread: usize,
         turn: PlainTurn,
     ) -> Result<(), Refusal>
-        ensures { AnswersTo (obeyed (session_stage self.old)
-            (Command.Turn thread (named_turn turn))) result
+        ensures { AnswersTo (Some (Command.Turn thread (named_turn turn)))
+            (obeyed (session_stage self.old) (Command.Turn thread (named_turn turn))) result
             (session_stage self.old) (session_stage self.new)
             (Puts (W.contents writer.old) (W.contents writer.new) page.old page.new) }
     {
@@ -158,7 +160,7 @@ impl<Q: Queues + Drop> Session<Q> {
         writer: &mut W,
         command: Command,
     ) -> Result<(), Refusal>
-        ensures { AnswersTo (obeyed (session_stage self.old) command) result
+        ensures { AnswersTo (Some command) (obeyed (session_stage self.old) command) result
             (session_stage self.old) (session_stage self.new)
             (Puts (W.contents writer.old) (W.contents writer.new) page.old page.new) }
     {
@@ -170,12 +172,14 @@ impl<Q: Queues + Drop> Session<Q> {
                 None => Err(Refusal::Malformed),
             },
             Command::Show => self.show(alloc, page, writer),
+            Command::Drain => self.drain(alloc, page, writer),
         }
     }
 
     /// Adds a lock, where its name is new and no turn was taken yet.
     fn declare(&mut self, alloc: Global, name: Name, kind: Kind) -> Result<(), Refusal>
-        ensures { AnswersTo (obeyed (session_stage self.old) (Command.Lock name kind)) result
+        ensures { AnswersTo (Some (Command.Lock name kind))
+            (obeyed (session_stage self.old) (Command.Lock name kind)) result
             (session_stage self.old) (session_stage self.new) (λ text. text ≡ []) }
     {
         if self.world.is_some() || self.names.len() >= MOST_LOCKS {
@@ -213,7 +217,7 @@ impl<Q: Queues + Drop> Session<Q> {
         thread: usize,
         action: Action,
     ) -> Result<(), Refusal>
-        ensures { AnswersTo
+        ensures { (said : Option Command) → AnswersTo said
             (Some (acted self.old.names (session_world self.old) thread action)) result
             (session_stage self.old) (session_stage self.new)
             (Puts (W.contents writer.old) (W.contents writer.new) page.old page.new) }
@@ -236,8 +240,8 @@ impl<Q: Queues + Drop> Session<Q> {
         page: &mut Page,
         writer: &mut W,
     ) -> Result<(), Refusal>
-        ensures { AnswersTo (played self.old.names (session_world self.old) Command.Show)
-            result
+        ensures { AnswersTo (Some Command.Show)
+            (played self.old.names (session_world self.old) Command.Show) result
             (session_stage self.old) (session_stage self.new)
             (Puts (W.contents writer.old) (W.contents writer.new) page.old page.new) }
     {
@@ -249,5 +253,29 @@ impl<Q: Queues + Drop> Session<Q> {
             }
             None => Err(Refusal::NoMemory),
         }
+    }
+
+    /// Drains the world, where it may be drained, and prints the steps that do it.
+    fn drain<W: Write>(
+        &mut self,
+        alloc: Global,
+        page: &mut Page,
+        writer: &mut W,
+    ) -> Result<(), Refusal>
+        ensures { AnswersTo (Some Command.Drain)
+            (played self.old.names (session_world self.old) Command.Drain) result
+            (session_stage self.old) (session_stage self.new)
+            (Puts (W.contents writer.old) (W.contents writer.new) page.old page.new) }
+    {
+        let names = self.names.as_slice();
+        if let Some(world) = &mut self.world {
+            return drain_world(alloc, page, writer, names, world);
+        }
+        let Ok(mut world) = World::new(alloc, self.kinds.as_slice(), self.threads) else {
+            return Err(Refusal::NoMemory);
+        };
+        drain_world(alloc, page, writer, names, &mut world)?;
+        self.world = Some(world);
+        Ok(())
     }
 }

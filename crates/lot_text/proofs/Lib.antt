@@ -6,3 +6,4 @@ pub mod NumberLaw
 pub mod SentLemmas
 pub mod WordLemmas
 pub mod TurnLemmas
+pub mod ReadBack

@@ -10,7 +10,7 @@ use Rattle.std.proofs.lemmas.Slice.Eq.{bytes_eq-Decides}
 use Rattle.std.proofs.lemmas.Bool.Decides.{nat_tests, same_from_decides}
 use Rattle.lot_text.specs.Names.{is_letter, is_digit, are_name_bytes, is_name, name_of, padded, spelled}
 
-abbrev is_name_byte : ℕ → Bool
+abbrev pub is_name_byte : ℕ → Bool
 is_name_byte b = is_letter b || is_digit b
 
 not_zero : (b : ℕ) → is_name_byte b ≡ true → not (b == 0) ≡ true
@@ -20,11 +20,11 @@ spelled_padding : (n : ℕ) → spelled (replicate n 0) ≡ []
 spelled_padding zero = refl
 spelled_padding (suc n) = take_while-cons (λ b. not (b == 0)) 0 (replicate n 0)
 
-both_left : (a b : Bool) → (a && b) ≡ true → a ≡ true
+pub both_left : (a b : Bool) → (a && b) ≡ true → a ≡ true
 both_left true b h = refl
 both_left false b h = h
 
-both_right : (a b : Bool) → (a && b) ≡ true → b ≡ true
+pub both_right : (a b : Bool) → (a && b) ≡ true → b ≡ true
 both_right true b h = h
 both_right false b h = cc
 
@@ -43,7 +43,7 @@ spelled_front (x ∷ xs) n h =
     ∙ ap (λ t. cond t (x ∷ take_while (λ b. not (b == 0)) (xs ++ replicate n 0)) []) (not_zero x (both_left (is_name_byte x) (list_all is_name_byte xs) h))
     ∙ ap (λ l. x ∷ l) (spelled_front xs n (both_right (is_name_byte x) (list_all is_name_byte xs) h))
 
-name_bytes : (name : List ℕ) → is_name name ≡ true → list_all is_name_byte name ≡ true
+pub name_bytes : (name : List ℕ) → is_name name ≡ true → list_all is_name_byte name ≡ true
 name_bytes [] h = refl
 name_bytes (c ∷ cs) h =
     let rest = both_right (is_letter c) (nat_lt (length cs) 16 && list_all is_name_byte cs) h in

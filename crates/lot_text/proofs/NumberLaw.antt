@@ -12,11 +12,11 @@ abbrev pub AreDigits : List ℕ → Type 0
 AreDigits [] = Unit {0}
 AreDigits (c ∷ cs) = IsInRange 48 57 c × AreDigits cs
 
-abbrev value_after : ℕ → List ℕ → ℕ
+abbrev pub value_after : ℕ → List ℕ → ℕ
 value_after n [] = n
 value_after n (c ∷ cs) = value_after (n * 10 + (c - 48)) cs
 
-own : IsNumeralModel AreDigits (value_after 0)
+pub own : IsNumeralModel AreDigits (value_after 0)
 own = numerals_by_fold AreDigits (record { empty = tt; parts = λ c cs h. h; more = λ c cs h k. (h, k) }) value_after (record { empty = λ n. refl; more = λ n c cs h. refl })
 
 digit_in : (c : ℕ) → is_digit c ≡ true → IsInRange 48 57 c

@@ -17,21 +17,21 @@ use Rattle.lot_text.specs.declared.turns.Line.TheVariants.{Text}
 use Rattle.lot_text.proofs.NumberLaw.{AreDigits, number_is, none_some}
 
 -- digits are no other bytes
-no_other : (x : ℕ) → x < 48 → (cs : List ℕ) → AreDigits cs → All (λ b. b ≢ x) cs
+pub no_other : (x : ℕ) → x < 48 → (cs : List ℕ) → AreDigits cs → All (λ b. b ≢ x) cs
 no_other x low [] h = All-nil (λ b. b ≢ x)
 no_other x low (c ∷ cs) h = All-cons (λ b. b ≢ x) c cs (λ e. omega (arith, e, h.0.0, low)) (no_other x low cs h.1)
 
 threads_no_number : (n : ℕ) → number_of (codes "threads") ≡ Some n → ⊥
 threads_no_number n e = none_some n e
 
-not_threads : (word : List ℕ) (n : ℕ) → number_of word ≡ Some n → bytes_eq word (codes "threads") ≡ false
+pub not_threads : (word : List ℕ) (n : ℕ) → number_of word ≡ Some n → bytes_eq word (codes "threads") ≡ false
 not_threads word n e = go (bytes_eq word (codes "threads")) refl
   where
     go : (b : Bool) → bytes_eq word (codes "threads") ≡ b → b ≡ false
     go true d = absurd (threads_no_number n (sym (ap number_of ((bytes_eq-Decides word (codes "threads")).0 d)) ∙ e))
     go false d = refl
 
-words_two : (word second : List ℕ) → All (λ b. b ≢ 32) word → words_of (word ++ 32 ∷ second) ≡ word ∷ words_of second
+pub words_two : (word second : List ℕ) → All (λ b. b ≢ 32) word → words_of (word ++ 32 ∷ second) ≡ word ∷ words_of second
 words_two word second h = slice_split_at (λ b. eqb b 32) word 32 second (λ k d i. ne_eqb (get_or word k d) 32 (h k d i)) refl
 
 plain_words : (turn : PlainTurn) → words_of (word_of turn) ≡ word_of turn ∷ []
@@ -53,7 +53,7 @@ not_both : (b : Bool) → b ≡ true → b ≡ false → ⊥
 not_both b e f = cc
 
 -- whether a byte isn't there
-abbrev lacks : ℕ → List ℕ → Bool
+abbrev pub lacks : ℕ → List ℕ → Bool
 lacks x [] = true
 lacks x (b ∷ bs) = cond (eqb b x) false (lacks x bs)
 
@@ -61,7 +61,7 @@ lacks_head : (x b : ℕ) (bs : List ℕ) (t : Bool) → eqb b x ≡ t → cond t
 lacks_head x b bs true e h rest = cc
 lacks_head x b bs false e h rest = All-cons (λ c. c ≢ x) b bs (λ same. not_both (eqb b x) (eq-eqb b x same) e) (rest h)
 
-lacks_all : (x : ℕ) (bs : List ℕ) → lacks x bs ≡ true → All (λ b. b ≢ x) bs
+pub lacks_all : (x : ℕ) (bs : List ℕ) → lacks x bs ≡ true → All (λ b. b ≢ x) bs
 lacks_all x [] h = All-nil (λ b. b ≢ x)
 lacks_all x (b ∷ bs) h = lacks_head x b bs (eqb b x) refl h (lacks_all x bs)
 
@@ -70,7 +70,7 @@ plain_line Go = lacks_all 10 (32 ∷ word_of Go) refl
 plain_line Spin = lacks_all 10 (32 ∷ word_of Spin) refl
 plain_line Late = lacks_all 10 (32 ∷ word_of Late) refl
 
-two_words : (a b : List ℕ) (t : ℕ) (turn : NamedTurn) → bytes_eq a (codes "threads") ≡ false → number_of a ≡ Some t → turn_of b ≡ Some turn → command_of (a ∷ b ∷ []) ≡ Some (Turn t turn)
+pub two_words : (a b : List ℕ) (t : ℕ) (turn : NamedTurn) → bytes_eq a (codes "threads") ≡ false → number_of a ≡ Some t → turn_of b ≡ Some turn → command_of (a ∷ b ∷ []) ≡ Some (Turn t turn)
 two_words a b t turn f g h =
     ap (λ c. cond c (option_map Threads (number_of b)) (turn_command (number_of a) (turn_of b))) f
     ∙ ap (λ o. turn_command o (turn_of b)) g ∙ ap (turn_command (Some t)) h

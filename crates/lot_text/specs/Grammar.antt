@@ -180,11 +180,13 @@ calling_command_of a b c d =
     turn_command (number_of a)
     (option_and_then (λ call. option_and_then (calling_turn_of b call) (name_of d)) c)
 
--- the words of a line with a meaning: `show`, `threads N`, `T TURN`, `lock NAME KIND`,
+-- the words of a line with a meaning: `show`, `drain`, `threads N`, `T TURN`, `lock NAME KIND`,
 -- `lock NAME KIND LIMIT`, `T begin CALL NAME`, `T do CALL NAME`, and of a wait on a condition
 -- variable `T begin CALL NAME MUTEX`, `T do CALL NAME MUTEX`
 abbrev pub command_of : List (List ℕ) → Option Command
-command_of (a ∷ []) = if bytes_eq a (codes "show") then Some command.TheVariants.Show else None
+command_of (a ∷ []) =
+    if bytes_eq a (codes "show") then Some command.TheVariants.Show
+    else (if bytes_eq a (codes "drain") then Some command.TheVariants.Drain else None)
 command_of (a ∷ b ∷ []) =
     if bytes_eq a (codes "threads") then option_map command.TheVariants.Threads (number_of b)
     else turn_command (number_of a) (turn_of b)

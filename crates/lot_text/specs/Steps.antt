@@ -1,5 +1,5 @@
 -- Steps as a schedule has them, and the lines of a drain.
-use Rattle.std.specs.Prelude.{ℕ, Bool, true, false, List, [], ◌++◌, codes, decimal, Option, None, Some, slice_index_or}
+use Rattle.std.specs.Prelude.{ℕ, true, false, List, [], ◌++◌, ◌≡◌, ◌<◌, ◌^◌, codes, decimal, Option, None, Some, slice_index_or, IfSome}
 use Rattle.lot_calls.specs.declared.calls.Access.{Access}
 use Rattle.lot_calls.specs.declared.calls.Access.TheVariants as access
 use Rattle.lot_calls.specs.declared.calls.Call.{Call}
@@ -20,6 +20,13 @@ use Rattle.lot_calls.specs.declared.calls.Step.{Step}
 use Rattle.lot_calls.specs.declared.calls.Turn.{Turn}
 use Rattle.lot_calls.specs.declared.calls.Turn.TheVariants as turn
 use Rattle.lot_calls.specs.Calls.{lock_in, mutex_in}
+use Rattle.lot_text.specs.declared.grammar.Command.TheVariants as command
+use Rattle.lot_text.specs.declared.grammar.NamedCall.{NamedCall}
+use Rattle.lot_text.specs.declared.grammar.NamedCall.TheVariants as named
+use Rattle.lot_text.specs.declared.grammar.NamedTurn.{NamedTurn}
+use Rattle.lot_text.specs.declared.grammar.NamedTurn.TheVariants as turns
+use Rattle.lot_text.specs.Grammar.{meaning}
+use Rattle.lot_text.specs.Names.{is_name}
 
 -- ---------------------------------------------------------------- the words of calls
 
@@ -136,3 +143,42 @@ drain_line names s = codes "drain " ++ (step_text names s ++ codes "\n")
 
 abbrev pub drain_refused_line : List ℕ
 drain_refused_line = codes "drain refused\n"
+
+-- ---------------------------------------------------------------- read back
+
+-- calls and turns by the names of their locks
+abbrev pub condvar_named : List (List ℕ) → CondvarCall → NamedCall
+condvar_named names (condvar.Wait m timed) = named.Wait (name_at names m) timed
+condvar_named names (condvar.Notify all) = named.Notify all
+
+abbrev pub call_named : List (List ℕ) → Call → NamedCall
+call_named names (call.Mutex l c) = named.Mutex c
+call_named names (call.RwLock l c) = named.RwLock c
+call_named names (call.Once l c) = named.Once c
+call_named names (call.Condvar l c) = condvar_named names c
+
+abbrev pub turn_named : List (List ℕ) → Turn → NamedTurn
+turn_named names (turn.Begin c) = turns.Begin (call_named names c) (name_at names (lock_in c))
+turn_named names turn.Go = turns.Go
+turn_named names turn.Spin = turns.Spin
+turn_named names turn.Late = turns.Late
+turn_named names turn.Ok = turns.Ok
+turn_named names turn.Err = turns.Err
+
+abbrev pub HasName : List (List ℕ) → ℕ → Type 0
+HasName names l = is_name (name_at names l) ≡ true
+
+-- the locks that a turn calls have names
+abbrev pub AreNamed : List (List ℕ) → Turn → Type 0
+AreNamed names (turn.Begin c) = HasName names (lock_in c) × IfSome (mutex_in c) (HasName names)
+AreNamed names turn.Go = Unit {0}
+AreNamed names turn.Spin = Unit {0}
+AreNamed names turn.Late = Unit {0}
+AreNamed names turn.Ok = Unit {0}
+AreNamed names turn.Err = Unit {0}
+
+-- the line of a step means that step
+abbrev pub StepsAreReadBack : Type 0
+StepsAreReadBack =
+    (names : List (List ℕ)) (s : Step) → s.thread < 10 ^ 19 → AreNamed names s.turn
+    → meaning (step_text names s) ≡ Some (command.Turn s.thread (turn_named names s.turn))

@@ -22,6 +22,8 @@ pub enum Command {
     Turn { thread: usize, turn: NamedTurn },
     /// Each lock shows its state.
     Show,
+    /// All end their calls, and whoever owns the lock gives it up.
+    Drain,
 }
 
 /// A call of a lock of some sort.
@@ -110,6 +112,8 @@ fn command_of_one(word: &[u8]) -> Option<Command>
 {
     if is_text(word, b"show") {
         Some(Command::Show)
+    } else if is_text(word, b"drain") {
+        Some(Command::Drain)
     } else {
         None
     }

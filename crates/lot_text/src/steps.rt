@@ -1,7 +1,7 @@
 //! Steps as a schedule has them, and the lines of a drain.
 ghost use Rattle.std.specs.Prelude.{◌≡◌};
 ghost use Rattle.lot_text.specs.Sent.{Puts};
-ghost use Rattle.lot_text.specs.Steps.{mutex_word, read_word, upgradable_word, write_word, enter_word, release_word, fair_release_word, bump_word, downgrade_word, upgrade_word, rwlock_word, once_word, condvar_word, call_word, name_at, beside_text, call_text, turn_text, step_text, drain_line, drain_refused_line};
+ghost use Rattle.lot_text.specs.Steps.{mutex_word, read_word, upgradable_word, write_word, enter_word, release_word, fair_release_word, bump_word, downgrade_word, upgrade_word, rwlock_word, once_word, condvar_word, call_word, name_at, beside_text, call_text, turn_text, step_text, drain_line, drain_refused_line, StepsAreReadBack};
 
 use crate::names::Name;
 use crate::output::Page;
@@ -234,3 +234,8 @@ fn condvar_word(call: CondvarCall) -> &'static [u8]
         CondvarCall::Notify { all: true } => b"notify_all",
     }
 }
+
+/// Shows that the line of a step means that step, so that the lines of a drain can be replayed.
+pub fn steps_are_read_back()
+    ensures { StepsAreReadBack }
+{}

@@ -1,5 +1,5 @@
 //! Any number of threads over locks, by a list of steps.
-ghost use Rattle.std.specs.Prelude.{ℕ, List, [], ◌∷◌, ◌≡◌, ◌<◌, ◌≤◌, ◌++◌, ◌+◌, ◌*◌, IfOk, IfErr, OnOk, All, length, take, true, false, vec_len, vec_capacity};
+ghost use Rattle.std.specs.Prelude.{ℕ, List, [], ◌∷◌, ◌≡◌, ◌<◌, ◌≤◌, ◌++◌, ◌+◌, ◌*◌, IfOk, IfErr, OnOk, IsTrue, ◌↔◌, All, length, take, true, false, vec_len, vec_capacity};
 ghost use Rattle.lot_calls.specs.Kinds.{fits};
 ghost use Rattle.lot_calls.specs.Calls.{lock_in};
 ghost use Rattle.lot_steps.specs.Steps.{first_place};
@@ -16,8 +16,12 @@ ghost use Rattle.lot_laws.specs.Owing.{OwesSince};
 ghost use Rattle.lot_laws.specs.WorldRuns.{IsWorldRun, Tells, SleepersStay, TouchesOnlyByGoing, TriesAtOnce};
 ghost use Rattle.lot_laws.specs.Solo.{IsUnderWay, HasItsWay, Rests, EndsAlone, IsSoloRun};
 ghost use Rattle.lot_machine.specs.Views.{StandUnder, owners_of, queue_of, debts_of};
+ghost use Rattle.lot_drain.specs.Drains.{IsDrainable, IsDrain};
+ghost use Rattle.lot_drain.specs.Drainable.{is_drainable};
+ghost use Rattle.lot_drain.specs.Schedules.{schedule_of};
 
 use lot_base::{Fault, Queues};
+use lot_drain::{is_drainable, schedule};
 use lot_machine::{DebtBook, Debts, Machine, OwnersOf, QueueOf};
 use lot_steps::{Call, Kind, Outcome, Place, Step, Turn};
 use std::alloc::Global;
@@ -38,7 +42,7 @@ pub struct Stopped {
     pub taken: usize,
 }
 
-/// Threads over locks. No call but `new` and `run` takes memory.
+/// Threads over locks. No call but `new`, `run` and `drain` takes memory.
 #[derive(Drop)]
 pub struct World<Q: Queues + Drop> {
     machine: Machine<Q>,
@@ -247,6 +251,27 @@ impl<Q: Queues + Drop> World<Q> {
             outcomes.push_reserved(self.step(*step));
         }
         Ok(())
+    }
+
+    /// Whether some steps drain the world: it has one lock, a mutex or a reader-writer lock, whose
+    /// readers were never as many as its limit. Each thread has one right at most, and none where
+    /// its call needs none, or is a bump that has given its right up, but for what that call got.
+    pub fn drainable(&self) -> bool
+        ensures drainable { IsTrue result ↔ IsDrainable self.now }
+        ensures test { result ≡ is_drainable self.now }
+    {
+        is_drainable(&self.machine)
+    }
+
+    /// Steps that drain the world: behind them nobody is in a call or queued, nobody owns the lock,
+    /// and its word is 0. The world stays as it is.
+    pub fn drain(&self, alloc: Global) -> Result<Vec<Step>, Fault>
+        requires { IsDrainable self.now }
+        ensures ok { IfOk result (λ steps. IsDrain self.now steps.items) }
+        ensures schedule { IfOk result (λ steps. steps.items ≡ schedule_of self.now) }
+        ensures err { IfErr result (λ fault. fault ≡ Fault.NoMemory) }
+    {
+        schedule(alloc, self.machine.copy(alloc)?)
     }
 
     /// How many threads there are.

@@ -10,7 +10,7 @@ use Rattle.lot_replay.proofs.replay.answer_front.Goals as goal
 pub returns-in-Err-clause-answered : goal.returns-in-Err-clause-answered
 returns-in-Err-clause-answered g c =
     let a = c.loop-first.invariant.3 in
-    let refused = refused_first _ c.in-Err.refusal (stage_of c.loop-first.state.session) (stage_of c.answer_next.new.self.session) _ c.in-Err.ensures in (
+    let refused = refused_first _ _ c.in-Err.refusal (stage_of c.loop-first.state.session) (stage_of c.answer_next.new.self.session) _ c.in-Err.ensures in (
       a.0,
       a.1,
       a.2,
@@ -29,7 +29,7 @@ returns-in-Err-clause-refused g c =
     let within = c.loop-first.invariant.0 in
     let part : take (length shown - front.len) (drop front.len shown) ≡ drop front.len shown = take_all (length shown - front.len) (drop front.len shown) (omega (arith, length-drop front.len shown)) in
     let kept = kept_line _ begins.0 begins.1 c.in-Some.first.len begins.2 begins.3 in
-    let refused = refused_first _ c.in-Err.refusal stage (stage_of c.answer_next.new.self.session) _ c.in-Err.ensures in
+    let refused = refused_first _ _ c.in-Err.refusal stage (stage_of c.answer_next.new.self.session) _ c.in-Err.ensures in
     (begins.0, begins.1, sym part ∙ begins.2, begins.4, subst (λ m. Refuses c.in-Err.refusal m begins.0) (sym refused.0) (subst (Refuses c.in-Err.refusal stage) kept refused.2))
 
 pub loop-first-preserved : goal.loop-first-preserved
@@ -46,7 +46,7 @@ loop-first-preserved g c =
     let part : take (length shown - front.len) (drop front.len shown) ≡ drop front.len shown = take_all (length shown - front.len) (drop front.len shown) (omega (arith, length-drop front.len shown, i.0)) in
     let left : drop front.len shown ≡ line ++ 10 ∷ begins.1 = sym part ∙ begins.2 in
     let kept = kept_line _ line begins.1 first.len begins.2 begins.3 in
-    let said = as_answered _ c.in_default-answer_next.field-0 stage next _ _ c.loop-first.page c.answer_next.new.page c.in_default-answer_next.ensures in
+    let said = as_answered _ _ c.in_default-answer_next.field-0 stage next _ _ c.loop-first.page c.answer_next.new.page c.in_default-answer_next.ensures in
     let answers = subst (λ l. MayAnswer stage l next said.text) kept said.wanted in
     let behind : drop (front.len + first.len) shown ≡ begins.1 = left_behind shown line begins.1 front.len first.len left begins.3 in (
       omega (arith, ap length left, length-drop front.len shown, length-append line (10 ∷ begins.1), begins.3, i.0),

@@ -1,5 +1,6 @@
 use Rattle.std.proofs.Common.{◌≡◌, ◌+◌, [], ◌++◌, refl, sym, subst, ap, ◌∙◌, arith, rules}
 use Rattle.lot_text.specs.Reads.{TakesLine}
+use Rattle.lot_text.specs.Grammar.{meaning}
 use Rattle.lot_text.proofs.SentLemmas.{puts_then, puts_nothing}
 use Rattle.lot_replay.specs.Stages.{after_line}
 use Rattle.lot_replay.specs.Sessions.{stage_of}
@@ -105,7 +106,7 @@ returns-in-Err g c =
     let takes = subst (TakesLine (g.R.Read.remaining c.answer_shown.new.reader) (g.R.Read.remaining c.read_line.new.reader)) (sym c.as_slice.ensures.value) c.in-Line.ensures.0 in
     let refusal = c.in-Err.refusal in
     let last = last_line refusal next in
-    let none = refused_puts (after_line stage line) refusal stage left _ c.in-Err.ensures in (
+    let none = refused_puts (meaning line) (after_line stage line) refusal stage left _ c.in-Err.ensures in (
       told ++ last,
       last_status refusal,
       known_refused (after_line stage line) refusal left _ _ _ _ _ told next stage line refl c.in-Err.ensures known takes,
@@ -125,7 +126,7 @@ returns-then-is_lost-2 g c =
     let left = stage_of c.answer.new.self.session in
     let line = c.as_slice.result.now in
     let takes = subst (TakesLine (g.R.Read.remaining c.answer_shown.new.reader) (g.R.Read.remaining c.read_line.new.reader)) (sym c.as_slice.ensures.value) c.in-Line.ensures.0 in
-    let said = as_answered (after_line stage line) c.in_default-answer.field-0 stage left _ _ c.answer_shown.new.page c.answer.new.page c.in_default-answer.ensures in
+    let said = as_answered (meaning line) (after_line stage line) c.in_default-answer.field-0 stage left _ _ c.answer_shown.new.page c.answer.new.page c.in_default-answer.ensures in
     let step = known_step _ _ _ told next stage line left said.text known takes said.wanted in
     let more = puts_then _ _ _ c.args.page.now c.answer_shown.new.page c.answer.new.page told said.text puts said.puts in
     (told ++ said.text, 4, known_failed _ _ _ (told ++ said.text) (next + 1) left step (nothing_taken _), more, λ _. refl)
@@ -142,7 +143,7 @@ loop-preserved g c =
     let left = stage_of c.answer.new.self.session in
     let line = c.as_slice.result.now in
     let takes = subst (TakesLine (g.R.Read.remaining c.answer_shown.new.reader) (g.R.Read.remaining c.read_line.new.reader)) (sym c.as_slice.ensures.value) c.in-Line.ensures.0 in
-    let said = as_answered (after_line stage line) c.in_default-answer.field-0 stage left _ _ c.answer_shown.new.page c.answer.new.page c.in_default-answer.ensures in
+    let said = as_answered (meaning line) (after_line stage line) c.in_default-answer.field-0 stage left _ _ c.answer_shown.new.page c.answer.new.page c.in_default-answer.ensures in
     let step = known_step _ _ _ told next stage line left said.text known takes said.wanted in
     let more = puts_then _ _ _ c.args.page.now c.answer_shown.new.page c.answer.new.page told said.text puts said.puts in
     (told ++ said.text, step, more)
