@@ -13,7 +13,7 @@ use Rattle.lot_drain.specs.Drainable.{is_drainable}
 use Rattle.lot_drain.specs.Schedules.{schedule_of}
 use Rattle.lot_replay.specs.Drains.{drain_lines}
 use Rattle.lot_text.specs.Steps.{drain_refused_line}
-use Rattle.lot_replay.specs.Stages.{Stage, nothing, declaring, running, done_by, action_of, acted, drained, played, may_declare, obeyed, after_line}
+use Rattle.lot_replay.specs.Stages.{Stage, nothing, declaring, running, done_by, action_of, acted, played, may_declare, obeyed, after_line}
 use Rattle.lot_replay.specs.Answers.{MayTakeMemory}
 use Rattle.lot_replay.specs.Replay.{Declares, MayLackMemory, is_declaration}
 

@@ -20,7 +20,7 @@ use Rattle.lot_replay.specs.declared.state.Refusal.{Refusal}
 use Rattle.lot_replay.specs.declared.state.Refusal.TheVariants.{Malformed, NoMemory}
 use Rattle.lot_replay.specs.Stages.{Stage, nothing, obeyed, after_line}
 use Rattle.lot_replay.specs.Answers.{MayTakeMemory, AnswersTo, last_line, last_status}
-use Rattle.lot_replay.specs.Fronts.{AnswersRead, MayAnswerAll, BeginsWithLines, TakesLines, Refuses, RefusesFirst, RefusesRead}
+use Rattle.lot_replay.specs.Fronts.{AnswersRead, MayAnswerAll, BeginsWithLines, TakesLines, RefusesFirst, RefusesRead}
 use Rattle.lot_replay.specs.Replay.{MayAnswer, IsMalformed, IsReplay, LinesWrite, IsText, StopsForMemory, MayWrite}
 use Rattle.lot_replay.proofs.Declaring.{StillDeclares, still_declares, lacked_before}
 

@@ -1,5 +1,3 @@
-use Rattle.std.proofs.Common.{ap, ◌∙◌}
-use Rattle.lot_replay.specs.Drains.{drain_lines}
 use Rattle.lot_text.proofs.SentLemmas.{left_less}
 use Rattle.lot_replay.proofs.DrainLemmas.{drain_step}
 use Rattle.lot_replay.proofs.drains.print_drain.Goals as goal

@@ -1,4 +1,4 @@
-use Rattle.std.proofs.Common.{◌≡◌, ◌+◌, ◌-◌, [], ◌∷◌, ◌++◌, length, take, drop, take_all, length-drop, length-append, append-nil, refl, sym, subst, ap, ◌∙◌, arith}
+use Rattle.std.proofs.Common.{◌≡◌, ◌+◌, ◌-◌, [], ◌∷◌, ◌++◌, length, take, drop, take_all, length-drop, length-append, append-nil, sym, subst, ap, ◌∙◌, arith}
 use Rattle.lot_text.specs.Sent.{Puts}
 use Rattle.lot_text.proofs.SentLemmas.{puts_then}
 use Rattle.lot_replay.specs.Replay.{MayAnswer}

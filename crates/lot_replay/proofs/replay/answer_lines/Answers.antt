@@ -1,4 +1,4 @@
-use Rattle.std.proofs.Common.{◌≡◌, ◌+◌, [], ◌++◌, refl, sym, subst, ap, ◌∙◌, arith, rules}
+use Rattle.std.proofs.Common.{◌+◌, [], ◌++◌, refl, sym, subst}
 use Rattle.lot_text.specs.Reads.{TakesLine}
 use Rattle.lot_text.specs.Grammar.{meaning}
 use Rattle.lot_text.proofs.SentLemmas.{puts_then, puts_nothing}

@@ -1,4 +1,4 @@
-use Rattle.std.proofs.Common.{◌≡◌, ◌++◌, [], refl, subst, sym, ap, ◌∙◌}
+use Rattle.std.proofs.Common.{[], refl, subst}
 use Rattle.std.specs.Io.BufRead.{FillKeeps}
 use Rattle.std.proofs.BufReadLemmas.{Consumes_shown}
 use Rattle.lot_text.proofs.SentLemmas.{puts_nothing}
