@@ -59,8 +59,9 @@ fn drains<Q: Queues + Drop>(rt: &impl Abort, alloc: Global, world: &mut World<Q>
     let Some(steps) = steps_of(alloc, world) else {
         return false;
     };
-    let number = world.threads() as u128 + 1;
-    holds(rt, steps.len() as u128 <= 1000 * (number * number));
+    let number = (world.threads() as u128).wrapping_add(1);
+    let most = number.wrapping_mul(number).wrapping_mul(1000);
+    holds(rt, steps.len() as u128 <= most);
     takes_all(rt, world, steps.as_slice());
     holds(rt, is_over(world));
     if let Some(more) = steps_of(alloc, world) {
