@@ -1,4 +1,3 @@
-mod lines;
 mod rows;
 mod schedules;
 mod walks;

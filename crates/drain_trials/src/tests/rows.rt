@@ -278,3 +278,136 @@ lock r rwlock
 3 do upgradable r
 ",
 ];
+
+/// Worked schedules of one lock.
+pub const WORKED: [&[u8]; 12] = [
+    // Two threads take a mutex in turn.
+    b"threads 1
+lock m mutex
+0 do try_lock m
+0 do try_lock m
+0 do unlock m
+0 do try_lock m
+",
+    // A try comes between a release and the waiter that it woke.
+    b"threads 3
+lock m mutex
+0 do lock m
+1 do lock m
+0 begin unlock m
+0 go
+2 do try_lock m
+0 solo
+1 solo
+",
+    // A mutex is handed over.
+    b"threads 3
+lock m mutex
+0 do lock m
+1 do lock m
+2 do lock m
+0 do unlock_fair m
+1 solo
+1 do unlock_fair m
+2 solo
+",
+    // A mutex is handed over as another thread is about to wait.
+    b"threads 3
+lock m mutex
+0 do lock m
+1 do lock m
+2 begin lock m
+2 go
+2 go
+0 do unlock_fair m
+2 go
+2 go
+2 solo
+",
+    // A thread waits for a mutex up to a deadline.
+    b"threads 2
+lock m mutex
+0 do lock m
+1 do lock_timed m
+1 late
+1 solo
+",
+    // A writer waits for a reader.
+    b"threads 3
+lock r rwlock
+0 do read r
+1 do write r
+2 do try_read r
+",
+    // The same on a recursive lock.
+    b"threads 4
+lock r recursive
+0 do read r
+1 do read r
+2 do write r
+3 do try_read r
+",
+    // A writer that waits for a reader gives up.
+    b"threads 3
+lock r rwlock
+0 do read r
+1 do write_timed r
+2 do read r
+1 late
+1 go
+1 go
+1 go
+1 go
+1 solo
+2 solo
+",
+    // A writer hands the lock over.
+    b"threads 4
+lock r rwlock
+0 do write r
+1 do read r
+2 do write r
+3 do read r
+0 do unlock_exclusive_fair r
+",
+    // An upgrade gives up.
+    b"threads 2
+lock r rwlock
+0 do upgradable r
+1 do read r
+0 do upgrade_timed r
+0 late
+0 solo
+",
+    // A writer settles as the last reader leaves.
+    b"threads 3
+lock r rwlock
+0 do read r
+1 begin write r
+1 go
+1 go
+1 go
+1 go
+1 go
+0 begin unlock_shared r
+0 go
+1 solo
+1 do unlock_exclusive r
+2 do try_write r
+2 do write r
+2 do unlock_exclusive r
+0 solo
+2 do try_write r
+",
+    // An upgrade waits on a recursive lock.
+    b"threads 2
+lock r recursive 2
+0 do upgradable r
+1 do read r
+0 do upgrade_timed r
+1 do read r
+0 late
+0 solo
+1 do read r
+",
+];

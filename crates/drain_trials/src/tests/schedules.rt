@@ -1,5 +1,5 @@
 //! Schedules with a `drain`, as lines in and lines out, over both kinds of queues.
-use super::rows::{DRAINED, ROWS};
+use super::rows::{DRAINED, ROWS, WORKED};
 use super::{holds, same};
 use bucket_queues::BucketQueues;
 use lot_base::{ListQueues, Queues};
@@ -72,5 +72,40 @@ fn is_drained(rt: &impl Abort, alloc: Global, schedule: &[u8]) -> Result<(), All
 fn a_drain_is_a_schedule(rt: HostRuntime) {
     for schedule in DRAINED.iter() {
         same(&rt, is_drained(&rt, rt.alloc(), schedule), Ok(()));
+    }
+}
+
+fn is_refused(text: &[u8]) -> bool {
+    text.split(|byte| *byte == b'\n')
+        .any(|line| line == b"drain refused".as_slice())
+}
+
+/// Behind each line of the schedule a drain empties the lock, or is refused.
+fn are_drained_or_refused(
+    rt: &impl Abort,
+    alloc: Global,
+    schedule: &[u8],
+) -> Result<(), AllocError> {
+    let mut front = Vec::new(alloc);
+    for line in schedule.split(|byte| *byte == b'\n') {
+        front.extend_from_slice(line)?;
+        front.extend_from_slice(b"\n")?;
+        if line.is_empty() {
+            continue;
+        }
+        let drained = with_lines(alloc, front.as_slice(), b"drain\nshow\n")?;
+        let (text, status) = replayed::<BucketQueues>(alloc, drained.as_slice());
+        same(rt, status, 0);
+        let text = text.as_slice();
+        holds(rt, is_refused(text) || text.ends_with(b" 0\n"));
+    }
+    Ok(())
+}
+
+#[test]
+fn worked_schedules_are_drained_behind_each_line(rt: HostRuntime) {
+    for schedule in WORKED.iter() {
+        let tried = are_drained_or_refused(&rt, rt.alloc(), schedule);
+        same(&rt, tried, Ok(()));
     }
 }
