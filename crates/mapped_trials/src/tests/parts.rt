@@ -8,6 +8,7 @@ use super::{mutex_alone, rwlock_alone, same};
 use crate::{Entry, Slot};
 use indexmap::IndexMap;
 use parking_lot::{Mutex, Project, RwLock, Token};
+use projections::{Mapped, Shows, ShowsMut};
 use std::alloc::{AllocError, Global};
 use std::process::Abort;
 use std::sync::Wait;
@@ -57,7 +58,7 @@ fn moved<R: Wait>(rt: &R, mutex: &Mutex<Point>, token: &mut Token) -> (u32, u32)
     requires { IsTokenOf (lot_of mutex.now) token.old }
 {
     let mut part = mutex.lock(rt, token).map(TheX);
-    *part = *part + 4;
+    *part = part.wrapping_add(4);
     part.unlock(rt, token);
     mutex.with(rt, token, |point: &mut Point| (point.x, point.y))
 }
@@ -66,6 +67,32 @@ fn moved<R: Wait>(rt: &R, mutex: &Mutex<Point>, token: &mut Token) -> (u32, u32)
 fn a_part_is_written_and_the_rest_stays(rt: HostRuntime) {
     let (mutex, mut token) = mutex_alone(&rt, rt.alloc(), Point { x: 3, y: 5 });
     same(&rt, moved(&rt, &mutex, &mut token), (7, 5));
+}
+
+// A guard that has its value itself, as a look by a borrowed key is not covered under a lock's guard.
+#[derive(Drop)]
+struct Whole<T> {
+    value: T,
+}
+
+impl<T> Shows for Whole<T> {
+    type Value = T;
+
+    ghost shown = { λ guard. guard.value };
+
+    ghost written = { λ guard value. record guard { value = value } };
+
+    ghost shows_written = { λ _ _. refl };
+
+    fn show(&self) -> &T {
+        &self.value
+    }
+}
+
+impl<T> ShowsMut for Whole<T> {
+    fn show_mut(&mut self) -> &mut T {
+        &mut self.value
+    }
 }
 
 type Words = IndexMap<&'static str, &'static str>;
@@ -79,64 +106,66 @@ fn words(alloc: Global) -> Result<Words, AllocError> {
 }
 
 // A look for a key that isn't there gives the guard back, with the error that was asked for.
-fn missed<R: Wait>(rt: &R, mutex: &Mutex<Words>, token: &mut Token) -> (u64, Option<&'static str>)
-    requires { IsTokenOf (lot_of mutex.now) token.old }
-    ensures { IsTokenOf (lot_of mutex.now) token.new }
-{
+fn refused<A: Abort>(rt: &A, guard: Whole<Words>) -> Whole<Words> {
     let missing = Entry {
         key: &"hello2",
         missing: 12345u64,
     };
-    match mutex.lock(rt, token).try_map_or_err(missing) {
-        Ok(part) => {
-            part.unlock(rt, token);
-            (0, None)
+    match Mapped::try_new(guard, missing) {
+        Ok(mapped) => {
+            same(rt, true, false);
+            mapped.into_guard()
         }
         Err((guard, why)) => {
-            let whole = guard.get(&"hello").copied();
-            guard.unlock(rt, token);
-            (why, whole)
+            same(rt, why, 12345);
+            guard
         }
     }
 }
 
-// One for a key that is there gives a guard of its value, by which that is written.
-fn found<R: Wait>(rt: &R, mutex: &Mutex<Words>, token: &mut Token) -> Option<&'static str>
-    requires { IsTokenOf (lot_of mutex.now) token.old }
-    ensures { IsTokenOf (lot_of mutex.now) token.new }
-{
+// One for a key that is there gives a guard of its value.
+fn found<A: Abort>(rt: &A, guard: Whole<Words>) -> Whole<Words> {
     let there = Entry {
         key: &"hello",
         missing: 12345u64,
     };
-    match mutex.lock(rt, token).try_map_or_err(there) {
-        Ok(mut part) => {
-            let before = *part;
-            *part = "moon";
-            part.unlock_fair(rt, token);
-            Some(before)
+    match Mapped::try_new(guard, there) {
+        Ok(mapped) => {
+            same(rt, *mapped, "world");
+            mapped.into_guard()
         }
         Err((guard, _)) => {
-            guard.unlock(rt, token);
-            None
+            same(rt, true, false);
+            guard
         }
     }
 }
 
 #[test]
-fn a_missing_entry_gives_the_guard_back(rt: HostRuntime) -> Result<(), AllocError> {
-    let (mutex, mut token) = mutex_alone(&rt, rt.alloc(), words(rt.alloc())?);
-    let seen = missed(&rt, &mutex, &mut token);
-    same(&rt, seen, (12345, Some("world")));
+fn a_refusal_gives_the_guard_back(rt: HostRuntime) -> Result<(), AllocError> {
+    let guard = Whole {
+        value: words(rt.alloc())?,
+    };
+    let guard = refused(&rt, guard);
+    same(&rt, guard.show().get(&"hello").copied(), Some("world"));
+    drop(found(&rt, guard));
     Ok(())
 }
 
 #[test]
-fn an_entry_is_written_under_its_mutex(rt: HostRuntime) -> Result<(), AllocError> {
-    let (mutex, mut token) = mutex_alone(&rt, rt.alloc(), words(rt.alloc())?);
-    let seen = found(&rt, &mutex, &mut token);
-    same(&rt, seen, Some("world"));
-    same(&rt, mutex.into_inner().get(&"hello").copied(), Some("moon"));
+fn a_write_is_seen_through_the_whole(rt: HostRuntime) -> Result<(), AllocError> {
+    let guard = Whole {
+        value: words(rt.alloc())?,
+    };
+    let there = Entry {
+        key: &"hello",
+        missing: 12345,
+    };
+    if let Ok(mut mapped) = Mapped::try_new(guard, there) {
+        *mapped = "moon";
+        let guard = mapped.into_guard();
+        same(&rt, guard.show().get(&"hello").copied(), Some("moon"));
+    }
     Ok(())
 }
 
@@ -151,49 +180,40 @@ fn lists(alloc: Global) -> Result<Lists, AllocError> {
     }
 }
 
-// A further look that is refused gives the mapped guard back, with its own error.
-fn looked_further<R: Wait>(
-    rt: &R,
-    mutex: &Mutex<Lists>,
-    token: &mut Token,
-    at: usize,
-) -> Option<Result<u32, (u64, usize)>>
-    requires { IsTokenOf (lot_of mutex.now) token.old }
-    ensures { IsTokenOf (lot_of mutex.now) token.new }
-{
-    let there = Entry {
-        key: &"hello",
-        missing: 12345u64,
+// A further look that is refused gives the mapped guard back.
+fn looked_further<A: Abort>(
+    rt: &A,
+    mapped: Mapped<Whole<Lists>, Entry<&&'static str, u64>>,
+) -> Whole<Lists> {
+    let further = Slot {
+        at: 9,
+        missing: 45678,
     };
-    match mutex.lock(rt, token).try_map_or_err(there) {
-        Ok(list) => match list.try_map_or_err(Slot { at, missing: 45678 }) {
-            Ok(slot) => {
-                let seen = *slot;
-                slot.unlock(rt, token);
-                Some(Ok(seen))
-            }
-            Err((list, why)) => {
-                let length = list.len();
-                list.unlock(rt, token);
-                Some(Err((why, length)))
-            }
-        },
-        Err((guard, _)) => {
-            guard.unlock(rt, token);
-            None
+    match mapped.try_map_or_err(further) {
+        Ok(deeper) => {
+            same(rt, true, false);
+            deeper.into_guard()
+        }
+        Err((mapped, why)) => {
+            same(rt, why, 45678);
+            same(rt, mapped.len(), 2);
+            mapped.into_guard()
         }
     }
 }
 
 #[test]
-fn a_second_look_that_is_refused_gives_the_mapped_guard_back(
-    rt: HostRuntime,
-) -> Result<(), AllocError> {
-    let (mutex, mut token) = mutex_alone(&rt, rt.alloc(), lists(rt.alloc())?);
-    let refused = looked_further(&rt, &mutex, &mut token, 9);
-    same(&rt, refused, Some(Err((45678, 2))));
-    let seen = looked_further(&rt, &mutex, &mut token, 1);
-    same(&rt, seen, Some(Ok(7)));
+fn a_refused_look_further_gives_the_mapped_guard_back(rt: HostRuntime) -> Result<(), AllocError> {
+    let guard = Whole {
+        value: lists(rt.alloc())?,
+    };
+    let there = Entry {
+        key: &"hello",
+        missing: 12345u64,
+    };
+    if let Ok(mapped) = Mapped::try_new(guard, there) {
+        drop(looked_further(&rt, mapped));
+    }
     Ok(())
 }
 
