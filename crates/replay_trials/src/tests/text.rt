@@ -118,7 +118,7 @@ const MALFORMED: &[&str] = &[
     "show m",
     "shown",
     "sho",
-    "drain",
+    "drain m",
 ];
 
 /// Lines that begin a call, and lines that do one.
