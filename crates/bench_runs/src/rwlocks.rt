@@ -72,27 +72,6 @@ pub(crate) fn write_raw<L: RawLock, R: Wait>(rt: &R, lock: &L, token: &mut L::To
     }
 }
 
-#[inline(always)]
-fn read_once<L: RawLock, R: Wait>(rt: &R, lock: &lock_api_rw::RwLock<L, u64>, token: &mut L::Token)
-    requires { L.is_token_of (L.lot_of lock.now) token.old }
-    ensures { L.is_token_of (L.lot_of lock.now) token.new }
-{
-    if let Ok(guard) = lock.read(rt, token) {
-        let _value = *guard;
-        guard.unlock(rt, token);
-    }
-}
-
-#[inline(always)]
-fn write_once<L: RawLock, R: Wait>(rt: &R, lock: &lock_api_rw::RwLock<L, u64>, token: &mut L::Token)
-    requires { L.is_token_of (L.lot_of lock.now) token.old }
-    ensures { L.is_token_of (L.lot_of lock.now) token.new }
-{
-    let mut guard = lock.write(rt, token);
-    *guard = guard.wrapping_add(1);
-    guard.unlock(rt, token);
-}
-
 /// Reads the value.
 #[inline(never)]
 pub(crate) fn read_value<L: RawLock, R: Wait>(
@@ -105,7 +84,10 @@ pub(crate) fn read_value<L: RawLock, R: Wait>(
     ensures { L.is_token_of (L.lot_of lock.now) token.new }
 {
     for _ in 0..times {
-        read_once(rt, lock, token);
+        if let Ok(guard) = lock.read(rt, token) {
+            let _value = *guard;
+            guard.unlock(rt, token);
+        }
     }
 }
 
@@ -121,7 +103,9 @@ pub(crate) fn write_value<L: RawLock, R: Wait>(
     ensures { L.is_token_of (L.lot_of lock.now) token.new }
 {
     for _ in 0..times {
-        write_once(rt, lock, token);
+        let mut guard = lock.write(rt, token);
+        *guard = guard.wrapping_add(1);
+        guard.unlock(rt, token);
     }
 }
 
@@ -138,9 +122,12 @@ pub(crate) fn mix_value<L: RawLock, R: Wait>(
 {
     for turn in 0..times {
         if turn % ONE_IN == 0 {
-            write_once(rt, lock, token);
-        } else {
-            read_once(rt, lock, token);
+            let mut guard = lock.write(rt, token);
+            *guard = guard.wrapping_add(1);
+            guard.unlock(rt, token);
+        } else if let Ok(guard) = lock.read(rt, token) {
+            let _value = *guard;
+            guard.unlock(rt, token);
         }
     }
 }

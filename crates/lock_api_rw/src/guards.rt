@@ -19,6 +19,7 @@ use lock_raw::{
     RawRwLockUpgradeTimed,
 };
 use lot_base::Clock;
+use lot_calls::Access;
 use lot_place::{Open, Seen};
 use std::sync::Wait;
 use std::time::Duration;
@@ -54,7 +55,9 @@ impl<'a, R: RawRwLock, T> Held<Reading<'a, R, T>, Seen<'a, T>> {
         ensures record { R.woke (lock_of self.entry) (Release access.Shared) token.old token.new }
     {
         let (lock, raw) = self.close_shared();
-        lock.raw().unlock_shared(rt, token, raw);
+        if let Some(rest) = lock.raw().begin_unlock_shared(token, raw) {
+            lock.raw().unlock_behind(rt, token, Access::Shared, rest);
+        }
     }
 }
 
@@ -80,7 +83,10 @@ impl<'a, R: RawRwLockUpgrade, T> Held<Upgrading<'a, R, T>, Seen<'a, T>> {
             (Release access.Upgradable) token.old token.new }
     {
         let (lock, raw) = self.close_upgradable();
-        lock.raw().unlock_upgradable(rt, token, raw);
+        if let Some(rest) = lock.raw().begin_unlock_upgradable(token, raw) {
+            lock.raw()
+                .unlock_behind(rt, token, Access::Upgradable, rest);
+        }
     }
 
     /// One thread at a time has this right: nobody ever has two such guards, so this can't be
@@ -246,7 +252,9 @@ impl<'a, R: RawRwLock, T> Held<Writing<'a, R, T>, Open<'a, T>> {
             (Release access.Exclusive) token.old token.new }
     {
         let (lock, raw) = self.close_exclusive();
-        lock.raw().unlock_exclusive(rt, token, raw);
+        if let Some(rest) = lock.raw().begin_unlock_exclusive(token, raw) {
+            lock.raw().unlock_behind(rt, token, Access::Exclusive, rest);
+        }
     }
 
     /// Two guards that may write exclude each other: nobody ever has both, so this can't be called.

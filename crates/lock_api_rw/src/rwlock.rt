@@ -149,7 +149,11 @@ impl<R: RawRwLock, T> RwLock<R, T> {
             (reading_answer result) token.old token.new }
         ensures full { IfErr result (λ _. R.saw_full self.now access.Shared token.old token.new) }
     {
-        match self.raw.lock_shared(rt, token) {
+        let entered = match self.raw.begin_lock_shared(token) {
+            Ok(entered) => entered,
+            Err(rest) => self.raw.lock_shared_behind(rt, token, rest),
+        };
+        match entered {
             Ok(raw) => Ok(self.open_shared(raw)),
             Err(fault) => Err(fault),
         }
@@ -189,7 +193,10 @@ impl<R: RawRwLock, T> RwLock<R, T> {
         ensures path { R.walked self.now
             (Enter access.Exclusive Patient) answers.Ok token.old token.new }
     {
-        let raw = self.raw.lock_exclusive(rt, token);
+        let raw = match self.raw.begin_lock_exclusive(token) {
+            Ok(raw) => raw,
+            Err(rest) => self.raw.lock_exclusive_behind(rt, token, rest),
+        };
         self.open_exclusive(raw)
     }
 
@@ -262,7 +269,11 @@ impl<R: RawRwLockUpgrade, T> RwLock<R, T> {
         ensures full { IfErr result
             (λ _. R.saw_full self.now access.Upgradable token.old token.new) }
     {
-        match self.raw.lock_upgradable(rt, token) {
+        let entered = match self.raw.begin_lock_upgradable(token) {
+            Ok(entered) => entered,
+            Err(rest) => self.raw.lock_upgradable_behind(rt, token, rest),
+        };
+        match entered {
             Ok(raw) => Ok(self.open_upgradable(raw)),
             Err(fault) => Err(fault),
         }

@@ -16,6 +16,7 @@ ghost use Rattle.lot_words.specs.declared.views.View.{View};
 ghost use Rattle.lock_raw.specs.Answers.{IsFull, IsRefusal, TriesOrFull, answer_by, counted_answer, reading_answer, upgrade_answer};
 
 use lot_base::{Clock, Fault};
+use lot_calls::Access;
 use lot_place::{Open, Place, Seen};
 use std::sync::{Arc, Wait};
 use std::time::Duration;
@@ -31,6 +32,8 @@ pub trait RawRwLock {
     type SharedGuard;
     /// The right of who has the lock alone. It borrows nothing.
     type ExclusiveGuard;
+    /// What the first half of a call leaves to the second one.
+    type Rest;
 
     // The lot of a lock.
     ghost lot_of: { Self → Self.Lot };
@@ -73,6 +76,8 @@ pub trait RawRwLock {
     // Between them it gave a right up by this call, and took those whom that lets in where it saw
     // that somebody waits.
     ghost woke: { Self → RwLockCall → Self.Token → Self.Token → Type 0 };
+    // Between them it took the first steps of this call, which leave it this to do.
+    ghost begun: { Self → RwLockCall → Self.Rest → Self.Token → Self.Token → Type 0 };
     // Between them it took one step, which saw that somebody has the lock, or not.
     ghost looked: { Self → Bool → Self.Token → Self.Token → Type 0 };
     // The same, of who has it alone.
@@ -184,6 +189,136 @@ pub trait RawRwLock {
         ensures token { is_token_of (lot_of self.now) token.new × stays token.old token.new }
         ensures path { walked self.now (Release access.Exclusive) answers.Ok token.old token.new }
         ensures record { woke self.now (Release access.Exclusive) token.old token.new };
+
+    /// Takes the first steps of `lock_shared`, which are all of it where the thread meets nobody.
+    ///
+    /// # Errors
+    ///
+    /// What is left of the call, for `lock_shared_behind`.
+    fn begin_lock_shared(
+        &self,
+        token: &mut Self::Token,
+    ) -> Result<Result<Self::SharedGuard, Fault>, Self::Rest>
+        requires { is_token_of (lot_of self.now) token.old }
+        ensures token { is_token_of (lot_of self.now) token.new }
+        ensures over { IfOk result
+            (λ entered. stays token.old token.new
+            × MatchResult entered (is_shared_of self.now) IsFull
+            × walked self.now (Enter access.Shared Patient) (reading_answer entered)
+            token.old token.new
+            × IfErr entered (λ _. saw_full self.now access.Shared token.old token.new)) }
+        ensures begun { IfErr result
+            (λ rest. begun self.now (Enter access.Shared Patient) rest token.old token.new) };
+
+    /// Ends a `lock_shared` of which this is left.
+    ///
+    /// # Errors
+    ///
+    /// `ReadersFull`, where as many share the lock as may.
+    fn lock_shared_behind<R: Wait>(
+        &self,
+        rt: &R,
+        token: &mut Self::Token,
+        rest: Self::Rest,
+    ) -> Result<Self::SharedGuard, Fault>
+        requires token { is_token_of (lot_of self.now) token.old }
+        requires begun { (before : Self.Token)
+            × begun self.now (Enter access.Shared Patient) rest before token.old }
+        ensures token { is_token_of (lot_of self.now) token.new }
+        ensures guard { MatchResult result (is_shared_of self.now) IsFull }
+        ensures over { (before : Self.Token)
+            → begun self.now (Enter access.Shared Patient) rest before token.old
+            → stays before token.new
+            × walked self.now (Enter access.Shared Patient) (reading_answer result)
+            before token.new
+            × IfErr result (λ _. saw_full self.now access.Shared before token.new) };
+
+    /// Takes the first step of `lock_exclusive`, which is all of it where nobody has the lock.
+    ///
+    /// # Errors
+    ///
+    /// What is left of the call, for `lock_exclusive_behind`.
+    fn begin_lock_exclusive(
+        &self,
+        token: &mut Self::Token,
+    ) -> Result<Self::ExclusiveGuard, Self::Rest>
+        requires { is_token_of (lot_of self.now) token.old }
+        ensures token { is_token_of (lot_of self.now) token.new }
+        ensures over { IfOk result
+            (λ guard. stays token.old token.new
+            × walked self.now (Enter access.Exclusive Patient) answers.Ok token.old token.new
+            × is_exclusive_of self.now guard) }
+        ensures begun { IfErr result
+            (λ rest. begun self.now (Enter access.Exclusive Patient) rest token.old token.new) };
+
+    /// Ends a `lock_exclusive` of which this is left.
+    fn lock_exclusive_behind<R: Wait>(
+        &self,
+        rt: &R,
+        token: &mut Self::Token,
+        rest: Self::Rest,
+    ) -> Self::ExclusiveGuard
+        requires token { is_token_of (lot_of self.now) token.old }
+        requires begun { (before : Self.Token)
+            × begun self.now (Enter access.Exclusive Patient) rest before token.old }
+        ensures token { is_token_of (lot_of self.now) token.new }
+        ensures guard { is_exclusive_of self.now result }
+        ensures over { (before : Self.Token)
+            → begun self.now (Enter access.Exclusive Patient) rest before token.old
+            → stays before token.new
+            × walked self.now (Enter access.Exclusive Patient) answers.Ok before token.new };
+
+    /// Takes the first steps of `unlock_shared`, which are all of it where it wakes nobody up.
+    /// Spends the guard, and answers what is left, for `unlock_behind`.
+    fn begin_unlock_shared(
+        &self,
+        token: &mut Self::Token,
+        guard: Self::SharedGuard,
+    ) -> Option<Self::Rest>
+        requires token { is_token_of (lot_of self.now) token.old }
+        requires guard { is_shared_of self.now guard }
+        ensures token { is_token_of (lot_of self.now) token.new }
+        ensures over { IfNone result
+            (stays token.old token.new
+            × walked self.now (Release access.Shared) answers.Ok token.old token.new
+            × woke self.now (Release access.Shared) token.old token.new) }
+        ensures begun { IfSome result
+            (λ rest. begun self.now (Release access.Shared) rest token.old token.new) };
+
+    /// Takes the first steps of `unlock_exclusive`, which are all of it where it wakes nobody up.
+    /// Spends the guard, and answers what is left, for `unlock_behind`.
+    fn begin_unlock_exclusive(
+        &self,
+        token: &mut Self::Token,
+        guard: Self::ExclusiveGuard,
+    ) -> Option<Self::Rest>
+        requires token { is_token_of (lot_of self.now) token.old }
+        requires guard { is_exclusive_of self.now guard }
+        ensures token { is_token_of (lot_of self.now) token.new }
+        ensures over { IfNone result
+            (stays token.old token.new
+            × walked self.now (Release access.Exclusive) answers.Ok token.old token.new
+            × woke self.now (Release access.Exclusive) token.old token.new) }
+        ensures begun { IfSome result
+            (λ rest. begun self.now (Release access.Exclusive) rest token.old token.new) };
+
+    /// Ends an unlock from this right of which this is left.
+    fn unlock_behind<R: Wait>(
+        &self,
+        rt: &R,
+        token: &mut Self::Token,
+        access: Access,
+        rest: Self::Rest,
+    )
+        requires token { is_token_of (lot_of self.now) token.old }
+        requires begun { (before : Self.Token)
+            × begun self.now (Release access) rest before token.old }
+        ensures token { is_token_of (lot_of self.now) token.new }
+        ensures over { (before : Self.Token)
+            → begun self.now (Release access) rest before token.old
+            → stays before token.new
+            × walked self.now (Release access) answers.Ok before token.new
+            × woke self.now (Release access) before token.new };
 
     /// Whether somebody has the lock, or a writer waits for its last readers.
     fn is_locked(&self, token: &mut Self::Token) -> bool
@@ -423,6 +558,67 @@ pub trait RawRwLockUpgrade: RawRwLock {
         ensures path { Self.walked self.now
             (Release access.Upgradable) answers.Ok token.old token.new }
         ensures record { Self.woke self.now (Release access.Upgradable) token.old token.new };
+
+    /// Takes the first steps of `lock_upgradable`, which are all of it where the thread meets nobody.
+    ///
+    /// # Errors
+    ///
+    /// What is left of the call, for `lock_upgradable_behind`.
+    fn begin_lock_upgradable(
+        &self,
+        token: &mut Self::Token,
+    ) -> Result<Result<Self::UpgradableGuard, Fault>, Self::Rest>
+        requires { Self.is_token_of (Self.lot_of self.now) token.old }
+        ensures token { Self.is_token_of (Self.lot_of self.now) token.new }
+        ensures over { IfOk result
+            (λ entered. Self.stays token.old token.new
+            × MatchResult entered (is_upgradable_of self.now) IsFull
+            × Self.walked self.now (Enter access.Upgradable Patient) (reading_answer entered)
+            token.old token.new
+            × IfErr entered (λ _. Self.saw_full self.now access.Upgradable token.old token.new)) }
+        ensures begun { IfErr result
+            (λ rest. Self.begun self.now (Enter access.Upgradable Patient) rest
+            token.old token.new) };
+
+    /// Ends a `lock_upgradable` of which this is left.
+    ///
+    /// # Errors
+    ///
+    /// `ReadersFull`, where as many share the lock as may.
+    fn lock_upgradable_behind<R: Wait>(
+        &self,
+        rt: &R,
+        token: &mut Self::Token,
+        rest: Self::Rest,
+    ) -> Result<Self::UpgradableGuard, Fault>
+        requires token { Self.is_token_of (Self.lot_of self.now) token.old }
+        requires begun { (before : Self.Token)
+            × Self.begun self.now (Enter access.Upgradable Patient) rest before token.old }
+        ensures token { Self.is_token_of (Self.lot_of self.now) token.new }
+        ensures guard { MatchResult result (is_upgradable_of self.now) IsFull }
+        ensures over { (before : Self.Token)
+            → Self.begun self.now (Enter access.Upgradable Patient) rest before token.old
+            → Self.stays before token.new
+            × Self.walked self.now (Enter access.Upgradable Patient) (reading_answer result)
+            before token.new
+            × IfErr result (λ _. Self.saw_full self.now access.Upgradable before token.new) };
+
+    /// Takes the first steps of `unlock_upgradable`, which are all of it where it wakes nobody up.
+    /// Spends the guard, and answers what is left, for `unlock_behind`.
+    fn begin_unlock_upgradable(
+        &self,
+        token: &mut Self::Token,
+        guard: Self::UpgradableGuard,
+    ) -> Option<Self::Rest>
+        requires token { Self.is_token_of (Self.lot_of self.now) token.old }
+        requires guard { is_upgradable_of self.now guard }
+        ensures token { Self.is_token_of (Self.lot_of self.now) token.new }
+        ensures over { IfNone result
+            (Self.stays token.old token.new
+            × Self.walked self.now (Release access.Upgradable) answers.Ok token.old token.new
+            × Self.woke self.now (Release access.Upgradable) token.old token.new) }
+        ensures begun { IfSome result
+            (λ rest. Self.begun self.now (Release access.Upgradable) rest token.old token.new) };
 
     /// Turns the right into that of who has the lock alone: further readers are kept out, and the
     /// others are waited for.

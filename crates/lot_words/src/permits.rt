@@ -398,7 +398,7 @@ impl LotWords {
             self.go_on(seat, owner);
             return Ok(LOCKED);
         }
-        if locked == 0 {
+        if is_no_step(locked) {
             return Err(self.open(owner, word));
         }
         self.go_on_as(seat, owner);

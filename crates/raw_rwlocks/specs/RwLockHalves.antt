@@ -5,6 +5,8 @@ use Rattle.lot_base.specs.declared.faults.Fault.{Fault}
 use Rattle.lot_base.specs.declared.faults.Fault.TheVariants.{ReadersFull}
 use Rattle.lot_calls.specs.declared.calls.Access.{Access}
 use Rattle.lot_calls.specs.declared.calls.Patience.{Patience}
+use Rattle.lot_calls.specs.declared.calls.RwLockCall.{RwLockCall}
+use Rattle.lot_calls.specs.declared.calls.RwLockCall.TheVariants as calls
 use Rattle.lot_calls.specs.declared.outcomes.Answer.TheVariants.{Ok as ok}
 use Rattle.lot_driver.specs.Paths.{rwlock_at}
 use Rattle.lot_driver.specs.RwLockCalls.{HasWalkedRwLock, IsRwLockRight, StaysBeside, WakesBy, entry_answer}
@@ -44,6 +46,16 @@ HasBegunRelease lock x rest old new = (joined : Token) × (joined.number ≡ old
     × (view_of joined ≡ takes_in (view_of old)
     (piece (owning (rwlock_at (word_in lock).number) (owner_for (wanted x)))))
     × HasBegun (word_in lock) (admission_in lock) (Release x) rest joined new
+
+-- a call of the world's language has begun, of those that go by halves
+abbrev pub HasBegunCall : LotRwLock → RwLockCall → Rest → Token → Token → Type 0
+HasBegunCall lock (calls.Enter x how) rest old new =
+    HasBegun (word_in lock) (admission_in lock) (Enter x how) rest old new
+HasBegunCall lock (calls.Release x) rest old new = HasBegunRelease lock x rest old new
+HasBegunCall lock (calls.ReleaseFair x) rest old new = ⊥
+HasBegunCall lock (calls.Downgrade d) rest old new = ⊥
+HasBegunCall lock (calls.Upgrade how) rest old new = ⊥
+HasBegunCall lock (calls.Bump x) rest old new = ⊥
 
 -- a release is over
 abbrev pub HasReleased : LotRwLock → Access → Token → Token → Type 0

@@ -17,6 +17,9 @@ word_in lock = lock.word
 abbrev pub admission_in : LotRwLock → Admission
 admission_in lock = lock.admission
 
+abbrev pub lock_in : {recursive : ℕ} → RawRwLock recursive → LotRwLock
+lock_in lock = lock.lock
+
 abbrev pub lot_of : {recursive : ℕ} → RawRwLock recursive → ParkingLot
 lot_of lock = lot_in lock.lock
 

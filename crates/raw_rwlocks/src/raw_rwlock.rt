@@ -19,6 +19,7 @@ use lot_calls::{Access, Downgrade, Patience};
 use lot_driver::driver::FOR_EVER;
 use lot_place::{Open, Place, Seen, calls};
 use parking_lot_core::{Fault, Key, ParkingLot, Token, Want};
+use rwlock_driver::calls::Rest;
 use std::sync::{Arc, Wait};
 
 // So many may share a lock for which nothing else is chosen.
@@ -53,7 +54,8 @@ impl<const RECURSIVE: bool> RawRwLock<RECURSIVE> {
 }
 
 impl<const RECURSIVE: bool> lock_raw::RawRwLock for RawRwLock<RECURSIVE> {
-    ghost use Rattle.raw_rwlocks.specs.RwLockUsers.{admission_of, lot_of as lot_at, word_of as word_at};
+    ghost use Rattle.raw_rwlocks.specs.RwLockHalves.{HasBegunCall};
+    ghost use Rattle.raw_rwlocks.specs.RwLockUsers.{admission_of, lock_in, lot_of as lot_at, word_of as word_at};
 
     type Lot = ParkingLot;
 
@@ -62,6 +64,8 @@ impl<const RECURSIVE: bool> lock_raw::RawRwLock for RawRwLock<RECURSIVE> {
     type SharedGuard = RawSharedGuard;
 
     type ExclusiveGuard = RawExclusiveGuard;
+
+    type Rest = Rest;
 
     ghost lot_of = { lot_at };
 
@@ -98,6 +102,8 @@ impl<const RECURSIVE: bool> lock_raw::RawRwLock for RawRwLock<RECURSIVE> {
 
     ghost woke = { λ lock call old new. WakesByCall (word_at lock).number
         (admission_of lock) call old new };
+
+    ghost begun = { λ lock call rest old new. HasBegunCall (lock_in lock) call rest old new };
 
     ghost looked = { λ lock held old new. SeesBy is_held (word_at lock).number held old new };
 
@@ -147,16 +153,10 @@ impl<const RECURSIVE: bool> lock_raw::RawRwLock for RawRwLock<RECURSIVE> {
 
     #[inline(always)]
     fn lock_shared<R: Wait>(&self, rt: &R, token: &mut Token) -> Result<RawSharedGuard, Fault> {
-        let (lock, access, patience) = (&self.lock, Access::Shared, Patience::Patient);
-        match lock.enter_fast(token, FOR_EVER, access, patience) {
-            Ok(Ok(Some(right))) => Ok(RawSharedGuard { right }),
-            Ok(Ok(None)) => unreachable!(),
+        match self.begin_lock_shared(token) {
+            Ok(Ok(guard)) => Ok(guard),
             Ok(Err(fault)) => Err(fault),
-            Err(rest) => match lock.enter_slow(rt, token, FOR_EVER, access, patience, rest) {
-                Ok(Some(right)) => Ok(RawSharedGuard { right }),
-                Ok(None) => unreachable!(),
-                Err(fault) => Err(fault),
-            },
+            Err(rest) => self.lock_shared_behind(rt, token, rest),
         }
     }
 
@@ -178,22 +178,16 @@ impl<const RECURSIVE: bool> lock_raw::RawRwLock for RawRwLock<RECURSIVE> {
 
     #[inline]
     fn unlock_shared<R: Wait>(&self, rt: &R, token: &mut Token, guard: RawSharedGuard) {
-        let RawSharedGuard { right } = guard;
-        if let Some(rest) = self.lock.release_fast(token, Access::Shared, right) {
-            self.lock.release_slow(rt, token, Access::Shared, rest);
+        if let Some(rest) = self.begin_unlock_shared(token, guard) {
+            self.unlock_behind(rt, token, Access::Shared, rest);
         }
     }
 
     #[inline]
     fn lock_exclusive<R: Wait>(&self, rt: &R, token: &mut Token) -> RawExclusiveGuard {
-        let (lock, access, patience) = (&self.lock, Access::Exclusive, Patience::Patient);
-        match lock.enter_fast(token, FOR_EVER, access, patience) {
-            Ok(Ok(Some(right))) => RawExclusiveGuard { right },
-            Ok(Ok(None) | Err(_)) => unreachable!(),
-            Err(rest) => match lock.enter_slow(rt, token, FOR_EVER, access, patience, rest) {
-                Ok(Some(right)) => RawExclusiveGuard { right },
-                Ok(None) | Err(_) => unreachable!(),
-            },
+        match self.begin_lock_exclusive(token) {
+            Ok(guard) => guard,
+            Err(rest) => self.lock_exclusive_behind(rt, token, rest),
         }
     }
 
@@ -205,10 +199,86 @@ impl<const RECURSIVE: bool> lock_raw::RawRwLock for RawRwLock<RECURSIVE> {
 
     #[inline]
     fn unlock_exclusive<R: Wait>(&self, rt: &R, token: &mut Token, guard: RawExclusiveGuard) {
-        let RawExclusiveGuard { right } = guard;
-        if let Some(rest) = self.lock.release_fast(token, Access::Exclusive, right) {
-            self.lock.release_slow(rt, token, Access::Exclusive, rest);
+        if let Some(rest) = self.begin_unlock_exclusive(token, guard) {
+            self.unlock_behind(rt, token, Access::Exclusive, rest);
         }
+    }
+
+    #[inline(always)]
+    fn begin_lock_shared(&self, token: &mut Token) -> Result<Result<RawSharedGuard, Fault>, Rest> {
+        match self
+            .lock
+            .enter_fast(token, FOR_EVER, Access::Shared, Patience::Patient)
+        {
+            Ok(Ok(Some(right))) => Ok(Ok(RawSharedGuard { right })),
+            Ok(Ok(None)) => unreachable!(),
+            Ok(Err(fault)) => Ok(Err(fault)),
+            Err(rest) => Err(rest),
+        }
+    }
+
+    #[inline(always)]
+    fn lock_shared_behind<R: Wait>(
+        &self,
+        rt: &R,
+        token: &mut Token,
+        rest: Rest,
+    ) -> Result<RawSharedGuard, Fault> {
+        let (access, patience) = (Access::Shared, Patience::Patient);
+        match self
+            .lock
+            .enter_slow(rt, token, FOR_EVER, access, patience, rest)
+        {
+            Ok(Some(right)) => Ok(RawSharedGuard { right }),
+            Ok(None) => unreachable!(),
+            Err(fault) => Err(fault),
+        }
+    }
+
+    #[inline(always)]
+    fn begin_lock_exclusive(&self, token: &mut Token) -> Result<RawExclusiveGuard, Rest> {
+        match self
+            .lock
+            .enter_fast(token, FOR_EVER, Access::Exclusive, Patience::Patient)
+        {
+            Ok(Ok(Some(right))) => Ok(RawExclusiveGuard { right }),
+            Ok(Ok(None) | Err(_)) => unreachable!(),
+            Err(rest) => Err(rest),
+        }
+    }
+
+    #[inline(always)]
+    fn lock_exclusive_behind<R: Wait>(
+        &self,
+        rt: &R,
+        token: &mut Token,
+        rest: Rest,
+    ) -> RawExclusiveGuard {
+        let (access, patience) = (Access::Exclusive, Patience::Patient);
+        match self
+            .lock
+            .enter_slow(rt, token, FOR_EVER, access, patience, rest)
+        {
+            Ok(Some(right)) => RawExclusiveGuard { right },
+            Ok(None) | Err(_) => unreachable!(),
+        }
+    }
+
+    #[inline(always)]
+    fn begin_unlock_shared(&self, token: &mut Token, guard: RawSharedGuard) -> Option<Rest> {
+        let RawSharedGuard { right } = guard;
+        self.lock.release_fast(token, Access::Shared, right)
+    }
+
+    #[inline(always)]
+    fn begin_unlock_exclusive(&self, token: &mut Token, guard: RawExclusiveGuard) -> Option<Rest> {
+        let RawExclusiveGuard { right } = guard;
+        self.lock.release_fast(token, Access::Exclusive, right)
+    }
+
+    #[inline(always)]
+    fn unlock_behind<R: Wait>(&self, rt: &R, token: &mut Token, access: Access, rest: Rest) {
+        self.lock.release_slow(rt, token, access, rest);
     }
 
     #[inline]
@@ -305,16 +375,10 @@ impl<const RECURSIVE: bool> lock_raw::RawRwLockUpgrade for RawRwLock<RECURSIVE> 
         rt: &R,
         token: &mut Token,
     ) -> Result<RawUpgradableGuard, Fault> {
-        let (lock, access, patience) = (&self.lock, Access::Upgradable, Patience::Patient);
-        match lock.enter_fast(token, FOR_EVER, access, patience) {
-            Ok(Ok(Some(right))) => Ok(RawUpgradableGuard { right }),
-            Ok(Ok(None)) => unreachable!(),
+        match self.begin_lock_upgradable(token) {
+            Ok(Ok(guard)) => Ok(guard),
             Ok(Err(fault)) => Err(fault),
-            Err(rest) => match lock.enter_slow(rt, token, FOR_EVER, access, patience, rest) {
-                Ok(Some(right)) => Ok(RawUpgradableGuard { right }),
-                Ok(None) => unreachable!(),
-                Err(fault) => Err(fault),
-            },
+            Err(rest) => self.lock_upgradable_behind(rt, token, rest),
         }
     }
 
@@ -336,10 +400,53 @@ impl<const RECURSIVE: bool> lock_raw::RawRwLockUpgrade for RawRwLock<RECURSIVE> 
 
     #[inline]
     fn unlock_upgradable<R: Wait>(&self, rt: &R, token: &mut Token, guard: RawUpgradableGuard) {
-        let RawUpgradableGuard { right } = guard;
-        if let Some(rest) = self.lock.release_fast(token, Access::Upgradable, right) {
+        if let Some(rest) = self.begin_unlock_upgradable(token, guard) {
             self.lock.release_slow(rt, token, Access::Upgradable, rest);
         }
+    }
+
+    #[inline(always)]
+    fn begin_lock_upgradable(
+        &self,
+        token: &mut Token,
+    ) -> Result<Result<RawUpgradableGuard, Fault>, Rest> {
+        match self
+            .lock
+            .enter_fast(token, FOR_EVER, Access::Upgradable, Patience::Patient)
+        {
+            Ok(Ok(Some(right))) => Ok(Ok(RawUpgradableGuard { right })),
+            Ok(Ok(None)) => unreachable!(),
+            Ok(Err(fault)) => Ok(Err(fault)),
+            Err(rest) => Err(rest),
+        }
+    }
+
+    #[inline(always)]
+    fn lock_upgradable_behind<R: Wait>(
+        &self,
+        rt: &R,
+        token: &mut Token,
+        rest: Rest,
+    ) -> Result<RawUpgradableGuard, Fault> {
+        let (access, patience) = (Access::Upgradable, Patience::Patient);
+        match self
+            .lock
+            .enter_slow(rt, token, FOR_EVER, access, patience, rest)
+        {
+            Ok(Some(right)) => Ok(RawUpgradableGuard { right }),
+            Ok(None) => unreachable!(),
+            Err(fault) => Err(fault),
+        }
+    }
+
+    #[inline(always)]
+    fn begin_unlock_upgradable(
+        &self,
+        token: &mut Token,
+        guard: RawUpgradableGuard,
+    ) -> Option<Rest> {
+        let RawUpgradableGuard { right } = guard;
+        self.lock.release_fast(token, Access::Upgradable, right)
     }
 
     #[inline]
