@@ -10,6 +10,7 @@ mod threads;
 
 ghost use Rattle.std.specs.Prelude.{◌≡◌, ◌≤◌, ◌<◌, All, IfSome};
 ghost use Rattle.std.specs.Arc.{arc_value};
+ghost use Rattle.lot_words.specs.Indices.{permits_in};
 ghost use Rattle.lot_words.specs.Lots.{IsWordOf};
 ghost use Rattle.lot_words.specs.RightsOf.{IsFor, IsRightOf};
 ghost use Rattle.lot_words.specs.declared.words.WordKind.TheVariants.{Mutex};
@@ -78,7 +79,8 @@ fn lot_of<A: Abort>(
 
 // A word of a lot.
 fn word_of<A: Abort>(rt: &A, lot: &ParkingLot, token: &mut Token, kind: WordKind) -> Word
-    requires { IsTokenOf lot.now token.old }
+    requires own { IsTokenOf lot.now token.old }
+    requires bare { permits_in kind ≡ 0 }
     ensures own { IsSameThread lot.now token.old token.new }
     ensures word { IsWordOf lot.now.words result × (result.kind ≡ kind) }
 {

@@ -6,14 +6,14 @@ use native.Mathlib.Decide.{ℕ_discrete}
 use Rattle.atomic_table.specs.Table.{Allows, Me, step}
 use Rattle.atomic_table.specs.declared.shared.Seat.{Seat}
 use Rattle.seat_moves.specs.Changes.{Stirs}
-use Rattle.lot_words.specs.Indices.{word_index, word_kind_at}
+use Rattle.lot_words.specs.Indices.{rank, word_index, word_kind_at, plain}
 use Rattle.lot_words.specs.Codes.{exclusive}
 use Rattle.lot_words.specs.Views.{blank, owned}
 use Rattle.lot_words.specs.Rights.{leaving_alone, named_by, piece_of, takes_permit}
 use Rattle.lot_words.specs.Rule.{LotRule}
 use Rattle.value_place.specs.declared.slot.PermitSlot.{PermitSlot}
 use Rattle.lot_words.specs.Steps.{MayStep, has}
-use Rattle.lot_words.specs.Plays.{TakesExpected, TakesStep, TakesStepOf, goes_on_with, stepping, takes_in, takes_out, lays_back, saw_set, sees_locked, sees_shown, tries_seen}
+use Rattle.lot_words.specs.Plays.{TakesExpected, TakesStep, TakesStepOf, goes_on_with, stepping, takes_in, takes_out, lays_back, saw_set, sees_free, sees_locked, sees_shown, tries_seen}
 use Rattle.lot_words.specs.Lots.{IsSeatOf, IsWordOf}
 use Rattle.lot_words.specs.declared.table.LotWords.{LotWords}
 use Rattle.lot_words.specs.declared.owners.Owner.{Owner}
@@ -25,20 +25,30 @@ use Rattle.lot_base.specs.declared.ops.Op.{Op}
 use Rattle.lot_base.specs.declared.ops.Op.TheVariants.{Exchange, Or}
 use Rattle.lot_words.proofs.Stepping.{expected_allowed, sees_locked_allowed, sees_set, steps_at_word, tries_seen_allowed}
 use Rattle.lot_words.proofs.TiedSteps.{sees_shown_allowed}
+use Rattle.lot_words.proofs.Endowing.{sees_free_allowed}
 use Rattle.lot_words.proofs.PermitSteps.{lays_back_allowed, takes_out_allowed}
 use Rattle.lot_words.proofs.Totals.{cond_other}
 use Rattle.lot_words.proofs.Trades.{owned_some, zero_either}
 use Rattle.lot_words.specs.declared.words.WordKind.{WordKind}
-use Rattle.lot_words.specs.declared.words.WordKind.TheVariants.{Mutex, Condvar}
-use Rattle.lot_words.proofs.Indices.{rank_lt, word_kind_at-index}
+use Rattle.lot_words.specs.declared.words.WordKind.TheVariants.{Mutex, RwLock, Condvar, Once, Count, Semaphore}
+use Rattle.lot_words.proofs.Indices.{rank_lt, rank_plain, word_kind_at-index, plain_mutex}
+
+-- what a step tells of the plain kind it tells of the kind
+of_plain : (family at : ℕ) (kind : WordKind) (op : Op) (me after : Me PermitSlot View) (found : ℕ) → TakesStepOf family (plain kind) at op me found after → TakesStepOf family kind at op me found after
+of_plain family at Mutex op me after found t = t
+of_plain family at RwLock op me after found t = t
+of_plain family at Condvar op me after found t = t
+of_plain family at Once op me after found t = t
+of_plain family at Count op me after found t = t
+of_plain family at (Semaphore permits) op me after found t = t
 
 -- what a step at an index tells, by the word that has this index and the operation that was matched
 pub tells_step : {at : ℕ} {op op' : Op} (family number : ℕ) (kind : WordKind) (me after : Me PermitSlot View) (found : ℕ) → at ≡ word_index number kind → op ≡ op'
     → TakesStep family at op' me found after → TakesStepOf family kind (word_index number kind) op me found after
 tells_step {at} {op} {op'} family number kind me after found there is told =
     subst (λ (x : Op). TakesStepOf family kind (word_index number kind) x me found after) (sym is)
-    (subst (λ (k : WordKind). TakesStepOf family k (word_index number kind) op' me found after) (word_kind_at-index number kind)
-    (subst (λ (i : ℕ). TakesStep family i op' me found after) there told))
+    (of_plain family (word_index number kind) kind op' me after found (subst (λ (k : WordKind). TakesStepOf family k (word_index number kind) op' me found after) (word_kind_at-index number kind)
+    (subst (λ (i : ℕ). TakesStep family i op' me found after) there told)))
 
 -- a step at an index is allowed to a seat that goes on by this
 abbrev pub AllowedAt : LotWords → Seat PermitSlot View → ℕ → (ℕ → ℕ) → (ℕ → Me PermitSlot View → Type 0) → Type 0
@@ -97,6 +107,18 @@ module _ (lot : LotWords) (seat : Seat PermitSlot View) (word : Word) (own : IsS
         near at there,
         subst (λ (f : ℕ). Goal f most number at) (sym same) (subst (λ (w : ℕ). Goal from w number at) (sized.1 ∙ sym all) (subst (λ (n : ℕ). Goal from words n at) (sym is_it) (subst (λ (i : ℕ). Goal from words word.number i) (sym here)
             (sees_shown_allowed words from slots seat.id seat.me word.number below seated.1)))),
+      )
+
+  -- a load of a semaphore's word, which tells how many permits may be free
+  pub table_sees_free : (family number at : ℕ) → family ≡ from → number ≡ word.number → at ≡ word_index word.number word.kind → plain word.kind ≡ Semaphore 0
+      → AllowedAt lot seat at (λ n. n) (sees_free family number (step slots at 0 0 none) seat.me)
+  table_sees_free family number at same is_it there is = let seated = own.0 in
+      let Goal : ℕ → ℕ → ℕ → Type 0 = λ f n i. Allows (LotRule words from) slots seat.id seat.me i (λ m. m) (sees_free f n (step slots i 0 0 none) seat.me) in
+      let here : at ≡ word_index word.number (Semaphore 0) = omega (arith, there, rank_plain word.kind, ap rank is) in (
+        seated.0,
+        near at there,
+        subst (λ (f : ℕ). Goal f number at) (sym same) (subst (λ (n : ℕ). Goal from n at) (sym is_it) (subst (λ (i : ℕ). Goal from word.number i) (sym here)
+            (sees_free_allowed words from slots seat.id seat.me word.number below seated.1))),
       )
 
   -- the index of a mutex
@@ -181,7 +203,7 @@ not_exclusive Witness other = refl
 pub apart : (word : Word) (owner : Owner) → (takes_permit word.kind owner ≡ true → ⊥) → (r : ℕ) → word_kind_at r ≡ Mutex → cond (eqb (word_index word.number word.kind) r) (exclusive owner) 0 ≡ 0
 apart word owner other r is = let i : ℕ = word_index word.number word.kind in
     dite (ℕ_discrete i r)
-    (λ e. let mutex : word.kind ≡ Mutex = sym (word_kind_at-index word.number word.kind) ∙ ap word_kind_at e ∙ is in
+    (λ e. let mutex : word.kind ≡ Mutex = plain_mutex word.kind (sym (word_kind_at-index word.number word.kind) ∙ ap word_kind_at e ∙ is) in
     let none : exclusive owner ≡ 0 = not_exclusive owner (λ takes. other (ap (λ (k : WordKind). takes_permit k owner) mutex ∙ takes)) in
     ap (λ (n : ℕ). cond (eqb i r) n 0) none ∙ zero_either (eqb i r))
     (λ ne. cond_other i r (exclusive owner) ne)

@@ -1,5 +1,5 @@
 -- Each step keeps the rule.
-use Rattle.std.proofs.Common.{◌≡◌, ℕ, ◌+◌, ◌<◌, ◌≤◌, eqb, cond, ◌≢◌, ◌⊎◌, true, ◌%◌, List, [], ◌∷◌, ◌++◌, inl, inr, length, get_or, set, sym, refl, ap, ◌∙◌, subst, ⊎_elim, arith, length-set, get_or-set_same, get_or-set_other, eq-eqb, ne_eqb, zero, suc}
+use Rattle.std.proofs.Common.{◌≡◌, Bool, false, ℕ, ◌+◌, ◌<◌, ◌≤◌, eqb, cond, ◌≢◌, ◌⊎◌, true, ◌%◌, ◌/◌, ◌-◌, List, [], ◌∷◌, ◌++◌, inl, inr, length, get_or, set, sym, refl, ap, ◌∙◌, subst, ⊎_elim, arith, length-set, get_or-set_same, get_or-set_other, eq-eqb, ne_eqb, zero, suc}
 use mathlib.Core.Logic.{dite}
 use mathlib.Core.Option.{Option, some, none}
 use native.Mathlib.Decide.{ℕ_discrete}
@@ -7,29 +7,30 @@ use lib.ListN.{get_elem?}
 use prog.Atomic.{either}
 use Rattle.atomic_table.specs.Table.{State, Me, step, keeps, Act, Valid, carried_after, stepped, Allows}
 use Rattle.atomic_table.proofs.Lists.{at_set}
-use Rattle.lot_words.specs.Indices.{word_index, counter, mutex_of_count}
-use Rattle.lot_words.specs.Views.{view, with_out, total, total_below, owned, owning, owning_with, named, counted, steps_at, outs, drew}
-use Rattle.lot_words.specs.Codes.{Owners, Codes, Shows, IsCountCode, everyone, exclusive}
+use Rattle.lot_words.specs.Indices.{rank, plain, permits_in, word_index, counter, mutex_of_count}
+use Rattle.lot_words.specs.Views.{view, with_out, total, total_below, owned, owning, owning_with, named, counted, steps_at, outs, drew, drew_permits, granted}
+use Rattle.lot_words.specs.Codes.{Owners, Codes, Shows, IsCountCode, everyone, exclusive, shared}
 use Rattle.lot_words.specs.Rule.{LotRule, MayBeShown, MayHaveOut}
 use Rattle.lot_words.specs.Permits.{slot_at}
 use Rattle.value_place.specs.declared.slot.PermitSlot.{PermitSlot}
 use Rattle.lot_base.specs.Words.{apply}
 use Rattle.lot_base.specs.declared.ops.Op.{Op}
 use Rattle.lot_base.specs.declared.ops.Op.TheVariants.{Load, Exchange}
-use Rattle.lot_words.specs.Steps.{has, HasAll, trade, trading, CountAgrees, CodesWith, MayTie, MayStep, owns_after_step, listed, after_step}
+use Rattle.lot_words.specs.Steps.{has, HasAll, trade, trading, CountAgrees, CodesWith, MayTie, MayStep, owns_after_step, listed, after_step, so_many_shared}
 use Rattle.lot_words.specs.Plays.{looks, draws, numbered}
+use Rattle.lot_words.specs.Draws.{NoPermits}
 use Rattle.lot_words.specs.declared.owners.Ownership.{Ownership}
 use Rattle.lot_words.specs.declared.views.WordStep.{WordStep}
 use Rattle.lot_words.proofs.Trades.{total-without, traded_here, traded_elsewhere, traded_counts, said_total, owned_some}
 use Rattle.lot_words.specs.declared.owners.Owner.{Owner}
-use Rattle.lot_words.specs.declared.owners.Owner.TheVariants.{Exclusive}
+use Rattle.lot_words.specs.declared.owners.Owner.TheVariants.{Exclusive, Shared}
 use Rattle.lot_words.specs.declared.views.View.{View}
 use Rattle.lot_words.specs.declared.views.Drawn.{Drawn}
 use Rattle.lot_words.specs.declared.words.WordKind.{WordKind}
-use Rattle.lot_words.specs.declared.words.WordKind.TheVariants.{Mutex, RwLock, Condvar, Once, Count}
+use Rattle.lot_words.specs.declared.words.WordKind.TheVariants.{Mutex, RwLock, Condvar, Once, Count, Semaphore}
 use Rattle.lot_words.proofs.Counts.{counted-where}
 use Rattle.lot_words.proofs.Totals.{total-append, total-set, term_le, total_below-suc, cond_same, cond_other}
-use Rattle.lot_words.proofs.Indices.{rank_lt, index-number, index-kind}
+use Rattle.lot_words.proofs.Indices.{rank_lt, index-number, index-kind, plain_mutex}
 
 pub shows_more : (P Q : ℕ → Type 0) (n : ℕ) → ((k : ℕ) → P k → Q k) → Shows P n → Shows Q n
 shows_more P Q n more h = ⊎_elim (λ z. inl z) (λ t. inr (t.0, t.1, more t.0 t.2)) h
@@ -47,6 +48,49 @@ Tied words Condvar number n views = Shows (MayBeShown words number views) n
 Tied words Count number n views = IsCountCode n × (n ≡ total (λ (v : View). counted (mutex_of_count (word_index number Count)) v.owns) views)
 Tied words _ number n views = Unit {0}
 
+-- what the number of permits in a kind has no part in
+to_plain : (kind : WordKind) (n : ℕ) (owners : Owners) → Codes kind n owners → Codes (plain kind) n owners
+to_plain Mutex n owners c = c
+to_plain RwLock n owners c = c
+to_plain Condvar n owners c = c
+to_plain Once n owners c = c
+to_plain Count n owners c = c
+to_plain (Semaphore permits) n owners c = c
+
+from_plain : (kind : WordKind) (n : ℕ) (owners : Owners) → Codes (plain kind) n owners → Codes kind n owners
+from_plain Mutex n owners c = c
+from_plain RwLock n owners c = c
+from_plain Condvar n owners c = c
+from_plain Once n owners c = c
+from_plain Count n owners c = c
+from_plain (Semaphore permits) n owners c = c
+
+pub codes_alike : (kind kind' : WordKind) (n : ℕ) (owners : Owners) → plain kind' ≡ plain kind → Codes kind n owners → Codes kind' n owners
+codes_alike kind kind' n owners e c = from_plain kind' n owners (subst (λ (k : WordKind). Codes k n owners) (sym e) (to_plain kind n owners c))
+
+tied_plain : (words : ℕ) (kind : WordKind) (number n : ℕ) (views : List View) → Tied words kind number n views → Tied words (plain kind) number n views
+tied_plain words Mutex number n views c = c
+tied_plain words RwLock number n views c = c
+tied_plain words Condvar number n views c = c
+tied_plain words Once number n views c = c
+tied_plain words Count number n views c = c
+tied_plain words (Semaphore permits) number n views c = c
+
+plain_tied : (words : ℕ) (kind : WordKind) (number n : ℕ) (views : List View) → Tied words (plain kind) number n views → Tied words kind number n views
+plain_tied words Mutex number n views c = c
+plain_tied words RwLock number n views c = c
+plain_tied words Condvar number n views c = c
+plain_tied words Once number n views c = c
+plain_tied words Count number n views c = c
+plain_tied words (Semaphore permits) number n views c = c
+
+tied_alike : (words : ℕ) (kind kind' : WordKind) (number n : ℕ) (views : List View) → plain kind' ≡ plain kind → Tied words kind number n views → Tied words kind' number n views
+tied_alike words kind kind' number n views e c = plain_tied words kind' number n views (subst (λ (k : WordKind). Tied words k number n views) (sym e) (tied_plain words kind number n views c))
+
+-- the permits that a list of drawn words brings to a number
+abbrev pub permits_of : ℕ → List Drawn → ℕ
+permits_of number drawn = total (λ (word : Drawn). cond (eqb word.number number) (permits_in word.kind) 0) drawn
+
 module _ (words family : ℕ) (s : State PermitSlot View) (o : LotRule words family s) where
   -- the law of all steps on words: what is owned of this word changes, and its code with that
   pub turned : (number : ℕ) (kind : WordKind) (j m : ℕ) (v w : View) → get_elem? s.views j ≡ some v → number < words
@@ -54,10 +98,11 @@ module _ (words family : ℕ) (s : State PermitSlot View) (o : LotRule words fam
       → ((after : Owners) → ((weight : Owner → ℕ) → after weight + owned (word_index number kind) weight v.owns ≡ named (word_index number kind) weight s.views + owned (word_index number kind) weight w.owns) → Codes kind m after)
       → Tied words kind number m (set s.views j w)
       → ((r : ℕ) → (kind ≡ Count → r ≢ mutex_of_count (word_index number kind)) → counted r w.owns ≡ counted r v.owns)
+      → (plain kind ≡ Semaphore 0 → m / 2 + owned (word_index number kind) shared w.owns ≡ get_or s.words (word_index number kind) 0 / 2 + owned (word_index number kind) shared v.owns)
       → w.out ≡ v.out → MayHaveOut words w.out w.owns
       → w.drawn ≡ v.drawn → w.saw ≡ v.saw → 0 < steps_at (word_index number kind) w → ((r : ℕ) → steps_at r v ≤ steps_at r w)
       → LotRule words family (record { words = set s.words (word_index number kind) m; homes = s.homes; views = set s.views j w })
-  turned number kind j m v w me below others codes tied same-counts same-out carries same-drawn same-saw stepped more =
+  turned number kind j m v w me below others codes tied same-counts balance same-out carries same-drawn same-saw stepped more =
       let i : ℕ = word_index number kind in let size = o.size in let enough = o.enough in
       let near : i < length s.words = omega (arith, rank_lt kind) in
       let vs = set s.views j w in
@@ -66,15 +111,15 @@ module _ (words family : ℕ) (s : State PermitSlot View) (o : LotRule words fam
       let sum : (r : ℕ) (weight : Owner → ℕ) → named r weight vs + owned r weight v.owns ≡ named r weight s.views + owned r weight w.owns = λ r weight. total-set (λ (u : View). owned r weight u.owns) s.views j v w me in
       let tied_here : (number' : ℕ) (kind' : WordKind) → word_index number' kind' ≡ i → Tied words kind' number' (get_or (set s.words i m) (word_index number' kind') 0) vs =
       λ number' kind' e. subst (λ (x : ℕ). Tied words kind' number' x vs) (sym (ap (λ (r : ℕ). get_or (set s.words i m) r 0) e ∙ here))
-      (subst (λ (k : WordKind). Tied words k number' m vs) (sym (index-kind number' number kind' kind e)) (subst (λ (n : ℕ). Tied words kind n m vs) (sym (index-number number' number kind' kind e)) tied)) in
+      (tied_alike words kind kind' number' m vs (index-kind number' number kind' kind e) (subst (λ (n : ℕ). Tied words kind n m vs) (sym (index-number number' number kind' kind e)) tied)) in
       let still : (r : ℕ) → r ≢ i → get_or (set s.words i m) r 0 ≡ get_or s.words r 0 = λ r ne. get_or-set_other s.words i r m 0 ne in
       let stepped-more : (r : ℕ) → total (steps_at r) s.views ≤ total (steps_at r) vs = λ r. omega (arith, total-set (steps_at r) s.views j v w me, more r) in
       record {
         size = length-set s.words i m ∙ size;
         coded = λ number' kind' below'. dite (ℕ_discrete (word_index number' kind') i)
-            (λ e. let n≡ = index-number number' number kind' kind e in let k≡ = index-kind number' number kind' kind e in
-            let Goal : ℕ → WordKind → Type 0 = λ n k. Codes k (get_or (set s.words i m) (word_index n k) 0) (λ weight. named (word_index n k) weight vs) in
-            subst (λ (k : WordKind). Goal number' k) (sym k≡) (subst (λ (n : ℕ). Goal n kind) (sym n≡) (subst (λ (x : ℕ). Codes kind x (λ weight. named i weight vs)) (sym here) (codes (λ weight. named i weight vs) (λ weight. sum i weight)))))
+            (λ e. subst (λ (r : ℕ). Codes kind' (get_or (set s.words i m) r 0) (λ weight. named r weight vs)) (sym e)
+            (codes_alike kind kind' (get_or (set s.words i m) i 0) (λ weight. named i weight vs) (index-kind number' number kind' kind e)
+            (subst (λ (x : ℕ). Codes kind x (λ weight. named i weight vs)) (sym here) (codes (λ weight. named i weight vs) (λ weight. sum i weight)))))
             (λ ne. let r : ℕ = word_index number' kind' in
             let same : (weight : Owner → ℕ) → named r weight s.views ≡ named r weight vs = λ weight. omega (arith, sum r weight, others r ne weight) in
             subst (λ (x : ℕ). Codes kind' x (λ weight. named r weight vs)) (sym (get_or-set_other s.words i r m 0 ne))
@@ -88,6 +133,15 @@ module _ (words family : ℕ) (s : State PermitSlot View) (o : LotRule words fam
               let old₁ = old.1 in
                   omega (arith, total-set (λ (u : View). counted r u.owns) s.views j v w me, same-counts r (λ k e. ne (let there = ap (word_index number) k in omega arith))),
             ));
+        semaphores = λ number' below'. let r : ℕ = word_index number' (Semaphore 0) in
+            let all : granted number' vs ≡ granted number' s.views = omega (arith, total-set (drew_permits number') s.views j v w me, ap (permits_of number') same-drawn) in
+            let old = o.semaphores number' below' in
+            dite (ℕ_discrete r i)
+            (λ e. subst (λ (q : ℕ). get_or (set s.words i m) q 0 / 2 + named q shared vs ≡ granted number' vs) (sym e)
+            (let was : get_or s.words i 0 / 2 + named i shared s.views ≡ granted number' s.views = subst (λ (q : ℕ). get_or s.words q 0 / 2 + named q shared s.views ≡ granted number' s.views) e old in
+            let even : m / 2 + owned i shared w.owns ≡ get_or s.words i 0 / 2 + owned i shared v.owns = balance (sym (index-kind number' number (Semaphore 0) kind e)) in
+            omega (arith, here, sum i shared)))
+            (λ ne. omega (arith, still r ne, sum r shared, others r ne shared));
         owned = λ r weight some. dite (ℕ_discrete r i) (λ e. (omega arith, omega (arith, length-set s.words i m)))
             (λ ne. let old = o.owned r weight (omega (arith, sum r weight, others r ne weight)) in let old₁ = old.1 in (old.0, omega (arith, length-set s.words i m)));
         untouched = λ r above h none. dite (ℕ_discrete r i)
@@ -105,7 +159,7 @@ module _ (words family : ℕ) (s : State PermitSlot View) (o : LotRule words fam
   -- the views and homes change, and what the views name together does not
   pub reseated : (hs : List (Option PermitSlot)) (vs : List View) → ((r : ℕ) (weight : Owner → ℕ) → named r weight vs ≡ named r weight s.views)
       → ((r : ℕ) → total (λ (u : View). counted r u.owns) vs ≡ total (λ (u : View). counted r u.owns) s.views)
-      → ((r : ℕ) → total (steps_at r) vs ≡ total (steps_at r) s.views) → ((weight : ℕ → ℕ) → total (drew weight) vs ≡ total (drew weight) s.views)
+      → ((r : ℕ) → total (steps_at r) vs ≡ total (steps_at r) s.views) → ((weight : Drawn → ℕ) → total (λ (u : View). total weight u.drawn) vs ≡ total (λ (u : View). total weight u.drawn) s.views)
       → ((q : ℕ) (u : View) → get_elem? vs q ≡ some u → u.saw ≤ get_or s.words counter 0)
       → ((q : ℕ) (u : View) → get_elem? vs q ≡ some u → MayHaveOut words u.out u.owns)
       → length hs ≡ length s.homes
@@ -116,9 +170,11 @@ module _ (words family : ℕ) (s : State PermitSlot View) (o : LotRule words fam
     coded = λ number' kind' below. subst (Codes kind' (get_or s.words (word_index number' kind') 0)) (λ k weight. sym (same-named (word_index number' kind') weight) k) (o.coded number' kind' below);
     shows = λ number' below. shown_still words number' s.views vs (get_or s.words (word_index number' Condvar) 0) (λ k. omega (arith, same-steps (word_index k Mutex))) (o.shows number' below);
     counts = λ number' below. let old = o.counts number' below in (old.0, old.1 ∙ sym (same-counts (mutex_of_count (word_index number' Count))));
+    semaphores = λ number' below. let r : ℕ = word_index number' (Semaphore 0) in
+        omega (arith, o.semaphores number' below, same-named r shared, same-drawn (λ (word : Drawn). cond (eqb word.number number') (permits_in word.kind) 0));
     owned = λ r weight some. o.owned r weight (omega (arith, same-named r weight));
     untouched = λ r above h none. o.untouched r above h (omega (arith, same-steps r));
-    drawn = λ weight. same-drawn weight ∙ o.drawn weight;
+    drawn = λ weight. same-drawn (λ (word : Drawn). weight word.number) ∙ o.drawn weight;
     enough = o.enough;
     saw = saw;
     carried = carried;
@@ -148,7 +204,23 @@ stepped_so Count at op found owns h tie =
 stepped_so Mutex at op found owns h tie = let t = trade Mutex at op found owns in record { here = traded_here at t owns h; elsewhere = traded_elsewhere at t owns h; counts = λ r ne. traded_counts at t owns h r }
 stepped_so RwLock at op found owns h tie = let t = trade RwLock at op found owns in record { here = traded_here at t owns h; elsewhere = traded_elsewhere at t owns h; counts = λ r ne. traded_counts at t owns h r }
 stepped_so Condvar at op found owns h tie = let t = trade Condvar at op found owns in record { here = traded_here at t owns h; elsewhere = traded_elsewhere at t owns h; counts = λ r ne. traded_counts at t owns h r }
+stepped_so (Semaphore permits) at op found owns h tie = let t = trade (Semaphore permits) at op found owns in record { here = traded_here at t owns h; elsewhere = traded_elsewhere at t owns h; counts = λ r ne. traded_counts at t owns h r }
 stepped_so Once at op found owns h tie = let t = trade Once at op found owns in record { here = traded_here at t owns h; elsewhere = traded_elsewhere at t owns h; counts = λ r ne. traded_counts at t owns h r }
+
+shared_many : (n : ℕ) → total shared (so_many_shared n) ≡ n
+shared_many zero = refl
+shared_many (suc n) = omega (arith, shared_many n)
+
+-- the free permits, with those that the seat owns, stay as many
+balanced : (kind : WordKind) (at : ℕ) (op : Op) (n : ℕ) (owns : List Ownership) → Steps kind at op n owns → plain kind ≡ Semaphore 0
+    → apply op n / 2 + owned at shared (owns_after_step kind at op n owns) ≡ n / 2 + owned at shared owns
+balanced (Semaphore permits) at op n owns so e = let a : ℕ = n / 2 in let b : ℕ = apply op n / 2 in
+    omega (arith, so.here shared, shared_many (b - a), shared_many (a - b))
+balanced Mutex at op n owns so e = absurd (omega (arith, ap rank e))
+balanced RwLock at op n owns so e = absurd (omega (arith, ap rank e))
+balanced Condvar at op n owns so e = absurd (omega (arith, ap rank e))
+balanced Once at op n owns so e = absurd (omega (arith, ap rank e))
+balanced Count at op n owns so e = absurd (omega (arith, ap rank e))
 
 number_case : {P : Type 0} (number : ℕ) → (number ≡ 0 → P) → ((before : ℕ) → number ≡ before + 1 → P) → P
 number_case zero z p = z refl
@@ -182,6 +254,7 @@ module _ (words family : ℕ) (s : State PermitSlot View) (o : LotRule words fam
   agreed number RwLock id v at below = tt
   agreed number Condvar id v at below = tt
   agreed number Once id v at below = tt
+  agreed number (Semaphore permits) id v at below = tt
 
   -- a step that may be taken leaves a tied word tied, whatever is out behind it
   tied_after : (number : ℕ) (kind : WordKind) (op : Op) (id : ℕ) (v : View) (out : List ℕ) → get_elem? s.views id ≡ some v → number < words
@@ -211,6 +284,7 @@ module _ (words family : ℕ) (s : State PermitSlot View) (o : LotRule words fam
   tied_after number Mutex op id v out at below tie more = tt
   tied_after number RwLock op id v out at below tie more = tt
   tied_after number Once op id v out at below tie more = tt
+  tied_after number (Semaphore permits) op id v out at below tie more = tt
 
 -- a step that leaves a mutex as locked as it was takes nothing from who takes it
 no_trade : (kind : WordKind) → kind ≡ Mutex → (at : ℕ) (op : Op) (n : ℕ) (owns : List Ownership) → n % 2 ≡ apply op n % 2 → total exclusive (trade kind at op n owns).gives ≡ 0
@@ -226,7 +300,7 @@ carries_on words number kind op n v carries so same = ⊎_elim (λ none. inl non
       t.1,
       t.2,
       dite (ℕ_discrete j i)
-          (λ e. let is : kind ≡ Mutex = sym (index-kind t.0 number Mutex kind e) in
+          (λ e. let is : kind ≡ Mutex = plain_mutex kind (sym (index-kind t.0 number Mutex kind e)) in
           ⊎_elim
           (λ parity. subst (λ (r : ℕ). 0 < owned r exclusive (owns_after_step kind i op n v.owns)) (sym e)
           (let there : 0 < owned i exclusive v.owns = subst (λ (r : ℕ). 0 < owned r exclusive v.owns) e some' in omega (arith, so.here exclusive, no_trade kind is i op n v.owns parity)))
@@ -255,6 +329,7 @@ step_taken words family s o number kind op id v at below fits may same =
           (λ after same. ok.1 after (λ weight. omega (arith, same weight, so.here weight)))
           (tied_after words family s o number kind op id v v.out at below ok.2 more)
           so.counts
+          (balanced kind i op n v.owns so)
           refl
           (carries_on words number kind op n v (o.carried id v at) so same)
           refl refl (omega (arith, steps_more v i n i op, cond_same i i 1 refl)) more,
@@ -262,11 +337,12 @@ step_taken words family s o number kind op id v at below fits may same =
     )
 
 -- the law of steps on the counter, which only adds to it
-count_turned : (words family : ℕ) (s : State PermitSlot View) (o : LotRule words family s) (j m : ℕ) (v w : View) → get_elem? s.views j ≡ some v → get_or s.words counter 0 ≤ m → m ≤ words
+pub count_turned : (words family : ℕ) (s : State PermitSlot View) (o : LotRule words family s) (j m : ℕ) (v w : View) → get_elem? s.views j ≡ some v → get_or s.words counter 0 ≤ m → m ≤ words
     → w.owns ≡ v.owns → w.out ≡ v.out → w.saw ≤ m → ((r : ℕ) → 0 < r → steps_at r w ≡ steps_at r v)
     → ((weight : ℕ → ℕ) → drew weight w + total_below weight (get_or s.words counter 0) ≡ drew weight v + total_below weight m)
+    → ((number : ℕ) → drew_permits number w ≡ drew_permits number v)
     → LotRule words family (record { words = set s.words counter m; homes = s.homes; views = set s.views j w })
-count_turned words family s o j m v w me up fits same-owns same-out saw same-steps same-drawn =
+count_turned words family s o j m v w me up fits same-owns same-out saw same-steps same-drawn same-permits =
     let size = o.size in let vs = set s.views j w in
     let here : get_or (set s.words counter m) counter 0 ≡ m = get_or-set_same s.words counter m 0 (omega arith) in
     let there : (r : ℕ) → 0 < r → get_or (set s.words counter m) r 0 ≡ get_or s.words r 0 = λ r h. get_or-set_other s.words counter r m 0 (λ e. omega arith) in
@@ -280,6 +356,8 @@ count_turned words family s o j m v w me up fits same-owns same-out saw same-ste
           (shown_still words number' s.views vs (get_or s.words (word_index number' Condvar) 0) (λ k. omega (arith, stepped (word_index k Mutex) (omega arith))) (o.shows number' below));
       counts = λ number' below. let old = o.counts number' below in let old₁ = old.1 in let same = there (word_index number' Count) (omega arith) in let r : ℕ = mutex_of_count (word_index number' Count) in
           (subst IsCountCode (sym same) old.0, omega (arith, total-set (λ (u : View). counted r u.owns) s.views j v w me, ap (counted r) same-owns));
+      semaphores = λ number' below. let r : ℕ = word_index number' (Semaphore 0) in
+          omega (arith, o.semaphores number' below, there r (omega arith), same-named r shared, total-set (drew_permits number') s.views j v w me, same-permits number');
       owned = λ r weight some. let old = o.owned r weight (omega (arith, same-named r weight)) in let old₁ = old.1 in (old.0, omega (arith, length-set s.words counter m));
       untouched = λ r above h none. there r above ∙ o.untouched r above (omega (arith, length-set s.words counter m)) (omega (arith, stepped r above));
       drawn = λ weight. omega (arith, total-set (drew weight) s.views j v w me, o.drawn weight, same-drawn weight, ap (total_below weight) here);
@@ -293,23 +371,31 @@ count_turned words family s o j m v w me up fits same-owns same-out saw same-ste
           o.permits number' below (omega (arith, total-set (outs r) s.views j v w me, ap (total (λ (k : ℕ). cond (eqb k r) 1 0)) same-out));
     }
 
-at_counter : (v : View) (op : Op) (found r : ℕ) → 0 < r → total (λ (step : WordStep). cond (eqb step.at r) 1 0) (listed v counter op found) ≡ steps_at r v
+pub at_counter : (v : View) (op : Op) (found r : ℕ) → 0 < r → total (λ (step : WordStep). cond (eqb step.at r) 1 0) (listed v counter op found) ≡ steps_at r v
 at_counter v op found r above = omega (arith, steps_more v counter found r op, cond_other counter r 1 (λ e. omega arith))
 
 -- a look at the counter
 pub look : (words family slots id : ℕ) (me : Me PermitSlot View) → Allows (LotRule words family) slots id me counter (λ n. n) (looks (step slots counter 0 0 none) me)
 look words family slots id me s o wide at fits = let n : ℕ = get_or s.words counter 0 in let w = with_out me.0.out (view (listed me.0 counter Load n) me.0.owns me.0.drawn n) in
-    (w, keeps, tt, count_turned words family s o id n me.0 w at (omega arith) o.enough refl refl (omega arith) (λ r h. at_counter me.0 Load n r h) (λ weight. refl), refl)
+    (w, keeps, tt, count_turned words family s o id n me.0 w at (omega arith) o.enough refl refl (omega arith) (λ r h. at_counter me.0 Load n r h) (λ weight. refl) (λ number. refl), refl)
 
 -- the numbers that are drawn together
-total_below-numbered : (weight : ℕ → ℕ) (n : ℕ) (kinds : List WordKind) → total (λ (word : Drawn). weight word.number) (numbered n kinds) + total_below weight n ≡ total_below weight (n + length kinds)
+pub total_below-numbered : (weight : ℕ → ℕ) (n : ℕ) (kinds : List WordKind) → total (λ (word : Drawn). weight word.number) (numbered n kinds) + total_below weight n ≡ total_below weight (n + length kinds)
 total_below-numbered weight n [] = let e : n ≡ n + 0 = omega arith in omega (arith, ap (total_below weight) e)
 total_below-numbered weight n (kind ∷ kinds) = omega (arith, total_below-suc weight n, total_below-numbered weight (n + 1) kinds, ap (total_below weight) (let e : n + 1 + length kinds ≡ n + suc (length kinds) = omega arith in e))
 
+zero_or : (b : Bool) (k : ℕ) → k ≡ 0 → cond b k 0 ≡ 0
+zero_or true k e = e
+zero_or false k e = refl
+
+pub no_permits : (number n : ℕ) (kinds : List WordKind) → NoPermits kinds → permits_of number (numbered n kinds) ≡ 0
+no_permits number n [] h = refl
+no_permits number n (kind ∷ kinds) h = omega (arith, zero_or (eqb n number) (permits_in kind) h.0, no_permits number (n + 1) kinds h.1)
+
 -- a draw, where the seat has seen the counter
-pub draw : (words family slots id : ℕ) (me : Me PermitSlot View) (kinds : List WordKind) (seen : ℕ) → me.0.saw ≡ seen → seen + length kinds ≤ words
+pub draw : (words family slots id : ℕ) (me : Me PermitSlot View) (kinds : List WordKind) (seen : ℕ) → NoPermits kinds → me.0.saw ≡ seen → seen + length kinds ≤ words
     → Allows (LotRule words family) slots id me counter (λ n. either (eqb n seen) (seen + length kinds) n) (draws kinds (step slots counter seen (seen + length kinds) none) me)
-draw words family slots id me kinds seen saw room s o wide at fits =
+draw words family slots id me kinds seen bare saw room s o wide at fits =
     let n : ℕ = get_or s.words counter 0 in let new : ℕ = seen + length kinds in let op = Exchange seen new in
     let Goal : ℕ → Type 0 = λ (y : ℕ). (w : View) × (a : Act PermitSlot) × Valid s.homes me.1 a × LotRule words family (stepped s counter y id me.1 w a) × draws kinds (step slots counter seen new none) me n (w, carried_after me.1 a) in
     dite (ℕ_discrete n seen)
@@ -319,7 +405,8 @@ draw words family slots id me kinds seen saw room s o wide at fits =
       keeps,
       tt,
       count_turned words family s o id new me.0 w at (omega arith) room refl refl (omega arith) (λ r h. at_counter me.0 op n r h)
-          (λ weight. omega (arith, total-append (λ (word : Drawn). weight word.number) (numbered n kinds) me.0.drawn, total_below-numbered weight n kinds, ap (λ (k : ℕ). total_below weight (k + length kinds)) e)),
+          (λ weight. omega (arith, total-append (λ (word : Drawn). weight word.number) (numbered n kinds) me.0.drawn, total_below-numbered weight n kinds, ap (λ (k : ℕ). total_below weight (k + length kinds)) e))
+          (λ number. omega (arith, total-append (λ (word : Drawn). cond (eqb word.number number) (permits_in word.kind) 0) (numbered n kinds) me.0.drawn, no_permits number n kinds bare)),
       ((λ _. refl), λ ne. absurd (ne e)),
     ))
     (λ ne. let w = with_out me.0.out (view (listed me.0 counter op n) me.0.owns me.0.drawn n) in
@@ -327,12 +414,12 @@ draw words family slots id me kinds seen saw room s o wide at fits =
       w,
       keeps,
       tt,
-      count_turned words family s o id n me.0 w at (omega arith) o.enough refl refl (omega arith) (λ r h. at_counter me.0 op n r h) (λ weight. refl),
+      count_turned words family s o id n me.0 w at (omega arith) o.enough refl refl (omega arith) (λ r h. at_counter me.0 op n r h) (λ weight. refl) (λ number. refl),
       ((λ e. absurd (ne e)), λ _. (omega (arith, o.saw id me.0 at), refl)),
     ))
 
 -- the same, by the count of words that was computed
-pub draw_so_many : (words family slots id : ℕ) (me : Me PermitSlot View) (kinds : List WordKind) (seen needed : ℕ) → length kinds ≡ needed → me.0.saw ≡ seen → seen + needed ≤ words
+pub draw_so_many : (words family slots id : ℕ) (me : Me PermitSlot View) (kinds : List WordKind) (seen needed : ℕ) → NoPermits kinds → length kinds ≡ needed → me.0.saw ≡ seen → seen + needed ≤ words
     → Allows (LotRule words family) slots id me counter (λ n. either (eqb n seen) (seen + needed) n) (draws kinds (step slots counter seen (seen + needed) none) me)
-draw_so_many words family slots id me kinds seen needed e saw room = let Goal : ℕ → Type 0 = λ (k : ℕ). seen + k ≤ words → Allows (LotRule words family) slots id me counter (λ n. either (eqb n seen) (seen + k) n) (draws kinds (step slots counter seen (seen + k) none) me) in
-    subst Goal e (draw words family slots id me kinds seen saw) room
+draw_so_many words family slots id me kinds seen needed bare e saw room = let Goal : ℕ → Type 0 = λ (k : ℕ). seen + k ≤ words → Allows (LotRule words family) slots id me counter (λ n. either (eqb n seen) (seen + k) n) (draws kinds (step slots counter seen (seen + k) none) me) in
+    subst Goal e (draw words family slots id me kinds seen bare saw) room

@@ -14,7 +14,9 @@ pub mod RwLockKinds
 pub mod RwLockOwning
 pub mod OnceSteps
 pub mod OnceKnowledge
+pub mod SemaphoreSteps
 pub mod TiedSteps
+pub mod Endowing
 mod Alone
 mod AtWord
 mod Tries

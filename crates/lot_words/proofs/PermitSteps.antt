@@ -16,7 +16,7 @@ use Rattle.lot_words.specs.Rule.{LotRule, MayHaveOut}
 use Rattle.lot_words.specs.declared.owners.Ownership.{Ownership}
 use Rattle.lot_words.specs.declared.views.View.{View}
 use Rattle.lot_words.specs.declared.words.WordKind.{WordKind}
-use Rattle.lot_words.specs.declared.words.WordKind.TheVariants.{Mutex, RwLock, Condvar, Once, Count}
+use Rattle.lot_words.specs.declared.words.WordKind.TheVariants.{Mutex, RwLock, Condvar, Once, Count, Semaphore}
 use Rattle.value_place.specs.declared.slot.PermitSlot.{PermitSlot}
 use Rattle.lot_words.proofs.Keeps.{reseated}
 use Rattle.lot_words.proofs.Lists.{has_index, set_again, set_else, set_here}
@@ -53,7 +53,7 @@ module _ (words family : ℕ) (s : State PermitSlot View) (o : LotRule words fam
       (λ r weight. omega (arith, total-set (λ (u : View). owned r weight u.owns) s.views id v w at))
       (λ r. omega (arith, total-set (λ (u : View). counted r u.owns) s.views id v w at))
       (λ r. omega (arith, total-set (steps_at r) s.views id v w at))
-      (λ weight. omega (arith, total-set (drew weight) s.views id v w at))
+      (λ weight. omega (arith, total-set (λ (u : View). total weight u.drawn) s.views id v w at))
       (λ q u e. ⊎_elim (λ t. let old = o.saw id v at in omega (arith, ap (λ (y : View). y.saw) t.1)) (λ t. o.saw q u t.1) (at_set s.views id q w u e))
       (λ q u e. ⊎_elim (λ t. subst (λ (y : View). MayHaveOut words y.out y.owns) t.1 carries) (λ t. o.carried q u t.1) (at_set s.views id q w u e))
       same permits
@@ -160,6 +160,7 @@ zero_code RwLock = (refl, omega arith, (λ h. refl), omega arith)
 zero_code Condvar = tt
 zero_code Once = ((inr (omega arith, inl refl)), refl, λ h. absurd (omega arith))
 zero_code Count = tt
+zero_code (Semaphore permits) = (omega arith, refl)
 
 all_zero : (n i : ℕ) → i < n → get_or (replicate {A = ℕ} n 0) i 0 ≡ 0
 all_zero n i h = get_or-replicate n i 0 0 h
@@ -185,6 +186,7 @@ opens_at_first words family = record {
   coded = λ number kind below. subst (λ (x : ℕ). Codes kind x (λ weight. 0)) (sym (all_zero (table_size words) (word_index number kind) (omega (arith, rank_lt kind)))) (zero_code kind);
   shows = λ number below. inl (all_zero (table_size words) (word_index number Condvar) (omega arith));
   counts = λ number below. (inl (all_zero (table_size words) (word_index number Count) (omega arith)), all_zero (table_size words) (word_index number Count) (omega arith));
+  semaphores = λ number below. omega (arith, all_zero (table_size words) (word_index number (Semaphore 0)) (omega arith));
   owned = λ at weight some'. absurd (omega arith);
   untouched = λ at above h none'. all_zero (table_size words) at (subst (λ (k : ℕ). at < k) (zeros_length (table_size words)) h);
   drawn = λ weight. sym (ap (total_below weight) (all_zero (table_size words) counter (first_index words)));

@@ -29,7 +29,7 @@ record AreParts (w u v : View) : Type 0 where
   names : (r : ℕ) (weight : Owner → ℕ) → owned r weight w.owns + owned r weight u.owns ≡ owned r weight v.owns
   says : (r : ℕ) → counted r w.owns + counted r u.owns ≡ counted r v.owns
   did : (r : ℕ) → steps_at r w + steps_at r u ≡ steps_at r v
-  drawn : (weight : ℕ → ℕ) → drew weight w + drew weight u ≡ drew weight v
+  drawn : (weight : Drawn → ℕ) → total weight w.drawn + total weight u.drawn ≡ total weight v.drawn
   out : (r : ℕ) → outs r w + outs r u ≡ outs r v
 
 -- who has a permit out owns its mutex
@@ -46,7 +46,7 @@ splits words family id v w u parts less less' carries s o me = reseated words fa
     (λ r weight. cut (λ (x : View). owned r weight x.owns) s.views id v w u me (parts.names r weight))
     (λ r. cut (λ (x : View). counted r x.owns) s.views id v w u me (parts.says r))
     (λ r. cut (steps_at r) s.views id v w u me (parts.did r))
-    (λ weight. cut (drew weight) s.views id v w u me (parts.drawn weight))
+    (λ weight. cut (λ (x : View). total weight x.drawn) s.views id v w u me (parts.drawn weight))
     (λ q x e. let old = o.saw id v me in
     ⊎_elim (λ e₂. ⊎_elim (λ t. omega (arith, ap (λ (y : View). y.saw) t.1)) (λ t. o.saw q x t.1) (at_set s.views id q w x e₂))
     (λ (t : u ≡ x). omega (arith, ap (λ (y : View). y.saw) t)) (at_snoc (set s.views id w) u x q e))
@@ -103,7 +103,7 @@ joins words family id v other w b parts saw carries s o me apart them =
     (λ r weight. paste (λ (x : View). owned r weight x.owns) s.views id other v w b refl me them (parts.names r weight))
     (λ r. paste (λ (x : View). counted r x.owns) s.views id other v w b refl me them (parts.says r))
     (λ r. paste (steps_at r) s.views id other v w b refl me them (parts.did r))
-    (λ weight. paste (drew weight) s.views id other v w b refl me them (parts.drawn weight))
+    (λ weight. paste (λ (x : View). total weight x.drawn) s.views id other v w b refl me them (parts.drawn weight))
     (λ q x e. ⊎_elim (λ t. omega (arith, ap (λ (y : View). y.saw) t.1))
     (λ t. ⊎_elim (λ t₂. ⊎_elim (λ h. omega (arith, ap (λ (y : View). y.saw) t₂.1)) (λ h. omega (arith, ap (λ (y : View). y.saw) t₂.1)) saw)
     (λ t₂. o.saw q x t₂.1) (at_set s.views id q b x t.1))
@@ -137,7 +137,7 @@ module _ (v w : View) (out : List ℕ) (none : w.drawn ≡ []) where
     names = λ r weight. sym (all_owned r weight);
     says = λ r. omega (arith, total-append (λ (y : Ownership). cond (eqb y.at r) y.count 0) w.owns v.owns);
     did = λ r. sym (total-append (λ (step : WordStep). cond (eqb step.at r) 1 0) v.steps w.steps);
-    drawn = λ weight. omega (arith, ap (total (λ (word : Drawn). weight word.number)) none);
+    drawn = λ weight. omega (arith, ap (total weight) none);
     out = together;
   }
 

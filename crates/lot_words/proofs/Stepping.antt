@@ -9,7 +9,7 @@ use Rattle.atomic_table.specs.Table.{State, Me, step, Act, keeps, takes, gives, 
 use Rattle.lot_base.specs.Words.{apply}
 use Rattle.lot_base.specs.declared.ops.Op.{Op}
 use Rattle.lot_base.specs.declared.ops.Op.TheVariants.{Exchange, Load, Or, Sub}
-use Rattle.lot_words.specs.Indices.{rank, word_index}
+use Rattle.lot_words.specs.Indices.{plain, rank, word_index}
 use Rattle.lot_words.specs.Views.{shown, with_out, owned, owning}
 use Rattle.lot_words.specs.Codes.{exclusive}
 use Rattle.lot_words.specs.Permits.{out_after, slot_at, slots_of}
@@ -19,7 +19,7 @@ use Rattle.lot_words.specs.Steps.{CodesWith, MayStep, Trade, after_step, mutex_t
 use Rattle.lot_words.specs.declared.owners.Owner.TheVariants.{Exclusive}
 use Rattle.lot_words.specs.declared.views.View.{View}
 use Rattle.lot_words.specs.declared.words.WordKind.{WordKind}
-use Rattle.lot_words.specs.declared.words.WordKind.TheVariants.{Mutex, RwLock, Condvar, Once, Count}
+use Rattle.lot_words.specs.declared.words.WordKind.TheVariants.{Mutex, RwLock, Condvar, Once, Count, Semaphore}
 use Rattle.value_place.specs.declared.slot.PermitSlot.{PermitSlot}
 use Rattle.lot_words.proofs.Indices.{word_kind_at-index}
 use Rattle.lot_words.proofs.Keeps.{step_taken}
@@ -113,7 +113,21 @@ module _ (words family id : ℕ) (me : Me PermitSlot View) (number : ℕ) (op : 
   by_kind RwLock fits may = stays RwLock fits may refl (λ e. absurd (omega (arith, ap rank e)))
   by_kind Condvar fits may = stays Condvar fits may refl (λ e. absurd (omega (arith, ap rank e)))
   by_kind Once fits may = stays Once fits may refl (λ e. absurd (omega (arith, ap rank e)))
+  by_kind (Semaphore permits) fits may = stays (Semaphore permits) fits may refl (λ e. absurd (omega (arith, ap rank e)))
   by_kind Count fits may = stays Count fits may refl (λ e. absurd (omega (arith, ap rank e)))
+
+  -- the same, as of the plain kind
+  abbrev GoesAs : WordKind → WordKind → List (ℕ × PermitSlot) → Type 0
+  GoesAs kind k c = (w : View) × (a : Act PermitSlot) × Valid s.homes c a × LotRule words family (stepped s (word_index number kind) (apply op (found kind)) id c w a)
+      × TakesStepOf family k (word_index number kind) op me (found kind) (w, carried_after c a)
+
+  plainly : (kind : WordKind) (c : List (ℕ × PermitSlot)) → Goes kind c → GoesAs kind (plain kind) c
+  plainly Mutex c g = g
+  plainly RwLock c g = g
+  plainly Condvar c g = g
+  plainly Once c g = g
+  plainly Count c g = g
+  plainly (Semaphore permits) c g = g
 
 -- the law of all steps on words: one that the seat may take keeps the rule
 pub steps : (words family slots id : ℕ) (me : Me PermitSlot View) (number : ℕ) (kind : WordKind) (op : Op) → number < words → me.1 ≡ slots_of family me.0.out → MayStep kind (word_index number kind) op me.0.owns
@@ -121,7 +135,7 @@ pub steps : (words family slots id : ℕ) (me : Me PermitSlot View) (number : �
 steps words family slots id me number kind op below held may s o wide at fits =
     let i : ℕ = word_index number kind in let n : ℕ = get_or s.words i 0 in
     let Then : WordKind → List (ℕ × PermitSlot) → Type 0 = λ k c. (w : View) × (a : Act PermitSlot) × Valid s.homes c a × LotRule words family (stepped s i (apply op n) id c w a) × TakesStepOf family k i op me n (w, carried_after c a) in
-    subst (λ (k : WordKind). Then k me.1) (sym (word_kind_at-index number kind)) (subst (λ (c : List (ℕ × PermitSlot)). Then kind c) (sym held) (by_kind words family id me number op below s o at kind fits may))
+    subst (λ (k : WordKind). Then k me.1) (sym (word_kind_at-index number kind)) (subst (λ (c : List (ℕ × PermitSlot)). Then (plain kind) c) (sym held) (plainly words family id me number op below s o at kind (slots_of family me.0.out) (by_kind words family id me number op below s o at kind fits may)))
 
 -- the same, by the index that was computed and the operation that was matched
 pub steps_at_word : (words family slots id : ℕ) (me : Me PermitSlot View) (number : ℕ) (kind : WordKind) (at : ℕ) (op op' : Op) → op ≡ op' → at ≡ word_index number kind → number < words → me.1 ≡ slots_of family me.0.out → MayStep kind (word_index number kind) op me.0.owns

@@ -3,7 +3,7 @@ use Rattle.std.specs.Prelude.{◌≡◌, ◌≢◌, ℕ, ◌+◌, ◌*◌, ◌/�
 use Rattle.lot_words.specs.declared.owners.Owner.{Owner}
 use Rattle.lot_words.specs.declared.owners.Owner.TheVariants.{Exclusive, Pending, Upgrading, Upgradable, Shared, Runner, Witness}
 use Rattle.lot_words.specs.declared.words.WordKind.{WordKind}
-use Rattle.lot_words.specs.declared.words.WordKind.TheVariants.{Mutex, RwLock, Condvar, Once, Count}
+use Rattle.lot_words.specs.declared.words.WordKind.TheVariants.{Mutex, RwLock, Condvar, Once, Count, Semaphore}
 
 -- how many owners there are, by a weight of owners
 abbrev pub Owners : Type 0
@@ -62,6 +62,11 @@ IsOnceWord n = (n ≡ 1) ⊎ ((n < 16) × ((n % 8 ≡ 0) ⊎ ((n % 8 ≡ 2) ⊎ 
 abbrev pub IsOnceCode : ℕ → Owners → Type 0
 IsOnceCode n owners = IsOnceWord n × (owners runner ≡ n / 4 % 2) × (0 < owners witness → n ≡ 1)
 
+-- PARKED 1, and 2 for each free permit: with those that are held they are as many as a semaphore may
+-- have, or fewer
+abbrev pub IsSemaphoreCode : ℕ → Owners → Type 0
+IsSemaphoreCode n owners = (n / 2 + owners shared ≤ 2 ^ 62) × (owners everyone ≡ owners shared)
+
 -- the words that owners alone explain. The other kinds are tied to the word of a mutex
 abbrev pub Codes : WordKind → ℕ → Owners → Type 0
 Codes Mutex n owners = IsMutexCode n owners
@@ -69,6 +74,7 @@ Codes RwLock n owners = IsRwLockCode n owners
 Codes Once n owners = IsOnceCode n owners
 Codes Condvar n owners = Unit {0}
 Codes Count n owners = Unit {0}
+Codes (Semaphore permits) n owners = IsSemaphoreCode n owners
 
 -- a condition variable's word: 0, or one more than the number of a mutex
 abbrev pub Shows : (ℕ → Type 0) → ℕ → Type 0

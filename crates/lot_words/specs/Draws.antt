@@ -3,11 +3,16 @@ use Rattle.std.specs.Prelude.{◌≡◌, ℕ, ◌+◌, ◌<◌, ◌≤◌, List,
 use Rattle.lot_base.specs.Words.{apply}
 use Rattle.lot_base.specs.declared.ops.Op.{Op}
 use Rattle.lot_base.specs.declared.ops.Op.TheVariants.{Exchange}
-use Rattle.lot_words.specs.Indices.{counter}
+use Rattle.lot_words.specs.Indices.{counter, permits_in}
 use Rattle.lot_words.specs.Plays.{numbered}
 use Rattle.lot_words.specs.declared.views.View.{View}
 use Rattle.lot_words.specs.declared.views.WordStep.{WordStep}
 use Rattle.lot_words.specs.declared.words.WordKind.{WordKind}
+
+-- words that are drawn without permits
+abbrev pub NoPermits : List WordKind → Type 0
+NoPermits [] = Unit {0}
+NoPermits (kind ∷ kinds) = (permits_in kind ≡ 0) × NoPermits kinds
 
 -- a step at the counter that left it as it was
 abbrev pub IsLook : WordStep → Type 0

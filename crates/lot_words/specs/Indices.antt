@@ -1,7 +1,7 @@
 -- The indices of the words of a lot in its table.
 use Rattle.std.specs.Prelude.{ℕ, ◌+◌, ◌-◌, ◌*◌, ◌%◌, cond, ◌==◌}
 use Rattle.lot_words.specs.declared.words.WordKind.{WordKind}
-use Rattle.lot_words.specs.declared.words.WordKind.TheVariants.{Mutex, RwLock, Condvar, Once, Count}
+use Rattle.lot_words.specs.declared.words.WordKind.TheVariants.{Mutex, RwLock, Condvar, Once, Count, Semaphore}
 
 -- the greatest lot
 abbrev pub most_words : ℕ
@@ -13,6 +13,7 @@ rank RwLock = 1
 rank Condvar = 2
 rank Once = 3
 rank Count = 4
+rank (Semaphore permits) = 5
 
 -- the index of the counter of drawn words
 abbrev pub counter : ℕ
@@ -32,8 +33,19 @@ table_size words = 8 * (words + 1)
 
 abbrev pub kind_of_rank : ℕ → WordKind
 kind_of_rank r = cond (r == 0) Mutex
-    (cond (r == 1) RwLock (cond (r == 2) Condvar (cond (r == 3) Once Count)))
+    (cond (r == 1) RwLock (cond (r == 2) Condvar (cond (r == 3) Once
+    (cond (r == 4) Count (Semaphore 0)))))
 
--- the kind of the word at an index
+-- a kind without the number of permits, which no index tells
+abbrev pub plain : WordKind → WordKind
+plain (Semaphore permits) = Semaphore 0
+plain kind = kind
+
+-- with how many permits a word of this kind is drawn
+abbrev pub permits_in : WordKind → ℕ
+permits_in (Semaphore permits) = permits
+permits_in kind = 0
+
+-- the plain kind of the word at an index
 abbrev pub word_kind_at : ℕ → WordKind
 word_kind_at at = kind_of_rank (at % 8)

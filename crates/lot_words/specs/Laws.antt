@@ -1,16 +1,16 @@
 -- What the codes say of owners.
-use Rattle.std.specs.Prelude.{◌≡◌, ◌≢◌, ◌⊎◌, ℕ, ◌+◌, ◌-◌, ◌*◌, ◌/◌, ◌%◌, ◌^◌, ◌<◌, ◌≤◌, List, true}
+use Rattle.std.specs.Prelude.{◌≡◌, ◌≢◌, ◌⊎◌, ℕ, ◌+◌, ◌-◌, ◌*◌, ◌/◌, ◌%◌, ◌^◌, ◌<◌, ◌≤◌, List, ◌∷◌, ◌++◌, true}
 use Rattle.lot_base.specs.Words.{apply}
 use Rattle.lot_base.specs.declared.ops.Op.{Op}
 use Rattle.lot_base.specs.declared.ops.Op.TheVariants.{Load, Store, Swap, Add, Sub, Or, And, Exchange}
 use Rattle.lot_words.specs.Indices.{word_index}
-use Rattle.lot_words.specs.Views.{owning, owning_with}
-use Rattle.lot_words.specs.Steps.{MayStep, CodesWith, owns_after_step, has}
+use Rattle.lot_words.specs.Views.{owned, owning, owning_with}
+use Rattle.lot_words.specs.Steps.{MayStep, CodesWith, HasAll, owns_after_step, has, holding, so_many_shared, without}
 use Rattle.lot_words.specs.declared.owners.Owner.TheVariants.{Exclusive, Pending, Upgrading, Upgradable, Shared, Runner, Witness}
 use Rattle.lot_words.specs.declared.owners.Ownership.{Ownership}
 use Rattle.lot_words.specs.Codes.{Owners, Codes, IsCountCode, everyone, exclusive, pending, upgrading, upgradable, shared}
 use Rattle.lot_words.specs.declared.words.WordKind.{WordKind}
-use Rattle.lot_words.specs.declared.words.WordKind.TheVariants.{Mutex, RwLock, Once, Condvar, Count}
+use Rattle.lot_words.specs.declared.words.WordKind.TheVariants.{Mutex, RwLock, Once, Condvar, Count, Semaphore}
 
 -- one owner, and nobody beside it
 abbrev pub IsAlone : WordKind → Owners → Type 0
@@ -100,6 +100,44 @@ pub record OnceSteps (at : ℕ) (owns : List Ownership) : Type 0 where
 -- whoever it is, it may take them
 abbrev pub OnceMaySteps : Type 0
 OnceMaySteps = (at : ℕ) (owns : List Ownership) → OnceSteps at owns
+
+-- the kinds of step on a semaphore's word
+pub record SemaphoreSteps (permits at : ℕ) (owns : List Ownership) : Type 0 where
+  pub load : MayStep (Semaphore permits) at Load owns
+  -- a permit that is free is taken
+  pub take : (s : ℕ) → 2 ≤ s → MayStep (Semaphore permits) at (Exchange s (s - 2)) owns
+  pub set_parked : MayStep (Semaphore permits) at (Exchange 0 1) owns
+  pub clear_parked : MayStep (Semaphore permits) at (And 18446744073709551614) owns
+  -- who holds one gives it back
+  pub give : has (owning at Shared) owns ≡ true → MayStep (Semaphore permits) at (Add 2) owns
+  -- and who holds as many as it drew gives them all
+  pub fill : (many : ℕ) → HasAll at (so_many_shared many) owns
+      → MayStep (Semaphore permits) at (Add (2 * many)) owns
+
+-- what its kinds of step trade
+pub record SemaphoreTrades (permits at : ℕ) (owns : List Ownership) : Type 0 where
+  -- who takes a permit has one more
+  pub takes : (s : ℕ) → 2 ≤ s
+      → owns_after_step (Semaphore permits) at (Exchange s (s - 2)) s owns
+      ≡ owning at Shared ∷ owns
+  -- who gives one back has one less
+  pub gives : (n : ℕ) → n / 2 < 2 ^ 62
+      → owns_after_step (Semaphore permits) at (Add 2) n owns ≡ without (owning at Shared) owns
+  -- who drew the word may give all back, and has none of them then
+  pub has_all : (many : ℕ) → HasAll at (so_many_shared many) (holding at many ++ owns)
+  pub fills : (many n : ℕ) → n / 2 + many ≤ 2 ^ 62
+      → owns_after_step (Semaphore permits) at (Add (2 * many)) n (holding at many ++ owns) ≡ owns
+  -- and who finds a code has no more than the free permits leave
+  pub few : (n : ℕ) → CodesWith (Semaphore permits) at n owns
+      → n / 2 + owned at shared owns ≤ 2 ^ 62
+
+-- of whoever it is
+abbrev pub SemaphoreTrading : Type 0
+SemaphoreTrading = (permits at : ℕ) (owns : List Ownership) → SemaphoreTrades permits at owns
+
+-- whoever it is, it may take them
+abbrev pub SemaphoreMaySteps : Type 0
+SemaphoreMaySteps = (permits at : ℕ) (owns : List Ownership) → SemaphoreSteps permits at owns
 
 -- what is known of a `Once` that is done
 pub record OnceKnowledge (at : ℕ) (owns : List Ownership) : Type 0 where

@@ -1,19 +1,20 @@
 -- What each step tells who takes it: of the step, the seat before, the value found and the seat
 -- after.
-use Rattle.std.specs.Prelude.{◌≡◌, ◌≢◌, bit_or, ℕ, ◌+◌, ◌%◌, ◌<◌, List, [], ◌∷◌, ◌++◌}
+use Rattle.std.specs.Prelude.{◌≡◌, ◌≢◌, bit_or, ℕ, ◌+◌, ◌/◌, ◌%◌, ◌^◌, ◌<◌, ◌≤◌, List, [], ◌∷◌, ◌++◌}
 use Rattle.atomic_table.specs.Table.{Me, Step}
 use Rattle.lot_base.specs.declared.ops.Op.{Op}
 use Rattle.lot_base.specs.declared.ops.Op.TheVariants.{Load, Store, Swap, Add, Sub, Or, And, Exchange}
-use Rattle.lot_words.specs.Indices.{counter, word_kind_at}
-use Rattle.lot_words.specs.Codes.{ShowsBeside}
-use Rattle.lot_words.specs.Views.{shown, view, with_out}
+use Rattle.lot_words.specs.Indices.{counter, word_index, word_kind_at}
+use Rattle.lot_words.specs.Codes.{ShowsBeside, shared}
+use Rattle.lot_words.specs.Views.{shown, view, with_out, owned, drew_permits}
 use Rattle.lot_words.specs.Permits.{out_after, slots_of}
 use Rattle.value_place.specs.declared.slot.PermitSlot.{PermitSlot}
-use Rattle.lot_words.specs.Steps.{CodesWith, listed, after_step, without}
+use Rattle.lot_words.specs.Steps.{CodesWith, listed, after_step, holding, without}
 use Rattle.lot_words.specs.declared.owners.Ownership.{Ownership}
 use Rattle.lot_words.specs.declared.views.Drawn.{Drawn}
 use Rattle.lot_words.specs.declared.views.View.{View}
 use Rattle.lot_words.specs.declared.words.WordKind.{WordKind}
+use Rattle.lot_words.specs.declared.words.WordKind.TheVariants.{Semaphore}
 
 abbrev pub Play : Type 0 → Type 1
 Play S = Step S → Me S View → ℕ → Me S View → Type 0
@@ -95,6 +96,35 @@ draws kinds st me found after =
           me.0.drawn found),
       me.1,
     )))
+
+-- a semaphore's word is drawn where the counter is as expected, with so many permits, which who
+-- draws it holds; and else the counter is greater
+abbrev pub draws_permits : {S : Type 0} → ℕ → Play S
+draws_permits permits st me found after =
+    (found ≡ st.first → after ≡ (
+      with_out me.0.out (view (listed me.0 counter (Exchange st.first st.second) found)
+          (holding (word_index found (Semaphore permits)) permits ++ me.0.owns)
+          (numbered found (Semaphore permits ∷ []) ++ me.0.drawn) st.second),
+      me.1,
+    ))
+    × (found ≢ st.first → (st.first < found)
+    × (after ≡ (
+      with_out me.0.out (view (listed me.0 counter (Exchange st.first st.second) found) me.0.owns
+          me.0.drawn found),
+      me.1,
+    )))
+
+-- the free permits of a semaphore of this number, with those that a view names, are no more than
+-- those with which its word was drawn, and these are known to who drew it
+abbrev pub WithinPermits : ℕ → ℕ → View → Type 0
+WithinPermits number n v =
+    (all : ℕ) × (n / 2 + owned (word_index number (Semaphore 0)) shared v.owns ≤ all)
+    × (all ≤ 2 ^ 62) × (0 < drew_permits number v → all ≡ drew_permits number v)
+
+-- a load of such a word
+abbrev pub sees_free : ℕ → ℕ → Play PermitSlot
+sees_free family number st me found after =
+    TakesStep family st.word Load me found after × WithinPermits number found me.0
 
 -- one ownership is split off a view
 abbrev pub left_over : Ownership → View → View

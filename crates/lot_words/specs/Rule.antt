@@ -1,18 +1,18 @@
 -- The ownership rule: what holds of a lot's words and of all views between any two steps.
-use Rattle.std.specs.Prelude.{◌≡◌, ◌≢◌, ◌⊎◌, ℕ, ◌<◌, ◌≤◌, List, [], ◌∷◌, length, slice_index}
+use Rattle.std.specs.Prelude.{◌≡◌, ◌≢◌, ◌⊎◌, ℕ, ◌+◌, ◌/◌, ◌<◌, ◌≤◌, List, [], ◌∷◌, length, slice_index}
 use mathlib.Core.Option.{some}
 use lib.ListN.{get_elem?}
 use Rattle.atomic_table.specs.Table.{State}
 use Rattle.lot_words.specs.Indices.{counter, word_index, table_size, mutex_of_count}
-use Rattle.lot_words.specs.Views.{total, total_below, owned, named, counted, steps_at, outs, drew}
-use Rattle.lot_words.specs.Codes.{Codes, Shows, IsCountCode, exclusive}
+use Rattle.lot_words.specs.Views.{total, total_below, owned, named, counted, steps_at, outs, drew, granted}
+use Rattle.lot_words.specs.Codes.{Codes, Shows, IsCountCode, exclusive, shared}
 use Rattle.lot_words.specs.Permits.{slot_at}
 use Rattle.value_place.specs.declared.slot.PermitSlot.{PermitSlot}
 use Rattle.lot_words.specs.declared.owners.Owner.{Owner}
 use Rattle.lot_words.specs.declared.owners.Ownership.{Ownership}
 use Rattle.lot_words.specs.declared.views.View.{View}
 use Rattle.lot_words.specs.declared.words.WordKind.{WordKind}
-use Rattle.lot_words.specs.declared.words.WordKind.TheVariants.{Mutex, Condvar, Count}
+use Rattle.lot_words.specs.declared.words.WordKind.TheVariants.{Mutex, Condvar, Count, Semaphore}
 
 -- what a condition variable of this number may show, in a lot of so many words: a mutex of the lot,
 -- of another number, on which somebody has stepped
@@ -41,6 +41,11 @@ pub record LotRule (words family : ℕ) (s : State PermitSlot View) : Type 0 whe
       → IsCountCode (slice_index s.words (word_index number Count))
       × (slice_index s.words (word_index number Count)
       ≡ total (λ (v : View). counted (mutex_of_count (word_index number Count)) v.owns) s.views)
+  -- the free permits of a semaphore, with those that all views together name, are those with which
+  -- its word was drawn
+  pub semaphores : (number : ℕ) → number < words
+      → slice_index s.words (word_index number (Semaphore 0)) / 2
+      + named (word_index number (Semaphore 0)) shared s.views ≡ granted number s.views
   -- what is owned is a word of the lot, and not the counter
   pub owned : (at : ℕ) (weight : Owner → ℕ) → 0 < named at weight s.views
       → (0 < at) × (at < length s.words)

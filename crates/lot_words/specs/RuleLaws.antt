@@ -1,16 +1,16 @@
 -- What the rule says of a lot's words and of all views, whoever took which steps.
-use Rattle.std.specs.Prelude.{◌≡◌, ℕ, ◌+◌, ◌%◌, ◌<◌, ◌≤◌, cond, ◌==◌, List, length, slice_index}
+use Rattle.std.specs.Prelude.{◌≡◌, ℕ, ◌+◌, ◌/◌, ◌%◌, ◌<◌, ◌≤◌, cond, ◌==◌, List, length, slice_index}
 use mathlib.Core.Option.{some}
 use lib.ListN.{get_elem?}
 use Rattle.atomic_table.specs.Table.{State}
 use Rattle.lot_words.specs.Indices.{counter, word_index}
-use Rattle.lot_words.specs.Views.{total, drew, steps_at, named}
-use Rattle.lot_words.specs.Codes.{everyone, runner, witness, IsCountCode, Shows}
+use Rattle.lot_words.specs.Views.{total, drew, drew_permits, granted, owned, steps_at, named}
+use Rattle.lot_words.specs.Codes.{everyone, runner, shared, witness, IsCountCode, Shows}
 use Rattle.lot_words.specs.Permits.{slot_at}
 use Rattle.lot_words.specs.Rule.{LotRule, MayBeShown}
 use Rattle.value_place.specs.declared.slot.PermitSlot.{PermitSlot}
 use Rattle.lot_words.specs.declared.views.View.{View}
-use Rattle.lot_words.specs.declared.words.WordKind.TheVariants.{Mutex, Once, Condvar, Count}
+use Rattle.lot_words.specs.declared.words.WordKind.TheVariants.{Mutex, Once, Condvar, Count, Semaphore}
 
 -- how often a number was drawn
 abbrev pub times_drawn : ℕ → List View → ℕ
@@ -67,3 +67,14 @@ UnlockedHasItsPermit = (words family : ℕ) (s : State PermitSlot View) → LotR
     → (number : ℕ) → number < words → slice_index s.words (word_index number Mutex) % 2 ≡ 0
     → get_elem? s.homes (word_index number Mutex)
     ≡ some (some (slot_at family (word_index number Mutex)))
+
+-- the permits that all views name of a semaphore, with the free ones, are those with which its word
+-- was drawn: those of the view that drew it. No view names more, and nobody owns it otherwise
+abbrev pub PermitsAreAllThere : Type 0
+PermitsAreAllThere = (words family : ℕ) (s : State PermitSlot View) → LotRule words family s
+    → (number : ℕ) → number < words → let at = word_index number (Semaphore 0) in
+    (slice_index s.words at / 2 + named at shared s.views ≡ granted number s.views)
+    × (named at everyone s.views ≡ named at shared s.views)
+    × ((seat : ℕ) (v : View) → get_elem? s.views seat ≡ some v →
+    (slice_index s.words at / 2 + owned at shared v.owns ≤ granted number s.views)
+    × (0 < drew_permits number v → granted number s.views ≡ drew_permits number v))

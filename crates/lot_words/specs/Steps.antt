@@ -12,7 +12,7 @@ use Rattle.lot_words.specs.declared.owners.Ownership.{Ownership}
 use Rattle.lot_words.specs.declared.views.View.{View}
 use Rattle.lot_words.specs.declared.views.WordStep.{WordStep}
 use Rattle.lot_words.specs.declared.words.WordKind.{WordKind}
-use Rattle.lot_words.specs.declared.words.WordKind.TheVariants.{Mutex, RwLock, Once, Condvar, Count}
+use Rattle.lot_words.specs.declared.words.WordKind.TheVariants.{Mutex, RwLock, Once, Condvar, Count, Semaphore}
 
 -- what a step takes from who takes it, and what it brings
 pub record Trade : Type 0 where
@@ -81,6 +81,10 @@ abbrev pub so_many_shared : ℕ → List Owner
 so_many_shared zero = []
 so_many_shared (suc n) = Shared ∷ so_many_shared n
 
+-- so many permits of the word at an index
+abbrev pub holding : ℕ → ℕ → List Ownership
+holding at permits = map (owning at) (so_many_shared permits)
+
 -- the owners that so many quarters of a word stand for: 4 for each shared one, 2 for a writer, 5
 -- for an upgradable one
 abbrev pub owners_in : ℕ → Op → ℕ → List Owner
@@ -119,11 +123,17 @@ once_trade found left = trading
     (cond (left == 1) (Witness ∷ [])
     (cond ((found / 4 % 2 == 0) && (left / 4 % 2 == 1)) (Runner ∷ []) []))
 
+-- who takes free permits of a semaphore has them, and who frees some has them no more
+abbrev pub semaphore_trade : ℕ → ℕ → Trade
+semaphore_trade found left =
+    trading (so_many_shared (left / 2 - found / 2)) (so_many_shared (found / 2 - left / 2))
+
 -- of who steps on the word at an index and owns these: by the operation and the value found
 abbrev pub trade : WordKind → ℕ → Op → ℕ → List Ownership → Trade
 trade Mutex at op found owns = mutex_trade found (apply op found)
 trade RwLock at op found owns = rwlock_trade at op found (apply op found) owns
 trade Once at op found owns = once_trade found (apply op found)
+trade (Semaphore permits) at op found owns = semaphore_trade found (apply op found)
 trade _ at op found owns = trading [] []
 
 -- who changes a count word says the new count of its mutex from then on

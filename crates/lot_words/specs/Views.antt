@@ -7,6 +7,7 @@ use Rattle.lot_words.specs.declared.owners.Ownership.{Ownership}
 use Rattle.lot_words.specs.declared.views.View.{View}
 use Rattle.lot_words.specs.declared.views.WordStep.{WordStep}
 use Rattle.lot_words.specs.declared.views.Drawn.{Drawn}
+use Rattle.lot_words.specs.Indices.{permits_in}
 
 -- with no permit out
 abbrev pub view : List WordStep → List Ownership → List Drawn → ℕ → View
@@ -73,3 +74,12 @@ outs at v = total (λ (k : ℕ). cond (k == at) 1 0) v.out
 -- the drawn words of a view, by a weight of numbers
 abbrev pub drew : (ℕ → ℕ) → View → ℕ
 drew weight v = total (λ (word : Drawn). weight word.number) v.drawn
+
+-- the permits with which a view drew the word of this number
+abbrev pub drew_permits : ℕ → View → ℕ
+drew_permits number v =
+    total (λ (word : Drawn). cond (word.number == number) (permits_in word.kind) 0) v.drawn
+
+-- the permits with which it was drawn
+abbrev pub granted : ℕ → List View → ℕ
+granted number views = total (drew_permits number) views

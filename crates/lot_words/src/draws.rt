@@ -1,10 +1,12 @@
 //! How words are drawn: each once, from a counter that never falls.
-ghost use Rattle.std.specs.Prelude.{◌≡◌, ◌+◌, ◌<◌, ◌⊎◌, [], ◌∷◌, length, IfOk, MatchOption, MatchResult};
+ghost use Rattle.std.specs.Prelude.{◌≡◌, ◌+◌, ◌^◌, ◌<◌, ◌≤◌, ◌++◌, ◌⊎◌, [], ◌∷◌, length, IfOk, MatchOption, MatchResult};
 ghost use Rattle.lot_words.specs.Lots.{IsSeatOf, IsWordOf};
-ghost use Rattle.lot_words.specs.Draws.{IsDrawn, IsDrawRefused};
-ghost use Rattle.lot_words.specs.declared.words.WordKind.TheVariants.{Mutex, Count};
+ghost use Rattle.lot_words.specs.Draws.{IsDrawn, IsDrawRefused, NoPermits};
+ghost use Rattle.lot_words.specs.Indices.{permits_in, word_index};
+ghost use Rattle.lot_words.specs.Steps.{holding};
+ghost use Rattle.lot_words.specs.declared.words.WordKind.TheVariants.{Mutex, Count, Semaphore};
 
-use crate::plays::{Draws, Kinds, Looks};
+use crate::plays::{Draws, DrawsPermits, Kinds, Looks, ManyPick};
 use crate::table::{LotWords, Seat};
 use crate::words::{Word, WordKind};
 use lot_base::Fault;
@@ -18,6 +20,7 @@ impl LotWords {
     fn draw<K: Kinds>(&self, seat: &mut Seat, kinds: &[WordKind]) -> Option<usize>
         requires own { IsSeatOf self.now seat.old }
         requires kinds { (K.kinds ≡ kinds.now) × (0 < length kinds.now) }
+        requires bare { NoPermits kinds.now }
         ensures own { IsSeatOf self.now seat.new
             × (seat.new.me.0.owns ≡ seat.old.me.0.owns) }
         ensures drawn { MatchOption result
@@ -40,7 +43,8 @@ impl LotWords {
     /// The next word, of this kind. It is refused, by `LotFull`, only where a step saw no word
     /// left.
     pub fn new_word(&self, seat: &mut Seat, kind: WordKind) -> Result<Word, Fault>
-        requires { IsSeatOf self.now seat.old }
+        requires own { IsSeatOf self.now seat.old }
+        requires bare { permits_in kind ≡ 0 }
         ensures own { IsSeatOf self.now seat.new
             × (seat.new.me.0.owns ≡ seat.old.me.0.owns) }
         ensures word { IfOk result (λ word. IsWordOf self.now word × (word.kind ≡ kind)) }
@@ -76,6 +80,58 @@ impl LotWords {
                 let count = Word::new(number + 1, WordKind::Count, self.tag);
                 Ok((mutex, count))
             }
+            None => Err(Fault::LotFull),
+        }
+    }
+
+    // Draws a semaphore's word, with all its permits. It gives the number.
+    fn draw_permits<M: ManyPick>(&self, seat: &mut Seat, permits: u64) -> Option<usize>
+        requires own { IsSeatOf self.now seat.old }
+        requires many { (M.many ≡ permits) × (permits ≤ 2 ^ 62) }
+        ensures own { IsSeatOf self.now seat.new }
+        ensures held { MatchOption result
+            (seat.new.me.0.owns ≡ seat.old.me.0.owns)
+            (λ number. seat.new.me.0.owns
+            ≡ holding (word_index number (Semaphore permits)) permits ++ seat.old.me.0.owns) }
+        ensures drawn { MatchOption result
+            (IsDrawRefused self.now.count 1 seat.old.me.0 seat.new.me.0)
+            (λ number. IsDrawn self.now.count
+            (Semaphore permits ∷ []) number seat.old.me.0 seat.new.me.0) }
+    {
+        let words = self.count as u64;
+        let _many = permits;
+        let counter = &self.table.shared;
+        let mut seen = counter.load::<Looks>(seat, COUNTER);
+        while seen < words {
+            let found = counter.compare_exchange::<DrawsPermits<M>>(seat, COUNTER, seen, seen + 1);
+            if found == seen {
+                return Some(seen as usize);
+            }
+            seen = found;
+        }
+        None
+    }
+
+    /// The next word, of a semaphore of so many permits. The seat holds them all, and the word is 0
+    /// until it gives them back.
+    pub fn new_semaphore(&self, seat: &mut Seat, permits: u64) -> Result<Word, Fault>
+        requires own { IsSeatOf self.now seat.old }
+        requires few { permits ≤ 2 ^ 62 }
+        ensures own { IsSeatOf self.now seat.new }
+        ensures word { IfOk result
+            (λ word. IsWordOf self.now word × (word.kind ≡ Semaphore permits)) }
+        ensures held { MatchResult result
+            (λ word. seat.new.me.0.owns
+            ≡ holding (word_index word.number (Semaphore permits)) permits ++ seat.old.me.0.owns)
+            (λ fault. seat.new.me.0.owns ≡ seat.old.me.0.owns) }
+        ensures drawn { MatchResult result
+            (λ word. IsDrawn self.now.count
+            (Semaphore permits ∷ []) word.number seat.old.me.0 seat.new.me.0)
+            (λ fault. (fault ≡ Fault.LotFull)
+            × IsDrawRefused self.now.count 1 seat.old.me.0 seat.new.me.0) }
+    {
+        match self.draw_permits::<Brand>(seat, permits) {
+            Some(number) => Ok(Word::new(number, WordKind::Semaphore { permits }, self.tag)),
             None => Err(Fault::LotFull),
         }
     }

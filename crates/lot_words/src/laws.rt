@@ -1,6 +1,6 @@
 //! What the rule says to who takes a step, whoever else takes steps.
-ghost use Rattle.lot_words.specs.Laws.{CondvarMaySteps, CountMaySteps, ExclusiveIsAlone, MutexMaySteps, OnceIsKnown, OnceMaySteps, RwLockMaySteps};
-ghost use Rattle.lot_words.specs.RuleLaws.{CountsAnOwner, DrawnOnce, NeverFalls, RunsOneAtATime, ShownIsAMutex, UnlockedHasItsPermit, UntouchedIs0};
+ghost use Rattle.lot_words.specs.Laws.{CondvarMaySteps, CountMaySteps, ExclusiveIsAlone, MutexMaySteps, OnceIsKnown, OnceMaySteps, RwLockMaySteps, SemaphoreMaySteps, SemaphoreTrading};
+ghost use Rattle.lot_words.specs.RuleLaws.{CountsAnOwner, DrawnOnce, NeverFalls, PermitsAreAllThere, RunsOneAtATime, ShownIsAMutex, UnlockedHasItsPermit, UntouchedIs0};
 
 /// In every word of a mutex or a reader-writer lock that a step can find, an exclusive owner stands
 /// beside no other owner.
@@ -24,6 +24,18 @@ pub fn rwlock_may_step()
 /// parked by anybody, and left done or poisoned by who runs it.
 pub fn once_may_step()
     ensures { OnceMaySteps }
+{}
+
+/// A semaphore's word may be loaded, marked as parked and cleared of that by anybody. A free permit
+/// may be taken by anybody, and given back by who holds one, and all by who drew the word.
+pub fn semaphore_may_step()
+    ensures { SemaphoreMaySteps }
+{}
+
+/// Who takes a permit of a semaphore has one more, who gives one back one less, and who gives all
+/// back that it drew has none of them.
+pub fn semaphore_trades()
+    ensures { SemaphoreTrading }
 {}
 
 /// Who finds a `Once` done, or leaves it so, knows it, and does so behind each further step. It is
@@ -80,4 +92,10 @@ pub fn runs_one_at_a_time()
 /// The permit of the value that an unlocked mutex guards lies in the slot beside its word.
 pub fn unlocked_mutex_has_its_permit()
     ensures { UnlockedHasItsPermit }
+{}
+
+/// The permits that all views name of a semaphore, with the free ones, are those with which its
+/// word was drawn.
+pub fn permits_are_all_there()
+    ensures { PermitsAreAllThere }
 {}

@@ -3,6 +3,7 @@
 #![tactic(auto)]
 
 pub mod draws;
+pub mod free;
 pub mod laws;
 pub mod owners;
 pub mod permits;

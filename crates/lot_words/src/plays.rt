@@ -2,7 +2,7 @@
 ghost use Rattle.std.specs.Prelude.{ℕ, [], ◌∷◌, List};
 ghost use Rattle.lot_words.specs.Rule.{LotRule};
 ghost use Rattle.lot_words.specs.Views.{blank, owning, with_out};
-ghost use Rattle.lot_words.specs.Plays.{adds, ands, draws, enters, exchanges, goes_on_with, lays_back, leaves, leaves_alone, left_over, loads, looks, ors, piece, saw_set, sees_locked, sees_shown, stores, subs, swaps, takes_in, takes_out, tries_seen};
+ghost use Rattle.lot_words.specs.Plays.{adds, ands, draws, draws_permits, enters, exchanges, goes_on_with, lays_back, leaves, leaves_alone, left_over, loads, looks, ors, piece, saw_set, sees_free, sees_locked, sees_shown, stores, subs, swaps, takes_in, takes_out, tries_seen};
 ghost use Rattle.lot_words.specs.declared.owners.Ownership.{Ownership};
 ghost use Rattle.lot_words.specs.declared.owners.Owner.TheVariants.{Exclusive};
 ghost use Rattle.lot_words.specs.declared.words.WordKind.{WordKind};
@@ -163,6 +163,43 @@ pub struct Draws<K: Kinds> {
 
 impl<S, K: Kinds> Play<S, View> for Draws<K> {
     ghost then = { draws K.kinds };
+}
+
+/// With how many permits a semaphore's word is drawn, picked at each call.
+pub trait ManyPick {
+    ghost many: { ℕ };
+}
+
+impl ManyPick for Brand {
+    ghost many = { 0 };
+}
+
+/// A draw of such a word.
+pub struct DrawsPermits<M: ManyPick> {
+    many: PhantomData<M>,
+}
+
+impl<S, M: ManyPick> Play<S, View> for DrawsPermits<M> {
+    ghost then = { draws_permits M.many };
+}
+
+/// The number of a semaphore's word, picked at each call.
+pub trait NumberPick {
+    ghost number: { ℕ };
+}
+
+impl NumberPick for Brand {
+    ghost number = { 0 };
+}
+
+/// A load of such a word, which tells how many permits may be free.
+pub struct SeesFree<N: NumberPick, P: PermitPick> {
+    number: PhantomData<N>,
+    pick: PhantomData<P>,
+}
+
+impl<N: NumberPick, P: PermitPick> Play<PermitSlot, View> for SeesFree<N, P> {
+    ghost then = { sees_free P.family N.number };
 }
 
 /// The ownership that is split off, picked at each call.

@@ -11,6 +11,8 @@ pub enum WordKind {
     Once,
     /// How often a reentrant mutex is locked, and by whom. It is drawn with the word of its mutex.
     Count,
+    /// A semaphore of so many permits, which who draws the word holds.
+    Semaphore { permits: u64 },
 }
 
 impl WordKind {
@@ -25,6 +27,7 @@ impl WordKind {
             WordKind::Condvar => 2,
             WordKind::Once => 3,
             WordKind::Count => 4,
+            WordKind::Semaphore { .. } => 5,
         }
     }
 }

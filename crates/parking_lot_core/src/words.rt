@@ -1,19 +1,19 @@
 //! Steps on words, draws and rights, by tokens.
 #![tactic(auto, unfolding(crate::specs::Tokens::view_of))]
 
-ghost use Rattle.std.specs.Prelude.{◌≡◌, ◌≢◌, ℕ, ◌+◌, ◌%◌, ◌<◌, ◌≤◌, ◌⊎◌, ◌∷◌, [], true, None, IfOk, MatchOption, MatchResult};
-ghost use Rattle.lot_words.specs.Indices.{word_index};
+ghost use Rattle.std.specs.Prelude.{◌≡◌, ◌≢◌, ℕ, ◌+◌, ◌%◌, ◌^◌, ◌<◌, ◌≤◌, ◌⊎◌, ◌∷◌, ◌++◌, [], true, None, IfOk, MatchOption, MatchResult};
+ghost use Rattle.lot_words.specs.Indices.{permits_in, plain, word_index};
 ghost use Rattle.lot_words.specs.Codes.{IsCountCode, ShowsBeside};
 ghost use Rattle.lot_words.specs.Views.{HasSeen};
-ghost use Rattle.lot_words.specs.Steps.{MayStep, CodesWith, after_step, has};
+ghost use Rattle.lot_words.specs.Steps.{MayStep, CodesWith, after_step, has, holding};
 ghost use Rattle.lot_words.specs.Draws.{IsDrawn, IsDrawRefused};
 ghost use Rattle.lot_words.specs.Lots.{IsWordOf, permit_of};
-ghost use Rattle.lot_words.specs.Plays.{left_over, stepping, takes_in};
+ghost use Rattle.lot_words.specs.Plays.{WithinPermits, left_over, stepping, takes_in};
 ghost use Rattle.lot_words.specs.Rights.{leaving_alone, named_by, owner_for, piece_of, OwnsWith};
 ghost use Rattle.lot_words.specs.Permits.{out_after};
 ghost use Rattle.lot_words.specs.RightsOf.{IsHeldOf, IsOpenOf, IsRightOf};
 ghost use Rattle.lot_words.specs.declared.owners.Owner.TheVariants.{Exclusive};
-ghost use Rattle.lot_words.specs.declared.words.WordKind.TheVariants.{Mutex, Condvar, Count};
+ghost use Rattle.lot_words.specs.declared.words.WordKind.TheVariants.{Mutex, Condvar, Count, Semaphore};
 ghost use Rattle.lot_base.specs.declared.ops.Op.TheVariants.{Add, Exchange, Load, Or, Sub};
 ghost use Rattle.parking_lot_core.specs.Tokens.{IsTokenOf, IsSameThread, view_of, out_of, last_of};
 
@@ -161,7 +161,8 @@ impl ParkingLot {
     ///
     /// `LotFull`, only where a step saw no word left. Nothing is drawn then.
     pub fn new_word(&self, token: &mut Token, kind: WordKind) -> Result<Word, Fault>
-        requires { IsTokenOf self.now token.old }
+        requires own { IsTokenOf self.now token.old }
+        requires bare { permits_in kind ≡ 0 }
         ensures own { IsSameThread self.now token.old token.new
             × ((view_of token.new).owns ≡ (view_of token.old).owns) }
         ensures word { IfOk result (λ word. IsWordOf self.now.words word × (word.kind ≡ kind)) }
@@ -173,6 +174,50 @@ impl ParkingLot {
     {
         token.forget_section();
         self.words.new_word(&mut token.seat, kind)
+    }
+
+    /// The next word, of a semaphore of so many permits. The thread holds them all, and the word is
+    /// 0 until it gives them back.
+    ///
+    /// # Errors
+    ///
+    /// `LotFull`, only where a step saw no word left. Nothing is drawn then.
+    pub fn new_semaphore(&self, token: &mut Token, permits: u64) -> Result<Word, Fault>
+        requires own { IsTokenOf self.now token.old }
+        requires few { permits ≤ 2 ^ 62 }
+        ensures own { IsSameThread self.now token.old token.new }
+        ensures word { IfOk result
+            (λ word. IsWordOf self.now.words word × (word.kind ≡ Semaphore permits)) }
+        ensures held { MatchResult result
+            (λ word. (view_of token.new).owns
+            ≡ holding (word_index word.number (Semaphore permits)) permits
+            ++ (view_of token.old).owns)
+            (λ fault. (view_of token.new).owns ≡ (view_of token.old).owns) }
+        ensures drawn { MatchResult result
+            (λ word. IsDrawn self.now.words.count
+            (Semaphore permits ∷ []) word.number (view_of token.old) (view_of token.new))
+            (λ fault. (fault ≡ Fault.LotFull)
+            × IsDrawRefused self.now.words.count 1 (view_of token.old) (view_of token.new)) }
+    {
+        token.forget_section();
+        self.words.new_semaphore(&mut token.seat, permits)
+    }
+
+    /// The word of a semaphore, by one load, as a step. The permits that are free by it, with those
+    /// that the token's view names, are no more than those with which it was drawn, which are known
+    /// to who drew it.
+    #[inline]
+    pub fn look_free(&self, token: &mut Token, semaphore: Word) -> u64
+        requires { IsTokenOf self.now token.old × IsWordOf self.now.words semaphore
+            × (plain semaphore.kind ≡ Semaphore 0) }
+        ensures own { IsSameThread self.now token.old token.new × (last_of token.new ≡ None) }
+        ensures stepped { view_of token.new
+            ≡ after_step (Semaphore 0) (word_index semaphore.number (Semaphore 0)) Load result
+            (view_of token.old) }
+        ensures within { WithinPermits semaphore.number result (view_of token.old) }
+    {
+        token.forget_at_once();
+        self.words.look_free(&mut token.seat, semaphore)
     }
 
     /// The next two words, a mutex and the count of how often it is locked, or none.

@@ -1,6 +1,7 @@
 //! One thread.
 ghost use Rattle.std.specs.Prelude.{◌≡◌, ◌<◌};
 ghost use Rattle.lot_base.specs.declared.keys.Keys.TheVariants.{One, Two};
+ghost use Rattle.lot_words.specs.Indices.{permits_in};
 ghost use Rattle.lot_words.specs.Lots.{IsWordOf};
 ghost use Rattle.lot_words.specs.declared.words.WordKind.TheVariants.{Mutex};
 ghost use Rattle.parking_lot_core.specs.Keys.{IsKeyOf};
@@ -156,7 +157,8 @@ fn an_owner_may_store(rt: HostRuntime) {
 type Drawn = Result<(usize, WordKind), Fault>;
 
 fn draw(lot: &ParkingLot, token: &mut Token, kind: WordKind) -> Drawn
-    requires { IsTokenOf lot.now token.old }
+    requires own { IsTokenOf lot.now token.old }
+    requires bare { permits_in kind ≡ 0 }
     ensures { IsSameThread lot.now token.old token.new }
 {
     let word = lot.new_word(token, kind)?;

@@ -1,8 +1,9 @@
-use Rattle.std.proofs.Common.{ℕ, ◌+◌, [], ◌∷◌, ◌++◌, ◌∙◌, ap, arith, length, sym}
+use Rattle.std.proofs.Common.{ℕ, ◌+◌, [], ◌∷◌, ◌++◌, ◌∙◌, ap, arith, length, sym, subst}
 use Rattle.lot_base.specs.declared.ops.Op.TheVariants.{Exchange, Load}
 use Rattle.lot_words.specs.Indices.{counter}
 use Rattle.lot_words.specs.Permits.{slots_of}
 use Rattle.lot_words.specs.Plays.{numbered}
+use Rattle.lot_words.specs.Draws.{NoPermits}
 use Rattle.lot_words.proofs.Keeps.{look, draw_so_many}
 use Rattle.lot_words.proofs.Looks.{Looked-from, first_look, next_look}
 use Rattle.lot_words.proofs.table.LotWords.draw.Goals as goal
@@ -13,7 +14,7 @@ load-seen-requires g c = let sized = c.args.self.now.sized in let sized₀ = siz
 
 pub compare_exchange-found-requires : goal.compare_exchange-found-requires
 compare_exchange-found-requires g c = let lot = c.args.self.now in let sized = lot.sized in let sized₀ = sized.0 in let sized₁ = sized.1 in
-    (c.loop-seen.invariant.own.0.0, omega arith, draw_so_many lot.table.shared.key.0 lot.table.shared.key.1.family lot.table.shared.table_id.slots c.loop-seen.seat.id c.loop-seen.seat.me g.K.Kinds.kinds c.loop-seen.seen (length c.args.kinds.now) (ap length c.requires.kinds.0) c.loop-seen.invariant.saw (omega arith))
+    (c.loop-seen.invariant.own.0.0, omega arith, draw_so_many lot.table.shared.key.0 lot.table.shared.key.1.family lot.table.shared.table_id.slots c.loop-seen.seat.id c.loop-seen.seat.me g.K.Kinds.kinds c.loop-seen.seen (length c.args.kinds.now) (subst NoPermits (sym c.requires.kinds.0) c.requires.bare) (ap length c.requires.kinds.0) c.loop-seen.invariant.saw (omega arith))
 
 pub loop-seen-preserved : goal.loop-seen-preserved
 loop-seen-preserved g c = let same = c.loop-seen.invariant in let before = c.loop-seen.seat.me.0 in let after = c.compare_exchange-found.new.seat.me.0 in
