@@ -176,7 +176,7 @@ RWLOCK = {"read", "read_timed", "try_read", "upgradable", "upgradable_timed", "t
 FAIR = {"unlock_shared_fair", "unlock_exclusive_fair", "unlock_upgradable_fair", "bump_shared", "bump_exclusive", "bump_upgradable"}
 WAITS = {"wait", "wait_timed"}
 CONDVAR = WAITS | {"notify_one", "notify_all"}
-ONCE = {"call_once", "call_once_force", "wait", "wait_force"}
+ONCE = {"call_once", "call_once_force", "wait", "wait_force", "wait_timed"}
 RIGHT = {"unlock": "x", "unlock_fair": "x", "bump": "x", "unlock_shared": "s", "unlock_shared_fair": "s", "bump_shared": "s",
          "unlock_exclusive": "x", "unlock_exclusive_fair": "x", "bump_exclusive": "x", "downgrade": "x", "downgrade_to_upgradable": "x",
          "unlock_upgradable": "u", "unlock_upgradable_fair": "u", "bump_upgradable": "u", "downgrade_upgradable": "u",
@@ -250,7 +250,7 @@ class Call:
                 last = not q
                 if line == "second" or last:
                     def clear():
-                        l.word &= ~(2 if line == "second" or l.kind in ("mutex", "fair") else P)
+                        l.word &= ~(2 if line == "second" or l.kind in ("mutex", "fair") else MARKED if l.kind == "once" else P)
                         self.leave(line, "normal", gave_up)
                     self.then(clear)
                 else:
@@ -657,7 +657,7 @@ class Call:
     # ------------------------------------------------ once
     def o_load(self): self.o_loop(self.l.word)
     def o_loop(self, s):
-        if s & DONE: return self.end("ok")
+        if s & DONE: return self.end("yes" if self.t.timed else "ok")
         if s & POISONED and not self.forced: return self.end("poisoned")
         if self.runs and not s & RUNNING:
             def step():
@@ -677,7 +677,7 @@ class Call:
         if self.runs: return w == RUNNING + MARKED
         return w & MARKED != 0 and not w & DONE and (self.forced or not w & POISONED)
     def o_park(self):
-        self.park("main", self.o_waits, "c" if self.runs else "w", lambda note: self.then(self.o_load), None)
+        self.park("main", self.o_waits, "c" if self.runs else "w", lambda note: self.then(self.o_load), lambda: self.end("no"))
     def o_close(self, succeeded):
         seen, self.l.word, self.l.runner = self.l.word, DONE if succeeded else POISONED, None
         answer = "ok" if succeeded else "failed"

@@ -27,7 +27,7 @@ want_of (Some (Releases l x fair)) = None
 want_of (Some (Converts l x y how)) = Some y
 want_of (Some (Bumps l x)) = Some x
 want_of (Some (CallsOnce l forced)) = None
-want_of (Some (Awaits l forced)) = None
+want_of (Some (Awaits l forced timed)) = None
 want_of (Some (Waits l m timed)) = Some Exclusive
 want_of (Some (Notifies l all)) = None
 
@@ -53,7 +53,7 @@ WakesWaiters sort (Some (Converts k x y how)) gave_up recalls l =
     (k ≡ l) × ((y ≢ Exclusive) ⊎ ((gave_up ≡ Some l) × (has_readers sort ≡ true)))
 WakesWaiters sort (Some (Bumps k x)) gave_up recalls l = (k ≡ l) × (x ≢ Exclusive)
 WakesWaiters sort (Some (CallsOnce k forced)) gave_up recalls l = k ≡ l
-WakesWaiters sort (Some (Awaits k forced)) gave_up recalls l = ⊥
+WakesWaiters sort (Some (Awaits k forced timed)) gave_up recalls l = ⊥
 WakesWaiters sort (Some (Waits k m timed)) gave_up recalls l = m ≡ l
 WakesWaiters sort (Some (Notifies k all)) gave_up recalls l = mutex_seen recalls ≡ Some l
 

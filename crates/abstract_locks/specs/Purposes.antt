@@ -29,9 +29,9 @@ pub data Purpose : Type 0 where
   Releases : (lock : ℕ) → (right : Want) → (fair : Bool) → Purpose
   Converts : (lock : ℕ) → (right want : Want) → Patience → Purpose
   Bumps : (lock : ℕ) → (right : Want) → Purpose
-  -- of a `Once`: it runs a closure, or waits for another's run
+  -- of a `Once`: it runs a closure, or waits for another's run, up to a deadline or without one
   CallsOnce : (lock : ℕ) → (forced : Bool) → Purpose
-  Awaits : (lock : ℕ) → (forced : Bool) → Purpose
+  Awaits : (lock : ℕ) → (forced timed : Bool) → Purpose
   -- of a condition variable: it gives the mutex up until it is notified, up to a deadline or
   -- without one; or it notifies the first, or all
   Waits : (lock mutex : ℕ) → (timed : Bool) → Purpose
@@ -79,7 +79,8 @@ rwlock_purpose l (rwlock_call.Bump x) = Bumps l (wanted x)
 
 abbrev pub once_purpose : ℕ → OnceCall → Purpose
 once_purpose l (once_call.CallOnce forced) = CallsOnce l forced
-once_purpose l (once_call.Wait forced) = Awaits l forced
+once_purpose l (once_call.Wait forced) = Awaits l forced false
+once_purpose l once_call.WaitTimed = Awaits l false true
 
 abbrev pub condvar_purpose : ℕ → CondvarCall → Purpose
 condvar_purpose l (condvar_call.Wait m timed) = Waits l m timed
@@ -135,7 +136,7 @@ lock_for (Releases l x fair) = l
 lock_for (Converts l x y how) = l
 lock_for (Bumps l x) = l
 lock_for (CallsOnce l forced) = l
-lock_for (Awaits l forced) = l
+lock_for (Awaits l forced timed) = l
 lock_for (Waits l m timed) = l
 lock_for (Notifies l all) = l
 
@@ -145,7 +146,7 @@ MayWait (Some (Enters l x how)) k = (l ≡ k) × (how ≢ Try)
 MayWait (Some (Converts l x y how)) k = (l ≡ k) × (how ≢ Try)
 MayWait (Some (Bumps l x)) k = l ≡ k
 MayWait (Some (CallsOnce l forced)) k = l ≡ k
-MayWait (Some (Awaits l forced)) k = l ≡ k
+MayWait (Some (Awaits l forced timed)) k = l ≡ k
 MayWait (Some (Waits l m timed)) k = (l ≡ k) ⊎ (m ≡ k)
 MayWait (Some (Releases l x fair)) k = ⊥
 MayWait (Some (Notifies l all)) k = ⊥
@@ -222,9 +223,11 @@ CallsOnceBy forced (OfOnce case) = Unit {0}
 CallsOnceBy forced Wake = Unit {0}
 CallsOnceBy forced case = ⊥
 
-abbrev pub AwaitsBy : Bool → LockCase → Type 0
-AwaitsBy forced (OfOnce (Rest x by)) = (x ≡ Wait) × (by ≡ forced)
-AwaitsBy forced case = ⊥
+-- a call that only waits: it gives up where it has a deadline
+abbrev pub AwaitsBy : Bool → Bool → Option ℕ → LockCase → Type 0
+AwaitsBy forced timed gave_up (OfOnce (Rest x by)) = (x ≡ Wait) × (by ≡ forced)
+AwaitsBy forced timed gave_up Late = (timed ≡ true) × (gave_up ≡ None)
+AwaitsBy forced timed gave_up case = ⊥
 
 -- what a wait does to its condition variable: it gives up only where it has a deadline, and hides
 -- only after it gave up
@@ -269,7 +272,8 @@ IsMadeOf (Converts l x y p) gave_up released recalls k case =
 IsMadeOf (Bumps l x) gave_up released recalls k case =
     (k ≡ l) × (GivesWay x released case ⊎ ((released ≡ true) × EntersBy x Patient gave_up case))
 IsMadeOf (CallsOnce l forced) gave_up released recalls k case = (k ≡ l) × CallsOnceBy forced case
-IsMadeOf (Awaits l forced) gave_up released recalls k case = (k ≡ l) × AwaitsBy forced case
+IsMadeOf (Awaits l forced timed) gave_up released recalls k case =
+    (k ≡ l) × AwaitsBy forced timed gave_up case
 IsMadeOf (Waits l m timed) gave_up released recalls k case =
     ((k ≡ l) × WaitsThere m timed gave_up released case)
     ⊎ ((k ≡ m) × WaitsBeside timed gave_up released recalls case)

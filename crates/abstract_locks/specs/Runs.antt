@@ -296,9 +296,14 @@ CallsOnceAnswer w t c l forced answer.TheVariants.Poisoned =
 CallsOnceAnswer w t c l forced answer.TheVariants.Failed = (c.failed ≡ true) × Keeps w t c
 CallsOnceAnswer w t c l forced a = ⊥
 
-abbrev pub AwaitsAnswer : LocksState → ℕ → CallState → ℕ → Bool → Answer → Type 0
-AwaitsAnswer w t c l forced answer.TheVariants.Failed = ⊥
-AwaitsAnswer w t c l forced a = CallsOnceAnswer w t c l forced a
+-- a wait with a deadline answers no only where it gave up
+abbrev pub AwaitsAnswer : LocksState → ℕ → CallState → ℕ → Bool → Bool → Answer → Type 0
+AwaitsAnswer w t c l forced false answer.TheVariants.Ok = ((w.locks l).phase ≡ Done) × Keeps w t c
+AwaitsAnswer w t c l forced true answer.TheVariants.Yes = ((w.locks l).phase ≡ Done) × Keeps w t c
+AwaitsAnswer w t c l forced true answer.TheVariants.No = (c.gave_up ≡ Some l) × Keeps w t c
+AwaitsAnswer w t c l forced timed answer.TheVariants.Poisoned =
+    ((w.locks l).phase ≡ Poisoned) × (forced ≡ false) × Keeps w t c
+AwaitsAnswer w t c l forced timed a = ⊥
 
 -- its mutex is owned again, got since it released it
 abbrev pub HasAgain : LocksState → ℕ → CallState → Type 0
@@ -346,7 +351,7 @@ AnswerHolds (Some (Releases l x fair)) w t c answer.TheVariants.Ok = Loses w t c
 AnswerHolds (Some (Converts l x y how)) w t c a = ConvertsAnswer w t c l x y how a
 AnswerHolds (Some (Bumps l x)) w t c a = BumpsAnswer w t c l x a
 AnswerHolds (Some (CallsOnce l forced)) w t c a = CallsOnceAnswer w t c l forced a
-AnswerHolds (Some (Awaits l forced)) w t c a = AwaitsAnswer w t c l forced a
+AnswerHolds (Some (Awaits l forced timed)) w t c a = AwaitsAnswer w t c l forced timed a
 AnswerHolds (Some (Waits l m timed)) w t c a = WaitsAnswer w t c l m timed a
 AnswerHolds (Some (Notifies l all)) w t c a = NotifiesAnswer w t c l all a
 AnswerHolds purpose w t c a = ⊥
@@ -389,7 +394,7 @@ HasRight w t (Some (Waits l m timed)) =
     (is_plain_mutex (w.kinds m) ≡ true) × Owns (w.locks m) t Exclusive
 HasRight w t (Some (Enters l x how)) = Unit {0}
 HasRight w t (Some (CallsOnce l forced)) = Unit {0}
-HasRight w t (Some (Awaits l forced)) = Unit {0}
+HasRight w t (Some (Awaits l forced timed)) = Unit {0}
 HasRight w t (Some (Notifies l all)) = Unit {0}
 
 abbrev pub purpose_at : LocksState → Call → Option Purpose
@@ -423,6 +428,7 @@ pub record MayGo (w : LocksState) (t : ℕ) : Type 0 where
 abbrev pub IsTimed : Option Purpose → Recall → ℕ → Type 0
 IsTimed (Some (Enters l x how)) recalls k = (l ≡ k) × (how ≡ Timed)
 IsTimed (Some (Converts l x y how)) recalls k = (l ≡ k) × (how ≡ Timed)
+IsTimed (Some (Awaits l forced timed)) recalls k = (l ≡ k) × (timed ≡ true)
 IsTimed (Some (Waits l m timed)) recalls k =
     (timed ≡ true) × ((l ≡ k) ⊎ ((m ≡ k) × (recalls ≡ WasMoved)))
 IsTimed purpose recalls k = ⊥

@@ -216,7 +216,7 @@ called (Releases k x fair) before now later h = h
 called (Converts k x y how) before now later h = h
 called (Bumps k x) before now later h = h
 called (CallsOnce k forced) before now later h = absurd h
-called (Awaits k forced) before now later h = absurd h
+called (Awaits k forced timed) before now later h = absurd h
 called (Waits k m timed) before now later h = absurd h
 called (Notifies k all) before now later h = absurd h
 
@@ -318,7 +318,7 @@ module _ (w v : LocksState) (l t : ℕ) (o : Outcome) (state : AreLockStates w) 
           by_call (Bumps k x) answer.ReadersFull here before h = loses_few v t went l x no_rights (omega arith) before (subst (λ j. Loses v t went j x) here h.1)
           by_call (Bumps k x) a here before h = absurd h
           by_call (CallsOnce k forced) a here before h = absurd before
-          by_call (Awaits k forced) a here before h = absurd before
+          by_call (Awaits k forced timed) a here before h = absurd before
           by_call (Waits k m timed) a here before h = absurd before
           by_call (Notifies k all) a here before h = absurd before
 
@@ -359,6 +359,6 @@ few_begin w v l t c o few idle releases right stays u = elim (cases_eq u t) [
     begun (Some (Converts k x y how)) here owns led = absurd here
     begun (Some (Bumps k x)) here owns led = absurd here
     begun (Some (CallsOnce k forced)) here owns led = absurd here
-    begun (Some (Awaits k forced)) here owns led = absurd here
+    begun (Some (Awaits k forced timed)) here owns led = absurd here
     begun (Some (Waits k m timed)) here owns led = absurd here
     begun (Some (Notifies k all)) here owns led = absurd here

@@ -71,7 +71,7 @@ answered v t c now (Releases k x fair) a here before h = absurd h
 answered v t c now (Converts k x y how) a here before h = converts_none v t c before x y how a (subst (λ j. ConvertsAnswer v t c j x y how a) here h)
 answered v t c now (Bumps k x) a here before h = bumps_none v t c before x a (subst (λ j. BumpsAnswer v t c j x a) here h)
 answered v t c now (CallsOnce k forced) a here before h = absurd before
-answered v t c now (Awaits k forced) a here before h = absurd before
+answered v t c now (Awaits k forced timed) a here before h = absurd before
 answered v t c now (Waits k m timed) a here before h = absurd before
 answered v t c now (Notifies k all) a here before h = absurd before
 
@@ -165,7 +165,7 @@ module _ (w v : LocksState) (t : ℕ) (o : Outcome) (state : AreLockStates w) (o
       by_purpose (Some (Converts k x y how)) e = from_alike u (Some (Converts k x y how)) (other_led u ne) e (before_at u (Some (Converts k x y how)) e)
       by_purpose (Some (Bumps k x)) e = from_alike u (Some (Bumps k x)) (other_led u ne) e (before_at u (Some (Bumps k x)) e)
       by_purpose (Some (CallsOnce k forced)) e = absurd (before_at u (Some (CallsOnce k forced)) e)
-      by_purpose (Some (Awaits k forced)) e = absurd (before_at u (Some (Awaits k forced)) e)
+      by_purpose (Some (Awaits k forced timed)) e = absurd (before_at u (Some (Awaits k forced timed)) e)
       by_purpose (Some (Waits k m timed)) e = absurd (before_at u (Some (Waits k m timed)) e)
       by_purpose (Some (Notifies k all)) e = absurd (before_at u (Some (Notifies k all)) e)
 
@@ -200,7 +200,7 @@ module _ (w v : LocksState) (t : ℕ) (o : Outcome) (state : AreLockStates w) (o
       by_purpose (Some (Converts k x y how)) e = from_alike t (Some (Converts k x y how)) (own_alike led) e (before_at t (Some (Converts k x y how)) e)
       by_purpose (Some (Bumps k x)) e = from_alike t (Some (Bumps k x)) (own_alike led) e (before_at t (Some (Bumps k x)) e)
       by_purpose (Some (CallsOnce k forced)) e = absurd (before_at t (Some (CallsOnce k forced)) e)
-      by_purpose (Some (Awaits k forced)) e = absurd (before_at t (Some (Awaits k forced)) e)
+      by_purpose (Some (Awaits k forced timed)) e = absurd (before_at t (Some (Awaits k forced timed)) e)
       by_purpose (Some (Waits k m timed)) e = absurd (before_at t (Some (Waits k m timed)) e)
       by_purpose (Some (Notifies k all)) e = absurd (before_at t (Some (Notifies k all)) e)
 

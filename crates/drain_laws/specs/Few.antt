@@ -27,7 +27,7 @@ HasFew (Some (Releases l x fair)) before now = (rest : Rights) × IsPlain rest �
 HasFew (Some (Converts l x y how)) before now = before ≡ with_right x no_rights
 HasFew (Some (Bumps l x)) before now = before ≡ with_right x no_rights
 HasFew (Some (CallsOnce l forced)) before now = ⊥
-HasFew (Some (Awaits l forced)) before now = ⊥
+HasFew (Some (Awaits l forced timed)) before now = ⊥
 HasFew (Some (Waits l m timed)) before now = ⊥
 HasFew (Some (Notifies l all)) before now = ⊥
 
@@ -40,7 +40,7 @@ HadNone (Bumps l x) false former = Unit {0}
 HadNone (Releases l x fair) released former = Unit {0}
 HadNone (Converts l x y how) released former = Unit {0}
 HadNone (CallsOnce l forced) released former = Unit {0}
-HadNone (Awaits l forced) released former = Unit {0}
+HadNone (Awaits l forced timed) released former = Unit {0}
 HadNone (Waits l m timed) released former = Unit {0}
 HadNone (Notifies l all) released former = Unit {0}
 
@@ -61,7 +61,7 @@ PendsInCall (Some (Enters l x how)) now = Unit {0}
 PendsInCall (Some (Converts l x y how)) now = Unit {0}
 PendsInCall (Some (Bumps l x)) now = Unit {0}
 PendsInCall (Some (CallsOnce l forced)) now = Unit {0}
-PendsInCall (Some (Awaits l forced)) now = Unit {0}
+PendsInCall (Some (Awaits l forced timed)) now = Unit {0}
 PendsInCall (Some (Waits l m timed)) now = Unit {0}
 PendsInCall (Some (Notifies l all)) now = Unit {0}
 
@@ -89,7 +89,7 @@ IsRelease (Some (Enters k x how)) l = ⊥
 IsRelease (Some (Converts k x y how)) l = ⊥
 IsRelease (Some (Bumps k x)) l = ⊥
 IsRelease (Some (CallsOnce k forced)) l = ⊥
-IsRelease (Some (Awaits k forced)) l = ⊥
+IsRelease (Some (Awaits k forced timed)) l = ⊥
 IsRelease (Some (Waits k m timed)) l = ⊥
 IsRelease (Some (Notifies k all)) l = ⊥
 

@@ -15,7 +15,7 @@ BeganUnpending (Some (Releases l x fair)) before now = (before.pending ≡ 0) ×
 BeganUnpending (Some (Converts l x y how)) before now = before.pending ≡ 0
 BeganUnpending (Some (Bumps l x)) before now = before.pending ≡ 0
 BeganUnpending (Some (CallsOnce l forced)) before now = ⊥
-BeganUnpending (Some (Awaits l forced)) before now = ⊥
+BeganUnpending (Some (Awaits l forced timed)) before now = ⊥
 BeganUnpending (Some (Waits l m timed)) before now = ⊥
 BeganUnpending (Some (Notifies l all)) before now = ⊥
 

@@ -77,12 +77,13 @@ may_wait (Enters l x how) = not (is_try how)
 may_wait (Converts l x y how) = not (is_try how)
 may_wait (Bumps l x) = true
 may_wait (CallsOnce l forced) = true
-may_wait (Awaits l forced) = true
+may_wait (Awaits l forced timed) = true
 may_wait q = false
 
 abbrev pub has_deadline : Purpose → Bool
 has_deadline (Enters l x how) = is_timed how
 has_deadline (Converts l x y how) = is_timed how
+has_deadline (Awaits l forced timed) = timed
 has_deadline q = false
 
 abbrev pub releases : Purpose → Bool → Bool
@@ -202,7 +203,7 @@ knows sort (Releases l x fair) = knows_right sort x
 knows sort (Converts l x y how) = knows_right sort x && knows_right sort y
 knows sort (Bumps l x) = knows_right sort x
 knows sort (CallsOnce l forced) = is_once sort
-knows sort (Awaits l forced) = is_once sort
+knows sort (Awaits l forced timed) = is_once sort
 knows sort q = false
 
 abbrev pub keeps_row : Sort → Profile → Purpose → Going → Bool
@@ -319,7 +320,7 @@ knows_so s (Releases l x fair) of h e = rw e (knows_right_so s x h)
 knows_so s (Converts l x y how) of h e = let k : (knows_right s x ≡ true) × (knows_right s y ≡ true) = both (knows_right s x) (knows_right s y) h in rw e (knows_right_so s x k.0, knows_right_so s y k.1)
 knows_so s (Bumps l x) of h e = rw e (knows_right_so s x h)
 knows_so s (CallsOnce l forced) of h e = e ∙ once_so s h
-knows_so s (Awaits l forced) of h e = e ∙ once_so s h
+knows_so s (Awaits l forced timed) of h e = e ∙ once_so s h
 knows_so s q of h e = absurd cc
 
 may_wait_so : (q : Purpose) → may_wait q ≡ true → MayWait (Some q) (lock_for q)
@@ -331,7 +332,7 @@ may_wait_so (Converts l x y Timed) h = (refl, λ e. cc)
 may_wait_so (Converts l x y Try) h = absurd cc
 may_wait_so (Bumps l x) h = refl
 may_wait_so (CallsOnce l forced) h = refl
-may_wait_so (Awaits l forced) h = refl
+may_wait_so (Awaits l forced timed) h = refl
 may_wait_so q h = absurd cc
 
 timed_is : (how : Patience) → is_timed how ≡ true → how ≡ Timed
@@ -341,11 +342,13 @@ timed_is how h = absurd cc
 deadline_so : (q : Purpose) (r : Recall) → has_deadline q ≡ true → IsTimed (Some q) r (lock_for q)
 deadline_so (Enters l x how) r h = (refl, timed_is how h)
 deadline_so (Converts l x y how) r h = (refl, timed_is how h)
+deadline_so (Awaits l forced timed) r h = (refl, h)
 deadline_so q r h = absurd cc
 
 has_a_deadline : (q : Purpose) (r : Recall) (k : ℕ) → is_single q ≡ true → IsTimed (Some q) r k → has_deadline q ≡ true
 has_a_deadline (Enters l x how) r k one h = rw (h.1) refl
 has_a_deadline (Converts l x y how) r k one h = rw (h.1) refl
+has_a_deadline (Awaits l forced timed) r k one h = h.1
 has_a_deadline (Waits l m timed) r k one h = absurd cc
 has_a_deadline q r k one h = absurd h
 

@@ -3,6 +3,8 @@
 use Rattle.std.specs.Prelude.{ℕ, Some, None, if◌then◌else◌, ◌≡◌, List}
 use Rattle.lot_calls.specs.declared.outcomes.Answer.{Answer}
 use Rattle.lot_acts.specs.declared.acts.Next.{Next}
+use Rattle.lot_acts.specs.declared.acts.Reply.{Reply}
+use Rattle.lot_acts.specs.declared.acts.Reply.TheVariants.{Late}
 use Rattle.lot_acts.specs.declared.acts.Next.TheVariants.{At, End}
 use Rattle.lot_acts.specs.Profiles.{Profile}
 use Rattle.abstract_locks.specs.Locks.{LockState, Rules, Rights, rights_of, putting}
@@ -43,6 +45,11 @@ MayCome l row (Moves c m all owned number) = ⊥
 -- what the thread owns of each lock, where this one is so
 abbrev pub rights_where : ℕ → LockState → ℕ → (ℕ → Rights) → ℕ → Rights
 rights_where l s t rights = putting rights l (rights_of s t)
+
+-- a reply to an act, and not that the time of a sleeper is up
+abbrev pub IsNotLate : Reply → Type 0
+IsNotLate Late = ⊥
+IsNotLate told = Unit {0}
 
 -- the call at the next place is what the event made of it
 abbrev pub IsNextCall : ℕ → Profile → Event → LockState → LockState → ℕ → Profile → Type 0

@@ -83,6 +83,8 @@ pub enum OnceCall {
     CallOnce { forced: bool },
     /// Waits until a run has succeeded.
     Wait { forced: bool },
+    /// Waits so up to a deadline. It isn't forced.
+    WaitTimed,
 }
 
 /// The calls of a condition variable.

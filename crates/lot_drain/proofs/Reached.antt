@@ -217,7 +217,7 @@ pends_so (Some (Releases l x fair)) before now h = h.1
 pends_so (Some (Converts l x y how)) before now h = tt
 pends_so (Some (Bumps l x)) before now h = tt
 pends_so (Some (CallsOnce l forced)) before now h = tt
-pends_so (Some (Awaits l forced)) before now h = tt
+pends_so (Some (Awaits l forced timed)) before now h = tt
 pends_so (Some (Waits l m timed)) before now h = tt
 pends_so (Some (Notifies l all)) before now h = tt
 

@@ -2,7 +2,7 @@
 use Rattle.std.proofs.Common.{ℕ, ◌≡◌, Bool, true, false, List, Option, None, Some, inl, inr, refl, sym, ap, ◌∙◌, subst}
 use Rattle.lot_calls.specs.declared.outcomes.Answer.{Answer}
 use Rattle.lot_calls.specs.declared.outcomes.OnceState.{OnceState}
-use Rattle.lot_calls.specs.declared.calls.OnceCall.TheVariants.{CallOnce}
+use Rattle.lot_calls.specs.declared.calls.OnceCall.TheVariants.{CallOnce, WaitTimed}
 use Rattle.lot_steps.specs.Steps.{act_of}
 use Rattle.lot_steps.specs.declared.places.Place.{Place}
 use Rattle.lot_steps.specs.declared.places.Place.TheVariants.{Idle, Mutex, RwLock, Once, Condvar}
@@ -15,7 +15,7 @@ use Rattle.lot_mutex.specs.declared.unlock.UnlockAt as unlock
 use Rattle.lot_condvar.specs.declared.places.CondvarPlace.{CondvarPlace}
 use Rattle.lot_condvar.specs.declared.places.CondvarPlace.TheVariants as waiting
 use Rattle.lot_once.specs.declared.places.OncePlace.{OncePlace}
-use Rattle.lot_once.specs.declared.places.OncePlace.TheVariants.{Look, Run}
+use Rattle.lot_once.specs.declared.places.OncePlace.TheVariants.{Look, Run, GiveUp}
 use Rattle.lot_once.specs.declared.run.RunAt.TheVariants as run
 use Rattle.lot_words.proofs.MutexSteps.{each_code}
 use Rattle.lot_acts.specs.declared.acts.Act.{Act}
@@ -119,6 +119,7 @@ once_runs l n purpose (Run forced (run.Close succeeded)) e = let aim : of_run l 
 once_runs l n purpose (Run forced (run.Enter succeeded)) e = let aim : of_run l succeeded ≡ of_mutex n purpose = e in cc
 once_runs l n purpose (Run forced (run.Take succeeded)) e = let aim : of_run l succeeded ≡ of_mutex n purpose = e in cc
 once_runs l n purpose (Run forced (run.Leave succeeded any)) e = let aim : of_run l succeeded ≡ of_mutex n purpose = e in cc
+once_runs l n purpose (GiveUp retries at) e = let aim : of_once l WaitTimed ≡ of_mutex n purpose = e in cc
 
 -- and of a condition variable neither
 condvar_pauses : (l n : ℕ) (purpose : Purpose) (at : CondvarPlace) → aim_of (Condvar l at) ≡ of_mutex n purpose → ⊥

@@ -6,20 +6,23 @@ use native.Mathlib.Decide.{ℕ_discrete}
 use Rattle.lot_base.specs.Words.{apply}
 use Rattle.lot_base.specs.declared.keys.Keys.TheVariants.{One}
 use Rattle.lot_base.specs.declared.notes.Note.TheVariants.{Normal, HandOff}
-use Rattle.lot_base.specs.declared.ops.Op.TheVariants.{Exchange}
+use Rattle.lot_base.specs.declared.ops.Op.TheVariants.{And, Exchange}
 use Rattle.lot_calls.specs.declared.calls.OnceCall.{OnceCall}
-use Rattle.lot_calls.specs.declared.calls.OnceCall.TheVariants.{CallOnce, Wait}
+use Rattle.lot_calls.specs.declared.calls.OnceCall.TheVariants.{CallOnce, Wait, WaitTimed}
 use Rattle.lot_acts.specs.declared.acts.Act.{Act}
 use Rattle.lot_acts.specs.declared.acts.Act as act
 use Rattle.lot_acts.specs.declared.acts.Reply.{Reply}
-use Rattle.lot_acts.specs.declared.acts.Reply.TheVariants.{Done, Value, Parked, Took, MovedTo, Late, Woken}
-use Rattle.lot_once.specs.OnceSteps.{course_of, decided, in_look, look_act, looked, once_act, run_act}
+use Rattle.lot_acts.specs.declared.acts.Reply.TheVariants.{Done, Value, Parked, Took, Removed, MovedTo, Late, Woken}
+use Rattle.lot_once.specs.OnceSteps.{course_of, decided, give_up_act, in_look, look_act, looked, once_act, run_act}
+use Rattle.lot_once.specs.declared.give_up.GiveUpAt.{GiveUpAt}
+use Rattle.lot_once.specs.declared.give_up.GiveUpAt.TheVariants as give_up
+use Rattle.lot_once.specs.declared.places.TheConstants.{NOT_MARKED}
 use Rattle.lot_once.specs.declared.look.LookAt.{LookAt}
 use Rattle.lot_once.specs.declared.look.LookAt.TheVariants as look
 use Rattle.lot_once.specs.declared.run.RunAt.{RunAt}
 use Rattle.lot_once.specs.declared.run.RunAt.TheVariants as run
 use Rattle.lot_once.specs.declared.places.OncePlace.{OncePlace}
-use Rattle.lot_once.specs.declared.places.OncePlace.TheVariants.{Look, Run}
+use Rattle.lot_once.specs.declared.places.OncePlace.TheVariants.{Look, Run, GiveUp}
 use Rattle.lot_steps.specs.Steps.{in_once, once_does, once_goes}
 use Rattle.lot_steps.specs.declared.places.Place.TheVariants.{Once}
 use Rattle.lot_words.specs.Codes.{IsOnceWord}
@@ -28,22 +31,13 @@ use Rattle.lot_words.specs.Views.{owning}
 use Rattle.lot_words.specs.declared.owners.Owner.TheVariants.{Runner, Witness}
 use Rattle.lot_words.specs.declared.owners.Ownership.{Ownership}
 use Rattle.lot_words.specs.declared.words.WordKind as kinds
-use Rattle.lot_words.proofs.OnceSteps.{once_steps}
+use Rattle.lot_words.proofs.OnceSteps.{each_once_code, once_steps}
 use Rattle.parking_lot_core.specs.declared.tokens.Did.TheVariants.{TakeAll}
 use Rattle.lot_driver.specs.Fitting.{Fits, Looks, Reached, ReachedBy, aim_of, answer_of, of_once, sleeper_at}
 use Rattle.lot_driver.specs.OnceFitting.{FitsLook, FitsOnce, FitsRun, OwnsBehind, StandsOutside, StandsWithin, goes_on, knowing}
 use Rattle.lot_driver.specs.Paths.{once_at, onces, at_once}
-use Rattle.lot_driver.specs.Stages.{Stage, Inside, ActNeeds, Became, HasKey, IsFresh, MayLeave, stage, stepped, took_as}
+use Rattle.lot_driver.specs.Stages.{Stage, Inside, ActNeeds, Became, HasKey, IsFresh, IsLeft, MayLeave, entered_now, stage, stepped, took_as}
 use Rattle.lot_driver.proofs.Leaving.{has_done}
-
--- of the seven codes
-pub each_once_code : (P : ℕ → Type 0) → P 0 → P 1 → P 2 → P 4 → P 8 → P 10 → P 12 → (n : ℕ) → IsOnceWord n → P n
-each_once_code P p₀ p₁ p₂ p₄ p₈ p₁₀ p₁₂ n (inl e) = subst P (sym e) p₁
-each_once_code P p₀ p₁ p₂ p₄ p₈ p₁₀ p₁₂ n (inr h) = let small = h.0 in elim h.1 [
-  | inl z ↦ dite (ℕ_discrete n 0) (λ e. subst P (sym e) p₀) (λ ne. let e : n ≡ 8 = omega arith in subst P (sym e) p₈)
-  | inr (inl z) ↦ dite (ℕ_discrete n 2) (λ e. subst P (sym e) p₂) (λ ne. let e : n ≡ 10 = omega arith in subst P (sym e) p₁₀)
-  | inr (inr z) ↦ dite (ℕ_discrete n 4) (λ e. subst P (sym e) p₄) (λ ne. let e : n ≡ 12 = omega arith in subst P (sym e) p₁₂)
-]
 
 module _ (l : ℕ) (base : List Ownership) (st : Stage) where
   abbrev Can : Act → Type 0
@@ -65,6 +59,9 @@ module _ (l : ℕ) (base : List Ownership) (st : Stage) where
   decide_needs (Wait true) = let s = once_steps (once_at l) st.owns in each_once_code (Decides (Wait true))
       (λ o. s.set_parked 0 (inl refl)) (λ o. s.load) (λ o. s.set_parked 2 (inr (inl refl))) (λ o. s.set_parked 4 (inr (inr refl)))
       (λ o. (tt, o)) (λ o. (tt, o)) (λ o. (tt, o))
+  decide_needs WaitTimed = let s = once_steps (once_at l) st.owns in each_once_code (Decides WaitTimed)
+      (λ o. s.set_parked 0 (inl refl)) (λ o. s.load) (λ o. s.load) (λ o. s.set_parked 4 (inr (inr refl)))
+      (λ o. (tt, o)) (λ o. s.load) (λ o. (tt, o))
 
   look_needs : (c : OnceCall) (at : LookAt) → FitsLook l c base at st → Can (look_act l c at)
   look_needs c look.Load f = (once_steps (once_at l) st.owns).load
@@ -82,10 +79,16 @@ module _ (l : ℕ) (base : List Ownership) (st : Stage) where
   run_needs (run.Leave succeeded true) f = subst (MayLeave Normal) (sym f.3) refl
   run_needs (run.Leave succeeded false) f = subst (MayLeave Normal) (sym f.3) refl
 
+  give_up_needs : (up : Type 0) (at : GiveUpAt) → up × StandsWithin l base st → Can (give_up_act l at)
+  give_up_needs up give_up.Remove f = subst (HasKey (2 * l)) (sym f.1.1) refl
+  give_up_needs up give_up.Clear f = (once_steps (once_at l) st.owns).clear_parked
+  give_up_needs up give_up.Leave f = subst (MayLeave Normal) (sym f.1.1) refl
+
   -- what the place's act needs is there
-  needs : (at : OncePlace) → FitsOnce l base at st → Can (once_act l at)
-  needs (Look c retries at) f = look_needs c at f
-  needs (Run forced at) f = run_needs at f
+  needs : (up : Type 0) (at : OncePlace) → FitsOnce up l base at st → Can (once_act l at)
+  needs up (Look c retries at) f = look_needs c at f
+  needs up (Run forced at) f = run_needs at f
+  needs up (GiveUp retries at) f = give_up_needs up at f
 
   module _ (up : Type 0) (new : Stage) where
     owns_of : (s : Stage) → new ≡ s → new.owns ≡ s.owns
@@ -111,21 +114,25 @@ module _ (l : ℕ) (base : List Ownership) (st : Stage) where
       -- where a look leads
       pub lands : (c : OnceCall) (r : Bool) (seen : ℕ) → IsOnceWord seen → Lands c r seen
       lands (CallOnce false) r = each_once_code (Lands (CallOnce false) r)
-          (λ x. ((inr (omega arith, inl refl), refl, still f _ x refl refl), refl)) (λ x. (inside_of _ x ∙ f.1, knows f _ x refl)) (λ x. let s = still f _ x refl refl in (s.1, (refl, s.0)))
+          (λ x. ((inr (omega arith, inl refl), refl, still f _ x refl refl), refl)) (λ x. (inside_of _ x ∙ f.1, (refl, knows f _ x refl))) (λ x. let s = still f _ x refl refl in (s.1, (refl, s.0)))
           (λ x. ((inr (omega arith, inr (inr refl)), refl, still f _ x refl refl), refl)) (λ x. ((inr (omega arith, inl refl), refl, still f _ x refl refl), refl))
           (λ x. let s = still f _ x refl refl in (s.1, (refl, s.0))) (λ x. ((inr (omega arith, inr (inr refl)), refl, still f _ x refl refl), refl))
       lands (CallOnce true) r = each_once_code (Lands (CallOnce true) r)
-          (λ x. ((inr (omega arith, inl refl), refl, still f _ x refl refl), refl)) (λ x. (inside_of _ x ∙ f.1, knows f _ x refl)) (λ x. ((inr (omega arith, inr (inl refl)), refl, still f _ x refl refl), refl))
+          (λ x. ((inr (omega arith, inl refl), refl, still f _ x refl refl), refl)) (λ x. (inside_of _ x ∙ f.1, (refl, knows f _ x refl))) (λ x. ((inr (omega arith, inr (inl refl)), refl, still f _ x refl refl), refl))
           (λ x. ((inr (omega arith, inr (inr refl)), refl, still f _ x refl refl), refl)) (λ x. ((inr (omega arith, inl refl), refl, still f _ x refl refl), refl))
           (λ x. ((inr (omega arith, inr (inl refl)), refl, still f _ x refl refl), refl)) (λ x. ((inr (omega arith, inr (inr refl)), refl, still f _ x refl refl), refl))
       lands (Wait false) r = each_once_code (Lands (Wait false) r)
-          (λ x. ((inr (omega arith, inl refl), refl, still f _ x refl refl), refl)) (λ x. (inside_of _ x ∙ f.1, knows f _ x refl)) (λ x. let s = still f _ x refl refl in (s.1, (refl, s.0)))
+          (λ x. ((inr (omega arith, inl refl), refl, still f _ x refl refl), refl)) (λ x. (inside_of _ x ∙ f.1, (refl, knows f _ x refl))) (λ x. let s = still f _ x refl refl in (s.1, (refl, s.0)))
           (λ x. ((inr (omega arith, inr (inr refl)), refl, still f _ x refl refl), refl)) (λ x. ((inr (omega arith, inl refl), refl, still f _ x refl refl), refl))
           (λ x. let s = still f _ x refl refl in (s.1, (refl, s.0))) (λ x. ((inr (omega arith, inr (inr refl)), refl, still f _ x refl refl), refl))
       lands (Wait true) r = each_once_code (Lands (Wait true) r)
-          (λ x. ((inr (omega arith, inl refl), refl, still f _ x refl refl), refl)) (λ x. (inside_of _ x ∙ f.1, knows f _ x refl)) (λ x. ((inr (omega arith, inr (inl refl)), refl, still f _ x refl refl), refl))
+          (λ x. ((inr (omega arith, inl refl), refl, still f _ x refl refl), refl)) (λ x. (inside_of _ x ∙ f.1, (refl, knows f _ x refl))) (λ x. ((inr (omega arith, inr (inl refl)), refl, still f _ x refl refl), refl))
           (λ x. ((inr (omega arith, inr (inr refl)), refl, still f _ x refl refl), refl)) (λ x. ((inr (omega arith, inl refl), refl, still f _ x refl refl), refl))
           (λ x. ((inr (omega arith, inr (inl refl)), refl, still f _ x refl refl), refl)) (λ x. ((inr (omega arith, inr (inr refl)), refl, still f _ x refl refl), refl))
+      lands WaitTimed r = each_once_code (Lands WaitTimed r)
+          (λ x. ((inr (omega arith, inl refl), refl, still f _ x refl refl), refl)) (λ x. (inside_of _ x ∙ f.1, (refl, knows f _ x refl))) (λ x. let s = still f _ x refl refl in (s.1, (refl, s.0)))
+          (λ x. ((inr (omega arith, inr (inr refl)), refl, still f _ x refl refl), refl)) (λ x. ((inr (omega arith, inl refl), refl, still f _ x refl refl), refl))
+          (λ x. let s = still f _ x refl refl in (s.1, (refl, s.0))) (λ x. ((inr (omega arith, inr (inr refl)), refl, still f _ x refl refl), refl))
 
       abbrev Saw : OnceCall → Bool → ℕ → ℕ → ℕ → Type 0
       Saw c r from to seen = new ≡ stepped kinds.TheVariants.Once (once_at l) (Exchange from to) seen st → Reached up base (Once l (Look c r (look.Decide from))) (Value seen) new
@@ -166,15 +173,33 @@ module _ (l : ℕ) (base : List Ownership) (st : Stage) where
           (λ g. by_exchange (Wait true) r 0 8 (λ x. ((inr (omega arith, inl refl), refl, still f _ x refl refl), refl))) (λ g. absurd (false≢true g)) (λ g. by_exchange (Wait true) r 2 10 (λ x. ((inr (omega arith, inr (inl refl)), refl, still f _ x refl refl), refl)))
           (λ g. by_exchange (Wait true) r 4 12 (λ x. ((inr (omega arith, inr (inr refl)), refl, still f _ x refl refl), refl)))
           (λ g. by_entry (Wait true) r 8) (λ g. by_entry (Wait true) r 10) (λ g. by_entry (Wait true) r 12)
+      decides WaitTimed r = each_once_code (Leads WaitTimed r)
+          (λ g. by_exchange WaitTimed r 0 8 (λ x. ((inr (omega arith, inl refl), refl, still f _ x refl refl), refl))) (λ g. absurd (false≢true g)) (λ g. absurd (false≢true g))
+          (λ g. by_exchange WaitTimed r 4 12 (λ x. ((inr (omega arith, inr (inr refl)), refl, still f _ x refl refl), refl)))
+          (λ g. by_entry WaitTimed r 8) (λ g. absurd (false≢true g)) (λ g. by_entry WaitTimed r 12)
+
+    -- inside the section, where it finds it done or not
+    within : StandsWithin l base st → (s : Stage) → new ≡ s → s.owns ≡ st.owns → s.inside ≡ st.inside → StandsWithin l base new
+    within f s x o i = ((f.0.0, owns_of s x ∙ o ∙ f.0.1), inside_of s x ∙ i ∙ f.1)
+
+    within_done : StandsWithin l base st → (s : Stage) → new ≡ s → s.owns ≡ owning (once_at l) Witness ∷ st.owns → s.inside ≡ st.inside → StandsWithin l base new
+    within_done f s x o i = ((suc f.0.0, owns_of s x ∙ o ∙ ap (λ (rest : List Ownership). owning (once_at l) Witness ∷ rest) f.0.1), inside_of s x ∙ i ∙ f.1)
 
     abbrev Checked : ℕ → Type 0
     Checked seen = AsSeen seen → StandsWithin l base new
 
     -- the look inside the section
     checks : StandsWithin l base st → (seen : ℕ) → IsOnceWord seen → Checked seen
-    checks f = let same : (s : Stage) → new ≡ s → s.owns ≡ st.owns → s.inside ≡ st.inside → StandsWithin l base new = λ s x o i. ((f.0.0, owns_of s x ∙ o ∙ f.0.1), inside_of s x ∙ i ∙ f.1) in each_once_code Checked
-        (λ x. same _ x refl refl) (λ x. ((suc f.0.0, owns_of _ x ∙ ap (λ (rest : List Ownership). owning (once_at l) Witness ∷ rest) f.0.1), inside_of _ x ∙ f.1)) (λ x. same _ x refl refl)
-        (λ x. same _ x refl refl) (λ x. same _ x refl refl) (λ x. same _ x refl refl) (λ x. same _ x refl refl)
+    checks f = each_once_code Checked (λ x. within f _ x refl refl) (λ x. within_done f _ x refl refl) (λ x. within f _ x refl refl)
+        (λ x. within f _ x refl refl) (λ x. within f _ x refl refl) (λ x. within f _ x refl refl) (λ x. within f _ x refl refl)
+
+    abbrev Cleared : ℕ → Type 0
+    Cleared seen = new ≡ stepped kinds.TheVariants.Once (once_at l) (And NOT_MARKED) seen st → StandsWithin l base new
+
+    -- the bit is cleared there
+    clears : StandsWithin l base st → (seen : ℕ) → IsOnceWord seen → Cleared seen
+    clears f = each_once_code Cleared (λ x. within f _ x refl refl) (λ x. within_done f _ x refl refl) (λ x. within f _ x refl refl)
+        (λ x. within f _ x refl refl) (λ x. within f _ x refl refl) (λ x. within f _ x refl refl) (λ x. within f _ x refl refl)
 
     nobody : {key : ℕ} → None ≡ Some key → ⊥
     nobody e = cc
@@ -187,7 +212,10 @@ module _ (l : ℕ) (base : List Ownership) (st : Stage) where
     look_leads c r (look.Leave false) f Done b = (((f.0.0, b.0 ∙ f.0.1), b.1), refl)
     look_leads c r look.Asleep f (Woken Normal) b = (((f.0.0, b.0 ∙ f.0.1), b.1), refl)
     look_leads c r look.Asleep f (Woken HandOff) b = absurd (false≢true b.3)
-    look_leads c r look.Asleep f Late b = absurd (nobody b.1.0)
+    look_leads WaitTimed r look.Asleep f Late b = let e : Some (2 * l) ≡ Some b.0 = b.1.0 in let same : 2 * l ≡ b.0 = cc in
+        ((b.2, ((f.0.0, owns_of _ b.1.1 ∙ f.0.1), inside_of _ b.1.1 ∙ ap (λ (key : ℕ). entered_now (One key)) (sym same))), refl)
+    look_leads (CallOnce forced) r look.Asleep f Late b = absurd (nobody b.1.0)
+    look_leads (Wait forced) r look.Asleep f Late b = absurd (nobody b.1.0)
     look_leads c r look.Asleep f (MovedTo key) b = absurd (nobody b.0.1)
     look_leads c r (look.Taken by) f reply b = absurd f
     look_leads c r at f reply b = absurd b
@@ -203,12 +231,20 @@ module _ (l : ℕ) (base : List Ownership) (st : Stage) where
     run_leads forced (run.Close succeeded) f reply b = absurd f
     run_leads forced at f reply b = absurd b
 
-    leads : (at : OncePlace) → FitsOnce l base at st → (reply : Reply) → Became up onces (at_once l) (sleeper_at (Once l at)) st (once_act l at) reply new → Reached up base (Once l at) reply new
+    give_up_leads : (r : Bool) (at : GiveUpAt) → up × StandsWithin l base st → (reply : Reply) → Became up onces (at_once l) (sleeper_at (Once l (GiveUp r at))) st (give_up_act l at) reply new → Reached up base (Once l (GiveUp r at)) reply new
+    give_up_leads r give_up.Remove f (Removed true) b = ((f.0, subst (StandsWithin l base) (sym b) f.1), refl)
+    give_up_leads r give_up.Remove f (Removed false) b = ((f.0, subst (StandsWithin l base) (sym b) f.1), refl)
+    give_up_leads r give_up.Clear f (Value seen) b = ((f.0, clears f.1 seen b.0.1.0 b.1), refl)
+    give_up_leads r give_up.Leave f Done b = (b.1, (refl, f.0, (f.1.0.0, b.0 ∙ f.1.0.1), subst (λ (i : Option Inside). IsLeft i new.last) f.1.1 b.2))
+    give_up_leads r at f reply b = absurd b
+
+    leads : (at : OncePlace) → FitsOnce up l base at st → (reply : Reply) → Became up onces (at_once l) (sleeper_at (Once l at)) st (once_act l at) reply new → Reached up base (Once l at) reply new
     leads (Look c r at) f = look_leads c r at f
     leads (Run forced at) f = run_leads forced at f
+    leads (GiveUp r at) f = give_up_leads r at f
 
   -- where it looks at the word once more, it has what it had
-  looks : (up : Type 0) (at : OncePlace) → FitsOnce l base at st → Looks up base (Once l at) st
+  looks : (up : Type 0) (at : OncePlace) → FitsOnce up l base at st → Looks up base (Once l at) st
   looks up (Look c r (look.Decide seen)) f q is = by_mark _ is
     where
       by_mark : (b : Bool) → in_once l (if b then Some (Look c r look.Load) else None) ≡ Some q → Fits up base q st × (aim_of q ≡ of_once l c)
@@ -217,7 +253,7 @@ module _ (l : ℕ) (base : List Ownership) (st : Stage) where
   looks up at f q is = absurd cc
 
 -- the words of a call of a `Once` are that one alone
-pub once_place_leads : (up : Type 0) (l : ℕ) (base : List Ownership) (at : OncePlace) (st : Stage) → FitsOnce l base at st →
+pub once_place_leads : (up : Type 0) (l : ℕ) (base : List Ownership) (at : OncePlace) (st : Stage) → FitsOnce up l base at st →
     ActNeeds onces (at_once l) st (once_act l at) × Looks up base (Once l at) st
     × ((reply : Reply) (new : Stage) → Became up onces (at_once l) (sleeper_at (Once l at)) st (once_act l at) reply new → Reached up base (Once l at) reply new)
-once_place_leads up l base at st f = (needs l base st at f, looks l base st up at f, λ reply new. leads l base st up new at f reply)
+once_place_leads up l base at st f = (needs l base st up at f, looks l base st up at f, λ reply new. leads l base st up new at f reply)

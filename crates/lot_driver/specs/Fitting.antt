@@ -19,10 +19,10 @@ use Rattle.lot_rwlock_fair.specs.declared.places.RwLockCallPlace.{RwLockCallPlac
 use Rattle.lot_rwlock_fair.specs.declared.places.RwLockCallPlace.TheVariants as places
 use Rattle.lot_calls.specs.declared.calls.Access.{Access}
 use Rattle.lot_calls.specs.declared.calls.OnceCall.{OnceCall}
-use Rattle.lot_calls.specs.declared.calls.OnceCall.TheVariants.{CallOnce}
+use Rattle.lot_calls.specs.declared.calls.OnceCall.TheVariants.{CallOnce, WaitTimed}
 use Rattle.lot_once.specs.OnceProfiles.{once_wants}
 use Rattle.lot_once.specs.declared.places.OncePlace.{OncePlace}
-use Rattle.lot_once.specs.declared.places.OncePlace.TheVariants.{Look, Run}
+use Rattle.lot_once.specs.declared.places.OncePlace.TheVariants.{Look, Run, GiveUp}
 use Rattle.lot_once.specs.declared.run.RunAt.{RunAt}
 use Rattle.lot_once.specs.declared.run.RunAt.TheVariants as run
 use Rattle.lot_condvar.specs.CondvarSteps.{mutex_beside}
@@ -79,6 +79,7 @@ run_aim l forced (run.Leave succeeded any) = of_run l succeeded
 abbrev pub once_aim : ℕ → OncePlace → Aim
 once_aim l (Look c retries at) = of_once l c
 once_aim l (Run forced at) = run_aim l forced at
+once_aim l (GiveUp retries at) = of_once l WaitTimed
 
 abbrev pub condvar_aim : ℕ → CondvarPlace → Aim
 condvar_aim l (condvars.Wait m timed at) = of_wait l m timed
@@ -153,7 +154,7 @@ module _ (up : Type 0) where
   Fits base Idle st = ⊥
   Fits base (Mutex l at) st = FitsMutex up l base at st
   Fits base (RwLock l a c) st = FitsCall up l base a c st
-  Fits base (Once l at) st = FitsOnce l base at st
+  Fits base (Once l at) st = FitsOnce up l base at st
   Fits base (Condvar l at) st = FitsCondvar up l base at st
 
   -- what an answer says at the end of a call
@@ -162,7 +163,7 @@ module _ (up : Type 0) where
   IsOver base (of_mutex l purpose) answer st = IsMutexOver up l base purpose answer st
   IsOver base (of_rwlock l a purpose) answer st = IsRwLockOver up l base a purpose answer st
   IsOver base (of_fair l a x) answer st = IsFairlyOver l base a x answer st
-  IsOver base (of_once l c) answer st = IsLookOver l c base answer st
+  IsOver base (of_once l c) answer st = IsLookOver up l c base answer st
   IsOver base (of_run l succeeded) answer st = IsRunOver l succeeded base answer st
   IsOver base (of_wait l m timed) answer st = IsWaitOver up m timed base answer st
   IsOver base (of_notify l m all) answer st = IsNotifyOver l m all base answer st

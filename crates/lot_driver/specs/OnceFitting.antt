@@ -6,7 +6,7 @@ use Rattle.lot_base.specs.declared.wants.Waiter.{Waiter}
 use Rattle.lot_calls.specs.declared.calls.OnceCall.{OnceCall}
 use Rattle.lot_calls.specs.declared.outcomes.Answer.{Answer}
 use Rattle.lot_calls.specs.declared.outcomes.Answer.TheVariants as answers
-use Rattle.lot_once.specs.OnceSteps.{course_of, ended, is_forced}
+use Rattle.lot_once.specs.OnceSteps.{course_of, ended, is_forced, is_timed}
 use Rattle.lot_once.specs.declared.look.Course.{Course}
 use Rattle.lot_once.specs.declared.look.Course.TheVariants.{Ends}
 use Rattle.lot_once.specs.declared.look.LookAt.{LookAt}
@@ -14,7 +14,7 @@ use Rattle.lot_once.specs.declared.look.LookAt.TheVariants as look
 use Rattle.lot_once.specs.declared.run.RunAt.{RunAt}
 use Rattle.lot_once.specs.declared.run.RunAt.TheVariants as run
 use Rattle.lot_once.specs.declared.places.OncePlace.{OncePlace}
-use Rattle.lot_once.specs.declared.places.OncePlace.TheVariants.{Look, Run}
+use Rattle.lot_once.specs.declared.places.OncePlace.TheVariants.{Look, Run, GiveUp}
 use Rattle.lot_words.specs.Codes.{IsOnceWord}
 use Rattle.lot_words.specs.Views.{owning}
 use Rattle.lot_words.specs.declared.owners.Owner.TheVariants.{Runner, Witness}
@@ -22,7 +22,7 @@ use Rattle.lot_words.specs.declared.owners.Ownership.{Ownership}
 use Rattle.parking_lot_core.specs.declared.tokens.Did.TheVariants.{TakeAll}
 use Rattle.parking_lot_core.specs.declared.tokens.SectionRecord.{SectionRecord}
 use Rattle.lot_driver.specs.Paths.{once_at}
-use Rattle.lot_driver.specs.Stages.{HasDone, Inside, Stage, entered_now, having_taken}
+use Rattle.lot_driver.specs.Stages.{HasDone, Inside, Stage, TookNobodyAt, entered_now, having_taken}
 
 -- what is owned by who has found a `Once` done so often, beside the rest
 abbrev pub knowing : ℕ → ℕ → List Ownership → List Ownership
@@ -81,23 +81,31 @@ FitsRun l base (run.Take succeeded) st =
 FitsRun l base (run.Leave succeeded any) st = OwnsBehind l succeeded base st.owns
     × (waiters : List Waiter) × (any ≡ not (length waiters == 0)) × TookEach l waiters st.inside
 
--- what a thread has in a call of a `Once`, beside what it owned as it began
-abbrev pub FitsOnce : ℕ → List Ownership → OncePlace → Stage → Type 0
-FitsOnce l base (Look c retries at) st = FitsLook l c base at st
-FitsOnce l base (Run forced at) st = FitsRun l base at st
+-- what a thread has in a call of a `Once`, beside what it owned as it began; `up` says that the
+-- time of the call is up, as it is of who gives up
+abbrev pub FitsOnce : Type 0 → ℕ → List Ownership → OncePlace → Stage → Type 0
+FitsOnce up l base (Look c retries at) st = FitsLook l c base at st
+FitsOnce up l base (Run forced at) st = FitsRun l base at st
+FitsOnce up l base (GiveUp retries at) st = up × StandsWithin l base st
 
 -- the section that was left last is one of the main key, where all that waited were taken
 abbrev pub WokeAll : ℕ → Option SectionRecord → Type 0
 WokeAll l last = HasDone (2 * l) (TakeAll (2 * l)) last
 
--- what an answer says of a call that runs nothing
-abbrev pub LooksAnswer : ℕ → OnceCall → List Ownership → Answer → List Ownership → Type 0
-LooksAnswer l c base answers.Ok owns = KnowsIt l base owns
-LooksAnswer l c base answers.Poisoned owns = (is_forced c ≡ false) × OwnsKnowing l base owns
-LooksAnswer l c base answer owns = ⊥
+-- what an answer says of a call that runs nothing, by the section that was left last
+abbrev pub LooksAnswer : Type 0 → ℕ → OnceCall → List Ownership → Answer → List Ownership
+    → Option SectionRecord → Type 0
+LooksAnswer up l c base answers.Ok owns last = (is_timed c ≡ false) × KnowsIt l base owns
+LooksAnswer up l c base answers.Yes owns last = (is_timed c ≡ true) × KnowsIt l base owns
+LooksAnswer up l c base answers.No owns last =
+    (is_timed c ≡ true) × up × OwnsKnowing l base owns × TookNobodyAt l last
+LooksAnswer up l c base answers.Poisoned owns last =
+    (is_forced c ≡ false) × OwnsKnowing l base owns
+LooksAnswer up l c base answer owns last = ⊥
 
-abbrev pub IsLookOver : ℕ → OnceCall → List Ownership → Answer → Stage → Type 0
-IsLookOver l c base answer st = (st.inside ≡ None) × LooksAnswer l c base answer st.owns
+abbrev pub IsLookOver : Type 0 → ℕ → OnceCall → List Ownership → Answer → Stage → Type 0
+IsLookOver up l c base answer st =
+    (st.inside ≡ None) × LooksAnswer up l c base answer st.owns st.last
 
 -- and of a run that saw waiters
 abbrev pub IsRunOver : ℕ → Bool → List Ownership → Answer → Stage → Type 0

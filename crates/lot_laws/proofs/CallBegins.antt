@@ -158,6 +158,7 @@ begin_goes w t (call.TheVariants.Once l c) shape steady there can = (
     once_right : (l : ℕ) (c : OnceCall) → HasRight (locks_of w) t (Some (once_purpose l c))
     once_right l (once_call.CallOnce forced) = tt
     once_right l (once_call.Wait forced) = tt
+    once_right l once_call.WaitTimed = tt
 begin_goes w t (call.TheVariants.Condvar l c) shape steady there can =
     condvar_begun w t l c (idle_is (place_at w t) (both (is_idle (place_at w t)) (is_open_to w t (call.TheVariants.Condvar l c)) can).0) there can
 begin_goes w t (call.TheVariants.Mutex l c) shape steady there can = (

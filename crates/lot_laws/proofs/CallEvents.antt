@@ -246,13 +246,13 @@ may_do w t l case purpose c is e made needs timely = rw (is, e) (rw is made, nee
 -- who calls no `Once` begins no run
 abbrev pub RunsNothing : Purpose → Type 0
 RunsNothing (CallsOnce l forced) = ⊥
-RunsNothing (Awaits l forced) = ⊥
+RunsNothing (Awaits l forced timed) = ⊥
 RunsNothing purpose = Unit {0}
 
 pub runs_nothing : (sorts : ℕ → Sort) (l : ℕ) (p : Purpose) → lock_for p ≡ l → KnowsRights sorts (Some p) → (sorts l ≡ Once → ⊥)
     → RunsNothing p
 runs_nothing sorts l (CallsOnce k forced) own knows other = other (subst (λ j. sorts j ≡ Once) own knows)
-runs_nothing sorts l (Awaits k forced) own knows other = other (subst (λ j. sorts j ≡ Once) own knows)
+runs_nothing sorts l (Awaits k forced timed) own knows other = other (subst (λ j. sorts j ≡ Once) own knows)
 runs_nothing sorts l p own knows other = tt
 
 pub never_starts : (p : Purpose) (g : Option ℕ) (r : Bool) (q : Recall) (l : ℕ) (forced : Bool) → RunsNothing p
@@ -262,7 +262,7 @@ never_starts (Releases k x fair) g r q l forced h m = m.1
 never_starts (Converts k x y how) g r q l forced h m = m.1
 never_starts (Bumps k x) g r q l forced h m = elim m.1 [ inl a ↦ a | inr b ↦ b.1 ]
 never_starts (CallsOnce k f) g r q l forced h m = h
-never_starts (Awaits k f) g r q l forced h m = h
+never_starts (Awaits k f timed) g r q l forced h m = h
 never_starts (Waits k n timed) g r q l forced h m = elim m [ inl there ↦ there.1 | inr beside ↦ elim beside.1 [ inl a ↦ a | inr b ↦ b.1 ] ]
 never_starts (Notifies k all) g r q l forced h m = elim m [ inl there ↦ there.1 | inr beside ↦ beside ]
 

@@ -25,6 +25,7 @@ use Rattle.lot_rwlock_fair.specs.FairSteps.{call_next}
 use Rattle.lot_rwlock.specs.declared.places.Admission.{Admission}
 use Rattle.lot_once.specs.declared.places.OncePlace.{OncePlace}
 use Rattle.lot_once.specs.declared.places.OncePlace.TheVariants as once
+use Rattle.lot_once.specs.declared.give_up.GiveUpAt.TheVariants as give_up
 use Rattle.lot_once.specs.declared.look.LookAt.TheVariants as look
 use Rattle.lot_once.specs.declared.run.RunAt.TheVariants as run
 use Rattle.lot_once.specs.OnceProfiles.{once_profile}
@@ -67,6 +68,8 @@ once_says (once.Look c retries look.Load) = (refl, refl)
 once_says (once.Look c retries at) = (refl, refl)
 once_says (once.Run forced (run.Closure poisoned)) = (refl, refl)
 once_says (once.Run forced at) = (refl, refl)
+once_says (once.GiveUp retries give_up.Remove) = (refl, refl)
+once_says (once.GiveUp retries at) = (refl, refl)
 
 shared_says : (a : Admission) (at : RwLockCallPlace) → SaysNothing (call_profile a at)
 shared_says a (places.Plain p) = (refl, refl)

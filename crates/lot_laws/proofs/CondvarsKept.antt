@@ -151,7 +151,7 @@ module _ (w : LocksState) (t k : ℕ) (sort : (rules_at w k).sort ≡ locks.Cond
   by_purpose (Converts l x y how) g r rc j case other known made = inl (apart l j other made.0)
   by_purpose (Bumps l x) g r rc j case other known made = inl (apart l j other made.0)
   by_purpose (CallsOnce l forced) g r rc j case other known made = inl (apart l j other made.0)
-  by_purpose (Awaits l forced) g r rc j case other known made = inl (apart l j other made.0)
+  by_purpose (Awaits l forced timed) g r rc j case other known made = inl (apart l j other made.0)
   by_purpose (Waits l m timed) g r rc j case other known made = elim made [
     | inl there ↦ inl (apart l j other there.0)
     | inr beside ↦ inl (λ e. no_mutex m known.1 (sym beside.0 ∙ e))

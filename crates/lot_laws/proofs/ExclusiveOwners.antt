@@ -8,7 +8,7 @@ use Rattle.lot_mutex.specs.declared.unlock.UnlockAt.{UnlockAt}
 use Rattle.lot_mutex.specs.declared.unlock.UnlockAt.TheVariants as unlock
 use Rattle.lot_mutex.specs.declared.hand_off.HandOffAt.TheVariants as hand_off
 use Rattle.lot_once.specs.declared.places.OncePlace.{OncePlace}
-use Rattle.lot_once.specs.declared.places.OncePlace.TheVariants.{Look, Run}
+use Rattle.lot_once.specs.declared.places.OncePlace.TheVariants.{Look, Run, GiveUp}
 use Rattle.lot_once.specs.declared.run.RunAt.TheVariants as run_at
 use Rattle.lot_once.specs.OnceSteps.{begins_run, once_owners}
 use Rattle.lot_acts.specs.declared.acts.Reply.TheVariants as reply
@@ -131,6 +131,7 @@ once_is (Look c again at) t v r = either (begins_run c at (reply.Value v))
     either false = refl
 once_is (Run forced (run_at.Close succeeded)) t v r = refl
 once_is (Run forced at) t v r = refl
+once_is (GiveUp again at) t v r = refl
 
 mutex_is : (at : MutexPlace) (t v : ℕ) (r : Owners) → (mutex_owners at t v r).exclusive ≡ mutex_owner_after at t v r.exclusive
 mutex_is (Lock entry retries First) t v r = either (v == 0)

@@ -1,7 +1,7 @@
 -- Each step of the world is fair.
 use Rattle.std.proofs.Common.{ℕ, Bool, true, false, Option, Some, None, if◌then◌else◌, ◌==◌, ◌&&◌, not, ◌≡◌, ◌≢◌, ◌+◌, ◌*◌, ◌<◌, ◌⊎◌, inl, inr, [], length, refl, sym, ◌∙◌, ap, subst, arith, get_or-set_same, length-set}
 use Rattle.lot_calls.specs.declared.calls.OnceCall.TheVariants as once_call
-use Rattle.lot_once.specs.declared.places.OncePlace.TheVariants.{Look, Run}
+use Rattle.lot_once.specs.declared.places.OncePlace.TheVariants.{Look, Run, GiveUp}
 use Rattle.lot_laws.proofs.Closures.{closes_one}
 use Rattle.lot_laws.proofs.OwnPlace.{gone}
 use Rattle.std.proofs.lemmas.Bool.{cases_eq, eqb-true, ltb-true}
@@ -84,7 +84,7 @@ released_lock (Converts k x y how) l h = absurd h
 released_lock (Releases k x fair) l h = absurd h
 released_lock (Bumps k x) l h = absurd h
 released_lock (CallsOnce k forced) l h = absurd h
-released_lock (Awaits k forced) l h = absurd h
+released_lock (Awaits k forced timed) l h = absurd h
 released_lock (Waits k m timed) l h = absurd h
 released_lock (Notifies k all) l h = absurd h
 
@@ -274,7 +274,9 @@ module _ (w : State) (t l : ℕ) (shape : IsShaped w) (steady : IsSteady w) (own
   go_gives Idle is fits h = absurd h
   go_gives (Once k (Look (once_call.CallOnce forced) again at)) is fits h = absurd h
   go_gives (Once k (Look (once_call.Wait forced) again at)) is fits h = absurd h
+  go_gives (Once k (Look once_call.WaitTimed again at)) is fits h = absurd h
   go_gives (Once k (Run forced at)) is fits h = absurd h
+  go_gives (Once k (GiveUp again at)) is fits h = absurd h
   go_gives (Condvar k (condvar_place.Wait m timed at)) is fits h = absurd h
   go_gives (Condvar k (condvar_place.Notify all m at)) is fits h = absurd h
   go_gives (Condvar k (condvar_place.Look all)) is fits h = absurd h
@@ -366,7 +368,9 @@ module _ (w : State) (t l : ℕ) (shape : IsShaped w) (steady : IsSteady w) (cou
       by_place Idle is fits can gives = absurd gives
       by_place (Once k (Look (once_call.CallOnce forced) again at)) is fits can gives = absurd gives.1
       by_place (Once k (Look (once_call.Wait forced) again at)) is fits can gives = absurd gives.1
+      by_place (Once k (Look once_call.WaitTimed again at)) is fits can gives = absurd gives.1
       by_place (Once k (Run forced at)) is fits can gives = absurd gives.1
+      by_place (Once k (GiveUp again at)) is fits can gives = absurd gives.1
       by_place (Condvar k at) is fits can gives = absurd (two_give k at gives)
       by_place (Mutex k at) is fits can gives = absurd (
           let fits_k : is_mutex (kind_at w k) ≡ true = subst (FitsItsLock w) is (steady.stands.calls t) in

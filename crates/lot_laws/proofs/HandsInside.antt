@@ -12,8 +12,10 @@ use Rattle.lot_mutex.specs.declared.lock.LockAt.TheVariants as lock
 use Rattle.lot_mutex.specs.declared.unlock.UnlockAt.TheVariants as unlock
 use Rattle.lot_mutex.specs.declared.hand_off.HandOffAt.TheVariants as hand_off
 use Rattle.lot_mutex.specs.MutexProfiles.{lock_row, mutex_profile, inside}
+use Rattle.lot_once.specs.OnceSteps.{is_timed}
 use Rattle.lot_once.specs.declared.places.OncePlace.{OncePlace}
 use Rattle.lot_once.specs.declared.places.OncePlace.TheVariants as once
+use Rattle.lot_once.specs.declared.give_up.GiveUpAt.TheVariants as give_up
 use Rattle.lot_once.specs.declared.look.LookAt.{LookAt}
 use Rattle.lot_once.specs.declared.look.LookAt.TheVariants as look
 use Rattle.lot_once.specs.declared.run.RunAt.TheVariants as run
@@ -99,14 +101,16 @@ call_inside (fair.Bump p) h = rwlock_inside _ p.purpose p.at h
 call_inside (fair.HandOver x b to) h = handing_inside _ to h
 call_inside c h = absurd cc
 
-look_inside : (wanted : Option Want) (at : LookAt) → (look_row wanted at).doing.carries ≡ false
-look_inside wanted look.Load = refl
-look_inside wanted at = refl
+look_inside : (timed : Bool) (wanted : Option Want) (at : LookAt) → (look_row timed wanted at).doing.carries ≡ false
+look_inside timed wanted look.Load = refl
+look_inside timed wanted at = refl
 
 once_inside : (at : OncePlace) → CarriesInside (once_profile at).doing
-once_inside (once.Look c retries at) h = absurd (let both : false ≡ true = sym (look_inside (again_of c retries) at) ∙ h in cc)
+once_inside (once.Look c retries at) h = absurd (let both : false ≡ true = sym (look_inside (is_timed c) (again_of c retries) at) ∙ h in cc)
 once_inside (once.Run forced (run.Leave succeeded any)) h = (Main, refl)
 once_inside (once.Run forced at) h = absurd cc
+once_inside (once.GiveUp retries give_up.Remove) h = absurd cc
+once_inside (once.GiveUp retries at) h = absurd cc
 
 wait_inside : (m : ℕ) (at : WaitAt) → CarriesInside (wait_row m at).doing
 wait_inside m (wait.Release s at) h = mutex_inside at h
@@ -206,15 +210,17 @@ call_owed a (fair.HandOver x b to) = λ sets wakes. absurd (unset _ (handing_uns
 call_owed a (fair.Glance x) = λ sets wakes. absurd (unset _ refl sets)
 call_owed a (fair.Handed x how b to) = λ sets wakes. absurd (unset _ refl sets)
 
-look_unset : (wanted : Option Want) (at : LookAt) → (look_row wanted at).doing.sets ≡ false
-look_unset wanted look.Load = refl
-look_unset wanted at = refl
+look_unset : (timed : Bool) (wanted : Option Want) (at : LookAt) → (look_row timed wanted at).doing.sets ≡ false
+look_unset timed wanted look.Load = refl
+look_unset timed wanted at = refl
 
 once_owed : (at : OncePlace) → Owed (once_profile at)
-once_owed (once.Look c retries at) = λ sets wakes. absurd (unset _ (look_unset (again_of c retries) at) sets)
+once_owed (once.Look c retries at) = λ sets wakes. absurd (unset _ (look_unset (is_timed c) (again_of c retries) at) sets)
 once_owed (once.Run forced (run.Enter succeeded)) = λ sets wakes. refl
 once_owed (once.Run forced (run.Take succeeded)) = λ sets wakes. refl
 once_owed (once.Run forced at) = λ sets wakes. absurd (unset _ refl sets)
+once_owed (once.GiveUp retries give_up.Remove) = λ sets wakes. absurd (unset _ refl sets)
+once_owed (once.GiveUp retries at) = λ sets wakes. absurd (unset _ refl sets)
 
 -- a notification that is to set the bit has taken the first of those whom it has brought
 abbrev Never : Doing → Type 0

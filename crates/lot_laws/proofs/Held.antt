@@ -13,6 +13,7 @@ use Rattle.lot_mutex.specs.declared.lock.LockAt.TheVariants as lock
 use Rattle.lot_mutex.specs.MutexProfiles.{lock_row, mutex_profile}
 use Rattle.lot_once.specs.declared.places.OncePlace.{OncePlace}
 use Rattle.lot_once.specs.declared.places.OncePlace.TheVariants as once
+use Rattle.lot_once.specs.declared.give_up.GiveUpAt.TheVariants as give_up
 use Rattle.lot_once.specs.declared.look.LookAt.TheVariants as look
 use Rattle.lot_once.specs.declared.run.RunAt.TheVariants as run
 use Rattle.lot_once.specs.OnceProfiles.{once_profile}
@@ -75,6 +76,8 @@ once_unheld (once.Look c retries (look.Taken by)) m h = absurd cc
 once_unheld (once.Look c retries to) m h = refl
 once_unheld (once.Run forced (run.Closure poisoned)) m h = refl
 once_unheld (once.Run forced to) m h = refl
+once_unheld (once.GiveUp retries give_up.Remove) m h = refl
+once_unheld (once.GiveUp retries to) m h = refl
 
 listed_unheld : (s : Stands) → is_listed s ≡ true → hand_of s ≡ None
 listed_unheld stands.Listed h = refl

@@ -16,6 +16,7 @@ use Rattle.lot_mutex.specs.MutexProfiles.{lock_row, mutex_profile}
 use Rattle.lot_mutex.specs.MutexSteps.{lock_act, mutex_act}
 use Rattle.lot_once.specs.declared.places.OncePlace.{OncePlace}
 use Rattle.lot_once.specs.declared.places.OncePlace.TheVariants as once
+use Rattle.lot_once.specs.declared.give_up.GiveUpAt.TheVariants as give_up
 use Rattle.lot_once.specs.declared.look.LookAt.TheVariants as look
 use Rattle.lot_once.specs.declared.run.RunAt.TheVariants as run
 use Rattle.lot_once.specs.OnceProfiles.{once_profile}
@@ -123,6 +124,9 @@ once_goes l (once.Look c retries to) m h = absurd cc
 once_goes l (once.Run forced (run.Take succeeded)) m h = (refl, refl, refl)
 once_goes l (once.Run forced (run.Leave succeeded any)) m h = (refl, refl, refl)
 once_goes l (once.Run forced to) m h = absurd cc
+once_goes l (once.GiveUp retries give_up.Remove) m h = (refl, refl, refl)
+once_goes l (once.GiveUp retries give_up.Clear) m h = (refl, refl, refl)
+once_goes l (once.GiveUp retries give_up.Leave) m h = (refl, refl, refl)
 
 moves_free : (l m : ℕ) (all locked : Bool) → IsFree (move_act all locked l m)
 moves_free l m true locked = (refl, refl, refl)

@@ -15,8 +15,9 @@ use Rattle.lot_mutex.specs.declared.unlock.UnlockAt.TheVariants as unlock
 use Rattle.lot_mutex.specs.declared.hand_off.HandOffAt.TheVariants as hand_off
 use Rattle.lot_mutex.specs.MutexSteps.{is_locked, mutex_act}
 use Rattle.lot_once.specs.declared.places.OncePlace.{OncePlace}
-use Rattle.lot_once.specs.declared.places.OncePlace.TheVariants.{Look, Run}
+use Rattle.lot_once.specs.declared.places.OncePlace.TheVariants.{Look, Run, GiveUp}
 use Rattle.lot_once.specs.declared.look.LookAt.TheVariants as look_at
+use Rattle.lot_once.specs.declared.give_up.GiveUpAt.TheVariants as give_up
 use Rattle.lot_once.specs.declared.run.RunAt.TheVariants as run_at
 use Rattle.lot_once.specs.OnceProfiles.{once_profile}
 use Rattle.lot_once.specs.declared.look.Course.{Course}
@@ -203,6 +204,9 @@ once_lines l (Run forced (run_at.Enter succeeded)) = (Main, refl)
 once_lines l (Run forced (run_at.Take succeeded)) = (Main, refl, refl)
 once_lines l (Run forced (run_at.Leave succeeded any)) = (Main, refl, refl)
 once_lines l (Run forced at) = tt
+once_lines l (GiveUp again give_up.Remove) = ((Main, refl, refl), inr refl)
+once_lines l (GiveUp again give_up.Clear) = tt
+once_lines l (GiveUp again give_up.Leave) = (Main, refl, refl)
 
 -- an act in a call of one lock is on a line of that
 pub line_act : (p : Place) (l : ℕ) → IsSingle p → lock_of p ≡ Some l → IsLineAct l (station p) (act_of p)

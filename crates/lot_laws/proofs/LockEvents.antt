@@ -26,8 +26,9 @@ use Rattle.lot_rwlock_fair.specs.declared.hand_over.HandOverAt.TheVariants as ha
 use Rattle.lot_rwlock_fair.specs.declared.handed.HandedAt.TheVariants as handed
 use Rattle.lot_rwlock_fair.specs.FairSteps.{bump_next}
 use Rattle.lot_rwlock_fair.specs.FairProfiles.{bump_former, bump_released, bumping, call_profile}
-use Rattle.lot_once.specs.declared.places.OncePlace.TheVariants.{Look, Run}
+use Rattle.lot_once.specs.declared.places.OncePlace.TheVariants.{Look, Run, GiveUp}
 use Rattle.lot_once.specs.declared.look.LookAt.TheVariants as look_at
+use Rattle.lot_once.specs.declared.give_up.GiveUpAt.TheVariants as give_up
 use Rattle.lot_once.specs.declared.run.RunAt.TheVariants as run_at
 use Rattle.lot_steps.specs.Steps.{next_place, profile, rwlock_goes, calls}
 use Rattle.lot_mutex.specs.declared.places.MutexPlace.{MutexPlace}
@@ -117,6 +118,8 @@ woken_call (Once k (Look c again (look_at.Taken by))) t l single h r = let held 
 woken_call (Once k (Look c again at)) t l single h r = absurd (let held = taken_hand (Once k (Look c again at)) t l tt h in let f : ◌≡◌ {A = Option Hand} None (hand t false) = held.0 in cc)
 woken_call (Once k (Run forced (run_at.Closure poisoned))) t l single h r = absurd (let held = taken_hand (Once k (Run forced (run_at.Closure poisoned))) t l tt h in let f : ◌≡◌ {A = Option Hand} None (hand t false) = held.0 in cc)
 woken_call (Once k (Run forced at)) t l single h r = absurd (let held = taken_hand (Once k (Run forced at)) t l tt h in let f : ◌≡◌ {A = Option Hand} None (hand t false) = held.0 in cc)
+woken_call (Once k (GiveUp again give_up.Remove)) t l single h r = absurd (let held = taken_hand (Once k (GiveUp again give_up.Remove)) t l tt h in let f : ◌≡◌ {A = Option Hand} None (hand t false) = held.0 in cc)
+woken_call (Once k (GiveUp again at)) t l single h r = absurd (let held = taken_hand (Once k (GiveUp again at)) t l tt h in let f : ◌≡◌ {A = Option Hand} None (hand t false) = held.0 in cc)
 woken_call (RwLock k a (places.Plain p)) t l single h r = let held = taken_hand (RwLock k a (places.Plain p)) t l tt h in let here : k ≡ l = eqb-true k l held.1 in let goes = woken_goes a k p t held.0 in
     ap (λ n. call_state (plain_goes k a n) r) goes.1 ∙ goes.2 r ∙ ap (λ n. record (call_by k (rwlock_profile a p) r) { retries = Some n }) here
 woken_call (RwLock k a (places.Bump p)) t l single h r = let held = taken_hand (RwLock k a (places.Bump p)) t l tt h in let here : k ≡ l = eqb-true k l held.1 in let goes = woken_goes a k p t held.0 in
@@ -141,6 +144,8 @@ taken_call (Once k (Look c again look_at.Asleep)) by single r = refl
 taken_call (Once k (Look c again at)) by single r = refl
 taken_call (Once k (Run forced (run_at.Closure poisoned))) by single r = refl
 taken_call (Once k (Run forced at)) by single r = refl
+taken_call (Once k (GiveUp again give_up.Remove)) by single r = refl
+taken_call (Once k (GiveUp again at)) by single r = refl
 taken_call (Condvar k at) by single r = absurd single
 taken_call (Mutex k (Lock entry retries First)) by single r = refl
 taken_call (Mutex k (Lock entry retries at)) by single r = refl
@@ -163,6 +168,8 @@ once_recalls (Look c retries look_at.Load) = refl
 once_recalls (Look c retries at) = refl
 once_recalls (Run forced (run_at.Closure poisoned)) = refl
 once_recalls (Run forced at) = refl
+once_recalls (GiveUp again give_up.Remove) = refl
+once_recalls (GiveUp again at) = refl
 
 shared_recalls : (a : Admission) (at : RwLockCallPlace) → (call_profile a at).recalls ≡ Blank
 shared_recalls a (places.Plain p) = refl

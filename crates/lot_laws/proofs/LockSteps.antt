@@ -23,10 +23,11 @@ use Rattle.lot_laws.proofs.RowPromises.{RowPromises}
 use Rattle.lot_laws.proofs.CallEvents.{RunsNothing, begins_nothing, runs_nothing}
 use Rattle.abstract_locks.specs.Runs.{is_closure}
 use Rattle.lot_calls.specs.declared.calls.OnceCall.TheVariants as once_call
-use Rattle.lot_once.specs.declared.places.OncePlace.TheVariants.{Look, Run}
+use Rattle.lot_once.specs.declared.look.LookAt.TheVariants as look_at
+use Rattle.lot_once.specs.declared.places.OncePlace.TheVariants.{Look, Run, GiveUp}
 use Rattle.lot_once.specs.declared.places.OncePlace.{OncePlace}
 use Rattle.lot_once.specs.OnceProfiles.{once_profile}
-use Rattle.lot_laws.proofs.OnceOwing.{once_never_late}
+use Rattle.lot_laws.proofs.OnceOwing.{late_place}
 use Rattle.lot_laws.proofs.OnceGoes.{once_step}
 use Rattle.lot_acts.specs.Profiles.{taken_from}
 use Rattle.lot_base.specs.Keys.{key_of}
@@ -395,11 +396,24 @@ module _ (w : State) (t : ℕ) (shape : IsShaped w) (steady : IsSteady w) (there
   late_goes (Condvar l at) is can = condvar_is_late w t l at there is can
   late_goes (Once l at) is can = by_line (once_profile at).late_line refl can
     where
+      asleep : (again : Bool) (p : OncePlace) → p ≡ Look once_call.WaitTimed again look_at.Asleep → place_at w t ≡ Once l p → (m : Line) → Main ≡ m
+          → Stays (locks_of w) t (record (call_state (Once l p) (rights w t)) { late = true }) outcome.TheVariants.Step
+          (locks_of (state_after_late_on w t (Some (key_of l m))))
+      asleep again p e here m first =
+          subst (λ n. Stays (locks_of w) t (record (call_state (Once l p) (rights w t)) { late = true }) outcome.TheVariants.Step (locks_of (state_after_late_on w t (Some (key_of l n))))) first
+          (subst (λ x. Stays (locks_of w) t (record (call_state (Once l x) (rights w t)) { late = true }) outcome.TheVariants.Step (locks_of (state_after_late_on w t (Some (2 * l))))) (sym e)
+          (timed again (here ∙ ap (Once l) e)))
+        where
+          timed : (again : Bool) → place_at w t ≡ Once l (Look once_call.WaitTimed again look_at.Asleep)
+              → Stays (locks_of w) t (record (call_state (Once l (Look once_call.WaitTimed again look_at.Asleep)) (rights w t)) { late = true }) outcome.TheVariants.Step
+              (locks_of (state_after_late_on w t (Some (2 * l))))
+          timed again at_it = placed w t there (state_with_sections w (One (2 * l)) (Some t)).sections (Once l (Look once_call.WaitTimed again look_at.Asleep)) (next_place (place_at w t) reply.Late) at_it (rw at_it (λ k. refl)) _ (rw at_it (λ r e. rw e refl))
+
       by_line : (m : Option Line) → (once_profile at).late_line ≡ m → is_free_under w (key_in (Some l) m) ≡ true
           → Stays (locks_of w) t (record (call_state (Once l at) (rights w t)) { late = true }) outcome.TheVariants.Step
           (locks_of (state_after_late_on w t (key_in (Some l) m)))
       by_line None e can = absurd cc
-      by_line (Some m) e can = absurd (once_never_late at m e)
+      by_line (Some m) e can = let z = late_place at m e in asleep z.0 at z.1 is m z.2
   late_goes (RwLock l a c) is can = by_line (call_profile a c).late_line refl can
     where
       stands : CallStands a c
@@ -458,6 +472,8 @@ once_no_mutex : (w : State) (l : ℕ) (at : OncePlace) → (rules_in w l).sort �
     → IsOfMutex (locks_of w) (call_state (Once l at) r).purpose → ⊥
 once_no_mutex w l (Look (once_call.CallOnce forced) again at) once r of = let both : locks.Once ≡ locks.Mutex = sym once ∙ of in cc
 once_no_mutex w l (Look (once_call.Wait forced) again at) once r of = let both : locks.Once ≡ locks.Mutex = sym once ∙ of in cc
+once_no_mutex w l (Look once_call.WaitTimed again at) once r of = let both : locks.Once ≡ locks.Mutex = sym once ∙ of in cc
+once_no_mutex w l (GiveUp again at) once r of = let both : locks.Once ≡ locks.Mutex = sym once ∙ of in cc
 once_no_mutex w l (Run forced at) once r of = let both : locks.Once ≡ locks.Mutex = sym once ∙ of in cc
 
 condvar_no_mutex : (w : State) (l : ℕ) (at : CondvarPlace) → (rules_in w l).sort ≡ locks.Condvar → (r : ℕ → Rights)

@@ -41,7 +41,7 @@ wakes_one sort (Some (Converts k x y how)) g r l e knows h = absurd (elim h.1 [
   | inr gave_up ↦ let f : false ≡ true = gave_up.1 in cc
 ])
 wakes_one sort (Some (CallsOnce k forced)) g r l e knows h = absurd (let f : locks.Once ≡ locks.Mutex = sym knows ∙ (ap sort h ∙ e) in cc)
-wakes_one sort (Some (Awaits k forced)) g r l e knows h = h
+wakes_one sort (Some (Awaits k forced timed)) g r l e knows h = h
 wakes_one sort (Some (Waits k m timed)) g r l e knows h = h
 wakes_one sort (Some (Notifies k all)) g r l e knows h = h
 wakes_one sort (Some (Bumps k x)) g r l e knows h = absurd (h.1 (only_exclusive x (subst (λ s. Knows s x) (ap sort h.0 ∙ e) knows)))
@@ -140,7 +140,7 @@ module _ (w v : State) (t l : ℕ) (o : Outcome) (since : OwesSince w t o v) (ke
       by_purpose (Some (Enters j x how)) knows k = k
       by_purpose (Some (Converts j x y how)) knows k = k
       by_purpose (Some (CallsOnce j forced)) knows k = k
-      by_purpose (Some (Awaits j forced)) knows k = k
+      by_purpose (Some (Awaits j forced timed)) knows k = k
       by_purpose (Some (Waits j m timed)) knows k = k
       by_purpose (Some (Notifies j all)) knows k = k
       by_purpose (Some (Releases j x fair)) knows k = k.2 (only_exclusive x (subst (λ s. Knows s x) (ap (sort_at v) k.0 ∙ sort v l behind) knows))

@@ -7,7 +7,7 @@ use Rattle.lot_base.specs.declared.wants.Waiter.{Waiter}
 use Rattle.lot_base.specs.Lines.{waiter}
 use Rattle.lot_base.specs.Words.{apply}
 use Rattle.lot_calls.specs.declared.calls.OnceCall.{OnceCall}
-use Rattle.lot_calls.specs.declared.calls.OnceCall.TheVariants.{CallOnce, Wait}
+use Rattle.lot_calls.specs.declared.calls.OnceCall.TheVariants.{CallOnce, Wait, WaitTimed}
 use Rattle.lot_calls.specs.declared.outcomes.Answer.{Answer}
 use Rattle.lot_calls.specs.declared.outcomes.Answer.TheVariants as answer
 use Rattle.lot_calls.specs.declared.outcomes.Outcome.{Outcome}
@@ -27,7 +27,7 @@ use Rattle.lot_once.specs.declared.run.RunAt.TheVariants as run
 use Rattle.lot_once.specs.declared.places.OncePlace.{OncePlace}
 use Rattle.lot_once.specs.declared.places.OncePlace.TheVariants.{Look, Run}
 use Rattle.lot_once.specs.OnceProfiles.{once_profile}
-use Rattle.lot_once.specs.OnceSteps.{check_of, in_look, is_forced, looked, once_act, once_first, once_next, state_before, want_of}
+use Rattle.lot_once.specs.OnceSteps.{check_of, in_look, is_forced, looked, once_act, once_first, once_next, state_before, want_of, when_done}
 use Rattle.lot_once.proofs.OnceWords as words
 use Rattle.lot_steps.specs.declared.places.Place.TheVariants.{Once}
 use Rattle.lot_steps.specs.Steps.{once_does, once_goes}
@@ -108,11 +108,14 @@ module _ (t l : ℕ) where
   Ended q (CallOnce true) Poisoned = Starts true
   Ended q (CallOnce false) Poisoned = Answers answer.Poisoned
   Ended q (CallOnce forced) (InProgress u) = Sleeps (CallOnce forced) q
-  Ended q c IsDone = Answers answer.Ok
+  Ended q c IsDone = Answers (when_done c)
   Ended q (Wait false) Poisoned = Answers answer.Poisoned
   Ended q (Wait true) Poisoned = Sleeps (Wait true) q
   Ended q (Wait forced) New = Sleeps (Wait forced) q
   Ended q (Wait forced) (InProgress u) = Sleeps (Wait forced) q
+  Ended q WaitTimed Poisoned = Answers answer.Poisoned
+  Ended q WaitTimed New = Sleeps WaitTimed q
+  Ended q WaitTimed (InProgress u) = Sleeps WaitTimed q
 
   -- it decides by the word as it is
   module _ (again : Bool) (w : State) (q : Queues) where
@@ -163,6 +166,14 @@ module _ (t l : ℕ) where
     decides (Wait forced) false (InProgress u) f = sleeps_marked (Wait forced) 4 12 refl refl refl refl (runs_yet forced) f
     decides (Wait forced) true IsDone f = answers_again (Wait forced) 9 answer.Ok refl refl f
     decides (Wait forced) false IsDone f = answers_again (Wait forced) 1 answer.Ok refl refl f
+    decides WaitTimed true New f = sleeps_parked WaitTimed 8 refl refl f
+    decides WaitTimed false New f = sleeps_marked WaitTimed 0 8 refl refl refl refl refl f
+    decides WaitTimed true Poisoned f = answers_again WaitTimed 10 answer.Poisoned refl refl f
+    decides WaitTimed false Poisoned f = answers_again WaitTimed 2 answer.Poisoned refl refl f
+    decides WaitTimed true (InProgress u) f = sleeps_parked WaitTimed 12 refl refl f
+    decides WaitTimed false (InProgress u) f = sleeps_marked WaitTimed 4 12 refl refl refl refl refl f
+    decides WaitTimed true IsDone f = answers_again WaitTimed 9 answer.Yes refl refl f
+    decides WaitTimed false IsDone f = answers_again WaitTimed 1 answer.Yes refl refl f
 
   -- it has looked at the word as it is, and ends or decides by it
   module _ (again : Bool) (w : State) (q : Queues) where
@@ -201,6 +212,14 @@ module _ (t l : ℕ) where
     looks (Wait forced) false (InProgress u) f = on (Wait forced) false (InProgress u) refl refl f
     looks (Wait forced) true IsDone f = answers (Wait forced) 9 answer.Ok refl f
     looks (Wait forced) false IsDone f = answers (Wait forced) 1 answer.Ok refl f
+    looks WaitTimed true New f = on WaitTimed true New refl refl f
+    looks WaitTimed false New f = on WaitTimed false New refl refl f
+    looks WaitTimed true Poisoned f = answers WaitTimed 10 answer.Poisoned refl f
+    looks WaitTimed false Poisoned f = answers WaitTimed 2 answer.Poisoned refl f
+    looks WaitTimed true (InProgress u) f = on WaitTimed true (InProgress u) refl refl f
+    looks WaitTimed false (InProgress u) f = on WaitTimed false (InProgress u) refl refl f
+    looks WaitTimed true IsDone f = answers WaitTimed 9 answer.Yes refl f
+    looks WaitTimed false IsDone f = answers WaitTimed 1 answer.Yes refl f
 
     pub loads : (c : OnceCall) (parked : Bool) (phase : Phase) → Alone w (Look c again look.Load) (words.word parked phase) q
         → Leads 5 w t (Ended q c phase)
@@ -229,6 +248,10 @@ module _ (w : State) (t l : ℕ) (v : State) (o : Outcome) where
   ended_so (Wait true) (InProgress u) e h = rw e (asleep (Wait true) h)
   ended_so (Wait false) (InProgress u) e h = rw e (asleep (Wait false) h)
   ended_so (Wait forced) IsDone e h = rw e h
+  ended_so WaitTimed New e h = rw e (asleep WaitTimed h)
+  ended_so WaitTimed Poisoned e h = rw e h
+  ended_so WaitTimed (InProgress u) e h = rw e (asleep WaitTimed h)
+  ended_so WaitTimed IsDone e h = rw e h
 
 module _ (w : State) (t l : ℕ) where
   -- the word says how far the lock has come

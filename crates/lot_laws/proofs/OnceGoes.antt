@@ -5,7 +5,7 @@ use Rattle.lot_calls.specs.declared.outcomes.Outcome.TheVariants as outcome
 use Rattle.lot_acts.specs.declared.acts.Next.{Next}
 use Rattle.lot_acts.specs.declared.acts.Next.TheVariants as next
 use Rattle.lot_acts.specs.declared.acts.Reply.{Reply}
-use Rattle.lot_acts.specs.declared.acts.Reply.TheVariants.{Parked, Value}
+use Rattle.lot_acts.specs.declared.acts.Reply.TheVariants.{Parked, Removed, Value}
 use Rattle.lot_acts.specs.Acts.{holds}
 use Rattle.lot_once.specs.OnceSteps.{check_of}
 use Rattle.abstract_locks.specs.Codes.{is_marked}
@@ -16,12 +16,13 @@ use Rattle.lot_laws.proofs.Glue.{IsSingle, same}
 use Rattle.lot_acts.specs.Acts.{outcome_of}
 use Rattle.lot_acts.specs.Profiles.{Profile}
 use Rattle.lot_acts.specs.Stations.{Station}
+use Rattle.lot_once.specs.declared.give_up.GiveUpAt.TheVariants as give_up
 use Rattle.lot_once.specs.declared.look.LookAt.TheVariants as look
 use Rattle.lot_once.specs.declared.look.Course.{Course}
 use Rattle.lot_once.specs.declared.look.Course.TheVariants.{Ends, Runs, Marks, Parks}
 use Rattle.lot_once.specs.declared.run.RunAt.TheVariants as run
 use Rattle.lot_once.specs.declared.places.OncePlace.{OncePlace}
-use Rattle.lot_once.specs.declared.places.OncePlace.TheVariants.{Look, Run}
+use Rattle.lot_once.specs.declared.places.OncePlace.TheVariants.{Look, Run, GiveUp}
 use Rattle.lot_once.specs.OnceCalls.{next_row}
 use Rattle.lot_once.specs.OnceDeeds.{closes, end_of, exchanged_deeds, looked_deeds, once_deeds}
 use Rattle.lot_once.specs.OnceProfiles.{once_profile}
@@ -164,6 +165,9 @@ module _ (w : State) (t l : ℕ) (at : OncePlace) (steady : IsSteady w) (shape :
   rests (Run forced (run.Enter succeeded)) e = inl refl
   rests (Run forced (run.Take succeeded)) e = inl refl
   rests (Run forced (run.Leave succeeded any)) e = inl refl
+  rests (GiveUp again give_up.Remove) e = inl refl
+  rests (GiveUp again give_up.Clear) e = inl refl
+  rests (GiveUp again give_up.Leave) e = inl refl
 
   leads : LeadsTo behind t l (next_row (once_next at told)) (outcome_of (once_does l (once_next at told)))
   leads = by_next (once_next at told) (get_or-set_same (state_after_act w t (Once l at) (once_act l at)).places t _ Idle (rw (performed_counts w t (Once l at) (once_act l at)).0 there))
@@ -196,6 +200,12 @@ module _ (w : State) (t l : ℕ) (at : OncePlace) (steady : IsSteady w) (shape :
       by_parked c again true = tt
       by_parked c again false = tt
 
+      by_removed : (again b : Bool)
+          → Begins (locks_of w) (event_by l (case_of None (once_deeds (GiveUp again give_up.Remove) (Removed b))))
+          (outcome_of (once_does l (once_next (GiveUp again give_up.Remove) (Removed b))))
+      by_removed again true = tt
+      by_removed again false = tt
+
       by_place : (p : OncePlace) → can_do w (once_act l p) ≡ true
           → Begins (locks_of w) (event_by l (case_of (once_profile p).carries (once_deeds p (reply_to w t (once_act l p)))))
           (outcome_of (once_does l (once_next p (reply_to w t (once_act l p)))))
@@ -212,6 +222,9 @@ module _ (w : State) (t l : ℕ) (at : OncePlace) (steady : IsSteady w) (shape :
       by_place (Run forced (run.Take succeeded)) h = tt
       by_place (Run forced (run.Leave succeeded true)) h = tt
       by_place (Run forced (run.Leave succeeded false)) h = tt
+      by_place (GiveUp again give_up.Remove) h = by_removed again _
+      by_place (GiveUp again give_up.Clear) h = tt
+      by_place (GiveUp again give_up.Leave) h = tt
 
   pub once_step : GoesOn (locks_of w) t (outcome_of (next_act (Once l at) told)) (locks_of behind)
   once_step = goes_by w behind t l case happened (Once l at) is refl tt kept.tells.may (next_row (once_next at told)) _ kept.tells.comes leads others begins

@@ -8,17 +8,19 @@ use Rattle.lot_base.specs.declared.ops.Op.{Op}
 use Rattle.lot_base.specs.Words.{apply}
 use Rattle.lot_base.specs.declared.wants.Want.{Want}
 use Rattle.lot_calls.specs.declared.calls.OnceCall.{OnceCall}
+use Rattle.lot_calls.specs.declared.calls.OnceCall.TheVariants.{CallOnce, Wait, WaitTimed}
 use Rattle.lot_acts.specs.declared.acts.Check.{Check}
 use Rattle.lot_acts.specs.declared.acts.Act.{Act}
 use Rattle.lot_acts.specs.declared.acts.Act.TheVariants as act
 use Rattle.lot_acts.specs.declared.acts.Next.{Next}
 use Rattle.lot_acts.specs.declared.acts.Next.TheVariants as next
 use Rattle.lot_acts.specs.declared.acts.Reply.{Reply}
-use Rattle.lot_acts.specs.declared.acts.Reply.TheVariants.{Done, Value, Parked, Took, TakenBy, Woken, Closed}
+use Rattle.lot_acts.specs.declared.acts.Reply.TheVariants.{Done, Value, Parked, Took, Removed, TakenBy, Late, Woken, Closed}
 use Rattle.lot_acts.specs.declared.acts.Wakes.{Wakes}
 use Rattle.lot_acts.specs.declared.acts.Whom.TheVariants as whom
 use Rattle.lot_acts.specs.Acts.{holds, wakes_taken}
-use Rattle.lot_acts.specs.Moves.{StaysPut, GoesIn, GoesOut, AreLeaving, Waits, row_of}
+use Rattle.lot_acts.specs.Moves.{StaysPut, GoesIn, GoesOut, LeavesLine, AreLeaving, Waits, row_of}
+use Rattle.lot_acts.specs.Calls.{IsNotLate}
 use Rattle.lot_acts.specs.Profiles.{Profile, in_hand}
 use Rattle.lot_acts.specs.Owners.{lock_seen}
 use Rattle.abstract_locks.specs.Onces.{Rest, TakeAll}
@@ -28,18 +30,19 @@ use Rattle.abstract_locks.specs.Sites.{Site, Deed, Line, Main, Second, Case, In,
 use Rattle.abstract_locks.specs.Codes.{aside_in, code, is_marked, parked_in}
 use Rattle.abstract_locks.specs.Deeds.{case_of}
 use Rattle.abstract_locks.specs.Deeds as laws
+use Rattle.lot_once.specs.declared.give_up.GiveUpAt.TheVariants as give_up
 use Rattle.lot_once.specs.declared.look.LookAt.TheVariants as look
 use Rattle.lot_once.specs.declared.look.Course.{Course}
 use Rattle.lot_once.specs.declared.look.Course.TheVariants.{Ends, Runs, Marks, Parks}
 use Rattle.lot_once.specs.declared.run.RunAt.TheVariants as run
 use Rattle.lot_once.specs.declared.places.OncePlace.{OncePlace}
-use Rattle.lot_once.specs.declared.places.OncePlace.TheVariants.{Look, Run}
+use Rattle.lot_once.specs.declared.places.OncePlace.TheVariants.{Look, Run, GiveUp}
 use Rattle.lot_once.specs.OnceCalls.{CallFollowsBy, next_row}
 use Rattle.lot_once.specs.OnceDeeds.{Follows, IsAt, OnceSectionsFollow, MayHear, closes, doing_next, exchanged_deeds, looked_deeds, once_deeds, once_doing}
 use Rattle.lot_once.specs.OnceMoves.{OnceMoves, RestsBehind, TakesAll, once_hears, once_move}
 use Rattle.lot_once.specs.OnceProfiles.{once_profile}
 use Rattle.lot_once.specs.OnceSteps.{course_act, course_of, once_act, once_first, once_next, once_owners}
-use Rattle.lot_once.proofs.OnceActs.{once_acts_move, once_sleepers_move}
+use Rattle.lot_once.proofs.OnceActs.{once_acts_move, once_late_move, once_sleepers_move}
 use Rattle.lot_once.proofs.OnceFit.{once_owners_follow, once_steps_code, once_steps_follow}
 use Rattle.lot_once.proofs.OnceTells.{once_sections_tell, once_steps_tell}
 use Rattle.lot_once.proofs.OnceWords as words
@@ -49,7 +52,7 @@ use Rattle.lot_mutex.specs.declared.places.MutexPlace.{MutexPlace}
 use Rattle.lot_rwlock.specs.declared.places.Admission.{Admission}
 use Rattle.lot_rwlock_fair.specs.declared.places.RwLockCallPlace.{RwLockCallPlace}
 use Rattle.lot_steps.specs.Steps.{calls, next_place, once_goes, profile}
-use Rattle.lot_machine.specs.Machine.{State, are_free, can_do, kind_at, owners_at, place_at, put, queue_at, reply_to, section_at, shares_at, state_after_act, word_at}
+use Rattle.lot_machine.specs.Machine.{State, are_free, can_do, is_free, state_after_late_under, kind_at, owners_at, place_at, put, queue_at, reply_to, section_at, shares_at, state_after_act, word_at}
 use Rattle.lot_machine.specs.Fits.{IsShaped}
 use Rattle.lot_machine.proofs.Shape.{main_key_there}
 use Rattle.lot_laws.specs.Refinement.{taken_at}
@@ -60,7 +63,7 @@ use Rattle.lot_laws.proofs.ActsKept.{lock_by, place_goes}
 use Rattle.lot_laws.proofs.OneStep.{steps_by}
 use Rattle.lot_condvar.specs.declared.places.CondvarPlace.{CondvarPlace}
 use Rattle.lot_laws.proofs.Glue.{not_beside, IsOf, doing_here, free_of, next_of, parts_at}
-use Rattle.lot_laws.proofs.MovesKept.{IsFollowed, SleepsIfCalls, IsSleeper, entered_hears, goes_in, goes_out, left_hears, wakes_one}
+use Rattle.lot_laws.proofs.MovesKept.{IsFollowed, SleepsIfCalls, IsSleeper, entered_hears, goes_in, goes_out, leaves_line, left_hears, removed_hears, wakes_one}
 use Rattle.lot_laws.proofs.OnceMovesKept.{all_hears, closes_so, rests_or_turns, stays_unshared, takes_all, told_so}
 use Rattle.lot_laws.proofs.OtherCalls.{IsCalm, WakesOwn}
 use Rattle.lot_laws.proofs.RwLockKept.{left_calm, left_wakes, word_calm, calm_case, AreCalm}
@@ -113,6 +116,9 @@ module _ (r : Rules) (s : Site) (t : ℕ) where
   stays_aside (Run forced (run.Enter succeeded)) v = refl
   stays_aside (Run forced (run.Take succeeded)) v = refl
   stays_aside (Run forced (run.Leave succeeded any)) v = refl
+  stays_aside (GiveUp again give_up.Remove) v = refl
+  stays_aside (GiveUp again give_up.Clear) v = refl
+  stays_aside (GiveUp again give_up.Leave) v = refl
 
 -- ---------------------------------------------------------------- its acts
 
@@ -122,6 +128,7 @@ IsOnceAct (act.Word k op) = Unit {0}
 IsOnceAct (act.Enter keys) = Unit {0}
 IsOnceAct (act.Park k key check want) = Unit {0}
 IsOnceAct (act.Take key whom.All) = Unit {0}
+IsOnceAct (act.Remove key) = Unit {0}
 IsOnceAct (act.Leave keys wakes) = Unit {0}
 IsOnceAct act.Sleep = Unit {0}
 IsOnceAct (act.Closure state) = Unit {0}
@@ -145,15 +152,26 @@ once_acts l (Run forced (run.Close succeeded)) = tt
 once_acts l (Run forced (run.Enter succeeded)) = tt
 once_acts l (Run forced (run.Take succeeded)) = tt
 once_acts l (Run forced (run.Leave succeeded any)) = tt
+once_acts l (GiveUp again give_up.Remove) = tt
+once_acts l (GiveUp again give_up.Clear) = tt
+once_acts l (GiveUp again give_up.Leave) = tt
 
 once_sections_follow : OnceSectionsFollow
 once_sections_follow r s t (Look c again (look.Decide seen)) Done a h = search rules
-once_sections_follow r s t (Look c again look.Check) (Parked true) a h = search rules
+once_sections_follow r s t (Look (CallOnce forced) again look.Check) (Parked true) a h = search rules
+once_sections_follow r s t (Look (Wait forced) again look.Check) (Parked true) a h = search rules
+once_sections_follow r s t (Look WaitTimed again look.Check) (Parked true) a h = search rules
 once_sections_follow r s t (Look c again look.Check) (Parked false) a h = search rules
 once_sections_follow r s t (Look c again (look.Leave parked)) Done a h = search rules
 once_sections_follow r s t (Run forced (run.Enter succeeded)) Done a h = search rules
 once_sections_follow r s t (Run forced (run.Take succeeded)) (Took any none_left) a h = search rules
 once_sections_follow r s t (Run forced (run.Leave succeeded any)) Done a h = search rules
+once_sections_follow r s t (Look WaitTimed again look.Asleep) Late a h = search rules
+once_sections_follow r s t (Look (CallOnce forced) again look.Asleep) Late a h = absurd (let f : false ≡ true = h.0 in cc)
+once_sections_follow r s t (Look (Wait forced) again look.Asleep) Late a h = absurd (let f : false ≡ true = h.0 in cc)
+once_sections_follow r s t (GiveUp again give_up.Remove) (Removed true) a h = search rules
+once_sections_follow r s t (GiveUp again give_up.Remove) (Removed false) a h = search rules
+once_sections_follow r s t (GiveUp again give_up.Leave) Done a h = search rules
 once_sections_follow r s t p told a h = absurd h
 
 nobody_is : (o : Option ℕ) → is_none o ≡ true → o ≡ None
@@ -261,8 +279,8 @@ module _ (w : State) (t l : ℕ) (at : OncePlace) (steady : IsSteady w) (shape :
     pub tells : CallFollowsBy (rules_in w l) here t l at (reply_to w t y)
     pub others : WakesOwn ((once_profile at).carries) y (case_of ((once_profile at).carries) (once_deeds at (reply_to w t y)))
 
-  tells_by : (told : Reply) → MayHear (rules_in w l) here t at told → CallFollowsBy (rules_in w l) here t l at told
-  tells_by told hears = once_sections_tell (rules_in w l) here t l at told at_now hears
+  tells_by : (told : Reply) → IsNotLate told → MayHear (rules_in w l) here t at told → CallFollowsBy (rules_in w l) here t l at told
+  tells_by told now hears = once_sections_tell (rules_in w l) here t l at told at_now hears now
 
   calm_by : (ds : List Deed) {x : List Deed} → x ≡ ds → AreCalm ds → IsCalm (case_of ((once_profile at).carries) x)
   calm_by ds e h = subst (λ (x : List Deed). IsCalm (case_of ((once_profile at).carries) x)) (sym e) (calm_case ((once_profile at).carries) ds h)
@@ -310,7 +328,7 @@ module _ (w : State) (t l : ℕ) (at : OncePlace) (steady : IsSteady w) (shape :
       → GoesIn (once_move at) (once_hears at) m Done → GoesFrom (place_at w t) (act.Enter keys)
   into m keys e free g = subst (λ k. GoesFrom (place_at w t) (act.Enter k)) (sym e) (record {
     goes = goes_in w t l steady there own (rules_in w l) refl (once_move at) same_row (once_hears at) m Done (next_place (place_at w t) Done) (section_there m) is_free_now g (λ h. followed Done h);
-    tells = tells_by Done (entered_hears w t l steady there own (rules_in w l) refl (once_move at) same_row (once_hears at) m Done is_free_now g);
+    tells = tells_by Done tt (entered_hears w t l steady there own (rules_in w l) refl (once_move at) same_row (once_hears at) m Done is_free_now g);
     others = calm_by (In m ∷ []) g.deeds tt;
   })
     where
@@ -321,7 +339,7 @@ module _ (w : State) (t l : ℕ) (at : OncePlace) (steady : IsSteady w) (shape :
       → GoesFrom (place_at w t) (act.Leave keys wakes)
   out_of m keys wakes e g = subst (λ k. GoesFrom (place_at w t) (act.Leave k wakes)) (sym e) (record {
     goes = goes_out w t l steady there own (rules_in w l) refl (once_move at) same_row (once_hears at) m wakes (next_place (place_at w t) Done) (section_there m) g (λ h. followed Done h) (wakes_one w t l steady there own (rules_in w l) refl (once_move at) same_row asleep g.any g.carries);
-    tells = tells_by Done (left_hears w t l steady there own (rules_in w l) refl (once_move at) same_row (once_hears at) m wakes g);
+    tells = tells_by Done tt (left_hears w t l steady there own (rules_in w l) refl (once_move at) same_row (once_hears at) m wakes g);
     others = subst (λ x. WakesOwn ((once_profile at).carries) (act.Leave (One (key_of l m)) x) (case_of ((once_profile at).carries) (once_deeds at Done))) (sym g.notes) (wakes_any ((once_profile at).carries) g.any g.carries (once_deeds at Done) g.deeds);
   })
     where
@@ -334,7 +352,7 @@ module _ (w : State) (t l : ℕ) (at : OncePlace) (steady : IsSteady w) (shape :
       → RestsBehind (once_move at) (once_hears at) check want → GoesFrom (place_at w t) (act.Park k key check want)
   rested k key check x ke e g = subst (λ j. GoesFrom (place_at w t) (act.Park j key check x)) (sym ke) (subst (λ j. GoesFrom (place_at w t) (act.Park l j check x)) (sym e) (record {
     goes = rests_or_turns w t l steady there own (rules_in w l) refl (once_move at) same_row (once_hears at) check x line_there g (λ b h. followed (Parked b) h);
-    tells = tells_by (Parked (holds check (word_at w l))) (told_so w t l steady there own (rules_in w l) refl (once_move at) same_row (once_hears at) check x line_there g (λ b h. followed (Parked b) h) (holds check (word_at w l)) refl);
+    tells = tells_by (Parked (holds check (word_at w l))) tt (told_so w t l steady there own (rules_in w l) refl (once_move at) same_row (once_hears at) check x line_there g (λ b h. followed (Parked b) h) (holds check (word_at w l)) refl);
     others = rests_calm (holds check (word_at w l));
   }))
     where
@@ -346,12 +364,20 @@ module _ (w : State) (t l : ℕ) (at : OncePlace) (steady : IsSteady w) (shape :
       → GoesFrom (place_at w t) (act.Take key whom.All)
   took key e g = subst (λ j. GoesFrom (place_at w t) (act.Take j whom.All)) (sym e) (record {
     goes = takes_all w t l steady there own (rules_in w l) refl (once_move at) same_row asleep (once_hears at) many line_there g follows;
-    tells = tells_by _ (all_hears w t l steady there own (rules_in w l) refl (once_move at) same_row asleep (once_hears at) many line_there g follows);
+    tells = tells_by _ tt (all_hears w t l steady there own (rules_in w l) refl (once_move at) same_row asleep (once_hears at) many line_there g follows);
     others = calm_by (Case (OfOnce TakeAll) ∷ []) (g.deeds _ _) tt;
   })
     where
       follows : (any none_left : Bool) → MayHear (rules_in w l) here t at (Took any none_left) → Followed (Took any none_left)
       follows any none_left h = followed (Took any none_left) h
+
+  left : (m : Line) (key : ℕ) → key ≡ key_of l m → LeavesLine (once_move at) (once_hears at) m
+      → GoesFrom (place_at w t) (act.Remove key)
+  left m key e g = subst (λ j. GoesFrom (place_at w t) (act.Remove j)) (sym e) (record {
+    goes = leaves_line w t l steady there own (rules_in w l) refl (once_move at) same_row asleep (once_hears at) m g (λ b h. followed (Removed b) h);
+    tells = tells_by (reply_to w t (act.Remove (key_of l m))) tt (removed_hears w t l steady there own (rules_in w l) refl (once_move at) same_row asleep (once_hears at) m g);
+    others = calm_by (Case locks.Late ∷ []) (g.deeds _) tt;
+  })
 
   -- by any act but its closure, which another turn ends
   by_act : (y : Act) → once_act l at ≡ y → IsOnceAct y → OnceMoves l (once_move at) (once_hears at) y → can_do w y ≡ true
@@ -360,6 +386,7 @@ module _ (w : State) (t l : ℕ) (at : OncePlace) (steady : IsSteady w) (shape :
   by_act (act.Enter keys) e h g can = into g.0 keys g.1 can g.2
   by_act (act.Park k key check want) e h g can = rested k key check want g.0 g.1 g.2
   by_act (act.Take key whom.All) e h g can = took key g.0 g.1
+  by_act (act.Remove key) e h g can = left g.0 key g.1 g.2
   by_act (act.Leave keys wakes) e h g can = out_of g.0 keys wakes g.1 g.2
   by_act act.Sleep e h g can = absurd cc
   by_act (act.Closure state) e h g can = absurd cc
@@ -368,6 +395,12 @@ module _ (w : State) (t l : ℕ) (at : OncePlace) (steady : IsSteady w) (shape :
   -- its deeds are what the place and the reply say
   pub goes_once : can_do w (once_act l at) ≡ true → GoesFrom (Once l at) (once_act l at)
   goes_once can = subst (λ q. GoesFrom q (once_act l at)) is (by_act (once_act l at) refl (once_acts l at) (once_acts_move l at) can)
+
+  -- its time is up
+  pub once_goes_late : (m : Line) → (once_profile at).late_line ≡ Some m → is_free w (key_of l m) ≡ true
+      → Goes w (state_after_late_under w t (key_of l m)) l (acts t (once_deeds at Late))
+  once_goes_late m e free = goes_in w t l steady there own (rules_in w l) refl (once_move at) same_row (once_hears at) m Late (next_place (place_at w t) Late) (section_there m)
+      (nobody_is (section_at w (key_of l m)) free) (once_late_move at m e) (λ h. followed Late h)
 
 -- its closure has answered, and it goes on behind it
 module _ (w : State) (t l : ℕ) (forced poisoned succeeded : Bool) (steady : IsSteady w) (there : t < length w.places)

@@ -1,7 +1,7 @@
 -- A thread in a call of a `Once` owes a wake from the end of its run on, where that saw waiters, or from entering the section, until it leaves it.
 use Rattle.std.proofs.Common.{ℕ, Bool, true, false, Option, Some, None, if◌then◌else◌, ◌≡◌, inl, inr, refl, sym, ◌∙◌, ap, subst}
 use Rattle.lot_calls.specs.declared.calls.OnceCall.{OnceCall}
-use Rattle.lot_calls.specs.declared.calls.OnceCall.TheVariants.{CallOnce, Wait}
+use Rattle.lot_calls.specs.declared.calls.OnceCall.TheVariants.{CallOnce, Wait, WaitTimed}
 use Rattle.lot_acts.specs.declared.acts.Next.{Next}
 use Rattle.lot_acts.specs.declared.acts.Next.TheVariants as next
 use Rattle.lot_acts.specs.declared.acts.Reply.{Reply}
@@ -10,17 +10,19 @@ use Rattle.lot_acts.specs.Acts.{outcome_of}
 use Rattle.abstract_locks.specs.Locks as locks
 use Rattle.abstract_locks.specs.Sites.{Line, Main}
 use Rattle.abstract_locks.specs.Codes.{is_marked}
+use Rattle.lot_once.specs.declared.give_up.GiveUpAt.{GiveUpAt}
+use Rattle.lot_once.specs.declared.give_up.GiveUpAt.TheVariants as give_up
 use Rattle.lot_once.specs.declared.look.LookAt.{LookAt}
 use Rattle.lot_once.specs.declared.run.RunAt.{RunAt}
 use Rattle.lot_once.specs.declared.run.RunAt.TheVariants as run
 use Rattle.lot_once.specs.declared.places.OncePlace.{OncePlace}
-use Rattle.lot_once.specs.declared.places.OncePlace.TheVariants.{Look, Run}
-use Rattle.lot_once.specs.OnceSteps.{begins_run, ended, found, in_look, in_run, is_forced, next_look, once_act, once_next, run_act, still_retries}
+use Rattle.lot_once.specs.declared.places.OncePlace.TheVariants.{Look, Run, GiveUp}
+use Rattle.lot_once.specs.OnceSteps.{begins_run, ended, found, in_look, in_run, is_forced, next_look, once_act, once_next, run_act, still_retries, gives_up, give_up_act, in_give_up, is_timed, next_give_up}
 use Rattle.lot_once.specs.OnceProfiles.{again_of, once_profile, run_row}
 use Rattle.lot_steps.specs.Steps.{act_of, once_does, once_goes, profile}
 use Rattle.lot_machine.specs.Machine.{State, reply_to, word_at}
 use Rattle.lot_laws.specs.Owing.{tells_by, tells_of}
-use Rattle.lot_laws.proofs.OnceRows.{lets_nobody, look_owes}
+use Rattle.lot_laws.proofs.OnceRows.{gives_up_quietly, lets_nobody, look_owes}
 use Rattle.lot_laws.proofs.RowPromises.{RowOwesNext, RowOwesThen, owes_then}
 
 -- it looks nowhere first
@@ -28,7 +30,9 @@ tells_so : (l : ℕ) (at : OncePlace) (m : Line) (v : ℕ)
     → tells_by locks.Once (Some ((once_profile at).purpose l)) m v ≡ tells_of locks.Once m v
 tells_so l (Look (CallOnce forced) again at) m v = refl
 tells_so l (Look (Wait forced) again at) m v = refl
+tells_so l (Look WaitTimed again at) m v = refl
 tells_so l (Run forced at) m v = refl
+tells_so l (GiveUp again at) m v = refl
 
 -- ---------------------------------------------------------------- who looks, or waits
 
@@ -36,12 +40,18 @@ found_owes : (r : Reply) → (run_row (found r)).owes ≡ None
 found_owes (reply.Value seen) = refl
 found_owes r = refl
 
-look_since : (l : ℕ) (c : OnceCall) (again : Bool) (r : Reply) (b : Bool) (n : Next LookAt) (m : Line)
-    → (profile (once_goes l (if b then next.At (Run (is_forced c) (found r)) else in_look c again n))).owes ≡ Some m
-    → (profile (once_goes l (if b then next.At (Run (is_forced c) (found r)) else in_look c again n))).doing.inside ≡ Some m
-look_since l c again r true n m h = absurd (let f : ◌≡◌ {A = Option Line} None (Some m) = sym (found_owes r) ∙ h in cc)
-look_since l c again r false (next.At at) m h = look_owes (again_of c again) at m h
-look_since l c again r false (next.End answer) m h = absurd cc
+-- behind its look: a run has begun, it gives up, or it looks on
+abbrev LooksOn : OnceCall → Bool → Bool → Reply → (b late : Bool) → Next LookAt → Next OncePlace
+LooksOn c again still r b late n =
+    if b then next.At (Run (is_forced c) (found r)) else if late then next.At (GiveUp again give_up.Remove) else in_look c still n
+
+look_since : (l : ℕ) (c : OnceCall) (again still : Bool) (r : Reply) (b late : Bool) (n : Next LookAt) (m : Line)
+    → (profile (once_goes l (LooksOn c again still r b late n))).owes ≡ Some m
+    → (profile (once_goes l (LooksOn c again still r b late n))).doing.inside ≡ Some m
+look_since l c again still r true late n m h = absurd (let f : ◌≡◌ {A = Option Line} None (Some m) = sym (found_owes r) ∙ h in cc)
+look_since l c again still r false true n m h = h
+look_since l c again still r false false (next.At at) m h = look_owes (is_timed c) (again_of c still) at m h
+look_since l c again still r false false (next.End answer) m h = absurd cc
 
 -- ---------------------------------------------------------------- who runs its closure
 
@@ -75,6 +85,16 @@ run_owing w t l forced (run.Enter succeeded) = inside_owing l (word_at w l) forc
 run_owing w t l forced (run.Take succeeded) = inside_owing l (word_at w l) forced (run.Take succeeded) (run.Leave succeeded _) refl refl
 run_owing w t l forced (run.Leave succeeded any) = record { since = λ m h. absurd cc; sees = λ m s step. absurd cc }
 
+-- ---------------------------------------------------------------- who gives up
+
+-- inside the section it owes, until it leaves it
+give_up_since : (l : ℕ) (again : Bool) (n : Next GiveUpAt) (m : Line) → (profile (once_goes l (in_give_up again n))).owes ≡ Some m
+    → (profile (once_goes l (in_give_up again n))).doing.inside ≡ Some m
+give_up_since l again (next.At give_up.Remove) m h = h
+give_up_since l again (next.At give_up.Clear) m h = h
+give_up_since l again (next.At give_up.Leave) m h = h
+give_up_since l again (next.End answer) m h = absurd cc
+
 -- ---------------------------------------------------------------- every place
 
 -- the reply to its act leads a thread on
@@ -82,8 +102,12 @@ pub once_owes_next : (w : State) (t l : ℕ) (at : OncePlace) →
     RowOwesThen locks.Once l (word_at w l) (once_profile at) (outcome_of (once_does l (once_next at (reply_to w t (once_act l at))))) (profile (once_goes l (once_next at (reply_to w t (once_act l at)))))
     (act_of (once_goes l (once_next at (reply_to w t (once_act l at)))))
 once_owes_next w t l (Run forced at) = owes_then (λ m. tells_so l (Run forced at) m (word_at w l)) (run_owing w t l forced at)
+once_owes_next w t l (GiveUp again at) = owes_then (λ m. tells_so l (GiveUp again at) m (word_at w l)) (record {
+  since = λ m h. inl (give_up_since l again (next_give_up at (reply_to w t (give_up_act l at))) m h);
+  sees = λ m s step. absurd (gives_up_quietly l again at s.0);
+})
 once_owes_next w t l (Look c again at) = owes_then (λ m. tells_so l (Look c again at) m (word_at w l)) (record {
-  since = λ m h. inl (look_since l c (still_retries again r) r (begins_run c at r) (next_look c at r) m h);
+  since = λ m h. inl (look_since l c again (still_retries again r) r (begins_run c at r) (gives_up c at r) (next_look c at r) m h);
   sees = λ m s step. absurd (lets_nobody l c again at s.0);
 })
   where

@@ -2,35 +2,43 @@
 use Rattle.std.proofs.Common.{ℕ, Bool, true, false, Option, Some, ◌≡◌, inl, inr, refl, subst}
 use Rattle.lot_base.specs.declared.wants.Want.{Want}
 use Rattle.lot_calls.specs.declared.calls.OnceCall.{OnceCall}
-use Rattle.lot_calls.specs.declared.calls.OnceCall.TheVariants.{CallOnce, Wait}
+use Rattle.lot_calls.specs.declared.calls.OnceCall.TheVariants.{CallOnce, Wait, WaitTimed}
 use Rattle.lot_acts.specs.Rows.{LetsIn}
 use Rattle.abstract_locks.specs.Locks as locks
 use Rattle.abstract_locks.specs.Sites.{Line, Second, has_readers}
 use Rattle.abstract_locks.specs.Purposes.{IsReleasing, once_purpose}
+use Rattle.lot_once.specs.OnceSteps.{is_timed}
+use Rattle.lot_once.specs.declared.give_up.GiveUpAt.{GiveUpAt}
 use Rattle.lot_once.specs.declared.look.LookAt.{LookAt}
 use Rattle.lot_once.specs.declared.look.LookAt.TheVariants as look
 use Rattle.lot_once.specs.declared.places.OncePlace.{OncePlace}
-use Rattle.lot_once.specs.declared.places.OncePlace.TheVariants.{Look}
+use Rattle.lot_once.specs.declared.places.OncePlace.TheVariants.{Look, GiveUp}
 use Rattle.lot_once.specs.OnceProfiles.{again_of, look_row, once_profile}
 use Rattle.lot_once.proofs.OnceRowCheck.{once_promises}
 
-unreleased : (wanted : Option Want) (at : LookAt) → (look_row wanted at).released ≡ false
-unreleased wanted look.Load = refl
-unreleased wanted at = refl
+unreleased : (timed : Bool) (wanted : Option Want) (at : LookAt) → (look_row timed wanted at).released ≡ false
+unreleased timed wanted look.Load = refl
+unreleased timed wanted at = refl
 
 pub lets_nobody : (l : ℕ) (c : OnceCall) (again : Bool) (at : LookAt) → LetsIn locks.Once l (once_profile (Look c again at)) → ⊥
 lets_nobody l c again at (inr h) = let f : false ≡ true = h.0 in cc
-lets_nobody l c again at (inl h) = by_call c (subst (λ b. IsReleasing (Some (once_purpose l c)) b l) (unreleased (again_of c again) at) h)
+lets_nobody l c again at (inl h) = by_call c (subst (λ b. IsReleasing (Some (once_purpose l c)) b l) (unreleased (is_timed c) (again_of c again) at) h)
   where
     by_call : (c : OnceCall) → IsReleasing (Some (once_purpose l c)) false l → ⊥
     by_call (CallOnce forced) g = let f : false ≡ true = g.1 in cc
     by_call (Wait forced) g = g
+    by_call WaitTimed g = g
 
-pub look_owes : (wanted : Option Want) (at : LookAt) (m : Line) → (look_row wanted at).owes ≡ Some m
-    → (look_row wanted at).doing.inside ≡ Some m
-look_owes wanted look.Check m h = h
-look_owes wanted (look.Leave parked) m h = h
-look_owes wanted at m h = absurd cc
+-- nor does it once its time is up
+pub gives_up_quietly : (l : ℕ) (again : Bool) (at : GiveUpAt) → LetsIn locks.Once l (once_profile (GiveUp again at)) → ⊥
+gives_up_quietly l again at (inr h) = let f : false ≡ true = h.0 in cc
+gives_up_quietly l again at (inl h) = h
+
+pub look_owes : (timed : Bool) (wanted : Option Want) (at : LookAt) (m : Line) → (look_row timed wanted at).owes ≡ Some m
+    → (look_row timed wanted at).doing.inside ≡ Some m
+look_owes timed wanted look.Check m h = h
+look_owes timed wanted (look.Leave parked) m h = h
+look_owes timed wanted at m h = absurd cc
 
 -- it has no second line
 pub main_only : (at : OncePlace) → (once_profile at).doing.inside ≡ Some Second → ⊥

@@ -7,9 +7,10 @@ use Rattle.lot_base.specs.declared.ops.Op.TheVariants as op
 use Rattle.lot_base.specs.declared.wants.Waiter.{Waiter}
 use Rattle.lot_base.specs.Words.{apply}
 use Rattle.lot_calls.specs.declared.calls.OnceCall.{OnceCall}
-use Rattle.lot_calls.specs.declared.calls.OnceCall.TheVariants.{CallOnce, Wait}
+use Rattle.lot_calls.specs.declared.calls.OnceCall.TheVariants.{CallOnce, Wait, WaitTimed}
 use Rattle.lot_calls.specs.declared.outcomes.Outcome.{Outcome}
 use Rattle.lot_calls.specs.declared.outcomes.Outcome.TheVariants as outcome
+use Rattle.lot_calls.specs.declared.outcomes.Answer.TheVariants as answer
 use Rattle.lot_acts.specs.declared.acts.Act.TheVariants as act
 use Rattle.lot_acts.specs.declared.acts.Next.TheVariants as next
 use Rattle.lot_acts.specs.declared.acts.Reply.TheVariants.{Value}
@@ -20,6 +21,9 @@ use Rattle.lot_acts.specs.Acts.{holds, outcome_of, wakes_taken}
 use Rattle.abstract_locks.specs.Codes.{is_marked, is_poisoned}
 use Rattle.abstract_locks.specs.Onces.{Phase, New, Poisoned, InProgress, Done as IsDone}
 use Rattle.abstract_locks.specs.Sites.{Line, Main}
+use Rattle.lot_once.specs.declared.give_up.GiveUpAt.{GiveUpAt}
+use Rattle.lot_once.specs.declared.give_up.GiveUpAt.TheVariants as give_up
+use Rattle.lot_once.specs.declared.places.TheConstants.{NOT_MARKED}
 use Rattle.lot_once.specs.declared.look.LookAt.{LookAt}
 use Rattle.lot_once.specs.declared.look.LookAt.TheVariants as look
 use Rattle.lot_once.specs.declared.look.Course.{Course}
@@ -27,15 +31,15 @@ use Rattle.lot_once.specs.declared.look.Course.TheVariants.{Ends, Runs, Marks, P
 use Rattle.lot_once.specs.declared.run.RunAt.{RunAt}
 use Rattle.lot_once.specs.declared.run.RunAt.TheVariants as run
 use Rattle.lot_once.specs.declared.places.OncePlace.{OncePlace}
-use Rattle.lot_once.specs.declared.places.OncePlace.TheVariants.{Look, Run}
-use Rattle.lot_once.specs.OnceSteps.{check_of, course_act, course_of, ended, in_look, in_run, is_forced, is_mark, is_run, looked, marked, once_next, started, want_of, word_behind}
+use Rattle.lot_once.specs.declared.places.OncePlace.TheVariants.{Look, Run, GiveUp}
+use Rattle.lot_once.specs.OnceSteps.{check_of, course_act, course_of, ended, in_look, in_run, is_forced, is_mark, is_run, looked, marked, once_next, started, want_of, word_behind, in_give_up}
 use Rattle.lot_steps.specs.declared.places.Place.TheVariants.{Once}
 use Rattle.lot_steps.specs.Steps.{act_of, once_does, once_goes}
 use Rattle.lot_machine.specs.Machine.{State, after, go_of, runs_closure, step_outcome}
 use Rattle.lot_laws.specs.Refinement.{lock_state}
 use Rattle.lot_laws.specs.SitesOf.{site_of}
 use Rattle.lot_laws.specs.Solo.{Rests}
-use Rattle.lot_laws.proofs.LineSolo.{Comes, StepsAlone, enter_comes, finds_free, leave_comes, park_comes, take_comes, word_comes}
+use Rattle.lot_laws.proofs.LineSolo.{Comes, StepsAlone, enter_comes, finds_free, leave_comes, park_comes, remove_comes, take_comes, word_comes}
 use Rattle.lot_laws.proofs.OnceEnds.{Ended, Looked, decides, loads, looks, told_by_word}
 use Rattle.lot_laws.proofs.Leads.{Leads, leads_more, leads_rest, leads_so, leads_step}
 
@@ -105,6 +109,10 @@ module _ (t l : ℕ) where
   ended_is_rest q (Wait false) Poisoned v o h = rw h tt
   ended_is_rest q (Wait forced) (InProgress u) v o h = rw (h.0) tt
   ended_is_rest q (Wait forced) IsDone v o h = rw h tt
+  ended_is_rest q WaitTimed New v o h = rw (h.0) tt
+  ended_is_rest q WaitTimed Poisoned v o h = rw h tt
+  ended_is_rest q WaitTimed (InProgress u) v o h = rw (h.0) tt
+  ended_is_rest q WaitTimed IsDone v o h = rw h tt
 
   module _ (c : OnceCall) where
     loads_rest : (again : Bool) (v : ℕ) (w : State) (q : Queues) → Alone w (Look c again look.Load) v q → RestsIn 5 w
@@ -171,8 +179,33 @@ module _ (t l : ℕ) where
     look_rests again look.Asleep v w q up f = absurd (up refl)
     look_rests again (look.Taken by) v w q up f = absurd (up refl)
 
+  -- ---------------------------------------------------------------- who gives up
+
+  module _ (again : Bool) where
+    gone_rests : (v : ℕ) (w : State) (q : Queues) → Alone w (GiveUp again give_up.Leave) v q → RestsIn 1 w
+    gone_rests v w q f = rests w (outcome.End answer.No) (leave_comes w t l _ v q f Main Nobody refl).0 tt
+
+    clear_rests : (v : ℕ) (w : State) (q : Queues) → Alone w (GiveUp again give_up.Clear) v q → RestsIn 2 w
+    clear_rests v w q f = goes 1 _ w q (GiveUp again give_up.Leave) _ refl (word_comes w t l _ v q f (op.And NOT_MARKED) refl) (λ g. gone_rests _ _ q g)
+
+    remove_rests : (v : ℕ) (w : State) (q : Queues) → Alone w (GiveUp again give_up.Remove) v q → RestsIn 3 w
+    remove_rests v w q f = either _ (remove_comes w t l _ v q f (2 * l) refl)
+      where
+        either : (b : Bool) {q2 : Queues}
+            → Comes w t l (once_goes l (in_give_up again (if b then next.At give_up.Clear else next.At give_up.Leave)))
+            (outcome_of (once_does l (in_give_up again (if b then next.At give_up.Clear else next.At give_up.Leave)))) v q2
+            → RestsIn 3 w
+        either true {q2} c = goes 2 v w q2 (GiveUp again give_up.Clear) _ refl c (λ g. clear_rests v _ q2 g)
+        either false {q2} c = leads_more 2 3 w t (λ v o. Rests o) (omega arith) (goes 1 v w q2 (GiveUp again give_up.Leave) _ refl c (λ g. gone_rests v _ q2 g))
+
+    give_up_rests : (at : GiveUpAt) (v : ℕ) (w : State) (q : Queues) → Alone w (GiveUp again at) v q → RestsIn 3 w
+    give_up_rests give_up.Remove v w q f = remove_rests v w q f
+    give_up_rests give_up.Clear v w q f = leads_more 2 3 w t (λ v o. Rests o) (omega arith) (clear_rests v w q f)
+    give_up_rests give_up.Leave v w q f = leads_more 1 3 w t (λ v o. Rests o) (omega arith) (gone_rests v w q f)
+
   -- from any place outside its closure, where it is awake
   pub once_rests : (p : OncePlace) (v : ℕ) (w : State) (q : Queues) → act_of (Once l p) ≢ act.Sleep
       → runs_closure (act_of (Once l p)) ≡ false → Alone w p v q → RestsIn 8 w
   once_rests (Look c again at) v w q up outside f = look_rests c again at v w q up f
   once_rests (Run forced at) v w q up outside f = leads_more 4 8 w t (λ v o. Rests o) (omega arith) (run_rests forced at v w q outside f)
+  once_rests (GiveUp again at) v w q up outside f = leads_more 3 8 w t (λ v o. Rests o) (omega arith) (give_up_rests again at v w q f)

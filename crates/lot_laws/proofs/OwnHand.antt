@@ -6,8 +6,9 @@ use Rattle.lot_rwlock.specs.declared.places.RwLockAt.TheVariants as at
 use Rattle.lot_rwlock_fair.specs.declared.places.RwLockCallPlace.TheVariants as places
 use Rattle.lot_rwlock.specs.RwLockProfiles.{carries_at, hand_at}
 use Rattle.lot_once.specs.declared.look.LookAt.TheVariants as look
+use Rattle.lot_once.specs.declared.give_up.GiveUpAt.TheVariants as give_up
 use Rattle.lot_once.specs.declared.run.RunAt.TheVariants as run
-use Rattle.lot_once.specs.declared.places.OncePlace.TheVariants.{Look, Run}
+use Rattle.lot_once.specs.declared.places.OncePlace.TheVariants.{Look, Run, GiveUp}
 use Rattle.lot_steps.specs.declared.places.Place.{Place}
 use Rattle.lot_steps.specs.declared.places.Place.TheVariants.{Idle, Mutex, RwLock, Once, Condvar}
 use Rattle.lot_steps.specs.Steps.{calls, profile}
@@ -50,6 +51,9 @@ bare (Once l (Run forced (run.Close succeeded))) single = inl refl
 bare (Once l (Run forced (run.Enter succeeded))) single = inl refl
 bare (Once l (Run forced (run.Take succeeded))) single = inl refl
 bare (Once l (Run forced (run.Leave succeeded any))) single = inl refl
+bare (Once l (GiveUp again give_up.Remove)) single = inl refl
+bare (Once l (GiveUp again give_up.Clear)) single = inl refl
+bare (Once l (GiveUp again give_up.Leave)) single = inl refl
 bare (Condvar l at) single = absurd single
 
 module _ (w : State) (steady : IsSteady w) (t l : ℕ) (single : IsSingle (place_at w t)) where

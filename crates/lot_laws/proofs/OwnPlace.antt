@@ -45,10 +45,11 @@ use Rattle.lot_rwlock_fair.specs.FairSteps.{accept_act, call_act, call_next, giv
 use Rattle.lot_once.specs.declared.look.LookAt.TheVariants as look
 use Rattle.lot_once.specs.declared.look.Course.{Course}
 use Rattle.lot_once.specs.declared.look.Course.TheVariants.{Ends}
+use Rattle.lot_once.specs.declared.give_up.GiveUpAt.TheVariants as give_up
 use Rattle.lot_once.specs.declared.run.RunAt.{RunAt}
 use Rattle.lot_once.specs.declared.run.RunAt.TheVariants as run
 use Rattle.lot_once.specs.declared.places.OncePlace.{OncePlace}
-use Rattle.lot_once.specs.declared.places.OncePlace.TheVariants.{Look, Run}
+use Rattle.lot_once.specs.declared.places.OncePlace.TheVariants.{Look, Run, GiveUp}
 use Rattle.lot_once.specs.OnceSteps.{course_act, course_of, in_run, next_run, once_act, once_next}
 use Rattle.lot_steps.specs.declared.places.Place.{Place}
 use Rattle.lot_steps.specs.declared.places.Place.TheVariants.{Idle, Mutex, RwLock, Once, Condvar}
@@ -210,6 +211,8 @@ once_deaf : (l : ℕ) (p : OncePlace) → tells (once_act l p) ≡ true → (r :
 once_deaf l (Run forced to) loud r h = run_deaf forced to r h
 once_deaf l (Look c again (look.Decide seen)) loud r h = absurd (let x : false ≡ true = sym (course_quietly l seen (course_of c seen)) ∙ loud in cc)
 once_deaf l (Look c again to) loud r h = absurd cc
+once_deaf l (GiveUp again give_up.Remove) loud r h = absurd cc
+once_deaf l (GiveUp again to) loud r h = absurd cc
 
 -- ---------------------------------------------------------------- every place
 

@@ -7,7 +7,7 @@ use Rattle.lot_calls.specs.declared.calls.Call.{Call}
 use Rattle.lot_calls.specs.declared.calls.Call as call
 use Rattle.lot_acts.specs.declared.acts.Reply.{Reply}
 use Rattle.lot_acts.specs.declared.acts.Reply.TheVariants.{Late}
-use Rattle.lot_laws.proofs.OnceOwing.{once_befallen, once_never_late}
+use Rattle.lot_laws.proofs.OnceOwing.{once_befallen, once_late}
 use Rattle.lot_steps.specs.declared.places.Place.{Place}
 use Rattle.lot_steps.specs.declared.places.Place.TheVariants.{Idle, Mutex, RwLock, Once, Condvar}
 use Rattle.lot_acts.specs.Acts.{outcome_of}
@@ -123,4 +123,4 @@ late_next Idle m single h = absurd cc
 late_next (Mutex l at) m single h = mutex_late l at m h
 late_next (RwLock l a at) m single h = rwlock_late l a at m h
 late_next (Condvar l at) m single h = absurd single
-late_next (Once l at) m single h = absurd (once_never_late at m h)
+late_next (Once l at) m single h = once_late l at m h

@@ -1,7 +1,7 @@
 -- A turn is possible exactly where the abstract locks and the call say so, and a thread is told that it sleeps where it does.
 use Rattle.lot_calls.specs.declared.calls.CondvarCall.TheVariants as condvar
 use Rattle.std.proofs.Common.{is_some, subst, ℕ, Bool, true, false, Option, Some, None, if◌then◌else◌, ◌&&◌, ◌≡◌, ◌≢◌, ◌+◌, ◌*◌, ◌≤◌, ◌<◌, ◌↔◌, ◌⊎◌, inl, inr, List, length, is_none, refl, sym, ◌∙◌, ap, arith, get_or-set_other, get_or-set_same, length-set, set}
-use Rattle.lot_laws.proofs.OnceOwing.{once_never_late}
+use Rattle.lot_laws.proofs.OnceOwing.{late_place}
 use Rattle.lot_once.specs.OnceProfiles.{once_profile}
 use Rattle.abstract_locks.specs.Runs.{is_closure}
 use Rattle.lot_laws.proofs.Closures.{call_runs_none, closure_told, mutex_runs_none, condvar_runs_none}
@@ -300,11 +300,12 @@ late_outside (Condvar l at) h = by_next (condvar_next at Late)
     by_next : (n : Next CondvarPlace) → runs_closure (act_of (condvar_goes l n)) ≡ false
     by_next (next.At q) = condvar_runs_none l q
     by_next (next.End answer) = refl
-late_outside (Once l at) h = absurd (by_line (once_profile at).late_line refl h)
+late_outside (Once l at) h = by_line (once_profile at).late_line refl h
   where
-    by_line : (m : Option Line) → (once_profile at).late_line ≡ m → key_in (Some l) m ≢ None → ⊥
-    by_line None e h = h refl
-    by_line (Some m) e h = once_never_late at m e
+    by_line : (m : Option Line) → (once_profile at).late_line ≡ m → key_in (Some l) m ≢ None
+        → runs_closure (act_of (next_place (Once l at) Late)) ≡ false
+    by_line None e h = absurd (h refl)
+    by_line (Some m) e h = ap (λ p. runs_closure (act_of (next_place (Once l p) Late))) (late_place at m e).1
 
 pub told_step : (b : Bool) → b ≡ false → (outcome.TheVariants.Step ≡ outcome.TheVariants.Sleep) ↔ (b ≡ true)
 told_step true h = absurd cc

@@ -60,7 +60,7 @@ one_purpose (Some (Enters j x how)) l k one h g = sym h.0 ∙ g.0
 one_purpose (Some (Converts j x y how)) l k one h g = sym h.0 ∙ g.0
 one_purpose (Some (Bumps j x)) l k one h g = sym h ∙ g
 one_purpose (Some (CallsOnce j forced)) l k one h g = sym h ∙ g
-one_purpose (Some (Awaits j forced)) l k one h g = sym h ∙ g
+one_purpose (Some (Awaits j forced timed)) l k one h g = sym h ∙ g
 one_purpose (Some (Waits j m timed)) l k one h g = absurd one
 one_purpose o l k one h g = absurd h
 

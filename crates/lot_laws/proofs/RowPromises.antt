@@ -41,7 +41,7 @@ releases_for (Releases k x fair) released l one h = h
 releases_for (Converts k x y how) released l one h = absurd h
 releases_for (Bumps k x) released l one h = h.0
 releases_for (CallsOnce k forced) released l one h = h.0
-releases_for (Awaits k forced) released l one h = absurd h
+releases_for (Awaits k forced timed) released l one h = absurd h
 releases_for (Waits k m timed) released l one h = absurd one
 releases_for (Notifies k all) released l one h = absurd one
 
@@ -51,7 +51,7 @@ downgrades_for (Releases k x fair) l h = absurd h
 downgrades_for (Converts k x y how) l h = h.0
 downgrades_for (Bumps k x) l h = absurd h
 downgrades_for (CallsOnce k forced) l h = absurd h
-downgrades_for (Awaits k forced) l h = absurd h
+downgrades_for (Awaits k forced timed) l h = absurd h
 downgrades_for (Waits k m timed) l h = absurd h
 downgrades_for (Notifies k all) l h = absurd h
 
@@ -93,7 +93,7 @@ mutex_tells None m v = refl
 mutex_tells (Some (Enters l x how)) m v = refl
 mutex_tells (Some (Converts l x y how)) m v = refl
 mutex_tells (Some (CallsOnce l forced)) m v = refl
-mutex_tells (Some (Awaits l forced)) m v = refl
+mutex_tells (Some (Awaits l forced timed)) m v = refl
 mutex_tells (Some (Waits l k timed)) m v = refl
 mutex_tells (Some (Notifies l all)) m v = refl
 mutex_tells (Some (Releases l x false)) m v = by_right x m

@@ -20,12 +20,14 @@ use Rattle.abstract_locks.specs.Runs.{AtLock, Begins, CallState, Closes, Does, E
 use Rattle.lot_calls.specs.declared.calls.OnceCall.{OnceCall}
 use Rattle.lot_mutex.specs.declared.places.MutexPlace.{MutexPlace}
 use Rattle.lot_mutex.specs.MutexSteps.{mutex_next}
+use Rattle.lot_once.specs.declared.give_up.GiveUpAt.{GiveUpAt}
 use Rattle.lot_once.specs.declared.look.LookAt.{LookAt}
 use Rattle.lot_once.specs.declared.look.LookAt.TheVariants as look
+use Rattle.lot_once.specs.declared.give_up.GiveUpAt.TheVariants as give_up
 use Rattle.lot_once.specs.declared.run.RunAt.{RunAt}
 use Rattle.lot_once.specs.declared.run.RunAt.TheVariants as run
-use Rattle.lot_once.specs.declared.places.OncePlace.TheVariants.{Look, Run}
-use Rattle.lot_once.specs.OnceSteps.{begins_run, course_of, found, in_look, in_run, is_forced, next_look, next_run, still_retries}
+use Rattle.lot_once.specs.declared.places.OncePlace.TheVariants.{Look, Run, GiveUp}
+use Rattle.lot_once.specs.OnceSteps.{begins_run, course_of, found, in_look, in_run, is_forced, next_look, next_run, still_retries, gives_up, in_give_up, next_give_up}
 use Rattle.lot_rwlock_fair.specs.declared.places.RwLockCallPlace.{RwLockCallPlace}
 use Rattle.lot_rwlock_fair.specs.FairSteps.{call_next}
 use Rattle.lot_condvar.specs.declared.places.CondvarPlace.{CondvarPlace}
@@ -104,6 +106,11 @@ look_runs_none : (l : ℕ) (c : OnceCall) (again : Bool) (at : LookAt) → runs_
 look_runs_none l c again (look.Decide seen) = course_runs_none l seen (course_of c seen)
 look_runs_none l c again at = refl
 
+give_up_runs_none : (l : ℕ) (again : Bool) (at : GiveUpAt) → runs_closure (act_of (Once l (GiveUp again at))) ≡ false
+give_up_runs_none l again give_up.Remove = refl
+give_up_runs_none l again give_up.Clear = refl
+give_up_runs_none l again give_up.Leave = refl
+
 -- of which lock a place is in the closure of a call
 abbrev closure_lock : Place → Option ℕ
 closure_lock p = if runs_closure (act_of p) then lock_of p else None
@@ -161,18 +168,24 @@ unmoved (Condvar l at) r h = by_next (condvar_next at r) ∙ sym (outside (Condv
     by_next (next.At q) = outside (Condvar l q) (condvar_runs_none l q)
     by_next (next.End answer) = refl
 unmoved (Once l (Run forced at)) r h = ap (λ n. closure_lock (once_goes l (in_run forced n))) (stays_running at r h)
-unmoved (Once l (Look c again at)) r h = looks (begins_run c at r) (begins_never c at r h) ∙ sym (outside (Once l (Look c again at)) (look_runs_none l c again at))
+unmoved (Once l (GiveUp again at)) r h = by_next (next_give_up at r) ∙ sym (outside (Once l (GiveUp again at)) (give_up_runs_none l again at))
+  where
+    by_next : (n : Next GiveUpAt) → closure_lock (once_goes l (in_give_up again n)) ≡ None
+    by_next (next.At q) = outside (Once l (GiveUp again q)) (give_up_runs_none l again q)
+    by_next (next.End answer) = refl
+unmoved (Once l (Look c again at)) r h = looks (begins_run c at r) (gives_up c at r) (begins_never c at r h) ∙ sym (outside (Once l (Look c again at)) (look_runs_none l c again at))
   where
     by_next : (n : Next LookAt) → closure_lock (once_goes l (in_look c (still_retries again r) n)) ≡ None
     by_next (next.At q) = outside (Once l (Look c (still_retries again r) q)) (look_runs_none l c (still_retries again r) q)
     by_next (next.End answer) = refl
 
-    looks : (b : Bool) → b ≡ false
+    looks : (b late : Bool) → b ≡ false
         → closure_lock
-        (once_goes l (if b then next.At (Run (is_forced c) (found r)) else in_look c (still_retries again r) (next_look c at r)))
+        (once_goes l (if b then next.At (Run (is_forced c) (found r)) else if late then next.At (GiveUp again give_up.Remove) else in_look c (still_retries again r) (next_look c at r)))
         ≡ None
-    looks true e = absurd cc
-    looks false e = by_next (next_look c at r)
+    looks true late e = absurd cc
+    looks false true e = refl
+    looks false false e = by_next (next_look c at r)
 
 -- whatever another thread does
 stays_inside : (w : State) (s : Step) (t l : ℕ) → t ≢ s.thread → RunsClosure w t l → RunsClosure (after w s) t l
@@ -218,7 +231,7 @@ starts_only : (w : LocksState) (t l : ℕ) (forced : Bool) (purpose : Option Pur
     → IsCallOnce purpose l
 starts_only w t l forced None may = absurd may
 starts_only w t l forced (Some (CallsOnce k own)) may = (own, ap (λ n. Some (CallsOnce n own)) (sym may.0.0))
-starts_only w t l forced (Some (Awaits k own)) may = absurd (may.0.1)
+starts_only w t l forced (Some (Awaits k own timed)) may = absurd (may.0.1)
 starts_only w t l forced (Some (Enters k x how)) may = absurd (may.0.1)
 starts_only w t l forced (Some (Releases k x fair)) may = absurd (may.0.1)
 starts_only w t l forced (Some (Converts k x y how)) may = absurd (may.0.1)

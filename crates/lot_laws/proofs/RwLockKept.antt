@@ -7,6 +7,7 @@ use Rattle.lot_base.specs.declared.notes.Note.TheVariants.{HandOff, Normal}
 use Rattle.lot_base.specs.declared.ops.Op.{Op}
 use Rattle.lot_base.specs.Words.{apply}
 use Rattle.lot_base.specs.declared.wants.Want.{Want}
+use Rattle.lot_acts.specs.Calls.{IsNotLate}
 use Rattle.lot_acts.specs.declared.acts.Check.{Check}
 use Rattle.lot_calls.specs.declared.calls.RwLockCall.{RwLockCall}
 use Rattle.lot_calls.specs.declared.kinds.Kind.{Kind}
@@ -34,7 +35,7 @@ use Rattle.lot_rwlock.specs.declared.park.ParkAt.TheVariants as parking
 use Rattle.lot_rwlock.specs.RwLockSteps.{patience_of}
 use Rattle.lot_rwlock.specs.RwLockDeeds.{Admits, MayHear}
 use Rattle.lot_rwlock.specs.RwLockProfiles.{late_line_at}
-use Rattle.lot_rwlock.specs.RwLockCalls.{HasDeadline, MayBeTold, IsNotLate}
+use Rattle.lot_rwlock.specs.RwLockCalls.{HasDeadline, MayBeTold}
 use Rattle.lot_rwlock.specs.RwLockBegins.{admission_of}
 use Rattle.lot_rwlock_fair.specs.declared.places.RwLockCallPlace.{RwLockCallPlace}
 use Rattle.lot_rwlock_fair.specs.declared.places.RwLockCallPlace.TheVariants.{Plain, Glance, HandOver, Bump, Handed}

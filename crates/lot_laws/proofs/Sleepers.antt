@@ -30,6 +30,7 @@ use Rattle.lot_mutex.specs.declared.hand_off.HandOffAt.TheVariants as hand_off
 use Rattle.lot_mutex.specs.MutexSteps.{is_locked, mutex_act, mutex_next}
 use Rattle.lot_once.specs.declared.places.OncePlace.{OncePlace}
 use Rattle.lot_once.specs.declared.places.OncePlace.TheVariants as once
+use Rattle.lot_once.specs.declared.give_up.GiveUpAt.TheVariants as give_up
 use Rattle.lot_once.specs.declared.look.LookAt.TheVariants as look
 use Rattle.lot_once.specs.declared.run.RunAt.TheVariants as run
 use Rattle.lot_once.specs.declared.look.Course.{Course}
@@ -208,6 +209,8 @@ once_quiet l (once.Look c retries (look.Decide seen)) r q h = absurd (course_awa
 once_quiet l (once.Look c retries at) r q h = absurd cc
 once_quiet l (once.Run forced (run.Closure poisoned)) r q h = absurd cc
 once_quiet l (once.Run forced at) r q h = absurd cc
+once_quiet l (once.GiveUp retries give_up.Remove) r q h = absurd cc
+once_quiet l (once.GiveUp retries at) r q h = absurd cc
 
 -- ---------------------------------------------------------------- a condition variable
 

@@ -135,7 +135,9 @@ mutex_free l at rights h = absurd h
 once_free : (l : ℕ) (at : OncePlace) (rights : ℕ → Rights) → IsTry (call_state (Once l at) rights).purpose → IsFree (act_of (Once l at))
 once_free l (once.Look (once_call.CallOnce forced) again to) rights h = absurd h
 once_free l (once.Look (once_call.Wait forced) again to) rights h = absurd h
+once_free l (once.Look once_call.WaitTimed again to) rights h = absurd h
 once_free l (once.Run forced to) rights h = absurd h
+once_free l (once.GiveUp again to) rights h = absurd h
 
 place_free : (w : State) (p : Place) → FitsItsLock w p → (rights : ℕ → Rights) → IsTry (call_state p rights).purpose → IsFree (act_of p)
 place_free w Idle fits rights h = absurd h

@@ -1,12 +1,11 @@
 -- Each turn of a thread keeps every lock a site, and every thread in the line, the section and the hand that its place says.
 use Rattle.std.proofs.Common.{ℕ, Bool, true, false, Option, Some, None, if◌then◌else◌, ◌≡◌, ◌<◌, [], ◌∷◌, length, length-set, nat_lt, inl, inr, refl, subst, sym, ◌∙◌, ap}
-use Rattle.lot_laws.proofs.OnceKept.{once_begins}
+use Rattle.lot_laws.proofs.OnceKept.{once_goes_late, once_begins}
 use Rattle.lot_laws.proofs.KindsKept.{calls_once}
 use Rattle.lot_machine.specs.Machine.{can_close, can_do, can_go, state_after_close, state_after_go, state_after_going}
 use Rattle.lot_laws.proofs.Looking.{closing_steady}
 use Rattle.lot_laws.proofs.Closings.{closing, closing_counted, closing_may, closing_shaped, closing_there}
 use Rattle.lot_laws.proofs.Closures.{closes_one}
-use Rattle.lot_laws.proofs.OnceOwing.{once_never_late}
 use Rattle.lot_once.specs.OnceProfiles.{once_profile}
 use Rattle.std.proofs.lemmas.Bool.{ltb-true}
 use Rattle.lot_base.specs.declared.wants.Want.TheVariants.{Exclusive}
@@ -156,7 +155,7 @@ module _ (w : State) (t : ℕ) (steady : IsSteady w) (shape : IsShaped w) (there
       once_late : (m : Option Line) → (once_profile at).late_line ≡ m → is_free_under w (key_in (Some l) m) ≡ true
           → IsSteady (state_after_late_on w t (key_in (Some l) m))
       once_late None e h = absurd cc
-      once_late (Some m) e h = absurd (once_never_late at m e)
+      once_late (Some m) e h = goes_steady w _ l _ steady (once_goes_late w t l at steady shape there fits is m e h)
 
   -- its closure has answered, and it goes on behind it
   closed_kept : AreCounted w → AreCondvars w → (succeeded : Bool) → can_close w t succeeded ≡ true

@@ -171,7 +171,7 @@ IsTry (Some (Releases l x fair)) = ⊥
 IsTry (Some (Converts l x y how)) = how ≡ Try
 IsTry (Some (Bumps l x)) = ⊥
 IsTry (Some (CallsOnce l forced)) = ⊥
-IsTry (Some (Awaits l forced)) = ⊥
+IsTry (Some (Awaits l forced timed)) = ⊥
 IsTry (Some (Waits l m timed)) = ⊥
 IsTry (Some (Notifies l all)) = ⊥
 

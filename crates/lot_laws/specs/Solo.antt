@@ -173,11 +173,14 @@ CallsOnceAlone Poisoned s t false o s2 = o ≡ outcome.TheVariants.End answer.Th
 CallsOnceAlone (InProgress runner) s t forced o s2 = SleepsLast s t CallOnce o s2
 CallsOnceAlone Done s t forced o s2 = o ≡ outcome.TheVariants.End answer.TheVariants.Ok
 
--- what a call comes to that waits for another's run
-abbrev pub AwaitsAlone : Phase → LockState → ℕ → Bool → Outcome → LockState → Type 0
-AwaitsAlone Done s t forced o s2 = o ≡ outcome.TheVariants.End answer.TheVariants.Ok
-AwaitsAlone Poisoned s t false o s2 = o ≡ outcome.TheVariants.End answer.TheVariants.Poisoned
-AwaitsAlone phase s t forced o s2 = SleepsLast s t Wait o s2
+-- what a call comes to that waits for another's run, up to a deadline or without one
+abbrev pub AwaitsAlone : Phase → LockState → ℕ → (forced timed : Bool) → Outcome → LockState
+    → Type 0
+AwaitsAlone Done s t forced false o s2 = o ≡ outcome.TheVariants.End answer.TheVariants.Ok
+AwaitsAlone Done s t forced true o s2 = o ≡ outcome.TheVariants.End answer.TheVariants.Yes
+AwaitsAlone Poisoned s t false timed o s2 =
+    o ≡ outcome.TheVariants.End answer.TheVariants.Poisoned
+AwaitsAlone phase s t forced timed o s2 = SleepsLast s t Wait o s2
 
 -- what a wait comes to: it sleeps behind the last, its mutex let go, or ends where another mutex is
 -- shown
@@ -204,8 +207,8 @@ EndsBy words later w t (Some (Bumps l x)) o v =
     → BumpsShared (has_parked (words l) ≡ false) later w t l x o v)
 EndsBy words later w t (Some (CallsOnce l forced)) o v =
     CallsOnceAlone (w.locks l).phase (w.locks l) t forced o (v.locks l)
-EndsBy words later w t (Some (Awaits l forced)) o v =
-    AwaitsAlone (w.locks l).phase (w.locks l) t forced o (v.locks l)
+EndsBy words later w t (Some (Awaits l forced timed)) o v =
+    AwaitsAlone (w.locks l).phase (w.locks l) t forced timed o (v.locks l)
 EndsBy words later w t (Some (Waits l m timed)) o v = StandsAlone w t l m o v
 EndsBy words later w t (Some (Notifies l all)) o v =
     NotifiesAlone all (w.locks l).queue o (v.locks l).queue

@@ -47,7 +47,8 @@ use Rattle.lot_once.specs.declared.look.LookAt.TheVariants as look
 use Rattle.lot_once.specs.declared.look.Course.{Course}
 use Rattle.lot_once.specs.declared.look.Course.TheVariants.{Ends, Runs, Marks, Parks}
 use Rattle.lot_once.specs.declared.run.RunAt.TheVariants as run
-use Rattle.lot_once.specs.declared.places.OncePlace.TheVariants.{Look, Run}
+use Rattle.lot_once.specs.declared.give_up.GiveUpAt.TheVariants as give_up
+use Rattle.lot_once.specs.declared.places.OncePlace.TheVariants.{Look, Run, GiveUp}
 use Rattle.lot_once.specs.OnceSteps.{course_act, course_of}
 use Rattle.lot_mutex.specs.declared.places.MutexPlace.{MutexPlace}
 
@@ -194,6 +195,9 @@ runs_one (Once l (Look c again look.Check)) h = absurd cc
 runs_one (Once l (Look c again (look.Leave parked))) h = absurd cc
 runs_one (Once l (Look c again look.Asleep)) h = absurd cc
 runs_one (Once l (Look c again (look.Taken by))) h = absurd cc
+runs_one (Once l (GiveUp again give_up.Remove)) h = absurd cc
+runs_one (Once l (GiveUp again give_up.Clear)) h = absurd cc
+runs_one (Once l (GiveUp again give_up.Leave)) h = absurd cc
 
 -- and its word is swapped next, whoever is inside
 pub closes_freely : (w v : State) (t : ℕ) (succeeded : Bool) → runs_closure (act_of (place_at w t)) ≡ true → can_do v (act_of (closed_place w t succeeded)) ≡ true

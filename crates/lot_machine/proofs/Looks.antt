@@ -19,7 +19,7 @@ use Rattle.lot_rwlock_fair.specs.FairSteps.{call_act}
 use Rattle.lot_rwlock_fair.specs.FairProfiles.{call_looking, in_call}
 use Rattle.lot_rwlock_fair.proofs.FairSleepers.{fair_looks_stand}
 use Rattle.lot_once.specs.declared.places.OncePlace.{OncePlace}
-use Rattle.lot_once.specs.declared.places.OncePlace.TheVariants.{Look, Run}
+use Rattle.lot_once.specs.declared.places.OncePlace.TheVariants.{Look, Run, GiveUp}
 use Rattle.lot_once.specs.declared.look.LookAt.TheVariants as look_at
 use Rattle.lot_once.specs.OnceSteps.{once_looking}
 use Rattle.lot_condvar.specs.declared.places.CondvarPlace.{CondvarPlace}
@@ -107,6 +107,7 @@ look (Once l at) q is = once_look at is
         by_mark _ (Look c again (look_at.Decide seen)) (Look c again look_at.Load) (record { lock = l; before = refl; now = refl; loaded = l; loads = refl; row = refl; fits = λ locks h. h; kind = λ kinds h. h; there = λ locks h. h }) is
     once_look (Look c again to) is = absurd cc
     once_look (Run forced to) is = absurd cc
+    once_look (GiveUp again to) is = absurd cc
 look (Condvar l at) q is = condvar_look at is
   where
     by_mark : (b : Bool) (m : ℕ) (timed late : Bool) (at at2 : MutexPlace) → IsLook (Condvar l (Wait m timed (wait.Lock late at))) (Condvar l (Wait m timed (wait.Lock late at2)))

@@ -11,6 +11,7 @@ use Rattle.lot_acts.specs.declared.acts.Act.TheVariants.{Word, HandOver, Enter, 
 use Rattle.lot_acts.specs.declared.acts.Wakes as wakes
 use Rattle.lot_acts.specs.declared.acts.Whom as whom
 use Rattle.lot_acts.specs.Acts.{holds, takes_effect}
+use Rattle.lot_once.specs.declared.give_up.GiveUpAt.TheVariants as give_up
 use Rattle.lot_once.specs.declared.look.LookAt.TheVariants as look
 use Rattle.lot_once.specs.declared.run.RunAt.TheVariants as run
 use Rattle.lot_once.specs.declared.places.OncePlace.{OncePlace}
@@ -95,6 +96,9 @@ once_on l (once.Look c again look.Load) = refl
 once_on l (once.Look c again to) = tt
 once_on l (Run forced (run.Close succeeded)) = refl
 once_on l (Run forced to) = tt
+once_on l (once.GiveUp again give_up.Remove) = tt
+once_on l (once.GiveUp again give_up.Clear) = refl
+once_on l (once.GiveUp again give_up.Leave) = tt
 
 -- who works on no condition variable
 away : (w : State) (l : ℕ) (a : Act) → IsOn l a → is_condvar (kind_at w l) ≡ false → Writes w a

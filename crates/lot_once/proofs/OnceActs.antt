@@ -1,11 +1,13 @@
 -- Each step of a `Once` takes its thread in the machine where its act says, and so does what befalls it asleep.
-use Rattle.std.proofs.Common.{ℕ, Bool, true, false, Option, Some, None, if◌then◌else◌, ◌==◌, ◌≡◌, inl, inr, refl, sym, ap, ◌∙◌}
+use Rattle.std.proofs.Common.{ℕ, Bool, true, false, Option, Some, None, if◌then◌else◌, ◌==◌, ◌≡◌, inl, inr, refl, sym, ap, ◌∙◌, subst}
 use Rattle.std.specs.Prelude.{◌&&◌}
+use Rattle.lot_base.specs.declared.wants.Want.TheVariants as wants
 use Rattle.lot_calls.specs.declared.calls.OnceCall.{OnceCall}
+use Rattle.lot_calls.specs.declared.calls.OnceCall.TheVariants.{CallOnce, Wait, WaitTimed}
 use Rattle.lot_acts.specs.declared.acts.Next.{Next}
 use Rattle.lot_acts.specs.declared.acts.Next.TheVariants.{At, End as Over}
 use Rattle.lot_acts.specs.declared.acts.Reply.TheVariants as reply
-use Rattle.lot_acts.specs.Moves.{AreOfWord, IsHeld, Sleeps, StaysPut, Waits, row_of}
+use Rattle.lot_acts.specs.Moves.{AreOfWord, GoesIn, inside_of, station_then, IsHeld, Sleeps, StaysPut, Waits, row_of}
 use Rattle.lot_acts.specs.Profiles.{Hand, hand}
 use Rattle.lot_acts.specs.Stations.{Station, station_by, nowhere}
 use Rattle.abstract_locks.specs.Sites.{Line, Main, Second}
@@ -14,13 +16,14 @@ use Rattle.lot_once.specs.declared.look.LookAt.TheVariants as look
 use Rattle.lot_once.specs.declared.look.Course.{Course}
 use Rattle.lot_once.specs.declared.look.Course.TheVariants.{Ends, Runs, Marks, Parks}
 use Rattle.lot_once.specs.declared.run.RunAt.TheVariants as run
+use Rattle.lot_once.specs.declared.give_up.GiveUpAt.TheVariants as give_up
 use Rattle.lot_once.specs.declared.places.OncePlace.{OncePlace}
-use Rattle.lot_once.specs.declared.places.OncePlace.TheVariants.{Look, Run}
+use Rattle.lot_once.specs.declared.places.OncePlace.TheVariants.{Look, Run, GiveUp}
 use Rattle.lot_once.specs.OnceSteps.{course_act, course_of, ended, found, in_look, in_run, is_forced, is_mark, is_run, looked_by, marked, want_of}
 use Rattle.lot_once.specs.OnceProfiles.{once_profile}
 use Rattle.lot_once.specs.OnceDeeds.{closes, exchanged_deeds, looked_deeds}
 use Rattle.lot_once.specs.OnceCalls.{next_row}
-use Rattle.lot_once.specs.OnceMoves.{OnceActsMove, OnceMoves, OnceSleepersMove, once_hears, once_move}
+use Rattle.lot_once.specs.OnceMoves.{OnceActsMove, OnceLateMove, OnceMoves, OnceSleepersMove, once_hears, once_move}
 
 abbrev station_next : Next OncePlace → Station
 station_next n = station_by (row_of (next_row n))
@@ -98,6 +101,13 @@ once_acts_move l (Run forced (run.Close succeeded)) = (refl, record { out = refl
 once_acts_move l (Run forced (run.Enter succeeded)) = (Main, refl, record { out = refl; free = refl; deeds = refl; goes = refl; may = λ r s t free. free })
 once_acts_move l (Run forced (run.Take succeeded)) = (refl, record { was = refl; deeds = λ any none_left. refl; goes = λ any none_left. refl; may = λ r s t any none_left nobody. nobody })
 once_acts_move l (Run forced (run.Leave succeeded any)) = (Main, refl, record { any = any; notes = refl; inside = refl; carries = refl; free = refl; deeds = tt; goes = refl; may = λ r s t out. out })
+once_acts_move l (GiveUp retries give_up.Remove) = (Main, refl, record { want = wants.Wait; was = refl; deeds = λ none_left. refl; goes = removed; may = λ r s t none_left stands. stands })
+  where
+    removed : (none_left : Bool) → station_then (once_move (GiveUp retries give_up.Remove)) (reply.Removed none_left) ≡ inside_of Main
+    removed true = refl
+    removed false = refl
+once_acts_move l (GiveUp retries give_up.Clear) = (refl, record { out = refl; free = refl; deeds = λ seen. tt; goes = λ seen. refl })
+once_acts_move l (GiveUp retries give_up.Leave) = (Main, refl, record { any = false; notes = refl; inside = refl; carries = refl; free = refl; deeds = tt; goes = refl; may = λ r s t out. out })
 
 -- ---------------------------------------------------------------- threads asleep
 
@@ -150,3 +160,27 @@ once_sleepers_move (Look c again (look.Leave false)) = awake (Look c again (look
 once_sleepers_move (Look c again at) = awake (Look c again at) refl refl
 once_sleepers_move (Run forced (run.Closure poisoned)) = awake (Run forced (run.Closure poisoned)) refl refl
 once_sleepers_move (Run forced at) = awake (Run forced at) refl refl
+once_sleepers_move (GiveUp retries give_up.Remove) = record {
+  aside = λ h. absurd cc;
+  stands = λ m h. inl (let e : m ≡ Main = cc in ap Some (sym e));
+  held = λ u handed h. absurd cc;
+}
+once_sleepers_move (GiveUp retries give_up.Clear) = awake (GiveUp retries give_up.Clear) refl refl
+once_sleepers_move (GiveUp retries give_up.Leave) = awake (GiveUp retries give_up.Leave) refl refl
+
+-- ---------------------------------------------------------------- who gives up
+
+goes_late : (again : Bool) → GoesIn (once_move (Look WaitTimed again look.Asleep)) (once_hears (Look WaitTimed again look.Asleep)) Main reply.Late
+goes_late again = record { out = refl; free = refl; deeds = refl; goes = refl; may = λ r s t free. (refl, free) }
+
+pub once_late_move : OnceLateMove
+once_late_move (Look WaitTimed again look.Asleep) m h =
+    subst (λ n. GoesIn (once_move (Look WaitTimed again look.Asleep)) (once_hears (Look WaitTimed again look.Asleep)) n reply.Late) (let e : Main ≡ m = cc in e) (goes_late again)
+once_late_move (Look (CallOnce forced) again look.Asleep) m h = absurd cc
+once_late_move (Look (Wait forced) again look.Asleep) m h = absurd cc
+once_late_move (Look c again at) m h = absurd cc
+once_late_move (Run forced (run.Closure poisoned)) m h = absurd cc
+once_late_move (Run forced at) m h = absurd cc
+once_late_move (GiveUp retries give_up.Remove) m h = absurd cc
+once_late_move (GiveUp retries give_up.Clear) m h = absurd cc
+once_late_move (GiveUp retries give_up.Leave) m h = absurd cc

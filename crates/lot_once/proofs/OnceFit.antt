@@ -24,12 +24,14 @@ use Rattle.lot_once.specs.declared.look.LookAt.TheVariants as look
 use Rattle.lot_once.specs.declared.look.Course.{Course}
 use Rattle.lot_once.specs.declared.look.Course.TheVariants.{Ends, Runs, Marks, Parks}
 use Rattle.lot_once.specs.declared.run.RunAt.TheVariants as run
+use Rattle.lot_once.specs.declared.give_up.GiveUpAt.TheVariants as give_up
 use Rattle.lot_once.specs.declared.places.OncePlace.{OncePlace}
-use Rattle.lot_once.specs.declared.places.OncePlace.TheVariants.{Look, Run}
+use Rattle.lot_once.specs.declared.places.TheConstants.{NOT_MARKED}
+use Rattle.lot_once.specs.declared.places.OncePlace.TheVariants.{Look, Run, GiveUp}
 use Rattle.lot_once.specs.OnceSteps.{is_forced, course_of, course_act, is_run, is_mark, started, marked, found, looked_by, in_look, in_run, ended, once_act, once_owners, phase_behind, word_behind}
 use Rattle.lot_once.specs.OnceProfiles.{again, again_of, running, taking}
 use Rattle.lot_once.specs.OnceDeeds.{once_deeds, looked_deeds, exchanged_deeds, end_of, closes, doing_next, IsAt, Follows, OnceStepsFollow, OnceStepsCode, OnceOwnersFollow}
-use Rattle.lot_once.proofs.OnceWords.{word_of, coded, MayGo, may_go, marks_tell, started_is, marked_is}
+use Rattle.lot_once.proofs.OnceWords.{word_of, coded, MayGo, may_go, marks_tell, started_is, marked_is, unmarked_is}
 
 put_same : {A : Type 0} (f : ℕ → A) (t : ℕ) (x : A) → putting f t x t ≡ x
 put_same f t x = grind (arith, nat_tests)
@@ -117,6 +119,12 @@ module _ (r : Rules) (s : Site) (t l : ℕ) where
   follows (Run forced (run.Enter succeeded)) f a is = absurd cc
   follows (Run forced (run.Take succeeded)) f a is = absurd cc
   follows (Run forced (run.Leave succeeded any)) f a is = absurd cc
+  follows (GiveUp retries give_up.Clear) f a is = record {
+    needed = (ap (λ (d : Doing). d.empty) a.doing, tt);
+    doing = put_same s.doing t _ ∙ ap (λ (d : Doing). record d { empty = None; brings = false }) a.doing;
+  }
+  follows (GiveUp retries give_up.Remove) f a is = absurd cc
+  follows (GiveUp retries give_up.Leave) f a is = absurd cc
 
 pub once_steps_follow : OnceStepsFollow
 once_steps_follow r s t l p f a is = subst (λ v. Follows r s t p (Value v)) (sym (coded r s a.sort)) (follows r s t l p f a is)
@@ -182,6 +190,9 @@ module _ (r : Rules) (s : Site) (t l : ℕ) (a : r.sort ≡ Once) where
   leaves_word (Run forced (run.Enter succeeded)) f is = absurd cc
   leaves_word (Run forced (run.Take succeeded)) f is = absurd cc
   leaves_word (Run forced (run.Leave succeeded any)) f is = absurd cc
+  leaves_word (GiveUp retries give_up.Clear) f is = let e : op.And NOT_MARKED ≡ f = cc in rw (← e) (unmarked_is s.parked s.lock.phase)
+  leaves_word (GiveUp retries give_up.Remove) f is = absurd cc
+  leaves_word (GiveUp retries give_up.Leave) f is = absurd cc
 
 pub once_steps_code : OnceStepsCode
 once_steps_code r s t l p f a is =
@@ -228,6 +239,9 @@ module _ (r : Rules) (s : Site) (t l v : ℕ) (shared : List ℕ) (o : Owners) (
   leaves_lock (Run forced (run.Enter succeeded)) f is = absurd cc
   leaves_lock (Run forced (run.Take succeeded)) f is = absurd cc
   leaves_lock (Run forced (run.Leave succeeded any)) f is = absurd cc
+  leaves_lock (GiveUp retries give_up.Clear) f is = sym e
+  leaves_lock (GiveUp retries give_up.Remove) f is = absurd cc
+  leaves_lock (GiveUp retries give_up.Leave) f is = absurd cc
 
 pub once_owners_follow : OnceOwnersFollow
 once_owners_follow r s t l p f shared o main second taken a is e = leaves_lock r s t l (code r s) shared o main second taken e p f is

@@ -1,7 +1,9 @@
 -- What a thread reads in the word of a `Once` is so.
 use Rattle.std.proofs.Common.{ℕ, Bool, true, false, ◌≡◌, ◌+◌, ◌*◌, refl, ap}
+use Rattle.lot_base.specs.declared.ops.Op.TheVariants as op
+use Rattle.lot_base.specs.Words.{apply}
 use Rattle.lot_calls.specs.declared.calls.OnceCall.{OnceCall}
-use Rattle.lot_calls.specs.declared.calls.OnceCall.TheVariants.{CallOnce, Wait}
+use Rattle.lot_calls.specs.declared.calls.OnceCall.TheVariants.{CallOnce, Wait, WaitTimed}
 use Rattle.lot_calls.specs.declared.outcomes.Answer.TheVariants as answer
 use Rattle.abstract_locks.specs.Onces.{Phase, New, Poisoned, InProgress, Done, MayStart, MayRest, phase_code}
 use Rattle.abstract_locks.specs.Locks.{Rules, Once}
@@ -9,7 +11,8 @@ use Rattle.abstract_locks.specs.Sites.{Site}
 use Rattle.abstract_locks.specs.Codes.{bit, code, code_of, is_marked}
 use Rattle.lot_once.specs.declared.look.Course.{Course}
 use Rattle.lot_once.specs.declared.look.Course.TheVariants.{Ends, Runs, Marks, Parks}
-use Rattle.lot_once.specs.OnceSteps.{is_forced, runs, want_of, course_of, started, marked}
+use Rattle.lot_once.specs.declared.places.TheConstants.{NOT_MARKED}
+use Rattle.lot_once.specs.OnceSteps.{is_forced, is_timed, runs, want_of, course_of, started, marked}
 
 abbrev pub word : Bool → Phase → ℕ
 word parked phase = 8 * bit parked + phase_code phase
@@ -22,7 +25,8 @@ coded r s sort = ap (λ x. code_of x r.limit s) sort
 
 -- what a call does by the word, it may do
 abbrev pub MayGo : OnceCall → Bool → Phase → Course → Type 0
-MayGo c parked phase (Ends answer.Ok) = phase ≡ Done
+MayGo c parked phase (Ends answer.Ok) = (phase ≡ Done) × (is_timed c ≡ false)
+MayGo c parked phase (Ends answer.Yes) = (phase ≡ Done) × (is_timed c ≡ true)
 MayGo c parked phase (Ends answer.Poisoned) = (phase ≡ Poisoned) × (is_forced c ≡ false)
 MayGo c parked phase (Ends other) = ⊥
 MayGo c parked phase Runs = MayStart phase (is_forced c) × (runs c ≡ true)
@@ -38,8 +42,8 @@ may_go (CallOnce false) true Poisoned = (refl, refl)
 may_go (CallOnce false) false Poisoned = (refl, refl)
 may_go (CallOnce forced) true (InProgress u) = (refl, tt)
 may_go (CallOnce forced) false (InProgress u) = tt
-may_go (CallOnce forced) true Done = refl
-may_go (CallOnce forced) false Done = refl
+may_go (CallOnce forced) true Done = (refl, refl)
+may_go (CallOnce forced) false Done = (refl, refl)
 may_go (Wait forced) true New = (refl, tt)
 may_go (Wait forced) false New = tt
 may_go (Wait true) true Poisoned = (refl, tt)
@@ -48,8 +52,16 @@ may_go (Wait false) true Poisoned = (refl, refl)
 may_go (Wait false) false Poisoned = (refl, refl)
 may_go (Wait forced) true (InProgress u) = (refl, tt)
 may_go (Wait forced) false (InProgress u) = tt
-may_go (Wait forced) true Done = refl
-may_go (Wait forced) false Done = refl
+may_go (Wait forced) true Done = (refl, refl)
+may_go (Wait forced) false Done = (refl, refl)
+may_go WaitTimed true New = (refl, tt)
+may_go WaitTimed false New = tt
+may_go WaitTimed true Poisoned = (refl, refl)
+may_go WaitTimed false Poisoned = (refl, refl)
+may_go WaitTimed true (InProgress u) = (refl, tt)
+may_go WaitTimed false (InProgress u) = tt
+may_go WaitTimed true Done = (refl, refl)
+may_go WaitTimed false Done = (refl, refl)
 
 pub marks_tell : (parked : Bool) (phase : Phase) → is_marked (word parked phase) ≡ parked
 marks_tell true New = refl
@@ -81,3 +93,14 @@ marked_is false New = refl
 marked_is false Poisoned = refl
 marked_is false (InProgress u) = refl
 marked_is false Done = refl
+
+-- the word without the bit
+pub unmarked_is : (parked : Bool) (phase : Phase) → apply (op.And NOT_MARKED) (word parked phase) ≡ word false phase
+unmarked_is true New = refl
+unmarked_is true Poisoned = refl
+unmarked_is true (InProgress u) = refl
+unmarked_is true Done = refl
+unmarked_is false New = refl
+unmarked_is false Poisoned = refl
+unmarked_is false (InProgress u) = refl
+unmarked_is false Done = refl

@@ -1,6 +1,6 @@
 -- What each step of a `Once` makes of its call: the row of the next place is what the step's case
 -- makes of the call, the call is made of that case, and its answer is true.
-use Rattle.std.specs.Prelude.{ℕ, Some, false, ◌≡◌}
+use Rattle.std.specs.Prelude.{ℕ, Some, None, true, false, ◌≡◌, ◌≢◌}
 use Rattle.lot_base.specs.declared.notes.Note.TheVariants.{Normal}
 use Rattle.lot_base.specs.declared.ops.Op.{Op}
 use Rattle.lot_acts.specs.declared.acts.Act.TheVariants as act
@@ -9,7 +9,7 @@ use Rattle.lot_acts.specs.declared.acts.Next.TheVariants as next
 use Rattle.lot_acts.specs.declared.acts.Reply.{Reply}
 use Rattle.lot_acts.specs.declared.acts.Reply.TheVariants as reply
 use Rattle.lot_acts.specs.Profiles.{Profile, hand}
-use Rattle.lot_acts.specs.Calls.{CallFollows, call_by}
+use Rattle.lot_acts.specs.Calls.{CallFollows, IsNotLate, call_by}
 use Rattle.abstract_locks.specs.Locks.{Rules, Rights}
 use Rattle.abstract_locks.specs.Codes.{code}
 use Rattle.abstract_locks.specs.Runs.{CallState}
@@ -34,11 +34,11 @@ OnceStepsTell =
     → once_act l p ≡ act.Word l op
     → CallFollowsBy r s t l p (reply.Value (code r s))
 
--- and each into the section, in it, and out of it
+-- and each into the section, in it, and out of it, but for the step by which it is late
 abbrev pub OnceSectionsTell : Type 0
 OnceSectionsTell =
     (r : Rules) (s : Site) (t l : ℕ) (p : OncePlace) (told : Reply) → IsAt r s t p
-    → MayHear r s t p told
+    → MayHear r s t p told → IsNotLate told
     → CallFollowsBy r s t l p told
 
 -- what befalls a thread asleep makes of its call
@@ -47,11 +47,14 @@ CallBecomes l p told becomes =
     (p2 : OncePlace) (rights : ℕ → Rights) → once_next p told ≡ next.At p2
     → call_by l (once_profile p2) rights ≡ becomes (call_by l (once_profile p) rights)
 
--- nothing, where it is taken; and it tries again, where it is woken that was taken
+-- nothing, where it is taken; it tries again, where it is woken that was taken; and it is late,
+-- where its time is up
 pub record SleepersHear (l : ℕ) (p : OncePlace) : Type 0 where
   pub taken : (u : ℕ) → CallBecomes l p (reply.TakenBy u) (λ c. c)
   pub woken : (u : ℕ) → (once_profile p).hand ≡ hand u false
       → CallBecomes l p (reply.Woken Normal) (λ c. record c { retries = Some l })
+  pub late : (once_profile p).late_line ≢ None
+      → CallBecomes l p reply.Late (λ c. record c { late = true })
 
 abbrev pub OnceSleepersHear : Type 0
 OnceSleepersHear = (l : ℕ) (p : OncePlace) → SleepersHear l p

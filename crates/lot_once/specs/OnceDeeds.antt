@@ -11,10 +11,11 @@ use Rattle.lot_acts.specs.declared.acts.Reply.{Reply}
 use Rattle.lot_acts.specs.declared.acts.Reply.TheVariants as reply
 use Rattle.lot_acts.specs.declared.owners.Owners.{Owners}
 use Rattle.lot_acts.specs.Acts.{holds}
+use Rattle.lot_acts.specs.Moves.{StandsAlone}
 use Rattle.lot_acts.specs.Owners.{lock_seen}
 use Rattle.abstract_locks.specs.Onces.{OnceCase, Start, Finish, Fail, Rest, TakeAll}
-use Rattle.abstract_locks.specs.Locks.{Rules, Once, OfOnce, Taken, standing, HasTakenNobody}
-use Rattle.abstract_locks.specs.Sites.{Main, Doing, Site, IsSite, Deed, End, In, Out, Mark, Case, idle}
+use Rattle.abstract_locks.specs.Locks.{Rules, Late as GivesUp, Once, OfOnce, Taken, standing, HasTakenNobody}
+use Rattle.abstract_locks.specs.Sites.{Main, Doing, Site, IsSite, Deed, End, In, Out, Mark, Clear, Case, idle}
 use Rattle.abstract_locks.specs.Deeds.{after_all, AllNeeded}
 use Rattle.abstract_locks.specs.Codes.{code, is_marked}
 use Rattle.lot_once.specs.declared.look.LookAt.{LookAt}
@@ -23,9 +24,11 @@ use Rattle.lot_once.specs.declared.look.Course.{Course}
 use Rattle.lot_once.specs.declared.look.Course.TheVariants.{Ends, Runs, Marks}
 use Rattle.lot_once.specs.declared.run.RunAt.{RunAt}
 use Rattle.lot_once.specs.declared.run.RunAt.TheVariants as run
+use Rattle.lot_once.specs.declared.give_up.GiveUpAt.{GiveUpAt}
+use Rattle.lot_once.specs.declared.give_up.GiveUpAt.TheVariants as give_up
 use Rattle.lot_once.specs.declared.places.OncePlace.{OncePlace}
-use Rattle.lot_once.specs.declared.places.OncePlace.TheVariants.{Look, Run}
-use Rattle.lot_once.specs.OnceSteps.{is_forced, want_of, course_of, check_of, once_act, once_next, once_owners}
+use Rattle.lot_once.specs.declared.places.OncePlace.TheVariants.{Look, Run, GiveUp}
+use Rattle.lot_once.specs.OnceSteps.{is_forced, is_timed, want_of, course_of, check_of, once_act, once_next, once_owners}
 use Rattle.lot_once.specs.OnceProfiles.{once_profile}
 
 -- ---------------------------------------------------------------- the deeds of each step
@@ -47,6 +50,7 @@ look_deeds c (look.Decide expected) (reply.Value seen) =
 look_deeds c (look.Decide expected) reply.Done = In Main ∷ []
 look_deeds c look.Check (reply.Parked true) = Case (OfOnce (Rest (want_of c) (is_forced c))) ∷ []
 look_deeds c (look.Leave parked) reply.Done = Out ∷ []
+look_deeds c look.Asleep reply.Late = In Main ∷ []
 look_deeds c at told = []
 
 abbrev pub end_of : Bool → OnceCase
@@ -64,9 +68,16 @@ run_deeds (run.Take succeeded) (reply.Took any none_left) = Case (OfOnce TakeAll
 run_deeds (run.Leave succeeded any) reply.Done = Out ∷ End ∷ []
 run_deeds at told = []
 
+abbrev pub give_up_deeds : GiveUpAt → Reply → List Deed
+give_up_deeds give_up.Remove (reply.Removed none_left) = Case GivesUp ∷ []
+give_up_deeds give_up.Clear (reply.Value seen) = Clear Main ∷ []
+give_up_deeds give_up.Leave reply.Done = Out ∷ []
+give_up_deeds at told = []
+
 abbrev pub once_deeds : OncePlace → Reply → List Deed
 once_deeds (Look c retries at) told = look_deeds c at told
 once_deeds (Run forced at) told = run_deeds at told
+once_deeds (GiveUp retries at) told = give_up_deeds at told
 
 -- ---------------------------------------------------------------- the laws
 
@@ -116,15 +127,18 @@ OnceOwnersFollow =
 abbrev pub IsFree : Site → Type 0
 IsFree s = (u : ℕ) → (s.doing u).inside ≢ Some Main
 
--- what a thread may be told of its steps in and out of the section
+-- what a thread may be told of its steps in and out of the section, and as its time is up
 abbrev pub MayHear : Rules → Site → ℕ → OncePlace → Reply → Type 0
 MayHear r s t (Look c retries (look.Decide seen)) reply.Done = IsFree s
 MayHear r s t (Look c retries look.Check) (reply.Parked b) =
     (b ≡ holds (check_of c) (code r s)) × (standing t s.lock ≡ 0)
 MayHear r s t (Look c retries (look.Leave parked)) reply.Done = s.lock.taken t ≡ None
+MayHear r s t (Look c retries look.Asleep) reply.Late = (is_timed c ≡ true) × IsFree s
 MayHear r s t (Run forced (run.Enter succeeded)) reply.Done = IsFree s
 MayHear r s t (Run forced (run.Take succeeded)) (reply.Took any none_left) = HasTakenNobody s.lock t
 MayHear r s t (Run forced (run.Leave succeeded any)) reply.Done = s.lock.taken t ≡ None
+MayHear r s t (GiveUp retries give_up.Remove) (reply.Removed none_left) = StandsAlone s t Main none_left
+MayHear r s t (GiveUp retries give_up.Leave) reply.Done = s.lock.taken t ≡ None
 MayHear r s t p told = ⊥
 
 -- each such step follows too

@@ -5,19 +5,19 @@ use Rattle.lot_base.specs.Keys.{key_of}
 use Rattle.lot_acts.specs.declared.acts.Act.{Act}
 use Rattle.lot_acts.specs.declared.acts.Act.TheVariants as act
 use Rattle.lot_acts.specs.declared.acts.Check.{Check}
-use Rattle.lot_acts.specs.declared.acts.Reply.TheVariants.{Parked, Took, Closed}
+use Rattle.lot_acts.specs.declared.acts.Reply.TheVariants.{Parked, Took, Late, Closed}
 use Rattle.lot_acts.specs.declared.acts.Whom.TheVariants.{All}
 use Rattle.lot_acts.specs.Acts.{holds}
-use Rattle.lot_acts.specs.Moves.{Move, Hears, Moves, Waits, row_of, station_of, station_then, inside_of}
+use Rattle.lot_acts.specs.Moves.{Move, Hears, GoesIn, Moves, Waits, row_of, station_of, station_then, inside_of}
 use Rattle.lot_acts.specs.Profiles.{in_hand}
 use Rattle.lot_acts.specs.Stations.{nowhere}
 use Rattle.abstract_locks.specs.Onces.{Rest, TakeAll}
 use Rattle.abstract_locks.specs.Locks.{Rules, OfOnce, HasTakenNobody, standing}
-use Rattle.abstract_locks.specs.Sites.{Site, Main, Case}
+use Rattle.abstract_locks.specs.Sites.{Site, Line, Main, Case}
 use Rattle.abstract_locks.specs.Codes.{code}
 use Rattle.lot_once.specs.declared.places.OncePlace.{OncePlace}
 use Rattle.lot_once.specs.OnceSteps.{once_act, once_next}
-use Rattle.lot_once.specs.OnceProfiles.{once_profile}
+use Rattle.lot_once.specs.OnceProfiles.{once_late_line, once_profile}
 use Rattle.lot_once.specs.OnceDeeds.{MayHear, once_deeds}
 use Rattle.lot_once.specs.OnceCalls.{next_row}
 
@@ -79,3 +79,9 @@ OnceActsMove = (l : ℕ) (p : OncePlace) → OnceMoves l (once_move p) (once_hea
 -- woken
 abbrev pub OnceSleepersMove : Type 0
 OnceSleepersMove = (p : OncePlace) → Waits (once_move p)
+
+-- who gives up goes into the section of the line in which it sleeps
+abbrev pub OnceLateMove : Type 0
+OnceLateMove =
+    (p : OncePlace) (m : Line) → once_late_line p ≡ Some m
+    → GoesIn (once_move p) (once_hears p) m Late

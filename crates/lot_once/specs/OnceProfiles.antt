@@ -2,17 +2,20 @@
 -- place is read off its row.
 use Rattle.std.specs.Prelude.{ℕ, Bool, true, false, Option, Some, None, if◌then◌else◌, not}
 use Rattle.lot_base.specs.declared.wants.Want.{Want}
+use Rattle.lot_base.specs.declared.wants.Want.TheVariants as wants
 use Rattle.lot_calls.specs.declared.calls.OnceCall.{OnceCall}
 use Rattle.lot_acts.specs.Profiles.{hand, hand_owner, in_hand, in_line, Profile, blank}
-use Rattle.abstract_locks.specs.Purposes.{CallsOnce, once_purpose}
+use Rattle.abstract_locks.specs.Purposes.{Awaits, CallsOnce, once_purpose}
 use Rattle.abstract_locks.specs.Sites.{Doing, Line, Claim, Runs, Ran, Main, idle}
 use Rattle.lot_once.specs.declared.look.LookAt.{LookAt}
 use Rattle.lot_once.specs.declared.look.LookAt.TheVariants as look
 use Rattle.lot_once.specs.declared.run.RunAt.{RunAt}
 use Rattle.lot_once.specs.declared.run.RunAt.TheVariants as run
+use Rattle.lot_once.specs.declared.give_up.GiveUpAt.{GiveUpAt}
+use Rattle.lot_once.specs.declared.give_up.GiveUpAt.TheVariants as give_up
 use Rattle.lot_once.specs.declared.places.OncePlace.{OncePlace}
-use Rattle.lot_once.specs.declared.places.OncePlace.TheVariants.{Look, Run}
-use Rattle.lot_once.specs.OnceSteps.{want_of}
+use Rattle.lot_once.specs.declared.places.OncePlace.TheVariants.{Look, Run, GiveUp}
+use Rattle.lot_once.specs.OnceSteps.{is_timed, want_of}
 
 -- ---------------------------------------------------------------- who looks, or waits
 
@@ -23,22 +26,39 @@ inside = record idle { inside = Some Main }
 abbrev pub again : Option Want → Doing → Doing
 again wanted d = record d { retries = wanted }
 
-abbrev pub look_row : Option Want → LookAt → Profile
-look_row wanted look.Load = record blank { doing = again wanted idle }
-look_row wanted (look.Decide seen) = record blank { doing = again wanted idle }
-look_row wanted look.Check = record blank { doing = again wanted inside; owes = Some Main }
-look_row wanted (look.Leave parked) =
+abbrev pub look_row : Bool → Option Want → LookAt → Profile
+look_row timed wanted look.Load = record blank { doing = again wanted idle }
+look_row timed wanted (look.Decide seen) = record blank { doing = again wanted idle }
+look_row timed wanted look.Check = record blank { doing = again wanted inside; owes = Some Main }
+look_row timed wanted (look.Leave parked) =
     record blank {
       doing = again (if parked then None else wanted) inside;
       stands = in_line parked Main;
       owes = Some Main;
     }
-look_row wanted look.Asleep = record blank { stands = Some Main }
-look_row wanted (look.Taken by) = record blank { hand = hand by false }
+look_row timed wanted look.Asleep =
+    record blank { stands = Some Main; late_line = in_line timed Main }
+look_row timed wanted (look.Taken by) = record blank { hand = hand by false }
 
 abbrev pub looking : OnceCall → Bool → Profile → Profile
-looking c retries row = record row
-    { wants = Some (want_of c); retries = retries; purpose = λ l. once_purpose l c }
+looking c retries row = record row {
+  wants = Some (want_of c);
+  retries = retries;
+  timed = is_timed c;
+  purpose = λ l. once_purpose l c;
+}
+
+-- ---------------------------------------------------------------- who gives up
+
+-- inside the section, where it owes as anybody does
+abbrev pub late_row : Profile → Profile
+late_row row = record row { owes = Some Main; late = true }
+
+abbrev pub give_up_row : GiveUpAt → Profile
+give_up_row give_up.Remove = late_row (record blank { doing = inside; stands = Some Main })
+give_up_row give_up.Clear =
+    late_row (record blank { doing = record inside { empty = Some Main }; gave_up = true })
+give_up_row give_up.Leave = late_row (record blank { doing = inside; gave_up = true })
 
 -- ---------------------------------------------------------------- who runs its closure
 
@@ -72,9 +92,16 @@ abbrev pub again_of : OnceCall → Bool → Option Want
 again_of c retries = if retries then Some (want_of c) else None
 
 abbrev pub once_profile : OncePlace → Profile
-once_profile (Look c retries at) = looking c retries (look_row (again_of c retries) at)
+once_profile (Look c retries at) = looking c retries (look_row (is_timed c) (again_of c retries) at)
 once_profile (Run forced at) =
     record (run_row at) { purpose = λ l. CallsOnce l forced; released = true }
+once_profile (GiveUp retries at) =
+    record (give_up_row at) {
+      wants = Some wants.Wait;
+      retries = retries;
+      timed = true;
+      purpose = λ l. Awaits l false true;
+    }
 
 -- the thread that took this one and has not left its section yet
 abbrev pub once_taker : OncePlace → Option ℕ
@@ -83,6 +110,10 @@ once_taker at = hand_owner (once_profile at).hand
 -- what it wants, where it waits
 abbrev pub once_wants : OncePlace → Option Want
 once_wants at = (once_profile at).wants
+
+-- the line in which the thread sleeps in a call that may give up
+abbrev pub once_late_line : OncePlace → Option Line
+once_late_line at = (once_profile at).late_line
 
 -- from the step that saw waiters, or from entering the section, until the section is left
 abbrev pub once_owes : OncePlace → Option Line

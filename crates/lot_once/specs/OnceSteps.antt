@@ -6,7 +6,7 @@ use Rattle.lot_base.specs.declared.wants.Want.{Want}
 use Rattle.lot_base.specs.declared.wants.Want.TheVariants as wants
 use Rattle.lot_base.specs.declared.ops.Op.TheVariants as op
 use Rattle.lot_calls.specs.declared.calls.OnceCall.{OnceCall}
-use Rattle.lot_calls.specs.declared.calls.OnceCall.TheVariants.{CallOnce, Wait}
+use Rattle.lot_calls.specs.declared.calls.OnceCall.TheVariants.{CallOnce, Wait, WaitTimed}
 use Rattle.lot_calls.specs.declared.outcomes.Answer.{Answer}
 use Rattle.lot_calls.specs.declared.outcomes.Answer.TheVariants as answer
 use Rattle.lot_calls.specs.declared.outcomes.OnceState.{OnceState}
@@ -18,7 +18,7 @@ use Rattle.lot_acts.specs.declared.acts.Check.TheVariants.{WordIs, Unfinished}
 use Rattle.lot_acts.specs.declared.acts.Wakes.TheVariants.{Nobody}
 use Rattle.lot_acts.specs.declared.acts.Whom.TheVariants.{All}
 use Rattle.lot_acts.specs.declared.acts.Reply.{Reply}
-use Rattle.lot_acts.specs.declared.acts.Reply.TheVariants.{Done, Value, Parked, Took, TakenBy, Woken, Closed}
+use Rattle.lot_acts.specs.declared.acts.Reply.TheVariants.{Done, Value, Parked, Took, Removed, TakenBy, Late, Woken, Closed}
 use Rattle.lot_acts.specs.declared.acts.Next.{Next}
 use Rattle.lot_acts.specs.declared.acts.Next.TheVariants.{At, End}
 use Rattle.lot_acts.specs.declared.owners.Owners.{Owners}
@@ -32,22 +32,39 @@ use Rattle.lot_once.specs.declared.look.Course.{Course}
 use Rattle.lot_once.specs.declared.look.Course.TheVariants.{Ends, Runs, Marks, Parks}
 use Rattle.lot_once.specs.declared.run.RunAt.{RunAt}
 use Rattle.lot_once.specs.declared.run.RunAt.TheVariants as run
+use Rattle.lot_once.specs.declared.give_up.GiveUpAt.{GiveUpAt}
+use Rattle.lot_once.specs.declared.give_up.GiveUpAt.TheVariants as give_up
+use Rattle.lot_once.specs.declared.places.TheConstants.{NOT_MARKED}
 use Rattle.lot_once.specs.declared.places.OncePlace.{OncePlace}
-use Rattle.lot_once.specs.declared.places.OncePlace.TheVariants.{Look, Run}
+use Rattle.lot_once.specs.declared.places.OncePlace.TheVariants.{Look, Run, GiveUp}
 
 -- ---------------------------------------------------------------- calls
 
 abbrev pub is_forced : OnceCall → Bool
 is_forced (CallOnce forced) = forced
 is_forced (Wait forced) = forced
+is_forced WaitTimed = false
+
+abbrev pub is_timed : OnceCall → Bool
+is_timed (CallOnce forced) = false
+is_timed (Wait forced) = false
+is_timed WaitTimed = true
 
 abbrev pub runs : OnceCall → Bool
 runs (CallOnce forced) = true
 runs (Wait forced) = false
+runs WaitTimed = false
 
 abbrev pub want_of : OnceCall → Want
 want_of (CallOnce forced) = wants.CallOnce
 want_of (Wait forced) = wants.Wait
+want_of WaitTimed = wants.Wait
+
+-- what a call answers that sees the `Once` done
+abbrev pub when_done : OnceCall → Answer
+when_done (CallOnce forced) = answer.Ok
+when_done (Wait forced) = answer.Ok
+when_done WaitTimed = answer.Yes
 
 abbrev pub once_first : OnceCall → OncePlace
 once_first c = Look c false look.Load
@@ -56,7 +73,7 @@ once_first c = Look c false look.Load
 
 abbrev pub course_of : OnceCall → ℕ → Course
 course_of c v =
-    if is_done v then Ends answer.Ok
+    if is_done v then Ends (when_done c)
     else if is_poisoned v && not (is_forced c) then Ends answer.Poisoned
     else if runs c && not (is_running v) then Runs
     else if is_marked v then Parks
@@ -84,6 +101,7 @@ marked v = v % 8 + 8
 abbrev pub check_of : OnceCall → Check
 check_of (CallOnce forced) = WordIs 12
 check_of (Wait forced) = Unfinished forced
+check_of WaitTimed = Unfinished false
 
 abbrev pub course_act : ℕ → ℕ → Course → Act
 course_act l v (Ends answer) = act.Word l op.Load
@@ -116,9 +134,15 @@ run_act l (run.Enter succeeded) = act.Enter (One (2 * l))
 run_act l (run.Take succeeded) = act.Take (2 * l) All
 run_act l (run.Leave succeeded any) = act.Leave (One (2 * l)) (wakes_taken any Normal)
 
+abbrev pub give_up_act : ℕ → GiveUpAt → Act
+give_up_act l give_up.Remove = act.Remove (2 * l)
+give_up_act l give_up.Clear = act.Word l (op.And NOT_MARKED)
+give_up_act l give_up.Leave = act.Leave (One (2 * l)) Nobody
+
 abbrev pub once_act : ℕ → OncePlace → Act
 once_act l (Look c retries at) = look_act l c at
 once_act l (Run forced at) = run_act l at
+once_act l (GiveUp retries at) = give_up_act l at
 
 -- ---------------------------------------------------------------- where a reply leads
 
@@ -126,6 +150,11 @@ once_act l (Run forced at) = run_act l at
 abbrev pub begins_run : OnceCall → LookAt → Reply → Bool
 begins_run c (look.Decide expected) (Value seen) = (seen == expected) && is_run (course_of c seen)
 begins_run c at reply = false
+
+-- it sleeps in a call that has a deadline, and its time is up
+abbrev pub gives_up : OnceCall → LookAt → Reply → Bool
+gives_up c look.Asleep Late = is_timed c
+gives_up c at reply = false
 
 abbrev pub looked_by : ℕ → Course → Next LookAt
 looked_by v (Ends answer) = End answer
@@ -170,6 +199,13 @@ next_run (run.Take succeeded) (Took any none_left) = At (run.Leave succeeded any
 next_run (run.Leave succeeded any) Done = End (ended succeeded)
 next_run at reply = At at
 
+abbrev pub next_give_up : GiveUpAt → Reply → Next GiveUpAt
+next_give_up give_up.Remove (Removed none_left) =
+    if none_left then At give_up.Clear else At give_up.Leave
+next_give_up give_up.Clear (Value seen) = At give_up.Leave
+next_give_up give_up.Leave Done = End answer.No
+next_give_up at reply = At at
+
 abbrev pub in_look : OnceCall → Bool → Next LookAt → Next OncePlace
 in_look c retries (At at) = At (Look c retries at)
 in_look c retries (End answer) = End answer
@@ -178,11 +214,17 @@ abbrev pub in_run : Bool → Next RunAt → Next OncePlace
 in_run forced (At at) = At (Run forced at)
 in_run forced (End answer) = End answer
 
+abbrev pub in_give_up : Bool → Next GiveUpAt → Next OncePlace
+in_give_up retries (At at) = At (GiveUp retries at)
+in_give_up retries (End answer) = End answer
+
 abbrev pub once_next : OncePlace → Reply → Next OncePlace
 once_next (Look c retries at) reply =
     if begins_run c at reply then At (Run (is_forced c) (found reply))
+    else if gives_up c at reply then At (GiveUp retries give_up.Remove)
     else in_look c (still_retries retries reply) (next_look c at reply)
 once_next (Run forced at) reply = in_run forced (next_run at reply)
+once_next (GiveUp retries at) reply = in_give_up retries (next_give_up at reply)
 
 -- from where a thread looks at the word once more, in place of the act that would set the bit:
 -- while another runs
@@ -203,3 +245,4 @@ once_owners (Look c retries at) t seen owners =
 once_owners (Run forced (run.Close succeeded)) t seen owners =
     record owners { phase = phase_behind succeeded }
 once_owners (Run forced at) t seen owners = owners
+once_owners (GiveUp retries at) t seen owners = owners

@@ -1,6 +1,6 @@
 //! What the steps of a `Once` do to it.
 ghost use Rattle.lot_once.specs.OnceCalls.{OnceSectionsTell, OnceSleepersHear, OnceStepsTell};
-ghost use Rattle.lot_once.specs.OnceMoves.{OnceActsMove, OnceSleepersMove};
+ghost use Rattle.lot_once.specs.OnceMoves.{OnceActsMove, OnceLateMove, OnceSleepersMove};
 ghost use Rattle.lot_once.specs.OnceRows.{OnceRowsKeep};
 ghost use Rattle.lot_once.specs.OnceDeeds.{OnceOwnersFollow, OnceSectionsFollow, OnceStepsCode, OnceStepsFollow};
 
@@ -50,6 +50,11 @@ pub fn once_acts_move()
 /// And so does what befalls it asleep.
 pub fn once_sleepers_move()
     ensures { OnceSleepersMove }
+{}
+
+/// And so does the step by which it gives up.
+pub fn once_late_move()
+    ensures { OnceLateMove }
 {}
 
 /// Each row keeps what is promised of its thread: it owes wake-ups, sleeps and ends as it may.

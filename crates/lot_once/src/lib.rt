@@ -1,11 +1,13 @@
 //! The steps of every call of a `Once`.
 #![tactic(auto)]
 
+pub mod give_up;
 pub mod laws;
 pub mod look;
 pub mod places;
 pub mod run;
 
+pub use give_up::GiveUpAt;
 pub use look::{Course, LookAt};
-pub use places::{DONE, MARKED, OncePlace, POISONED, RUNNING};
+pub use places::{DONE, MARKED, NOT_MARKED, OncePlace, POISONED, RUNNING};
 pub use run::RunAt;

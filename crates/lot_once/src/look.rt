@@ -9,10 +9,10 @@
 //! | `Decide(v)` with `MARKED` | enters the section of the queue | `Check` |
 //! | `Check` | stands behind the last of the queue, if it still has to wait | `Leave` |
 //! | `Leave` | leaves the section | `Asleep`, or `Load` where it doesn't stand in the queue |
-//! | `Asleep` | sleeps | `Taken` |
+//! | `Asleep` | sleeps | `Taken`, or it gives up where its time is up |
 //! | `Taken` | sleeps | `Load` at a wake |
 ghost use Rattle.std.specs.Prelude.{◌≡◌, ◌<◌, ◌^◌};
-ghost use Rattle.lot_once.specs.OnceSteps.{is_forced, runs, want_of, course_of, started, marked, begins_run, looked, next_look, still_retries, check_of, decided, look_act};
+ghost use Rattle.lot_once.specs.OnceSteps.{is_forced, is_timed, runs, want_of, when_done, course_of, started, marked, begins_run, gives_up, looked, next_look, still_retries, check_of, decided, look_act};
 
 use crate::places::{MARKED, RUNNING};
 use lot_acts::bits::{is_done, is_marked, is_poisoned, is_running};
@@ -53,7 +53,15 @@ pub(super) fn is_forced(call: OnceCall) -> bool
 {
     match call {
         OnceCall::CallOnce { forced } | OnceCall::Wait { forced } => forced,
+        OnceCall::WaitTimed => false,
     }
+}
+
+/// Whether a call has a deadline.
+pub(super) fn is_timed(call: OnceCall) -> bool
+    ensures { result ≡ is_timed call }
+{
+    matches!(call, OnceCall::WaitTimed)
 }
 
 fn runs(call: OnceCall) -> bool
@@ -68,7 +76,17 @@ pub(super) fn want_of(call: OnceCall) -> Want
 {
     match call {
         OnceCall::CallOnce { .. } => Want::CallOnce,
-        OnceCall::Wait { .. } => Want::Wait,
+        OnceCall::Wait { .. } | OnceCall::WaitTimed => Want::Wait,
+    }
+}
+
+/// What a call answers that sees the `Once` done: one with a deadline `Yes`, any other `Ok`.
+fn when_done(call: OnceCall) -> Answer
+    ensures { result ≡ when_done call }
+{
+    match call {
+        OnceCall::CallOnce { .. } | OnceCall::Wait { .. } => Answer::Ok,
+        OnceCall::WaitTimed => Answer::Yes,
     }
 }
 
@@ -76,7 +94,7 @@ pub(super) fn course_of(call: OnceCall, seen: u64) -> Course
     ensures { result ≡ course_of call seen }
 {
     if is_done(seen) {
-        Course::Ends(Answer::Ok)
+        Course::Ends(when_done(call))
     } else if is_poisoned(seen) && !is_forced(call) {
         Course::Ends(Answer::Poisoned)
     } else if runs(call) && !is_running(seen) {
@@ -113,6 +131,16 @@ pub(super) fn begins_run(call: OnceCall, at: LookAt, reply: Reply) -> bool
     }
 }
 
+/// Whether the thread gives up its sleep, since its time is up.
+pub(super) fn gives_up(call: OnceCall, at: LookAt, reply: Reply) -> bool
+    ensures { result ≡ gives_up call at reply }
+{
+    match (at, reply) {
+        (LookAt::Asleep, Reply::Late) => is_timed(call),
+        _ => false,
+    }
+}
+
 /// Where a thread goes by a value that it saw.
 fn looked(call: OnceCall, seen: u64) -> Next<LookAt>
     ensures { result ≡ looked call seen }
@@ -123,7 +151,7 @@ fn looked(call: OnceCall, seen: u64) -> Next<LookAt>
     }
 }
 
-/// Where a thread goes that looks, and doesn't begin its run.
+/// Where a thread goes that looks, and neither begins its run nor gives up.
 pub(super) fn next_look(call: OnceCall, at: LookAt, reply: Reply) -> Next<LookAt>
     ensures { result ≡ next_look call at reply }
 {
@@ -169,6 +197,7 @@ fn check(call: OnceCall) -> Check
     match call {
         OnceCall::CallOnce { .. } => Check::WordIs(RUNNING + MARKED),
         OnceCall::Wait { forced } => Check::Unfinished { forced },
+        OnceCall::WaitTimed => Check::Unfinished { forced: false },
     }
 }
 

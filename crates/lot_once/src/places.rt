@@ -10,11 +10,13 @@
 //! At most one of the first three is set.
 ghost use Rattle.std.specs.Prelude.{ℕ, ◌≡◌, ◌<◌, ◌^◌};
 ghost use Rattle.lot_acts.specs.Acts.{outcome_of};
-ghost use Rattle.lot_once.specs.OnceProfiles.{once_taker, once_wants, once_owes, once_retries};
+ghost use Rattle.lot_once.specs.OnceProfiles.{once_taker, once_wants, once_late_line, once_owes, once_retries};
 ghost use Rattle.lot_once.specs.OnceSteps.{once_first, once_act, once_next, once_looking, once_owners};
 
+use crate::give_up::{GiveUpAt, give_up_act, next_give_up};
 use crate::look::{
-    Course, LookAt, begins_run, course_of, is_forced, look_act, next_look, still_retries, want_of,
+    Course, LookAt, begins_run, course_of, gives_up, is_forced, is_timed, look_act, next_look,
+    still_retries, want_of,
 };
 use crate::run::{RunAt, next_run, phase_behind, run_act, state_before};
 use lot_acts::bits::{is_poisoned, is_running};
@@ -30,6 +32,9 @@ pub const RUNNING: u64 = 4;
 
 pub const MARKED: u64 = 8;
 
+/// All bits but `MARKED`.
+pub const NOT_MARKED: u64 = 18446744073709551607;
+
 /// Where a thread stands in a call of a `Once`.
 #[derive(Clone, Copy)]
 pub enum OncePlace {
@@ -44,6 +49,11 @@ pub enum OncePlace {
     Run {
         forced: bool,
         at: RunAt,
+    },
+    /// It has waited with a deadline, and its time is up. It `retries` as it did asleep.
+    GiveUp {
+        retries: bool,
+        at: GiveUpAt,
     },
 }
 
@@ -67,6 +77,7 @@ impl OncePlace {
         match self {
             OncePlace::Look { call, at, .. } => look_act(lock, call, at),
             OncePlace::Run { at, .. } => run_act(lock, at),
+            OncePlace::GiveUp { at, .. } => give_up_act(lock, at),
         }
     }
 
@@ -99,6 +110,12 @@ impl OncePlace {
                         at: RunAt::found(reply),
                     });
                 }
+                if gives_up(call, at, reply) {
+                    return Next::At(OncePlace::GiveUp {
+                        retries,
+                        at: GiveUpAt::Remove,
+                    });
+                }
                 match next_look(call, at, reply) {
                     Next::At(at) => Next::At(OncePlace::Look {
                         call,
@@ -110,6 +127,10 @@ impl OncePlace {
             }
             OncePlace::Run { forced, at } => match next_run(at, reply) {
                 Next::At(at) => Next::At(OncePlace::Run { forced, at }),
+                Next::End(answer) => Next::End(answer),
+            },
+            OncePlace::GiveUp { retries, at } => match next_give_up(at, reply) {
+                Next::At(at) => Next::At(OncePlace::GiveUp { retries, at }),
                 Next::End(answer) => Next::End(answer),
             },
         }
@@ -131,7 +152,7 @@ impl OncePlace {
                 at: RunAt::Close { succeeded },
                 ..
             } => owners.with_phase(phase_behind(succeeded)),
-            OncePlace::Run { .. } => owners,
+            OncePlace::Run { .. } | OncePlace::GiveUp { .. } => owners,
         }
     }
 
@@ -155,6 +176,21 @@ impl OncePlace {
         match self {
             OncePlace::Look { call, .. } => Some(want_of(call)),
             OncePlace::Run { .. } => None,
+            OncePlace::GiveUp { .. } => Some(Want::Wait),
+        }
+    }
+
+    /// The queue in which the thread sleeps, where it may give up.
+    pub fn late_line(self) -> Option<Line>
+        ensures { result ≡ once_late_line self }
+    {
+        match self {
+            OncePlace::Look {
+                call,
+                at: LookAt::Asleep,
+                ..
+            } if is_timed(call) => Some(Line::Main),
+            _ => None,
         }
     }
 
@@ -191,6 +227,7 @@ impl OncePlace {
                 at: RunAt::Enter { .. } | RunAt::Take { .. } | RunAt::Leave { .. },
                 ..
             } => Some(Line::Main),
+            OncePlace::GiveUp { .. } => Some(Line::Main),
             _ => None,
         }
     }
@@ -200,7 +237,7 @@ impl OncePlace {
         ensures { result ≡ once_retries self }
     {
         match self {
-            OncePlace::Look { retries, .. } => retries,
+            OncePlace::Look { retries, .. } | OncePlace::GiveUp { retries, .. } => retries,
             OncePlace::Run { .. } => false,
         }
     }

@@ -12,7 +12,7 @@ use Rattle.lot_calls.specs.declared.outcomes.Outcome.{Outcome}
 use Rattle.lot_calls.specs.declared.outcomes.Outcome as outcome
 use Rattle.lot_calls.specs.declared.calls.CondvarCall.TheVariants as condvar
 use Rattle.lot_calls.specs.declared.calls.OnceCall.{OnceCall}
-use Rattle.lot_calls.specs.declared.calls.OnceCall.TheVariants.{Wait}
+use Rattle.lot_calls.specs.declared.calls.OnceCall.TheVariants.{CallOnce, Wait, WaitTimed}
 use Rattle.lot_calls.specs.Kinds.{fits, is_condvar}
 use Rattle.lot_machine.specs.Machine.{State, kind_at, opening, is_possible, after, after_steps, step_outcome, solo}
 use Rattle.lot_drain.specs.Drainable.{is_drainable}
@@ -43,7 +43,9 @@ pub data Stage : Type 0 where
 -- a wait that names no mutex
 abbrev pub is_bare_wait : OnceCall → Bool
 is_bare_wait (Wait false) = true
-is_bare_wait call = false
+is_bare_wait WaitTimed = true
+is_bare_wait (Wait true) = false
+is_bare_wait (CallOnce forced) = false
 
 abbrev pub wait_with : ℕ → Bool → ℕ → Call
 wait_with lock timed mutex = calls.TheVariants.Condvar lock (condvar.Wait mutex timed)

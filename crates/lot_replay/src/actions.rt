@@ -77,12 +77,19 @@ impl<Q: Queues + Drop> Session<Q> {
     }
 }
 
+/// Whether a call has the word of a wait on a condition variable, and names no mutex.
+fn is_bare_wait(call: OnceCall) -> bool
+    ensures { result ≡ is_bare_wait call }
+{
+    matches!(call, OnceCall::Wait { forced: false } | OnceCall::WaitTimed)
+}
+
 // A wait on a condition variable would name its mutex.
 fn once_call(lock: usize, call: OnceCall, on_condvar: bool) -> Option<Call>
     ensures { result ≡ (if on_condvar && is_bare_wait call then None
         else Some (Call.Once lock call)) }
 {
-    if on_condvar && matches!(call, OnceCall::Wait { forced: false }) {
+    if on_condvar && is_bare_wait(call) {
         return None;
     }
     Some(Call::Once { lock, call })

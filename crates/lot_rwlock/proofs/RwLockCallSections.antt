@@ -12,7 +12,7 @@ use Rattle.lot_calls.specs.declared.outcomes.Answer.TheVariants.{No}
 use Rattle.lot_acts.specs.declared.acts.Next.{Next}
 use Rattle.lot_acts.specs.declared.acts.Reply.{Reply}
 use Rattle.lot_acts.specs.declared.acts.Reply.TheVariants as reply
-use Rattle.lot_acts.specs.Calls.{call_by, CallFollows}
+use Rattle.lot_acts.specs.Calls.{call_by, CallFollows, IsNotLate}
 use Rattle.lot_acts.specs.Acts.{any_picked}
 use Rattle.lot_rwlock.specs.declared.places.Admission.{Admission}
 use Rattle.lot_rwlock.specs.declared.places.RwLockPlace.{RwLockPlace}
@@ -27,7 +27,7 @@ use Rattle.lot_rwlock.specs.declared.release.WakeAt.TheVariants as waking
 use Rattle.lot_rwlock.specs.RwLockSteps.{wanted, from_of, to_of, start_of, patience_of, park_next, wake_next, rwlock_next}
 use Rattle.lot_rwlock.specs.RwLockDeeds.{Admits, IsFreshTry, MayHear, MayHearParking, MayHearWaking, rwlock_deeds, park_deeds, wake_deeds, rwlock_doing}
 use Rattle.lot_rwlock.specs.RwLockProfiles.{rwlock_profile}
-use Rattle.lot_rwlock.specs.RwLockCalls.{MayWait, HasDeadline, ParksBy, EntersAt, SharesAt, WritesAt, ReleasesAt, DowngradesAt, UpgradesAt, StandsAt, IsNotLate, next_row, CallFollowsBy, RwLockSectionsTell}
+use Rattle.lot_rwlock.specs.RwLockCalls.{MayWait, HasDeadline, ParksBy, EntersAt, SharesAt, WritesAt, ReleasesAt, DowngradesAt, UpgradesAt, StandsAt, next_row, CallFollowsBy, RwLockSectionsTell}
 use Rattle.lot_rwlock.proofs.RwLockCallRights.{recalls, goes, keeps, loses, replaces}
 use Rattle.abstract_locks.specs.Locks.{LockCase, LockState, Rules, Rights, Park, Aside, TakeAside, TakePicked, Wake, Late, Owns, after_case, rights_of, with_right, without_right}
 use Rattle.abstract_locks.specs.Runs.{CallState, AtLock, going_on, EntersAnswer, ConvertsAnswer}

@@ -14,7 +14,7 @@ use Rattle.lot_acts.specs.declared.acts.Next.TheVariants as next
 use Rattle.lot_acts.specs.declared.acts.Reply.{Reply}
 use Rattle.lot_acts.specs.declared.acts.Reply.TheVariants as reply
 use Rattle.lot_acts.specs.Profiles.{Profile, hand}
-use Rattle.lot_acts.specs.Calls.{CallFollows, call_by}
+use Rattle.lot_acts.specs.Calls.{CallFollows, call_by, IsNotLate}
 use Rattle.lot_rwlock.specs.declared.places.Admission.{Admission}
 use Rattle.lot_rwlock.specs.declared.places.RwLockPlace.{RwLockPlace}
 use Rattle.lot_rwlock.specs.declared.purposes.RwLockPurpose.{RwLockPurpose}
@@ -158,10 +158,6 @@ CallFollowsBy r a s t l p whom told =
 pub record IsCalling (r : Rules) (a : Admission) (s : Site) (t : ℕ) (p : RwLockPlace) : Type 0 where
   pub at : IsAt r a s t p
   pub stands : MayStand a p
-
-abbrev pub IsNotLate : Reply → Type 0
-IsNotLate reply.Late = ⊥
-IsNotLate told = Unit {0}
 
 -- each step on the word
 abbrev pub RwLockStepsTell : Type 0

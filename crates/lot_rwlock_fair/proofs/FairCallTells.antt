@@ -16,7 +16,7 @@ use Rattle.lot_acts.specs.declared.acts.Next.TheVariants as next
 use Rattle.lot_acts.specs.declared.acts.Reply.{Reply}
 use Rattle.lot_acts.specs.declared.acts.Reply.TheVariants as reply
 use Rattle.lot_acts.specs.Profiles.{Profile}
-use Rattle.lot_acts.specs.Calls.{CallFollows, MayCome, ComesTo, call_by, rights_where, event_at}
+use Rattle.lot_acts.specs.Calls.{CallFollows, MayCome, ComesTo, call_by, rights_where, event_at, IsNotLate}
 use Rattle.abstract_locks.specs.Onces.{OnceCase, Start, Finish, Fail, Rest, TakeAll}
 use Rattle.abstract_locks.specs.Locks.{LockState, Rules, Rights, Leave, TakeAside, Late, Wake, Owns, after_case, rights_of, with_right, without_right, without_owner, standing, OfOnce, CondvarCase, Look, Show, Hide, OfCondvar}
 use Rattle.abstract_locks.specs.Purposes.{Enters, Bumps, IsMadeOf, Recall, Blank, Saw, SawOwner, HasMoved, WasMoved, WasNotified}
@@ -36,7 +36,7 @@ use Rattle.lot_rwlock.specs.declared.release.WakeAt.TheVariants as waking
 use Rattle.lot_rwlock.specs.RwLockSteps.{wanted, entered, rwlock_act, rwlock_next, wake_next, wakes_or_ends}
 use Rattle.lot_rwlock.specs.RwLockDeeds.{Admits, MayHear, MayHearWaking, rwlock_doing, rwlock_deeds, does_and_wakes, wake_deeds}
 use Rattle.lot_rwlock.specs.RwLockProfiles.{rwlock_profile}
-use Rattle.lot_rwlock.specs.RwLockCalls.{MayStand, IsCalling, IsNotLate, next_row}
+use Rattle.lot_rwlock.specs.RwLockCalls.{MayStand, IsCalling, next_row}
 use Rattle.lot_rwlock.proofs.RwLockCalls.{rwlock_steps_tell}
 use Rattle.lot_rwlock.proofs.RwLockCallSections.{rwlock_sections_tell}
 use Rattle.lot_rwlock.proofs.RwLockStands.{is_at}

@@ -8,7 +8,7 @@ use Rattle.lot_acts.specs.declared.acts.Next.{Next}
 use Rattle.lot_acts.specs.declared.acts.Next.TheVariants as next
 use Rattle.lot_base.specs.declared.notes.Note.TheVariants as note
 use Rattle.lot_acts.specs.Profiles.{Profile, hand}
-use Rattle.lot_acts.specs.Calls.{CallFollows, call_by}
+use Rattle.lot_acts.specs.Calls.{CallFollows, call_by, IsNotLate}
 use Rattle.abstract_locks.specs.Runs.{CallState, one_more_at}
 use Rattle.lot_acts.specs.declared.acts.Reply.{Reply}
 use Rattle.lot_acts.specs.declared.acts.Reply.TheVariants as reply
@@ -23,7 +23,6 @@ use Rattle.abstract_locks.specs.Deeds.{after_all}
 use Rattle.lot_rwlock.specs.declared.places.Admission.{Admission}
 use Rattle.lot_rwlock.specs.RwLockDeeds.{Follows}
 use Rattle.lot_rwlock.specs.RwLockOpenings.{IsOpening}
-use Rattle.lot_rwlock.specs.RwLockCalls.{IsNotLate}
 use Rattle.lot_acts.specs.Moves.{claim_handed}
 use Rattle.lot_calls.specs.declared.calls.RwLockCall.{RwLockCall}
 use Rattle.abstract_locks.specs.Purposes.{rwlock_purpose}

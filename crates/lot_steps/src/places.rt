@@ -293,13 +293,17 @@ impl Place {
         ensures { result ≡ late_key self }
     {
         match self {
-            Place::Idle | Place::Once { .. } => None,
+            Place::Idle => None,
             Place::Condvar { lock, at } => at.late_key(lock),
             Place::Mutex { lock, at } => match at.late_line() {
                 Some(line) => Some(line.key(lock)),
                 None => None,
             },
             Place::RwLock { lock, at, .. } => match at.late_line() {
+                Some(line) => Some(line.key(lock)),
+                None => None,
+            },
+            Place::Once { lock, at } => match at.late_line() {
                 Some(line) => Some(line.key(lock)),
                 None => None,
             },

@@ -131,6 +131,7 @@ once_read (once.CallOnce false) = record { lacks = refl; read = refl }
 once_read (once.CallOnce true) = record { lacks = refl; read = refl }
 once_read (once.Wait false) = record { lacks = refl; read = refl }
 once_read (once.Wait true) = record { lacks = refl; read = refl }
+once_read once.WaitTimed = record { lacks = refl; read = refl }
 
 notify_read : (all : Bool) (m : ℕ) → IsWord (condvar_word (condvar.Notify all)) (named.Notify all)
 notify_read false m = record { lacks = refl; read = refl }

@@ -9,7 +9,7 @@ use Rattle.lot_calls.specs.declared.calls.MutexCall as mutex
 use Rattle.lot_calls.specs.declared.calls.RwLockCall.{RwLockCall}
 use Rattle.lot_calls.specs.declared.calls.RwLockCall.TheVariants.{Enter, Release, ReleaseFair, Downgrade, Upgrade, Bump}
 use Rattle.lot_calls.specs.declared.calls.OnceCall.{OnceCall}
-use Rattle.lot_calls.specs.declared.calls.OnceCall.TheVariants.{CallOnce, Wait}
+use Rattle.lot_calls.specs.declared.calls.OnceCall.TheVariants.{CallOnce, Wait, WaitTimed}
 use Rattle.lot_calls.specs.declared.calls.Access.TheVariants.{Shared, Upgradable, Exclusive}
 use Rattle.lot_calls.specs.declared.calls.Downgrade.TheVariants.{ToShared, ToUpgradable, UpgradableToShared}
 use Rattle.lot_calls.specs.declared.calls.Patience.TheVariants.{Patient, Timed, Try}
@@ -111,7 +111,8 @@ once_call_of word =
     else (if bytes_eq word (codes "call_once_force") then Some (CallOnce true)
     else (if bytes_eq word (codes "wait") then Some (Wait false)
     else (if bytes_eq word (codes "wait_force") then Some (Wait true)
-    else None)))
+    else (if bytes_eq word (codes "wait_timed") then Some WaitTimed
+    else None))))
 
 -- one that notifies who waits on a condition variable
 abbrev pub notification_of : List ℕ → Option NamedCall

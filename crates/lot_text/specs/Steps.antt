@@ -96,6 +96,7 @@ once_word (once.CallOnce false) = codes "call_once"
 once_word (once.CallOnce true) = codes "call_once_force"
 once_word (once.Wait false) = codes "wait"
 once_word (once.Wait true) = codes "wait_force"
+once_word once.WaitTimed = codes "wait_timed"
 
 abbrev pub condvar_word : CondvarCall → List ℕ
 condvar_word (condvar.Wait m false) = codes "wait"

@@ -399,6 +399,8 @@ fn once_call(word: &[u8]) -> Option<OnceCall>
         Some(OnceCall::Wait { forced: false })
     } else if is_text(word, b"wait_force") {
         Some(OnceCall::Wait { forced: true })
+    } else if is_text(word, b"wait_timed") {
+        Some(OnceCall::WaitTimed)
     } else {
         None
     }

@@ -221,6 +221,7 @@ fn once_word(call: OnceCall) -> &'static [u8]
         OnceCall::CallOnce { forced: true } => b"call_once_force",
         OnceCall::Wait { forced: false } => b"wait",
         OnceCall::Wait { forced: true } => b"wait_force",
+        OnceCall::WaitTimed => b"wait_timed",
     }
 }
 

@@ -4,7 +4,7 @@ use mathlib.Core.Logic.{dite}
 use native.Mathlib.Decide.{ℕ_discrete}
 use Rattle.lot_base.specs.Words.{apply}
 use Rattle.lot_base.specs.declared.ops.Op.{Op}
-use Rattle.lot_base.specs.declared.ops.Op.TheVariants.{Load, Swap, Exchange}
+use Rattle.lot_base.specs.declared.ops.Op.TheVariants.{Load, Swap, And, Exchange}
 use Rattle.lot_words.specs.Views.{total, owned, owning}
 use Rattle.lot_words.specs.Codes.{Owners, IsOnceWord, IsOnceCode, runner, witness}
 use Rattle.lot_words.specs.Steps.{Trade, has, HasAll, MayStep, once_trade}
@@ -14,6 +14,15 @@ use Rattle.lot_words.specs.declared.owners.Owner.TheVariants.{Runner}
 use Rattle.lot_words.specs.declared.owners.Ownership.{Ownership}
 use Rattle.lot_words.specs.declared.words.WordKind.TheVariants.{Once}
 use Rattle.lot_words.proofs.Trades.{owned_some}
+
+-- of the seven values
+pub each_once_code : (P : ℕ → Type 0) → P 0 → P 1 → P 2 → P 4 → P 8 → P 10 → P 12 → (n : ℕ) → IsOnceWord n → P n
+each_once_code P p₀ p₁ p₂ p₄ p₈ p₁₀ p₁₂ n (inl e) = subst P (sym e) p₁
+each_once_code P p₀ p₁ p₂ p₄ p₈ p₁₀ p₁₂ n (inr h) = let small = h.0 in elim h.1 [
+  | inl z ↦ dite (ℕ_discrete n 0) (λ e. subst P (sym e) p₀) (λ ne. let e : n ≡ 8 = omega arith in subst P (sym e) p₈)
+  | inr (inl z) ↦ dite (ℕ_discrete n 2) (λ e. subst P (sym e) p₂) (λ ne. let e : n ≡ 10 = omega arith in subst P (sym e) p₁₀)
+  | inr (inr z) ↦ dite (ℕ_discrete n 4) (λ e. subst P (sym e) p₄) (λ ne. let e : n ≡ 12 = omega arith in subst P (sym e) p₁₂)
+]
 
 module _ (at : ℕ) (owns : List Ownership) where
   -- what a step has to meet at a value: it leaves a value, what is done stays done, and who clears LOCKED runs it
@@ -53,6 +62,15 @@ module _ (at : ℕ) (owns : List Ownership) where
       (λ e. subst (λ (m : ℕ). Fits n m) (sym (ap (λ b. cond b to n) (eq-eqb n from e))) (subst (λ (k : ℕ). Fits k to) (sym e) (ok (subst IsOnceWord e word) (subst (λ (k : ℕ). owned at runner owns ≤ k / 4 % 2) e mine))))
       (λ ne. subst (λ (m : ℕ). Fits n m) (sym (ap (λ b. cond b to n) (ne_eqb n from ne))) (same n word)))
 
+  -- the bit is cleared, and all else stays
+  clears : (n : ℕ) → IsOnceWord n → Fits n (apply (And 18446744073709551607) n)
+  clears = each_once_code (λ n. Fits n (apply (And 18446744073709551607) n))
+      (same 0 (inr (omega arith, inl (omega arith)))) (same 1 (inl refl)) (same 2 (inr (omega arith, inr (inl (omega arith)))))
+      (same 4 (inr (omega arith, inr (inr (omega arith)))))
+      (inr (omega arith, inl (omega arith)), (λ e. absurd (omega arith)), λ l u. absurd (omega arith))
+      (inr (omega arith, inr (inl (omega arith))), (λ e. absurd (omega arith)), λ l u. absurd (omega arith))
+      (inr (omega arith, inr (inr (omega arith))), (λ e. absurd (omega arith)), λ l u. absurd (omega arith))
+
   pub once_steps_at : OnceSteps at owns
   once_steps_at = record {
     load = once_step Load (λ n word mine. same n word);
@@ -62,6 +80,7 @@ module _ (at : ℕ) (owns : List Ownership) where
       | inr (inl z) ↦ (inr (omega arith, inr (inl (omega arith))), (λ e. absurd (omega arith)), λ l u. absurd (omega arith))
       | inr (inr z) ↦ (inr (omega arith, inr (inr (omega arith))), (λ e. absurd (omega arith)), λ l u. absurd (omega arith))
     ]);
+    clear_parked = once_step (And 18446744073709551607) (λ n word mine. clears n word);
     finish = λ m which there. let some : 0 < owned at runner owns = owned_some at Runner owns there runner (omega arith) in once_step (Swap m) (λ n word mine. (elim which [ inl z ↦ inl z | inr z ↦ inr (omega arith, inr (inl (omega arith))) ], (λ e. absurd (omega arith)), λ l z. there));
   }
 

@@ -93,6 +93,7 @@ pub record OnceSteps (at : ℕ) (owns : List Ownership) : Type 0 where
       → MayStep Once at (Exchange s (s / 8 * 8 + 4)) owns
   pub set_parked : (s : ℕ) → (s ≡ 0) ⊎ ((s ≡ 2) ⊎ (s ≡ 4))
       → MayStep Once at (Exchange s (s + 8)) owns
+  pub clear_parked : MayStep Once at (And 18446744073709551607) owns
   -- who runs it leaves it done or poisoned
   pub finish : (m : ℕ) → (m ≡ 1) ⊎ (m ≡ 2) → has (owning at Runner) owns ≡ true
       → MayStep Once at (Swap m) owns

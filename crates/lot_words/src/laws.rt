@@ -20,8 +20,8 @@ pub fn rwlock_may_step()
     ensures { RwLockMaySteps }
 {}
 
-/// A `Once`'s word may be loaded, taken where nobody runs it and it isn't done, and marked as
-/// parked by anybody, and left done or poisoned by who runs it.
+/// A `Once`'s word may be loaded, taken where nobody runs it and it isn't done, marked as parked
+/// and cleared of that by anybody, and left done or poisoned by who runs it.
 pub fn once_may_step()
     ensures { OnceMaySteps }
 {}

@@ -1,7 +1,7 @@
 -- The calls of a condition variable: the words on which they step, and that none runs a closure.
 use Rattle.std.proofs.Common.{ℕ, ◌≡◌, ◌≢◌, ◌==◌, Bool, true, false, List, Some, cond, if◌then◌else◌, sym, refl, ap, ◌∙◌, ne_eqb, eq-eqb}
 use Rattle.lot_calls.specs.declared.outcomes.OnceState.{OnceState}
-use Rattle.lot_calls.specs.declared.calls.OnceCall.TheVariants.{CallOnce}
+use Rattle.lot_calls.specs.declared.calls.OnceCall.TheVariants.{CallOnce, WaitTimed}
 use Rattle.lot_acts.specs.declared.acts.Act as act
 use Rattle.lot_condvar.specs.declared.places.CondvarPlace.TheVariants.{Wait, Look, Notify}
 use Rattle.lot_condvar.specs.declared.notify.NotifyAt.{NotifyAt}
@@ -55,6 +55,7 @@ wait_never_pauses up base c m timed (Once l (once.Run forced (run.Close succeede
 wait_never_pauses up base c m timed (Once l (once.Run forced (run.Enter succeeded))) state st s = let aim : of_run l succeeded ≡ of_wait c m timed = s.1 in cc
 wait_never_pauses up base c m timed (Once l (once.Run forced (run.Take succeeded))) state st s = let aim : of_run l succeeded ≡ of_wait c m timed = s.1 in cc
 wait_never_pauses up base c m timed (Once l (once.Run forced (run.Leave succeeded any))) state st s = let aim : of_run l succeeded ≡ of_wait c m timed = s.1 in cc
+wait_never_pauses up base c m timed (Once l (once.GiveUp retries at)) state st s = let aim : of_once l WaitTimed ≡ of_wait c m timed = s.1 in cc
 wait_never_pauses up base c m timed (Condvar l (Wait m2 timed2 w)) state st s = wait_no_closure l m2 timed2 state up base w st s.0 s.2
 wait_never_pauses up base c m timed (Condvar l (Look all)) state st s = s.0
 wait_never_pauses up base c m timed (Condvar l (Notify all m2 at)) state st s = let aim : of_notify l m2 all ≡ of_wait c m timed = s.1 in cc
@@ -76,6 +77,7 @@ notify_never_pauses up base c m all (Once l (once.Run forced (run.Close succeede
 notify_never_pauses up base c m all (Once l (once.Run forced (run.Enter succeeded))) state st s = let aim : of_run l succeeded ≡ of_notify c m all = s.1 in cc
 notify_never_pauses up base c m all (Once l (once.Run forced (run.Take succeeded))) state st s = let aim : of_run l succeeded ≡ of_notify c m all = s.1 in cc
 notify_never_pauses up base c m all (Once l (once.Run forced (run.Leave succeeded any))) state st s = let aim : of_run l succeeded ≡ of_notify c m all = s.1 in cc
+notify_never_pauses up base c m all (Once l (once.GiveUp retries at)) state st s = let aim : of_once l WaitTimed ≡ of_notify c m all = s.1 in cc
 notify_never_pauses up base c m all (Condvar l (Wait m2 timed2 w)) state st s = wait_no_closure l m2 timed2 state up base w st s.0 s.2
 notify_never_pauses up base c m all (Condvar l (Look all2)) state st s = s.0
 notify_never_pauses up base c m all (Condvar l (Notify all2 m2 n)) state st s = notify_no_closure l m2 state all2 n s.2

@@ -2,6 +2,7 @@
 mod cells;
 mod crowds;
 mod meets;
+mod timed;
 
 ghost use Rattle.std.specs.Prelude.{◌≡◌, ◌<◌, ◌≤◌, All, IfSome};
 ghost use Rattle.std.specs.Arc.{arc_value};

@@ -1,19 +1,21 @@
 -- What a thread knows and owns behind a call of a `Once`.
-use Rattle.std.proofs.Common.{ℕ, zero, suc, ◌≡◌, Bool, true, false, List, ◌∷◌, None, refl, sym, ap, ◌∙◌, subst}
+use Rattle.std.proofs.Common.{ℕ, zero, suc, ◌≡◌, Bool, true, false, List, ◌∷◌, Option, None, refl, sym, ap, ◌∙◌, subst}
 use Rattle.abstract_locks.specs.Codes.{is_done}
 use Rattle.lot_acts.specs.declared.acts.Act.{Act}
 use Rattle.lot_acts.specs.declared.acts.Reply.TheVariants.{Value}
 use Rattle.lot_calls.specs.declared.calls.OnceCall.{OnceCall}
 use Rattle.lot_calls.specs.declared.outcomes.Answer.{Answer}
 use Rattle.lot_calls.specs.declared.outcomes.Answer.TheVariants as answers
+use Rattle.lot_once.specs.OnceSteps.{is_timed, when_done}
 use Rattle.lot_words.specs.Steps.{has, without}
 use Rattle.lot_words.specs.Views.{owning}
 use Rattle.lot_words.specs.declared.owners.Owner.TheVariants.{Runner, Witness}
 use Rattle.lot_words.specs.declared.owners.Ownership.{Ownership}
 use Rattle.lot_words.proofs.RwLockOwning.{first_goes, has_first}
+use Rattle.parking_lot_core.specs.declared.tokens.SectionRecord.{SectionRecord}
 use Rattle.parking_lot_core.specs.declared.tokens.Token.{Token}
 use Rattle.parking_lot_core.specs.Tokens.{last_of}
-use Rattle.lot_calls.specs.declared.calls.OnceCall.TheVariants.{CallOnce, Wait}
+use Rattle.lot_calls.specs.declared.calls.OnceCall.TheVariants.{CallOnce, Wait, WaitTimed}
 use Rattle.lot_calls.specs.declared.outcomes.OnceState.{OnceState}
 use Rattle.lot_steps.specs.Steps.{next_place}
 use Rattle.lot_driver.specs.Fitting.{ReachedBy, aim_of, answer_of}
@@ -23,10 +25,19 @@ use Rattle.lot_driver.specs.Stages.{stage_of}
 use Rattle.lot_driver.specs.Telling.{owns_of, steps_of}
 use Rattle.run_once.specs.OnceCalls.{Closes, ComesTo, EndsRun, HasSeen, LookOwns, LooksBy, in_closure, once_begin}
 use Rattle.run_once.specs.declared.once_calls.Look.TheVariants.{Ended}
-use Rattle.run_once.specs.Looks.{Began, CameTo, FoundDone, Tells, is_ok}
+use Rattle.run_once.specs.Looks.{Began, CameTo, FoundDone, came_by}
 use Rattle.run_once.specs.Ran.{HasLooked, HasRun}
-use Rattle.run_once.specs.declared.once.Came.TheVariants.{Done, Poisoned}
 use Rattle.run_once.proofs.OnceCalling.{done_ends, looks_ended}
+
+untimed : (c : OnceCall) → is_timed c ≡ false → when_done c ≡ answers.Ok
+untimed (CallOnce forced) e = refl
+untimed (Wait forced) e = refl
+untimed WaitTimed e = absurd cc
+
+timed : (c : OnceCall) → is_timed c ≡ true → when_done c ≡ answers.Yes
+timed (CallOnce forced) e = absurd cc
+timed (Wait forced) e = absurd cc
+timed WaitTimed e = refl
 
 module _ (n : ℕ) where
   abbrev run : Ownership
@@ -53,31 +64,26 @@ module _ (n : ℕ) where
   behind_run s base mid owns r b = let rest : without (owning (once_at n) Runner) mid ≡ knowing n r.1.0 base = ap (without (owning (once_at n) Runner)) r.2 ∙ first_goes (once_at n) Runner r.0 ∙ r.1.1 in
       let behind = on_base s base owns r.1.0 (subst (λ (l : List Ownership). OwnsBehind n s l owns) rest b) in (behind, stays_of s base owns behind)
 
-  answer_stays : (c : OnceCall) (base owns : List Ownership) (answer : Answer) → LooksAnswer n c base answer owns → OwnsKnowing n base owns
-  answer_stays c base owns answers.Ok h = (suc h.0, h.1)
-  answer_stays c base owns answers.Poisoned h = h.1
-  answer_stays c base owns answer h = absurd h
+  answer_stays : (up : Type 0) (c : OnceCall) (base owns : List Ownership) (answer : Answer) (last : Option SectionRecord) → LooksAnswer up n c base answer owns last → OwnsKnowing n base owns
+  answer_stays up c base owns answers.Ok last h = (suc h.1.0, h.1.1)
+  answer_stays up c base owns answers.Yes last h = (suc h.1.0, h.1.1)
+  answer_stays up c base owns answers.No last h = h.2
+  answer_stays up c base owns answers.Poisoned last h = h.1
+  answer_stays up c base owns answer last h = absurd h
 
-  answer_tells : (c : OnceCall) (answer : Answer) (old new : Token) → LooksAnswer n c (owns_of old) answer (owns_of new) → Tells n c (is_ok answer) answer old new
-  answer_tells c answers.Ok old new h = (refl, h)
-  answer_tells c answers.Poisoned old new h = (refl, h.0)
-  answer_tells c answer old new h = absurd h
-
-  -- a call that ran nothing, by whether it found it done
-  pub came_done : (c : OnceCall) (old new : Token) (answer : Answer) → new.number ≡ old.number → LooksBy n c (Ended answer) (steps_of old) (steps_of new) → LookOwns n c (Ended answer) (owns_of old) (owns_of new)
-      → is_ok answer ≡ true → CameTo n c old new Done
-  came_done c old new answer same by over ok = let t = subst (λ (b : Bool). Tells n c b answer old new) ok (answer_tells c answer old new over) in
-      ((same, answer_stays c (owns_of old) (owns_of new) answer over), subst (λ (a : Answer). HasLooked n c a old new) t.0 by, t.1)
-
-  pub came_poisoned : (c : OnceCall) (old new : Token) (answer : Answer) → new.number ≡ old.number → LooksBy n c (Ended answer) (steps_of old) (steps_of new) → LookOwns n c (Ended answer) (owns_of old) (owns_of new)
-      → is_ok answer ≡ false → CameTo n c old new Poisoned
-  came_poisoned c old new answer same by over ok = let t = subst (λ (b : Bool). Tells n c b answer old new) ok (answer_tells c answer old new over) in
-      ((same, answer_stays c (owns_of old) (owns_of new) answer over), subst (λ (a : Answer). HasLooked n c a old new) t.0 by, t.1)
+  -- a call that ran nothing, by how it ended
+  pub came : (up : Type 0) (c : OnceCall) (old new : Token) (answer : Answer) → new.number ≡ old.number → LooksBy n c (Ended answer) (steps_of old) (steps_of new)
+      → LookOwns up n c (Ended answer) (owns_of old) (owns_of new) (last_of new) → CameTo up n c old new (came_by answer)
+  came up c old new answers.Ok same by over = ((same, answer_stays up c (owns_of old) (owns_of new) answers.Ok (last_of new) over), subst (λ (a : Answer). HasLooked n c a old new) (sym (untimed c over.0)) by, over.1)
+  came up c old new answers.Yes same by over = ((same, answer_stays up c (owns_of old) (owns_of new) answers.Yes (last_of new) over), subst (λ (a : Answer). HasLooked n c a old new) (sym (timed c over.0)) by, over.1)
+  came up c old new answers.No same by over = ((same, over.2), by, over.0, over.1, over.3)
+  came up c old new answers.Poisoned same by over = ((same, over.1), by, over.0)
+  came up c old new answer same by over = absurd over
 
   -- who finds it done knows it, and any call ends with that
   pub found_done : (seen : ℕ) (old new : Token) → is_done seen ≡ true → HasSeen n seen old new → FoundDone n old new
   found_done seen old new done saw = let call = Wait true in let over = subst (λ (a : Act). ReachedBy ⊥ (owns_of old) (aim_of (once_begin n call)) (next_place (once_begin n call) (Value seen)) (answer_of a) (stage_of new None)) (done_ends n call seen done) (saw.2 call) in
-      ((saw.0, stays_of true (owns_of old) (owns_of new) over.1), over.1, λ (c : OnceCall). looks_ended n c seen (steps_of old) (steps_of new) answers.Ok saw.1 (done_ends n c seen done))
+      ((saw.0, stays_of true (owns_of old) (owns_of new) over.1.1), over.1.1, λ (c : OnceCall). looks_ended n c seen (steps_of old) (steps_of new) (when_done c) saw.1 (done_ends n c seen done))
 
   -- a call that came to its closure, and ended its run
   pub has_run_by : (forced s : Bool) (state : OnceState) (old mid new : Token) → Began n (CallOnce forced) state old mid → EndsRun n forced s (steps_of mid) (steps_of new) → Closes n s (steps_of mid) (steps_of new) (last_of new) → HasRun n forced s state old new

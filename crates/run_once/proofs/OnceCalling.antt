@@ -1,23 +1,25 @@
 -- The calls of a `Once`: what they come to, by what a run of the driver came to.
-use Rattle.std.proofs.Common.{ℕ, ◌≡◌, ◌<◌, ◌/◌, ◌%◌, Bool, true, false, List, ◌++◌, ◌⊎◌, Option, None, if◌then◌else◌, inl, inr, sym, refl, ap, subst, arith}
+use Rattle.std.proofs.Common.{ℕ, ◌≡◌, ◌<◌, ◌/◌, ◌%◌, Bool, true, false, List, ◌++◌, ◌⊎◌, Option, None, Some, if◌then◌else◌, inl, inr, sym, refl, ap, subst, arith}
 use Rattle.abstract_locks.specs.Codes.{is_done, is_marked}
 use Rattle.lot_base.specs.declared.ops.Op.TheVariants.{Load, Swap}
 use Rattle.lot_calls.specs.declared.calls.OnceCall.{OnceCall}
-use Rattle.lot_calls.specs.declared.calls.OnceCall.TheVariants.{CallOnce, Wait}
+use Rattle.lot_calls.specs.declared.calls.OnceCall.TheVariants.{CallOnce, Wait, WaitTimed}
 use Rattle.lot_calls.specs.declared.outcomes.Answer.{Answer}
-use Rattle.lot_calls.specs.declared.outcomes.Answer.TheVariants.{Ok}
+use Rattle.lot_calls.specs.declared.outcomes.Answer.TheVariants as answers
 use Rattle.lot_calls.specs.declared.outcomes.OnceState.{OnceState}
 use Rattle.lot_acts.specs.declared.acts.Act as act
 use Rattle.lot_acts.specs.declared.acts.Next as next
 use Rattle.lot_acts.specs.declared.acts.Reply.TheVariants.{Value}
 use Rattle.lot_condvar.specs.declared.places.CondvarPlace.TheVariants as waiting
-use Rattle.lot_once.specs.OnceSteps.{course_act, course_of, ended, in_run, look_act, state_before, word_behind}
+use Rattle.lot_once.specs.OnceSteps.{course_act, course_of, ended, give_up_act, in_look, in_run, look_act, looked_by, state_before, when_done, word_behind}
 use Rattle.lot_once.specs.declared.look.Course.{Course}
 use Rattle.lot_once.specs.declared.look.Course.TheVariants.{Ends, Runs, Marks, Parks}
 use Rattle.lot_once.specs.declared.look.LookAt.{LookAt}
 use Rattle.lot_once.specs.declared.look.LookAt.TheVariants as look
 use Rattle.lot_once.specs.declared.run.RunAt.TheVariants as run
-use Rattle.lot_once.specs.declared.places.OncePlace.TheVariants.{Look, Run}
+use Rattle.lot_once.specs.declared.give_up.GiveUpAt.{GiveUpAt}
+use Rattle.lot_once.specs.declared.give_up.GiveUpAt.TheVariants as give_up
+use Rattle.lot_once.specs.declared.places.OncePlace.TheVariants.{Look, Run, GiveUp}
 use Rattle.lot_steps.specs.Steps.{next_act, next_place, once_does, once_goes}
 use Rattle.lot_steps.specs.declared.places.Place.{Place}
 use Rattle.lot_steps.specs.declared.places.Place.TheVariants.{Idle, Mutex, RwLock, Once, Condvar}
@@ -32,12 +34,13 @@ use Rattle.lot_words.specs.declared.words.Word.{Word}
 use Rattle.lot_words.specs.declared.words.WordKind as kinds
 use Rattle.lot_words.proofs.Trades.{owned_some}
 use Rattle.lot_driver.specs.Fitting.{IsStopped, Reached, ReachedBy, answer_of, of_once, of_run}
-use Rattle.lot_driver.specs.OnceFitting.{OwnsBehind, OwnsRun}
+use Rattle.lot_driver.specs.OnceFitting.{LooksAnswer, OwnsBehind, OwnsRun}
 use Rattle.lot_driver.specs.Paths.{Brings, Path, Walks, at_once, once_at, onces, step, word}
 use Rattle.lot_driver.specs.Stages.{Stage, stage}
 use Rattle.lot_driver.specs.Words.{alone, at_in, kind_in}
 use Rattle.lot_driver.specs.declared.driver.Stop.TheVariants.{Paused}
-use Rattle.lot_driver.proofs.OnceLeading.{each_once_code, lands}
+use Rattle.lot_words.proofs.OnceSteps.{each_once_code}
+use Rattle.lot_driver.proofs.OnceLeading.{lands}
 use Rattle.lot_driver.proofs.Paths.{comes_here, comes_then, comes_on, ends_at_once, goes_on}
 use Rattle.lot_driver.proofs.RwLockLeading.{rwlock_no_closure}
 use Rattle.run_once.specs.OnceCalls.{ComesTo, EndsRun, in_closure, once_begin, run_end}
@@ -57,6 +60,12 @@ no_look n c (look.Leave parked) state e = cc
 no_look n c look.Asleep state e = cc
 no_look n c (look.Taken by) state e = cc
 
+-- nor does who gives up
+no_give_up : (n : ℕ) (at : GiveUpAt) (state : OnceState) → give_up_act n at ≡ act.TheVariants.Closure state → ⊥
+no_give_up n give_up.Remove state e = cc
+no_give_up n give_up.Clear state e = cc
+no_give_up n give_up.Leave state e = cc
+
 -- where a call of a `Once` has come to its closure
 pub record InClosure (n : ℕ) (c : OnceCall) (base : List Ownership) (p : Place) (state : OnceState) (st : Stage) : Type 0 where
   pub forced : Bool
@@ -66,15 +75,15 @@ pub record InClosure (n : ℕ) (c : OnceCall) (base : List Ownership) (p : Place
   pub there : p ≡ in_closure n forced poisoned
   pub owns : OwnsRun n base st.owns
 
-pub paused : (n : ℕ) (c : OnceCall) (base : List Ownership) (p : Place) (state : OnceState) (st : Stage) → IsStopped ⊥ base (of_once n c) (Paused p state) st → InClosure n c base p state st
-paused n c base Idle state st s = absurd s.0
-paused n c base (Condvar l (waiting.Wait m timed at)) state st s = let e = s.1 in absurd cc
-paused n c base (Condvar l (waiting.Look all)) state st s = absurd s.0
-paused n c base (Condvar l (waiting.Notify all m at)) state st s = let e = s.1 in absurd cc
-paused n c base (Mutex l at) state st s = let e = s.1 in absurd cc
-paused n c base (RwLock l a at) state st s = absurd (rwlock_no_closure ⊥ l a base at st state s.0 s.2)
-paused n c base (Once l (Look c2 r at)) state st s = absurd (no_look l c2 at state s.2)
-paused n c base (Once l (Run forced (run.Closure poisoned))) state st s = let aim : of_once l (CallOnce forced) ≡ of_once n c = s.1 in
+pub paused : (up : Type 0) (n : ℕ) (c : OnceCall) (base : List Ownership) (p : Place) (state : OnceState) (st : Stage) → IsStopped up base (of_once n c) (Paused p state) st → InClosure n c base p state st
+paused up n c base Idle state st s = absurd s.0
+paused up n c base (Condvar l (waiting.Wait m timed at)) state st s = let e = s.1 in absurd cc
+paused up n c base (Condvar l (waiting.Look all)) state st s = absurd s.0
+paused up n c base (Condvar l (waiting.Notify all m at)) state st s = let e = s.1 in absurd cc
+paused up n c base (Mutex l at) state st s = let e = s.1 in absurd cc
+paused up n c base (RwLock l a at) state st s = absurd (rwlock_no_closure up l a base at st state s.0 s.2)
+paused up n c base (Once l (Look c2 r at)) state st s = absurd (no_look l c2 at state s.2)
+paused up n c base (Once l (Run forced (run.Closure poisoned))) state st s = let aim : of_once l (CallOnce forced) ≡ of_once n c = s.1 in
     let same : l ≡ n = cc in let call : CallOnce forced ≡ c = cc in let is : act.TheVariants.Closure (state_before poisoned) ≡ act.TheVariants.Closure state = s.2 in
     let told : state_before poisoned ≡ state = cc in record {
       forced = forced;
@@ -84,10 +93,11 @@ paused n c base (Once l (Run forced (run.Closure poisoned))) state st s = let ai
       there = ap (λ (k : ℕ). in_closure k forced poisoned) same;
       owns = subst (λ (k : ℕ). OwnsRun k base st.owns) same s.0.0;
     }
-paused n c base (Once l (Run forced (run.Close succeeded))) state st s = absurd s.0
-paused n c base (Once l (Run forced (run.Enter succeeded))) state st s = let e = s.1 in absurd cc
-paused n c base (Once l (Run forced (run.Take succeeded))) state st s = let e = s.1 in absurd cc
-paused n c base (Once l (Run forced (run.Leave succeeded any))) state st s = let e = s.1 in absurd cc
+paused up n c base (Once l (Run forced (run.Close succeeded))) state st s = absurd s.0
+paused up n c base (Once l (Run forced (run.Enter succeeded))) state st s = let e = s.1 in absurd cc
+paused up n c base (Once l (Run forced (run.Take succeeded))) state st s = let e = s.1 in absurd cc
+paused up n c base (Once l (Run forced (run.Leave succeeded any))) state st s = let e = s.1 in absurd cc
+paused up n c base (Once l (GiveUp r at)) state st s = absurd (no_give_up l at state s.2)
 
 -- a run that has ended comes to no closure
 pub runs_out : (n : ℕ) (succeeded : Bool) (base : List Ownership) (p : Place) (state : OnceState) (st : Stage) → IsStopped ⊥ base (of_run n succeeded) (Paused p state) st → ⊥
@@ -103,6 +113,7 @@ runs_out n succeeded base (Once l (Run forced (run.Close s2))) state st s = s.0
 runs_out n succeeded base (Once l (Run forced (run.Enter s2))) state st s = let e = s.2 in cc
 runs_out n succeeded base (Once l (Run forced (run.Take s2))) state st s = let e = s.2 in cc
 runs_out n succeeded base (Once l (Run forced (run.Leave s2 any))) state st s = let e = s.2 in cc
+runs_out n succeeded base (Once l (GiveUp r at)) state st s = no_give_up l at state s.2
 
 module _ (word : Word) (is : word.kind ≡ kinds.TheVariants.Once) where
   pub once_kinds : kind_in (alone word) ≡ onces
@@ -127,14 +138,34 @@ module _ (n : ℕ) where
       word_tells c seen = word (once_begin n c) n Load seen refl
 
   -- who finds it done ends
-  pub done_ends : (c : OnceCall) (seen : ℕ) → is_done seen ≡ true → next_act (once_begin n c) (Value seen) ≡ act.TheVariants.End Ok
+  pub done_ends : (c : OnceCall) (seen : ℕ) → is_done seen ≡ true → next_act (once_begin n c) (Value seen) ≡ act.TheVariants.End (when_done c)
   done_ends (CallOnce forced) seen e = rw e refl
   done_ends (Wait forced) seen e = rw e refl
+  done_ends WaitTimed seen e = rw e refl
 
   -- and by how its aim goes on, it has one
-  pub on_aim : (c : OnceCall) (seen : ℕ) (base : List Ownership) (st : Stage) → answer_of (next_act (once_begin n c) (Value seen)) ≡ None → Reached ⊥ base (once_begin n c) (Value seen) st
-      → ReachedBy ⊥ base (of_once n c) (next_place (once_begin n c) (Value seen)) None st
-  on_aim c seen base st none reached = subst (λ (o : Option Answer). ReachedBy ⊥ base (of_once n c) (next_place (once_begin n c) (Value seen)) o st) none reached
+  pub on_aim : (up : Type 0) (c : OnceCall) (seen : ℕ) (base : List Ownership) (st : Stage) → answer_of (next_act (once_begin n c) (Value seen)) ≡ None → Reached ⊥ base (once_begin n c) (Value seen) st
+      → ReachedBy up base (of_once n c) (next_place (once_begin n c) (Value seen)) None st
+  on_aim up c seen base st none reached = by_course (course_of c seen) (subst (λ (o : Option Answer). ReachedBy ⊥ base (of_once n c) (next_place (once_begin n c) (Value seen)) o st) none reached)
+    where
+      by_course : (k : Course) → ReachedBy ⊥ base (of_once n c) (once_goes n (in_look c false (looked_by seen k))) None st
+          → ReachedBy up base (of_once n c) (once_goes n (in_look c false (looked_by seen k))) None st
+      by_course (Ends answer) h = absurd h.0
+      by_course Runs h = h
+      by_course Marks h = h
+      by_course Parks h = h
+
+  -- and what it owns where it ends
+  pub ends_by : (up : Type 0) (c : OnceCall) (seen : ℕ) (base : List Ownership) (st : Stage) (answer : Answer) → answer_of (next_act (once_begin n c) (Value seen)) ≡ Some answer → Reached ⊥ base (once_begin n c) (Value seen) st
+      → LooksAnswer up n c base answer st.owns st.last
+  ends_by up c seen base st answer some reached = by_answer answer (subst (λ (o : Option Answer). ReachedBy ⊥ base (of_once n c) (next_place (once_begin n c) (Value seen)) o st) some reached).1
+    where
+      by_answer : (answer : Answer) → LooksAnswer ⊥ n c base answer st.owns st.last → LooksAnswer up n c base answer st.owns st.last
+      by_answer answers.Ok h = h
+      by_answer answers.Yes h = h
+      by_answer answers.No h = absurd h.1
+      by_answer answers.Poisoned h = h
+      by_answer answer h = absurd h
 
   -- what is owned behind the step that ends a run
   abbrev Behind : Bool → List Ownership → ℕ → Type 0

@@ -54,10 +54,11 @@ LooksBy n c (Runs state) old new = (forced : Bool) × (poisoned : Bool) × (c �
     × (state ≡ state_before poisoned)
     × ComesTo n (once_begin n c) old new (in_closure n forced poisoned)
 
--- and its thread owns so much then
-abbrev pub LookOwns : ℕ → OnceCall → Look → List Ownership → List Ownership → Type 0
-LookOwns n c (Ended answer) base owns = LooksAnswer n c base answer owns
-LookOwns n c (Runs state) base owns = OwnsRun n base owns
+-- and its thread owns so much then, and has left this section last; `up` says that its time is up
+abbrev pub LookOwns : Type 0 → ℕ → OnceCall → Look → List Ownership → List Ownership
+    → Option SectionRecord → Type 0
+LookOwns up n c (Ended answer) base owns last = LooksAnswer up n c base answer owns last
+LookOwns up n c (Runs state) base owns last = OwnsRun n base owns
 
 -- who saw waiters left the section in which it took all of them, and else there was no further step
 abbrev pub WokeIfMarked : ℕ → Bool → List WordStep → Option SectionRecord → Type 0

@@ -85,6 +85,12 @@ CalledOnce n forced ran old new (Err (Refused fault)) = (forced ≡ false) × (f
 CalledOnce n forced ran old new (Err (Failed error)) =
     (state : OnceState) × ran state (Err error) × HasRun n forced false state old new
 
+-- what a wait with a deadline answers
+abbrev pub timed_answer : Result Bool Fault → Answer
+timed_answer (Ok true) = answers.Yes
+timed_answer (Ok false) = answers.No
+timed_answer (Err fault) = answers.Poisoned
+
 -- and of one that waits
 abbrev pub Waited : ℕ → Token → Token → Result (Unit {0}) Fault → Type 0
 Waited n old new (Ok done) = SawDone n old new × HasLooked n (Wait false) answers.Ok old new

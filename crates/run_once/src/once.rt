@@ -1,7 +1,9 @@
 //! `Once`, and its calls.
-ghost use Rattle.std.specs.Prelude.{◌≡◌, ◌≢◌, ◌⊎◌, ◌<◌, ◌*◌, ◌∷◌, [], ℕ, List, true, false, MatchResult};
+ghost use Rattle.std.specs.Prelude.{◌≡◌, ◌≢◌, ◌⊎◌, ◌<◌, ◌*◌, ◌∷◌, [], ℕ, List, true, false, IfErr, IfOk, MatchResult};
 ghost use Rattle.std.specs.Arc.{arc_value};
+ghost use Rattle.std.specs.Duration.{as_nanos};
 ghost use Rattle.abstract_locks.specs.Codes.{is_done};
+ghost use Rattle.lot_base.specs.Clocks.{HasElapsed, HasPassed, IsUp};
 ghost use Rattle.lot_calls.specs.declared.calls.OnceCall.TheVariants as calls;
 ghost use Rattle.lot_calls.specs.declared.outcomes.Answer.TheVariants as answers;
 ghost use Rattle.lot_words.specs.Draws.{IsDrawn, IsDrawRefused};
@@ -11,19 +13,22 @@ ghost use Rattle.lot_words.specs.declared.owners.Ownership.{Ownership};
 ghost use Rattle.parking_lot_core.specs.Tokens.{IsTokenOf, last_of, view_of};
 ghost use Rattle.lot_driver.specs.Drawing.{FoundFull};
 ghost use Rattle.lot_driver.specs.OnceFitting.{OwnsBehind, OwnsKnowing, OwnsRun};
+ghost use Rattle.lot_driver.specs.Stages.{TookNobodyAt};
 ghost use Rattle.lot_driver.specs.Telling.{owns_of, steps_of};
 ghost use Rattle.parking_lot_core.specs.declared.tokens.Token.{Token};
 ghost use Rattle.run_once.specs.OnceCalls.{Closes, EndsRun, HasSeen};
-ghost use Rattle.run_once.specs.Looks.{CameTo, FoundDone, is_ok};
+ghost use Rattle.run_once.specs.Looks.{CameTo, FoundDone, came_by};
 
 use crate::once_calls::{Look, begin, begin_behind, close};
 use lot_acts::bits::{is_done, is_poisoned, is_running};
-use lot_base::main_key;
+use lot_base::{main_key, to_deadline};
 use lot_calls::{Answer, OnceCall, OnceState};
+use lot_driver::driver::NO_LIMIT;
 use lot_once::{DONE, RUNNING};
 use lot_words::laws::once_may_step;
-use parking_lot_core::{Fault, Key, Op, ParkingLot, Token, Word, WordKind};
+use parking_lot_core::{Clock, Fault, Key, Op, ParkingLot, Token, Word, WordKind};
 use std::sync::{Arc, Wait};
+use std::time::Duration;
 use thiserror::Error;
 
 /// Why a call of a `Once` came to no end that is done.
@@ -42,6 +47,8 @@ pub enum OnceFault<E> {
 enum Came {
     Done,
     Poisoned,
+    /// Its time was up.
+    Late,
     Runs(OnceState),
 }
 
@@ -57,14 +64,18 @@ pub struct Once {
         × (word.number < 9223372036854775808) },
 }
 
-fn is_ok(answer: Answer) -> bool
-    ensures { result ≡ is_ok answer }
+fn came_by(answer: Answer) -> Came
+    ensures { result ≡ came_by answer }
 {
-    matches!(answer, Answer::Ok)
+    match answer {
+        Answer::Ok | Answer::Yes => Came::Done,
+        Answer::No => Came::Late,
+        _ => Came::Poisoned,
+    }
 }
 
 impl Once {
-    ghost use Rattle.run_once.specs.Ran.{CalledOnce, DrewUsed, HasLooked, Loaded, MissedStart, SawDone, StaysKnowing, Waited, state_of};
+    ghost use Rattle.run_once.specs.Ran.{CalledOnce, DrewUsed, HasLooked, Loaded, MissedStart, SawDone, StaysKnowing, Waited, state_of, timed_answer};
     ghost use Rattle.run_once.specs.Users.{lot_of, number_of};
 
     /// A `Once` that has run nothing.
@@ -213,19 +224,22 @@ impl Once {
     // The rest of a call whose first step saw this, up to its end or its closure.
     #[cold]
     #[inline(never)]
-    fn go_on<R: Wait>(&self, rt: &R, token: &mut Token, call: OnceCall, seen: u64) -> Came
+    fn go_on<R: Wait, C: Clock>(
+        &self,
+        rt: &R,
+        token: &mut Token,
+        limit: Option<(&C, u64)>,
+        call: OnceCall,
+        seen: u64,
+    ) -> Came
         requires own { IsTokenOf (lot_of self.now) token.old }
         requires seen { (before : Token) × HasSeen (number_of self.now) seen before token.old }
         ensures token { IsTokenOf (lot_of self.now) token.new }
         ensures came { (before : Token) → HasSeen (number_of self.now) seen before token.old
-            → CameTo (number_of self.now) call before token.new result }
+            → CameTo (IsUp C.tells limit.entry) (number_of self.now) call before token.new result }
     {
-        match begin_behind(rt, &self.lot, token, self.word, call, seen) {
-            Look::Ended(answer) => if is_ok(answer) {
-                Came::Done
-            } else {
-                Came::Poisoned
-            },
+        match begin_behind(rt, &self.lot, token, self.word, limit, call, seen) {
+            Look::Ended(answer) => came_by(answer),
             Look::Runs(state) => Came::Runs(state),
         }
     }
@@ -266,10 +280,10 @@ impl Once {
             return Ok(());
         }
         let call = OnceCall::Wait { forced: false };
-        match self.go_on(rt, token, call, seen) {
+        match self.go_on(rt, token, NO_LIMIT, call, seen) {
             Came::Done => Ok(()),
             Came::Poisoned => Err(Fault::Poisoned),
-            Came::Runs(_) => unreachable!(),
+            Came::Late | Came::Runs(_) => unreachable!(),
         }
     }
 
@@ -288,10 +302,102 @@ impl Once {
             return;
         }
         let call = OnceCall::Wait { forced: true };
-        match self.go_on(rt, token, call, seen) {
+        match self.go_on(rt, token, NO_LIMIT, call, seen) {
             Came::Done => {}
-            Came::Poisoned | Came::Runs(_) => unreachable!(),
+            Came::Poisoned | Came::Late | Came::Runs(_) => unreachable!(),
         }
+    }
+
+    // Waits up to a deadline, or without one where that is past all that a clock tells.
+    #[inline]
+    fn wait_timed<R: Wait, C: Clock>(
+        &self,
+        rt: &R,
+        token: &mut Token,
+        limit: Option<(&C, u64)>,
+    ) -> Result<bool, Fault>
+        requires { IsTokenOf (lot_of self.now) token.old }
+        ensures token { IsTokenOf (lot_of self.now) token.new
+            × StaysKnowing (number_of self.now) token.old token.new }
+        ensures path { HasLooked (number_of self.now) calls.WaitTimed (timed_answer result)
+            token.old token.new }
+        ensures done { IfOk result (λ done. done ≡ true
+            → SawDone (number_of self.now) token.old token.new) }
+        ensures left { IfOk result (λ done. done ≡ false
+            → TookNobodyAt (number_of self.now) (last_of token.new)) }
+        ensures late { IfOk result (λ done. done ≡ false → IsUp C.tells limit.entry) }
+        ensures poisoned { IfErr result (λ fault. fault ≡ Fault.Poisoned) }
+    {
+        let seen = self.begin(token);
+        if is_done(seen) {
+            return Ok(true);
+        }
+        match self.go_on(rt, token, limit, OnceCall::WaitTimed, seen) {
+            Came::Done => Ok(true),
+            Came::Late => Ok(false),
+            Came::Poisoned => Err(Fault::Poisoned),
+            Came::Runs(_) => unreachable!(),
+        }
+    }
+
+    /// Waits until a run has succeeded. False only where so much time, in nanoseconds of the clock,
+    /// had passed.
+    ///
+    /// A time that ends past all that a `u64` tells is no limit.
+    ///
+    /// # Errors
+    ///
+    /// `Poisoned`, where the last run failed.
+    pub fn wait_for<R: Wait, C: Clock>(
+        &self,
+        rt: &R,
+        token: &mut Token,
+        clock: &C,
+        timeout: Duration,
+    ) -> Result<bool, Fault>
+        requires { IsTokenOf (lot_of self.now) token.old }
+        ensures token { IsTokenOf (lot_of self.now) token.new
+            × StaysKnowing (number_of self.now) token.old token.new }
+        ensures path { HasLooked (number_of self.now) calls.WaitTimed (timed_answer result)
+            token.old token.new }
+        ensures done { IfOk result (λ done. done ≡ true
+            → SawDone (number_of self.now) token.old token.new) }
+        ensures left { IfOk result (λ done. done ≡ false
+            → TookNobodyAt (number_of self.now) (last_of token.new)) }
+        ensures late { IfOk result (λ done. done ≡ false
+            → HasElapsed (C.tells clock.now) (as_nanos timeout)) }
+        ensures poisoned { IfErr result (λ fault. fault ≡ Fault.Poisoned) }
+    {
+        let limit = to_deadline(clock.now(), timeout);
+        self.wait_timed(rt, token, limit.map(|deadline| (clock, deadline)))
+    }
+
+    /// Waits until a run has succeeded. False only where the clock had come to the deadline.
+    ///
+    /// # Errors
+    ///
+    /// `Poisoned`, where the last run failed.
+    pub fn wait_until<R: Wait, C: Clock>(
+        &self,
+        rt: &R,
+        token: &mut Token,
+        clock: &C,
+        deadline: u64,
+    ) -> Result<bool, Fault>
+        requires { IsTokenOf (lot_of self.now) token.old }
+        ensures token { IsTokenOf (lot_of self.now) token.new
+            × StaysKnowing (number_of self.now) token.old token.new }
+        ensures path { HasLooked (number_of self.now) calls.WaitTimed (timed_answer result)
+            token.old token.new }
+        ensures done { IfOk result (λ done. done ≡ true
+            → SawDone (number_of self.now) token.old token.new) }
+        ensures left { IfOk result (λ done. done ≡ false
+            → TookNobodyAt (number_of self.now) (last_of token.new)) }
+        ensures late { IfOk result (λ done. done ≡ false
+            → HasPassed (C.tells clock.now) deadline) }
+        ensures poisoned { IfErr result (λ fault. fault ≡ Fault.Poisoned) }
+    {
+        self.wait_timed(rt, token, Some((clock, deadline)))
     }
 
     /// Runs the closure where none has succeeded yet, or waits until one has. Where one has, that
@@ -320,9 +426,10 @@ impl Once {
             return Ok(());
         }
         let call = OnceCall::CallOnce { forced: false };
-        match self.go_on(rt, token, call, seen) {
+        match self.go_on(rt, token, NO_LIMIT, call, seen) {
             Came::Done => Ok(()),
             Came::Poisoned => Err(OnceFault::Refused(Fault::Poisoned)),
+            Came::Late => unreachable!(),
             Came::Runs(_) => match f() {
                 Ok(()) => {
                     self.end_run(rt, token, false, true);
@@ -360,9 +467,9 @@ impl Once {
             return Ok(());
         }
         let call = OnceCall::CallOnce { forced: true };
-        match self.go_on(rt, token, call, seen) {
+        match self.go_on(rt, token, NO_LIMIT, call, seen) {
             Came::Done => Ok(()),
-            Came::Poisoned => unreachable!(),
+            Came::Poisoned | Came::Late => unreachable!(),
             Came::Runs(state) => match f(state) {
                 Ok(()) => {
                     self.end_run(rt, token, true, true);

@@ -1,5 +1,6 @@
 //! The calls of a `Once`: up to its closure, and from behind that to its end.
 ghost use Rattle.std.specs.Prelude.{◌≡◌, List, None, true};
+ghost use Rattle.lot_base.specs.Clocks.{IsUp};
 ghost use Rattle.lot_once.specs.OnceSteps.{word_behind};
 ghost use Rattle.lot_once.specs.declared.places.OncePlace.TheVariants.{Run};
 ghost use Rattle.lot_once.specs.declared.run.RunAt.TheVariants.{Enter};
@@ -22,7 +23,7 @@ use lot_driver::driver::{NO_LIMIT, Stop, answer_of, run};
 use lot_driver::words::Words;
 use lot_once::{DONE, OncePlace, POISONED, RunAt};
 use lot_steps::{Place, Reply, advance};
-use parking_lot_core::{Op, ParkingLot, Token, Word};
+use parking_lot_core::{Clock, Op, ParkingLot, Token, Word};
 use std::sync::Wait;
 
 /// What a call of a `Once` comes to.
@@ -44,14 +45,16 @@ pub(crate) fn begin(lot: &ParkingLot, token: &mut Token, word: Word) -> u64
     lot.load(token, word)
 }
 
-/// The rest of a call whose first step saw this, up to its closure.
+/// The rest of a call whose first step saw this, up to its closure, or up to a deadline where the
+/// call has one: any other pays no heed to it.
 #[cold]
 #[inline(never)]
-pub(crate) fn begin_behind<R: Wait>(
+pub(crate) fn begin_behind<R: Wait, C: Clock>(
     rt: &R,
     lot: &ParkingLot,
     token: &mut Token,
     word: Word,
+    limit: Option<(&C, u64)>,
     call: OnceCall,
     seen: u64,
 ) -> Look
@@ -61,7 +64,8 @@ pub(crate) fn begin_behind<R: Wait>(
     ensures path { (before : Token) → HasSeen word.number seen before token.old
         → LooksBy word.number call result (steps_of before) (steps_of token.new) }
     ensures over { (before : Token) → HasSeen word.number seen before token.old
-        → LookOwns word.number call result (owns_of before) (owns_of token.new) }
+        → LookOwns (IsUp C.tells limit.entry) word.number call result (owns_of before)
+        (owns_of token.new) (last_of token.new) }
 {
     let first = Place::Once {
         lock: word.number(),
@@ -71,7 +75,7 @@ pub(crate) fn begin_behind<R: Wait>(
     if let Some(answer) = answer_of(act) {
         return Look::Ended(answer);
     }
-    match run(rt, lot, token, Words::alone(word), NO_LIMIT, next) {
+    match run(rt, lot, token, Words::alone(word), limit, next) {
         Stop::Ended(answer) => Look::Ended(answer),
         Stop::Paused { state, .. } => Look::Runs(state),
     }

@@ -4,6 +4,7 @@ ghost use Rattle.run_once.specs.Users.{IsTicketOf, IsTokenOf, lot_of};
 
 use super::cells::shared_value_of;
 use super::meets::{call_beside, let_go, run_long, wait_beside};
+use super::timed::{fail_long, race, wait_long};
 use super::{cell_of, count_run, fail, once_of, same, seats};
 use parking_lot_core::{ParkingLot, Ticket, Token};
 use run_once::{Once, OnceCell};
@@ -32,6 +33,10 @@ pub(super) enum Part {
     /// One runs, and two come beside it until another lets the run go. An earlier run may have
     /// failed.
     Meet { poisoned: bool },
+    /// One runs, and two wait for it with a deadline that is far off, until another lets it go.
+    InTime { fails: bool },
+    /// One runs, and the others wait for it up to deadlines that are soon over, again and again.
+    Race,
 }
 
 /// What the threads tell one another.
@@ -65,6 +70,23 @@ fn take_part<R: Wait>(
             1 => call_beside(rt, once, token, told),
             2 => wait_beside(rt, once, token, told),
             _ => let_go(rt, lot, once, token, told),
+        },
+        Part::InTime { fails } => match place {
+            0 => if fails {
+                fail_long(rt, once, token, told)
+            } else {
+                run_long(rt, once, token, told)
+            },
+            1 | 2 => {
+                let wanted = if fails { "poisoned" } else { "yes" };
+                wait_long(rt, once, token, told, wanted)
+            }
+            _ => let_go(rt, lot, once, token, told),
+        },
+        Part::Race => if place == 0 {
+            run_long(rt, once, token, told)
+        } else {
+            race(rt, once, token, told)
         },
     }
 }

@@ -13,7 +13,7 @@ use std::thread::yield_now;
 
 const TURNS: usize = 1_000_000;
 
-fn await_flag<R: Wait>(rt: &R, flag: &AtomicBool) {
+pub(super) fn await_flag<R: Wait>(rt: &R, flag: &AtomicBool) {
     for _ in rt.forever() {
         if flag.load(SeqCst) {
             break;

@@ -264,10 +264,10 @@ const ONCE_CALLS: &[(&str, OnceCall)] = &[
     ),
     ("3 begin wait m", OnceCall::Wait { forced: false }),
     ("3 begin wait_force m", OnceCall::Wait { forced: true }),
+    ("3 begin wait_timed m", OnceCall::WaitTimed),
 ];
 
-/// Lines that name too few or too many locks: only a wait has a second name, and a timed one always
-/// has.
+/// Lines that name too many locks, or a mutex that is none: only a wait has a second name.
 const MALFORMED_WAITS: &[&str] = &[
     "3 begin notify_one c m",
     "3 begin lock c m",
@@ -275,7 +275,6 @@ const MALFORMED_WAITS: &[&str] = &[
     "3 begin wait c m m",
     "3 begin wait c M",
     "3 begin wait c ",
-    "3 begin wait_timed c",
     "3 go c m x y",
 ];
 

@@ -25,6 +25,7 @@ const MUTEX_CALLS: &[MutexCall] = &[
 const ONCE_CALLS: &[OnceCall] = &[
     OnceCall::CallOnce { forced: false },
     OnceCall::Wait { forced: true },
+    OnceCall::WaitTimed,
 ];
 
 const RWLOCK_CALLS: &[RwLockCall] = &[

@@ -3,7 +3,7 @@ use super::{ends_as, holds, same};
 use lot_acts::{Act, Next, Reply, Wakes};
 use lot_base::{Keys, Note, Op, Want};
 use lot_calls::{Answer, OnceCall, OnceState, Outcome};
-use lot_once::OncePlace;
+use lot_once::{NOT_MARKED, OncePlace};
 use std::process::Abort;
 
 /// What a call is told, and what it does then, where a test asks.
@@ -139,4 +139,56 @@ fn who_waits_sleeps_until_it_is_woken(rt: HostRuntime) {
     let again = onward(&rt, asleep, Reply::Woken(Note::Normal));
     holds(&rt, again.retries());
     ends_as(&rt, &again.next(Reply::Value(1)), Answer::Ok);
+}
+
+/// Where a call sleeps that has seen a run.
+fn asleep(rt: &impl Abort, call: OnceCall) -> OncePlace {
+    let decides = onward(rt, OncePlace::first(call), Reply::Value(4));
+    follow(rt, follow(rt, decides, ENTERS), FALLS_ASLEEP)
+}
+
+const LEAVES: Act = Act::Leave {
+    keys: Keys::One(6),
+    wakes: Wakes::Nobody,
+};
+
+const GIVES_UP_ALONE: &[Turn] = &[
+    (Reply::Late, Some(Act::Remove(6))),
+    (
+        Reply::Removed { none_left: true },
+        Some(Act::Word {
+            lock: 3,
+            op: Op::And(NOT_MARKED),
+        }),
+    ),
+    (Reply::Value(12), Some(LEAVES)),
+];
+
+const GIVES_UP_BESIDE: &[Turn] = &[
+    (Reply::Late, Some(Act::Remove(6))),
+    (Reply::Removed { none_left: false }, Some(LEAVES)),
+];
+
+#[test]
+fn who_has_a_deadline_gives_up_its_sleep(rt: HostRuntime) {
+    let timed = asleep(&rt, OnceCall::WaitTimed);
+    holds(&rt, timed.late_line().is_some());
+    for turns in [GIVES_UP_ALONE, GIVES_UP_BESIDE] {
+        let leaves = follow(&rt, timed, turns);
+        ends_as(&rt, &leaves.next(Reply::Done), Answer::No);
+    }
+}
+
+#[test]
+fn nobody_else_gives_up(rt: HostRuntime) {
+    let waits = asleep(&rt, OnceCall::Wait { forced: false });
+    holds(&rt, waits.late_line().is_none());
+    does(&rt, onward(&rt, waits, Reply::Late), Act::Sleep);
+}
+
+#[test]
+fn who_has_a_deadline_answers_yes_in_time(rt: HostRuntime) {
+    let looks = OncePlace::first(OnceCall::WaitTimed);
+    ends_as(&rt, &looks.next(Reply::Value(1)), Answer::Yes);
+    ends_as(&rt, &looks.next(Reply::Value(2)), Answer::Poisoned);
 }

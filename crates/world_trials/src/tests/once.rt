@@ -28,6 +28,11 @@ const WAIT_FORCED: Call = Call::Once {
     call: OnceCall::Wait { forced: true },
 };
 
+const WAIT_TIMED: Call = Call::Once {
+    lock: 0,
+    call: OnceCall::WaitTimed,
+};
+
 const POISONED: Outcome = Outcome::End(Answer::Poisoned);
 
 const RUNS_NEW: Outcome = Outcome::Closure(OnceState::New);
@@ -173,4 +178,32 @@ const BESIDE_NINE: &[Line] = &[
 #[test]
 fn a_run_beside_nine_waiters_wakes_them_all(rt: HostRuntime) {
     plays_anew(&rt, rt.alloc(), &[Kind::Once], 10, BESIDE_NINE);
+}
+
+const GIVES_UP: &[Line] = &[
+    Calls(0, RUN, RUNS_NEW),
+    Calls(1, RUN, Outcome::Sleep),
+    Calls(2, WAIT_TIMED, Outcome::Sleep),
+    Takes(1, Turn::Late, Outcome::NotNow),
+    Takes(2, Turn::Late, Outcome::Step),
+    GoesOn(2, Outcome::End(Answer::No)),
+    Shows(
+        0,
+        (
+            12,
+            Some((Owner::Running, 0)),
+            Some((1, Want::CallOnce)),
+            None,
+        ),
+    ),
+    Takes(0, Turn::Err, Outcome::Step),
+    GoesOn(0, Outcome::End(Answer::Failed)),
+    GoesOn(1, POISONED),
+    Calls(2, WAIT_TIMED, POISONED),
+    Rests(0, 2, None),
+];
+
+#[test]
+fn who_waits_with_a_deadline_leaves_the_bit_to_others(rt: HostRuntime) {
+    plays_anew(&rt, rt.alloc(), &[Kind::Once], 3, GIVES_UP);
 }

@@ -1,7 +1,7 @@
 //! Inputs that end at a malformed line, with the text that they lead to.
 
 /// Inputs that end at a malformed line, with the text that they lead to.
-pub(crate) const MALFORMED: [(&str, &str); 34] = [
+pub(crate) const MALFORMED: [(&str, &str); 35] = [
     // The form of a line.
     ("\n", "line 1 malformed\n"),
     ("threads 1\n\nlock m mutex\n", "line 2 malformed\n"),
@@ -62,8 +62,12 @@ pub(crate) const MALFORMED: [(&str, &str); 34] = [
         "line 3 malformed\n",
     ),
     (
-        "threads 1\nlock m mutex\n0 begin wait m\n0 begin notify_one m\n0 begin wait_timed m\n",
-        "0 not now\n0 not now\nline 5 malformed\n",
+        "threads 1\nlock m mutex\n0 begin wait m\n0 begin wait_timed m\n0 begin notify_one m\n!\n",
+        "0 not now\n0 not now\n0 not now\nline 6 malformed\n",
+    ),
+    (
+        "threads 1\nlock m mutex\nlock o once\n0 do wait_timed o m\n",
+        "line 4 malformed\n",
     ),
     // A condition variable has no limit, and a wait on it names its mutex alone.
     ("threads 1\nlock c condvar 1\n", "line 2 malformed\n"),

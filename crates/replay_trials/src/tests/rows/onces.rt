@@ -1,7 +1,7 @@
 //! Worked schedules of `Once`, with the text that they lead to.
 
 /// Inputs, with the text that they lead to.
-pub(crate) const ONCE_ROWS: [(&[u8], &[u8]); 4] = [
+pub(crate) const ONCE_ROWS: [(&[u8], &[u8]); 8] = [
     // A run that fails poisons, and a forced call mends.
     (
         b"threads 1
@@ -120,6 +120,127 @@ show
 0 not now
 o 1
 m 0
+",
+    ),
+    // Who waits with a deadline gives up, and leaves the word as it was.
+    (
+        b"threads 2
+lock o once
+0 do wait_timed o
+show
+0 late
+0 solo
+show
+",
+        b"0 sleep
+o 8 queue=0w
+0 step
+0 end no
+o 0
+",
+    ),
+    // It leaves the bit to those who stand in the queue still, and nobody is late who sleeps without
+    // a deadline or is awake.
+    (
+        b"threads 3
+lock o once
+0 do call_once o
+1 do call_once o
+2 do wait_timed o
+2 late
+2 solo
+show
+0 ok
+2 late
+0 solo
+1 solo
+show
+",
+        b"0 closure New
+1 sleep
+2 sleep
+2 step
+2 end no
+o 12 own=0r queue=1c
+0 step
+2 not now
+0 end ok
+1 end ok
+o 1
+",
+    ),
+    // A run ends before its time is up, and it is told how; a poisoned one it is told of at once.
+    (
+        b"threads 3
+lock o once
+0 do call_once o
+1 do wait_timed o
+2 do wait o
+2 late
+0 err
+0 solo
+1 late
+show
+1 solo
+1 do wait_timed o
+2 solo
+0 do call_once_force o
+1 do wait_timed o
+0 ok
+0 solo
+1 solo
+",
+        b"0 closure New
+1 sleep
+2 sleep
+2 not now
+0 step
+0 end failed
+1 not now
+o 2 retry=1,2
+1 end poisoned
+1 end poisoned
+2 end poisoned
+0 closure Poisoned
+1 sleep
+0 step
+0 end ok
+1 end yes
+",
+    ),
+    // Its time is up as a run has ended, before that takes it: the run takes nobody.
+    (
+        b"threads 2
+lock o once
+0 do call_once o
+1 do wait_timed o
+0 ok
+show
+1 late
+0 go
+1 go
+show
+1 go
+0 go
+1 go
+show
+0 solo
+1 do wait_timed o
+",
+        b"0 closure New
+1 sleep
+0 step
+o 1 queue=1w owe=0
+1 step
+0 not now
+1 step
+o 1 owe=0,1
+1 step
+0 not now
+1 end no
+o 1 owe=0
+0 end ok
+1 end yes
 ",
     ),
 ];

@@ -1,0 +1,173 @@
+//! Waits that have a deadline.
+ghost use Rattle.std.specs.Prelude.{◌≡◌, ◌≤◌};
+ghost use Rattle.run_once.specs.Users.{IsTokenOf, lot_of};
+
+use super::crowds::{Part, Told, play};
+use super::meets::await_flag;
+use super::{count_run, fail, once_alone, same};
+use parking_lot_core::{Clock, Fault, TickClock, Token};
+use run_once::{Once, OnceFault};
+use std::sync::Wait;
+use std::sync::atomic::AtomicUsize;
+use std::sync::atomic::Ordering::SeqCst;
+use std::time::Duration;
+
+const FAR: u64 = 1000;
+
+/// So often the waits of a race give up at least, all in all, before the run ends.
+const GIVEN_UP: usize = 20;
+
+// How it answers, in a word.
+fn told(answer: Result<bool, Fault>) -> &'static str {
+    match answer {
+        Ok(true) => "yes",
+        Ok(false) => "no",
+        Err(Fault::Poisoned) => "poisoned",
+        Err(_) => "refused",
+    }
+}
+
+// What comes of a wait of so many nanoseconds.
+fn wait_within<R: Wait>(
+    rt: &R,
+    once: &Once,
+    token: &mut Token,
+    clock: &TickClock,
+    nanos: u64,
+) -> &'static str
+    requires { IsTokenOf (lot_of once.now) token.old }
+    ensures { IsTokenOf (lot_of once.now) token.new }
+{
+    told(once.wait_for(rt, token, clock, Duration::from_nanos(nanos)))
+}
+
+// What comes of a wait up to a time.
+fn wait_before<R: Wait>(
+    rt: &R,
+    once: &Once,
+    token: &mut Token,
+    clock: &TickClock,
+    deadline: u64,
+) -> &'static str
+    requires { IsTokenOf (lot_of once.now) token.old }
+    ensures { IsTokenOf (lot_of once.now) token.new }
+{
+    told(once.wait_until(rt, token, clock, deadline))
+}
+
+// Whether the clock came to a time, and has not been looked at often since.
+fn is_just_past(clock: &TickClock, time: u64) -> bool
+    requires { time ≤ 10000 }
+{
+    let now = clock.now();
+    time < now && now < time + 10
+}
+
+#[test]
+fn who_waits_for_no_run_gives_up_in_time(rt: HostRuntime) {
+    let (once, mut token) = once_alone(&rt, rt.alloc());
+    let clock = TickClock::starting_at(FAR);
+    same(&rt, wait_within(&rt, &once, &mut token, &clock, 30), "no");
+    same(&rt, is_just_past(&clock, FAR + 30), true);
+    same(
+        &rt,
+        wait_before(&rt, &once, &mut token, &clock, FAR + 80),
+        "no",
+    );
+    same(&rt, is_just_past(&clock, FAR + 80), true);
+}
+
+#[test]
+fn who_comes_late_is_told_of_the_run_before(rt: HostRuntime) {
+    let (once, mut token) = once_alone(&rt, rt.alloc());
+    let clock = TickClock::starting_at(FAR);
+    same(&rt, fail(&rt, &once, &mut token), "failed");
+    same(
+        &rt,
+        wait_before(&rt, &once, &mut token, &clock, 0),
+        "poisoned",
+    );
+    let runs = AtomicUsize::new(0);
+    same(&rt, count_run(&rt, &once, &mut token, &runs), "poisoned");
+    same(
+        &rt,
+        wait_within(&rt, &once, &mut token, &clock, 5),
+        "poisoned",
+    );
+}
+
+#[test]
+fn a_run_is_done_past_the_deadline_too(rt: HostRuntime) {
+    let (once, mut token) = once_alone(&rt, rt.alloc());
+    let clock = TickClock::starting_at(FAR);
+    let runs = AtomicUsize::new(0);
+    same(&rt, wait_before(&rt, &once, &mut token, &clock, 0), "no");
+    same(&rt, count_run(&rt, &once, &mut token, &runs), "ok");
+    same(&rt, wait_before(&rt, &once, &mut token, &clock, 0), "yes");
+    same(&rt, wait_within(&rt, &once, &mut token, &clock, 0), "yes");
+}
+
+// A call whose closure waits to be let go, and fails.
+pub(super) fn fail_long<R: Wait>(rt: &R, once: &Once, token: &mut Token, with: &Told) -> bool
+    requires { IsTokenOf (lot_of once.now) token.old }
+    ensures { IsTokenOf (lot_of once.now) token.new }
+{
+    let answer: Result<(), OnceFault<u32>> = once.call_once(rt, token, move || {
+        with.inside.store(true, SeqCst);
+        await_flag(rt, &with.go);
+        Err(7)
+    });
+    answer.is_err()
+}
+
+// A wait beside a run whose end comes in time. Whether it is told this of the run.
+pub(super) fn wait_long<R: Wait>(
+    rt: &R,
+    once: &Once,
+    token: &mut Token,
+    with: &Told,
+    wanted: &'static str,
+) -> bool
+    requires { IsTokenOf (lot_of once.now) token.old }
+    ensures { IsTokenOf (lot_of once.now) token.new }
+{
+    await_flag(rt, &with.inside);
+    wait_before(rt, once, token, &TickClock::new(), u64::MAX) == wanted
+}
+
+// Waits beside a run again and again, and lets it go once enough waits gave up. Whether it is told
+// in the end that the run is done, and of nothing but its own time before.
+pub(super) fn race<R: Wait>(rt: &R, once: &Once, token: &mut Token, with: &Told) -> bool
+    requires { IsTokenOf (lot_of once.now) token.old }
+    ensures { IsTokenOf (lot_of once.now) token.new }
+{
+    let clock = TickClock::new();
+    await_flag(rt, &with.inside);
+    for _ in rt.forever() {
+        match wait_within(rt, once, token, &clock, 30) {
+            "no" => if with.runs.fetch_add(1, SeqCst) >= GIVEN_UP {
+                with.go.store(true, SeqCst);
+            },
+            word => return word == "yes",
+        }
+    }
+    false
+}
+
+#[test]
+fn a_run_that_ends_in_time_is_waited_for(rt: HostRuntime) {
+    let (content, done, _) = play(&rt, rt.alloc(), 4, Part::InTime { fails: false });
+    same(&rt, (content, done), (true, true));
+}
+
+#[test]
+fn who_waits_is_told_of_a_run_that_fails(rt: HostRuntime) {
+    let (content, done, _) = play(&rt, rt.alloc(), 4, Part::InTime { fails: true });
+    same(&rt, (content, done), (true, false));
+}
+
+#[test]
+fn waits_that_give_up_race_the_end_of_a_run(rt: HostRuntime) {
+    let (content, done, gave_up) = play(&rt, rt.alloc(), 5, Part::Race);
+    same(&rt, (content, done, gave_up > GIVEN_UP), (true, true, true));
+}
