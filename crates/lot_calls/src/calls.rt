@@ -87,6 +87,15 @@ pub enum OnceCall {
     WaitTimed,
 }
 
+/// The calls of a semaphore.
+#[derive(Clone, Copy, Debug, PartialEq, Eq)]
+pub enum SemaphoreCall {
+    /// Waits for a permit.
+    Acquire(Patience),
+    /// Gives a permit back, which it needs.
+    Release,
+}
+
 /// The calls of a condition variable.
 #[derive(Clone, Copy, Debug, PartialEq, Eq)]
 pub enum CondvarCall {

@@ -8,7 +8,8 @@ pub mod kinds;
 pub mod outcomes;
 
 pub use calls::{
-    Access, Call, CondvarCall, Downgrade, MutexCall, OnceCall, Patience, RwLockCall, Step, Turn,
+    Access, Call, CondvarCall, Downgrade, MutexCall, OnceCall, Patience, RwLockCall, SemaphoreCall,
+    Step, Turn,
 };
 pub use kinds::Kind;
 pub use outcomes::{Answer, OnceState, Outcome};

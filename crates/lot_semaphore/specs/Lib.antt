@@ -1,0 +1,5 @@
+pub mod SemaphoreSteps
+pub mod SemaphoreProfiles
+pub mod SemaphoreDeeds
+pub mod SemaphoreLaws
+pub mod Tended
