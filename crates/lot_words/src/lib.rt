@@ -2,6 +2,7 @@
 //! together.
 #![tactic(auto)]
 
+pub mod counted;
 pub mod draws;
 pub mod laws;
 pub mod owners;
@@ -13,6 +14,7 @@ pub mod table;
 pub mod views;
 pub mod words;
 
+pub use counted::Counted;
 pub use owners::{Owner, Ownership};
 pub use permits::OpenHeld;
 pub use rights::{Held, Right};
