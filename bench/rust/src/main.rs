@@ -1,7 +1,7 @@
 //! `lotbench` over the Rust crate `parking_lot`: the same arguments, the same line.
 
 use parking_lot::lock_api::{RawMutex as _, RawRwLock as _};
-use parking_lot::{Condvar, FairMutex, Mutex, Once, RawMutex, RawRwLock, RwLock, RwLockUpgradableReadGuard, RwLockWriteGuard};
+use parking_lot::{Condvar, FairMutex, Mutex, Once, RawMutex, RawRwLock, ReentrantMutex, RwLock, RwLockUpgradableReadGuard, RwLockWriteGuard};
 use std::hint::black_box;
 use std::process::ExitCode;
 use std::sync::atomic::{AtomicU64, Ordering::Relaxed};
@@ -15,7 +15,7 @@ const ONE_IN: u64 = 16;
 const PLACES: u64 = 16;
 const MOST_THREADS: usize = 64;
 const MOST_OPERATIONS: u64 = 1_000_000_000_000;
-const USAGE: &str = "usage: lotbench raw_mutex|raw_mutex_try|mutex|mutex_try|fair|raw_read|raw_write|read|write|rw_mix|read_recursive|upgradable|upgrade|downgrade|once|notify|notify_all|pingpong|queue|std_once THREADS N";
+const USAGE: &str = "usage: lotbench raw_mutex|raw_mutex_try|mutex|mutex_try|fair|remutex|remutex2|raw_read|raw_write|read|write|rw_mix|read_recursive|upgradable|upgrade|downgrade|once|notify|notify_all|pingpong|queue|std_once THREADS N";
 
 #[derive(Clone, Copy)]
 enum Mode {
@@ -24,6 +24,8 @@ enum Mode {
     Mutex,
     MutexTry,
     Fair,
+    Remutex,
+    Remutex2,
     RawRead,
     RawWrite,
     Read,
@@ -50,6 +52,8 @@ impl Mode {
             "mutex" => Some(Mode::Mutex),
             "mutex_try" => Some(Mode::MutexTry),
             "fair" => Some(Mode::Fair),
+            "remutex" => Some(Mode::Remutex),
+            "remutex2" => Some(Mode::Remutex2),
             "raw_read" => Some(Mode::RawRead),
             "raw_write" => Some(Mode::RawWrite),
             "read" => Some(Mode::Read),
@@ -76,6 +80,8 @@ impl Mode {
             Mode::Mutex => "mutex",
             Mode::MutexTry => "mutex_try",
             Mode::Fair => "fair",
+            Mode::Remutex => "remutex",
+            Mode::Remutex2 => "remutex2",
             Mode::RawRead => "raw_read",
             Mode::RawWrite => "raw_write",
             Mode::Read => "read",
@@ -229,6 +235,7 @@ struct Bench {
     raw: Apart<RawMutex>,
     value: Apart<Mutex<u64>>,
     fair: Apart<FairMutex<u64>>,
+    again: Apart<ReentrantMutex<u64>>,
     raw_rwlock: Apart<RawRwLock>,
     rwlock: Apart<RwLock<u64>>,
     once: Apart<Once>,
@@ -276,6 +283,22 @@ fn lock_fair(bench: &Bench, times: u64) {
     for _ in 0..times {
         let mut value = bench.fair.0.lock();
         *value = value.wrapping_add(1);
+    }
+}
+
+#[inline(never)]
+fn lock_once(bench: &Bench, times: u64) {
+    for _ in 0..times {
+        drop(bench.again.0.lock());
+    }
+}
+
+#[inline(never)]
+fn lock_again(bench: &Bench, times: u64) {
+    for _ in 0..times {
+        let outer = bench.again.0.lock();
+        drop(bench.again.0.lock());
+        drop(outer);
     }
 }
 
@@ -413,6 +436,8 @@ fn work(mode: Mode, bench: &Bench, threads: usize) -> u64 {
             Mode::Mutex => lock_value(bench, times),
             Mode::MutexTry => try_value(bench, times),
             Mode::Fair => lock_fair(bench, times),
+            Mode::Remutex => lock_once(bench, times),
+            Mode::Remutex2 => lock_again(bench, times),
             Mode::RawRead => read_raw(bench, times),
             Mode::RawWrite => write_raw(bench, times),
             Mode::Read => read_value(bench, times),
@@ -457,6 +482,7 @@ fn main() -> ExitCode {
         raw: Apart(RawMutex::INIT),
         value: Apart(Mutex::new(0)),
         fair: Apart(FairMutex::new(0)),
+        again: Apart(ReentrantMutex::new(0)),
         raw_rwlock: Apart(RawRwLock::INIT),
         rwlock: Apart(RwLock::new(0)),
         once: Apart(Once::new()),

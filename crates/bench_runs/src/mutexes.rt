@@ -6,20 +6,25 @@ ghost use Rattle.parking_lot_core.specs.Tokens.{IsTokenOf};
 
 use crate::made::{both, unless_refused};
 use parking_lot::lock_api::RawMutex as RawLock;
-use parking_lot::{FairMutex, Fault, Mutex, ParkingLot, RawMutex, Token, lock_api};
+use parking_lot::{
+    FairMutex, Fault, Mutex, ParkingLot, RawMutex, ReentrantMutex, ReentrantMutexGuard, Token,
+    lock_api,
+};
 use std::sync::{Arc, Wait};
 
-/// A mutex without a value, one with, and a fair one, of one lot.
+/// A mutex without a value, one with, a fair one and a reentrant one, of one lot.
 #[derive(Drop)]
 pub(crate) struct Mutexes {
     pub(crate) raw: RawMutex,
     pub(crate) value: Mutex<u64>,
     pub(crate) fair: FairMutex<u64>,
-    ghost together: { (lot_of value ≡ lot_of raw) × (lot_of fair ≡ lot_of raw) },
+    pub(crate) again: ReentrantMutex<u64>,
+    ghost together: { (lot_of value ≡ lot_of raw) × (lot_of fair ≡ lot_of raw)
+        × (lot_of again.0 ≡ lot_of raw) },
 }
 
 /// How many words they take of their lot.
-pub(crate) const MUTEXES: usize = 3;
+pub(crate) const MUTEXES: usize = 5;
 
 /// The mutexes, drawn from the lot.
 pub(crate) fn mutexes_of(lot: &Arc<ParkingLot>, token: &mut Token) -> Result<Mutexes, Fault>
@@ -30,8 +35,14 @@ pub(crate) fn mutexes_of(lot: &Arc<ParkingLot>, token: &mut Token) -> Result<Mut
     let raw = RawMutex::new(lot, token);
     let value = unless_refused(Mutex::new(lot, token, 0));
     let fair = unless_refused(FairMutex::new(lot, token, 0));
-    let (raw, (value, fair)) = both(raw, both(value, fair))?;
-    Ok(Mutexes { raw, value, fair })
+    let again = unless_refused(ReentrantMutex::new(lot, token, 0));
+    let ((raw, again), (value, fair)) = both(both(raw, again), both(value, fair))?;
+    Ok(Mutexes {
+        raw,
+        value,
+        fair,
+        again,
+    })
 }
 
 /// The value that was written.
@@ -130,5 +141,53 @@ pub(crate) fn try_value<M: RawLock, R: Wait>(
         let mut guard = guard_by_tries(rt, mutex, token);
         *guard = guard.wrapping_add(1);
         guard.unlock(rt, token);
+    }
+}
+
+// Once, or once more. The count is far below its limit.
+#[inline]
+fn guard_of<'a, R: Wait>(
+    rt: &R,
+    mutex: &'a ReentrantMutex<u64>,
+    token: &mut Token,
+) -> ReentrantMutexGuard<'a, u64>
+    requires { IsTokenOf (lot_of mutex.now.0) token.old }
+    ensures token { IsTokenOf (lot_of mutex.now.0) token.new }
+    ensures guard { result.mutex.now ≡ mutex.now }
+{
+    for _ in rt.forever() {
+        if let Ok(guard) = mutex.lock(rt, token) {
+            return guard;
+        }
+    }
+    unreachable!()
+}
+
+#[inline(never)]
+pub(crate) fn lock_once<R: Wait>(rt: &R, mutex: &ReentrantMutex<u64>, token: &mut Token, times: u64)
+    requires { IsTokenOf (lot_of mutex.now.0) token.old }
+    ensures { IsTokenOf (lot_of mutex.now.0) token.new }
+{
+    for _ in 0..times {
+        let guard = guard_of(rt, mutex, token);
+        guard.unlock(rt, token);
+    }
+}
+
+#[inline(never)]
+pub(crate) fn lock_again<R: Wait>(
+    rt: &R,
+    mutex: &ReentrantMutex<u64>,
+    token: &mut Token,
+    times: u64,
+)
+    requires { IsTokenOf (lot_of mutex.now.0) token.old }
+    ensures { IsTokenOf (lot_of mutex.now.0) token.new }
+{
+    for _ in 0..times {
+        let outer = guard_of(rt, mutex, token);
+        let inner = guard_of(rt, mutex, token);
+        inner.unlock(rt, token);
+        outer.unlock(rt, token);
     }
 }

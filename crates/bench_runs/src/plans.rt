@@ -16,6 +16,8 @@ pub const MODES: &[Mode] = &[
     Mode::Mutex,
     Mode::MutexTry,
     Mode::Fair,
+    Mode::Remutex,
+    Mode::Remutex2,
     Mode::RawRead,
     Mode::RawWrite,
     Mode::Read,
@@ -45,6 +47,10 @@ pub enum Mode {
     MutexTry,
     /// The lock of a value of a fair mutex, to which 1 is added, and its unlock.
     Fair,
+    /// The lock of a reentrant mutex, and its unlock.
+    Remutex,
+    /// The same twice, one inside the other.
+    Remutex2,
     /// A shared lock and its release, of a raw reader-writer lock.
     RawRead,
     /// An exclusive lock and its release, of a raw reader-writer lock.
@@ -86,6 +92,8 @@ impl Mode {
             "mutex" => Some(Mode::Mutex),
             "mutex_try" => Some(Mode::MutexTry),
             "fair" => Some(Mode::Fair),
+            "remutex" => Some(Mode::Remutex),
+            "remutex2" => Some(Mode::Remutex2),
             "raw_read" => Some(Mode::RawRead),
             "raw_write" => Some(Mode::RawWrite),
             "read" => Some(Mode::Read),
@@ -113,6 +121,8 @@ impl Mode {
             Mode::Mutex => "mutex",
             Mode::MutexTry => "mutex_try",
             Mode::Fair => "fair",
+            Mode::Remutex => "remutex",
+            Mode::Remutex2 => "remutex2",
             Mode::RawRead => "raw_read",
             Mode::RawWrite => "raw_write",
             Mode::Read => "read",

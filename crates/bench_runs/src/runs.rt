@@ -13,7 +13,8 @@ ghost use Rattle.parking_lot_core.specs.Tokens.{IsTicketOf, IsTokenOf};
 use crate::condvars::{DESK, Desk, Way, desk_for, done_at, notify_nobody, work_at};
 use crate::made::{both, boxed};
 use crate::mutexes::{
-    MUTEXES, Mutexes, lock_raw, lock_value, mutexes_of, try_raw, try_value, value_in as added_to,
+    MUTEXES, Mutexes, lock_again, lock_once, lock_raw, lock_value, mutexes_of, try_raw, try_value,
+    value_in as added_to,
 };
 use crate::plans::{Mode, Plan};
 use crate::rwlocks::{
@@ -145,6 +146,8 @@ fn operate<R: Wait>(rt: &R, mode: Mode, bench: &Bench, token: &mut Token, times:
         Mode::Mutex => lock_value(rt, &mutexes.value, token, times),
         Mode::MutexTry => try_value(rt, &mutexes.value, token, times),
         Mode::Fair => lock_value(rt, &mutexes.fair, token, times),
+        Mode::Remutex => lock_once(rt, &mutexes.again, token, times),
+        Mode::Remutex2 => lock_again(rt, &mutexes.again, token, times),
         Mode::RawRead => read_raw(rt, &rwlocks.raw, token, times),
         Mode::RawWrite => write_raw(rt, &rwlocks.raw, token, times),
         Mode::Read => read_value(rt, &rwlocks.value, token, times),
@@ -208,6 +211,8 @@ fn total_of<R: Wait>(rt: &R, mode: Mode, bench: &Bench, maker: Ticket, counts: &
         Mode::NotifyAll | Mode::PingPong | Mode::Queue => done_at(rt, &bench.desk, &mut token),
         Mode::RawMutex
         | Mode::RawMutexTry
+        | Mode::Remutex
+        | Mode::Remutex2
         | Mode::RawRead
         | Mode::RawWrite
         | Mode::Read

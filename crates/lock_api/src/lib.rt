@@ -1,4 +1,5 @@
-//! Mutexes that keep a value, over any raw mutex, and condition variables beside them.
+//! Mutexes that keep a value, over any raw mutex, and condition variables beside them. A reentrant
+//! mutex keeps one too.
 #![tactic(auto)]
 
 pub mod condvar;
@@ -7,6 +8,7 @@ pub mod guards;
 pub mod mapped;
 pub mod mutex;
 pub mod reaches;
+pub mod reentrant;
 pub mod showing;
 pub mod shows;
 pub mod taken;
@@ -14,8 +16,12 @@ pub mod waits;
 
 pub use condvar::Condvar;
 pub use guards::MutexGuard;
-pub use lock_raw::{RawCondvar, RawCondvarTimed, RawMutex, RawMutexFair, RawMutexTimed};
+pub use lock_raw::{
+    GetThreadId, RawCondvar, RawCondvarTimed, RawMutex, RawMutexCounted, RawMutexFair,
+    RawMutexTimed, advance_count,
+};
 pub use mapped::MappedMutexGuard;
 pub use mutex::Mutex;
 pub use projections::{LockName, Mapped, Project, Shown, Then, ThenError};
+pub use reentrant::{MappedReentrantMutexGuard, ReentrantMutex, ReentrantMutexGuard};
 pub use waits::WaitTimeoutResult;

@@ -1,6 +1,7 @@
-//! A shared counter, queues of workers, a try with a limit, a cache, a table that is filled once,
-//! and a value that is made once.
+//! A shared counter, queues of workers, a try with a limit, a cache, a table that is filled once, a
+//! value that is made once, and a function that locks again.
 mod cache;
+mod prices;
 mod rates;
 mod table;
 mod workers;

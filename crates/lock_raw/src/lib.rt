@@ -2,6 +2,8 @@
 #![tactic(auto)]
 
 pub mod condvar;
+pub mod counted;
+pub mod counts;
 pub mod rwlock;
 pub mod rwlock_fair;
 
@@ -17,6 +19,8 @@ ghost use Rattle.lock_raw.specs.Answers.{IsRefusal, answer_by};
 ghost use Rattle.value_place.specs.PermitIds.{PermitId};
 
 pub use condvar::{RawCondvar, RawCondvarTimed};
+pub use counted::{GetThreadId, RawMutexCounted};
+pub use counts::advance_count;
 use lot_base::{Clock, Fault};
 pub use rwlock::{
     RawRwLock, RawRwLockDowngrade, RawRwLockTimed, RawRwLockUpgrade, RawRwLockUpgradeDowngrade,
@@ -47,6 +51,11 @@ pub trait RawMutex {
     // So it does through two calls, one after the other.
     ghost stays_on: { (first next last : Self.Token) → stays first next → stays next last
         → stays first last };
+    // The number of a thread, from 0, which it keeps meanwhile.
+    ghost number_of: { Self.Token → ℕ };
+
+    ghost number_stays: { (old new : Self.Token) → stays old new
+        → number_of new ≡ number_of old };
     // A guard is of this mutex.
     ghost is_guard_of: { Self → Self.Guard → Type 0 };
     // That a guard is of a mutex has one proof at most, so a struct may keep it as a ghost field.

@@ -78,6 +78,16 @@ splits_off words family id v x there apart = splits words family id v (with_out 
   out = λ r. omega arith;
 }) (omega arith) (omega arith) (λ c. (keeps_out words v x there apart c, inl refl))
 
+-- the same of any ownership, off a seat that has no permit out
+pub splits_counted : (words family id : ℕ) (v : View) (x : Ownership) → has x v.owns ≡ true → v.out ≡ [] → Splits (LotRule words family) id v (left_over x v) (piece x)
+splits_counted words family id v x there none = splits words family id v (left_over x v) (piece x) (record {
+  names = λ r weight. omega (arith, total-without (λ (y : Ownership). cond (eqb y.at r) (weight y.owner) 0) x v.owns there);
+  says = λ r. omega (arith, total-without (λ (y : Ownership). cond (eqb y.at r) y.count 0) x v.owns there);
+  did = λ r. omega arith;
+  drawn = λ weight. omega arith;
+  out = λ r. omega (arith, none_out r v.out none);
+}) (omega arith) (omega arith) (λ c. (inl refl, inl refl))
+
 -- an owner keeps the mutex whose permit is out, and all else goes to a seat of its own
 pub keeps_owner : (words family id : ℕ) (v : View) (number : ℕ) → number < words → v.out ≡ word_index number Mutex ∷ [] → has (owning (word_index number Mutex) Exclusive) v.owns ≡ true
     → let i = word_index number Mutex in Splits (LotRule words family) id v (with_out (i ∷ []) (piece (owning i Exclusive))) (left_over (owning i Exclusive) v)

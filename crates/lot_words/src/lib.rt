@@ -2,6 +2,7 @@
 //! together.
 #![tactic(auto)]
 
+pub mod counted;
 pub mod draws;
 pub mod free;
 pub mod laws;
@@ -14,6 +15,7 @@ pub mod table;
 pub mod views;
 pub mod words;
 
+pub use counted::Counted;
 pub use owners::{Owner, Ownership};
 pub use permits::OpenHeld;
 pub use rights::{Held, Right};

@@ -58,7 +58,7 @@ impl LotWords {
 
     // None is out with it.
     #[inline]
-    fn lay_back(&self, seat: &mut Seat)
+    pub(crate) fn lay_back(&self, seat: &mut Seat)
         requires { IsSeatOf self.now seat.old }
         ensures own { IsSeatOf self.now seat.new }
         ensures laid { seat.new.me.0 ≡ shown seat.old.me.0 }

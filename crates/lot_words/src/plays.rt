@@ -221,6 +221,17 @@ impl<P: Piece> Split<View> for SplitsOff<P> {
     ghost right = { λ _. piece P.owned };
 }
 
+/// The same of a seat that has no permit out.
+pub struct SplitsCounted<P: Piece> {
+    piece: PhantomData<P>,
+}
+
+impl<P: Piece> Split<View> for SplitsCounted<P> {
+    ghost left = { left_over P.owned };
+
+    ghost right = { λ _. piece P.owned };
+}
+
 pub struct TakesIn;
 
 impl Join<View> for TakesIn {

@@ -1,5 +1,6 @@
-//! Guards of a part of a value, and the texts of locks that are shown.
+//! Guards of a part of a value, the texts of locks that are shown, and reentrant mutexes.
 mod parts;
+mod reentrant;
 mod texts;
 
 ghost use Rattle.std.specs.Prelude.{◌≡◌, ◌<◌, ◌≤◌};

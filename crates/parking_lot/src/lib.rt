@@ -3,7 +3,7 @@
 
 pub use bucket_queues::BucketQueues;
 pub use lock_api;
-pub use lock_api::WaitTimeoutResult;
+pub use lock_api::{GetThreadId, WaitTimeoutResult, advance_count};
 pub use lock_api_rw;
 pub use lot_base::{ListQueues, LockPicker, Pick, Picker, Queues, Waiter};
 pub use lot_calls::{
@@ -19,7 +19,9 @@ pub use parking_lot_core::{
     Slept, SystemClock, TickClock, Ticket, Token, Want, Word, WordKind, to_deadline,
 };
 pub use projections::{LockName, Mapped, Project, Shown, Then, ThenError};
-pub use raw_mutexes::{OpenGuard, RawCondvar, RawFairMutex, RawGuard, RawMutex};
+pub use raw_mutexes::{
+    OpenGuard, RawCondvar, RawFairMutex, RawGuard, RawMutex, RawShare, RawThreadId,
+};
 pub use raw_rwlocks::{
     RawExclusiveGuard, RawRwLock, RawRwLockRecursive, RawSharedGuard, RawUpgradableGuard,
 };
@@ -42,6 +44,21 @@ pub type FairMutexGuard<'a, T> = lock_api::MutexGuard<'a, RawFairMutex, T>;
 
 /// Guards the part of a [`FairMutex`]'s value that a projection finds.
 pub type MappedFairMutexGuard<'a, T, P> = lock_api::MappedMutexGuard<'a, RawFairMutex, T, P>;
+
+/// A mutex of a lot that its owner may lock again, with a value that is only read.
+pub type ReentrantMutex<T> = lock_api::ReentrantMutex<RawMutex, RawThreadId, T>;
+
+/// The guard of a [`ReentrantMutex`], of which its owner may have several.
+pub type ReentrantMutexGuard<'a, T> = lock_api::ReentrantMutexGuard<'a, RawMutex, RawThreadId, T>;
+
+/// Guards the part of a [`ReentrantMutex`]'s value that a projection finds, to read it.
+pub type MappedReentrantMutexGuard<'a, T, P> = lock_api::MappedReentrantMutexGuard<
+    'a,
+    RawMutex,
+    RawThreadId,
+    T,
+    P,
+>;
 
 /// Where who has the guard of a [`Mutex`] gives it up and waits to be notified.
 ///

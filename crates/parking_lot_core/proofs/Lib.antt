@@ -1,3 +1,4 @@
 mod Lists
 mod Giving
 mod Sleeps
+mod Counting

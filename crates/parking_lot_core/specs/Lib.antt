@@ -3,3 +3,4 @@ pub mod Keys
 pub mod Giving
 pub mod Sections
 pub mod Sleeps
+pub mod Counts

@@ -2,6 +2,7 @@
 //! sleep.
 #![tactic(auto)]
 
+pub mod counts;
 pub mod expected;
 pub mod lot;
 pub mod pauses;
@@ -11,6 +12,7 @@ pub mod tokens;
 pub mod waiters;
 pub mod words;
 
+pub use counts::Kept;
 pub use lot::ParkingLot;
 pub use lot_base::{
     Clock, Fault, Key, Keys, Note, Op, Requeue, SystemClock, TickClock, Waiter, Want, to_deadline,

@@ -4,6 +4,7 @@ ghost use Rattle.std.specs.List.{range_with_len};
 ghost use Rattle.std.specs.Arc.{arc_value};
 ghost use Rattle.lot_words.specs.Indices.{most_words};
 
+use crate::counts::Kept;
 use crate::tokens::Ticket;
 use crate::waiters::WakeRecord;
 use crossbeam_utils::sync::{Parker, Unparker};
@@ -11,6 +12,7 @@ use keyed_locks::KeyedLocks;
 use lot_base::Fault;
 use lot_queues::Queueing;
 use lot_words::{LotWords, Seat};
+use share_rows::ShareRow;
 use std::alloc::{AllocError, Global};
 use std::sync::atomic::AtomicUsize;
 use std::sync::{Arc, Mutex};
@@ -25,9 +27,13 @@ pub struct ParkingLot {
     pub(crate) unparkers: Vec<Unparker>,
     // Of a thread that was taken, the one that was taken next with it.
     pub(crate) next_taken: Vec<AtomicUsize>,
+    // The mutexes that their owners lock again, by their numbers.
+    pub(crate) holders: ShareRow<LotWords, Kept>,
     ghost keyed: { records.table.shared.key ≡ words },
+    ghost kept: { (holders.table.shared.key ≡ words) × (holders.count ≡ words.count) },
     ghost for_each_seat: { (length unparkers.items ≡ records.count)
         × (length next_taken.items ≡ records.count) },
+    ghost few: { records.count ≤ 1024 },
 }
 
 fn empty_records(
@@ -88,13 +94,15 @@ impl ParkingLot {
         seats: usize,
         queueing: Mutex<Queueing>,
     ) -> Result<(Arc<ParkingLot>, Vec<Ticket>), AllocError>
-        requires { (0 < words) × (words ≤ most_words) }
+        requires { (0 < words) × (words ≤ most_words) × (seats ≤ 1024) }
         ensures lot { IfOk result (λ made. ((arc_value made.0).words.count ≡ words)
             × ((arc_value made.0).records.count ≡ seats)) }
         ensures tickets { IfOk result (λ made. (map number_of made.1.items ≡ range_with_len 0 seats)
             × All (IsNewTicketOf (arc_value made.0)) made.1.items) }
     {
-        let (words, first) = LotWords::new(alloc, words)?;
+        let count = words;
+        let (words, first) = LotWords::new(alloc, count)?;
+        let holders = ShareRow::new(alloc, count, &words)?;
         let records = empty_records(alloc, &words, seats)?;
         let (tickets, unparkers) = ParkingLot::tickets(alloc, &words, first, seats)?;
         let lot = ParkingLot {
@@ -103,6 +111,7 @@ impl ParkingLot {
             records,
             unparkers,
             next_taken: no_links(alloc, seats)?,
+            holders,
         };
         Ok((Arc::new(alloc, lot)?, tickets))
     }

@@ -2,3 +2,4 @@ pub mod MutexGuards
 pub mod Words
 pub mod CondvarWords
 pub mod Begun
+pub mod Counting

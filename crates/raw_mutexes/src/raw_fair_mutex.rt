@@ -62,6 +62,10 @@ impl lock_raw::RawMutex for RawFairMutex {
 
     ghost stays_on = { StaysAs-on };
 
+    ghost number_of = { λ token. token.number };
+
+    ghost number_stays = { λ _ _ stays. stays.0 };
+
     ghost is_guard_of = { λ mutex guard. IsGuardOf (arc_value mutex.lot) mutex.word guard };
 
     ghost guard_once = { λ mutex guard. IsGuardOf-prop (arc_value mutex.lot) mutex.word guard };

@@ -38,7 +38,7 @@ use std::time::Duration;
 /// sum of these.
 #[derive(Drop)]
 pub struct RawMutex {
-    lot: Arc<ParkingLot>,
+    pub(crate) lot: Arc<ParkingLot>,
     pub(crate) word: Word,
     ghost drawn: { IsWordOf (arc_value lot).words word × (word.kind ≡ Mutex)
         × (word.number < 9223372036854775808) },
@@ -247,6 +247,10 @@ impl lock_raw::RawMutex for RawMutex {
     ghost stays = { λ old new. StaysAs old new };
 
     ghost stays_on = { StaysAs-on };
+
+    ghost number_of = { λ token. token.number };
+
+    ghost number_stays = { λ _ _ stays. stays.0 };
 
     ghost is_guard_of = { λ mutex guard. IsGuardOf (arc_value mutex.lot) mutex.word guard };
 

@@ -14,14 +14,14 @@ use std::process::Abort;
 use std::sync::Wait;
 
 #[derive(Drop)]
-struct Point {
-    x: u32,
-    y: u32,
+pub(super) struct Point {
+    pub(super) x: u32,
+    pub(super) y: u32,
 }
 
 // The first coordinate.
 #[derive(Clone, Copy)]
-struct TheX;
+pub(super) struct TheX;
 
 impl Project<Point> for TheX {
     type Target = u32;

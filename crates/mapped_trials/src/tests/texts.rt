@@ -12,7 +12,7 @@ use std::process::Abort;
 use std::sync::Wait;
 
 // The text of what is shown.
-fn text_of<A: Abort, T: Debug>(rt: &A, alloc: Global, shown: &T) -> String {
+pub(super) fn text_of<A: Abort, T: Debug>(rt: &A, alloc: Global, shown: &T) -> String {
     match format!(in alloc; "{shown:?}") {
         Ok(text) => text,
         Err(_) => panic!(rt; "no memory"),

@@ -1,0 +1,358 @@
+//! Mutexes that their owner locks again, tried by one thread and by two.
+ghost use Rattle.std.specs.Prelude.{◌≡◌, ◌×◌, All, IfSome};
+ghost use Rattle.std.specs.Arc.{arc_value};
+ghost use Rattle.parking_lot_core.specs.Tokens.{IsTicketOf, IsTokenOf};
+ghost use Rattle.parking_lot.specs.Users.{lot_of};
+
+use super::parts::{Point, TheX};
+use super::same;
+use super::texts::text_of;
+use parking_lot::{
+    Fault, ParkingLot, ReentrantMutex, ReentrantMutexGuard, Ticket, Token, advance_count,
+};
+use std::alloc::Global;
+use std::process::Abort;
+use std::sync::atomic::Ordering::SeqCst;
+use std::sync::atomic::{AtomicBool, AtomicU64};
+use std::sync::{Arc, Wait};
+use std::thread::{Threads, map_vec, yield_now};
+
+// A lot of two words for two threads, with the token of the first and the ticket of the other.
+fn pair<A: Abort>(rt: &A, alloc: Global) -> (Arc<ParkingLot>, Token, Vec<Ticket>)
+    ensures { IsTokenOf (arc_value result.0) result.1
+        × All (IsTicketOf (arc_value result.0)) result.2.items }
+{
+    let Ok((lot, mut tickets)) = ParkingLot::new(alloc, 2, 2) else {
+        panic!(rt; "no lot");
+    };
+    match tickets.pop() {
+        Some(first) => (lot, first.enter(), tickets),
+        None => panic!(rt; "no seat"),
+    }
+}
+
+fn reentrant<T: Drop, A: Abort>(
+    rt: &A,
+    alloc: Global,
+    value: T,
+) -> (ReentrantMutex<T>, Token, Vec<Ticket>)
+    ensures { IsTokenOf (lot_of result.0.0) result.1
+        × All (IsTicketOf (lot_of result.0.0)) result.2.items }
+{
+    let (lot, mut token, tickets) = pair(rt, alloc);
+    match ReentrantMutex::new(&lot, &mut token, value) {
+        Ok(mutex) => (mutex, token, tickets),
+        Err(_) => panic!(rt; "no reentrant mutex"),
+    }
+}
+
+// The guard of one lock more.
+fn locked<'a, T, R: Wait + Abort>(
+    rt: &R,
+    mutex: &'a ReentrantMutex<T>,
+    token: &mut Token,
+) -> ReentrantMutexGuard<'a, T>
+    requires { IsTokenOf (lot_of mutex.now.0) token.old }
+    ensures token { IsTokenOf (lot_of mutex.now.0) token.new }
+    ensures guard { result.mutex.now ≡ mutex.now }
+{
+    match mutex.lock(rt, token) {
+        Ok(guard) => guard,
+        Err(_) => panic!(rt; "full"),
+    }
+}
+
+// Whether a try gets the mutex, and what it got.
+fn tried<'a, T, R: Wait + Abort>(
+    rt: &R,
+    mutex: &'a ReentrantMutex<T>,
+    token: &mut Token,
+) -> Option<ReentrantMutexGuard<'a, T>>
+    requires { IsTokenOf (lot_of mutex.now.0) token.old }
+    ensures token { IsTokenOf (lot_of mutex.now.0) token.new }
+    ensures guard { IfSome result (λ guard. guard.mutex.now ≡ mutex.now) }
+{
+    match mutex.try_lock(rt, token) {
+        Ok(taken) => taken,
+        Err(_) => panic!(rt; "full"),
+    }
+}
+
+// Unlocks what a try got. Whether that was a guard.
+fn given_up<T, R: Wait>(
+    rt: &R,
+    mutex: &ReentrantMutex<T>,
+    token: &mut Token,
+    taken: Option<ReentrantMutexGuard<'_, T>>,
+) -> bool
+    requires { IsTokenOf (lot_of mutex.now.0) token.old
+        × IfSome taken (λ guard. guard.mutex.now ≡ mutex.now) }
+    ensures { IsTokenOf (lot_of mutex.now.0) token.new }
+{
+    match taken {
+        Some(guard) => {
+            guard.unlock(rt, token);
+            true
+        }
+        None => false,
+    }
+}
+
+fn tried_by_two<R: Wait + Abort>(
+    rt: &R,
+    mutex: &ReentrantMutex<u8>,
+    one: &mut Token,
+    other: &mut Token,
+) -> [bool; 5]
+    requires { IsTokenOf (lot_of mutex.now.0) one.old × IsTokenOf (lot_of mutex.now.0) other.old }
+{
+    let first = tried(rt, mutex, one);
+    let again = tried(rt, mutex, one);
+    let beside = tried(rt, mutex, other);
+    let once_more = tried(rt, mutex, one);
+    let first = given_up(rt, mutex, one, first);
+    let beside = given_up(rt, mutex, other, beside);
+    let once_more = given_up(rt, mutex, one, once_more);
+    let again = given_up(rt, mutex, one, again);
+    let later = tried(rt, mutex, other);
+    [
+        first,
+        again,
+        beside,
+        once_more,
+        given_up(rt, mutex, other, later),
+    ]
+}
+
+#[test]
+fn tries_of_the_owner_succeed_and_of_others_fail(rt: HostRuntime) {
+    let (mutex, mut one, mut tickets) = reentrant(&rt, rt.alloc(), 7);
+    if let Some(ticket) = tickets.pop() {
+        let mut other = ticket.enter();
+        let found = tried_by_two(&rt, &mutex, &mut one, &mut other);
+        same(&rt, found, [true, true, false, true, true]);
+    }
+    same(&rt, mutex.into_inner(), 7);
+}
+
+// Locks so often, each time inside the last, reads, and unlocks as often.
+fn nested<R: Wait + Abort>(
+    rt: &R,
+    mutex: &ReentrantMutex<u64>,
+    token: &mut Token,
+    times: u64,
+) -> u64
+    requires { IsTokenOf (lot_of mutex.now.0) token.old }
+    ensures { IsTokenOf (lot_of mutex.now.0) token.new }
+{
+    let outer = locked(rt, mutex, token);
+    let mut sum = 0u64;
+    for _ in 0..times {
+        let inner = locked(rt, mutex, token);
+        sum = sum.wrapping_add(*inner);
+        inner.unlock(rt, token);
+    }
+    outer.unlock_fair(rt, token);
+    sum
+}
+
+#[test]
+fn one_thread_locks_many_times(rt: HostRuntime) {
+    let (mutex, mut token, _others) = reentrant(&rt, rt.alloc(), 3);
+    same(&rt, nested(&rt, &mutex, &mut token, 1000), 3000);
+    same(&rt, nested(&rt, &mutex, &mut token, 1), 3);
+}
+
+// Bumps an only guard, and one beside another. Whether the mutex is this thread's still.
+fn bumped<R: Wait + Abort>(rt: &R, mutex: &ReentrantMutex<u64>, token: &mut Token) -> bool
+    requires { IsTokenOf (lot_of mutex.now.0) token.old }
+{
+    let guard = locked(rt, mutex, token).bump(rt, token);
+    let inner = locked(rt, mutex, token).bump(rt, token);
+    let is_ours = *guard == *inner;
+    inner.unlock(rt, token);
+    guard.unlock(rt, token);
+    is_ours
+}
+
+#[test]
+fn a_bump_keeps_the_mutex_where_nobody_waits(rt: HostRuntime) {
+    let (mutex, mut token, _others) = reentrant(&rt, rt.alloc(), 3);
+    same(&rt, bumped(&rt, &mutex, &mut token), true);
+}
+
+#[test]
+fn counts_name_their_thread_up_to_the_limit(rt: HostRuntime) {
+    same(&rt, advance_count(0, 0), Ok(4294967297));
+    same(&rt, advance_count(0, 2), Ok(12884901889));
+    same(&rt, advance_count(4294967297, 0), Ok(4294967298));
+    same(&rt, advance_count(8589934590, 0), Ok(8589934591));
+    same(&rt, advance_count(8589934591, 0), Err(Fault::LockCountFull));
+}
+
+// The texts of a mutex that this thread has, and that another has.
+fn shown_to_two<R: Wait + Abort>(
+    rt: &R,
+    alloc: Global,
+    mutex: &ReentrantMutex<[u8; 2]>,
+    one: &mut Token,
+    other: &mut Token,
+) -> (String, String)
+    requires { IsTokenOf (lot_of mutex.now.0) one.old × IsTokenOf (lot_of mutex.now.0) other.old }
+{
+    let guard = locked(rt, mutex, one);
+    let shown = mutex.show(rt, one);
+    let own = text_of(rt, alloc, &shown);
+    shown.close(rt, one);
+    let shown = mutex.show(rt, other);
+    let others = text_of(rt, alloc, &shown);
+    shown.close(rt, other);
+    guard.unlock(rt, one);
+    (own, others)
+}
+
+#[test]
+fn a_reentrant_mutex_shows_its_value_to_its_owner(rt: HostRuntime) {
+    let (mutex, mut one, mut tickets) = reentrant(&rt, rt.alloc(), [0, 10]);
+    if let Some(ticket) = tickets.pop() {
+        let mut other = ticket.enter();
+        let (own, others) = shown_to_two(&rt, rt.alloc(), &mutex, &mut one, &mut other);
+        same(&rt, own.as_str(), "ReentrantMutex { data: [0, 10] }");
+        same(&rt, others.as_str(), "ReentrantMutex { data: <locked> }");
+    }
+}
+
+// Reads a part through one guard while another is there.
+fn part_of<R: Wait + Abort>(rt: &R, mutex: &ReentrantMutex<Point>, token: &mut Token) -> u32
+    requires { IsTokenOf (lot_of mutex.now.0) token.old }
+{
+    let whole = locked(rt, mutex, token);
+    let part = locked(rt, mutex, token).map(TheX);
+    let seen = *part;
+    whole.unlock(rt, token);
+    part.unlock_fair(rt, token);
+    seen
+}
+
+#[test]
+fn a_part_of_a_reentrant_value_is_read(rt: HostRuntime) {
+    let (mutex, mut token, _others) = reentrant(&rt, rt.alloc(), Point { x: 3, y: 5 });
+    same(&rt, part_of(&rt, &mutex, &mut token), 3);
+}
+
+// Adds to a number with a load and a store, under two guards, of which the first goes first.
+fn add_under<R: Wait + Abort>(rt: &R, mutex: &ReentrantMutex<AtomicU64>, token: &mut Token, by: u64)
+    requires { IsTokenOf (lot_of mutex.now.0) token.old }
+    ensures { IsTokenOf (lot_of mutex.now.0) token.new }
+{
+    let first = locked(rt, mutex, token);
+    let second = locked(rt, mutex, token);
+    let sum = second.load(SeqCst).wrapping_add(by);
+    first.unlock(rt, token);
+    second.store(sum, SeqCst);
+    second.unlock(rt, token);
+}
+
+// Tells that it has the mutex, and adds 0 to 99 while it has.
+fn add_while_held<R: Wait + Abort>(
+    rt: &R,
+    mutex: &ReentrantMutex<AtomicU64>,
+    token: &mut Token,
+    is_held: &AtomicBool,
+)
+    requires { IsTokenOf (lot_of mutex.now.0) token.old }
+    ensures { IsTokenOf (lot_of mutex.now.0) token.new }
+{
+    let guard = locked(rt, mutex, token);
+    is_held.store(true, SeqCst);
+    for n in 0..100u64 {
+        add_under(rt, mutex, token, n);
+        yield_now();
+    }
+    guard.unlock(rt, token);
+}
+
+// What is there once the mutex is locked, behind the thread that has it.
+fn read_behind<R: Wait + Abort>(
+    rt: &R,
+    mutex: &ReentrantMutex<AtomicU64>,
+    token: &mut Token,
+    is_held: &AtomicBool,
+) -> u64
+    requires { IsTokenOf (lot_of mutex.now.0) token.old }
+    ensures { IsTokenOf (lot_of mutex.now.0) token.new }
+{
+    for _ in rt.forever() {
+        if is_held.load(SeqCst) {
+            break;
+        }
+        yield_now();
+    }
+    let guard = locked(rt, mutex, token);
+    let seen = guard.load(SeqCst);
+    guard.unlock(rt, token);
+    seen
+}
+
+// The first to come adds while it has the mutex, and the other reads behind it. Or both add many
+// times.
+fn take_part<R: Wait + Abort>(
+    rt: &R,
+    mutex: &ReentrantMutex<AtomicU64>,
+    token: &mut Token,
+    came: &AtomicU64,
+    is_held: &AtomicBool,
+    alternate: bool,
+) -> u64
+    requires { IsTokenOf (lot_of mutex.now.0) token.old }
+    ensures { IsTokenOf (lot_of mutex.now.0) token.new }
+{
+    if alternate {
+        for _ in 0..1000 {
+            add_under(rt, mutex, token, 1);
+        }
+        return 0;
+    }
+    if came.fetch_add(1, SeqCst) == 0 {
+        add_while_held(rt, mutex, token, is_held);
+        return 0;
+    }
+    read_behind(rt, mutex, token, is_held)
+}
+
+// What both threads saw together, and what is there at last.
+fn play<R: Threads + Wait + Abort + Sync>(rt: &R, alloc: Global, alternate: bool) -> (u64, u64) {
+    let (mutex, token, mut tickets) = reentrant(rt, alloc, AtomicU64::new(0));
+    if tickets.push(token.leave()).is_err() {
+        return (0, 0);
+    }
+    let (came, is_held) = (AtomicU64::new(0), AtomicBool::new(false));
+    let (shared, came, is_held) = (&mutex, &came, &is_held);
+    let seen = map_vec(
+        rt,
+        tickets,
+        &|ticket: Ticket|
+            requires { IsTicketOf (lot_of shared.now.0) ticket }
+        {
+            let mut token = ticket.enter();
+            let seen = take_part(rt, shared, &mut token, came, is_held, alternate);
+            drop(token.leave());
+            seen
+        },
+    );
+    let seen = seen.map_or(
+        0,
+        |seen| seen.iter().fold(0u64, |all, one| all.wrapping_add(*one)),
+    );
+    (seen, mutex.into_inner().into_inner())
+}
+
+#[test]
+fn another_thread_waits_for_all_guards(rt: HostRuntime) {
+    same(&rt, play(&rt, rt.alloc(), false), (4950, 4950));
+}
+
+#[test]
+fn two_threads_alternate(rt: HostRuntime) {
+    same(&rt, play(&rt, rt.alloc(), true), (0, 2000));
+}

@@ -1,0 +1,53 @@
+-- Counts of mutexes: an ownership is taken in, says another count, and is split off again.
+use Rattle.std.proofs.Common.{◌≡◌, ◌≢◌, ◌∙◌, ℕ, ◌+◌, List, ◌∷◌, ◌||◌, true, cond, eqb, eq-eqb, ne_eqb, ap, arith, refl, sym, subst}
+use Rattle.lot_base.specs.declared.ops.Op.TheVariants.{Store}
+use Rattle.lot_words.proofs.Trades.{is_itself}
+use Rattle.lot_words.specs.Codes.{exclusive}
+use Rattle.lot_words.specs.Indices.{mutex_of_count, word_index}
+use Rattle.lot_words.specs.Plays.{left_over, piece, stepping, takes_in}
+use Rattle.lot_words.specs.Steps.{CodesWith, after_step, has, listed, says_instead, without}
+use Rattle.lot_words.specs.Views.{owning, owning_with, view}
+use Rattle.lot_words.specs.declared.owners.Owner.TheVariants.{Exclusive}
+use Rattle.lot_words.specs.declared.owners.Ownership.{Ownership}
+use Rattle.lot_words.specs.declared.views.View.{View}
+use Rattle.lot_words.specs.declared.words.WordKind.TheVariants.{Mutex, Count}
+
+has_first : (x : Ownership) (xs : List Ownership) → has x (x ∷ xs) ≡ true
+has_first x xs = ap (λ b. b || has x xs) (is_itself x)
+
+without_first : (x : Ownership) (xs : List Ownership) → without x (x ∷ xs) ≡ xs
+without_first x xs = ap (λ b. cond b xs (x ∷ without x xs)) (is_itself x)
+
+-- who takes an ownership in has it
+pub taken_in : (x : Ownership) (v w : View) → w ≡ takes_in v (piece x) → has x w.owns ≡ true
+taken_in x v w is = subst (λ (u : View). has x u.owns ≡ true) (sym is) (has_first x v.owns)
+
+module _ (m n said next : ℕ) (behind : n ≡ m + 1) (other : said ≢ next) where
+  abbrev x : ℕ → Ownership
+  x count = owning_with (word_index m Mutex) count
+
+  says : (owns : List Ownership) → says_instead (mutex_of_count (word_index n Count)) said next (x said ∷ owns) ≡ x next ∷ owns
+  says owns = let back : mutex_of_count (word_index n Count) ≡ word_index m Mutex = omega (arith, behind) in
+      ap (λ (i : ℕ). says_instead i said next (x said ∷ owns)) back
+      ∙ (ap (λ b. cond b (x said ∷ owns) (x next ∷ without (x said) (x said ∷ owns))) (ne_eqb said next other)
+      ∙ ap (λ os. x next ∷ os) (without_first (x said) owns))
+
+  module _ (v w u : View) (joined : w ≡ takes_in v (piece (x said))) (stepped : u ≡ after_step Count (word_index n Count) (Store next) said w) where
+    -- behind the store the thread says the new count
+    said_behind : u ≡ view (listed v (word_index n Count) (Store next) said) (x next ∷ v.owns) v.drawn v.saw
+    said_behind = stepped ∙ (ap (λ (y : View). after_step Count (word_index n Count) (Store next) said y) joined
+        ∙ ap (λ os. view (listed v (word_index n Count) (Store next) said) os v.drawn v.saw) (says v.owns))
+
+    pub says_next : has (x next) u.owns ≡ true
+    says_next = subst (λ (y : View). has (x next) y.owns ≡ true) (sym said_behind) (has_first (x next) v.owns)
+
+    -- and without that it owns what it did
+    pub splits_next : left_over (x next) u ≡ stepping v (word_index n Count) (Store next) said
+    splits_next = ap (λ (y : View). left_over (x next) y) said_behind
+        ∙ ap (λ os. view (listed v (word_index n Count) (Store next) said) os v.drawn v.saw) (without_first (x next) v.owns)
+
+-- nobody owns a mutex twice
+pub owned_once : (i said n : ℕ) (rest owns : List Ownership) → owns ≡ owning_with i said ∷ owning i Exclusive ∷ rest → CodesWith Mutex i n owns → ⊥
+owned_once i said n rest owns are code = let own : ◌≡◌ {A = ℕ} (cond (eqb i i) 1 0) 1 = ap (λ b. cond b 1 0) (eq-eqb i i refl) in
+    let two = subst (λ (os : List Ownership). CodesWith Mutex i n os) are code in
+    let fewer = two.2 exclusive in let coded = two.1 in let last = coded.2 in omega (arith, own, fewer, last)

@@ -1,0 +1,62 @@
+-- Mutexes that their owners lock again: their count words and their shares.
+use Rattle.std.specs.Prelude.{◌≡◌, ℕ, ◌+◌, List, [], ◌∷◌, ◌++◌, map}
+use Rattle.std.proofs.Props.{props}
+use Rattle.lot_base.specs.declared.ops.Op.TheVariants.{Load, Store}
+use Rattle.lot_driver.specs.Paths.{step}
+use Rattle.lot_driver.specs.Telling.{steps_of}
+use Rattle.lot_words.specs.Draws.{IsDrawn, IsDrawRefused}
+use Rattle.lot_words.specs.Indices.{word_index}
+use Rattle.lot_words.specs.Lots.{IsWordOf}
+use Rattle.lot_words.specs.declared.views.WordStep.{WordStep}
+use Rattle.lot_words.specs.declared.words.Word.{Word}
+use Rattle.lot_words.specs.declared.words.WordKind.TheVariants.{Mutex, Count}
+use Rattle.parking_lot_core.specs.Tokens.{view_of}
+use Rattle.parking_lot_core.specs.declared.lot.ParkingLot.{ParkingLot}
+use Rattle.parking_lot_core.specs.declared.tokens.Token.{Token}
+use Rattle.raw_mutexes.specs.declared.counting.RawShare.{RawShare}
+use Rattle.share_rows.specs.Entries as rows
+
+-- the word on which a mutex of the lot is counted: that of the next number
+abbrev pub IsCountOf : ParkingLot → Word → Word → Type 0
+IsCountOf lot mutex count = IsWordOf lot.words count × (count.kind ≡ Count)
+    × (count.number ≡ mutex.number + 1)
+
+pub IsCountOf-prop : (lot : ParkingLot) (mutex count : Word) → IsProp (IsCountOf lot mutex count)
+IsCountOf-prop lot mutex count = Prim.hlevel props
+
+-- a share of the place that a mutex has among the lot's holders
+abbrev pub IsShareOf : ParkingLot → Word → RawShare → Type 0
+IsShareOf lot mutex share =
+    rows.IsShareOf lot.holders.table.shared.table_id lot.words mutex.number share.share
+
+pub IsShareOf-prop : (lot : ParkingLot) (mutex : Word) (share : RawShare)
+    → IsProp (IsShareOf lot mutex share)
+IsShareOf-prop lot mutex share = Prim.hlevel props
+
+-- where the count word of a mutex of this number stands
+abbrev pub count_at : ℕ → ℕ
+count_at number = word_index (number + 1) Count
+
+-- the looks at the word of this index that saw these
+abbrev pub looks : ℕ → List ℕ → List WordStep
+looks at seen = map (λ (n : ℕ). record { at = at; op = Load; seen = n }) seen
+
+-- between two states of a thread it looked at the count of a mutex of this number, once or more, and
+-- saw this at last
+abbrev pub SawCount : ℕ → ℕ → Token → Token → Type 0
+SawCount number seen old new = (before : List ℕ)
+    × (steps_of new ≡ steps_of old ++ looks (count_at number) (before ++ seen ∷ []))
+
+-- between them it stored a count, by one step: the one that was there, and the one that it left
+abbrev pub StoredCount : ℕ → ℕ → ℕ → Token → Token → Type 0
+StoredCount number found left old new =
+    steps_of new ≡ steps_of old ++ step (count_at number) (Store left) found
+
+-- between them it drew a mutex and its count
+abbrev pub DrewPair : ParkingLot → Word → Token → Token → Type 0
+DrewPair lot mutex old new = IsDrawn lot.words.count (Mutex ∷ Count ∷ []) mutex.number (view_of old)
+    (view_of new)
+
+-- between them it drew nothing, and its last step saw that the lot has fewer than two words left
+abbrev pub FoundFew : ParkingLot → Token → Token → Type 0
+FoundFew lot old new = IsDrawRefused lot.words.count 2 (view_of old) (view_of new)
