@@ -34,8 +34,8 @@ pub trait RawCondvar {
     ghost notified: { Self → Bool → Answer → Self.RawMutex.Token → Self.RawMutex.Token → Type 0 };
     // Between them it looked at the condition variable once, and saw this.
     ghost looked: { Self → ℕ → Self.RawMutex.Token → Self.RawMutex.Token → Type 0 };
-    // Between them it took or moved so many, of the first or of all, and where it saw the same
-    // mutex twice its last section tells so.
+    // Between them it took or moved so many, of the first or of all, as its last section tells; or
+    // nobody, and it saw that no mutex is shown, or another value than at first.
     ghost moved: { Self → Bool → ℕ → Self.RawMutex.Token → Self.RawMutex.Token → Type 0 };
 
     /// A condition variable on which nobody waits.

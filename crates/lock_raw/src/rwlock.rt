@@ -85,8 +85,8 @@ pub trait RawRwLock {
     // Between them its last step saw that nobody keeps this right out, and that as many share the
     // lock as may.
     ghost saw_full: { Self → Access → Self.Token → Self.Token → Type 0 };
-    // This call gave up and left no section behind its last step, or one in which it took nobody,
-    // or those whom it had kept out.
+    // This call gave up: it left no section behind a last step that saw nobody to wake, or one in
+    // which it took those whom it had kept out, or that of the main queue, where it took nobody.
     ghost gave_up: { Self → RwLockCall → Self.Token → Type 0 };
 
     /// A lock that nobody has, and that as many may share as there can be.

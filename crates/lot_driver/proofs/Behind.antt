@@ -68,13 +68,13 @@ module _ (n : ℕ) where
   goes_to call.UnlockFair seen owns g = ap (λ (b : Bool). mutex_goes n (looked false (not b))) (ne_eqb seen 1 g.0)
   goes_to call.Bump seen owns g = ap (λ (b : Bool). mutex_goes n (looked true b)) g.0
 
-  fits_there : (up : Type 0) (c : MutexCall) (seen : ℕ) (owns : List Ownership) (last : Option SectionRecord) → IsUnfinished n c seen owns → Fits up owns (Mutex n (rest c)) (stage owns None last)
-  fits_there up call.Lock seen owns last g = (refl, refl)
-  fits_there up call.LockTimed seen owns last g = (refl, refl)
-  fits_there up call.TryLock seen owns last g = absurd g
-  fits_there up call.Unlock seen owns last g = (refl, refl)
-  fits_there up call.UnlockFair seen owns last g = (g.1, (refl, refl))
-  fits_there up call.Bump seen owns last g = (g.1, (refl, refl))
+  fits_there : (up : Type 0) (c : MutexCall) (seen : ℕ) (owns : List Ownership) (last : Option SectionRecord) (steps : List WordStep) → IsUnfinished n c seen owns → Fits up owns (Mutex n (rest c)) (stage owns None last steps)
+  fits_there up call.Lock seen owns last steps g = (refl, refl)
+  fits_there up call.LockTimed seen owns last steps g = (refl, refl)
+  fits_there up call.TryLock seen owns last steps g = absurd g
+  fits_there up call.Unlock seen owns last steps g = (refl, refl)
+  fits_there up call.UnlockFair seen owns last steps g = (g.1, (refl, refl))
+  fits_there up call.Bump seen owns last steps g = (g.1, (refl, refl))
 
   same_aim : (c : MutexCall) → aim_of (Mutex n (rest c)) ≡ of_mutex n (purpose_in c)
   same_aim call.Lock = refl
@@ -116,8 +116,8 @@ module _ (n : ℕ) where
   pub releases_behind : (c : MutexCall) (seen : ℕ) (old mid new : List WordStep) (last : Option SectionRecord) → saw_waiter c seen ≡ true → mid ≡ old ++ step (mutex_at n) (first_op c) seen → (more : List WordStep) × (new ≡ mid ++ more) → TookAt n last → Releases n c old new last
   releases_behind c seen old mid new last waits saw rest took = (seen, rest.0, rest.1 ∙ ap (λ (l : List WordStep). l ++ rest.0) saw, subst (λ (b : Bool). TookIfParked n b rest.0 last) (sym waits) took)
 
-  pub fits_behind : (up : Type 0) (c : MutexCall) (seen : ℕ) (owns : List Ownership) (last : Option SectionRecord) → IsUnfinished n c seen owns → Fits up owns (next_place (beginning n c) (Value seen)) (stage owns None last)
-  fits_behind up c seen owns last g = subst (λ (p : Place). Fits up owns p (stage owns None last)) (sym (goes_to c seen owns g)) (fits_there up c seen owns last g)
+  pub fits_behind : (up : Type 0) (c : MutexCall) (seen : ℕ) (owns : List Ownership) (last : Option SectionRecord) (steps : List WordStep) → IsUnfinished n c seen owns → Fits up owns (next_place (beginning n c) (Value seen)) (stage owns None last steps)
+  fits_behind up c seen owns last steps g = subst (λ (p : Place). Fits up owns p (stage owns None last steps)) (sym (goes_to c seen owns g)) (fits_there up c seen owns last steps g)
 
   pub over_behind : (up : Type 0) (c : MutexCall) (seen : ℕ) (owns : List Ownership) (answer : Answer) (new : Stage) → IsUnfinished n c seen owns → IsOver up owns (aim_of (next_place (beginning n c) (Value seen))) answer new → IsMutexOver up n owns (purpose_in c) answer new
   over_behind up c seen owns answer new g over = subst (λ aim. IsOver up owns aim answer new) (ap aim_of (goes_to c seen owns g) ∙ same_aim c) over

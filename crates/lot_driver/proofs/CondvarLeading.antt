@@ -1,5 +1,5 @@
 -- Each act of a condition variable's call is one that the thread may take, and leads to a place that fits.
-use Rattle.std.proofs.Common.{Bool, List, None, Option, Some, ap, arith, false, if◌then◌else◌, inl, inr, length, nat_lt, not, refl, subst, sym, true, ℕ, ◌%◌, ◌&&◌, ◌*◌, ◌+◌, ◌<◌, ◌==◌, ◌||◌, ◌∙◌, ◌∷◌, ◌≡◌, ◌≢◌, ◌⊎◌}
+use Rattle.std.proofs.Common.{◌++◌, Bool, List, None, Option, Some, ap, arith, false, if◌then◌else◌, inl, inr, length, nat_lt, not, refl, subst, sym, true, ℕ, ◌%◌, ◌&&◌, ◌*◌, ◌+◌, ◌<◌, ◌==◌, ◌||◌, ◌∙◌, ◌∷◌, ◌≡◌, ◌≢◌, ◌⊎◌}
 use Rattle.std.proofs.lemmas.Bool.{false≢true}
 use Rattle.lot_base.specs.declared.keys.Keys.TheVariants.{One, Two}
 use Rattle.lot_base.specs.declared.notes.Note.TheVariants.{Normal, HandOff}
@@ -53,10 +53,10 @@ use Rattle.lot_words.specs.declared.words.WordKind.TheVariants as kind
 use Rattle.lot_words.proofs.MutexSteps.{each_code, mutex_steps}
 use Rattle.lot_words.proofs.TiedSteps.{condvar_steps}
 use Rattle.lot_words.proofs.Trades.{owned_some}
-use Rattle.lot_driver.specs.CondvarFitting.{Between, FitsCondvar, FitsNotify, FitsWait, HasMoved, IsNotifyOver, LateIf, OwnsIt, TellsNumber, apart, move_did}
+use Rattle.lot_driver.specs.CondvarFitting.{Between, FitsCondvar, FitsNotify, FitsWait, HasMoved, IsNotifyOver, LateIf, OwnsIt, SawElse, TellsNumber, apart, move_did}
 use Rattle.lot_driver.specs.Fitting.{AreWordsBeside, Fits, Looks, Reached, ReachedBy, aim_of, answer_of, of_mutex, of_notify, of_wait, sleeper_at}
 use Rattle.lot_driver.specs.MutexFitting.{FitsMutex, Outside, Within, enters, held, releases}
-use Rattle.lot_driver.specs.Paths.{at_mutex, condvar_at, mutex_at, mutexes}
+use Rattle.lot_driver.specs.Paths.{at_mutex, condvar_at, mutex_at, mutexes, step}
 use Rattle.lot_driver.specs.Stages.{ActNeeds, Awoke, Became, HasKey, Inside, IsLeft, IsFresh, MayLeave, Stage, Stepped, entered_now, having_taken, listed, moving, note_of, stage, took_as}
 use Rattle.lot_driver.specs.declared.sleepers.Sleeper.{Sleeper}
 
@@ -188,6 +188,11 @@ module _ (up : Type 0) (c m : ℕ) (kinds : ℕ → WordKind) (at : ℕ → ℕ)
     shows_on : (op : Op) (seen : ℕ) (owns : List Ownership) (inside : Option Inside) → Stepped (kinds c) (at c) op seen st new → Has owns inside st → Has owns inside new
     shows_on op seen owns inside b f = let e = subst (λ (k : WordKind). Stepped k (at c) op seen st new) words.1 b in stays owns inside _ e.1 refl refl f
 
+    -- a look that saw another mutex than this shown, or none
+    saw_else : (seen : ℕ) → is_shown seen m ≡ false → Stepped (kinds c) (at c) Load seen st new → SawElse c m new.steps
+    saw_else seen other b = let e = subst (λ (k : WordKind). Stepped k (at c) Load seen st new) words.1 b in
+        (st.steps, seen, other, ap (λ (s : Stage). s.steps) e.1 ∙ ap (λ (n : ℕ). st.steps ++ step n Load seen) words.2)
+
     -- the owner of a mutex finds it locked
     found_locked : (seen : ℕ) (owns : List Ownership) → CodesWith kind.Mutex (mutex_at m) seen owns → has (held m) owns ≡ true → seen % 2 ≡ 1
     found_locked seen owns code mine = let some : 0 < owned (mutex_at m) exclusive owns = owned_some (mutex_at m) Exclusive owns mine exclusive (omega arith) in omega (arith, code.1.2, code.2 exclusive, some)
@@ -282,7 +287,7 @@ module _ (up : Type 0) (c m : ℕ) (kinds : ℕ → WordKind) (at : ℕ → ℕ)
       asleep_on : (s : Stands) → Outside (apart m base) st → (retries : Bool) → (new.owns ≡ st.owns) × (new.inside ≡ None) → FitsWait up c m timed base (wait.Lock false (first_lock retries)) new
       asleep_on s f retries b = (tt, (b.0 ∙ f.0, b.1))
 
-      handed_over : Outside (apart m base) st → (owner : Owner) → owner ≡ Exclusive → new ≡ stage (owning (at m) owner ∷ st.owns) st.inside st.last → Outside (held m ∷ apart m base) new
+      handed_over : Outside (apart m base) st → (owner : Owner) → owner ≡ Exclusive → new ≡ stage (owning (at m) owner ∷ st.owns) st.inside st.last st.steps → Outside (held m ∷ apart m base) new
       handed_over f owner is e = (
         owns_of _ e ∙ ap (λ (o : Owner). owning (at m) o ∷ st.owns) is ∙ ap (λ (n : ℕ). owning n Exclusive ∷ st.owns) words.4 ∙ ap (λ (o : List Ownership). held m ∷ o) f.0,
         inside_of _ e ∙ f.1,
@@ -291,7 +296,7 @@ module _ (up : Type 0) (c m : ℕ) (kinds : ℕ → WordKind) (at : ℕ → ℕ)
       nobody : {key : ℕ} → None ≡ Some key → ⊥
       nobody e = cc
 
-      late_in : (n key : ℕ) → Some n ≡ Some key → Outside (apart m base) st → new ≡ stage st.owns (entered_now (One key)) st.last → (new.owns ≡ apart m base) × (new.inside ≡ entered_now (One n))
+      late_in : (n key : ℕ) → Some n ≡ Some key → Outside (apart m base) st → new ≡ stage st.owns (entered_now (One key)) st.last st.steps → (new.owns ≡ apart m base) × (new.inside ≡ entered_now (One n))
       late_in n key e f x = let k : key ≡ n = cc in (owns_of _ x ∙ f.0, inside_of _ x ∙ ap (λ (k : ℕ). entered_now (One k)) k)
 
       is_exclusive : (k : WordKind) → k ≡ kind.Mutex → (owner : Owner) → MayHand k wants.Exclusive owner → owner ≡ Exclusive
@@ -469,19 +474,23 @@ module _ (up : Type 0) (c m : ℕ) (kinds : ℕ → WordKind) (at : ℕ → ℕ)
       move_leads false true f reply b = absurd b
       move_leads false false f reply b = absurd b.0
 
-      leave_leads : (a any : Bool) (number : ℕ) → FitsNotify c m a base (notify.Leave any number) st → (new.owns ≡ st.owns) × (new.inside ≡ None) × IsLeft st.inside new.last → IsNotifyOver c m a base (notified a number) new
-      leave_leads a any number (inl f) b = ((b.0 ∙ f.1.0, b.1), inl (ap (notified a) f.0, subst (λ (i : Option Inside). IsLeft i new.last) f.1.1 b.2))
+      leave_leads : (a any : Bool) (number : ℕ) → FitsNotify c m a base (notify.Leave any number) st → (new.owns ≡ st.owns) × (new.inside ≡ None) × IsLeft st.inside new.last × (new.steps ≡ st.steps) → IsNotifyOver c m a base (notified a number) new
+      leave_leads a any number (inl f) b = ((b.0 ∙ f.1.0, b.1), inl (ap (notified a) f.0, subst (λ (i : Option Inside). IsLeft i new.last) f.1.1 b.2, subst (SawElse c m) (sym b.3) f.2))
       leave_leads true any number (inr f) b = ((b.0 ∙ f.0, b.1), inr (f.1, number, refl, subst (λ (i : Option Inside). IsLeft i new.last) f.4 b.2 ∙ ap (λ (k : ℕ). Some (record { key = 2 * c; did = move_did true f.1 c m; number = k })) (sym f.5)))
       leave_leads false any number (inr f) b = ((b.0 ∙ f.0, b.1), inr (f.1, length (threads_of f.2) + f.3, ap (notified false) f.5, subst (λ (i : Option Inside). IsLeft i new.last) f.4 b.2))
 
-      again : (b e : Bool) → Between c m base new → ReachedBy up base (of_notify c m all) (Condvar c (Notify all m (if b then notify.Leave false 0 else if e then notify.Hide else notify.Mark))) (answer_of (notify_act all c m (if b then notify.Leave false 0 else if e then notify.Hide else notify.Mark))) new
-      again true e f = (inl (refl, f), refl)
-      again false true f = (f, refl)
-      again false false f = (f, refl)
+      again : (b e : Bool) → (b ≡ true → SawElse c m new.steps) → Between c m base new → ReachedBy up base (of_notify c m all) (Condvar c (Notify all m (if b then notify.Leave false 0 else if e then notify.Hide else notify.Mark))) (answer_of (notify_act all c m (if b then notify.Leave false 0 else if e then notify.Hide else notify.Mark))) new
+      again true e saw f = (inl (refl, f, saw refl), refl)
+      again false true saw f = (f, refl)
+      again false false saw f = (f, refl)
+
+      hidden : (b : Bool) → not b ≡ true → b ≡ false
+      hidden true e = absurd (false≢true e)
+      hidden false e = refl
 
       notify_leads : (n : NotifyAt) → FitsNotify c m all base n st → (reply : Reply) → Became up kinds at (sleeper_at (there n)) st (notify_act all c m n) reply new → Reached up base (there n) reply new
       notify_leads notify.Enter f Done b = ((owns_of _ b ∙ f.0, inside_of _ b), refl)
-      notify_leads notify.Again f (Value seen) b = again (not (is_shown seen m)) all (shows_on Load seen base _ b f)
+      notify_leads notify.Again f (Value seen) b = again (not (is_shown seen m)) all (λ e. saw_else seen (hidden (is_shown seen m) e) b) (shows_on Load seen base _ b f)
       notify_leads notify.Hide f (Value seen) b = (shows_on (Store 0) seen base _ b f, refl)
       notify_leads notify.Mark f (Value seen) b = let k = marks_on Load seen loads b f in marked seen k.0 k.1
       notify_leads (notify.Set expected) f (Value seen) b = by_bit (seen == expected)

@@ -30,6 +30,7 @@ use Rattle.lot_rwlock.specs.declared.purposes.RwLockPurpose.{RwLockPurpose}
 use Rattle.lot_rwlock.specs.declared.purposes.RwLockPurpose.TheVariants as purposes
 use Rattle.lot_driver.specs.RwLockFitting.{Answers}
 use Rattle.lot_driver.proofs.RwLockLeading.{rwlock_no_closure}
+use Rattle.lot_words.specs.declared.views.WordStep.{WordStep}
 use Rattle.lot_driver.specs.Fitting.{Aim, nothing, of_fair, of_mutex, of_notify, of_once, of_run, of_rwlock, of_wait, AreWordsFor, aim_of, answer_of, Fits, IsOver, IsStopped}
 use Rattle.lot_driver.specs.CondvarFitting.{IsWaitOver}
 use Rattle.lot_driver.specs.MutexFitting.{Purpose, enters, releases, hands_over, FitsMutex, IsMutexOver}
@@ -51,56 +52,56 @@ closure_act a state e = absurd cc
 pub closes_outside : (kinds : ℕ → WordKind) (at : ℕ → ℕ) (st : Stage) (a : Act) (state : OnceState) → closure_of a ≡ Some state → ActNeeds kinds at st a → st.inside ≡ None
 closes_outside kinds at st a state e needs = subst (ActNeeds kinds at st) (closure_act a state e) needs
 
-pub closed : (up : Type 0) (base owns : List Ownership) (aim : Aim) (p : Place) (state : OnceState) (inside : Option Inside) (last : Option SectionRecord) → closure_of (act_of p) ≡ Some state → inside ≡ None → Fits up base p (stage owns inside last) → aim_of p ≡ aim → IsStopped up base aim (Paused p state) (stage owns None last)
-closed up base owns aim p state inside last e none fits same = (subst (λ (i : Option Inside). Fits up base p (stage owns i last)) none fits, same, closure_act (act_of p) state e)
+pub closed : (up : Type 0) (base owns : List Ownership) (aim : Aim) (p : Place) (state : OnceState) (inside : Option Inside) (last : Option SectionRecord) (steps : List WordStep) → closure_of (act_of p) ≡ Some state → inside ≡ None → Fits up base p (stage owns inside last steps) → aim_of p ≡ aim → IsStopped up base aim (Paused p state) (stage owns None last steps)
+closed up base owns aim p state inside last steps e none fits same = (subst (λ (i : Option Inside). Fits up base p (stage owns i last steps)) none fits, same, closure_act (act_of p) state e)
 
 module _ (up : Type 0) (base owns : List Ownership) where
-  mutex_ended : (n : ℕ) (purpose : Purpose) (answer : Answer) (inside : Option Inside) (last : Option SectionRecord) → IsMutexOver up n base purpose answer (stage owns inside last) → IsMutexOver up n base purpose answer (stage owns None last)
-  mutex_ended n (enters e) answer inside last (inl h) = inl (h.0, (h.1.0, refl))
-  mutex_ended n (enters e) answer inside last (inr h) = inr (h.0, h.1, (h.2.0, refl), h.3)
-  mutex_ended n releases answer inside last h = (h.0, (h.1.0, refl), h.2)
-  mutex_ended n hands_over answer inside last h = (h.0, (h.1.0, refl), h.2)
+  mutex_ended : (n : ℕ) (purpose : Purpose) (answer : Answer) (inside : Option Inside) (last : Option SectionRecord) (steps : List WordStep) → IsMutexOver up n base purpose answer (stage owns inside last steps) → IsMutexOver up n base purpose answer (stage owns None last steps)
+  mutex_ended n (enters e) answer inside last steps (inl h) = inl (h.0, (h.1.0, refl))
+  mutex_ended n (enters e) answer inside last steps (inr h) = inr (h.0, h.1, (h.2.0, refl), h.3)
+  mutex_ended n releases answer inside last steps h = (h.0, (h.1.0, refl), h.2)
+  mutex_ended n hands_over answer inside last steps h = (h.0, (h.1.0, refl), h.2)
 
-  mutex_outside : (n : ℕ) (purpose : Purpose) (answer : Answer) (inside : Option Inside) (last : Option SectionRecord) → IsMutexOver up n base purpose answer (stage owns inside last) → inside ≡ None
-  mutex_outside n (enters e) answer inside last (inl h) = h.1.1
-  mutex_outside n (enters e) answer inside last (inr h) = h.2.1
-  mutex_outside n releases answer inside last h = h.1.1
-  mutex_outside n hands_over answer inside last h = h.1.1
+  mutex_outside : (n : ℕ) (purpose : Purpose) (answer : Answer) (inside : Option Inside) (last : Option SectionRecord) (steps : List WordStep) → IsMutexOver up n base purpose answer (stage owns inside last steps) → inside ≡ None
+  mutex_outside n (enters e) answer inside last steps (inl h) = h.1.1
+  mutex_outside n (enters e) answer inside last steps (inr h) = h.2.1
+  mutex_outside n releases answer inside last steps h = h.1.1
+  mutex_outside n hands_over answer inside last steps h = h.1.1
 
-  rwlock_ended : (l : ℕ) (a : Admission) (purpose : RwLockPurpose) (answer : Answer) (inside : Option Inside) (last : Option SectionRecord) → Answers up l base a purpose answer (stage owns inside last) → Answers up l base a purpose answer (stage owns None last)
-  rwlock_ended l a (purposes.Enter x how) answer inside last h = h
-  rwlock_ended l a (purposes.Release x) answer inside last h = h
-  rwlock_ended l a (purposes.Downgrade d) answer inside last h = h
-  rwlock_ended l a (purposes.Upgrade how) answer inside last h = h
+  rwlock_ended : (l : ℕ) (a : Admission) (purpose : RwLockPurpose) (answer : Answer) (inside : Option Inside) (last : Option SectionRecord) (steps : List WordStep) → Answers up l base a purpose answer (stage owns inside last steps) → Answers up l base a purpose answer (stage owns None last steps)
+  rwlock_ended l a (purposes.Enter x how) answer inside last steps h = h
+  rwlock_ended l a (purposes.Release x) answer inside last steps h = h
+  rwlock_ended l a (purposes.Downgrade d) answer inside last steps h = h
+  rwlock_ended l a (purposes.Upgrade how) answer inside last steps h = h
 
-  wait_ended : (m : ℕ) (timed : Bool) (answer : Answer) (inside : Option Inside) (last : Option SectionRecord) → IsWaitOver up m timed base answer (stage owns inside last) → IsWaitOver up m timed base answer (stage owns None last)
-  wait_ended m timed answer inside last (inl h) = inl (h.0, h.1, (h.2.0, refl))
-  wait_ended m timed answer inside last (inr h) = inr (h.0, h.1, h.2, (h.3.0, refl))
+  wait_ended : (m : ℕ) (timed : Bool) (answer : Answer) (inside : Option Inside) (last : Option SectionRecord) (steps : List WordStep) → IsWaitOver up m timed base answer (stage owns inside last steps) → IsWaitOver up m timed base answer (stage owns None last steps)
+  wait_ended m timed answer inside last steps (inl h) = inl (h.0, h.1, (h.2.0, refl))
+  wait_ended m timed answer inside last steps (inr h) = inr (h.0, h.1, h.2, (h.3.0, refl))
 
-  wait_outside : (m : ℕ) (timed : Bool) (answer : Answer) (inside : Option Inside) (last : Option SectionRecord) → IsWaitOver up m timed base answer (stage owns inside last) → inside ≡ None
-  wait_outside m timed answer inside last (inl h) = h.2.1
-  wait_outside m timed answer inside last (inr h) = h.3.1
+  wait_outside : (m : ℕ) (timed : Bool) (answer : Answer) (inside : Option Inside) (last : Option SectionRecord) (steps : List WordStep) → IsWaitOver up m timed base answer (stage owns inside last steps) → inside ≡ None
+  wait_outside m timed answer inside last steps (inl h) = h.2.1
+  wait_outside m timed answer inside last steps (inr h) = h.3.1
 
   -- where a call ended, its thread is outside all sections
-  pub ended : (aim : Aim) (answer : Answer) (inside : Option Inside) (last : Option SectionRecord) → IsOver up base aim answer (stage owns inside last) → IsOver up base aim answer (stage owns None last)
-  ended nothing answer inside last h = absurd h
-  ended (of_mutex n purpose) answer inside last h = mutex_ended n purpose answer inside last h
-  ended (of_rwlock l a purpose) answer inside last h = (refl, rwlock_ended l a purpose answer inside last h.1)
-  ended (of_fair l a x) answer inside last h = (refl, h.1, h.2, h.3)
-  ended (of_once l c) answer inside last h = (refl, h.1)
-  ended (of_run l succeeded) answer inside last h = (refl, h.1, h.2, h.3)
-  ended (of_wait l m timed) answer inside last h = wait_ended m timed answer inside last h
-  ended (of_notify l m all) answer inside last h = ((h.0.0, refl), h.1)
+  pub ended : (aim : Aim) (answer : Answer) (inside : Option Inside) (last : Option SectionRecord) (steps : List WordStep) → IsOver up base aim answer (stage owns inside last steps) → IsOver up base aim answer (stage owns None last steps)
+  ended nothing answer inside last steps h = absurd h
+  ended (of_mutex n purpose) answer inside last steps h = mutex_ended n purpose answer inside last steps h
+  ended (of_rwlock l a purpose) answer inside last steps h = (refl, rwlock_ended l a purpose answer inside last steps h.1)
+  ended (of_fair l a x) answer inside last steps h = (refl, h.1, h.2, h.3)
+  ended (of_once l c) answer inside last steps h = (refl, h.1)
+  ended (of_run l succeeded) answer inside last steps h = (refl, h.1, h.2, h.3)
+  ended (of_wait l m timed) answer inside last steps h = wait_ended m timed answer inside last steps h
+  ended (of_notify l m all) answer inside last steps h = ((h.0.0, refl), h.1)
 
-  pub outside : (aim : Aim) (answer : Answer) (inside : Option Inside) (last : Option SectionRecord) → IsOver up base aim answer (stage owns inside last) → inside ≡ None
-  outside nothing answer inside last h = absurd h
-  outside (of_mutex n purpose) answer inside last h = mutex_outside n purpose answer inside last h
-  outside (of_rwlock l a purpose) answer inside last h = h.0
-  outside (of_fair l a x) answer inside last h = h.0
-  outside (of_once l c) answer inside last h = h.0
-  outside (of_run l succeeded) answer inside last h = h.0
-  outside (of_wait l m timed) answer inside last h = wait_outside m timed answer inside last h
-  outside (of_notify l m all) answer inside last h = h.0.1
+  pub outside : (aim : Aim) (answer : Answer) (inside : Option Inside) (last : Option SectionRecord) (steps : List WordStep) → IsOver up base aim answer (stage owns inside last steps) → inside ≡ None
+  outside nothing answer inside last steps h = absurd h
+  outside (of_mutex n purpose) answer inside last steps h = mutex_outside n purpose answer inside last steps h
+  outside (of_rwlock l a purpose) answer inside last steps h = h.0
+  outside (of_fair l a x) answer inside last steps h = h.0
+  outside (of_once l c) answer inside last steps h = h.0
+  outside (of_run l succeeded) answer inside last steps h = h.0
+  outside (of_wait l m timed) answer inside last steps h = wait_outside m timed answer inside last steps h
+  outside (of_notify l m all) answer inside last steps h = h.0.1
 
 -- no call of a mutex runs a closure
 pub no_closure : (n : ℕ) (state : OnceState) (up : Type 0) (base : List Ownership) (at : MutexPlace) (st : Stage) → FitsMutex up n base at st → mutex_act n at ≡ act.TheVariants.Closure state → ⊥

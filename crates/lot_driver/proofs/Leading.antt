@@ -142,7 +142,7 @@ module _ (up : Type 0) (n : ℕ) (base : List Ownership) (st : Stage) where
           (λ x. ((omega arith, outside_still f _ x refl refl), refl)) (λ x. ((omega arith, outside_still f _ x refl refl), refl))
           (λ x. ((omega arith, outside_still f _ x refl refl), refl)) (λ x. ((omega arith, outside_still f _ x refl refl), refl))
 
-      gives_up : (e : Entry) (owns : List Ownership) → Outside owns st → (key : ℕ) → late_key (Mutex n (at_mutex_place.Lock e retries lock.TheVariants.Asleep)) ≡ Some key → up → new ≡ stage st.owns (entered_now (One key)) st.last → FitsLock up n e owns lock.TheVariants.Remove new
+      gives_up : (e : Entry) (owns : List Ownership) → Outside owns st → (key : ℕ) → late_key (Mutex n (at_mutex_place.Lock e retries lock.TheVariants.Asleep)) ≡ Some key → up → new ≡ stage st.owns (entered_now (One key)) st.last st.steps → FitsLock up n e owns lock.TheVariants.Remove new
       gives_up entry.TheVariants.LockTimed owns f key can over x = let k : key ≡ 2 * n = cc in ((refl, over), (owns_of _ x ∙ f.0, inside_of _ x ∙ ap (λ (k : ℕ). entered_now (One k)) k))
       gives_up entry.TheVariants.Lock owns f key can over x = absurd cc
       gives_up entry.TheVariants.Bump owns f key can over x = absurd cc
@@ -168,7 +168,7 @@ module _ (up : Type 0) (n : ℕ) (base : List Ownership) (st : Stage) where
       checks : Within n rest st → (seen : ℕ) → seen < 4 → new ≡ stepped kinds.TheVariants.Mutex (mutex_at n) Load seen st → Within n rest new
       checks f seen small x = stays rest _ _ x (load_quiet seen small) refl f
 
-      enter_reply : (P : Reply → Type 0) (keys : Keys) → (new ≡ stage st.owns (entered_now keys) st.last → P Done) → (reply : Reply) → Became up mutexes (at_mutex n) (sleeper_at (place lock.TheVariants.First)) st (act.TheVariants.Enter keys) reply new → P reply
+      enter_reply : (P : Reply → Type 0) (keys : Keys) → (new ≡ stage st.owns (entered_now keys) st.last st.steps → P Done) → (reply : Reply) → Became up mutexes (at_mutex n) (sleeper_at (place lock.TheVariants.First)) st (act.TheVariants.Enter keys) reply new → P reply
       enter_reply P keys h Done b = h b
       enter_reply P keys h reply b = absurd b
 
@@ -187,7 +187,7 @@ module _ (up : Type 0) (n : ℕ) (base : List Ownership) (st : Stage) where
       lock_leads (lock.TheVariants.Leave true) f Done b = ((b.0 ∙ f.0, b.1), refl)
       lock_leads (lock.TheVariants.Leave false) f Done b = ((b.0 ∙ f.0, b.1), refl)
       lock_leads lock.TheVariants.Asleep f (Woken Normal) b = ((b.0 ∙ f.0, b.1), refl)
-      lock_leads lock.TheVariants.Asleep f (Woken HandOff) b = (has_it f _ (b.2 ∙ ap (λ (o : Owner). stage (owning (mutex_at n) o ∷ st.owns) st.inside st.last) b.1) refl refl, refl)
+      lock_leads lock.TheVariants.Asleep f (Woken HandOff) b = (has_it f _ (b.2 ∙ ap (λ (o : Owner). stage (owning (mutex_at n) o ∷ st.owns) st.inside st.last st.steps) b.1) refl refl, refl)
       lock_leads lock.TheVariants.Asleep f Late b = (gives_up e rest f b.0 b.1.0 b.2 b.1.1, refl)
       lock_leads lock.TheVariants.Asleep f (MovedTo key) b = absurd (nobody_moves b.0.1)
       lock_leads lock.TheVariants.Remove f (Removed true) b = ((f.0, stays rest _ _ b refl refl f.1), refl)

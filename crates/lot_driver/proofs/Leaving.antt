@@ -1,5 +1,5 @@
 -- What the record of a section says that was left.
-use Rattle.std.proofs.Common.{ℕ, ◌≡◌, ◌+◌, length, Option, Some, subst}
+use Rattle.std.proofs.Common.{◌≡◌, ◌+◌, length, Option, Some, subst}
 use Rattle.parking_lot_core.specs.Keys.{first_key}
 use Rattle.parking_lot_core.specs.declared.tokens.SectionRecord.{SectionRecord}
 use Rattle.lot_driver.specs.Stages.{HasDone, Inside, IsLeft}

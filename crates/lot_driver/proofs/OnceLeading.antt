@@ -1,12 +1,12 @@
 -- Each act of a `Once`'s call is one that the thread may take, and leads to a place that fits.
-use Rattle.std.proofs.Common.{ℕ, suc, ◌≡◌, ◌≢◌, ◌*◌, Bool, true, false, List, ◌∷◌, Option, Some, None, cond, if◌then◌else◌, inl, inr, sym, refl, ap, ◌∙◌, subst, arith, ne_eqb}
+use Rattle.std.proofs.Common.{◌++◌, ℕ, suc, ◌≡◌, ◌≢◌, ◌*◌, Bool, true, false, List, ◌∷◌, Some, None, cond, if◌then◌else◌, inl, inr, sym, refl, ap, ◌∙◌, subst, arith, ne_eqb}
 use Rattle.std.proofs.lemmas.Bool.{false≢true}
 use mathlib.Core.Logic.{dite}
 use native.Mathlib.Decide.{ℕ_discrete}
 use Rattle.lot_base.specs.Words.{apply}
 use Rattle.lot_base.specs.declared.keys.Keys.TheVariants.{One}
 use Rattle.lot_base.specs.declared.notes.Note.TheVariants.{Normal, HandOff}
-use Rattle.lot_base.specs.declared.ops.Op.TheVariants.{And, Exchange}
+use Rattle.lot_base.specs.declared.ops.Op.TheVariants.{And, Exchange, Load}
 use Rattle.lot_calls.specs.declared.calls.OnceCall.{OnceCall}
 use Rattle.lot_calls.specs.declared.calls.OnceCall.TheVariants.{CallOnce, Wait, WaitTimed}
 use Rattle.lot_acts.specs.declared.acts.Act.{Act}
@@ -35,7 +35,8 @@ use Rattle.lot_words.proofs.OnceSteps.{each_once_code, once_steps}
 use Rattle.parking_lot_core.specs.declared.tokens.Did.TheVariants.{TakeAll}
 use Rattle.lot_driver.specs.Fitting.{Fits, Looks, Reached, ReachedBy, aim_of, answer_of, of_once, sleeper_at}
 use Rattle.lot_driver.specs.OnceFitting.{FitsLook, FitsOnce, FitsRun, OwnsBehind, StandsOutside, StandsWithin, goes_on, knowing}
-use Rattle.lot_driver.specs.Paths.{once_at, onces, at_once}
+use Rattle.lot_driver.specs.Paths.{once_at, onces, at_once, step}
+use Rattle.lot_words.specs.declared.views.WordStep.{WordStep}
 use Rattle.lot_driver.specs.Stages.{Stage, Inside, ActNeeds, Became, HasKey, IsFresh, IsLeft, MayLeave, entered_now, stage, stepped, took_as}
 use Rattle.lot_driver.proofs.Leaving.{has_done}
 
@@ -105,7 +106,7 @@ module _ (l : ℕ) (base : List Ownership) (st : Stage) where
     still f s x o i = ((f.0.0, owns_of s x ∙ o ∙ f.0.1), inside_of s x ∙ i ∙ f.1)
 
     abbrev AsSeen : ℕ → Type 0
-    AsSeen seen = new ≡ stage (owns_after (once_at l) (once_trade seen seen) st.owns) st.inside None
+    AsSeen seen = (steps : List WordStep) × (new ≡ stage (owns_after (once_at l) (once_trade seen seen) st.owns) st.inside None steps)
 
     module _ (f : StandsOutside l base st) where
       abbrev Lands : OnceCall → Bool → ℕ → Type 0
@@ -114,25 +115,25 @@ module _ (l : ℕ) (base : List Ownership) (st : Stage) where
       -- where a look leads
       pub lands : (c : OnceCall) (r : Bool) (seen : ℕ) → IsOnceWord seen → Lands c r seen
       lands (CallOnce false) r = each_once_code (Lands (CallOnce false) r)
-          (λ x. ((inr (omega arith, inl refl), refl, still f _ x refl refl), refl)) (λ x. (inside_of _ x ∙ f.1, (refl, knows f _ x refl))) (λ x. let s = still f _ x refl refl in (s.1, (refl, s.0)))
-          (λ x. ((inr (omega arith, inr (inr refl)), refl, still f _ x refl refl), refl)) (λ x. ((inr (omega arith, inl refl), refl, still f _ x refl refl), refl))
-          (λ x. let s = still f _ x refl refl in (s.1, (refl, s.0))) (λ x. ((inr (omega arith, inr (inr refl)), refl, still f _ x refl refl), refl))
+          (λ x. ((inr (omega arith, inl refl), refl, still f _ x.1 refl refl), refl)) (λ x. (inside_of _ x.1 ∙ f.1, (refl, knows f _ x.1 refl))) (λ x. let s = still f _ x.1 refl refl in (s.1, (refl, s.0)))
+          (λ x. ((inr (omega arith, inr (inr refl)), refl, still f _ x.1 refl refl), refl)) (λ x. ((inr (omega arith, inl refl), refl, still f _ x.1 refl refl), refl))
+          (λ x. let s = still f _ x.1 refl refl in (s.1, (refl, s.0))) (λ x. ((inr (omega arith, inr (inr refl)), refl, still f _ x.1 refl refl), refl))
       lands (CallOnce true) r = each_once_code (Lands (CallOnce true) r)
-          (λ x. ((inr (omega arith, inl refl), refl, still f _ x refl refl), refl)) (λ x. (inside_of _ x ∙ f.1, (refl, knows f _ x refl))) (λ x. ((inr (omega arith, inr (inl refl)), refl, still f _ x refl refl), refl))
-          (λ x. ((inr (omega arith, inr (inr refl)), refl, still f _ x refl refl), refl)) (λ x. ((inr (omega arith, inl refl), refl, still f _ x refl refl), refl))
-          (λ x. ((inr (omega arith, inr (inl refl)), refl, still f _ x refl refl), refl)) (λ x. ((inr (omega arith, inr (inr refl)), refl, still f _ x refl refl), refl))
+          (λ x. ((inr (omega arith, inl refl), refl, still f _ x.1 refl refl), refl)) (λ x. (inside_of _ x.1 ∙ f.1, (refl, knows f _ x.1 refl))) (λ x. ((inr (omega arith, inr (inl refl)), refl, still f _ x.1 refl refl), refl))
+          (λ x. ((inr (omega arith, inr (inr refl)), refl, still f _ x.1 refl refl), refl)) (λ x. ((inr (omega arith, inl refl), refl, still f _ x.1 refl refl), refl))
+          (λ x. ((inr (omega arith, inr (inl refl)), refl, still f _ x.1 refl refl), refl)) (λ x. ((inr (omega arith, inr (inr refl)), refl, still f _ x.1 refl refl), refl))
       lands (Wait false) r = each_once_code (Lands (Wait false) r)
-          (λ x. ((inr (omega arith, inl refl), refl, still f _ x refl refl), refl)) (λ x. (inside_of _ x ∙ f.1, (refl, knows f _ x refl))) (λ x. let s = still f _ x refl refl in (s.1, (refl, s.0)))
-          (λ x. ((inr (omega arith, inr (inr refl)), refl, still f _ x refl refl), refl)) (λ x. ((inr (omega arith, inl refl), refl, still f _ x refl refl), refl))
-          (λ x. let s = still f _ x refl refl in (s.1, (refl, s.0))) (λ x. ((inr (omega arith, inr (inr refl)), refl, still f _ x refl refl), refl))
+          (λ x. ((inr (omega arith, inl refl), refl, still f _ x.1 refl refl), refl)) (λ x. (inside_of _ x.1 ∙ f.1, (refl, knows f _ x.1 refl))) (λ x. let s = still f _ x.1 refl refl in (s.1, (refl, s.0)))
+          (λ x. ((inr (omega arith, inr (inr refl)), refl, still f _ x.1 refl refl), refl)) (λ x. ((inr (omega arith, inl refl), refl, still f _ x.1 refl refl), refl))
+          (λ x. let s = still f _ x.1 refl refl in (s.1, (refl, s.0))) (λ x. ((inr (omega arith, inr (inr refl)), refl, still f _ x.1 refl refl), refl))
       lands (Wait true) r = each_once_code (Lands (Wait true) r)
-          (λ x. ((inr (omega arith, inl refl), refl, still f _ x refl refl), refl)) (λ x. (inside_of _ x ∙ f.1, (refl, knows f _ x refl))) (λ x. ((inr (omega arith, inr (inl refl)), refl, still f _ x refl refl), refl))
-          (λ x. ((inr (omega arith, inr (inr refl)), refl, still f _ x refl refl), refl)) (λ x. ((inr (omega arith, inl refl), refl, still f _ x refl refl), refl))
-          (λ x. ((inr (omega arith, inr (inl refl)), refl, still f _ x refl refl), refl)) (λ x. ((inr (omega arith, inr (inr refl)), refl, still f _ x refl refl), refl))
+          (λ x. ((inr (omega arith, inl refl), refl, still f _ x.1 refl refl), refl)) (λ x. (inside_of _ x.1 ∙ f.1, (refl, knows f _ x.1 refl))) (λ x. ((inr (omega arith, inr (inl refl)), refl, still f _ x.1 refl refl), refl))
+          (λ x. ((inr (omega arith, inr (inr refl)), refl, still f _ x.1 refl refl), refl)) (λ x. ((inr (omega arith, inl refl), refl, still f _ x.1 refl refl), refl))
+          (λ x. ((inr (omega arith, inr (inl refl)), refl, still f _ x.1 refl refl), refl)) (λ x. ((inr (omega arith, inr (inr refl)), refl, still f _ x.1 refl refl), refl))
       lands WaitTimed r = each_once_code (Lands WaitTimed r)
-          (λ x. ((inr (omega arith, inl refl), refl, still f _ x refl refl), refl)) (λ x. (inside_of _ x ∙ f.1, (refl, knows f _ x refl))) (λ x. let s = still f _ x refl refl in (s.1, (refl, s.0)))
-          (λ x. ((inr (omega arith, inr (inr refl)), refl, still f _ x refl refl), refl)) (λ x. ((inr (omega arith, inl refl), refl, still f _ x refl refl), refl))
-          (λ x. let s = still f _ x refl refl in (s.1, (refl, s.0))) (λ x. ((inr (omega arith, inr (inr refl)), refl, still f _ x refl refl), refl))
+          (λ x. ((inr (omega arith, inl refl), refl, still f _ x.1 refl refl), refl)) (λ x. (inside_of _ x.1 ∙ f.1, (refl, knows f _ x.1 refl))) (λ x. let s = still f _ x.1 refl refl in (s.1, (refl, s.0)))
+          (λ x. ((inr (omega arith, inr (inr refl)), refl, still f _ x.1 refl refl), refl)) (λ x. ((inr (omega arith, inl refl), refl, still f _ x.1 refl refl), refl))
+          (λ x. let s = still f _ x.1 refl refl in (s.1, (refl, s.0))) (λ x. ((inr (omega arith, inr (inr refl)), refl, still f _ x.1 refl refl), refl))
 
       abbrev Saw : OnceCall → Bool → ℕ → ℕ → ℕ → Type 0
       Saw c r from to seen = new ≡ stepped kinds.TheVariants.Once (once_at l) (Exchange from to) seen st → Reached up base (Once l (Look c r (look.Decide from))) (Value seen) new
@@ -140,7 +141,7 @@ module _ (l : ℕ) (base : List Ownership) (st : Stage) where
       -- an exchange that finds another value is a look
       misses : (c : OnceCall) (r : Bool) (from to seen : ℕ) → IsOnceWord seen → seen ≢ from → Saw c r from to seen
       misses c r from to seen word ne x = let found : apply (Exchange from to) seen ≡ seen = ap (λ (b : Bool). cond b to seen) (ne_eqb seen from ne) in
-          rw (ne_eqb seen from ne) (lands c r seen word (x ∙ ap (λ (left : ℕ). stage (owns_after (once_at l) (once_trade seen left) st.owns) st.inside None) found))
+          rw (ne_eqb seen from ne) (lands c r seen word (st.steps ++ step (once_at l) (Exchange from to) seen, x ∙ ap (λ (left : ℕ). stage (owns_after (once_at l) (once_trade seen left) st.owns) st.inside None (st.steps ++ step (once_at l) (Exchange from to) seen)) found))
 
       abbrev Leads : OnceCall → Bool → ℕ → Type 0
       Leads c r from = goes_on (course_of c from) ≡ true → (reply : Reply) → Became up onces (at_once l) (sleeper_at (Once l (Look c r (look.Decide from)))) st (decided l c from) reply new → Reached up base (Once l (Look c r (look.Decide from))) reply new
@@ -190,8 +191,8 @@ module _ (l : ℕ) (base : List Ownership) (st : Stage) where
 
     -- the look inside the section
     checks : StandsWithin l base st → (seen : ℕ) → IsOnceWord seen → Checked seen
-    checks f = each_once_code Checked (λ x. within f _ x refl refl) (λ x. within_done f _ x refl refl) (λ x. within f _ x refl refl)
-        (λ x. within f _ x refl refl) (λ x. within f _ x refl refl) (λ x. within f _ x refl refl) (λ x. within f _ x refl refl)
+    checks f = each_once_code Checked (λ x. within f _ x.1 refl refl) (λ x. within_done f _ x.1 refl refl) (λ x. within f _ x.1 refl refl)
+        (λ x. within f _ x.1 refl refl) (λ x. within f _ x.1 refl refl) (λ x. within f _ x.1 refl refl) (λ x. within f _ x.1 refl refl)
 
     abbrev Cleared : ℕ → Type 0
     Cleared seen = new ≡ stepped kinds.TheVariants.Once (once_at l) (And NOT_MARKED) seen st → StandsWithin l base new
@@ -205,9 +206,9 @@ module _ (l : ℕ) (base : List Ownership) (st : Stage) where
     nobody e = cc
 
     look_leads : (c : OnceCall) (r : Bool) (at : LookAt) → FitsLook l c base at st → (reply : Reply) → Became up onces (at_once l) (sleeper_at (Once l (Look c r at))) st (look_act l c at) reply new → Reached up base (Once l (Look c r at)) reply new
-    look_leads c r look.Load f (Value seen) b = lands f c r seen b.0.1.0 b.1
+    look_leads c r look.Load f (Value seen) b = lands f c r seen b.0.1.0 (st.steps ++ step (once_at l) Load seen, b.1)
     look_leads c r (look.Decide seen) f reply b = decides f.2 c r seen f.0 f.1 reply b
-    look_leads c r look.Check f (Parked parked) b = (checks f b.0 b.2.0.1.0 b.2.1, refl)
+    look_leads c r look.Check f (Parked parked) b = (checks f b.0 b.2.0.1.0 (st.steps ++ step (once_at l) Load b.0, b.2.1), refl)
     look_leads c r (look.Leave true) f Done b = (((f.0.0, b.0 ∙ f.0.1), b.1), refl)
     look_leads c r (look.Leave false) f Done b = (((f.0.0, b.0 ∙ f.0.1), b.1), refl)
     look_leads c r look.Asleep f (Woken Normal) b = (((f.0.0, b.0 ∙ f.0.1), b.1), refl)

@@ -44,7 +44,7 @@ use Rattle.lot_words.proofs.RwLockOwning.{downgraded, downgraded_to_upgradable, 
 use Rattle.lot_steps.specs.Steps.{act_of}
 use Rattle.lot_driver.specs.Paths.{rwlock_at}
 use Rattle.lot_driver.specs.RwLockCalls.{AnswersCall, BeginsWith, first_op, rwlock_begin}
-use Rattle.lot_driver.specs.RwLockFitting.{Answers, FitsRwLock, HasGivenWay, HasSeen, IsWithin, IsBeside, OwnsBeside, OwnsRight}
+use Rattle.lot_driver.specs.RwLockFitting.{Answers, FitsRwLock, HasGivenWay, HasSeen, HasStood, IsWithin, IsBeside, OwnsBeside, OwnsRight}
 use Rattle.lot_driver.specs.Stages.{Stage, Stepped}
 use Rattle.lot_driver.proofs.RwLockLeads.{Comes, Kept, leads_at}
 use Rattle.lot_driver.proofs.RwLockNeeds.{has_right}
@@ -95,7 +95,7 @@ module _ (up : Type 0) (l : ℕ) (a : Admission) (base : List Ownership) (st new
   -- it ends, or goes to wake others of a line
   wakes_some : (q : RwLockPurpose) (m : Line) (b : Bool) → (late_at is_late q (wakes m) ≡ true → up) → OwnsBeside l (kept_claim (start_of q)) base new.owns → new.inside ≡ None → AnswersCall up l base a q Ok new
       → ComesBegun up l base a q (wakes_or_ends (record { purpose = q; retries = false; at = at.GiveWay }) m b) new
-  wakes_some q m true late owns none over = (record { begun = tt; seen = tt; owns = owns; within = none; late = late }, refl)
+  wakes_some q m true late owns none over = (record { begun = tt; seen = tt; owns = owns; within = none; stood = tt; late = late }, refl)
   wakes_some q m false late owns none over = (none, over)
 
   never_late : {A : Type 0} → false ≡ true → A
@@ -126,6 +126,7 @@ module _ (up : Type 0) (l : ℕ) (a : Admission) (base : List Ownership) (st new
         record {
           begun = tt;
           seen = tt;
+          stood = tt;
           owns = owns_now (Sub 12) (Some (Pends true)) b (owners.Upgrading, c.1, inr refl, c.3, upgraded_beside (rwlock_at l) seen st.owns b.0 c.1 (of_owner owners.Upgradable c.0 c.1 c.2 c.4) more);
           within = none_now (Sub 12) b;
           late = λ e. never_late e;
@@ -135,12 +136,13 @@ module _ (up : Type 0) (l : ℕ) (a : Admission) (base : List Ownership) (st new
 
   module _ (room : a.limit < 2 ^ 60 - 1) where
     -- a call that enters, or tries to upgrade, begins at a place that fits
-    fits_first : (c : RwLockPurpose) → HasGivenWay (rwlock_first c).at → HasSeen (rwlock_first c).at → (rwlock_doing (rwlock_first c)).inside ≡ None → ((rwlock_profile a (rwlock_first c)).late ≡ true → up) → BeginsWith l c base st.owns → FitsRwLock up l base a (rwlock_first c) st
-    fits_first c begun seen inside late owns = record {
+    fits_first : (c : RwLockPurpose) → HasGivenWay (rwlock_first c).at → HasSeen (rwlock_first c).at → HasStood l (rwlock_first c).at st.steps → (rwlock_doing (rwlock_first c)).inside ≡ None → ((rwlock_profile a (rwlock_first c)).late ≡ true → up) → BeginsWith l c base st.owns → FitsRwLock up l base a (rwlock_first c) st
+    fits_first c begun seen stood inside late owns = record {
       stands = (rwlock_calls_open a c).stands;
       room = room;
       begun = begun;
       seen = seen;
+      stood = stood;
       owns = owns;
       within = subst (λ (o : Option Line). IsWithin l a c o (rwlock_doing (rwlock_first c)).carries st.inside) (sym inside) outside;
       late = late;
@@ -152,13 +154,13 @@ module _ (up : Type 0) (l : ℕ) (a : Admission) (base : List Ownership) (st new
 
     pub begun_comes : (c : RwLockPurpose) → BeginsWith l c base st.owns → Step (first_op c) → ComesBegun up l base a c (rwlock_next a (rwlock_first c) (Value seen)) new
     begun_comes (purpose.Enter access.Exclusive how) owns b = first_enters (purpose.Enter access.Exclusive how) (rwlock_next a (rwlock_first (purpose.Enter access.Exclusive how)) (Value seen)) (λ answer h. h)
-        (leads_at up l a base (purpose.Enter access.Exclusive how) false st new at.First (fits_first (purpose.Enter access.Exclusive how) tt tt refl (λ e. never_late e) owns) (Value seen) b).0
+        (leads_at up l a base (purpose.Enter access.Exclusive how) false st new at.First (fits_first (purpose.Enter access.Exclusive how) tt tt tt refl (λ e. never_late e) owns) (Value seen) b).0
     begun_comes (purpose.Enter access.Shared how) owns b = first_enters (purpose.Enter access.Shared how) (rwlock_next a (rwlock_first (purpose.Enter access.Shared how)) (Value seen)) (λ answer h. h)
-        (leads_at up l a base (purpose.Enter access.Shared how) false st new at.Load (fits_first (purpose.Enter access.Shared how) tt tt refl (λ e. never_late e) owns) (Value seen) b).0
+        (leads_at up l a base (purpose.Enter access.Shared how) false st new at.Load (fits_first (purpose.Enter access.Shared how) tt tt tt refl (λ e. never_late e) owns) (Value seen) b).0
     begun_comes (purpose.Enter access.Upgradable how) owns b = first_enters (purpose.Enter access.Upgradable how) (rwlock_next a (rwlock_first (purpose.Enter access.Upgradable how)) (Value seen)) (λ answer h. h)
-        (leads_at up l a base (purpose.Enter access.Upgradable how) false st new at.Load (fits_first (purpose.Enter access.Upgradable how) tt tt refl (λ e. never_late e) owns) (Value seen) b).0
+        (leads_at up l a base (purpose.Enter access.Upgradable how) false st new at.Load (fits_first (purpose.Enter access.Upgradable how) tt tt tt refl (λ e. never_late e) owns) (Value seen) b).0
     begun_comes (purpose.Upgrade Try) owns b = first_enters (purpose.Upgrade Try) (rwlock_next a (rwlock_first (purpose.Upgrade Try)) (Value seen)) (λ answer h. h)
-        (leads_at up l a base (purpose.Upgrade Try) false st new at.Load (fits_first (purpose.Upgrade Try) tt tt refl (λ e. never_late e) owns) (Value seen) b).0
+        (leads_at up l a base (purpose.Upgrade Try) false st new at.Load (fits_first (purpose.Upgrade Try) tt tt tt refl (λ e. never_late e) owns) (Value seen) b).0
     begun_comes (purpose.Upgrade Patient) owns b = gave_upgrade Patient owns b
     begun_comes (purpose.Upgrade Timed) owns b = gave_upgrade Timed owns b
     begun_comes (purpose.Release x) owns b = gave_release x owns b
@@ -183,5 +185,5 @@ module _ (up : Type 0) (l : ℕ) (a : Admission) (base : List Ownership) (st new
         told (purpose.Downgrade d) s = s
 
         by_next : (n : Next RwLockPlace) → MayStandNext a n → ComesBegun up l base a c n new → Begun c n
-        by_next (At p) stands k = (record { stands = stands; room = room; begun = k.0.begun; seen = k.0.seen; owns = k.0.owns; within = k.0.within; late = k.0.late }, k.1)
+        by_next (At p) stands k = (record { stands = stands; room = room; begun = k.0.begun; seen = k.0.seen; owns = k.0.owns; within = k.0.within; stood = k.0.stood; late = k.0.late }, k.1)
         by_next (End answer) stands k = k

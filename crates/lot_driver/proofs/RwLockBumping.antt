@@ -83,7 +83,7 @@ module _ (up : Type 0) (l : ℕ) (a : Admission) (base : List Ownership) where
 
     -- by what the plain call came to
     comes : (new : Stage) (q : RwLockPurpose) → IsOfBump q p.retries → (n : Next RwLockPlace) → CallStandsNext a (bump_next q n) → Comes up l base a q n new → Goes new q n
-    comes new q of (At p2) stands c = goes_at new q p2 stands (record { stands = stands.0; room = f.room; begun = c.0.begun; seen = c.0.seen; owns = c.0.owns; within = c.0.within; late = c.0.late }) c.1
+    comes new q of (At p2) stands c = goes_at new q p2 stands (record { stands = stands.0; room = f.room; begun = c.0.begun; seen = c.0.seen; owns = c.0.owns; within = c.0.within; stood = c.0.stood; late = c.0.late }) c.1
     comes new (purpose.Enter x Patient) of (End answer) stands c = c
     comes new (purpose.Enter x Timed) of (End answer) stands c = absurd of
     comes new (purpose.Enter x Try) of (End answer) stands c = absurd of

@@ -93,7 +93,7 @@ module _ (up : Type 0) (l : ℕ) (a : Admission) (base : List Ownership) (st new
 
   -- how it owns the lock, beside what it owned
   abbrev Handed : Want → Type 0
-  Handed x = (owner : Owner) × MayHand kinds_of.RwLock x owner × (new ≡ stage (owning (rwlock_at l) owner ∷ st.owns) st.inside st.last)
+  Handed x = (owner : Owner) × MayHand kinds_of.RwLock x owner × (new ≡ stage (owning (rwlock_at l) owner ∷ st.owns) st.inside st.last st.steps)
 
   -- a writer waits for the last readers, or finds none
   pub writer_looks : (how : Patience) (again : Bool) → FitsRwLock up l base a (asleep (purpose.Enter access.Exclusive how) again) st → Handed wants.Exclusive → FitsRwLock up l base a (record { purpose = purpose.Enter access.Exclusive how; retries = false; at = at.Look }) new
@@ -102,6 +102,7 @@ module _ (up : Type 0) (l : ℕ) (a : Admission) (base : List Ownership) (st new
     room = f.room;
     begun = tt;
     seen = tt;
+    stood = tt;
     owns = (h.0, st.owns, h.1, f.owns, ap (λ (s : Stage). s.owns) h.2);
     within = ap (λ (s : Stage). s.inside) h.2 ∙ f.within;
     late = λ e. absurd cc;
@@ -112,7 +113,7 @@ module _ (up : Type 0) (l : ℕ) (a : Admission) (base : List Ownership) (st new
       fresh Patient = tt
       fresh Timed = tt
 
-  reads_now : (o : Owner) (x : Access) (how : Patience) (again : Bool) → FitsRwLock up l base a (asleep (purpose.Enter x how) again) st → owner_for (wanted x) ≡ o → (h : (owner : Owner) × (owner ≡ o) × (new ≡ stage (owning (rwlock_at l) owner ∷ st.owns) st.inside st.last)) → IsBeside l base st.owns → st.inside ≡ None → OwnsRight l (wanted x) base new.owns × (new.inside ≡ None)
+  reads_now : (o : Owner) (x : Access) (how : Patience) (again : Bool) → FitsRwLock up l base a (asleep (purpose.Enter x how) again) st → owner_for (wanted x) ≡ o → (h : (owner : Owner) × (owner ≡ o) × (new ≡ stage (owning (rwlock_at l) owner ∷ st.owns) st.inside st.last st.steps)) → IsBeside l base st.owns → st.inside ≡ None → OwnsRight l (wanted x) base new.owns × (new.inside ≡ None)
   reads_now o x how again f is h beside outside = ((h.0, st.owns, h.1 ∙ sym is, beside, ap (λ (s : Stage). s.owns) h.2), ap (λ (s : Stage). s.inside) h.2 ∙ outside)
 
   abbrev Goes : RwLockCallPlace → Type 0

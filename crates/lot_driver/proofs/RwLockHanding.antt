@@ -1,5 +1,5 @@
 -- An owner that hands a reader-writer lock over: each act is one that it may take, and each reply leads on.
-use Rattle.std.proofs.Common.{ℕ, Bool, true, false, List, [], ◌∷◌, Option, Some, None, if◌then◌else◌, ◌==◌, ◌≡◌, ◌≢◌, inl, inr, ◌-◌, ◌*◌, ◌/◌, ◌^◌, ◌<◌, ◌≤◌, length, refl, ap, ◌∙◌, sym, subst, suc, eq-eqb, ne_eqb}
+use Rattle.std.proofs.Common.{◌++◌, ℕ, Bool, true, false, List, [], ◌∷◌, Option, None, if◌then◌else◌, ◌==◌, ◌≡◌, ◌≢◌, inl, inr, ◌-◌, ◌*◌, ◌/◌, ◌^◌, ◌<◌, ◌≤◌, length, refl, ap, ◌∙◌, sym, subst, suc, eq-eqb, ne_eqb}
 use mathlib.Core.Logic.{dite}
 use native.Mathlib.Decide.{ℕ_discrete}
 use Rattle.lot_base.specs.Lines.{threads_of}
@@ -45,10 +45,10 @@ use Rattle.lot_words.specs.declared.owners.Ownership.{Ownership}
 use Rattle.lot_words.specs.declared.words.WordKind.TheVariants as kinds
 use Rattle.parking_lot_core.specs.declared.tokens.Did.TheVariants as did
 use Rattle.lot_driver.specs.Fitting.{Reached, ReachedBy, answer_of, handing_aim, sleeper_at}
-use Rattle.lot_driver.specs.Paths.{at_rwlock, closure_of, rwlock_at, rwlocks}
+use Rattle.lot_driver.specs.Paths.{at_rwlock, closure_of, rwlock_at, rwlocks, step}
 use Rattle.lot_driver.specs.RwLockFitting.{AreTaken, FitsHandOver, FitsRwLock, GaveFairly, HandsOver, HasInHand, HasPicked, IsBeside, IsUpgradableWord, OwnsRight, still_rightless}
 use Rattle.lot_driver.specs.Takes.{more_in, sharers_in, successor_in}
-use Rattle.lot_driver.specs.Stages.{ActNeeds, Became, HandsEach, HasDone, HasKey, Inside, IsFresh, IsLeft, IsUngiven, MayLeave, Stage, Stepped, all_given, entered_now, handed, having_taken, owns_when_handed, stage, stepped, took_as, wanted_in}
+use Rattle.lot_driver.specs.Stages.{ActNeeds, Became, HandsEach, HasDone, HasKey, Inside, IsFresh, IsLeft, IsUngiven, MayLeave, Stage, Stepped, all_given, entered_now, handed, owns_when_handed, stage, stepped, took_as, wanted_in}
 use Rattle.lot_driver.proofs.Leaving.{has_done}
 use Rattle.lot_driver.proofs.RwLockHands.{exchange_hands, exchange_leaves, exchange_needs, free_word, given_word, may_give_up, nobody_taken, owns_given_up, sees_own, store_hands, store_leaves, store_needs}
 use Rattle.lot_driver.proofs.RwLockKeeping.{look_upgradable, missed_same}
@@ -127,9 +127,9 @@ module _ (l : ℕ) (a : Admission) (base : List Ownership) (st : Stage) (room : 
 module _ (up : Type 0) (l : ℕ) (a : Admission) (base : List Ownership) (room : a.limit < 2 ^ 60 - 1) (bumps : Bool) (st new : Stage) where
   -- who bumps enters again
   pub enters_fit : (x : Access) → IsBeside l base new.owns → new.inside ≡ None → FitsRwLock up l base a (rwlock_first (purpose.Enter x Patient)) new
-  enters_fit access.Shared beside none = record { stands = (rwlock_calls_open a (purpose.Enter access.Shared Patient)).stands; room = room; begun = tt; seen = tt; owns = beside; within = none; late = λ e. absurd cc }
-  enters_fit access.Upgradable beside none = record { stands = (rwlock_calls_open a (purpose.Enter access.Upgradable Patient)).stands; room = room; begun = tt; seen = tt; owns = beside; within = none; late = λ e. absurd cc }
-  enters_fit access.Exclusive beside none = record { stands = (rwlock_calls_open a (purpose.Enter access.Exclusive Patient)).stands; room = room; begun = tt; seen = tt; owns = beside; within = none; late = λ e. absurd cc }
+  enters_fit access.Shared beside none = record { stands = (rwlock_calls_open a (purpose.Enter access.Shared Patient)).stands; room = room; begun = tt; seen = tt; owns = beside; within = none; stood = tt; late = λ e. absurd cc }
+  enters_fit access.Upgradable beside none = record { stands = (rwlock_calls_open a (purpose.Enter access.Upgradable Patient)).stands; room = room; begun = tt; seen = tt; owns = beside; within = none; stood = tt; late = λ e. absurd cc }
+  enters_fit access.Exclusive beside none = record { stands = (rwlock_calls_open a (purpose.Enter access.Exclusive Patient)).stands; room = room; begun = tt; seen = tt; owns = beside; within = none; stood = tt; late = λ e. absurd cc }
 
   abbrev Reach : Access → Next RwLockCallPlace → Type 0
   Reach x n = ReachedBy up base (handing_aim l a x bumps) (rwlock_goes l a n) (answer_of (rwlock_does l a n)) new
@@ -138,10 +138,10 @@ module _ (up : Type 0) (l : ℕ) (a : Admission) (base : List Ownership) (room :
   goes x to h f = subst (λ (o : Option Answer). ReachedBy up base (handing_aim l a x bumps) (RwLock l a (HandOver x bumps to)) o new) (sym (hand_over_goes_on l a x to).0) ((h, room, f), refl)
 
   -- it has given its right up
-  gave_up : (x : Access) → new.inside ≡ None → IsBeside l base new.owns → GaveFairly l a x new.last → Reach x (released x bumps)
+  gave_up : (x : Access) → new.inside ≡ None → IsBeside l base new.owns → GaveFairly l a x new.last new.steps → Reach x (released x bumps)
   gave_up x none beside gave = by_call bumps x gave
     where
-      by_call : (b : Bool) (x : Access) → GaveFairly l a x new.last → ReachedBy up base (handing_aim l a x b) (rwlock_goes l a (released x b)) (answer_of (rwlock_does l a (released x b))) new
+      by_call : (b : Bool) (x : Access) → GaveFairly l a x new.last new.steps → ReachedBy up base (handing_aim l a x b) (rwlock_goes l a (released x b)) (answer_of (rwlock_does l a (released x b))) new
       by_call false x gave = (none, refl, beside, gave)
       by_call true access.Shared gave = ((tt, enters_fit access.Shared beside none), refl)
       by_call true access.Upgradable gave = ((tt, enters_fit access.Upgradable beside none), refl)
@@ -168,7 +168,7 @@ module _ (up : Type 0) (l : ℕ) (a : Admission) (base : List Ownership) (room :
   left_section : (x : Access) (any given : Bool) → HandsOver x (handing.Leave any given) → FitsHandOver l base a x (handing.Leave any given) st → new.owns ≡ st.owns → new.inside ≡ None → IsLeft st.inside new.last → Reach x (released x bumps)
   left_section x any given h f same none left = gave_up x none (subst (IsBeside l base) (sym same) f.0) (by_access x h (has_done _ _ _ f.1.2 left))
     where
-      by_access : (x : Access) → HandsOver x (handing.Leave any given) → HasDone (2 * l) (did.TakePicked (2 * l) None a.recursive) new.last → GaveFairly l a x new.last
+      by_access : (x : Access) → HandsOver x (handing.Leave any given) → HasDone (2 * l) (did.TakePicked (2 * l) None a.recursive) new.last → GaveFairly l a x new.last new.steps
       by_access access.Upgradable h took = inr took
       by_access access.Exclusive h took = took
       by_access access.Shared h took = absurd h
@@ -213,16 +213,16 @@ module _ (up : Type 0) (l : ℕ) (a : Admission) (base : List Ownership) (room :
   saw op seen b right = sees_own (rwlock_at l) seen st.owns b.0 (has_right l owners.Upgradable base st.owns right)
 
   looked_comes : (seen : ℕ) → OwnsRight l wants.Upgradable base new.owns → new.inside ≡ None → IsUpgradableWord seen → Reach access.Upgradable (At (HandOver access.Upgradable bumps (looked seen)))
-  looked_comes seen right none own = by_bit (has_parked seen)
+  looked_comes seen right none own = by_bit (has_parked seen) refl
     where
-      by_bit : (b : Bool) → Reach access.Upgradable (At (HandOver access.Upgradable bumps (if b then handing.Enter else handing.Free seen)))
-      by_bit true = goes access.Upgradable handing.Enter tt (right, none)
-      by_bit false = goes access.Upgradable (handing.Free seen) tt (right, none, own)
+      by_bit : (b : Bool) → has_parked seen ≡ b → Reach access.Upgradable (At (HandOver access.Upgradable bumps (if b then handing.Enter else handing.Free seen)))
+      by_bit true some = goes access.Upgradable handing.Enter tt (right, none)
+      by_bit false clear = goes access.Upgradable (handing.Free seen) tt (right, none, own, clear)
 
   freed : (expected : ℕ) → FitsHandOver l base a access.Upgradable (handing.Free expected) st → Step (Exchange expected (without_right access.Upgradable expected)) expected → Reach access.Upgradable (released access.Upgradable bumps)
   freed expected f b = let mine = has_right l owners.Upgradable base st.owns f.0 in
       let owns : new.owns ≡ without (owning (rwlock_at l) owners.Upgradable) st.owns = owns_of _ b.1 ∙ owns_given_up (rwlock_at l) st.owns mine expected f.2 (without_right access.Upgradable expected) (free_word expected f.2) b.0 in
-      gave_up access.Upgradable (inside_of _ b.1 ∙ f.1) (subst (IsBeside l base) (sym owns) (left_beside l owners.Upgradable base st.owns f.0)) (inl (last_of _ b.1))
+      gave_up access.Upgradable (inside_of _ b.1 ∙ f.1) (subst (IsBeside l base) (sym owns) (left_beside l owners.Upgradable base st.owns f.0)) (inl (last_of _ b.1, (st.steps, Exchange expected (without_right access.Upgradable expected), expected, f.3, ap (λ (s : Stage). s.steps) b.1)))
 
   frees : (expected seen : ℕ) → FitsHandOver l base a access.Upgradable (handing.Free expected) st → Step (Exchange expected (without_right access.Upgradable expected)) seen
       → Reach access.Upgradable (if seen == expected then released access.Upgradable bumps else At (HandOver access.Upgradable bumps (looked seen)))
@@ -257,14 +257,14 @@ module _ (up : Type 0) (l : ℕ) (a : Admission) (base : List Ownership) (room :
     op = Exchange expected (with_taken access.Upgradable k expected)
 
     abbrev after_hand : Stage
-    after_hand = stage (owns_when_handed kinds.RwLock (rwlock_at l) op expected (wanted_in st.inside) st.owns) (all_given st.inside) None
+    after_hand = stage (owns_when_handed kinds.RwLock (rwlock_at l) op expected (wanted_in st.inside) st.owns) (all_given st.inside) None (st.steps ++ step (rwlock_at l) op expected)
 
     hands : (seen : ℕ) → has_room a.limit k expected ≡ true → CodesWith kinds.RwLock (rwlock_at l) seen st.owns → new ≡ handed kinds.RwLock (rwlock_at l) (Exchange expected (with_taken access.Upgradable k expected)) seen st → Goes seen (seen == expected)
     hands seen fits code e = dite (ℕ_discrete seen expected)
         (λ same. won same (subst (λ (s : ℕ). CodesWith kinds.RwLock (rwlock_at l) s st.owns) same code)
         (e ∙ ap (λ (s : ℕ). handed kinds.RwLock (rwlock_at l) op s st) same ∙ ap (λ (t : Bool). if t then after_hand else stepped kinds.RwLock (rwlock_at l) op expected st) (eq-eqb expected expected refl)))
         (λ ne. subst (Goes seen) (sym (ne_eqb seen expected ne)) (missed (with_taken access.Upgradable k expected) seen ne
-        (code, e ∙ ap (λ (t : Bool). if t then stage (owns_when_handed kinds.RwLock (rwlock_at l) op seen (wanted_in st.inside) st.owns) (all_given st.inside) None else stepped kinds.RwLock (rwlock_at l) op seen st) (ne_eqb seen expected ne))))
+        (code, e ∙ ap (λ (t : Bool). if t then stage (owns_when_handed kinds.RwLock (rwlock_at l) op seen (wanted_in st.inside) st.owns) (all_given st.inside) None (st.steps ++ step (rwlock_at l) op seen) else stepped kinds.RwLock (rwlock_at l) op seen st) (ne_eqb seen expected ne))))
       where
         won : seen ≡ expected → CodesWith kinds.RwLock (rwlock_at l) expected st.owns → new ≡ after_hand → Goes seen (seen == expected)
         won same code e = let mine = has_right l owners.Upgradable base st.owns f.0 in

@@ -59,7 +59,7 @@ module _ (up : Type 0) (l : ℕ) (a : Admission) (base : List Ownership) (p : Rw
   -- where a reply led, by what was kept
   reached_by : (new : Stage) (next : Next RwLockPlace) → MayStandNext a next → Comes up l base a p.purpose next new → ReachedBy up base (of_rwlock l a p.purpose) (rwlock_goes l a (plain_next next)) (answer_of (rwlock_does l a (plain_next next))) new
   reached_by new (At p2) stands c = subst (λ (o : Option Answer). ReachedBy up base (of_rwlock l a p.purpose) (RwLock l a (Plain p2)) o new) (sym (goes_on l a p2 stands).0)
-      (record { stands = stands; room = f.room; begun = c.0.begun; seen = c.0.seen; owns = c.0.owns; within = c.0.within; late = c.0.late }, ap (of_rwlock l a) c.1)
+      (record { stands = stands; room = f.room; begun = c.0.begun; seen = c.0.seen; owns = c.0.owns; within = c.0.within; stood = c.0.stood; late = c.0.late }, ap (of_rwlock l a) c.1)
   reached_by new (End answer) stands c = c
 
   pub rwlock_leads : (reply : Reply) (new : Stage) → Became up rwlocks (at_rwlock l) (sleeper_at (RwLock l a (Plain p))) st (rwlock_act l a p) reply new → Reached up base (RwLock l a (Plain p)) reply new

@@ -1,5 +1,5 @@
 -- Each reply to an act of a reader-writer call leads to a place that fits, or ends the call rightly.
-use Rattle.std.proofs.Common.{ℕ, Bool, true, false, List, Option, Some, None, if◌then◌else◌, ◌==◌, ◌&&◌, not, ◌≡◌, ◌≢◌, inl, inr, ◌+◌, ◌-◌, ◌*◌, ◌/◌, ◌^◌, ◌<◌, refl, ap, ◌∙◌, sym, subst, arith, bit_and, eq-eqb, ne_eqb}
+use Rattle.std.proofs.Common.{ℕ, Bool, true, false, List, Option, Some, None, if◌then◌else◌, ◌==◌, ◌&&◌, not, ◌≡◌, ◌≢◌, ◌++◌, inl, inr, ◌+◌, ◌-◌, ◌*◌, ◌/◌, ◌^◌, ◌<◌, refl, ap, ◌∙◌, sym, subst, arith, bit_and, eq-eqb, ne_eqb}
 use Rattle.std.proofs.lemmas.Nat.{and-not, and_comm}
 use Rattle.std.proofs.lemmas.Nat.Bits.{and_pow}
 use Rattle.std.proofs.lemmas.Bool.{eqb-true}
@@ -52,8 +52,8 @@ use Rattle.lot_words.specs.declared.owners.Ownership.{Ownership}
 use Rattle.lot_words.specs.declared.words.WordKind.TheVariants as kinds
 use Rattle.lot_words.proofs.RwLockOwning.{fits}
 use Rattle.lot_driver.specs.Fitting.{sleeper_at}
-use Rattle.lot_driver.specs.Paths.{rwlock_at, rwlocks, at_rwlock}
-use Rattle.lot_driver.specs.RwLockFitting.{Answers, FitsRwLock, HasGivenWay, HasSeen, IsBeside, IsCounted, IsRwLockOver, IsWithin, MayGiveUp, OwnsBeside, OwnsRight, TookWoken, did_wake, woken_line}
+use Rattle.lot_driver.specs.Paths.{rwlock_at, rwlocks, at_rwlock, step}
+use Rattle.lot_driver.specs.RwLockFitting.{Answers, FellBack, FitsRwLock, HasGivenWay, HasSeen, HasStood, IsBeside, IsCounted, IsRwLockOver, IsWithin, MayGiveUp, OwnsBeside, OwnsRight, LookedInLine, LookedLast, TookWoken, did_wake, woken_line}
 use Rattle.lot_driver.specs.declared.sleepers.Sleeper.{Sleeper}
 use Rattle.lot_driver.specs.Stages.{Stage, Inside, Became, HasDone, IsLeft, Stepped, TookNobodyAt, entered_now, listed, stage, took_as}
 use Rattle.lot_driver.proofs.RwLockDeciding.{marks, marks_aside, marks_clear, refuses, takes_shared, takes_upgradable, takes_exclusive, upgrades}
@@ -88,6 +88,7 @@ pub record Kept (up : Type 0) (l : ℕ) (base : List Ownership) (a : Admission) 
   pub seen : HasSeen p.at
   pub owns : OwnsBeside l (rwlock_doing p).claims base st.owns
   pub within : IsWithin l a p.purpose (rwlock_doing p).inside (rwlock_doing p).carries st.inside
+  pub stood : HasStood l p.at st.steps
   pub late : (rwlock_profile a p).late ≡ true → up
 
 -- what a call came to
@@ -137,6 +138,9 @@ module _ (up : Type 0) (l : ℕ) (a : Admission) (base : List Ownership) (q : Rw
     last_now : (op : Op) (seen : ℕ) → Step op seen → new.last ≡ None
     last_now op seen b = ap (λ (x : Stage). x.last) b.1
 
+    steps_now : (op : Op) (seen : ℕ) → Step op seen → new.steps ≡ st.steps ++ step (rwlock_at l) op seen
+    steps_now op seen b = ap (λ (x : Stage). x.steps) b.1
+
     small : (op : Op) (seen : ℕ) → Step op seen → seen < 2 ^ 64
     small op seen b = fits (rwlock_at l) seen st.owns b.0
 
@@ -145,12 +149,13 @@ module _ (up : Type 0) (l : ℕ) (a : Admission) (base : List Ownership) (q : Rw
     claims_now op seen c b = subst (OwnsBeside l c base) (sym (owns_now op seen b))
 
     -- at a place outside all sections, where nothing is late
-    rests : (to : RwLockAt) (r : Bool) (c : Option Claim) → HasGivenWay to → HasSeen to → (rwlock_doing (record { purpose = q; retries = r; at = to })).claims ≡ c → (rwlock_doing (record { purpose = q; retries = r; at = to })).inside ≡ None → enters_late is_late to ≡ false
+    rests : (to : RwLockAt) (r : Bool) (c : Option Claim) → HasGivenWay to → HasSeen to → HasStood l to new.steps → (rwlock_doing (record { purpose = q; retries = r; at = to })).claims ≡ c → (rwlock_doing (record { purpose = q; retries = r; at = to })).inside ≡ None → enters_late is_late to ≡ false
         → OwnsBeside l c base new.owns → new.inside ≡ None → Reach (At (record { purpose = q; retries = r; at = to }))
-    rests to r c begun seen claims outside quiet owns none = (
+    rests to r c begun seen stood claims outside quiet owns none = (
       record {
         begun = begun;
         seen = seen;
+        stood = stood;
         owns = subst (λ (x : Option Claim). OwnsBeside l x base new.owns) (sym claims) owns;
         within = subst (λ (x : Option Line). IsWithin l a q x (rwlock_doing (record { purpose = q; retries = r; at = to })).carries new.inside) (sym outside) none;
         late = not_late to quiet;
@@ -162,9 +167,9 @@ module _ (up : Type 0) (l : ℕ) (a : Admission) (base : List Ownership) (q : Rw
 
     -- by a value that it saw, whose right or none it still has
     looked_comes : (to : RwLockAt) (seen : ℕ) → seen < 2 ^ 64 → StandsAt q again (at.Decide seen) → OwnsBeside l (claimed q) base new.owns → new.inside ≡ None → new.last ≡ None → (d : Decision) → decided_for a q seen ≡ d → Reach (looked_by (of to) seen d)
-    looked_comes to seen few stands owns none last decisions.Take e = rests (at.Decide seen) again (claimed q) tt few refl refl refl owns none
-    looked_comes to seen few stands owns none last decisions.Mark e = rests (at.Decide seen) again (claimed q) tt few refl refl refl owns none
-    looked_comes to seen few stands owns none last decisions.Park e = rests (at.Decide seen) again (claimed q) tt few refl refl refl owns none
+    looked_comes to seen few stands owns none last decisions.Take e = rests (at.Decide seen) again (claimed q) tt few tt refl refl refl owns none
+    looked_comes to seen few stands owns none last decisions.Mark e = rests (at.Decide seen) again (claimed q) tt few tt refl refl refl owns none
+    looked_comes to seen few stands owns none last decisions.Park e = rests (at.Decide seen) again (claimed q) tt few tt refl refl refl owns none
     looked_comes to seen few stands owns none last (decisions.Refuse answer) e = (none, by_purpose q stands owns e)
       where
         counts : (x : Access) → is_counted (wanted x) ≡ true → IsCounted x
@@ -181,10 +186,10 @@ module _ (up : Type 0) (l : ℕ) (a : Admission) (base : List Ownership) (q : Rw
 
         by_purpose : (r : RwLockPurpose) → StandsAt r again (at.Decide seen) → OwnsBeside l (claimed r) base new.owns → decided_for a r seen ≡ decisions.Refuse answer → Answers up l base a r answer new
         by_purpose (purpose.Enter x how) stands owns e = elim (refuses a how seen (wanted x) answer e) [
-          | inl tries ↦ inr (inl (tries.0, try_may how tries.1, owns, inl last))
+          | inl tries ↦ inr (inl (tries.0, try_may how tries.1, owns, inl (last, subst (λ (h : Patience). FellBack l (purpose.Enter x h) h new.steps) (sym tries.1) tt)))
           | inr full ↦ inr (inr (full.0, counts x full.1, owns))
         ]
-        by_purpose (purpose.Upgrade Try) stands owns e = inr (refused (count_in seen == 1) e, tt, owns, inl last)
+        by_purpose (purpose.Upgrade Try) stands owns e = inr (refused (count_in seen == 1) e, tt, owns, inl (last, tt))
         by_purpose (purpose.Upgrade Patient) stands owns e = absurd stands
         by_purpose (purpose.Upgrade Timed) stands owns e = absurd stands
         by_purpose (purpose.Release access.Shared) stands owns e = absurd stands
@@ -265,6 +270,7 @@ module _ (up : Type 0) (l : ℕ) (a : Admission) (base : List Ownership) (q : Rw
           record {
             begun = tt;
             seen = tt;
+            stood = tt;
             owns = owned (Some (Pends false)) (plus seen 8) (seen + 8) t.0 b (keeping.writes l base st.owns seen b.0 t.1 owns);
             within = none;
             late = λ h. never h;
@@ -308,7 +314,7 @@ module _ (up : Type 0) (l : ℕ) (a : Admission) (base : List Ownership) (q : Rw
         marked : Step (Exchange seen (plus seen 1)) seen → Reach (stays (of (at.Decide seen)) (at.Decide (plus seen 1)))
         marked b = let m = marks seen f.seen (clear_of seen e) in
             let same : apply (Exchange seen (plus seen 1)) seen / 4 ≡ seen / 4 = subst (λ (k : ℕ). apply (Exchange seen k) seen / 4 ≡ seen / 4) (sym m.0) (keeping.marked_same seen 1 (omega (arith, m.1))) in
-            rests (at.Decide (plus seen 1)) again (claimed q) tt (omega arith) refl refl refl
+            rests (at.Decide (plus seen 1)) again (claimed q) tt (omega arith) tt refl refl refl
             (claims_now (Exchange seen (plus seen 1)) seen (claimed q) b (keeping.unlooked l base st.owns seen b.0 (Exchange seen (plus seen 1)) (claimed q) same (keeping.marked_looks seen (plus seen 1)) f.owns)) (inside_now (Exchange seen (plus seen 1)) seen b ∙ f.within)
 
     -- by what the thread decides: an exchange, or the section of the main queue
@@ -337,6 +343,7 @@ module _ (up : Type 0) (l : ℕ) (a : Admission) (base : List Ownership) (q : Rw
           record {
             begun = tt;
             seen = tt;
+            stood = tt;
             owns = subst (λ (x : List Ownership). IsBeside l base x) (sym (ap (λ (s : Stage). s.owns) b)) (by_purpose q f.stands.place e owns);
             within = ap (λ (s : Stage). s.inside) b;
             late = not_late (at.Park parking.Check) refl;
@@ -366,10 +373,10 @@ module _ (up : Type 0) (l : ℕ) (a : Admission) (base : List Ownership) (q : Rw
             of_claim r is = sym (ap claimed is)
 
             goes_on : Reach (stays (of at.First) at.Load)
-            goes_on = rests at.Load again (claimed q) tt tt refl refl refl (subst (λ (c : Option Claim). OwnsBeside l c base new.owns) (of_claim q is) owns) none
+            goes_on = rests at.Load again (claimed q) tt tt tt refl refl refl (subst (λ (c : Option Claim). OwnsBeside l c base new.owns) (of_claim q is) owns) none
 
             by_patience : (p : Patience) → q ≡ purpose.Enter access.Exclusive p → Reach (missed (of at.First) p)
-            by_patience Try is = (none, subst (λ (r : RwLockPurpose). Answers up l base a r No new) (sym is) (inr (inl (refl, tt, owns, inl (last_now (Exchange 0 8) seen b)))))
+            by_patience Try is = (none, subst (λ (r : RwLockPurpose). Answers up l base a r No new) (sym is) (inr (inl (refl, tt, owns, inl (last_now (Exchange 0 8) seen b, tt)))))
             by_patience Patient is = goes_on
             by_patience Timed is = goes_on
 
@@ -410,7 +417,7 @@ module _ (up : Type 0) (l : ℕ) (a : Admission) (base : List Ownership) (q : Rw
     counted_comes : (to : RwLockAt) (op : Op) (seen : ℕ) → StandsAt q again at.Look → OwnsBeside l (pends q) base st.owns → st.inside ≡ None → apply op seen / 4 ≡ seen / 4 → is_look op seen ≡ true → Step op seen → Reach (counted (of to) seen)
     counted_comes to op seen stands owns outside same look b = dite (ℕ_discrete (seen / 16) 0)
         (λ none. rw (eq-eqb (seen / 16) 0 none) (inside_now op seen b ∙ outside, pending_ends stands (claims_now op seen (Some (Has wants.Exclusive)) b (keeping.look_alone l base st.owns seen b.0 op (falls_back q) same look none owns))))
-        (λ some. rw (ne_eqb (seen / 16) 0 some) (rests (at.Count seen) again (pends q) tt (small op seen b) refl refl refl
+        (λ some. rw (ne_eqb (seen / 16) 0 some) (rests (at.Count seen) again (pends q) tt (small op seen b) tt refl refl refl
         (claims_now op seen (pends q) b (keeping.look_pending l base st.owns seen b.0 op (falls_back q) same some owns)) (inside_now op seen b ∙ outside)))
 
     count_looks : (seen : ℕ) → StandsAt q again (at.Count seen) → StandsAt q again at.Look
@@ -435,6 +442,7 @@ module _ (up : Type 0) (l : ℕ) (a : Admission) (base : List Ownership) (q : Rw
       record {
         begun = tt;
         seen = tt;
+        stood = tt;
         owns = subst (λ (x : List Ownership). OwnsBeside l (pends q) base x) (sym (ap (λ (s : Stage). s.owns) b)) owns;
         within = ap (λ (s : Stage). s.inside) b;
         late = not_late (at.Aside parking.Check) refl;
@@ -455,7 +463,7 @@ module _ (up : Type 0) (l : ℕ) (a : Admission) (base : List Ownership) (q : Rw
         marked : Step (Exchange seen (plus seen 2)) seen → Reach (stays (of (at.Count seen)) at.Marked)
         marked b = let m = marks_aside seen f.seen e in
             let same : apply (Exchange seen (plus seen 2)) seen / 4 ≡ seen / 4 = subst (λ (k : ℕ). apply (Exchange seen k) seen / 4 ≡ seen / 4) (sym m.0) (keeping.marked_same seen 2 (omega (arith, m.1))) in
-            rests at.Marked again (pends q) tt tt refl refl refl
+            rests at.Marked again (pends q) tt tt tt refl refl refl
             (claims_now (Exchange seen (plus seen 2)) seen (pends q) b (keeping.unlooked l base st.owns seen b.0 (Exchange seen (plus seen 2)) (pends q) same (keeping.marked_looks seen (plus seen 2)) f.owns)) (inside_now (Exchange seen (plus seen 2)) seen b ∙ f.within)
     counts_leads seen f true e reply b = absurd b
     counts_leads seen f false e reply b = absurd b
@@ -463,12 +471,13 @@ module _ (up : Type 0) (l : ℕ) (a : Admission) (base : List Ownership) (q : Rw
     -- ---------------------------------------------------------------- in and out of queues
 
     -- at a place inside the section of a line, where nobody is carried
-    inside_of : (to : RwLockAt) (r : Bool) (m : Line) (c : Option Claim) → HasGivenWay to → HasSeen to → (rwlock_doing (record { purpose = q; retries = r; at = to })).claims ≡ c → (rwlock_doing (record { purpose = q; retries = r; at = to })).inside ≡ Some m → (rwlock_doing (record { purpose = q; retries = r; at = to })).carries ≡ false
+    inside_of : (to : RwLockAt) (r : Bool) (m : Line) (c : Option Claim) → HasGivenWay to → HasSeen to → HasStood l to new.steps → (rwlock_doing (record { purpose = q; retries = r; at = to })).claims ≡ c → (rwlock_doing (record { purpose = q; retries = r; at = to })).inside ≡ Some m → (rwlock_doing (record { purpose = q; retries = r; at = to })).carries ≡ false
         → (late_at is_late q to ≡ true → up) → OwnsBeside l c base new.owns → new.inside ≡ entered_now (One (key_of l m)) → Reach (At (record { purpose = q; retries = r; at = to }))
-    inside_of to r m c begun seen claims inside carries late owns within = (
+    inside_of to r m c begun seen stood claims inside carries late owns within = (
       record {
         begun = begun;
         seen = seen;
+        stood = stood;
         owns = subst (λ (x : Option Claim). OwnsBeside l x base new.owns) (sym claims) owns;
         within = subst (λ (x : Option Line). IsWithin l a q x (rwlock_doing (record { purpose = q; retries = r; at = to })).carries new.inside) (sym inside) (subst (λ (b : Bool). IsWithin l a q (Some m) b new.inside) (sym carries) within);
         late = late;
@@ -490,15 +499,19 @@ module _ (up : Type 0) (l : ℕ) (a : Admission) (base : List Ownership) (q : Rw
         by_purpose (purpose.Release access.Exclusive) stands = absurd stands
         by_purpose (purpose.Downgrade d) stands = absurd stands
 
+    -- it has taken no step since
+    still_looked : new.steps ≡ st.steps → LookedLast l st.steps → LookedLast l new.steps
+    still_looked e = subst (LookedLast l) (sym e)
+
     kept_owns : (c : Option Claim) → new.owns ≡ st.owns → OwnsBeside l c base st.owns → OwnsBeside l c base new.owns
     kept_owns c e = subst (OwnsBeside l c base) (sym e)
 
     -- it looks at the word again, woken or not
     loads_again : (to : ParkAt) (r : Bool) → StandsAt q again (at.Park to) → IsBeside l base st.owns → new.owns ≡ st.owns → new.inside ≡ None → Reach (At (record { purpose = q; retries = r; at = at.Load }))
-    loads_again to r stands owns same none = rests at.Load r None tt tt (claims_none to stands) refl refl (kept_owns None same owns) none
+    loads_again to r stands owns same none = rests at.Load r None tt tt tt (claims_none to stands) refl refl (kept_owns None same owns) none
 
     looks_once_more : (r : Bool) → OwnsBeside l (pends q) base st.owns → new.owns ≡ st.owns → new.inside ≡ None → Reach (At (record { purpose = q; retries = r; at = at.Look }))
-    looks_once_more r owns same none = rests at.Look r (pends q) tt tt refl refl refl (kept_owns (pends q) same owns) none
+    looks_once_more r owns same none = rests at.Look r (pends q) tt tt tt refl refl refl (kept_owns (pends q) same owns) none
 
     -- the key under which a thread sleeps that has a deadline
     late_at_key : (m : Line) (how : Patience) (key : ℕ) → key_in (Some l) (in_line (true && is_timed how) m) ≡ Some key → (key ≡ key_of l m) × HasDeadline how
@@ -506,18 +519,18 @@ module _ (up : Type 0) (l : ℕ) (a : Admission) (base : List Ownership) (q : Rw
     late_at_key m Patient key e = none_some e
     late_at_key m Try key e = none_some e
 
-    becomes_late : (m : Line) (to : ParkAt) (key : ℕ) → key ≡ key_of l m → new ≡ stage st.owns (entered_now (One key)) st.last → new.inside ≡ entered_now (One (key_of l m))
+    becomes_late : (m : Line) (to : ParkAt) (key : ℕ) → key ≡ key_of l m → new ≡ stage st.owns (entered_now (One key)) st.last st.steps → new.inside ≡ entered_now (One (key_of l m))
     becomes_late m to key k e = ap (λ (s : Stage). s.inside) e ∙ ap (λ (n : ℕ). entered_now (One n)) k
 
     -- who gives up in the main queue
-    gives_up_main : Fits (at.Park parking.GiveUp) → new.owns ≡ st.owns → new.inside ≡ None → IsLeft st.inside new.last → Reach (End No)
-    gives_up_main f same none left = (none, by_purpose q f.stands.place f.late)
+    gives_up_main : Fits (at.Park parking.GiveUp) → new.owns ≡ st.owns → new.inside ≡ None → IsLeft st.inside new.last → new.steps ≡ st.steps → Reach (End No)
+    gives_up_main f same none left steps = (none, by_purpose q f.stands.place f.late)
       where
         owns : IsBeside l base new.owns
         owns = kept_owns None same f.owns
 
-        took_nobody : TookNobodyAt l new.last
-        took_nobody = subst (λ (i : Option Inside). IsLeft i new.last) f.within left
+        took_nobody : TookNobodyAt l new.last × LookedInLine l new.steps
+        took_nobody = (subst (λ (i : Option Inside). IsLeft i new.last) f.within left, subst (LookedInLine l) (sym steps) f.stood)
 
         may : (how : Patience) → HasDeadline how → up → MayGiveUp up how
         may Timed d u = u
@@ -538,47 +551,48 @@ module _ (up : Type 0) (l : ℕ) (a : Admission) (base : List Ownership) (q : Rw
 
     main_leads : (to : ParkAt) → Fits (at.Park to) → (reply : Reply) → Became up rwlocks (at_rwlock l) (unhanded l a (of (at.Park to))) st (park_act l a (want_at (of (at.Park to))) Main to) reply new
         → Reach (park_next (of (at.Park to)) Main to reply) × MayBeTold a (of (at.Park to)) (at.Park to) reply
-    main_leads parking.Check f (Parked true) b = (inside_of (at.Park (parking.Leave true)) (again && not true) Main None tt tt refl refl refl (not_late (at.Park (parking.Leave true)) refl) (claims_now Load b.0 None b.2 (keeping.look_beside l base st.owns b.0 b.2.0 Load refl f.owns)) (inside_now Load b.0 b.2 ∙ f.within), tt)
-    main_leads parking.Check f (Parked false) b = (inside_of (at.Park (parking.Leave false)) (again && not false) Main None tt tt refl refl refl (not_late (at.Park (parking.Leave false)) refl) (claims_now Load b.0 None b.2 (keeping.look_beside l base st.owns b.0 b.2.0 Load refl f.owns)) (inside_now Load b.0 b.2 ∙ f.within), tt)
-    main_leads (parking.Leave true) f Done b = (rests (at.Park parking.Asleep) again None tt tt refl refl refl (kept_owns None b.0 f.owns) b.1, tt)
+    main_leads parking.Check f (Parked true) b = (inside_of (at.Park (parking.Leave true)) (again && not true) Main None tt tt (st.steps, b.0, steps_now Load b.0 b.2) refl refl refl (not_late (at.Park (parking.Leave true)) refl) (claims_now Load b.0 None b.2 (keeping.look_beside l base st.owns b.0 b.2.0 Load refl f.owns)) (inside_now Load b.0 b.2 ∙ f.within), tt)
+    main_leads parking.Check f (Parked false) b = (inside_of (at.Park (parking.Leave false)) (again && not false) Main None tt tt (st.steps, b.0, steps_now Load b.0 b.2) refl refl refl (not_late (at.Park (parking.Leave false)) refl) (claims_now Load b.0 None b.2 (keeping.look_beside l base st.owns b.0 b.2.0 Load refl f.owns)) (inside_now Load b.0 b.2 ∙ f.within), tt)
+    main_leads (parking.Leave true) f Done b = (rests (at.Park parking.Asleep) again None tt tt (still_looked b.3 f.stood) refl refl refl (kept_owns None b.0 f.owns) b.1, tt)
     main_leads (parking.Leave false) f Done b = (loads_again (parking.Leave false) again f.stands.place f.owns b.0 b.1, tt)
     main_leads parking.Asleep f (Woken note.Normal) b = (loads_again parking.Asleep true f.stands.place f.owns b.0 b.1, tt)
     main_leads parking.Asleep f (Woken note.HandOff) b = never b.3
     main_leads parking.Asleep f Late b = let k = late_at_key Main (patience_of q) b.0 b.1.0 in
-        (inside_of (at.Park parking.Remove) again Main None tt tt refl refl refl (λ h. b.2) (kept_owns None (ap (λ (s : Stage). s.owns) b.1.1) f.owns) (becomes_late Main parking.Asleep b.0 k.0 b.1.1), k.1)
+        (inside_of (at.Park parking.Remove) again Main None tt tt (still_looked (ap (λ (s : Stage). s.steps) b.1.1) f.stood) refl refl refl (λ h. b.2) (kept_owns None (ap (λ (s : Stage). s.owns) b.1.1) f.owns) (becomes_late Main parking.Asleep b.0 k.0 b.1.1), k.1)
     main_leads parking.Asleep f (MovedTo key) b = none_some b.0.1
     main_leads (parking.Taken by) f (Woken note.Normal) b = (loads_again (parking.Taken by) true f.stands.place f.owns b.0 b.1, tt)
     main_leads (parking.Taken by) f (Woken note.HandOff) b = never b.3
     main_leads (parking.Taken by) f Late b = none_some b.1.0
     main_leads (parking.Taken by) f (MovedTo key) b = none_some b.0.1
-    main_leads parking.Remove f (Removed true) b = (inside_of (at.Park parking.Clear) again Main None tt tt refl refl refl (still_late (at.Park parking.Remove) (at.Park parking.Clear) refl f.late) (kept_owns None (ap (λ (s : Stage). s.owns) b) f.owns) (ap (λ (s : Stage). s.inside) b ∙ f.within), tt)
-    main_leads parking.Remove f (Removed false) b = (inside_of (at.Park parking.GiveUp) again Main None tt tt refl refl refl (still_late (at.Park parking.Remove) (at.Park parking.GiveUp) refl f.late) (kept_owns None (ap (λ (s : Stage). s.owns) b) f.owns) (ap (λ (s : Stage). s.inside) b ∙ f.within), tt)
-    main_leads parking.Clear f (Value seen) b = (inside_of (at.Park parking.GiveUp) again Main None tt tt refl refl refl (still_late (at.Park parking.Clear) (at.Park parking.GiveUp) refl f.late) (claims_now (unparked Main) seen None b (keeping.unlooked l base st.owns seen b.0 (unparked Main) None (clears_same Main seen (small (unparked Main) seen b)) refl f.owns)) (inside_now (unparked Main) seen b ∙ f.within), small (unparked Main) seen b)
-    main_leads parking.GiveUp f Done b = (gives_up_main f b.0 b.1 b.2, tt)
+    main_leads parking.Remove f (Removed true) b = (inside_of (at.Park parking.Clear) again Main None tt tt (still_looked (ap (λ (s : Stage). s.steps) b) f.stood) refl refl refl (still_late (at.Park parking.Remove) (at.Park parking.Clear) refl f.late) (kept_owns None (ap (λ (s : Stage). s.owns) b) f.owns) (ap (λ (s : Stage). s.inside) b ∙ f.within), tt)
+    main_leads parking.Remove f (Removed false) b = (inside_of (at.Park parking.GiveUp) again Main None tt tt (inl (still_looked (ap (λ (s : Stage). s.steps) b) f.stood)) refl refl refl (still_late (at.Park parking.Remove) (at.Park parking.GiveUp) refl f.late) (kept_owns None (ap (λ (s : Stage). s.owns) b) f.owns) (ap (λ (s : Stage). s.inside) b ∙ f.within), tt)
+    main_leads parking.Clear f (Value seen) b = (inside_of (at.Park parking.GiveUp) again Main None tt tt (inr (st.steps, seen, f.stood, steps_now (unparked Main) seen b)) refl refl refl (still_late (at.Park parking.Clear) (at.Park parking.GiveUp) refl f.late) (claims_now (unparked Main) seen None b (keeping.unlooked l base st.owns seen b.0 (unparked Main) None (clears_same Main seen (small (unparked Main) seen b)) refl f.owns)) (inside_now (unparked Main) seen b ∙ f.within), small (unparked Main) seen b)
+    main_leads parking.GiveUp f Done b = (gives_up_main f b.0 b.1 b.2 b.3, tt)
     main_leads to f reply b = absurd b
 
     aside_leads : (to : ParkAt) → Fits (at.Aside to) → (reply : Reply) → Became up rwlocks (at_rwlock l) (unhanded l a (of (at.Aside to))) st (park_act l a (want_at (of (at.Aside to))) Second to) reply new
         → Reach (park_next (of (at.Aside to)) Second to reply) × MayBeTold a (of (at.Aside to)) (at.Aside to) reply
-    aside_leads parking.Check f (Parked true) b = (inside_of (at.Aside (parking.Leave true)) (again && not true) Second (pends q) tt tt refl refl refl (not_late (at.Aside (parking.Leave true)) refl) (claims_now Load b.0 (pends q) b.2 (keeping.look_waits l base st.owns b.0 b.2.0 Load (falls_back q) refl refl f.owns)) (inside_now Load b.0 b.2 ∙ f.within), tt)
-    aside_leads parking.Check f (Parked false) b = (inside_of (at.Aside (parking.Leave false)) (again && not false) Second (pends q) tt tt refl refl refl (not_late (at.Aside (parking.Leave false)) refl) (claims_now Load b.0 (pends q) b.2 (keeping.look_waits l base st.owns b.0 b.2.0 Load (falls_back q) refl refl f.owns)) (inside_now Load b.0 b.2 ∙ f.within), tt)
-    aside_leads (parking.Leave true) f Done b = (rests (at.Aside parking.Asleep) again (pends q) tt tt refl refl refl (kept_owns (pends q) b.0 f.owns) b.1, tt)
+    aside_leads parking.Check f (Parked true) b = (inside_of (at.Aside (parking.Leave true)) (again && not true) Second (pends q) tt tt tt refl refl refl (not_late (at.Aside (parking.Leave true)) refl) (claims_now Load b.0 (pends q) b.2 (keeping.look_waits l base st.owns b.0 b.2.0 Load (falls_back q) refl refl f.owns)) (inside_now Load b.0 b.2 ∙ f.within), tt)
+    aside_leads parking.Check f (Parked false) b = (inside_of (at.Aside (parking.Leave false)) (again && not false) Second (pends q) tt tt tt refl refl refl (not_late (at.Aside (parking.Leave false)) refl) (claims_now Load b.0 (pends q) b.2 (keeping.look_waits l base st.owns b.0 b.2.0 Load (falls_back q) refl refl f.owns)) (inside_now Load b.0 b.2 ∙ f.within), tt)
+    aside_leads (parking.Leave true) f Done b = (rests (at.Aside parking.Asleep) again (pends q) tt tt tt refl refl refl (kept_owns (pends q) b.0 f.owns) b.1, tt)
     aside_leads (parking.Leave false) f Done b = (looks_once_more again f.owns b.0 b.1, tt)
     aside_leads parking.Asleep f (Woken note.Normal) b = (looks_once_more true f.owns b.0 b.1, tt)
     aside_leads parking.Asleep f (Woken note.HandOff) b = never b.3
     aside_leads parking.Asleep f Late b = let k = late_at_key Second (patience_of q) b.0 b.1.0 in
-        (inside_of (at.Aside parking.Remove) again Second (pends q) tt tt refl refl refl (λ h. b.2) (kept_owns (pends q) (ap (λ (s : Stage). s.owns) b.1.1) f.owns) (becomes_late Second parking.Asleep b.0 k.0 b.1.1), k.1)
+        (inside_of (at.Aside parking.Remove) again Second (pends q) tt tt tt refl refl refl (λ h. b.2) (kept_owns (pends q) (ap (λ (s : Stage). s.owns) b.1.1) f.owns) (becomes_late Second parking.Asleep b.0 k.0 b.1.1), k.1)
     aside_leads parking.Asleep f (MovedTo key) b = none_some b.0.1
     aside_leads (parking.Taken by) f (Woken note.Normal) b = (looks_once_more true f.owns b.0 b.1, tt)
     aside_leads (parking.Taken by) f (Woken note.HandOff) b = never b.3
     aside_leads (parking.Taken by) f Late b = none_some b.1.0
     aside_leads (parking.Taken by) f (MovedTo key) b = none_some b.0.1
-    aside_leads parking.Remove f (Removed none_left) b = (inside_of (at.Aside parking.Clear) again Second (pends q) tt tt refl refl refl (still_late (at.Aside parking.Remove) (at.Aside parking.Clear) refl f.late) (kept_owns (pends q) (ap (λ (s : Stage). s.owns) b) f.owns) (ap (λ (s : Stage). s.inside) b ∙ f.within), tt)
-    aside_leads parking.Clear f (Value seen) b = (inside_of (at.Aside parking.GiveUp) again Second (pends q) tt tt refl refl refl (still_late (at.Aside parking.Clear) (at.Aside parking.GiveUp) refl f.late) (claims_now (unparked Second) seen (pends q) b (keeping.unlooked l base st.owns seen b.0 (unparked Second) (pends q) (clears_same Second seen (small (unparked Second) seen b)) refl f.owns)) (inside_now (unparked Second) seen b ∙ f.within), small (unparked Second) seen b)
+    aside_leads parking.Remove f (Removed none_left) b = (inside_of (at.Aside parking.Clear) again Second (pends q) tt tt tt refl refl refl (still_late (at.Aside parking.Remove) (at.Aside parking.Clear) refl f.late) (kept_owns (pends q) (ap (λ (s : Stage). s.owns) b) f.owns) (ap (λ (s : Stage). s.inside) b ∙ f.within), tt)
+    aside_leads parking.Clear f (Value seen) b = (inside_of (at.Aside parking.GiveUp) again Second (pends q) tt tt tt refl refl refl (still_late (at.Aside parking.Clear) (at.Aside parking.GiveUp) refl f.late) (claims_now (unparked Second) seen (pends q) b (keeping.unlooked l base st.owns seen b.0 (unparked Second) (pends q) (clears_same Second seen (small (unparked Second) seen b)) refl f.owns)) (inside_now (unparked Second) seen b ∙ f.within), small (unparked Second) seen b)
     aside_leads parking.GiveUp f Done b = (
       (
         record {
           begun = tt;
           seen = tt;
+          stood = tt;
           owns = kept_owns (pends q) b.0 f.owns;
           within = b.1;
           late = still_late (at.Aside parking.GiveUp) at.RollBack refl f.late;
@@ -592,15 +606,16 @@ module _ (up : Type 0) (l : ℕ) (a : Admission) (base : List Ownership) (q : Rw
     -- ---------------------------------------------------------------- giving up, and waking others
 
     -- behind a roll-back the right that it falls back to is kept, and those who wait are woken
-    wakes_behind : (seen : ℕ) (c : Option Claim) → Fits at.RollBack → kept_claim (start_of q) ≡ c → OwnsBeside l c base new.owns → new.inside ≡ None → Answers up l base a q No new → Reach (if has_parked seen then stays (of at.RollBack) (wakes Main) else End No)
-    wakes_behind seen c f claims owns none over = either (has_parked seen)
+    wakes_behind : (seen : ℕ) (c : Option Claim) → Fits at.RollBack → kept_claim (start_of q) ≡ c → OwnsBeside l c base new.owns → new.inside ≡ None → (has_parked seen ≡ false → Answers up l base a q No new) → Reach (if has_parked seen then stays (of at.RollBack) (wakes Main) else End No)
+    wakes_behind seen c f claims owns none over = either (has_parked seen) refl
       where
-        either : (b : Bool) → Reach (if b then stays (of at.RollBack) (wakes Main) else End No)
-        either false = (none, over)
-        either true = (
+        either : (b : Bool) → has_parked seen ≡ b → Reach (if b then stays (of at.RollBack) (wakes Main) else End No)
+        either false clear = (none, over clear)
+        either true some = (
           record {
             begun = tt;
             seen = tt;
+            stood = tt;
             owns = subst (λ (x : Option Claim). OwnsBeside l x base new.owns) (sym claims) owns;
             within = none;
             late = still_late at.RollBack (at.Wake Main waking.Enter) refl f.late;
@@ -616,13 +631,18 @@ module _ (up : Type 0) (l : ℕ) (a : Admission) (base : List Ownership) (q : Rw
     rolls_leads : (seen : ℕ) → Fits at.RollBack → Step (rollback_op q) seen → Reach (rolled_back (of at.RollBack) seen)
     rolls_leads seen f b = by_purpose q refl f.stands.place f.owns f.late b
       where
+        fell : (how : Patience) → HasDeadline how → has_parked seen ≡ false → Step (Sub 8) seen → FellBack l (purpose.Enter access.Exclusive how) how new.steps
+        fell Timed d clear b = (st.steps, seen, clear, steps_now (Sub 8) seen b)
+        fell Patient d clear b = absurd d
+        fell Try d clear b = absurd d
+
         by_purpose : (r : RwLockPurpose) → q ≡ r → StandsAt r again at.RollBack → OwnsBeside l (pends r) base st.owns → (late_at is_late r at.RollBack ≡ true → up) → Step (rollback_op r) seen → Reach (rolled_back (of at.RollBack) seen)
         by_purpose (purpose.Enter access.Exclusive how) is stands owns late b = let left = claims_now (Sub 8) seen None b (keeping.rolls_back l base st.owns seen b.0 owns) in
             wakes_behind seen None f (ap (λ (r : RwLockPurpose). kept_claim (start_of r)) is) left (inside_now (Sub 8) seen b ∙ f.within)
-            (subst (λ (r : RwLockPurpose). Answers up l base a r No new) (sym is) (inr (inl (refl, timed_may how stands (late refl), left, inl (last_now (Sub 8) seen b)))))
+            (λ clear. subst (λ (r : RwLockPurpose). Answers up l base a r No new) (sym is) (inr (inl (refl, timed_may how stands (late refl), left, inl (last_now (Sub 8) seen b, fell how stands clear b)))))
         by_purpose (purpose.Upgrade Timed) is stands owns late b = let left = claims_now (Add 12) seen (Some (Has wants.Upgradable)) b (keeping.falls_back l base st.owns seen b.0 owns) in
             wakes_behind seen (Some (Has wants.Upgradable)) f (ap (λ (r : RwLockPurpose). kept_claim (start_of r)) is) left (inside_now (Add 12) seen b ∙ f.within)
-            (subst (λ (r : RwLockPurpose). Answers up l base a r No new) (sym is) (inr (refl, late refl, left, inl (last_now (Add 12) seen b))))
+            (λ clear. subst (λ (r : RwLockPurpose). Answers up l base a r No new) (sym is) (inr (refl, late refl, left, inl (last_now (Add 12) seen b, (st.steps, seen, clear, steps_now (Add 12) seen b)))))
         by_purpose (purpose.Upgrade Try) is stands owns late b = absurd stands
         by_purpose (purpose.Upgrade Patient) is stands owns late b = absurd stands
         by_purpose (purpose.Enter access.Shared how) is stands owns late b = absurd stands
@@ -639,6 +659,7 @@ module _ (up : Type 0) (l : ℕ) (a : Admission) (base : List Ownership) (q : Rw
       record {
         begun = tt;
         seen = tt;
+        stood = tt;
         owns = subst (λ (x : Option Claim). OwnsBeside l x base new.owns) (sym claims) owns;
         within = subst (λ (x : Option Line). IsWithin l a q x (rwlock_doing (of (at.Wake m to))).carries new.inside) (sym inside) (subst (λ (b : Bool). IsWithin l a q (Some m) b new.inside) (sym carries) within);
         late = late;
@@ -705,7 +726,7 @@ module _ (up : Type 0) (l : ℕ) (a : Admission) (base : List Ownership) (q : Rw
 
     wakes_leads : (m : Line) (to : WakeAt) → Fits (at.Wake m to) → (reply : Reply) → Became up rwlocks (at_rwlock l) (unhanded l a (of (at.Wake m to))) st (wake_act l a q m to) reply new
         → Reach (wake_next (of (at.Wake m to)) m to reply) × MayBeTold a (of (at.Wake m to)) (at.Wake m to) reply
-    wakes_leads m waking.Enter f Done b = (inside_of (at.Wake m waking.Take) again m (kept_claim (start_of q)) tt tt refl refl refl (still_late (at.Wake m waking.Enter) (at.Wake m waking.Take) refl f.late) (kept_owns (kept_claim (start_of q)) (ap (λ (s : Stage). s.owns) b) f.owns) (ap (λ (s : Stage). s.inside) b), tt)
+    wakes_leads m waking.Enter f Done b = (inside_of (at.Wake m waking.Take) again m (kept_claim (start_of q)) tt tt tt refl refl refl (still_late (at.Wake m waking.Enter) (at.Wake m waking.Take) refl f.late) (kept_owns (kept_claim (start_of q)) (ap (λ (s : Stage). s.owns) b) f.owns) (ap (λ (s : Stage). s.inside) b), tt)
     wakes_leads Main waking.Take f (Picked sharers successor none_left) b = (took_comes Main (any_picked sharers successor) none_left f.late (kept_owns (kept_claim (start_of q)) b.1 f.owns) (b.0.0, b.0.3 ∙ ap (took_as (did_wake l a q Main) b.0.0) f.within), tt)
     wakes_leads Second waking.Take f (Took any none_left) b = (took_comes Second any none_left f.late (kept_owns (kept_claim (start_of q)) b.1 f.owns) (listed b.0.0, b.0.2 ∙ ap (took_as (did_wake l a q Second) (listed b.0.0)) f.within), tt)
     wakes_leads m (waking.Clear any) f (Value seen) b = (

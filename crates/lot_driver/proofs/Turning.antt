@@ -1,5 +1,5 @@
 -- One turn of the driver: the steps that it added bring the reply, and that leads on.
-use Rattle.std.proofs.Common.{ℕ, ◌≡◌, ◌≢◌, Bool, true, List, [], Option, Some, None, refl, sym, ap, ◌∙◌, subst}
+use Rattle.std.proofs.Common.{ℕ, ◌≡◌, ◌≢◌, ◌++◌, Bool, true, List, [], Option, Some, None, refl, sym, ap, ◌∙◌, subst}
 use Rattle.std.proofs.lemmas.List.{append-nil}
 use Rattle.lot_base.specs.declared.ops.Op.{Op}
 use Rattle.lot_calls.specs.declared.outcomes.OnceState.{OnceState}
@@ -125,7 +125,11 @@ shows_keys (Condvar l place) reply kinds at w = has_keys (next_place (Condvar l 
 -- a step on a word, as the stage has it
 pub by_stage : (w : Word) (op : Op) (seen : ℕ) (old : Token) (section : Option Section) (new : Token) → view_of new ≡ after_step w.kind (word_index w.number w.kind) op seen (view_of old) → last_of new ≡ None → CodesWith w.kind (word_index w.number w.kind) seen (view_of old).owns
     → Stepped w.kind (word_index w.number w.kind) op seen (stage_of old section) (stage_of new section)
-by_stage w op seen old section new e last code = (code, ap (λ (v : View). stage v.owns (inside_of section) (last_of new)) e ∙ ap (λ (l : Option SectionRecord). stage (owns_after_step w.kind (word_index w.number w.kind) op seen (view_of old).owns) (inside_of section) l) last)
+by_stage w op seen old section new e last code = (
+  code,
+  ap (λ (v : View). stage v.owns (inside_of section) (last_of new) v.steps) e
+      ∙ ap (λ (l : Option SectionRecord). stage (owns_after_step w.kind (word_index w.number w.kind) op seen (view_of old).owns) (inside_of section) l ((view_of old).steps ++ step (word_index w.number w.kind) op seen)) last,
+)
 
 -- a step that ends no call does what its place says
 pub does_next : (p : Place) (reply : Reply) → answer_of (next_act p reply) ≡ None → next_act p reply ≡ act_of (next_place p reply)

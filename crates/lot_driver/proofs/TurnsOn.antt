@@ -85,5 +85,5 @@ module _ (up : Type 0) (lot : ParkingLot) (words : Words) (p : Place) (reply : R
     turned.0,
     comes_to_end (at_in words) p p (steps_of old) (steps_of old) (steps_of new) reply turned.2.0 answer (comes_here (at_in words) p (steps_of old)) turned.2.1 turned.2.2 (end_of (next_act p reply) answer some),
     λ base fits. let over = subst (λ (o : Option Answer). ReachedBy up base (aim_of p) (next_place p reply) o (stage_of new now)) some (turned.3 base fits) in
-        ended up base (stage_of new now).owns (aim_of p) answer (inside_of now) (stage_of new now).last over,
+        ended up base (stage_of new now).owns (aim_of p) answer (inside_of now) (stage_of new now).last (stage_of new now).steps over,
   )

@@ -1,12 +1,13 @@
 -- What a thread of a condition variable's call has at each place, and at its end.
-use Rattle.std.specs.Prelude.{ℕ, ◌≡◌, ◌*◌, ◌+◌, ◌⊎◌, Bool, true, false, List, ◌∷◌, Option, Some, None, length, if◌then◌else◌}
+use Rattle.std.specs.Prelude.{ℕ, ◌≡◌, ◌*◌, ◌+◌, ◌++◌, ◌⊎◌, Bool, true, false, List, ◌∷◌, Option, Some, length, if◌then◌else◌}
 use Rattle.lot_base.specs.Lines.{threads_of}
 use Rattle.lot_base.specs.declared.keys.Keys.TheVariants.{Two}
+use Rattle.lot_base.specs.declared.ops.Op.TheVariants.{Load}
 use Rattle.lot_base.specs.declared.requeues.Requeue.TheVariants as requeue
 use Rattle.lot_base.specs.declared.wants.Waiter.{Waiter}
 use Rattle.lot_calls.specs.declared.outcomes.Answer.{Answer}
 use Rattle.lot_calls.specs.declared.outcomes.Answer.TheVariants as answers
-use Rattle.lot_condvar.specs.CondvarSteps.{notified, waited}
+use Rattle.lot_condvar.specs.CondvarSteps.{is_shown, notified, waited}
 use Rattle.lot_condvar.specs.declared.notify.NotifyAt.{NotifyAt}
 use Rattle.lot_condvar.specs.declared.notify.NotifyAt.TheVariants as notify
 use Rattle.lot_condvar.specs.declared.places.CondvarPlace.{CondvarPlace}
@@ -21,10 +22,12 @@ use Rattle.lot_mutex.specs.declared.places.MutexPlace.TheVariants.{Lock, Unlock}
 use Rattle.lot_mutex.specs.declared.unlock.UnlockAt.TheVariants as unlock
 use Rattle.lot_words.specs.Steps.{has, without}
 use Rattle.lot_words.specs.declared.owners.Ownership.{Ownership}
+use Rattle.lot_words.specs.declared.views.WordStep.{WordStep}
 use Rattle.parking_lot_core.specs.declared.tokens.Did.{Did}
 use Rattle.parking_lot_core.specs.declared.tokens.Did.TheVariants as did
 use Rattle.parking_lot_core.specs.declared.tokens.SectionRecord.{SectionRecord}
 use Rattle.lot_driver.specs.MutexFitting.{FitsLock, FitsUnlock, Outside, Within, held}
+use Rattle.lot_driver.specs.Paths.{condvar_at, step}
 use Rattle.lot_driver.specs.Stages.{HasLeft, Stage, TookNobodyAt, entered_now, having_taken}
 
 -- who waits owned its mutex as the call began
@@ -38,6 +41,12 @@ apart m base = without (held m) base
 -- in the sections of the condition variable and of the mutex shown, where it has done nothing
 abbrev pub Between : ℕ → ℕ → List Ownership → Stage → Type 0
 Between c m owns st = (st.owns ≡ owns) × (st.inside ≡ entered_now (Two (2 * c) (2 * m)))
+
+-- the last of these steps looked at the condition variable, and saw another mutex than this shown,
+-- or none
+abbrev pub SawElse : ℕ → ℕ → List WordStep → Type 0
+SawElse c m steps = (before : List WordStep) × (seen : ℕ) × (is_shown seen m ≡ false)
+    × (steps ≡ before ++ step (condvar_at c) Load seen)
 
 -- what a notification does there, by whether somebody owned the mutex
 abbrev pub move_did : Bool → Bool → ℕ → ℕ → Did
@@ -71,19 +80,20 @@ FitsNotify c m all base (notify.Move locked) st = Between c m base st
 FitsNotify c m all base (notify.Clear any) st = (all ≡ false) × HasMoved c m all 1 base st
 FitsNotify c m all base (notify.MarkMoved number) st = HasMoved c m all number base st
 FitsNotify c m all base (notify.Leave any number) st =
-    ((number ≡ 0) × Between c m base st) ⊎ HasMoved c m all number base st
+    ((number ≡ 0) × Between c m base st × SawElse c m st.steps) ⊎ HasMoved c m all number base st
 
--- what a notification answers behind its second look, by the section that it left: it found another
--- mutex shown, or none, or it moved waiters, and who notifies all tells the record's number
-abbrev pub AnswersBy : ℕ → ℕ → Bool → Answer → Option SectionRecord → Type 0
-AnswersBy c m all answer last =
-    ((answer ≡ notified all 0) × TookNobodyAt c last)
+-- what a notification answers from its second look on, by the section that it left: it saw another
+-- mutex shown, or none, and did nothing; or it moved waiters, and who notifies all tells the
+-- record's number
+abbrev pub AnswersBy : ℕ → ℕ → Bool → Answer → Option SectionRecord → List WordStep → Type 0
+AnswersBy c m all answer last steps =
+    ((answer ≡ notified all 0) × TookNobodyAt c last × SawElse c m steps)
     ⊎ ((locked : Bool) × (number : ℕ)
     × (answer ≡ (if all then answers.Number number else answers.Yes))
     × HasLeft (2 * c) (move_did all locked c m) number last)
 
 abbrev pub IsNotifyOver : ℕ → ℕ → Bool → List Ownership → Answer → Stage → Type 0
-IsNotifyOver c m all base answer st = Outside base st × AnswersBy c m all answer st.last
+IsNotifyOver c m all base answer st = Outside base st × AnswersBy c m all answer st.last st.steps
 
 -- `up` says that the time of the call is up
 module _ (up : Type 0) where

@@ -160,7 +160,8 @@ LeftFairly l a old new last = (seen : ℕ) × (more : List WordStep)
 
 abbrev pub ReleasesFairly : ℕ → Admission → Access → Token → Token → Type 0
 ReleasesFairly l a accesses.Shared old new = WakesBy l a (purpose.Release accesses.Shared) old new
-ReleasesFairly l a accesses.Upgradable old new = GaveFairly l a accesses.Upgradable (last_of new)
+ReleasesFairly l a accesses.Upgradable old new =
+    GaveFairly l a accesses.Upgradable (last_of new) (view_of new).steps
 ReleasesFairly l a accesses.Exclusive old new =
     LeftFairly l a (view_of old).steps (view_of new).steps (last_of new)
 

@@ -1,11 +1,13 @@
 -- What a thread of a reader-writer call has at each place, read off the place's row, and what it
 -- has at its end.
-use Rattle.std.specs.Prelude.{ℕ, ◌≡◌, ◌<◌, ◌-◌, ◌^◌, ◌⊎◌, Bool, true, false, List, ◌∷◌, Option, Some, None, ◌≤◌, ◌*◌, ◌/◌, ◌%◌, [], length}
+use Rattle.std.specs.Prelude.{ℕ, ◌≡◌, ◌<◌, ◌-◌, ◌^◌, ◌++◌, ◌⊎◌, Bool, true, false, List, ◌∷◌, Option, Some, None, ◌≤◌, ◌*◌, ◌/◌, ◌%◌, [], length}
 use Rattle.lot_base.specs.Keys.{key_of}
 use Rattle.lot_base.specs.Lines.{threads_of}
 use Rattle.lot_base.specs.declared.keys.Keys.TheVariants.{One}
 use Rattle.lot_base.specs.declared.keys.Line.{Line}
 use Rattle.lot_base.specs.declared.keys.Line.TheVariants.{Main, Second}
+use Rattle.lot_base.specs.declared.ops.Op.{Op}
+use Rattle.lot_base.specs.declared.ops.Op.TheVariants.{Load}
 use Rattle.lot_base.specs.declared.wants.Waiter.{Waiter}
 use Rattle.lot_base.specs.declared.wants.Want.{Want}
 use Rattle.lot_base.specs.declared.wants.Want.TheVariants as wants
@@ -15,13 +17,15 @@ use Rattle.lot_calls.specs.declared.calls.Patience.{Patience}
 use Rattle.lot_calls.specs.declared.calls.Patience.TheVariants.{Patient, Timed, Try}
 use Rattle.lot_calls.specs.declared.outcomes.Answer.{Answer}
 use Rattle.lot_calls.specs.declared.outcomes.Answer.TheVariants as answers
+use Rattle.abstract_locks.specs.Codes.{has_parked}
 use Rattle.abstract_locks.specs.Sites.{Claim, Has, Pends}
 use Rattle.lot_acts.specs.declared.acts.Whom.{Whom}
 use Rattle.lot_acts.specs.declared.acts.Whom.TheVariants as whom_taken
 use Rattle.lot_rwlock.specs.RwLockCalls.{MayStand}
 use Rattle.lot_rwlock.specs.RwLockDeeds.{rwlock_doing}
 use Rattle.lot_rwlock.specs.RwLockProfiles.{rwlock_profile}
-use Rattle.lot_rwlock.specs.RwLockSteps.{access_of, wanted, to_of, start_of, entered, whom}
+use Rattle.lot_rwlock.specs.RwLockSteps.{access_of, wanted, to_of, start_of, entered, rollback_op, unparked, whom}
+use Rattle.lot_rwlock.specs.declared.park.ParkAt.{ParkAt}
 use Rattle.lot_rwlock.specs.declared.park.ParkAt.TheVariants as parking
 use Rattle.lot_rwlock.specs.declared.places.Admission.{Admission}
 use Rattle.lot_rwlock.specs.declared.places.RwLockAt.{RwLockAt}
@@ -44,10 +48,11 @@ use Rattle.lot_words.specs.Views.{owning}
 use Rattle.lot_words.specs.declared.owners.Owner.{Owner}
 use Rattle.lot_words.specs.declared.owners.Owner.TheVariants as owners
 use Rattle.lot_words.specs.declared.owners.Ownership.{Ownership}
+use Rattle.lot_words.specs.declared.views.WordStep.{WordStep}
 use Rattle.parking_lot_core.specs.declared.tokens.Did.{Did}
 use Rattle.parking_lot_core.specs.declared.tokens.Did.TheVariants as did
 use Rattle.parking_lot_core.specs.declared.tokens.SectionRecord.{SectionRecord}
-use Rattle.lot_driver.specs.Paths.{rwlock_at}
+use Rattle.lot_driver.specs.Paths.{rwlock_at, step}
 use Rattle.lot_driver.specs.Takes.{more_in, sharers_in, successor_in}
 use Rattle.lot_driver.specs.Stages.{HasDone, Inside, Stage, TookNobodyAt, entered_now, having_taken}
 
@@ -125,6 +130,60 @@ woken_line q = Main
 abbrev pub TookWoken : ℕ → Admission → RwLockPurpose → Option SectionRecord → Type 0
 TookWoken l a q last = HasDone (key_of l (woken_line q)) (did_wake l a q (woken_line q)) last
 
+-- the last of these steps looked at the lock
+abbrev pub LookedLast : ℕ → List WordStep → Type 0
+LookedLast l steps = (before : List WordStep) × (seen : ℕ)
+    × (steps ≡ before ++ step (rwlock_at l) Load seen)
+
+-- and it may be, but for one that clears the main queue's parked bit
+abbrev pub LookedInLine : ℕ → List WordStep → Type 0
+LookedInLine l steps = LookedLast l steps ⊎ ((before : List WordStep) × (seen : ℕ)
+    × LookedLast l before × (steps ≡ before ++ step (rwlock_at l) (unparked Main) seen))
+
+-- who is to stand in the main queue has looked there, and steps no more before it wakes or gives up
+abbrev pub HasParked : ℕ → ParkAt → List WordStep → Type 0
+HasParked l parking.Check steps = Unit {0}
+HasParked l (parking.Leave parked) steps = LookedLast l steps
+HasParked l parking.Asleep steps = LookedLast l steps
+HasParked l (parking.Taken by) steps = Unit {0}
+HasParked l parking.Remove steps = LookedLast l steps
+HasParked l parking.Clear steps = LookedLast l steps
+HasParked l parking.GiveUp steps = LookedInLine l steps
+
+abbrev pub HasStood : ℕ → RwLockAt → List WordStep → Type 0
+HasStood l at.First steps = Unit {0}
+HasStood l at.Load steps = Unit {0}
+HasStood l (at.Decide seen) steps = Unit {0}
+HasStood l (at.Park to) steps = HasParked l to steps
+HasStood l at.Look steps = Unit {0}
+HasStood l (at.Count seen) steps = Unit {0}
+HasStood l at.Marked steps = Unit {0}
+HasStood l (at.Aside to) steps = Unit {0}
+HasStood l at.RollBack steps = Unit {0}
+HasStood l at.GiveWay steps = Unit {0}
+HasStood l (at.Wake m to) steps = Unit {0}
+
+-- the last step of a timed call is the one with which a pending writer falls back, and saw that
+-- nobody waits. A try ends by any step, and no other call gives up
+abbrev pub FellBack : ℕ → RwLockPurpose → Patience → List WordStep → Type 0
+FellBack l q Timed steps = (before : List WordStep) × (seen : ℕ) × (has_parked seen ≡ false)
+    × (steps ≡ before ++ step (rwlock_at l) (rollback_op q) seen)
+FellBack l q Try steps = Unit {0}
+FellBack l q Patient steps = ⊥
+
+-- what a call left that gave up. Behind a step that saw nobody to wake it was in no section; else it
+-- took those whom it had kept out. One that enters may also have left the main queue, which it came
+-- to with no right, and did nothing else there
+abbrev pub LeftBy : ℕ → Admission → RwLockPurpose → Option SectionRecord → List WordStep → Type 0
+LeftBy l a (purpose.Enter x how) last steps =
+    ((last ≡ None) × FellBack l (purpose.Enter x how) how steps)
+    ⊎ ((TookNobodyAt l last × LookedInLine l steps) ⊎ TookWoken l a (purpose.Enter x how) last)
+LeftBy l a (purpose.Upgrade how) last steps =
+    ((last ≡ None) × FellBack l (purpose.Upgrade how) how steps)
+    ⊎ TookWoken l a (purpose.Upgrade how) last
+LeftBy l a (purpose.Release x) last steps = ⊥
+LeftBy l a (purpose.Downgrade d) last steps = ⊥
+
 -- whoever reads is counted, and may find the lock full of readers
 abbrev pub IsCounted : Access → Type 0
 IsCounted access.Exclusive = ⊥
@@ -181,6 +240,7 @@ abbrev pub FitsHandOver : ℕ → List Ownership → Admission → Access → Ha
 FitsHandOver l base a x handing.Load st = OwnsRight l (wanted x) base st.owns × (st.inside ≡ None)
 FitsHandOver l base a x (handing.Free seen) st =
     OwnsRight l (wanted x) base st.owns × (st.inside ≡ None) × IsUpgradableWord seen
+    × (has_parked seen ≡ false)
 FitsHandOver l base a x handing.Enter st = OwnsRight l (wanted x) base st.owns × (st.inside ≡ None)
 FitsHandOver l base a x handing.Take st =
     OwnsRight l (wanted x) base st.owns × (st.inside ≡ entered_now (One (2 * l)))
@@ -193,16 +253,23 @@ FitsHandOver l base a x (handing.Exchange k seen) st =
 FitsHandOver l base a x (handing.Leave any handed) st =
     IsBeside l base st.owns × HasHandedOver l a any handed st.inside
 
+-- the last of these steps saw that nobody waits
+abbrev pub SawNobody : ℕ → List WordStep → Type 0
+SawNobody l steps = (before : List WordStep) × (op : Op) × (seen : ℕ) × (has_parked seen ≡ false)
+    × (steps ≡ before ++ step (rwlock_at l) op seen)
+
 -- how who releases fairly left: it took those to whom it handed the lock, or an upgradable owner
 -- freed a word that told of nobody
-abbrev pub GaveFairly : ℕ → Admission → Access → Option SectionRecord → Type 0
-GaveFairly l a access.Upgradable last =
-    (last ≡ None) ⊎ TookWoken l a (purpose.Release access.Upgradable) last
-GaveFairly l a x last = TookWoken l a (purpose.Release x) last
+abbrev pub GaveFairly : ℕ → Admission → Access → Option SectionRecord → List WordStep → Type 0
+GaveFairly l a access.Upgradable last steps =
+    ((last ≡ None) × SawNobody l steps) ⊎ TookWoken l a (purpose.Release access.Upgradable) last
+GaveFairly l a access.Exclusive last steps = TookWoken l a (purpose.Release access.Exclusive) last
+GaveFairly l a access.Shared last steps = TookWoken l a (purpose.Release access.Shared) last
 
 abbrev pub IsFairlyOver : ℕ → List Ownership → Admission → Access → Answer → Stage → Type 0
 IsFairlyOver l base a x answer st =
-    (st.inside ≡ None) × (answer ≡ answers.Ok) × IsBeside l base st.owns × GaveFairly l a x st.last
+    (st.inside ≡ None) × (answer ≡ answers.Ok) × IsBeside l base st.owns
+    × GaveFairly l a x st.last st.steps
 
 -- ---------------------------------------------------------------- who was handed it, and bumps
 
@@ -241,6 +308,7 @@ module _ (up : Type 0) where
     pub seen : HasSeen p.at
     pub owns : OwnsBeside l (rwlock_doing p).claims base st.owns
     pub within : IsWithin l a p.purpose (rwlock_doing p).inside (rwlock_doing p).carries st.inside
+    pub stood : HasStood l p.at st.steps
     pub late : (rwlock_profile a p).late ≡ true → up
 
   -- a bump that gives its shared right up still has it, and else stands as a plain call does
@@ -270,7 +338,7 @@ module _ (up : Type 0) where
   Answers l base a (purpose.Enter x how) answer st =
       ((answer ≡ entered how) × OwnsRight l (wanted x) base st.owns)
       ⊎ (((answer ≡ answers.No) × MayGiveUp how × IsBeside l base st.owns
-      × ((st.last ≡ None) ⊎ (TookNobodyAt l st.last ⊎ TookWoken l a (purpose.Enter x how) st.last)))
+      × LeftBy l a (purpose.Enter x how) st.last st.steps)
       ⊎ ((answer ≡ answers.ReadersFull) × IsCounted x × IsBeside l base st.owns))
   Answers l base a (purpose.Release x) answer st =
       (answer ≡ answers.Ok) × IsBeside l base st.owns × TookWoken l a (purpose.Release x) st.last
@@ -280,7 +348,7 @@ module _ (up : Type 0) where
   Answers l base a (purpose.Upgrade how) answer st =
       ((answer ≡ entered how) × OwnsRight l wants.Exclusive base st.owns)
       ⊎ ((answer ≡ answers.No) × MayGiveUp how × OwnsRight l wants.Upgradable base st.owns
-      × ((st.last ≡ None) ⊎ TookWoken l a (purpose.Upgrade how) st.last))
+      × LeftBy l a (purpose.Upgrade how) st.last st.steps)
 
   abbrev pub IsRwLockOver : ℕ → List Ownership → Admission → RwLockPurpose → Answer → Stage → Type 0
   IsRwLockOver l base a q answer st = (st.inside ≡ None) × Answers l base a q answer st

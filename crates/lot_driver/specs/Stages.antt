@@ -60,9 +60,11 @@ pub record Stage : Type 0 where
   pub owns : List Ownership
   pub inside : Option Inside
   pub last : Option SectionRecord
+  pub steps : List WordStep
 
-abbrev pub stage : List Ownership → Option Inside → Option SectionRecord → Stage
-stage owns inside last = record { owns = owns; inside = inside; last = last }
+abbrev pub stage : List Ownership → Option Inside → Option SectionRecord → List WordStep → Stage
+stage owns inside last steps =
+    record { owns = owns; inside = inside; last = last; steps = steps }
 
 abbrev pub inside_of : Option Section → Option Inside
 inside_of None = None
@@ -91,7 +93,8 @@ threads_taken None = []
 threads_taken (Some section) = taken_in section
 
 abbrev pub stage_of : Token → Option Section → Stage
-stage_of token section = stage (view_of token).owns (inside_of section) (last_of token)
+stage_of token section =
+    stage (view_of token).owns (inside_of section) (last_of token) (view_of token).steps
 
 -- the section that a thread is inside, if any, is one of the lot
 abbrev pub IsIn : ParkingLot → Option Section → Type 0
@@ -205,7 +208,8 @@ ActNeeds kinds at st _ = ⊥
 
 -- after a step on a word
 abbrev pub stepped : WordKind → ℕ → Op → ℕ → Stage → Stage
-stepped kind at op seen st = stage (owns_after_step kind at op seen st.owns) st.inside None
+stepped kind at op seen st =
+    stage (owns_after_step kind at op seen st.owns) st.inside None (st.steps ++ step at op seen)
 
 -- what it owns after one with which each of those who were taken is given the right that it wants
 abbrev pub owns_when_handed : WordKind → ℕ → Op → ℕ → List Want → List Ownership → List Ownership
@@ -216,7 +220,7 @@ owns_when_handed kind at op seen wants owns =
 abbrev pub handed : WordKind → ℕ → Op → ℕ → Stage → Stage
 handed kind at op seen st = if takes_effect op seen
     then stage (owns_when_handed kind at op seen (wanted_in st.inside) st.owns)
-    (all_given st.inside) None
+    (all_given st.inside) None (st.steps ++ step at op seen)
     else stepped kind at op seen st
 
 -- the section that was left last is one of this key, where this was done, to so many
@@ -260,7 +264,7 @@ TookBy key _ _ old new = ⊥
 -- other key it has left the queue
 abbrev pub AwokeLate : ℕ → Sleeper → Stage → Reply → Stage → Type 0
 AwokeLate key sleeper st Late new =
-    (sleeper.late ≡ Some key) × (new ≡ stage st.owns (entered_now (One key)) st.last)
+    (sleeper.late ≡ Some key) × (new ≡ stage st.owns (entered_now (One key)) st.last st.steps)
 AwokeLate key sleeper st (MovedTo to) new =
     (key ≡ to) × (sleeper.moved ≡ Some to) × (new.owns ≡ st.owns) × (new.inside ≡ None)
 AwokeLate key sleeper st (Woken Normal) new =
@@ -273,7 +277,7 @@ abbrev pub Awoke : Type 0 → WordKind → ℕ → Sleeper → Stage → Reply �
 Awoke up kind at sleeper st (Woken Normal) new = (new.owns ≡ st.owns) × (new.inside ≡ None)
 Awoke up kind at sleeper st (Woken HandOff) new =
     (owner : Owner) × MayHand kind sleeper.want owner
-    × (new ≡ stage (owning at owner ∷ st.owns) st.inside st.last)
+    × (new ≡ stage (owning at owner ∷ st.owns) st.inside st.last st.steps)
     × (sleeper.takes_over ≡ true)
 Awoke up kind at sleeper st Late new = (key : ℕ) × AwokeLate key sleeper st Late new × up
 Awoke up kind at sleeper st (MovedTo to) new = AwokeLate to sleeper st (MovedTo to) new × up
@@ -292,20 +296,23 @@ Became up kinds at sleeper st (act.TheVariants.Word lock op) (Value seen) new =
 Became up kinds at sleeper st (act.TheVariants.HandOver lock op) (Value seen) new =
     CodesWith (kinds lock) (at lock) seen st.owns × (new ≡ handed (kinds lock) (at lock) op seen st)
 Became up kinds at sleeper st (act.TheVariants.Enter keys) Done new =
-    new ≡ stage st.owns (entered_now keys) st.last
+    new ≡ stage st.owns (entered_now keys) st.last st.steps
 Became up kinds at sleeper st (act.TheVariants.Park lock key check _) (Parked parked) new =
     (seen : ℕ) × (parked ≡ holds check seen) × Stepped (kinds lock) (at lock) Load seen st new
 Became up kinds at sleeper st (act.TheVariants.Stand key _) Done new = new ≡ st
 Became up kinds at sleeper st (act.TheVariants.Take key whom) reply new =
     TookBy key whom reply st.inside new.inside × (new.owns ≡ st.owns) × (new.last ≡ st.last)
+    × (new.steps ≡ st.steps)
 Became up kinds at sleeper st (act.TheVariants.Requeue from to how)
     (Requeued number none_left) new =
     (first : Option Waiter) × (moved : ℕ) × (number ≡ length (listed first) + moved)
     × (new ≡ stage st.owns
-    (moving moved (took_as (did.TheVariants.Requeue from to how) (listed first) st.inside)) st.last)
+    (moving moved (took_as (did.TheVariants.Requeue from to how) (listed first) st.inside)) st.last
+    st.steps)
 Became up kinds at sleeper st (act.TheVariants.Remove key) (Removed none_left) new = new ≡ st
 Became up kinds at sleeper st (act.TheVariants.Leave keys wakes) Done new =
     (new.owns ≡ st.owns) × (new.inside ≡ None) × IsLeft st.inside new.last
+    × (new.steps ≡ st.steps)
 Became up kinds at sleeper st act.TheVariants.Sleep reply new =
     Awoke up (kinds sleeper.lock) (at sleeper.lock) sleeper st reply new
 Became up kinds at sleeper st act.TheVariants.Accept Done new = new ≡ st

@@ -49,7 +49,7 @@ keyed n small = omega arith
 pub turn_outside : (up : Type 0) (lot : ParkingLot) (words : Words) (p : Place) (reply : Reply) (old new : Token) (section now : Option Section) (answer : Answer) → IsAt up lot words p old section → HasTurned up lot words p reply old section new now → answer_of (next_act p reply) ≡ Some answer → inside_of now ≡ None
 turn_outside up lot words p reply old new section now answer at turned some =
     let over = subst (λ (o : Option Answer). ReachedBy up at.4.0 (aim_of p) (next_place p reply) o (stage_of new now)) some (turned.3 at.4.0 at.4.1) in
-    outside up at.4.0 (stage_of new now).owns (aim_of p) answer (inside_of now) (stage_of new now).last over
+    outside up at.4.0 (stage_of new now).owns (aim_of p) answer (inside_of now) (stage_of new now).last (stage_of new now).steps over
 
 module _ (c m : ℕ) where
   -- the mutex isn't free

@@ -1,20 +1,25 @@
 -- The first step of a notification, and the rest behind it.
-use Rattle.std.proofs.Common.{ℕ, false, ◌≡◌, ◌≢◌, ◌==◌, ◌+◌, ◌-◌, ◌++◌, Bool, List, if◌then◌else◌, sym, refl, ap, ◌∙◌, subst, ne_eqb, arith}
+use Rattle.std.proofs.Common.{ℕ, false, true, not, ◌&&◌, ◌≡◌, ◌≢◌, ◌==◌, ◌+◌, ◌-◌, ◌++◌, Bool, List, if◌then◌else◌, inl, inr, sym, refl, ap, ◌∙◌, subst, eq-eqb, ne_eqb, arith}
+use Rattle.std.proofs.lemmas.Bool.{false≢true}
 use Rattle.lot_base.specs.declared.ops.Op.TheVariants.{Load}
 use Rattle.lot_acts.specs.declared.acts.Act.TheVariants.{End}
 use Rattle.lot_acts.specs.declared.acts.Next.TheVariants.{At, End as Over}
 use Rattle.lot_acts.specs.declared.acts.Reply.TheVariants.{Value}
 use Rattle.lot_calls.specs.declared.outcomes.Answer.{Answer}
-use Rattle.lot_condvar.specs.CondvarSteps.{notified}
+use Rattle.lot_condvar.specs.CondvarSteps.{is_shown, notified}
 use Rattle.lot_condvar.specs.declared.notify.NotifyAt.TheVariants as notify
 use Rattle.lot_condvar.specs.declared.places.CondvarPlace.TheVariants.{Notify}
 use Rattle.lot_steps.specs.Steps.{condvar_goes, next_act, next_place}
 use Rattle.lot_steps.specs.declared.places.Place.{Place}
 use Rattle.lot_steps.specs.declared.places.Place.TheVariants.{Condvar}
 use Rattle.lot_words.specs.declared.views.WordStep.{WordStep}
+use Rattle.parking_lot_core.specs.Tokens.{last_of}
+use Rattle.parking_lot_core.specs.declared.tokens.Token.{Token}
+use Rattle.lot_driver.specs.CondvarFitting.{AnswersBy}
 use Rattle.lot_driver.specs.Paths.{Walks, condvar_at, mutex_at, step}
+use Rattle.lot_driver.specs.Telling.{steps_of}
 use Rattle.lot_driver.proofs.Paths.{ends_at_once, goes_on}
-use Rattle.mutex_driver.specs.CondvarCalls.{HasNotified, Notifies, at_condvar, notify_begin, notify_behind}
+use Rattle.mutex_driver.specs.CondvarCalls.{HasNotified, Notifies, TellsMoved, at_condvar, notify_begin, notify_behind}
 
 -- beside another mutex the word of the condition variable stands at its own place
 own_word : (n m : ℕ) → m ≢ n → at_condvar n m n ≡ condvar_at n
@@ -46,3 +51,16 @@ module _ (n : ℕ) (all : Bool) (seen : ℕ) (answer : Answer) (old mid : List W
     goes_on (at_condvar n m) (notify_begin n all) n Load seen old mid new answer refl (beside m ne)
         (subst (λ (p : Place). Walks (at_condvar n m) p mid new answer) (sym (leads m shown)) behind),
   )
+
+-- a value that shows another mutex than one is another value
+shows_else : (m first seen : ℕ) → first ≡ m + 1 → is_shown seen m ≡ false → seen ≢ first
+shows_else m first seen shown other same =
+    let here : seen ≡ m + 1 = same ∙ shown in
+    let some : (seen == 0) ≡ false = ne_eqb seen 0 (λ none. omega arith) in
+    let back : (seen - 1 == m) ≡ true = eq-eqb (seen - 1) m (omega arith) in
+    false≢true (sym other ∙ ap (λ (b : Bool). not b && (seen - 1 == m)) some ∙ back)
+
+-- what its sections tell of a notification that goes on behind its first look
+pub tells_moved : (n m : ℕ) (all : Bool) (first : ℕ) (answer : Answer) (old new : Token) → first ≡ m + 1 → (more : List WordStep) × (steps_of new ≡ steps_of old ++ more) → AnswersBy n m all answer (last_of new) (steps_of new) → TellsMoved n all first answer old new
+tells_moved n m all first answer old new shown more (inl none) = inl (none.0, (more.0, none.2.0, none.2.1, more.1, none.2.3, shows_else m first none.2.1 shown none.2.2, none.1))
+tells_moved n m all first answer old new shown more (inr moved) = inr (m, moved.0, moved.1, shown, moved.2, moved.3)

@@ -1,5 +1,5 @@
 -- What the calls of a condition variable did.
-use Rattle.std.specs.Prelude.{ℕ, ◌≡◌, ◌≢◌, ◌<◌, ◌==◌, ◌*◌, ◌++◌, ◌⊎◌, Bool, true, false, cond, List, Option, Some, Ok, Err, if◌then◌else◌}
+use Rattle.std.specs.Prelude.{ℕ, ◌≡◌, ◌≢◌, ◌<◌, ◌==◌, ◌*◌, ◌+◌, ◌++◌, ◌⊎◌, Bool, true, false, cond, List, Ok, Err, if◌then◌else◌}
 use Rattle.std.specs.declared.result.Result.{Result}
 use Rattle.lot_base.specs.declared.faults.Fault.{Fault}
 use Rattle.lot_base.specs.declared.faults.Fault.TheVariants as faults
@@ -19,12 +19,11 @@ use Rattle.lot_words.specs.declared.words.Word.{Word}
 use Rattle.lot_words.specs.declared.words.WordKind.TheVariants as kind
 use Rattle.parking_lot_core.specs.Tokens.{IsTokenOf, last_of}
 use Rattle.parking_lot_core.specs.declared.lot.ParkingLot.{ParkingLot}
-use Rattle.parking_lot_core.specs.declared.tokens.SectionRecord.{SectionRecord}
 use Rattle.parking_lot_core.specs.declared.tokens.Token.{Token}
 use Rattle.lot_driver.specs.Calls.{MeetAt}
 use Rattle.lot_driver.specs.CondvarFitting.{move_did}
 use Rattle.lot_driver.specs.Paths.{Walks, condvar_at, mutex_at, step}
-use Rattle.lot_driver.specs.Stages.{HasLeft}
+use Rattle.lot_driver.specs.Stages.{HasLeft, TookNobodyAt}
 use Rattle.lot_driver.specs.Telling.{owns_of, steps_of}
 
 -- a thread of the lot, a mutex of it, and a condition variable of it of another number, whose keys
@@ -72,12 +71,22 @@ HasLooked words c seen old new =
 abbrev pub Notifies : ℕ → Bool → Answer → List WordStep → List WordStep → Type 0
 Notifies c all answer old new = (m : ℕ) × Walks (at_condvar c m) (notify_begin c all) old new answer
 
--- one that has moved some left both sections, with a record of that; who notifies all tells its
--- number
-abbrev pub TellsMoved : ℕ → Bool → Answer → Option SectionRecord → Type 0
-TellsMoved c all answer last = (answer ≡ notified all 0) ⊎ ((m : ℕ) × (locked : Bool) × (number : ℕ)
+-- a thread went on behind a first look that saw this: its last step looked again and saw another
+-- value, and it did nothing in the sections that it left
+abbrev pub LookedElse : ℕ → ℕ → List WordStep → Token → Type 0
+LookedElse c first old new = (more before : List WordStep) × (seen : ℕ)
+    × (steps_of new ≡ old ++ more) × (steps_of new ≡ before ++ step (condvar_at c) Load seen)
+    × (seen ≢ first) × TookNobodyAt c (last_of new)
+
+-- a notification whose first look saw this looked again and saw another value, or it left both
+-- sections with a record of the move from the condition variable to the mutex that is shown so; who
+-- notifies all tells the record's number, which is 0 where it found none waiting
+abbrev pub TellsMoved : ℕ → Bool → ℕ → Answer → Token → Token → Type 0
+TellsMoved c all first answer old new =
+    ((answer ≡ notified all 0) × LookedElse c first (steps_of old) new)
+    ⊎ ((m : ℕ) × (locked : Bool) × (number : ℕ) × (first ≡ m + 1)
     × (answer ≡ (if all then Number number else Yes))
-    × HasLeft (2 * c) (move_did all locked c m) number last)
+    × HasLeft (2 * c) (move_did all locked c m) number (last_of new))
 
 -- the steps of a raw wait lead to its answer; a mutex of the condition variable's own number, which
 -- nobody draws, is refused at once
@@ -104,7 +113,13 @@ abbrev pub IsNumber : Bool → ℕ → ℕ → Type 0
 IsNumber true n number = n ≡ number
 IsNumber false n number = n ≡ 1
 
--- it moved nobody, or left both queues with so many
-abbrev pub HasMoved : ℕ → Bool → ℕ → Token → Type 0
-HasMoved c all n new = (n ≡ 0) ⊎ ((m : ℕ) × (locked : Bool) × (number : ℕ) × IsNumber all n number
+-- its one look saw that nobody waits, or its second look another value than its first
+abbrev pub SawNobody : ℕ → Token → Token → Type 0
+SawNobody c old new = (steps_of new ≡ steps_of old ++ step (condvar_at c) Load 0)
+    ⊎ ((first : ℕ) × LookedElse c first (steps_of old ++ step (condvar_at c) Load first) new)
+
+-- it moved nobody and saw that there is none to move, or left both queues with so many
+abbrev pub HasMoved : ℕ → Bool → ℕ → Token → Token → Type 0
+HasMoved c all n old new = ((n ≡ 0) × SawNobody c old new)
+    ⊎ ((m : ℕ) × (locked : Bool) × (number : ℕ) × IsNumber all n number
     × HasLeft (2 * c) (move_did all locked c m) number (last_of new))

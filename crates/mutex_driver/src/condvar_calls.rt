@@ -1,7 +1,7 @@
 //! The calls of a condition variable.
 ghost use Rattle.std.specs.Prelude.{◌≡◌, ◌≢◌, Bool, None};
 ghost use Rattle.lot_base.specs.Clocks.{IsUp};
-ghost use Rattle.parking_lot_core.specs.Tokens.{IsSameThread, last_of};
+ghost use Rattle.parking_lot_core.specs.Tokens.{IsSameThread};
 ghost use Rattle.parking_lot_core.specs.declared.tokens.Token.{Token};
 ghost use Rattle.lot_condvar.specs.CondvarSteps.{notified};
 ghost use Rattle.lot_driver.specs.CondvarFitting.{IsNotifyOver, IsWaitOver, OwnsIt};
@@ -112,7 +112,7 @@ pub fn notify_behind<R: Wait>(
         → HasLooked lot.now.words.count condvar.number seen before token.old
         → Notifies condvar.number all result (steps_of before) (steps_of token.new) }
     ensures owns { owns_of token.new ≡ owns_of token.old }
-    ensures record { TellsMoved condvar.number all result (last_of token.new) }
+    ensures record { TellsMoved condvar.number all seen result token.old token.new }
 {
     let mutex = lot.mutex_shown(token, condvar, seen);
     notify_shown(rt, lot, token, condvar, mutex, all)

@@ -6,7 +6,7 @@ ghost use Rattle.lot_base.specs.Clocks.{HasElapsed, IsUp};
 ghost use Rattle.lot_calls.specs.declared.outcomes.Answer.{Answer};
 ghost use Rattle.lot_words.specs.Lots.{IsWordOf};
 ghost use Rattle.lot_words.specs.declared.words.WordKind.TheVariants.{Condvar};
-ghost use Rattle.parking_lot_core.specs.Tokens.{IsTokenOf, last_of};
+ghost use Rattle.parking_lot_core.specs.Tokens.{IsTokenOf};
 ghost use Rattle.parking_lot_core.specs.declared.tokens.Token.{Token};
 ghost use Rattle.lot_driver.specs.Drawing.{Drew};
 ghost use Rattle.lot_driver.specs.Telling.{steps_of};
@@ -116,7 +116,7 @@ impl RawCondvar {
             → HasLooked (lot_of self.now).words.count
             (word_of self.now).number seen before token.old
             → Notifies (word_of self.now).number all result (steps_of before) (steps_of token.new) }
-        ensures record { TellsMoved (word_of self.now).number all result (last_of token.new) }
+        ensures record { TellsMoved (word_of self.now).number all seen result token.old token.new }
     {
         notify_behind(rt, &self.lot, token, self.word, all, seen)
     }
@@ -138,7 +138,7 @@ impl lock_raw::RawCondvar for RawCondvar {
     ghost looked = { λ condvar seen old new. HasLooked
         (arc_value condvar.lot).words.count condvar.word.number seen old new };
 
-    ghost moved = { λ condvar all number old new. HasMoved condvar.word.number all number new };
+    ghost moved = { λ condvar all number old new. HasMoved condvar.word.number all number old new };
 
     fn new(lot: &Arc<ParkingLot>, token: &mut Token) -> Result<RawCondvar, Fault> {
         let Ok(lot) = Arc::try_clone(lot) else {

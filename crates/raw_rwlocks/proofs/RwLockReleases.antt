@@ -1,5 +1,5 @@
 -- A release by halves: from where its right is joined to its end.
-use Rattle.std.proofs.Common.{◌≡◌, ◌∷◌, List, refl, ap, ◌∙◌, subst}
+use Rattle.std.proofs.Common.{◌≡◌, List, refl, ap, ◌∙◌, subst}
 use Rattle.lot_calls.specs.declared.calls.Access.{Access}
 use Rattle.lot_calls.specs.declared.outcomes.Answer.{Answer}
 use Rattle.lot_driver.specs.Paths.{Walks, at_rwlock, rwlock_at}

@@ -1,5 +1,5 @@
 -- What the halves of a call of a reader-writer lock come to, of which the fast one may be all.
-use Rattle.std.specs.Prelude.{◌≡◌, ◌++◌, ◌∷◌, Option, List, IfErr, IfNone, IfOk, IfSome, MatchResult}
+use Rattle.std.specs.Prelude.{◌≡◌, Option, IfErr, IfNone, IfOk, IfSome, MatchResult}
 use Rattle.std.specs.declared.result.Result.{Result}
 use Rattle.lot_base.specs.declared.faults.Fault.{Fault}
 use Rattle.lot_base.specs.declared.faults.Fault.TheVariants.{ReadersFull}

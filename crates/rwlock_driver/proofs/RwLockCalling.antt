@@ -33,8 +33,7 @@ use Rattle.parking_lot_core.specs.declared.tokens.Token.{Token}
 use Rattle.lot_driver.specs.Fitting.{Aim, AreWordsFor, Fits, IsOver, aim_of, answer_of, of_rwlock}
 use Rattle.lot_driver.specs.Paths.{Walks, at_rwlock, rwlock_at, rwlocks, step}
 use Rattle.lot_driver.specs.RwLockCalls.{AnswersCall, BeginsWith, TookUnlessEnded, Wakes, WakesBy, first_op, rwlock_begin}
-use Rattle.rwlock_driver.specs.RwLockRefusals.{LeftBy}
-use Rattle.lot_driver.specs.RwLockFitting.{Answers, IsBeside, IsCounted, IsRwLockOver, MayGiveUp, OwnsRight, TookWoken}
+use Rattle.lot_driver.specs.RwLockFitting.{Answers, IsBeside, IsCounted, IsRwLockOver, LeftBy, MayGiveUp, OwnsRight, TookWoken}
 use Rattle.lot_driver.specs.Stages.{Stage, Stepped, stage_of}
 use Rattle.lot_driver.specs.Words.{alone, at_in, kind_in}
 use Rattle.lot_driver.proofs.Ending.{end_of}
@@ -175,7 +174,7 @@ module _ (up : Type 0) (l : ℕ) (base : List Ownership) (a : Admission) (x : Ac
     | inr (inr full) ↦ let n = full.0 in absurd cc
   ]
 
-  pub gave_up_left : answer ≡ answers.No → LeftBy l a (purpose.Enter x how) st.last
+  pub gave_up_left : answer ≡ answers.No → LeftBy l a (purpose.Enter x how) st.last st.steps
   gave_up_left is = elim h [
     | inl got ↦ absurd (no_entry how (sym got.0 ∙ is))
     | inr (inl none) ↦ none.3

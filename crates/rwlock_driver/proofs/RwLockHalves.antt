@@ -1,8 +1,7 @@
 -- The halves of a reader-writer call make the whole.
-use Rattle.std.proofs.Common.{ℕ, List, None, ◌≡◌, ◌-◌, ◌^◌, ◌<◌, refl, sym, subst}
+use Rattle.std.proofs.Common.{ℕ, List, None, ◌≡◌, ◌-◌, ◌^◌, ◌<◌, refl, subst}
 use Rattle.lot_acts.specs.declared.acts.Next.TheVariants.{At}
 use Rattle.lot_acts.specs.declared.acts.Reply.TheVariants.{Value}
-use Rattle.lot_base.specs.declared.ops.Op.{Op}
 use Rattle.lot_base.specs.declared.ops.Op.TheVariants.{Exchange}
 use Rattle.lot_calls.specs.declared.outcomes.Answer.{Answer}
 use Rattle.lot_driver.specs.Fitting.{Fits, IsOver, Reached, aim_of, of_rwlock}
@@ -20,10 +19,8 @@ use Rattle.lot_words.specs.declared.words.Word.{Word}
 use Rattle.lot_words.specs.declared.words.WordKind.TheVariants as kinds
 use Rattle.parking_lot_core.specs.Tokens.{view_of}
 use Rattle.parking_lot_core.specs.declared.tokens.Token.{Token}
-use Rattle.rwlock_driver.specs.Courses.{course_of}
 use Rattle.rwlock_driver.specs.Halves.{HasBegun, HasEnded, HasStepped}
 use Rattle.rwlock_driver.specs.declared.calls.Rest.TheVariants.{GoesOn, Missed}
-use Rattle.rwlock_driver.specs.declared.courses.Course.TheVariants as courses
 use Rattle.rwlock_driver.proofs.RwLockCalling.{rest_fits, rest_over, rest_path, rest_record}
 use Rattle.rwlock_driver.proofs.RwLockCourses.{takes_at, waits_at}
 use Rattle.rwlock_driver.proofs.RwLockTakes.{over_missed, path_missed, word_takes_on}

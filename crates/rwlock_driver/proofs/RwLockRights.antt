@@ -26,8 +26,7 @@ use Rattle.parking_lot_core.specs.declared.tokens.Token.{Token}
 use Rattle.lot_driver.specs.Fitting.{answer_of}
 use Rattle.lot_driver.specs.Paths.{Walks, at_rwlock, rwlock_at}
 use Rattle.lot_driver.specs.RwLockCalls.{BeginsWith, rwlock_begin}
-use Rattle.rwlock_driver.specs.RwLockRefusals.{LeftBy}
-use Rattle.lot_driver.specs.RwLockFitting.{Answers, MayGiveUp, OwnsRight}
+use Rattle.lot_driver.specs.RwLockFitting.{Answers, LeftBy, MayGiveUp, OwnsRight}
 use Rattle.lot_driver.specs.Stages.{Stage, stage_of}
 use Rattle.rwlock_driver.proofs.RwLockCalling.{begins_entering, ended_on, entered_right, path_ended, saw, started}
 
@@ -60,7 +59,7 @@ module _ (up : Type 0) (l : ℕ) (base : List Ownership) (a : Admission) (how : 
     | inr none ↦ (none.1, none.2)
   ]
 
-  pub fell_back_left : answer ≡ answers.No → LeftBy l a (purpose.Upgrade how) st.last
+  pub fell_back_left : answer ≡ answers.No → LeftBy l a (purpose.Upgrade how) st.last st.steps
   fell_back_left is = elim h [
     | inl got ↦ absurd (no_entry how (sym got.0 ∙ is))
     | inr none ↦ none.3

@@ -1,5 +1,5 @@
 -- Why a call of a reader-writer lock was refused, and what one left that gave up.
-use Rattle.std.specs.Prelude.{ℕ, ◌≡◌, ◌≤◌, ◌++◌, ◌⊎◌, false, List, Option, None}
+use Rattle.std.specs.Prelude.{ℕ, ◌≡◌, ◌≤◌, ◌++◌, false, List}
 use Rattle.lot_base.specs.declared.ops.Op.{Op}
 use Rattle.abstract_locks.specs.Codes.{count_in, is_blocked}
 use Rattle.lot_calls.specs.declared.calls.Access.{Access}
@@ -11,11 +11,9 @@ use Rattle.lot_rwlock.specs.declared.purposes.RwLockPurpose.{RwLockPurpose}
 use Rattle.lot_rwlock.specs.declared.purposes.RwLockPurpose.TheVariants as purpose
 use Rattle.lot_words.specs.declared.views.WordStep.{WordStep}
 use Rattle.parking_lot_core.specs.Tokens.{view_of, last_of}
-use Rattle.parking_lot_core.specs.declared.tokens.SectionRecord.{SectionRecord}
 use Rattle.parking_lot_core.specs.declared.tokens.Token.{Token}
 use Rattle.lot_driver.specs.Paths.{rwlock_at, step}
-use Rattle.lot_driver.specs.RwLockFitting.{TookWoken}
-use Rattle.lot_driver.specs.Stages.{TookNobodyAt}
+use Rattle.lot_driver.specs.RwLockFitting.{LeftBy}
 
 -- the last of its steps saw that nobody keeps this right out, and that as many share the lock as
 -- may
@@ -24,14 +22,9 @@ SawFull l a x old new = (before : List WordStep) × (op : Op) × (seen : ℕ)
     × ((view_of new).steps ≡ ((view_of old).steps ++ before) ++ step (rwlock_at l) op seen)
     × (is_blocked a.recursive (wanted x) seen ≡ false) × (a.limit ≤ count_in seen)
 
--- an upgrade that gives up leaves no section behind its last step, or took there those whom it had
--- kept out; one that enters may also have left the queue, and done nothing else there
-abbrev pub LeftBy : ℕ → Admission → RwLockPurpose → Option SectionRecord → Type 0
-LeftBy l a (purpose.Upgrade how) last = (last ≡ None) ⊎ TookWoken l a (purpose.Upgrade how) last
-LeftBy l a q last = (last ≡ None) ⊎ (TookNobodyAt l last ⊎ TookWoken l a q last)
-
+-- what a call left that gave up
 abbrev pub GaveUp : ℕ → Admission → RwLockPurpose → Token → Type 0
-GaveUp l a q new = LeftBy l a q (last_of new)
+GaveUp l a q new = LeftBy l a q (last_of new) (view_of new).steps
 
 -- so of a call; no other gives up
 abbrev pub GaveUpCall : ℕ → Admission → RwLockCall → Token → Type 0

@@ -24,7 +24,7 @@ run-requires-clause-words g c = let word = c.args.word in
 pub run-requires-clause-start : goal.run-requires-clause-start
 run-requires-clause-start g c = let v = view_of c.args.token.now in (
   v.owns,
-  subst (λ (p : Place). Fits (IsUp g.C.Clock.tells c.args.limit) (view_of c.args.token.now).owns p (stage_of c.args.token.now None)) (sym c.place_behind-start.ensures) (fits_behind c.args.word.number (IsUp g.C.Clock.tells c.args.limit) c.args.call c.args.seen v.owns (last_of c.args.token.now) c.requires.goes_on),
+  subst (λ (p : Place). Fits (IsUp g.C.Clock.tells c.args.limit) (view_of c.args.token.now).owns p (stage_of c.args.token.now None)) (sym c.place_behind-start.ensures) (fits_behind c.args.word.number (IsUp g.C.Clock.tells c.args.limit) c.args.call c.args.seen v.owns (last_of c.args.token.now) v.steps c.requires.goes_on),
 )
 
 pub returns-clause-path : goal.returns-clause-path
@@ -37,7 +37,7 @@ returns-clause-path g c = λ before saw. let n = c.args.word.number in let at = 
 
 pub returns-clause-over : goal.returns-clause-over
 returns-clause-over g c = let n = c.args.word.number in let owns = (view_of c.args.token.now).owns in let answer = c.in-Ended.answer in
-    let start = fits_behind n (IsUp g.C.Clock.tells c.args.limit) c.args.call c.args.seen owns (last_of c.args.token.now) c.requires.goes_on in
+    let start = fits_behind n (IsUp g.C.Clock.tells c.args.limit) c.args.call c.args.seen owns (last_of c.args.token.now) (view_of c.args.token.now).steps c.requires.goes_on in
     let fits = subst (λ (p : Place). Fits (IsUp g.C.Clock.tells c.args.limit) (view_of c.args.token.now).owns p (stage_of c.args.token.now None)) (sym c.place_behind-start.ensures) start in
     let stopped = subst (λ (stop : Stop). IsStopped (IsUp g.C.Clock.tells c.args.limit) (view_of c.args.token.now).owns (aim_of c.place_behind-start.result) stop (stage_of c.run.new.token None)) c.in-Ended.is (c.run.ensures.stopped owns fits) in
     over_behind n (IsUp g.C.Clock.tells c.args.limit) c.args.call c.args.seen owns answer (stage_of c.run.new.token None) c.requires.goes_on
@@ -45,7 +45,7 @@ returns-clause-over g c = let n = c.args.word.number in let owns = (view_of c.ar
 
 pub unreachable-requires : goal.unreachable-requires
 unreachable-requires g c = let n = c.args.word.number in let owns = (view_of c.args.token.now).owns in
-    let start = fits_behind n (IsUp g.C.Clock.tells c.args.limit) c.args.call c.args.seen owns (last_of c.args.token.now) c.requires.goes_on in
+    let start = fits_behind n (IsUp g.C.Clock.tells c.args.limit) c.args.call c.args.seen owns (last_of c.args.token.now) (view_of c.args.token.now).steps c.requires.goes_on in
     let fits = subst (λ (p : Place). Fits (IsUp g.C.Clock.tells c.args.limit) (view_of c.args.token.now).owns p (stage_of c.args.token.now None)) (sym c.place_behind-start.ensures) start in
     let stopped = subst (λ (stop : Stop). IsStopped (IsUp g.C.Clock.tells c.args.limit) (view_of c.args.token.now).owns (aim_of c.place_behind-start.result) stop (stage_of c.run.new.token None)) c.in-Paused.is (c.run.ensures.stopped owns fits) in
     never_pauses n (IsUp g.C.Clock.tells c.args.limit) c.args.call c.args.seen owns c.in-Paused.place c.in-Paused.state (stage_of c.run.new.token None) c.requires.goes_on

@@ -16,5 +16,5 @@ pub returns : goal.returns
 returns g c = λ p at is.
     turned_by (IsUp g.C.Clock.tells c.args._limit) c.args.lot.now c.args._words p c.args.token.now c.enter.new.token c.args.section.now c.enter.new.section (act.TheVariants.Enter c.args.keys) Done is refl at
     (subst (IsSameThread c.args.lot.now c.args.token.now) (sym c.enter.ensures.same) (at.0, refl)) c.enter.ensures.entered.0
-    (ap (λ (t : Token). stage (view_of t).owns (inside_of c.enter.new.section) (last_of t)) c.enter.ensures.same ∙ ap (λ (i : Option Inside). stage (view_of c.args.token.now).owns i (last_of c.args.token.now)) c.enter.ensures.entered.1)
+    (ap (λ (t : Token). stage (view_of t).owns (inside_of c.enter.new.section) (last_of t) (view_of t).steps) c.enter.ensures.same ∙ ap (λ (i : Option Inside). stage (view_of c.args.token.now).owns i (last_of c.args.token.now) (view_of c.args.token.now).steps) c.enter.ensures.entered.1)
     (ap steps_of c.enter.ensures.same)

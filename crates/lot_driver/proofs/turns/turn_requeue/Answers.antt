@@ -17,4 +17,4 @@ pub returns-clause-done : goal.returns-clause-done
 returns-clause-done g c = λ p at is.
     turned_by (IsUp g.C.Clock.tells c.args._limit) c.args.lot.now c.args._words p c.args._token.now c.args._token.now c.args.section.now c.requeue.new.section (act.TheVariants.Requeue c.args.from c.args.to c.args.how) (Requeued c.requeue.result.0 c.requeue.result.1) is refl at
     (at.0, refl) c.requeue.ensures.did.0
-    (taken_of c.args.how (line_in c.args.from c.args.section.now), length (moved_by c.args.how (line_in c.args.from c.args.section.now)), c.requeue.ensures.number, ap (λ (i : Option Inside). stage (view_of c.args._token.now).owns i (last_of c.args._token.now)) c.requeue.ensures.did.1) refl
+    (taken_of c.args.how (line_in c.args.from c.args.section.now), length (moved_by c.args.how (line_in c.args.from c.args.section.now)), c.requeue.ensures.number, ap (λ (i : Option Inside). stage (view_of c.args._token.now).owns i (last_of c.args._token.now) (view_of c.args._token.now).steps) c.requeue.ensures.did.1) refl

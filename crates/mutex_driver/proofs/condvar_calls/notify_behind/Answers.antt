@@ -2,8 +2,12 @@ use Rattle.std.proofs.Common.{◌≢◌, rules}
 use Rattle.parking_lot_core.specs.declared.tokens.Token.{Token}
 use Rattle.lot_driver.specs.Telling.{steps_of}
 use Rattle.mutex_driver.specs.CondvarCalls.{HasLooked}
-use Rattle.mutex_driver.proofs.CondvarNotifying.{some_wait}
+use Rattle.mutex_driver.proofs.CondvarNotifying.{some_wait, tells_moved}
 use Rattle.mutex_driver.proofs.condvar_calls.notify_behind.Goals as goal
+
+pub returns-clause-record : goal.returns-clause-record
+returns-clause-record g c = let mutex = c.mutex_shown-mutex.result in
+    tells_moved c.args.condvar.number mutex.number c.args.all c.args.seen c.notify_shown.result c.args.token.now c.notify_shown.new.token c.mutex_shown-mutex.ensures.2 (c.notify_shown.ensures.path.0, c.notify_shown.ensures.path.1) c.notify_shown.ensures.over.1
 
 pub returns-clause-path : goal.returns-clause-path
 returns-clause-path g c = let mutex = c.mutex_shown-mutex.result in

@@ -4,7 +4,7 @@ use Rattle.lot_base.specs.declared.ops.Op.{Op}
 use Rattle.lot_base.specs.declared.ops.Op.TheVariants.{Exchange}
 use Rattle.lot_calls.specs.declared.outcomes.Answer.{Answer}
 use Rattle.lot_driver.specs.Stages.{stage_of}
-use Rattle.lot_rwlock.specs.RwLockSteps.{entered, patience_of, word_taken}
+use Rattle.lot_rwlock.specs.RwLockSteps.{entered, patience_of}
 use Rattle.lot_words.specs.Indices.{word_index}
 use Rattle.lot_words.specs.Steps.{after_step}
 use Rattle.lot_words.specs.declared.owners.Ownership.{Ownership}

@@ -1,8 +1,13 @@
-use Rattle.std.proofs.Common.{false, inl, refl, true}
+use Rattle.std.proofs.Common.{ℕ, ◌≡◌, ◌++◌, ◌∙◌, ap, false, inl, refl, true}
+use Rattle.lot_base.specs.declared.ops.Op.TheVariants.{Load}
+use Rattle.lot_driver.specs.Paths.{condvar_at, step}
+use Rattle.lot_driver.specs.Telling.{steps_of}
 use Rattle.raw_mutexes.proofs.raw_condvar.RawCondvarRawCondvar.begin_notify.Goals as goal
 
 pub returns-clause-one : goal.returns-clause-one
-returns-clause-one c = λ zero. (c.begin_notify.ensures.nobody zero false, inl refl)
+returns-clause-one c = λ (zero : c.begin_notify.result ≡ 0). let number = c.args.self.now.word.number in
+    (c.begin_notify.ensures.nobody zero false, inl (refl, inl (c.begin_notify.ensures.looked.0 ∙ ap (λ (n : ℕ). steps_of c.args.token.now ++ step (condvar_at c.args.self.now.word.number) Load n) zero)))
 
 pub returns-clause-all : goal.returns-clause-all
-returns-clause-all c = λ zero. (c.begin_notify.ensures.nobody zero true, inl refl)
+returns-clause-all c = λ (zero : c.begin_notify.result ≡ 0).
+    (c.begin_notify.ensures.nobody zero true, inl (refl, inl (c.begin_notify.ensures.looked.0 ∙ ap (λ (n : ℕ). steps_of c.args.token.now ++ step (condvar_at c.args.self.now.word.number) Load n) zero)))

@@ -1,8 +1,7 @@
-use Rattle.std.proofs.Common.{rules, ◌≡◌, ◌∷◌, List, ap, ◌∙◌, subst, refl, MatchResult, Ok, Err}
+use Rattle.std.proofs.Common.{rules, ◌≡◌, subst, MatchResult, Ok, Err}
 use Rattle.std.specs.declared.result.Result.{Result}
 use Rattle.lot_base.specs.declared.wants.Want.{Want}
 use Rattle.lot_calls.specs.declared.outcomes.Answer.{Answer}
-use Rattle.lot_rwlock.specs.RwLockSteps.{wanted}
 use Rattle.lot_rwlock.specs.declared.purposes.RwLockPurpose.TheVariants.{Release}
 use Rattle.lot_words.specs.Plays.{piece, takes_in}
 use Rattle.lot_words.specs.Rights.{owner_for}

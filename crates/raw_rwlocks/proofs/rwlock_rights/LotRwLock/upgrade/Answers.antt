@@ -6,11 +6,11 @@ use Rattle.lot_rwlock.specs.RwLockSteps.{entered}
 use Rattle.lot_words.specs.declared.owners.Owner.TheVariants as owners
 use Rattle.lot_words.specs.declared.views.View.{View}
 use Rattle.lot_words.specs.declared.views.WordStep.{WordStep}
-use Rattle.parking_lot_core.specs.Tokens.{view_of}
+use Rattle.parking_lot_core.specs.Tokens.{last_of, view_of}
 use Rattle.parking_lot_core.specs.declared.tokens.SectionRecord.{SectionRecord}
-use Rattle.rwlock_driver.specs.RwLockRefusals.{LeftBy}
 use Rattle.lot_driver.specs.Paths.{Walks, at_rwlock}
 use Rattle.lot_driver.specs.RwLockCalls.{rwlock_begin}
+use Rattle.lot_driver.specs.RwLockFitting.{LeftBy}
 use Rattle.lot_driver.specs.Stages.{stage_of}
 use Rattle.lot_driver.proofs.RwLockNeeds.{has_right, left_beside}
 use Rattle.rwlock_driver.proofs.RwLockRights.{begins_upgrading, fell_back, fell_back_left, upgraded}
@@ -44,7 +44,8 @@ returns-in-No-clause-late g c = let n = c.args.self.now.word.number in let owns 
 pub returns-in-No-clause-left : goal.returns-in-No-clause-left
 returns-in-No-clause-left g c = let n = c.args.self.now.word.number in let owns = (view_of c.args.token.now).owns in
     let over = c.call-answer.ensures.over owns (begins_upgrading n c.args.patience owns (view_of c.join.new.token).owns (owners.Upgradable, owns, refl, (λ settled. refl), ap (λ (v : View). v.owns) c.join.ensures.joined)) in
-    subst (λ (last : Option SectionRecord). LeftBy n c.args.self.now.admission (Upgrade c.args.patience) last) (sym c.split.ensures.own.1) (fell_back_left (IsUp g.C.Clock.tells c.args.limit.now) n owns c.args.self.now.admission c.args.patience c.call-answer.result (stage_of c.call-answer.new.token None) over c.in-No.is)
+    let left = subst (λ (last : Option SectionRecord). LeftBy c.args.self.now.word.number c.args.self.now.admission (Upgrade c.args.patience) last (view_of c.call-answer.new.token).steps) (sym c.split.ensures.own.1) (fell_back_left (IsUp g.C.Clock.tells c.args.limit.now) n owns c.args.self.now.admission c.args.patience c.call-answer.result (stage_of c.call-answer.new.token None) over c.in-No.is) in
+    subst (λ (steps : List WordStep). LeftBy c.args.self.now.word.number c.args.self.now.admission (Upgrade c.args.patience) (last_of c.split.new.token) steps) (sym (ap (λ (v : View). v.steps) c.split.ensures.left)) left
 
 pub returns-in_default : goal.returns-in_default
 returns-in_default g c = let n = c.args.self.now.word.number in let owns = (view_of c.args.token.now).owns in
