@@ -83,7 +83,7 @@ pub enum OnceCall {
     CallOnce { forced: bool },
     /// Waits until a run has succeeded.
     Wait { forced: bool },
-    /// Waits so up to a deadline. It isn't forced.
+    /// Waits up to a deadline until a run has succeeded. Such a call is never forced.
     WaitTimed,
 }
 

@@ -82,7 +82,7 @@ FitsRun l base (run.Leave succeeded any) st = OwnsBehind l succeeded base st.own
     × (waiters : List Waiter) × (any ≡ not (length waiters == 0)) × TookEach l waiters st.inside
 
 -- what a thread has in a call of a `Once`, beside what it owned as it began; `up` says that the
--- time of the call is up, as it is of who gives up
+-- time of the call is up, as it is of a thread that gives up
 abbrev pub FitsOnce : Type 0 → ℕ → List Ownership → OncePlace → Stage → Type 0
 FitsOnce up l base (Look c retries at) st = FitsLook l c base at st
 FitsOnce up l base (Run forced at) st = FitsRun l base at st
@@ -92,7 +92,7 @@ FitsOnce up l base (GiveUp retries at) st = up × StandsWithin l base st
 abbrev pub WokeAll : ℕ → Option SectionRecord → Type 0
 WokeAll l last = HasDone (2 * l) (TakeAll (2 * l)) last
 
--- what an answer says of a call that runs nothing, by the section that was left last
+-- the facts behind the answer of a call that runs nothing, by the section that was left last
 abbrev pub LooksAnswer : Type 0 → ℕ → OnceCall → List Ownership → Answer → List Ownership
     → Option SectionRecord → Type 0
 LooksAnswer up l c base answers.Ok owns last = (is_timed c ≡ false) × KnowsIt l base owns

@@ -85,9 +85,9 @@ run_owing w t l forced (run.Enter succeeded) = inside_owing l (word_at w l) forc
 run_owing w t l forced (run.Take succeeded) = inside_owing l (word_at w l) forced (run.Take succeeded) (run.Leave succeeded _) refl refl
 run_owing w t l forced (run.Leave succeeded any) = record { since = λ m h. absurd cc; sees = λ m s step. absurd cc }
 
--- ---------------------------------------------------------------- who gives up
+-- ---------------------------------------------------------------- giving up
 
--- inside the section it owes, until it leaves it
+-- a thread inside the section owes, until it leaves it
 give_up_since : (l : ℕ) (again : Bool) (n : Next GiveUpAt) (m : Line) → (profile (once_goes l (in_give_up again n))).owes ≡ Some m
     → (profile (once_goes l (in_give_up again n))).doing.inside ≡ Some m
 give_up_since l again (next.At give_up.Remove) m h = h

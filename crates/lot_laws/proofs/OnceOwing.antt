@@ -38,7 +38,7 @@ once_befallen l (Run forced at) (HandedBy t alone) b k = refl
 once_befallen l (Run forced at) (Woken note) b k = refl
 once_befallen l at r b k = absurd b
 
--- who may give up sleeps in its line
+-- a thread that may give up sleeps in its line
 pub late_place : (at : OncePlace) (m : Line) → (once_profile at).late_line ≡ Some m
     → (again : Bool) × (at ≡ Look WaitTimed again look_at.Asleep) × (Main ≡ m)
 late_place (Look WaitTimed again look_at.Asleep) m h = (again, refl, cc)

@@ -29,7 +29,7 @@ lets_nobody l c again at (inl h) = by_call c (subst (λ b. IsReleasing (Some (on
     by_call (Wait forced) g = g
     by_call WaitTimed g = g
 
--- nor does it once its time is up
+-- nor does a thread whose time is up
 pub gives_up_quietly : (l : ℕ) (again : Bool) (at : GiveUpAt) → LetsIn locks.Once l (once_profile (GiveUp again at)) → ⊥
 gives_up_quietly l again at (inr h) = let f : false ≡ true = h.0 in cc
 gives_up_quietly l again at (inl h) = h

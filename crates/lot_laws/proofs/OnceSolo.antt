@@ -179,7 +179,7 @@ module _ (t l : ℕ) where
     look_rests again look.Asleep v w q up f = absurd (up refl)
     look_rests again (look.Taken by) v w q up f = absurd (up refl)
 
-  -- ---------------------------------------------------------------- who gives up
+  -- ---------------------------------------------------------------- giving up
 
   module _ (again : Bool) where
     gone_rests : (v : ℕ) (w : State) (q : Queues) → Alone w (GiveUp again give_up.Leave) v q → RestsIn 1 w

@@ -173,7 +173,7 @@ CallsOnceAlone Poisoned s t false o s2 = o ≡ outcome.TheVariants.End answer.Th
 CallsOnceAlone (InProgress runner) s t forced o s2 = SleepsLast s t CallOnce o s2
 CallsOnceAlone Done s t forced o s2 = o ≡ outcome.TheVariants.End answer.TheVariants.Ok
 
--- what a call comes to that waits for another's run, up to a deadline or without one
+-- the end of a call that waits for another's run, up to a deadline or without one
 abbrev pub AwaitsAlone : Phase → LockState → ℕ → (forced timed : Bool) → Outcome → LockState
     → Type 0
 AwaitsAlone Done s t forced false o s2 = o ≡ outcome.TheVariants.End answer.TheVariants.Ok

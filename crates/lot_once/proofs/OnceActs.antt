@@ -168,7 +168,7 @@ once_sleepers_move (GiveUp retries give_up.Remove) = record {
 once_sleepers_move (GiveUp retries give_up.Clear) = awake (GiveUp retries give_up.Clear) refl refl
 once_sleepers_move (GiveUp retries give_up.Leave) = awake (GiveUp retries give_up.Leave) refl refl
 
--- ---------------------------------------------------------------- who gives up
+-- ---------------------------------------------------------------- giving up
 
 goes_late : (again : Bool) → GoesIn (once_move (Look WaitTimed again look.Asleep)) (once_hears (Look WaitTimed again look.Asleep)) Main reply.Late
 goes_late again = record { out = refl; free = refl; deeds = refl; goes = refl; may = λ r s t free. (refl, free) }

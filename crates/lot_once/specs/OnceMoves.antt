@@ -80,7 +80,7 @@ OnceActsMove = (l : ℕ) (p : OncePlace) → OnceMoves l (once_move p) (once_hea
 abbrev pub OnceSleepersMove : Type 0
 OnceSleepersMove = (p : OncePlace) → Waits (once_move p)
 
--- who gives up goes into the section of the line in which it sleeps
+-- a thread that gives up goes into the section of the line in which it sleeps
 abbrev pub OnceLateMove : Type 0
 OnceLateMove =
     (p : OncePlace) (m : Line) → once_late_line p ≡ Some m

@@ -48,9 +48,9 @@ looking c retries row = record row {
   purpose = λ l. once_purpose l c;
 }
 
--- ---------------------------------------------------------------- who gives up
+-- ---------------------------------------------------------------- giving up
 
--- inside the section, where it owes as anybody does
+-- a thread inside the section owes there, as any does
 abbrev pub late_row : Profile → Profile
 late_row row = record row { owes = Some Main; late = true }
 

@@ -60,7 +60,7 @@ want_of (CallOnce forced) = wants.CallOnce
 want_of (Wait forced) = wants.Wait
 want_of WaitTimed = wants.Wait
 
--- what a call answers that sees the `Once` done
+-- the answer of a call that sees the `Once` done
 abbrev pub when_done : OnceCall → Answer
 when_done (CallOnce forced) = answer.Ok
 when_done (Wait forced) = answer.Ok
@@ -151,7 +151,7 @@ abbrev pub begins_run : OnceCall → LookAt → Reply → Bool
 begins_run c (look.Decide expected) (Value seen) = (seen == expected) && is_run (course_of c seen)
 begins_run c at reply = false
 
--- it sleeps in a call that has a deadline, and its time is up
+-- a thread sleeps in a call that has a deadline, and its time is up
 abbrev pub gives_up : OnceCall → LookAt → Reply → Bool
 gives_up c look.Asleep Late = is_timed c
 gives_up c at reply = false

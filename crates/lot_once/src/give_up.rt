@@ -1,4 +1,4 @@
-//! How a thread gives up that waits for a `Once` with a deadline, once its time is up.
+//! The steps of a thread that waits for a `Once` with a deadline, once its time is up.
 //!
 //! | place | does | then |
 //! |---|---|---|
@@ -13,7 +13,7 @@ use lot_acts::{Act, Next, Reply, Wakes};
 use lot_base::{Keys, Op, main_key};
 use lot_calls::Answer;
 
-/// Where a thread stands that gives up: inside the section of the queue.
+/// A place of a thread that gives up, inside the section of the queue.
 #[derive(Clone, Copy)]
 pub enum GiveUpAt {
     /// Still in the queue.
@@ -23,7 +23,7 @@ pub enum GiveUpAt {
     Leave,
 }
 
-/// Where a thread goes that gives up.
+/// Leads a thread on that gives up.
 pub(super) fn next_give_up(at: GiveUpAt, reply: Reply) -> Next<GiveUpAt>
     ensures { result ≡ next_give_up at reply }
 {
@@ -39,7 +39,7 @@ pub(super) fn next_give_up(at: GiveUpAt, reply: Reply) -> Next<GiveUpAt>
     }
 }
 
-/// What a thread does next that gives up.
+/// Gives the next act of a thread that gives up.
 pub(super) fn give_up_act(lock: usize, at: GiveUpAt) -> Act
     requires { lock < 2 ^ 63 }
     ensures { result ≡ give_up_act lock at }

@@ -52,7 +52,7 @@ pub fn once_sleepers_move()
     ensures { OnceSleepersMove }
 {}
 
-/// And so does the step by which it gives up.
+/// Does the same of the step by which a sleeper gives up.
 pub fn once_late_move()
     ensures { OnceLateMove }
 {}

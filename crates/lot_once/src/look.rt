@@ -57,7 +57,7 @@ pub(super) fn is_forced(call: OnceCall) -> bool
     }
 }
 
-/// Whether a call has a deadline.
+/// Tells whether a call has a deadline.
 pub(super) fn is_timed(call: OnceCall) -> bool
     ensures { result ≡ is_timed call }
 {
@@ -80,7 +80,7 @@ pub(super) fn want_of(call: OnceCall) -> Want
     }
 }
 
-/// What a call answers that sees the `Once` done: one with a deadline `Yes`, any other `Ok`.
+/// Gives the answer of a call that sees the `Once` done: `Yes` with a deadline, else `Ok`.
 fn when_done(call: OnceCall) -> Answer
     ensures { result ≡ when_done call }
 {
@@ -131,7 +131,7 @@ pub(super) fn begins_run(call: OnceCall, at: LookAt, reply: Reply) -> bool
     }
 }
 
-/// Whether the thread gives up its sleep, since its time is up.
+/// Tells whether the thread gives up its sleep, since its time is up.
 pub(super) fn gives_up(call: OnceCall, at: LookAt, reply: Reply) -> bool
     ensures { result ≡ gives_up call at reply }
 {
@@ -151,7 +151,7 @@ fn looked(call: OnceCall, seen: u64) -> Next<LookAt>
     }
 }
 
-/// Where a thread goes that looks, and neither begins its run nor gives up.
+/// Leads a thread on that looks, and neither begins its run nor gives up.
 pub(super) fn next_look(call: OnceCall, at: LookAt, reply: Reply) -> Next<LookAt>
     ensures { result ≡ next_look call at reply }
 {

@@ -50,7 +50,7 @@ pub enum OncePlace {
         forced: bool,
         at: RunAt,
     },
-    /// It has waited with a deadline, and its time is up. It `retries` as it did asleep.
+    /// The thread has waited with a deadline, and its time is up. It `retries` as it did asleep.
     GiveUp {
         retries: bool,
         at: GiveUpAt,
@@ -180,7 +180,7 @@ impl OncePlace {
         }
     }
 
-    /// The queue in which the thread sleeps, where it may give up.
+    /// Gives the queue in which the thread sleeps, where it may give up.
     pub fn late_line(self) -> Option<Line>
         ensures { result ≡ once_late_line self }
     {

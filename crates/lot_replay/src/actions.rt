@@ -77,7 +77,7 @@ impl<Q: Queues + Drop> Session<Q> {
     }
 }
 
-/// Whether a call has the word of a wait on a condition variable, and names no mutex.
+/// Tells whether a call has the word of a wait on a condition variable, and names no mutex.
 fn is_bare_wait(call: OnceCall) -> bool
     ensures { result ≡ is_bare_wait call }
 {

@@ -60,7 +60,7 @@ no_look n c (look.Leave parked) state e = cc
 no_look n c look.Asleep state e = cc
 no_look n c (look.Taken by) state e = cc
 
--- nor does who gives up
+-- nor does a thread that gives up
 no_give_up : (n : ℕ) (at : GiveUpAt) (state : OnceState) → give_up_act n at ≡ act.TheVariants.Closure state → ⊥
 no_give_up n give_up.Remove state e = cc
 no_give_up n give_up.Clear state e = cc
@@ -155,7 +155,7 @@ module _ (n : ℕ) where
       by_course Marks h = h
       by_course Parks h = h
 
-  -- and what it owns where it ends
+  -- and it owns so much where it ends
   pub ends_by : (up : Type 0) (c : OnceCall) (seen : ℕ) (base : List Ownership) (st : Stage) (answer : Answer) → answer_of (next_act (once_begin n c) (Value seen)) ≡ Some answer → Reached ⊥ base (once_begin n c) (Value seen) st
       → LooksAnswer up n c base answer st.owns st.last
   ends_by up c seen base st answer some reached = by_answer answer (subst (λ (o : Option Answer). ReachedBy ⊥ base (of_once n c) (next_place (once_begin n c) (Value seen)) o st) some reached).1

@@ -16,7 +16,7 @@ use Rattle.run_once.specs.Ran.{HasLooked, StaysKnowing}
 use Rattle.run_once.specs.declared.once.Came.{Came}
 use Rattle.run_once.specs.declared.once.Came.TheVariants.{Done, Poisoned, Late, Runs}
 
--- what a call came to that ended with an answer
+-- the end that a call came to, by its answer
 abbrev pub came_by : Answer → Came
 came_by answers.Ok = Done
 came_by answers.Yes = Done

@@ -85,7 +85,7 @@ CalledOnce n forced ran old new (Err (Refused fault)) = (forced ≡ false) × (f
 CalledOnce n forced ran old new (Err (Failed error)) =
     (state : OnceState) × ran state (Err error) × HasRun n forced false state old new
 
--- what a wait with a deadline answers
+-- the answer of a wait with a deadline
 abbrev pub timed_answer : Result Bool Fault → Answer
 timed_answer (Ok true) = answers.Yes
 timed_answer (Ok false) = answers.No

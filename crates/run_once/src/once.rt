@@ -47,7 +47,7 @@ pub enum OnceFault<E> {
 enum Came {
     Done,
     Poisoned,
-    /// Its time was up.
+    /// The time of its wait was up.
     Late,
     Runs(OnceState),
 }

@@ -45,8 +45,8 @@ pub(crate) fn begin(lot: &ParkingLot, token: &mut Token, word: Word) -> u64
     lot.load(token, word)
 }
 
-/// The rest of a call whose first step saw this, up to its closure, or up to a deadline where the
-/// call has one: any other pays no heed to it.
+/// Runs the rest of a call whose first step saw this, up to its closure, or up to a deadline where
+/// the call has one: any other pays no heed to it.
 #[cold]
 #[inline(never)]
 pub(crate) fn begin_behind<R: Wait, C: Clock>(

@@ -14,10 +14,10 @@ use std::time::Duration;
 
 const FAR: u64 = 1000;
 
-/// So often the waits of a race give up at least, all in all, before the run ends.
+/// The fewest waits of a race that give up before the run ends.
 const GIVEN_UP: usize = 20;
 
-// How it answers, in a word.
+// Tells its answer in a word.
 fn told(answer: Result<bool, Fault>) -> &'static str {
     match answer {
         Ok(true) => "yes",
@@ -27,7 +27,7 @@ fn told(answer: Result<bool, Fault>) -> &'static str {
     }
 }
 
-// What comes of a wait of so many nanoseconds.
+// Waits for so many nanoseconds.
 fn wait_within<R: Wait>(
     rt: &R,
     once: &Once,
@@ -41,7 +41,7 @@ fn wait_within<R: Wait>(
     told(once.wait_for(rt, token, clock, Duration::from_nanos(nanos)))
 }
 
-// What comes of a wait up to a time.
+// Waits up to a time.
 fn wait_before<R: Wait>(
     rt: &R,
     once: &Once,
@@ -55,7 +55,7 @@ fn wait_before<R: Wait>(
     told(once.wait_until(rt, token, clock, deadline))
 }
 
-// Whether the clock came to a time, and has not been looked at often since.
+// Tells whether the clock came to a time, and has not been looked at often since.
 fn is_just_past(clock: &TickClock, time: u64) -> bool
     requires { time ≤ 10000 }
 {
@@ -120,7 +120,7 @@ pub(super) fn fail_long<R: Wait>(rt: &R, once: &Once, token: &mut Token, with: &
     answer.is_err()
 }
 
-// A wait beside a run whose end comes in time. Whether it is told this of the run.
+// Waits beside a run whose end comes in time. The thread is content where it is told this of it.
 pub(super) fn wait_long<R: Wait>(
     rt: &R,
     once: &Once,
@@ -135,8 +135,8 @@ pub(super) fn wait_long<R: Wait>(
     wait_before(rt, once, token, &TickClock::new(), u64::MAX) == wanted
 }
 
-// Waits beside a run again and again, and lets it go once enough waits gave up. Whether it is told
-// in the end that the run is done, and of nothing but its own time before.
+// Waits beside a run again and again, and lets it go once enough waits gave up. The thread is
+// content where it is told in the end that the run is done, and only of its own time before.
 pub(super) fn race<R: Wait>(rt: &R, once: &Once, token: &mut Token, with: &Told) -> bool
     requires { IsTokenOf (lot_of once.now) token.old }
     ensures { IsTokenOf (lot_of once.now) token.new }

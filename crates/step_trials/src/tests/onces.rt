@@ -141,7 +141,7 @@ fn who_waits_sleeps_until_it_is_woken(rt: HostRuntime) {
     ends_as(&rt, &again.next(Reply::Value(1)), Answer::Ok);
 }
 
-/// Where a call sleeps that has seen a run.
+/// Gives the place where a call sleeps that has seen a run.
 fn asleep(rt: &impl Abort, call: OnceCall) -> OncePlace {
     let decides = onward(rt, OncePlace::first(call), Reply::Value(4));
     follow(rt, follow(rt, decides, ENTERS), FALLS_ASLEEP)

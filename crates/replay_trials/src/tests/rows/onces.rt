@@ -122,7 +122,7 @@ o 1
 m 0
 ",
     ),
-    // Who waits with a deadline gives up, and leaves the word as it was.
+    // A wait with a deadline gives up, and leaves the word as it was.
     (
         b"threads 2
 lock o once
@@ -139,8 +139,8 @@ o 8 queue=0w
 o 0
 ",
     ),
-    // It leaves the bit to those who stand in the queue still, and nobody is late who sleeps without
-    // a deadline or is awake.
+    // A thread that gives up leaves the bit to those who stand in the queue still. No thread is late
+    // that sleeps without a deadline, or is awake.
     (
         b"threads 3
 lock o once
@@ -169,7 +169,7 @@ o 12 own=0r queue=1c
 o 1
 ",
     ),
-    // A run ends before its time is up, and it is told how; a poisoned one it is told of at once.
+    // A run ends before the time of a wait is up, which is told how; so is one that comes later.
     (
         b"threads 3
 lock o once
@@ -208,7 +208,7 @@ o 2 retry=1,2
 1 end yes
 ",
     ),
-    // Its time is up as a run has ended, before that takes it: the run takes nobody.
+    // The time of a wait is up as a run has ended, before that takes its waiters: nobody is left.
     (
         b"threads 2
 lock o once
