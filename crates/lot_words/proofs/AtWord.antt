@@ -1,5 +1,5 @@
 -- A step on a word of a lot, as the lot's table wants it.
-use Rattle.std.proofs.Common.{◌≡◌, ◌≢◌, ℕ, ◌+◌, ◌%◌, ◌<◌, ◌⊎◌, cond, eqb, Bool, true, false, ◌∙◌, ap, arith, sym, subst, refl}
+use Rattle.std.proofs.Common.{List, ◌≡◌, ◌≢◌, ℕ, ◌+◌, ◌%◌, ◌<◌, ◌⊎◌, cond, eqb, Bool, true, false, ◌∙◌, ap, arith, sym, subst, refl}
 use mathlib.Core.Logic.{dite}
 use mathlib.Core.Option.{none}
 use native.Mathlib.Decide.{ℕ_discrete}
@@ -12,11 +12,12 @@ use Rattle.lot_words.specs.Views.{blank, owned}
 use Rattle.lot_words.specs.Rights.{leaving_alone, named_by, piece_of, takes_permit}
 use Rattle.lot_words.specs.Rule.{LotRule}
 use Rattle.value_place.specs.declared.slot.PermitSlot.{PermitSlot}
-use Rattle.lot_words.specs.Steps.{MayStep, has}
+use Rattle.lot_words.specs.Steps.{CodesWith, MayStep, has}
 use Rattle.lot_words.specs.Plays.{TakesExpected, TakesStep, TakesStepOf, goes_on_with, stepping, takes_in, takes_out, lays_back, saw_set, sees_free, sees_locked, sees_shown, tries_seen}
 use Rattle.lot_words.specs.Lots.{IsSeatOf, IsWordOf}
 use Rattle.lot_words.specs.declared.table.LotWords.{LotWords}
 use Rattle.lot_words.specs.declared.owners.Owner.{Owner}
+use Rattle.lot_words.specs.declared.owners.Ownership.{Ownership}
 use Rattle.lot_words.specs.declared.owners.Owner.TheVariants.{Exclusive, Pending, Upgrading, Upgradable, Shared, Runner, Witness}
 use Rattle.lot_words.specs.declared.views.View.{View}
 use Rattle.lot_words.specs.declared.words.Word.{Word}
@@ -49,6 +50,33 @@ tells_step {at} {op} {op'} family number kind me after found there is told =
     subst (λ (x : Op). TakesStepOf family kind (word_index number kind) x me found after) (sym is)
     (of_plain family (word_index number kind) kind op' me after found (subst (λ (k : WordKind). TakesStepOf family k (word_index number kind) op' me found after) (word_kind_at-index number kind)
     (subst (λ (i : ℕ). TakesStep family i op' me found after) there told)))
+
+-- so is a code
+coded_plain : (at found : ℕ) (owns : List Ownership) (kind : WordKind) → CodesWith (plain kind) at found owns → CodesWith kind at found owns
+coded_plain at found owns Mutex c = c
+coded_plain at found owns RwLock c = c
+coded_plain at found owns Condvar c = c
+coded_plain at found owns Once c = c
+coded_plain at found owns Count c = c
+coded_plain at found owns (Semaphore permits) c = c
+
+-- a step that expects a number finds a code, also where it is none
+pub expects_code : (family real number at first : ℕ) (kind : WordKind) (op : Op) (me after : Me PermitSlot View) (found : ℕ) → at ≡ word_index number kind
+    → (first ≡ real → TakesStep family at op me found after) × (first ≢ real → (after ≡ me) × CodesWith (word_kind_at at) at found me.0.owns) → CodesWith kind (word_index number kind) found me.0.owns
+expects_code family real number at first kind op me after found there told = dite (ℕ_discrete first real)
+    (λ expected. (tells_step family number kind me after found there refl (told.0 expected)).1)
+    (λ other. coded_plain (word_index number kind) found me.0.owns kind (subst (λ (k : WordKind). CodesWith k (word_index number kind) found me.0.owns) (word_kind_at-index number kind)
+    (subst (λ (i : ℕ). CodesWith (word_kind_at i) i found me.0.owns) there (told.1 other).1)))
+
+-- a mutex's word is below 4
+pub mutex_code : (kind : WordKind) (at found : ℕ) (owns : List Ownership) → kind ≡ Mutex → CodesWith kind at found owns → found < 4
+mutex_code kind at found owns is code = let own : CodesWith Mutex at found owns = subst (λ (k : WordKind). CodesWith k at found owns) is code in own.1.0
+
+-- so who expected 0, or a number above 3, has found 0 where it found what it expected
+pub finds_0 : (expected found : ℕ) → found ≡ expected → found < 4 → (expected ≢ 0 → 3 < expected) → found ≡ 0
+finds_0 expected found same few far = dite (ℕ_discrete expected 0)
+    (λ zero. same ∙ zero)
+    (λ other. let above = far other in absurd (omega arith))
 
 -- a step at an index is allowed to a seat that goes on by this
 abbrev pub AllowedAt : LotWords → Seat PermitSlot View → ℕ → (ℕ → ℕ) → (ℕ → Me PermitSlot View → Type 0) → Type 0

@@ -6,7 +6,7 @@ use Rattle.lot_words.specs.Indices.{word_index}
 use Rattle.lot_words.specs.Views.{owning, shown, view, with_out}
 use Rattle.lot_words.specs.Permits.{out_after, slots_of}
 use Rattle.lot_words.specs.Rights.{named_by}
-use Rattle.lot_words.specs.Steps.{after_step, has, listed}
+use Rattle.lot_words.specs.Steps.{CodesWith, after_step, has, listed}
 use Rattle.lot_words.specs.Plays.{TakesStep, TakesStepOf, left_over, stepping}
 use Rattle.lot_words.specs.Lots.{IsSeatOf}
 use Rattle.lot_words.specs.declared.table.LotWords.{LotWords}
@@ -53,6 +53,9 @@ module _ (lot : LotWords) (before after : Seat PermitSlot View) (word : Word) (o
 
   small : found < 4
   small = tells.1.1.0
+
+  pub tried_code : CodesWith word.kind (word_index word.number word.kind) found before.me.0.owns
+  tried_code = (tells_step family word.number word.kind before.me after.me found there refl told).1
 
   pub tried_own : IsSeatOf lot after
   tried_own = (table ∙ own.0, ap (λ m. m.1) tells.0 ∙ ap (λ (f : ℕ). slots_of f (out_after Mutex i (Or 1) found before.me.0.out)) same ∙ sym (ap (λ m. slots_of lot.table.shared.key.1.family m.0.out) tells.0))

@@ -1,6 +1,7 @@
 -- What each step tells who takes it: of the step, the seat before, the value found and the seat
 -- after.
-use Rattle.std.specs.Prelude.{◌≡◌, ◌≢◌, bit_or, ℕ, ◌+◌, ◌/◌, ◌%◌, ◌^◌, ◌<◌, ◌≤◌, List, [], ◌∷◌, ◌++◌}
+use Rattle.std.specs.Prelude.{Ok, Err, ◌≡◌, ◌≢◌, bit_or, ℕ, ◌+◌, ◌/◌, ◌%◌, ◌^◌, ◌<◌, ◌≤◌, List, [], ◌∷◌, ◌++◌}
+use Rattle.std.specs.declared.result.Result.{Result}
 use Rattle.atomic_table.specs.Table.{Me, Step}
 use Rattle.lot_base.specs.declared.ops.Op.{Op}
 use Rattle.lot_base.specs.declared.ops.Op.TheVariants.{Load, Store, Swap, Add, Sub, Or, And, Exchange}
@@ -156,6 +157,11 @@ TakesExpected family real op st me found after =
 -- a mutex is entered, and is given up
 abbrev pub enters : ℕ → Play PermitSlot
 enters family = TakesExpected family 0 (Exchange 0 1)
+
+-- the value that a step saw which enters an unlocked mutex, or finds another value
+abbrev pub entering_saw : {A : Type 0} → Result A ℕ → ℕ
+entering_saw (Ok taken) = 0
+entering_saw (Err seen) = seen
 
 abbrev pub leaves : ℕ → Play PermitSlot
 leaves family = TakesExpected family 1 (Sub 1)

@@ -3,9 +3,9 @@
 ghost use Rattle.std.specs.Prelude.{IsTrue, ◌↔◌, ◌≡◌, ◌≢◌, ◌⊎◌, ◌%◌, ◌<◌, ◌≤◌, [], ◌∷◌, true, IfOk, MatchOption, MatchResult};
 ghost use Rattle.lot_base.specs.declared.ops.Op.TheVariants.{Exchange, Or, Sub};
 ghost use Rattle.lot_words.specs.Indices.{word_index};
-ghost use Rattle.lot_words.specs.Plays.{goes_on_with, left_over, stepping, takes_in};
+ghost use Rattle.lot_words.specs.Plays.{entering_saw, goes_on_with, left_over, stepping, takes_in};
 ghost use Rattle.lot_words.specs.Rights.{leaving_alone, named_by, piece_of};
-ghost use Rattle.lot_words.specs.Steps.{has};
+ghost use Rattle.lot_words.specs.Steps.{CodesWith, has};
 ghost use Rattle.lot_words.specs.Views.{blank, shown, with_out};
 ghost use Rattle.lot_words.specs.declared.owners.Owner.TheVariants.{Exclusive};
 ghost use Rattle.lot_words.specs.declared.words.WordKind.TheVariants.{Mutex};
@@ -189,6 +189,8 @@ impl LotWords {
             × (unlocked ≡ 0 → shown seat.new.me.0
             ≡ stepping seat.old.me.0 (word_index word.number word.kind) (Exchange 0 1) seen)
             × (unlocked ≢ 0 → seat.new.me ≡ seat.old.me)) }
+        ensures coded { CodesWith word.kind (word_index word.number word.kind)
+            (entering_saw result) seat.old.me.0.owns }
         ensures opened { IfOk result
             (λ taken. IsOpenOf self.now word taken.0 × (taken.1.id ≡ permit_of self.now word)) }
     {
@@ -215,6 +217,8 @@ impl LotWords {
         ensures own { IsSeatOf self.now seat.new }
         ensures stepped { shown seat.new.me.0
             ≡ stepping seat.old.me.0 (word_index word.number word.kind) (Or 1) result.0 }
+        ensures coded { CodesWith word.kind (word_index word.number word.kind) result.0
+            seat.old.me.0.owns }
         ensures opened { MatchOption result.1 (result.0 % 2 ≢ 0)
             (λ taken. (result.0 % 2 ≡ 0) × IsOpenOf self.now word taken.0
             × (taken.1.id ≡ permit_of self.now word)) }
@@ -240,6 +244,8 @@ impl LotWords {
         ensures own { IsSeatOf self.now seat.new }
         ensures stepped { shown seat.new.me.0
             ≡ stepping seat.old.me.0 (word_index word.number word.kind) (Or 1) result.0 }
+        ensures coded { CodesWith word.kind (word_index word.number word.kind) result.0
+            seat.old.me.0.owns }
         ensures opened { MatchOption result.1 (result.0 % 2 ≢ 0)
             (λ taken. (result.0 % 2 ≡ 0) × IsOpenOf self.now word taken.0
             × (taken.1.id ≡ permit_of self.now word)) }
@@ -316,6 +322,8 @@ impl LotWords {
             × (unlocked ≡ 0 → shown seat.new.me.0
             ≡ stepping seat.old.me.0 (word_index word.number word.kind) (Exchange 0 1) seen)
             × (unlocked ≢ 0 → seat.new.me ≡ seat.old.me)) }
+        ensures coded { CodesWith word.kind (word_index word.number word.kind)
+            (entering_saw result) seat.old.me.0.owns }
         ensures opened { IfOk result
             (λ taken. IsOpenOf self.now word taken.0 × (taken.1.id ≡ permit_of self.now word)) }
     {
@@ -330,6 +338,8 @@ impl LotWords {
         ensures own { IsSeatOf self.now seat.new }
         ensures stepped { shown seat.new.me.0
             ≡ stepping seat.old.me.0 (word_index word.number word.kind) (Or 1) result.0 }
+        ensures coded { CodesWith word.kind (word_index word.number word.kind) result.0
+            seat.old.me.0.owns }
         ensures opened { MatchOption result.1 (result.0 % 2 ≢ 0)
             (λ taken. (result.0 % 2 ≡ 0) × IsOpenOf self.now word taken.0
             × (taken.1.id ≡ permit_of self.now word)) }

@@ -71,12 +71,16 @@ HasLooked words c seen old new =
 abbrev pub Notifies : ℕ → Bool → Answer → List WordStep → List WordStep → Type 0
 Notifies c all answer old new = (m : ℕ) × Walks (at_condvar c m) (notify_begin c all) old new answer
 
--- a thread went on behind a first look that saw this: its last step looked again and saw another
--- value, and it did nothing in the sections that it left
+-- a thread that had taken these steps has taken more since, or none
+abbrev pub HasGoneOn : List WordStep → Token → Type 0
+HasGoneOn old new = (more : List WordStep) × (steps_of new ≡ old ++ more)
+
+-- behind a first look that saw this its last step looked again and saw another value, and it did
+-- nothing in the sections that it left
 abbrev pub LookedElse : ℕ → ℕ → List WordStep → Token → Type 0
-LookedElse c first old new = (more before : List WordStep) × (seen : ℕ)
-    × (steps_of new ≡ old ++ more) × (steps_of new ≡ before ++ step (condvar_at c) Load seen)
-    × (seen ≢ first) × TookNobodyAt c (last_of new)
+LookedElse c first old new = HasGoneOn old new × ((before : List WordStep) × (seen : ℕ)
+    × (steps_of new ≡ before ++ step (condvar_at c) Load seen) × (seen ≢ first)
+    × TookNobodyAt c (last_of new))
 
 -- a notification whose first look saw this looked again and saw another value, or it left both
 -- sections with a record of the move from the condition variable to the mutex that is shown so; who
@@ -86,7 +90,7 @@ TellsMoved c all first answer old new =
     ((answer ≡ notified all 0) × LookedElse c first (steps_of old) new)
     ⊎ ((m : ℕ) × (locked : Bool) × (number : ℕ) × (first ≡ m + 1)
     × (answer ≡ (if all then Number number else Yes))
-    × HasLeft (2 * c) (move_did all locked c m) number (last_of new))
+    × HasLeft (2 * c) (move_did all locked c m) number (last_of new) × HasGoneOn (steps_of old) new)
 
 -- the steps of a raw wait lead to its answer; a mutex of the condition variable's own number, which
 -- nobody draws, is refused at once
@@ -118,8 +122,10 @@ abbrev pub SawNobody : ℕ → Token → Token → Type 0
 SawNobody c old new = (steps_of new ≡ steps_of old ++ step (condvar_at c) Load 0)
     ⊎ ((first : ℕ) × LookedElse c first (steps_of old ++ step (condvar_at c) Load first) new)
 
--- it moved nobody and saw that there is none to move, or left both queues with so many
+-- it moved nobody and saw that there is none to move, or left both queues with so many, who went to
+-- the mutex that its first look saw
 abbrev pub HasMoved : ℕ → Bool → ℕ → Token → Token → Type 0
 HasMoved c all n old new = ((n ≡ 0) × SawNobody c old new)
     ⊎ ((m : ℕ) × (locked : Bool) × (number : ℕ) × IsNumber all n number
-    × HasLeft (2 * c) (move_did all locked c m) number (last_of new))
+    × HasLeft (2 * c) (move_did all locked c m) number (last_of new)
+    × HasGoneOn (steps_of old ++ step (condvar_at c) Load (m + 1)) new)

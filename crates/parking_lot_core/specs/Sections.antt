@@ -26,9 +26,9 @@ rightless_in section = (mutex_guard_value section.queueing).rightless.items
 abbrev pub moved_in : Section → ℕ
 moved_in section = section.moved
 
--- it is the same section
+-- it is the same section, of the same thread
 abbrev pub StaysIn : Section → Section → Type 0
-StaysIn old new = (new.lot.now ≡ old.lot.now) × (new.keys ≡ old.keys)
+StaysIn old new = (new.lot.now ≡ old.lot.now) × (new.keys ≡ old.keys) × (new.thread ≡ old.thread)
 
 -- and has done no more to whom it took or moved
 abbrev pub TookAs : Section → Section → Type 0

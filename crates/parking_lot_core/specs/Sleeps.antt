@@ -22,7 +22,7 @@ IsLate _ _ Woken = ⊥
 IsLate _ _ (Handed _) = ⊥
 IsLate lot thread (Late section key) =
     (section.lot.now ≡ lot) × (section.keys ≡ One key) × IsUntouched section
-    × (key_of thread (waiting_in section) ≡ Some key)
+    × (key_of thread (waiting_in section) ≡ Some key) × (section.thread ≡ thread)
 
 abbrev pub WasLate : Slept → Type 0
 WasLate Woken = ⊥

@@ -38,6 +38,8 @@ pub struct Section<'a> {
     lot: &'a ParkingLot,
     queueing: MutexGuard<'a, Queueing>,
     pub(crate) keys: Keys,
+    // The thread that is inside.
+    thread: usize,
     did: Did,
     // How many it moved to another queue.
     moved: usize,
@@ -51,8 +53,8 @@ pub struct Section<'a> {
         ≡ length (mutex_guard_value queueing).taken.items },
 }
 
-// What a lock keeps is known by its type alone, so a fact about its lot is tested. The test never
-// fails.
+// What a lock keeps is known by its type alone, so a fact about its lot is tested, and so is whose
+// section is left. The tests never fail.
 fn never<R: Wait>(rt: &R) -> ! {
     for _ in rt.forever() {}
     unreachable!()
@@ -84,9 +86,10 @@ impl ParkingLot {
         None
     }
 
-    // The queues, with nobody taken.
-    pub(crate) fn locked<'a, R: Wait>(&'a self, rt: &R, keys: Keys) -> Section<'a>
-        ensures { (result.lot.now ≡ self.now) × (result.keys ≡ keys) × IsUntouched result }
+    // The queues, with nobody taken, for a thread.
+    pub(crate) fn locked<'a, R: Wait>(&'a self, rt: &R, thread: usize, keys: Keys) -> Section<'a>
+        ensures { (result.lot.now ≡ self.now) × (result.keys ≡ keys) × IsUntouched result
+            × (result.thread ≡ thread) }
     {
         let mut queueing = match self.try_queues() {
             Some(queueing) => queueing,
@@ -100,6 +103,7 @@ impl ParkingLot {
             lot: self,
             queueing,
             keys,
+            thread,
             did: Did::Nothing,
             moved: 0,
         }
@@ -107,13 +111,14 @@ impl ParkingLot {
 
     /// Enters the section of a key, or of two keys that differ, and waits while another thread is
     /// inside one.
-    pub fn enter<'a, R: Wait>(&'a self, rt: &R, _token: &mut Token, keys: Keys) -> Section<'a>
-        requires own { IsTokenOf self.now _token.old }
+    pub fn enter<'a, R: Wait>(&'a self, rt: &R, token: &mut Token, keys: Keys) -> Section<'a>
+        requires own { IsTokenOf self.now token.old }
         requires keys { AreKeys keys }
-        ensures same { _token.new ≡ _token.old }
+        ensures same { token.new ≡ token.old }
         ensures section { (result.lot.now ≡ self.now) × (result.keys ≡ keys) × IsUntouched result }
+        ensures thread { result.thread ≡ token.old.number }
     {
-        self.locked(rt, keys)
+        self.locked(rt, token.number, keys)
     }
 
     /// How many stand under a key.
@@ -417,20 +422,22 @@ impl<'a> Section<'a> {
             lot: _,
             queueing,
             keys: _,
+            thread: _,
             did: _,
             moved: _,
         } = self;
         drop(queueing);
     }
 
-    /// Leaves. Whom the section took gets the note and is woken, and the token keeps the record of
-    /// it.
+    /// Leaves, with the token that entered. Whom the section took gets the note and is woken, and the
+    /// token keeps the record of it. With another token it never returns.
     #[tactic(auto, unfolding(crate::specs::Tokens::view_of))]
     pub fn leave<R: Wait>(self, rt: &R, token: &mut Token, note: Note)
         requires own { IsTokenOf self.lot.now token.old }
         requires note { MayNote note (taken_in self) (rightless_in self) }
         ensures own { IsSameThread self.entry.lot.now token.old token.new
             × (view_of token.new ≡ view_of token.old) × (out_of token.new ≡ out_of token.old) }
+        ensures thread { self.entry.thread ≡ token.old.number }
         ensures recorded { last_of token.new
             ≡ Some (record {
               key = first_key self.entry.keys;
@@ -442,9 +449,13 @@ impl<'a> Section<'a> {
             lot,
             queueing,
             keys,
+            thread,
             did,
             moved,
         } = self;
+        if thread != token.number {
+            never(rt)
+        }
         let taken = queueing.taken().len();
         let first = lot.tie(queueing.taken());
         drop(queueing);

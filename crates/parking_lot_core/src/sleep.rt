@@ -75,7 +75,7 @@ impl ParkingLot {
     fn give_up<'a, R: Wait>(&'a self, rt: &R, thread: usize) -> Option<Slept<'a>>
         ensures { IfSome result (IsLate self.now thread) }
     {
-        let mut section = self.locked(rt, Keys::One(0));
+        let mut section = self.locked(rt, thread, Keys::One(0));
         let Some(key) = section.key_of(thread) else {
             section.shut();
             return None;

@@ -8,7 +8,7 @@ ghost use Rattle.lot_words.specs.Views.{HasSeen};
 ghost use Rattle.lot_words.specs.Steps.{MayStep, CodesWith, after_step, has, holding};
 ghost use Rattle.lot_words.specs.Draws.{IsDrawn, IsDrawRefused};
 ghost use Rattle.lot_words.specs.Lots.{IsWordOf, permit_of};
-ghost use Rattle.lot_words.specs.Plays.{WithinPermits, left_over, stepping, takes_in};
+ghost use Rattle.lot_words.specs.Plays.{WithinPermits, entering_saw, left_over, stepping, takes_in};
 ghost use Rattle.lot_words.specs.Rights.{leaving_alone, named_by, owner_for, piece_of, OwnsWith};
 ghost use Rattle.lot_words.specs.Permits.{out_after};
 ghost use Rattle.lot_words.specs.RightsOf.{IsHeldOf, IsOpenOf, IsRightOf};
@@ -329,6 +329,8 @@ impl ParkingLot {
             × (view_of token.new
             ≡ stepping (view_of token.old) (word_index word.number word.kind)
             (Exchange 0 1) seen)) }
+        ensures coded { CodesWith word.kind (word_index word.number word.kind)
+            (entering_saw result) (view_of token.old).owns }
         ensures opened { IfOk result (λ taken. IsOpenOf self.now.words word taken.0
             × (taken.1.id ≡ permit_of self.now.words word)) }
     {
@@ -353,6 +355,8 @@ impl ParkingLot {
         ensures own { IsSameThread self.now token.old token.new × (last_of token.new ≡ None) }
         ensures stepped { view_of token.new
             ≡ stepping (view_of token.old) (word_index word.number word.kind) (Or 1) result.0 }
+        ensures coded { CodesWith word.kind (word_index word.number word.kind) result.0
+            (view_of token.old).owns }
         ensures opened { MatchOption result.1 (result.0 % 2 ≢ 0) (λ taken. (result.0 % 2 ≡ 0)
             × IsOpenOf self.now.words word taken.0 × (taken.1.id ≡ permit_of self.now.words word)) }
     {

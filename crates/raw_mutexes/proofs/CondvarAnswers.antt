@@ -1,5 +1,6 @@
 -- What the waits of a raw condition variable answer, by what they give.
-use Rattle.std.proofs.Common.{ℕ, ◌≡◌, ◌∙◌, Bool, true, false, List, inl, inr, refl, sym, subst}
+use Rattle.std.proofs.Common.{ℕ, ◌≡◌, ◌+◌, ◌++◌, ◌∙◌, ap, Bool, true, false, List, inl, inr, refl, sym, subst}
+use Rattle.lot_base.specs.declared.ops.Op.TheVariants.{Load}
 use Rattle.lot_calls.specs.declared.outcomes.Answer.{Answer}
 use Rattle.lot_calls.specs.declared.outcomes.Answer.TheVariants.{No, Number, TimedOut, TwoMutexes, Yes}
 use Rattle.lot_condvar.specs.CondvarSteps.{waited}
@@ -8,9 +9,10 @@ use Rattle.lot_words.specs.declared.owners.Ownership.{Ownership}
 use Rattle.lot_words.specs.declared.views.WordStep.{WordStep}
 use Rattle.parking_lot_core.specs.declared.tokens.Token.{Token}
 use Rattle.lot_driver.specs.CondvarFitting.{IsWaitOver, LateIf}
+use Rattle.lot_driver.specs.Paths.{condvar_at, step}
 use Rattle.lot_driver.specs.Stages.{Stage}
 use Rattle.lot_driver.specs.Telling.{steps_of}
-use Rattle.mutex_driver.specs.CondvarCalls.{AnswersWait, HasLooked, HasMoved, LookedElse, SawNobody, TellsMoved, ended, given_back}
+use Rattle.mutex_driver.specs.CondvarCalls.{AnswersWait, HasGoneOn, HasLooked, HasMoved, LookedElse, SawNobody, TellsMoved, ended, given_back}
 
 module _ {G : Type 0} (guard : G) where
   pub waits_so : (answer : Answer) → AnswersWait false answer → waiting_answer (given_back answer guard) ≡ answer
@@ -67,12 +69,15 @@ module _ (up : Type 0) (m : ℕ) (timed : Bool) (base : List Ownership) (answer 
 -- what a notification moved, from its first look on
 module _ (words c first : ℕ) (before old new : Token) (looked : HasLooked words c first before old) where
   saw_else : LookedElse c first (steps_of old) new → SawNobody c before new
-  saw_else else_ = inr (first, subst (λ (steps : List WordStep). LookedElse c first steps new) looked.0 else_)
+  saw_else other = inr (first, subst (λ (steps : List WordStep). LookedElse c first steps new) looked.0 other)
+
+  went_on : (m : ℕ) → first ≡ m + 1 → HasGoneOn (steps_of old) new → HasGoneOn (steps_of before ++ step (condvar_at c) Load (m + 1)) new
+  went_on m shown = subst (λ (steps : List WordStep). HasGoneOn steps new) (looked.0 ∙ ap (λ (n : ℕ). steps_of before ++ step (condvar_at c) Load n) shown)
 
   pub moved_all : (answer : Answer) (number : ℕ) → answer ≡ Number number → TellsMoved c true first answer old new → HasMoved c true number before new
   moved_all answer number is (inl none) = let zero : number ≡ 0 = cc in inl (zero, saw_else none.1)
-  moved_all answer number is (inr moved) = let same : number ≡ moved.2 = cc in inr (moved.0, moved.1, moved.2, same, moved.5)
+  moved_all answer number is (inr moved) = let same : number ≡ moved.2 = cc in inr (moved.0, moved.1, moved.2, same, moved.5, went_on moved.0 moved.3 moved.6)
 
   pub moved_one : (answer : Answer) → answer ≡ Yes → TellsMoved c false first answer old new → HasMoved c false 1 before new
   moved_one answer is (inl none) = absurd (let no : Yes ≡ No = sym is ∙ none.0 in cc)
-  moved_one answer is (inr moved) = inr (moved.0, moved.1, moved.2, refl, moved.5)
+  moved_one answer is (inr moved) = inr (moved.0, moved.1, moved.2, refl, moved.5, went_on moved.0 moved.3 moved.6)

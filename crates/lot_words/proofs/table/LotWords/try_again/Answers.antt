@@ -5,7 +5,7 @@ use Rattle.lot_words.specs.Lots.{IsSeatOf, IsWordOf}
 use Rattle.lot_words.specs.declared.words.WordKind.TheVariants.{Mutex}
 use Rattle.lot_words.proofs.AtWord.{may_mutex, table_allows}
 use Rattle.lot_words.proofs.MutexSteps.{mutex_steps}
-use Rattle.lot_words.proofs.Tries.{tried_own, tried_locked, tried_out, tried_named, tried_left}
+use Rattle.lot_words.proofs.Tries.{tried_code, tried_own, tried_locked, tried_out, tried_named, tried_left}
 use Rattle.lot_words.specs.Views.{shown}
 use Rattle.lot_words.proofs.table.LotWords.try_again.Goals as goal
 
@@ -32,3 +32,9 @@ keep-owner-requires-clause-named g c = tried_named c.args.self.now c.args.seat.n
 
 pub returns-clause-stepped : goal.returns-clause-stepped
 returns-clause-stepped g c = ap shown c.keep-owner.ensures.left ∙ tried_left c.args.self.now c.args.seat.now c.fetch_or-seen.new.seat c.args.word c.requires.own.0 c.requires.own.2 g.P.PermitPick.family c.index.result c.fetch_or-seen.result c.requires.pick.0 c.index.ensures c.fetch_or-seen.ensures.0 c.fetch_or-seen.ensures.2 c.if-seen-ne0.false
+
+pub returns-then-seen-ne0-clause-coded : goal.returns-then-seen-ne0-clause-coded
+returns-then-seen-ne0-clause-coded g c = tried_code c.args.self.now c.args.seat.now c.fetch_or-seen.new.seat c.args.word c.requires.own.0 c.requires.own.2 g.P.PermitPick.family c.index.result c.fetch_or-seen.result c.requires.pick.0 c.index.ensures c.fetch_or-seen.ensures.0 c.fetch_or-seen.ensures.2
+
+pub returns-clause-coded : goal.returns-clause-coded
+returns-clause-coded g c = tried_code c.args.self.now c.args.seat.now c.fetch_or-seen.new.seat c.args.word c.requires.own.0 c.requires.own.2 g.P.PermitPick.family c.index.result c.fetch_or-seen.result c.requires.pick.0 c.index.ensures c.fetch_or-seen.ensures.0 c.fetch_or-seen.ensures.2

@@ -1,11 +1,12 @@
-use Rattle.std.proofs.Common.{ap, ◌∙◌, ◌%◌}
+use Rattle.std.proofs.Common.{ap, ◌∙◌, ◌%◌, subst}
+use Rattle.lot_words.specs.Steps.{CodesWith}
 use Rattle.lot_words.specs.Lots.{IsSeatOf, IsWordOf}
 use Rattle.lot_words.proofs.AtWord.{table_sees_locked, table_tries_seen}
 use Rattle.lot_words.specs.Views.{shown}
 use Rattle.lot_words.specs.Plays.{stepping}
 use Rattle.lot_base.specs.declared.ops.Op.TheVariants.{Or}
 use Rattle.lot_words.specs.Indices.{word_index}
-use Rattle.lot_words.proofs.Tries.{same_seat, tried_own, tried_locked, tried_out, tried_named, tried_left}
+use Rattle.lot_words.proofs.Tries.{same_seat, tried_code, tried_own, tried_locked, tried_out, tried_named, tried_left}
 use Rattle.lot_words.proofs.table.LotWords.try_enter_picked.Goals as goal
 
 pub load-looked-requires : goal.load-looked-requires
@@ -56,3 +57,17 @@ try_again-requires-clause-own g c = (
 pub returns-clause-stepped : goal.returns-clause-stepped
 returns-clause-stepped g c = c.try_again.ensures.stepped
     ∙ ap (λ m. stepping m.0 (word_index c.args.word.number c.args.word.kind) (Or 1) c.try_again.result.0) (c.compare_exchange-seen.ensures.2.1.0 c.if-seen-looked.false c.if-seen-ne0.false ∙ c.load-looked.ensures.2.0 c.if-looked-ne0.false)
+
+pub returns-then-looked-ne0-clause-coded : goal.returns-then-looked-ne0-clause-coded
+returns-then-looked-ne0-clause-coded g c = tried_code c.args.self.now c.args.seat.now c.load-looked.new.seat c.args.word c.requires.own.0 c.requires.own.2 g.P.PermitPick.family c.index-at.result c.load-looked.result c.requires.pick.0 c.index-at.ensures c.load-looked.ensures.0 (c.load-looked.ensures.2.1 c.if-looked-ne0.true)
+
+pub returns-then-seen-looked-clause-coded : goal.returns-then-seen-looked-clause-coded
+returns-then-seen-looked-clause-coded g c = subst (λ me. CodesWith c.args.word.kind (word_index c.args.word.number c.args.word.kind) c.compare_exchange-seen.result me.0.owns) (c.load-looked.ensures.2.0 c.if-looked-ne0.false)
+    (tried_code c.args.self.now c.load-looked.new.seat c.compare_exchange-seen.new.seat c.args.word (same_seat c.args.self.now c.args.seat.now c.load-looked.new.seat c.requires.own.0 c.load-looked.ensures.0 (c.load-looked.ensures.2.0 c.if-looked-ne0.false)) c.requires.own.2 g.P.PermitPick.family c.index-at.result c.compare_exchange-seen.result c.requires.pick.0 c.index-at.ensures c.compare_exchange-seen.ensures.0 (c.compare_exchange-seen.ensures.2.0 c.if-seen-looked.true))
+
+pub returns-then-seen-ne0-clause-coded : goal.returns-then-seen-ne0-clause-coded
+returns-then-seen-ne0-clause-coded g c = subst (λ me. CodesWith c.args.word.kind (word_index c.args.word.number c.args.word.kind) c.compare_exchange-seen.result me.0.owns) (c.load-looked.ensures.2.0 c.if-looked-ne0.false)
+    (tried_code c.args.self.now c.load-looked.new.seat c.compare_exchange-seen.new.seat c.args.word (same_seat c.args.self.now c.args.seat.now c.load-looked.new.seat c.requires.own.0 c.load-looked.ensures.0 (c.load-looked.ensures.2.0 c.if-looked-ne0.false)) c.requires.own.2 g.P.PermitPick.family c.index-at.result c.compare_exchange-seen.result c.requires.pick.0 c.index-at.ensures c.compare_exchange-seen.ensures.0 (c.compare_exchange-seen.ensures.2.1.1 c.if-seen-ne0.true))
+
+pub returns-clause-coded : goal.returns-clause-coded
+returns-clause-coded g c = subst (λ me. CodesWith c.args.word.kind (word_index c.args.word.number c.args.word.kind) c.try_again.result.0 me.0.owns) (c.compare_exchange-seen.ensures.2.1.0 c.if-seen-looked.false c.if-seen-ne0.false ∙ c.load-looked.ensures.2.0 c.if-looked-ne0.false) c.try_again.ensures.coded
