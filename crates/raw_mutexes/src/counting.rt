@@ -240,7 +240,8 @@ impl RawMutexCounted for RawMutex {
         let holders = lot.holders();
         let RawShare { share } = share;
         let (kept, entered) = holders.enter_with(rt, self.word.number(), share);
-        if kept.said % ONE_THREAD == 1 {
+        let shares = kept.said % ONE_THREAD;
+        if shares == 1 {
             let (opened, permit) = lot.end_count(token, self.word, *count, kept);
             holders.leave_with_less(None, entered);
             return Some(RawGuard { opened, permit });

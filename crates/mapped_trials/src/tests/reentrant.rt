@@ -1,5 +1,5 @@
 //! Mutexes that their owner locks again, tried by one thread and by two.
-ghost use Rattle.std.specs.Prelude.{◌≡◌, ◌×◌, All, IfSome};
+ghost use Rattle.std.specs.Prelude.{◌≡◌, All, IfSome};
 ghost use Rattle.std.specs.Arc.{arc_value};
 ghost use Rattle.parking_lot_core.specs.Tokens.{IsTicketOf, IsTokenOf};
 ghost use Rattle.parking_lot.specs.Users.{lot_of};

@@ -3,9 +3,9 @@ use Rattle.raw_mutexes.proofs.counting.RawMutexRawMutexCounted.count_off.Goals a
 
 pub change_count-kept-requires-clause-code : goal.change_count-kept-requires-clause-code
 change_count-kept-requires-clause-code g c = let key = c.holders-holders.result.now.table.shared.key in let fits = c.enter_with-kept.ensures.fits in
-    less_code key c.number.result c.enter_with-kept.result.0 c.enter_with-kept.result.1.seat.me.0.knows fits.0 fits.1 c.if-kept-eq1.false
+    less_code key c.number.result c.enter_with-kept.result.0 c.enter_with-kept.result.1.seat.me.0.knows fits.0 fits.1 c.if-shares-eq1.false
 
 pub leave_with_less-requires-2-clause-fits : goal.leave_with_less-requires-2-clause-fits
 leave_with_less-requires-2-clause-fits g c = let key = c.holders-holders.result.now.table.shared.key in let fits = c.enter_with-kept.ensures.fits in let entered = c.enter_with-kept.result.1 in
     less_kept c.deref-lot.result.now.words key c.args.self.now.word.number c.number.result entered.at c.enter_with-kept.result.0 c.change_count-kept.result entered.seat.me.0.knows
-    c.holders-holders.ensures.1 c.enter_with-kept.ensures.inside.1 c.number.ensures fits.0 fits.1 c.if-kept-eq1.false c.change_count-kept.ensures.kept
+    c.holders-holders.ensures.1 c.enter_with-kept.ensures.inside.1 c.number.ensures fits.0 fits.1 c.if-shares-eq1.false c.change_count-kept.ensures.kept
