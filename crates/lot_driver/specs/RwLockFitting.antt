@@ -135,12 +135,13 @@ abbrev pub LookedLast : ℕ → List WordStep → Type 0
 LookedLast l steps = (before : List WordStep) × (seen : ℕ)
     × (steps ≡ before ++ step (rwlock_at l) Load seen)
 
--- and it may be, but for one that clears the main queue's parked bit
+-- the last that looked is followed by one step at most, which clears the main queue's parked bit
 abbrev pub LookedInLine : ℕ → List WordStep → Type 0
 LookedInLine l steps = LookedLast l steps ⊎ ((before : List WordStep) × (seen : ℕ)
     × LookedLast l before × (steps ≡ before ++ step (rwlock_at l) (unparked Main) seen))
 
--- who is to stand in the main queue has looked there, and steps no more before it wakes or gives up
+-- a thread that is to stand in the main queue has looked there, and steps no more until it is woken
+-- or gives up
 abbrev pub HasParked : ℕ → ParkAt → List WordStep → Type 0
 HasParked l parking.Check steps = Unit {0}
 HasParked l (parking.Leave parked) steps = LookedLast l steps
@@ -171,9 +172,9 @@ FellBack l q Timed steps = (before : List WordStep) × (seen : ℕ) × (has_park
 FellBack l q Try steps = Unit {0}
 FellBack l q Patient steps = ⊥
 
--- what a call left that gave up. Behind a step that saw nobody to wake it was in no section; else it
--- took those whom it had kept out. One that enters may also have left the main queue, which it came
--- to with no right, and did nothing else there
+-- a call that gave up left no section, where its last step saw nobody to wake, or one in which it
+-- took those whom it had kept out. One that enters may also have left the main queue, and done
+-- nothing else there
 abbrev pub LeftBy : ℕ → Admission → RwLockPurpose → Option SectionRecord → List WordStep → Type 0
 LeftBy l a (purpose.Enter x how) last steps =
     ((last ≡ None) × FellBack l (purpose.Enter x how) how steps)

@@ -72,7 +72,7 @@ expects_code family real number at first kind op me after found there told = dit
 pub mutex_code : (kind : WordKind) (at found : ℕ) (owns : List Ownership) → kind ≡ Mutex → CodesWith kind at found owns → found < 4
 mutex_code kind at found owns is code = let own : CodesWith Mutex at found owns = subst (λ (k : WordKind). CodesWith k at found owns) is code in own.1.0
 
--- so who expected 0, or a number above 3, has found 0 where it found what it expected
+-- a step that expected 0, or a number above 3, and found what it expected has found 0
 pub finds_0 : (expected found : ℕ) → found ≡ expected → found < 4 → (expected ≢ 0 → 3 < expected) → found ≡ 0
 finds_0 expected found same few far = dite (ℕ_discrete expected 0)
     (λ zero. same ∙ zero)

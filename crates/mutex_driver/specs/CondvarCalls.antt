@@ -75,8 +75,8 @@ Notifies c all answer old new = (m : ℕ) × Walks (at_condvar c m) (notify_begi
 abbrev pub HasGoneOn : List WordStep → Token → Type 0
 HasGoneOn old new = (more : List WordStep) × (steps_of new ≡ old ++ more)
 
--- behind a first look that saw this its last step looked again and saw another value, and it did
--- nothing in the sections that it left
+-- a thread whose first look saw this went on: its last step looked again and saw another value, and
+-- it did nothing in the sections that it left
 abbrev pub LookedElse : ℕ → ℕ → List WordStep → Token → Type 0
 LookedElse c first old new = HasGoneOn old new × ((before : List WordStep) × (seen : ℕ)
     × (steps_of new ≡ before ++ step (condvar_at c) Load seen) × (seen ≢ first)

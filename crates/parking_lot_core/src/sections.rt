@@ -53,8 +53,8 @@ pub struct Section<'a> {
         ≡ length (mutex_guard_value queueing).taken.items },
 }
 
-// What a lock keeps is known by its type alone, so a fact about its lot is tested, and so is whose
-// section is left. The tests never fail.
+// A lock keeps what its type tells alone, so a fact about its lot is tested, and so is whose section
+// is left. The tests never fail.
 fn never<R: Wait>(rt: &R) -> ! {
     for _ in rt.forever() {}
     unreachable!()

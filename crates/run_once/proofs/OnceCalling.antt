@@ -194,8 +194,8 @@ module _ (n : ℕ) where
   runs_found seen owns code mine = let some : 0 < owned (once_at n) runner owns = owned_some (once_at n) Runner owns mine runner (omega arith) in omega (arith, code.1.1, code.2 runner, some)
 
   -- the first look of a call
-  pub begins_by : (c : OnceCall) (base : List Ownership) (seen : ℕ) (new : Stage) → IsOnceWord seen → new ≡ stage (owns_after_step kinds.TheVariants.Once (once_at n) Load seen base) None None ([] ++ step (once_at n) Load seen) → Reached ⊥ base (once_begin n c) (Value seen) new
-  begins_by c base seen new code x = lands n base (stage base None None []) ⊥ new ((0, refl), refl) c false seen code ([] ++ step (once_at n) Load seen, x)
+  pub begins_by : (c : OnceCall) (base : List Ownership) (steps : List WordStep) (seen : ℕ) (new : Stage) → IsOnceWord seen → new ≡ stage (owns_after_step kinds.TheVariants.Once (once_at n) Load seen base) None None steps → Reached ⊥ base (once_begin n c) (Value seen) new
+  begins_by c base steps seen new code x = lands n base (stage base None None steps) ⊥ new ((0, refl), refl) c false seen code (steps, x)
 
 -- a path of the driver, where the places and words are known
 pub comes_by : (at : ℕ → ℕ) (n : ℕ) (p p2 q q2 : Place) (old new : List WordStep) → at ≡ at_once n → p ≡ p2 → q ≡ q2 → (more : List WordStep) × (new ≡ old ++ more) × Path at p more q → ComesTo n p2 old new q2

@@ -22,7 +22,7 @@ SawFull l a x old new = (before : List WordStep) × (op : Op) × (seen : ℕ)
     × ((view_of new).steps ≡ ((view_of old).steps ++ before) ++ step (rwlock_at l) op seen)
     × (is_blocked a.recursive (wanted x) seen ≡ false) × (a.limit ≤ count_in seen)
 
--- what a call left that gave up
+-- a call that gave up left this
 abbrev pub GaveUp : ℕ → Admission → RwLockPurpose → Token → Type 0
 GaveUp l a q new = LeftBy l a q (last_of new) (view_of new).steps
 

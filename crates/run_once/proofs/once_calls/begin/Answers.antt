@@ -5,7 +5,7 @@ use Rattle.lot_words.specs.Indices.{word_index}
 use Rattle.lot_words.specs.Steps.{CodesWith}
 use Rattle.lot_words.specs.declared.views.View.{View}
 use Rattle.lot_words.specs.declared.words.WordKind.{WordKind}
-use Rattle.lot_driver.specs.Paths.{step}
+use Rattle.lot_driver.specs.Paths.{once_at, step}
 use Rattle.lot_driver.specs.Stages.{stage_of, stepped}
 use Rattle.lot_driver.specs.Telling.{owns_of, steps_of}
 use Rattle.lot_driver.proofs.Turning.{by_stage}
@@ -18,5 +18,5 @@ returns-clause-seen c = let n = c.args.word.number in let w = c.load in
     let is = (by_stage c.args.word Load w.result c.args.token.now None w.new.token w.ensures.stepped w.ensures.own.1 w.ensures.coded).1 ∙ ap (λ (kind : WordKind). stepped kind (word_index c.args.word.number kind) Load c.load.result (stage_of c.args.token.now None)) c.requires.own.2 in (
       w.ensures.own.0.1,
       ap (λ (v : View). v.steps) c.load.ensures.stepped ∙ ap (λ (kind : WordKind). steps_of c.args.token.now ++ step (word_index c.args.word.number kind) Load c.load.result) c.requires.own.2,
-      λ (call : OnceCall). begins_by n call (owns_of c.args.token.now) w.result (stage_of w.new.token None) code.1.0 is,
+      λ (call : OnceCall). begins_by n call (owns_of c.args.token.now) (steps_of c.args.token.now ++ step (once_at n) Load w.result) w.result (stage_of w.new.token None) code.1.0 is,
     )
