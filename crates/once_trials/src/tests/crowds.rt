@@ -35,7 +35,7 @@ pub(super) enum Part {
     Meet { poisoned: bool },
     /// One runs, and two wait for it with a deadline that is far off, until another lets it go.
     InTime { fails: bool },
-    /// One runs, and the others wait for it up to deadlines that are soon over, again and again.
+    /// One runs, and the others wait for it up to deadlines that are soon over, and then for its end.
     Race,
 }
 

@@ -14,9 +14,6 @@ use std::time::Duration;
 
 const FAR: u64 = 1000;
 
-/// The fewest waits of a race that give up before the run ends.
-const GIVEN_UP: usize = 20;
-
 // Tells its answer in a word.
 fn told(answer: Result<bool, Fault>) -> &'static str {
     match answer {
@@ -135,23 +132,34 @@ pub(super) fn wait_long<R: Wait>(
     wait_before(rt, once, token, &TickClock::new(), u64::MAX) == wanted
 }
 
-// Waits beside a run again and again, and lets it go once enough waits gave up. The thread is
-// content where it is told in the end that the run is done, and only of its own time before.
+// Waits for a short time. None where that was in vain, and else whether the run is done.
+fn wait_shortly<R: Wait>(rt: &R, once: &Once, token: &mut Token, with: &Told) -> Option<bool>
+    requires { IsTokenOf (lot_of once.now) token.old }
+    ensures { IsTokenOf (lot_of once.now) token.new }
+{
+    let word = wait_within(rt, once, token, &TickClock::new(), 30);
+    if word != "no" {
+        return Some(word == "yes");
+    }
+    with.runs.fetch_add(1, SeqCst);
+    None
+}
+
+// Waits beside a run twice in vain, lets it go, and waits for its end. The thread is content where
+// it is told in the end that the run is done.
 pub(super) fn race<R: Wait>(rt: &R, once: &Once, token: &mut Token, with: &Told) -> bool
     requires { IsTokenOf (lot_of once.now) token.old }
     ensures { IsTokenOf (lot_of once.now) token.new }
 {
-    let clock = TickClock::new();
     await_flag(rt, &with.inside);
-    for _ in rt.forever() {
-        match wait_within(rt, once, token, &clock, 30) {
-            "no" => if with.runs.fetch_add(1, SeqCst) >= GIVEN_UP {
-                with.go.store(true, SeqCst);
-            },
-            word => return word == "yes",
-        }
+    if let Some(content) = wait_shortly(rt, once, token, with) {
+        return content;
     }
-    false
+    if let Some(content) = wait_shortly(rt, once, token, with) {
+        return content;
+    }
+    with.go.store(true, SeqCst);
+    wait_before(rt, once, token, &TickClock::new(), u64::MAX) == "yes"
 }
 
 #[test]
@@ -169,5 +177,5 @@ fn who_waits_is_told_of_a_run_that_fails(rt: HostRuntime) {
 #[test]
 fn waits_that_give_up_race_the_end_of_a_run(rt: HostRuntime) {
     let (content, done, gave_up) = play(&rt, rt.alloc(), 5, Part::Race);
-    same(&rt, (content, done, gave_up > GIVEN_UP), (true, true, true));
+    same(&rt, (content, done, gave_up >= 2), (true, true, true));
 }
