@@ -1,5 +1,5 @@
 -- Each act of a `Once`'s call is one that the thread may take, and leads to a place that fits.
-use Rattle.std.proofs.Common.{◌++◌, ℕ, suc, ◌≡◌, ◌≢◌, ◌*◌, Bool, true, false, List, ◌∷◌, Some, None, cond, if◌then◌else◌, inl, inr, sym, refl, ap, ◌∙◌, subst, arith, ne_eqb}
+use Rattle.std.proofs.Common.{◌++◌, ℕ, suc, ◌≡◌, ◌≢◌, ◌*◌, Bool, true, false, List, ◌∷◌, Option, Some, None, cond, if◌then◌else◌, inl, inr, sym, refl, ap, ◌∙◌, subst, arith, ne_eqb}
 use Rattle.std.proofs.lemmas.Bool.{false≢true}
 use mathlib.Core.Logic.{dite}
 use native.Mathlib.Decide.{ℕ_discrete}
