@@ -20,8 +20,10 @@ use Rattle.lot_calls.specs.declared.calls.CondvarCall.{CondvarCall}
 use Rattle.lot_calls.specs.declared.calls.CondvarCall.TheVariants as condvar_call
 use Rattle.lot_calls.specs.declared.calls.OnceCall.{OnceCall}
 use Rattle.lot_calls.specs.declared.calls.OnceCall.TheVariants as once_call
+use Rattle.lot_calls.specs.declared.calls.SemaphoreCall.{SemaphoreCall}
+use Rattle.lot_calls.specs.declared.calls.SemaphoreCall.TheVariants as semaphore_call
 use Rattle.abstract_locks.specs.Onces.{Start, Rest}
-use Rattle.abstract_locks.specs.Locks.{Rules, Mutex, Normal, Recursive, Once, Condvar, LockCase, Enter, Pend, Settle, Leave, Convert, Park, Aside, TakeFirst, TakeAside, TakePicked, Wake, HandOff, Late, Rollback, OfOnce, Look, Show, Hide, OfCondvar, SeeOwner}
+use Rattle.abstract_locks.specs.Locks.{Rules, Mutex, Normal, Recursive, Once, Condvar, Semaphore, LockCase, Enter, Pend, Settle, Leave, Convert, Park, Aside, TakeFirst, TakeAside, TakePicked, Wake, HandOff, Late, Rollback, OfOnce, Look, Show, Hide, OfCondvar, SeeOwner}
 
 -- what a call of a lock is for
 pub data Purpose : Type 0 where
@@ -86,6 +88,11 @@ abbrev pub condvar_purpose : ℕ → CondvarCall → Purpose
 condvar_purpose l (condvar_call.Wait m timed) = Waits l m timed
 condvar_purpose l (condvar_call.Notify all) = Notifies l all
 
+-- a permit is a shared right
+abbrev pub semaphore_purpose : ℕ → SemaphoreCall → Purpose
+semaphore_purpose l (semaphore_call.Acquire how) = Enters l Shared how
+semaphore_purpose l semaphore_call.Release = Releases l Shared false
+
 -- what a call of a lock of this kind is for; nothing where the kind lacks the call
 abbrev pub purpose_of : Kind → Call → Option Purpose
 purpose_of kind.TheVariants.Mutex (call.TheVariants.Mutex l c) = Some (mutex_purpose false l c)
@@ -95,6 +102,8 @@ purpose_of (kind.TheVariants.Recursive limit) (call.TheVariants.RwLock l c) =
     Some (rwlock_purpose l c)
 purpose_of kind.TheVariants.Condvar (call.TheVariants.Condvar l c) = Some (condvar_purpose l c)
 purpose_of kind.TheVariants.Once (call.TheVariants.Once l c) = Some (once_purpose l c)
+purpose_of (kind.TheVariants.Semaphore permits) (call.TheVariants.Semaphore l c) =
+    Some (semaphore_purpose l c)
 purpose_of kind.TheVariants.Mutex (call.TheVariants.RwLock l c) = None
 purpose_of kind.TheVariants.Mutex (call.TheVariants.Once l c) = None
 purpose_of kind.TheVariants.Mutex (call.TheVariants.Condvar l c) = None
@@ -113,6 +122,16 @@ purpose_of kind.TheVariants.Condvar (call.TheVariants.Once l c) = None
 purpose_of kind.TheVariants.Once (call.TheVariants.Mutex l c) = None
 purpose_of kind.TheVariants.Once (call.TheVariants.RwLock l c) = None
 purpose_of kind.TheVariants.Once (call.TheVariants.Condvar l c) = None
+purpose_of kind.TheVariants.Mutex (call.TheVariants.Semaphore l c) = None
+purpose_of kind.TheVariants.Fair (call.TheVariants.Semaphore l c) = None
+purpose_of (kind.TheVariants.RwLock limit) (call.TheVariants.Semaphore l c) = None
+purpose_of (kind.TheVariants.Recursive limit) (call.TheVariants.Semaphore l c) = None
+purpose_of kind.TheVariants.Condvar (call.TheVariants.Semaphore l c) = None
+purpose_of kind.TheVariants.Once (call.TheVariants.Semaphore l c) = None
+purpose_of (kind.TheVariants.Semaphore permits) (call.TheVariants.Mutex l c) = None
+purpose_of (kind.TheVariants.Semaphore permits) (call.TheVariants.RwLock l c) = None
+purpose_of (kind.TheVariants.Semaphore permits) (call.TheVariants.Once l c) = None
+purpose_of (kind.TheVariants.Semaphore permits) (call.TheVariants.Condvar l c) = None
 
 -- what a call of a condition variable remembers of its own steps, and of what a notification did to
 -- it
@@ -169,6 +188,7 @@ rules_of (kind.TheVariants.RwLock limit) = record { sort = Normal; limit = limit
 rules_of (kind.TheVariants.Recursive limit) = record { sort = Recursive; limit = limit }
 rules_of kind.TheVariants.Condvar = record { sort = Condvar; limit = 0 }
 rules_of kind.TheVariants.Once = record { sort = Once; limit = 0 }
+rules_of (kind.TheVariants.Semaphore permits) = record { sort = Semaphore; limit = permits }
 
 -- ---------------------------------------------------------------- which cases a call is made of
 

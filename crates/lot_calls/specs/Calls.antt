@@ -12,6 +12,7 @@ lock_in (call.TheVariants.Mutex lock c) = lock
 lock_in (call.TheVariants.RwLock lock c) = lock
 lock_in (call.TheVariants.Once lock c) = lock
 lock_in (call.TheVariants.Condvar lock c) = lock
+lock_in (call.TheVariants.Semaphore lock c) = lock
 
 -- the mutex that a wait names
 abbrev pub mutex_named : CondvarCall → Option ℕ
@@ -20,7 +21,10 @@ mutex_named (Notify all) = None
 
 abbrev pub mutex_in : Call → Option ℕ
 mutex_in (call.TheVariants.Condvar lock c) = mutex_named c
-mutex_in c = None
+mutex_in (call.TheVariants.Mutex lock c) = None
+mutex_in (call.TheVariants.RwLock lock c) = None
+mutex_in (call.TheVariants.Once lock c) = None
+mutex_in (call.TheVariants.Semaphore lock c) = None
 
 -- the lock to which the call needs a right, if it needs one
 abbrev pub right_in : Call → ℕ

@@ -24,6 +24,7 @@ pub enum Call {
     RwLock { lock: usize, call: RwLockCall },
     Once { lock: usize, call: OnceCall },
     Condvar { lock: usize, call: CondvarCall },
+    Semaphore { lock: usize, call: SemaphoreCall },
 }
 
 /// A right to a reader-writer lock.
@@ -139,7 +140,8 @@ impl Call {
             Call::Mutex { lock, .. }
             | Call::RwLock { lock, .. }
             | Call::Once { lock, .. }
-            | Call::Condvar { lock, .. } => lock,
+            | Call::Condvar { lock, .. }
+            | Call::Semaphore { lock, .. } => lock,
         }
     }
 

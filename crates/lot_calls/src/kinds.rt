@@ -7,6 +7,9 @@ use crate::calls::Call;
 /// The greatest reader limit.
 pub const MOST_READERS: u64 = 1152921504606846974;
 
+/// The greatest number of permits, 2^62.
+pub const MOST_PERMITS: u64 = 4611686018427387904;
+
 /// A kind of lock, with what is chosen for it.
 #[derive(Clone, Copy, Debug, PartialEq, Eq)]
 pub enum Kind {
@@ -19,17 +22,20 @@ pub enum Kind {
     Recursive { limit: u64 },
     Condvar,
     Once,
+    /// A semaphore, whose threads hold at most so many permits in all.
+    Semaphore { permits: u64 },
 }
 
 impl Kind {
     /// Whether a world of this many threads may have such a lock: its reader limit, if it has one,
-    /// is at least the number of threads and at most 2^60 - 2.
+    /// is at least the number of threads and at most 2^60 - 2; a semaphore has 1 to 2^62 permits.
     pub fn fits(self, threads: usize) -> bool
         ensures { result ≡ fits self threads }
     {
         match self {
             Kind::RwLock { limit } => threads as u64 <= limit && limit <= MOST_READERS,
             Kind::Recursive { limit } => threads as u64 <= limit && limit <= MOST_READERS,
+            Kind::Semaphore { permits } => 1 <= permits && permits <= MOST_PERMITS,
             Kind::Mutex | Kind::Fair | Kind::Condvar | Kind::Once => true,
         }
     }
@@ -43,6 +49,7 @@ impl Kind {
             (Kind::RwLock { .. } | Kind::Recursive { .. }, Call::RwLock { .. }) => true,
             (Kind::Condvar, Call::Condvar { .. }) => true,
             (Kind::Once, Call::Once { .. }) => true,
+            (Kind::Semaphore { .. }, Call::Semaphore { .. }) => true,
             _ => false,
         }
     }

@@ -8,6 +8,6 @@ pub mod release;
 pub mod tries;
 
 pub use acquire::AcquireAt;
-pub use places::{NOT_PARKED, ONE_FREE, PARKED, SemaphorePlace, free_permits};
+pub use places::{NOT_PARKED, ONE_FREE, PARKED, SemaphorePlace, free_permits, semaphore_right};
 pub use release::ReleaseAt;
 pub use tries::TryAt;

@@ -4,7 +4,7 @@ use Rattle.lot_calls.specs.declared.kinds.Kind.{Kind}
 use Rattle.lot_calls.specs.declared.calls.Call.{Call}
 use Rattle.lot_calls.specs.declared.calls.Call as call
 use Rattle.lot_steps.specs.declared.places.Place.{Place}
-use Rattle.lot_steps.specs.declared.places.Place.TheVariants.{Idle, Mutex, RwLock, Once, Condvar}
+use Rattle.lot_steps.specs.declared.places.Place.TheVariants.{Idle, Mutex, RwLock, Once, Condvar, Semaphore}
 use Rattle.lot_mutex.specs.declared.places.MutexPlace.{MutexPlace}
 use Rattle.lot_acts.specs.declared.acts.Act.{Act}
 use Rattle.lot_acts.specs.declared.acts.Act as act
@@ -31,6 +31,9 @@ use Rattle.lot_once.specs.OnceProfiles.{once_profile}
 use Rattle.lot_condvar.specs.declared.places.CondvarPlace.{CondvarPlace}
 use Rattle.lot_condvar.specs.CondvarSteps.{HasMutexKey, condvar_act, condvar_first, condvar_right, condvar_next, condvar_looking, condvar_owners, mutex_beside}
 use Rattle.lot_condvar.specs.CondvarProfiles.{condvar_profile, mutex_side}
+use Rattle.lot_semaphore.specs.declared.places.SemaphorePlace.{SemaphorePlace}
+use Rattle.lot_semaphore.specs.SemaphoreSteps.{semaphore_act, semaphore_first, semaphore_looking, semaphore_next, semaphore_right, semaphore_shares}
+use Rattle.lot_semaphore.specs.SemaphoreProfiles.{semaphore_profile}
 
 -- where a call of a lock of a kind begins
 abbrev pub first_place : Kind → Call → Place
@@ -38,6 +41,7 @@ first_place kind (call.TheVariants.Mutex lock c) = Mutex lock (mutex_first (is_f
 first_place kind (call.TheVariants.RwLock lock c) = RwLock lock (admission_of kind) (call_first c)
 first_place kind (call.TheVariants.Once lock c) = Once lock (once_first c)
 first_place kind (call.TheVariants.Condvar lock c) = Condvar lock (condvar_first c)
+first_place kind (call.TheVariants.Semaphore lock c) = Semaphore lock (semaphore_first c)
 
 -- whether a thread has the right that a call needs, of the lock with these owners; a call of a
 -- `Once` needs none
@@ -46,6 +50,7 @@ has_right (call.TheVariants.Mutex lock c) t owners shares = mutex_right c t owne
 has_right (call.TheVariants.RwLock lock c) t owners shares = call_right c t owners shares
 has_right (call.TheVariants.Once lock c) t owners shares = true
 has_right (call.TheVariants.Condvar lock c) t owners shares = condvar_right c t owners
+has_right (call.TheVariants.Semaphore lock c) t owners shares = semaphore_right c shares
 
 abbrev pub is_idle : Place → Bool
 is_idle Idle = true
@@ -53,6 +58,7 @@ is_idle (Mutex lock at) = false
 is_idle (RwLock lock a at) = false
 is_idle (Once lock at) = false
 is_idle (Condvar lock at) = false
+is_idle (Semaphore lock at) = false
 
 -- the lock that a thread calls
 abbrev pub lock_of : Place → Option ℕ
@@ -61,6 +67,7 @@ lock_of (Mutex lock at) = Some lock
 lock_of (RwLock lock a at) = Some lock
 lock_of (Once lock at) = Some lock
 lock_of (Condvar lock at) = Some lock
+lock_of (Semaphore lock at) = Some lock
 
 -- whether it is the lock
 abbrev pub is_lock : ℕ → Option ℕ → Bool
@@ -78,6 +85,7 @@ profile (Mutex lock at) = bringing_nobody (mutex_profile at)
 profile (RwLock lock a at) = call_profile a at
 profile (Once lock at) = once_profile at
 profile (Condvar lock at) = condvar_profile at
+profile (Semaphore lock at) = semaphore_profile at
 
 -- the mutex beside a condition variable that is called
 abbrev pub beside_of : Place → Option ℕ
@@ -86,6 +94,7 @@ beside_of (Mutex lock at) = None
 beside_of (RwLock lock a at) = None
 beside_of (Once lock at) = None
 beside_of (Condvar lock at) = mutex_beside at
+beside_of (Semaphore lock at) = None
 
 -- and what a place says of its thread there
 abbrev pub profile_beside : Place → Profile
@@ -94,6 +103,7 @@ profile_beside (Mutex lock at) = blank
 profile_beside (RwLock lock a at) = blank
 profile_beside (Once lock at) = blank
 profile_beside (Condvar lock at) = mutex_side at
+profile_beside (Semaphore lock at) = blank
 
 -- at any lock
 abbrev pub profile_at : Place → ℕ → Profile
@@ -112,6 +122,7 @@ HasKeys (Mutex lock at) = lock < 2 ^ 63
 HasKeys (RwLock lock a at) = lock < 2 ^ 63
 HasKeys (Once lock at) = lock < 2 ^ 63
 HasKeys (Condvar lock at) = (lock < 2 ^ 63) × HasMutexKey at
+HasKeys (Semaphore lock at) = lock < 2 ^ 63
 
 -- what a thread does next
 abbrev pub act_of : Place → Act
@@ -120,6 +131,7 @@ act_of (Mutex lock at) = mutex_act lock at
 act_of (RwLock lock a at) = call_act lock a at
 act_of (Once lock at) = once_act lock at
 act_of (Condvar lock at) = condvar_act lock at
+act_of (Semaphore lock at) = semaphore_act lock at
 
 abbrev pub mutex_goes : ℕ → Next MutexPlace → Place
 mutex_goes lock (At at) = Mutex lock at
@@ -137,6 +149,10 @@ abbrev pub condvar_goes : ℕ → Next CondvarPlace → Place
 condvar_goes lock (At at) = Condvar lock at
 condvar_goes lock (End answer) = Idle
 
+abbrev pub semaphore_goes : ℕ → Next SemaphorePlace → Place
+semaphore_goes lock (At at) = Semaphore lock at
+semaphore_goes lock (End answer) = Idle
+
 -- where the reply to its act leads a thread
 abbrev pub next_place : Place → Reply → Place
 next_place Idle reply = Idle
@@ -144,6 +160,7 @@ next_place (Mutex lock at) reply = mutex_goes lock (mutex_next at reply)
 next_place (RwLock lock a at) reply = rwlock_goes lock a (call_next a at reply)
 next_place (Once lock at) reply = once_goes lock (once_next at reply)
 next_place (Condvar lock at) reply = condvar_goes lock (condvar_next at reply)
+next_place (Semaphore lock at) reply = semaphore_goes lock (semaphore_next at reply)
 
 abbrev pub mutex_does : ℕ → Next MutexPlace → Act
 mutex_does lock (At at) = mutex_act lock at
@@ -161,6 +178,10 @@ abbrev pub condvar_does : ℕ → Next CondvarPlace → Act
 condvar_does lock (At at) = condvar_act lock at
 condvar_does lock (End answer) = act.TheVariants.End answer
 
+abbrev pub semaphore_does : ℕ → Next SemaphorePlace → Act
+semaphore_does lock (At at) = semaphore_act lock at
+semaphore_does lock (End answer) = act.TheVariants.End answer
+
 -- and what it does then
 abbrev pub next_act : Place → Reply → Act
 next_act Idle reply = act.TheVariants.Rest
@@ -168,6 +189,7 @@ next_act (Mutex lock at) reply = mutex_does lock (mutex_next at reply)
 next_act (RwLock lock a at) reply = rwlock_does lock a (call_next a at reply)
 next_act (Once lock at) reply = once_does lock (once_next at reply)
 next_act (Condvar lock at) reply = condvar_does lock (condvar_next at reply)
+next_act (Semaphore lock at) reply = semaphore_does lock (semaphore_next at reply)
 
 -- a mutex that a notification sees has keys that are numbers
 abbrev pub ShowsKeys : Place → Reply → Type 0
@@ -176,14 +198,16 @@ ShowsKeys (Mutex lock at) reply = Unit {0}
 ShowsKeys (RwLock lock a at) reply = Unit {0}
 ShowsKeys (Once lock at) reply = Unit {0}
 ShowsKeys (Condvar lock at) reply = HasKeys (next_place (Condvar lock at) reply)
+ShowsKeys (Semaphore lock at) reply = Unit {0}
 
--- who owns the lock after an operation on its word that saw this value
+-- who owns the lock after an operation on its word that saw this value; permits are shared rights
 abbrev pub owners_after : Place → ℕ → ℕ → Owners → Owners
 owners_after Idle t seen owners = owners
 owners_after (Mutex lock at) t seen owners = mutex_owners at t seen owners
 owners_after (RwLock lock a at) t seen owners = call_owners a at t seen owners
 owners_after (Once lock at) t seen owners = once_owners at t seen owners
 owners_after (Condvar lock at) t seen owners = condvar_owners at t seen owners
+owners_after (Semaphore lock at) t seen owners = owners
 
 -- how many shared rights the thread has then, where their number changes; nobody shares a mutex or
 -- a `Once`
@@ -193,6 +217,7 @@ shares_after (Mutex lock at) seen shares = None
 shares_after (RwLock lock a at) seen shares = call_shares a at seen shares
 shares_after (Once lock at) seen shares = None
 shares_after (Condvar lock at) seen shares = None
+shares_after (Semaphore lock at) seen shares = semaphore_shares at seen shares
 
 -- what a thread wants, where it waits
 abbrev pub wants : Place → Option Want
@@ -218,6 +243,10 @@ abbrev pub in_condvar : ℕ → Option CondvarPlace → Option Place
 in_condvar lock None = None
 in_condvar lock (Some at) = Some (Condvar lock at)
 
+abbrev pub in_semaphore : ℕ → Option SemaphorePlace → Option Place
+in_semaphore lock None = None
+in_semaphore lock (Some at) = Some (Semaphore lock at)
+
 -- from where a thread looks at the word once more, in place of an act that leads to sleep
 abbrev pub looking : Place → Option Place
 looking Idle = None
@@ -225,6 +254,7 @@ looking (Mutex lock at) = in_mutex lock (mutex_looking at)
 looking (RwLock lock a at) = in_rwlock lock a (call_looking a at)
 looking (Once lock at) = in_once lock (once_looking at)
 looking (Condvar lock at) = in_condvar lock (condvar_looking at)
+looking (Semaphore lock at) = in_semaphore lock (semaphore_looking at)
 
 -- the key of a line of the lock that a thread calls
 abbrev pub key_in : Option ℕ → Option Line → Option ℕ

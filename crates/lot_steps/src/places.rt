@@ -11,6 +11,7 @@ use lot_mutex::{MutexPlace, mutex_right};
 use lot_once::OncePlace;
 use lot_rwlock::Admission;
 use lot_rwlock_fair::{RwLockCallPlace, call_right};
+use lot_semaphore::{SemaphorePlace, semaphore_right};
 
 /// Where a thread stands: in no call, or in a call of a lock, with all that the call remembers.
 #[derive(Clone, Copy)]
@@ -32,6 +33,10 @@ pub enum Place {
     Condvar {
         lock: usize,
         at: CondvarPlace,
+    },
+    Semaphore {
+        lock: usize,
+        at: SemaphorePlace,
     },
 }
 
@@ -58,6 +63,10 @@ impl Place {
                 lock,
                 at: CondvarPlace::first(call),
             },
+            Call::Semaphore { lock, call } => Place::Semaphore {
+                lock,
+                at: SemaphorePlace::first(call),
+            },
         }
     }
 
@@ -82,6 +91,7 @@ impl Place {
             } => at.act(lock, admission),
             Place::Once { lock, at } => at.act(lock),
             Place::Condvar { lock, at } => at.act(lock),
+            Place::Semaphore { lock, at } => at.act(lock),
         }
     }
 
@@ -120,6 +130,13 @@ impl Place {
                 Next::End(answer) => answer,
             },
             Place::Condvar { lock, at } => match at.next(reply) {
+                Next::At(next) => {
+                    *at = next;
+                    return next.act(*lock);
+                }
+                Next::End(answer) => answer,
+            },
+            Place::Semaphore { lock, at } => match at.next(reply) {
                 Next::At(next) => {
                     *at = next;
                     return next.act(*lock);
@@ -174,6 +191,13 @@ impl Place {
                 }
                 Next::End(answer) => answer,
             },
+            Place::Semaphore { at, .. } => match at.next(reply) {
+                Next::At(next) => {
+                    *at = next;
+                    return next.outcome();
+                }
+                Next::End(answer) => answer,
+            },
         };
         self.end();
         Outcome::End(answer)
@@ -189,6 +213,7 @@ impl Place {
             Place::RwLock { admission, at, .. } => at.outcome(*admission),
             Place::Once { at, .. } => at.outcome(),
             Place::Condvar { at, .. } => at.outcome(),
+            Place::Semaphore { at, .. } => at.outcome(),
         }
     }
 
@@ -214,6 +239,7 @@ impl Place {
             }
             Place::Once { at, .. } => at.owners_after(thread, seen, owners),
             Place::Condvar { at, .. } => at.owners_after(thread, seen, owners),
+            Place::Semaphore { .. } => owners,
         }
     }
 
@@ -225,6 +251,7 @@ impl Place {
         match self {
             Place::Idle | Place::Mutex { .. } | Place::Once { .. } | Place::Condvar { .. } => None,
             Place::RwLock { admission, at, .. } => at.shares_after(*admission, seen, shares),
+            Place::Semaphore { at, .. } => at.shares_after(seen, shares),
         }
     }
 
@@ -238,6 +265,7 @@ impl Place {
             Place::RwLock { at, .. } => at.wants(),
             Place::Once { at, .. } => at.wants(),
             Place::Condvar { at, .. } => at.wants(),
+            Place::Semaphore { at, .. } => at.wants(),
         }
     }
 
@@ -251,6 +279,7 @@ impl Place {
             Place::RwLock { at, .. } => at.taker(),
             Place::Once { at, .. } => at.taker(),
             Place::Condvar { at, .. } => at.taker(),
+            Place::Semaphore { at, .. } => at.taker(),
         }
     }
 
@@ -284,6 +313,10 @@ impl Place {
                 let at = at.looking()?;
                 Some(Place::Condvar { lock, at })
             }
+            Place::Semaphore { lock, at } => {
+                let at = at.looking()?;
+                Some(Place::Semaphore { lock, at })
+            }
         }
     }
 
@@ -307,6 +340,10 @@ impl Place {
                 Some(line) => Some(line.key(lock)),
                 None => None,
             },
+            Place::Semaphore { lock, at } => match at.late_line() {
+                Some(line) => Some(line.key(lock)),
+                None => None,
+            },
         }
     }
 
@@ -321,6 +358,7 @@ impl Place {
             Place::RwLock { lock: own, at, .. } => *own == lock && at.owes().is_some(),
             Place::Once { lock: own, at } => *own == lock && at.owes().is_some(),
             Place::Condvar { lock: own, at } => at.owes_on(*own, lock),
+            Place::Semaphore { lock: own, at } => *own == lock && at.owes().is_some(),
         }
     }
 
@@ -334,6 +372,7 @@ impl Place {
             Place::Mutex { lock: own, at } => *own == lock && at.retries(),
             Place::RwLock { lock: own, at, .. } => *own == lock && at.retries(),
             Place::Once { lock: own, at } => *own == lock && at.retries(),
+            Place::Semaphore { lock: own, at } => *own == lock && at.retries(),
             Place::Condvar { at, .. } => at.mutex() == Some(lock) && at.retries(),
         }
     }
@@ -349,6 +388,7 @@ pub fn has_right(call: Call, thread: usize, owners: Owners, shares: usize) -> bo
         Call::RwLock { call, .. } => call_right(call, thread, owners, shares),
         Call::Once { .. } => true,
         Call::Condvar { call, .. } => condvar_right(call, thread, owners),
+        Call::Semaphore { call, .. } => semaphore_right(call, shares),
     }
 }
 
