@@ -1,11 +1,12 @@
 -- The end of a call.
 use Rattle.std.proofs.Common.{ℕ, ◌≡◌, Bool, true, false, List, Option, None, Some, inl, inr, refl, sym, ap, ◌∙◌, subst}
 use Rattle.lot_calls.specs.declared.outcomes.Answer.{Answer}
+use Rattle.lot_calls.specs.declared.outcomes.Answer.TheVariants.{Ok, Yes, No}
 use Rattle.lot_calls.specs.declared.outcomes.OnceState.{OnceState}
 use Rattle.lot_calls.specs.declared.calls.OnceCall.TheVariants.{CallOnce, WaitTimed}
 use Rattle.lot_steps.specs.Steps.{act_of}
 use Rattle.lot_steps.specs.declared.places.Place.{Place}
-use Rattle.lot_steps.specs.declared.places.Place.TheVariants.{Idle, Mutex, RwLock, Once, Condvar}
+use Rattle.lot_steps.specs.declared.places.Place.TheVariants.{Idle, Mutex, RwLock, Once, Condvar, Semaphore}
 use Rattle.lot_mutex.specs.MutexSteps.{mutex_act, decided}
 use Rattle.lot_mutex.specs.declared.places.MutexPlace.{MutexPlace}
 use Rattle.lot_mutex.specs.declared.places.MutexPlace.TheVariants as at_mutex_place
@@ -31,10 +32,12 @@ use Rattle.lot_rwlock.specs.declared.purposes.RwLockPurpose.TheVariants as purpo
 use Rattle.lot_driver.specs.RwLockFitting.{Answers}
 use Rattle.lot_driver.proofs.RwLockLeading.{rwlock_no_closure}
 use Rattle.lot_words.specs.declared.views.WordStep.{WordStep}
-use Rattle.lot_driver.specs.Fitting.{Aim, nothing, of_fair, of_mutex, of_notify, of_once, of_run, of_rwlock, of_wait, AreWordsFor, aim_of, answer_of, Fits, IsOver, IsStopped}
+use Rattle.lot_driver.specs.Fitting.{Aim, nothing, of_fair, of_mutex, of_notify, of_once, of_run, of_rwlock, of_semaphore, of_wait, AreWordsFor, aim_of, answer_of, Fits, IsOver, IsStopped}
 use Rattle.lot_driver.specs.CondvarFitting.{IsWaitOver}
 use Rattle.lot_driver.specs.MutexFitting.{Purpose, enters, releases, hands_over, FitsMutex, IsMutexOver}
 use Rattle.lot_driver.specs.Paths.{closure_of}
+use Rattle.lot_driver.specs.SemaphoreFitting as semaphore
+use Rattle.lot_driver.proofs.SemaphoreLeading.{semaphore_no_closure}
 use Rattle.lot_driver.specs.Words.{alone, at_in, kind_in}
 use Rattle.lot_driver.specs.Stages.{Inside, Stage, ActNeeds, stage}
 use Rattle.lot_driver.specs.declared.driver.Stop.TheVariants.{Paused}
@@ -82,6 +85,22 @@ module _ (up : Type 0) (base owns : List Ownership) where
   wait_outside m timed answer inside last steps (inl h) = h.2.1
   wait_outside m timed answer inside last steps (inr h) = h.3.1
 
+  acquire_ended : (l : ℕ) (timed : Bool) (answer : Answer) (inside : Option Inside) (last : Option SectionRecord) (steps : List WordStep) → semaphore.AcquireAnswer up l timed base answer (stage owns inside last steps) → semaphore.AcquireAnswer up l timed base answer (stage owns None last steps) × (inside ≡ None)
+  acquire_ended l timed Ok inside last steps h = ((h.0, (h.1.0, refl)), h.1.1)
+  acquire_ended l timed Yes inside last steps h = ((h.0, (h.1.0, refl)), h.1.1)
+  acquire_ended l timed No inside last steps h = ((h.0, (h.1.0, refl), h.2), h.1.1)
+  acquire_ended l timed answer inside last steps h = absurd h
+
+  try_ended : (l : ℕ) (answer : Answer) (inside : Option Inside) (last : Option SectionRecord) (steps : List WordStep) → semaphore.TryAnswer l base answer (stage owns inside last steps) → semaphore.TryAnswer l base answer (stage owns None last steps) × (inside ≡ None)
+  try_ended l Yes inside last steps h = ((h.0, refl), h.1)
+  try_ended l No inside last steps h = (((h.0.0, refl), h.1), h.0.1)
+  try_ended l answer inside last steps h = absurd h
+
+  semaphore_ended : (l : ℕ) (purpose : semaphore.Purpose) (answer : Answer) (inside : Option Inside) (last : Option SectionRecord) (steps : List WordStep) → semaphore.IsSemaphoreOver up l base purpose answer (stage owns inside last steps) → semaphore.IsSemaphoreOver up l base purpose answer (stage owns None last steps) × (inside ≡ None)
+  semaphore_ended l (semaphore.acquires timed) answer inside last steps h = acquire_ended l timed answer inside last steps h
+  semaphore_ended l semaphore.tries_once answer inside last steps h = try_ended l answer inside last steps h
+  semaphore_ended l semaphore.releases answer inside last steps h = ((h.0, (h.1.0, refl), h.2), h.1.1)
+
   -- where a call ended, its thread is outside all sections
   pub ended : (aim : Aim) (answer : Answer) (inside : Option Inside) (last : Option SectionRecord) (steps : List WordStep) → IsOver up base aim answer (stage owns inside last steps) → IsOver up base aim answer (stage owns None last steps)
   ended nothing answer inside last steps h = absurd h
@@ -92,6 +111,7 @@ module _ (up : Type 0) (base owns : List Ownership) where
   ended (of_run l succeeded) answer inside last steps h = (refl, h.1, h.2, h.3)
   ended (of_wait l m timed) answer inside last steps h = wait_ended m timed answer inside last steps h
   ended (of_notify l m all) answer inside last steps h = ((h.0.0, refl), h.1)
+  ended (of_semaphore l purpose) answer inside last steps h = (semaphore_ended l purpose answer inside last steps h).0
 
   pub outside : (aim : Aim) (answer : Answer) (inside : Option Inside) (last : Option SectionRecord) (steps : List WordStep) → IsOver up base aim answer (stage owns inside last steps) → inside ≡ None
   outside nothing answer inside last steps h = absurd h
@@ -102,6 +122,7 @@ module _ (up : Type 0) (base owns : List Ownership) where
   outside (of_run l succeeded) answer inside last steps h = h.0
   outside (of_wait l m timed) answer inside last steps h = wait_outside m timed answer inside last steps h
   outside (of_notify l m all) answer inside last steps h = h.0.1
+  outside (of_semaphore l purpose) answer inside last steps h = (semaphore_ended l purpose answer inside last steps h).1
 
 -- no call of a mutex runs a closure
 pub no_closure : (n : ℕ) (state : OnceState) (up : Type 0) (base : List Ownership) (at : MutexPlace) (st : Stage) → FitsMutex up n base at st → mutex_act n at ≡ act.TheVariants.Closure state → ⊥
@@ -134,6 +155,7 @@ never_paused up base n purpose (Condvar l at) state st s = condvar_pauses l n pu
 never_paused up base n purpose (RwLock l a at) state st s = rwlock_no_closure up l a base at st state s.0 s.2
 never_paused up base n purpose (Once l at) state st s = once_runs l n purpose at s.1
 never_paused up base n purpose (Mutex l at) state st s = no_closure l state up base at st s.0 s.2
+never_paused up base n purpose (Semaphore l at) state st s = semaphore_no_closure l state at s.2
 
 -- no call comes to a closure that steps on the word of a reader-writer lock
 pub never_closes : (up : Type 0) (base : List Ownership) (aim : Aim) (p : Place) (state : OnceState) (st : Stage) (word : Word) → word.kind ≡ kinds.TheVariants.RwLock → AreWordsFor p (kind_in (alone word)) (at_in (alone word)) → IsStopped up base aim (Paused p state) st → ⊥
@@ -143,4 +165,5 @@ never_closes up base aim (Condvar l (waiting.Look all)) state st word is words s
 never_closes up base aim (Condvar l (waiting.Notify all m at)) state st word is words s = let e : kinds.TheVariants.Condvar ≡ kinds.TheVariants.RwLock = sym words.1.1 ∙ is in cc
 never_closes up base aim (RwLock l a at) state st word is words s = rwlock_no_closure up l a base at st state s.0 s.2
 never_closes up base aim (Mutex l at) state st word is words s = no_closure l state up base at st s.0 s.2
+never_closes up base aim (Semaphore l at) state st word is words s = semaphore_no_closure l state at s.2
 never_closes up base aim (Once l at) state st word is words s = let e : kinds.TheVariants.Once ≡ kinds.TheVariants.RwLock = sym (ap (λ (g : ℕ → WordKind). g 0) words.1) ∙ is in cc

@@ -14,7 +14,7 @@ use Rattle.lot_condvar.specs.declared.places.CondvarPlace.TheVariants.{Wait}
 use Rattle.lot_condvar.specs.declared.wait.WaitAt.TheVariants as waiting
 use Rattle.lot_once.specs.OnceSteps.{once_act, once_looking}
 use Rattle.lot_once.specs.declared.places.OncePlace.{OncePlace}
-use Rattle.lot_steps.specs.Steps.{late_key, in_condvar, in_mutex, in_rwlock, in_once}
+use Rattle.lot_steps.specs.Steps.{late_key, in_condvar, in_mutex, in_rwlock, in_once, in_semaphore}
 use Rattle.lot_acts.specs.declared.acts.Act.{Act}
 use Rattle.lot_acts.specs.declared.acts.Act as act
 use Rattle.lot_acts.specs.declared.acts.Reply.{Reply}
@@ -28,7 +28,7 @@ use Rattle.lot_mutex.specs.declared.lock.LockAt as lock
 use Rattle.lot_mutex.specs.declared.unlock.UnlockAt.{UnlockAt}
 use Rattle.lot_mutex.specs.declared.unlock.UnlockAt as unlock
 use Rattle.lot_steps.specs.declared.places.Place.{Place}
-use Rattle.lot_steps.specs.declared.places.Place.TheVariants.{Idle, Mutex, RwLock, Once, Condvar}
+use Rattle.lot_steps.specs.declared.places.Place.TheVariants.{Idle, Mutex, RwLock, Once, Condvar, Semaphore}
 use Rattle.lot_words.specs.Steps.{owns_after_step}
 use Rattle.lot_words.specs.Views.{owning}
 use Rattle.lot_words.specs.declared.owners.Owner.{Owner}
@@ -39,7 +39,7 @@ use Rattle.lot_words.proofs.MutexSteps.{mutex_steps, each_code}
 use Rattle.parking_lot_core.specs.declared.tokens.Did.TheVariants.{TakeFirst}
 use Rattle.lot_driver.specs.Fitting.{AreWordsFor, Fits, PlacesLead, Looks, Reached, aim_of, sleeper_at}
 use Rattle.lot_driver.specs.MutexFitting.{FitsLock, FitsUnlock, FitsMutex, Within, Outside, beside, held}
-use Rattle.lot_driver.specs.Paths.{GoesFrom, mutex_at, mutexes, at_mutex, rwlocks, at_rwlock, onces, at_once}
+use Rattle.lot_driver.specs.Paths.{GoesFrom, mutex_at, mutexes, at_mutex, rwlocks, at_rwlock, onces, at_once, semaphores, at_semaphore}
 use Rattle.lot_driver.specs.declared.sleepers.Sleeper.{Sleeper}
 use Rattle.lot_driver.specs.Stages.{Stage, Inside, ActNeeds, Became, HasKey, IsFresh, MayLeave, IsLeft, took_as, listed, entered_now, stage, stepped}
 use Rattle.lot_driver.proofs.HandingOver.{hand_off_needs, hand_off_leads}
@@ -47,6 +47,9 @@ use Rattle.lot_driver.proofs.CondvarLeading.{condvar_place_leads}
 use Rattle.lot_driver.proofs.Leaving.{has_done}
 use Rattle.lot_driver.proofs.OnceLeading.{once_place_leads}
 use Rattle.lot_driver.proofs.RwLockLeading.{rwlock_place_leads}
+use Rattle.lot_driver.proofs.SemaphoreLeading.{semaphore_place_leads}
+use Rattle.lot_semaphore.specs.SemaphoreSteps.{semaphore_act, semaphore_looking}
+use Rattle.lot_semaphore.specs.declared.places.SemaphorePlace.{SemaphorePlace}
 
 -- a reply to an operation on the word, which saw one of the four codes
 pub word_reply : (up : Type 0) (n : ℕ) (st new : Stage) (P : Reply → Type 0) (sleeper : Sleeper) (l : ℕ) (op : Op) → ((seen : ℕ) → seen < 4 → new ≡ stepped kinds.TheVariants.Mutex (mutex_at n) op seen st → P (Value seen)) → (reply : Reply) → Became up mutexes (at_mutex n) sleeper st (act.TheVariants.Word l op) reply new → P reply
@@ -248,6 +251,10 @@ places_lead up kinds at base (Mutex n p) st words f =
     subst (λ (k : (ℕ → WordKind) × (ℕ → ℕ)). ActNeeds k.0 k.1 st (mutex_act n p) × Looks up base (Mutex n p) st
     × ((reply : Reply) (new : Stage) → Became up k.0 k.1 (sleeper_at (Mutex n p)) st (mutex_act n p) reply new → Reached up base (Mutex n p) reply new))
     (sym (both_words kinds at mutexes (at_mutex n) words.1 words.2)) (mutex_place_leads up n base p st f)
+places_lead up kinds at base (Semaphore n p) st words f =
+    subst (λ (k : (ℕ → WordKind) × (ℕ → ℕ)). ActNeeds k.0 k.1 st (semaphore_act n p) × Looks up base (Semaphore n p) st
+    × ((reply : Reply) (new : Stage) → Became up k.0 k.1 (sleeper_at (Semaphore n p)) st (semaphore_act n p) reply new → Reached up base (Semaphore n p) reply new))
+    (sym (both_words kinds at (semaphores words.1.0) (at_semaphore n) words.1.1 words.2)) (semaphore_place_leads up words.1.0 n base p st f)
 places_lead up kinds at base (Condvar n p) st words f = condvar_place_leads up (mutex_place_leads up) n kinds at base p st words.1 f
 
 -- where a call goes on from, it has what it had
@@ -279,3 +286,8 @@ words_from kinds at (Condvar l (Wait m timed (waiting.Lock timed_out p))) q (inr
     by_place None e = absurd cc
     by_place (Some p2) e = let there : Condvar l (Wait m timed (waiting.Lock timed_out p2)) ≡ q = cc in subst (λ r. AreWordsFor r kinds at) there words
 words_from kinds at (Condvar l p) q (inr is) words = absurd cc
+words_from kinds at (Semaphore l p) q (inr is) words = by_place (semaphore_looking p) is
+  where
+    by_place : (o : Option SemaphorePlace) → in_semaphore l o ≡ Some q → AreWordsFor q kinds at
+    by_place None e = absurd cc
+    by_place (Some p2) e = let there : Semaphore l p2 ≡ q = cc in subst (λ r. AreWordsFor r kinds at) there words

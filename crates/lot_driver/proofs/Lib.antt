@@ -13,6 +13,7 @@ pub mod RwLockHanded
 pub mod RwLockBumping
 pub mod RwLockLeading
 pub mod OnceLeading
+pub mod SemaphoreLeading
 pub mod CondvarLeading
 pub mod Leading
 pub mod RwLockBeginning

@@ -13,7 +13,9 @@ use Rattle.lot_condvar.specs.declared.places.CondvarPlace.TheVariants.{Wait, Loo
 use Rattle.lot_condvar.specs.declared.wait.WaitAt.{WaitAt}
 use Rattle.lot_once.specs.OnceSteps.{once_next}
 use Rattle.lot_once.specs.declared.places.OncePlace.{OncePlace}
-use Rattle.lot_steps.specs.Steps.{act_of, next_act, next_place, mutex_goes, rwlock_goes, once_goes, condvar_goes, HasKeys, ShowsKeys}
+use Rattle.lot_semaphore.specs.SemaphoreSteps.{semaphore_next}
+use Rattle.lot_semaphore.specs.declared.places.SemaphorePlace.{SemaphorePlace}
+use Rattle.lot_steps.specs.Steps.{act_of, next_act, next_place, mutex_goes, rwlock_goes, once_goes, condvar_goes, semaphore_goes, HasKeys, ShowsKeys}
 use Rattle.lot_steps.proofs.Onward.{does}
 use Rattle.lot_acts.specs.declared.acts.Next.{Next}
 use Rattle.lot_acts.specs.declared.acts.Next.TheVariants.{At, End}
@@ -24,7 +26,7 @@ use Rattle.lot_acts.specs.declared.acts.Whom as whom
 use Rattle.lot_acts.specs.declared.acts.Reply.{Reply}
 use Rattle.lot_acts.specs.declared.acts.Reply.TheVariants.{Done, Value, Parked, Took, Picked, Requeued, Removed, MovedTo, Late, Woken}
 use Rattle.lot_steps.specs.declared.places.Place.{Place}
-use Rattle.lot_steps.specs.declared.places.Place.TheVariants.{Idle, Mutex, RwLock, Once, Condvar}
+use Rattle.lot_steps.specs.declared.places.Place.TheVariants.{Idle, Mutex, RwLock, Once, Condvar, Semaphore}
 use Rattle.lot_words.specs.Indices.{word_index}
 use Rattle.lot_words.specs.Steps.{CodesWith, after_step, owns_after_step}
 use Rattle.lot_words.specs.declared.views.View.{View}
@@ -50,6 +52,7 @@ is_late_at (Mutex l at) = refl
 is_late_at (RwLock l a c) = refl
 is_late_at (Once l at) = refl
 is_late_at (Condvar l at) = refl
+is_late_at (Semaphore l at) = refl
 
 has_deadline : (p : Place) (key : ℕ) → (sleeper_at p).late ≡ Some key → late_at p ≢ None
 has_deadline p key late none = let one : Some key ≡ None = sym late ∙ is_late_at p ∙ none in cc
@@ -95,6 +98,11 @@ words_on (Mutex l place) reply kinds at w = by_next (mutex_next place reply)
     by_next : (goes : Next MutexPlace) → AreWordsFor (mutex_goes l goes) kinds at
     by_next (At next) = w
     by_next (End answer) = tt
+words_on (Semaphore l place) reply kinds at w = by_next (semaphore_next place reply)
+  where
+    by_next : (goes : Next SemaphorePlace) → AreWordsFor (semaphore_goes l goes) kinds at
+    by_next (At next) = w
+    by_next (End answer) = tt
 words_on (Condvar l (Wait m timed place)) reply kinds at w = by_next (next_wait m timed place reply)
   where
     by_next : (goes : Next WaitAt) → AreWordsFor (condvar_goes l (in_wait m timed goes)) kinds at
@@ -113,6 +121,7 @@ has_keys Idle kinds at w = tt
 has_keys (RwLock l a place) kinds at w = w.0
 has_keys (Once l place) kinds at w = w.0
 has_keys (Condvar l place) kinds at w = w.0
+has_keys (Semaphore l place) kinds at w = w.0
 
 -- and no call shows another mutex then
 pub shows_keys : (p : Place) (reply : Reply) (kinds : ℕ → WordKind) (at : ℕ → ℕ) → AreWordsFor p kinds at → ShowsKeys p reply
@@ -120,6 +129,7 @@ shows_keys Idle reply kinds at w = tt
 shows_keys (Mutex l place) reply kinds at w = tt
 shows_keys (RwLock l a place) reply kinds at w = tt
 shows_keys (Once l place) reply kinds at w = tt
+shows_keys (Semaphore l place) reply kinds at w = tt
 shows_keys (Condvar l place) reply kinds at w = has_keys (next_place (Condvar l place) reply) kinds at (words_on (Condvar l place) reply kinds at w)
 
 -- a step on a word, as the stage has it

@@ -9,7 +9,7 @@ use Rattle.lot_acts.specs.declared.acts.Act.{Act}
 use Rattle.lot_acts.specs.declared.acts.Act as act
 use Rattle.lot_acts.specs.declared.acts.Reply.{Reply}
 use Rattle.lot_steps.specs.declared.places.Place.{Place}
-use Rattle.lot_steps.specs.declared.places.Place.TheVariants.{Idle, Mutex, RwLock, Once, Condvar}
+use Rattle.lot_steps.specs.declared.places.Place.TheVariants.{Idle, Mutex, RwLock, Once, Condvar, Semaphore}
 use Rattle.lot_words.specs.declared.owners.Ownership.{Ownership}
 use Rattle.lot_words.specs.declared.words.WordKind.{WordKind}
 use Rattle.lot_rwlock.specs.declared.places.Admission.{Admission}
@@ -25,6 +25,7 @@ use Rattle.lot_once.specs.declared.places.OncePlace.{OncePlace}
 use Rattle.lot_once.specs.declared.places.OncePlace.TheVariants.{Look, Run, GiveUp}
 use Rattle.lot_once.specs.declared.run.RunAt.{RunAt}
 use Rattle.lot_once.specs.declared.run.RunAt.TheVariants as run
+use Rattle.lot_semaphore.specs.SemaphoreProfiles.{semaphore_wants}
 use Rattle.lot_condvar.specs.CondvarSteps.{mutex_beside}
 use Rattle.lot_condvar.specs.declared.places.CondvarPlace.{CondvarPlace}
 use Rattle.lot_condvar.specs.declared.places.CondvarPlace.TheVariants as condvars
@@ -35,7 +36,9 @@ use Rattle.lot_calls.specs.declared.calls.Patience.TheVariants.{Patient}
 use Rattle.lot_driver.specs.MutexFitting.{Purpose, purpose_at, FitsMutex, IsMutexOver}
 use Rattle.lot_driver.specs.RwLockFitting.{FitsCall, IsFairlyOver, IsRwLockOver, may_be_handed, purpose_in}
 use Rattle.lot_driver.specs.OnceFitting.{FitsOnce, IsLookOver, IsRunOver}
-use Rattle.lot_driver.specs.Paths.{mutexes, at_mutex, rwlocks, at_rwlock, onces, at_once, condvar_at, mutex_at}
+use Rattle.lot_driver.specs.SemaphoreFitting.{FitsSemaphore, IsSemaphoreOver}
+use Rattle.lot_driver.specs.SemaphoreFitting as semaphore
+use Rattle.lot_driver.specs.Paths.{mutexes, at_mutex, rwlocks, at_rwlock, onces, at_once, semaphores, at_semaphore, condvar_at, mutex_at}
 use Rattle.lot_driver.specs.Stages.{Stage, ActNeeds, Became}
 use Rattle.lot_driver.specs.declared.sleepers.Sleeper.{Sleeper}
 use Rattle.lot_driver.specs.declared.driver.Stop.{Stop}
@@ -58,6 +61,7 @@ pub data Aim : Type 0 where
   of_wait : ℕ → ℕ → Bool → Aim
   -- to notify the first or all who wait with this mutex
   of_notify : ℕ → ℕ → Bool → Aim
+  of_semaphore : ℕ → semaphore.Purpose → Aim
 
 -- who hands the lock over releases it fairly, or bumps
 abbrev pub handing_aim : ℕ → Admission → Access → Bool → Aim
@@ -92,6 +96,7 @@ aim_of (Mutex l at) = of_mutex l (purpose_at at)
 aim_of (RwLock l a c) = call_aim l a c
 aim_of (Once l at) = once_aim l at
 aim_of (Condvar l at) = condvar_aim l at
+aim_of (Semaphore l at) = of_semaphore l (semaphore.purpose_at at)
 
 -- for what a thread sleeps in a call, the keys under which it may be late, and whether it goes on
 -- where it is handed the lock. Nobody is moved from the queue of a lock
@@ -123,6 +128,14 @@ sleeper_at (Once l at) =
       takes_over = false;
     }
 sleeper_at (Condvar l at) = condvar_sleeper l at
+sleeper_at (Semaphore l at) =
+    record {
+      lock = l;
+      want = unwrap_or (semaphore_wants at) Exclusive;
+      late = late_at (Semaphore l at);
+      moved = None;
+      takes_over = false;
+    }
 
 -- the word of a condition variable, and that of the mutex beside it
 abbrev pub AreWordsBeside : ℕ → Option ℕ → (ℕ → WordKind) → (ℕ → ℕ) → Type 0
@@ -140,6 +153,8 @@ AreWordsFor (RwLock l a place) kinds at =
 AreWordsFor (Once l place) kinds at = HasKeys (Once l place) × (kinds ≡ onces) × (at ≡ at_once l)
 AreWordsFor (Condvar l place) kinds at =
     HasKeys (Condvar l place) × AreWordsBeside l (mutex_beside place) kinds at
+AreWordsFor (Semaphore l place) kinds at = HasKeys (Semaphore l place)
+    × ((permits : ℕ) × (kinds ≡ semaphores permits)) × (at ≡ at_semaphore l)
 
 -- and behind its closure they are so still
 abbrev pub AreWordsAfter : Stop → (ℕ → WordKind) → (ℕ → ℕ) → Type 0
@@ -156,6 +171,7 @@ module _ (up : Type 0) where
   Fits base (RwLock l a c) st = FitsCall up l base a c st
   Fits base (Once l at) st = FitsOnce up l base at st
   Fits base (Condvar l at) st = FitsCondvar up l base at st
+  Fits base (Semaphore l at) st = FitsSemaphore up l base at st
 
   -- what an answer says at the end of a call
   abbrev pub IsOver : List Ownership → Aim → Answer → Stage → Type 0
@@ -167,6 +183,7 @@ module _ (up : Type 0) where
   IsOver base (of_run l succeeded) answer st = IsRunOver l succeeded base answer st
   IsOver base (of_wait l m timed) answer st = IsWaitOver up m timed base answer st
   IsOver base (of_notify l m all) answer st = IsNotifyOver l m all base answer st
+  IsOver base (of_semaphore l purpose) answer st = IsSemaphoreOver up l base purpose answer st
 
   -- what a run came to: the end of its call, or a closure, which is outside all sections
   abbrev pub IsStopped : List Ownership → Aim → Stop → Stage → Type 0

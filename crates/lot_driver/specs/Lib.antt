@@ -6,6 +6,7 @@ pub mod Stages
 pub mod Telling
 pub mod MutexFitting
 pub mod OnceFitting
+pub mod SemaphoreFitting
 pub mod CondvarFitting
 pub mod RwLockFitting
 pub mod Fitting

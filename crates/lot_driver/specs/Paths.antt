@@ -51,6 +51,16 @@ onces lock = kinds.TheVariants.Once
 abbrev pub at_once : ℕ → ℕ → ℕ
 at_once number lock = once_at number
 
+-- where the word of a semaphore stands, on which alone its calls step, whatever its permits are
+abbrev pub semaphore_at : ℕ → ℕ
+semaphore_at number = word_index number (kinds.TheVariants.Semaphore 0)
+
+abbrev pub semaphores : ℕ → ℕ → kinds.WordKind
+semaphores permits lock = kinds.TheVariants.Semaphore permits
+
+abbrev pub at_semaphore : ℕ → ℕ → ℕ
+at_semaphore number lock = semaphore_at number
+
 -- where the word of a condition variable stands, on which its calls step, and on that of a mutex
 -- beside it
 abbrev pub condvar_at : ℕ → ℕ

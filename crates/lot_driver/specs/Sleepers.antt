@@ -7,7 +7,7 @@ use Rattle.lot_condvar.specs.declared.places.CondvarPlace.TheVariants.{Wait}
 use Rattle.lot_condvar.specs.declared.wait.WaitAt.TheVariants as wait
 use Rattle.lot_steps.specs.Steps.{late_key}
 use Rattle.lot_steps.specs.declared.places.Place.{Place}
-use Rattle.lot_steps.specs.declared.places.Place.TheVariants.{Idle, Mutex, RwLock, Once, Condvar}
+use Rattle.lot_steps.specs.declared.places.Place.TheVariants.{Idle, Mutex, RwLock, Once, Condvar, Semaphore}
 use Rattle.lot_driver.specs.declared.sleepers.Sleeper.{Sleeper}
 
 -- a thread that waits sleeps for its mutex, and may be moved to the queue of that meanwhile
@@ -39,3 +39,4 @@ late_at (Mutex l at) = late_key (Mutex l at)
 late_at (RwLock l a c) = late_key (RwLock l a c)
 late_at (Once l at) = late_key (Once l at)
 late_at (Condvar l at) = (condvar_sleeper l at).late
+late_at (Semaphore l at) = late_key (Semaphore l at)

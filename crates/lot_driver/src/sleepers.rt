@@ -86,6 +86,8 @@ pub(crate) fn sleeper_at(place: Place) -> Sleeper
         }
         // Nobody hands a `Once` over.
         Place::Once { lock, at } => (lock, at.wants().unwrap_or(Want::Exclusive), false),
+        // Nor is a permit handed over.
+        Place::Semaphore { lock, at } => (lock, at.wants().unwrap_or(Want::Exclusive), false),
         Place::Condvar { lock, at } => return condvar_sleeper(lock, at),
     };
     Sleeper {
