@@ -523,6 +523,8 @@ pub record IsLockState (r : Rules) (s : LockState) : Type 0 where
   pub unshared : (Knows r.sort Shared → ⊥) → readers s ≡ 0
   pub unpending : (Knows r.sort Upgradable → ⊥) → (s.pending ≡ None) × (s.upgradable ≡ None)
   pub unwritten : (Knows r.sort Exclusive → ⊥) → s.exclusive ≡ None
+  -- of a semaphore no more share than there are permits
+  pub within : r.sort ≡ Semaphore → readers s ≤ r.limit
 
 -- nobody owns, and nobody waits
 abbrev pub opening_lock : ℕ → LockState
