@@ -238,7 +238,11 @@ is_writer (Some x) = wants_exclusive x.want
 
 abbrev pub is_recursive : Sort → Bool
 is_recursive Recursive = true
-is_recursive sort = false
+is_recursive Mutex = false
+is_recursive Normal = false
+is_recursive Semaphore = false
+is_recursive Once = false
+is_recursive Condvar = false
 
 -- where the picking stops: behind that first one, where it is a writer, the lock isn't recursive
 -- and no more than a shared right is kept; else behind the last
@@ -411,7 +415,10 @@ HandOffFits r right s = Unit {0}
 abbrev pub TakesFirst : Sort → Type 0
 TakesFirst Mutex = Unit {0}
 TakesFirst Semaphore = Unit {0}
-TakesFirst sort = ⊥
+TakesFirst Normal = ⊥
+TakesFirst Recursive = ⊥
+TakesFirst Once = ⊥
+TakesFirst Condvar = ⊥
 
 -- what is done to a `Once` needs a phase, and a run is ended by its runner
 abbrev pub OnceNeeds : OnceCase → LockState → ℕ → Type 0
