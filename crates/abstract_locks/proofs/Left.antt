@@ -23,6 +23,7 @@ left_keeps r all s c = record {
   unshared = c.unshared;
   unpending = c.unpending;
   unwritten = c.unwritten;
+  within = c.within;
 }
   where
     known : (all : Bool) (q : List Queued) → KnowsAll r.sort q → KnowsAll r.sort (if all then [] else drop 1 q)

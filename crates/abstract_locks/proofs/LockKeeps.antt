@@ -1,10 +1,11 @@
 -- Each case of a lock keeps what holds in every state.
-use Rattle.std.proofs.Common.{ℕ, Bool, Option, Some, None, ◌≡◌, ◌≢◌, ◌≤◌, ◌↔◌, ◌+◌, List, [], ◌∷◌, ◌++◌, refl, arith}
+use Rattle.std.proofs.Common.{ℕ, Bool, Option, Some, None, ◌≡◌, ◌≢◌, ◌≤◌, ◌↔◌, ◌+◌, ◌-◌, ◌⊎◌, inl, inr, List, [], ◌∷◌, ◌++◌, length, refl, ap, arith}
+use Rattle.std.proofs.lemmas.Bool.{cases_lt}
 use Rattle.std.proofs.lemmas.Bool.Decides.{nat_tests}
-use Rattle.std.proofs.lemmas.List.{get_or_past, take-append-drop}
-use Rattle.std.proofs.lemmas.List.Sums.{get_or-le-sum_by}
+use Rattle.std.proofs.lemmas.List.{get_or_past, set_past, take-append-drop}
+use Rattle.std.proofs.lemmas.List.Sums.{get_or-le-sum_by, sum_by-set}
 use Rattle.std.proofs.lemmas.List.Folds.{sum_by-replicate}
-use Rattle.std.specs.Prelude.{not, filter, take, drop}
+use Rattle.std.specs.Prelude.{not, filter, take, drop, sum, slice_index, slice_set}
 use Rattle.lot_base.specs.declared.wants.Want.{Want}
 use Rattle.lot_base.specs.declared.wants.Want.TheVariants.{Shared, Wait, CallOnce}
 use Rattle.abstract_locks.specs.Onces.{Phase, OnceCase, Start, Finish, Fail, Rest, TakeAll, MayRest}
@@ -79,6 +80,7 @@ rephased r s p c = record {
   unshared = c.unshared;
   unpending = c.unpending;
   unwritten = c.unwritten;
+  within = c.within;
 }
 
 -- another mutex is shown, or none
@@ -93,6 +95,7 @@ reshown r s m c = record {
   unshared = c.unshared;
   unpending = c.unpending;
   unwritten = c.unwritten;
+  within = c.within;
 }
 
 rests_known : (x : Want) (forced : Bool) (p : Phase) → MayRest x forced p → Knows Once x
@@ -109,13 +112,27 @@ once_keeps r (Rest wanted forced) s t c sort n =
     grind (arith, nat_tests, times_append, known_append, sort)
 once_keeps r TakeAll s t c sort n = grind (arith, nat_tests, times_taking, known_taking, sort)
 
+-- a shared right more is one more who shares, at most
+more_share : (xs : List ℕ) (t : ℕ) → sum (slice_set xs t (slice_index xs t + 1)) ≤ sum xs + 1
+more_share xs t = elim (cases_lt t (length xs)) [
+  | inl lt ↦ let e = sum_by-set (λ (n : ℕ). n) xs t (slice_index xs t + 1) 0 lt in omega arith
+  | inr past ↦ let e = ap sum (set_past xs t (slice_index xs t + 1) past) in omega arith
+]
+
+less_share : (xs : List ℕ) (t : ℕ) → sum (slice_set xs t (slice_index xs t - 1)) ≤ sum xs
+less_share xs t = elim (cases_lt t (length xs)) [
+  | inl lt ↦ let e = sum_by-set (λ (n : ℕ). n) xs t (slice_index xs t - 1) 0 lt in omega arith
+  | inr past ↦ let e = ap sum (set_past xs t (slice_index xs t - 1) past) in omega arith
+]
+
 -- ---------------------------------------------------------------- all cases
 
 pub case_keeps : (r : Rules) (c : LockCase) (s : LockState) (t : ℕ) → IsLockState r s → Needs r c s t → IsLockState r (after_case r c s t)
+case_keeps r (Enter Shared) s t c n = grind (arith, more_share s.shared t)
 case_keeps r (Enter x) s t c n = grind arith
 case_keeps r Pend s t c n = grind (arith, no_aside r s c)
 case_keeps r Settle s t c n = grind arith
-case_keeps r (Leave right) s t c n = grind (arith, get_or-le-sum_by, get_or_past)
+case_keeps r (Leave right) s t c n = grind (arith, get_or-le-sum_by, get_or_past, less_share s.shared t)
 case_keeps r (Convert right x) s t c n = grind (arith, nat_tests, no_aside r s c)
 case_keeps r (Park x) s t c n = grind (arith, nat_tests, times_append, known_append)
 case_keeps r Aside s t c n = grind (arith, nat_tests)

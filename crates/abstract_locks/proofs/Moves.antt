@@ -21,6 +21,7 @@ joined_keeps r owned t moved s mutex c one nowhere = record {
   unshared = c.unshared;
   unpending = c.unpending;
   unwritten = c.unwritten;
+  within = c.within;
 }
   where
     known : KnowsAll Mutex (taken_of owned moved) × KnowsAll Mutex (line_of owned moved)

@@ -35,6 +35,7 @@ module _ (r : Rules) (s : Site) (t : ℕ) (h : IsSite r s) where
       unshared = c.unshared;
       unpending = c.unpending;
       unwritten = c.unwritten;
+      within = c.within;
       once = λ u. let a = (stands u).0 in let b = n.5 u in let c = h.state.once u in grind arith;
       known_queue = rw n.0 ((known_append Mutex s.lock.queue moved).1 (rw n.0 at h.state.known_queue, known.1));
       known_taken = λ u a e. rw n.0 (known_taking Mutex t gone s.lock.taken known.0 (λ x b f. rw n.0 at (h.state.known_taken x b f)) u a e);

@@ -80,12 +80,17 @@ abbrev pub parked_in : Sort → ℕ → Bool
 parked_in Mutex v = v / 2 % 2 == 1
 parked_in Once v = is_marked v
 parked_in Condvar v = true
-parked_in sort v = has_parked v
+parked_in Normal v = has_parked v
+parked_in Recursive v = has_parked v
+parked_in Semaphore v = has_parked v
 
 abbrev pub aside_in : Sort → ℕ → Bool
 aside_in Normal v = has_aside v
 aside_in Recursive v = has_aside v
-aside_in sort v = false
+aside_in Mutex v = false
+aside_in Semaphore v = false
+aside_in Once v = false
+aside_in Condvar v = false
 
 -- whether the count is at the limit, or above it
 abbrev pub fills : Rules → ℕ → Bool

@@ -238,7 +238,11 @@ is_writer (Some x) = wants_exclusive x.want
 
 abbrev pub is_recursive : Sort → Bool
 is_recursive Recursive = true
-is_recursive sort = false
+is_recursive Mutex = false
+is_recursive Normal = false
+is_recursive Semaphore = false
+is_recursive Once = false
+is_recursive Condvar = false
 
 -- where the picking stops: behind that first one, where it is a writer, the lock isn't recursive
 -- and no more than a shared right is kept; else behind the last
@@ -411,7 +415,10 @@ HandOffFits r right s = Unit {0}
 abbrev pub TakesFirst : Sort → Type 0
 TakesFirst Mutex = Unit {0}
 TakesFirst Semaphore = Unit {0}
-TakesFirst sort = ⊥
+TakesFirst Normal = ⊥
+TakesFirst Recursive = ⊥
+TakesFirst Once = ⊥
+TakesFirst Condvar = ⊥
 
 -- what is done to a `Once` needs a phase, and a run is ended by its runner
 abbrev pub OnceNeeds : OnceCase → LockState → ℕ → Type 0
@@ -523,6 +530,8 @@ pub record IsLockState (r : Rules) (s : LockState) : Type 0 where
   pub unshared : (Knows r.sort Shared → ⊥) → readers s ≡ 0
   pub unpending : (Knows r.sort Upgradable → ⊥) → (s.pending ≡ None) × (s.upgradable ≡ None)
   pub unwritten : (Knows r.sort Exclusive → ⊥) → s.exclusive ≡ None
+  -- of a semaphore no more share than there are permits
+  pub within : r.sort ≡ Semaphore → readers s ≤ r.limit
 
 -- nobody owns, and nobody waits
 abbrev pub opening_lock : ℕ → LockState

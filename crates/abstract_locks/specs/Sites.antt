@@ -80,7 +80,8 @@ IsOpen Mutex s = s.exclusive ≡ None
 IsOpen Semaphore s = ⊥
 IsOpen Condvar s = ⊥
 IsOpen Once s = (has_caller s.queue ≡ true) × (IsRunning s.phase → ⊥)
-IsOpen sort s = NoWriter s
+IsOpen Normal s = NoWriter s
+IsOpen Recursive s = NoWriter s
 
 -- a woken thread that wants this will pass the turn on
 abbrev pub counts : Sort → Want → Bool
@@ -88,7 +89,8 @@ counts Mutex x = true
 counts Semaphore x = true
 counts Once x = false
 counts Condvar x = false
-counts sort x = not (wants_shared x)
+counts Normal x = not (wants_shared x)
+counts Recursive x = not (wants_shared x)
 
 abbrev pub counts_some : Sort → Option Want → Bool
 counts_some sort None = false
@@ -101,7 +103,10 @@ counts_taken sort t (Some h) = (h.by == t) && counts sort h.want
 abbrev pub has_readers : Sort → Bool
 has_readers Normal = true
 has_readers Recursive = true
-has_readers sort = false
+has_readers Mutex = false
+has_readers Semaphore = false
+has_readers Once = false
+has_readers Condvar = false
 
 abbrev pub is_full : Rules → LockState → Bool
 is_full r s = has_readers r.sort && nat_le r.limit (count s)
