@@ -24,6 +24,7 @@ use Rattle.lot_laws.specs.Refinement.{taken_at}
 use Rattle.lot_laws.specs.MutexDeeds.{acts}
 use Rattle.lot_laws.specs.Stations.{Station, station_at, nowhere, doing_on}
 use Rattle.lot_laws.specs.SitesOf.{stations_of, TakesOne, ActsNeeded, IsSteady, Follows, Goes, FitsItsLock, Waits, AreWaiting, rules_in, key_of, stood_in}
+use Rattle.lot_laws.proofs.PermitsKept.{all_by}
 use Rattle.lot_laws.proofs.Counts.{without_absent}
 use Rattle.lot_laws.proofs.Glue.{base_at, parts_at, seen_in, same, differ, put_places, put_here, inside_is}
 use Rattle.lot_laws.proofs.KindsKept.{operated_kinds}
@@ -93,7 +94,7 @@ module _ (w : State) (t l : ℕ) (steady : IsSteady w) (there : t < length w.pla
       → apply f (word_at w l) ≡ code r (seen_in r l (operated w t p l f) (putting (place_at w) t p2)) → is ≡ was
       → Goes w (put (state_after_operation w t p l f) t p2) l (acts t ds)
   word_goes p lt shared f ds plain steps coded e = record {
-    follows = follows_by w v l (operated w t p l f) (putting (place_at w) t p2) moves r rules (acts t ds) (limited w l steady r rules (acts t ds) (λ h. ordinary_by (length w.places) t ds there (plain h)) steps.needed) steps.site steps.needed coded;
+    follows = follows_by w v l (operated w t p l f) (putting (place_at w) t p2) moves r rules (acts t ds) (λ e. all_by (length w.places) t ds there) (limited w l steady r rules (acts t ds) (λ h. ordinary_by (length w.places) t ds there (plain h)) steps.needed) steps.site steps.needed coded;
     stands = stands_put w v steady.stands (operated_kinds w t p l f) t p2 fits (places_put v refl) (still (stations_of (place_at w)) stations_now (section_at w) (queue_at w) before t l others_still (put_now ∙ e));
   }
     where
@@ -143,7 +144,7 @@ module _ (w : State) (t l : ℕ) (steady : IsSteady w) (there : t < length w.pla
       → Steps r l (parts_at w l) (parts_at w l) (place_at w) t p2 ds → Follows w v l (acts t ds)
   place_follows v ds plain el es eq ep steps = follows_by w v l (parts_at w l) (putting (place_at w) t p2)
       (lines_move v (queue_at w (2 * l)) (queue_at w (2 * l + 1)) el es ep (ap (λ (qs : List (List Waiter)). get_or qs (2 * l) []) eq) (ap (λ (qs : List (List Waiter)). get_or qs (2 * l + 1) []) eq) (λ k ne n. ap (λ (qs : List (List Waiter)). get_or qs (key_of k n) []) eq))
-      r rules (acts t ds) (limited w l steady r rules (acts t ds) (λ h. ordinary_by (length w.places) t ds there (plain h)) steps.needed) steps.site steps.needed (word_by_lines (queue_at w (2 * l)) (queue_at w (2 * l + 1)) (putting (place_at w) t p2))
+      r rules (acts t ds) (λ e. all_by (length w.places) t ds there) (limited w l steady r rules (acts t ds) (λ h. ordinary_by (length w.places) t ds there (plain h)) steps.needed) steps.site steps.needed (word_by_lines (queue_at w (2 * l)) (queue_at w (2 * l + 1)) (putting (place_at w) t p2))
 
   -- a place that changes alone
   pub place_goes : (ds : List Deed) → (has_readers r.sort ≡ true → NoHandOff ds)
@@ -204,11 +205,11 @@ module _ (w : State) (t l : ℕ) (steady : IsSteady w) (there : t < length w.pla
         by_line : (n : Line) → m ≡ n → Follows w v l (acts t ds)
         by_line Main e = follows_by w v l (with_line (parts_at w l) Main q) (putting (place_at w) t p2)
             (lines_move v q (queue_at w (2 * l + 1)) el eh ep (subst (λ n. queue_at v (key_of l n) ≡ q) e here) (elsewhere (2 * l + 1) (subst (λ n. 2 * l + 1 ≢ key_of l n) (sym e) (λ h. omega arith))) (λ k ne n. elsewhere (key_of k n) (other_key l k m n ne)))
-            r rules (acts t ds) (limited w l steady r rules (acts t ds) (λ h. ordinary_by (length w.places) t ds there (plain h)) (subst (λ n. Steps r l (parts_at w l) (with_line (parts_at w l) n q) (place_at w) t p2 ds) e steps).needed) (subst (λ n. Steps r l (parts_at w l) (with_line (parts_at w l) n q) (place_at w) t p2 ds) e steps).site (subst (λ n. Steps r l (parts_at w l) (with_line (parts_at w l) n q) (place_at w) t p2 ds) e steps).needed
+            r rules (acts t ds) (λ e. all_by (length w.places) t ds there) (limited w l steady r rules (acts t ds) (λ h. ordinary_by (length w.places) t ds there (plain h)) (subst (λ n. Steps r l (parts_at w l) (with_line (parts_at w l) n q) (place_at w) t p2 ds) e steps).needed) (subst (λ n. Steps r l (parts_at w l) (with_line (parts_at w l) n q) (place_at w) t p2 ds) e steps).site (subst (λ n. Steps r l (parts_at w l) (with_line (parts_at w l) n q) (place_at w) t p2 ds) e steps).needed
             (word_by_lines q (queue_at w (2 * l + 1)) (putting (place_at w) t p2))
         by_line Second e = follows_by w v l (with_line (parts_at w l) Second q) (putting (place_at w) t p2)
             (lines_move v (queue_at w (2 * l)) q el eh ep (elsewhere (2 * l) (subst (λ n. 2 * l ≢ key_of l n) (sym e) (λ h. omega arith))) (subst (λ n. queue_at v (key_of l n) ≡ q) e here) (λ k ne n. elsewhere (key_of k n) (other_key l k m n ne)))
-            r rules (acts t ds) (limited w l steady r rules (acts t ds) (λ h. ordinary_by (length w.places) t ds there (plain h)) (subst (λ n. Steps r l (parts_at w l) (with_line (parts_at w l) n q) (place_at w) t p2 ds) e steps).needed) (subst (λ n. Steps r l (parts_at w l) (with_line (parts_at w l) n q) (place_at w) t p2 ds) e steps).site (subst (λ n. Steps r l (parts_at w l) (with_line (parts_at w l) n q) (place_at w) t p2 ds) e steps).needed
+            r rules (acts t ds) (λ e. all_by (length w.places) t ds there) (limited w l steady r rules (acts t ds) (λ h. ordinary_by (length w.places) t ds there (plain h)) (subst (λ n. Steps r l (parts_at w l) (with_line (parts_at w l) n q) (place_at w) t p2 ds) e steps).needed) (subst (λ n. Steps r l (parts_at w l) (with_line (parts_at w l) n q) (place_at w) t p2 ds) e steps).site (subst (λ n. Steps r l (parts_at w l) (with_line (parts_at w l) n q) (place_at w) t p2 ds) e steps).needed
             (word_by_lines (queue_at w (2 * l)) q (putting (place_at w) t p2))
 
     line_goes : (ds : List Deed) → (has_readers r.sort ≡ true → NoHandOff ds)
@@ -333,7 +334,7 @@ module _ (w : State) (t l : ℕ) (steady : IsSteady w) (there : t < length w.pla
   nobody_goes m ds plain line empty steps e = record {
     follows = follows_by w v l (parts_at w l) (putting (place_at w) t p2)
         (lines_move v (queue_at w (2 * l)) (queue_at w (2 * l + 1)) refl refl refl (same_queue (2 * l)) (same_queue (2 * l + 1)) (λ k ne n. same_queue (key_of k n)))
-        r rules (acts t ds) (limited w l steady r rules (acts t ds) (λ h. ordinary_by (length w.places) t ds there (plain h)) steps.needed) steps.site steps.needed (word_by_lines (queue_at w (2 * l)) (queue_at w (2 * l + 1)) (putting (place_at w) t p2));
+        r rules (acts t ds) (λ e. all_by (length w.places) t ds there) (limited w l steady r rules (acts t ds) (λ h. ordinary_by (length w.places) t ds there (plain h)) steps.needed) steps.site steps.needed (word_by_lines (queue_at w (2 * l)) (queue_at w (2 * l + 1)) (putting (place_at w) t p2));
     stands = stands_put w v steady.stands (λ k. refl) t p2 fits (places_put v refl) (subst (λ (f : ℕ → List Waiter). AreThere (TakesOne w) stations_now (section_at w) f) (λ i key. sym (same_queue key) i)
         (still (stations_of (place_at w)) stations_now (section_at w) (queue_at w) before t l others_still (put_now ∙ e)));
   }

@@ -1,5 +1,5 @@
 -- What a step makes of each lock: behind deeds that are allowed, every lock is a site again, and its word says so.
-use Rattle.std.proofs.Common.{ℕ, Bool, true, false, Option, Some, None, if◌then◌else◌, ◌==◌, ◌||◌, ◌≡◌, ◌≢◌, ◌+◌, ◌*◌, ◌≤◌, ◌<◌, List, [], ◌∷◌, ◌++◌, length, replicate, get_or, set, map, inl, inr, refl, sym, ◌∙◌, ap, subst, length-set, get_or-set_same, get_or-set_other}
+use Rattle.std.proofs.Common.{ℕ, Bool, true, false, Option, Some, None, if◌then◌else◌, ◌==◌, ◌||◌, ◌≡◌, ◌≢◌, ◌+◌, ◌*◌, ◌^◌, ◌≤◌, ◌<◌, List, [], ◌∷◌, ◌++◌, length, replicate, get_or, set, map, inl, inr, refl, sym, ◌∙◌, ap, subst, length-set, get_or-set_same, get_or-set_other}
 use Rattle.std.proofs.lemmas.Bool.{cases_eq, eqb-true}
 use Rattle.lot_base.specs.declared.ops.Op.{Op}
 use Rattle.lot_base.specs.declared.wants.Waiter.{Waiter}
@@ -14,14 +14,16 @@ use Rattle.abstract_locks.specs.Locks as locks
 use Rattle.abstract_locks.specs.Picks.{queued_of}
 use Rattle.abstract_locks.specs.Sites.{Site, IsSite, Deed, Line, Main, Second, Case, has_readers, after_deed}
 use Rattle.abstract_locks.specs.Codes.{code, fills, HasLimit, IsHandOff}
+use Rattle.abstract_locks.specs.Permits.{HasPermits}
 use Rattle.abstract_locks.specs.Purposes.{rules_of}
 use Rattle.lot_machine.specs.Machine.{State, place_at, word_at, owners_at, shares_at, share_at, shares_with, filled_at, kind_at, queue_at}
 use Rattle.lot_laws.specs.Refinement.{lock_state, taken_at}
 use Rattle.lot_laws.specs.MutexDeeds.{acts}
 use Rattle.lot_laws.specs.MutexDeeds as deeds
 use Rattle.lot_laws.specs.Stations.{doing_on}
-use Rattle.lot_laws.specs.SitesOf.{ActsNeeded, HasRoom, SameNumbers, IsSteady, Follows, Goes, after_acts, site_of, rules_in, stood_in, Stands, FollowAll, GoesAll}
+use Rattle.lot_laws.specs.SitesOf.{ActsNeeded, AllBy, HasRoom, SameNumbers, IsSteady, Follows, Goes, after_acts, site_of, rules_in, stood_in, Stands, FollowAll, GoesAll}
 use Rattle.lot_laws.proofs.Glue.{Parts, parts_at, lock_in, seen_in, same, put_here, put_other}
+use Rattle.lot_laws.proofs.PermitsKept.{permits_by}
 use Rattle.lot_laws.proofs.OneStep.{AreOrdinary, Steps, steps_by, noted, acts_keep, acts_limited, same_filled, queued_behind}
 use Rattle.lot_laws.proofs.StandsKept.{AlikeBeside}
 
@@ -70,10 +72,10 @@ module _ (w v : State) (l : ℕ) (b : Parts) (q : ℕ → Place) (moves : Moves 
       ∙ (λ i. record (site_of w k) { lock = record (site_of w k).lock { taken = λ u. (moves.alike k ne u).0 i }; doing = λ u. (moves.alike k ne u).1 i })
 
   -- what one lock has been through
-  pub follows_by : (ds : List deeds.Act) → (has_readers r.sort ≡ true → HasLimit r (after_acts r ds (lock_by w l r)).lock)
+  pub follows_by : (ds : List deeds.Act) → (r.sort ≡ locks.Semaphore → AllBy (length w.places) ds) → (has_readers r.sort ≡ true → HasLimit r (after_acts r ds (lock_by w l r)).lock)
       → seen_in r l b q ≡ after_acts r ds (lock_by w l r) → ActsNeeded r ds (lock_by w l r) → b.word ≡ code r (seen_in r l b q)
       → Follows w v l ds
-  follows_by ds limit led needed coded = record {
+  follows_by ds by limit led needed coded = record {
     site = site_here ∙ led ∙ sym (λ i. after_acts (rules i) ds (lock_by w l (rules i)));
     needed = subst (λ x. ActsNeeded x ds (lock_by w l x)) (sym rules) needed;
     word = ap (λ (a : Parts). a.word) moves.here ∙ coded ∙ sym (λ i. code (rules i) (site_here i));
@@ -84,6 +86,7 @@ module _ (w v : State) (l : ℕ) (b : Parts) (q : ℕ → Place) (moves : Moves 
       | inl e ↦ rw e (ap (λ (a : Parts). length a.base.shared) moves.here ∙ moves.sharers)
       | inr ne ↦ ap (λ (a : Parts). length a.base.shared) (moves.others k ne)
     ];
+    by = λ sort. by (ap (λ x. x.sort) (sym rules) ∙ sort);
     limit = λ readers. subst (λ x. HasLimit x (lock_state v l)) (sym rules) (subst (λ (s : Site). HasLimit r s.lock) (sym (site_here ∙ led)) (limit (ap (λ x. has_readers x.sort) (sym rules) ∙ readers)));
   }
 
@@ -109,6 +112,9 @@ goes_all_steady w v ds steady f stands = record {
         ap (λ (s : Site). s.filled) (f.site k) ∙ same_filled (rules_in w k) (ds k) (site_of w k) of_w ∙ steady.sites.unfilled k of_w;
     limits = λ k h. subst (λ x. HasRoom (length v.places) (rules_of x) × HasLimit (rules_of x) (lock_state v k)) (sym (f.kinds k))
         (let of_w = was_sort k true h in (room_then k of_w, f.limit k of_w));
+    permits = λ k sort. subst (λ x. HasPermits (rules_of x) (site_of v k) × ((rules_of x).limit ≤ 2 ^ 62)) (sym (f.kinds k))
+        (let of_w : (rules_in w k).sort ≡ locks.Semaphore = sym (ap (λ x. (rules_of x).sort) (f.kinds k)) ∙ sort in let held = steady.sites.permits k of_w in
+        (subst (HasPermits (rules_in w k)) (sym (f.site k)) (permits_by (rules_in w k) (length w.places) (ds k) (site_of w k) of_w (steady.sites.site k) held.0 (steady.numbers.threads k) (f.by k of_w) (f.needed k)), held.1));
   };
   stands = stands;
   numbers = record {
@@ -136,20 +142,23 @@ follows_all w v l ds steady f = record {
   numbers = f.numbers;
   sharers = f.sharers;
   limit = λ k. (either k (k == l) refl).3;
+  by = λ k. (either k (k == l) refl).4;
 }
   where
     AtLock : ℕ → List deeds.Act → Type 0
     AtLock k here =
         (site_of v k ≡ after_acts (rules_in w k) here (site_of w k)) × ActsNeeded (rules_in w k) here (site_of w k)
         × (word_at v k ≡ code (rules_in w k) (site_of v k)) × (has_readers (rules_in w k).sort ≡ true → HasLimit (rules_in w k) (lock_state v k))
+        × ((rules_in w k).sort ≡ locks.Semaphore → AllBy (length w.places) here)
 
     either : (k : ℕ) (b : Bool) → (k == l) ≡ b → AtLock k (if b then ds else [])
-    either k true e = subst (λ j. AtLock j ds) (sym (eqb-true k l e)) (f.site, f.needed, f.word, f.limit)
+    either k true e = subst (λ j. AtLock j ds) (sym (eqb-true k l e)) (f.site, f.needed, f.word, f.limit, f.by)
     either k false e = let there = f.others k (λ g. let h : true ≡ false = sym (ap (λ j. j == l) g ∙ same l) ∙ e in cc) in (
       there.0,
       tt,
       there.1 ∙ steady.sites.word k ∙ (λ i. code (rules_in w k) (sym there.0 i)),
       λ h. subst (λ (s : Site). HasLimit (rules_in w k) s.lock) (sym there.0) (steady.sites.limits k h).1,
+      λ h. tt,
     )
 
 -- as a step of all of them

@@ -605,7 +605,7 @@ module _ (w : State) (t l : ℕ) (steady : IsSteady w) (own : IsOf l (place_at w
 
         pub hand_over_goes : Goes w v l (acts t own_deeds ++ claims)
         hand_over_goes = record {
-          follows = follows_by w v l parts_then places_behind moves r rules (acts t own_deeds ++ claims) (λ h. within) led all_needed coded;
+          follows = follows_by w v l parts_then places_behind moves r rules (acts t own_deeds ++ claims) (λ e. absurd (let f : true ≡ false = sym sharers ∙ ap has_readers e in cc)) (λ h. within) led all_needed coded;
           stands = stands_by w v places_behind places moves.kinds
               (record {
                 sections = sections_same (stations_of (place_at w)) (stations_of places_behind) (section_at w) steady.stands.sections (part_kept (λ y. y.inside) (λ y h. refl) inside);

@@ -1,5 +1,5 @@
 -- A notification moves waiters of a condition variable to its mutex: both are sites again, and every other lock is as it was.
-use Rattle.std.proofs.Common.{◌||◌, ℕ, Bool, true, false, Option, Some, None, if◌then◌else◌, ◌==◌, ◌≡◌, ◌≢◌, ◌+◌, ◌≤◌, ◌⊎◌, List, [], ◌∷◌, ◌++◌, length, map, replicate, get_or, drop, inl, inr, refl, sym, ◌∙◌, ap, subst, arith}
+use Rattle.std.proofs.Common.{◌||◌, ℕ, Bool, true, false, Option, Some, None, if◌then◌else◌, ◌==◌, ◌≡◌, ◌≢◌, ◌+◌, ◌<◌, ◌≤◌, ◌⊎◌, List, [], ◌∷◌, ◌++◌, length, map, replicate, get_or, drop, inl, inr, refl, sym, ◌∙◌, ap, subst, arith}
 use Rattle.lot_base.specs.declared.wants.Waiter.{Waiter}
 use Rattle.lot_base.specs.declared.wants.Want.TheVariants.{Exclusive}
 use Rattle.lot_base.specs.Lines.{times}
@@ -20,6 +20,7 @@ use Rattle.lot_laws.proofs.OneStep.{same_word}
 use Rattle.lot_laws.proofs.StandsKept.{Alike, calls_in, other_key, other_line}
 use Rattle.lot_laws.proofs.StandsMoved.{AreThere, stands_by}
 use Rattle.lot_laws.proofs.Following.{AlikeAt, lock_by}
+use Rattle.lot_laws.proofs.PermitsKept.{all_by}
 use Rattle.lot_laws.proofs.TwoLocks.{BehindIt, follow_two, two_at}
 use Rattle.lot_laws.proofs.TakesAt.{AllAre, member, taking_is}
 use Rattle.lot_laws.proofs.Moving.{WaitsAcross, alike_across, by_thread, in_line, fits_across, places_across, there_across}
@@ -143,7 +144,7 @@ module _ (w v : State) (t c m : ℕ) (apart : m ≢ c) (steady : IsSteady w) (p2
       word_same : (k : ℕ) (q : List Waiter) → (parts_at w k).word ≡ code (rules_in w k) (seen_in (rules_in w k) k (record (parts_at w k) { main = q }) behind)
       word_same k q = steady.sites.word k ∙ same_word (rules_in w k).sort (rules_in w k).limit _ _ _ _ refl refl refl refl refl refl
 
-      module _ (unshared_c : has_readers (rules_in w c).sort ≡ false) (unshared_m : has_readers (rules_in w m).sort ≡ false)
+      module _ (present : t < length w.places) (unshared_c : has_readers (rules_in w c).sort ≡ false) (unshared_m : has_readers (rules_in w m).sort ≡ false)
           (needed_c : ActsNeeded (rules_in w c) (acts t sends) site_c)
           (needed_m : ActsNeeded (rules_in w m) (acts t brings) site_m) where
         behind_c : BehindIt w v behind c (acts t sends)
@@ -155,6 +156,7 @@ module _ (w v : State) (t c m : ℕ) (apart : m ≢ c) (steady : IsSteady w) (p2
           coded = word_same c left;
           sharers = refl;
           unshared = unshared_c;
+          by = λ e. all_by (length w.places) t sends present;
         }
 
         behind_m : BehindIt w v behind m (acts t brings)
@@ -166,6 +168,7 @@ module _ (w v : State) (t c m : ℕ) (apart : m ≢ c) (steady : IsSteady w) (p2
           coded = word_same m (queue_at w (key_of m Main) ++ moved_under (key_of m Main) moved);
           sharers = refl;
           unshared = unshared_m;
+          by = λ e. all_by (length w.places) t brings present;
         }
 
         same_else : (k : ℕ) → k ≢ c → k ≢ m → (parts_at v k ≡ parts_at w k) × ((u : ℕ) → AlikeAt k (place_at w u) (behind u))

@@ -262,7 +262,7 @@ module _ (w : State) (t l m : ℕ) (all locked : Bool) (steady : IsSteady w) (is
         moves_so : GoesAll w v
             (two_at l m (acts t (Send all ∷ [])) (acts t (Bring (taken_of locked (moved_of all (map queued_of line))) (line_of locked (moved_of all (map queued_of line))) ∷ [])))
         moves_so = moves_kept w v t l m apart steady p2 gone moved left counts lefts across one_gone out bare now_l (in_hand (not locked) false) now_m alike_t fits
-            el eh es threads places here there_now others same_l same_m all locked left_is gone_is moved_is does_m (ap has_readers sort_l) (ap has_readers sort_m) needed_l needed_m carries_some carries_all
+            el eh es threads places here there_now others same_l same_m all locked left_is gone_is moved_is does_m is_there (ap has_readers sort_l) (ap has_readers sort_m) needed_l needed_m carries_some carries_all
 
     -- ---------------------------------------------------------------- by a requeue
 

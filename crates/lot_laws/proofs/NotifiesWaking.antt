@@ -156,6 +156,7 @@ module _ (w : State) (t l m : ℕ) (all : Bool) (steady : IsSteady w) (is_there 
     coded = same_word_of l;
     sharers = refl;
     unshared = ap has_readers sort_l;
+    by = λ e. absurd (let both : locks.Condvar ≡ locks.Semaphore = sym sort_l ∙ e in cc);
   }
 
   behind_m : BehindIt w v behind m (acts t (Out ∷ End ∷ []))
@@ -168,6 +169,7 @@ module _ (w : State) (t l m : ℕ) (all : Bool) (steady : IsSteady w) (is_there 
     coded = same_word_of m;
     sharers = refl;
     unshared = ap has_readers sort_m;
+    by = λ e. absurd (let both : locks.Mutex ≡ locks.Semaphore = sym sort_m ∙ e in cc);
   }
 
   -- ---------------------------------------------------------------- how the threads stand then

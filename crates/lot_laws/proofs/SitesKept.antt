@@ -104,7 +104,7 @@ module _ (w v : State) (l : ℕ) (rules : rules_in w l ≡ mutex) (q : ℕ → P
     alike = elsewhere;
     numbers = numbers;
     sharers = refl;
-  }) mutex rules ds (λ h. absurd cc) led needed coded
+  }) mutex rules ds (λ e. absurd cc) (λ h. absurd cc) led needed coded
 
 -- nobody shares a mutex
 pub mutex_unshared : (w : State) (l : ℕ) → IsSteady w → rules_in w l ≡ mutex → sum (shares_at w l) ≡ 0

@@ -22,6 +22,7 @@ use Rattle.lot_laws.specs.Refinement.{taken_at}
 use Rattle.lot_laws.specs.MutexDeeds.{acts}
 use Rattle.lot_laws.specs.Stations.{Station, hand, station_at, doing_on}
 use Rattle.lot_laws.specs.SitesOf.{ActsNeeded, TakesOne, Hands, IsSteady, Goes, FitsItsLock, Lines, Waits, AreWaiting, Sections, after_acts, rules_in, key_of, stood_in, carried_at, hand_at, stations_of}
+use Rattle.lot_laws.proofs.PermitsKept.{all_by}
 use Rattle.lot_laws.proofs.Glue.{parts_at, base_at, lock_in, seen_in, same, differ, put_here, put_other, set_puts, past_all}
 use Rattle.lot_laws.proofs.OneStep.{AreSingle, others_same}
 use Rattle.lot_laws.proofs.ActsAt.{word_by_lines}
@@ -381,7 +382,7 @@ module _ (w : State) (t l : ℕ) (steady : IsSteady w) (there : t < length w.pla
           → lock_taken.filled ≡ (after_acts r (acts t (d ∷ [])) (lock_by w l r)).filled
           → doing_on p2 l ≡ (after_acts r (acts t (d ∷ [])) (lock_by w l r)).doing t → Goes w v l (acts t (d ∷ []))
       take_goes some full d single_deed plain needed lock parked aside filled own_is = record {
-        follows = follows_by w v l (with_line (parts_at w l) m left) places_now moves r rules (acts t (d ∷ [])) (limited w l steady r rules (acts t (d ∷ [])) (λ h. ordinary_by (length w.places) t (d ∷ []) there plain) needed) (take_site d single_deed lock parked aside filled own_is) needed (word_now m refl);
+        follows = follows_by w v l (with_line (parts_at w l) m left) places_now moves r rules (acts t (d ∷ [])) (λ e. all_by (length w.places) t (d ∷ []) there) (limited w l steady r rules (acts t (d ∷ [])) (λ h. ordinary_by (length w.places) t (d ∷ []) there plain) needed) (take_site d single_deed lock parked aside filled own_is) needed (word_now m refl);
         stands = stands_by w v places_now places moves.kinds
             (record {
               sections = subst (λ (f : ℕ → Option ℕ). Sections (stations_of places_now) f) (sym (λ i key. get_or (es i) key None)) (sections_same (stations_of (place_at w)) (stations_of places_now) (section_at w) steady.stands.sections inside_now);

@@ -6,6 +6,7 @@ use Rattle.lot_calls.specs.declared.kinds.Kind as kind
 use Rattle.lot_steps.specs.declared.places.Place.{Place}
 use Rattle.lot_steps.specs.declared.places.Place.TheVariants.{Idle}
 use Rattle.abstract_locks.specs.Locks.{putting}
+use Rattle.abstract_locks.specs.Locks as locks
 use Rattle.abstract_locks.specs.Purposes.{rules_of}
 use Rattle.abstract_locks.specs.Sites.{Deed, Main, Site, has_readers}
 use Rattle.abstract_locks.specs.Codes.{code, HasLimit}
@@ -14,7 +15,8 @@ use Rattle.lot_laws.specs.Refinement.{lock_state}
 use Rattle.lot_laws.specs.MutexDeeds.{acts}
 use Rattle.lot_laws.specs.MutexDeeds as deeds
 use Rattle.lot_laws.specs.Stations.{Station}
-use Rattle.lot_laws.specs.SitesOf.{ActsNeeded, FollowAll, IsSteady, SameNumbers, after_acts, key_of, rules_in, site_of}
+use Rattle.lot_laws.specs.SitesOf.{ActsNeeded, AllBy, FollowAll, IsSteady, SameNumbers, after_acts, key_of, rules_in, site_of}
+use Rattle.lot_laws.proofs.PermitsKept.{all_by}
 use Rattle.lot_laws.proofs.Glue.{Parts, parts_at, put_here, put_other, put_places, same, differ, seen_in}
 use Rattle.lot_laws.proofs.OneStep.{Steps, same_word}
 use Rattle.lot_laws.proofs.StandsKept.{Alike, other_key}
@@ -34,6 +36,7 @@ pub record BehindIt (w v : State) (q : ℕ → Place) (l : ℕ) (ds : List deeds
   pub coded : parts.word ≡ code (rules_in w l) (seen_in (rules_in w l) l parts q)
   pub sharers : length parts.base.shared ≡ length (shares_at w l)
   pub unshared : has_readers (rules_in w l).sort ≡ false
+  pub by : (rules_in w l).sort ≡ locks.Semaphore → AllBy (length w.places) ds
 
 module _ (w v : State) (steady : IsSteady w) (q : ℕ → Place) (places : place_at v ≡ q)
     (kinds : (k : ℕ) → kind_at v k ≡ kind_at w k) (numbers : SameNumbers w v) (c m : ℕ)
@@ -75,6 +78,7 @@ module _ (w v : State) (steady : IsSteady w) (q : ℕ → Place) (places : place
           (λ k nc nm. ap (λ (a : Parts). length a.base.shared) (others k nc nm).0);
       limit = by_lock (λ k ds. has_readers (rules_in w k).sort ≡ true → HasLimit (rules_in w k) (lock_state v k)) (λ h. let z : true ≡ false = sym h ∙ behind_c.unshared in cc) (λ h. let z : true ≡ false = sym h ∙ behind_m.unshared in cc)
           (λ k nc nm h. subst (λ (s : Site). HasLimit (rules_in w k) s.lock) (sym (site_else k nc nm)) (steady.sites.limits k h).1);
+      by = by_lock (λ k ds. (rules_in w k).sort ≡ locks.Semaphore → AllBy (length w.places) ds) behind_c.by behind_m.by (λ k nc nm h. tt);
     }
 
 -- ---------------------------------------------------------------- sections alone change, and the place of one thread
@@ -110,6 +114,7 @@ module _ (w v : State) (steady : IsSteady w) (t : ℕ) (there : t < length w.pla
     coded = steady.sites.word l ∙ same_word (rules_in w l).sort (rules_in w l).limit _ _ _ _ refl refl refl refl refl refl;
     sharers = refl;
     unshared = unshared;
+    by = λ e. all_by (length w.places) t ds there;
   }
 
   others : (k : ℕ) → k ≢ c → k ≢ m

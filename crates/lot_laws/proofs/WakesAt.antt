@@ -15,6 +15,7 @@ use Rattle.lot_laws.specs.Refinement.{taken_at}
 use Rattle.lot_laws.specs.MutexDeeds.{acts}
 use Rattle.lot_laws.specs.Stations.{Station, hand, station_at, doing_on}
 use Rattle.lot_laws.specs.SitesOf.{ActsNeeded, TakesOne, Hands, Sections, IsSteady, Goes, FitsItsLock, after_acts, rules_in, key_of, carried_at, hand_at, stations_of}
+use Rattle.lot_laws.proofs.PermitsKept.{all_by}
 use Rattle.lot_laws.proofs.Glue.{Parts, parts_at, lock_in, seen_in, put_here, put_other, LetGo, stays, untaken}
 use Rattle.lot_laws.proofs.ActsAt.{word_by_lines}
 use Rattle.lot_laws.proofs.Following.{limited, follows_by, lock_by}
@@ -154,7 +155,7 @@ module _ (w : State) (t l : ℕ) (steady : IsSteady w) (there : t < length w.pla
           alike = λ k ne. alike w t l steady p2 beside fits holds (Woken x) None all_told k ne ((alike_there k ne).taken, (alike_there k ne).doing);
           numbers = record { threads = threads; locks = refl; shares = refl };
           sharers = refl;
-        }) r rules (acts t ds) (limited w l steady r rules (acts t ds) (λ h. leaving_ordinary (length w.places) t ds leaving) needed)
+        }) r rules (acts t ds) (λ e. all_by (length w.places) t ds there) (limited w l steady r rules (acts t ds) (λ h. leaving_ordinary (length w.places) t ds leaving) needed)
             (leaving_by r l (parts_at w l) (place_at w) behind t (ap (λ y. taken_at y l) (put_here told_now t p2) ∙ own_taken) lets ds leaving (ap (λ y. doing_on y l) (put_here told_now t p2) ∙ e))
             needed (word_by_lines w t l steady there r rules p2 alike_there fits (queue_at w (2 * l)) (queue_at w (2 * l + 1)) behind);
         stands = stands_by w v behind places (λ k. refl)

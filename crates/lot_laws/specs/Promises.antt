@@ -146,14 +146,15 @@ holder None = None
 holder (Some h) = Some h.by
 
 -- an exchange by which a thread sets a parked bit before it sleeps: of a mutex that is owned; of a
--- lock that is shared, for either line, while no writer waits aside; of a `Once` that is running
+-- lock that is shared, for either line, while no writer waits aside; of a semaphore none of whose
+-- permits is free; of a `Once` that is running
 abbrev pub SetsBit : Sort → (seen now : ℕ) → Type 0
 SetsBit locks.Mutex seen now = (seen ≡ 1) × (now ≡ 3)
 SetsBit locks.Normal seen now =
     (has_aside seen ≡ false) × ((now ≡ plus seen 1) ⊎ (now ≡ plus seen 2))
 SetsBit locks.Recursive seen now =
     (has_aside seen ≡ false) × ((now ≡ plus seen 1) ⊎ (now ≡ plus seen 2))
-SetsBit locks.Semaphore seen now = ⊥
+SetsBit locks.Semaphore seen now = (seen ≡ 0) × (now ≡ 1)
 SetsBit locks.Once seen now = (is_running seen ≡ true) × (now ≡ marked seen)
 SetsBit locks.Condvar seen now = ⊥
 

@@ -4,11 +4,12 @@ use Rattle.lot_base.specs.declared.wants.Waiter.{Waiter}
 pub use Rattle.lot_base.specs.Keys.{key_of}
 use Rattle.lot_base.specs.Lines.{times}
 use Rattle.lot_steps.specs.declared.places.Place.{Place}
-use Rattle.lot_steps.specs.declared.places.Place.TheVariants.{Idle, Mutex as OfMutex, RwLock as OfRwLock, Once as OfOnce, Condvar as OfCondvar}
+use Rattle.lot_steps.specs.declared.places.Place.TheVariants.{Idle, Mutex as OfMutex, RwLock as OfRwLock, Once as OfOnce, Condvar as OfCondvar, Semaphore as OfSemaphore}
 use Rattle.lot_base.specs.declared.wants.Want.{Want}
-use Rattle.abstract_locks.specs.Locks.{Rules, Mutex as OneOwner, Once as OnceSort, Condvar as CondvarSort}
+use Rattle.abstract_locks.specs.Locks.{Rules, Mutex as OneOwner, Once as OnceSort, Condvar as CondvarSort, Semaphore as SemaphoreSort}
 use Rattle.abstract_locks.specs.Sites.{Line, Main, Second, Site, IsSite, has_readers, after_deed, Needed}
 use Rattle.abstract_locks.specs.Codes.{code, parked_in, aside_in, HasLimit}
+use Rattle.abstract_locks.specs.Permits.{HasPermits}
 use Rattle.abstract_locks.specs.Purposes.{rules_of}
 use Rattle.lot_machine.specs.Machine.{State, held, place_at, word_at, shares_at, sharers, successor_from, want_of_successor, wants_more_in_hand, filled_at, kind_at, queue_at, section_at}
 use Rattle.lot_machine.specs.Fits.{IsShaped}
@@ -27,6 +28,8 @@ use Rattle.lot_rwlock_fair.specs.FairCalls.{CallStands, in_hand_of}
 use Rattle.lot_condvar.specs.declared.places.CondvarPlace.{CondvarPlace}
 use Rattle.lot_condvar.specs.CondvarSteps.{mutex_beside}
 use Rattle.lot_condvar.specs.CondvarCalls.{IsReached}
+use Rattle.lot_semaphore.specs.declared.places.SemaphorePlace.{SemaphorePlace}
+use Rattle.lot_semaphore.specs.SemaphoreProfiles.{semaphore_profile}
 use Rattle.lot_laws.specs.MutexDeeds.{Act}
 use Rattle.lot_laws.specs.Stations.{Hand, Station, hand, station_at, doing_on}
 
@@ -51,6 +54,11 @@ abbrev pub ActsNeeded : Rules → List Act → Site → Type 0
 ActsNeeded r [] s = Unit {0}
 ActsNeeded r (a ∷ more) s = Needed r a.deed s a.by × ActsNeeded r more (after_deed r a.deed s a.by)
 
+-- each of them is of a thread of the world
+abbrev pub AllBy : ℕ → List Act → Type 0
+AllBy threads [] = Unit {0}
+AllBy threads (a ∷ more) = (a.by < threads) × AllBy threads more
+
 -- a number of readers that a word can count, and that all threads may be
 abbrev pub HasRoom : ℕ → Rules → Type 0
 HasRoom threads r = (1 ≤ r.limit) × (r.limit < 2 ^ 60 - 1) × (threads ≤ r.limit)
@@ -64,6 +72,10 @@ pub record AreSites (w : State) : Type 0 where
   -- as many readers as the limit lets in, or one more
   pub limits : (l : ℕ) → has_readers (rules_in w l).sort ≡ true
       → HasRoom (length w.places) (rules_in w l) × HasLimit (rules_in w l) (lock_state w l)
+  -- while somebody waits for a permit, those who hold one and those who look after the line are no
+  -- fewer than the permits, which a word can count
+  pub permits : (l : ℕ) → (rules_in w l).sort ≡ SemaphoreSort
+      → HasPermits (rules_in w l) (site_of w l) × ((rules_in w l).limit ≤ 2 ^ 62)
 
 -- ---------------------------------------------------------------- what the machine keeps beside its locks' being sites
 
@@ -122,13 +134,21 @@ TakesOne w l = (rules_in w l).sort ≡ OneOwner
 abbrev pub is_mutex : Kind → Bool
 is_mutex kind.TheVariants.Mutex = true
 is_mutex kind.TheVariants.Fair = true
-is_mutex k = false
+is_mutex (kind.TheVariants.RwLock limit) = false
+is_mutex (kind.TheVariants.Recursive limit) = false
+is_mutex kind.TheVariants.Condvar = false
+is_mutex kind.TheVariants.Once = false
+is_mutex (kind.TheVariants.Semaphore permits) = false
 
 -- a call of a condition variable has come to its place, and the mutex that it names is a plain one
 pub record FitsCondvar (w : State) (l : ℕ) (at : CondvarPlace) : Type 0 where
   pub sort : (rules_in w l).sort ≡ CondvarSort
   pub reached : IsReached at
   pub mutex : (m : ℕ) → mutex_beside at ≡ Some m → is_plain_mutex (kind_at w m) ≡ true
+
+-- only a timed call for a permit gives up
+abbrev pub GivesUpTimed : SemaphorePlace → Type 0
+GivesUpTimed at = (semaphore_profile at).late ≡ true → (semaphore_profile at).timed ≡ true
 
 -- a call is of a lock of its sort, and stands where it may
 abbrev pub FitsItsLock : State → Place → Type 0
@@ -137,6 +157,7 @@ FitsItsLock w (OfMutex l at) = is_mutex (kind_at w l) ≡ true
 FitsItsLock w (OfRwLock l a c) = Admits (rules_in w l) a × CallStands a c
 FitsItsLock w (OfOnce l at) = (rules_in w l).sort ≡ OnceSort
 FitsItsLock w (OfCondvar l at) = FitsCondvar w l at
+FitsItsLock w (OfSemaphore l at) = ((rules_in w l).sort ≡ SemaphoreSort) × GivesUpTimed at
 
 pub record Stands (w : State) : Type 0 where
   pub sections : Sections (stations_of (place_at w)) (section_at w)
@@ -227,6 +248,7 @@ pub record FollowAll (w v : State) (ds : ℕ → List Act) : Type 0 where
   pub sharers : (k : ℕ) → length (shares_at v k) ≡ length (shares_at w k)
   pub limit : (k : ℕ) → has_readers (rules_in w k).sort ≡ true
       → HasLimit (rules_in w k) (lock_state v k)
+  pub by : (k : ℕ) → (rules_in w k).sort ≡ SemaphoreSort → AllBy (length w.places) (ds k)
 
 -- one lock has been through deeds that are allowed, its word says so, and the others are as they
 -- were
@@ -239,6 +261,7 @@ pub record Follows (w v : State) (l : ℕ) (ds : List Act) : Type 0 where
   pub numbers : SameNumbers w v
   pub sharers : (k : ℕ) → length (shares_at v k) ≡ length (shares_at w k)
   pub limit : has_readers (rules_in w l).sort ≡ true → HasLimit (rules_in w l) (lock_state v l)
+  pub by : (rules_in w l).sort ≡ SemaphoreSort → AllBy (length w.places) ds
 
 -- and each thread stands where its place says
 pub record Goes (w v : State) (l : ℕ) (ds : List Act) : Type 0 where

@@ -1,5 +1,5 @@
 -- A thread works on the word of the lock that it calls, and only a call of a `Once` runs a closure, while its run is on.
-use Rattle.std.proofs.Common.{ℕ, Bool, true, false, if◌then◌else◌, ◌==◌, not, ◌≡◌, ◌+◌, ◌*◌, refl, sym, ap, ◌∙◌}
+use Rattle.std.proofs.Common.{ℕ, Bool, true, false, if◌then◌else◌, ◌==◌, not, ◌≡◌, ◌+◌, ◌-◌, ◌*◌, refl, sym, ap, ◌∙◌}
 use Rattle.lot_base.specs.declared.keys.Keys.TheVariants.{One}
 use Rattle.lot_base.specs.declared.ops.Op as op
 use Rattle.lot_acts.specs.declared.acts.Act.{Act}
@@ -13,7 +13,7 @@ use Rattle.lot_condvar.specs.declared.notify.NotifyAt.TheVariants as notify
 use Rattle.lot_condvar.specs.declared.wait.WaitAt.TheVariants as wait
 use Rattle.lot_condvar.specs.declared.places.CondvarPlace.TheVariants.{Wait, Look as Looks, Notify}
 use Rattle.lot_steps.specs.declared.places.Place.{Place}
-use Rattle.lot_steps.specs.declared.places.Place.TheVariants.{Idle, Mutex, RwLock, Once, Condvar}
+use Rattle.lot_steps.specs.declared.places.Place.TheVariants.{Idle, Mutex, RwLock, Once, Condvar, Semaphore}
 use Rattle.lot_mutex.specs.MutexSteps.{is_locked}
 use Rattle.lot_base.specs.declared.wants.Want.{Want}
 use Rattle.lot_base.specs.declared.keys.Line.{Line}
@@ -50,6 +50,12 @@ use Rattle.lot_once.specs.declared.run.RunAt.TheVariants as run
 use Rattle.lot_once.specs.declared.give_up.GiveUpAt.TheVariants as give_up
 use Rattle.lot_once.specs.declared.places.OncePlace.TheVariants.{Look, Run, GiveUp}
 use Rattle.lot_once.specs.OnceSteps.{course_act, course_of}
+use Rattle.lot_semaphore.specs.declared.acquire.AcquireAt.TheVariants as acquire
+use Rattle.lot_semaphore.specs.declared.tries.TryAt.TheVariants as tries
+use Rattle.lot_semaphore.specs.declared.release.ReleaseAt.TheVariants as release
+use Rattle.lot_semaphore.specs.declared.places.SemaphorePlace.{SemaphorePlace}
+use Rattle.lot_semaphore.specs.declared.places.SemaphorePlace.TheVariants.{Acquire, Try, Release}
+use Rattle.lot_semaphore.specs.SemaphoreSteps.{is_free, semaphore_act}
 use Rattle.lot_mutex.specs.declared.places.MutexPlace.{MutexPlace}
 
 -- an act on a word is on that of this lock, and no other runs a closure
@@ -152,6 +158,22 @@ mutex_own l (HandOff b (hand_off.Store false n)) = refl
 mutex_own l (HandOff b (hand_off.Store true n)) = refl
 mutex_own l (HandOff b a) = refl
 
+takes_own : (l s : ℕ) (a b : Bool) → IsOwn l (if a then Word l (op.TheVariants.Exchange s (s - 2)) else if b then Word l (op.TheVariants.Exchange 0 1) else Enter (One (2 * l)))
+takes_own l s true b = refl
+takes_own l s false true = refl
+takes_own l s false false = refl
+
+tries_own : (l s : ℕ) (a : Bool) → IsOwn l (if a then Word l (op.TheVariants.Exchange s (s - 2)) else Word l op.TheVariants.Load)
+tries_own l s true = refl
+tries_own l s false = refl
+
+pub semaphore_own : (l : ℕ) (at : SemaphorePlace) → IsOwn l (semaphore_act l at)
+semaphore_own l (Acquire timed retries (acquire.Decide s)) = takes_own l s (is_free s) (s == 0)
+semaphore_own l (Acquire timed retries a) = refl
+semaphore_own l (Try (tries.Decide s)) = tries_own l s (is_free s)
+semaphore_own l (Try tries.Load) = refl
+semaphore_own l (Release a) = refl
+
 pub call_runs_none : (l : ℕ) (a : Admission) (c : RwLockCallPlace) → runs_closure (call_act l a c) ≡ false
 call_runs_none l a c = runs_none l (call_act l a c) (call_own l a c)
 
@@ -160,6 +182,9 @@ course_runs_none l v k = runs_none l (course_act l v k) (course_own l v k)
 
 pub mutex_runs_none : (l : ℕ) (m : MutexPlace) → runs_closure (act_of (Mutex l m)) ≡ false
 mutex_runs_none l m = runs_none l (act_of (Mutex l m)) (mutex_own l m)
+
+pub semaphore_runs_none : (l : ℕ) (at : SemaphorePlace) → runs_closure (semaphore_act l at) ≡ false
+semaphore_runs_none l at = runs_none l (semaphore_act l at) (semaphore_own l at)
 
 -- a thread that runs a closure
 pub record RunsOne (p : Place) : Type 0 where
@@ -183,6 +208,7 @@ pub runs_one : (p : Place) → runs_closure (act_of p) ≡ true → RunsOne p
 runs_one Idle h = absurd cc
 runs_one (Mutex l m) h = absurd (let e : false ≡ true = sym (mutex_runs_none l m) ∙ h in cc)
 runs_one (RwLock l a c) h = absurd (let e : false ≡ true = sym (call_runs_none l a c) ∙ h in cc)
+runs_one (Semaphore l at) h = absurd (let e : false ≡ true = sym (semaphore_runs_none l at) ∙ h in cc)
 runs_one (Condvar l at) h = absurd (let e : false ≡ true = sym (condvar_runs_none l at) ∙ h in cc)
 runs_one (Once l (Run forced (run.Closure poisoned))) h = record { lock = l; forced = forced; poisoned = poisoned; is = refl }
 runs_one (Once l (Run forced (run.Close succeeded))) h = absurd cc

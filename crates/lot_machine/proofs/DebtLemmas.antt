@@ -5,9 +5,10 @@ use Rattle.std.proofs.lemmas.List.{drop_more, get_or-drop, get_or_past, get_or-r
 use Rattle.std.proofs.Math.Seq.{drop-nil}
 use Rattle.std.specs.Prelude.{◌&&◌}
 use Rattle.lot_steps.specs.declared.places.Place.{Place}
-use Rattle.lot_steps.specs.declared.places.Place.TheVariants.{Idle, Mutex, RwLock, Once}
+use Rattle.lot_steps.specs.declared.places.Place.TheVariants.{Idle, Mutex, RwLock, Once, Semaphore}
 use Rattle.lot_mutex.specs.declared.places.MutexPlace.{MutexPlace}
 use Rattle.lot_once.specs.declared.places.OncePlace.{OncePlace}
+use Rattle.lot_semaphore.specs.declared.places.SemaphorePlace.{SemaphorePlace}
 use Rattle.lot_rwlock.specs.declared.places.Admission.{Admission}
 use Rattle.lot_rwlock_fair.specs.declared.places.RwLockCallPlace.{RwLockCallPlace}
 use Rattle.lot_machine.specs.declared.debts.Debt.{Debt}
@@ -34,6 +35,10 @@ only_rwlock own a at Retries l e = rw e (and_false _)
 pub only_once : (own : ℕ) (at : OncePlace) → HasDebtsOnlyOn own (Once own at)
 only_once own at Owes l e = rw e refl
 only_once own at Retries l e = rw e (and_false _)
+
+pub only_semaphore : (own : ℕ) (at : SemaphorePlace) → HasDebtsOnlyOn own (Semaphore own at)
+only_semaphore own at Owes l e = rw e refl
+only_semaphore own at Retries l e = rw e (and_false _)
 
 pub tells_idle : (tag : Tag) → Tells tag Idle
 tells_idle tag Owes l e = refl

@@ -22,13 +22,17 @@ use Rattle.lot_once.specs.declared.places.OncePlace.{OncePlace}
 use Rattle.lot_once.specs.declared.places.OncePlace.TheVariants.{Look, Run, GiveUp}
 use Rattle.lot_once.specs.declared.look.LookAt.TheVariants as look_at
 use Rattle.lot_once.specs.OnceSteps.{once_looking}
+use Rattle.lot_semaphore.specs.declared.acquire.AcquireAt.TheVariants as acquire
+use Rattle.lot_semaphore.specs.declared.places.SemaphorePlace.{SemaphorePlace}
+use Rattle.lot_semaphore.specs.declared.places.SemaphorePlace.TheVariants.{Acquire, Try, Release}
+use Rattle.lot_semaphore.specs.SemaphoreSteps.{semaphore_looking}
 use Rattle.lot_condvar.specs.declared.places.CondvarPlace.{CondvarPlace}
 use Rattle.lot_condvar.specs.declared.places.CondvarPlace.TheVariants.{Wait}
 use Rattle.lot_condvar.specs.declared.wait.WaitAt.TheVariants as wait
 use Rattle.lot_condvar.specs.CondvarSteps.{condvar_looking, in_lock}
 use Rattle.lot_steps.specs.declared.places.Place.{Place}
-use Rattle.lot_steps.specs.declared.places.Place.TheVariants.{Idle, Mutex, RwLock, Once, Condvar}
-use Rattle.lot_steps.specs.Steps.{act_of, lock_of, looking, in_mutex, in_rwlock, in_once, in_condvar, profile}
+use Rattle.lot_steps.specs.declared.places.Place.TheVariants.{Idle, Mutex, RwLock, Once, Condvar, Semaphore}
+use Rattle.lot_steps.specs.Steps.{act_of, lock_of, looking, in_mutex, in_rwlock, in_once, in_condvar, in_semaphore, profile}
 use Rattle.lot_calls.specs.declared.kinds.Kind.{Kind}
 use Rattle.lot_machine.specs.Fits.{IsOfItsKind, PlaceFits}
 
@@ -108,6 +112,18 @@ look (Once l at) q is = once_look at is
     once_look (Look c again to) is = absurd cc
     once_look (Run forced to) is = absurd cc
     once_look (GiveUp again to) is = absurd cc
+look (Semaphore l at) q is = semaphore_look at is
+  where
+    by_mark : (b : Bool) (at at2 : SemaphorePlace) → IsLook (Semaphore l at) (Semaphore l at2) → in_semaphore l (if b then Some at2 else None) ≡ Some q → IsLook (Semaphore l at) q
+    by_mark true at at2 h is = subst (IsLook (Semaphore l at)) (some_is (Semaphore l at2) q is) h
+    by_mark false at at2 h is = absurd cc
+
+    semaphore_look : (at : SemaphorePlace) → in_semaphore l (semaphore_looking at) ≡ Some q → IsLook (Semaphore l at) q
+    semaphore_look (Acquire timed again (acquire.Decide seen)) is =
+        by_mark _ (Acquire timed again (acquire.Decide seen)) (Acquire timed again acquire.Load) (record { lock = l; before = refl; now = refl; loaded = l; loads = refl; row = refl; fits = λ locks h. h; kind = λ kinds h. h; there = λ locks h. h }) is
+    semaphore_look (Acquire timed again to) is = absurd cc
+    semaphore_look (Try to) is = absurd cc
+    semaphore_look (Release to) is = absurd cc
 look (Condvar l at) q is = condvar_look at is
   where
     by_mark : (b : Bool) (m : ℕ) (timed late : Bool) (at at2 : MutexPlace) → IsLook (Condvar l (Wait m timed (wait.Lock late at))) (Condvar l (Wait m timed (wait.Lock late at2)))

@@ -24,11 +24,12 @@ use Rattle.lot_acts.specs.declared.acts.Next as next
 use Rattle.lot_calls.specs.declared.calls.Call.{Call}
 use Rattle.lot_calls.specs.declared.kinds.Kind.{Kind}
 use Rattle.lot_calls.specs.declared.kinds.Kind.TheVariants as kind
+use Rattle.lot_calls.specs.Kinds.{is_condvar}
 use Rattle.lot_calls.specs.declared.calls.Turn.{Turn}
 use Rattle.lot_calls.specs.declared.calls.Turn as turn
 use Rattle.lot_calls.specs.declared.calls.Step.{Step}
 use Rattle.lot_steps.specs.declared.places.Place.{Place}
-use Rattle.lot_steps.specs.declared.places.Place.TheVariants.{Idle, Mutex, RwLock, Once, Condvar}
+use Rattle.lot_steps.specs.declared.places.Place.TheVariants.{Idle, Mutex, RwLock, Once, Condvar, Semaphore}
 use Rattle.lot_base.specs.declared.keys.Line.{Line}
 use Rattle.lot_base.specs.Keys.{key_of}
 use Rattle.lot_rwlock_fair.specs.declared.places.RwLockCallPlace.{RwLockCallPlace}
@@ -37,6 +38,9 @@ use Rattle.lot_rwlock_fair.specs.FairProfiles.{call_profile}
 use Rattle.lot_once.specs.declared.places.OncePlace.{OncePlace}
 use Rattle.lot_once.specs.OnceSteps.{once_next}
 use Rattle.lot_once.specs.OnceProfiles.{once_profile}
+use Rattle.lot_semaphore.specs.declared.places.SemaphorePlace.{SemaphorePlace}
+use Rattle.lot_semaphore.specs.SemaphoreProfiles.{semaphore_profile}
+use Rattle.lot_semaphore.specs.SemaphoreSteps.{semaphore_next}
 use Rattle.lot_mutex.specs.declared.lock.Entry.{Entry}
 use Rattle.lot_mutex.specs.declared.places.MutexPlace.{MutexPlace}
 use Rattle.lot_mutex.specs.declared.places.MutexPlace.TheVariants.{Lock, TryLock, Unlock, UnlockFair, Bump, HandOff}
@@ -59,7 +63,7 @@ use Rattle.lot_calls.specs.Calls.{lock_in}
 use Rattle.lot_acts.specs.Profiles.{in_line}
 use Rattle.abstract_locks.specs.Sites.{Main}
 use Rattle.lot_steps.specs.Steps.{is_idle, first_place, act_of, next_place, mutex_goes, rwlock_goes, once_goes, looking, late_key, key_in}
-use Rattle.lot_machine.specs.Machine.{state_after_hand_over_by, hand_over_told, State, unlocked, opening, kind_at, word_at, place_at, queue_at, put, state_after_operation, state_with_sections, queues_with_last, queues_without_first, queues_without, state_after_park, state_after_reply, place_after_telling, state_after_telling, state_after_hand_over, state_after_taking, state_after_wake, state_after_act, state_after_takes, state_after_take_first, state_after_requeue, queues_requeued, left_behind, moved_under, moved_threads, listed, places_told, state_after_going, going_outcome, closed_place, state_after_close, close_outcome, can_close, runs_closure, can_do, state_after_go, reply_to, state_after_begin, can_begin, is_open_to, state_after_spin, state_after_late, state_after_late_on, state_after_turn, can_turn, is_possible, after, state_after_look, look_outcome, spin_outcome, can_spin, can_go, go_outcome}
+use Rattle.lot_machine.specs.Machine.{first_word, state_after_hand_over_by, hand_over_told, State, unlocked, opening, kind_at, word_at, place_at, queue_at, put, state_after_operation, state_with_sections, queues_with_last, queues_without_first, queues_without, state_after_park, state_after_reply, place_after_telling, state_after_telling, state_after_hand_over, state_after_taking, state_after_wake, state_after_act, state_after_takes, state_after_take_first, state_after_requeue, queues_requeued, left_behind, moved_under, moved_threads, listed, places_told, state_after_going, going_outcome, closed_place, state_after_close, close_outcome, can_close, runs_closure, can_do, state_after_go, reply_to, state_after_begin, can_begin, is_open_to, state_after_spin, state_after_late, state_after_late_on, state_after_turn, can_turn, is_possible, after, state_after_look, look_outcome, spin_outcome, can_spin, can_go, go_outcome}
 use Rattle.lot_mutex.specs.declared.lock.LockAt as lock
 use Rattle.lot_acts.specs.declared.acts.Whom as whom
 use Rattle.lot_machine.specs.Fits.{ActFits, AllBelow, IsOfItsKind, IsShaped, PlaceFits, SameSize, Shows}
@@ -69,7 +73,7 @@ use Rattle.lot_condvar.specs.declared.places.CondvarPlace.TheVariants.{Wait, Loo
 use Rattle.lot_condvar.specs.declared.wait.WaitAt.{WaitAt}
 use Rattle.lot_condvar.specs.declared.wait.WaitAt.TheVariants as wait
 use Rattle.lot_condvar.specs.CondvarSteps.{in_notify, in_wait, next_notify, next_wait}
-use Rattle.lot_steps.specs.Steps.{HasKeys, condvar_goes}
+use Rattle.lot_steps.specs.Steps.{HasKeys, condvar_goes, semaphore_goes}
 use Rattle.lot_machine.proofs.Acted.{Befalls, acted_keeps}
 use Rattle.lot_machine.proofs.Shown.{AreShown, Writes, performed_shown, writes}
 use Rattle.lot_machine.proofs.Suits.{ReplyFits, SeesFit, call_suits, next_suits}
@@ -397,6 +401,11 @@ looks_not_next (Once l at) reply h = by_next (once_next at reply)
     by_next : (n : Next OncePlace) → LooksNot (once_goes l n)
     by_next (next.TheVariants.At at2) = tt
     by_next (next.TheVariants.End answer) = tt
+looks_not_next (Semaphore l at) reply h = by_next (semaphore_next at reply)
+  where
+    by_next : (n : Next SemaphorePlace) → LooksNot (semaphore_goes l n)
+    by_next (next.TheVariants.At at2) = tt
+    by_next (next.TheVariants.End answer) = tt
 looks_not_next (Condvar l (Wait m timed at)) reply h = by_next (next_wait m timed at reply)
   where
     by_next : (n : Next WaitAt) → LooksNot (condvar_goes l (in_wait m timed n))
@@ -414,6 +423,7 @@ others_see locks kinds Idle seen h = tt
 others_see locks kinds (Mutex l at) seen h = tt
 others_see locks kinds (RwLock l a at) seen h = tt
 others_see locks kinds (Once l at) seen h = tt
+others_see locks kinds (Semaphore l at) seen h = tt
 others_see locks kinds (Condvar l (Wait m timed at)) seen h = tt
 others_see locks kinds (Condvar l (Notify all m at)) seen h = tt
 others_see locks kinds (Condvar l (Look all)) seen h = absurd h
@@ -438,6 +448,7 @@ reply_fits w t Idle s is = seeing_fits w t Idle is tt
 reply_fits w t (Mutex l at) s is = seeing_fits w t (Mutex l at) is tt
 reply_fits w t (RwLock l a at) s is = seeing_fits w t (RwLock l a at) is tt
 reply_fits w t (Once l at) s is = seeing_fits w t (Once l at) is tt
+reply_fits w t (Semaphore l at) s is = seeing_fits w t (Semaphore l at) is tt
 reply_fits w t (Condvar l (Wait m timed at)) s is = seeing_fits w t (Condvar l (Wait m timed at)) is tt
 reply_fits w t (Condvar l (Notify all m at)) s is = seeing_fits w t (Condvar l (Notify all m at)) is tt
 
@@ -476,6 +487,7 @@ has_keys locks Idle few h = tt
 has_keys locks (Mutex l at) few h = below locks l few h.0
 has_keys locks (RwLock l a at) few h = below locks l few h
 has_keys locks (Once l at) few h = below locks l few h
+has_keys locks (Semaphore l at) few h = below locks l few h
 has_keys locks (Condvar l (Wait m timed at)) few h = (below locks l few h.0, below locks m few h.1)
 has_keys locks (Condvar l (Look all)) few h = (below locks l few h.0, tt)
 has_keys locks (Condvar l (Notify all m at)) few h = (below locks l few h.0, below locks m few h.1)
@@ -541,6 +553,11 @@ lated_shaped w t s = by_place (place_at w t) refl
         by_line : (m : Option Line) → IsShaped (state_after_late_on w t (key_in (Some l) m))
         by_line None = s
         by_line (Some m) = befallen_shaped (state_with_sections w (One (key_of l m)) (Some t)) t Late (filled_shaped w (One (key_of l m)) (Some t) s) (rw e tt)
+    by_place (Semaphore l at) e = by_line (semaphore_profile at).late_line
+      where
+        by_line : (m : Option Line) → IsShaped (state_after_late_on w t (key_in (Some l) m))
+        by_line None = s
+        by_line (Some m) = befallen_shaped (state_with_sections w (One (key_of l m)) (Some t)) t Late (filled_shaped w (One (key_of l m)) (Some t) s) (rw e tt)
     by_place (Condvar l at) e = waits l at e
 
 -- the thread stands behind its closure, and goes on from there
@@ -594,14 +611,18 @@ opening_shaped kinds threads few = record {
   queues = rw (length-replicate {A = List Waiter} (2 * length kinds) [], length-replicate {A = Option ℕ} (2 * length kinds) None) refl;
   places = λ t. rw (idle_at threads t) tt;
   kinds = λ t. rw (idle_at threads t) tt;
-  shown = λ l of. inl (unlocked_word kinds l);
+  shown = λ l of. inl (unlocked_word kinds l of);
   waiting = λ key. nobody_below (2 * length kinds) key;
 }
   where
-    unlocked_word : (ks : List Kind) (l : ℕ) → (get_or (map unlocked ks) l (unlocked kind.Mutex)).word ≡ 0
-    unlocked_word [] l = refl
-    unlocked_word (k ∷ ks) zero = refl
-    unlocked_word (k ∷ ks) (suc l) = unlocked_word ks l
+    shows_none : (k : Kind) → is_condvar k ≡ true → first_word k ≡ 0
+    shows_none kind.Condvar of = refl
+    shows_none k of = absurd cc
+
+    unlocked_word : (ks : List Kind) (l : ℕ) → is_condvar (get_or (map unlocked ks) l (unlocked kind.Mutex)).kind ≡ true → (get_or (map unlocked ks) l (unlocked kind.Mutex)).word ≡ 0
+    unlocked_word [] l of = refl
+    unlocked_word (k ∷ ks) zero of = shows_none k of
+    unlocked_word (k ∷ ks) (suc l) of = unlocked_word ks l of
 
     nobody_below : (n key : ℕ) → AllBelow (length (replicate threads Idle)) (get_or (replicate n []) key [])
     nobody_below zero key = tt

@@ -20,18 +20,19 @@ use Rattle.lot_once.specs.declared.places.OncePlace.TheVariants as once
 use Rattle.lot_once.specs.OnceSteps.{course_act, course_of, once_act}
 use Rattle.lot_mutex.specs.MutexSteps.{mutex_act}
 use Rattle.lot_rwlock_fair.specs.FairSteps.{call_act}
+use Rattle.lot_semaphore.specs.SemaphoreSteps.{semaphore_act}
 use Rattle.lot_condvar.specs.declared.notify.NotifyAt.TheVariants as notify
 use Rattle.lot_condvar.specs.declared.places.CondvarPlace.{CondvarPlace}
 use Rattle.lot_condvar.specs.declared.places.CondvarPlace.TheVariants.{Wait, Look, Notify}
 use Rattle.lot_condvar.specs.declared.wait.WaitAt.TheVariants as wait
 use Rattle.lot_condvar.specs.CondvarSteps.{shown_as}
 use Rattle.lot_steps.specs.declared.places.Place.{Place}
-use Rattle.lot_steps.specs.declared.places.Place.TheVariants.{Idle, Mutex, RwLock, Once, Condvar}
+use Rattle.lot_steps.specs.declared.places.Place.TheVariants.{Idle, Mutex, RwLock, Once, Condvar, Semaphore}
 use Rattle.lot_steps.specs.Steps.{act_of}
 use Rattle.lot_machine.specs.declared.locks.Lock.{Lock}
 use Rattle.lot_machine.specs.Machine.{State, kind_at, queue_at, queues_with_last, queues_without_first, state_after_act, state_after_hand_over_by, state_after_taking, unlocked, word_at}
-use Rattle.lot_machine.specs.Fits.{IsShaped, Shows, is_once, is_rwlock}
-use Rattle.lot_machine.proofs.Closures.{IsOwn, call_own, course_own, mutex_own}
+use Rattle.lot_machine.specs.Fits.{IsShaped, Shows, is_once, is_rwlock, is_semaphore}
+use Rattle.lot_machine.proofs.Closures.{IsOwn, call_own, course_own, mutex_own, semaphore_own}
 use Rattle.lot_machine.proofs.KindsStay.{set_all}
 use Rattle.lot_machine.proofs.Suits.{Suits}
 
@@ -118,6 +119,10 @@ of_onces : (k : Kind) → is_once k ≡ true → is_condvar k ≡ false
 of_onces kinds.Condvar h = absurd cc
 of_onces k h = refl
 
+of_semaphores : (k : Kind) → is_semaphore k ≡ true → is_condvar k ≡ false
+of_semaphores kinds.Condvar h = absurd cc
+of_semaphores k h = refl
+
 pub plain_is_other : (k : Kind) → is_plain_mutex k ≡ true → is_condvar k ≡ false
 plain_is_other kinds.Condvar h = absurd cc
 plain_is_other k h = refl
@@ -157,4 +162,5 @@ writes w Idle s h = tt
 writes w (Mutex l at) s h = away w l (mutex_act l at) (on_own l (mutex_act l at) (mutex_own l at)) (of_mutexes (kind_at w l) h.1)
 writes w (RwLock l a at) s h = away w l (call_act l a at) (on_own l (call_act l a at) (call_own l a at)) (of_rwlocks (kind_at w l) h.1)
 writes w (Once l at) s h = away w l (once_act l at) (once_on l at) (of_onces (kind_at w l) h.1)
+writes w (Semaphore l at) s h = away w l (semaphore_act l at) (on_own l (semaphore_act l at) (semaphore_own l at)) (of_semaphores (kind_at w l) h.1)
 writes w (Condvar l at) s h = condvar_writes w s.shown l h.1.0 at h

@@ -11,6 +11,7 @@ use Rattle.lot_calls.specs.declared.calls.MutexCall.{MutexCall}
 use Rattle.lot_calls.specs.declared.calls.MutexCall as mutex_call
 use Rattle.lot_calls.specs.declared.calls.OnceCall.{OnceCall}
 use Rattle.lot_calls.specs.declared.calls.RwLockCall.{RwLockCall}
+use Rattle.lot_calls.specs.declared.calls.SemaphoreCall.{SemaphoreCall}
 use Rattle.lot_calls.specs.declared.kinds.Kind.{Kind}
 use Rattle.lot_calls.specs.declared.kinds.Kind.TheVariants as kinds
 use Rattle.lot_calls.specs.Calls.{lock_in, mutex_in}
@@ -34,6 +35,8 @@ use Rattle.lot_rwlock_fair.specs.declared.places.RwLockCallPlace.{RwLockCallPlac
 use Rattle.lot_rwlock_fair.specs.FairSteps.{call_next}
 use Rattle.lot_once.specs.declared.places.OncePlace.{OncePlace}
 use Rattle.lot_once.specs.OnceSteps.{once_next}
+use Rattle.lot_semaphore.specs.declared.places.SemaphorePlace.{SemaphorePlace}
+use Rattle.lot_semaphore.specs.SemaphoreSteps.{semaphore_next}
 use Rattle.lot_condvar.specs.declared.notify.NotifyAt.{NotifyAt}
 use Rattle.lot_condvar.specs.declared.notify.NotifyAt.TheVariants as notify
 use Rattle.lot_condvar.specs.declared.places.CondvarPlace.{CondvarPlace}
@@ -45,10 +48,10 @@ use Rattle.lot_condvar.specs.declared.wait.WaitAt.TheVariants as wait
 use Rattle.lot_condvar.specs.CondvarProfiles.{may_give_up}
 use Rattle.lot_condvar.specs.CondvarSteps.{stands_after, befalls, behind, condvar_next, in_notify, in_wait, is_shown, late_place, look_next, mutex_shown, notified, next_notify, next_wait, released, relocked}
 use Rattle.lot_steps.specs.declared.places.Place.{Place}
-use Rattle.lot_steps.specs.declared.places.Place.TheVariants.{Idle, Mutex, RwLock, Once, Condvar}
-use Rattle.lot_steps.specs.Steps.{condvar_goes, first_place, mutex_goes, next_place, once_goes, rwlock_goes}
+use Rattle.lot_steps.specs.declared.places.Place.TheVariants.{Idle, Mutex, RwLock, Once, Condvar, Semaphore}
+use Rattle.lot_steps.specs.Steps.{condvar_goes, first_place, mutex_goes, next_place, once_goes, rwlock_goes, semaphore_goes}
 use Rattle.lot_machine.specs.Machine.{State, has_mutex, holds_right, is_open_to, kind_at}
-use Rattle.lot_machine.specs.Fits.{GivesUpTimed, IsOfItsKind, IsTimely, PlaceFits, Shows, is_once, is_rwlock}
+use Rattle.lot_machine.specs.Fits.{GivesUpTimed, IsOfItsKind, IsTimely, PlaceFits, Shows, is_once, is_rwlock, is_semaphore}
 
 abbrev pub Suits : ℕ → (ℕ → Kind) → Place → Type 0
 Suits locks kinds p = PlaceFits locks p × IsOfItsKind kinds p
@@ -165,6 +168,10 @@ once_suits : (locks : ℕ) (kinds : ℕ → Kind) (l : ℕ) (at : OncePlace) (n 
 once_suits locks kinds l at (next.TheVariants.At at2) h = h
 once_suits locks kinds l at (next.TheVariants.End answer) h = (tt, tt)
 
+semaphore_suits : (locks : ℕ) (kinds : ℕ → Kind) (l : ℕ) (at : SemaphorePlace) (n : Next SemaphorePlace) → Suits locks kinds (Semaphore l at) → Suits locks kinds (semaphore_goes l n)
+semaphore_suits locks kinds l at (next.TheVariants.At at2) h = h
+semaphore_suits locks kinds l at (next.TheVariants.End answer) h = (tt, tt)
+
 -- ---------------------------------------------------------------- condition variables
 
 module _ (locks : ℕ) (kinds : ℕ → Kind) (c : ℕ) where
@@ -259,6 +266,7 @@ next_suits locks kinds (Mutex l Bump) reply h r = mutex_suits locks kinds l Bump
 next_suits locks kinds (Mutex l (HandOff bumps at)) reply h r = mutex_suits locks kinds l (HandOff bumps at) (mutex_next (HandOff bumps at) reply) h (hand_off_fits bumps at reply)
 next_suits locks kinds (RwLock l a at) reply h r = rwlock_suits locks kinds l a at (call_next a at reply) h
 next_suits locks kinds (Once l at) reply h r = once_suits locks kinds l at (once_next at reply) h
+next_suits locks kinds (Semaphore l at) reply h r = semaphore_suits locks kinds l at (semaphore_next at reply) h
 next_suits locks kinds (Condvar l at) reply h r = condvar_suits locks kinds l at reply h r
 
 -- ---------------------------------------------------------------- calls
@@ -286,6 +294,10 @@ once_called : (k : Kind) (l : ℕ) (c : OnceCall) → has_call k (call.TheVarian
 once_called kinds.Once l c has = refl
 once_called k l c has = absurd cc
 
+semaphore_called : (k : Kind) (l : ℕ) (c : SemaphoreCall) → has_call k (call.TheVariants.Semaphore l c) ≡ true → is_semaphore k ≡ true
+semaphore_called (kinds.Semaphore permits) l c has = refl
+semaphore_called k l c has = absurd cc
+
 condvar_called : (k : Kind) (l : ℕ) (c : CondvarCall) → has_call k (call.TheVariants.Condvar l c) ≡ true → is_condvar k ≡ true
 condvar_called kinds.Condvar l c has = refl
 condvar_called k l c has = absurd cc
@@ -301,6 +313,7 @@ call_suits w t c may =
     by_call (call.TheVariants.Mutex l c) lt has m = (first_fits (length w.locks) l (is_fair (kind_at w l)) c lt, mutex_called (kind_at w l) l c has)
     by_call (call.TheVariants.RwLock l c) lt has m = (lt, rwlock_called (kind_at w l) l c has)
     by_call (call.TheVariants.Once l c) lt has m = (lt, once_called (kind_at w l) l c has)
+    by_call (call.TheVariants.Semaphore l c) lt has m = (lt, semaphore_called (kind_at w l) l c has)
     by_call (call.TheVariants.Condvar l (condvar_call.Wait m timed)) lt has there =
         let of = both (nat_lt m (length w.locks)) (is_plain_mutex (kind_at w m)) there in
         ((lt, ltb-true m (length w.locks) of.0, tt), (condvar_called (kind_at w l) l (condvar_call.Wait m timed) has, of.1))

@@ -9,7 +9,7 @@ use Rattle.lot_calls.specs.Kinds.{is_condvar, is_fair, is_plain_mutex}
 use Rattle.lot_acts.specs.declared.acts.Act.{Act}
 use Rattle.lot_acts.specs.declared.acts.Act.TheVariants.{Word, HandOver, Enter, Park, Stand, Take, Requeue, Remove, Leave}
 use Rattle.lot_steps.specs.declared.places.Place.{Place}
-use Rattle.lot_steps.specs.declared.places.Place.TheVariants.{Idle, Mutex, RwLock, Once, Condvar}
+use Rattle.lot_steps.specs.declared.places.Place.TheVariants.{Idle, Mutex, RwLock, Once, Condvar, Semaphore}
 use Rattle.lot_mutex.specs.declared.places.MutexPlace.{MutexPlace}
 use Rattle.lot_mutex.specs.MutexProfiles.{mutex_profile}
 use Rattle.lot_condvar.specs.declared.places.CondvarPlace.{CondvarPlace}
@@ -57,18 +57,38 @@ PlaceFits locks Idle = Unit {0}
 PlaceFits locks (Mutex lock at) = (lock < locks) × GivesUpTimed at
 PlaceFits locks (RwLock lock a at) = lock < locks
 PlaceFits locks (Once lock at) = lock < locks
+PlaceFits locks (Semaphore lock at) = lock < locks
 PlaceFits locks (Condvar lock at) = (lock < locks) × IsThere locks (mutex_beside at) × IsTimely at
 
 -- whether it is a reader-writer lock
 abbrev pub is_rwlock : Kind → Bool
 is_rwlock (kind.RwLock limit) = true
 is_rwlock (kind.Recursive limit) = true
-is_rwlock k = false
+is_rwlock kind.Mutex = false
+is_rwlock kind.Fair = false
+is_rwlock kind.Condvar = false
+is_rwlock kind.Once = false
+is_rwlock (kind.Semaphore permits) = false
 
 -- whether it is a `Once`
 abbrev pub is_once : Kind → Bool
 is_once kind.Once = true
-is_once k = false
+is_once kind.Mutex = false
+is_once kind.Fair = false
+is_once (kind.RwLock limit) = false
+is_once (kind.Recursive limit) = false
+is_once kind.Condvar = false
+is_once (kind.Semaphore permits) = false
+
+-- whether it is a semaphore
+abbrev pub is_semaphore : Kind → Bool
+is_semaphore (kind.Semaphore permits) = true
+is_semaphore kind.Mutex = false
+is_semaphore kind.Fair = false
+is_semaphore (kind.RwLock limit) = false
+is_semaphore (kind.Recursive limit) = false
+is_semaphore kind.Condvar = false
+is_semaphore kind.Once = false
 
 -- a condition variable works with plain mutexes
 abbrev pub IsPlain : (ℕ → Kind) → Option ℕ → Type 0
@@ -81,6 +101,7 @@ IsOfItsKind kinds Idle = Unit {0}
 IsOfItsKind kinds (Mutex lock at) = (is_plain_mutex (kinds lock) || is_fair (kinds lock)) ≡ true
 IsOfItsKind kinds (RwLock lock a at) = is_rwlock (kinds lock) ≡ true
 IsOfItsKind kinds (Once lock at) = is_once (kinds lock) ≡ true
+IsOfItsKind kinds (Semaphore lock at) = is_semaphore (kinds lock) ≡ true
 IsOfItsKind kinds (Condvar lock at) =
     (is_condvar (kinds lock) ≡ true) × IsPlain kinds (mutex_beside at)
 

@@ -15,6 +15,7 @@ use Rattle.lot_base.specs.Requeues.{taken_by, moved_by}
 use Rattle.std.specs.List.{filter}
 use Rattle.lot_calls.specs.declared.kinds.Kind.{Kind}
 use Rattle.lot_calls.specs.declared.kinds.Kind.TheVariants.{Mutex}
+use Rattle.lot_calls.specs.declared.kinds.Kind.TheVariants as kinds
 use Rattle.lot_acts.specs.declared.owners.Owners.{Owners}
 use Rattle.lot_acts.specs.declared.owners.Fallback as fallback
 use Rattle.lot_acts.specs.declared.owners.Phase.TheVariants as phases
@@ -66,9 +67,15 @@ nobody = record {
   shown = None;
 }
 
--- the word of a new lock
+-- the word of a new lock: 0, or 2 for each permit of a semaphore; it wraps at 64 bits, as each does
 abbrev pub first_word : Kind → ℕ
-first_word kind = 0
+first_word kinds.Mutex = 0
+first_word kinds.Fair = 0
+first_word (kinds.RwLock limit) = 0
+first_word (kinds.Recursive limit) = 0
+first_word kinds.Condvar = 0
+first_word kinds.Once = 0
+first_word (kinds.Semaphore permits) = 2 * permits % 2 ^ 64
 
 abbrev pub unlocked : Kind → Lock
 unlocked kind = record { kind = kind; word = first_word kind; owners = nobody; filled = false }

@@ -143,9 +143,10 @@ fn tag_of(place: &Place) -> Tag
     match place {
         Place::Idle => Tag::Nowhere,
         Place::Condvar { .. } => Tag::Anywhere,
-        Place::Mutex { lock, .. } | Place::RwLock { lock, .. } | Place::Once { lock, .. } => {
-            tag_at(place, *lock)
-        }
+        Place::Mutex { lock, .. }
+        | Place::RwLock { lock, .. }
+        | Place::Once { lock, .. }
+        | Place::Semaphore { lock, .. } => tag_at(place, *lock),
     }
 }
 

@@ -24,7 +24,7 @@ pub struct Lock {
 }
 
 impl Lock {
-    /// Nobody owns it, and its word is 0.
+    /// Nobody owns it, and of a semaphore all permits are free.
     pub fn unlocked(kind: Kind) -> Lock
         ensures { result ≡ unlocked kind }
     {
@@ -37,7 +37,7 @@ impl Lock {
     }
 }
 
-/// The word of a new lock.
+/// The word of a new lock: 0, or 2 for each permit of a semaphore.
 fn first_word(kind: Kind) -> u64
     ensures { result ≡ first_word kind }
 {
@@ -45,6 +45,7 @@ fn first_word(kind: Kind) -> u64
         Kind::Mutex | Kind::Fair => 0,
         Kind::RwLock { .. } | Kind::Recursive { .. } => 0,
         Kind::Condvar | Kind::Once => 0,
+        Kind::Semaphore { permits } => permits.wrapping_mul(2),
     }
 }
 
@@ -54,7 +55,7 @@ pub(crate) fn is_full(kind: Kind, word: u64) -> bool
 {
     match kind {
         Kind::RwLock { limit } | Kind::Recursive { limit } => limit <= word / READER,
-        Kind::Mutex | Kind::Fair | Kind::Condvar | Kind::Once => false,
+        Kind::Mutex | Kind::Fair | Kind::Condvar | Kind::Once | Kind::Semaphore { .. } => false,
     }
 }
 

@@ -22,6 +22,7 @@ admission_of (kind.RwLock limit) = record { recursive = false; limit = limit }
 admission_of (kind.Recursive limit) = record { recursive = true; limit = limit }
 admission_of kind.Condvar = record { recursive = false; limit = 0 }
 admission_of kind.Once = record { recursive = false; limit = 0 }
+admission_of (kind.Semaphore permits) = record { recursive = false; limit = 0 }
 
 -- a writer tries an unlocked word first, and a try to upgrade looks
 abbrev pub first_at : RwLockPurpose → RwLockAt
