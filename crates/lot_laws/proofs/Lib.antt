@@ -86,6 +86,10 @@ pub mod CondvarOwing
 pub mod OnceOwing
 pub mod OnceRows
 pub mod OnceNext
+pub mod SemaphoreOwing
+pub mod SemaphoreNext
+pub mod SemaphoreEnds
+pub mod SemaphoreSolo
 pub mod RwLockOwing
 pub mod CallOwing
 pub mod PlaceSteps
