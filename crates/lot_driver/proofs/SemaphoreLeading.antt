@@ -1,5 +1,5 @@
 -- Each act of a semaphore's call is one that the thread may take, and leads to a place that fits.
-use Rattle.std.proofs.Common.{◌++◌, ℕ, ◌≡◌, ◌≢◌, ◌*◌, ◌/◌, ◌-◌, ◌^◌, ◌≤◌, ◌==◌, ◌&&◌, Bool, true, false, List, ◌∷◌, Option, Some, None, cond, not, if◌then◌else◌, inl, inr, sym, refl, ap, ◌∙◌, subst, arith, eq-eqb, ne_eqb, eqb-eq, bit_and}
+use Rattle.std.proofs.Common.{◌++◌, ℕ, ◌≡◌, ◌≢◌, ◌*◌, ◌/◌, ◌-◌, ◌^◌, ◌≤◌, ◌==◌, ◌&&◌, Bool, true, false, List, ◌∷◌, Option, Some, None, cond, not, if◌then◌else◌, inl, inr, sym, refl, ap, ◌∙◌, subst, arith, eq-eqb, ne_eqb, bit_and}
 use Rattle.std.proofs.lemmas.Bool.{false≢true}
 use Rattle.std.proofs.lemmas.Nat.{and-not, and_comm}
 use Rattle.std.proofs.lemmas.Nat.Bits.{and_pow}
@@ -326,4 +326,17 @@ semaphore_no_closure l state (Try (tries.Decide seen)) is = by_look (is_free see
     by_look : (b : Bool) → (if b then act.TheVariants.Word l (Exchange seen (seen - 2)) else act.TheVariants.Word l Load) ≡ act.TheVariants.Closure state → ⊥
     by_look true is = cc
     by_look false is = cc
-semaphore_no_closure l state at is = cc
+semaphore_no_closure l state (Acquire t r acquire.Load) is = cc
+semaphore_no_closure l state (Acquire t r acquire.Check) is = cc
+semaphore_no_closure l state (Acquire t r (acquire.Leave parked)) is = cc
+semaphore_no_closure l state (Acquire t r acquire.Asleep) is = cc
+semaphore_no_closure l state (Acquire t r (acquire.Taken by)) is = cc
+semaphore_no_closure l state (Acquire t r acquire.Remove) is = cc
+semaphore_no_closure l state (Acquire t r acquire.Clear) is = cc
+semaphore_no_closure l state (Acquire t r acquire.GiveUp) is = cc
+semaphore_no_closure l state (Try tries.Load) is = cc
+semaphore_no_closure l state (Release release.Add) is = cc
+semaphore_no_closure l state (Release release.Enter) is = cc
+semaphore_no_closure l state (Release release.Take) is = cc
+semaphore_no_closure l state (Release (release.Clear any)) is = cc
+semaphore_no_closure l state (Release (release.Leave any)) is = cc

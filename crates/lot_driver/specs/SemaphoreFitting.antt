@@ -53,6 +53,12 @@ FitsRelease l base release.Take st = Within l base st
 FitsRelease l base (release.Clear any) st = HasTook l any base st
 FitsRelease l base (release.Leave any) st = HasTook l any base st
 
+-- what the answer of a try says
+abbrev pub TryAnswer : ℕ → List Ownership → Answer → Stage → Type 0
+TryAnswer l base answers.Yes st = Outside (permit l ∷ base) st
+TryAnswer l base answers.No st = Outside base st × SawNoneFree l st.steps
+TryAnswer l base answer st = ⊥
+
 -- `up` says that the time of the call is up
 module _ (up : Type 0) where
   abbrev pub GaveUp : Bool → Type 0
@@ -84,11 +90,6 @@ module _ (up : Type 0) where
   AcquireAnswer l timed base answers.No st =
       GaveUp timed × Outside base st × TookNobodyAt l st.last
   AcquireAnswer l timed base answer st = ⊥
-
-  abbrev pub TryAnswer : ℕ → List Ownership → Answer → Stage → Type 0
-  TryAnswer l base answers.Yes st = Outside (permit l ∷ base) st
-  TryAnswer l base answers.No st = Outside base st × SawNoneFree l st.steps
-  TryAnswer l base answer st = ⊥
 
   abbrev pub IsSemaphoreOver : ℕ → List Ownership → Purpose → Answer → Stage → Type 0
   IsSemaphoreOver l base (acquires timed) answer st = AcquireAnswer l timed base answer st
