@@ -1,5 +1,5 @@
 -- The end of a call.
-use Rattle.std.proofs.Common.{ℕ, ◌≡◌, Bool, true, false, List, Option, None, Some, inl, inr, refl, sym, ap, ◌∙◌, subst}
+use Rattle.std.proofs.Common.{ℕ, ◌≡◌, ◌≢◌, Bool, true, false, List, Option, None, Some, inl, inr, refl, sym, ap, ◌∙◌, subst}
 use Rattle.lot_calls.specs.declared.outcomes.Answer.{Answer}
 use Rattle.lot_calls.specs.declared.outcomes.Answer.TheVariants.{Ok, Yes, No}
 use Rattle.lot_calls.specs.declared.outcomes.OnceState.{OnceState}
@@ -157,13 +157,14 @@ never_paused up base n purpose (Once l at) state st s = once_runs l n purpose at
 never_paused up base n purpose (Mutex l at) state st s = no_closure l state up base at st s.0 s.2
 never_paused up base n purpose (Semaphore l at) state st s = semaphore_no_closure l state at s.2
 
--- no call comes to a closure that steps on the word of a reader-writer lock
-pub never_closes : (up : Type 0) (base : List Ownership) (aim : Aim) (p : Place) (state : OnceState) (st : Stage) (word : Word) → word.kind ≡ kinds.TheVariants.RwLock → AreWordsFor p (kind_in (alone word)) (at_in (alone word)) → IsStopped up base aim (Paused p state) st → ⊥
-never_closes up base aim Idle state st word is words s = s.0
-never_closes up base aim (Condvar l (waiting.Wait m timed at)) state st word is words s = let e : kinds.TheVariants.Condvar ≡ kinds.TheVariants.RwLock = sym words.1.1 ∙ is in cc
-never_closes up base aim (Condvar l (waiting.Look all)) state st word is words s = s.0
-never_closes up base aim (Condvar l (waiting.Notify all m at)) state st word is words s = let e : kinds.TheVariants.Condvar ≡ kinds.TheVariants.RwLock = sym words.1.1 ∙ is in cc
-never_closes up base aim (RwLock l a at) state st word is words s = rwlock_no_closure up l a base at st state s.0 s.2
-never_closes up base aim (Mutex l at) state st word is words s = no_closure l state up base at st s.0 s.2
-never_closes up base aim (Semaphore l at) state st word is words s = semaphore_no_closure l state at s.2
-never_closes up base aim (Once l at) state st word is words s = let e : kinds.TheVariants.Once ≡ kinds.TheVariants.RwLock = sym (ap (λ (g : ℕ → WordKind). g 0) words.1) ∙ is in cc
+-- no call comes to a closure that steps on a word of another kind than a `Once`'s or a condition
+-- variable's
+pub never_closes : (up : Type 0) (base : List Ownership) (aim : Aim) (p : Place) (state : OnceState) (st : Stage) (word : Word) → word.kind ≢ kinds.TheVariants.Once → word.kind ≢ kinds.TheVariants.Condvar → AreWordsFor p (kind_in (alone word)) (at_in (alone word)) → IsStopped up base aim (Paused p state) st → ⊥
+never_closes up base aim Idle state st word no_once no_condvar words s = s.0
+never_closes up base aim (Condvar l (waiting.Wait m timed at)) state st word no_once no_condvar words s = no_condvar words.1.1
+never_closes up base aim (Condvar l (waiting.Look all)) state st word no_once no_condvar words s = s.0
+never_closes up base aim (Condvar l (waiting.Notify all m at)) state st word no_once no_condvar words s = no_condvar words.1.1
+never_closes up base aim (RwLock l a at) state st word no_once no_condvar words s = rwlock_no_closure up l a base at st state s.0 s.2
+never_closes up base aim (Mutex l at) state st word no_once no_condvar words s = no_closure l state up base at st s.0 s.2
+never_closes up base aim (Semaphore l at) state st word no_once no_condvar words s = semaphore_no_closure l state at s.2
+never_closes up base aim (Once l at) state st word no_once no_condvar words s = no_once (ap (λ (g : ℕ → WordKind). g 0) words.1)

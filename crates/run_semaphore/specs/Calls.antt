@@ -1,11 +1,11 @@
 -- What the calls of a semaphore did.
-use Rattle.std.specs.Prelude.{ℕ, ◌≡◌, ◌<◌, ◌*◌, ◌-◌, Bool, true, false, List, [], ◌++◌, Option, Some, None, if◌then◌else◌}
+use Rattle.std.specs.Prelude.{ℕ, ◌≡◌, ◌<◌, ◌-◌, Bool, true, false, List, [], ◌++◌, Option, Some, None}
 use Rattle.abstract_locks.specs.Codes.{has_parked}
 use Rattle.lot_base.specs.declared.ops.Op.TheVariants.{Add, Exchange, Load}
 use Rattle.lot_calls.specs.declared.calls.SemaphoreCall.{SemaphoreCall}
 use Rattle.lot_calls.specs.declared.outcomes.Answer.{Answer}
 use Rattle.lot_calls.specs.declared.outcomes.Answer.TheVariants as answers
-use Rattle.lot_semaphore.specs.SemaphoreSteps.{acquired, semaphore_first}
+use Rattle.lot_semaphore.specs.SemaphoreSteps.{semaphore_first}
 use Rattle.lot_semaphore.specs.declared.acquire.AcquireAt.TheVariants as acquire
 use Rattle.lot_semaphore.specs.declared.tries.TryAt.TheVariants as tries
 use Rattle.lot_semaphore.specs.declared.release.ReleaseAt.TheVariants as release
@@ -81,8 +81,8 @@ HasWaited n timed answer old new =
 
 -- what a call answers that gives a permit, or none
 abbrev pub answer_by : {P : Type 0} → Answer → Option P → Answer
-answer_by yes None = answers.No
-answer_by yes (Some permit) = yes
+answer_by given None = answers.No
+answer_by given (Some permit) = given
 
 -- a release whose addition saw that a thread may be parked left the section in which it took the
 -- first of the queue, and else there was no further step

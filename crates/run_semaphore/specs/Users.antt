@@ -1,12 +1,10 @@
 -- What the clauses of users cite.
-use Rattle.std.specs.Prelude.{ℕ, ◌≡◌, ◌≤◌, ◌<◌, ◌+◌, ◌*◌, ◌++◌, ◌^◌, ◌/◌, [], ◌∷◌}
+use Rattle.std.specs.Prelude.{ℕ, ◌≡◌, ◌≤◌, ◌<◌, ◌+◌, ◌*◌, ◌++◌, ◌^◌, ◌/◌}
 use Rattle.std.specs.Arc.{arc_value}
 pub use Rattle.parking_lot_core.specs.Tokens.{IsTicketOf, IsTokenOf, view_of, last_of}
 use Rattle.lot_base.specs.declared.ops.Op.TheVariants.{Add, Load}
 use Rattle.lot_words.specs.Codes.{shared}
-use Rattle.lot_words.specs.Draws.{IsDrawn}
-use Rattle.lot_words.specs.Plays.{drew_permits}
-use Rattle.lot_words.specs.Views.{owned}
+use Rattle.lot_words.specs.Views.{drew_permits, owned}
 use Rattle.lot_words.specs.declared.words.Word.{Word}
 use Rattle.lot_words.specs.declared.words.WordKind as kinds
 use Rattle.parking_lot_core.specs.declared.lot.ParkingLot.{ParkingLot}
@@ -25,6 +23,9 @@ word_of semaphore = semaphore.word
 
 abbrev pub number_of : Semaphore → ℕ
 number_of semaphore = semaphore.word.number
+
+abbrev pub permits_of : Semaphore → ℕ
+permits_of semaphore = semaphore.permits
 
 -- the semaphore of which a permit is
 abbrev pub semaphore_of : Permit → Semaphore

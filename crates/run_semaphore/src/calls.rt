@@ -1,19 +1,21 @@
 //! The steps of which the calls of a semaphore are made, and what each call leaves to the driver.
-ghost use Rattle.std.specs.Prelude.{◌≡◌, ◌≢◌, ◌++◌, ◌∷◌, ◌-◌, List, None, true, false};
+ghost use Rattle.std.specs.Prelude.{ℕ, ◌≡◌, ◌≢◌, ◌≤◌, ◌++◌, ◌∷◌, ◌-◌, ◌*◌, ◌^◌, List, None, true, false};
 ghost use Rattle.abstract_locks.specs.Codes.{has_parked};
 ghost use Rattle.lot_base.specs.Clocks.{IsUp};
 ghost use Rattle.lot_base.specs.declared.ops.Op.TheVariants.{Add, Exchange};
 ghost use Rattle.lot_semaphore.specs.SemaphoreSteps.{is_free};
-ghost use Rattle.lot_words.specs.Steps.{has, without};
+ghost use Rattle.lot_words.specs.Steps.{has, holding, without};
+ghost use Rattle.lot_words.specs.declared.owners.Ownership.{Ownership};
 ghost use Rattle.lot_words.specs.declared.views.WordStep.{WordStep};
 ghost use Rattle.parking_lot_core.specs.Tokens.{IsSameThread, IsTokenOf, last_of};
 ghost use Rattle.lot_driver.specs.Fitting.{AreWordsFor, Fits, IsOver, aim_of};
 ghost use Rattle.lot_driver.specs.Paths.{Walks, at_semaphore, semaphore_at, step};
-ghost use Rattle.lot_driver.specs.SemaphoreFitting.{IsSemaphoreOver, acquires, permit, releases, tries_once};
+ghost use Rattle.lot_driver.specs.SemaphoreFitting.{FitsSemaphore, IsSemaphoreOver, acquires, permit, purpose_at, releases, tries_once};
+ghost use Rattle.lot_steps.specs.declared.places.Place.TheVariants.{Semaphore};
 ghost use Rattle.lot_driver.specs.Stages.{stage_of};
 ghost use Rattle.lot_driver.specs.Telling.{owns_of, steps_of};
 ghost use Rattle.lot_driver.specs.Words.{alone, at_in, kind_in};
-ghost use Rattle.run_semaphore.specs.Calls.{HasAdded, HasFound, HasLooked, MeetsSemaphore, deciding, giving, trying};
+ghost use Rattle.run_semaphore.specs.Calls.{HasAdded, HasFound, HasLooked, MeetsSemaphore, deciding, trying, waking};
 
 use lot_calls::Answer;
 use lot_driver::driver::{NO_LIMIT, Stop, run};
@@ -69,6 +71,22 @@ pub(crate) fn give(lot: &ParkingLot, token: &mut Token, word: Word) -> u64
     semaphore_may_step();
     semaphore_trades();
     lot.word(token, word, Op::Add(2))
+}
+
+/// The addition that gives all permits of a new semaphore, which its thread holds.
+pub(crate) fn give_all(lot: &ParkingLot, token: &mut Token, word: Word, permits: u64)
+    requires own { MeetsSemaphore lot.now token.old word }
+    requires few { permits ≤ 2 ^ 62 }
+    requires held { (rest : List Ownership)
+        × (owns_of token.old ≡ holding (semaphore_at word.number) permits ++ rest) }
+    ensures own { IsSameThread lot.now token.old token.new }
+    ensures added { (seen : ℕ) × (steps_of token.new
+        ≡ steps_of token.old ++ step (semaphore_at word.number) (Add (2 * permits)) seen) }
+    ensures gave { (rest : List Ownership)
+        → owns_of token.old ≡ holding (semaphore_at word.number) permits ++ rest
+        → owns_of token.new ≡ rest }
+{
+    lot.word(token, word, Op::Add(2 * permits));
 }
 
 // Runs a call of a semaphore from a place to its answer.
