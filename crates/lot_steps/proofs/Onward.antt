@@ -6,14 +6,16 @@ use Rattle.lot_acts.specs.declared.acts.Next.{Next}
 use Rattle.lot_acts.specs.declared.acts.Next.TheVariants.{At, End}
 use Rattle.lot_acts.specs.declared.acts.Reply.{Reply}
 use Rattle.lot_steps.specs.declared.places.Place.{Place}
-use Rattle.lot_steps.specs.declared.places.Place.TheVariants.{Idle, Mutex, RwLock, Once, Condvar}
-use Rattle.lot_steps.specs.Steps.{act_of, next_place, next_act, mutex_goes, mutex_does, rwlock_goes, rwlock_does, once_goes, once_does, condvar_goes, condvar_does}
+use Rattle.lot_steps.specs.declared.places.Place.TheVariants.{Idle, Mutex, RwLock, Once, Condvar, Semaphore}
+use Rattle.lot_steps.specs.Steps.{act_of, next_place, next_act, mutex_goes, mutex_does, rwlock_goes, rwlock_does, once_goes, once_does, condvar_goes, condvar_does, semaphore_goes, semaphore_does}
 use Rattle.lot_condvar.specs.CondvarSteps.{condvar_next}
 use Rattle.lot_condvar.specs.declared.places.CondvarPlace.{CondvarPlace}
 use Rattle.lot_mutex.specs.MutexSteps.{mutex_next}
 use Rattle.lot_mutex.specs.declared.places.MutexPlace.{MutexPlace}
 use Rattle.lot_once.specs.OnceSteps.{once_next}
 use Rattle.lot_once.specs.declared.places.OncePlace.{OncePlace}
+use Rattle.lot_semaphore.specs.SemaphoreSteps.{semaphore_next}
+use Rattle.lot_semaphore.specs.declared.places.SemaphorePlace.{SemaphorePlace}
 use Rattle.lot_rwlock_fair.specs.FairSteps.{call_next}
 use Rattle.lot_rwlock_fair.specs.declared.places.RwLockCallPlace.{RwLockCallPlace}
 
@@ -38,5 +40,10 @@ does (Once lock at) r goes = of (once_next at r) goes
 does (Condvar lock at) r goes = of (condvar_next at r) goes
   where
     of : (n : Next CondvarPlace) → ((x : Answer) → condvar_does lock n ≢ act.TheVariants.End x) → condvar_does lock n ≡ act_of (condvar_goes lock n)
+    of (At q) h = refl
+    of (End x) h = absurd (h x refl)
+does (Semaphore lock at) r goes = of (semaphore_next at r) goes
+  where
+    of : (n : Next SemaphorePlace) → ((x : Answer) → semaphore_does lock n ≢ act.TheVariants.End x) → semaphore_does lock n ≡ act_of (semaphore_goes lock n)
     of (At q) h = refl
     of (End x) h = absurd (h x refl)
