@@ -1,4 +1,8 @@
 pub mod KindsKept
+pub mod PermitsKept
+pub mod SemaphoreMoves
+pub mod SemaphoreMovesKept
+pub mod SemaphoreKept
 pub mod PlainCalls
 pub mod Closures
 pub mod Closings
