@@ -39,7 +39,16 @@ use Rattle.lot_condvar.specs.declared.wait.WaitAt.TheVariants as wait
 use Rattle.lot_condvar.specs.CondvarProfiles.{condvar_profile, condvar_row, mutex_side}
 use Rattle.lot_condvar.specs.CondvarSteps.{condvar_next, in_wait, mutex_beside, relocked}
 use Rattle.lot_steps.specs.declared.places.Place.{Place}
-use Rattle.lot_steps.specs.declared.places.Place.TheVariants.{Idle, Mutex, RwLock, Once, Condvar}
+use Rattle.lot_steps.specs.declared.places.Place.TheVariants.{Idle, Mutex, RwLock, Once, Condvar, Semaphore}
+use Rattle.lot_semaphore.specs.declared.places.SemaphorePlace.{SemaphorePlace}
+use Rattle.lot_semaphore.specs.declared.places.SemaphorePlace.TheVariants as semaphores
+use Rattle.lot_semaphore.specs.declared.acquire.AcquireAt.{AcquireAt}
+use Rattle.lot_semaphore.specs.declared.acquire.AcquireAt.TheVariants as acquire
+use Rattle.lot_semaphore.specs.declared.release.ReleaseAt.{ReleaseAt}
+use Rattle.lot_semaphore.specs.declared.release.ReleaseAt.TheVariants as giving
+use Rattle.lot_semaphore.specs.SemaphoreSteps.{semaphore_next}
+use Rattle.lot_semaphore.specs.SemaphoreProfiles.{semaphore_profile}
+use Rattle.lot_steps.specs.Steps.{semaphore_goes}
 use Rattle.lot_steps.specs.Steps.{condvar_goes, is_lock, mutex_goes, next_place, once_goes, profile_at, rwlock_goes}
 use Rattle.abstract_locks.specs.Condvars.{Stage}
 use Rattle.lot_laws.proofs.RowPromises.{Befalls}
@@ -75,6 +84,13 @@ shared_says : (a : Admission) (at : RwLockCallPlace) → SaysNothing (call_profi
 shared_says a (places.Plain p) = (refl, refl)
 shared_says a at = (refl, refl)
 
+semaphore_says : (at : SemaphorePlace) → SaysNothing (semaphore_profile at)
+semaphore_says (semaphores.Acquire timed retries acquire.Load) = (refl, refl)
+semaphore_says (semaphores.Acquire timed retries at) = (refl, refl)
+semaphore_says (semaphores.Try at) = (refl, refl)
+semaphore_says (semaphores.Release giving.Add) = (refl, refl)
+semaphore_says (semaphores.Release at) = (refl, refl)
+
 pub row_says : (p : Place) (k : ℕ) → ((profile_at p k).stage ≡ stage_of p k) × ((profile_at p k).names ≡ names_of p k)
 row_says Idle k = (refl, refl)
 row_says (Mutex l at) k = either (l == k)
@@ -91,6 +107,11 @@ row_says (Once l at) k = either (l == k)
   where
     either : (b : Bool) → SaysNothing (if b then once_profile at else blank)
     either true = once_says at
+    either false = (refl, refl)
+row_says (Semaphore l at) k = either (l == k)
+  where
+    either : (b : Bool) → SaysNothing (if b then semaphore_profile at else blank)
+    either true = semaphore_says at
     either false = (refl, refl)
 row_says (Condvar c at) k = either (c == k) (is_lock k (mutex_beside at))
   where
@@ -224,6 +245,11 @@ stage_unmoved k (Once l at) r h = by_next (once_next at r)
     by_next : (n : Next OncePlace) → stage_of (once_goes l n) k ≡ None
     by_next (next.At q) = refl
     by_next (next.End answer) = refl
+stage_unmoved k (Semaphore l at) r h = by_next (semaphore_next at r)
+  where
+    by_next : (n : Next SemaphorePlace) → stage_of (semaphore_goes l n) k ≡ None
+    by_next (next.At q) = refl
+    by_next (next.End answer) = refl
 stage_unmoved k (Condvar c at) r h = let x = says_same at r h in ap (λ n. stage_of (condvar_goes c n) k) x.goes ∙ ap (λ o. if c == k then o else None) x.stage
 
 pub names_unmoved : (k : ℕ) (p : Place) (r : Reply) → Befalls r → names_of (next_place p r) k ≡ names_of p k
@@ -241,6 +267,11 @@ names_unmoved k (RwLock l a c) r h = by_next (call_next a c r)
 names_unmoved k (Once l at) r h = by_next (once_next at r)
   where
     by_next : (n : Next OncePlace) → names_of (once_goes l n) k ≡ None
+    by_next (next.At q) = refl
+    by_next (next.End answer) = refl
+names_unmoved k (Semaphore l at) r h = by_next (semaphore_next at r)
+  where
+    by_next : (n : Next SemaphorePlace) → names_of (semaphore_goes l n) k ≡ None
     by_next (next.At q) = refl
     by_next (next.End answer) = refl
 names_unmoved k (Condvar c at) r h = let x = says_same at r h in ap (λ n. names_of (condvar_goes c n) k) x.goes ∙ ap (λ o. if c == k then o else None) x.names

@@ -35,7 +35,14 @@ use Rattle.lot_condvar.specs.declared.wait.WaitAt.{WaitAt}
 use Rattle.lot_condvar.specs.declared.wait.WaitAt.TheVariants as wait
 use Rattle.lot_condvar.specs.CondvarProfiles.{condvar_row, hand_of, is_listed, is_main, is_moved, notify_row, wait_row}
 use Rattle.lot_steps.specs.declared.places.Place.{Place}
-use Rattle.lot_steps.specs.declared.places.Place.TheVariants.{Idle, Mutex, RwLock, Once, Condvar}
+use Rattle.lot_steps.specs.declared.places.Place.TheVariants.{Idle, Mutex, RwLock, Once, Condvar, Semaphore}
+use Rattle.lot_semaphore.specs.declared.places.SemaphorePlace.{SemaphorePlace}
+use Rattle.lot_semaphore.specs.declared.places.SemaphorePlace.TheVariants as semaphores
+use Rattle.lot_semaphore.specs.declared.acquire.AcquireAt.{AcquireAt}
+use Rattle.lot_semaphore.specs.declared.acquire.AcquireAt.TheVariants as acquire
+use Rattle.lot_semaphore.specs.declared.release.ReleaseAt.{ReleaseAt}
+use Rattle.lot_semaphore.specs.declared.release.ReleaseAt.TheVariants as giving
+use Rattle.lot_semaphore.specs.SemaphoreProfiles.{semaphore_profile}
 use Rattle.lot_steps.specs.Steps.{beside_of, calls, is_lock, or_else, profile, profile_beside, taker}
 use Rattle.lot_machine.specs.Machine.{State, place_at}
 use Rattle.lot_laws.specs.Refinement.{lock_state, taken_at}
@@ -121,6 +128,15 @@ in_some : (b : Bool) (m : Line) → (if b then Some Main else None) ≡ Some m �
 in_some true m h = refl
 in_some false m h = absurd cc
 
+semaphore_unheld : (to : SemaphorePlace) → IsUnheld (semaphore_profile to)
+semaphore_unheld (semaphores.Acquire timed retries acquire.Asleep) m h = refl
+semaphore_unheld (semaphores.Acquire timed retries (acquire.Leave parked)) m h = refl
+semaphore_unheld (semaphores.Acquire timed retries acquire.Remove) m h = refl
+semaphore_unheld (semaphores.Acquire timed retries to) m h = absurd cc
+semaphore_unheld (semaphores.Try to) m h = absurd cc
+semaphore_unheld (semaphores.Release giving.Add) m h = absurd cc
+semaphore_unheld (semaphores.Release to) m h = absurd cc
+
 -- ---------------------------------------------------------------- any place
 
 one_unheld : (row : Profile) (b : Bool) → IsUnheld row → (m : Line) → (if b then station_by row else nowhere).stands ≡ Some m
@@ -133,6 +149,7 @@ stands_free Idle l m h = absurd cc
 stands_free (Mutex k to) l m h = one_unheld (profile (Mutex k to)) (calls (Mutex k to) l) (mutex_unheld to) m h
 stands_free (RwLock k a c) l m h = one_unheld (profile (RwLock k a c)) (calls (RwLock k a c) l) (call_unheld a c) m h
 stands_free (Once k to) l m h = one_unheld (profile (Once k to)) (calls (Once k to) l) (once_unheld to) m h
+stands_free (Semaphore k to) l m h = one_unheld (profile (Semaphore k to)) (calls (Semaphore k to) l) (semaphore_unheld to) m h
 stands_free (Condvar k to) l m h = by_locks (calls (Condvar k to) l) (is_lock l (beside_of (Condvar k to))) h
   where
     by_locks : (b c : Bool) → (if b then station (Condvar k to) else if c then station_by (profile_beside (Condvar k to)) else nowhere).stands ≡ Some m

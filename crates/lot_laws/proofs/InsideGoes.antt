@@ -47,7 +47,17 @@ use Rattle.lot_condvar.specs.declared.notify.NotifyAt.TheVariants as notify
 use Rattle.lot_condvar.specs.CondvarProfiles.{condvar_profile, condvar_row, notify_row, wait_row}
 use Rattle.lot_condvar.specs.CondvarSteps.{condvar_act, move_act, notify_act, wait_act}
 use Rattle.lot_steps.specs.declared.places.Place.{Place}
-use Rattle.lot_steps.specs.declared.places.Place.TheVariants.{Idle, Mutex, RwLock, Once, Condvar}
+use Rattle.lot_steps.specs.declared.places.Place.TheVariants.{Idle, Mutex, RwLock, Once, Condvar, Semaphore}
+use Rattle.lot_semaphore.specs.declared.places.SemaphorePlace.{SemaphorePlace}
+use Rattle.lot_semaphore.specs.declared.places.SemaphorePlace.TheVariants as semaphores
+use Rattle.lot_semaphore.specs.declared.acquire.AcquireAt.{AcquireAt}
+use Rattle.lot_semaphore.specs.declared.acquire.AcquireAt.TheVariants as acquire
+use Rattle.lot_semaphore.specs.declared.release.ReleaseAt.{ReleaseAt}
+use Rattle.lot_semaphore.specs.declared.release.ReleaseAt.TheVariants as giving
+use Rattle.lot_semaphore.specs.declared.tries.TryAt.{TryAt}
+use Rattle.lot_semaphore.specs.declared.tries.TryAt.TheVariants as trying
+use Rattle.lot_semaphore.specs.SemaphoreProfiles.{semaphore_profile}
+use Rattle.lot_semaphore.specs.SemaphoreSteps.{semaphore_act}
 use Rattle.lot_steps.specs.Steps.{act_of, beside_of, calls, is_lock, profile, profile_beside}
 use Rattle.lot_machine.specs.Machine.{State, place_at}
 use Rattle.lot_laws.specs.Stations.{doing_on}
@@ -117,6 +127,19 @@ call_goes l a (fair.Bump p) m h = rwlock_goes l a _ p p.at m h
 call_goes l a (fair.HandOver x b to) m h = handing_goes l a x to m h
 call_goes l a c m h = absurd cc
 
+semaphore_goes : (l : ℕ) (to : SemaphorePlace) → Goes (semaphore_profile to).doing (semaphore_act l to)
+semaphore_goes l (semaphores.Acquire timed retries acquire.Check) m h = (refl, refl, refl)
+semaphore_goes l (semaphores.Acquire timed retries (acquire.Leave parked)) m h = (refl, refl, refl)
+semaphore_goes l (semaphores.Acquire timed retries acquire.Remove) m h = (refl, refl, refl)
+semaphore_goes l (semaphores.Acquire timed retries acquire.Clear) m h = (refl, refl, refl)
+semaphore_goes l (semaphores.Acquire timed retries acquire.GiveUp) m h = (refl, refl, refl)
+semaphore_goes l (semaphores.Acquire timed retries to) m h = absurd cc
+semaphore_goes l (semaphores.Try to) m h = absurd cc
+semaphore_goes l (semaphores.Release giving.Take) m h = (refl, refl, refl)
+semaphore_goes l (semaphores.Release (giving.Clear any)) m h = (refl, refl, refl)
+semaphore_goes l (semaphores.Release (giving.Leave any)) m h = (refl, refl, refl)
+semaphore_goes l (semaphores.Release to) m h = absurd cc
+
 once_goes : (l : ℕ) (to : OncePlace) → Goes (once_profile to).doing (once_act l to)
 once_goes l (once.Look c retries look.Check) m h = (refl, refl, refl)
 once_goes l (once.Look c retries (look.Leave parked)) m h = (refl, refl, refl)
@@ -174,6 +197,7 @@ place_goes (RwLock l a (fair.Plain p)) m h = call_goes l a (fair.Plain p) m h
 place_goes (RwLock l a (fair.Bump p)) m h = call_goes l a (fair.Bump p) m h
 place_goes (RwLock l a c) m h = call_goes l a c m h
 place_goes (Once l to) m h = once_goes l to m h
+place_goes (Semaphore l to) m h = semaphore_goes l to m h
 place_goes (Condvar l (condvar.Wait n timed to)) m h = wait_there l n timed to m h
 place_goes (Condvar l (condvar.Look all)) m h = absurd cc
 place_goes (Condvar l (condvar.Notify all n to)) m h = notify_there l n all to m h

@@ -56,7 +56,8 @@ use Rattle.lot_rwlock_fair.specs.FairLaws.{CallOpens, CallTells, next_rows}
 use Rattle.lot_rwlock_fair.specs.FairSteps.{call_act, call_next, call_owners, call_shares}
 use Rattle.lot_rwlock_fair.proofs.FairOpenings.{calls_open}
 use Rattle.lot_steps.specs.declared.places.Place.{Place}
-use Rattle.lot_steps.specs.declared.places.Place.TheVariants.{Idle, Mutex, RwLock, Once, Condvar}
+use Rattle.lot_steps.specs.declared.places.Place.TheVariants.{Idle, Mutex, RwLock, Once, Condvar, Semaphore}
+use Rattle.lot_semaphore.specs.declared.places.SemaphorePlace.{SemaphorePlace}
 use Rattle.lot_mutex.specs.declared.places.MutexPlace.{MutexPlace}
 use Rattle.lot_once.specs.declared.places.OncePlace.{OncePlace}
 use Rattle.lot_steps.specs.Steps.{next_place, profile, calls, rwlock_goes}
@@ -341,6 +342,12 @@ module _ (w : State) (t l : ℕ) (a : Admission) (c : RwLockCallPlace) (steady :
       let some : has_readers (rules_in w l).sort ≡ true = admits.0 in
       let both : true ≡ false = sym some ∙ ap (λ j. has_readers (rules_in w j).sort) (sym same_lock) ∙ ap has_readers of_once in cc
 
+  pub of_no_semaphore : (u k : ℕ) (p : SemaphorePlace) → place_at w u ≡ Semaphore k p → k ≡ l → ⊥
+  of_no_semaphore u k p e same_lock =
+      let of_semaphore : (rules_in w k).sort ≡ locks.Semaphore = (subst (FitsItsLock w) e (steady.stands.calls u)).0 in
+      let some : has_readers (rules_in w l).sort ≡ true = admits.0 in
+      let both : true ≡ false = sym some ∙ ap (λ j. has_readers (rules_in w j).sort) (sym same_lock) ∙ ap has_readers of_semaphore in cc
+
   pub of_no_condvar : (u k : ℕ) (at : CondvarPlace) → place_at w u ≡ Condvar k at → k ≡ l → ⊥
   of_no_condvar u k at e same_lock =
       let of_condvar : FitsItsLock w (Condvar k at) = subst (FitsItsLock w) e (steady.stands.calls u) in
@@ -493,6 +500,12 @@ module _ (w : State) (t l : ℕ) (a : Admission) (c : RwLockCallPlace) (steady :
           either : (b : Bool) → (k == l) ≡ b → (if b then station (Once k at) else nowhere).hand ≡ hand t true
               → IsWokenAt w t l HandOff (Once k at)
           either true same_lock g = absurd (of_no_once u k at e (eqb-true k l same_lock))
+          either false same_lock g = absurd cc
+      by_place (Semaphore k at) e h = either (k == l) refl h
+        where
+          either : (b : Bool) → (k == l) ≡ b → (if b then station (Semaphore k at) else nowhere).hand ≡ hand t true
+              → IsWokenAt w t l HandOff (Semaphore k at)
+          either true same_lock g = absurd (of_no_semaphore u k at e (eqb-true k l same_lock))
           either false same_lock g = absurd cc
       by_place (Mutex k m) e h = either (k == l) refl h
         where

@@ -55,6 +55,7 @@ named_by Idle l m r names = absurd cc
 named_by (Mutex c at) l m r names = absurd cc
 named_by (RwLock c a at) l m r names = absurd cc
 named_by (Once c at) l m r names = absurd cc
+named_by (Semaphore c at) l m r names = absurd cc
 
 module _ (w : State) (l : ℕ) (condvar : IsCondvar (condvar_of w l)) (free : section_at w (key_of l Main) ≡ None) where
   settled : IsSettled (condvar_of w l)

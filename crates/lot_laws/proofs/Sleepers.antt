@@ -62,7 +62,17 @@ use Rattle.lot_condvar.specs.declared.notify.NotifyAt.{NotifyAt}
 use Rattle.lot_condvar.specs.declared.notify.NotifyAt.TheVariants as notify
 use Rattle.lot_condvar.specs.CondvarSteps.{condvar_act, condvar_next, notify_act, move_act, in_wait, relocked, wait_act}
 use Rattle.lot_steps.specs.declared.places.Place.{Place}
-use Rattle.lot_steps.specs.declared.places.Place.TheVariants.{Idle, Mutex, RwLock, Once, Condvar}
+use Rattle.lot_steps.specs.declared.places.Place.TheVariants.{Idle, Mutex, RwLock, Once, Condvar, Semaphore}
+use Rattle.lot_semaphore.specs.declared.places.SemaphorePlace.{SemaphorePlace}
+use Rattle.lot_semaphore.specs.declared.places.SemaphorePlace.TheVariants as semaphores
+use Rattle.lot_semaphore.specs.declared.acquire.AcquireAt.{AcquireAt}
+use Rattle.lot_semaphore.specs.declared.acquire.AcquireAt.TheVariants as acquire
+use Rattle.lot_semaphore.specs.declared.release.ReleaseAt.{ReleaseAt}
+use Rattle.lot_semaphore.specs.declared.release.ReleaseAt.TheVariants as giving
+use Rattle.lot_semaphore.specs.declared.tries.TryAt.{TryAt}
+use Rattle.lot_semaphore.specs.declared.tries.TryAt.TheVariants as trying
+use Rattle.lot_semaphore.specs.SemaphoreSteps.{is_free, semaphore_act, semaphore_next}
+use Rattle.lot_steps.specs.Steps.{semaphore_goes}
 use Rattle.lot_steps.specs.Steps.{act_of, condvar_goes, late_key, looking, mutex_goes, next_place, once_goes, rwlock_goes, taker}
 use Rattle.lot_machine.specs.Machine.{State, hand_over_told, is_possible, after, listed, moved_threads, place_after_telling, place_at, places_told, put, queue_at, queues_without_first, closed_place, state_after_act, state_after_go, state_after_hand_over_by, state_after_late_on, state_after_look, state_after_taking, state_after_turn, state_with_sections, word_at}
 use Rattle.lot_laws.specs.WorldRuns.{SleepersStay}
@@ -212,6 +222,34 @@ once_quiet l (once.Run forced at) r q h = absurd cc
 once_quiet l (once.GiveUp retries give_up.Remove) r q h = absurd cc
 once_quiet l (once.GiveUp retries at) r q h = absurd cc
 
+-- ---------------------------------------------------------------- a semaphore
+
+acquires_awake : (l seen : ℕ) (b c : Bool) → (if b then act.Word l (operation.Exchange seen (seen - 2)) else if c then act.Word l (operation.Exchange 0 1) else act.Enter (One (2 * l))) ≡ Sleep → ⊥
+acquires_awake l seen true c e = cc
+acquires_awake l seen false true e = cc
+acquires_awake l seen false false e = cc
+
+tries_awake : (l seen : ℕ) (b : Bool) → (if b then act.Word l (operation.Exchange seen (seen - 2)) else act.Word l operation.Load) ≡ Sleep → ⊥
+tries_awake l seen true e = cc
+tries_awake l seen false e = cc
+
+semaphore_quiet : (l : ℕ) (at : SemaphorePlace) (r : Reply) → Quiet r → semaphore_act l at ≡ Sleep
+    → (at2 : SemaphorePlace) × ((semaphore_next at r ≡ At at2) × (semaphore_act l at2 ≡ Sleep))
+semaphore_quiet l (semaphores.Acquire timed retries acquire.Asleep) (TakenBy t) q h = (semaphores.Acquire timed retries (acquire.Taken t), (refl, refl))
+semaphore_quiet l (semaphores.Acquire timed retries acquire.Asleep) (MovedTo key) q h = (semaphores.Acquire timed retries acquire.Asleep, (refl, refl))
+semaphore_quiet l (semaphores.Acquire timed retries acquire.Asleep) (HandedBy t alone) q h = (semaphores.Acquire timed retries acquire.Asleep, (refl, refl))
+semaphore_quiet l (semaphores.Acquire timed retries (acquire.Taken u)) (TakenBy t) q h = (semaphores.Acquire timed retries (acquire.Taken u), (refl, refl))
+semaphore_quiet l (semaphores.Acquire timed retries (acquire.Taken u)) (MovedTo key) q h = (semaphores.Acquire timed retries (acquire.Taken u), (refl, refl))
+semaphore_quiet l (semaphores.Acquire timed retries (acquire.Taken u)) (HandedBy t alone) q h = (semaphores.Acquire timed retries (acquire.Taken u), (refl, refl))
+semaphore_quiet l (semaphores.Acquire timed retries acquire.Asleep) r q h = absurd q
+semaphore_quiet l (semaphores.Acquire timed retries (acquire.Taken u)) r q h = absurd q
+semaphore_quiet l (semaphores.Acquire timed retries (acquire.Decide seen)) r q h = absurd (acquires_awake l seen (is_free seen) (seen == 0) h)
+semaphore_quiet l (semaphores.Acquire timed retries at) r q h = absurd cc
+semaphore_quiet l (semaphores.Try (trying.Decide seen)) r q h = absurd (tries_awake l seen (is_free seen) h)
+semaphore_quiet l (semaphores.Try at) r q h = absurd cc
+semaphore_quiet l (semaphores.Release giving.Add) r q h = absurd cc
+semaphore_quiet l (semaphores.Release at) r q h = absurd cc
+
 -- ---------------------------------------------------------------- a condition variable
 
 wait_quiet : (l m : ℕ) (timed : Bool) (at : WaitAt) (r : Reply) → Quiet r → wait_act l m at ≡ Sleep
@@ -251,6 +289,7 @@ place_quiet r q Idle h = absurd cc
 place_quiet r q (Mutex l at) h = let stays = mutex_quiet l at r q h in ap (λ n. act_of (mutex_goes l n)) stays.1.0 ∙ stays.1.1
 place_quiet r q (RwLock l a c) h = let stays = call_quiet l a c r q h in ap (λ n. act_of (rwlock_goes l a n)) stays.1.0 ∙ stays.1.1
 place_quiet r q (Once l at) h = let stays = once_quiet l at r q h in ap (λ n. act_of (once_goes l n)) stays.1.0 ∙ stays.1.1
+place_quiet r q (Semaphore l at) h = let stays = semaphore_quiet l at r q h in ap (λ n. act_of (semaphore_goes l n)) stays.1.0 ∙ stays.1.1
 place_quiet r q (Condvar l at) h = let stays = condvar_quiet l at r q h in ap (λ n. act_of (condvar_goes l n)) stays.1.0 ∙ stays.1.1
 
 -- ---------------------------------------------------------------- the act of another thread
