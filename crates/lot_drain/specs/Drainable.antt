@@ -90,6 +90,7 @@ gain_of (place.Mutex l at) = mutex_gain at
 gain_of (place.RwLock l a at) = call_gain at
 gain_of (place.Once l at) = None
 gain_of (place.Condvar l at) = None
+gain_of (place.Semaphore l at) = None
 
 -- whether it may be the pending writer: where its call does more than give a right up
 abbrev pub mutex_may_pend : MutexPlace → Bool
@@ -119,6 +120,7 @@ may_pend (place.Mutex l at) = mutex_may_pend at
 may_pend (place.RwLock l a at) = call_may_pend at
 may_pend (place.Once l at) = true
 may_pend (place.Condvar l at) = true
+may_pend (place.Semaphore l at) = true
 
 -- how many rights that is
 abbrev pub gained : Gain → Rights → ℕ
@@ -164,6 +166,7 @@ has_owners (kind.RwLock limit) = true
 has_owners (kind.Recursive limit) = true
 has_owners kind.Condvar = false
 has_owners kind.Once = false
+has_owners (kind.Semaphore permits) = false
 
 abbrev pub is_below : Option ℕ → ℕ → Bool
 is_below None n = true

@@ -43,7 +43,7 @@ fn has_owners(kind: Kind) -> bool
 {
     match kind {
         Kind::Mutex | Kind::Fair | Kind::RwLock { .. } | Kind::Recursive { .. } => true,
-        Kind::Condvar | Kind::Once => false,
+        Kind::Condvar | Kind::Once | Kind::Semaphore { .. } => false,
     }
 }
 

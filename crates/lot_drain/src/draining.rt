@@ -232,7 +232,7 @@ impl<Q: Queues + Drop> Drain<Q> {
             Kind::RwLock { .. } | Kind::Recursive { .. } => {
                 self.first_begin(thread, &RWLOCK_RELEASES)
             }
-            Kind::Mutex | Kind::Fair | Kind::Condvar | Kind::Once => {
+            Kind::Mutex | Kind::Fair | Kind::Condvar | Kind::Once | Kind::Semaphore { .. } => {
                 self.first_begin(thread, &MUTEX_RELEASES)
             }
         }
@@ -312,10 +312,11 @@ fn entry_of(kind: Kind) -> Call
                 patience: Patience::Patient,
             },
         },
-        Kind::Mutex | Kind::Fair | Kind::Condvar | Kind::Once => Call::Mutex {
-            lock: LOCK,
-            call: MutexCall::Lock,
-        },
+        Kind::Mutex | Kind::Fair | Kind::Condvar | Kind::Once | Kind::Semaphore { .. } =>
+            Call::Mutex {
+                lock: LOCK,
+                call: MutexCall::Lock,
+            },
     }
 }
 
@@ -328,9 +329,10 @@ fn fair_release_of(kind: Kind) -> Call
             lock: LOCK,
             call: RwLockCall::ReleaseFair(Access::Exclusive),
         },
-        Kind::Mutex | Kind::Fair | Kind::Condvar | Kind::Once => Call::Mutex {
-            lock: LOCK,
-            call: MutexCall::UnlockFair,
-        },
+        Kind::Mutex | Kind::Fair | Kind::Condvar | Kind::Once | Kind::Semaphore { .. } =>
+            Call::Mutex {
+                lock: LOCK,
+                call: MutexCall::UnlockFair,
+            },
     }
 }

@@ -25,7 +25,7 @@ pub(crate) fn gain_of(place: Place) -> Option<Gain>
     match place {
         Place::Mutex { at, .. } => mutex_gain(at),
         Place::RwLock { at, .. } => call_gain(at),
-        Place::Idle | Place::Once { .. } | Place::Condvar { .. } => None,
+        Place::Idle | Place::Once { .. } | Place::Condvar { .. } | Place::Semaphore { .. } => None,
     }
 }
 
@@ -47,7 +47,7 @@ pub(crate) fn may_pend(place: Place) -> bool
             RwLockCallPlace::Glance(_) | RwLockCallPlace::Bump(_) => true,
             RwLockCallPlace::Handed { .. } => true,
         },
-        Place::Once { .. } | Place::Condvar { .. } => true,
+        Place::Once { .. } | Place::Condvar { .. } | Place::Semaphore { .. } => true,
     }
 }
 

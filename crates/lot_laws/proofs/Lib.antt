@@ -91,6 +91,13 @@ pub mod CondvarOwing
 pub mod OnceOwing
 pub mod OnceRows
 pub mod OnceNext
+pub mod PermitsKept
+pub mod SemaphoreMoves
+pub mod SemaphoreMovesKept
+pub mod SemaphoreOwing
+pub mod SemaphoreNext
+pub mod SemaphoreEnds
+pub mod SemaphoreSolo
 pub mod RwLockOwing
 pub mod CallOwing
 pub mod PlaceSteps

@@ -57,6 +57,7 @@ call_at names kind (calling.Mutex call) lock = Some (calls.TheVariants.Mutex loc
 call_at names kind (calling.RwLock call) lock = Some (calls.TheVariants.RwLock lock call)
 call_at names kind (calling.Once call) lock =
     if is_condvar kind && is_bare_wait call then None else Some (calls.TheVariants.Once lock call)
+call_at names kind (calling.Semaphore call) lock = Some (calls.TheVariants.Semaphore lock call)
 call_at names kind (calling.Notify all) lock =
     Some (calls.TheVariants.Condvar lock (condvar.Notify all))
 call_at names kind (calling.Wait mutex timed) lock =

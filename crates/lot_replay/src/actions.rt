@@ -51,6 +51,7 @@ impl<Q: Queues + Drop> Session<Q> {
             NamedCall::Mutex(call) => Some(Call::Mutex { lock, call }),
             NamedCall::RwLock(call) => Some(Call::RwLock { lock, call }),
             NamedCall::Once(call) => once_call(lock, call, on_condvar),
+            NamedCall::Semaphore(call) => Some(Call::Semaphore { lock, call }),
             NamedCall::Notify { all } => {
                 let call = CondvarCall::Notify { all };
                 Some(Call::Condvar { lock, call })

@@ -16,6 +16,8 @@ use Rattle.lot_calls.specs.declared.calls.MutexCall.{MutexCall}
 use Rattle.lot_calls.specs.declared.calls.MutexCall.TheVariants as mutex
 use Rattle.lot_calls.specs.declared.calls.OnceCall.{OnceCall}
 use Rattle.lot_calls.specs.declared.calls.OnceCall.TheVariants as once
+use Rattle.lot_calls.specs.declared.calls.SemaphoreCall.{SemaphoreCall}
+use Rattle.lot_calls.specs.declared.calls.SemaphoreCall.TheVariants as semaphore
 use Rattle.lot_calls.specs.declared.calls.Patience.TheVariants.{Patient, Timed, Try}
 use Rattle.lot_calls.specs.declared.calls.RwLockCall.{RwLockCall}
 use Rattle.lot_calls.specs.declared.calls.RwLockCall.TheVariants as rwlock
@@ -28,7 +30,7 @@ use Rattle.lot_text.specs.declared.grammar.NamedTurn.{NamedTurn}
 use Rattle.lot_text.specs.declared.grammar.NamedTurn.TheVariants as turns
 use Rattle.lot_text.specs.Grammar.{call_of, calling_command_of, calling_turn_of, command_of, digits_after, has_form, limited_kind_of, lock_command, meaning, number_of, turn_command, turn_of, wait_of, words_of}
 use Rattle.lot_text.specs.Names.{is_digit, is_name, name_of}
-use Rattle.lot_text.specs.Steps.{AreNamed, StepsAreReadBack, condvar_word, mutex_word, name_at, once_word, rwlock_word, step_text, turn_named}
+use Rattle.lot_text.specs.Steps.{AreNamed, StepsAreReadBack, condvar_word, mutex_word, name_at, once_word, semaphore_word, rwlock_word, step_text, turn_named}
 use Rattle.lot_text.proofs.GrammarLemmas.{words_only}
 use Rattle.lot_text.proofs.NameLemmas.{both_left, both_right, is_name_byte, name_bytes}
 use Rattle.lot_text.proofs.NumberLaw.{AreDigits, none_some, own, value_after}
@@ -133,6 +135,12 @@ once_read (once.Wait false) = record { lacks = refl; read = refl }
 once_read (once.Wait true) = record { lacks = refl; read = refl }
 once_read once.WaitTimed = record { lacks = refl; read = refl }
 
+semaphore_read : (c : SemaphoreCall) → IsWord (semaphore_word c) (named.Semaphore c)
+semaphore_read (semaphore.Acquire Patient) = record { lacks = refl; read = refl }
+semaphore_read (semaphore.Acquire Timed) = record { lacks = refl; read = refl }
+semaphore_read (semaphore.Acquire Try) = record { lacks = refl; read = refl }
+semaphore_read semaphore.Release = record { lacks = refl; read = refl }
+
 notify_read : (all : Bool) (m : ℕ) → IsWord (condvar_word (condvar.Notify all)) (named.Notify all)
 notify_read false m = record { lacks = refl; read = refl }
 notify_read true m = record { lacks = refl; read = refl }
@@ -180,6 +188,7 @@ module _ (t : ℕ) (below : t < 10 ^ 19) where
   turns_back names (turn.Begin (call.Mutex l c)) h = one_back (mutex_word c) (named.Mutex c) (name_at names l) (mutex_read c) h.0
   turns_back names (turn.Begin (call.RwLock l c)) h = one_back (rwlock_word c) (named.RwLock c) (name_at names l) (rwlock_read c) h.0
   turns_back names (turn.Begin (call.Once l c)) h = one_back (once_word c) (named.Once c) (name_at names l) (once_read c) h.0
+  turns_back names (turn.Begin (call.Semaphore l c)) h = one_back (semaphore_word c) (named.Semaphore c) (name_at names l) (semaphore_read c) h.0
   turns_back names (turn.Begin (call.Condvar l (condvar.Notify all))) h = one_back (condvar_word (condvar.Notify all)) (named.Notify all) (name_at names l) (notify_read all l) h.0
   turns_back names (turn.Begin (call.Condvar l (condvar.Wait m false))) h = two_back (codes "wait") false (name_at names l) (name_at names m) refl refl h.0 h.1
   turns_back names (turn.Begin (call.Condvar l (condvar.Wait m true))) h = two_back (codes "wait_timed") true (name_at names l) (name_at names m) refl refl h.0 h.1

@@ -10,6 +10,8 @@ use Rattle.lot_calls.specs.declared.calls.RwLockCall.{RwLockCall}
 use Rattle.lot_calls.specs.declared.calls.RwLockCall.TheVariants.{Enter, Release, ReleaseFair, Downgrade, Upgrade, Bump}
 use Rattle.lot_calls.specs.declared.calls.OnceCall.{OnceCall}
 use Rattle.lot_calls.specs.declared.calls.OnceCall.TheVariants.{CallOnce, Wait, WaitTimed}
+use Rattle.lot_calls.specs.declared.calls.SemaphoreCall.{SemaphoreCall}
+use Rattle.lot_calls.specs.declared.calls.SemaphoreCall as semaphore
 use Rattle.lot_calls.specs.declared.calls.Access.TheVariants.{Shared, Upgradable, Exclusive}
 use Rattle.lot_calls.specs.declared.calls.Downgrade.TheVariants.{ToShared, ToUpgradable, UpgradableToShared}
 use Rattle.lot_calls.specs.declared.calls.Patience.TheVariants.{Patient, Timed, Try}
@@ -40,21 +42,27 @@ abbrev pub number_of : List ℕ → Option ℕ
 number_of word = if has_form word then digits_after 0 word else None
 
 -- a reader-writer lock with a limit
-abbrev pub limited_kind_of : List ℕ → Option ℕ → Option Kind
-limited_kind_of word None = None
-limited_kind_of word (Some limit) =
+abbrev pub rwlock_kind_of : List ℕ → ℕ → Option Kind
+rwlock_kind_of word limit =
     if bytes_eq word (codes "rwlock") then Some (kind.TheVariants.RwLock limit)
     else (if bytes_eq word (codes "recursive") then Some (kind.TheVariants.Recursive limit)
     else None)
 
--- without one, readers may be as many as fit into a word
+-- one with a limit, or a semaphore with its permits
+abbrev pub limited_kind_of : List ℕ → Option ℕ → Option Kind
+limited_kind_of word None = None
+limited_kind_of word (Some limit) =
+    if bytes_eq word (codes "semaphore") then Some (kind.TheVariants.Semaphore limit)
+    else rwlock_kind_of word limit
+
+-- without a limit, readers may be as many as fit into a word; a semaphore always says its permits
 abbrev pub kind_of : List ℕ → Option Kind
 kind_of word =
     if bytes_eq word (codes "mutex") then Some kind.TheVariants.Mutex
     else (if bytes_eq word (codes "fair") then Some kind.TheVariants.Fair
     else (if bytes_eq word (codes "condvar") then Some kind.TheVariants.Condvar
     else (if bytes_eq word (codes "once") then Some kind.TheVariants.Once
-    else limited_kind_of word (Some MOST_READERS))))
+    else rwlock_kind_of word MOST_READERS)))
 
 abbrev pub mutex_call_of : List ℕ → Option MutexCall
 mutex_call_of word =
@@ -114,6 +122,14 @@ once_call_of word =
     else (if bytes_eq word (codes "wait_timed") then Some WaitTimed
     else None))))
 
+abbrev pub semaphore_call_of : List ℕ → Option SemaphoreCall
+semaphore_call_of word =
+    if bytes_eq word (codes "acquire") then Some (semaphore.TheVariants.Acquire Patient)
+    else (if bytes_eq word (codes "acquire_timed") then Some (semaphore.TheVariants.Acquire Timed)
+    else (if bytes_eq word (codes "try_acquire") then Some (semaphore.TheVariants.Acquire Try)
+    else (if bytes_eq word (codes "release") then Some semaphore.TheVariants.Release
+    else None)))
+
 -- one that notifies who waits on a condition variable
 abbrev pub notification_of : List ℕ → Option NamedCall
 notification_of word =
@@ -131,17 +147,18 @@ wait_of word (Some mutex) =
 
 -- the first of them that is there
 abbrev pub first_call : Option MutexCall → Option RwLockCall → Option RwLockCall → Option OnceCall
-    → Option NamedCall → Option NamedCall
-first_call (Some c) enters other once notifies = Some (call.TheVariants.Mutex c)
-first_call None (Some c) other once notifies = Some (call.TheVariants.RwLock c)
-first_call None None (Some c) once notifies = Some (call.TheVariants.RwLock c)
-first_call None None None (Some c) notifies = Some (call.TheVariants.Once c)
-first_call None None None None notifies = notifies
+    → Option SemaphoreCall → Option NamedCall → Option NamedCall
+first_call (Some c) enters other once permits notifies = Some (call.TheVariants.Mutex c)
+first_call None (Some c) other once permits notifies = Some (call.TheVariants.RwLock c)
+first_call None None (Some c) once permits notifies = Some (call.TheVariants.RwLock c)
+first_call None None None (Some c) permits notifies = Some (call.TheVariants.Once c)
+first_call None None None None (Some c) notifies = Some (call.TheVariants.Semaphore c)
+first_call None None None None None notifies = notifies
 
 abbrev pub call_of : List ℕ → Option NamedCall
 call_of word =
     first_call (mutex_call_of word) (entering_call_of word) (other_call_of word) (once_call_of word)
-    (notification_of word)
+    (semaphore_call_of word) (notification_of word)
 
 -- a turn by which a closure answers
 abbrev pub closing_turn_of : List ℕ → Option NamedTurn
@@ -182,7 +199,7 @@ calling_command_of a b c d =
     (option_and_then (λ call. option_and_then (calling_turn_of b call) (name_of d)) c)
 
 -- the words of a line with a meaning: `show`, `drain`, `threads N`, `T TURN`, `lock NAME KIND`,
--- `lock NAME KIND LIMIT`, `T begin CALL NAME`, `T do CALL NAME`, and of a wait on a condition
+-- `lock NAME KIND LIMIT`, `lock NAME semaphore PERMITS`, `T begin CALL NAME`, `T do CALL NAME`, and of a wait on a condition
 -- variable `T begin CALL NAME MUTEX`, `T do CALL NAME MUTEX`
 abbrev pub command_of : List (List ℕ) → Option Command
 command_of (a ∷ []) =

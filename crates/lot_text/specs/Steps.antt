@@ -16,6 +16,8 @@ use Rattle.lot_calls.specs.declared.calls.Patience.{Patience}
 use Rattle.lot_calls.specs.declared.calls.Patience.TheVariants.{Patient, Timed, Try}
 use Rattle.lot_calls.specs.declared.calls.RwLockCall.{RwLockCall}
 use Rattle.lot_calls.specs.declared.calls.RwLockCall.TheVariants as rwlock
+use Rattle.lot_calls.specs.declared.calls.SemaphoreCall.{SemaphoreCall}
+use Rattle.lot_calls.specs.declared.calls.SemaphoreCall.TheVariants as semaphore
 use Rattle.lot_calls.specs.declared.calls.Step.{Step}
 use Rattle.lot_calls.specs.declared.calls.Turn.{Turn}
 use Rattle.lot_calls.specs.declared.calls.Turn.TheVariants as turn
@@ -98,6 +100,12 @@ once_word (once.Wait false) = codes "wait"
 once_word (once.Wait true) = codes "wait_force"
 once_word once.WaitTimed = codes "wait_timed"
 
+abbrev pub semaphore_word : SemaphoreCall → List ℕ
+semaphore_word (semaphore.Acquire Patient) = codes "acquire"
+semaphore_word (semaphore.Acquire Timed) = codes "acquire_timed"
+semaphore_word (semaphore.Acquire Try) = codes "try_acquire"
+semaphore_word semaphore.Release = codes "release"
+
 abbrev pub condvar_word : CondvarCall → List ℕ
 condvar_word (condvar.Wait m false) = codes "wait"
 condvar_word (condvar.Wait m true) = codes "wait_timed"
@@ -109,6 +117,7 @@ call_word (call.Mutex l c) = mutex_word c
 call_word (call.RwLock l c) = rwlock_word c
 call_word (call.Once l c) = once_word c
 call_word (call.Condvar l c) = condvar_word c
+call_word (call.Semaphore l c) = semaphore_word c
 
 -- ---------------------------------------------------------------- steps
 
@@ -157,6 +166,7 @@ call_named names (call.Mutex l c) = named.Mutex c
 call_named names (call.RwLock l c) = named.RwLock c
 call_named names (call.Once l c) = named.Once c
 call_named names (call.Condvar l c) = condvar_named names c
+call_named names (call.Semaphore l c) = named.Semaphore c
 
 abbrev pub turn_named : List (List ℕ) → Turn → NamedTurn
 turn_named names (turn.Begin c) = turns.Begin (call_named names c) (name_at names (lock_in c))

@@ -1,12 +1,14 @@
 //! What a line means.
 ghost use Rattle.std.specs.Prelude.{ℕ, List, Some, decimal, ◌^◌, ◌≡◌, ◌≢◌, ◌<◌, ◌≤◌, [], ◌∷◌, length, take, slice_index, All, MatchOption};
 ghost use Rattle.lot_text.specs.Names.{name_of};
-ghost use Rattle.lot_text.specs.Grammar.{words_of, number_of, digits_after, kind_of, limited_kind_of, mutex_call_of, entering_call_of, fair_call_of, other_call_of, once_call_of, notification_of, wait_of, call_of, turn_of, closing_turn_of, calling_turn_of, lock_command, turn_command, calling_command_of, command_of, meaning};
+ghost use Rattle.lot_text.specs.Grammar.{words_of, number_of, digits_after, kind_of, rwlock_kind_of, limited_kind_of, mutex_call_of, entering_call_of, fair_call_of, other_call_of, once_call_of, semaphore_call_of, notification_of, wait_of, call_of, turn_of, closing_turn_of, calling_turn_of, lock_command, turn_command, calling_command_of, command_of, meaning};
 
 use crate::names::Name;
 use crate::words::is_text;
 use lot_calls::kinds::MOST_READERS;
-use lot_calls::{Access, Downgrade, Kind, MutexCall, OnceCall, Patience, RwLockCall};
+use lot_calls::{
+    Access, Downgrade, Kind, MutexCall, OnceCall, Patience, RwLockCall, SemaphoreCall,
+};
 
 /// The most digits of a number. All such numbers fit.
 const MOST_DIGITS: usize = 19;
@@ -32,6 +34,7 @@ pub enum NamedCall {
     Mutex(MutexCall),
     RwLock(RwLockCall),
     Once(OnceCall),
+    Semaphore(SemaphoreCall),
     /// It notifies the first waiter of a condition variable, or all.
     Notify { all: bool },
     /// It waits on a condition variable with the mutex of this name.
@@ -165,7 +168,7 @@ fn command_of_five(
     calling_command(first, second, call, fourth)
 }
 
-/// A lock with a reader limit.
+/// A lock with a reader limit, or with its permits.
 fn limited_lock(name: &[u8], kind: &[u8], limit: &[u8]) -> Option<Command>
     ensures { result ≡ lock_command (name_of name.now)
         (limited_kind_of kind.now (number_of limit.now)) }
@@ -247,15 +250,26 @@ fn kind(word: &[u8]) -> Option<Kind>
     } else if is_text(word, b"once") {
         Some(Kind::Once)
     } else {
-        limited_kind(word, MOST_READERS as usize)
+        rwlock_kind(word, MOST_READERS)
     }
 }
 
-/// The kind of reader-writer lock that a word names, with this limit.
+/// The kind of lock that a word names, with this limit of readers or so many permits.
 fn limited_kind(word: &[u8], limit: usize) -> Option<Kind>
     ensures { result ≡ limited_kind_of word.now (Some limit) }
 {
     let limit = limit as u64;
+    if is_text(word, b"semaphore") {
+        Some(Kind::Semaphore { permits: limit })
+    } else {
+        rwlock_kind(word, limit)
+    }
+}
+
+/// The kind of reader-writer lock that a word names, with this limit.
+fn rwlock_kind(word: &[u8], limit: u64) -> Option<Kind>
+    ensures { result ≡ rwlock_kind_of word.now limit }
+{
     if is_text(word, b"rwlock") {
         Some(Kind::RwLock { limit })
     } else if is_text(word, b"recursive") {
@@ -280,6 +294,9 @@ fn call(word: &[u8]) -> Option<NamedCall>
     }
     if let Some(call) = once_call(word) {
         return Some(NamedCall::Once(call));
+    }
+    if let Some(call) = semaphore_call(word) {
+        return Some(NamedCall::Semaphore(call));
     }
     notification(word)
 }
@@ -401,6 +418,23 @@ fn once_call(word: &[u8]) -> Option<OnceCall>
         Some(OnceCall::Wait { forced: true })
     } else if is_text(word, b"wait_timed") {
         Some(OnceCall::WaitTimed)
+    } else {
+        None
+    }
+}
+
+/// The call of a semaphore that a word names.
+fn semaphore_call(word: &[u8]) -> Option<SemaphoreCall>
+    ensures { result ≡ semaphore_call_of word.now }
+{
+    if is_text(word, b"acquire") {
+        Some(SemaphoreCall::Acquire(Patience::Patient))
+    } else if is_text(word, b"acquire_timed") {
+        Some(SemaphoreCall::Acquire(Patience::Timed))
+    } else if is_text(word, b"try_acquire") {
+        Some(SemaphoreCall::Acquire(Patience::Try))
+    } else if is_text(word, b"release") {
+        Some(SemaphoreCall::Release)
     } else {
         None
     }

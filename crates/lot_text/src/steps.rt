@@ -1,12 +1,13 @@
 //! Steps as a schedule has them, and the lines of a drain.
 ghost use Rattle.std.specs.Prelude.{◌≡◌};
 ghost use Rattle.lot_text.specs.Sent.{Puts};
-ghost use Rattle.lot_text.specs.Steps.{mutex_word, read_word, upgradable_word, write_word, enter_word, release_word, fair_release_word, bump_word, downgrade_word, upgrade_word, rwlock_word, once_word, condvar_word, call_word, name_at, beside_text, call_text, turn_text, step_text, drain_line, drain_refused_line, StepsAreReadBack};
+ghost use Rattle.lot_text.specs.Steps.{mutex_word, read_word, upgradable_word, write_word, enter_word, release_word, fair_release_word, bump_word, downgrade_word, upgrade_word, rwlock_word, once_word, semaphore_word, condvar_word, call_word, name_at, beside_text, call_text, turn_text, step_text, drain_line, drain_refused_line, StepsAreReadBack};
 
 use crate::names::Name;
 use crate::output::Page;
 use lot_calls::{
-    Access, Call, CondvarCall, Downgrade, MutexCall, OnceCall, Patience, RwLockCall, Step, Turn,
+    Access, Call, CondvarCall, Downgrade, MutexCall, OnceCall, Patience, RwLockCall, SemaphoreCall,
+    Step, Turn,
 };
 use std::io::Write;
 
@@ -94,6 +95,7 @@ fn call_word(call: Call) -> &'static [u8]
         Call::RwLock { call, .. } => rwlock_word(call),
         Call::Once { call, .. } => once_word(call),
         Call::Condvar { call, .. } => condvar_word(call),
+        Call::Semaphore { call, .. } => semaphore_word(call),
     }
 }
 
@@ -222,6 +224,17 @@ fn once_word(call: OnceCall) -> &'static [u8]
         OnceCall::Wait { forced: false } => b"wait",
         OnceCall::Wait { forced: true } => b"wait_force",
         OnceCall::WaitTimed => b"wait_timed",
+    }
+}
+
+fn semaphore_word(call: SemaphoreCall) -> &'static [u8]
+    ensures { result.now ≡ semaphore_word call }
+{
+    match call {
+        SemaphoreCall::Acquire(Patience::Patient) => b"acquire",
+        SemaphoreCall::Acquire(Patience::Timed) => b"acquire_timed",
+        SemaphoreCall::Acquire(Patience::Try) => b"try_acquire",
+        SemaphoreCall::Release => b"release",
     }
 }
 

@@ -19,6 +19,7 @@ use rows::onces::ONCE_ROWS;
 use rows::refused::REFUSED_ROWS;
 use rows::releases::RELEASE_ROWS;
 use rows::rwlocks::RWLOCK_ROWS;
+use rows::semaphores::SEMAPHORE_ROWS;
 use std::alloc::{AllocError, Global};
 use std::fmt::Debug;
 use std::io::BufRead;
@@ -100,6 +101,11 @@ fn answers_inputs_of_reader_writer_locks(rt: HostRuntime) {
 #[test]
 fn answers_inputs_of_onces(rt: HostRuntime) {
     answers(&rt, rt.alloc(), &ONCE_ROWS);
+}
+
+#[test]
+fn answers_inputs_of_semaphores(rt: HostRuntime) {
+    answers(&rt, rt.alloc(), &SEMAPHORE_ROWS);
 }
 
 #[test]

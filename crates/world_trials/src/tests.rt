@@ -4,6 +4,7 @@ mod mutex;
 mod once;
 mod rwlock;
 mod scripts;
+mod semaphore;
 mod sizes;
 
 use std::fmt::Debug;

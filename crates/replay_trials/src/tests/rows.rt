@@ -11,3 +11,4 @@ pub(crate) mod onces;
 pub(crate) mod refused;
 pub(crate) mod releases;
 pub(crate) mod rwlocks;
+pub(crate) mod semaphores;

@@ -5,6 +5,7 @@ use super::{holds, same};
 use arrayvec::ArrayVec;
 use lot_calls::{
     Access, Answer, Downgrade, Kind, MutexCall, OnceCall, OnceState, Outcome, Patience, RwLockCall,
+    SemaphoreCall,
 };
 use lot_text::{
     Command, LINE_LEN, Name, NamedCall, NamedTurn, Page, Reading, meaning, print_turn, read_line,
@@ -267,6 +268,23 @@ const ONCE_CALLS: &[(&str, OnceCall)] = &[
     ("3 begin wait_timed m", OnceCall::WaitTimed),
 ];
 
+/// Calls of a semaphore, by their names.
+const SEMAPHORE_CALLS: &[(&str, SemaphoreCall)] = &[
+    (
+        "3 begin acquire m",
+        SemaphoreCall::Acquire(Patience::Patient),
+    ),
+    (
+        "3 begin acquire_timed m",
+        SemaphoreCall::Acquire(Patience::Timed),
+    ),
+    (
+        "3 begin try_acquire m",
+        SemaphoreCall::Acquire(Patience::Try),
+    ),
+    ("3 begin release m", SemaphoreCall::Release),
+];
+
 /// Lines that name too many locks, or a mutex that is none: only a wait has a second name.
 const MALFORMED_WAITS: &[&str] = &[
     "3 begin notify_one c m",
@@ -393,6 +411,20 @@ fn calls_of_a_once_have_their_meaning(rt: HostRuntime) {
     means(&rt, "lock m once", locks(Kind::Once));
     for (line, call) in ONCE_CALLS {
         begins(&rt, line, NamedCall::Once(*call));
+    }
+}
+
+#[test]
+fn calls_of_a_semaphore_have_their_meaning(rt: HostRuntime) {
+    let permits = 4611686018427387904;
+    means(
+        &rt,
+        "lock m semaphore 4611686018427387904",
+        locks(Kind::Semaphore { permits }),
+    );
+    means(&rt, "lock m semaphore", None);
+    for (line, call) in SEMAPHORE_CALLS {
+        begins(&rt, line, NamedCall::Semaphore(*call));
     }
 }
 

@@ -2,6 +2,7 @@
 use super::{holds, same};
 use lot_calls::{
     Access, Call, CondvarCall, Downgrade, Kind, MutexCall, OnceCall, Patience, RwLockCall,
+    SemaphoreCall,
 };
 use std::process::Abort;
 
@@ -26,6 +27,19 @@ const ONCE_CALLS: &[OnceCall] = &[
     OnceCall::CallOnce { forced: false },
     OnceCall::Wait { forced: true },
     OnceCall::WaitTimed,
+];
+
+/// Numbers of permits, and whether a semaphore may have so many.
+const PERMITS: &[(u64, bool)] = &[
+    (0, false),
+    (1, true),
+    (4611686018427387904, true),
+    (4611686018427387905, false),
+];
+
+const SEMAPHORE_CALLS: &[SemaphoreCall] = &[
+    SemaphoreCall::Acquire(Patience::Timed),
+    SemaphoreCall::Release,
 ];
 
 const RWLOCK_CALLS: &[RwLockCall] = &[
@@ -58,6 +72,10 @@ fn a_limit_fits_from_the_threads_to_the_greatest(rt: HostRuntime) {
         same(&rt, (limit, Kind::RwLock { limit }.fits(2)), *row);
         same(&rt, (limit, Kind::Recursive { limit }.fits(2)), *row);
     }
+    for row in PERMITS {
+        let (permits, _) = *row;
+        same(&rt, (permits, Kind::Semaphore { permits }.fits(2)), *row);
+    }
     for kind in [Kind::Mutex, Kind::Fair, Kind::Condvar, Kind::Once] {
         holds(&rt, kind.fits(1024));
     }
@@ -79,6 +97,16 @@ fn a_once_has_its_calls(rt: HostRuntime) {
     for call in ONCE_CALLS {
         let (lock, call) = (3, *call);
         belongs(&rt, Call::Once { lock, call }, &[Kind::Once], &others);
+    }
+}
+
+#[test]
+fn a_semaphore_has_its_calls(rt: HostRuntime) {
+    let kinds = [Kind::Semaphore { permits: 1 }];
+    let others = [Kind::Mutex, Kind::RwLock { limit: 1 }];
+    for call in SEMAPHORE_CALLS {
+        let (lock, call) = (3, *call);
+        belongs(&rt, Call::Semaphore { lock, call }, &kinds, &others);
     }
 }
 

@@ -1,7 +1,7 @@
 //! The places of any sort of lock: what a thread does there, and where it goes on.
 use super::{holds, same};
 use lot_base::{Keys, Note};
-use lot_calls::OnceCall;
+use lot_calls::{OnceCall, Patience, SemaphoreCall};
 use lot_once::{OncePlace, RunAt};
 use lot_steps::{
     Act, Answer, Call, Entry, HandOffAt, Kind, LockAt, MutexCall, MutexPlace, Op, Outcome, Owners,
@@ -24,7 +24,9 @@ fn mutex(at: MutexPlace) -> Place {
 /// What a call of the lock 3 does at a place.
 fn act_at(rt: &impl Abort, place: Place) -> Act {
     match place {
-        Place::Mutex { lock: 3, .. } | Place::Once { lock: 3, .. } => place.act(),
+        Place::Mutex { lock: 3, .. }
+        | Place::Once { lock: 3, .. }
+        | Place::Semaphore { lock: 3, .. } => place.act(),
         _ => panic!(rt; "it is in no call of the lock 3"),
     }
 }
@@ -32,7 +34,9 @@ fn act_at(rt: &impl Abort, place: Place) -> Act {
 /// Where it goes on by a reply, and what it does then.
 fn step(rt: &impl Abort, place: Place, reply: Reply) -> (Place, Act) {
     match place {
-        Place::Mutex { lock: 3, .. } | Place::Once { lock: 3, .. } => advance(place, reply),
+        Place::Mutex { lock: 3, .. }
+        | Place::Once { lock: 3, .. }
+        | Place::Semaphore { lock: 3, .. } => advance(place, reply),
         _ => panic!(rt; "it is in no call of the lock 3"),
     }
 }
@@ -205,4 +209,40 @@ fn the_end_of_a_run_owes_a_wake_to_who_waits(rt: HostRuntime) {
     let enter = comes_to(&rt, close, Reply::Value(12), Act::Enter(Keys::One(6)));
     holds(&rt, enter.owes_on(3) && !enter.owes_on(2));
     comes_to(&rt, close, Reply::Value(4), Act::End(Answer::Ok));
+}
+
+fn semaphore_call(call: SemaphoreCall) -> Call {
+    Call::Semaphore { lock: 3, call }
+}
+
+const SEMAPHORE: Kind = Kind::Semaphore { permits: 2 };
+
+#[test]
+fn a_release_of_a_permit_needs_one(rt: HostRuntime) {
+    let call = semaphore_call(SemaphoreCall::Release);
+    holds(&rt, has_right(call, 0, Owners::NOBODY, 1));
+    holds(&rt, !has_right(call, 0, Owners::NOBODY, 0));
+    let start = Place::first(SEMAPHORE, call);
+    let (lock, op) = (3, Op::Add(2));
+    holds(&rt, act_at(&rt, start) == Act::Word { lock, op });
+    same(&rt, start.shares_after(1, 2), Some(1));
+    let enter = comes_to(&rt, start, Reply::Value(1), Act::Enter(Keys::One(6)));
+    holds(&rt, enter.owes_on(3) && !enter.owes_on(2));
+    comes_to(&rt, start, Reply::Value(2), Act::End(Answer::Ok));
+}
+
+#[test]
+fn a_free_permit_is_taken_at_once(rt: HostRuntime) {
+    let call = semaphore_call(SemaphoreCall::Acquire(Patience::Timed));
+    let start = Place::first(SEMAPHORE, call);
+    let (lock, op) = (3, Op::Exchange { from: 5, to: 3 });
+    let decide = comes_to(&rt, start, Reply::Value(5), Act::Word { lock, op });
+    same(&rt, decide.shares_after(5, 1), Some(2));
+    same(&rt, decide.shares_after(3, 1), None);
+    holds(&rt, decide.looking().is_none());
+    comes_to(&rt, decide, Reply::Value(5), Act::End(Answer::Yes));
+    let op = Op::Exchange { from: 0, to: 1 };
+    let marks = comes_to(&rt, decide, Reply::Value(0), Act::Word { lock, op });
+    holds(&rt, marks.looking().is_some());
+    comes_to(&rt, marks, Reply::Value(1), Act::Enter(Keys::One(6)));
 }

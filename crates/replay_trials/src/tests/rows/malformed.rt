@@ -1,7 +1,7 @@
 //! Inputs that end at a malformed line, with the text that they lead to.
 
 /// Inputs that end at a malformed line, with the text that they lead to.
-pub(crate) const MALFORMED: [(&str, &str); 35] = [
+pub(crate) const MALFORMED: [(&str, &str); 38] = [
     // The form of a line.
     ("\n", "line 1 malformed\n"),
     ("threads 1\n\nlock m mutex\n", "line 2 malformed\n"),
@@ -68,6 +68,13 @@ pub(crate) const MALFORMED: [(&str, &str); 35] = [
     (
         "threads 1\nlock m mutex\nlock o once\n0 do wait_timed o m\n",
         "line 4 malformed\n",
+    ),
+    // A semaphore says its permits, which are 1 to 2^62.
+    ("threads 1\nlock s semaphore\n", "line 2 malformed\n"),
+    ("threads 1\nlock s semaphore 0\n", "line 2 malformed\n"),
+    (
+        "threads 1\nlock s semaphore 4611686018427387905\n",
+        "line 2 malformed\n",
     ),
     // A condition variable has no limit, and a wait on it names its mutex alone.
     ("threads 1\nlock c condvar 1\n", "line 2 malformed\n"),
