@@ -502,6 +502,12 @@ module _ (w : State) (t l : ℕ) (a : Admission) (c : RwLockCallPlace) (steady :
               → IsWokenAt w t l HandOff (Once k at)
           either true same_lock g = absurd (of_no_once u k at e (eqb-true k l same_lock))
           either false same_lock g = absurd cc
+      by_place (OfSemaphore k at) e h = either (k == l) refl h
+        where
+          either : (b : Bool) → (k == l) ≡ b → (if b then station (OfSemaphore k at) else nowhere).hand ≡ hand t true
+              → IsWokenAt w t l HandOff (OfSemaphore k at)
+          either true same_lock g = absurd (of_no_semaphore u k at e (eqb-true k l same_lock))
+          either false same_lock g = absurd cc
       by_place (Mutex k m) e h = either (k == l) refl h
         where
           either : (b : Bool) → (k == l) ≡ b → (if b then station (Mutex k m) else nowhere).hand ≡ hand t true
