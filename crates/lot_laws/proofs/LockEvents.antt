@@ -32,6 +32,7 @@ use Rattle.lot_once.specs.declared.give_up.GiveUpAt.TheVariants as give_up
 use Rattle.lot_once.specs.declared.run.RunAt.TheVariants as run_at
 use Rattle.lot_semaphore.specs.declared.acquire.AcquireAt.{AcquireAt}
 use Rattle.lot_semaphore.specs.declared.acquire.AcquireAt.TheVariants as acquire_at
+use Rattle.lot_semaphore.specs.declared.tries.TryAt.TheVariants as try_at
 use Rattle.lot_semaphore.specs.declared.release.ReleaseAt.{ReleaseAt}
 use Rattle.lot_semaphore.specs.declared.release.ReleaseAt.TheVariants as release_at
 use Rattle.lot_semaphore.specs.declared.places.SemaphorePlace.{SemaphorePlace}
@@ -168,7 +169,9 @@ taken_call (Once k (GiveUp again give_up.Remove)) by single r = refl
 taken_call (Once k (GiveUp again at)) by single r = refl
 taken_call (Semaphore k (Acquire timed again acquire_at.Asleep)) by single r = refl
 taken_call (Semaphore k (Acquire timed again at)) by single r = refl
-taken_call (Semaphore k (Try at)) by single r = refl
+taken_call (Semaphore k (Try try_at.Load)) by single r = refl
+taken_call (Semaphore k (Try (try_at.Decide seen))) by single r = refl
+taken_call (Semaphore k (Release release_at.Add)) by single r = refl
 taken_call (Semaphore k (Release at)) by single r = refl
 taken_call (Condvar k at) by single r = absurd single
 taken_call (Mutex k (Lock entry retries First)) by single r = refl
