@@ -377,7 +377,7 @@ module _ (w : State) (t l : ℕ) (shape : IsShaped w) (steady : IsSteady w) (cou
       by_place (Once k (GiveUp again at)) is fits can gives = absurd gives.1
       by_place (Semaphore k (semaphore.Acquire timed again at)) is fits can gives = absurd gives.1
       by_place (Semaphore k (semaphore.Try at)) is fits can gives = absurd gives.1
-      by_place (Semaphore k (semaphore.Release at)) is fits can gives = absurd gives.1
+      by_place (Semaphore k (semaphore.Release at)) is fits can gives = absurd (let f : false ≡ true = gives.1.1 in cc)
       by_place (Condvar k at) is fits can gives = absurd (two_give k at gives)
       by_place (Mutex k at) is fits can gives = absurd (
           let fits_k : is_mutex (kind_at w k) ≡ true = subst (FitsItsLock w) is (steady.stands.calls t) in

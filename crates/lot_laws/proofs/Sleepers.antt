@@ -24,7 +24,6 @@ use Rattle.lot_acts.specs.declared.acts.Act.{Act}
 use Rattle.lot_acts.specs.declared.acts.Act.TheVariants as act
 use Rattle.lot_acts.specs.declared.acts.Act.TheVariants.{Enter, Sleep, Word}
 use Rattle.lot_base.specs.declared.keys.Keys.TheVariants.{One}
-use Rattle.lot_base.specs.declared.ops.Op.TheVariants as op
 use Rattle.lot_acts.specs.declared.acts.Next.{Next}
 use Rattle.lot_acts.specs.declared.acts.Next.TheVariants.{At}
 use Rattle.lot_acts.specs.declared.acts.Reply.{Reply}
@@ -237,14 +236,14 @@ semaphore_quiet l (semaphore.Acquire timed retries acquire.Asleep) r q h = absur
 semaphore_quiet l (semaphore.Acquire timed retries (acquire.Taken u)) r q h = absurd q
 semaphore_quiet l (semaphore.Acquire timed retries (acquire.Decide seen)) r q h = absurd (awake (is_free seen) (seen == 0) h)
   where
-    awake : (free empty : Bool) → (if free then Word l (op.Exchange seen (seen - 2)) else if empty then Word l (op.Exchange 0 1) else Enter (One (2 * l))) ≡ Sleep → ⊥
+    awake : (free empty : Bool) → (if free then Word l (operation.Exchange seen (seen - 2)) else if empty then Word l (operation.Exchange 0 1) else Enter (One (2 * l))) ≡ Sleep → ⊥
     awake true empty e = cc
     awake false true e = cc
     awake false false e = cc
 semaphore_quiet l (semaphore.Acquire timed retries at) r q h = absurd cc
 semaphore_quiet l (semaphore.Try (tries.Decide seen)) r q h = absurd (awake (is_free seen) h)
   where
-    awake : (free : Bool) → (if free then Word l (op.Exchange seen (seen - 2)) else Word l op.Load) ≡ Sleep → ⊥
+    awake : (free : Bool) → (if free then Word l (operation.Exchange seen (seen - 2)) else Word l operation.Load) ≡ Sleep → ⊥
     awake true e = cc
     awake false e = cc
 semaphore_quiet l (semaphore.Try tries.Load) r q h = absurd cc
