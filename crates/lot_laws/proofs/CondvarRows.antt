@@ -1,6 +1,13 @@
 -- What a place says of its thread at a condition variable: what it is about to do inside, and which mutex its wait names. Nothing that befalls the
 -- thread changes either.
 use Rattle.std.proofs.Common.{ℕ, Bool, true, false, Option, None, if◌then◌else◌, ◌==◌, ◌≡◌, refl, ◌∙◌, ap}
+use Rattle.lot_semaphore.specs.declared.places.SemaphorePlace.TheVariants as semaphore
+use Rattle.lot_semaphore.specs.declared.release.ReleaseAt.TheVariants as release
+use Rattle.lot_semaphore.specs.declared.acquire.AcquireAt.TheVariants as acquire
+use Rattle.lot_steps.specs.Steps.{semaphore_goes}
+use Rattle.lot_semaphore.specs.declared.places.SemaphorePlace.{SemaphorePlace}
+use Rattle.lot_semaphore.specs.SemaphoreProfiles.{semaphore_profile}
+use Rattle.lot_semaphore.specs.SemaphoreSteps.{semaphore_next}
 use Rattle.lot_base.specs.declared.notes.Note.{Note}
 use Rattle.lot_base.specs.declared.notes.Note.TheVariants as note
 use Rattle.lot_acts.specs.declared.acts.Next.{Next}
@@ -40,15 +47,6 @@ use Rattle.lot_condvar.specs.CondvarProfiles.{condvar_profile, condvar_row, mute
 use Rattle.lot_condvar.specs.CondvarSteps.{condvar_next, in_wait, mutex_beside, relocked}
 use Rattle.lot_steps.specs.declared.places.Place.{Place}
 use Rattle.lot_steps.specs.declared.places.Place.TheVariants.{Idle, Mutex, RwLock, Once, Condvar, Semaphore}
-use Rattle.lot_semaphore.specs.declared.places.SemaphorePlace.{SemaphorePlace}
-use Rattle.lot_semaphore.specs.declared.places.SemaphorePlace.TheVariants as semaphores
-use Rattle.lot_semaphore.specs.declared.acquire.AcquireAt.{AcquireAt}
-use Rattle.lot_semaphore.specs.declared.acquire.AcquireAt.TheVariants as acquire
-use Rattle.lot_semaphore.specs.declared.release.ReleaseAt.{ReleaseAt}
-use Rattle.lot_semaphore.specs.declared.release.ReleaseAt.TheVariants as giving
-use Rattle.lot_semaphore.specs.SemaphoreSteps.{semaphore_next}
-use Rattle.lot_semaphore.specs.SemaphoreProfiles.{semaphore_profile}
-use Rattle.lot_steps.specs.Steps.{semaphore_goes}
 use Rattle.lot_steps.specs.Steps.{condvar_goes, is_lock, mutex_goes, next_place, once_goes, profile_at, rwlock_goes}
 use Rattle.abstract_locks.specs.Condvars.{Stage}
 use Rattle.lot_laws.proofs.RowPromises.{Befalls}
@@ -80,16 +78,16 @@ once_says (once.Run forced at) = (refl, refl)
 once_says (once.GiveUp retries give_up.Remove) = (refl, refl)
 once_says (once.GiveUp retries at) = (refl, refl)
 
+semaphore_says : (at : SemaphorePlace) → SaysNothing (semaphore_profile at)
+semaphore_says (semaphore.Acquire timed retries acquire.Load) = (refl, refl)
+semaphore_says (semaphore.Acquire timed retries at) = (refl, refl)
+semaphore_says (semaphore.Try at) = (refl, refl)
+semaphore_says (semaphore.Release release.Add) = (refl, refl)
+semaphore_says (semaphore.Release at) = (refl, refl)
+
 shared_says : (a : Admission) (at : RwLockCallPlace) → SaysNothing (call_profile a at)
 shared_says a (places.Plain p) = (refl, refl)
 shared_says a at = (refl, refl)
-
-semaphore_says : (at : SemaphorePlace) → SaysNothing (semaphore_profile at)
-semaphore_says (semaphores.Acquire timed retries acquire.Load) = (refl, refl)
-semaphore_says (semaphores.Acquire timed retries at) = (refl, refl)
-semaphore_says (semaphores.Try at) = (refl, refl)
-semaphore_says (semaphores.Release giving.Add) = (refl, refl)
-semaphore_says (semaphores.Release at) = (refl, refl)
 
 pub row_says : (p : Place) (k : ℕ) → ((profile_at p k).stage ≡ stage_of p k) × ((profile_at p k).names ≡ names_of p k)
 row_says Idle k = (refl, refl)

@@ -1,6 +1,7 @@
 -- A thread in a call of a reader-writer lock hands its right over: where its operation takes effect, all whom it has in hand own.
 use Rattle.std.proofs.Common.{◌+◌, ◌*◌, ◌-◌, ℕ, Bool, true, false, Option, Some, None, if◌then◌else◌, ◌==◌, ◌≡◌, ◌≢◌, ◌^◌, ◌<◌, ◌≤◌, ◌⊎◌, inl, inr, List, [], ◌∷◌, ◌++◌, length, refl, sym, ◌∙◌, ap, subst, arith}
-use Rattle.lot_laws.proofs.RwLockKept.{beside_no_call, of_no_once, of_no_semaphore}
+use Rattle.lot_laws.proofs.RwLockKept.{of_no_semaphore}
+use Rattle.lot_laws.proofs.RwLockKept.{beside_no_call, of_no_once}
 use Rattle.std.proofs.lemmas.Bool.{eqb-true}
 use Rattle.lot_base.specs.declared.ops.Op.{Op}
 use Rattle.lot_base.specs.declared.ops.Op.TheVariants as operation

@@ -1,6 +1,7 @@
 -- A hand-over of a reader-writer lock is one case of the abstract lock, and the calls of all who were handed it go on with what they wanted.
 use Rattle.std.proofs.Common.{ℕ, Bool, true, false, Option, Some, None, if◌then◌else◌, ◌==◌, ◌≡◌, ◌<◌, List, ◌++◌, length, get_or, get_or-set_other, refl, sym, ◌∙◌, ap, subst}
-use Rattle.lot_laws.proofs.RwLockKept.{beside_no_call, of_no_once, of_no_semaphore}
+use Rattle.lot_laws.proofs.RwLockKept.{of_no_semaphore}
+use Rattle.lot_laws.proofs.RwLockKept.{beside_no_call, of_no_once}
 use Rattle.std.proofs.lemmas.Bool.{eqb-true}
 use Rattle.std.proofs.Math.ListN.{get_or-map}
 use Rattle.lot_base.specs.declared.ops.Op.{Op}

@@ -1,6 +1,11 @@
 -- A thread that stands at a lock is by its place in the hand of the one that has taken it, and of nobody while it stands in a line.
 use Rattle.std.proofs.Common.{ℕ, Bool, true, false, Option, Some, None, if◌then◌else◌, ◌≡◌, ◌≢◌, ◌≤◌, inl, inr, refl, sym, ◌∙◌, ap}
 use Rattle.std.proofs.lemmas.Bool.{eqb-true}
+use Rattle.lot_semaphore.specs.declared.places.SemaphorePlace.TheVariants as semaphore
+use Rattle.lot_semaphore.specs.declared.release.ReleaseAt.TheVariants as release
+use Rattle.lot_semaphore.specs.declared.acquire.AcquireAt.TheVariants as acquire
+use Rattle.lot_semaphore.specs.declared.places.SemaphorePlace.{SemaphorePlace}
+use Rattle.lot_semaphore.specs.SemaphoreProfiles.{semaphore_profile}
 use Rattle.lot_acts.specs.Owners.{is_thread}
 use Rattle.lot_acts.specs.Profiles.{Profile, hand_owner}
 use Rattle.lot_acts.specs.Stations.{nowhere, station_by}
@@ -36,13 +41,6 @@ use Rattle.lot_condvar.specs.declared.wait.WaitAt.TheVariants as wait
 use Rattle.lot_condvar.specs.CondvarProfiles.{condvar_row, hand_of, is_listed, is_main, is_moved, notify_row, wait_row}
 use Rattle.lot_steps.specs.declared.places.Place.{Place}
 use Rattle.lot_steps.specs.declared.places.Place.TheVariants.{Idle, Mutex, RwLock, Once, Condvar, Semaphore}
-use Rattle.lot_semaphore.specs.declared.places.SemaphorePlace.{SemaphorePlace}
-use Rattle.lot_semaphore.specs.declared.places.SemaphorePlace.TheVariants as semaphores
-use Rattle.lot_semaphore.specs.declared.acquire.AcquireAt.{AcquireAt}
-use Rattle.lot_semaphore.specs.declared.acquire.AcquireAt.TheVariants as acquire
-use Rattle.lot_semaphore.specs.declared.release.ReleaseAt.{ReleaseAt}
-use Rattle.lot_semaphore.specs.declared.release.ReleaseAt.TheVariants as giving
-use Rattle.lot_semaphore.specs.SemaphoreProfiles.{semaphore_profile}
 use Rattle.lot_steps.specs.Steps.{beside_of, calls, is_lock, or_else, profile, profile_beside, taker}
 use Rattle.lot_machine.specs.Machine.{State, place_at}
 use Rattle.lot_laws.specs.Refinement.{lock_state, taken_at}
@@ -86,6 +84,13 @@ once_unheld (once.Run forced to) m h = refl
 once_unheld (once.GiveUp retries give_up.Remove) m h = refl
 once_unheld (once.GiveUp retries to) m h = refl
 
+semaphore_unheld : (to : SemaphorePlace) → IsUnheld (semaphore_profile to)
+semaphore_unheld (semaphore.Acquire timed retries (acquire.Taken by)) m h = absurd cc
+semaphore_unheld (semaphore.Acquire timed retries to) m h = refl
+semaphore_unheld (semaphore.Try to) m h = refl
+semaphore_unheld (semaphore.Release release.Add) m h = refl
+semaphore_unheld (semaphore.Release to) m h = refl
+
 listed_unheld : (s : Stands) → is_listed s ≡ true → hand_of s ≡ None
 listed_unheld stands.Listed h = refl
 listed_unheld s h = absurd cc
@@ -127,15 +132,6 @@ row_moved (condvar.Notify all m to) h = notify_unheld all m to
 in_some : (b : Bool) (m : Line) → (if b then Some Main else None) ≡ Some m → b ≡ true
 in_some true m h = refl
 in_some false m h = absurd cc
-
-semaphore_unheld : (to : SemaphorePlace) → IsUnheld (semaphore_profile to)
-semaphore_unheld (semaphores.Acquire timed retries acquire.Asleep) m h = refl
-semaphore_unheld (semaphores.Acquire timed retries (acquire.Leave parked)) m h = refl
-semaphore_unheld (semaphores.Acquire timed retries acquire.Remove) m h = refl
-semaphore_unheld (semaphores.Acquire timed retries to) m h = absurd cc
-semaphore_unheld (semaphores.Try to) m h = absurd cc
-semaphore_unheld (semaphores.Release giving.Add) m h = absurd cc
-semaphore_unheld (semaphores.Release to) m h = absurd cc
 
 -- ---------------------------------------------------------------- any place
 

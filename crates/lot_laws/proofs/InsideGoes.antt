@@ -1,5 +1,11 @@
 -- A thread that is inside a section is awake, in no closure, and enters no other section.
 use Rattle.std.proofs.Common.{ℕ, Bool, true, false, Option, Some, None, if◌then◌else◌, ◌≡◌, refl, ◌∙◌}
+use Rattle.lot_semaphore.specs.declared.places.SemaphorePlace.TheVariants as semaphore
+use Rattle.lot_semaphore.specs.declared.release.ReleaseAt.TheVariants as release
+use Rattle.lot_semaphore.specs.declared.acquire.AcquireAt.TheVariants as acquire
+use Rattle.lot_semaphore.specs.declared.places.SemaphorePlace.{SemaphorePlace}
+use Rattle.lot_semaphore.specs.SemaphoreProfiles.{semaphore_profile}
+use Rattle.lot_semaphore.specs.SemaphoreSteps.{semaphore_act}
 use Rattle.lot_base.specs.declared.ops.Op.TheVariants as operation
 use Rattle.lot_base.specs.declared.wants.Want.{Want}
 use Rattle.lot_calls.specs.declared.calls.Access.{Access}
@@ -48,16 +54,6 @@ use Rattle.lot_condvar.specs.CondvarProfiles.{condvar_profile, condvar_row, noti
 use Rattle.lot_condvar.specs.CondvarSteps.{condvar_act, move_act, notify_act, wait_act}
 use Rattle.lot_steps.specs.declared.places.Place.{Place}
 use Rattle.lot_steps.specs.declared.places.Place.TheVariants.{Idle, Mutex, RwLock, Once, Condvar, Semaphore}
-use Rattle.lot_semaphore.specs.declared.places.SemaphorePlace.{SemaphorePlace}
-use Rattle.lot_semaphore.specs.declared.places.SemaphorePlace.TheVariants as semaphores
-use Rattle.lot_semaphore.specs.declared.acquire.AcquireAt.{AcquireAt}
-use Rattle.lot_semaphore.specs.declared.acquire.AcquireAt.TheVariants as acquire
-use Rattle.lot_semaphore.specs.declared.release.ReleaseAt.{ReleaseAt}
-use Rattle.lot_semaphore.specs.declared.release.ReleaseAt.TheVariants as giving
-use Rattle.lot_semaphore.specs.declared.tries.TryAt.{TryAt}
-use Rattle.lot_semaphore.specs.declared.tries.TryAt.TheVariants as trying
-use Rattle.lot_semaphore.specs.SemaphoreProfiles.{semaphore_profile}
-use Rattle.lot_semaphore.specs.SemaphoreSteps.{semaphore_act}
 use Rattle.lot_steps.specs.Steps.{act_of, beside_of, calls, is_lock, profile, profile_beside}
 use Rattle.lot_machine.specs.Machine.{State, place_at}
 use Rattle.lot_laws.specs.Stations.{doing_on}
@@ -127,19 +123,6 @@ call_goes l a (fair.Bump p) m h = rwlock_goes l a _ p p.at m h
 call_goes l a (fair.HandOver x b to) m h = handing_goes l a x to m h
 call_goes l a c m h = absurd cc
 
-semaphore_goes : (l : ℕ) (to : SemaphorePlace) → Goes (semaphore_profile to).doing (semaphore_act l to)
-semaphore_goes l (semaphores.Acquire timed retries acquire.Check) m h = (refl, refl, refl)
-semaphore_goes l (semaphores.Acquire timed retries (acquire.Leave parked)) m h = (refl, refl, refl)
-semaphore_goes l (semaphores.Acquire timed retries acquire.Remove) m h = (refl, refl, refl)
-semaphore_goes l (semaphores.Acquire timed retries acquire.Clear) m h = (refl, refl, refl)
-semaphore_goes l (semaphores.Acquire timed retries acquire.GiveUp) m h = (refl, refl, refl)
-semaphore_goes l (semaphores.Acquire timed retries to) m h = absurd cc
-semaphore_goes l (semaphores.Try to) m h = absurd cc
-semaphore_goes l (semaphores.Release giving.Take) m h = (refl, refl, refl)
-semaphore_goes l (semaphores.Release (giving.Clear any)) m h = (refl, refl, refl)
-semaphore_goes l (semaphores.Release (giving.Leave any)) m h = (refl, refl, refl)
-semaphore_goes l (semaphores.Release to) m h = absurd cc
-
 once_goes : (l : ℕ) (to : OncePlace) → Goes (once_profile to).doing (once_act l to)
 once_goes l (once.Look c retries look.Check) m h = (refl, refl, refl)
 once_goes l (once.Look c retries (look.Leave parked)) m h = (refl, refl, refl)
@@ -150,6 +133,19 @@ once_goes l (once.Run forced to) m h = absurd cc
 once_goes l (once.GiveUp retries give_up.Remove) m h = (refl, refl, refl)
 once_goes l (once.GiveUp retries give_up.Clear) m h = (refl, refl, refl)
 once_goes l (once.GiveUp retries give_up.Leave) m h = (refl, refl, refl)
+
+semaphore_goes : (l : ℕ) (to : SemaphorePlace) → Goes (semaphore_profile to).doing (semaphore_act l to)
+semaphore_goes l (semaphore.Acquire timed retries acquire.Check) m h = (refl, refl, refl)
+semaphore_goes l (semaphore.Acquire timed retries (acquire.Leave parked)) m h = (refl, refl, refl)
+semaphore_goes l (semaphore.Acquire timed retries acquire.Remove) m h = (refl, refl, refl)
+semaphore_goes l (semaphore.Acquire timed retries acquire.Clear) m h = (refl, refl, refl)
+semaphore_goes l (semaphore.Acquire timed retries acquire.GiveUp) m h = (refl, refl, refl)
+semaphore_goes l (semaphore.Acquire timed retries to) m h = absurd cc
+semaphore_goes l (semaphore.Try to) m h = absurd cc
+semaphore_goes l (semaphore.Release release.Take) m h = (refl, refl, refl)
+semaphore_goes l (semaphore.Release (release.Clear any)) m h = (refl, refl, refl)
+semaphore_goes l (semaphore.Release (release.Leave any)) m h = (refl, refl, refl)
+semaphore_goes l (semaphore.Release to) m h = absurd cc
 
 moves_free : (l m : ℕ) (all locked : Bool) → IsFree (move_act all locked l m)
 moves_free l m true locked = (refl, refl, refl)

@@ -3,6 +3,7 @@ pub mod PermitsKept
 pub mod SemaphoreMoves
 pub mod SemaphoreMovesKept
 pub mod SemaphoreKept
+pub mod SemaphoreGoes
 pub mod PlainCalls
 pub mod Closures
 pub mod Closings
@@ -90,9 +91,6 @@ pub mod CondvarOwing
 pub mod OnceOwing
 pub mod OnceRows
 pub mod OnceNext
-pub mod PermitsKept
-pub mod SemaphoreMoves
-pub mod SemaphoreMovesKept
 pub mod SemaphoreOwing
 pub mod SemaphoreNext
 pub mod SemaphoreEnds

@@ -137,7 +137,7 @@ first_code kind.TheVariants.Once threads n h = refl
 first_code (kind.TheVariants.Semaphore permits) threads n h =
     let none : sum (replicate n 0) ≡ 0 = no_readers n in
     let few : permits ≤ 2 ^ 62 = few_permits permits h in
-    let small : first_word (kind.TheVariants.Semaphore permits) ≡ 2 * permits = mod-eq_of_lt {2 * permits} {2 ^ 64} (omega arith) in
+    let small : first_word (kind.TheVariants.Semaphore permits) ≡ 2 * permits = mod-eq_of_lt {n = 2 * permits} {m = 2 ^ 64} (omega arith) in
     let bare : bit (has_parked (first_word (kind.TheVariants.Semaphore permits))) ≡ 0 = ap bit (ap has_parked small ∙ even_unparked permits) in
     omega arith
 

@@ -369,13 +369,12 @@ module _ (w : State) (t l : ℕ) (at : SemaphorePlace) (steady : IsSteady w) (sh
 
   took : (key : ℕ) → key ≡ key_of l Main → TakesFirst (semaphore_move at) (semaphore_hears at)
       → GoesFrom (place_at w t) (act.Take key whom.First)
-  took key e g = subst (λ j. GoesFrom (place_at w t) (act.Take j whom.First)) (sym e) (record {
-    goes = first.1;
-    tells = tells_by _ _ (λ x. cc) first.0;
-    others = calm_by _ (g.deeds _ _ _) (takes_calm _);
-  })
-    where
-      first = takes_first w t l steady there own (rules_in w l) refl (semaphore_move at) same_row asleep (semaphore_hears at) many (line_there Main) sort_is g (λ who any none_left h. followed who (Took any none_left) (λ x. cc) h)
+  took key e g = let first = takes_first w t l steady there own (rules_in w l) refl (semaphore_move at) same_row asleep (semaphore_hears at) many (line_there Main) sort_is g (λ who any none_left h. followed who (Took any none_left) (λ x. cc) h) in
+      subst (λ j. GoesFrom (place_at w t) (act.Take j whom.First)) (sym e) (record {
+        goes = first.1;
+        tells = tells_by (first_of (queue_at w (key_of l Main))) (reply_to w t (act.Take (key_of l Main) whom.First)) (λ x. cc) first.0;
+        others = calm_by (takes (first_of (queue_at w (key_of l Main)))) (g.deeds (first_of (queue_at w (key_of l Main))) _ _) (takes_calm (first_of (queue_at w (key_of l Main))));
+      })
 
   left : (m : Line) (key : ℕ) → key ≡ key_of l m → LeavesLine (semaphore_move at) (semaphore_hears at) m
       → GoesFrom (place_at w t) (act.Remove key)
@@ -429,6 +428,7 @@ module _ (w : State) (t l : ℕ) (at : SemaphorePlace) (steady : IsSteady w) (sh
     where
       late_timed : (p : SemaphorePlace) (m : Line) → (semaphore_profile p).late_line ≡ Some m → (semaphore_profile p).timed ≡ true
       late_timed (Acquire true again to) m h = refl
+      late_timed (Acquire false again acquire.Asleep) m h = absurd cc
       late_timed (Acquire false again to) m h = absurd cc
       late_timed (Try to) m h = absurd cc
       late_timed (Release release.Add) m h = absurd cc

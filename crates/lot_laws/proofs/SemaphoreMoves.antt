@@ -235,7 +235,7 @@ semaphore_late_move (Release at) m h = absurd cc
 
 -- ---------------------------------------------------------------- only a timed call gives up
 
-abbrev NextTimed : Next SemaphorePlace → Type 0
+abbrev pub NextTimed : Next SemaphorePlace → Type 0
 NextTimed (At p) = GivesUpTimed p
 NextTimed (Over answer) = Unit {0}
 

@@ -134,7 +134,7 @@ module _ (w : State) (t l : ℕ) (steady : IsSteady w) (there : t < length w.pla
         (finds_none w t l steady own there r rules p2 f.of f.fits (hand_now ∙ sym (hand_then None false true f)) Main idle (needed_by w t l steady there own r rules x same_row None (Took false true) p2 f (FindNobody Main ∷ []) (g.deeds None false true)) (own_by w t l steady there own r rules x same_row None (Took false true) p2 f (FindNobody Main ∷ []) (g.deeds None false true)))
         (is_then None false true f ∙ sym is_now))
       where
-        abbrev p2 : Place
+        p2 : Place
         p2 = next_place (place_at w t) (Took false true)
 
         f : Followed None (Took false true)
@@ -149,7 +149,7 @@ module _ (w : State) (t l : ℕ) (steady : IsSteady w) (there : t < length w.pla
         (needed_by w t l steady there own r rules x same_row (Some y.thread) (Took true (length rest == 0)) p2 f (Case (TakeFirst (queued y.thread)) ∷ []) (g.deeds (Some y.thread) true (length rest == 0)))
         (own_by w t l steady there own r rules x same_row (Some y.thread) (Took true (length rest == 0)) p2 f (Case (TakeFirst (queued y.thread)) ∷ []) (g.deeds (Some y.thread) true (length rest == 0))))
       where
-        abbrev p2 : Place
+        p2 : Place
         p2 = next_place (place_at w t) (Took true (length rest == 0))
 
         f : Followed (Some y.thread) (Took true (length rest == 0))

@@ -5,7 +5,7 @@ use Rattle.lot_condvar.specs.declared.notify.NotifyAt.{NotifyAt}
 use Rattle.lot_condvar.specs.declared.notify.NotifyAt.TheVariants as notify
 use Rattle.lot_condvar.specs.CondvarProfiles.{notify_row}
 use Rattle.lot_steps.specs.declared.places.Place.{Place}
-use Rattle.lot_steps.specs.declared.places.Place.TheVariants.{Condvar, Idle, Mutex, Once, RwLock}
+use Rattle.lot_steps.specs.declared.places.Place.TheVariants.{Condvar, Idle, Mutex, Once, RwLock, Semaphore}
 use Rattle.lot_steps.specs.Steps.{profile_at}
 use Rattle.abstract_locks.specs.Condvars.{Inside, IsAsInside, IsCondvar, IsSettled, IsSettledAt}
 use Rattle.abstract_locks.specs.Locks.{Rights}

@@ -8,7 +8,7 @@ use Rattle.lot_laws.proofs.Closings.{closing, closing_counted, closing_may, clos
 use Rattle.lot_laws.proofs.Closures.{closes_one}
 use Rattle.lot_once.specs.OnceProfiles.{once_profile}
 use Rattle.lot_semaphore.specs.SemaphoreProfiles.{semaphore_profile}
-use Rattle.lot_laws.proofs.SemaphoreGoes.{semaphore_begins, semaphore_goes_late}
+use Rattle.lot_laws.proofs.SemaphoreKept.{semaphore_begins, semaphore_goes_late}
 use Rattle.std.proofs.lemmas.Bool.{ltb-true}
 use Rattle.lot_base.specs.declared.wants.Want.TheVariants.{Exclusive}
 use Rattle.lot_calls.specs.declared.calls.Call.{Call}
