@@ -78,7 +78,7 @@ use Rattle.lot_rwlock.specs.RwLockBegins.{admission_of}
 use Rattle.lot_rwlock_fair.specs.FairBegins.{call_first}
 use Rattle.lot_rwlock_fair.specs.FairSteps.{call_act, call_next}
 use Rattle.lot_calls.specs.declared.calls.RwLockCall.{RwLockCall}
-use Rattle.lot_calls.specs.declared.calls.Patience.TheVariants.{Try}
+use Rattle.lot_calls.specs.declared.calls.Patience.TheVariants.{Patient, Timed, Try}
 
 -- ---------------------------------------------------------------- going on
 
