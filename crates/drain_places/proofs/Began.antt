@@ -38,7 +38,7 @@ use Rattle.lot_rwlock_fair.specs.declared.hand_over.HandOverAt.{HandOverAt}
 use Rattle.lot_rwlock_fair.specs.declared.hand_over.HandOverAt.TheVariants as handing
 use Rattle.lot_rwlock_fair.specs.FairCalls.{IsOfBump}
 use Rattle.lot_steps.specs.declared.places.Place.{Place}
-use Rattle.lot_steps.specs.declared.places.Place.TheVariants.{Idle, Mutex, RwLock, Once, Condvar}
+use Rattle.lot_steps.specs.declared.places.Place.TheVariants.{Idle, Mutex, RwLock, Once, Condvar, Semaphore}
 use Rattle.lot_steps.specs.Steps.{profile}
 use Rattle.drain_laws.specs.Few.{HadNone, IsFew, IsPlain, PendsInCall, number}
 use Rattle.drain_places.proofs.Sleepers.{here}
@@ -254,4 +254,5 @@ places_began Idle rights stands of few just had none = absurd cc
 places_began (Mutex l to) rights stands of few just had none = mutex_began rights few l to just had none
 places_began (RwLock l a c) rights stands of few just had none = call_began rights few l a c stands just had none
 places_began (Once l to) rights stands of few just had none = absurd stands
+places_began (Semaphore l to) rights stands of few just had none = absurd stands
 places_began (Condvar l to) rights stands of few just had none = absurd stands

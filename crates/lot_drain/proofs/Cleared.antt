@@ -105,6 +105,7 @@ module _ (k : Kind) (v : ℕ) (w : State) (f : Passes k w Idle v) (c : Call) (he
       by_kind (kind.RwLock limit) d = ((tt, (free_then.exclusive, free_then.pending, free_then.upgradable)), tt)
       by_kind (kind.Recursive limit) d = ((tt, (free_then.exclusive, free_then.pending, free_then.upgradable)), tt)
       by_kind kind.Once d = absurd d
+      by_kind (kind.Semaphore permits) d = absurd d
       by_kind kind.Condvar d = absurd d
 
   abbrev ended : State
@@ -215,6 +216,7 @@ module _ (w : State) (d : Progress) (ready : IsReady d.state) (over : IsOver d.s
     | inr (inr (inr three)) ↦ two_calls (kind.Recursive limit) 3 11 4 5 w d (stands (kind.Recursive limit) e 3 (coded ∙ three)) h ready.outside free drains (entry_of (kind.Recursive limit)) (fair_release_of (kind.Recursive limit)) refl refl refl tt tt (omega arith) (omega arith) (write_runs_3 (kind.Recursive limit) _) (release_runs_3 (kind.Recursive limit) _) (λ x o. o)
   ]
   by_kind kind.Once e drains v is bits coded = absurd drains
+  by_kind (kind.Semaphore permits) e drains v is bits coded = absurd drains
   by_kind kind.Condvar e drains v is bits coded = absurd drains
 
   pub clears : IsCleared w d (clear d)

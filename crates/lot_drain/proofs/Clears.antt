@@ -83,6 +83,7 @@ free_by_code (kind.Recursive limit) s drains state e = shared_free s e
       readers = omega arith;
     }
 free_by_code kind.Once s drains state e = absurd drains
+free_by_code (kind.Semaphore permits) s drains state e = absurd drains
 free_by_code kind.Condvar s drains state e = absurd drains
 
 -- ---------------------------------------------------------------- what is left in the word

@@ -21,7 +21,7 @@ use Rattle.abstract_locks.specs.Sites.{Has}
 use Rattle.lot_laws.specs.Stations.{doing_on}
 use Rattle.lot_steps.specs.declared.places.Place.{Place}
 use Rattle.lot_steps.specs.declared.places.Place.TheVariants as place
-use Rattle.lot_machine.specs.Fits.{IsOfItsKind, PlaceFits, is_once}
+use Rattle.lot_machine.specs.Fits.{IsOfItsKind, PlaceFits, is_once, is_semaphore}
 use Rattle.lot_machine.specs.Machine.{State, filled_at, kind_at, owners_at, place_at, shares_at}
 use Rattle.lot_laws.specs.Refinement.{call_state, lock_state}
 use Rattle.lot_laws.specs.SitesOf.{IsWorld}
@@ -77,6 +77,7 @@ Owns place.Idle r = Unit {0}
 Owns (place.Mutex l m) r = OwnsHanded m r
 Owns (place.RwLock l a c) r = Unit {0}
 Owns (place.Once l o) r = Unit {0}
+Owns (place.Semaphore l o) r = Unit {0}
 Owns (place.Condvar l v) r = Unit {0}
 
 -- a call of a lock that has owners is no other
@@ -85,6 +86,7 @@ IsOfOwners place.Idle = Unit {0}
 IsOfOwners (place.Mutex l m) = l ≡ 0
 IsOfOwners (place.RwLock l a c) = l ≡ 0
 IsOfOwners (place.Once l o) = ⊥
+IsOfOwners (place.Semaphore l o) = ⊥
 IsOfOwners (place.Condvar l v) = ⊥
 
 place_tells : (p : Place) (rights : ℕ → Rights) → IsOfOwners p → Owns p (rights 0) → IsFew (rights 0)
@@ -96,6 +98,7 @@ place_tells (place.Mutex (suc l) m) rights h owns few = absurd (omega (arith, h)
 place_tells (place.RwLock zero a c) rights h owns few = (rwlock_tells a c rights few, rwlock_pends a c rights)
 place_tells (place.RwLock (suc l) a c) rights h owns few = absurd (omega (arith, h))
 place_tells (place.Once l o) rights h owns few = absurd h
+place_tells (place.Semaphore l o) rights h owns few = absurd h
 place_tells (place.Condvar l v) rights h owns few = absurd h
 
 holds_tells : (p : Place) (rights : ℕ → Rights) → IsOfOwners p → Owns p (rights 0) → (holds_few p (rights 0) ≡ true) ↔ Holds p rights
@@ -146,6 +149,7 @@ owners_drain (kind.RwLock limit) = (λ e. tt, λ u. refl)
 owners_drain (kind.Recursive limit) = (λ e. tt, λ u. refl)
 owners_drain kind.Condvar = (λ e. absurd cc, λ u. absurd u)
 owners_drain kind.Once = (λ e. absurd cc, λ u. absurd u)
+owners_drain (kind.Semaphore permits) = (λ e. absurd cc, λ u. absurd u)
 
 -- whoever owns alone is one of n threads
 past_thread : (o : Option ℕ) (n t : ℕ) → is_below o n ≡ true → n ≤ t → is_thread t o ≡ 0
@@ -179,6 +183,16 @@ no_once (kind.RwLock limit) h d = cc
 no_once (kind.Recursive limit) h d = cc
 no_once kind.Condvar h d = d
 no_once kind.Once h d = d
+no_once (kind.Semaphore permits) h d = d
+
+no_semaphore : (k : Kind) → is_semaphore k ≡ true → Drains (rules_of k).sort → ⊥
+no_semaphore kind.Mutex h d = cc
+no_semaphore kind.Fair h d = cc
+no_semaphore (kind.RwLock limit) h d = cc
+no_semaphore (kind.Recursive limit) h d = cc
+no_semaphore kind.Condvar h d = d
+no_semaphore kind.Once h d = d
+no_semaphore (kind.Semaphore permits) h d = d
 
 no_condvar : (k : Kind) → is_condvar k ≡ true → Drains (rules_of k).sort → ⊥
 no_condvar kind.Mutex h d = cc
@@ -187,12 +201,14 @@ no_condvar (kind.RwLock limit) h d = cc
 no_condvar (kind.Recursive limit) h d = cc
 no_condvar kind.Condvar h d = d
 no_condvar kind.Once h d = d
+no_condvar (kind.Semaphore permits) h d = d
 
 pub of_owners : (n : ℕ) (kinds : ℕ → Kind) (p : Place) → n ≡ 1 → Drains (rules_of (kinds 0)).sort → PlaceFits n p → IsOfItsKind kinds p → IsOfOwners p
 of_owners n kinds place.Idle one d fits is = tt
 of_owners n kinds (place.Mutex l m) one d fits is = omega (arith, one, fits.0)
 of_owners n kinds (place.RwLock l a c) one d fits is = omega (arith, one, fits)
 of_owners n kinds (place.Once l o) one d fits is = let first : l ≡ 0 = omega (arith, one, fits) in no_once (kinds 0) (subst (λ k. is_once (kinds k) ≡ true) first is) d
+of_owners n kinds (place.Semaphore l o) one d fits is = let first : l ≡ 0 = omega (arith, one, fits) in no_semaphore (kinds 0) (subst (λ k. is_semaphore (kinds k) ≡ true) first is) d
 of_owners n kinds (place.Condvar l v) one d fits is = let first : l ≡ 0 = omega (arith, one, fits.0) in no_condvar (kinds 0) (subst (λ k. is_condvar (kinds k) ≡ true) first is.0) d
 
 counts_itself : (o : Option ℕ) (t : ℕ) → o ≡ Some t → 1 ≤ is_thread t o
@@ -223,6 +239,7 @@ owns_at w t (place.Mutex zero (mutex.HandOff bumps ha)) world h is = tt
 owns_at w t (place.Mutex (suc l) m) world h is = absurd (omega (arith, h))
 owns_at w t (place.RwLock l a c) world h is = tt
 owns_at w t (place.Once l o) world h is = absurd h
+owns_at w t (place.Semaphore l o) world h is = absurd h
 owns_at w t (place.Condvar l v) world h is = absurd h
 
 -- what one thread holds, by its place

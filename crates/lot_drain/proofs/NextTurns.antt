@@ -101,6 +101,7 @@ all_give (kind.Recursive limit) d = (
   ),
 )
 all_give kind.Once d = absurd d
+all_give (kind.Semaphore permits) d = absurd d
 all_give kind.Condvar d = absurd d
 
 -- it begins a release

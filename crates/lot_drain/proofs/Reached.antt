@@ -77,6 +77,7 @@ call_new kind.Fair (call.Mutex l c) r d h = mutex_new true l c r h
 call_new (kind.RwLock limit) (call.RwLock l c) r d h = rwlock_new l c r h
 call_new (kind.Recursive limit) (call.RwLock l c) r d h = rwlock_new l c r h
 call_new kind.Once c r d h = absurd d
+call_new (kind.Semaphore permits) c r d h = absurd d
 call_new kind.Condvar c r d h = absurd d
 call_new kind.Mutex c r d h = h
 call_new kind.Fair c r d h = h

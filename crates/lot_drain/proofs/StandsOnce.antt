@@ -64,6 +64,7 @@ stands_there (place.Mutex (suc k) a) (suc l) m h there = absurd (omega (arith, h
 stands_there (place.RwLock zero a c) (suc l) m h there = let none = gone (0 == suc l) (station (place.RwLock 0 a c)) m (not_first l) in absurd (omega (arith, none, there))
 stands_there (place.RwLock (suc k) a c) (suc l) m h there = absurd (omega (arith, h))
 stands_there (place.Once k o) (suc l) m h there = absurd h
+stands_there (place.Semaphore k o) (suc l) m h there = absurd h
 stands_there (place.Condvar k v) (suc l) m h there = absurd h
 
 none_if : (n : ℕ) → (1 ≤ n → ⊥) → n ≡ 0

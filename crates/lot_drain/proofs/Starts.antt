@@ -6,7 +6,7 @@ use Rattle.abstract_locks.specs.Purposes.{Purpose, Releases}
 use Rattle.abstract_locks.specs.Runs.{CallState, no_rights}
 use Rattle.abstract_locks.specs.Sites.{Claim, Has, Pends, Runs, Ran, Holds, IsSite, is_full}
 use Rattle.lot_steps.specs.declared.places.Place.{Place}
-use Rattle.lot_steps.specs.declared.places.Place.TheVariants.{Idle, Mutex, RwLock, Once, Condvar}
+use Rattle.lot_steps.specs.declared.places.Place.TheVariants.{Idle, Mutex, RwLock, Once, Condvar, Semaphore}
 use Rattle.lot_steps.specs.Steps.{is_lock, lock_of, profile}
 use Rattle.lot_machine.specs.Machine.{State, filled_at, place_at}
 use Rattle.lot_laws.specs.Refinement.{call_at, call_state, lock_state}
@@ -64,7 +64,9 @@ begun_at (RwLock l a c) rights (inr there) few just had none =
     (began.0, λ x fair is free. began.1 x fair (same_purpose _ _ is) free))
     had none
 begun_at (Once l at) rights (inl e) few just had none = absurd cc
+begun_at (Semaphore l at) rights (inl e) few just had none = absurd cc
 begun_at (Once l at) rights (inr there) few just had none = absurd there.1
+begun_at (Semaphore l at) rights (inr there) few just had none = absurd there.1
 begun_at (Condvar l at) rights (inl e) few just had none = absurd cc
 begun_at (Condvar l at) rights (inr there) few just had none = absurd there.1
 

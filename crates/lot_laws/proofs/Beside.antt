@@ -11,10 +11,12 @@ use Rattle.lot_mutex.specs.MutexSteps.{mutex_looking}
 use Rattle.lot_once.specs.declared.places.OncePlace.{OncePlace}
 use Rattle.lot_once.specs.OnceSteps.{once_looking}
 use Rattle.lot_rwlock_fair.specs.declared.places.RwLockCallPlace.{RwLockCallPlace}
+use Rattle.lot_semaphore.specs.declared.places.SemaphorePlace.{SemaphorePlace}
+use Rattle.lot_semaphore.specs.SemaphoreSteps.{semaphore_looking}
 use Rattle.lot_rwlock_fair.specs.FairProfiles.{call_looking}
 use Rattle.lot_steps.specs.declared.places.Place.{Place}
-use Rattle.lot_steps.specs.declared.places.Place.TheVariants.{Idle, Mutex, RwLock, Once, Condvar}
-use Rattle.lot_steps.specs.Steps.{beside_of, in_condvar, in_mutex, in_once, in_rwlock, looking, profile_beside}
+use Rattle.lot_steps.specs.declared.places.Place.TheVariants.{Idle, Mutex, RwLock, Once, Condvar, Semaphore}
+use Rattle.lot_steps.specs.Steps.{beside_of, in_condvar, in_mutex, in_once, in_rwlock, in_semaphore, looking, profile_beside}
 
 abbrev pub SameBeside : Place → Place → Type 0
 SameBeside p q = (beside_of q ≡ beside_of p) × (profile_beside q ≡ profile_beside p)
@@ -36,6 +38,11 @@ looks_beside (Once l at) q is = by_place (once_looking at) is
     by_place : (o : Option OncePlace) → in_once l o ≡ Some q → SameBeside (Once l at) q
     by_place None e = absurd cc
     by_place (Some at2) e = let there : Once l at2 ≡ q = cc in subst (SameBeside (Once l at)) there (refl, refl)
+looks_beside (Semaphore l at) q is = by_place (semaphore_looking at) is
+  where
+    by_place : (o : Option SemaphorePlace) → in_semaphore l o ≡ Some q → SameBeside (Semaphore l at) q
+    by_place None e = absurd cc
+    by_place (Some at2) e = let there : Semaphore l at2 ≡ q = cc in subst (SameBeside (Semaphore l at)) there (refl, refl)
 looks_beside (Condvar l at) q is = condvar_look at is
   where
     locks : (m : ℕ) (timed late : Bool) (at : MutexPlace) → in_condvar l (in_lock m timed late (mutex_looking at)) ≡ Some q

@@ -7,7 +7,7 @@ use Rattle.lot_acts.specs.declared.acts.Act.{Act}
 use Rattle.lot_steps.specs.Steps.{act_of}
 use Rattle.lot_machine.specs.Machine.{State, place_at, runs_closure, can_close, can_do, closed_place}
 use Rattle.lot_machine.proofs.Shape.{both}
-pub use Rattle.lot_machine.proofs.Closures.{RunsOne, runs_one, call_runs_none, course_runs_none, mutex_runs_none, condvar_runs_none}
+pub use Rattle.lot_machine.proofs.Closures.{RunsOne, runs_one, call_runs_none, course_runs_none, mutex_runs_none, condvar_runs_none, semaphore_runs_none}
 
 -- who may end its closure runs one
 pub closes_one : (w : State) (t : ℕ) (succeeded : Bool) → can_close w t succeeded ≡ true → RunsOne (place_at w t)

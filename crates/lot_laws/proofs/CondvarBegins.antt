@@ -114,6 +114,7 @@ module _ (w : State) (t l : ℕ) where
       by_kind (kind.RwLock limit) e right = absurd right
       by_kind (kind.Recursive limit) e right = absurd right
       by_kind kind.Once e right = absurd right
+      by_kind (kind.Semaphore permits) e right = absurd right
 
   -- ---------------------------------------------------------------- its time is up
 

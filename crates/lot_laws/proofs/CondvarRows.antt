@@ -1,6 +1,13 @@
 -- What a place says of its thread at a condition variable: what it is about to do inside, and which mutex its wait names. Nothing that befalls the
 -- thread changes either.
 use Rattle.std.proofs.Common.{ℕ, Bool, true, false, Option, None, if◌then◌else◌, ◌==◌, ◌≡◌, refl, ◌∙◌, ap}
+use Rattle.lot_semaphore.specs.declared.places.SemaphorePlace.TheVariants as semaphore
+use Rattle.lot_semaphore.specs.declared.release.ReleaseAt.TheVariants as release
+use Rattle.lot_semaphore.specs.declared.acquire.AcquireAt.TheVariants as acquire
+use Rattle.lot_steps.specs.Steps.{semaphore_goes}
+use Rattle.lot_semaphore.specs.declared.places.SemaphorePlace.{SemaphorePlace}
+use Rattle.lot_semaphore.specs.SemaphoreProfiles.{semaphore_profile}
+use Rattle.lot_semaphore.specs.SemaphoreSteps.{semaphore_next}
 use Rattle.lot_base.specs.declared.notes.Note.{Note}
 use Rattle.lot_base.specs.declared.notes.Note.TheVariants as note
 use Rattle.lot_acts.specs.declared.acts.Next.{Next}
@@ -39,7 +46,7 @@ use Rattle.lot_condvar.specs.declared.wait.WaitAt.TheVariants as wait
 use Rattle.lot_condvar.specs.CondvarProfiles.{condvar_profile, condvar_row, mutex_side}
 use Rattle.lot_condvar.specs.CondvarSteps.{condvar_next, in_wait, mutex_beside, relocked}
 use Rattle.lot_steps.specs.declared.places.Place.{Place}
-use Rattle.lot_steps.specs.declared.places.Place.TheVariants.{Idle, Mutex, RwLock, Once, Condvar}
+use Rattle.lot_steps.specs.declared.places.Place.TheVariants.{Idle, Mutex, RwLock, Once, Condvar, Semaphore}
 use Rattle.lot_steps.specs.Steps.{condvar_goes, is_lock, mutex_goes, next_place, once_goes, profile_at, rwlock_goes}
 use Rattle.abstract_locks.specs.Condvars.{Stage}
 use Rattle.lot_laws.proofs.RowPromises.{Befalls}
@@ -71,6 +78,13 @@ once_says (once.Run forced at) = (refl, refl)
 once_says (once.GiveUp retries give_up.Remove) = (refl, refl)
 once_says (once.GiveUp retries at) = (refl, refl)
 
+semaphore_says : (at : SemaphorePlace) → SaysNothing (semaphore_profile at)
+semaphore_says (semaphore.Acquire timed retries acquire.Load) = (refl, refl)
+semaphore_says (semaphore.Acquire timed retries at) = (refl, refl)
+semaphore_says (semaphore.Try at) = (refl, refl)
+semaphore_says (semaphore.Release release.Add) = (refl, refl)
+semaphore_says (semaphore.Release at) = (refl, refl)
+
 shared_says : (a : Admission) (at : RwLockCallPlace) → SaysNothing (call_profile a at)
 shared_says a (places.Plain p) = (refl, refl)
 shared_says a at = (refl, refl)
@@ -91,6 +105,11 @@ row_says (Once l at) k = either (l == k)
   where
     either : (b : Bool) → SaysNothing (if b then once_profile at else blank)
     either true = once_says at
+    either false = (refl, refl)
+row_says (Semaphore l at) k = either (l == k)
+  where
+    either : (b : Bool) → SaysNothing (if b then semaphore_profile at else blank)
+    either true = semaphore_says at
     either false = (refl, refl)
 row_says (Condvar c at) k = either (c == k) (is_lock k (mutex_beside at))
   where
@@ -224,6 +243,11 @@ stage_unmoved k (Once l at) r h = by_next (once_next at r)
     by_next : (n : Next OncePlace) → stage_of (once_goes l n) k ≡ None
     by_next (next.At q) = refl
     by_next (next.End answer) = refl
+stage_unmoved k (Semaphore l at) r h = by_next (semaphore_next at r)
+  where
+    by_next : (n : Next SemaphorePlace) → stage_of (semaphore_goes l n) k ≡ None
+    by_next (next.At q) = refl
+    by_next (next.End answer) = refl
 stage_unmoved k (Condvar c at) r h = let x = says_same at r h in ap (λ n. stage_of (condvar_goes c n) k) x.goes ∙ ap (λ o. if c == k then o else None) x.stage
 
 pub names_unmoved : (k : ℕ) (p : Place) (r : Reply) → Befalls r → names_of (next_place p r) k ≡ names_of p k
@@ -241,6 +265,11 @@ names_unmoved k (RwLock l a c) r h = by_next (call_next a c r)
 names_unmoved k (Once l at) r h = by_next (once_next at r)
   where
     by_next : (n : Next OncePlace) → names_of (once_goes l n) k ≡ None
+    by_next (next.At q) = refl
+    by_next (next.End answer) = refl
+names_unmoved k (Semaphore l at) r h = by_next (semaphore_next at r)
+  where
+    by_next : (n : Next SemaphorePlace) → names_of (semaphore_goes l n) k ≡ None
     by_next (next.At q) = refl
     by_next (next.End answer) = refl
 names_unmoved k (Condvar c at) r h = let x = says_same at r h in ap (λ n. names_of (condvar_goes c n) k) x.goes ∙ ap (λ o. if c == k then o else None) x.names

@@ -20,7 +20,7 @@ use Rattle.lot_condvar.specs.declared.wait.WaitAt.TheVariants as wait
 use Rattle.lot_condvar.specs.CondvarDeeds.{MayHear, after_all, condvar_deeds}
 use Rattle.lot_condvar.specs.CondvarSteps.{condvar_act, condvar_first, condvar_next, in_lock}
 use Rattle.lot_steps.specs.declared.places.Place.{Place}
-use Rattle.lot_steps.specs.declared.places.Place.TheVariants.{Idle, Mutex, RwLock, Once, Condvar}
+use Rattle.lot_steps.specs.declared.places.Place.TheVariants.{Idle, Mutex, RwLock, Once, Condvar, Semaphore}
 use Rattle.lot_steps.specs.Steps.{act_of, first_place, in_condvar, is_idle, late_key, lock_of, looking, next_place, profile_at}
 use Rattle.abstract_locks.specs.Condvars.{BeginsWait, IsCondvar, IsInsideNot, condvar_leads}
 use Rattle.abstract_locks.specs.Locks as locks
@@ -258,6 +258,7 @@ condvar_place w steady t l sort own = by_place (place_at w t) refl (steady.stand
     by_place (Mutex k at) is fits own = absurd (let here : k ≡ l = cc in let both : locks.Mutex ≡ locks.Condvar = sym (ap (λ (r : Rules). r.sort) (mutex_rules (kind_at w k) fits)) ∙ ap (λ j. (rules_in w j).sort) here ∙ sort in cc)
     by_place (RwLock k a c) is fits own = absurd (let here : k ≡ l = cc in let both : false ≡ true = sym (ap has_readers (ap (λ j. (rules_in w j).sort) here ∙ sort)) ∙ fits.0.0 in cc)
     by_place (Once k at) is fits own = absurd (let here : k ≡ l = cc in let both : locks.Once ≡ locks.Condvar = sym fits ∙ ap (λ j. (rules_in w j).sort) here ∙ sort in cc)
+    by_place (Semaphore k at) is fits own = absurd (let here : k ≡ l = cc in let both : locks.Semaphore ≡ locks.Condvar = sym fits.0 ∙ ap (λ j. (rules_in w j).sort) here ∙ sort in cc)
     by_place (Condvar k at) is fits own = (at, is ∙ ap (λ j. Condvar j at) (let here : k ≡ l = cc in here))
 
 pub after_condvars : (w : State) (s : Step) → IsShaped w → IsSteady w → AreCounted w → AreCondvars w → AreCondvars (after w s)
@@ -283,6 +284,7 @@ after_condvars w s shape steady counted condvars l sort_then = by_lock (is_or_no
             by_first (call.Mutex k x) e led = absurd cc
             by_first (call.RwLock k x) e led = absurd cc
             by_first (call.Once k x) e led = absurd cc
+            by_first (call.Semaphore k x) e led = absurd cc
             by_first (call.Condvar k x) e led = let here : k ≡ l = cc in
                 subst (λ (z : State). IsCondvar (condvar_of z l)) (sym (led ∙ ap (λ j. put w s.thread (Condvar j (condvar_first x))) here)) (begun w s.thread l steady idle there (condvars l sort) x)
 

@@ -12,7 +12,7 @@ use Rattle.lot_condvar.specs.declared.places.CondvarPlace.TheVariants.{Wait, Loo
 use Rattle.lot_condvar.specs.CondvarProfiles.{condvar_profile, condvar_row, mutex_side}
 use Rattle.lot_condvar.specs.CondvarSteps.{mutex_beside}
 use Rattle.lot_steps.specs.declared.places.Place.{Place}
-use Rattle.lot_steps.specs.declared.places.Place.TheVariants.{Idle, Mutex, RwLock, Once, Condvar}
+use Rattle.lot_steps.specs.declared.places.Place.TheVariants.{Idle, Mutex, RwLock, Once, Condvar, Semaphore}
 use Rattle.lot_steps.specs.Steps.{is_lock, lock_of, profile}
 use Rattle.abstract_locks.specs.Condvars.{moved_of}
 use Rattle.abstract_locks.specs.Locks as locks
@@ -61,6 +61,7 @@ module _ (w : State) (steady : IsSteady w) (t : ℕ) where
       by_place (Mutex l at) is = here l (Mutex l at) is tt refl
       by_place (RwLock l a c) is = here l (RwLock l a c) is tt refl
       by_place (Once l at) is = here l (Once l at) is tt refl
+      by_place (Semaphore l at) is = here l (Semaphore l at) is tt refl
       by_place (Condvar l (Wait m timed at)) is = ap (λ q. of_purpose (call_state q (rights w t)).purpose) is
       by_place (Condvar l (Look all)) is = ap (λ q. of_purpose (call_state q (rights w t)).purpose) is
       by_place (Condvar l (Notify all m at)) is = ap (λ q. of_purpose (call_state q (rights w t)).purpose) is
@@ -80,6 +81,7 @@ module _ (w : State) (steady : IsSteady w) (t : ℕ) where
       by_place (Mutex l at) is = here l (Mutex l at) is tt refl
       by_place (RwLock l a c) is = here l (RwLock l a c) is tt refl
       by_place (Once l at) is = here l (Once l at) is tt refl
+      by_place (Semaphore l at) is = here l (Semaphore l at) is tt refl
       by_place (Condvar l (Wait m timed at)) is = subst (λ q. Knowing (call_state q (rights w t))) (sym is) ((fits_at l (Wait m timed at) is).sort, plain_sort (kind_at w m) ((fits_at l (Wait m timed at) is).mutex m refl))
       by_place (Condvar l (Look all)) is = subst (λ q. Knowing (call_state q (rights w t))) (sym is) (fits_at l (Look all) is).sort
       by_place (Condvar l (Notify all m at)) is = subst (λ q. Knowing (call_state q (rights w t))) (sym is) (fits_at l (Notify all m at) is).sort
@@ -114,6 +116,7 @@ module _ (w : State) (steady : IsSteady w) (t : ℕ) where
         by_place (Mutex l at) is = single l (Mutex l at) is tt refl
         by_place (RwLock l a c) is = single l (RwLock l a c) is tt refl
         by_place (Once l at) is = single l (Once l at) is tt refl
+        by_place (Semaphore l at) is = single l (Semaphore l at) is tt refl
         by_place (Condvar l at) is =
             ap (λ (b : Bool). (if b then station_by (condvar_profile at) else if is_lock k (mutex_beside at) then station_by (mutex_side at) else nowhere).inside) (other_lock l (ap lock_of is))
             ∙ beside at (mutex_beside at) (λ m e. plain_sort (kind_at w m) ((fits_at l at is).mutex m e))
@@ -126,6 +129,7 @@ module _ (w : State) (steady : IsSteady w) (t : ℕ) where
         by_place (Mutex l at) is = (refl, refl)
         by_place (RwLock l a c) is = (refl, refl)
         by_place (Once l at) is = (refl, refl)
+        by_place (Semaphore l at) is = (refl, refl)
         by_place (Condvar l at) is = let out = other_lock l (ap lock_of is) in
             (ap (λ (b : Bool). if b then (condvar_row at).stage else None) out, ap (λ (b : Bool). if b then (condvar_row at).waits_with else None) out)
 

@@ -1,6 +1,11 @@
 -- The places whose call has counted those whom its thread has in hand: a thread comes to one by its own step alone, and none of them is in a hand.
 use Rattle.std.proofs.Common.{ℕ, Bool, true, false, Option, Some, None, if◌then◌else◌, ◌==◌, ◌≡◌, refl, sym, ◌∙◌, ap, subst}
 use Rattle.std.proofs.lemmas.Bool.{eqb-true}
+use Rattle.lot_steps.specs.Steps.{in_semaphore}
+use Rattle.lot_steps.specs.Steps.{semaphore_goes}
+use Rattle.lot_semaphore.specs.declared.places.SemaphorePlace.{SemaphorePlace}
+use Rattle.lot_semaphore.specs.SemaphoreSteps.{semaphore_looking}
+use Rattle.lot_semaphore.specs.SemaphoreSteps.{semaphore_next}
 use Rattle.lot_base.specs.declared.notes.Note as note
 use Rattle.lot_calls.specs.declared.calls.Access.{Access}
 use Rattle.lot_calls.specs.declared.calls.Access.TheVariants as access
@@ -43,7 +48,7 @@ use Rattle.lot_once.specs.OnceSteps.{once_looking, once_next}
 use Rattle.lot_condvar.specs.declared.places.CondvarPlace.{CondvarPlace}
 use Rattle.lot_condvar.specs.CondvarSteps.{condvar_next, condvar_looking}
 use Rattle.lot_steps.specs.declared.places.Place.{Place}
-use Rattle.lot_steps.specs.declared.places.Place.TheVariants.{Idle, Mutex, RwLock, Once, Condvar}
+use Rattle.lot_steps.specs.declared.places.Place.TheVariants.{Idle, Mutex, RwLock, Once, Condvar, Semaphore}
 use Rattle.lot_steps.specs.Steps.{first_place, in_mutex, in_once, in_rwlock, late_key, looking, mutex_goes, next_place, once_goes, rwlock_goes, condvar_goes, in_condvar}
 use Rattle.lot_machine.specs.Machine.{State, held, place_at}
 use Rattle.lot_laws.specs.SitesOf.{AreCounted, IsCounted, carried_at}
@@ -57,6 +62,7 @@ counted_on Idle l = None
 counted_on (Mutex j at) l = None
 counted_on (RwLock j a c) l = if j == l then in_hand_of c else None
 counted_on (Once j at) l = None
+counted_on (Semaphore j at) l = None
 counted_on (Condvar j at) l = None
 
 -- and where a call goes on
@@ -81,6 +87,10 @@ pub once_counted : (l j : ℕ) (n : Next OncePlace) → counted_on (once_goes j 
 once_counted l j (next.At c) = refl
 once_counted l j (next.End answer) = refl
 
+pub semaphore_counted : (l j : ℕ) (n : Next SemaphorePlace) → counted_on (semaphore_goes j n) l ≡ None
+semaphore_counted l j (next.At c) = refl
+semaphore_counted l j (next.End answer) = refl
+
 pub condvar_counted : (l j : ℕ) (n : Next CondvarPlace) → counted_on (condvar_goes j n) l ≡ None
 condvar_counted l j (next.At c) = refl
 condvar_counted l j (next.End answer) = refl
@@ -96,6 +106,7 @@ pub counting : (l : ℕ) (k : Counted) (p : Place) → counted_on p l ≡ Some k
 counting l k Idle e = absurd cc
 counting l k (Mutex j at) e = absurd cc
 counting l k (Once j at) e = absurd cc
+counting l k (Semaphore j at) e = absurd cc
 counting l k (Condvar j at) e = absurd cc
 counting l k (RwLock j a c) e = either (j == l) refl e
   where
@@ -233,6 +244,7 @@ pub counted_befallen : (l : ℕ) (p : Place) (r : Reply) → Befalls r → count
 counted_befallen l Idle r h = refl
 counted_befallen l (Mutex j at) r h = mutex_counted l j (mutex_next at r)
 counted_befallen l (Once j at) r h = once_counted l j (once_next at r)
+counted_befallen l (Semaphore j at) r h = semaphore_counted l j (semaphore_next at r)
 counted_befallen l (Condvar j at) r h = condvar_counted l j (condvar_next at r)
 counted_befallen l (RwLock j a c) r h = goes_counted l j a (call_next a c r) ∙ ap (λ o. if j == l then o else None) (call_befallen a c r h)
 
@@ -250,6 +262,7 @@ first_bare c = refl
 pub begins_bare : (l : ℕ) (kind : Kind) (c : Call) → counted_on (first_place kind c) l ≡ None
 begins_bare l kind (call.TheVariants.Mutex j c) = refl
 begins_bare l kind (call.TheVariants.Once j c) = refl
+begins_bare l kind (call.TheVariants.Semaphore j c) = refl
 begins_bare l kind (call.TheVariants.Condvar j c) = refl
 begins_bare l kind (call.TheVariants.RwLock j c) = ap (λ o. if j == l then o else None) (first_bare c) ∙ nothing (j == l)
 
@@ -282,6 +295,11 @@ looks_bare (Once j at) q is = by_place (once_looking at) is
     by_place : (o : Option OncePlace) → in_once j o ≡ Some q → LooksBare q
     by_place None e = absurd cc
     by_place (Some at2) e = let there : Once j at2 ≡ q = cc in subst LooksBare there (record { bare = λ l. refl; goes_on = λ r l. once_counted l j (once_next at2 r) })
+looks_bare (Semaphore j at) q is = by_place (semaphore_looking at) is
+  where
+    by_place : (o : Option SemaphorePlace) → in_semaphore j o ≡ Some q → LooksBare q
+    by_place None e = absurd cc
+    by_place (Some at2) e = let there : Semaphore j at2 ≡ q = cc in subst LooksBare there (record { bare = λ l. refl; goes_on = λ r l. semaphore_counted l j (semaphore_next at2 r) })
 looks_bare (Condvar j at) q is = by_place (condvar_looking at) is
   where
     by_place : (o : Option CondvarPlace) → in_condvar j o ≡ Some q → LooksBare q
@@ -298,6 +316,7 @@ pub late_bare : (p : Place) (key : ℕ) → late_key p ≡ Some key → (l : ℕ
 late_bare Idle key e l = refl
 late_bare (Mutex j at) key e l = mutex_counted l j (mutex_next at reply.Late)
 late_bare (Once j at) key e l = once_counted l j (once_next at reply.Late)
+late_bare (Semaphore j at) key e l = semaphore_counted l j (semaphore_next at reply.Late)
 late_bare (Condvar j at) key e l = condvar_counted l j (condvar_next at reply.Late)
 late_bare (RwLock j a (Plain p)) key e l = (bare_at j a (Plain p) refl (λ no. no)).goes_on reply.Late l
 late_bare (RwLock j a (Bump p)) key e l = (bare_at j a (Bump p) refl (λ no. no)).goes_on reply.Late l

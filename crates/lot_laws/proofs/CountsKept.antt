@@ -1,7 +1,10 @@
 -- What a call has counted of those whom its thread has in hand stays so, whatever a thread does: as long as it hasn't handed the lock over, no other
 -- thread brings anybody into its hand or lets anybody go.
 use Rattle.std.proofs.Common.{ℕ, Bool, true, false, Option, Some, None, if◌then◌else◌, ◌==◌, ◌≡◌, ◌≢◌, ◌<◌, inl, inr, length, nat_lt, refl, sym, ◌∙◌, ap, subst, get_or, get_or-set_same, length-set, set}
-use Rattle.lot_steps.specs.declared.places.Place.TheVariants.{Once}
+use Rattle.lot_laws.proofs.Counting.{semaphore_counted}
+use Rattle.lot_semaphore.specs.SemaphoreSteps.{semaphore_act}
+use Rattle.lot_semaphore.specs.SemaphoreSteps.{semaphore_next}
+use Rattle.lot_steps.specs.declared.places.Place.TheVariants.{Once, Semaphore}
 use Rattle.lot_laws.proofs.Glue.{IsOfTwo, IsSingle, fits_two, single_or_two}
 use Rattle.lot_laws.proofs.Counting.{once_counted, condvar_counted}
 use Rattle.lot_once.specs.OnceSteps.{once_next}
@@ -219,6 +222,7 @@ module _ (w : State) (t : ℕ) (steady : IsSteady w) (counted : AreCounted w) (t
     going_counts Idle is behind turned l k e = absurd cc
     going_counts (Mutex j m) is behind turned l k e = absurd (none_is k _ (mutex_counted l j (mutex_next m (reply_to w t (mutex_act j m)))) e)
     going_counts (Once j m) is behind turned l k e = absurd (none_is k _ (once_counted l j (once_next m (reply_to w t (once_act j m)))) e)
+    going_counts (Semaphore j m) is behind turned l k e = absurd (none_is k _ (semaphore_counted l j (semaphore_next m (reply_to w t (semaphore_act j m)))) e)
     going_counts (Condvar j m) is behind turned l k e = absurd (none_is k _ (condvar_counted l j (condvar_next m (reply_to w t (condvar_act j m)))) e)
     going_counts (RwLock j a (HandOver x b to)) is behind turned l k e = either (j == l) (sym (goes_counted l j a n) ∙ e)
       where

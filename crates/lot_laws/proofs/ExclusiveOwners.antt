@@ -19,7 +19,7 @@ use Rattle.lot_condvar.specs.declared.notify.NotifyAt.TheVariants as notify
 use Rattle.lot_condvar.specs.declared.wait.WaitAt.TheVariants as wait
 use Rattle.lot_condvar.specs.declared.places.CondvarPlace.{CondvarPlace}
 use Rattle.lot_steps.specs.declared.places.Place.{Place}
-use Rattle.lot_steps.specs.declared.places.Place.TheVariants.{Idle, Mutex, RwLock, Once, Condvar}
+use Rattle.lot_steps.specs.declared.places.Place.TheVariants.{Idle, Mutex, RwLock, Once, Condvar, Semaphore}
 use Rattle.lot_mutex.specs.MutexSteps.{is_locked, mutex_owners}
 use Rattle.lot_mutex.specs.declared.places.MutexPlace.{MutexPlace}
 use Rattle.lot_acts.specs.Owners.{with_exclusive}
@@ -121,6 +121,7 @@ owner_after Idle t v o = o
 owner_after (Mutex l at) t v o = mutex_owner_after at t v o
 owner_after (RwLock l a c) t v o = call_owner a c t v o
 owner_after (Once l at) t v o = o
+owner_after (Semaphore l at) t v o = o
 owner_after (Condvar l at) t v o = condvar_owner_after at t v o
 
 once_is : (at : OncePlace) (t v : ℕ) (r : Owners) → (once_owners at t v r).exclusive ≡ r.exclusive
@@ -181,6 +182,7 @@ pub exclusive-owners : (p : Place) (t v : ℕ) (r : Owners) → (owners_after p 
 exclusive-owners Idle t v r = refl
 exclusive-owners (RwLock l a c) t v r = call_is a c t v r
 exclusive-owners (Once l at) t v r = once_is at t v r
+exclusive-owners (Semaphore l at) t v r = refl
 exclusive-owners (Mutex l at) t v r = mutex_is at t v r
 exclusive-owners (Condvar l at) t v r = condvar_is at t v r
 

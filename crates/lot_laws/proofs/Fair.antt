@@ -1,5 +1,6 @@
 -- Each step of the world is fair.
 use Rattle.std.proofs.Common.{ℕ, Bool, true, false, Option, Some, None, if◌then◌else◌, ◌==◌, ◌&&◌, not, ◌≡◌, ◌≢◌, ◌+◌, ◌*◌, ◌<◌, ◌⊎◌, inl, inr, [], length, refl, sym, ◌∙◌, ap, subst, arith, get_or-set_same, length-set}
+use Rattle.lot_semaphore.specs.declared.places.SemaphorePlace.TheVariants as semaphore
 use Rattle.lot_calls.specs.declared.calls.OnceCall.TheVariants as once_call
 use Rattle.lot_once.specs.declared.places.OncePlace.TheVariants.{Look, Run, GiveUp}
 use Rattle.lot_laws.proofs.Closures.{closes_one}
@@ -26,7 +27,7 @@ use Rattle.lot_mutex.specs.declared.places.TheConstants.{NOT_PARKED}
 use Rattle.lot_mutex.specs.declared.hand_off.HandOffAt.{HandOffAt}
 use Rattle.lot_mutex.specs.declared.hand_off.HandOffAt.TheVariants as hand_off
 use Rattle.lot_steps.specs.declared.places.Place.{Place}
-use Rattle.lot_steps.specs.declared.places.Place.TheVariants.{Idle, Mutex, RwLock, Once, Condvar}
+use Rattle.lot_steps.specs.declared.places.Place.TheVariants.{Idle, Mutex, RwLock, Once, Condvar, Semaphore}
 use Rattle.lot_condvar.specs.declared.places.CondvarPlace.{CondvarPlace}
 use Rattle.lot_condvar.specs.declared.places.CondvarPlace.TheVariants as condvar_place
 use Rattle.lot_mutex.specs.MutexSteps.{is_locked, is_parked, lock_act, hand_off_act}
@@ -277,6 +278,9 @@ module _ (w : State) (t l : ℕ) (shape : IsShaped w) (steady : IsSteady w) (own
   go_gives (Once k (Look once_call.WaitTimed again at)) is fits h = absurd h
   go_gives (Once k (Run forced at)) is fits h = absurd h
   go_gives (Once k (GiveUp again at)) is fits h = absurd h
+  go_gives (Semaphore k (semaphore.Acquire timed again at)) is fits h = absurd h
+  go_gives (Semaphore k (semaphore.Try at)) is fits h = absurd h
+  go_gives (Semaphore k (semaphore.Release at)) is fits h = absurd h
   go_gives (Condvar k (condvar_place.Wait m timed at)) is fits h = absurd h
   go_gives (Condvar k (condvar_place.Notify all m at)) is fits h = absurd h
   go_gives (Condvar k (condvar_place.Look all)) is fits h = absurd h
@@ -371,6 +375,9 @@ module _ (w : State) (t l : ℕ) (shape : IsShaped w) (steady : IsSteady w) (cou
       by_place (Once k (Look once_call.WaitTimed again at)) is fits can gives = absurd gives.1
       by_place (Once k (Run forced at)) is fits can gives = absurd gives.1
       by_place (Once k (GiveUp again at)) is fits can gives = absurd gives.1
+      by_place (Semaphore k (semaphore.Acquire timed again at)) is fits can gives = absurd gives.1
+      by_place (Semaphore k (semaphore.Try at)) is fits can gives = absurd gives.1
+      by_place (Semaphore k (semaphore.Release at)) is fits can gives = absurd (let f : false ≡ true = gives.1.1 in cc)
       by_place (Condvar k at) is fits can gives = absurd (two_give k at gives)
       by_place (Mutex k at) is fits can gives = absurd (
           let fits_k : is_mutex (kind_at w k) ≡ true = subst (FitsItsLock w) is (steady.stands.calls t) in

@@ -7,6 +7,8 @@ use Rattle.lot_base.specs.declared.wants.Waiter.{Waiter}
 use Rattle.lot_base.specs.declared.wants.Want.TheVariants.{Exclusive}
 use Rattle.lot_acts.specs.declared.owners.Owners.{Owners}
 use Rattle.lot_once.specs.declared.places.OncePlace.{OncePlace}
+use Rattle.lot_semaphore.specs.declared.places.SemaphorePlace.{SemaphorePlace}
+use Rattle.lot_semaphore.specs.SemaphoreSteps.{semaphore_next}
 use Rattle.lot_once.specs.OnceSteps.{once_next}
 use Rattle.lot_condvar.specs.declared.places.CondvarPlace.{CondvarPlace}
 use Rattle.lot_condvar.specs.declared.places.CondvarPlace.TheVariants.{Wait, Look, Notify}
@@ -17,7 +19,7 @@ use Rattle.lot_calls.specs.declared.kinds.Kind as kind
 use Rattle.lot_calls.specs.Kinds.{is_plain_mutex}
 use Rattle.abstract_locks.specs.Purposes.{rules_of}
 use Rattle.lot_steps.specs.declared.places.Place.{Place}
-use Rattle.lot_steps.specs.declared.places.Place.TheVariants.{Idle, Mutex, RwLock, Once, Condvar}
+use Rattle.lot_steps.specs.declared.places.Place.TheVariants.{Idle, Mutex, RwLock, Once, Condvar, Semaphore}
 use Rattle.lot_mutex.specs.declared.lock.Entry.{Entry}
 use Rattle.lot_mutex.specs.declared.places.MutexPlace.{MutexPlace}
 use Rattle.lot_mutex.specs.declared.places.MutexPlace.TheVariants.{Lock}
@@ -32,7 +34,7 @@ use Rattle.lot_acts.specs.declared.acts.Next as next
 use Rattle.lot_mutex.specs.MutexSteps.{mutex_next}
 use Rattle.lot_base.specs.declared.wants.Want.{Want}
 use Rattle.lot_acts.specs.Profiles.{Hand, Of, hand_owner, taken_from, Profile, blank}
-use Rattle.lot_steps.specs.Steps.{next_place, taker, mutex_goes, rwlock_goes, once_goes, lock_of, profile, wants, is_lock, calls, beside_of, or_else, profile_beside, key_in, late_key, line_owed, retries_on}
+use Rattle.lot_steps.specs.Steps.{next_place, taker, mutex_goes, rwlock_goes, once_goes, semaphore_goes, lock_of, profile, wants, is_lock, calls, beside_of, or_else, profile_beside, key_in, late_key, line_owed, retries_on}
 use Rattle.abstract_locks.specs.Locks.{LockState, Taken, Rules, keep_from, putting}
 use Rattle.std.specs.Prelude.{◌&&◌, ◌||◌}
 use Rattle.lot_acts.specs.Owners.{is_thread}
@@ -213,6 +215,7 @@ single_or_two Idle = inl tt
 single_or_two (Mutex k at) = inl tt
 single_or_two (RwLock k a at) = inl tt
 single_or_two (Once k at) = inl tt
+single_or_two (Semaphore k at) = inl tt
 single_or_two (Condvar k at) = inr (record { lock = k; at = at; is = refl })
 
 -- a call of two locks fits them
@@ -225,6 +228,7 @@ none_beside Idle single = refl
 none_beside (Mutex k at) single = refl
 none_beside (RwLock k a at) single = refl
 none_beside (Once k at) single = refl
+none_beside (Semaphore k at) single = refl
 none_beside (Condvar k at) single = absurd single
 
 pub blank_beside : (p : Place) → IsSingle p → profile_beside p ≡ blank
@@ -232,6 +236,7 @@ blank_beside Idle single = refl
 blank_beside (Mutex k at) single = refl
 blank_beside (RwLock k a at) single = refl
 blank_beside (Once k at) single = refl
+blank_beside (Semaphore k at) single = refl
 blank_beside (Condvar k at) single = absurd single
 
 -- so that all that is said of it is said of its lock
@@ -275,12 +280,14 @@ IsInHand p t true l = IsHandedAt p t l
 abbrev pub IsMutexCall : ℕ → Place → Type 0
 IsMutexCall l (RwLock k a at) = k ≢ l
 IsMutexCall l (Once k at) = k ≢ l
+IsMutexCall l (Semaphore k at) = k ≢ l
 IsMutexCall l (Condvar k at) = ⊥
 IsMutexCall l p = Unit {0}
 
 pub in_hand : (p : Place) (t l : ℕ) (b : Bool) → IsMutexCall l p → hand_at p l ≡ hand t b → IsInHand p t b l
 in_hand (RwLock k a at) t l b other h = absurd (let none : hand_at (RwLock k a at) l ≡ None = ap (λ c. (if c then station (RwLock k a at) else nowhere).hand) (differ k l other) in cc)
 in_hand (Once k at) t l b other h = absurd (let none : hand_at (Once k at) l ≡ None = ap (λ c. (if c then station (Once k at) else nowhere).hand) (differ k l other) in cc)
+in_hand (Semaphore k at) t l b other h = absurd (let none : hand_at (Semaphore k at) l ≡ None = ap (λ c. (if c then station (Semaphore k at) else nowhere).hand) (differ k l other) in cc)
 in_hand (Condvar k at) t l b of h = absurd of
 in_hand (Mutex k (Lock e retries (lock.Taken by))) t l b of h = either (k == l) refl b h
   where
@@ -399,6 +406,7 @@ IsOf l Idle = Unit {0}
 IsOf l (Mutex k at) = k ≡ l
 IsOf l (RwLock k a at) = k ≡ l
 IsOf l (Once k at) = k ≡ l
+IsOf l (Semaphore k at) = k ≡ l
 IsOf l (Condvar k at) = ⊥
 
 pub of_single : (l : ℕ) (p : Place) → IsOf l p → IsSingle p
@@ -406,6 +414,7 @@ of_single l Idle of = tt
 of_single l (Mutex k at) of = tt
 of_single l (RwLock k a at) of = tt
 of_single l (Once k at) of = tt
+of_single l (Semaphore k at) of = tt
 of_single l (Condvar k at) of = absurd of
 
 pub of_lock_of : (l : ℕ) (p : Place) → IsOf l p → IsLock l (lock_of p)
@@ -413,6 +422,7 @@ of_lock_of l Idle of = tt
 of_lock_of l (Mutex k at) of = of
 of_lock_of l (RwLock k a at) of = of
 of_lock_of l (Once k at) of = of
+of_lock_of l (Semaphore k at) of = of
 of_lock_of l (Condvar k at) of = absurd of
 
 pub of_lock : (l : ℕ) (p : Place) → IsSingle p → IsLock l (lock_of p) → IsOf l p
@@ -420,6 +430,7 @@ of_lock l Idle single own = tt
 of_lock l (Mutex k at) single own = own
 of_lock l (RwLock k a at) single own = own
 of_lock l (Once k at) single own = own
+of_lock l (Semaphore k at) single own = own
 of_lock l (Condvar k at) single own = absurd single
 
 pub of_own : (l : ℕ) (p : Place) → IsSingle p → lock_of p ≡ Some l → IsOf l p
@@ -427,6 +438,7 @@ of_own l Idle single own = tt
 of_own l (Mutex k at) single own = cc
 of_own l (RwLock k a at) single own = cc
 of_own l (Once k at) single own = cc
+of_own l (Semaphore k at) single own = cc
 of_own l (Condvar k at) single own = absurd single
 
 goes_on : (l k : ℕ) (n : Next MutexPlace) → k ≡ l → IsOf l (mutex_goes k n)
@@ -446,6 +458,11 @@ next_of l (Once k at) reply h = by_next (once_next at reply)
     by_next : (n : Next OncePlace) → IsOf l (once_goes k n)
     by_next (next.TheVariants.At at) = h
     by_next (next.TheVariants.End answer) = tt
+next_of l (Semaphore k at) reply h = by_next (semaphore_next at reply)
+  where
+    by_next : (n : Next SemaphorePlace) → IsOf l (semaphore_goes k n)
+    by_next (next.TheVariants.At at) = h
+    by_next (next.TheVariants.End answer) = tt
 next_of l (Condvar k at) reply h = absurd h
 
 -- a call of one lock stays one
@@ -454,6 +471,7 @@ next_single Idle reply h = tt
 next_single (Mutex k at) reply h = of_single k (next_place (Mutex k at) reply) (next_of k (Mutex k at) reply refl)
 next_single (RwLock k a at) reply h = of_single k (next_place (RwLock k a at) reply) (next_of k (RwLock k a at) reply refl)
 next_single (Once k at) reply h = of_single k (next_place (Once k at) reply) (next_of k (Once k at) reply refl)
+next_single (Semaphore k at) reply h = of_single k (next_place (Semaphore k at) reply) (next_of k (Semaphore k at) reply refl)
 next_single (Condvar k at) reply h = absurd h
 
 -- a place of a call of the mutex l, or of none
@@ -462,6 +480,7 @@ IsMutexOf l Idle = Unit {0}
 IsMutexOf l (Mutex k at) = k ≡ l
 IsMutexOf l (RwLock k a at) = ⊥
 IsMutexOf l (Once k at) = ⊥
+IsMutexOf l (Semaphore k at) = ⊥
 IsMutexOf l (Condvar k at) = ⊥
 
 pub own_of : (l : ℕ) (p : Place) → IsMutexOf l p → IsOf l p
@@ -469,6 +488,7 @@ own_of l Idle of = tt
 own_of l (Mutex k at) of = of
 own_of l (RwLock k a at) of = absurd of
 own_of l (Once k at) of = absurd of
+own_of l (Semaphore k at) of = absurd of
 own_of l (Condvar k at) of = absurd of
 
 pub next_mutex : (l k : ℕ) (n : Next MutexPlace) → k ≡ l → IsMutexOf l (mutex_goes k n)
@@ -481,6 +501,7 @@ calls_none Idle e = refl
 calls_none (Mutex k at) e = absurd cc
 calls_none (RwLock k a at) e = absurd cc
 calls_none (Once k at) e = absurd cc
+calls_none (Semaphore k at) e = absurd cc
 calls_none (Condvar k at) e = absurd cc
 
 -- who is in nobody's hand isn't taken
@@ -659,6 +680,7 @@ fits_apart w Idle fits m e = refl
 fits_apart w (Mutex k at) fits m e = absurd cc
 fits_apart w (RwLock k a c) fits m e = absurd cc
 fits_apart w (Once k at) fits m e = absurd cc
+fits_apart w (Semaphore k at) fits m e = absurd cc
 fits_apart w (Condvar k at) fits m e = differ k m (condvar_apart w k at fits m e)
 
 pub aparts : (w : State) → IsSteady w → (t : ℕ) → IsApart (place_at w t)
@@ -676,6 +698,7 @@ held_tells Idle t l b h = held_taker Idle t l b tt h
 held_tells (Mutex k at) t l b h = held_taker (Mutex k at) t l b tt h
 held_tells (RwLock k a at) t l b h = held_taker (RwLock k a at) t l b tt h
 held_tells (Once k at) t l b h = held_taker (Once k at) t l b tt h
+held_tells (Semaphore k at) t l b h = held_taker (Semaphore k at) t l b tt h
 
 -- in a hand at the lock that it calls, or at the mutex beside it
 pub record IsInHandOf (p : Place) (t : ℕ) : Type 0 where
@@ -715,6 +738,7 @@ in_hand_where Idle t apart h = in_hand_own Idle t tt h
 in_hand_where (Mutex k at) t apart h = in_hand_own (Mutex k at) t tt h
 in_hand_where (RwLock k a at) t apart h = in_hand_own (RwLock k a at) t tt h
 in_hand_where (Once k at) t apart h = in_hand_own (Once k at) t tt h
+in_hand_where (Semaphore k at) t apart h = in_hand_own (Semaphore k at) t tt h
 in_hand_where (Condvar k at) t apart h = in_hand_beside k at t apart h
 
 -- beside a condition variable is a mutex, whose waiters are taken one at a time
@@ -723,6 +747,7 @@ beside_takes_one w Idle l fits e = absurd cc
 beside_takes_one w (Mutex k at) l fits e = absurd cc
 beside_takes_one w (RwLock k a c) l fits e = absurd cc
 beside_takes_one w (Once k at) l fits e = absurd cc
+beside_takes_one w (Semaphore k at) l fits e = absurd cc
 beside_takes_one w (Condvar k at) l fits e = ap (λ (r : Rules). r.sort) (plain_rules (kind_at w l) (fits.mutex l e))
 
 -- so a lock that lets many go at once is beside no call

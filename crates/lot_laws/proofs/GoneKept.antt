@@ -1,6 +1,7 @@
 -- A thread goes on: every lock is a site again. Here a call of a mutex.
 use Rattle.std.proofs.Common.{ℕ, Bool, true, false, Option, Some, None, if◌then◌else◌, ◌==◌, ◌&&◌, not, ◌≡◌, ◌≢◌, ◌+◌, ◌*◌, ◌<◌, ◌⊎◌, List, [], ◌∷◌, length, map, drop, is_none, inl, inr, refl, sym, ◌∙◌, ap, subst, arith}
 use Rattle.lot_laws.proofs.OnceKept.{goes_once}
+use Rattle.lot_laws.proofs.SemaphoreKept.{goes_semaphore}
 use Rattle.std.proofs.lemmas.Bool.{eqb-true}
 use Rattle.lot_base.specs.declared.keys.Keys.TheVariants.{One}
 use Rattle.lot_base.specs.declared.ops.Op.{Op}
@@ -9,7 +10,7 @@ use Rattle.lot_base.specs.declared.wants.Waiter.{Waiter}
 use Rattle.lot_base.specs.declared.wants.Want.TheVariants.{Exclusive}
 use Rattle.lot_base.specs.Lines.{without, first_of, times}
 use Rattle.lot_steps.specs.declared.places.Place.{Place}
-use Rattle.lot_steps.specs.declared.places.Place.TheVariants.{Idle, Mutex, RwLock, Once, Condvar}
+use Rattle.lot_steps.specs.declared.places.Place.TheVariants.{Idle, Mutex, RwLock, Once, Condvar, Semaphore}
 use Rattle.lot_mutex.specs.declared.lock.Entry.{Entry}
 use Rattle.lot_mutex.specs.declared.lock.Entry.TheVariants as entries
 use Rattle.lot_mutex.specs.declared.places.MutexPlace.{MutexPlace}
@@ -252,5 +253,6 @@ module _ (w : State) (t : ℕ) (steady : IsSteady w) (shape : IsShaped w) (there
   gone_kept counted Idle is single fits can = absurd cc
   gone_kept counted (Condvar l at) is single fits can = absurd single
   gone_kept counted (Once l at) is single fits can = goes_steady w _ l _ steady (goes_once w t l at steady shape there fits is can).goes
+  gone_kept counted (Semaphore l at) is single fits can = goes_steady w _ l _ steady (goes_semaphore w t l at steady shape there fits is can).goes
   gone_kept counted (Mutex l at) is single fits can = goes_steady w _ l _ steady (gone_goes l at is fits.0 can).1
   gone_kept counted (RwLock l a c) is single fits can = (rwlock_goes_on w t l a c steady shape there fits is counted can).happened.after

@@ -10,7 +10,7 @@ use Rattle.lot_acts.specs.Profiles.{Hand, Of, hand, hand_owner, in_hand, taken_f
 use Rattle.lot_rwlock_fair.specs.declared.hand_over.Taken.{Taken as Counted}
 use Rattle.lot_rwlock_fair.specs.FairCalls.{HasInHand, IsNamed}
 use Rattle.lot_steps.specs.declared.places.Place.{Place}
-use Rattle.lot_steps.specs.declared.places.Place.TheVariants.{Idle, Mutex, RwLock, Once, Condvar}
+use Rattle.lot_steps.specs.declared.places.Place.TheVariants.{Idle, Mutex, RwLock, Once, Condvar, Semaphore}
 use Rattle.lot_steps.specs.Steps.{calls, is_lock, or_else, profile, taker}
 use Rattle.abstract_locks.specs.Locks.{IsSuccessor, Queued, Taken, readers, shares_handed, sharing_handed, wants_shared}
 use Rattle.lot_machine.specs.declared.hands.Successor.{Successor}
@@ -115,6 +115,7 @@ module _ (w : State) (t l : ℕ) (steady : IsSteady w) (own : IsOf l (place_at w
       by_place (Mutex k at) e = hand_of_one u (rw e tt)
       by_place (RwLock k a c) e = hand_of_one u (rw e tt)
       by_place (Once k at) e = hand_of_one u (rw e tt)
+      by_place (Semaphore k at) e = hand_of_one u (rw e tt)
 
 -- ---------------------------------------------------------------- counts
 

@@ -1,6 +1,11 @@
 -- A thread that has taken others is inside the section from whose line it took them. One that is yet to set a parked bit beside waiters is inside
 -- too, or has ended its run of a `Once` and owes them their wake.
 use Rattle.std.proofs.Common.{ℕ, Bool, true, false, Option, Some, None, if◌then◌else◌, ◌==◌, ◌≡◌, inl, inr, refl, sym, ◌∙◌}
+use Rattle.lot_semaphore.specs.declared.places.SemaphorePlace.TheVariants as semaphore
+use Rattle.lot_semaphore.specs.declared.release.ReleaseAt.TheVariants as release
+use Rattle.lot_semaphore.specs.declared.acquire.AcquireAt.TheVariants as acquire
+use Rattle.lot_semaphore.specs.declared.places.SemaphorePlace.{SemaphorePlace}
+use Rattle.lot_semaphore.specs.SemaphoreProfiles.{semaphore_profile}
 use Rattle.lot_base.specs.declared.wants.Want.{Want}
 use Rattle.lot_acts.specs.Profiles.{Profile}
 use Rattle.abstract_locks.specs.Locks.{Taken}
@@ -42,7 +47,7 @@ use Rattle.lot_condvar.specs.declared.notify.NotifyAt.{NotifyAt}
 use Rattle.lot_condvar.specs.declared.notify.NotifyAt.TheVariants as notify
 use Rattle.lot_condvar.specs.CondvarProfiles.{condvar_row, has_moved, notify_row, wait_row}
 use Rattle.lot_steps.specs.declared.places.Place.{Place}
-use Rattle.lot_steps.specs.declared.places.Place.TheVariants.{Idle, Mutex, RwLock, Once, Condvar}
+use Rattle.lot_steps.specs.declared.places.Place.TheVariants.{Idle, Mutex, RwLock, Once, Condvar, Semaphore}
 use Rattle.lot_steps.specs.Steps.{beside_of, calls, is_lock, line_owed, or_else, profile, profile_beside}
 use Rattle.lot_machine.specs.Machine.{State, place_at}
 use Rattle.lot_laws.specs.Refinement.{lock_state}
@@ -112,6 +117,14 @@ once_inside (once.Run forced at) h = absurd cc
 once_inside (once.GiveUp retries give_up.Remove) h = absurd cc
 once_inside (once.GiveUp retries at) h = absurd cc
 
+semaphore_inside : (at : SemaphorePlace) → CarriesInside (semaphore_profile at).doing
+semaphore_inside (semaphore.Acquire timed retries acquire.Load) h = absurd cc
+semaphore_inside (semaphore.Acquire timed retries at) h = absurd cc
+semaphore_inside (semaphore.Try at) h = absurd cc
+semaphore_inside (semaphore.Release (release.Clear any)) h = (Main, refl)
+semaphore_inside (semaphore.Release (release.Leave any)) h = (Main, refl)
+semaphore_inside (semaphore.Release at) h = absurd cc
+
 wait_inside : (m : ℕ) (at : WaitAt) → CarriesInside (wait_row m at).doing
 wait_inside m (wait.Release s at) h = mutex_inside at h
 wait_inside m (wait.Lock timed_out at) h = mutex_inside at h
@@ -139,6 +152,7 @@ place_inside (RwLock l a (fair.Plain p)) h = call_inside (fair.Plain p) h
 place_inside (RwLock l a (fair.Bump p)) h = call_inside (fair.Bump p) h
 place_inside (RwLock l a c) h = call_inside c h
 place_inside (Once l at) h = once_inside at h
+place_inside (Semaphore l at) h = semaphore_inside at h
 place_inside (Condvar l at) h = absurd cc
 
 beside_inside : (p : Place) → CarriesInside (profile_beside p).doing
@@ -222,6 +236,13 @@ once_owed (once.Run forced at) = λ sets wakes. absurd (unset _ refl sets)
 once_owed (once.GiveUp retries give_up.Remove) = λ sets wakes. absurd (unset _ refl sets)
 once_owed (once.GiveUp retries at) = λ sets wakes. absurd (unset _ refl sets)
 
+semaphore_owed : (at : SemaphorePlace) → Owed (semaphore_profile at)
+semaphore_owed (semaphore.Acquire timed retries acquire.Load) = λ sets wakes. absurd (unset _ refl sets)
+semaphore_owed (semaphore.Acquire timed retries at) = λ sets wakes. absurd (unset _ refl sets)
+semaphore_owed (semaphore.Try at) = λ sets wakes. absurd (unset _ refl sets)
+semaphore_owed (semaphore.Release release.Add) = λ sets wakes. absurd (unset _ refl sets)
+semaphore_owed (semaphore.Release at) = λ sets wakes. absurd (unset _ refl sets)
+
 -- a notification that is to set the bit has taken the first of those whom it has brought
 abbrev Never : Doing → Type 0
 Never d = d.sets ≡ true → d.wakes ≡ Some Main → ⊥
@@ -256,6 +277,7 @@ owes_soon Idle l sets wakes = absurd cc
 owes_soon (Mutex k at) l sets wakes = own_owed (profile (Mutex k at)) (calls (Mutex k at) l) (λ set wake. absurd (unset _ refl set)) sets wakes
 owes_soon (RwLock k a c) l sets wakes = own_owed (profile (RwLock k a c)) (calls (RwLock k a c) l) (call_owed a c) sets wakes
 owes_soon (Once k at) l sets wakes = own_owed (profile (Once k at)) (calls (Once k at) l) (once_owed at) sets wakes
+owes_soon (Semaphore k at) l sets wakes = own_owed (profile (Semaphore k at)) (calls (Semaphore k at) l) (semaphore_owed at) sets wakes
 owes_soon (Condvar k at) l sets wakes = absurd (by_locks (calls (Condvar k at) l) (is_lock l (beside_of (Condvar k at))) sets wakes)
   where
     by_locks : (b c : Bool) → Never (if b then (profile (Condvar k at)).doing else if c then (profile_beside (Condvar k at)).doing else idle)

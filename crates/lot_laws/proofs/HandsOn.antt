@@ -1,5 +1,6 @@
 -- A thread in a call of a reader-writer lock hands its right over: where its operation takes effect, all whom it has in hand own.
 use Rattle.std.proofs.Common.{◌+◌, ◌*◌, ◌-◌, ℕ, Bool, true, false, Option, Some, None, if◌then◌else◌, ◌==◌, ◌≡◌, ◌≢◌, ◌^◌, ◌<◌, ◌≤◌, ◌⊎◌, inl, inr, List, [], ◌∷◌, ◌++◌, length, refl, sym, ◌∙◌, ap, subst, arith}
+use Rattle.lot_laws.proofs.RwLockKept.{of_no_semaphore}
 use Rattle.lot_laws.proofs.RwLockKept.{beside_no_call, of_no_once}
 use Rattle.std.proofs.lemmas.Bool.{eqb-true}
 use Rattle.lot_base.specs.declared.ops.Op.{Op}
@@ -43,7 +44,7 @@ use Rattle.lot_rwlock_fair.proofs.FairTells.{hand_overs_tell}
 use Rattle.lot_rwlock_fair.proofs.HandOverCodes.{hand_overs_code}
 use Rattle.lot_rwlock_fair.proofs.HandOverFit.{hand_overs_follow}
 use Rattle.lot_steps.specs.declared.places.Place.{Place}
-use Rattle.lot_steps.specs.declared.places.Place.TheVariants.{Idle, Mutex, RwLock, Once, Condvar}
+use Rattle.lot_steps.specs.declared.places.Place.TheVariants.{Idle, Mutex, RwLock, Once, Condvar, Semaphore}
 use Rattle.lot_steps.specs.Steps.{next_place, profile}
 use Rattle.abstract_locks.specs.Locks.{LockState, Rules, Taken, HandOff, IsLockState, Owns, Queued, without_owner}
 use Rattle.abstract_locks.specs.Sites.{Case, Doing, Pends, Site, has_readers}
@@ -292,6 +293,12 @@ module _ (w : State) (t l : ℕ) (a : Admission) (c : RwLockCallPlace) (steady :
             either : (y : Bool) → (j == l) ≡ y → (if y then station (Once j at) else nowhere).hand ≡ hand t b
                 → IsGiven w t l b (unshared_then w t l) (Once j at)
             either true same_lock z = absurd (of_no_once w t l a c steady shape there lt is u j at f (eqb-true j l same_lock))
+            either false same_lock z = absurd cc
+        by_place (Semaphore j at) f h = either (j == l) refl h
+          where
+            either : (y : Bool) → (j == l) ≡ y → (if y then station (Semaphore j at) else nowhere).hand ≡ hand t b
+                → IsGiven w t l b (unshared_then w t l) (Semaphore j at)
+            either true same_lock z = absurd (of_no_semaphore w t l a c steady shape there lt is u j at f (eqb-true j l same_lock))
             either false same_lock z = absurd cc
         by_place (Mutex j m) f h = either (j == l) refl h
           where

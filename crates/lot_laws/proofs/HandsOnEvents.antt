@@ -1,5 +1,6 @@
 -- A hand-over of a reader-writer lock is one case of the abstract lock, and the calls of all who were handed it go on with what they wanted.
 use Rattle.std.proofs.Common.{ℕ, Bool, true, false, Option, Some, None, if◌then◌else◌, ◌==◌, ◌≡◌, ◌<◌, List, ◌++◌, length, get_or, get_or-set_other, refl, sym, ◌∙◌, ap, subst}
+use Rattle.lot_laws.proofs.RwLockKept.{of_no_semaphore}
 use Rattle.lot_laws.proofs.RwLockKept.{beside_no_call, of_no_once}
 use Rattle.std.proofs.lemmas.Bool.{eqb-true}
 use Rattle.std.proofs.Math.ListN.{get_or-map}
@@ -27,7 +28,7 @@ use Rattle.lot_rwlock_fair.specs.FairSteps.{call_act, call_next}
 use Rattle.lot_rwlock_fair.proofs.FairMoves.{handed_move}
 use Rattle.lot_rwlock_fair.proofs.FairSleepers.{fair_sleepers_hear}
 use Rattle.lot_steps.specs.declared.places.Place.{Place}
-use Rattle.lot_steps.specs.declared.places.Place.TheVariants.{Idle, Mutex, RwLock, Once, Condvar}
+use Rattle.lot_steps.specs.declared.places.Place.TheVariants.{Idle, Mutex, RwLock, Once, Condvar, Semaphore}
 use Rattle.lot_steps.specs.Steps.{calls, next_place, profile, rwlock_goes, taker}
 use Rattle.abstract_locks.specs.Deeds.{case_of, event_by}
 use Rattle.abstract_locks.specs.Locks.{HandOff, IsTaken, Queued, Rights, Taken, putting}
@@ -128,6 +129,7 @@ module _ (w : State) (t l : ℕ) (a : Admission) (c : RwLockCallPlace) (steady :
       by_place (Mutex j m) f h = tt
       by_place (RwLock j d q) f h = tt
       by_place (Once j at) f h = tt
+      by_place (Semaphore j at) f h = tt
 
   -- and their calls go on with it
   handed_calls : (u : ℕ) (x : Want) → IsTaken (lock_state w l) t u x → IsHandedCall l t alone x (place_at w u)
@@ -141,6 +143,17 @@ module _ (w : State) (t l : ℕ) (a : Admission) (c : RwLockCallPlace) (steady :
           either : (y : Bool) → (j == l) ≡ y → taken_from (profile (Once j at)).hand (profile (Once j at)).wants y ≡ Some (record { by = t; want = x }) → IsHandedCall l t alone x (Once j at)
           either true same_lock z = absurd (of_no_once w t l a c steady shape there lt is u j at f (eqb-true j l same_lock))
           either false same_lock z = absurd (untaken (profile (Once j at)).hand (profile (Once j at)).wants z)
+            where
+              untaken : (o : Option Hand) (y : Option Want) → taken_from o y false ≡ Some (record { by = t; want = x }) → ⊥
+              untaken None y z = cc
+              untaken (Some (Of v true)) y z = cc
+              untaken (Some (Of v false)) None z = cc
+              untaken (Some (Of v false)) (Some s) z = cc
+      by_place (Semaphore j at) f h = either (j == l) refl h
+        where
+          either : (y : Bool) → (j == l) ≡ y → taken_from (profile (Semaphore j at)).hand (profile (Semaphore j at)).wants y ≡ Some (record { by = t; want = x }) → IsHandedCall l t alone x (Semaphore j at)
+          either true same_lock z = absurd (of_no_semaphore w t l a c steady shape there lt is u j at f (eqb-true j l same_lock))
+          either false same_lock z = absurd (untaken (profile (Semaphore j at)).hand (profile (Semaphore j at)).wants z)
             where
               untaken : (o : Option Hand) (y : Option Want) → taken_from o y false ≡ Some (record { by = t; want = x }) → ⊥
               untaken None y z = cc

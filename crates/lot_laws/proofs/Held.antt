@@ -1,6 +1,11 @@
 -- A thread that stands at a lock is by its place in the hand of the one that has taken it, and of nobody while it stands in a line.
 use Rattle.std.proofs.Common.{ℕ, Bool, true, false, Option, Some, None, if◌then◌else◌, ◌≡◌, ◌≢◌, ◌≤◌, inl, inr, refl, sym, ◌∙◌, ap}
 use Rattle.std.proofs.lemmas.Bool.{eqb-true}
+use Rattle.lot_semaphore.specs.declared.places.SemaphorePlace.TheVariants as semaphore
+use Rattle.lot_semaphore.specs.declared.release.ReleaseAt.TheVariants as release
+use Rattle.lot_semaphore.specs.declared.acquire.AcquireAt.TheVariants as acquire
+use Rattle.lot_semaphore.specs.declared.places.SemaphorePlace.{SemaphorePlace}
+use Rattle.lot_semaphore.specs.SemaphoreProfiles.{semaphore_profile}
 use Rattle.lot_acts.specs.Owners.{is_thread}
 use Rattle.lot_acts.specs.Profiles.{Profile, hand_owner}
 use Rattle.lot_acts.specs.Stations.{nowhere, station_by}
@@ -35,7 +40,7 @@ use Rattle.lot_condvar.specs.declared.wait.WaitAt.{WaitAt}
 use Rattle.lot_condvar.specs.declared.wait.WaitAt.TheVariants as wait
 use Rattle.lot_condvar.specs.CondvarProfiles.{condvar_row, hand_of, is_listed, is_main, is_moved, notify_row, wait_row}
 use Rattle.lot_steps.specs.declared.places.Place.{Place}
-use Rattle.lot_steps.specs.declared.places.Place.TheVariants.{Idle, Mutex, RwLock, Once, Condvar}
+use Rattle.lot_steps.specs.declared.places.Place.TheVariants.{Idle, Mutex, RwLock, Once, Condvar, Semaphore}
 use Rattle.lot_steps.specs.Steps.{beside_of, calls, is_lock, or_else, profile, profile_beside, taker}
 use Rattle.lot_machine.specs.Machine.{State, place_at}
 use Rattle.lot_laws.specs.Refinement.{lock_state, taken_at}
@@ -78,6 +83,13 @@ once_unheld (once.Run forced (run.Closure poisoned)) m h = refl
 once_unheld (once.Run forced to) m h = refl
 once_unheld (once.GiveUp retries give_up.Remove) m h = refl
 once_unheld (once.GiveUp retries to) m h = refl
+
+semaphore_unheld : (to : SemaphorePlace) → IsUnheld (semaphore_profile to)
+semaphore_unheld (semaphore.Acquire timed retries (acquire.Taken by)) m h = absurd cc
+semaphore_unheld (semaphore.Acquire timed retries to) m h = refl
+semaphore_unheld (semaphore.Try to) m h = refl
+semaphore_unheld (semaphore.Release release.Add) m h = refl
+semaphore_unheld (semaphore.Release to) m h = refl
 
 listed_unheld : (s : Stands) → is_listed s ≡ true → hand_of s ≡ None
 listed_unheld stands.Listed h = refl
@@ -133,6 +145,7 @@ stands_free Idle l m h = absurd cc
 stands_free (Mutex k to) l m h = one_unheld (profile (Mutex k to)) (calls (Mutex k to) l) (mutex_unheld to) m h
 stands_free (RwLock k a c) l m h = one_unheld (profile (RwLock k a c)) (calls (RwLock k a c) l) (call_unheld a c) m h
 stands_free (Once k to) l m h = one_unheld (profile (Once k to)) (calls (Once k to) l) (once_unheld to) m h
+stands_free (Semaphore k to) l m h = one_unheld (profile (Semaphore k to)) (calls (Semaphore k to) l) (semaphore_unheld to) m h
 stands_free (Condvar k to) l m h = by_locks (calls (Condvar k to) l) (is_lock l (beside_of (Condvar k to))) h
   where
     by_locks : (b c : Bool) → (if b then station (Condvar k to) else if c then station_by (profile_beside (Condvar k to)) else nowhere).stands ≡ Some m

@@ -1,5 +1,11 @@
 -- A thread that is inside a section is awake, in no closure, and enters no other section.
 use Rattle.std.proofs.Common.{ℕ, Bool, true, false, Option, Some, None, if◌then◌else◌, ◌≡◌, refl, ◌∙◌}
+use Rattle.lot_semaphore.specs.declared.places.SemaphorePlace.TheVariants as semaphore
+use Rattle.lot_semaphore.specs.declared.release.ReleaseAt.TheVariants as release
+use Rattle.lot_semaphore.specs.declared.acquire.AcquireAt.TheVariants as acquire
+use Rattle.lot_semaphore.specs.declared.places.SemaphorePlace.{SemaphorePlace}
+use Rattle.lot_semaphore.specs.SemaphoreProfiles.{semaphore_profile}
+use Rattle.lot_semaphore.specs.SemaphoreSteps.{semaphore_act}
 use Rattle.lot_base.specs.declared.ops.Op.TheVariants as operation
 use Rattle.lot_base.specs.declared.wants.Want.{Want}
 use Rattle.lot_calls.specs.declared.calls.Access.{Access}
@@ -47,7 +53,7 @@ use Rattle.lot_condvar.specs.declared.notify.NotifyAt.TheVariants as notify
 use Rattle.lot_condvar.specs.CondvarProfiles.{condvar_profile, condvar_row, notify_row, wait_row}
 use Rattle.lot_condvar.specs.CondvarSteps.{condvar_act, move_act, notify_act, wait_act}
 use Rattle.lot_steps.specs.declared.places.Place.{Place}
-use Rattle.lot_steps.specs.declared.places.Place.TheVariants.{Idle, Mutex, RwLock, Once, Condvar}
+use Rattle.lot_steps.specs.declared.places.Place.TheVariants.{Idle, Mutex, RwLock, Once, Condvar, Semaphore}
 use Rattle.lot_steps.specs.Steps.{act_of, beside_of, calls, is_lock, profile, profile_beside}
 use Rattle.lot_machine.specs.Machine.{State, place_at}
 use Rattle.lot_laws.specs.Stations.{doing_on}
@@ -128,6 +134,19 @@ once_goes l (once.GiveUp retries give_up.Remove) m h = (refl, refl, refl)
 once_goes l (once.GiveUp retries give_up.Clear) m h = (refl, refl, refl)
 once_goes l (once.GiveUp retries give_up.Leave) m h = (refl, refl, refl)
 
+semaphore_goes : (l : ℕ) (to : SemaphorePlace) → Goes (semaphore_profile to).doing (semaphore_act l to)
+semaphore_goes l (semaphore.Acquire timed retries acquire.Check) m h = (refl, refl, refl)
+semaphore_goes l (semaphore.Acquire timed retries (acquire.Leave parked)) m h = (refl, refl, refl)
+semaphore_goes l (semaphore.Acquire timed retries acquire.Remove) m h = (refl, refl, refl)
+semaphore_goes l (semaphore.Acquire timed retries acquire.Clear) m h = (refl, refl, refl)
+semaphore_goes l (semaphore.Acquire timed retries acquire.GiveUp) m h = (refl, refl, refl)
+semaphore_goes l (semaphore.Acquire timed retries to) m h = absurd cc
+semaphore_goes l (semaphore.Try to) m h = absurd cc
+semaphore_goes l (semaphore.Release release.Take) m h = (refl, refl, refl)
+semaphore_goes l (semaphore.Release (release.Clear any)) m h = (refl, refl, refl)
+semaphore_goes l (semaphore.Release (release.Leave any)) m h = (refl, refl, refl)
+semaphore_goes l (semaphore.Release to) m h = absurd cc
+
 moves_free : (l m : ℕ) (all locked : Bool) → IsFree (move_act all locked l m)
 moves_free l m true locked = (refl, refl, refl)
 moves_free l m false true = (refl, refl, refl)
@@ -174,6 +193,7 @@ place_goes (RwLock l a (fair.Plain p)) m h = call_goes l a (fair.Plain p) m h
 place_goes (RwLock l a (fair.Bump p)) m h = call_goes l a (fair.Bump p) m h
 place_goes (RwLock l a c) m h = call_goes l a c m h
 place_goes (Once l to) m h = once_goes l to m h
+place_goes (Semaphore l to) m h = semaphore_goes l to m h
 place_goes (Condvar l (condvar.Wait n timed to)) m h = wait_there l n timed to m h
 place_goes (Condvar l (condvar.Look all)) m h = absurd cc
 place_goes (Condvar l (condvar.Notify all n to)) m h = notify_there l n all to m h

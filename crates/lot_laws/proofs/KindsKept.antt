@@ -13,6 +13,7 @@ use Rattle.lot_calls.specs.declared.calls.Turn as turn
 use Rattle.lot_calls.specs.declared.calls.Step.{Step}
 use Rattle.lot_calls.specs.declared.calls.CondvarCall.{CondvarCall}
 use Rattle.lot_calls.specs.declared.calls.OnceCall.{OnceCall}
+use Rattle.lot_calls.specs.declared.calls.SemaphoreCall.{SemaphoreCall}
 use Rattle.lot_steps.specs.declared.places.Place.{Place}
 use Rattle.lot_calls.specs.Kinds.{has_call}
 use Rattle.lot_steps.specs.Steps.{act_of, looking, late_key}
@@ -80,6 +81,11 @@ pub calls_once : (k : Kind) (l : ℕ) (c : OnceCall) → has_call k (call.TheVar
     → (rules_of k).sort ≡ locks.Once
 calls_once kind.TheVariants.Once l c h = refl
 calls_once k l c h = absurd cc
+
+pub calls_semaphore : (k : Kind) (l : ℕ) (c : SemaphoreCall) → has_call k (call.TheVariants.Semaphore l c) ≡ true
+    → (rules_of k).sort ≡ locks.Semaphore
+calls_semaphore (kind.TheVariants.Semaphore permits) l c h = refl
+calls_semaphore k l c h = absurd cc
 
 pub calls_condvar : (k : Kind) (l : ℕ) (c : CondvarCall) → has_call k (call.TheVariants.Condvar l c) ≡ true
     → (rules_of k).sort ≡ locks.Condvar

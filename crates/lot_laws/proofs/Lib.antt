@@ -1,4 +1,9 @@
 pub mod KindsKept
+pub mod PermitsKept
+pub mod SemaphoreMoves
+pub mod SemaphoreMovesKept
+pub mod SemaphoreKept
+pub mod SemaphoreGoes
 pub mod PlainCalls
 pub mod Closures
 pub mod Closings

@@ -1,6 +1,6 @@
 -- An act that enters a section is of a line of the lock that the thread calls, and one that leaves a section or touches a queue is of the line
 -- whose section the thread is in, as its place says.
-use Rattle.std.proofs.Common.{ℕ, zero, suc, Bool, Option, true, false, Some, None, if◌then◌else◌, ◌==◌, not, ◌≡◌, ◌≢◌, ◌⊎◌, ◌+◌, ◌*◌, ◌<◌, inl, inr, [], map, length, get_or, refl, sym, ◌∙◌, ap, subst, arith}
+use Rattle.std.proofs.Common.{ℕ, zero, suc, Bool, Option, true, false, Some, None, if◌then◌else◌, ◌==◌, not, ◌≡◌, ◌≢◌, ◌⊎◌, ◌+◌, ◌-◌, ◌*◌, ◌<◌, inl, inr, [], map, length, get_or, refl, sym, ◌∙◌, ap, subst, arith}
 use Rattle.std.proofs.lemmas.Bool.{cases_eq}
 use Rattle.std.proofs.Math.ListN.{get_or-map}
 use Rattle.lot_base.specs.declared.keys.Keys.TheVariants.{One, Two}
@@ -15,6 +15,13 @@ use Rattle.lot_mutex.specs.declared.unlock.UnlockAt.TheVariants as unlock
 use Rattle.lot_mutex.specs.declared.hand_off.HandOffAt.TheVariants as hand_off
 use Rattle.lot_mutex.specs.MutexSteps.{is_locked, mutex_act}
 use Rattle.lot_once.specs.declared.places.OncePlace.{OncePlace}
+use Rattle.lot_semaphore.specs.declared.acquire.AcquireAt.TheVariants as acquire
+use Rattle.lot_semaphore.specs.declared.tries.TryAt.TheVariants as tries
+use Rattle.lot_semaphore.specs.declared.release.ReleaseAt.TheVariants as release
+use Rattle.lot_semaphore.specs.declared.places.SemaphorePlace.{SemaphorePlace}
+use Rattle.lot_semaphore.specs.declared.places.SemaphorePlace.TheVariants.{Acquire, Try, Release}
+use Rattle.lot_semaphore.specs.SemaphoreProfiles.{semaphore_profile}
+use Rattle.lot_semaphore.specs.SemaphoreSteps.{is_free, semaphore_act}
 use Rattle.lot_once.specs.declared.places.OncePlace.TheVariants.{Look, Run, GiveUp}
 use Rattle.lot_once.specs.declared.look.LookAt.TheVariants as look_at
 use Rattle.lot_once.specs.declared.give_up.GiveUpAt.TheVariants as give_up
@@ -25,7 +32,7 @@ use Rattle.lot_once.specs.declared.look.Course.TheVariants as courses
 use Rattle.lot_once.specs.OnceSteps.{course_act, course_of, once_act}
 use Rattle.lot_steps.specs.Steps.{act_of, key_in, late_key, lock_of, profile}
 use Rattle.lot_steps.specs.declared.places.Place.{Place}
-use Rattle.lot_steps.specs.declared.places.Place.TheVariants.{Idle, Mutex, RwLock, Once, Condvar}
+use Rattle.lot_steps.specs.declared.places.Place.TheVariants.{Idle, Mutex, RwLock, Once, Condvar, Semaphore}
 use Rattle.abstract_locks.specs.Sites.{Line, Main, Second}
 use Rattle.lot_machine.specs.Machine.{State, place_at, section_at, queue_at}
 use Rattle.lot_machine.specs.Fits.{IsShaped, PlaceFits}
@@ -208,11 +215,38 @@ once_lines l (GiveUp again give_up.Remove) = ((Main, refl, refl), inr refl)
 once_lines l (GiveUp again give_up.Clear) = tt
 once_lines l (GiveUp again give_up.Leave) = (Main, refl, refl)
 
+pub semaphore_lines : (l : ℕ) (at : SemaphorePlace) → IsLineAct l (station_by (semaphore_profile at)) (semaphore_act l at)
+semaphore_lines l (Acquire timed again (acquire.Decide seen)) = by_word (is_free seen) (seen == 0)
+  where
+    by_word : (free empty : Bool)
+        → IsLineAct l (station_by (semaphore_profile (Acquire timed again (acquire.Decide seen)))) (if free then act.Word l (op.TheVariants.Exchange seen (seen - 2)) else if empty then act.Word l (op.TheVariants.Exchange 0 1) else act.Enter (One (2 * l)))
+    by_word true empty = tt
+    by_word false true = tt
+    by_word false false = (Main, refl)
+semaphore_lines l (Acquire timed again acquire.Check) = ((Main, refl, refl), inl refl)
+semaphore_lines l (Acquire timed again (acquire.Leave true)) = (Main, refl, refl)
+semaphore_lines l (Acquire timed again (acquire.Leave false)) = (Main, refl, refl)
+semaphore_lines l (Acquire timed again acquire.Remove) = ((Main, refl, refl), inr refl)
+semaphore_lines l (Acquire timed again acquire.GiveUp) = (Main, refl, refl)
+semaphore_lines l (Acquire timed again at) = tt
+semaphore_lines l (Try (tries.Decide seen)) = by_word (is_free seen)
+  where
+    by_word : (free : Bool)
+        → IsLineAct l (station_by (semaphore_profile (Try (tries.Decide seen)))) (if free then act.Word l (op.TheVariants.Exchange seen (seen - 2)) else act.Word l op.TheVariants.Load)
+    by_word true = tt
+    by_word false = tt
+semaphore_lines l (Try tries.Load) = tt
+semaphore_lines l (Release release.Enter) = (Main, refl)
+semaphore_lines l (Release release.Take) = (Main, refl, refl)
+semaphore_lines l (Release (release.Leave any)) = (Main, refl, refl)
+semaphore_lines l (Release at) = tt
+
 -- an act in a call of one lock is on a line of that
 pub line_act : (p : Place) (l : ℕ) → IsSingle p → lock_of p ≡ Some l → IsLineAct l (station p) (act_of p)
 line_act Idle l single h = absurd cc
 line_act (RwLock k a c) l single h = let e : k ≡ l = cc in subst (λ j. IsLineAct j (station (RwLock k a c)) (act_of (RwLock k a c))) e (call_lines k a c)
 line_act (Once k at) l single h = let e : k ≡ l = cc in subst (λ j. IsLineAct j (station (Once k at)) (act_of (Once k at))) e (once_lines k at)
+line_act (Semaphore k at) l single h = let e : k ≡ l = cc in subst (λ j. IsLineAct j (station (Semaphore k at)) (act_of (Semaphore k at))) e (semaphore_lines k at)
 line_act (Condvar k at) l single h = absurd single
 line_act (Mutex k at) l single h = let e : k ≡ l = cc in subst (λ j. IsLineAct j (mutex_station at) (mutex_act k at)) e (mutex_lines k at)
 
@@ -233,6 +267,7 @@ pub calls_there : (n : ℕ) (p : Place) (l : ℕ) → lock_of p ≡ Some l → P
 calls_there n Idle l e fits = absurd cc
 calls_there n (RwLock k a p) l e fits = let f : k ≡ l = cc in subst (λ j. j < n) f fits
 calls_there n (Once k p) l e fits = let f : k ≡ l = cc in subst (λ j. j < n) f fits
+calls_there n (Semaphore k p) l e fits = let f : k ≡ l = cc in subst (λ j. j < n) f fits
 calls_there n (Condvar k at) l e fits = let f : k ≡ l = cc in subst (λ j. j < n) f fits.0
 calls_there n (Mutex k at) l e fits = let f : k ≡ l = cc in subst (λ j. j < n) f fits.0
 

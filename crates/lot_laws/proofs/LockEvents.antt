@@ -30,10 +30,18 @@ use Rattle.lot_once.specs.declared.places.OncePlace.TheVariants.{Look, Run, Give
 use Rattle.lot_once.specs.declared.look.LookAt.TheVariants as look_at
 use Rattle.lot_once.specs.declared.give_up.GiveUpAt.TheVariants as give_up
 use Rattle.lot_once.specs.declared.run.RunAt.TheVariants as run_at
+use Rattle.lot_semaphore.specs.declared.acquire.AcquireAt.{AcquireAt}
+use Rattle.lot_semaphore.specs.declared.acquire.AcquireAt.TheVariants as acquire_at
+use Rattle.lot_semaphore.specs.declared.tries.TryAt.TheVariants as try_at
+use Rattle.lot_semaphore.specs.declared.release.ReleaseAt.{ReleaseAt}
+use Rattle.lot_semaphore.specs.declared.release.ReleaseAt.TheVariants as release_at
+use Rattle.lot_semaphore.specs.declared.places.SemaphorePlace.{SemaphorePlace}
+use Rattle.lot_semaphore.specs.declared.places.SemaphorePlace.TheVariants.{Acquire, Try, Release}
+use Rattle.lot_semaphore.specs.SemaphoreProfiles.{acquire_row, release_row, semaphore_profile}
 use Rattle.lot_steps.specs.Steps.{next_place, profile, rwlock_goes, calls}
 use Rattle.lot_mutex.specs.declared.places.MutexPlace.{MutexPlace}
 use Rattle.lot_steps.specs.declared.places.Place.{Place}
-use Rattle.lot_steps.specs.declared.places.Place.TheVariants.{Idle, Mutex, RwLock, Once, Condvar}
+use Rattle.lot_steps.specs.declared.places.Place.TheVariants.{Idle, Mutex, RwLock, Once, Condvar, Semaphore}
 use Rattle.abstract_locks.specs.Locks.{LockState, Queued, Taken as LockTaken, Rights, Enter, Wake, HandOff as HandsOff, IsTaken, IsLockState, Knows, Needs, rights_of, with_right, without_right, is_thread, putting}
 use Rattle.abstract_locks.specs.Locks as locks
 use Rattle.abstract_locks.specs.Purposes.{Bumps, Blank}
@@ -66,6 +74,7 @@ Befalls w v t l reply = (u : ℕ) → u ≢ t → place_at v u ≡ (if is_taken_
 pub taken_place : (p : Place) (t l : ℕ) → IsMutexCall l p → is_taken_by t (taken_at p l) ≡ true → IsTakenAt p t l
 taken_place (RwLock k a at) t l other h = absurd (let none : taken_at (RwLock k a at) l ≡ None = taken_elsewhere k l (RwLock k a at) refl (λ e. other (sym e)) in let f : is_taken_by t (taken_at (RwLock k a at) l) ≡ false = ap (is_taken_by t) none in cc)
 taken_place (Once k at) t l other h = absurd (let none : taken_at (Once k at) l ≡ None = taken_elsewhere k l (Once k at) refl (λ e. other (sym e)) in let f : is_taken_by t (taken_at (Once k at) l) ≡ false = ap (is_taken_by t) none in cc)
+taken_place (Semaphore k at) t l other h = absurd (let none : taken_at (Semaphore k at) l ≡ None = taken_elsewhere k l (Semaphore k at) refl (λ e. other (sym e)) in let f : is_taken_by t (taken_at (Semaphore k at) l) ≡ false = ap (is_taken_by t) none in cc)
 taken_place (Condvar k at) t l of h = absurd of
 taken_place (Mutex k (Lock entry retries (Taken by))) t l of h = either (k == l) refl h
   where
@@ -120,6 +129,18 @@ woken_call (Once k (Run forced (run_at.Closure poisoned))) t l single h r = absu
 woken_call (Once k (Run forced at)) t l single h r = absurd (let held = taken_hand (Once k (Run forced at)) t l tt h in let f : ◌≡◌ {A = Option Hand} None (hand t false) = held.0 in cc)
 woken_call (Once k (GiveUp again give_up.Remove)) t l single h r = absurd (let held = taken_hand (Once k (GiveUp again give_up.Remove)) t l tt h in let f : ◌≡◌ {A = Option Hand} None (hand t false) = held.0 in cc)
 woken_call (Once k (GiveUp again at)) t l single h r = absurd (let held = taken_hand (Once k (GiveUp again at)) t l tt h in let f : ◌≡◌ {A = Option Hand} None (hand t false) = held.0 in cc)
+woken_call (Semaphore k (Acquire timed again (acquire_at.Taken by))) t l single h r = let held = taken_hand (Semaphore k (Acquire timed again (acquire_at.Taken by))) t l tt h in
+    ap (λ n. record (call_state (Semaphore k (Acquire timed again (acquire_at.Taken by))) r) { retries = Some n }) (eqb-true k l held.1)
+woken_call (Semaphore k (Acquire timed again at)) t l single h r = absurd (let held = taken_hand (Semaphore k (Acquire timed again at)) t l tt h in let f : ◌≡◌ {A = Option Hand} None (hand t false) = held.0 in cc)
+woken_call (Semaphore k (Try at)) t l single h r = absurd (let held = taken_hand (Semaphore k (Try at)) t l tt h in let f : ◌≡◌ {A = Option Hand} None (hand t false) = held.0 in cc)
+woken_call (Semaphore k (Release at)) t l single h r = absurd (let held = taken_hand (Semaphore k (Release at)) t l tt h in let f : ◌≡◌ {A = Option Hand} None (hand t false) = sym (no_hand at) ∙ held.0 in cc)
+  where
+    no_hand : (at : ReleaseAt) → (semaphore_profile (Release at)).hand ≡ None
+    no_hand release_at.Add = refl
+    no_hand release_at.Enter = refl
+    no_hand release_at.Take = refl
+    no_hand (release_at.Clear any) = refl
+    no_hand (release_at.Leave any) = refl
 woken_call (RwLock k a (places.Plain p)) t l single h r = let held = taken_hand (RwLock k a (places.Plain p)) t l tt h in let here : k ≡ l = eqb-true k l held.1 in let goes = woken_goes a k p t held.0 in
     ap (λ n. call_state (plain_goes k a n) r) goes.1 ∙ goes.2 r ∙ ap (λ n. record (call_by k (rwlock_profile a p) r) { retries = Some n }) here
 woken_call (RwLock k a (places.Bump p)) t l single h r = let held = taken_hand (RwLock k a (places.Bump p)) t l tt h in let here : k ≡ l = eqb-true k l held.1 in let goes = woken_goes a k p t held.0 in
@@ -146,6 +167,12 @@ taken_call (Once k (Run forced (run_at.Closure poisoned))) by single r = refl
 taken_call (Once k (Run forced at)) by single r = refl
 taken_call (Once k (GiveUp again give_up.Remove)) by single r = refl
 taken_call (Once k (GiveUp again at)) by single r = refl
+taken_call (Semaphore k (Acquire timed again acquire_at.Asleep)) by single r = refl
+taken_call (Semaphore k (Acquire timed again at)) by single r = refl
+taken_call (Semaphore k (Try try_at.Load)) by single r = refl
+taken_call (Semaphore k (Try (try_at.Decide seen))) by single r = refl
+taken_call (Semaphore k (Release release_at.Add)) by single r = refl
+taken_call (Semaphore k (Release at)) by single r = refl
 taken_call (Condvar k at) by single r = absurd single
 taken_call (Mutex k (Lock entry retries First)) by single r = refl
 taken_call (Mutex k (Lock entry retries at)) by single r = refl
@@ -171,6 +198,29 @@ once_recalls (Run forced at) = refl
 once_recalls (GiveUp again give_up.Remove) = refl
 once_recalls (GiveUp again at) = refl
 
+semaphore_recalls : (at : SemaphorePlace) → (semaphore_profile at).recalls ≡ Blank
+semaphore_recalls (Acquire timed retries at) = acquire_recalls timed retries at
+  where
+    acquire_recalls : (timed retries : Bool) (at : AcquireAt) → (acquire_row timed retries at).recalls ≡ Blank
+    acquire_recalls timed retries acquire_at.Load = refl
+    acquire_recalls timed retries (acquire_at.Decide seen) = refl
+    acquire_recalls timed retries acquire_at.Check = refl
+    acquire_recalls timed retries (acquire_at.Leave parked) = refl
+    acquire_recalls timed retries acquire_at.Asleep = refl
+    acquire_recalls timed retries (acquire_at.Taken by) = refl
+    acquire_recalls timed retries acquire_at.Remove = refl
+    acquire_recalls timed retries acquire_at.Clear = refl
+    acquire_recalls timed retries acquire_at.GiveUp = refl
+semaphore_recalls (Try at) = refl
+semaphore_recalls (Release at) = release_recalls at
+  where
+    release_recalls : (at : ReleaseAt) → (release_row at).recalls ≡ Blank
+    release_recalls release_at.Add = refl
+    release_recalls release_at.Enter = refl
+    release_recalls release_at.Take = refl
+    release_recalls (release_at.Clear any) = refl
+    release_recalls (release_at.Leave any) = refl
+
 shared_recalls : (a : Admission) (at : RwLockCallPlace) → (call_profile a at).recalls ≡ Blank
 shared_recalls a (places.Plain p) = refl
 shared_recalls a at = refl
@@ -180,6 +230,7 @@ recalls_nothing Idle single r = refl
 recalls_nothing (Mutex k at) single r = mutex_recalls at
 recalls_nothing (RwLock k a at) single r = shared_recalls a at
 recalls_nothing (Once k at) single r = once_recalls at
+recalls_nothing (Semaphore k at) single r = semaphore_recalls at
 recalls_nothing (Condvar k at) single r = absurd single
 
 pub unmoved : (q : Option ℕ) (c : CallState) → c.recalls ≡ Blank → record c { retries = q } ≡ record c { retries = q; recalls = behind_wake c.recalls }
@@ -194,6 +245,7 @@ woken_goes_on Idle t l h r = absurd cc
 woken_goes_on (Condvar k at) t l h r = waiter_woken k at t l h r
 woken_goes_on (Mutex k at) t l h r = woken_call (Mutex k at) t l tt h r ∙ unmoved (Some l) (call_state (Mutex k at) r) (recalls_nothing (Mutex k at) tt r)
 woken_goes_on (RwLock k a at) t l h r = woken_call (RwLock k a at) t l tt h r ∙ unmoved (Some l) (call_state (RwLock k a at) r) (recalls_nothing (RwLock k a at) tt r)
+woken_goes_on (Semaphore k at) t l h r = woken_call (Semaphore k at) t l tt h r ∙ unmoved (Some l) (call_state (Semaphore k at) r) (recalls_nothing (Semaphore k at) tt r)
 woken_goes_on (Once k at) t l h r = woken_call (Once k at) t l tt h r ∙ unmoved (Some l) (call_state (Once k at) r) (recalls_nothing (Once k at) tt r)
 
 module _ (w v : State) (t l : ℕ) where
@@ -285,6 +337,7 @@ module _ (w v : State) (t l : ℕ) (to : Option ℕ) (h : Happens w v t (AtLock 
         by_place Idle is = of_one Idle is tt tt
         by_place (Mutex k at) is = of_one (Mutex k at) is tt tt
         by_place (RwLock k a c) is = of_one (RwLock k a c) is tt (calls_mutex_at w l (RwLock k a c) (subst (FitsItsLock w) is (h.before.stands.calls u)) rules)
+        by_place (Semaphore k at) is = of_one (Semaphore k at) is tt (calls_mutex_at w l (Semaphore k at) (subst (FitsItsLock w) is (h.before.stands.calls u)) rules)
         by_place (Once k at) is = of_one (Once k at) is tt (calls_mutex_at w l (Once k at) (subst (FitsItsLock w) is (h.before.stands.calls u)) rules)
 
   pub hands_others : (alone : Bool) → Befalls w v t l (HandedBy t alone)

@@ -29,6 +29,12 @@ use Rattle.lot_once.specs.declared.places.OncePlace.{OncePlace}
 use Rattle.lot_once.specs.OnceProfiles.{once_profile}
 use Rattle.lot_laws.proofs.OnceOwing.{late_place}
 use Rattle.lot_laws.proofs.OnceGoes.{once_step}
+use Rattle.lot_laws.proofs.SemaphoreGoes.{semaphore_step}
+use Rattle.lot_laws.proofs.SemaphoreOwing.{late_place as semaphore_late_place}
+use Rattle.lot_semaphore.specs.declared.acquire.AcquireAt.TheVariants as acquire
+use Rattle.lot_semaphore.specs.declared.places.SemaphorePlace.{SemaphorePlace}
+use Rattle.lot_semaphore.specs.declared.places.SemaphorePlace.TheVariants.{Acquire, Try as OfTry, Release}
+use Rattle.lot_semaphore.specs.SemaphoreProfiles.{semaphore_profile}
 use Rattle.lot_acts.specs.Profiles.{taken_from}
 use Rattle.lot_base.specs.Keys.{key_of}
 use Rattle.lot_base.specs.declared.keys.Line.{Line}
@@ -63,7 +69,7 @@ use Rattle.lot_mutex.specs.declared.unlock.UnlockAt.TheVariants as unlock
 use Rattle.lot_mutex.specs.declared.hand_off.HandOffAt.{HandOffAt}
 use Rattle.lot_mutex.specs.declared.hand_off.HandOffAt.TheVariants as hand_off
 use Rattle.lot_steps.specs.declared.places.Place.{Place}
-use Rattle.lot_steps.specs.declared.places.Place.TheVariants.{Idle, Mutex, RwLock, Once, Condvar}
+use Rattle.lot_steps.specs.declared.places.Place.TheVariants.{Idle, Mutex, RwLock, Once, Condvar, Semaphore}
 use Rattle.lot_acts.specs.Acts.{outcome_of}
 use Rattle.lot_mutex.specs.MutexSteps.{is_locked, is_parked, lock_act, unlock_act, hand_off_word, hand_off_act}
 use Rattle.lot_steps.specs.Steps.{act_of, next_place, next_act, mutex_goes, mutex_does, looking, late_key, first_place, rwlock_goes, key_in, calls}
@@ -374,6 +380,7 @@ module _ (w : State) (t : ℕ) (shape : IsShaped w) (steady : IsSteady w) (there
   go_goes counted Idle is single fits of can = absurd cc
   go_goes counted (Condvar l at) is single fits of can = absurd single
   go_goes counted (Once l at) is single fits of can = once_step w t l at steady shape there fits is can
+  go_goes counted (Semaphore l at) is single fits of can = semaphore_step w t l at steady shape there fits is can
   go_goes counted (RwLock l a c) is single fits of can = rwlock_step w t l a c steady shape there fits is counted can
   go_goes counted (Mutex l at) is single fits of can = mutex_goes_on l fits.0 (mutex_rules (kind_at w l) of) at is can fits.1
 
@@ -414,6 +421,26 @@ module _ (w : State) (t : ℕ) (shape : IsShaped w) (steady : IsSteady w) (there
           (locks_of (state_after_late_on w t (key_in (Some l) m)))
       by_line None e can = absurd cc
       by_line (Some m) e can = let z = late_place at m e in asleep z.0 at z.1 is m z.2
+  late_goes (Semaphore l at) is can = by_line (semaphore_profile at).late_line refl can
+    where
+      asleep : (again : Bool) (p : SemaphorePlace) → p ≡ Acquire true again acquire.Asleep → place_at w t ≡ Semaphore l p → (m : Line) → Main ≡ m
+          → Stays (locks_of w) t (record (call_state (Semaphore l p) (rights w t)) { late = true }) outcome.TheVariants.Step
+          (locks_of (state_after_late_on w t (Some (key_of l m))))
+      asleep again p e here m first =
+          subst (λ n. Stays (locks_of w) t (record (call_state (Semaphore l p) (rights w t)) { late = true }) outcome.TheVariants.Step (locks_of (state_after_late_on w t (Some (key_of l n))))) first
+          (subst (λ x. Stays (locks_of w) t (record (call_state (Semaphore l x) (rights w t)) { late = true }) outcome.TheVariants.Step (locks_of (state_after_late_on w t (Some (2 * l))))) (sym e)
+          (timed again (here ∙ ap (Semaphore l) e)))
+        where
+          timed : (again : Bool) → place_at w t ≡ Semaphore l (Acquire true again acquire.Asleep)
+              → Stays (locks_of w) t (record (call_state (Semaphore l (Acquire true again acquire.Asleep)) (rights w t)) { late = true }) outcome.TheVariants.Step
+              (locks_of (state_after_late_on w t (Some (2 * l))))
+          timed again at_it = placed w t there (state_with_sections w (One (2 * l)) (Some t)).sections (Semaphore l (Acquire true again acquire.Asleep)) (next_place (place_at w t) reply.Late) at_it (rw at_it (λ k. refl)) _ (rw at_it (λ r e. rw e refl))
+
+      by_line : (m : Option Line) → (semaphore_profile at).late_line ≡ m → is_free_under w (key_in (Some l) m) ≡ true
+          → Stays (locks_of w) t (record (call_state (Semaphore l at) (rights w t)) { late = true }) outcome.TheVariants.Step
+          (locks_of (state_after_late_on w t (key_in (Some l) m)))
+      by_line None e can = absurd cc
+      by_line (Some m) e can = let z = semaphore_late_place at m e in asleep z.0 at z.1 is m z.2
   late_goes (RwLock l a c) is can = by_line (call_profile a c).late_line refl can
     where
       stands : CallStands a c
@@ -476,6 +503,12 @@ once_no_mutex w l (Look once_call.WaitTimed again at) once r of = let both : loc
 once_no_mutex w l (GiveUp again at) once r of = let both : locks.Once ≡ locks.Mutex = sym once ∙ of in cc
 once_no_mutex w l (Run forced at) once r of = let both : locks.Once ≡ locks.Mutex = sym once ∙ of in cc
 
+semaphore_no_mutex : (w : State) (l : ℕ) (at : SemaphorePlace) → (rules_in w l).sort ≡ locks.Semaphore → (r : ℕ → Rights)
+    → IsOfMutex (locks_of w) (call_state (Semaphore l at) r).purpose → ⊥
+semaphore_no_mutex w l (Acquire timed again at) sort r of = let both : locks.Semaphore ≡ locks.Mutex = sym sort ∙ of in cc
+semaphore_no_mutex w l (OfTry at) sort r of = let both : locks.Semaphore ≡ locks.Mutex = sym sort ∙ of in cc
+semaphore_no_mutex w l (Release at) sort r of = let both : locks.Semaphore ≡ locks.Mutex = sym sort ∙ of in cc
+
 condvar_no_mutex : (w : State) (l : ℕ) (at : CondvarPlace) → (rules_in w l).sort ≡ locks.Condvar → (r : ℕ → Rights)
     → IsOfMutex (locks_of w) (call_state (Condvar l at) r).purpose → ⊥
 condvar_no_mutex w l (condvars.Wait m timed at) condvar r of = let both : locks.Condvar ≡ locks.Mutex = sym condvar ∙ of in cc
@@ -502,6 +535,7 @@ module _ (w : State) (t : ℕ) (shape : IsShaped w) (steady : IsSteady w) (there
   look_stays Idle e of = absurd of
   look_stays (Condvar l at) e of = absurd (let calls : FitsCondvar w l at = subst (FitsItsLock w) e (steady.stands.calls t) in condvar_no_mutex w l at calls.sort (rights w t) of)
   look_stays (Once l at) e of = absurd (let calls : FitsItsLock w (Once l at) = subst (FitsItsLock w) e (steady.stands.calls t) in once_no_mutex w l at calls (rights w t) of)
+  look_stays (Semaphore l at) e of = absurd (let calls : FitsItsLock w (Semaphore l at) = subst (FitsItsLock w) e (steady.stands.calls t) in semaphore_no_mutex w l at calls.0 (rights w t) of)
   look_stays (RwLock l a c) e of = absurd (let calls : FitsItsLock w (RwLock l a c) = subst (FitsItsLock w) e (steady.stands.calls t) in not_mutex w l a c calls.0 (rights w t) of)
   look_stays (Mutex l at) e of = let loads = mutex_looks l at q (ap looking (sym e) ∙ is) in
       let now : place_at moved t ≡ Mutex l (Lock loads.0 loads.1 Load) = here w t there q is ∙ loads.2 in

@@ -5,6 +5,10 @@ use Rattle.abstract_locks.specs.Codes.{has_aside, is_running}
 use Rattle.abstract_locks.specs.Locks.{Rules, Sort}
 use Rattle.abstract_locks.specs.Locks as locks
 use Rattle.abstract_locks.specs.Sites.{has_readers}
+use Rattle.lot_semaphore.specs.declared.places.SemaphorePlace.TheVariants as semaphore
+use Rattle.lot_semaphore.specs.declared.acquire.AcquireAt.TheVariants as acquire
+use Rattle.lot_steps.specs.Steps.{in_semaphore}
+use Rattle.lot_semaphore.specs.SemaphoreSteps.{semaphore_act}
 use Rattle.lot_base.specs.declared.keys.Keys.TheVariants.{One}
 use Rattle.lot_acts.specs.declared.acts.Act.{Act}
 use Rattle.lot_acts.specs.declared.acts.Act.TheVariants as act
@@ -33,7 +37,7 @@ use Rattle.lot_rwlock_fair.specs.declared.places.RwLockCallPlace.TheVariants as 
 use Rattle.lot_condvar.specs.declared.places.CondvarPlace.TheVariants as condvar
 use Rattle.lot_condvar.specs.declared.wait.WaitAt.TheVariants as wait
 use Rattle.lot_steps.specs.declared.places.Place.{Place}
-use Rattle.lot_steps.specs.declared.places.Place.TheVariants.{Idle, Mutex, RwLock, Once, Condvar}
+use Rattle.lot_steps.specs.declared.places.Place.TheVariants.{Idle, Mutex, RwLock, Once, Condvar, Semaphore}
 use Rattle.lot_steps.specs.Steps.{act_of, in_condvar, in_mutex, in_once, in_rwlock, looking}
 use Rattle.lot_machine.specs.Machine.{State, place_at, kind_at}
 use Rattle.lot_laws.specs.SitesOf.{FitsItsLock, IsSteady}
@@ -128,6 +132,16 @@ place_looks w (Once l (once.Look c retries (look.Decide seen))) fits h =
     (l, subst (λ s. LeadsToSleep s l (course_act l seen (course_of c seen))) (sym fits) (course_looks l seen (course_of c seen) (is_running seen) refl (once_there l (once.Look c retries look.Load) (is_running seen && steps.is_mark (course_of c seen)) h)))
 place_looks w (Once l (once.Look c retries to)) fits h = absurd cc
 place_looks w (Once l to) fits h = absurd cc
+place_looks w (Semaphore l (semaphore.Acquire timed retries (acquire.Decide seen))) fits h =
+    (l, subst (λ s. LeadsToSleep s l (semaphore_act l (semaphore.Acquire timed retries (acquire.Decide seen)))) (sym fits.0) (by_value (seen == 0) refl h))
+  where
+    by_value : (b : Bool) → (seen == 0) ≡ b → is_some (in_semaphore l (if b then Some (semaphore.Acquire timed retries acquire.Load) else None)) ≡ true
+        → LeadsToSleep locks.Semaphore l (semaphore_act l (semaphore.Acquire timed retries (acquire.Decide seen)))
+    by_value true none g = subst (λ v. LeadsToSleep locks.Semaphore l (semaphore_act l (semaphore.Acquire timed retries (acquire.Decide v)))) (sym (eqb-true seen 0 none)) (inl (0, 1, refl, (refl, refl)))
+    by_value false none g = absurd cc
+place_looks w (Semaphore l (semaphore.Acquire timed retries to)) fits h = absurd cc
+place_looks w (Semaphore l (semaphore.Try to)) fits h = absurd cc
+place_looks w (Semaphore l (semaphore.Release to)) fits h = absurd cc
 place_looks w (Condvar l (condvar.Wait m timed (wait.Lock timed_out to))) fits h =
     (m, subst (λ s. LeadsToSleep s m (mutex_act m to)) (sym (ap (λ (r : Rules). r.sort) (plain_rules (kind_at w m) (fits.mutex m refl)))) (mutex_looks m to (condvar_there l m timed timed_out (mutex_looking to) h)))
 place_looks w (Condvar l (condvar.Wait m timed to)) fits h = absurd cc

@@ -46,8 +46,9 @@ use Rattle.lot_once.proofs.OnceActs.{once_acts_move, once_late_move, once_sleepe
 use Rattle.lot_once.proofs.OnceFit.{once_owners_follow, once_steps_code, once_steps_follow}
 use Rattle.lot_once.proofs.OnceTells.{once_sections_tell, once_steps_tell}
 use Rattle.lot_once.proofs.OnceWords as words
+use Rattle.lot_semaphore.specs.declared.places.SemaphorePlace.{SemaphorePlace}
 use Rattle.lot_steps.specs.declared.places.Place.{Place}
-use Rattle.lot_steps.specs.declared.places.Place.TheVariants.{Idle, Mutex, RwLock, Once, Condvar}
+use Rattle.lot_steps.specs.declared.places.Place.TheVariants.{Idle, Mutex, RwLock, Once, Condvar, Semaphore}
 use Rattle.lot_mutex.specs.declared.places.MutexPlace.{MutexPlace}
 use Rattle.lot_rwlock.specs.declared.places.Admission.{Admission}
 use Rattle.lot_rwlock_fair.specs.declared.places.RwLockCallPlace.{RwLockCallPlace}
@@ -247,10 +248,16 @@ module _ (w : State) (t l : ℕ) (at : OncePlace) (steady : IsSteady w) (shape :
           let fits : FitsItsLock w (RwLock k a c) = subst (FitsItsLock w) e (steady.stands.calls u) in
           let both : true ≡ false = sym fits.0.0 ∙ ap (λ j. has_readers (rules_in w j).sort) same_lock ∙ unshared in cc
 
+      of_semaphore : (k : ℕ) (p : SemaphorePlace) → place_at w u ≡ Semaphore k p → k ≡ l → ⊥
+      of_semaphore k p e same_lock =
+          let fits : FitsItsLock w (Semaphore k p) = subst (FitsItsLock w) e (steady.stands.calls u) in
+          let both : locks.Semaphore ≡ locks.Once = sym fits.0 ∙ ap (λ j. (rules_in w j).sort) same_lock ∙ sort_is in cc
+
       by_place : (q : Place) → place_at w u ≡ q → calls q l ≡ true
           → IsSleeper w t l steady there own (rules_in w l) refl (once_move at) same_row u
       by_place Idle e g = absurd cc
       by_place (Condvar k c) e g = absurd (of_condvar k c e (eqb-true k l g))
+      by_place (Semaphore k p) e g = absurd (of_semaphore k p e (eqb-true k l g))
       by_place (Mutex k m) e g = absurd (of_mutex k m e (eqb-true k l g))
       by_place (RwLock k a c) e g = absurd (of_rwlock k a c e (eqb-true k l g))
       by_place (Once k p) e g = record {

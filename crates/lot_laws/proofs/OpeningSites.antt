@@ -1,20 +1,18 @@
 -- In the opening state each lock is a site, and nobody stands anywhere.
 use Rattle.std.proofs.Common.{subst, ℕ, zero, suc, true, false, None, ◌&&◌, ◌≡◌, ◌+◌, ◌-◌, ◌*◌, ◌^◌, ◌≤◌, ◌<◌, List, [], ◌∷◌, length, get_or, map, replicate, sum, nat_le, All, inl, inr, refl, sym, ◌∙◌, ap, arith}
 use Rattle.std.proofs.lemmas.Bool.{cases_lt, leb-true}
-use Rattle.std.proofs.lemmas.Bool.Decides.{nat_tests}
 use Rattle.std.proofs.lemmas.List.{length-replicate, length-map}
-use Rattle.std.proofs.Math.Nat.{mod-eq_of_lt}
 use Rattle.lot_calls.specs.declared.kinds.Kind.{Kind}
 use Rattle.lot_calls.specs.declared.kinds.Kind as kind
-use Rattle.lot_calls.specs.declared.kinds.TheConstants.{MOST_READERS, MOST_PERMITS}
+use Rattle.lot_calls.specs.declared.kinds.TheConstants.{MOST_READERS}
 use Rattle.lot_calls.specs.Kinds.{fits}
 use Rattle.lot_steps.specs.declared.places.Place.TheVariants.{Idle}
-use Rattle.abstract_locks.specs.Locks.{Rules, Sort, opening_lock}
+use Rattle.abstract_locks.specs.Locks.{Rules, opening_lock}
 use Rattle.abstract_locks.specs.Locks as sorts
 use Rattle.abstract_locks.specs.Permits.{HasPermits}
-use Rattle.abstract_locks.specs.Codes.{bit, code, has_parked, parked_in, aside_in, HasLimit}
+use Rattle.abstract_locks.specs.Codes.{code, HasLimit}
 use Rattle.abstract_locks.specs.Purposes.{rules_of}
-use Rattle.abstract_locks.specs.Sites.{Main, Site, IsSite, opening_site, is_full, has_readers}
+use Rattle.abstract_locks.specs.Sites.{Main, Site, IsSite, is_full, has_readers}
 use Rattle.abstract_locks.proofs.LockKeeps.{opening_is_state}
 use Rattle.lot_machine.specs.Machine.{State, first_word, opening, unlocked, place_at, kind_at}
 use Rattle.lot_laws.specs.Stations.{nowhere, station_at}
@@ -25,15 +23,13 @@ use Rattle.lot_laws.specs.SitesOf.{AreCondvars, condvar_of, inside_as, IsSteady,
 use Rattle.lot_laws.proofs.Glue.{past_all, seen_by}
 use Rattle.lot_machine.proofs.Opening.{idle_at, none_at, empty_at, nobody_owns, no_readers, opening_shares}
 use Rattle.lot_machine.proofs.Shape.{both}
-
--- by its word
-abbrev unwritten : Sort → ℕ → ℕ → Site
-unwritten sort word n = record (opening_site n) { parked = parked_in sort word; aside_parked = aside_in sort word }
+use Rattle.lot_machine.proofs.NewLocks.{few_permits, new_words}
+use Rattle.lot_machine.specs.NewLocks.{new_site}
 
 -- where the limit leaves room for a reader
-opening_is_site : (r : Rules) (word n : ℕ) → (is_full r (opening_lock n) ≡ true → ⊥) → IsSite r (unwritten r.sort word n)
-opening_is_site r word n room = record {
-  state = opening_is_state r n;
+opening_is_site : (k : Kind) (n : ℕ) → (is_full (rules_of k) (opening_lock n) ≡ true → ⊥) → IsSite (rules_of k) (new_site k n)
+opening_is_site k n room = record {
+  state = opening_is_state (rules_of k) n;
   alone = λ t u m h k. absurd cc;
   parked = λ h. absurd (h refl);
   aside_parked = λ h. absurd (h refl);
@@ -78,10 +74,7 @@ first_there [] l = refl
 first_there (x ∷ xs) zero = refl
 first_there (x ∷ xs) (suc l) = first_there xs l
 
--- each permit is free, and no more than a word counts
-few_permits : (permits : ℕ) → (nat_le 1 permits && nat_le permits MOST_PERMITS) ≡ true → permits ≤ 2 ^ 62
-few_permits permits h = let a : permits ≤ MOST_PERMITS = leb-true permits MOST_PERMITS (both (nat_le 1 permits) (nat_le permits MOST_PERMITS) h).1 in omega arith
-
+-- and of permits
 countable : (k : Kind) (n : ℕ) → fits k n ≡ true → (rules_of k).sort ≡ sorts.Semaphore → (rules_of k).limit ≤ 2 ^ 62
 countable (kind.TheVariants.Semaphore permits) n h e = few_permits permits h
 countable kind.TheVariants.Mutex n h e = absurd cc
@@ -91,11 +84,8 @@ countable (kind.TheVariants.Recursive limit) n h e = absurd cc
 countable kind.TheVariants.Condvar n h e = absurd cc
 countable kind.TheVariants.Once n h e = absurd cc
 
-even_unparked : (n : ℕ) → has_parked (2 * n) ≡ false
-even_unparked n = grind (arith, nat_tests)
-
-opening_permits : (r : Rules) (word n : ℕ) → HasPermits r (unwritten r.sort word n)
-opening_permits r word n = record { enough = λ left. absurd (left refl); unset = λ t. refl; known = λ u one. absurd (omega arith) }
+opening_permits : (k : Kind) (n : ℕ) → HasPermits (rules_of k) (new_site k n)
+opening_permits k n = record { enough = λ left. absurd (left refl); unset = λ t. refl; known = λ u one. absurd (omega arith) }
 
 pub kind_is : (kinds : List Kind) (l : ℕ)
     → (get_or (map unlocked kinds) l (unlocked kind.TheVariants.Mutex)).kind ≡ get_or kinds l kind.TheVariants.Mutex
@@ -125,22 +115,6 @@ opening_limit r n = let none : sum (replicate n 0) ≡ 0 = no_readers n in recor
   falls_normal = λ p h f g. absurd cc;
 }
 
--- the word of a new lock
-first_code : (k : Kind) (threads n : ℕ) → fits k threads ≡ true
-    → code (rules_of k) (unwritten (rules_of k).sort (first_word k) n) ≡ first_word k
-first_code (kind.TheVariants.RwLock limit) threads n h = let none : sum (replicate n 0) ≡ 0 = no_readers n in omega arith
-first_code (kind.TheVariants.Recursive limit) threads n h = let none : sum (replicate n 0) ≡ 0 = no_readers n in omega arith
-first_code kind.TheVariants.Mutex threads n h = refl
-first_code kind.TheVariants.Fair threads n h = refl
-first_code kind.TheVariants.Condvar threads n h = refl
-first_code kind.TheVariants.Once threads n h = refl
-first_code (kind.TheVariants.Semaphore permits) threads n h =
-    let none : sum (replicate n 0) ≡ 0 = no_readers n in
-    let few : permits ≤ 2 ^ 62 = few_permits permits h in
-    let small : first_word (kind.TheVariants.Semaphore permits) ≡ 2 * permits = mod-eq_of_lt {2 * permits} {2 ^ 64} (omega arith) in
-    let bare : bit (has_parked (first_word (kind.TheVariants.Semaphore permits))) ≡ 0 = ap bit (ap has_parked small ∙ even_unparked permits) in
-    omega arith
-
 module _ (kinds : List Kind) (threads : ℕ) where
   abbrev first : State
   first = opening kinds threads
@@ -151,7 +125,7 @@ module _ (kinds : List Kind) (threads : ℕ) where
     | inr ge ↦ rw (past_all kinds l kind.TheVariants.Mutex ge) refl
   ])
 
-  opening_seen : (l : ℕ) → site_of first l ≡ unwritten (rules_in first l).sort (first_word (kind_at first l)) (length first.places)
+  opening_seen : (l : ℕ) → site_of first l ≡ new_site (kind_at first l) (length first.places)
   opening_seen l = λ i. seen_by (rules_in first l) l (record { shared = opening_shares kinds threads l i; filled = unfilled_0 kinds l i }) (first_there kinds l i) (nobody_owns kinds l i) (empty_at (2 * length kinds) (2 * l) i) (empty_at (2 * length kinds) (2 * l + 1) i) (λ u. idle_at threads u i)
 
   stands_nowhere : (t l : ℕ) → station_at (place_at first t) l ≡ nowhere
@@ -175,11 +149,11 @@ module _ (kinds : List Kind) (threads : ℕ) where
   pub opening_steady : 1 ≤ threads → All (λ k. fits k threads ≡ true) kinds → IsSteady first
   opening_steady some fit = record {
     sites = record {
-      site = λ l. rw (opening_seen l) (rw size (opening_is_site (rules_in first l) (first_word (kind_at first l)) threads (room (kind_at first l) threads some (kinds_fit fit l))));
-      word = λ l. first_there kinds l ∙ sym (ap (code (rules_in first l)) (opening_seen l) ∙ first_code (kind_at first l) threads (length first.places) (kinds_fit fit l));
+      site = λ l. rw (opening_seen l) (rw size (opening_is_site (kind_at first l) threads (room (kind_at first l) threads some (kinds_fit fit l))));
+      word = λ l. first_there kinds l ∙ sym (ap (code (rules_in first l)) (opening_seen l) ∙ new_words (kind_at first l) threads (length first.places) (kinds_fit fit l));
       unfilled = λ l h. unfilled_0 kinds l;
       limits = λ l h. (subst (λ n. HasRoom n (rules_in first l)) (sym size) (roomy (kind_at first l) threads some (kinds_fit fit l) h), rw (ap (λ (s : Site). s.lock) (opening_seen l)) (rw size (opening_limit (rules_in first l) threads)));
-      permits = λ l sort. (subst (HasPermits (rules_in first l)) (sym (opening_seen l)) (opening_permits (rules_in first l) (first_word (kind_at first l)) (length first.places)), countable (kind_at first l) threads (kinds_fit fit l) sort);
+      permits = λ l sort. (subst (HasPermits (rules_in first l)) (sym (opening_seen l)) (opening_permits (kind_at first l) (length first.places)), countable (kind_at first l) threads (kinds_fit fit l) sort);
     };
     numbers = record {
       locks = length-replicate (length kinds) (replicate threads 0) ∙ sym (length-map kinds unlocked);

@@ -2,6 +2,8 @@
 use Rattle.std.proofs.Common.{ℕ, Bool, true, false, Option, Some, None, if◌then◌else◌, ◌≡◌, ◌≢◌, ◌⊎◌, inl, inr, List, [], ◌∷◌, get_or, refl, sym, ◌∙◌, ap, subst, get_or-set_other, ◌==◌}
 use Rattle.lot_once.proofs.OnceActs.{once_sleepers_move}
 use Rattle.lot_once.specs.OnceProfiles.{once_profile}
+use Rattle.lot_semaphore.specs.SemaphoreProfiles.{semaphore_profile}
+use Rattle.lot_laws.proofs.SemaphoreMoves.{semaphore_sleepers_move}
 use Rattle.lot_acts.specs.Profiles.{taken_from}
 use Rattle.std.proofs.Math.ListN.{get_or-map}
 use Rattle.lot_base.specs.declared.keys.Keys.{Keys}
@@ -21,7 +23,7 @@ use Rattle.lot_acts.specs.Owners.{is_thread}
 use Rattle.lot_acts.specs.Profiles.{hand}
 use Rattle.lot_steps.specs.Steps.{next_place, taker}
 use Rattle.lot_steps.specs.declared.places.Place.{Place}
-use Rattle.lot_steps.specs.declared.places.Place.TheVariants.{Idle, RwLock, Mutex, Once, Condvar}
+use Rattle.lot_steps.specs.declared.places.Place.TheVariants.{Idle, RwLock, Mutex, Once, Condvar, Semaphore}
 use Rattle.lot_rwlock_fair.specs.declared.places.RwLockCallPlace.{RwLockCallPlace}
 use Rattle.lot_rwlock_fair.specs.declared.places.RwLockCallPlace.TheVariants.{Plain, Glance, HandOver, Bump, Handed}
 use Rattle.lot_rwlock_fair.specs.declared.handed.HandedAt.TheVariants as handed
@@ -123,6 +125,7 @@ taken_goes_on w Idle t l m fits plain h r = refl
 taken_goes_on w (Mutex k at) t l m fits plain h r = taken_call (Mutex k at) t tt r
 taken_goes_on w (RwLock k a c) t l m fits plain h r = taken_call (RwLock k a c) t tt r
 taken_goes_on w (Once k at) t l m fits plain h r = taken_call (Once k at) t tt r
+taken_goes_on w (Semaphore k at) t l m fits plain h r = taken_call (Semaphore k at) t tt r
 
 stands_in : (o : Option Line) (m : Line) → 1 ≤ stood_in o m → o ≡ Some m
 stands_in (Some Main) Main h = refl
@@ -209,6 +212,12 @@ taken_by_hand w (Once k at) t l calls h = either (k == l) h
         → is_taken_by t (taken_from (once_profile at).hand (once_profile at).wants b) ≡ true
     either true g = let x = (once_sleepers_move at).held t false g in ap (is_taken_by t) (λ i. taken_from (g i) (x.1.wants i) true) ∙ same t
     either false g = absurd cc
+taken_by_hand w (Semaphore k at) t l calls h = either (k == l) h
+  where
+    either : (b : Bool) → (if b then station (Semaphore k at) else nowhere).hand ≡ hand t false
+        → is_taken_by t (taken_from (semaphore_profile at).hand (semaphore_profile at).wants b) ≡ true
+    either true g = let x = (semaphore_sleepers_move at).held t false g in ap (is_taken_by t) (λ i. taken_from (g i) (x.1.wants i) true) ∙ same t
+    either false g = absurd cc
 taken_by_hand w Idle t l calls h = absurd (let none : hand_at Idle l ≡ None = refl in cc)
 taken_by_hand w (Mutex k at) t l calls h = by_place (Mutex k at) (is_taken (Mutex k at) t l tt h)
   where
@@ -231,6 +240,12 @@ handed_goes w (Once k at) t l fits h r = either (k == l) h
     either : (b : Bool) → (if b then station (Once k at) else nowhere).hand ≡ hand t true
         → call_state (next_place (Once k at) (Woken note.HandOff)) r ≡ call_state (Once k at) r
     either true g = absurd (let x : true ≡ false = ((once_sleepers_move at).held t true g).0 in cc)
+    either false g = absurd cc
+handed_goes w (Semaphore k at) t l fits h r = either (k == l) h
+  where
+    either : (b : Bool) → (if b then station (Semaphore k at) else nowhere).hand ≡ hand t true
+        → call_state (next_place (Semaphore k at) (Woken note.HandOff)) r ≡ call_state (Semaphore k at) r
+    either true g = absurd (let x : true ≡ false = ((semaphore_sleepers_move at).held t true g).0 in cc)
     either false g = absurd cc
 handed_goes w (Mutex k at) t l fits h r = by_place (Mutex k at) (is_handed (Mutex k at) t l tt h)
   where

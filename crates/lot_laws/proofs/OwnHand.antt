@@ -9,8 +9,11 @@ use Rattle.lot_once.specs.declared.look.LookAt.TheVariants as look
 use Rattle.lot_once.specs.declared.give_up.GiveUpAt.TheVariants as give_up
 use Rattle.lot_once.specs.declared.run.RunAt.TheVariants as run
 use Rattle.lot_once.specs.declared.places.OncePlace.TheVariants.{Look, Run, GiveUp}
+use Rattle.lot_semaphore.specs.declared.acquire.AcquireAt.TheVariants as acquire
+use Rattle.lot_semaphore.specs.declared.release.ReleaseAt.TheVariants as release
+use Rattle.lot_semaphore.specs.declared.places.SemaphorePlace.TheVariants.{Acquire, Try, Release}
 use Rattle.lot_steps.specs.declared.places.Place.{Place}
-use Rattle.lot_steps.specs.declared.places.Place.TheVariants.{Idle, Mutex, RwLock, Once, Condvar}
+use Rattle.lot_steps.specs.declared.places.Place.TheVariants.{Idle, Mutex, RwLock, Once, Condvar, Semaphore}
 use Rattle.lot_steps.specs.Steps.{calls, profile}
 use Rattle.abstract_locks.specs.Runs.{is_taken_by}
 use Rattle.lot_machine.specs.Machine.{State, place_at}
@@ -54,6 +57,11 @@ bare (Once l (Run forced (run.Leave succeeded any))) single = inl refl
 bare (Once l (GiveUp again give_up.Remove)) single = inl refl
 bare (Once l (GiveUp again give_up.Clear)) single = inl refl
 bare (Once l (GiveUp again give_up.Leave)) single = inl refl
+bare (Semaphore l (Acquire timed again (acquire.Taken by))) single = inr refl
+bare (Semaphore l (Acquire timed again at)) single = inr refl
+bare (Semaphore l (Try at)) single = inl refl
+bare (Semaphore l (Release release.Add)) single = inl refl
+bare (Semaphore l (Release at)) single = inl refl
 bare (Condvar l at) single = absurd single
 
 module _ (w : State) (steady : IsSteady w) (t l : ℕ) (single : IsSingle (place_at w t)) where

@@ -1,5 +1,5 @@
 -- In a call of one lock a thread that tells others something hears nothing of it: its act leaves it where it stands.
-use Rattle.std.proofs.Common.{ℕ, Bool, true, false, None, if◌then◌else◌, ◌≡◌, not, ◌==◌, ◌+◌, ◌*◌, ◌<◌, length, get_or-set_same, refl, sym, ap, ◌∙◌}
+use Rattle.std.proofs.Common.{ℕ, Bool, true, false, None, if◌then◌else◌, ◌≡◌, not, ◌==◌, ◌+◌, ◌-◌, ◌*◌, ◌<◌, length, get_or-set_same, refl, sym, ap, ◌∙◌}
 use Rattle.lot_base.specs.declared.keys.Keys.TheVariants.{One}
 use Rattle.lot_base.specs.declared.keys.Line.{Line}
 use Rattle.lot_base.specs.declared.keys.Line.TheVariants.{Main, Second}
@@ -50,10 +50,17 @@ use Rattle.lot_once.specs.declared.run.RunAt.{RunAt}
 use Rattle.lot_once.specs.declared.run.RunAt.TheVariants as run
 use Rattle.lot_once.specs.declared.places.OncePlace.{OncePlace}
 use Rattle.lot_once.specs.declared.places.OncePlace.TheVariants.{Look, Run, GiveUp}
+use Rattle.lot_semaphore.specs.declared.acquire.AcquireAt.TheVariants as acquire
+use Rattle.lot_semaphore.specs.declared.tries.TryAt.TheVariants as tries
+use Rattle.lot_semaphore.specs.declared.release.ReleaseAt.TheVariants as release
+use Rattle.lot_semaphore.specs.declared.release.ReleaseAt.{ReleaseAt}
+use Rattle.lot_semaphore.specs.declared.places.SemaphorePlace.{SemaphorePlace}
+use Rattle.lot_semaphore.specs.declared.places.SemaphorePlace.TheVariants.{Acquire, Try, Release}
+use Rattle.lot_semaphore.specs.SemaphoreSteps.{in_release, is_free, next_release, semaphore_act, semaphore_next}
 use Rattle.lot_once.specs.OnceSteps.{course_act, course_of, in_run, next_run, once_act, once_next}
 use Rattle.lot_steps.specs.declared.places.Place.{Place}
-use Rattle.lot_steps.specs.declared.places.Place.TheVariants.{Idle, Mutex, RwLock, Once, Condvar}
-use Rattle.lot_steps.specs.Steps.{act_of, mutex_goes, next_act, next_place, once_goes, rwlock_goes}
+use Rattle.lot_steps.specs.declared.places.Place.TheVariants.{Idle, Mutex, RwLock, Once, Condvar, Semaphore}
+use Rattle.lot_steps.specs.Steps.{act_of, mutex_goes, next_act, next_place, once_goes, rwlock_goes, semaphore_goes}
 use Rattle.lot_machine.specs.Machine.{State, go_outcome, go_reply, going_outcome, place_at, put, reply_to, state_after_act, state_after_go, state_after_going}
 use Rattle.lot_machine.proofs.Acted.{Befalls, acted_keeps, tells}
 use Rattle.lot_laws.proofs.Glue.{IsSingle}
@@ -214,6 +221,35 @@ once_deaf l (Look c again to) loud r h = absurd cc
 once_deaf l (GiveUp again give_up.Remove) loud r h = absurd cc
 once_deaf l (GiveUp again to) loud r h = absurd cc
 
+-- ---------------------------------------------------------------- a semaphore
+
+takes_quietly : (l s : ℕ) (a b : Bool) → tells (if a then Word l (op.TheVariants.Exchange s (s - 2)) else if b then Word l (op.TheVariants.Exchange 0 1) else Enter (One (2 * l))) ≡ false
+takes_quietly l s true b = refl
+takes_quietly l s false true = refl
+takes_quietly l s false false = refl
+
+tries_quietly : (l s : ℕ) (a : Bool) → tells (if a then Word l (op.TheVariants.Exchange s (s - 2)) else Word l op.TheVariants.Load) ≡ false
+tries_quietly l s true = refl
+tries_quietly l s false = refl
+
+release_deaf : (to : ReleaseAt) (r : Reply) → Befalls r → in_release (next_release to r) ≡ At (Release to)
+release_deaf release.Add (TakenBy u) h = refl
+release_deaf to (TakenBy u) h = refl
+release_deaf release.Add (MovedTo key) h = refl
+release_deaf to (MovedTo key) h = refl
+release_deaf release.Add (HandedBy u alone) h = refl
+release_deaf to (HandedBy u alone) h = refl
+release_deaf release.Add (Woken n) h = refl
+release_deaf to (Woken n) h = refl
+release_deaf to r h = absurd h
+
+semaphore_deaf : (l : ℕ) (p : SemaphorePlace) → tells (semaphore_act l p) ≡ true → (r : Reply) → Befalls r → semaphore_next p r ≡ At p
+semaphore_deaf l (Release to) loud r h = release_deaf to r h
+semaphore_deaf l (Acquire timed again (acquire.Decide seen)) loud r h = absurd (let x : false ≡ true = sym (takes_quietly l seen (is_free seen) (seen == 0)) ∙ loud in cc)
+semaphore_deaf l (Acquire timed again to) loud r h = absurd cc
+semaphore_deaf l (Try (tries.Decide seen)) loud r h = absurd (let x : false ≡ true = sym (tries_quietly l seen (is_free seen)) ∙ loud in cc)
+semaphore_deaf l (Try tries.Load) loud r h = absurd cc
+
 -- ---------------------------------------------------------------- every place
 
 deaf : (p : Place) → IsSingle p → tells (act_of p) ≡ true → (r : Reply) → Befalls r → next_place p r ≡ p
@@ -221,6 +257,7 @@ deaf Idle single loud r h = refl
 deaf (Mutex l m) single loud r h = ap (mutex_goes l) (mutex_deaf l m loud r h)
 deaf (RwLock l a c) single loud r h = ap (rwlock_goes l a) (call_deaf l a c loud r h)
 deaf (Once l p) single loud r h = ap (once_goes l) (once_deaf l p loud r h)
+deaf (Semaphore l p) single loud r h = ap (semaphore_goes l) (semaphore_deaf l p loud r h)
 deaf (Condvar l p) single loud r h = absurd single
 
 module _ (w : State) (t : ℕ) (p : Place) (is : place_at w t ≡ p) (single : IsSingle p) where

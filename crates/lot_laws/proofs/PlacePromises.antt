@@ -1,13 +1,14 @@
 -- What is promised of a thread at any place of a call, by its row, and what that says of the state.
 use Rattle.std.proofs.Common.{ℕ, Bool, true, false, Option, Some, None, if◌then◌else◌, ◌≡◌, ◌≢◌, ◌*◌, ◌+◌, ◌≤◌, ◌⊎◌, ◌↔◌, inl, inr, refl, sym, ◌∙◌, ap, subst, arith, ◌&&◌, not}
 use Rattle.lot_once.proofs.OnceRowCheck.{once_promises}
+use Rattle.lot_semaphore.proofs.SemaphoreRowCheck.{semaphore_promises}
 use Rattle.lot_base.specs.declared.keys.Keys.TheVariants.{One}
 use Rattle.lot_base.specs.Lines.{first_of}
 use Rattle.lot_base.specs.Lines as Lines
 use Rattle.lot_acts.specs.declared.acts.Act.TheVariants.{Enter, Rest}
 use Rattle.lot_acts.specs.Profiles.{taken_from}
 use Rattle.lot_steps.specs.declared.places.Place.{Place}
-use Rattle.lot_steps.specs.declared.places.Place.TheVariants.{Idle, Mutex, RwLock, Once, Condvar}
+use Rattle.lot_steps.specs.declared.places.Place.TheVariants.{Idle, Mutex, RwLock, Once, Condvar, Semaphore}
 use Rattle.lot_steps.specs.Steps.{act_of, lock_of, is_lock, calls, profile, line_owed, beside_of, profile_beside}
 use Rattle.abstract_locks.specs.Locks.{Taken, IsSomePending, one_if_some, is_thread, standing}
 use Rattle.abstract_locks.specs.Locks as locks
@@ -129,6 +130,11 @@ module _ (w : State) (t : ℕ) (steady : IsSteady w) where
           let admitted : (rules_in w k).sort ≡ locks.Once = subst (FitsItsLock w) is (steady.stands.calls t) in
           subst (λ j. RowPromises (sort_at w j) j (profile (Once k at)) (act_of (Once k at))) here
           (subst (λ s. RowPromises s k (profile (Once k at)) (act_of (Once k at))) (sym admitted) (once_promises k at))
+      by_place (Semaphore k at) is own =
+          let here : k ≡ l = cc in
+          let admitted : (rules_in w k).sort ≡ locks.Semaphore = (subst (FitsItsLock w) is (steady.stands.calls t)).0 in
+          subst (λ j. RowPromises (sort_at w j) j (profile (Semaphore k at)) (act_of (Semaphore k at))) here
+          (subst (λ s. RowPromises s k (profile (Semaphore k at)) (act_of (Semaphore k at))) (sym admitted) (semaphore_promises k at))
       by_place (Mutex k at) is own =
           let here : k ≡ l = cc in
           let admitted : FitsItsLock w (Mutex k at) = rw is at (steady.stands.calls t) in
@@ -149,6 +155,10 @@ module _ (w : State) (t : ℕ) (steady : IsSteady w) where
       by_place (Once k at) is own =
           let here : k ≡ l = cc in
           let sort : sort_at w k ≡ locks.Once = subst (FitsItsLock w) is (steady.stands.calls t) in
+          let other : sort_at w k ≡ locks.Condvar = ap (sort_at w) here ∙ is_condvar in cc
+      by_place (Semaphore k at) is own =
+          let here : k ≡ l = cc in
+          let sort : sort_at w k ≡ locks.Semaphore = (subst (FitsItsLock w) is (steady.stands.calls t)).0 in
           let other : sort_at w k ≡ locks.Condvar = ap (sort_at w) here ∙ is_condvar in cc
       by_place (Mutex k at) is own =
           let here : k ≡ l = cc in

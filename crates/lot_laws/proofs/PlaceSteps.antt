@@ -3,13 +3,17 @@ use Rattle.lot_calls.specs.declared.calls.CondvarCall.TheVariants as condvar
 use Rattle.std.proofs.Common.{Bool, ℕ, true, false, Some, None, if◌then◌else◌, ◌≡◌, refl, sym, ◌∙◌, ap, subst}
 use Rattle.lot_laws.proofs.CondvarOwing.{condvar_befallen}
 use Rattle.lot_laws.proofs.OnceNext.{once_owes_next}
+use Rattle.lot_laws.proofs.SemaphoreNext.{semaphore_owes_next}
+use Rattle.lot_laws.proofs.SemaphoreOwing.{semaphore_befallen, semaphore_late}
+use Rattle.lot_calls.specs.declared.calls.Patience.TheVariants as how
+use Rattle.lot_calls.specs.declared.calls.SemaphoreCall.TheVariants as semaphore_call
 use Rattle.lot_calls.specs.declared.calls.Call.{Call}
 use Rattle.lot_calls.specs.declared.calls.Call as call
 use Rattle.lot_acts.specs.declared.acts.Reply.{Reply}
 use Rattle.lot_acts.specs.declared.acts.Reply.TheVariants.{Late}
 use Rattle.lot_laws.proofs.OnceOwing.{once_befallen, once_late}
 use Rattle.lot_steps.specs.declared.places.Place.{Place}
-use Rattle.lot_steps.specs.declared.places.Place.TheVariants.{Idle, Mutex, RwLock, Once, Condvar}
+use Rattle.lot_steps.specs.declared.places.Place.TheVariants.{Idle, Mutex, RwLock, Once, Condvar, Semaphore}
 use Rattle.lot_acts.specs.Acts.{outcome_of}
 use Rattle.lot_calls.specs.declared.kinds.Kind.{Kind}
 use Rattle.lot_calls.specs.Kinds.{is_fair}
@@ -52,6 +56,7 @@ owes_befallen Idle r b k = refl
 owes_befallen (Mutex l at) r b k = mutex_befallen l at r b k
 owes_befallen (RwLock l a c) r b k = rwlock_befallen l a r k c b
 owes_befallen (Once l at) r b k = once_befallen l at r b k
+owes_befallen (Semaphore l at) r b k = semaphore_befallen l at r b k
 owes_befallen (Condvar l at) r b k = condvar_befallen l at r b k
 
 -- at a lock by its number and rules
@@ -99,6 +104,10 @@ owes_next w t l steady single own = by_place (place_at w t) refl own
         let here : k ≡ l = cc in
         let admitted : (rules_in w k).sort ≡ locks.Once = subst (FitsItsLock w) is (steady.stands.calls t) in
         subst (λ j. OwesAt w t (sort_at w j) j (Once k at)) here (subst (λ s. OwesAt w t s k (Once k at)) (sym admitted) (once_owes_next w t k at))
+    by_place (Semaphore k at) is own =
+        let here : k ≡ l = cc in
+        let admitted : FitsItsLock w (Semaphore k at) = subst (FitsItsLock w) is (steady.stands.calls t) in
+        subst (λ j. OwesAt w t (sort_at w j) j (Semaphore k at)) here (subst (λ s. OwesAt w t s k (Semaphore k at)) (sym admitted.0) (semaphore_owes_next w t k at))
     by_place (Condvar k at) is own = absurd (subst IsSingle is single)
     by_place (Mutex k at) is own =
         let here : k ≡ l = cc in
@@ -115,6 +124,10 @@ pub first_owes : (k : Kind) (c : Call) → (profile (first_place k c)).owes ≡ 
 first_owes k (call.TheVariants.Mutex m c) = mutex_first_owes (is_fair k) c
 first_owes k (call.TheVariants.RwLock m c) = rwlock_first_owes (admission_of k) c
 first_owes k (call.TheVariants.Once m c) = refl
+first_owes k (call.TheVariants.Semaphore m (semaphore_call.Acquire how.Patient)) = refl
+first_owes k (call.TheVariants.Semaphore m (semaphore_call.Acquire how.Timed)) = refl
+first_owes k (call.TheVariants.Semaphore m (semaphore_call.Acquire how.Try)) = refl
+first_owes k (call.TheVariants.Semaphore m semaphore_call.Release) = refl
 first_owes k (call.TheVariants.Condvar m (condvar.Wait n timed)) = refl
 first_owes k (call.TheVariants.Condvar m (condvar.Notify all)) = refl
 
@@ -124,3 +137,4 @@ late_next (Mutex l at) m single h = mutex_late l at m h
 late_next (RwLock l a at) m single h = rwlock_late l a at m h
 late_next (Condvar l at) m single h = absurd single
 late_next (Once l at) m single h = once_late l at m h
+late_next (Semaphore l at) m single h = semaphore_late l at m h

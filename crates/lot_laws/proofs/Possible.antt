@@ -4,7 +4,7 @@ use Rattle.std.proofs.Common.{is_some, subst, ℕ, Bool, true, false, Option, So
 use Rattle.lot_laws.proofs.OnceOwing.{late_place}
 use Rattle.lot_once.specs.OnceProfiles.{once_profile}
 use Rattle.abstract_locks.specs.Runs.{is_closure}
-use Rattle.lot_laws.proofs.Closures.{call_runs_none, closure_told, mutex_runs_none, condvar_runs_none}
+use Rattle.lot_laws.proofs.Closures.{call_runs_none, closure_told, mutex_runs_none, condvar_runs_none, semaphore_runs_none}
 use Rattle.std.proofs.lemmas.Bool.{cases_eq, cases_lt}
 use Rattle.std.proofs.lemmas.List.{get_or_past}
 use Rattle.lot_base.specs.declared.keys.Keys.{Keys}
@@ -30,10 +30,15 @@ use Rattle.lot_acts.specs.declared.acts.Next.TheVariants as next
 use Rattle.lot_mutex.specs.declared.places.MutexPlace.{MutexPlace}
 use Rattle.lot_once.specs.declared.places.OncePlace.{OncePlace}
 use Rattle.lot_once.specs.OnceSteps.{once_act, once_next}
+use Rattle.lot_semaphore.specs.declared.places.SemaphorePlace.{SemaphorePlace}
+use Rattle.lot_semaphore.specs.SemaphoreSteps.{semaphore_act, semaphore_first, semaphore_next}
+use Rattle.lot_calls.specs.declared.calls.SemaphoreCall.{SemaphoreCall}
+use Rattle.lot_calls.specs.declared.calls.SemaphoreCall.TheVariants as semaphore_call
+use Rattle.lot_steps.specs.Steps.{semaphore_does, semaphore_goes}
 use Rattle.lot_condvar.specs.declared.places.CondvarPlace.{CondvarPlace}
 use Rattle.lot_condvar.specs.CondvarSteps.{condvar_next, condvar_act, mutex_beside}
 use Rattle.lot_steps.specs.declared.places.Place.{Place}
-use Rattle.lot_steps.specs.declared.places.Place.TheVariants.{Idle, Mutex, RwLock, Once, Condvar}
+use Rattle.lot_steps.specs.declared.places.Place.TheVariants.{Idle, Mutex, RwLock, Once, Condvar, Semaphore}
 use Rattle.lot_acts.specs.declared.acts.Wakes.{Wakes}
 use Rattle.lot_acts.specs.declared.acts.Wakes as wakes
 use Rattle.lot_acts.specs.declared.acts.Whom.{Whom}
@@ -73,7 +78,7 @@ use Rattle.lot_rwlock.specs.RwLockBegins.{admission_of}
 use Rattle.lot_rwlock_fair.specs.FairBegins.{call_first}
 use Rattle.lot_rwlock_fair.specs.FairSteps.{call_act, call_next}
 use Rattle.lot_calls.specs.declared.calls.RwLockCall.{RwLockCall}
-use Rattle.lot_calls.specs.declared.calls.Patience.TheVariants.{Try}
+use Rattle.lot_calls.specs.declared.calls.Patience.TheVariants.{Patient, Timed, Try}
 
 -- ---------------------------------------------------------------- going on
 
@@ -238,6 +243,12 @@ told_gone (Once l at) r = by_next (once_next at r)
         → (outcome_of (once_does l n) ≡ outcome.TheVariants.Sleep) ↔ (sleeps (act_of (once_goes l n)) ≡ true)
     by_next (next.At q) = told_act (once_act l q)
     by_next (next.End answer) = ((λ h. cc), λ h. cc)
+told_gone (Semaphore l at) r = by_next (semaphore_next at r)
+  where
+    by_next : (n : Next SemaphorePlace)
+        → (outcome_of (semaphore_does l n) ≡ outcome.TheVariants.Sleep) ↔ (sleeps (act_of (semaphore_goes l n)) ≡ true)
+    by_next (next.At q) = told_act (semaphore_act l q)
+    by_next (next.End answer) = ((λ h. cc), λ h. cc)
 told_gone (RwLock l a c) r = by_next (call_next a c r)
   where
     by_next : (n : Next RwLockCallPlace)
@@ -264,6 +275,11 @@ closure_gone (Once l at) r = by_next (once_next at r)
     by_next : (n : Next OncePlace) → is_closure (outcome_of (once_does l n)) ≡ runs_closure (act_of (once_goes l n))
     by_next (next.At q) = closure_told (once_act l q)
     by_next (next.End answer) = refl
+closure_gone (Semaphore l at) r = by_next (semaphore_next at r)
+  where
+    by_next : (n : Next SemaphorePlace) → is_closure (outcome_of (semaphore_does l n)) ≡ runs_closure (act_of (semaphore_goes l n))
+    by_next (next.At q) = closure_told (semaphore_act l q)
+    by_next (next.End answer) = refl
 closure_gone (RwLock l a c) r = by_next (call_next a c r)
   where
     by_next : (n : Next RwLockCallPlace) → is_closure (outcome_of (rwlock_does l a n)) ≡ runs_closure (act_of (rwlock_goes l a n))
@@ -279,6 +295,7 @@ closure_gone (Condvar l at) r = by_next (condvar_next at r)
 pub begins_outside : (k : Kind) (c : Call) → runs_closure (act_of (first_place k c)) ≡ false
 begins_outside k (call.TheVariants.RwLock l c) = call_runs_none l (admission_of k) (call_first c)
 begins_outside k (call.TheVariants.Once l c) = refl
+begins_outside k (call.TheVariants.Semaphore l c) = semaphore_runs_none l (semaphore_first c)
 begins_outside k (call.TheVariants.Condvar l (condvar.Wait m timed)) = refl
 begins_outside k (call.TheVariants.Condvar l (condvar.Notify all)) = refl
 begins_outside k (call.TheVariants.Mutex l c) = mutex_runs_none l (mutex_first (is_fair k) c)
@@ -299,6 +316,11 @@ late_outside (Condvar l at) h = by_next (condvar_next at Late)
   where
     by_next : (n : Next CondvarPlace) → runs_closure (act_of (condvar_goes l n)) ≡ false
     by_next (next.At q) = condvar_runs_none l q
+    by_next (next.End answer) = refl
+late_outside (Semaphore l at) h = by_next (semaphore_next at Late)
+  where
+    by_next : (n : Next SemaphorePlace) → runs_closure (act_of (semaphore_goes l n)) ≡ false
+    by_next (next.At q) = semaphore_runs_none l q
     by_next (next.End answer) = refl
 late_outside (Once l at) h = by_line (once_profile at).late_line refl h
   where
@@ -330,6 +352,13 @@ begins_awake k (call.TheVariants.RwLock l c) = by_call c
     by_call (rwlock_call.ReleaseFair access.Exclusive) = refl
     by_call (rwlock_call.Bump x) = refl
 begins_awake k (call.TheVariants.Once l c) = refl
+begins_awake k (call.TheVariants.Semaphore l c) = by_call c
+  where
+    by_call : (c : SemaphoreCall) → sleeps (act_of (Semaphore l (semaphore_first c))) ≡ false
+    by_call (semaphore_call.Acquire Patient) = refl
+    by_call (semaphore_call.Acquire Timed) = refl
+    by_call (semaphore_call.Acquire Try) = refl
+    by_call semaphore_call.Release = refl
 begins_awake k (call.TheVariants.Mutex l c) = either (is_fair k) c
   where
     either : (fair : Bool) (c : MutexCall) → sleeps (act_of (Mutex l (mutex_first fair c))) ≡ false

@@ -5,13 +5,17 @@ use Rattle.lot_base.specs.declared.wants.Want.TheVariants.{Exclusive}
 use Rattle.lot_acts.specs.declared.acts.Act.TheVariants.{Leave, Rest, Sleep}
 use Rattle.lot_acts.specs.Profiles.{Profile, hand, hand_owner}
 use Rattle.lot_calls.specs.declared.kinds.Kind.{Kind}
-use Rattle.lot_calls.specs.declared.kinds.Kind as kinds
 use Rattle.lot_steps.specs.declared.places.Place.{Place}
 use Rattle.lot_steps.specs.declared.places.Place.TheVariants.{Condvar}
 use Rattle.lot_steps.specs.Steps.{act_of, calls, is_lock, lock_of, or_else, profile, retries_on, taker}
 use Rattle.lot_machine.specs.Machine.{State, opening, place_at, kind_at, filled_at, section_at}
 use Rattle.lot_laws.specs.Stations.{Station, station_at, doing_on}
 use Rattle.lot_laws.specs.SitesOf.{AreCondvars, IsSteady, RunsInClosures, rules_in}
+use Rattle.lot_laws.specs.SitesOf.{site_of}
+use Rattle.abstract_locks.specs.Permits.{HasPermits}
+use Rattle.abstract_locks.specs.Sites.{IsDebtor, IsSite}
+use Rattle.lot_semaphore.specs.Tended.{IsTended, semaphore}
+use Rattle.lot_semaphore.proofs.TendedKept.{nobody_forgotten}
 use Rattle.abstract_locks.specs.Runs.{CallState, IsOpening}
 use Rattle.abstract_locks.specs.Locks.{LockState, Sort, Queued, Rights, opening_lock, Rules, IsSomePending, has_caller, rights_of, readers, count, standing}
 use Rattle.abstract_locks.specs.Onces.{InProgress, IsRunning}
@@ -77,15 +81,6 @@ retry_shown (Some own) row r l = by_retry row.retries
     by_retry : (b : Bool) → ((b && (own == l)) ≡ true) ↔ ((if b then Some own else None) ≡ Some l)
     by_retry true = ((λ h. ap Some (eqb-true own l h)), λ h. let e : own ≡ l = cc in rw e (same l))
     by_retry false = ((λ h. absurd cc), λ h. absurd cc)
-
--- no semaphore is built
-unbuilt : (k : Kind) → (rules_of k).sort ≢ sorts.Semaphore
-unbuilt kinds.TheVariants.Mutex h = cc
-unbuilt kinds.TheVariants.Fair h = cc
-unbuilt (kinds.TheVariants.RwLock limit) h = cc
-unbuilt (kinds.TheVariants.Recursive limit) h = cc
-unbuilt kinds.TheVariants.Condvar h = cc
-unbuilt kinds.TheVariants.Once h = cc
 
 -- where nobody bars the way, nobody owns the lock alone
 open_unowned : (sort : Sort) (s : LockState) → ((sorts.Knows sort Exclusive → ⊥) → s.exclusive ≡ None) → IsOpen sort s
@@ -274,10 +269,28 @@ module _ (w : State) (steady : IsSteady w) where
       let d = (steady.sites.site l).main (inl some) now empty in
       looked_after d.0 l Main d.1 (λ own. let e : ◌≡◌ {A = Option ℕ} None (Some d.0) = sym free ∙ own in cc)
 
+  -- or for a permit, where one is free
+  beside_permit : (l : ℕ) → sort_at w l ≡ sorts.Semaphore → (lock_state w l).queue ≢ [] → readers (lock_state w l) < (rules_in w l).limit
+      → IsLookedAfter w l Main
+  beside_permit l sort some fewer =
+      let d = nobody_forgotten (rules_in w l).limit (site_of w l) tended some fewer in
+      let free = (steady.sites.site l).state.unwritten (λ k. subst (λ x. sorts.Knows x Exclusive) sort k) in
+      looked_after d.0 l Main (subst (λ x. IsDebtor x ((site_of w l).doing d.0)) (sym sort) d.1) (λ own. let e : ◌≡◌ {A = Option ℕ} None (Some d.0) = sym free ∙ own in cc)
+    where
+      same_rules : rules_in w l ≡ semaphore (rules_in w l).limit
+      same_rules = λ i. record { sort = sort i; limit = (rules_in w l).limit }
+
+      tended : IsTended (rules_in w l).limit (site_of w l)
+      tended = record {
+        site = subst (λ r. IsSite r (site_of w l)) same_rules (steady.sites.site l);
+        looked_after = subst (λ r. HasPermits r (site_of w l)) same_rules (steady.sites.permits l sort).0;
+        few = (steady.sites.site l).state.within sort;
+      }
+
   main : (t l : ℕ) → WaitsFor w t l → IsOpenNow (rules_in w l) (lock_state w l) → WasNeverFull w l → IsLookedAfter w l Main
   main t l waiting open_now full =
-      let now : IsOpen (sort_at w l) (lock_state w l) = elim open_now [ inl is ↦ is | inr other ↦ absurd (unbuilt (kind_at w l) other.0) ] in
-      in_line l (not_empty t (lock_state w l).queue waiting) now (unfilled l full)
+      let some = not_empty t (lock_state w l).queue waiting in
+      elim open_now [ inl now ↦ in_line l some now (unfilled l full) | inr free ↦ beside_permit l free.0 some free.1 ]
 
   -- nobody counts as one who passes the turn of a `Once` on but who owes its waiters their wake
   callers : (l : ℕ) → sort_at w l ≡ sorts.Once → has_caller (lock_state w l).queue ≡ true → (IsRunning (lock_state w l).phase → ⊥)

@@ -28,19 +28,22 @@ use Rattle.lot_once.specs.declared.run.RunAt.{RunAt}
 use Rattle.lot_once.specs.declared.run.RunAt.TheVariants as run
 use Rattle.lot_once.specs.declared.places.OncePlace.TheVariants.{Look, Run, GiveUp}
 use Rattle.lot_once.specs.OnceSteps.{begins_run, course_of, found, in_look, in_run, is_forced, next_look, next_run, still_retries, gives_up, in_give_up, next_give_up}
+use Rattle.lot_semaphore.specs.declared.places.SemaphorePlace.{SemaphorePlace}
+use Rattle.lot_semaphore.specs.SemaphoreSteps.{semaphore_next}
+use Rattle.lot_steps.specs.Steps.{semaphore_goes}
 use Rattle.lot_rwlock_fair.specs.declared.places.RwLockCallPlace.{RwLockCallPlace}
 use Rattle.lot_rwlock_fair.specs.FairSteps.{call_next}
 use Rattle.lot_condvar.specs.declared.places.CondvarPlace.{CondvarPlace}
 use Rattle.lot_condvar.specs.CondvarSteps.{condvar_next}
 use Rattle.lot_steps.specs.declared.places.Place.{Place}
-use Rattle.lot_steps.specs.declared.places.Place.TheVariants.{Idle, Mutex, RwLock, Once, Condvar}
+use Rattle.lot_steps.specs.declared.places.Place.TheVariants.{Idle, Mutex, RwLock, Once, Condvar, Semaphore}
 use Rattle.lot_steps.specs.Steps.{act_of, lock_of, looking, mutex_goes, next_place, once_goes, rwlock_goes, condvar_goes}
 use Rattle.lot_machine.specs.Fits.{IsShaped}
 use Rattle.lot_machine.specs.Machine.{State, after, opening, place_at, put, runs_closure, step_outcome}
 use Rattle.lot_laws.specs.Refinement.{RunsClosure, call_at, call_state, lock_state, locks_of, sleeps}
 use Rattle.lot_laws.specs.SitesOf.{AreCondvars, AreCounted, IsSteady, RunsInClosures}
 use Rattle.lot_laws.proofs.Befallen.{others_keep_it}
-use Rattle.lot_laws.proofs.Closures.{call_runs_none, course_runs_none, mutex_runs_none, runs_one, condvar_runs_none}
+use Rattle.lot_laws.proofs.Closures.{call_runs_none, course_runs_none, mutex_runs_none, runs_one, condvar_runs_none, semaphore_runs_none}
 use Rattle.lot_laws.proofs.Glue.{put_here, put_other, same}
 use Rattle.lot_laws.proofs.LockSteps.{after_step}
 use Rattle.lot_laws.proofs.Promises.{opening_state}
@@ -166,6 +169,11 @@ unmoved (Condvar l at) r h = by_next (condvar_next at r) ∙ sym (outside (Condv
   where
     by_next : (n : Next CondvarPlace) → closure_lock (condvar_goes l n) ≡ None
     by_next (next.At q) = outside (Condvar l q) (condvar_runs_none l q)
+    by_next (next.End answer) = refl
+unmoved (Semaphore l at) r h = by_next (semaphore_next at r) ∙ sym (outside (Semaphore l at) (semaphore_runs_none l at))
+  where
+    by_next : (n : Next SemaphorePlace) → closure_lock (semaphore_goes l n) ≡ None
+    by_next (next.At q) = outside (Semaphore l q) (semaphore_runs_none l q)
     by_next (next.End answer) = refl
 unmoved (Once l (Run forced at)) r h = ap (λ n. closure_lock (once_goes l (in_run forced n))) (stays_running at r h)
 unmoved (Once l (GiveUp again at)) r h = by_next (next_give_up at r) ∙ sym (outside (Once l (GiveUp again at)) (give_up_runs_none l again at))

@@ -55,8 +55,9 @@ use Rattle.lot_rwlock_fair.specs.FairBegins.{call_first, call_right}
 use Rattle.lot_rwlock_fair.specs.FairLaws.{CallOpens, CallTells, next_rows}
 use Rattle.lot_rwlock_fair.specs.FairSteps.{call_act, call_next, call_owners, call_shares}
 use Rattle.lot_rwlock_fair.proofs.FairOpenings.{calls_open}
+use Rattle.lot_semaphore.specs.declared.places.SemaphorePlace.{SemaphorePlace}
 use Rattle.lot_steps.specs.declared.places.Place.{Place}
-use Rattle.lot_steps.specs.declared.places.Place.TheVariants.{Idle, Mutex, RwLock, Once, Condvar}
+use Rattle.lot_steps.specs.declared.places.Place.TheVariants.{Idle, Mutex, RwLock, Once, Condvar, Semaphore as OfSemaphore}
 use Rattle.lot_mutex.specs.declared.places.MutexPlace.{MutexPlace}
 use Rattle.lot_once.specs.declared.places.OncePlace.{OncePlace}
 use Rattle.lot_steps.specs.Steps.{next_place, profile, calls, rwlock_goes}
@@ -341,6 +342,12 @@ module _ (w : State) (t l : ℕ) (a : Admission) (c : RwLockCallPlace) (steady :
       let some : has_readers (rules_in w l).sort ≡ true = admits.0 in
       let both : true ≡ false = sym some ∙ ap (λ j. has_readers (rules_in w j).sort) (sym same_lock) ∙ ap has_readers of_once in cc
 
+  pub of_no_semaphore : (u k : ℕ) (at : SemaphorePlace) → place_at w u ≡ OfSemaphore k at → k ≡ l → ⊥
+  of_no_semaphore u k at e same_lock =
+      let of_semaphore : FitsItsLock w (OfSemaphore k at) = subst (FitsItsLock w) e (steady.stands.calls u) in
+      let some : has_readers (rules_in w l).sort ≡ true = admits.0 in
+      let both : true ≡ false = sym some ∙ ap (λ j. has_readers (rules_in w j).sort) (sym same_lock) ∙ ap has_readers of_semaphore.0 in cc
+
   pub of_no_condvar : (u k : ℕ) (at : CondvarPlace) → place_at w u ≡ Condvar k at → k ≡ l → ⊥
   of_no_condvar u k at e same_lock =
       let of_condvar : FitsItsLock w (Condvar k at) = subst (FitsItsLock w) e (steady.stands.calls u) in
@@ -362,6 +369,7 @@ module _ (w : State) (t l : ℕ) (a : Admission) (c : RwLockCallPlace) (steady :
       by_place Idle e g = absurd cc
       by_place (Condvar k at) e g = absurd (of_no_condvar u k at e (eqb-true k l g))
       by_place (Once k at) e g = absurd (of_no_once u k at e (eqb-true k l g))
+      by_place (OfSemaphore k at) e g = absurd (of_no_semaphore u k at e (eqb-true k l g))
       by_place (Mutex k m) e g = absurd (of_no_mutex u k m e (eqb-true k l g))
       by_place (RwLock k b q) e g = record {
         single = rw e tt;
@@ -493,6 +501,12 @@ module _ (w : State) (t l : ℕ) (a : Admission) (c : RwLockCallPlace) (steady :
           either : (b : Bool) → (k == l) ≡ b → (if b then station (Once k at) else nowhere).hand ≡ hand t true
               → IsWokenAt w t l HandOff (Once k at)
           either true same_lock g = absurd (of_no_once u k at e (eqb-true k l same_lock))
+          either false same_lock g = absurd cc
+      by_place (OfSemaphore k at) e h = either (k == l) refl h
+        where
+          either : (b : Bool) → (k == l) ≡ b → (if b then station (OfSemaphore k at) else nowhere).hand ≡ hand t true
+              → IsWokenAt w t l HandOff (OfSemaphore k at)
+          either true same_lock g = absurd (of_no_semaphore u k at e (eqb-true k l same_lock))
           either false same_lock g = absurd cc
       by_place (Mutex k m) e h = either (k == l) refl h
         where

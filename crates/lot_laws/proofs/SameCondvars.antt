@@ -1,6 +1,9 @@
 -- A condition variable is as it was where what it shows, who waits, who is inside and what places say of it is.
 use Rattle.std.proofs.Common.{ℕ, Bool, true, false, Option, Some, None, if◌then◌else◌, ◌==◌, ◌≡◌, ◌<◌, length, get_or-set_other, get_or-set_same, inl, inr, refl, sym, ◌∙◌, ap, subst}
 use Rattle.std.proofs.lemmas.Bool.{cases_eq}
+use Rattle.lot_steps.specs.Steps.{in_semaphore}
+use Rattle.lot_semaphore.specs.declared.places.SemaphorePlace.{SemaphorePlace}
+use Rattle.lot_semaphore.specs.SemaphoreSteps.{semaphore_looking}
 use Rattle.lot_mutex.specs.declared.lock.LockAt.TheVariants as lock
 use Rattle.lot_mutex.specs.declared.places.MutexPlace.{MutexPlace}
 use Rattle.lot_mutex.specs.declared.places.MutexPlace.TheVariants as mutex
@@ -13,7 +16,7 @@ use Rattle.lot_condvar.specs.declared.places.CondvarPlace.TheVariants.{Look, Not
 use Rattle.lot_condvar.specs.declared.wait.WaitAt.TheVariants as wait
 use Rattle.lot_condvar.specs.CondvarSteps.{in_lock}
 use Rattle.lot_steps.specs.declared.places.Place.{Place}
-use Rattle.lot_steps.specs.declared.places.Place.TheVariants.{Condvar, Idle, Mutex, Once, RwLock}
+use Rattle.lot_steps.specs.declared.places.Place.TheVariants.{Condvar, Idle, Mutex, Once, RwLock, Semaphore}
 use Rattle.lot_steps.specs.Steps.{in_condvar, in_mutex, in_once, in_rwlock, looking, profile_at}
 use Rattle.abstract_locks.specs.Condvars.{IsCondvar}
 use Rattle.abstract_locks.specs.Locks.{LockState}
@@ -83,6 +86,11 @@ looks_alike (Once l at) q is = by_place (once_looking at) is
     by_place : (o : Option OncePlace) → in_once l o ≡ Some q → Says (Once l at) q
     by_place None e = absurd cc
     by_place (Some to) e = let there : Once l to ≡ q = cc in subst (Says (Once l at)) there (λ k. (refl, refl))
+looks_alike (Semaphore l at) q is = by_place (semaphore_looking at) is
+  where
+    by_place : (o : Option SemaphorePlace) → in_semaphore l o ≡ Some q → Says (Semaphore l at) q
+    by_place None e = absurd cc
+    by_place (Some to) e = let there : Semaphore l to ≡ q = cc in subst (Says (Semaphore l at)) there (λ k. (refl, refl))
 looks_alike (Condvar l (Wait m timed (wait.Lock late (mutex.Lock e again (lock.Decide seen))))) q is = by_word (seen == 1) is
   where
     by_word : (b : Bool) → in_condvar l (in_lock m timed late (if b then Some (mutex.Lock e again lock.Load) else None)) ≡ Some q

@@ -296,13 +296,13 @@ pub semaphore_alone : (w : State) (t l : ℕ) (c : SemaphoreCall) (n : ℕ) (las
     → EndsAlone w t (Some (semaphore_purpose l c)) (solo n w t last).outcome (solo n w t last).state
 semaphore_alone w t l c n last le steady sort is f run = by_call c is f
   where
-    abbrev v2 : State
+    v2 : State
     v2 = (solo n w t last).state
 
-    abbrev x : Outcome
+    x : Outcome
     x = (solo n w t last).outcome
 
-    abbrev lines : Line → List Waiter
+    lines : Line → List Waiter
     lines m = queue_at w (key_of l m)
 
     tried_so : Answers t l (tried t l (is_free (word_at w l))) v2 x → (b : Bool) → is_free (word_at w l) ≡ b → x ≡ outcome.End (tried t l b)

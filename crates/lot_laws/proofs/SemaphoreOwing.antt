@@ -1,11 +1,13 @@
 -- What the places of a semaphore owe, whatever befalls their thread, and as its time is up.
-use Rattle.std.proofs.Common.{ℕ, Bool, true, ◌≡◌, Some, refl, sym, ap, subst}
+use Rattle.std.proofs.Common.{ℕ, Bool, true, false, ◌≡◌, Some, refl, sym, ap, subst}
 use Rattle.lot_base.specs.declared.keys.Line.{Line}
 use Rattle.lot_base.specs.declared.keys.Line.TheVariants.{Main}
 use Rattle.lot_base.specs.declared.notes.Note.TheVariants.{Normal}
 use Rattle.lot_acts.specs.declared.acts.Reply.{Reply}
 use Rattle.lot_acts.specs.declared.acts.Reply.TheVariants.{TakenBy, MovedTo, HandedBy, Late, Woken}
 use Rattle.lot_semaphore.specs.declared.acquire.AcquireAt.TheVariants as acquire
+use Rattle.lot_semaphore.specs.declared.tries.TryAt.TheVariants as tries
+use Rattle.lot_semaphore.specs.declared.release.ReleaseAt.TheVariants as release
 use Rattle.lot_semaphore.specs.declared.places.SemaphorePlace.{SemaphorePlace}
 use Rattle.lot_semaphore.specs.declared.places.SemaphorePlace.TheVariants.{Acquire, Try, Release}
 use Rattle.lot_semaphore.specs.SemaphoreProfiles.{semaphore_profile}
@@ -23,10 +25,12 @@ semaphore_befallen l (Acquire timed retries at) (TakenBy t) b k = refl
 semaphore_befallen l (Acquire timed retries at) (MovedTo key) b k = refl
 semaphore_befallen l (Acquire timed retries at) (HandedBy t alone) b k = refl
 semaphore_befallen l (Acquire timed retries at) (Woken note) b k = refl
+semaphore_befallen l (Try tries.Load) (TakenBy t) b k = refl
 semaphore_befallen l (Try at) (TakenBy t) b k = refl
 semaphore_befallen l (Try at) (MovedTo key) b k = refl
 semaphore_befallen l (Try at) (HandedBy t alone) b k = refl
 semaphore_befallen l (Try at) (Woken note) b k = refl
+semaphore_befallen l (Release release.Add) (TakenBy t) b k = refl
 semaphore_befallen l (Release at) (TakenBy t) b k = refl
 semaphore_befallen l (Release at) (MovedTo key) b k = refl
 semaphore_befallen l (Release at) (HandedBy t alone) b k = refl
@@ -40,6 +44,7 @@ late_place (Acquire true retries acquire.Asleep) m h = (retries, refl, cc)
 late_place (Acquire false retries acquire.Asleep) m h = absurd cc
 late_place (Acquire timed retries at) m h = absurd cc
 late_place (Try at) m h = absurd cc
+late_place (Release release.Add) m h = absurd cc
 late_place (Release at) m h = absurd cc
 
 pub semaphore_late : (l : ℕ) (at : SemaphorePlace) (m : Line) → (semaphore_profile at).late_line ≡ Some m → IsLateNext (next_place (Semaphore l at) Late) m

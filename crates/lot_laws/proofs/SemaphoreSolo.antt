@@ -28,7 +28,7 @@ use Rattle.lot_semaphore.specs.declared.release.ReleaseAt.{ReleaseAt}
 use Rattle.lot_semaphore.specs.declared.release.ReleaseAt.TheVariants as release
 use Rattle.lot_semaphore.specs.declared.places.SemaphorePlace.{SemaphorePlace}
 use Rattle.lot_semaphore.specs.declared.places.SemaphorePlace.TheVariants.{Acquire, Try, Release}
-use Rattle.lot_semaphore.specs.SemaphoreSteps.{in_acquire, in_try, is_free, looked, semaphore_next}
+use Rattle.lot_semaphore.specs.SemaphoreSteps.{acquired, in_acquire, in_try, is_free, looked, semaphore_next}
 use Rattle.lot_steps.specs.declared.places.Place.TheVariants.{Semaphore}
 use Rattle.lot_steps.specs.Steps.{act_of, semaphore_does, semaphore_goes}
 use Rattle.lot_machine.specs.Machine.{State, after, go_of, step_outcome}
@@ -90,7 +90,7 @@ module _ (t l : ℕ) where
     module _ (again : Bool) (seen v : ℕ) (w : State) (q : Queues) (other : (v == seen) ≡ false)
         (f : Alone w (Acquire timed again (acquire.Decide seen)) v q) where
       sees : semaphore_next (Acquire timed again (acquire.Decide seen)) (Value v) ≡ next.At (Acquire timed again (acquire.Decide v))
-      sees = ap (λ b. in_acquire timed again (if not b then next.At (acquire.Decide v) else if is_free v then next.End _ else next.At (acquire.Decide 1))) other
+      sees = ap (λ b. in_acquire timed again (if not b then next.At (acquire.Decide v) else if is_free v then next.End (acquired timed) else next.At (acquire.Decide 1))) other
 
       steps : (b c : Bool) → outcome_of (if b then act.Word l (op.Exchange v (v - 2)) else if c then act.Word l (op.Exchange 0 1) else act.Enter (One (2 * l))) ≡ outcome.Step
       steps true c = refl

@@ -5,7 +5,7 @@ use Rattle.lot_condvar.specs.declared.notify.NotifyAt.{NotifyAt}
 use Rattle.lot_condvar.specs.declared.notify.NotifyAt.TheVariants as notify
 use Rattle.lot_condvar.specs.CondvarProfiles.{notify_row}
 use Rattle.lot_steps.specs.declared.places.Place.{Place}
-use Rattle.lot_steps.specs.declared.places.Place.TheVariants.{Condvar, Idle, Mutex, Once, RwLock}
+use Rattle.lot_steps.specs.declared.places.Place.TheVariants.{Condvar, Idle, Mutex, Once, RwLock, Semaphore}
 use Rattle.lot_steps.specs.Steps.{profile_at}
 use Rattle.abstract_locks.specs.Condvars.{Inside, IsAsInside, IsCondvar, IsSettled, IsSettledAt}
 use Rattle.abstract_locks.specs.Locks.{Rights}
@@ -55,6 +55,7 @@ named_by Idle l m r names = absurd cc
 named_by (Mutex c at) l m r names = absurd cc
 named_by (RwLock c a at) l m r names = absurd cc
 named_by (Once c at) l m r names = absurd cc
+named_by (Semaphore c at) l m r names = absurd cc
 
 module _ (w : State) (l : ℕ) (condvar : IsCondvar (condvar_of w l)) (free : section_at w (key_of l Main) ≡ None) where
   settled : IsSettled (condvar_of w l)

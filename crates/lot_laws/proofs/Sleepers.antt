@@ -1,8 +1,17 @@
 -- A thread that sleeps does so on, whatever befalls it but a wake; and another thread wakes only those that it has in hand.
-use Rattle.std.proofs.Common.{ℕ, Bool, true, false, Option, Some, None, if◌then◌else◌, ◌==◌, ◌≡◌, ◌≢◌, ◌⊎◌, inl, inr, List, [], ◌∷◌, length, map, set, get_or, refl, sym, ◌∙◌, ap, subst, get_or-set_other, get_or-set_same}
+use Rattle.std.proofs.Common.{ℕ, Bool, true, false, Option, Some, None, if◌then◌else◌, ◌==◌, ◌≡◌, ◌≢◌, ◌⊎◌, ◌-◌, ◌*◌, inl, inr, List, [], ◌∷◌, length, map, set, get_or, refl, sym, ◌∙◌, ap, subst, get_or-set_other, get_or-set_same}
 use Rattle.std.proofs.Math.ListN.{get_or-map}
 use Rattle.std.proofs.lemmas.Bool.{cases_eq, cases_lt, eqb-true}
 use Rattle.std.proofs.lemmas.List.{set_past}
+use Rattle.lot_semaphore.specs.declared.places.SemaphorePlace.TheVariants as semaphore
+use Rattle.lot_semaphore.specs.declared.release.ReleaseAt.TheVariants as release
+use Rattle.lot_semaphore.specs.declared.tries.TryAt.TheVariants as tries
+use Rattle.lot_semaphore.specs.declared.acquire.AcquireAt.TheVariants as acquire
+use Rattle.lot_steps.specs.Steps.{semaphore_goes}
+use Rattle.lot_semaphore.specs.SemaphoreSteps.{is_free}
+use Rattle.lot_semaphore.specs.declared.places.SemaphorePlace.{SemaphorePlace}
+use Rattle.lot_semaphore.specs.SemaphoreSteps.{semaphore_act}
+use Rattle.lot_semaphore.specs.SemaphoreSteps.{semaphore_next}
 use Rattle.lot_base.specs.declared.keys.Keys.{Keys}
 use Rattle.lot_base.specs.declared.keys.Keys.TheVariants.{One, Two}
 use Rattle.lot_base.specs.Lines.{first_of, threads_of}
@@ -13,7 +22,8 @@ use Rattle.lot_calls.specs.declared.calls.Turn.{Turn}
 use Rattle.lot_calls.specs.declared.calls.Turn.TheVariants as turn
 use Rattle.lot_acts.specs.declared.acts.Act.{Act}
 use Rattle.lot_acts.specs.declared.acts.Act.TheVariants as act
-use Rattle.lot_acts.specs.declared.acts.Act.TheVariants.{Sleep}
+use Rattle.lot_acts.specs.declared.acts.Act.TheVariants.{Enter, Sleep, Word}
+use Rattle.lot_base.specs.declared.keys.Keys.TheVariants.{One}
 use Rattle.lot_acts.specs.declared.acts.Next.{Next}
 use Rattle.lot_acts.specs.declared.acts.Next.TheVariants.{At}
 use Rattle.lot_acts.specs.declared.acts.Reply.{Reply}
@@ -62,7 +72,7 @@ use Rattle.lot_condvar.specs.declared.notify.NotifyAt.{NotifyAt}
 use Rattle.lot_condvar.specs.declared.notify.NotifyAt.TheVariants as notify
 use Rattle.lot_condvar.specs.CondvarSteps.{condvar_act, condvar_next, notify_act, move_act, in_wait, relocked, wait_act}
 use Rattle.lot_steps.specs.declared.places.Place.{Place}
-use Rattle.lot_steps.specs.declared.places.Place.TheVariants.{Idle, Mutex, RwLock, Once, Condvar}
+use Rattle.lot_steps.specs.declared.places.Place.TheVariants.{Idle, Mutex, RwLock, Once, Condvar, Semaphore}
 use Rattle.lot_steps.specs.Steps.{act_of, condvar_goes, late_key, looking, mutex_goes, next_place, once_goes, rwlock_goes, taker}
 use Rattle.lot_machine.specs.Machine.{State, hand_over_told, is_possible, after, listed, moved_threads, place_after_telling, place_at, places_told, put, queue_at, queues_without_first, closed_place, state_after_act, state_after_go, state_after_hand_over_by, state_after_late_on, state_after_look, state_after_taking, state_after_turn, state_with_sections, word_at}
 use Rattle.lot_laws.specs.WorldRuns.{SleepersStay}
@@ -212,6 +222,34 @@ once_quiet l (once.Run forced at) r q h = absurd cc
 once_quiet l (once.GiveUp retries give_up.Remove) r q h = absurd cc
 once_quiet l (once.GiveUp retries at) r q h = absurd cc
 
+-- ---------------------------------------------------------------- a semaphore
+
+semaphore_quiet : (l : ℕ) (at : SemaphorePlace) (r : Reply) → Quiet r → semaphore_act l at ≡ Sleep
+    → (at2 : SemaphorePlace) × ((semaphore_next at r ≡ At at2) × (semaphore_act l at2 ≡ Sleep))
+semaphore_quiet l (semaphore.Acquire timed retries acquire.Asleep) (TakenBy t) q h = (semaphore.Acquire timed retries (acquire.Taken t), (refl, refl))
+semaphore_quiet l (semaphore.Acquire timed retries acquire.Asleep) (MovedTo key) q h = (semaphore.Acquire timed retries acquire.Asleep, (refl, refl))
+semaphore_quiet l (semaphore.Acquire timed retries acquire.Asleep) (HandedBy t alone) q h = (semaphore.Acquire timed retries acquire.Asleep, (refl, refl))
+semaphore_quiet l (semaphore.Acquire timed retries (acquire.Taken u)) (TakenBy t) q h = (semaphore.Acquire timed retries (acquire.Taken u), (refl, refl))
+semaphore_quiet l (semaphore.Acquire timed retries (acquire.Taken u)) (MovedTo key) q h = (semaphore.Acquire timed retries (acquire.Taken u), (refl, refl))
+semaphore_quiet l (semaphore.Acquire timed retries (acquire.Taken u)) (HandedBy t alone) q h = (semaphore.Acquire timed retries (acquire.Taken u), (refl, refl))
+semaphore_quiet l (semaphore.Acquire timed retries acquire.Asleep) r q h = absurd q
+semaphore_quiet l (semaphore.Acquire timed retries (acquire.Taken u)) r q h = absurd q
+semaphore_quiet l (semaphore.Acquire timed retries (acquire.Decide seen)) r q h = absurd (awake (is_free seen) (seen == 0) h)
+  where
+    awake : (free empty : Bool) → (if free then Word l (operation.Exchange seen (seen - 2)) else if empty then Word l (operation.Exchange 0 1) else Enter (One (2 * l))) ≡ Sleep → ⊥
+    awake true empty e = cc
+    awake false true e = cc
+    awake false false e = cc
+semaphore_quiet l (semaphore.Acquire timed retries at) r q h = absurd cc
+semaphore_quiet l (semaphore.Try (tries.Decide seen)) r q h = absurd (awake (is_free seen) h)
+  where
+    awake : (free : Bool) → (if free then Word l (operation.Exchange seen (seen - 2)) else Word l operation.Load) ≡ Sleep → ⊥
+    awake true e = cc
+    awake false e = cc
+semaphore_quiet l (semaphore.Try tries.Load) r q h = absurd cc
+semaphore_quiet l (semaphore.Release release.Add) r q h = absurd cc
+semaphore_quiet l (semaphore.Release at) r q h = absurd cc
+
 -- ---------------------------------------------------------------- a condition variable
 
 wait_quiet : (l m : ℕ) (timed : Bool) (at : WaitAt) (r : Reply) → Quiet r → wait_act l m at ≡ Sleep
@@ -251,6 +289,7 @@ place_quiet r q Idle h = absurd cc
 place_quiet r q (Mutex l at) h = let stays = mutex_quiet l at r q h in ap (λ n. act_of (mutex_goes l n)) stays.1.0 ∙ stays.1.1
 place_quiet r q (RwLock l a c) h = let stays = call_quiet l a c r q h in ap (λ n. act_of (rwlock_goes l a n)) stays.1.0 ∙ stays.1.1
 place_quiet r q (Once l at) h = let stays = once_quiet l at r q h in ap (λ n. act_of (once_goes l n)) stays.1.0 ∙ stays.1.1
+place_quiet r q (Semaphore l at) h = let stays = semaphore_quiet l at r q h in ap (λ n. act_of (semaphore_goes l n)) stays.1.0 ∙ stays.1.1
 place_quiet r q (Condvar l at) h = let stays = condvar_quiet l at r q h in ap (λ n. act_of (condvar_goes l n)) stays.1.0 ∙ stays.1.1
 
 -- ---------------------------------------------------------------- the act of another thread

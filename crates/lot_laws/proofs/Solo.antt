@@ -26,7 +26,13 @@ use Rattle.lot_laws.proofs.OnceEnds.{once_alone}
 use Rattle.lot_laws.proofs.OnceRows.{main_only}
 use Rattle.lot_laws.proofs.OnceSolo.{once_rests}
 use Rattle.lot_steps.specs.declared.places.Place.{Place}
-use Rattle.lot_steps.specs.declared.places.Place.TheVariants.{Idle, Mutex, RwLock, Once, Condvar}
+use Rattle.lot_steps.specs.declared.places.Place.TheVariants.{Idle, Mutex, RwLock, Once, Condvar, Semaphore}
+use Rattle.lot_semaphore.specs.declared.places.SemaphorePlace.{SemaphorePlace}
+use Rattle.lot_calls.specs.declared.calls.SemaphoreCall.{SemaphoreCall}
+use Rattle.lot_semaphore.specs.SemaphoreSteps.{semaphore_first}
+use Rattle.lot_laws.proofs.SemaphoreNext.{main_only as only_main}
+use Rattle.lot_laws.proofs.SemaphoreEnds.{semaphore_alone}
+use Rattle.lot_laws.proofs.SemaphoreSolo.{semaphore_rests}
 use Rattle.lot_mutex.specs.MutexSteps.{mutex_first, is_locked}
 use Rattle.lot_calls.specs.Kinds.{is_fair}
 use Rattle.lot_calls.specs.Calls.{lock_in}
@@ -34,6 +40,7 @@ use Rattle.lot_steps.specs.Steps.{act_of, lock_of, first_place}
 use Rattle.lot_machine.specs.Machine.{State, place_at, word_at, kind_at, queue_at, section_at, go_of, after, runs_closure, solo}
 use Rattle.lot_machine.specs.Fits.{IsShaped, PlaceFits}
 use Rattle.abstract_locks.specs.Sites.{Line, Main, Second, has_readers}
+use Rattle.abstract_locks.specs.Locks.{Sort}
 use Rattle.lot_laws.specs.Stations.{nowhere, station, station_at}
 use Rattle.lot_laws.specs.SitesOf.{AreCondvars, AreCounted, IsSteady, IsWorld, RunsInClosures, key_of, FitsItsLock, is_mutex, rules_in}
 use Rattle.abstract_locks.specs.Locks.{readers, Rules, MayEnter, IsBlocked}
@@ -80,40 +87,42 @@ try_so : (b : Bool) (x : Outcome)
 try_so true x h = rw h tt
 try_so false x h = rw h tt
 
--- nobody is in a second section of a `Once`
-never_aside : (w : State) (l : ℕ) (p : Place) → FitsItsLock w p → (rules_in w l).sort ≡ locks.Once
+-- nobody is in a second section of a lock that has none, at a lock of its own
+aside_there : (l k : ℕ) (p : Place) → ((station p).inside ≡ Some Second → ⊥)
+    → (if k == l then station p else nowhere).inside ≡ Some Second → ⊥
+aside_there l k p none e = either (k == l) e
+  where
+    either : (b : Bool) → (if b then station p else nowhere).inside ≡ Some Second → ⊥
+    either true h = none h
+    either false h = cc
+
+-- nor at a lock of another sort
+aside_elsewhere : (w : State) (l k : ℕ) (p : Place) (own : Sort) → (rules_in w k).sort ≡ own → ((rules_in w l).sort ≡ own → ⊥)
+    → (if k == l then station p else nowhere).inside ≡ Some Second → ⊥
+aside_elsewhere w l k p own fits other e = either (k == l) refl e
+  where
+    either : (b : Bool) → (k == l) ≡ b → (if b then station p else nowhere).inside ≡ Some Second → ⊥
+    either true same_lock h = other (ap (λ n. (rules_in w n).sort) (sym (eqb-true k l same_lock)) ∙ fits)
+    either false same_lock h = cc
+
+-- nobody is in a second section of a `Once`, or of a semaphore
+never_aside : (w : State) (l : ℕ) (p : Place) → FitsItsLock w p → has_readers (rules_in w l).sort ≡ false
+    → ((rules_in w l).sort ≡ locks.Mutex → ⊥) → ((rules_in w l).sort ≡ locks.Condvar → ⊥)
     → (station_at p l).inside ≡ Some Second → ⊥
-never_aside w l Idle fits sort e = absurd cc
-never_aside w l (Mutex k at) fits sort e = either (k == l) refl
+never_aside w l Idle fits shared mutex condvar e = absurd cc
+never_aside w l (Mutex k at) fits shared mutex condvar e =
+    aside_elsewhere w l k (Mutex k at) locks.Mutex (ap (λ (r : Rules). r.sort) (mutex_rules (kind_at w k) fits)) mutex e
+never_aside w l (RwLock k a c) fits shared mutex condvar e =
+    aside_elsewhere w l k (RwLock k a c) (rules_in w k).sort refl (λ one. let f : false ≡ true = sym shared ∙ ap has_readers one ∙ fits.0.0 in cc) e
+never_aside w l (Once k at) fits shared mutex condvar e = aside_there l k (Once k at) (main_only at) e
+never_aside w l (Semaphore k at) fits shared mutex condvar e = aside_there l k (Semaphore k at) (only_main at) e
+never_aside w l (Condvar k at) fits shared mutex condvar e = either (k == l) (is_lock l (mutex_beside at)) refl (not_beside w (Condvar k at) l fits mutex) e
   where
-    either : (b : Bool) → (k == l) ≡ b → ⊥
-    either true h = let own : (rules_in w k).sort ≡ locks.Once = subst (λ n. (rules_in w n).sort ≡ locks.Once) (sym (eqb-true k l h)) sort in
-        let other : locks.Mutex ≡ locks.Once = sym (ap (λ (r : Rules). r.sort) (mutex_rules (kind_at w k) fits)) ∙ own in cc
-    either false h = let none : None ≡ Some Second = sym (ap (λ c. (if c then station (Mutex k at) else nowhere).inside) h) ∙ e in cc
-never_aside w l (RwLock k a c) fits sort e = either (k == l) refl
-  where
-    either : (b : Bool) → (k == l) ≡ b → ⊥
-    either true h = let own : (rules_in w k).sort ≡ locks.Once = subst (λ n. (rules_in w n).sort ≡ locks.Once) (sym (eqb-true k l h)) sort in
-        let other : true ≡ false = sym (fits.0.0) ∙ ap has_readers own in cc
-    either false h = let none : None ≡ Some Second = sym (ap (λ b. (if b then station (RwLock k a c) else nowhere).inside) h) ∙ e in cc
-never_aside w l (Condvar k at) fits sort e = either (k == l) refl
-  where
-    beside : is_lock l (mutex_beside at) ≡ false
-    beside = not_beside w (Condvar k at) l fits (λ one. let both : locks.Mutex ≡ locks.Once = sym one ∙ sort in cc)
-
-    out : (b : Bool) → b ≡ false → (k == l) ≡ false
-        → (if k == l then station (Condvar k at) else if b then station_by (mutex_side at) else nowhere).inside ≡ None
-    out true f h = absurd cc
-    out false f h = ap (λ c. (if c then station (Condvar k at) else nowhere).inside) h
-
-    either : (b : Bool) → (k == l) ≡ b → ⊥
-    either true h = let both : locks.Condvar ≡ locks.Once = sym fits.sort ∙ ap (λ n. (rules_in w n).sort) (eqb-true k l h) ∙ sort in cc
-    either false h = let none : None ≡ Some Second = sym (out (is_lock l (mutex_beside at)) beside h) ∙ e in cc
-never_aside w l (Once k at) fits sort e = either (k == l) refl
-  where
-    either : (b : Bool) → (k == l) ≡ b → ⊥
-    either true h = main_only at (sym (ap (λ b. (if b then station (Once k at) else nowhere).inside) h) ∙ e)
-    either false h = let none : None ≡ Some Second = sym (ap (λ b. (if b then station (Once k at) else nowhere).inside) h) ∙ e in cc
+    either : (b c : Bool) → (k == l) ≡ b → c ≡ false
+        → (if b then station (Condvar k at) else if c then station_by (mutex_side at) else nowhere).inside ≡ Some Second → ⊥
+    either true c same_lock out h = condvar (ap (λ n. (rules_in w n).sort) (sym (eqb-true k l same_lock)) ∙ fits.sort)
+    either false true same_lock out h = cc
+    either false false same_lock out h = cc
 
 module _ (w : State) (t : ℕ) (shape : IsShaped w) (steady : IsSteady w) (counted : AreCounted w) (condvars : AreCondvars w)
     (running : RunsInClosures w) (there : t < length w.places) (way : HasItsWay w t) where
@@ -170,17 +179,30 @@ module _ (w : State) (t : ℕ) (shape : IsShaped w) (steady : IsSteady w) (count
       line Main = tt
       line Second = readers
 
-  -- at a place of a `Once`, which has no second line
+  -- at a place of a `Once` or of a semaphore, which has no second line
+  one_line_alone : (l : ℕ) (p : Place) → IsSingle p → lock_of p ≡ Some l → has_readers (rules_in w l).sort ≡ false
+      → ((rules_in w l).sort ≡ locks.Mutex → ⊥) → ((rules_in w l).sort ≡ locks.Condvar → ⊥)
+      → place_at w t ≡ p → l < length w.locks
+      → StepsAlone w t l p (word_at w l) (λ m. queue_at w (key_of l m))
+  one_line_alone l p single own shared mutex condvar is lt = steps_alone_at l p single free_way is lt
+    where
+      free_way : (m : Line) (u : ℕ) → section_at w (key_of l m) ≡ Some u → u ≡ t
+      free_way Main u e = way l u Main (inl (ap lock_of is ∙ own)) tt e
+      free_way Second u e = absurd (never_aside w l (place_at w u) (steady.stands.calls u) shared mutex condvar ((steady.stands.sections u l Second).1 e))
+
   once_steps_alone : (l : ℕ) (at : OncePlace) → place_at w t ≡ Once l at → l < length w.locks
       → StepsAlone w t l (Once l at) (word_at w l) (λ m. queue_at w (key_of l m))
-  once_steps_alone l at is lt = steps_alone_at l (Once l at) tt free_way is lt
+  once_steps_alone l at is lt = one_line_alone l (Once l at) tt refl (ap has_readers sort) (λ e. let f : locks.Once ≡ locks.Mutex = sym sort ∙ e in cc) (λ e. let f : locks.Once ≡ locks.Condvar = sym sort ∙ e in cc) is lt
     where
       sort : (rules_in w l).sort ≡ locks.Once
       sort = subst (FitsItsLock w) is (steady.stands.calls t)
 
-      free_way : (m : Line) (u : ℕ) → section_at w (key_of l m) ≡ Some u → u ≡ t
-      free_way Main u e = way l u Main (inl (ap lock_of is)) tt e
-      free_way Second u e = absurd (never_aside w l (place_at w u) (steady.stands.calls u) sort ((steady.stands.sections u l Second).1 e))
+  of_semaphore : (l : ℕ) (at : SemaphorePlace) → place_at w t ≡ Semaphore l at → (rules_in w l).sort ≡ locks.Semaphore
+  of_semaphore l at is = (subst (FitsItsLock w) is (steady.stands.calls t)).0
+
+  semaphore_steps_alone : (l : ℕ) (at : SemaphorePlace) → place_at w t ≡ Semaphore l at → l < length w.locks
+      → StepsAlone w t l (Semaphore l at) (word_at w l) (λ m. queue_at w (key_of l m))
+  semaphore_steps_alone l at is lt = one_line_alone l (Semaphore l at) tt refl (ap has_readers (of_semaphore l at is)) (λ e. let f : locks.Semaphore ≡ locks.Mutex = sym (of_semaphore l at is) ∙ e in cc) (λ e. let f : locks.Semaphore ≡ locks.Condvar = sym (of_semaphore l at is) ∙ e in cc) is lt
 
   mutex_place_rests : (l : ℕ) (c : MutexPlace) → place_at w t ≡ Mutex l c → PlaceFits (length w.locks) (Mutex l c)
       → Mutex l c ≢ Idle → act_of (Mutex l c) ≢ act.TheVariants.Sleep → Leads 12 w t (λ v x. Rests x)
@@ -197,6 +219,8 @@ module _ (w : State) (t : ℕ) (shape : IsShaped w) (steady : IsSteady w) (count
       → runs_closure (act_of p) ≡ false → Leads 18 w t (λ v x. Rests x)
   place_rests Idle is fits busy up outside = absurd (busy refl)
   place_rests (Condvar l at) is fits busy up outside = leads_more 17 18 w t (λ v x. Rests x) (omega arith) (condvar_rests t stays_world w world there way l at is up)
+  place_rests (Semaphore l at) is fits busy up outside =
+      leads_more 8 18 w t (λ v x. Rests x) (omega arith) (semaphore_rests t l at (word_at w l) w (λ m. queue_at w (key_of l m)) up (semaphore_steps_alone l at is fits))
   place_rests (Once l at) is fits busy up outside =
       leads_more 8 18 w t (λ v x. Rests x) (omega arith) (once_rests t l at (word_at w l) w (λ m. queue_at w (key_of l m)) up outside (once_steps_alone l at is fits))
   place_rests (RwLock l a c) is fits busy up outside =
@@ -361,6 +385,20 @@ module _ (w : State) (t : ℕ) (shape : IsShaped w) (steady : IsSteady w) (count
       by_kind kinds.Once e = once_alone w t l c 64 outcome.TheVariants.NotNow (omega arith) (once_steps_alone l (once_first c) is fits)
       by_kind k e = tt
 
+  pub semaphore_ends : (l : ℕ) (c : SemaphoreCall) → place_at w t ≡ Semaphore l (semaphore_first c)
+      → EndsAlone w t (purpose_at (locks_of w) (call.TheVariants.Semaphore l c)) (solo 64 w t outcome.TheVariants.NotNow).outcome
+      (solo 64 w t outcome.TheVariants.NotNow).state
+  semaphore_ends l c is = by_kind (kind_at w l) refl
+    where
+      fits : l < length w.locks
+      fits = subst (PlaceFits (length w.locks)) is (shape.places t)
+
+      by_kind : (k : Kind) → kind_at w l ≡ k
+          → EndsAlone w t (purpose_of k (call.TheVariants.Semaphore l c)) (solo 64 w t outcome.TheVariants.NotNow).outcome
+          (solo 64 w t outcome.TheVariants.NotNow).state
+      by_kind (kinds.Semaphore permits) e = semaphore_alone w t l c 64 outcome.TheVariants.NotNow (omega arith) steady (of_semaphore l (semaphore_first c) is) is (semaphore_steps_alone l (semaphore_first c) is fits) (runs_alone 64 w t world)
+      by_kind k e = tt
+
 -- ---------------------------------------------------------------- as the world is told them
 
 module _ (w : State) (t : ℕ) (shape : IsShaped w) (steady : IsSteady w) (counted : AreCounted w) (condvars : AreCondvars w)
@@ -373,5 +411,6 @@ module _ (w : State) (t : ℕ) (shape : IsShaped w) (steady : IsSteady w) (count
       (solo 64 w t outcome.TheVariants.NotNow).state
   ends_alone (call.TheVariants.Condvar l c) is way = condvar_ends w t shape steady counted condvars running (stands_there w.places t (first_busy (kind_at w l) (call.TheVariants.Condvar l c) (place_at w t) is)) way l c is
   ends_alone (call.TheVariants.Once l c) is way = once_ends w t shape steady counted condvars running (stands_there w.places t (first_busy (kind_at w l) (call.TheVariants.Once l c) (place_at w t) is)) way l c is
+  ends_alone (call.TheVariants.Semaphore l c) is way = semaphore_ends w t shape steady counted condvars running (stands_there w.places t (first_busy (kind_at w l) (call.TheVariants.Semaphore l c) (place_at w t) is)) way l c is
   ends_alone (call.TheVariants.Mutex l c) is way = mutex_ends w t shape steady counted condvars running (stands_there w.places t (first_busy (kind_at w l) (call.TheVariants.Mutex l c) (place_at w t) is)) way l c is 64 outcome.TheVariants.NotNow (omega arith)
   ends_alone (call.TheVariants.RwLock l c) is way = rwlock_ends w t shape steady counted condvars running (stands_there w.places t (first_busy (kind_at w l) (call.TheVariants.RwLock l c) (place_at w t) is)) way l c is

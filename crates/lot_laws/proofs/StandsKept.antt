@@ -5,7 +5,7 @@ use Rattle.lot_base.specs.declared.wants.Waiter.{Waiter}
 use Rattle.lot_base.specs.Lines.{times, without}
 use Rattle.lot_calls.specs.Kinds.{is_plain_mutex}
 use Rattle.lot_steps.specs.declared.places.Place.{Place}
-use Rattle.lot_steps.specs.declared.places.Place.TheVariants.{Idle, Mutex, RwLock, Once, Condvar}
+use Rattle.lot_steps.specs.declared.places.Place.TheVariants.{Idle, Mutex, RwLock, Once, Condvar, Semaphore}
 use Rattle.abstract_locks.specs.Locks.{putting}
 use Rattle.abstract_locks.specs.Purposes.{rules_of}
 use Rattle.lot_rwlock.specs.RwLockDeeds.{Admits}
@@ -394,11 +394,13 @@ calls_of w l Idle h m = tt
 calls_of w l (Mutex k at) h m = rw h m
 calls_of w l (RwLock k a at) h m = absurd h
 calls_of w l (Once k at) h m = absurd h
+calls_of w l (Semaphore k at) h m = absurd h
 calls_of w l (Condvar k at) h m = absurd h
 
 pub calls_in : (w v : State) (p : Place) → ((k : ℕ) → kind_at v k ≡ kind_at w k) → FitsItsLock w p → FitsItsLock v p
 calls_in w v Idle e h = tt
 calls_in w v (Once l at) e h = ap (λ k. (rules_of k).sort) (e l) ∙ h
+calls_in w v (Semaphore l at) e h = (ap (λ k. (rules_of k).sort) (e l) ∙ h.0, h.1)
 calls_in w v (Condvar l at) e h = record { sort = ap (λ k. (rules_of k).sort) (e l) ∙ h.sort; reached = h.reached; mutex = λ m is. ap is_plain_mutex (e m) ∙ h.mutex m is }
 calls_in w v (Mutex l at) e h = ap is_mutex (e l) ∙ h
 calls_in w v (RwLock l a c) e h = (subst (λ k. Admits (rules_of k) a) (sym (e l)) h.0, h.1)

@@ -38,6 +38,7 @@ pub first_busy : (k : Kind) (c : Call) (p : Place) → p ≡ first_place k c →
 first_busy k (call.Mutex l c) p is idle = let e : first_place k (call.Mutex l c) ≡ Idle = sym is ∙ idle in cc
 first_busy k (call.RwLock l c) p is idle = let e : first_place k (call.RwLock l c) ≡ Idle = sym is ∙ idle in cc
 first_busy k (call.Once l c) p is idle = let e : first_place k (call.Once l c) ≡ Idle = sym is ∙ idle in cc
+first_busy k (call.Semaphore l c) p is idle = let e : first_place k (call.Semaphore l c) ≡ Idle = sym is ∙ idle in cc
 first_busy k (call.Condvar l c) p is idle = let e : first_place k (call.Condvar l c) ≡ Idle = sym is ∙ idle in cc
 
 -- ---------------------------------------------------------------- one step

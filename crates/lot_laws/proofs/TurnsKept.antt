@@ -1,12 +1,14 @@
 -- Each turn of a thread keeps every lock a site, and every thread in the line, the section and the hand that its place says.
 use Rattle.std.proofs.Common.{ℕ, Bool, true, false, Option, Some, None, if◌then◌else◌, ◌≡◌, ◌<◌, [], ◌∷◌, length, length-set, nat_lt, inl, inr, refl, subst, sym, ◌∙◌, ap}
 use Rattle.lot_laws.proofs.OnceKept.{once_goes_late, once_begins}
-use Rattle.lot_laws.proofs.KindsKept.{calls_once}
+use Rattle.lot_laws.proofs.KindsKept.{calls_once, calls_semaphore}
 use Rattle.lot_machine.specs.Machine.{can_close, can_do, can_go, state_after_close, state_after_go, state_after_going}
 use Rattle.lot_laws.proofs.Looking.{closing_steady}
 use Rattle.lot_laws.proofs.Closings.{closing, closing_counted, closing_may, closing_shaped, closing_there}
 use Rattle.lot_laws.proofs.Closures.{closes_one}
 use Rattle.lot_once.specs.OnceProfiles.{once_profile}
+use Rattle.lot_semaphore.specs.SemaphoreProfiles.{semaphore_profile}
+use Rattle.lot_laws.proofs.SemaphoreKept.{semaphore_begins, semaphore_goes_late}
 use Rattle.std.proofs.lemmas.Bool.{ltb-true}
 use Rattle.lot_base.specs.declared.wants.Want.TheVariants.{Exclusive}
 use Rattle.lot_calls.specs.declared.calls.Call.{Call}
@@ -18,7 +20,7 @@ use Rattle.lot_calls.specs.declared.calls.Turn.{Turn}
 use Rattle.lot_calls.specs.declared.calls.Turn as turn
 use Rattle.lot_calls.specs.Kinds.{has_call, is_fair}
 use Rattle.lot_steps.specs.declared.places.Place.{Place}
-use Rattle.lot_steps.specs.declared.places.Place.TheVariants.{Idle, Mutex, RwLock, Once, Condvar}
+use Rattle.lot_steps.specs.declared.places.Place.TheVariants.{Idle, Mutex, RwLock, Once, Condvar, Semaphore}
 use Rattle.lot_mutex.specs.declared.lock.Entry.{Entry}
 use Rattle.lot_mutex.specs.declared.lock.Entry.TheVariants as entries
 use Rattle.lot_mutex.specs.declared.lock.LockAt.{LockAt}
@@ -61,6 +63,7 @@ idle_is (Mutex l at) h = absurd cc
 idle_is (RwLock l a at) h = absurd cc
 idle_is (Once l at) h = absurd cc
 idle_is (Condvar l at) h = absurd cc
+idle_is (Semaphore l at) h = absurd cc
 
 module _ (w : State) (t : ℕ) (steady : IsSteady w) (shape : IsShaped w) (there : t < length w.places) where
   -- a thread goes on from its place
@@ -102,6 +105,11 @@ module _ (w : State) (t : ℕ) (steady : IsSteady w) (shape : IsShaped w) (there
       let open_to = both (nat_lt l (length w.locks)) _ parts.1 in
       let right = both (has_call (kind_at w l) (calling.TheVariants.Once l c)) _ open_to.1 in
       goes_steady w _ l _ steady (once_begins w t l c steady there (idle_is (place_at w t) parts.0) (calls_once (kind_at w l) l c right.0))
+  begun_kept (calling.TheVariants.Semaphore l c) can =
+      let parts = both (is_idle (place_at w t)) (is_open_to w t (calling.TheVariants.Semaphore l c)) can in
+      let open_to = both (nat_lt l (length w.locks)) _ parts.1 in
+      let right = both (has_call (kind_at w l) (calling.TheVariants.Semaphore l c)) _ open_to.1 in
+      goes_steady w _ l _ steady (semaphore_begins w t l c steady there (idle_is (place_at w t) parts.0) (calls_semaphore (kind_at w l) l c right.0) right.1)
   begun_kept (calling.TheVariants.Condvar l c) can =
       let parts = both (is_idle (place_at w t)) (is_open_to w t (calling.TheVariants.Condvar l c)) can in
       goes_steady w _ (begins_at l c) _ steady (condvar_begins w t l steady there (idle_is (place_at w t) parts.0) c parts.1)
@@ -150,6 +158,12 @@ module _ (w : State) (t : ℕ) (steady : IsSteady w) (shape : IsShaped w) (there
   late_kept (RwLock l a c) is fits can = absurd cc
   late_kept Idle is fits can = absurd cc
   late_kept (Condvar l at) is fits can = let goes = condvar_goes_late w t l shape steady there at is can in goes_steady w _ goes.0 _ steady goes.1
+  late_kept (Semaphore l at) is fits can = semaphore_late (semaphore_profile at).late_line refl can
+    where
+      semaphore_late : (m : Option Line) → (semaphore_profile at).late_line ≡ m → is_free_under w (key_in (Some l) m) ≡ true
+          → IsSteady (state_after_late_on w t (key_in (Some l) m))
+      semaphore_late None e h = absurd cc
+      semaphore_late (Some m) e h = goes_steady w _ l _ steady (semaphore_goes_late w t l at steady shape there fits is m e h)
   late_kept (Once l at) is fits can = once_late (once_profile at).late_line refl can
     where
       once_late : (m : Option Line) → (once_profile at).late_line ≡ m → is_free_under w (key_in (Some l) m) ≡ true

@@ -30,7 +30,7 @@ use Rattle.lot_condvar.specs.CondvarCalls.{IsLockOf, IsReached}
 use Rattle.lot_condvar.specs.CondvarProfiles.{has_mutex, carries_beside, condvar_profile, mutex_side}
 use Rattle.lot_condvar.specs.CondvarSteps.{behind, mutex_beside, next_wait, released, relocked, wait_act}
 use Rattle.lot_steps.specs.declared.places.Place.{Place}
-use Rattle.lot_steps.specs.declared.places.Place.TheVariants.{Idle, Mutex, RwLock, Once, Condvar}
+use Rattle.lot_steps.specs.declared.places.Place.TheVariants.{Idle, Mutex, RwLock, Once, Condvar, Semaphore}
 use Rattle.lot_steps.specs.Steps.{is_lock}
 use Rattle.abstract_locks.specs.Locks as locks
 use Rattle.abstract_locks.specs.Sites.{Main, has_readers}
@@ -104,6 +104,12 @@ module _ (w : State) (steady : IsSteady w) (u m : ℕ) (sort : (rules_in w m).so
           either : (b : Bool) → (k == m) ≡ b → (if b then station (Once k at) else nowhere).carries ≡ Some true
               → (b : Bool) × (place_at w u ≡ Mutex m (mutex.HandOff b (hand_off.Leave true)))
           either true e g = absurd (let both : locks.Once ≡ locks.Mutex = sym fits ∙ ap (λ j. (rules_in w j).sort) (eqb-true k m e) ∙ sort in cc)
+          either false e g = absurd cc
+      by_place (Semaphore k at) is fits h = either (k == m) refl h
+        where
+          either : (b : Bool) → (k == m) ≡ b → (if b then station (Semaphore k at) else nowhere).carries ≡ Some true
+              → (b : Bool) × (place_at w u ≡ Mutex m (mutex.HandOff b (hand_off.Leave true)))
+          either true e g = absurd (let both : locks.Semaphore ≡ locks.Mutex = sym fits.0 ∙ ap (λ j. (rules_in w j).sort) (eqb-true k m e) ∙ sort in cc)
           either false e g = absurd cc
       by_place (Condvar k at) is fits h = either (k == m) (is_lock m (mutex_beside at)) refl h
         where

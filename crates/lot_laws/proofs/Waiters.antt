@@ -7,7 +7,7 @@ use Rattle.lot_base.specs.declared.wants.Want.TheVariants.{Exclusive}
 use Rattle.lot_acts.specs.declared.acts.Reply.TheVariants.{Woken, TakenBy, HandedBy}
 use Rattle.lot_acts.specs.Profiles.{taken_from, in_line}
 use Rattle.lot_steps.specs.declared.places.Place.{Place}
-use Rattle.lot_steps.specs.declared.places.Place.TheVariants.{Idle, Mutex, RwLock, Once, Condvar}
+use Rattle.lot_steps.specs.declared.places.Place.TheVariants.{Idle, Mutex, RwLock, Once, Condvar, Semaphore}
 use Rattle.lot_steps.specs.Steps.{next_place, or_else, wants}
 use Rattle.lot_mutex.specs.declared.lock.Entry.{Entry}
 use Rattle.lot_mutex.specs.declared.lock.Entry.TheVariants as entries
@@ -71,6 +71,7 @@ pub record WasGivenThere (l t : ℕ) (p : Place) : Type 0 where
 abbrev pub CallsMutex : ℕ → Place → Type 0
 CallsMutex l (RwLock k a at) = k ≢ l
 CallsMutex l (Once k at) = k ≢ l
+CallsMutex l (Semaphore k at) = k ≢ l
 CallsMutex l (Condvar k at) = (k ≢ l) × IsReached at
 CallsMutex l p = Unit {0}
 
@@ -80,6 +81,8 @@ calls_mutex_at w l (RwLock k a c) fits rules = λ here.
     let none : has_readers (rules_in w k).sort ≡ false = ap (λ n. has_readers (rules_in w n).sort) here ∙ ap (λ (r : Rules). has_readers r.sort) rules in cc
 calls_mutex_at w l (Once k at) fits rules = λ here.
     let both : locks.Once ≡ locks.Mutex = sym fits ∙ ap (λ n. (rules_in w n).sort) here ∙ ap (λ (r : Rules). r.sort) rules in cc
+calls_mutex_at w l (Semaphore k at) fits rules = λ here.
+    let both : locks.Semaphore ≡ locks.Mutex = sym fits.0 ∙ ap (λ n. (rules_in w n).sort) here ∙ ap (λ (r : Rules). r.sort) rules in cc
 calls_mutex_at w l (Condvar k at) fits rules = (
   λ here. let both : locks.Condvar ≡ locks.Mutex = sym fits.sort ∙ ap (λ n. (rules_in w n).sort) here ∙ ap (λ (r : Rules). r.sort) rules in cc,
   fits.reached,
@@ -345,6 +348,7 @@ module _ (l : ℕ) (T : Place → Type 0) {A : Type 0} (g : Station → A) (x : 
       either false e f = absurd (none f)
   by_row (RwLock k a at) of h = absurd (none (ap (λ b. g (if b then station (RwLock k a at) else nowhere)) (sym (differ k l of)) ∙ h))
   by_row (Once k at) of h = absurd (none (ap (λ b. g (if b then station (Once k at) else nowhere)) (sym (differ k l of)) ∙ h))
+  by_row (Semaphore k at) of h = absurd (none (ap (λ b. g (if b then station (Semaphore k at) else nowhere)) (sym (differ k l of)) ∙ h))
   by_row (Condvar k p) of h = elim (beside_or_out k l of.0 p) [
     | inl out ↦ absurd (none (ap g (sym out) ∙ h))
     | inr named ↦ by_call p of.1 named (ap g (sym (station_beside k l of.0 p named)) ∙ h)

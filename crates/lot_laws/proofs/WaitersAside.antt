@@ -11,7 +11,7 @@ use Rattle.lot_condvar.specs.declared.places.CondvarPlace.TheVariants.{Wait, Loo
 use Rattle.lot_condvar.specs.CondvarProfiles.{condvar_profile, condvar_row, mutex_side}
 use Rattle.lot_condvar.specs.CondvarSteps.{mutex_beside}
 use Rattle.lot_steps.specs.declared.places.Place.{Place}
-use Rattle.lot_steps.specs.declared.places.Place.TheVariants.{Idle, Mutex, RwLock, Once, Condvar}
+use Rattle.lot_steps.specs.declared.places.Place.TheVariants.{Idle, Mutex, RwLock, Once, Condvar, Semaphore}
 use Rattle.lot_steps.specs.Steps.{is_lock, profile_at}
 use Rattle.abstract_locks.specs.Condvars.{WaitsAside}
 use Rattle.abstract_locks.specs.Locks as locks
@@ -47,6 +47,9 @@ module _ (w : State) (steady : IsSteady w) (l : ℕ) (sort : (rules_in w l).sort
   no_once : (rules_in w l).sort ≡ locks.Once → ⊥
   no_once once = let both : locks.Once ≡ locks.Condvar = sym once ∙ sort in cc
 
+  no_semaphore : (rules_in w l).sort ≡ locks.Semaphore → ⊥
+  no_semaphore semaphore = let both : locks.Semaphore ≡ locks.Condvar = sym semaphore ∙ sort in cc
+
   sort_at : (k : ℕ) (s : Sort) → (k == l) ≡ true → (rules_in w k).sort ≡ s → (rules_in w l).sort ≡ s
   sort_at k s here is = subst (λ j. (rules_in w j).sort ≡ s) (eqb-true k l here) is
 
@@ -70,6 +73,12 @@ module _ (w : State) (steady : IsSteady w) (l : ℕ) (sort : (rules_in w l).sort
         either : (b : Bool) → (k == l) ≡ b → 1 ≤ stood_in (if b then station (Once k at) else nowhere).stands Main
             → WaitsThere w u l
         either true e h = absurd (no_once (sort_at k locks.Once e fits))
+        either false e h = absurd (omega arith)
+    by_place (Semaphore k at) is fits some = either (k == l) refl some
+      where
+        either : (b : Bool) → (k == l) ≡ b → 1 ≤ stood_in (if b then station (Semaphore k at) else nowhere).stands Main
+            → WaitsThere w u l
+        either true e h = absurd (no_semaphore (sort_at k locks.Semaphore e fits.0))
         either false e h = absurd (omega arith)
     by_place (Condvar k at) is fits some = either (k == l) refl some
       where

@@ -172,7 +172,11 @@ semaphore_own l (Acquire timed retries (acquire.Decide s)) = takes_own l s (is_f
 semaphore_own l (Acquire timed retries a) = refl
 semaphore_own l (Try (tries.Decide s)) = tries_own l s (is_free s)
 semaphore_own l (Try tries.Load) = refl
-semaphore_own l (Release a) = refl
+semaphore_own l (Release release.Add) = refl
+semaphore_own l (Release release.Enter) = refl
+semaphore_own l (Release release.Take) = refl
+semaphore_own l (Release (release.Clear any)) = refl
+semaphore_own l (Release (release.Leave any)) = refl
 
 pub call_runs_none : (l : ℕ) (a : Admission) (c : RwLockCallPlace) → runs_closure (call_act l a c) ≡ false
 call_runs_none l a c = runs_none l (call_act l a c) (call_own l a c)

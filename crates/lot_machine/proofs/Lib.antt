@@ -2,6 +2,7 @@ pub mod QueueLemmas
 pub mod ShareLemmas
 pub mod Opening
 pub mod Looks
+pub mod NewLocks
 pub mod Closures
 pub mod Acted
 pub mod KindsStay

@@ -9,3 +9,4 @@ pub mod Fits
 pub mod Views
 pub mod Debts
 pub mod Copies
+pub mod NewLocks

@@ -3,6 +3,7 @@
 
 pub mod debts;
 pub mod hands;
+pub mod laws;
 pub mod locks;
 pub mod machine;
 pub mod shares;

@@ -14,6 +14,8 @@ use Rattle.lot_mutex.specs.MutexSteps.{mutex_next}
 use Rattle.lot_mutex.specs.declared.places.MutexPlace.{MutexPlace}
 use Rattle.lot_once.specs.OnceSteps.{once_next}
 use Rattle.lot_once.specs.declared.places.OncePlace.{OncePlace}
+use Rattle.lot_semaphore.specs.SemaphoreSteps.{semaphore_next}
+use Rattle.lot_semaphore.specs.declared.places.SemaphorePlace.{SemaphorePlace}
 use Rattle.lot_rwlock_fair.specs.FairSteps.{call_next}
 use Rattle.lot_rwlock_fair.specs.declared.places.RwLockCallPlace.{RwLockCallPlace}
 use Rattle.lot_semaphore.specs.SemaphoreSteps.{semaphore_next}
