@@ -30,7 +30,8 @@ REGISTRY = "/usr/share/cargo/registry"
 MUTEXES = ["raw_mutex", "raw_mutex_try", "mutex", "mutex_try", "fair", "remutex", "remutex2"]
 RWLOCKS = ["raw_read", "raw_write", "read", "write", "rw_mix", "read_recursive", "upgradable", "upgrade", "downgrade"]
 CONDVARS = ["notify", "notify_all", "pingpong", "queue"]
-MODES = MUTEXES + RWLOCKS + ["once"] + CONDVARS
+SEMAPHORES = ["semaphore", "semaphore2"]
+MODES = MUTEXES + RWLOCKS + ["once"] + SEMAPHORES + CONDVARS
 # Ours beside a mode of the other program that has another name.
 BESIDE = {"once": ["once", "std_once"]}
 THREADS = [1, 2, 4, 8]

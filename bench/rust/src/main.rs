@@ -15,7 +15,7 @@ const ONE_IN: u64 = 16;
 const PLACES: u64 = 16;
 const MOST_THREADS: usize = 64;
 const MOST_OPERATIONS: u64 = 1_000_000_000_000;
-const USAGE: &str = "usage: lotbench raw_mutex|raw_mutex_try|mutex|mutex_try|fair|remutex|remutex2|raw_read|raw_write|read|write|rw_mix|read_recursive|upgradable|upgrade|downgrade|once|notify|notify_all|pingpong|queue|std_once THREADS N";
+const USAGE: &str = "usage: lotbench raw_mutex|raw_mutex_try|mutex|mutex_try|fair|remutex|remutex2|raw_read|raw_write|read|write|rw_mix|read_recursive|upgradable|upgrade|downgrade|once|semaphore|semaphore2|notify|notify_all|pingpong|queue|std_once THREADS N";
 
 #[derive(Clone, Copy)]
 enum Mode {
@@ -36,6 +36,8 @@ enum Mode {
     Upgrade,
     Downgrade,
     Once,
+    Semaphore,
+    Semaphore2,
     Notify,
     NotifyAll,
     PingPong,
@@ -64,6 +66,8 @@ impl Mode {
             "upgrade" => Some(Mode::Upgrade),
             "downgrade" => Some(Mode::Downgrade),
             "once" => Some(Mode::Once),
+            "semaphore" => Some(Mode::Semaphore),
+            "semaphore2" => Some(Mode::Semaphore2),
             "notify" => Some(Mode::Notify),
             "notify_all" => Some(Mode::NotifyAll),
             "pingpong" => Some(Mode::PingPong),
@@ -92,6 +96,8 @@ impl Mode {
             Mode::Upgrade => "upgrade",
             Mode::Downgrade => "downgrade",
             Mode::Once => "once",
+            Mode::Semaphore => "semaphore",
+            Mode::Semaphore2 => "semaphore2",
             Mode::Notify => "notify",
             Mode::NotifyAll => "notify_all",
             Mode::PingPong => "pingpong",
@@ -231,6 +237,29 @@ impl Desk {
     }
 }
 
+/// A semaphore made of a mutex and a condition variable: the crate has none.
+struct Semaphore {
+    free: Mutex<u64>,
+    given: Condvar,
+}
+
+impl Semaphore {
+    fn new(permits: u64) -> Semaphore {
+        Semaphore { free: Mutex::new(permits), given: Condvar::new() }
+    }
+
+    fn acquire(&self) {
+        let mut free = self.free.lock();
+        self.given.wait_while(&mut free, |free| *free == 0);
+        *free -= 1;
+    }
+
+    fn release(&self) {
+        *self.free.lock() += 1;
+        self.given.notify_one();
+    }
+}
+
 struct Bench {
     raw: Apart<RawMutex>,
     value: Apart<Mutex<u64>>,
@@ -240,6 +269,8 @@ struct Bench {
     rwlock: Apart<RwLock<u64>>,
     once: Apart<Once>,
     std_once: Apart<sync::Once>,
+    semaphore: Apart<Semaphore>,
+    semaphore2: Apart<Semaphore>,
     desk: Apart<Desk>,
     taken: Apart<AtomicU64>,
     operations: u64,
@@ -414,6 +445,14 @@ fn call_std_once(bench: &Bench, times: u64) {
 }
 
 #[inline(never)]
+fn hold_permit(semaphore: &Semaphore, times: u64) {
+    for _ in 0..times {
+        semaphore.acquire();
+        semaphore.release();
+    }
+}
+
+#[inline(never)]
 fn notify_nobody(bench: &Bench, times: u64) {
     for _ in 0..times {
         bench.desk.0.filled.0.notify_one();
@@ -448,6 +487,8 @@ fn work(mode: Mode, bench: &Bench, threads: usize) -> u64 {
             Mode::Upgrade => upgrade_value(bench, times),
             Mode::Downgrade => downgrade_value(bench, times),
             Mode::Once => call_once(bench, times),
+            Mode::Semaphore => hold_permit(&bench.semaphore.0, times),
+            Mode::Semaphore2 => hold_permit(&bench.semaphore2.0, times),
             Mode::Notify => notify_nobody(bench, times),
             Mode::NotifyAll | Mode::PingPong | Mode::Queue => {}
             Mode::StdOnce => call_std_once(bench, times),
@@ -487,6 +528,8 @@ fn main() -> ExitCode {
         rwlock: Apart(RwLock::new(0)),
         once: Apart(Once::new()),
         std_once: Apart(sync::Once::new()),
+        semaphore: Apart(Semaphore::new(1)),
+        semaphore2: Apart(Semaphore::new(2)),
         desk: Apart(Desk::new(operations)),
         taken: Apart(AtomicU64::new(0)),
         operations,

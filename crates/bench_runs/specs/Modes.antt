@@ -1,7 +1,7 @@
 -- The names of the modes.
 use Rattle.std.specs.Prelude.{◌≡◌, ◌≢◌, ℕ, List, codes, Option, MatchOption}
 use Rattle.bench_runs.specs.declared.plans.Mode.{Mode}
-use Rattle.bench_runs.specs.declared.plans.Mode.TheVariants.{RawMutex, RawMutexTry, Mutex, MutexTry, Fair, Remutex, Remutex2, RawRead, RawWrite, Read, Write, RwMix, ReadRecursive, Upgradable, Upgrade, Downgrade, Once, Notify, NotifyAll, PingPong, Queue}
+use Rattle.bench_runs.specs.declared.plans.Mode.TheVariants.{RawMutex, RawMutexTry, Mutex, MutexTry, Fair, Remutex, Remutex2, RawRead, RawWrite, Read, Write, RwMix, ReadRecursive, Upgradable, Upgrade, Downgrade, Once, Semaphore, Semaphore2, Notify, NotifyAll, PingPong, Queue}
 
 abbrev pub name_of : Mode → List ℕ
 name_of RawMutex = codes "raw_mutex"
@@ -21,6 +21,8 @@ name_of Upgradable = codes "upgradable"
 name_of Upgrade = codes "upgrade"
 name_of Downgrade = codes "downgrade"
 name_of Once = codes "once"
+name_of Semaphore = codes "semaphore"
+name_of Semaphore2 = codes "semaphore2"
 name_of Notify = codes "notify"
 name_of NotifyAll = codes "notify_all"
 name_of PingPong = codes "pingpong"

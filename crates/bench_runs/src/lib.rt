@@ -7,4 +7,5 @@ mod mutexes;
 pub mod plans;
 pub mod runs;
 mod rwlocks;
+mod semaphores;
 mod shares;

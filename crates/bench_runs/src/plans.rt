@@ -28,6 +28,8 @@ pub const MODES: &[Mode] = &[
     Mode::Upgrade,
     Mode::Downgrade,
     Mode::Once,
+    Mode::Semaphore,
+    Mode::Semaphore2,
     Mode::Notify,
     Mode::NotifyAll,
     Mode::PingPong,
@@ -71,6 +73,10 @@ pub enum Mode {
     Downgrade,
     /// A call of a `Once` that is done.
     Once,
+    /// The permit of a semaphore that has one is acquired, and released.
+    Semaphore,
+    /// The same of a semaphore that has two.
+    Semaphore2,
     /// A notification where nobody waits.
     Notify,
     /// All threads meet: the last who comes notifies those who wait.
@@ -104,6 +110,8 @@ impl Mode {
             "upgrade" => Some(Mode::Upgrade),
             "downgrade" => Some(Mode::Downgrade),
             "once" => Some(Mode::Once),
+            "semaphore" => Some(Mode::Semaphore),
+            "semaphore2" => Some(Mode::Semaphore2),
             "notify" => Some(Mode::Notify),
             "notify_all" => Some(Mode::NotifyAll),
             "pingpong" => Some(Mode::PingPong),
@@ -133,6 +141,8 @@ impl Mode {
             Mode::Upgrade => "upgrade",
             Mode::Downgrade => "downgrade",
             Mode::Once => "once",
+            Mode::Semaphore => "semaphore",
+            Mode::Semaphore2 => "semaphore2",
             Mode::Notify => "notify",
             Mode::NotifyAll => "notify_all",
             Mode::PingPong => "pingpong",

@@ -7,6 +7,7 @@ ghost use Rattle.std.specs.Arc.{arc_value};
 ghost use Rattle.parking_lot.specs.CondvarUsers.{lot_of as condvar_lot};
 ghost use Rattle.parking_lot.specs.RwLockUsers.{lot_of as rwlot_of};
 ghost use Rattle.parking_lot.specs.OnceUsers.{lot_of as once_lot};
+ghost use Rattle.parking_lot.specs.SemaphoreUsers.{lot_of as semaphore_lot};
 ghost use Rattle.parking_lot.specs.Users.{lot_of};
 ghost use Rattle.parking_lot_core.specs.Tokens.{IsTicketOf, IsTokenOf};
 
@@ -21,6 +22,7 @@ use crate::rwlocks::{
     RWLOCKS, RwLocks, come_upgradable, downgrade_value, mix_value, read_raw, read_value,
     rwlocks_of, upgrade_value, value_in, write_raw, write_value,
 };
+use crate::semaphores::{SEMAPHORES, Semaphores, hold_permit, semaphores_of};
 use crate::shares::Shares;
 use parking_lot::{Fault, Once, ParkingLot, Ticket, Token};
 use std::alloc::Global;
@@ -41,15 +43,17 @@ pub struct Figures {
     pub high: u64,
 }
 
-// Mutexes, reader-writer locks, a `Once` that is done, and a desk, of one lot.
+// Mutexes, reader-writer locks, a `Once` that is done, semaphores, and a desk, of one lot.
 #[derive(Drop)]
 struct Bench {
     mutexes: Box<Mutexes>,
     rwlocks: Box<RwLocks>,
     done: Box<Once>,
+    semaphores: Box<Semaphores>,
     desk: Box<Desk>,
     ghost together: { (rwlot_of rwlocks.value.raw ≡ lot_of mutexes.value.raw)
         × (once_lot done.value ≡ lot_of mutexes.value.raw)
+        × (semaphore_lot semaphores.value.one ≡ lot_of mutexes.value.raw)
         × (condvar_lot desk.value.filled ≡ lot_of mutexes.value.raw) },
 }
 
@@ -67,12 +71,15 @@ fn bench_of(
     let mutexes = boxed(alloc, mutexes_of(lot, token));
     let rwlocks = boxed(alloc, rwlocks_of(lot, token));
     let done = boxed(alloc, Once::new_completed(lot, token));
+    let semaphores = boxed(alloc, semaphores_of(lot, token));
     let desk = boxed(alloc, desk_for(lot, token, operations));
-    let ((mutexes, rwlocks), (done, desk)) = both(both(mutexes, rwlocks), both(done, desk))?;
+    let locks = both(both(mutexes, rwlocks), semaphores);
+    let (((mutexes, rwlocks), semaphores), (done, desk)) = both(locks, both(done, desk))?;
     Ok(Bench {
         mutexes,
         rwlocks,
         done,
+        semaphores,
         desk,
     })
 }
@@ -112,7 +119,7 @@ fn bench_for(
         (λ made. IsTicketOf (lot_of made.0.mutexes.value.raw) made.1
         × All (IsTicketOf (lot_of made.0.mutexes.value.raw)) made.2.items) }
 {
-    let words = MUTEXES + RWLOCKS + 1 + DESK;
+    let words = MUTEXES + RWLOCKS + 1 + SEMAPHORES + DESK;
     let (lot, mut tickets) = ParkingLot::new(alloc, words, threads + 1)?;
     let Some(maker) = one_of(&lot, &mut tickets) else {
         return Err(Fault::NoMemory);
@@ -158,6 +165,8 @@ fn operate<R: Wait>(rt: &R, mode: Mode, bench: &Bench, token: &mut Token, times:
         Mode::Upgrade => upgrade_value(rt, &rwlocks.value, token, times),
         Mode::Downgrade => downgrade_value(rt, &rwlocks.value, token, times),
         Mode::Once => call_once(rt, &bench.done, token, times),
+        Mode::Semaphore => hold_permit(rt, &bench.semaphores.one, token, times),
+        Mode::Semaphore2 => hold_permit(rt, &bench.semaphores.two, token, times),
         Mode::Notify => notify_nobody(rt, &bench.desk.filled, token, times),
         // These share no operations in batches.
         Mode::NotifyAll | Mode::PingPong | Mode::Queue => (),
@@ -220,6 +229,8 @@ fn total_of<R: Wait>(rt: &R, mode: Mode, bench: &Bench, maker: Ticket, counts: &
         | Mode::ReadRecursive
         | Mode::Upgradable
         | Mode::Once
+        | Mode::Semaphore
+        | Mode::Semaphore2
         | Mode::Notify => counts
             .iter()
             .fold(0u64, |all, count| all.saturating_add(*count)),

@@ -8,11 +8,13 @@ pub use lock_api_rw;
 pub use lot_base::{ListQueues, LockPicker, Pick, Picker, Queues, Waiter};
 pub use lot_calls::{
     Access, Answer, Call, CondvarCall, Downgrade, Kind, MutexCall, OnceCall, Patience, RwLockCall,
+    SemaphoreCall,
 };
 pub use lot_condvar::{CondvarPlace, NotifyAt, Stands, WaitAt};
 pub use lot_once::{LookAt, OncePlace, RunAt};
 pub use lot_rwlock::{Admission, RwLockAt, RwLockPlace, RwLockPurpose};
 pub use lot_rwlock_fair::{HandOverAt, HandedAt, RwLockCallPlace, Taken};
+pub use lot_semaphore::{AcquireAt, ReleaseAt, SemaphorePlace, TryAt};
 pub use lot_world;
 pub use parking_lot_core::{
     Clock, Did, Fault, Key, Keys, Note, Op, ParkingLot, Requeue, Right, Section, SectionRecord,
@@ -26,6 +28,7 @@ pub use raw_rwlocks::{
     RawExclusiveGuard, RawRwLock, RawRwLockRecursive, RawSharedGuard, RawUpgradableGuard,
 };
 pub use run_once::{Once, OnceCell, OnceFault, OnceShown, OnceState};
+pub use run_semaphore::{Permit, Semaphore};
 
 /// A mutex of a lot, with its value.
 pub type Mutex<T> = lock_api::Mutex<RawMutex, T>;
