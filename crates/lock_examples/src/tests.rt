@@ -1,6 +1,7 @@
 //! A shared counter, queues of workers, a try with a limit, a cache, a table that is filled once, a
-//! value that is made once, and a function that locks again.
+//! value that is made once, a function that locks again, and a pool.
 mod cache;
+mod pool;
 mod prices;
 mod rates;
 mod table;

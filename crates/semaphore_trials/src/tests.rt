@@ -5,7 +5,7 @@ ghost use Rattle.std.specs.Prelude.{◌≡◌, ◌<◌, ◌≤◌, ◌^◌, ◌�
 ghost use Rattle.std.specs.Arc.{arc_value};
 ghost use Rattle.run_semaphore.specs.Users.{IsTicketOf, IsTokenOf, lot_of};
 
-use parking_lot_core::{Fault, ParkingLot, Ticket, TickClock, Token};
+use parking_lot_core::{Fault, ParkingLot, TickClock, Ticket, Token};
 use run_semaphore::Semaphore;
 use std::alloc::Global;
 use std::fmt::Debug;
@@ -164,7 +164,11 @@ fn a_wait_that_gives_up_leaves_nothing_behind(rt: HostRuntime) {
     permit.release(&rt, &mut token);
     same(&rt, (in_time, past, queued), (false, false, 0));
     // Past the deadline too a permit that is free is given.
-    same(&rt, waits_until(&rt, &semaphore, &mut token, &clock, 0), true);
+    same(
+        &rt,
+        waits_until(&rt, &semaphore, &mut token, &clock, 0),
+        true,
+    );
     same(&rt, waits_for(&rt, &semaphore, &mut token, &clock, 0), true);
     has_free(&rt, &semaphore, &mut token, 1);
 }

@@ -14,6 +14,7 @@ use std::thread::{Threads, map_vec, yield_now};
 use std::time::Duration;
 
 const TIMES: u64 = 1000;
+
 const TURNS: usize = 1_000_000;
 
 /// What each thread of a crowd does.
@@ -45,7 +46,8 @@ struct Told {
 fn add_inside(told: &Told) {
     let inside = told.inside.fetch_add(1, SeqCst).wrapping_add(1);
     told.most.fetch_max(inside, SeqCst);
-    told.count.store(told.count.load(SeqCst).wrapping_add(1), SeqCst);
+    told.count
+        .store(told.count.load(SeqCst).wrapping_add(1), SeqCst);
     told.inside.fetch_sub(1, SeqCst);
 }
 
@@ -229,7 +231,11 @@ fn play<R: Threads + Wait + Abort + Sync>(
     );
     let content = found.is_ok_and(|found| found.iter().all(|content| *content));
     let all_free = semaphore.available(&mut token) == permits;
-    (content && all_free, told.most.load(SeqCst), told.count.load(SeqCst))
+    (
+        content && all_free,
+        told.most.load(SeqCst),
+        told.count.load(SeqCst),
+    )
 }
 
 #[test]
