@@ -1,11 +1,11 @@
 #!/usr/bin/env python3
-"""A second reading of the step tables, beside the program: random schedules of mutexes, reader-writer locks, `Once` and condition variables,
-answered here and by `lotsim replay`, have to agree.
+"""A second reading of the step tables, beside the program: random schedules of mutexes, reader-writer locks, semaphores, `Once` and condition
+variables, answered here and by `lotsim replay`, have to agree.
 
 Build the proved program first: `rt run -- replay < stdin` in crates/lotsim. Then:
-python3 bench/second_reading.py crates/lotsim/out/lotsim SCHEDULES LINES [FIRST_SEED] [--fair] [--once] [--condvar]
-With --fair, fair releases and bumps of reader-writer locks are among the calls; with --once, each `Once` is among the locks; with --condvar the
-locks are mutexes and condition variables. To answer one schedule here: python3 bench/second_reading.py - < SCHEDULE
+python3 bench/second_reading.py crates/lotsim/out/lotsim SCHEDULES LINES [FIRST_SEED] [--fair] [--once] [--semaphore] [--condvar]
+With --fair, fair releases and bumps of reader-writer locks are among the calls; with --once, each `Once` is among the locks, and with
+--semaphore semaphores are; with --condvar the locks are mutexes and condition variables. To answer one schedule here: python3 bench/second_reading.py - < SCHEDULE
 """
 import os, random, subprocess, sys, tempfile
 
@@ -17,7 +17,7 @@ DEFAULT = 2**60 - 2
 class Lock:
     def __init__(self, number, name, kind, limit):
         self.number, self.name, self.kind, self.limit = number, name, kind, limit
-        self.word = 0
+        self.word = 2 * limit if kind == "semaphore" else 0
         self.main, self.second = [], []          # (thread, want)
         self.inside = {"main": None, "second": None}
         self.exclusive = self.pending = self.upgradable = self.runner = None
@@ -131,7 +131,7 @@ class World:
         if number >= len(self.threads): return "not now"
         t, l = self.threads[number], self.locks[lock_number]
         if t.call is not None: return "not now"
-        calls = {"mutex": MUTEX, "fair": MUTEX, "once": ONCE, "condvar": CONDVAR}.get(l.kind, RWLOCK | FAIR)
+        calls = {"mutex": MUTEX, "fair": MUTEX, "once": ONCE, "condvar": CONDVAR, "semaphore": SEMAPHORE}.get(l.kind, RWLOCK | FAIR)
         if name not in calls: return "not now"
         if l.kind == "condvar":
             m = None if mutex_number is None else self.locks[mutex_number]
@@ -177,7 +177,8 @@ FAIR = {"unlock_shared_fair", "unlock_exclusive_fair", "unlock_upgradable_fair",
 WAITS = {"wait", "wait_timed"}
 CONDVAR = WAITS | {"notify_one", "notify_all"}
 ONCE = {"call_once", "call_once_force", "wait", "wait_force", "wait_timed"}
-RIGHT = {"unlock": "x", "unlock_fair": "x", "bump": "x", "unlock_shared": "s", "unlock_shared_fair": "s", "bump_shared": "s",
+SEMAPHORE = {"acquire", "acquire_timed", "try_acquire", "release"}
+RIGHT = {"release": "s", "unlock": "x", "unlock_fair": "x", "bump": "x", "unlock_shared": "s", "unlock_shared_fair": "s", "bump_shared": "s",
          "unlock_exclusive": "x", "unlock_exclusive_fair": "x", "bump_exclusive": "x", "downgrade": "x", "downgrade_to_upgradable": "x",
          "unlock_upgradable": "u", "unlock_upgradable_fair": "u", "bump_upgradable": "u", "downgrade_upgradable": "u",
          "upgrade": "u", "upgrade_timed": "u", "try_upgrade": "u"}
@@ -263,6 +264,7 @@ class Call:
         n = self.name
         self.t.timed = n.endswith("_timed")
         if n in MUTEX: getattr(self, "m_" + n)()
+        elif n in SEMAPHORE: getattr(self, "s_" + n)()
         elif n in ONCE:
             self.forced, self.runs = n.endswith("_force"), n.startswith("call")
             self.then(self.o_load)
@@ -654,6 +656,53 @@ class Call:
             self.hand_upgradable(self.enter_shared)
         self.then(step)
 
+    # ------------------------------------------------ semaphores
+    def s_acquire(self): self.then(self.s_load)
+    s_acquire_timed = s_acquire
+    def s_own(self, answer):
+        self.owned()
+        self.l.shared[self.t.number] = self.l.shared.get(self.t.number, 0) + 1
+        self.end(answer)
+    def s_load(self): self.s_loop(self.l.word)
+    def s_loop(self, s):
+        if s >= 2:
+            def step():
+                if self.exchange(s, s - 2): self.s_own("yes" if self.t.timed else "ok")
+                else: self.s_loop(self.l.word)
+            self.then(step)
+        elif s == 0:
+            def step():
+                if self.exchange(0, 1): self.s_park()
+                else: self.s_loop(self.l.word)
+            self.then(step, None, self.s_load)
+        else: self.s_park()
+    def s_park(self):
+        self.park("main", lambda w: w == 1, "s", lambda note: self.then(self.s_load), lambda: self.end("no"))
+    def s_try_acquire(self): self.then(lambda: self.s_try(self.l.word))
+    def s_try(self, s):
+        if s < 2: return self.end("no")
+        def step():
+            if self.exchange(s, s - 2): self.s_own("yes")
+            else: self.s_try(self.l.word)
+        self.then(step)
+    def s_release(self):
+        def step():
+            seen = self.l.word
+            self.l.word += 2
+            self.l.shared[self.t.number] -= 1
+            if not seen & 1: return self.end("ok")
+            self.t.owes = [self.l]
+            self.enter("main", lambda: self.then(take))
+        def take():
+            self.t.hand = [u for u, _ in self.l.main[:1]]
+            del self.l.main[:1]
+            self.then(clear) if not self.l.main else leave()
+        def clear():
+            self.l.word &= ~1
+            leave()
+        def leave(): self.leave("main", "normal", lambda: self.end("ok"))
+        self.then(step)
+
     # ------------------------------------------------ once
     def o_load(self): self.o_loop(self.l.word)
     def o_loop(self, s):
@@ -874,10 +923,10 @@ def run_condvars(seed, lines):
     text.append("show"); expected += w.show()
     return text, expected
 
-def run(seed, lines, fair, once):
+def run(seed, lines, fair, once, permits):
     rng = random.Random(seed)
     threads = rng.randrange(2, 7)
-    kinds = ["mutex", "fair", "rwlock", "recursive", "rwlock", "recursive"] + (["once"] * 3 if once else [])
+    kinds = ["mutex", "fair", "rwlock", "recursive", "rwlock", "recursive"] + (["once"] * 3 if once else []) + (["semaphore"] * 4 if permits else [])
     locks = []
     text = [f"threads {threads}"]
     for i in range(rng.randrange(1, 4)):
@@ -886,20 +935,23 @@ def run(seed, lines, fair, once):
         if kind in ("rwlock", "recursive") and rng.random() < 0.7:
             limit = threads + rng.randrange(0, 3)
             text.append(f"lock {name} {kind} {limit}")
+        elif kind == "semaphore":
+            limit = rng.randrange(1, 4)
+            text.append(f"lock {name} {kind} {limit}")
         else:
             limit = DEFAULT
             text.append(f"lock {name} {kind}")
         locks.append((name, kind, limit))
     w = World(threads, locks)
     expected = []
-    calls = {"m": sorted(MUTEX), "o": sorted(ONCE), "r": sorted(RWLOCK | FAIR if fair else RWLOCK)}
-    enters = {"m": ["lock", "lock_timed", "try_lock"], "o": sorted(ONCE), "r": [c for c in sorted(RWLOCK) if c not in RIGHT]}
+    calls = {"m": sorted(MUTEX), "o": sorted(ONCE), "s": sorted(SEMAPHORE), "r": sorted(RWLOCK | FAIR if fair else RWLOCK)}
+    enters = {"m": ["lock", "lock_timed", "try_lock"], "o": sorted(ONCE), "s": sorted(SEMAPHORE - {"release"}), "r": [c for c in sorted(RWLOCK) if c not in RIGHT]}
     for _ in range(lines):
         t = rng.randrange(threads)
         thread = w.threads[t]
         i = rng.randrange(len(locks))
         l = w.locks[i]
-        sort = {"mutex": "m", "fair": "m", "once": "o"}.get(l.kind, "r")
+        sort = {"mutex": "m", "fair": "m", "once": "o", "semaphore": "s"}.get(l.kind, "r")
         x = rng.random()
         if x < 0.08:
             text.append("show"); expected += w.show(); continue
@@ -938,8 +990,8 @@ def run(seed, lines, fair, once):
     return text, expected
 
 def main():
-    fair, once, condvar = "--fair" in sys.argv, "--once" in sys.argv, "--condvar" in sys.argv
-    given = [word for word in sys.argv[1:] if word not in ("--fair", "--once", "--condvar")]
+    fair, once, condvar, permits = (word in sys.argv for word in ("--fair", "--once", "--condvar", "--semaphore"))
+    given = [word for word in sys.argv[1:] if word not in ("--fair", "--once", "--condvar", "--semaphore")]
     if given == ["-"]:
         print("\n".join(answered(sys.stdin.read())))
         return 0
@@ -947,7 +999,7 @@ def main():
     first = int(given[3]) if len(given) > 3 else 0
     seen = {}
     for seed in range(first, first + seeds):
-        text, expected = run_condvars(seed, lines) if condvar else run(seed, lines, fair, once)
+        text, expected = run_condvars(seed, lines) if condvar else run(seed, lines, fair, once, permits)
         out = subprocess.run([program, "replay"], input="\n".join(text) + "\n", capture_output=True, text=True).stdout.split("\n")[:-1]
         for e in expected: seen[e.split(" ", 1)[1] if " own" not in e else "show"] = seen.get(e.split(" ", 1)[1] if " own" not in e else "show", 0) + 1
         if out != expected:
