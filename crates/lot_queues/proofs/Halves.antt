@@ -14,11 +14,11 @@ use Rattle.lot_base.specs.Lines.{waiter, times, line, lines, without, without_fi
 use Rattle.lot_base.specs.Picks.{without_lock_picked, lock_answer, next_picker, lock_picker}
 use Rattle.lot_base.specs.Requeues.{moved_by, requeued}
 use Rattle.lot_base.proofs.Counts.{times_append, times_gone}
-use Rattle.lot_base.proofs.Moves.{line_without_first}
+use Rattle.lot_base.proofs.Moves.{line_without_first, take_then_all}
 use Rattle.lot_base.proofs.Seats.{line_seated}
 use Rattle.bucket_queues.specs.Chains.{bucket_of}
 use Rattle.bucket_queues.proofs.Joined.{everywhere, line_without, line_first_other, line_picked, line_picked_other, one_line, without_none}
-use Rattle.bucket_queues.proofs.Places.{same_line, line_key_same, line_key_other, first_moved, no_times}
+use Rattle.bucket_queues.proofs.Places.{same_line, lines_both, line_key_same, line_key_other, all_moved, first_moved, no_times}
 use Rattle.bucket_queues.proofs.Requeued.{rest_moved}
 use Rattle.lot_queues.specs.Buckets.{AreApart, HasNone, IsOfBucket, both}
 use Rattle.lot_queues.proofs.Buckets.{same_times}
@@ -270,3 +270,18 @@ rest_both from xs ys xs' none taken = ap length (first_of_both from xs' ys none 
 
 pub rest_requeued : (from to : ℕ) (xs ys xs' new : List Waiter) → line from ys ≡ [] → lines xs' ≡ lines (without_first from xs) → lines new ≡ lines (requeued All from to (xs' ++ ys)) → lines new ≡ lines (requeued TakeOneMoveRest from to (xs ++ ys))
 rest_requeued from to xs ys xs' new none taken moved = rest_moved from to (xs ++ ys) (xs' ++ ys) new (side_first from xs xs' (xs ++ ys) (Some ys) none refl taken) moved
+
+-- ---------------------------------------------------------------- a requeue is told by the lines
+
+first_lines : (key : ℕ) (xs ys : List Waiter) → lines xs ≡ lines ys → lines (without_first key xs) ≡ lines (without_first key ys)
+first_lines key xs ys same = everywhere _ _ (λ k. elim (cases_eq k key) [
+  | inl is ↦ rw is (line_without_first key xs ∙ ap (drop 1) (same_line xs ys key same) ∙ sym (line_without_first key ys))
+  | inr differ ↦ line_first_other k key xs differ ∙ same_line xs ys k same ∙ sym (line_first_other k key ys differ)
+])
+
+pub requeued_lines : (op : Requeue) (from to : ℕ) (xs ys : List Waiter) → lines xs ≡ lines ys → lines (requeued op from to xs) ≡ lines (requeued op from to ys)
+requeued_lines All from to xs ys same = all_moved from to xs ys same
+requeued_lines One from to xs ys same =
+    lines_both (without_first from xs) (without_first from ys) (map (λ (x : Waiter). waiter to x.thread Exclusive) (take 1 (line from xs))) (first_lines from xs ys same)
+    ∙ ap (λ (l : List Waiter). lines (without_first from ys ++ map (λ (x : Waiter). waiter to x.thread Exclusive) (take 1 l))) (same_line xs ys from same)
+requeued_lines TakeOneMoveRest from to xs ys same = rest_moved from to ys (without_first from xs) (requeued TakeOneMoveRest from to xs) (first_lines from xs ys same) (ap lines (sym (take_then_all from to xs)))

@@ -1,6 +1,6 @@
 //! Calls on the queues of two buckets.
-ghost use Rattle.std.specs.Prelude.{◌≡◌, ◌≢◌, ◌+◌, ◌<◌, ◌≤◌, ◌⊎◌, ◌↔◌, [], ◌∷◌, ◌++◌, IsTrue, MatchOption, length, if◌then◌else◌};
-ghost use Rattle.lot_base.specs.Lines.{waiter, line, lines, without};
+ghost use Rattle.std.specs.Prelude.{◌≡◌, ◌≢◌, ◌+◌, ◌<◌, ◌≤◌, ◌↔◌, [], ◌∷◌, ◌++◌, IsTrue, MatchOption, length, if◌then◌else◌};
+ghost use Rattle.lot_base.specs.Lines.{waiter, line, lines, without, key_of};
 ghost use Rattle.lot_base.specs.Requeues.{taken_by, moved_by, requeued};
 ghost use Rattle.lot_base.specs.declared.requeues.Requeue.TheVariants.{One, All};
 ghost use Rattle.bucket_queues.specs.Chains.{bucket_of};
@@ -8,6 +8,7 @@ ghost use Rattle.lot_queues.specs.Buckets.{AreApart};
 ghost use Rattle.lot_queues.specs.Wants.{wants_of, taken_in_line};
 
 use crate::queueing::Queueing;
+use crate::stands::Stands;
 use bucket_queues::bucket_among;
 use lot_base::{Key, Queues, Requeue, Want};
 
@@ -41,8 +42,8 @@ impl Queueing {
     /// that place first.
     pub fn append_beside(&mut self, other: &mut Queueing, key: Key, thread: usize, want: Want)
         requires two { AreTwo self.old other.old × (self.old.bits < 64) }
-        requires key { (bucket_of self.old.bits key ≡ self.old.number)
-            ⊎ (bucket_of self.old.bits key ≡ other.old.number) }
+        requires key { bucket_of self.old.bits key ≢ self.old.number
+            → bucket_of self.old.bits key ≡ other.old.number }
         requires thread { thread < self.old.seats }
         ensures lines { lines (self.new.queues.waiters ++ other.new.queues.waiters)
             ≡ lines (without thread (self.old.queues.waiters ++ other.old.queues.waiters)
@@ -70,6 +71,41 @@ impl Queueing {
     {
         self.remove(thread);
         other.remove(thread);
+    }
+
+    /// How many stand under a key of one of the buckets.
+    pub fn count_beside(&self, other: &Queueing, key: Key) -> usize
+        requires two { AreTwo self.now other.now × (self.now.bits < 64) }
+        requires key { bucket_of self.now.bits key ≢ self.now.number
+            → bucket_of self.now.bits key ≡ other.now.number }
+        ensures { result
+            ≡ length (line key (self.now.queues.waiters ++ other.now.queues.waiters)) }
+    {
+        if self.holds(key) {
+            self.count(key)
+        } else {
+            other.count(key)
+        }
+    }
+
+    /// The key under which a thread stands in the buckets.
+    pub fn key_beside(&self, other: &Queueing, thread: usize) -> Option<Key>
+        ensures { result
+            ≡ key_of thread (self.now.queues.waiters ++ other.now.queues.waiters) }
+    {
+        match self.key_of(thread) {
+            Some(key) => Some(key),
+            None => other.key_of(thread),
+        }
+    }
+
+    /// Notes of whoever stands under a key that it does so.
+    pub fn note_line(&self, stands: &Stands, key: Key) {
+        let mut place = 0;
+        while let Some((waiter, next)) = self.queues.find(key, place) {
+            stands.note(waiter.thread, key);
+            place = next;
+        }
     }
 
     // Moves the first under a key behind the last under a key of another bucket.

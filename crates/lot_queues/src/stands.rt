@@ -1,8 +1,6 @@
 //! Under which key each thread stands.
-ghost use Rattle.std.specs.Prelude.{◌≡◌};
 
-use crate::queueing::Queueing;
-use lot_base::{Key, Queues};
+use lot_base::Key;
 use std::alloc::{AllocError, Global};
 use std::sync::atomic::AtomicUsize;
 use std::sync::atomic::Ordering::SeqCst;
@@ -42,15 +40,6 @@ impl Stands {
     pub fn note(&self, thread: usize, key: Key) {
         if let Some(stands) = self.keys.get(thread) {
             stands.store(key, SeqCst);
-        }
-    }
-
-    /// Notes whoever stands under a key.
-    pub fn note_line(&self, queueing: &Queueing, key: Key) {
-        let mut place = 0;
-        while let Some((waiter, next)) = queueing.queues.find(key, place) {
-            self.note(waiter.thread, key);
-            place = next;
         }
     }
 }
