@@ -35,6 +35,16 @@ fn next_of(lot: &ParkingLot, tickets: &mut Vec<Ticket>) -> Option<Ticket>
     tickets.pop()
 }
 
+// Keeps so many of the tickets.
+fn keep(lot: &ParkingLot, tickets: &mut Vec<Ticket>, number: usize)
+    requires { All (IsTicketOf lot.now) tickets.old.items }
+    ensures { All (IsTicketOf lot.now) tickets.new.items }
+{
+    for _ in number..tickets.len() {
+        drop(next_of(lot, tickets));
+    }
+}
+
 // A lot of so many words and threads, with the token of the first and the tickets of the others.
 // What makes lots and mutexes gives up where memory is refused, so that no test has anything to
 // drop in its midst.

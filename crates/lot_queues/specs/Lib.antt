@@ -1,1 +1,3 @@
+pub mod Buckets
+pub mod Places
 pub mod Wants

@@ -1,20 +1,22 @@
-//! The queues, and the lists of those that a section took.
+//! The queues of a bucket, and the lists of those that a section took.
 ghost use Rattle.std.specs.Prelude.{◌≡◌, ◌≢◌, ◌<◌, ◌≤◌, [], IfOk, IfErr, IfSome, MatchOption, take, ◌∷◌, ◌++◌, length, not, ◌==◌};
 ghost use Rattle.std.specs.List.{filter};
 ghost use Rattle.std.specs.Vec.{vec_capacity};
 ghost use Rattle.lot_base.specs.Lines.{waiter, line, lines, without, without_first, without_key, first_of, threads_of, key_of};
 ghost use Rattle.lot_base.specs.Picks.{lock_picked, without_lock_picked};
 ghost use Rattle.lot_base.specs.Requeues.{taken_by, moved_by, requeued};
+ghost use Rattle.bucket_queues.specs.Chains.{bucket_of};
+ghost use Rattle.lot_queues.specs.Buckets.{IsOfBucket};
 ghost use Rattle.lot_queues.specs.Wants.{wants_of, taken_in_line};
 
 use crate::wants::{Everybody, note_first_want, note_wants};
 use lot_base::{Fault, Key, ListQueues, LockPicker, Queues, Requeue, Want};
 use std::alloc::{AllocError, Global};
 
-/// The queues, and whom the section that has them took.
+/// The queues of the keys of one of 2 ^ bits buckets, and whom the section that has them took.
 #[derive(Drop)]
 pub struct Queueing {
-    queues: ListQueues,
+    pub(crate) queues: ListQueues,
     // In the order in which they were taken.
     taken: Vec<usize>,
     // What each of them wants.
@@ -22,6 +24,9 @@ pub struct Queueing {
     // Those of them that have not been given a right.
     rightless: Vec<usize>,
     seats: usize,
+    number: usize,
+    bits: u32,
+    ghost of_bucket: { IsOfBucket bits number seats queues.waiters },
     ghost roomy: { (queues.capacity ≡ seats) × (seats ≤ vec_capacity taken)
         × (vec_capacity taken ≤ vec_capacity rightless) × (seats ≤ vec_capacity wants) },
 }
@@ -55,14 +60,22 @@ fn drop_thread(threads: &mut Vec<usize>, thread: usize)
 }
 
 impl Queueing {
-    /// Nobody waits, and there is room for so many threads. It takes all memory that its calls
-    /// need.
+    ghost use Rattle.lot_queues.specs.Places.{IsSameBucket, TookSame};
+
+    /// Nobody waits in a bucket, and there is room for so many threads. It takes all memory that its
+    /// calls need.
     ///
     /// # Errors
     ///
     /// `NoMemory`, where memory was refused.
-    pub fn with_capacity(alloc: Global, seats: usize) -> Result<Queueing, Fault>
-        ensures ok { IfOk result (λ made. made.seats ≡ seats) }
+    pub fn with_capacity(
+        alloc: Global,
+        seats: usize,
+        number: usize,
+        bits: u32,
+    ) -> Result<Queueing, Fault>
+        ensures ok { IfOk result (λ made. (made.seats ≡ seats) × (made.number ≡ number)
+            × (made.bits ≡ bits)) }
         ensures err { IfErr result (λ fault. fault ≡ Fault.NoMemory) }
     {
         let queues = ListQueues::with_capacity(alloc, seats)?;
@@ -75,6 +88,8 @@ impl Queueing {
             wants,
             rightless,
             seats,
+            number,
+            bits,
         })
     }
 
@@ -82,7 +97,7 @@ impl Queueing {
     pub fn begin(&mut self)
         ensures taken { (self.new.taken.items ≡ []) × (self.new.rightless.items ≡ [])
             × (self.new.wants.items ≡ []) }
-        ensures same { (self.new.queues ≡ self.old.queues) × (self.new.seats ≡ self.old.seats) }
+        ensures same { (self.new.queues ≡ self.old.queues) × IsSameBucket self.old self.new }
     {
         self.taken.clear();
         self.wants.clear();
@@ -98,7 +113,7 @@ impl Queueing {
             × (self.new.rightless.items ≡ self.new.taken.items) }
         ensures same { (self.new.queues ≡ self.old.queues)
             × (self.new.wants.items ≡ self.old.wants.items)
-            × (self.new.seats ≡ self.old.seats) }
+            × IsSameBucket self.old self.new }
     {
         if let Some(thread) = first {
             self.taken.push_reserved(thread);
@@ -118,7 +133,7 @@ impl Queueing {
             ≡ wants_of (take 1 (line key self.old.queues.waiters)) }
         ensures lines { lines self.new.queues.waiters
             ≡ lines (without_first key self.old.queues.waiters) }
-        ensures same { self.new.seats ≡ self.old.seats }
+        ensures same { IsSameBucket self.old self.new }
     {
         note_first_want(&self.queues, key, &mut self.wants);
         let first = self.queues.take_first(key);
@@ -135,7 +150,7 @@ impl Queueing {
         ensures wants { self.new.wants.items ≡ wants_of (line key self.old.queues.waiters) }
         ensures lines { lines self.new.queues.waiters
             ≡ lines (without_key key self.old.queues.waiters) }
-        ensures same { self.new.seats ≡ self.old.seats }
+        ensures same { IsSameBucket self.old self.new }
     {
         note_wants(&self.queues, key, Everybody, &mut self.wants);
         self.queues.take_all(key, &mut self.taken);
@@ -153,7 +168,7 @@ impl Queueing {
             ≡ wants_of (lock_picked start recursive (line key self.old.queues.waiters)) }
         ensures lines { lines self.new.queues.waiters
             ≡ lines (without_lock_picked start recursive key self.old.queues.waiters) }
-        ensures same { self.new.seats ≡ self.old.seats }
+        ensures same { IsSameBucket self.old self.new }
     {
         let picker = LockPicker::new(start, recursive);
         note_wants(&self.queues, key, picker, &mut self.wants);
@@ -166,6 +181,7 @@ impl Queueing {
         requires none { (self.old.taken.items ≡ []) × (self.old.rightless.items ≡ [])
             × (self.old.wants.items ≡ []) }
         requires differ { from ≢ to }
+        requires key { bucket_of self.old.bits to ≡ self.old.number }
         ensures first { result.0 ≡ taken_by op (line from self.old.queues.waiters) }
         ensures taken { MatchOption result.0 (self.new.taken.items ≡ [])
             (λ thread. self.new.taken.items ≡ thread ∷ [])
@@ -176,7 +192,7 @@ impl Queueing {
             × (result.1 ≤ self.old.seats) }
         ensures lines { lines self.new.queues.waiters
             ≡ lines (requeued op from to self.old.queues.waiters) }
-        ensures same { self.new.seats ≡ self.old.seats }
+        ensures same { IsSameBucket self.old self.new }
     {
         if op == Requeue::TakeOneMoveRest {
             note_first_want(&self.queues, from, &mut self.wants);
@@ -192,16 +208,18 @@ impl Queueing {
             ≡ filter (λ x. not (x == thread)) self.old.rightless.items }
         ensures same { (self.new.queues ≡ self.old.queues)
             × (self.new.taken.items ≡ self.old.taken.items)
-            × (self.new.wants.items ≡ self.old.wants.items) × (self.new.seats ≡ self.old.seats) }
+            × (self.new.wants.items ≡ self.old.wants.items) × IsSameBucket self.old self.new }
     {
         drop_thread(&mut self.rightless, thread);
     }
 
-    /// For how many threads there is room.
-    pub fn seats(&self) -> usize
-        ensures { result ≡ self.now.seats }
+    /// Which bucket it is, the power of two that all buckets are, and for how many threads there is
+    /// room.
+    pub fn place(&self) -> (usize, u32, usize)
+        ensures { (result.0 ≡ self.now.number) × (result.1 ≡ self.now.bits)
+            × (result.2 ≡ self.now.seats) }
     {
-        self.seats
+        (self.number, self.bits, self.seats)
     }
 
     /// Whom the section took, in order.
@@ -228,13 +246,11 @@ impl Queueing {
     /// Puts a thread behind the last under a key. One that stands somewhere leaves that place
     /// first.
     pub fn append(&mut self, key: Key, thread: usize, want: Want)
-        requires { thread < self.old.seats }
+        requires thread { thread < self.old.seats }
+        requires key { bucket_of self.old.bits key ≡ self.old.number }
         ensures lines { lines self.new.queues.waiters
             ≡ lines (without thread self.old.queues.waiters ++ waiter key thread want ∷ []) }
-        ensures same { (self.new.taken.items ≡ self.old.taken.items)
-            × (self.new.rightless.items ≡ self.old.rightless.items)
-            × (self.new.wants.items ≡ self.old.wants.items)
-            × (self.new.seats ≡ self.old.seats) }
+        ensures same { TookSame self.old self.new × IsSameBucket self.old self.new }
     {
         self.queues.append(key, thread, want);
     }
@@ -243,10 +259,7 @@ impl Queueing {
     pub fn remove(&mut self, thread: usize)
         ensures lines { lines self.new.queues.waiters
             ≡ lines (without thread self.old.queues.waiters) }
-        ensures same { (self.new.taken.items ≡ self.old.taken.items)
-            × (self.new.rightless.items ≡ self.old.rightless.items)
-            × (self.new.wants.items ≡ self.old.wants.items)
-            × (self.new.seats ≡ self.old.seats) }
+        ensures same { TookSame self.old self.new × IsSameBucket self.old self.new }
     {
         self.queues.remove(thread);
     }

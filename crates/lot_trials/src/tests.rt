@@ -1,4 +1,5 @@
 //! Each call of the lot once, and threads that meet in its queues.
+mod buckets;
 mod clocks;
 mod many;
 mod mutexes;

@@ -1,4 +1,5 @@
 mod Lists
 mod Giving
+mod Pairs
 mod Sleeps
 mod Counting

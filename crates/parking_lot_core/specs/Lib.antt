@@ -1,6 +1,7 @@
 pub mod Tokens
 pub mod Keys
 pub mod Giving
+pub mod Pairs
 pub mod Sections
 pub mod Sleeps
 pub mod Counts

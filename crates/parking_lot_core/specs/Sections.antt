@@ -1,26 +1,36 @@
 -- What stands in the queues of a section, and whom it took.
-use Rattle.std.specs.Prelude.{ℕ, ◌≡◌, List, []}
+use Rattle.std.specs.Prelude.{ℕ, ◌≡◌, List, [], Option}
 use Rattle.std.specs.Sync.Mutex.{mutex_guard_value}
 use Rattle.lot_base.specs.declared.notes.Note.{Note}
 use Rattle.lot_base.specs.declared.notes.Note.TheVariants.{Normal, HandOff}
 use Rattle.lot_base.specs.declared.wants.Waiter.{Waiter}
 use Rattle.lot_base.specs.declared.wants.Want.{Want}
+use Rattle.lot_queues.specs.Buckets.{both}
+use Rattle.parking_lot_core.specs.Pairs.{waiters_of}
 use Rattle.parking_lot_core.specs.declared.sections.Section.{Section}
 use Rattle.parking_lot_core.specs.declared.tokens.Did.TheVariants.{Nothing}
 
+-- those in the first bucket
+abbrev pub first_in : Section → List Waiter
+first_in section = (mutex_guard_value section.first).queues.waiters
+
+-- those in the second, if there is one
+abbrev pub others_in : Section → Option (List Waiter)
+others_in section = waiters_of section.other
+
 abbrev pub waiting_in : Section → List Waiter
-waiting_in section = (mutex_guard_value section.queueing).queues.waiters
+waiting_in section = both (first_in section) (others_in section)
 
 abbrev pub taken_in : Section → List ℕ
-taken_in section = (mutex_guard_value section.queueing).taken.items
+taken_in section = (mutex_guard_value section.first).taken.items
 
 -- what each of them wants
 abbrev pub wants_in : Section → List Want
-wants_in section = (mutex_guard_value section.queueing).wants.items
+wants_in section = (mutex_guard_value section.first).wants.items
 
 -- those of whom it took that have no right yet
 abbrev pub rightless_in : Section → List ℕ
-rightless_in section = (mutex_guard_value section.queueing).rightless.items
+rightless_in section = (mutex_guard_value section.first).rightless.items
 
 -- how many it moved to another queue
 abbrev pub moved_in : Section → ℕ

@@ -3,6 +3,7 @@
 #![tactic(auto)]
 
 pub mod counts;
+pub mod enter;
 pub mod expected;
 pub mod lot;
 pub mod pauses;

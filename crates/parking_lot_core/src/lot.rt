@@ -1,5 +1,5 @@
 //! The lot: its words, its queues, and how its threads are woken.
-ghost use Rattle.std.specs.Prelude.{◌≡◌, ◌<◌, ◌≤◌, IfOk, IfErr, IsTrue, ◌↔◌, All, length, map};
+ghost use Rattle.std.specs.Prelude.{◌≡◌, ◌<◌, ◌≤◌, IfOk, IfErr, IsTrue, ◌↔◌, All, length, map, ◌^◌};
 ghost use Rattle.std.specs.List.{range_with_len};
 ghost use Rattle.std.specs.Arc.{arc_value};
 ghost use Rattle.lot_words.specs.Indices.{most_words};
@@ -7,10 +7,11 @@ ghost use Rattle.lot_words.specs.Indices.{most_words};
 use crate::counts::Kept;
 use crate::tokens::Ticket;
 use crate::waiters::WakeRecord;
+use bucket_queues::bits_for;
 use crossbeam_utils::sync::{Parker, Unparker};
 use keyed_locks::KeyedLocks;
 use lot_base::Fault;
-use lot_queues::Queueing;
+use lot_queues::{Queueing, Stands};
 use lot_words::{LotWords, Seat};
 use share_rows::ShareRow;
 use std::alloc::{AllocError, Global};
@@ -22,18 +23,43 @@ use std::sync::{Arc, Mutex};
 #[derive(Drop)]
 pub struct ParkingLot {
     pub(crate) words: LotWords,
-    pub(crate) queueing: Mutex<Queueing>,
+    // The queues of each bucket of keys: 2 ^ bits of them.
+    pub(crate) buckets: Vec<Mutex<Queueing>>,
+    pub(crate) bits: u32,
     pub(crate) records: KeyedLocks<LotWords, WakeRecord>,
     pub(crate) unparkers: Vec<Unparker>,
     // Of a thread that was taken, the one that was taken next with it.
     pub(crate) next_taken: Vec<AtomicUsize>,
+    pub(crate) stands: Stands,
     // The mutexes that their owners lock again, by their numbers.
     pub(crate) holders: ShareRow<LotWords, Kept>,
+    ghost hashed: { (length buckets.items ≡ 2 ^ bits) × (bits < 64) },
     ghost keyed: { records.table.shared.key ≡ words },
     ghost kept: { (holders.table.shared.key ≡ words) × (holders.count ≡ words.count) },
     ghost for_each_seat: { (length unparkers.items ≡ records.count)
         × (length next_taken.items ≡ records.count) },
     ghost few: { records.count ≤ 1024 },
+}
+
+// The queues of each bucket, with nobody in them.
+fn empty_buckets(
+    alloc: Global,
+    seats: usize,
+    bits: u32,
+) -> Result<Vec<Mutex<Queueing>>, Fault>
+    requires { bits < 64 }
+    ensures ok { IfOk result (λ buckets. length buckets.items ≡ 2 ^ bits) }
+    ensures err { IfErr result (λ fault. fault ≡ Fault.NoMemory) }
+{
+    let number = 1 << bits;
+    let Ok(mut buckets) = Vec::with_capacity(alloc, number) else {
+        return Err(Fault::NoMemory);
+    };
+    for bucket in 0..number {
+        let queueing = Queueing::with_capacity(alloc, seats, bucket, bits)?;
+        buckets.push_reserved(Mutex::new(queueing));
+    }
+    Ok(buckets)
 }
 
 fn empty_records(
@@ -92,9 +118,11 @@ impl ParkingLot {
         alloc: Global,
         words: usize,
         seats: usize,
-        queueing: Mutex<Queueing>,
+        buckets: Vec<Mutex<Queueing>>,
+        bits: u32,
     ) -> Result<(Arc<ParkingLot>, Vec<Ticket>), AllocError>
-        requires { (0 < words) × (words ≤ most_words) × (seats ≤ 1024) }
+        requires sizes { (0 < words) × (words ≤ most_words) × (seats ≤ 1024) }
+        requires hashed { (length buckets.items ≡ 2 ^ bits) × (bits < 64) }
         ensures lot { IfOk result (λ made. ((arc_value made.0).words.count ≡ words)
             × ((arc_value made.0).records.count ≡ seats)) }
         ensures tickets { IfOk result (λ made. (map number_of made.1.items ≡ range_with_len 0 seats)
@@ -104,13 +132,16 @@ impl ParkingLot {
         let (words, first) = LotWords::new(alloc, count)?;
         let holders = ShareRow::new(alloc, count, &words)?;
         let records = empty_records(alloc, &words, seats)?;
+        let stands = Stands::new(alloc, seats)?;
         let (tickets, unparkers) = ParkingLot::tickets(alloc, &words, first, seats)?;
         let lot = ParkingLot {
             words,
-            queueing,
+            buckets,
+            bits,
             records,
             unparkers,
             next_taken: no_links(alloc, seats)?,
+            stands,
             holders,
         };
         Ok((Arc::new(alloc, lot)?, tickets))
@@ -153,8 +184,9 @@ impl ParkingLot {
             × All (IsNewTicketOf (arc_value made.0)) made.1.items) }
         ensures err { IfErr result (λ fault. fault ≡ Fault.NoMemory) }
     {
-        let queueing = Mutex::new(Queueing::with_capacity(alloc, seats)?);
-        match ParkingLot::build(alloc, words, seats, queueing) {
+        let bits = bits_for(seats);
+        let buckets = empty_buckets(alloc, seats, bits)?;
+        match ParkingLot::build(alloc, words, seats, buckets, bits) {
             Ok(made) => Ok(made),
             Err(_) => Err(Fault::NoMemory),
         }

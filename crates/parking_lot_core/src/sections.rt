@@ -1,7 +1,4 @@
 //! Sections, in which one thread at a time changes the queues of its keys.
-//!
-//! All sections stand behind one lock as yet: a thread that is inside one and enters another waits
-//! for itself.
 ghost use Rattle.std.specs.Prelude.{◌≡◌, ◌≢◌, ◌<◌, ◌≤◌, ◌+◌, ◌++◌, ◌∷◌, ◌==◌, not, [], Some, Contains, MatchOption, length, slice_index, take, true};
 ghost use Rattle.std.specs.List.{filter};
 ghost use Rattle.std.specs.Sync.Mutex.{mutex_guard_value};
@@ -9,55 +6,51 @@ ghost use Rattle.lot_base.specs.Lines.{waiter, line, lines, without, without_fir
 ghost use Rattle.lot_base.specs.Picks.{lock_picked, without_lock_picked};
 ghost use Rattle.lot_base.specs.Requeues.{taken_by, moved_by, requeued};
 ghost use Rattle.lot_queues.specs.Wants.{wants_of, taken_in_line};
-ghost use Rattle.parking_lot_core.specs.Keys.{AreKeys, IsKeyOf, first_key};
+ghost use Rattle.bucket_queues.specs.Chains.{bucket_of};
+ghost use Rattle.lot_queues.specs.Buckets.{HasNone};
+ghost use Rattle.parking_lot_core.specs.Keys.{IsKeyOf, first_key};
+ghost use Rattle.std.specs.Option.{ForNone, ForSome};
+ghost use Rattle.parking_lot_core.specs.Pairs.{AreApartAt, AreBuckets, IsAlone, IsBegun};
 ghost use Rattle.parking_lot_core.specs.declared.tokens.Did.TheVariants.{Nothing, TakeFirst, TakeAll, TakePicked};
 
+use crate::enter::never;
 use crate::expected::Expected;
 use crate::lot::ParkingLot;
-use crate::pauses::pause;
 use crate::tokens::{Did, SectionRecord, Token};
 use lot_base::{Key, Keys, Note, Requeue, Want};
 use lot_queues::Queueing;
 use lot_words::{Owner, Right, Word};
-use std::sync::atomic::Ordering::SeqCst;
+use std::mem::swap;
 use std::sync::{MutexGuard, Wait};
-
-// How often a thread tries to enter a section before it sleeps until it may, and for how many
-// rounds it pauses behind a try: in all 5 microseconds, where a round takes 11 nanoseconds. Several
-// sections take no longer, unless their threads do not run. The lock then spins for a microsecond
-// more and parks; neither yields.
-const TRIES: u32 = 40;
-
-const PAUSE: u32 = 12;
 
 /// What a thread may do to the queues of its keys while nobody else does anything to them.
 ///
 /// It takes or moves waiters by one call at most, and wakes those that it took as it leaves. It has
 /// to be left: it can't be dropped.
 pub struct Section<'a> {
-    lot: &'a ParkingLot,
-    queueing: MutexGuard<'a, Queueing>,
+    pub(crate) lot: &'a ParkingLot,
+    // The bucket of a key: of the one of which it takes or moves waiters, once it did so.
+    pub(crate) first: MutexGuard<'a, Queueing>,
+    // That of the other key, where it is another.
+    pub(crate) other: Option<MutexGuard<'a, Queueing>>,
     pub(crate) keys: Keys,
     // The thread that is inside.
-    thread: usize,
-    did: Did,
+    pub(crate) thread: usize,
+    pub(crate) did: Did,
     // How many it moved to another queue.
-    moved: usize,
-    ghost seated: { (mutex_guard_value queueing).seats ≡ lot.now.records.count },
-    ghost fresh: { did ≡ Nothing → ((mutex_guard_value queueing).taken.items ≡ [])
-        × ((mutex_guard_value queueing).rightless.items ≡ [])
-        × ((mutex_guard_value queueing).wants.items ≡ [])
-        × (moved ≡ 0) },
-    ghost few: { moved ≤ (mutex_guard_value queueing).seats },
-    ghost each_wants: { length (mutex_guard_value queueing).wants.items
-        ≡ length (mutex_guard_value queueing).taken.items },
-}
-
-// A lock keeps what its type tells alone, so a fact about its lot is tested, and so is whose section
-// is left. The tests never fail.
-fn never<R: Wait>(rt: &R) -> ! {
-    for _ in rt.forever() {}
-    unreachable!()
+    pub(crate) moved: usize,
+    ghost seated: { ((mutex_guard_value first).seats ≡ lot.now.records.count)
+        × ((mutex_guard_value first).bits < 64) },
+    ghost alone: { ForNone other (IsAlone keys (mutex_guard_value first)) },
+    ghost two: { ForSome other (λ guard.
+        AreBuckets keys (mutex_guard_value first) (mutex_guard_value guard)) },
+    ghost fresh: { did ≡ Nothing → IsBegun (mutex_guard_value first)
+        × ForSome other (λ guard. IsBegun (mutex_guard_value guard)) × (moved ≡ 0) },
+    ghost apart: { did ≡ Nothing → ForSome other (λ guard.
+        AreApartAt keys (mutex_guard_value first) (mutex_guard_value guard)) },
+    ghost few: { moved ≤ (mutex_guard_value first).seats },
+    ghost each_wants: { length (mutex_guard_value first).wants.items
+        ≡ length (mutex_guard_value first).taken.items },
 }
 
 fn first_of_keys(keys: Keys) -> Key
@@ -69,106 +62,9 @@ fn first_of_keys(keys: Keys) -> Key
     }
 }
 
-impl ParkingLot {
-    ghost use Rattle.parking_lot_core.specs.Sections.{IsUntouched};
-    ghost use Rattle.parking_lot_core.specs.Tokens.{IsTokenOf, IsSameThread};
-
-    // Takes the lock of the queues, unless others have it all the while. A section is short, so
-    // that falling asleep for one mostly takes longer than the wait, and costs the thread that is
-    // inside as well, which has to wake the sleeper.
-    fn try_queues(&self) -> Option<MutexGuard<'_, Queueing>> {
-        for _ in 0..TRIES {
-            if let Some(queueing) = self.queueing.try_lock() {
-                return Some(queueing);
-            }
-            pause(PAUSE);
-        }
-        None
-    }
-
-    // The queues, with nobody taken, for a thread.
-    pub(crate) fn locked<'a, R: Wait>(&'a self, rt: &R, thread: usize, keys: Keys) -> Section<'a>
-        ensures { (result.lot.now ≡ self.now) × (result.keys ≡ keys) × IsUntouched result
-            × (result.thread ≡ thread) }
-    {
-        let mut queueing = match self.try_queues() {
-            Some(queueing) => queueing,
-            None => self.queueing.lock(rt),
-        };
-        queueing.begin();
-        if queueing.seats() != self.records.len() {
-            never(rt)
-        }
-        Section {
-            lot: self,
-            queueing,
-            keys,
-            thread,
-            did: Did::Nothing,
-            moved: 0,
-        }
-    }
-
-    /// Enters the section of a key, or of two keys that differ, and waits while another thread is
-    /// inside one.
-    pub fn enter<'a, R: Wait>(&'a self, rt: &R, token: &mut Token, keys: Keys) -> Section<'a>
-        requires own { IsTokenOf self.now token.old }
-        requires keys { AreKeys keys }
-        ensures same { token.new ≡ token.old }
-        ensures section { (result.lot.now ≡ self.now) × (result.keys ≡ keys) × IsUntouched result }
-        ensures thread { result.thread ≡ token.old.number }
-    {
-        self.locked(rt, token.number, keys)
-    }
-
-    /// How many stand under a key.
-    pub fn queued<R: Wait>(&self, rt: &R, token: &mut Token, key: Key) -> usize
-        requires { IsTokenOf self.now token.old }
-        ensures { token.new ≡ token.old }
-    {
-        let section = self.enter(rt, token, Keys::One(key));
-        let number = section.count(key);
-        section.shut();
-        number
-    }
-
-    // Ties those that were taken together, and gives the first.
-    fn tie(&self, taken: &[usize]) -> Option<usize> {
-        for pair in taken.windows(2) {
-            if let Some(next) = self.next_taken.get(pair[0]) {
-                next.store(pair[1], SeqCst);
-            }
-        }
-        taken.first().copied()
-    }
-
-    fn wake<R: Wait>(&self, rt: &R, thread: usize, note: Note) {
-        if thread < self.records.len() {
-            let (mut wake_record, held) = self.records.take(rt, thread);
-            wake_record.note = Some(note);
-            self.records.give_back_marked(wake_record, held);
-        }
-        if let Some(unparker) = self.unparkers.get(thread) {
-            unparker.unpark();
-        }
-    }
-
-    // Who comes after a thread is read before it is woken: once it runs, it may be taken again.
-    fn wake_tied<R: Wait>(&self, rt: &R, first: usize, number: usize, note: Note) {
-        let mut thread = first;
-        for _ in 0..number {
-            let next = match self.next_taken.get(thread) {
-                Some(next) => next.load(SeqCst),
-                None => thread,
-            };
-            self.wake(rt, thread, note);
-            thread = next;
-        }
-    }
-}
-
 impl<'a> Section<'a> {
     ghost use Rattle.parking_lot_core.specs.Tokens.{IsTokenOf, IsSameThread, last_of};
+    ghost use Rattle.parking_lot_core.specs.Sections.{others_in, IsUntouched};
     ghost use Rattle.parking_lot_core.specs.Sections.{waiting_in, taken_in, wants_in, rightless_in, moved_in, StaysIn, TookAs, MayNote};
     ghost use Rattle.parking_lot_core.specs.Tokens.{out_of, view_of};
     ghost use Rattle.parking_lot_core.specs.Giving.{owner_at, HasEach, less_each};
@@ -178,8 +74,66 @@ impl<'a> Section<'a> {
     ghost use Rattle.lot_words.specs.RightsOf.{IsRightOf};
     ghost use Rattle.lot_words.specs.Steps.{has};
 
-    /// Puts a thread behind the last under a key. One that stands somewhere leaves that place
-    /// first.
+    // Makes the bucket of a key the first. Nobody has been taken yet.
+    fn turn_to(&mut self, key: Key)
+        requires key { IsKeyOf self.old.keys key }
+        requires first_take { self.old.did ≡ Nothing }
+        ensures lines { lines (waiting_in self.new) ≡ lines (waiting_in self.old) }
+        ensures here { bucket_of (mutex_guard_value self.new.first).bits key
+            ≡ (mutex_guard_value self.new.first).number }
+        ensures none { HasNone key (others_in self.new) }
+        ensures same { StaysIn self.old self.new × IsUntouched self.new }
+    {
+        if let Some(other) = &mut self.other {
+            if other.holds(key) {
+                swap(&mut self.first, other);
+            }
+        }
+    }
+
+    // Moves waiters from under a key of the first bucket.
+    fn move_waiters(&mut self, from: Key, to: Key, op: Requeue) -> (Option<usize>, usize)
+        requires keys { IsKeyOf self.old.keys from × IsKeyOf self.old.keys to × (from ≢ to) }
+        requires first_take { self.old.did ≡ Nothing }
+        requires here { bucket_of (mutex_guard_value self.old.first).bits from
+            ≡ (mutex_guard_value self.old.first).number }
+        ensures first { result.0 ≡ taken_by op (line from (waiting_in self.old)) }
+        ensures taken { MatchOption result.0 (taken_in self.new ≡ [])
+            (λ thread. taken_in self.new ≡ thread ∷ [])
+            × (rightless_in self.new ≡ taken_in self.new) }
+        ensures wants { wants_in self.new
+            ≡ wants_of (taken_in_line op (line from (waiting_in self.old))) }
+        ensures moved { (result.1 ≡ length (moved_by op (line from (waiting_in self.old))))
+            × (moved_in self.new ≡ result.1) }
+        ensures lines { lines (waiting_in self.new)
+            ≡ lines (requeued op from to (waiting_in self.old)) }
+        ensures did { StaysIn self.old self.new × (self.new.did ≡ Did.Requeue from to op) }
+    {
+        self.did = Did::Requeue { from, to, op };
+        match &mut self.other {
+            Some(other) => {
+                let (first, moved) = self.first.requeue_beside(other, from, to, op);
+                self.moved = moved;
+                (first, moved)
+            }
+            None => {
+                let (first, moved) = self.first.requeue(from, to, op);
+                self.moved = moved;
+                (first, moved)
+            }
+        }
+    }
+
+    // Notes of whoever stands under a key that it does so.
+    fn note_line(&self, key: Key) {
+        if let Some(other) = &self.other {
+            other.note_line(&self.lot.stands, key);
+        }
+        self.first.note_line(&self.lot.stands, key);
+    }
+
+    /// Puts a thread behind the last under a key. One that stands somewhere in the buckets of the
+    /// section leaves that place first. A thread that parks stands nowhere else.
     pub fn append(&mut self, key: Key, thread: usize, want: Want)
         requires key { IsKeyOf self.old.keys key }
         requires thread { thread < self.old.lot.now.records.count }
@@ -188,7 +142,11 @@ impl<'a> Section<'a> {
         ensures same { StaysIn self.old self.new × TookAs self.old self.new
             × (rightless_in self.new ≡ rightless_in self.old) }
     {
-        self.queueing.append(key, thread, want);
+        match &mut self.other {
+            Some(other) => self.first.append_beside(other, key, thread, want),
+            None => self.first.append(key, thread, want),
+        }
+        self.lot.stands.note(thread, key);
     }
 
     /// Removes a thread from where it stands.
@@ -197,7 +155,10 @@ impl<'a> Section<'a> {
         ensures same { StaysIn self.old self.new × TookAs self.old self.new
             × (rightless_in self.new ≡ rightless_in self.old) }
     {
-        self.queueing.remove(thread);
+        match &mut self.other {
+            Some(other) => self.first.remove_beside(other, thread),
+            None => self.first.remove(thread),
+        }
     }
 
     /// Takes the first under a key.
@@ -214,8 +175,9 @@ impl<'a> Section<'a> {
         ensures did { StaysIn self.old self.new × (self.new.did ≡ TakeFirst key)
             × (moved_in self.new ≡ 0) }
     {
+        self.turn_to(key);
         self.did = Did::TakeFirst(key);
-        self.queueing.take_first(key)
+        self.first.take_first(key)
     }
 
     /// Takes all under a key.
@@ -230,8 +192,9 @@ impl<'a> Section<'a> {
         ensures did { StaysIn self.old self.new × (self.new.did ≡ TakeAll key)
             × (moved_in self.new ≡ 0) }
     {
+        self.turn_to(key);
         self.did = Did::TakeAll(key);
-        self.queueing.take_all(key);
+        self.first.take_all(key);
     }
 
     /// Takes who is picked of the main queue of a reader-writer lock. The thread keeps a right of
@@ -249,12 +212,13 @@ impl<'a> Section<'a> {
         ensures did { StaysIn self.old self.new × (self.new.did ≡ TakePicked key start recursive)
             × (moved_in self.new ≡ 0) }
     {
+        self.turn_to(key);
         self.did = Did::TakePicked {
             key,
             start,
             recursive,
         };
-        self.queueing.take_picked(key, start, recursive);
+        self.first.take_picked(key, start, recursive);
     }
 
     /// Moves waiters from under one of its keys behind the last under the other. Those who are
@@ -275,9 +239,9 @@ impl<'a> Section<'a> {
             ≡ lines (requeued op from to (waiting_in self.old)) }
         ensures did { StaysIn self.old self.new × (self.new.did ≡ Did.Requeue from to op) }
     {
-        self.did = Did::Requeue { from, to, op };
-        let (first, moved) = self.queueing.requeue(from, to, op);
-        self.moved = moved;
+        self.turn_to(from);
+        let (first, moved) = self.move_waiters(from, to, op);
+        self.note_line(to);
         (first, moved)
     }
 
@@ -286,21 +250,27 @@ impl<'a> Section<'a> {
         requires { IsKeyOf self.now.keys key }
         ensures { result ≡ length (line key (waiting_in self.now)) }
     {
-        self.queueing.count(key)
+        match &self.other {
+            Some(other) => self.first.count_beside(other, key),
+            None => self.first.count(key),
+        }
     }
 
     /// The key under which a thread stands.
     pub fn key_of(&self, thread: usize) -> Option<Key>
         ensures { result ≡ key_of thread (waiting_in self.now) }
     {
-        self.queueing.key_of(thread)
+        match &self.other {
+            Some(other) => self.first.key_beside(other, thread),
+            None => self.first.key_of(thread),
+        }
     }
 
     /// Whom the section took, in order.
     pub fn taken(&self) -> &[usize]
         ensures { result.now ≡ taken_in self.now }
     {
-        self.queueing.taken()
+        self.first.taken()
     }
 
     /// What each of them wants, in the same order. So who hands a lock over to several gives each
@@ -308,21 +278,21 @@ impl<'a> Section<'a> {
     pub fn wants(&self) -> &[Want]
         ensures { result.now ≡ wants_in self.now }
     {
-        self.queueing.wants()
+        self.first.wants()
     }
 
     /// Those of whom it took that have no right yet, in order.
     pub fn rightless(&self) -> &[usize]
         ensures { result.now ≡ rightless_in self.now }
     {
-        self.queueing.rightless()
+        self.first.rightless()
     }
 
     /// How many it took and moved.
     pub fn number(&self) -> usize
         ensures { result ≡ length (taken_in self.now) + moved_in self.now }
     {
-        self.queueing.taken().len() + self.moved
+        self.first.taken().len() + self.moved
     }
 
     /// Lays a right in the record of a thread that the section took. A right that lies there
@@ -348,7 +318,7 @@ impl<'a> Section<'a> {
         ensures same { StaysIn self.old self.new × TookAs self.old self.new
             × (waiting_in self.new ≡ waiting_in self.old) }
     {
-        let thread = self.queueing.rightless()[0];
+        let thread = self.first.rightless()[0];
         self.lay(rt, thread, right);
         thread
     }
@@ -361,7 +331,7 @@ impl<'a> Section<'a> {
             × (waiting_in self.new ≡ waiting_in self.old) }
     {
         self.lot.lay(rt, thread, right);
-        self.queueing.note_right(thread);
+        self.first.note_right(thread);
     }
 
     /// Gives the thread at a place among those whom the section took its right to a lock, by what
@@ -389,9 +359,9 @@ impl<'a> Section<'a> {
         ensures same { StaysIn self.old self.new × TookAs self.old self.new
             × (waiting_in self.new ≡ waiting_in self.old) }
     {
-        let owner = Owner::given(word.kind(), left, self.queueing.wants()[place]);
+        let owner = Owner::given(word.kind(), left, self.first.wants()[place]);
         let right = self.lot.split_owner(token, word, owner);
-        let thread = self.queueing.taken()[place];
+        let thread = self.first.taken()[place];
         self.lay(rt, thread, right);
     }
 
@@ -409,7 +379,7 @@ impl<'a> Section<'a> {
         ensures same { StaysIn self.old self.new × TookAs self.old self.new
             × (waiting_in self.new ≡ waiting_in self.old) }
     {
-        for place in 0..self.queueing.taken().len() {
+        for place in 0..self.first.taken().len() {
             self.give_wanted(rt, token, word, left, place);
         }
     }
@@ -420,13 +390,15 @@ impl<'a> Section<'a> {
     {
         let Section {
             lot: _,
-            queueing,
+            first,
+            other,
             keys: _,
             thread: _,
             did: _,
             moved: _,
         } = self;
-        drop(queueing);
+        drop(other);
+        drop(first);
     }
 
     /// Leaves, with the token that entered. Whom the section took gets the note and is woken, and the
@@ -447,7 +419,8 @@ impl<'a> Section<'a> {
     {
         let Section {
             lot,
-            queueing,
+            first,
+            other,
             keys,
             thread,
             did,
@@ -456,17 +429,18 @@ impl<'a> Section<'a> {
         if thread != token.number {
             never(rt)
         }
-        let taken = queueing.taken().len();
-        let first = lot.tie(queueing.taken());
-        drop(queueing);
+        let taken = first.taken().len();
+        let woken = lot.tie(first.taken());
+        drop(other);
+        drop(first);
         token.record = SectionRecord {
             key: first_of_keys(keys),
             did,
             number: taken + moved,
         };
         token.expected = Expected::missing();
-        if let Some(first) = first {
-            lot.wake_tied(rt, first, taken, note);
+        if let Some(woken) = woken {
+            lot.wake_tied(rt, woken, taken, note);
         }
     }
 }

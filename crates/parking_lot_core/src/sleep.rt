@@ -71,17 +71,23 @@ impl ParkingLot {
         told
     }
 
-    // The section of the key where the thread stands. None where it was taken meanwhile.
+    // The section of the key where the thread stands. None where it was taken meanwhile: whoever moves
+    // a thread notes its key inside the bucket that it leaves, so it stands there, or was taken.
     fn give_up<'a, R: Wait>(&'a self, rt: &R, thread: usize) -> Option<Slept<'a>>
         ensures { IfSome result (IsLate self.now thread) }
     {
-        let mut section = self.locked(rt, thread, Keys::One(0));
-        let Some(key) = section.key_of(thread) else {
+        for _ in rt.forever() {
+            let key = self.stands.key(thread);
+            let section = self.locked(rt, thread, Keys::One(key));
+            if section.key_of(thread) == Some(key) {
+                return Some(Slept::Late(section, key));
+            }
             section.shut();
-            return None;
-        };
-        section.keys = Keys::One(key);
-        Some(Slept::Late(section, key))
+            if self.stands.key(thread) == key {
+                return None;
+            }
+        }
+        unreachable!()
     }
 
     /// Sleeps until the thread is woken, or up to a deadline on a clock.

@@ -84,6 +84,16 @@ fn lock_in<const RECURSIVE: bool, A: Abort>(
     }
 }
 
+// Keeps so many of the tickets.
+fn keep(lot: &ParkingLot, tickets: &mut Vec<Ticket>, number: usize)
+    requires { All (IsTicketOf lot.now) tickets.old.items }
+    ensures { All (IsTicketOf lot.now) tickets.new.items }
+{
+    for _ in number..tickets.len() {
+        drop(next_of(lot, tickets));
+    }
+}
+
 // A lock in a lot of so many threads and one more, with the token of this one and the tickets of
 // the others.
 fn seats<const RECURSIVE: bool, A: Abort>(

@@ -1,10 +1,10 @@
 //! Threads that meet at a mutex and a fair one.
-ghost use Rattle.std.specs.Prelude.{◌≡◌, ◌≤◌};
+ghost use Rattle.std.specs.Prelude.{◌≡◌, ◌<◌, ◌≤◌};
 ghost use Rattle.parking_lot_core.specs.Tokens.{IsTicketOf, IsTokenOf};
 ghost use Rattle.parking_lot.specs.Users.{lot_of};
 
 use super::fair::{GivesUp, give_up, take_and_keep};
-use super::{fair_mutex_of, mutex_of, same, seats};
+use super::{fair_mutex_of, keep, mutex_of, same, seats};
 use parking_lot::{FairMutex, Mutex, ParkingLot, Ticket, Token, lock_api};
 use std::alloc::Global;
 use std::process::Abort;
@@ -79,16 +79,19 @@ fn take_part<R: Wait>(rt: &R, lot: &ParkingLot, hall: &Hall, token: &mut Token, 
     true
 }
 
-// Whether so many threads were content with their parts, and what the numbers came to.
-pub(super) fn play<R: Threads + Wait + Abort + Sync>(
+// Whether so many threads of a lot of so many seats were content with their parts, and what the
+// numbers came to.
+fn play<R: Threads + Wait + Abort + Sync>(
     rt: &R,
     alloc: Global,
+    room: usize,
     threads: usize,
     part: Part,
 ) -> (bool, u64, u64)
-    requires { threads ≤ 100 }
+    requires { (0 < room) × (room ≤ 100) }
 {
-    let (lot, mut token, tickets) = seats(rt, alloc, 2, threads + 1);
+    let (lot, mut token, mut tickets) = seats(rt, alloc, 2, room);
+    keep(&lot, &mut tickets, threads);
     let plain = mutex_of(rt, &lot, &mut token, 0);
     let fair = fair_mutex_of(rt, &lot, &mut token, 0);
     let hall = Hall {
@@ -116,14 +119,24 @@ pub(super) fn play<R: Threads + Wait + Abort + Sync>(
     (content, hall.plain.into_inner(), hall.fair.into_inner())
 }
 
+// The threads find the same in lots of few and of many seats.
+pub(super) fn for_rooms<R: Threads + Wait + Abort + Sync>(
+    rt: &R,
+    alloc: Global,
+    threads: usize,
+    part: Part,
+    wanted: (bool, u64, u64),
+) {
+    same(rt, play(rt, alloc, 8, threads, part), wanted);
+    same(rt, play(rt, alloc, 64, threads, part), wanted);
+}
+
 #[test]
 fn six_threads_add_under_one_mutex(rt: HostRuntime) {
-    let found = play(&rt, rt.alloc(), 6, Part::Add);
-    same(&rt, found, (true, 6 * TIMES, 0));
+    for_rooms(&rt, rt.alloc(), 6, Part::Add, (true, 6 * TIMES, 0));
 }
 
 #[test]
 fn six_threads_add_under_one_fair_mutex(rt: HostRuntime) {
-    let found = play(&rt, rt.alloc(), 6, Part::AddFair);
-    same(&rt, found, (true, 0, 6 * TIMES));
+    for_rooms(&rt, rt.alloc(), 6, Part::AddFair, (true, 0, 6 * TIMES));
 }

@@ -3,7 +3,7 @@ ghost use Rattle.std.specs.Prelude.{◌≡◌};
 ghost use Rattle.parking_lot_core.specs.Tokens.{IsTokenOf};
 ghost use Rattle.parking_lot.specs.Users.{lock_of, lot_of};
 
-use super::crowds::{Part, play};
+use super::crowds::{Part, for_rooms};
 use super::{fair_mutex_alone, same};
 use parking_lot::{Mutex, MutexGuard, ParkingLot, RawFairMutex, Token, lock_api};
 use std::sync::Wait;
@@ -176,20 +176,17 @@ pub(super) fn give_up<R: Wait>(
 
 #[test]
 fn who_waits_gets_the_mutex_by_a_release(rt: HostRuntime) {
-    let found = play(&rt, rt.alloc(), 2, Part::GiveUp(GivesUp::Plain));
-    same(&rt, found, (true, 1, 0));
+    for_rooms(&rt, rt.alloc(), 2, Part::GiveUp(GivesUp::Plain), (true, 1, 0));
 }
 
 #[test]
 fn who_waits_is_handed_the_mutex(rt: HostRuntime) {
-    let found = play(&rt, rt.alloc(), 2, Part::GiveUp(GivesUp::Fair));
-    same(&rt, found, (true, 1, 0));
+    for_rooms(&rt, rt.alloc(), 2, Part::GiveUp(GivesUp::Fair), (true, 1, 0));
 }
 
 #[test]
 fn who_waits_has_the_mutex_during_a_bump(rt: HostRuntime) {
-    let found = play(&rt, rt.alloc(), 2, Part::GiveUp(GivesUp::Bump));
-    same(&rt, found, (true, 1, 0));
+    for_rooms(&rt, rt.alloc(), 2, Part::GiveUp(GivesUp::Bump), (true, 1, 0));
 }
 
 #[test]

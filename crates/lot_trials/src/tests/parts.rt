@@ -4,6 +4,7 @@ ghost use Rattle.lot_words.specs.Lots.{IsWordOf};
 ghost use Rattle.lot_words.specs.declared.words.WordKind.TheVariants.{Mutex};
 ghost use Rattle.parking_lot_core.specs.Tokens.{IsTicketOf};
 
+use super::buckets::wake_moved;
 use super::several::{KEY, sleep_in_line};
 use super::threads::{answer, serve, sleep_briefly, sleep_late, wake_early, wake_until};
 use super::{Task, seats_of, ticket_of, until_taken};
@@ -23,6 +24,7 @@ pub enum Part {
     WakeEarly,
     SleepBriefly,
     WakeUntilDone,
+    WakeMoved,
     SleepInLine,
     WakeThree,
 }
@@ -52,6 +54,7 @@ fn act<R: Wait>(
         }
         Part::SleepBriefly => sleep_briefly(rt, lot, &mut token, word, done),
         Part::WakeUntilDone => (wake_until(rt, lot, &mut token, done), 0),
+        Part::WakeMoved => (wake_moved(rt, lot, &mut token, done), 0),
         Part::SleepInLine => (sleep_in_line(rt, lot, &mut token, word), 0),
         Part::WakeThree => {
             until_taken(rt, lot, &mut token, KEY, Task::TakeThree);

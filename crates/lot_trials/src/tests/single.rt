@@ -1,5 +1,5 @@
 //! One thread.
-ghost use Rattle.std.specs.Prelude.{◌≡◌, ◌<◌};
+ghost use Rattle.std.specs.Prelude.{◌≡◌, ◌≢◌, ◌<◌};
 ghost use Rattle.lot_base.specs.declared.keys.Keys.TheVariants.{One, Two};
 ghost use Rattle.lot_words.specs.Indices.{permits_in};
 ghost use Rattle.lot_words.specs.Lots.{IsWordOf};
@@ -9,6 +9,7 @@ ghost use Rattle.parking_lot_core.specs.Sections.{StaysIn, TookAs, moved_in, rig
 ghost use Rattle.parking_lot_core.specs.Tokens.{IsTokenOf, IsSameThread};
 ghost use Rattle.parking_lot_core.specs.declared.tokens.Did.TheVariants.{Nothing, TakeAll};
 
+use super::buckets::lie_apart;
 use super::mutexes::{try_lock, unlock};
 use super::several::append_three;
 use super::{Task, holds, in_section, lot_of, mutex_of, same};
@@ -316,15 +317,21 @@ type Requeued = ((Option<usize>, usize), Option<usize>, [usize; 2]);
 const ALL_WAIT: (Want, Want, Want) = (Want::Wait, Want::Wait, Want::Wait);
 
 // Three line up, and are requeued.
-fn requeue_three<R: Wait>(rt: &R, lot: &ParkingLot, token: &mut Token, op: Requeue) -> Requeued
-    requires { IsTokenOf lot.now token.old × (lot.now.records.count ≡ 3) }
+fn requeue_three<R: Wait>(
+    rt: &R,
+    lot: &ParkingLot,
+    token: &mut Token,
+    to: Key,
+    op: Requeue,
+) -> Requeued
+    requires { IsTokenOf lot.now token.old × (lot.now.records.count ≡ 3) × (6 ≢ to) }
     ensures { IsSameThread lot.now token.old token.new }
 {
-    let mut section = lot.enter(rt, token, Keys::Two(6, 1));
+    let mut section = lot.enter(rt, token, Keys::Two(6, to));
     append_three(&mut section, 6, (2, 1, 0), ALL_WAIT);
-    let answer = section.requeue(6, 1, op);
+    let answer = section.requeue(6, to, op);
     let taken = section.taken().first().copied();
-    let standing = [section.count(6), section.count(1)];
+    let standing = [section.count(6), section.count(to)];
     section.leave(rt, token, Note::Normal);
     (answer, taken, standing)
 }
@@ -345,13 +352,14 @@ const REQUEUED: &[(Requeue, Requeued, usize)] = &[
     (Requeue::TakeOneMoveRest, ((Some(2), 2), Some(2), [0, 2]), 3),
 ];
 
-fn requeues<R: Wait + Abort>(rt: &R, lot: &ParkingLot, token: &mut Token)
-    requires { IsTokenOf lot.now token.old × (lot.now.records.count ≡ 3) }
+fn requeues<R: Wait + Abort>(rt: &R, lot: &ParkingLot, token: &mut Token, to: Key)
+    requires { IsTokenOf lot.now token.old × (lot.now.records.count ≡ 3) × (6 ≢ to) }
+    ensures { IsTokenOf lot.now token.new }
 {
     for (op, seen, number) in REQUEUED {
         let (op, number) = (*op, *number);
-        same(rt, requeue_three(rt, lot, token, op), *seen);
-        let did = Did::Requeue { from: 6, to: 1, op };
+        same(rt, requeue_three(rt, lot, token, to, op), *seen);
+        let did = Did::Requeue { from: 6, to, op };
         same(rt, token.last_section(), recorded(did, number));
     }
 }
@@ -359,7 +367,10 @@ fn requeues<R: Wait + Abort>(rt: &R, lot: &ParkingLot, token: &mut Token)
 #[test]
 fn a_section_requeues(rt: HostRuntime) {
     let (lot, mut token, _) = lot_of(&rt, rt.alloc(), 1, 3);
-    requeues(&rt, &lot, &mut token);
+    // To a key of the same bucket, and to one of another.
+    same(&rt, (lie_apart(3, 6, 1), lie_apart(3, 6, 2)), (false, true));
+    requeues(&rt, &lot, &mut token, 1);
+    requeues(&rt, &lot, &mut token, 2);
 }
 
 fn forgets<R: Wait + Abort>(rt: &R, lot: &ParkingLot, token: &mut Token, word: Word)

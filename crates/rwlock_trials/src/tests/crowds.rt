@@ -7,7 +7,7 @@ use super::fair::{Giver, give};
 use super::guards::read_twice;
 use super::values::read_together;
 use super::{
-    Lock, end_reader, end_writer, holds, read_upgradable, replace, same, seats, value_of, write,
+    Lock, end_reader, end_writer, holds, keep, read_upgradable, replace, same, seats, value_of, write,
 };
 use parking_lot::{ParkingLot, Ticket, Token};
 use parking_lot_core::pauses::{SHORT_PAUSE, pause};
@@ -272,7 +272,21 @@ pub(super) fn play<const RECURSIVE: bool, R: Threads + Wait + Abort + Sync>(
 ) -> (bool, u64)
     requires { threads < 100 }
 {
-    let (lot, lock, _token, tickets) = seats::<RECURSIVE, R>(rt, alloc, threads, 0, false);
+    play_in::<RECURSIVE, R>(rt, alloc, threads, threads, part)
+}
+
+// The same of some of the threads that there are seats for.
+fn play_in<const RECURSIVE: bool, R: Threads + Wait + Abort + Sync>(
+    rt: &R,
+    alloc: Global,
+    room: usize,
+    threads: usize,
+    part: Part<'_>,
+) -> (bool, u64)
+    requires { room < 100 }
+{
+    let (lot, lock, _token, mut tickets) = seats::<RECURSIVE, R>(rt, alloc, room, 0, false);
+    keep(&lot, &mut tickets, threads);
     let told = Told {
         came: AtomicUsize::new(0),
         held: AtomicBool::new(false),
@@ -297,6 +311,8 @@ pub(super) fn play<const RECURSIVE: bool, R: Threads + Wait + Abort + Sync>(
 #[test]
 fn eight_threads_read_what_they_wrote(rt: HostRuntime) {
     let found = play::<false, HostRuntime>(&rt, rt.alloc(), 8, Part::Add(Way::Downgrade));
+    same(&rt, found, (true, 800));
+    let found = play_in::<false, HostRuntime>(&rt, rt.alloc(), 63, 8, Part::Add(Way::Downgrade));
     same(&rt, found, (true, 800));
 }
 
@@ -332,5 +348,7 @@ fn readers_find_no_writer_in_the_act(rt: HostRuntime) {
 #[test]
 fn upgraders_find_no_writer_in_the_act(rt: HostRuntime) {
     let found = play::<false, HostRuntime>(&rt, rt.alloc(), 11, Part::Tear(5));
+    same(&rt, found, (true, 15));
+    let found = play_in::<false, HostRuntime>(&rt, rt.alloc(), 63, 11, Part::Tear(5));
     same(&rt, found, (true, 15));
 }

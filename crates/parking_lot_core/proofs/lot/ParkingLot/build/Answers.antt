@@ -5,9 +5,10 @@ use Rattle.parking_lot_core.proofs.lot.ParkingLot.build.Goals as goal
 
 pub invariant_of-lot : goal.invariant_of-lot
 invariant_of-lot c = let seats = sym c.in_ok-records.ensures.1 in record {
+  hashed = c.requires.hashed;
   keyed = c.in_ok-records.ensures.0;
   kept = (c.in_ok-holders.ensures.0, c.in_ok-holders.ensures.1 ∙ sym c.in_ok-words.ensures.0);
-  few = subst (λ (n : ℕ). n ≤ 1024) seats c.requires.2;
+  few = subst (λ (n : ℕ). n ≤ 1024) seats c.requires.sizes.2;
   for_each_seat = (c.in_ok-tickets.ensures.unparkers ∙ seats, c.in_ok-no_links.ensures ∙ seats);
 }
 
