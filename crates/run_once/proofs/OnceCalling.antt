@@ -22,7 +22,7 @@ use Rattle.lot_once.specs.declared.give_up.GiveUpAt.TheVariants as give_up
 use Rattle.lot_once.specs.declared.places.OncePlace.TheVariants.{Look, Run, GiveUp}
 use Rattle.lot_steps.specs.Steps.{next_act, next_place, once_does, once_goes}
 use Rattle.lot_steps.specs.declared.places.Place.{Place}
-use Rattle.lot_steps.specs.declared.places.Place.TheVariants.{Idle, Mutex, RwLock, Once, Condvar}
+use Rattle.lot_steps.specs.declared.places.Place.TheVariants.{Idle, Mutex, RwLock, Once, Condvar, Semaphore}
 use Rattle.lot_words.specs.Codes.{IsOnceWord, runner}
 use Rattle.lot_words.specs.Indices.{word_index}
 use Rattle.lot_words.specs.Steps.{CodesWith, has, owns_after_step, without}
@@ -43,6 +43,7 @@ use Rattle.lot_words.proofs.OnceSteps.{each_once_code}
 use Rattle.lot_driver.proofs.OnceLeading.{lands}
 use Rattle.lot_driver.proofs.Paths.{comes_here, comes_then, comes_on, ends_at_once, goes_on}
 use Rattle.lot_driver.proofs.RwLockLeading.{rwlock_no_closure}
+use Rattle.lot_driver.proofs.SemaphoreLeading.{semaphore_no_closure}
 use Rattle.run_once.specs.OnceCalls.{ComesTo, EndsRun, in_closure, once_begin, run_end}
 
 -- a look runs no closure
@@ -81,6 +82,7 @@ paused up n c base (Condvar l (waiting.Wait m timed at)) state st s = let e = s.
 paused up n c base (Condvar l (waiting.Look all)) state st s = absurd s.0
 paused up n c base (Condvar l (waiting.Notify all m at)) state st s = let e = s.1 in absurd cc
 paused up n c base (Mutex l at) state st s = let e = s.1 in absurd cc
+paused up n c base (Semaphore l at) state st s = absurd (semaphore_no_closure l state at s.2)
 paused up n c base (RwLock l a at) state st s = absurd (rwlock_no_closure up l a base at st state s.0 s.2)
 paused up n c base (Once l (Look c2 r at)) state st s = absurd (no_look l c2 at state s.2)
 paused up n c base (Once l (Run forced (run.Closure poisoned))) state st s = let aim : of_once l (CallOnce forced) ≡ of_once n c = s.1 in
@@ -106,6 +108,7 @@ runs_out n succeeded base (Condvar l (waiting.Wait m timed at)) state st s = let
 runs_out n succeeded base (Condvar l (waiting.Look all)) state st s = s.0
 runs_out n succeeded base (Condvar l (waiting.Notify all m at)) state st s = let e = s.1 in cc
 runs_out n succeeded base (Mutex l at) state st s = let e = s.1 in cc
+runs_out n succeeded base (Semaphore l at) state st s = semaphore_no_closure l state at s.2
 runs_out n succeeded base (RwLock l a at) state st s = rwlock_no_closure ⊥ l a base at st state s.0 s.2
 runs_out n succeeded base (Once l (Look c r at)) state st s = no_look l c at state s.2
 runs_out n succeeded base (Once l (Run forced (run.Closure poisoned))) state st s = let e = s.1 in cc
