@@ -16,7 +16,7 @@ use Rattle.lot_mutex.specs.declared.unlock.UnlockAt.TheVariants as unlock
 use Rattle.lot_once.specs.declared.places.OncePlace.TheVariants as once
 use Rattle.lot_once.specs.declared.run.RunAt.TheVariants as run
 use Rattle.lot_steps.specs.declared.places.Place.{Place}
-use Rattle.lot_steps.specs.declared.places.Place.TheVariants.{Idle, Mutex, RwLock, Once, Condvar}
+use Rattle.lot_steps.specs.declared.places.Place.TheVariants.{Idle, Mutex, RwLock, Once, Condvar, Semaphore}
 use Rattle.lot_words.specs.Indices.{word_index}
 use Rattle.lot_words.specs.Lots.{IsWordOf}
 use Rattle.lot_words.specs.declared.owners.Ownership.{Ownership}
@@ -29,6 +29,7 @@ use Rattle.lot_driver.specs.Paths.{condvar_at, mutex_at}
 use Rattle.lot_driver.specs.Stages.{Stage}
 use Rattle.lot_driver.specs.Words.{at_in, both, kind_in, word_in}
 use Rattle.lot_driver.specs.declared.driver.Stop.TheVariants.{Paused}
+use Rattle.lot_driver.proofs.SemaphoreLeading.{semaphore_no_closure}
 use Rattle.lot_driver.proofs.Ending.{no_closure}
 use Rattle.lot_driver.proofs.RwLockLeading.{rwlock_no_closure}
 use Rattle.mutex_driver.specs.CondvarCalls.{at_condvar}
@@ -48,6 +49,7 @@ wait_no_closure c m timed state up base w st f is = cc
 pub wait_never_pauses : (up : Type 0) (base : List Ownership) (c m : ℕ) (timed : Bool) (p : Place) (state : OnceState) (st : Stage) → IsStopped up base (of_wait c m timed) (Paused p state) st → ⊥
 wait_never_pauses up base c m timed Idle state st s = s.0
 wait_never_pauses up base c m timed (Mutex l at) state st s = no_closure l state up base at st s.0 s.2
+wait_never_pauses up base c m timed (Semaphore l at) state st s = semaphore_no_closure l state at s.2
 wait_never_pauses up base c m timed (RwLock l a at) state st s = rwlock_no_closure up l a base at st state s.0 s.2
 wait_never_pauses up base c m timed (Once l (once.Look call retries at)) state st s = let aim : of_once l call ≡ of_wait c m timed = s.1 in cc
 wait_never_pauses up base c m timed (Once l (once.Run forced (run.Closure poisoned))) state st s = let aim : of_once l (CallOnce forced) ≡ of_wait c m timed = s.1 in cc
@@ -70,6 +72,7 @@ notify_no_closure c m state all n is = cc
 pub notify_never_pauses : (up : Type 0) (base : List Ownership) (c m : ℕ) (all : Bool) (p : Place) (state : OnceState) (st : Stage) → IsStopped up base (of_notify c m all) (Paused p state) st → ⊥
 notify_never_pauses up base c m all Idle state st s = s.0
 notify_never_pauses up base c m all (Mutex l at) state st s = no_closure l state up base at st s.0 s.2
+notify_never_pauses up base c m all (Semaphore l at) state st s = semaphore_no_closure l state at s.2
 notify_never_pauses up base c m all (RwLock l a at) state st s = rwlock_no_closure up l a base at st state s.0 s.2
 notify_never_pauses up base c m all (Once l (once.Look call retries at)) state st s = let aim : of_once l call ≡ of_notify c m all = s.1 in cc
 notify_never_pauses up base c m all (Once l (once.Run forced (run.Closure poisoned))) state st s = let aim : of_once l (CallOnce forced) ≡ of_notify c m all = s.1 in cc

@@ -16,7 +16,7 @@ use Rattle.lot_mutex.specs.declared.lock.LockAt.TheVariants as lock
 use Rattle.lot_mutex.specs.declared.unlock.UnlockAt.TheVariants as unlock
 use Rattle.lot_steps.specs.Steps.{next_act, next_place}
 use Rattle.lot_steps.specs.declared.places.Place.{Place}
-use Rattle.lot_steps.specs.declared.places.Place.TheVariants.{Idle, Mutex, RwLock, Once, Condvar}
+use Rattle.lot_steps.specs.declared.places.Place.TheVariants.{Idle, Mutex, RwLock, Once, Condvar, Semaphore}
 use Rattle.lot_words.specs.declared.owners.Ownership.{Ownership}
 use Rattle.parking_lot_core.specs.declared.lot.ParkingLot.{ParkingLot}
 use Rattle.parking_lot_core.specs.declared.sections.Section.{Section}
@@ -37,6 +37,7 @@ never_pauses up base Idle q state st of s = of
 never_pauses up base (Mutex l at) q state st of s = of
 never_pauses up base (RwLock l a at) q state st of s = of
 never_pauses up base (Once l at) q state st of s = of
+never_pauses up base (Semaphore l at) q state st of s = of
 never_pauses up base (Condvar c (Wait m timed at)) q state st of s = wait_never_pauses up base c m timed q state st s
 never_pauses up base (Condvar c (Look all)) q state st of s = of
 never_pauses up base (Condvar c (Notify all m at)) q state st of s = notify_never_pauses up base c m all q state st s

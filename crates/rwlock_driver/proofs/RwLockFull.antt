@@ -44,7 +44,7 @@ use Rattle.lot_rwlock_fair.specs.declared.places.RwLockCallPlace.{RwLockCallPlac
 use Rattle.lot_rwlock_fair.specs.declared.places.RwLockCallPlace.TheVariants.{Plain, Glance, HandOver, Bump, Handed}
 use Rattle.lot_steps.specs.Steps.{in_rwlock, looking, next_act, next_place, rwlock_does, rwlock_goes}
 use Rattle.lot_steps.specs.declared.places.Place.{Place}
-use Rattle.lot_steps.specs.declared.places.Place.TheVariants.{Idle, Mutex, Once, RwLock, Condvar}
+use Rattle.lot_steps.specs.declared.places.Place.TheVariants.{Idle, Mutex, Once, RwLock, Condvar, Semaphore}
 use Rattle.lot_words.specs.declared.views.WordStep.{WordStep}
 use Rattle.parking_lot_core.specs.Tokens.{view_of}
 use Rattle.parking_lot_core.specs.declared.tokens.Token.{Token}
@@ -460,6 +460,7 @@ module _ (a : Admission) (x : Access) (how : Patience) (Is : RwLockCallPlace →
   IsIn (Mutex l to) = ⊥
   IsIn (Once l to) = ⊥
   IsIn (Condvar l to) = ⊥
+  IsIn (Semaphore l to) = ⊥
   IsIn (RwLock l b c) = (b ≡ a) × Is c
 
   abbrev EndsActBy : Reply → Act → Type 0
@@ -482,6 +483,7 @@ module _ (a : Admission) (x : Access) (how : Patience) (Is : RwLockCallPlace →
     place_keeps (Mutex l to) told w = absurd w
     place_keeps (Once l to) told w = absurd w
     place_keeps (Condvar l to) told w = absurd w
+    place_keeps (Semaphore l to) told w = absurd w
     place_keeps (RwLock l b c) told w = subst (λ (y : Admission). IsIn (next_place (RwLock l y c) told) × EndsActBy told (next_act (RwLock l y c) told)) (sym w.0) (by_next (call_next a c told) (leads.0 c told w.1))
       where
         by_next : (n : Next RwLockCallPlace) → Keeping told n → IsIn (rwlock_goes l a n) × EndsActBy told (rwlock_does l a n)
@@ -493,6 +495,7 @@ module _ (a : Admission) (x : Access) (how : Patience) (Is : RwLockCallPlace →
     looks_keep (Mutex l to) r e w = absurd w
     looks_keep (Once l to) r e w = absurd w
     looks_keep (Condvar l to) r e w = absurd w
+    looks_keep (Semaphore l to) r e w = absurd w
     looks_keep (RwLock l b c) r e w = leads.2 l c r (subst (λ (y : Admission). looking (RwLock l y c) ≡ Some r) w.0 e) w.1
 
     path_keeps : (at : ℕ → ℕ) (p r : Place) (xs : List WordStep) → Path at p xs r → IsIn p → IsIn r
