@@ -2,7 +2,6 @@
 use Rattle.std.proofs.Common.{ℕ, Bool, true, false, Some, None, ◌&&◌, ◌==◌, not, ◌≡◌, ◌<◌, ◌≤◌, length, refl, sym, ◌∙◌, subst, nat_lt, arith}
 use Rattle.abstract_locks.specs.Purposes.{rules_of}
 use Rattle.abstract_locks.specs.Locks as locks
-use Rattle.abstract_locks.specs.Purposes.{once_purpose, semaphore_purpose}
 use Rattle.lot_calls.specs.declared.calls.OnceCall.TheVariants as once_call
 use Rattle.lot_calls.specs.declared.calls.OnceCall.{OnceCall}
 use Rattle.lot_once.specs.OnceSteps.{once_first}
@@ -33,7 +32,7 @@ use Rattle.lot_machine.proofs.Shape.{both}
 use Rattle.lot_laws.specs.SitesOf.{IsSteady, is_mutex, rules_in}
 use Rattle.abstract_locks.specs.Locks.{Rights}
 use Rattle.abstract_locks.specs.Runs.{LocksState, Stays, MayBegin, HasRight, purpose_at, new_call}
-use Rattle.abstract_locks.specs.Purposes.{purpose_of, mutex_purpose, rwlock_purpose}
+use Rattle.abstract_locks.specs.Purposes.{purpose_of, mutex_purpose, rwlock_purpose, once_purpose, semaphore_purpose}
 use Rattle.lot_laws.specs.Refinement.{owner_at, taken_at, call_state, locks_of}
 use Rattle.lot_laws.proofs.KindsKept.{calls_mutex, calls_readers, calls_once, calls_semaphore}
 use Rattle.lot_laws.proofs.CondvarBegins.{condvar_begun, condvar_may}

@@ -4,7 +4,6 @@ use Rattle.std.proofs.Common.{ℕ, Bool, true, false, Option, None, if◌then◌
 use Rattle.lot_semaphore.specs.declared.places.SemaphorePlace.TheVariants as semaphore
 use Rattle.lot_semaphore.specs.declared.release.ReleaseAt.TheVariants as release
 use Rattle.lot_semaphore.specs.declared.acquire.AcquireAt.TheVariants as acquire
-use Rattle.lot_steps.specs.Steps.{semaphore_goes}
 use Rattle.lot_semaphore.specs.declared.places.SemaphorePlace.{SemaphorePlace}
 use Rattle.lot_semaphore.specs.SemaphoreProfiles.{semaphore_profile}
 use Rattle.lot_semaphore.specs.SemaphoreSteps.{semaphore_next}
@@ -47,7 +46,7 @@ use Rattle.lot_condvar.specs.CondvarProfiles.{condvar_profile, condvar_row, mute
 use Rattle.lot_condvar.specs.CondvarSteps.{condvar_next, in_wait, mutex_beside, relocked}
 use Rattle.lot_steps.specs.declared.places.Place.{Place}
 use Rattle.lot_steps.specs.declared.places.Place.TheVariants.{Idle, Mutex, RwLock, Once, Condvar, Semaphore}
-use Rattle.lot_steps.specs.Steps.{condvar_goes, is_lock, mutex_goes, next_place, once_goes, profile_at, rwlock_goes}
+use Rattle.lot_steps.specs.Steps.{condvar_goes, is_lock, mutex_goes, next_place, once_goes, profile_at, rwlock_goes, semaphore_goes}
 use Rattle.abstract_locks.specs.Condvars.{Stage}
 use Rattle.lot_laws.proofs.RowPromises.{Befalls}
 

@@ -1,11 +1,8 @@
 -- The places whose call has counted those whom its thread has in hand: a thread comes to one by its own step alone, and none of them is in a hand.
 use Rattle.std.proofs.Common.{ℕ, Bool, true, false, Option, Some, None, if◌then◌else◌, ◌==◌, ◌≡◌, refl, sym, ◌∙◌, ap, subst}
 use Rattle.std.proofs.lemmas.Bool.{eqb-true}
-use Rattle.lot_steps.specs.Steps.{in_semaphore}
-use Rattle.lot_steps.specs.Steps.{semaphore_goes}
 use Rattle.lot_semaphore.specs.declared.places.SemaphorePlace.{SemaphorePlace}
-use Rattle.lot_semaphore.specs.SemaphoreSteps.{semaphore_looking}
-use Rattle.lot_semaphore.specs.SemaphoreSteps.{semaphore_next}
+use Rattle.lot_semaphore.specs.SemaphoreSteps.{semaphore_looking, semaphore_next}
 use Rattle.lot_base.specs.declared.notes.Note as note
 use Rattle.lot_calls.specs.declared.calls.Access.{Access}
 use Rattle.lot_calls.specs.declared.calls.Access.TheVariants as access
@@ -49,7 +46,7 @@ use Rattle.lot_condvar.specs.declared.places.CondvarPlace.{CondvarPlace}
 use Rattle.lot_condvar.specs.CondvarSteps.{condvar_next, condvar_looking}
 use Rattle.lot_steps.specs.declared.places.Place.{Place}
 use Rattle.lot_steps.specs.declared.places.Place.TheVariants.{Idle, Mutex, RwLock, Once, Condvar, Semaphore}
-use Rattle.lot_steps.specs.Steps.{first_place, in_mutex, in_once, in_rwlock, late_key, looking, mutex_goes, next_place, once_goes, rwlock_goes, condvar_goes, in_condvar}
+use Rattle.lot_steps.specs.Steps.{first_place, in_mutex, in_once, in_rwlock, late_key, looking, mutex_goes, next_place, once_goes, rwlock_goes, condvar_goes, in_condvar, in_semaphore, semaphore_goes}
 use Rattle.lot_machine.specs.Machine.{State, held, place_at}
 use Rattle.lot_laws.specs.SitesOf.{AreCounted, IsCounted, carried_at}
 use Rattle.lot_laws.specs.Stations.{nowhere, station}

@@ -1,10 +1,7 @@
 -- What a call has counted of those whom its thread has in hand stays so, whatever a thread does: as long as it hasn't handed the lock over, no other
 -- thread brings anybody into its hand or lets anybody go.
 use Rattle.std.proofs.Common.{ℕ, Bool, true, false, Option, Some, None, if◌then◌else◌, ◌==◌, ◌≡◌, ◌≢◌, ◌<◌, inl, inr, length, nat_lt, refl, sym, ◌∙◌, ap, subst, get_or, get_or-set_same, length-set, set}
-use Rattle.lot_laws.proofs.Counting.{semaphore_counted}
-use Rattle.lot_semaphore.specs.SemaphoreSteps.{semaphore_act}
-use Rattle.lot_semaphore.specs.SemaphoreSteps.{semaphore_next}
-use Rattle.lot_steps.specs.declared.places.Place.TheVariants.{Once, Semaphore}
+use Rattle.lot_semaphore.specs.SemaphoreSteps.{semaphore_act, semaphore_next}
 use Rattle.lot_laws.proofs.Glue.{IsOfTwo, IsSingle, fits_two, single_or_two}
 use Rattle.lot_laws.proofs.Counting.{once_counted, condvar_counted}
 use Rattle.lot_once.specs.OnceSteps.{once_next}
@@ -44,7 +41,7 @@ use Rattle.abstract_locks.specs.Codes.{has_parked}
 use Rattle.lot_once.specs.OnceSteps.{once_act, once_next}
 use Rattle.lot_condvar.specs.CondvarSteps.{condvar_act, condvar_next}
 use Rattle.lot_steps.specs.declared.places.Place.{Place}
-use Rattle.lot_steps.specs.declared.places.Place.TheVariants.{Idle, Mutex, RwLock, Once, Condvar}
+use Rattle.lot_steps.specs.declared.places.Place.TheVariants.{Idle, Mutex, RwLock, Once, Condvar, Semaphore}
 use Rattle.lot_steps.specs.Steps.{act_of, first_place, late_key, looking, next_place, rwlock_goes}
 use Rattle.abstract_locks.specs.Locks.{LockState}
 use Rattle.abstract_locks.specs.Runs.{IsStep, Turned}
@@ -54,7 +51,7 @@ use Rattle.lot_machine.proofs.Shape.{after_size, both}
 use Rattle.lot_laws.specs.Refinement.{lock_state, locks_of}
 use Rattle.lot_laws.specs.SitesOf.{AreCondvars, AreCounted, FitsItsLock, IsCounted, IsSteady, rules_in}
 use Rattle.lot_laws.proofs.Befallen.{others_keep_it}
-use Rattle.lot_laws.proofs.Counting.{HasCounted, IsHandOver, are_counted, begins_bare, counted_befallen, counted_next, counted_on, counting, counting_row, counts_there, goes_counted, late_bare, looks_bare, mutex_counted, none_is, nothing, once_counted, others_bare}
+use Rattle.lot_laws.proofs.Counting.{HasCounted, IsHandOver, are_counted, begins_bare, counted_befallen, counted_next, counted_on, counting, counting_row, counts_there, goes_counted, late_bare, looks_bare, mutex_counted, none_is, nothing, once_counted, others_bare, semaphore_counted}
 use Rattle.lot_laws.proofs.CountsTaken.{picked_now, take_counts, took_is}
 use Rattle.lot_laws.proofs.CondvarOwn.{went, went_place}
 use Rattle.lot_laws.proofs.EachLock.{moves_no_readers, turned_so}

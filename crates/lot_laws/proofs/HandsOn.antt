@@ -1,6 +1,5 @@
 -- A thread in a call of a reader-writer lock hands its right over: where its operation takes effect, all whom it has in hand own.
 use Rattle.std.proofs.Common.{◌+◌, ◌*◌, ◌-◌, ℕ, Bool, true, false, Option, Some, None, if◌then◌else◌, ◌==◌, ◌≡◌, ◌≢◌, ◌^◌, ◌<◌, ◌≤◌, ◌⊎◌, inl, inr, List, [], ◌∷◌, ◌++◌, length, refl, sym, ◌∙◌, ap, subst, arith}
-use Rattle.lot_laws.proofs.RwLockKept.{of_no_semaphore}
 use Rattle.lot_laws.proofs.RwLockKept.{beside_no_call, of_no_once}
 use Rattle.std.proofs.lemmas.Bool.{eqb-true}
 use Rattle.lot_base.specs.declared.ops.Op.{Op}
@@ -63,7 +62,7 @@ use Rattle.lot_laws.proofs.HandsCounted.{few_sharers, has_in_hand}
 use Rattle.lot_laws.proofs.HandsKept.{IsGiven, claims_given, given_of}
 use Rattle.lot_laws.proofs.HandsMoved.{hands_over as hands_all, looks_again, thread_of}
 use Rattle.lot_laws.proofs.MovesKept.{IsFollowed}
-use Rattle.lot_laws.proofs.RwLockKept.{beside_no_call, admits, at_now, call_told_other, call_told_value, fits_next, fits_now, followed_by, goes_row, of_no_mutex, own, same_row, word_few}
+use Rattle.lot_laws.proofs.RwLockKept.{beside_no_call, admits, at_now, call_told_other, call_told_value, fits_next, fits_now, followed_by, goes_row, of_no_mutex, own, same_row, word_few, of_no_semaphore}
 
 -- ---------------------------------------------------------------- the place
 

@@ -1,6 +1,5 @@
 -- A hand-over of a reader-writer lock is one case of the abstract lock, and the calls of all who were handed it go on with what they wanted.
 use Rattle.std.proofs.Common.{ℕ, Bool, true, false, Option, Some, None, if◌then◌else◌, ◌==◌, ◌≡◌, ◌<◌, List, ◌++◌, length, get_or, get_or-set_other, refl, sym, ◌∙◌, ap, subst}
-use Rattle.lot_laws.proofs.RwLockKept.{of_no_semaphore}
 use Rattle.lot_laws.proofs.RwLockKept.{beside_no_call, of_no_once}
 use Rattle.std.proofs.lemmas.Bool.{eqb-true}
 use Rattle.std.proofs.Math.ListN.{get_or-map}
@@ -50,7 +49,7 @@ use Rattle.lot_laws.proofs.HandsKept.{alone_is, claims_given}
 use Rattle.lot_laws.proofs.HandsOn.{bare, carries, g, given, hands_goes, hands_tell, more_right, of, row, unclaimed, whom}
 use Rattle.lot_laws.proofs.LockEvents.{Befalls}
 use Rattle.lot_laws.proofs.OtherCalls.{taken_by_hand}
-use Rattle.lot_laws.proofs.RwLockKept.{beside_no_call, admits, of_no_mutex}
+use Rattle.lot_laws.proofs.RwLockKept.{beside_no_call, admits, of_no_mutex, of_no_semaphore}
 
 -- what a thread has once it was handed what it wanted
 gains : (alone : Bool) (x : Want) (l : ℕ) (r : ℕ → Rights)

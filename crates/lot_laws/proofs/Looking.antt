@@ -23,7 +23,6 @@ use Rattle.lot_semaphore.specs.declared.places.SemaphorePlace.{SemaphorePlace}
 use Rattle.lot_semaphore.specs.declared.places.SemaphorePlace.TheVariants as semaphores
 use Rattle.lot_semaphore.specs.declared.acquire.AcquireAt.TheVariants as acquire
 use Rattle.lot_semaphore.specs.SemaphoreSteps.{semaphore_looking}
-use Rattle.lot_steps.specs.Steps.{in_semaphore}
 use Rattle.lot_rwlock_fair.specs.declared.places.RwLockCallPlace.{RwLockCallPlace}
 use Rattle.lot_rwlock_fair.proofs.FairSleepers.{fair_looks_stand}
 use Rattle.lot_rwlock_fair.specs.FairProfiles.{call_looking}
@@ -38,7 +37,7 @@ use Rattle.lot_acts.specs.Profiles.{taken_from}
 use Rattle.lot_mutex.specs.declared.places.MutexPlace.{MutexPlace}
 use Rattle.lot_steps.specs.declared.places.Place.{Place}
 use Rattle.lot_steps.specs.declared.places.Place.TheVariants.{Idle, Mutex, RwLock, Once, Condvar, Semaphore}
-use Rattle.lot_steps.specs.Steps.{act_of, looking, lock_of, profile, in_mutex, is_lock}
+use Rattle.lot_steps.specs.Steps.{act_of, looking, lock_of, profile, in_mutex, is_lock, in_semaphore}
 use Rattle.lot_mutex.specs.MutexSteps.{mutex_looking}
 use Rattle.lot_machine.specs.Machine.{State, unlocked, place_at, put, can_go, state_after_act, state_after_go}
 use Rattle.lot_machine.proofs.Looks.{IsLook, look}

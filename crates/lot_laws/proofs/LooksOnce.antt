@@ -7,7 +7,6 @@ use Rattle.abstract_locks.specs.Locks as locks
 use Rattle.abstract_locks.specs.Sites.{has_readers}
 use Rattle.lot_semaphore.specs.declared.places.SemaphorePlace.TheVariants as semaphore
 use Rattle.lot_semaphore.specs.declared.acquire.AcquireAt.TheVariants as acquire
-use Rattle.lot_steps.specs.Steps.{in_semaphore}
 use Rattle.lot_semaphore.specs.SemaphoreSteps.{semaphore_act}
 use Rattle.lot_base.specs.declared.keys.Keys.TheVariants.{One}
 use Rattle.lot_acts.specs.declared.acts.Act.{Act}
@@ -38,7 +37,7 @@ use Rattle.lot_condvar.specs.declared.places.CondvarPlace.TheVariants as condvar
 use Rattle.lot_condvar.specs.declared.wait.WaitAt.TheVariants as wait
 use Rattle.lot_steps.specs.declared.places.Place.{Place}
 use Rattle.lot_steps.specs.declared.places.Place.TheVariants.{Idle, Mutex, RwLock, Once, Condvar, Semaphore}
-use Rattle.lot_steps.specs.Steps.{act_of, in_condvar, in_mutex, in_once, in_rwlock, looking}
+use Rattle.lot_steps.specs.Steps.{act_of, in_condvar, in_mutex, in_once, in_rwlock, looking, in_semaphore}
 use Rattle.lot_machine.specs.Machine.{State, place_at, kind_at}
 use Rattle.lot_laws.specs.SitesOf.{FitsItsLock, IsSteady}
 use Rattle.lot_laws.specs.Owing.{sort_at}

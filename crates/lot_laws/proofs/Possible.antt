@@ -34,7 +34,6 @@ use Rattle.lot_semaphore.specs.declared.places.SemaphorePlace.{SemaphorePlace}
 use Rattle.lot_semaphore.specs.SemaphoreSteps.{semaphore_act, semaphore_first, semaphore_next}
 use Rattle.lot_calls.specs.declared.calls.SemaphoreCall.{SemaphoreCall}
 use Rattle.lot_calls.specs.declared.calls.SemaphoreCall.TheVariants as semaphore_call
-use Rattle.lot_steps.specs.Steps.{semaphore_does, semaphore_goes}
 use Rattle.lot_condvar.specs.declared.places.CondvarPlace.{CondvarPlace}
 use Rattle.lot_condvar.specs.CondvarSteps.{condvar_next, condvar_act, mutex_beside}
 use Rattle.lot_steps.specs.declared.places.Place.{Place}
@@ -45,7 +44,7 @@ use Rattle.lot_acts.specs.declared.acts.Whom.{Whom}
 use Rattle.lot_acts.specs.declared.acts.Whom as whom
 use Rattle.lot_acts.specs.Acts.{takes_effect, outcome_of, holds}
 use Rattle.lot_mutex.specs.MutexSteps.{mutex_act, mutex_first, mutex_next}
-use Rattle.lot_steps.specs.Steps.{act_of, beside_of, lock_of, profile_beside, next_place, next_act, mutex_goes, mutex_does, late_key, first_place, looking, key_in, profile, rwlock_does, rwlock_goes, once_does, once_goes, condvar_goes, condvar_does}
+use Rattle.lot_steps.specs.Steps.{act_of, beside_of, lock_of, profile_beside, next_place, next_act, mutex_goes, mutex_does, late_key, first_place, looking, key_in, profile, rwlock_does, rwlock_goes, once_does, once_goes, condvar_goes, condvar_does, semaphore_does, semaphore_goes}
 use Rattle.lot_base.specs.declared.ops.Op.{Op}
 use Rattle.lot_machine.specs.Machine.{state_after_hand_over_by, State, state_after_take, place_at, queue_at, section_at, can_do, can_go, is_free_under, word_at, state_with_sections, queues_without_first, state_after_taking, state_after_wake, state_after_act, state_after_go, state_after_late_on}
 use Rattle.lot_machine.specs.Fits.{IsShaped, PlaceFits}

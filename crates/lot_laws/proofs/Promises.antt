@@ -10,19 +10,17 @@ use Rattle.lot_steps.specs.declared.places.Place.TheVariants.{Condvar}
 use Rattle.lot_steps.specs.Steps.{act_of, calls, is_lock, lock_of, or_else, profile, retries_on, taker}
 use Rattle.lot_machine.specs.Machine.{State, opening, place_at, kind_at, filled_at, section_at}
 use Rattle.lot_laws.specs.Stations.{Station, station_at, doing_on}
-use Rattle.lot_laws.specs.SitesOf.{AreCondvars, IsSteady, RunsInClosures, rules_in}
-use Rattle.lot_laws.specs.SitesOf.{site_of}
+use Rattle.lot_laws.specs.SitesOf.{AreCondvars, IsSteady, RunsInClosures, rules_in, site_of}
 use Rattle.abstract_locks.specs.Permits.{HasPermits}
-use Rattle.abstract_locks.specs.Sites.{IsDebtor, IsSite}
 use Rattle.lot_semaphore.specs.Tended.{IsTended, semaphore}
 use Rattle.lot_semaphore.proofs.TendedKept.{nobody_forgotten}
 use Rattle.abstract_locks.specs.Runs.{CallState, IsOpening}
 use Rattle.abstract_locks.specs.Locks.{LockState, Sort, Queued, Rights, opening_lock, Rules, IsSomePending, has_caller, rights_of, readers, count, standing}
 use Rattle.abstract_locks.specs.Onces.{InProgress, IsRunning}
 use Rattle.abstract_locks.specs.Locks as sorts
-use Rattle.abstract_locks.specs.Sites.{Doing, Line, Main, Second, Has, Pends, Runs, IsOpen, counts_some, has_readers}
+use Rattle.abstract_locks.specs.Sites.{Doing, Line, Main, Second, Has, Pends, Runs, IsOpen, counts_some, has_readers, IsDebtor, IsSite}
 use Rattle.abstract_locks.specs.Codes.{HasLimit}
-use Rattle.abstract_locks.specs.Purposes.{Enters, Converts, Bumps, CallsOnce, Awaits, Purpose, MayWait, rules_of, Waits}
+use Rattle.abstract_locks.specs.Purposes.{Enters, Converts, Bumps, CallsOnce, Awaits, Purpose, MayWait, Waits}
 use Rattle.lot_laws.specs.Refinement.{RunsClosure, locks_of, lock_state, lock_seen, taken_at, call_at, call_on, call_state, stance_of}
 use Rattle.lot_laws.specs.Owing.{Owes, sort_at}
 use Rattle.lot_laws.specs.Promises.{IsKept, WaitsFor, WakesWaiters, IsDebtorOf, IsLookedAfter, IsOpenNow, WasNeverFull, HasOrPends, IsHandedOver, IsOwedWake, IsWithinLimit, want_of, HasReleased}

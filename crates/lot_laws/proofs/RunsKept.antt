@@ -30,14 +30,13 @@ use Rattle.lot_once.specs.declared.places.OncePlace.TheVariants.{Look, Run, Give
 use Rattle.lot_once.specs.OnceSteps.{begins_run, course_of, found, in_look, in_run, is_forced, next_look, next_run, still_retries, gives_up, in_give_up, next_give_up}
 use Rattle.lot_semaphore.specs.declared.places.SemaphorePlace.{SemaphorePlace}
 use Rattle.lot_semaphore.specs.SemaphoreSteps.{semaphore_next}
-use Rattle.lot_steps.specs.Steps.{semaphore_goes}
 use Rattle.lot_rwlock_fair.specs.declared.places.RwLockCallPlace.{RwLockCallPlace}
 use Rattle.lot_rwlock_fair.specs.FairSteps.{call_next}
 use Rattle.lot_condvar.specs.declared.places.CondvarPlace.{CondvarPlace}
 use Rattle.lot_condvar.specs.CondvarSteps.{condvar_next}
 use Rattle.lot_steps.specs.declared.places.Place.{Place}
 use Rattle.lot_steps.specs.declared.places.Place.TheVariants.{Idle, Mutex, RwLock, Once, Condvar, Semaphore}
-use Rattle.lot_steps.specs.Steps.{act_of, lock_of, looking, mutex_goes, next_place, once_goes, rwlock_goes, condvar_goes}
+use Rattle.lot_steps.specs.Steps.{act_of, lock_of, looking, mutex_goes, next_place, once_goes, rwlock_goes, condvar_goes, semaphore_goes}
 use Rattle.lot_machine.specs.Fits.{IsShaped}
 use Rattle.lot_machine.specs.Machine.{State, after, opening, place_at, put, runs_closure, step_outcome}
 use Rattle.lot_laws.specs.Refinement.{RunsClosure, call_at, call_state, lock_state, locks_of, sleeps}

@@ -1,7 +1,6 @@
 -- A condition variable is as it was where what it shows, who waits, who is inside and what places say of it is.
 use Rattle.std.proofs.Common.{ℕ, Bool, true, false, Option, Some, None, if◌then◌else◌, ◌==◌, ◌≡◌, ◌<◌, length, get_or-set_other, get_or-set_same, inl, inr, refl, sym, ◌∙◌, ap, subst}
 use Rattle.std.proofs.lemmas.Bool.{cases_eq}
-use Rattle.lot_steps.specs.Steps.{in_semaphore}
 use Rattle.lot_semaphore.specs.declared.places.SemaphorePlace.{SemaphorePlace}
 use Rattle.lot_semaphore.specs.SemaphoreSteps.{semaphore_looking}
 use Rattle.lot_mutex.specs.declared.lock.LockAt.TheVariants as lock
@@ -17,7 +16,7 @@ use Rattle.lot_condvar.specs.declared.wait.WaitAt.TheVariants as wait
 use Rattle.lot_condvar.specs.CondvarSteps.{in_lock}
 use Rattle.lot_steps.specs.declared.places.Place.{Place}
 use Rattle.lot_steps.specs.declared.places.Place.TheVariants.{Condvar, Idle, Mutex, Once, RwLock, Semaphore}
-use Rattle.lot_steps.specs.Steps.{in_condvar, in_mutex, in_once, in_rwlock, looking, profile_at}
+use Rattle.lot_steps.specs.Steps.{in_condvar, in_mutex, in_once, in_rwlock, looking, profile_at, in_semaphore}
 use Rattle.abstract_locks.specs.Condvars.{IsCondvar}
 use Rattle.abstract_locks.specs.Locks.{LockState}
 use Rattle.abstract_locks.specs.Sites.{Main}

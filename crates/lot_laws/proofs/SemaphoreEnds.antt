@@ -1,7 +1,6 @@
 -- What a call of a semaphore comes to, from its beginning, whose thread steps alone.
-use Rattle.std.proofs.lemmas.Bool.{eqb-true}
 use Rattle.std.proofs.lemmas.Bool.Decides.{nat_tests}
-use Rattle.std.proofs.Common.{ℕ, zero, suc, Bool, true, false, Option, Some, None, if◌then◌else◌, ◌==◌, ◌≡◌, ◌+◌, ◌-◌, ◌*◌, ◌<◌, ◌≤◌, ◌++◌, ◌∷◌, [], List, length, drop, map, replicate, refl, sym, ◌∙◌, ap, subst, arith}
+use Rattle.std.proofs.Common.{ℕ, zero, suc, Bool, true, false, Option, Some, None, if◌then◌else◌, ◌==◌, ◌≡◌, ◌+◌, ◌-◌, ◌*◌, ◌<◌, ◌≤◌, ◌++◌, ◌∷◌, [], List, length, map, replicate, refl, sym, ◌∙◌, ap, subst, arith}
 use Rattle.std.specs.Prelude.{◌&&◌, not}
 use Rattle.lot_base.specs.declared.keys.Keys.TheVariants.{One}
 use Rattle.lot_base.specs.declared.ops.Op.TheVariants as op
@@ -33,13 +32,12 @@ use Rattle.abstract_locks.specs.Purposes.{Enters, semaphore_purpose}
 use Rattle.abstract_locks.specs.Runs.{IsFull}
 use Rattle.abstract_locks.specs.Sites.{Line, Main, has_readers}
 use Rattle.lot_semaphore.specs.declared.places.TheConstants.{NOT_PARKED}
-use Rattle.lot_semaphore.specs.declared.acquire.AcquireAt.{AcquireAt}
 use Rattle.lot_semaphore.specs.declared.acquire.AcquireAt.TheVariants as acquire
 use Rattle.lot_semaphore.specs.declared.tries.TryAt.TheVariants as tries
 use Rattle.lot_semaphore.specs.declared.release.ReleaseAt.TheVariants as release
 use Rattle.lot_semaphore.specs.declared.places.SemaphorePlace.{SemaphorePlace}
 use Rattle.lot_semaphore.specs.declared.places.SemaphorePlace.TheVariants.{Acquire, Try, Release}
-use Rattle.lot_semaphore.specs.SemaphoreSteps.{acquired, in_acquire, in_release, in_try, is_free, looked, semaphore_act, semaphore_first, semaphore_next, still_retries}
+use Rattle.lot_semaphore.specs.SemaphoreSteps.{acquired, in_acquire, in_release, in_try, is_free, looked, semaphore_act, semaphore_first, semaphore_next}
 use Rattle.lot_semaphore.specs.SemaphoreProfiles.{semaphore_profile}
 use Rattle.lot_semaphore.proofs.SemaphoreWords as words
 use Rattle.lot_steps.specs.declared.places.Place.TheVariants.{Semaphore}
@@ -283,9 +281,11 @@ module _ (w : State) (t l : ℕ) (steady : IsSteady w) (sort : (rules_in w l).so
   -- who gives a permit back holds one less
   releases_alone : place_at w t ≡ Semaphore l (Release release.Add) → x ≡ outcome.End answer.Ok
       → ReleasesAlone (locks_of w) t l Shared false x (locks_of v2)
-  releases_alone is told = let h = holds (Release release.Add) is answer.Ok told in
-      (told, sym (put_here (λ k. rights_of (lock_state v2 k) t) l (with_right Shared (rights_of (lock_state v2 l) t))) ∙ h.holds l
-      ∙ ap (λ f. f l) (h.former_is ∙ ap (λ p. (call_state p (λ k. rights_of (lock_state w k) t)).former) is))
+  releases_alone is told = let h = holds (Release release.Add) is answer.Ok told in (
+    told,
+    sym (put_here (λ k. rights_of (lock_state v2 k) t) l (with_right Shared (rights_of (lock_state v2 l) t))) ∙ h.holds l
+        ∙ ap (λ f. f l) (h.former_is ∙ ap (λ p. (call_state p (λ k. rights_of (lock_state w k) t)).former) is),
+  )
 
 -- ---------------------------------------------------------------- each call, from its beginning
 

@@ -1,8 +1,7 @@
 -- A thread in a call of a semaphore goes on by its act: that is one event of the semaphore, and its call goes on with it.
-use Rattle.std.proofs.Common.{inl, inr, ℕ, Bool, true, false, Option, Some, None, if◌then◌else◌, ◌==◌, ◌≡◌, ◌<◌, ◌≤◌, ◌-◌, ◌*◌, [], length, get_or-set_same, refl, sym, ◌∙◌, ap, subst, append-nil}
+use Rattle.std.proofs.Common.{inl, inr, ℕ, Bool, true, false, Option, Some, if◌then◌else◌, ◌==◌, ◌≡◌, ◌<◌, ◌≤◌, ◌-◌, ◌*◌, [], length, get_or-set_same, refl, sym, ◌∙◌, ap, subst, append-nil}
 use Rattle.lot_base.specs.declared.keys.Keys.TheVariants.{One}
 use Rattle.lot_base.specs.declared.ops.Op.TheVariants as op
-use Rattle.lot_calls.specs.declared.outcomes.Outcome.{Outcome}
 use Rattle.lot_calls.specs.declared.outcomes.Outcome.TheVariants as outcome
 use Rattle.lot_acts.specs.declared.acts.Act.TheVariants as act
 use Rattle.lot_acts.specs.declared.acts.Next.{Next}

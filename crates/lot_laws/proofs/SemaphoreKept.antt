@@ -1,5 +1,5 @@
 -- A thread in a call of a semaphore goes on: every lock is a site again.
-use Rattle.std.proofs.Common.{inl, inr, ℕ, Bool, true, false, Option, Some, None, if◌then◌else◌, ◌-◌, ◌==◌, ◌≡◌, ◌≢◌, ◌+◌, ◌*◌, ◌^◌, ◌≤◌, ◌<◌, List, [], ◌∷◌, length, not, refl, sym, ◌∙◌, ap, subst, arith}
+use Rattle.std.proofs.Common.{inl, ℕ, Bool, true, false, Option, Some, None, if◌then◌else◌, ◌-◌, ◌==◌, ◌≡◌, ◌≢◌, ◌+◌, ◌*◌, ◌≤◌, ◌<◌, List, [], ◌∷◌, length, not, refl, sym, ◌∙◌, ap, subst, arith}
 use Rattle.std.specs.Prelude.{is_none, ◌&&◌}
 use Rattle.std.proofs.lemmas.Bool.{eqb-true}
 use Rattle.std.proofs.lemmas.Bool.Decides.{nat_tests}

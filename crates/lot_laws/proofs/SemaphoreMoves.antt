@@ -1,5 +1,5 @@
 -- Each step of a semaphore takes its thread in the machine where its act says, and so does what befalls it asleep.
-use Rattle.std.proofs.Common.{ℕ, Bool, true, false, Option, Some, None, if◌then◌else◌, ◌==◌, ◌≡◌, ◌-◌, ◌*◌, List, [], ◌∷◌, inl, inr, refl, sym, ap, ◌∙◌, subst, not}
+use Rattle.std.proofs.Common.{ℕ, Bool, true, false, Option, Some, None, if◌then◌else◌, ◌==◌, ◌≡◌, ◌-◌, ◌*◌, [], ◌∷◌, inl, inr, refl, sym, ap, ◌∙◌, subst, not}
 use Rattle.std.specs.Prelude.{◌&&◌}
 use Rattle.lot_base.specs.declared.keys.Keys.TheVariants.{One}
 use Rattle.lot_base.specs.declared.ops.Op.TheVariants as op
@@ -17,7 +17,7 @@ use Rattle.lot_acts.specs.Profiles.{Hand, hand, in_hand}
 use Rattle.lot_acts.specs.Stations.{Station, nowhere, station_by}
 use Rattle.abstract_locks.specs.Codes.{has_parked}
 use Rattle.abstract_locks.specs.Locks.{HasTakenNobody, Leave as GivesBack, Rules}
-use Rattle.abstract_locks.specs.Sites.{Case, Deed, End, Line, Main, Mark, Second, Site}
+use Rattle.abstract_locks.specs.Sites.{Case, End, Line, Main, Mark, Second, Site}
 use Rattle.lot_base.specs.declared.notes.Note.TheVariants.{HandOff, Normal}
 use Rattle.lot_acts.specs.declared.acts.Reply.{Reply}
 use Rattle.lot_semaphore.specs.declared.tries.TryAt.{TryAt}
@@ -27,7 +27,7 @@ use Rattle.lot_semaphore.specs.declared.tries.TryAt.TheVariants as tries
 use Rattle.lot_semaphore.specs.declared.release.ReleaseAt.TheVariants as release
 use Rattle.lot_semaphore.specs.declared.places.SemaphorePlace.{SemaphorePlace}
 use Rattle.lot_semaphore.specs.declared.places.SemaphorePlace.TheVariants.{Acquire, Try, Release}
-use Rattle.lot_semaphore.specs.SemaphoreDeeds.{enters, looked_deeds, semaphore_deeds, takes}
+use Rattle.lot_semaphore.specs.SemaphoreDeeds.{enters, semaphore_deeds, takes}
 use Rattle.lot_semaphore.specs.SemaphoreLaws.{MayHear, next_row}
 use Rattle.lot_semaphore.specs.SemaphoreLaws as laws
 use Rattle.lot_semaphore.specs.SemaphoreProfiles.{semaphore_late_line, semaphore_profile}

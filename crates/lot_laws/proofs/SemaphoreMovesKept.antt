@@ -1,6 +1,5 @@
 -- A thread inside the section of a semaphore takes the first who waits: every lock is a site again. No place is named.
-use Rattle.std.proofs.Common.{ℕ, Bool, true, false, Option, Some, None, if◌then◌else◌, ◌==◌, ◌≡◌, ◌≢◌, ◌+◌, ◌*◌, ◌≤◌, ◌<◌, List, [], ◌∷◌, length, map, drop, get_or, set, inl, inr, refl, sym, ◌∙◌, ap, subst, arith, length-set, get_or-set_same, get_or-set_other}
-use Rattle.std.specs.Prelude.{is_none, not}
+use Rattle.std.proofs.Common.{ℕ, Bool, true, false, Option, Some, None, if◌then◌else◌, ◌==◌, ◌≡◌, ◌*◌, ◌<◌, List, [], ◌∷◌, length, map, drop, refl, sym, ◌∙◌, ap, subst, arith, length-set, get_or-set_same, get_or-set_other}
 use Rattle.lot_base.specs.declared.wants.Waiter.{Waiter}
 use Rattle.lot_base.specs.declared.wants.Want.{Want}
 use Rattle.lot_base.specs.declared.wants.Want.TheVariants.{Shared}
@@ -8,15 +7,14 @@ use Rattle.lot_base.specs.Lines.{first_of, threads_of, times}
 use Rattle.lot_acts.specs.declared.acts.Reply.{Reply}
 use Rattle.lot_acts.specs.declared.acts.Reply.TheVariants.{TakenBy, Took}
 use Rattle.lot_acts.specs.declared.acts.Whom.TheVariants as whom
-use Rattle.lot_acts.specs.Moves.{Hears, Move, inside_of, station_of}
+use Rattle.lot_acts.specs.Moves.{Hears, Move, inside_of}
 use Rattle.lot_acts.specs.Profiles.{in_hand}
 use Rattle.lot_acts.specs.Stations.{Station}
-use Rattle.abstract_locks.specs.Locks.{HasTakenNobody, Knows, KnowsAll, Queued, Rules, Semaphore, TakeFirst, first_thread}
+use Rattle.abstract_locks.specs.Locks.{HasTakenNobody, Knows, KnowsAll, Queued, Rules, Semaphore, TakeFirst, first_thread, putting}
 use Rattle.abstract_locks.specs.Locks as locks
 use Rattle.abstract_locks.specs.Picks.{queued_of}
-use Rattle.abstract_locks.specs.Sites.{Case, Deed, FindNobody, IsSite, Main, Site, idle, is_empty}
+use Rattle.abstract_locks.specs.Sites.{Case, FindNobody, Main, Site, idle, is_empty}
 use Rattle.lot_semaphore.specs.SemaphoreDeeds.{queued}
-use Rattle.lot_semaphore.specs.SemaphoreLaws as laws
 use Rattle.lot_steps.specs.declared.places.Place.{Place}
 use Rattle.lot_steps.specs.Steps.{next_place, profile}
 use Rattle.lot_machine.specs.Machine.{State, is_there, place_at, places_told, put, queue_at, queues_without_first, reply_to_take, state_after_reply, state_after_take_first, state_after_taking}
@@ -24,7 +22,7 @@ use Rattle.lot_machine.proofs.QueueLemmas.{told_count}
 use Rattle.lot_laws.specs.Refinement.{lock_state, taken_at}
 use Rattle.lot_laws.specs.MutexDeeds.{acts}
 use Rattle.lot_laws.specs.Stations.{doing_on, station, station_at}
-use Rattle.lot_laws.specs.SitesOf.{ActsNeeded, AreWaiting, FitsItsLock, Goes, IsSteady, TakesOne, after_acts, carried_at, key_of, rules_in, stations_of, stood_in}
+use Rattle.lot_laws.specs.SitesOf.{ActsNeeded, AreWaiting, FitsItsLock, Goes, IsSteady, TakesOne, after_acts, carried_at, rules_in, stations_of, stood_in}
 use Rattle.lot_laws.proofs.ActsKept.{finds_none, lock_by, nobody_goes, site_by}
 use Rattle.lot_laws.proofs.AtPlaces.{in_no_hand}
 use Rattle.lot_laws.proofs.Glue.{IsOf, free_of, nothing_at, of_single, put_places, same, station_here}
@@ -34,9 +32,6 @@ use Rattle.lot_laws.proofs.SemaphoreMoves.{TakesFirst}
 use Rattle.lot_laws.proofs.StandsKept.{in_main}
 use Rattle.lot_laws.proofs.TakesAt.{only_member}
 use Rattle.lot_laws.proofs.TakesKept.{IsTakenFrom, member, take_goes, told_by, told_places}
-use Rattle.std.specs.Prelude.{slice_index_or}
-use Rattle.lot_steps.specs.declared.places.Place.TheVariants.{Idle}
-use Rattle.abstract_locks.specs.Locks.{putting}
 
 -- who waits for a semaphore waits for a permit
 pub shared_wanted : (x : Want) → Knows Semaphore x → x ≡ Shared

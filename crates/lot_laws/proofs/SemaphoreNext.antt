@@ -1,9 +1,8 @@
 -- A thread in a call of a semaphore owes a wake from the step that gave its permit back on, where that saw waiters, or from entering the section, until it leaves it.
-use Rattle.std.proofs.Common.{ℕ, Bool, true, false, Option, Some, None, if◌then◌else◌, ◌≡◌, inl, inr, refl, sym, ◌∙◌, ap, subst}
+use Rattle.std.proofs.Common.{ℕ, Bool, true, false, Some, if◌then◌else◌, ◌≡◌, inl, inr, refl, sym, ◌∙◌, ap, subst}
 use Rattle.lot_acts.specs.declared.acts.Next.{Next}
 use Rattle.lot_acts.specs.declared.acts.Next.TheVariants as next
 use Rattle.lot_acts.specs.declared.acts.Reply.{Reply}
-use Rattle.lot_acts.specs.declared.acts.Reply.TheVariants as reply
 use Rattle.lot_acts.specs.Acts.{outcome_of}
 use Rattle.lot_acts.specs.Rows.{LetsIn}
 use Rattle.lot_calls.specs.declared.outcomes.Answer.TheVariants as answer

@@ -7,11 +7,8 @@ use Rattle.lot_semaphore.specs.declared.places.SemaphorePlace.TheVariants as sem
 use Rattle.lot_semaphore.specs.declared.release.ReleaseAt.TheVariants as release
 use Rattle.lot_semaphore.specs.declared.tries.TryAt.TheVariants as tries
 use Rattle.lot_semaphore.specs.declared.acquire.AcquireAt.TheVariants as acquire
-use Rattle.lot_steps.specs.Steps.{semaphore_goes}
-use Rattle.lot_semaphore.specs.SemaphoreSteps.{is_free}
+use Rattle.lot_semaphore.specs.SemaphoreSteps.{is_free, semaphore_act, semaphore_next}
 use Rattle.lot_semaphore.specs.declared.places.SemaphorePlace.{SemaphorePlace}
-use Rattle.lot_semaphore.specs.SemaphoreSteps.{semaphore_act}
-use Rattle.lot_semaphore.specs.SemaphoreSteps.{semaphore_next}
 use Rattle.lot_base.specs.declared.keys.Keys.{Keys}
 use Rattle.lot_base.specs.declared.keys.Keys.TheVariants.{One, Two}
 use Rattle.lot_base.specs.Lines.{first_of, threads_of}
@@ -23,7 +20,6 @@ use Rattle.lot_calls.specs.declared.calls.Turn.TheVariants as turn
 use Rattle.lot_acts.specs.declared.acts.Act.{Act}
 use Rattle.lot_acts.specs.declared.acts.Act.TheVariants as act
 use Rattle.lot_acts.specs.declared.acts.Act.TheVariants.{Enter, Sleep, Word}
-use Rattle.lot_base.specs.declared.keys.Keys.TheVariants.{One}
 use Rattle.lot_acts.specs.declared.acts.Next.{Next}
 use Rattle.lot_acts.specs.declared.acts.Next.TheVariants.{At}
 use Rattle.lot_acts.specs.declared.acts.Reply.{Reply}
@@ -73,7 +69,7 @@ use Rattle.lot_condvar.specs.declared.notify.NotifyAt.TheVariants as notify
 use Rattle.lot_condvar.specs.CondvarSteps.{condvar_act, condvar_next, notify_act, move_act, in_wait, relocked, wait_act}
 use Rattle.lot_steps.specs.declared.places.Place.{Place}
 use Rattle.lot_steps.specs.declared.places.Place.TheVariants.{Idle, Mutex, RwLock, Once, Condvar, Semaphore}
-use Rattle.lot_steps.specs.Steps.{act_of, condvar_goes, late_key, looking, mutex_goes, next_place, once_goes, rwlock_goes, taker}
+use Rattle.lot_steps.specs.Steps.{act_of, condvar_goes, late_key, looking, mutex_goes, next_place, once_goes, rwlock_goes, taker, semaphore_goes}
 use Rattle.lot_machine.specs.Machine.{State, hand_over_told, is_possible, after, listed, moved_threads, place_after_telling, place_at, places_told, put, queue_at, queues_without_first, closed_place, state_after_act, state_after_go, state_after_hand_over_by, state_after_late_on, state_after_look, state_after_taking, state_after_turn, state_with_sections, word_at}
 use Rattle.lot_laws.specs.WorldRuns.{SleepersStay}
 use Rattle.lot_laws.proofs.MutexRows.{decided_awake}

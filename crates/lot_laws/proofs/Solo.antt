@@ -40,10 +40,9 @@ use Rattle.lot_steps.specs.Steps.{act_of, lock_of, first_place}
 use Rattle.lot_machine.specs.Machine.{State, place_at, word_at, kind_at, queue_at, section_at, go_of, after, runs_closure, solo}
 use Rattle.lot_machine.specs.Fits.{IsShaped, PlaceFits}
 use Rattle.abstract_locks.specs.Sites.{Line, Main, Second, has_readers}
-use Rattle.abstract_locks.specs.Locks.{Sort}
 use Rattle.lot_laws.specs.Stations.{nowhere, station, station_at}
 use Rattle.lot_laws.specs.SitesOf.{AreCondvars, AreCounted, IsSteady, IsWorld, RunsInClosures, key_of, FitsItsLock, is_mutex, rules_in}
-use Rattle.abstract_locks.specs.Locks.{readers, Rules, MayEnter, IsBlocked}
+use Rattle.abstract_locks.specs.Locks.{readers, Rules, MayEnter, IsBlocked, Sort}
 use Rattle.abstract_locks.specs.Locks as locks
 use Rattle.abstract_locks.specs.Purposes.{rules_of, purpose_of, rwlock_purpose, Releases, Bumps, Patience, Patient, Timed, Try, mutex_purpose}
 use Rattle.abstract_locks.specs.Runs.{IsFull, rules_at, purpose_at}

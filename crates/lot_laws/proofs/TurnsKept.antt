@@ -1,7 +1,6 @@
 -- Each turn of a thread keeps every lock a site, and every thread in the line, the section and the hand that its place says.
 use Rattle.std.proofs.Common.{ℕ, Bool, true, false, Option, Some, None, if◌then◌else◌, ◌≡◌, ◌<◌, [], ◌∷◌, length, length-set, nat_lt, inl, inr, refl, subst, sym, ◌∙◌, ap}
 use Rattle.lot_laws.proofs.OnceKept.{once_goes_late, once_begins}
-use Rattle.lot_laws.proofs.KindsKept.{calls_once, calls_semaphore}
 use Rattle.lot_machine.specs.Machine.{can_close, can_do, can_go, state_after_close, state_after_go, state_after_going}
 use Rattle.lot_laws.proofs.Looking.{closing_steady}
 use Rattle.lot_laws.proofs.Closings.{closing, closing_counted, closing_may, closing_shaped, closing_there}
@@ -38,7 +37,7 @@ use Rattle.lot_laws.specs.MutexDeeds.{mutex_doing, mutex_station, acts, begins}
 use Rattle.lot_laws.specs.Stations.{nowhere, station}
 use Rattle.lot_laws.specs.SitesOf.{AreCondvars, AreCounted, IsSteady, Goes}
 use Rattle.lot_machine.proofs.Shape.{both, looking_shaped}
-use Rattle.lot_laws.proofs.KindsKept.{calls_mutex, calls_readers}
+use Rattle.lot_laws.proofs.KindsKept.{calls_mutex, calls_readers, calls_once, calls_semaphore}
 use Rattle.lot_laws.proofs.Glue.{parts_at, same, single_or_two, thread_is}
 use Rattle.lot_laws.proofs.MutexTable.{mutex, own_doing, meets, others_same}
 use Rattle.lot_laws.proofs.StandsMoved.{mutex_rules}

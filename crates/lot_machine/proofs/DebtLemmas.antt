@@ -1,5 +1,5 @@
 -- Which threads have debts on a lock, by the links of a book.
-use Rattle.std.proofs.Common.{◌≡◌, ◌≢◌, ◌∙◌, ℕ, suc, zero, ◌+◌, ◌-◌, ◌<◌, ◌≤◌, Bool, true, false, inl, inr, Option, Some, None, List, [], ◌∷◌, ◌++◌, length, get_or, set, drop, refl, sym, ap, subst, replicate, get_or-set_same, get_or-set_other, length-set, ne_eqb, arith}
+use Rattle.std.proofs.Common.{◌≡◌, ◌∙◌, ℕ, suc, zero, ◌+◌, ◌-◌, ◌<◌, ◌≤◌, Bool, true, false, inl, inr, Some, None, List, [], ◌∷◌, ◌++◌, length, get_or, set, drop, refl, sym, ap, subst, replicate, get_or-set_same, get_or-set_other, length-set, ne_eqb, arith}
 use Rattle.std.proofs.lemmas.Bool.{cases_eq, cases_lt}
 use Rattle.std.proofs.lemmas.List.{drop_more, get_or-drop, get_or_past, get_or-replicate, length-replicate}
 use Rattle.std.proofs.Math.Seq.{drop-nil}
@@ -16,7 +16,7 @@ use Rattle.lot_machine.specs.declared.debts.Link.{Link}
 use Rattle.lot_machine.specs.declared.debts.Tag.{Tag}
 use Rattle.lot_machine.specs.declared.debts.Tag.TheVariants.{Nowhere, On, Anywhere}
 use Rattle.lot_machine.specs.declared.debts.Debt.TheVariants.{Owes, Retries}
-use Rattle.lot_machine.specs.Debts.{AreLinked, AreLinkedFrom, HasDebtsOnlyOn, Skips, Tells, may_have, place_of, unlinked}
+use Rattle.lot_machine.specs.Debts.{AreLinked, AreLinkedFrom, HasDebtsOnlyOn, Skips, Tells, place_of, unlinked}
 use Rattle.lot_machine.specs.Views.{debtors, has_debt}
 
 and_false : (b : Bool) → (b && false) ≡ false

@@ -62,7 +62,7 @@ use Rattle.lot_mutex.specs.MutexSteps.{is_timed, mutex_next}
 use Rattle.lot_calls.specs.Calls.{lock_in}
 use Rattle.lot_acts.specs.Profiles.{in_line}
 use Rattle.abstract_locks.specs.Sites.{Main}
-use Rattle.lot_steps.specs.Steps.{is_idle, first_place, act_of, next_place, mutex_goes, rwlock_goes, once_goes, looking, late_key, key_in}
+use Rattle.lot_steps.specs.Steps.{is_idle, first_place, act_of, next_place, mutex_goes, rwlock_goes, once_goes, looking, late_key, key_in, HasKeys, condvar_goes, semaphore_goes}
 use Rattle.lot_machine.specs.Machine.{first_word, state_after_hand_over_by, hand_over_told, State, unlocked, opening, kind_at, word_at, place_at, queue_at, put, state_after_operation, state_with_sections, queues_with_last, queues_without_first, queues_without, state_after_park, state_after_reply, place_after_telling, state_after_telling, state_after_hand_over, state_after_taking, state_after_wake, state_after_act, state_after_takes, state_after_take_first, state_after_requeue, queues_requeued, left_behind, moved_under, moved_threads, listed, places_told, state_after_going, going_outcome, closed_place, state_after_close, close_outcome, can_close, runs_closure, can_do, state_after_go, reply_to, state_after_begin, can_begin, is_open_to, state_after_spin, state_after_late, state_after_late_on, state_after_turn, can_turn, is_possible, after, state_after_look, look_outcome, spin_outcome, can_spin, can_go, go_outcome}
 use Rattle.lot_mutex.specs.declared.lock.LockAt as lock
 use Rattle.lot_acts.specs.declared.acts.Whom as whom
@@ -73,7 +73,6 @@ use Rattle.lot_condvar.specs.declared.places.CondvarPlace.TheVariants.{Wait, Loo
 use Rattle.lot_condvar.specs.declared.wait.WaitAt.{WaitAt}
 use Rattle.lot_condvar.specs.declared.wait.WaitAt.TheVariants as wait
 use Rattle.lot_condvar.specs.CondvarSteps.{in_notify, in_wait, next_notify, next_wait}
-use Rattle.lot_steps.specs.Steps.{HasKeys, condvar_goes, semaphore_goes}
 use Rattle.lot_machine.proofs.Acted.{Befalls, acted_keeps}
 use Rattle.lot_machine.proofs.Shown.{AreShown, Writes, performed_shown, writes}
 use Rattle.lot_machine.proofs.Suits.{ReplyFits, SeesFit, call_suits, next_suits}

@@ -1,11 +1,10 @@
 -- Each place of a semaphore: what its step makes of its call, by the row of the next place. The case is the one of its deeds.
-use Rattle.std.proofs.Common.{ℕ, Bool, true, false, Option, Some, None, if◌then◌else◌, ◌==◌, ◌&&◌, not, ◌≡◌, ◌≢◌, ◌≤◌, ◌<◌, ◌+◌, inl, List, [], ◌∷◌, refl, sym, ◌∙◌, ap, length, slice_index, arith, get_or-set_same}
+use Rattle.std.proofs.Common.{ℕ, Bool, true, false, Option, Some, None, if◌then◌else◌, ◌&&◌, not, ◌≡◌, ◌<◌, ◌+◌, inl, List, [], ◌∷◌, refl, ◌∙◌, ap, length, slice_index, arith, get_or-set_same}
 use Rattle.lot_base.specs.declared.wants.Want.TheVariants.{Shared}
 use Rattle.lot_calls.specs.declared.outcomes.Answer.TheVariants as answer
 use Rattle.lot_acts.specs.declared.acts.Next.{Next}
 use Rattle.lot_acts.specs.declared.acts.Next.TheVariants as next
 use Rattle.lot_acts.specs.Calls.{call_by, CallFollows, MayCome, event_at, rights_where}
-use Rattle.lot_acts.specs.Profiles.{Profile}
 use Rattle.abstract_locks.specs.Locks.{LockState, LockCase, Semaphore, Rules, Rights, Enter, Leave as GivesBack, Park, TakeFirst, Owns, IsBlocked, after_case, rights_of, with_right, with_owner, readers}
 use Rattle.abstract_locks.specs.Locks as locks
 use Rattle.abstract_locks.specs.Purposes.{IsMadeOf, Enters, Blank}
@@ -18,7 +17,7 @@ use Rattle.lot_semaphore.specs.declared.tries.TryAt.TheVariants as tries
 use Rattle.lot_semaphore.specs.declared.release.ReleaseAt.TheVariants as release
 use Rattle.lot_semaphore.specs.declared.places.SemaphorePlace.{SemaphorePlace}
 use Rattle.lot_semaphore.specs.declared.places.SemaphorePlace.TheVariants.{Acquire, Try, Release}
-use Rattle.lot_semaphore.specs.SemaphoreDeeds.{enters, queued, takes}
+use Rattle.lot_semaphore.specs.SemaphoreDeeds.{enters, takes}
 use Rattle.lot_semaphore.specs.SemaphoreLaws.{next_row}
 use Rattle.lot_semaphore.specs.SemaphoreProfiles.{patience, semaphore_profile}
 use Rattle.lot_semaphore.specs.SemaphoreSteps.{acquired, in_acquire, in_release, in_try}

@@ -12,7 +12,7 @@ use Rattle.lot_acts.specs.declared.acts.Act.{Act}
 use Rattle.lot_acts.specs.declared.acts.Act.TheVariants as act
 use Rattle.lot_acts.specs.declared.acts.Reply.TheVariants.{Value}
 use Rattle.lot_acts.specs.Owners.{shares_then}
-use Rattle.abstract_locks.specs.Codes.{bit, code, has_parked}
+use Rattle.abstract_locks.specs.Codes.{code, has_parked}
 use Rattle.abstract_locks.specs.Deeds.{after_all}
 use Rattle.abstract_locks.specs.Locks.{Leave, Owns, Rules, Semaphore, readers}
 use Rattle.abstract_locks.specs.Sites.{Case, Deed, Doing, End, Has, IsSite, Main, Mark, Site}
@@ -22,10 +22,10 @@ use Rattle.lot_semaphore.specs.declared.release.ReleaseAt.TheVariants as release
 use Rattle.lot_semaphore.specs.declared.places.SemaphorePlace.{SemaphorePlace}
 use Rattle.lot_semaphore.specs.declared.places.SemaphorePlace.TheVariants.{Acquire, Try, Release}
 use Rattle.lot_semaphore.specs.declared.places.TheConstants.{NOT_PARKED}
-use Rattle.lot_semaphore.specs.SemaphoreDeeds.{enters, looked_deeds, semaphore_deeds}
+use Rattle.lot_semaphore.specs.SemaphoreDeeds.{enters, semaphore_deeds}
 use Rattle.lot_semaphore.specs.SemaphoreLaws.{LeavesWord, MayHear, SemaphoreStepsCode, semaphore_doing}
-use Rattle.lot_semaphore.specs.SemaphoreSteps.{decided, is_free, semaphore_act, semaphore_shares, taken_by, try_act}
-use Rattle.lot_semaphore.proofs.SemaphoreWords.{bit_few, cleared, free_in, held_few, none_free, one_less, one_more, some_free, word_of}
+use Rattle.lot_semaphore.specs.SemaphoreSteps.{decided, is_free, semaphore_act, semaphore_shares, taken_by}
+use Rattle.lot_semaphore.proofs.SemaphoreWords.{bit_few, cleared, free_in, held_few, one_less, one_more, some_free, word_of}
 
 module _ (limit : ℕ) (s : Site) (t l : ℕ) (h : IsSite (record { sort = Semaphore; limit = limit }) s) (small : limit ≤ 2 ^ 62) (few : readers s.lock ≤ limit) (here : t < length s.lock.shared) where
   abbrev r : Rules

@@ -1,6 +1,6 @@
 -- Each step of a semaphore may do to it what its deeds say.
-use Rattle.std.proofs.Common.{ℕ, Bool, true, false, Option, Some, None, if◌then◌else◌, ◌==◌, ◌≡◌, ◌≢◌, ◌⊎◌, ◌<◌, ◌≤◌, ◌+◌, ◌-◌, inl, inr, List, [], ◌∷◌, refl, sym, ap, ◌∙◌, subst, arith, length}
-use Rattle.std.specs.Prelude.{not, drop, is_none, ◌&&◌}
+use Rattle.std.proofs.Common.{ℕ, Bool, true, false, Option, Some, None, if◌then◌else◌, ◌==◌, ◌≡◌, ◌≢◌, ◌⊎◌, ◌≤◌, inl, inr, List, [], ◌∷◌, refl, sym, ap, ◌∙◌, subst, arith}
+use Rattle.std.specs.Prelude.{not, drop, ◌&&◌}
 use Rattle.lot_base.specs.declared.wants.Want.TheVariants.{Shared}
 use Rattle.lot_calls.specs.declared.outcomes.Answer.TheVariants as answer
 use Rattle.lot_acts.specs.declared.acts.Next.{Next}
@@ -10,7 +10,7 @@ use Rattle.lot_acts.specs.declared.acts.Reply.TheVariants.{Done, Value, Parked, 
 use Rattle.lot_acts.specs.Moves.{IsFree, StandsAlone}
 use Rattle.abstract_locks.specs.Codes.{has_parked}
 use Rattle.abstract_locks.specs.Deeds.{AllNeeded, after_all}
-use Rattle.abstract_locks.specs.Locks.{Enter, HasTakenNobody, IsSomePending, Late as GivesUp, Leave, Owns, Pending, Rules, Semaphore, aside_without, one_if_some, putting, readers, standing, without}
+use Rattle.abstract_locks.specs.Locks.{Enter, HasTakenNobody, IsSomePending, Late as GivesUp, Leave, Owns, Pending, Rules, Semaphore, aside_without, one_if_some, putting, standing, without}
 use Rattle.abstract_locks.specs.Sites.{Case, Clear, Deed, Doing, End, Has, In, IsSite, Main, Mark, Out, Second, Site, StandsIn, after_deed, counts_some, found, idle, is_empty, late_found, leaves, seen_main, shares_less, wakened}
 use Rattle.lot_semaphore.specs.declared.acquire.AcquireAt.{AcquireAt}
 use Rattle.lot_semaphore.specs.declared.acquire.AcquireAt.TheVariants as acquire
@@ -24,7 +24,7 @@ use Rattle.lot_semaphore.specs.SemaphoreDeeds.{enters, semaphore_deeds, takes}
 use Rattle.lot_semaphore.specs.SemaphoreLaws.{Follows, MayHear, MayHearAcquiring, MayHearReleasing, MayHearTrying, SemaphoreStepsFollow, TakesFirst, doing_next, semaphore_doing}
 use Rattle.lot_semaphore.specs.SemaphoreProfiles.{again, carrying, holder, inside}
 use Rattle.lot_semaphore.specs.SemaphoreSteps.{acquired, in_acquire, in_release, in_try, is_free, semaphore_next}
-use Rattle.lot_semaphore.proofs.SemaphoreWords.{first_is, free_in, nobody_first, none_free, one, parked_is, put_same, some_free, word_of}
+use Rattle.lot_semaphore.proofs.SemaphoreWords.{first_is, free_in, nobody_first, one, parked_is, put_same, some_free, word_of}
 
 module _ (limit : ℕ) (s : Site) (t : ℕ) (h : IsSite (record { sort = Semaphore; limit = limit }) s) where
   abbrev r : Rules

@@ -1,5 +1,5 @@
 -- Each place of a semaphore says of its thread what is promised of it, by the test of its row.
-use Rattle.std.proofs.Common.{ℕ, Bool, true, false, if◌then◌else◌, ◌==◌, not, ◌&&◌, ◌≡◌, ◌*◌, ◌-◌, refl}
+use Rattle.std.proofs.Common.{ℕ, Bool, true, false, if◌then◌else◌, ◌==◌, ◌&&◌, ◌≡◌, ◌*◌, ◌-◌, refl}
 use Rattle.lot_base.specs.declared.keys.Keys.TheVariants.{One}
 use Rattle.lot_base.specs.declared.keys.Line.TheVariants.{Main}
 use Rattle.lot_base.specs.declared.ops.Op.TheVariants as op

@@ -1,11 +1,11 @@
 -- Whatever a thread in a call of a semaphore is told of its step, the step makes of its call what its next row says.
-use Rattle.std.proofs.Common.{ℕ, Bool, true, false, Option, Some, None, ◌==◌, ◌≡◌, ◌≢◌, ◌≤◌, ◌<◌, ◌-◌, [], ◌∷◌, refl, sym, ◌∙◌, ap, subst, arith, length}
+use Rattle.std.proofs.Common.{ℕ, true, false, Option, ◌==◌, ◌≡◌, ◌≢◌, ◌<◌, [], ◌∷◌, refl, sym, ◌∙◌, ap, subst, arith, length}
 use Rattle.lot_base.specs.declared.wants.Want.TheVariants.{Shared}
 use Rattle.lot_acts.specs.declared.acts.Reply.{Reply}
 use Rattle.lot_acts.specs.declared.acts.Reply.TheVariants.{Done, Value, Parked, Took, Removed, Late}
 use Rattle.lot_acts.specs.Calls.{CallFollows}
 use Rattle.abstract_locks.specs.Codes.{code, has_parked}
-use Rattle.abstract_locks.specs.Locks.{IsBlocked, Owns, Rules, Semaphore, readers}
+use Rattle.abstract_locks.specs.Locks.{IsBlocked, Owns, Rules, Semaphore}
 use Rattle.abstract_locks.specs.Sites.{Clear as Clears, Doing, Has, In, IsSite, Main, Site}
 use Rattle.lot_semaphore.specs.declared.acquire.AcquireAt.TheVariants as acquire
 use Rattle.lot_semaphore.specs.declared.tries.TryAt.TheVariants as tries
@@ -17,7 +17,7 @@ use Rattle.lot_semaphore.specs.SemaphoreLaws.{MayHear, SemaphoreStepsTell, next_
 use Rattle.lot_semaphore.specs.SemaphoreProfiles.{semaphore_profile}
 use Rattle.lot_semaphore.specs.SemaphoreSteps.{is_free, semaphore_next}
 use Rattle.lot_semaphore.proofs.SemaphoreCalls.{Tells, attempts, checks, exchanges, gives, gives_up, leaves_line, looks, quiet, removes, takes_one, wakes_taken}
-use Rattle.lot_semaphore.proofs.SemaphoreWords.{free_in, none_free, word_of}
+use Rattle.lot_semaphore.proofs.SemaphoreWords.{free_in, none_free}
 
 module _ (limit : ℕ) (s : Site) (t l : ℕ) (h : IsSite (record { sort = Semaphore; limit = limit }) s) (here : t < length s.lock.shared) where
   abbrev r : Rules

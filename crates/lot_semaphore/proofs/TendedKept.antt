@@ -1,17 +1,15 @@
 -- Each deed keeps what holds of a semaphore, and its word follows.
-use Rattle.std.proofs.Common.{ℕ, Bool, true, false, Option, Some, None, ◌≡◌, ◌≢◌, ◌<◌, ◌≤◌, ◌+◌, ◌-◌, ◌*◌, ◌/◌, ◌^◌, ◌⊎◌, inl, inr, List, [], ◌∷◌, refl, sym, ap, arith, length, length-set, get_or, set, replicate}
-use Rattle.std.proofs.lemmas.Bool.{cases_lt}
+use Rattle.std.proofs.Common.{ℕ, Bool, true, false, Option, Some, None, ◌≡◌, ◌≢◌, ◌<◌, ◌≤◌, ◌+◌, ◌-◌, ◌*◌, inl, inr, List, [], ◌∷◌, refl, ap, arith, length, length-set}
 use Rattle.std.proofs.lemmas.Bool.Decides.{nat_tests}
-use Rattle.std.specs.Prelude.{sum, slice_index, slice_set}
+use Rattle.std.specs.Prelude.{slice_index}
 use Rattle.std.proofs.lemmas.List.Sums.{sum_by-set}
 use Rattle.std.proofs.lemmas.List.Folds.{sum_by-replicate}
 use Rattle.lot_base.specs.declared.wants.Want.{Want}
-use Rattle.lot_base.specs.declared.wants.Want.TheVariants.{Exclusive, Upgradable, Shared}
+use Rattle.lot_base.specs.declared.wants.Want.TheVariants.{Shared}
 use Rattle.abstract_locks.specs.Locks.{Taken, Sort, Semaphore, Rules, LockCase, OfOnce, Enter, Pend, Settle, Leave, Convert, Park, Aside, TakeFirst, TakeAside, TakePicked, Wake, HandOff, Late, Rollback, Knows, readers, standing, OfCondvar, SeeOwner, opening_lock}
 use Rattle.abstract_locks.specs.Locks as locks
-use Rattle.abstract_locks.specs.Sites.{Line, Main, Second, Site, IsSite, Begin, End, In, Out, Mark, Clear, FindNobody, MarkOwned, MarkBrought, Send, LeaveLine, Bring, Case, Deed, Needed, after_deed, IsDebtor, counts_some, opening_site}
-use Rattle.abstract_locks.specs.Codes.{bit, code, has_parked}
-use Rattle.abstract_locks.specs.Permits.{HasPermits}
+use Rattle.abstract_locks.specs.Sites.{Main, Second, Site, Begin, End, In, Out, Mark, Clear, FindNobody, MarkOwned, MarkBrought, Send, LeaveLine, Bring, Case, Deed, Needed, after_deed, counts_some}
+use Rattle.abstract_locks.specs.Codes.{bit, has_parked}
 use Rattle.abstract_locks.proofs.LockKeeps.{opening_is_state}
 use Rattle.abstract_locks.proofs.SiteFacts.{fewer_share}
 use Rattle.abstract_locks.proofs.SiteKeeps.{deed_keeps}

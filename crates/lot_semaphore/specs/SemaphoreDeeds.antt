@@ -1,5 +1,5 @@
 -- What each step of a semaphore does to it: the deeds of each place.
-use Rattle.std.specs.Prelude.{ℕ, Bool, true, Option, Some, None, if◌then◌else◌, ◌==◌, not, ◌&&◌, List, [], ◌∷◌}
+use Rattle.std.specs.Prelude.{ℕ, true, Option, Some, None, if◌then◌else◌, ◌==◌, not, ◌&&◌, List, [], ◌∷◌}
 use Rattle.lot_base.specs.declared.wants.Want.TheVariants.{Shared}
 use Rattle.lot_acts.specs.declared.acts.Reply.{Reply}
 use Rattle.lot_acts.specs.declared.acts.Reply.TheVariants.{Done, Value, Parked, Took, Removed, Late}

@@ -1,5 +1,5 @@
 -- The steps of a semaphore: what a thread does at each place, and where each reply leads it.
-use Rattle.std.specs.Prelude.{ℕ, Bool, true, false, Option, Some, None, if◌then◌else◌, ◌==◌, not, ◌&&◌, ◌+◌, ◌-◌, ◌*◌, ◌/◌}
+use Rattle.std.specs.Prelude.{ℕ, Bool, true, false, Option, Some, None, if◌then◌else◌, ◌==◌, not, ◌&&◌, ◌-◌, ◌*◌, ◌/◌}
 use Rattle.lot_base.specs.declared.keys.Keys.TheVariants.{One}
 use Rattle.lot_base.specs.declared.notes.Note.TheVariants.{Normal}
 use Rattle.lot_base.specs.declared.wants.Want.TheVariants.{Shared}
