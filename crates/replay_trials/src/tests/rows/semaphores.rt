@@ -67,7 +67,7 @@ s 0 own=2s,3s
 ",
     ),
     // A thread may hold several permits, and no call but a release needs one; the last waiter that
-    // gives up clears the bit.
+    // gives up clears the bit. No semaphore is drained.
     (
         b"threads 2
 lock s semaphore 2
@@ -89,6 +89,7 @@ show
 0 do release s
 0 do release s
 show
+drain
 ",
         b"1 not now
 0 end ok
@@ -108,6 +109,7 @@ s 0 own=0s,0s
 0 end ok
 0 not now
 s 4
+drain refused
 ",
     ),
 ];
