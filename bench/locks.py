@@ -27,7 +27,7 @@ RUST = os.path.join(HERE, "rust")
 THEIRS = os.path.join(RUST, "out", "release", "lotbench")
 # Where Debian's packages lay the sources of Rust crates.
 REGISTRY = "/usr/share/cargo/registry"
-MUTEXES = ["raw_mutex", "raw_mutex_try", "mutex", "mutex_try", "fair", "remutex", "remutex2"]
+MUTEXES = ["raw_mutex", "raw_mutex_try", "mutex", "mutex_try", "fair", "many", "many_fair", "remutex", "remutex2"]
 RWLOCKS = ["raw_read", "raw_write", "read", "write", "rw_mix", "read_recursive", "upgradable", "upgrade", "downgrade"]
 CONDVARS = ["notify", "notify_all", "pingpong", "queue"]
 SEMAPHORES = ["semaphore", "semaphore2"]

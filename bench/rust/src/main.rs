@@ -1,6 +1,6 @@
 //! `lotbench` over the Rust crate `parking_lot`: the same arguments, the same line.
 
-use parking_lot::lock_api::{RawMutex as _, RawRwLock as _};
+use parking_lot::lock_api::{self, RawMutex as _, RawRwLock as _};
 use parking_lot::{Condvar, FairMutex, Mutex, Once, RawMutex, RawRwLock, ReentrantMutex, RwLock, RwLockUpgradableReadGuard, RwLockWriteGuard};
 use std::hint::black_box;
 use std::process::ExitCode;
@@ -15,7 +15,7 @@ const ONE_IN: u64 = 16;
 const PLACES: u64 = 16;
 const MOST_THREADS: usize = 64;
 const MOST_OPERATIONS: u64 = 1_000_000_000_000;
-const USAGE: &str = "usage: lotbench raw_mutex|raw_mutex_try|mutex|mutex_try|fair|remutex|remutex2|raw_read|raw_write|read|write|rw_mix|read_recursive|upgradable|upgrade|downgrade|once|semaphore|semaphore2|notify|notify_all|pingpong|queue|std_once THREADS N";
+const USAGE: &str = "usage: lotbench raw_mutex|raw_mutex_try|mutex|mutex_try|fair|many|many_fair|remutex|remutex2|raw_read|raw_write|read|write|rw_mix|read_recursive|upgradable|upgrade|downgrade|once|semaphore|semaphore2|notify|notify_all|pingpong|queue|std_once THREADS N";
 
 #[derive(Clone, Copy)]
 enum Mode {
@@ -24,6 +24,8 @@ enum Mode {
     Mutex,
     MutexTry,
     Fair,
+    Many,
+    ManyFair,
     Remutex,
     Remutex2,
     RawRead,
@@ -54,6 +56,8 @@ impl Mode {
             "mutex" => Some(Mode::Mutex),
             "mutex_try" => Some(Mode::MutexTry),
             "fair" => Some(Mode::Fair),
+            "many" => Some(Mode::Many),
+            "many_fair" => Some(Mode::ManyFair),
             "remutex" => Some(Mode::Remutex),
             "remutex2" => Some(Mode::Remutex2),
             "raw_read" => Some(Mode::RawRead),
@@ -84,6 +88,8 @@ impl Mode {
             Mode::Mutex => "mutex",
             Mode::MutexTry => "mutex_try",
             Mode::Fair => "fair",
+            Mode::Many => "many",
+            Mode::ManyFair => "many_fair",
             Mode::Remutex => "remutex",
             Mode::Remutex2 => "remutex2",
             Mode::RawRead => "raw_read",
@@ -260,10 +266,15 @@ impl Semaphore {
     }
 }
 
+/// How many locks stand in a row.
+const LENGTH: usize = 64;
+
 struct Bench {
     raw: Apart<RawMutex>,
     value: Apart<Mutex<u64>>,
     fair: Apart<FairMutex<u64>>,
+    plain_row: Vec<Apart<Mutex<u64>>>,
+    fair_row: Vec<Apart<FairMutex<u64>>>,
     again: Apart<ReentrantMutex<u64>>,
     raw_rwlock: Apart<RawRwLock>,
     rwlock: Apart<RwLock<u64>>,
@@ -313,6 +324,17 @@ fn lock_value(bench: &Bench, times: u64) {
 fn lock_fair(bench: &Bench, times: u64) {
     for _ in 0..times {
         let mut value = bench.fair.0.lock();
+        *value = value.wrapping_add(1);
+    }
+}
+
+#[inline(never)]
+fn add_along<M: lock_api::RawMutex>(row: &[Apart<lock_api::Mutex<M, u64>>], number: usize, times: u64) {
+    let stride = number * 2 + 1;
+    let mut place = stride;
+    for _ in 0..times {
+        place = place.wrapping_add(stride) % LENGTH;
+        let mut value = row[place].0.lock();
         *value = value.wrapping_add(1);
     }
 }
@@ -459,7 +481,7 @@ fn notify_nobody(bench: &Bench, times: u64) {
     }
 }
 
-fn work(mode: Mode, bench: &Bench, threads: usize) -> u64 {
+fn work(mode: Mode, bench: &Bench, threads: usize, number: usize) -> u64 {
     if matches!(mode, Mode::NotifyAll | Mode::PingPong | Mode::Queue) {
         return bench.desk.0.work(mode, threads as u64);
     }
@@ -475,6 +497,8 @@ fn work(mode: Mode, bench: &Bench, threads: usize) -> u64 {
             Mode::Mutex => lock_value(bench, times),
             Mode::MutexTry => try_value(bench, times),
             Mode::Fair => lock_fair(bench, times),
+            Mode::Many => add_along(&bench.plain_row, number, times),
+            Mode::ManyFair => add_along(&bench.fair_row, number, times),
             Mode::Remutex => lock_once(bench, times),
             Mode::Remutex2 => lock_again(bench, times),
             Mode::RawRead => read_raw(bench, times),
@@ -523,6 +547,8 @@ fn main() -> ExitCode {
         raw: Apart(RawMutex::INIT),
         value: Apart(Mutex::new(0)),
         fair: Apart(FairMutex::new(0)),
+        plain_row: (0..LENGTH).map(|_| Apart(Mutex::new(0))).collect(),
+        fair_row: (0..LENGTH).map(|_| Apart(FairMutex::new(0))).collect(),
         again: Apart(ReentrantMutex::new(0)),
         raw_rwlock: Apart(RawRwLock::INIT),
         rwlock: Apart(RwLock::new(0)),
@@ -539,7 +565,7 @@ fn main() -> ExitCode {
     let started = Instant::now();
     let counts: Vec<u64> = thread::scope(|scope| {
         let shared = &bench;
-        let spawned: Vec<_> = (0..threads).map(|_| scope.spawn(move || work(mode, shared, threads))).collect();
+        let spawned: Vec<_> = (0..threads).map(|number| scope.spawn(move || work(mode, shared, threads, number))).collect();
         spawned.into_iter().map(|thread| thread.join().unwrap()).collect()
     });
     let nanos = started.elapsed().as_nanos();

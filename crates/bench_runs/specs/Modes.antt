@@ -1,7 +1,7 @@
 -- The names of the modes.
 use Rattle.std.specs.Prelude.{◌≡◌, ◌≢◌, ℕ, List, codes, Option, MatchOption}
 use Rattle.bench_runs.specs.declared.plans.Mode.{Mode}
-use Rattle.bench_runs.specs.declared.plans.Mode.TheVariants.{RawMutex, RawMutexTry, Mutex, MutexTry, Fair, Remutex, Remutex2, RawRead, RawWrite, Read, Write, RwMix, ReadRecursive, Upgradable, Upgrade, Downgrade, Once, Semaphore, Semaphore2, Notify, NotifyAll, PingPong, Queue}
+use Rattle.bench_runs.specs.declared.plans.Mode.TheVariants.{RawMutex, RawMutexTry, Mutex, MutexTry, Fair, Many, ManyFair, Remutex, Remutex2, RawRead, RawWrite, Read, Write, RwMix, ReadRecursive, Upgradable, Upgrade, Downgrade, Once, Semaphore, Semaphore2, Notify, NotifyAll, PingPong, Queue}
 
 abbrev pub name_of : Mode → List ℕ
 name_of RawMutex = codes "raw_mutex"
@@ -9,6 +9,8 @@ name_of RawMutexTry = codes "raw_mutex_try"
 name_of Mutex = codes "mutex"
 name_of MutexTry = codes "mutex_try"
 name_of Fair = codes "fair"
+name_of Many = codes "many"
+name_of ManyFair = codes "many_fair"
 name_of Remutex = codes "remutex"
 name_of Remutex2 = codes "remutex2"
 name_of RawRead = codes "raw_read"

@@ -5,6 +5,7 @@ mod condvars;
 mod made;
 mod mutexes;
 pub mod plans;
+mod rows;
 pub mod runs;
 mod rwlocks;
 mod semaphores;

@@ -16,6 +16,8 @@ pub const MODES: &[Mode] = &[
     Mode::Mutex,
     Mode::MutexTry,
     Mode::Fair,
+    Mode::Many,
+    Mode::ManyFair,
     Mode::Remutex,
     Mode::Remutex2,
     Mode::RawRead,
@@ -49,6 +51,10 @@ pub enum Mode {
     MutexTry,
     /// The lock of a value of a fair mutex, to which 1 is added, and its unlock.
     Fair,
+    /// The same of one mutex of 64 after the other, at each thread's own stride.
+    Many,
+    /// The same of 64 fair mutexes.
+    ManyFair,
     /// The lock of a reentrant mutex, and its unlock.
     Remutex,
     /// The same twice, one inside the other.
@@ -98,6 +104,8 @@ impl Mode {
             "mutex" => Some(Mode::Mutex),
             "mutex_try" => Some(Mode::MutexTry),
             "fair" => Some(Mode::Fair),
+            "many" => Some(Mode::Many),
+            "many_fair" => Some(Mode::ManyFair),
             "remutex" => Some(Mode::Remutex),
             "remutex2" => Some(Mode::Remutex2),
             "raw_read" => Some(Mode::RawRead),
@@ -129,6 +137,8 @@ impl Mode {
             Mode::Mutex => "mutex",
             Mode::MutexTry => "mutex_try",
             Mode::Fair => "fair",
+            Mode::Many => "many",
+            Mode::ManyFair => "many_fair",
             Mode::Remutex => "remutex",
             Mode::Remutex2 => "remutex2",
             Mode::RawRead => "raw_read",

@@ -3,6 +3,7 @@
 //! Each loop of operations is a function of its own, which is inlined nowhere: so what stands
 //! beside it has no part in its time.
 ghost use Rattle.std.specs.Prelude.{◌≡◌, ◌≤◌, IfOk, IfSome, All};
+ghost use Rattle.std.proofs.Props.{props};
 ghost use Rattle.std.specs.Arc.{arc_value};
 ghost use Rattle.parking_lot.specs.CondvarUsers.{lot_of as condvar_lot};
 ghost use Rattle.parking_lot.specs.RwLockUsers.{lot_of as rwlot_of};
@@ -18,12 +19,14 @@ use crate::mutexes::{
     value_in as added_to,
 };
 use crate::plans::{Mode, Plan};
+use crate::rows::{ROWS, Rows, add_along, rows_of};
 use crate::rwlocks::{
     RWLOCKS, RwLocks, come_upgradable, downgrade_value, mix_value, read_raw, read_value,
     rwlocks_of, upgrade_value, value_in, write_raw, write_value,
 };
 use crate::semaphores::{SEMAPHORES, Semaphores, hold_permit, semaphores_of};
 use crate::shares::Shares;
+use parking_lot::lock_api::RawMutex as RawLock;
 use parking_lot::{Fault, Once, ParkingLot, Ticket, Token};
 use std::alloc::Global;
 use std::io;
@@ -43,10 +46,12 @@ pub struct Figures {
     pub high: u64,
 }
 
-// Mutexes, reader-writer locks, a `Once` that is done, semaphores, and a desk, of one lot.
+// Mutexes, rows of them, reader-writer locks, a `Once` that is done, semaphores, and a desk, of one
+// lot.
 #[derive(Drop)]
 struct Bench {
     mutexes: Box<Mutexes>,
+    rows: Box<Rows>,
     rwlocks: Box<RwLocks>,
     done: Box<Once>,
     semaphores: Box<Semaphores>,
@@ -54,7 +59,9 @@ struct Bench {
     ghost together: { (rwlot_of rwlocks.value.raw ≡ lot_of mutexes.value.raw)
         × (once_lot done.value ≡ lot_of mutexes.value.raw)
         × (semaphore_lot semaphores.value.one ≡ lot_of mutexes.value.raw)
-        × (condvar_lot desk.value.filled ≡ lot_of mutexes.value.raw) },
+        × (condvar_lot desk.value.filled ≡ lot_of mutexes.value.raw)
+        × All (λ mutex. lot_of mutex ≡ lot_of mutexes.value.raw) rows.value.plain.items
+        × All (λ mutex. lot_of mutex ≡ lot_of mutexes.value.raw) rows.value.fair.items } by { Prim.hlevel props },
 }
 
 // The locks, drawn from the lot.
@@ -69,14 +76,16 @@ fn bench_of(
     ensures made { IfOk result (λ bench. lot_of bench.mutexes.value.raw ≡ arc_value lot.now) }
 {
     let mutexes = boxed(alloc, mutexes_of(lot, token));
+    let rows = boxed(alloc, rows_of(alloc, lot, token));
     let rwlocks = boxed(alloc, rwlocks_of(lot, token));
     let done = boxed(alloc, Once::new_completed(lot, token));
     let semaphores = boxed(alloc, semaphores_of(lot, token));
     let desk = boxed(alloc, desk_for(lot, token, operations));
-    let locks = both(both(mutexes, rwlocks), semaphores);
-    let (((mutexes, rwlocks), semaphores), (done, desk)) = both(locks, both(done, desk))?;
+    let locks = both(both(mutexes, rwlocks), both(rows, semaphores));
+    let (((mutexes, rwlocks), (rows, semaphores)), (done, desk)) = both(locks, both(done, desk))?;
     Ok(Bench {
         mutexes,
+        rows,
         rwlocks,
         done,
         semaphores,
@@ -119,7 +128,7 @@ fn bench_for(
         (λ made. IsTicketOf (lot_of made.0.mutexes.value.raw) made.1
         × All (IsTicketOf (lot_of made.0.mutexes.value.raw)) made.2.items) }
 {
-    let words = MUTEXES + RWLOCKS + 1 + SEMAPHORES + DESK;
+    let words = MUTEXES + ROWS + RWLOCKS + 1 + SEMAPHORES + DESK;
     let (lot, mut tickets) = ParkingLot::new(alloc, words, threads + 1)?;
     let Some(maker) = one_of(&lot, &mut tickets) else {
         return Err(Fault::NoMemory);
@@ -147,12 +156,15 @@ fn operate<R: Wait>(rt: &R, mode: Mode, bench: &Bench, token: &mut Token, times:
 {
     let mutexes = &bench.mutexes;
     let rwlocks = &bench.rwlocks;
+    let (lot, number) = (mutexes.raw.lot(), token.number());
     match mode {
         Mode::RawMutex => lock_raw(rt, &mutexes.raw, token, times),
         Mode::RawMutexTry => try_raw(rt, &mutexes.raw, token, times),
         Mode::Mutex => lock_value(rt, &mutexes.value, token, times),
         Mode::MutexTry => try_value(rt, &mutexes.value, token, times),
         Mode::Fair => lock_value(rt, &mutexes.fair, token, times),
+        Mode::Many => add_along(rt, bench.rows.plain.as_slice(), token, lot, number, times),
+        Mode::ManyFair => add_along(rt, bench.rows.fair.as_slice(), token, lot, number, times),
         Mode::Remutex => lock_once(rt, &mutexes.again, token, times),
         Mode::Remutex2 => lock_again(rt, &mutexes.again, token, times),
         Mode::RawRead => read_raw(rt, &rwlocks.raw, token, times),
@@ -220,6 +232,8 @@ fn total_of<R: Wait>(rt: &R, mode: Mode, bench: &Bench, maker: Ticket, counts: &
         Mode::NotifyAll | Mode::PingPong | Mode::Queue => done_at(rt, &bench.desk, &mut token),
         Mode::RawMutex
         | Mode::RawMutexTry
+        | Mode::Many
+        | Mode::ManyFair
         | Mode::Remutex
         | Mode::Remutex2
         | Mode::RawRead

@@ -21,7 +21,7 @@ pub(crate) const NO_MEMORY: u8 = 3;
 pub(crate) const BROKEN: u8 = 4;
 
 const USAGE: &str =
-    "usage: lotbench raw_mutex|raw_mutex_try|mutex|mutex_try|fair|remutex|remutex2|raw_read|raw_write|read|write|rw_mix|read_recursive|upgradable|upgrade|downgrade|once|semaphore|semaphore2|notify|notify_all|pingpong|queue THREADS N, or lotbench each";
+    "usage: lotbench raw_mutex|raw_mutex_try|mutex|mutex_try|fair|many|many_fair|remutex|remutex2|raw_read|raw_write|read|write|rw_mix|read_recursive|upgradable|upgrade|downgrade|once|semaphore|semaphore2|notify|notify_all|pingpong|queue THREADS N, or lotbench each";
 
 /// Carries out the plan of the arguments and tells its figures, and gives the status of the
 /// process.
