@@ -23,7 +23,7 @@ use crate::once_calls::{Look, begin, begin_behind, close};
 use lot_acts::bits::{is_done, is_poisoned, is_running};
 use lot_base::{main_key, to_deadline};
 use lot_calls::{Answer, OnceCall, OnceState};
-use lot_driver::driver::NO_LIMIT;
+use lot_driver::driver::FOR_EVER;
 use lot_once::{DONE, RUNNING};
 use lot_words::laws::once_may_step;
 use parking_lot_core::{Clock, Fault, Key, Op, ParkingLot, Token, Word, WordKind};
@@ -221,14 +221,15 @@ impl Once {
         begin(&self.lot, token, self.word)
     }
 
-    // The rest of a call whose first step saw this, up to its end or its closure.
+    // The rest of a call whose first step saw this, up to its end or its closure. The limit comes by
+    // reference, so that a call which is done has no room to clear for it.
     #[cold]
     #[inline(never)]
     fn go_on<R: Wait, C: Clock>(
         &self,
         rt: &R,
         token: &mut Token,
-        limit: Option<(&C, u64)>,
+        limit: &Option<(&C, u64)>,
         call: OnceCall,
         seen: u64,
     ) -> Came
@@ -236,9 +237,9 @@ impl Once {
         requires seen { (before : Token) × HasSeen (number_of self.now) seen before token.old }
         ensures token { IsTokenOf (lot_of self.now) token.new }
         ensures came { (before : Token) → HasSeen (number_of self.now) seen before token.old
-            → CameTo (IsUp C.tells limit.entry) (number_of self.now) call before token.new result }
+            → CameTo (IsUp C.tells limit.now) (number_of self.now) call before token.new result }
     {
-        match begin_behind(rt, &self.lot, token, self.word, limit, call, seen) {
+        match begin_behind(rt, &self.lot, token, self.word, *limit, call, seen) {
             Look::Ended(answer) => came_by(answer),
             Look::Runs(state) => Came::Runs(state),
         }
@@ -280,7 +281,7 @@ impl Once {
             return Ok(());
         }
         let call = OnceCall::Wait { forced: false };
-        match self.go_on(rt, token, NO_LIMIT, call, seen) {
+        match self.go_on(rt, token, FOR_EVER, call, seen) {
             Came::Done => Ok(()),
             Came::Poisoned => Err(Fault::Poisoned),
             Came::Late | Came::Runs(_) => unreachable!(),
@@ -302,7 +303,7 @@ impl Once {
             return;
         }
         let call = OnceCall::Wait { forced: true };
-        match self.go_on(rt, token, NO_LIMIT, call, seen) {
+        match self.go_on(rt, token, FOR_EVER, call, seen) {
             Came::Done => {}
             Came::Poisoned | Came::Late | Came::Runs(_) => unreachable!(),
         }
@@ -332,7 +333,7 @@ impl Once {
         if is_done(seen) {
             return Ok(true);
         }
-        match self.go_on(rt, token, limit, OnceCall::WaitTimed, seen) {
+        match self.go_on(rt, token, &limit, OnceCall::WaitTimed, seen) {
             Came::Done => Ok(true),
             Came::Late => Ok(false),
             Came::Poisoned => Err(Fault::Poisoned),
@@ -426,7 +427,7 @@ impl Once {
             return Ok(());
         }
         let call = OnceCall::CallOnce { forced: false };
-        match self.go_on(rt, token, NO_LIMIT, call, seen) {
+        match self.go_on(rt, token, FOR_EVER, call, seen) {
             Came::Done => Ok(()),
             Came::Poisoned => Err(OnceFault::Refused(Fault::Poisoned)),
             Came::Late => unreachable!(),
@@ -467,7 +468,7 @@ impl Once {
             return Ok(());
         }
         let call = OnceCall::CallOnce { forced: true };
-        match self.go_on(rt, token, NO_LIMIT, call, seen) {
+        match self.go_on(rt, token, FOR_EVER, call, seen) {
             Came::Done => Ok(()),
             Came::Poisoned | Came::Late => unreachable!(),
             Came::Runs(state) => match f(state) {

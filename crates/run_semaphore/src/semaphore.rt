@@ -25,7 +25,7 @@ use crate::calls::{acquire_behind, give, give_all, look, take, try_behind, wake_
 use lot_acts::bits::has_parked;
 use lot_base::{main_key, to_deadline};
 use lot_calls::Answer;
-use lot_driver::driver::NO_LIMIT;
+use lot_driver::driver::FOR_EVER;
 use lot_semaphore::free_permits;
 use parking_lot_core::{Clock, Fault, Held, Key, ParkingLot, Token, Want, Word};
 use std::sync::{Arc, Wait};
@@ -129,13 +129,14 @@ impl Semaphore {
         }
     }
 
-    // Waits for a permit, up to a deadline where it is timed.
+    // Waits for a permit, up to a deadline where it is timed. The limit comes by reference, so that a
+    // call which gets one at once has no room to clear for it.
     #[inline(always)]
     fn wait<'a, R: Wait, C: Clock>(
         &'a self,
         rt: &R,
         token: &mut Token,
-        limit: Option<(&C, u64)>,
+        limit: &Option<(&C, u64)>,
         timed: bool,
     ) -> Option<Permit<'a>>
         requires { IsTokenOf (lot_of self.now) token.old }
@@ -144,7 +145,7 @@ impl Semaphore {
         ensures path { HasWaited (number_of self.now) timed
             (answer_by (acquired timed) result) token.old token.new }
         ensures left { IfNone result (TookNobodyAt (number_of self.now) (last_of token.new)) }
-        ensures late { IfNone result ((timed ≡ true) × IsUp C.tells limit.entry) }
+        ensures late { IfNone result ((timed ≡ true) × IsUp C.tells limit.now) }
     {
         let lot: &ParkingLot = &self.lot;
         let seen = look(lot, token, self.word);
@@ -165,7 +166,7 @@ impl Semaphore {
         &'a self,
         rt: &R,
         token: &mut Token,
-        limit: Option<(&C, u64)>,
+        limit: &Option<(&C, u64)>,
         timed: bool,
         seen: u64,
     ) -> Option<Permit<'a>>
@@ -176,9 +177,9 @@ impl Semaphore {
             (deciding (number_of self.now) timed seen) (steps_of token.old) (steps_of token.new)
             (answer_by (acquired timed) result) }
         ensures left { IfNone result (TookNobodyAt (number_of self.now) (last_of token.new)) }
-        ensures late { IfNone result ((timed ≡ true) × IsUp C.tells limit.entry) }
+        ensures late { IfNone result ((timed ≡ true) × IsUp C.tells limit.now) }
     {
-        let answer = acquire_behind(rt, &self.lot, token, self.word, limit, timed, seen);
+        let answer = acquire_behind(rt, &self.lot, token, self.word, *limit, timed, seen);
         if let Answer::No = answer {
             return None;
         }
@@ -193,7 +194,7 @@ impl Semaphore {
         ensures permit { semaphore_of result ≡ self.now }
         ensures path { HasWalked (number_of self.now) (Acquire Patient) answers.Ok token.old token.new }
     {
-        match self.wait(rt, token, NO_LIMIT, false) {
+        match self.wait(rt, token, FOR_EVER, false) {
             Some(permit) => permit,
             None => unreachable!(),
         }
@@ -243,7 +244,7 @@ impl Semaphore {
         ensures late { IfNone result (HasElapsed (C.tells clock.now) (as_nanos timeout)) }
     {
         let limit = to_deadline(clock.now(), timeout);
-        self.wait(rt, token, limit.map(|deadline| (clock, deadline)), true)
+        self.wait(rt, token, &limit.map(|deadline| (clock, deadline)), true)
     }
 
     /// Waits for a permit. None only where the clock had come to the deadline, in nanoseconds.
@@ -263,7 +264,7 @@ impl Semaphore {
         ensures left { IfNone result (TookNobodyAt (number_of self.now) (last_of token.new)) }
         ensures late { IfNone result (HasPassed (C.tells clock.now) deadline) }
     {
-        self.wait(rt, token, Some((clock, deadline)), true)
+        self.wait(rt, token, &Some((clock, deadline)), true)
     }
 
     /// How many permits are free, by one load. With those that the token's own view names they are
