@@ -37,7 +37,7 @@ use Rattle.lot_semaphore.specs.declared.tries.TryAt.TheVariants as tries
 use Rattle.lot_semaphore.specs.declared.release.ReleaseAt.TheVariants as release
 use Rattle.lot_semaphore.specs.declared.places.SemaphorePlace.{SemaphorePlace}
 use Rattle.lot_semaphore.specs.declared.places.SemaphorePlace.TheVariants.{Acquire, Try, Release}
-use Rattle.lot_semaphore.specs.SemaphoreSteps.{acquired, in_acquire, in_release, in_try, is_free, looked, semaphore_act, semaphore_first, semaphore_next}
+use Rattle.lot_semaphore.specs.SemaphoreSteps.{acquired, decided, in_acquire, in_release, in_try, is_free, looked, semaphore_act, semaphore_first, semaphore_next}
 use Rattle.lot_semaphore.specs.SemaphoreProfiles.{semaphore_profile}
 use Rattle.lot_semaphore.proofs.SemaphoreWords as words
 use Rattle.lot_steps.specs.declared.places.Place.TheVariants.{Semaphore}
@@ -62,6 +62,34 @@ takes_apart b t l k (Some u) = (refl, refl)
 -- a word by which none is free is 0, or its bit is set
 few_words : (v : ℕ) → is_free v ≡ false → v ≤ 1
 few_words v none = grind (arith, nat_tests)
+
+-- what a thread does by the word that it saw
+pub takes_free : (l seen : ℕ) → is_free seen ≡ true → decided l seen ≡ act.Word l (op.Exchange seen (seen - 2))
+takes_free l seen free = ap (λ (b : Bool). if b then act.Word l (op.Exchange seen (seen - 2)) else if seen == 0 then act.Word l (op.Exchange 0 1) else act.Enter (One (2 * l))) free
+
+pub none_is_free : (l seen : ℕ) → is_free seen ≡ false
+    → decided l seen ≡ (if seen == 0 then act.Word l (op.Exchange 0 1) else act.Enter (One (2 * l)))
+none_is_free l seen none = ap (λ (b : Bool). if b then act.Word l (op.Exchange seen (seen - 2)) else if seen == 0 then act.Word l (op.Exchange 0 1) else act.Enter (One (2 * l))) none
+
+pub sets_bit : (l seen : ℕ) → is_free seen ≡ false → (seen == 0) ≡ true → decided l seen ≡ act.Word l (op.Exchange 0 1)
+sets_bit l seen none zero_is = none_is_free l seen none ∙ ap (λ (b : Bool). if b then act.Word l (op.Exchange 0 1) else act.Enter (One (2 * l))) zero_is
+
+pub goes_inside : (l seen : ℕ) → is_free seen ≡ false → (seen == 0) ≡ false → decided l seen ≡ act.Enter (One (2 * l))
+goes_inside l seen none parked = none_is_free l seen none ∙ ap (λ (b : Bool). if b then act.Word l (op.Exchange 0 1) else act.Enter (One (2 * l))) parked
+
+-- whatever it does, its call goes on
+pub steps_on : (l seen : ℕ) → outcome_of (decided l seen) ≡ outcome.Step
+steps_on l seen = either (is_free seen) (seen == 0)
+  where
+    either : (b c : Bool) → outcome_of (if b then act.Word l (op.Exchange seen (seen - 2)) else if c then act.Word l (op.Exchange 0 1) else act.Enter (One (2 * l))) ≡ outcome.Step
+    either true c = refl
+    either false true = refl
+    either false false = refl
+
+pub tries_so : (l seen : ℕ) (free : Bool) → is_free seen ≡ free
+    → semaphore_act l (Try (tries.Decide seen)) ≡ act.Word l (if free then op.Exchange seen (seen - 2) else op.Load)
+tries_so l seen true e = ap (λ (b : Bool). if b then act.Word l (op.Exchange seen (seen - 2)) else act.Word l op.Load) e
+tries_so l seen false e = ap (λ (b : Bool). if b then act.Word l (op.Exchange seen (seen - 2)) else act.Word l op.Load) e
 
 module _ (t l : ℕ) where
   abbrev Queues : Type 0
@@ -111,11 +139,8 @@ module _ (t l : ℕ) where
       Deciding v = Alone w (Acquire timed again (acquire.Decide v)) v q
 
       takes_one : (v : ℕ) → is_free v ≡ true → Deciding v → Leads 1 w t (Answers (acquired timed))
-      takes_one v free f = ends w _ q _ (word_comes w t l _ v q f (op.Exchange v (v - 2)) exchanges) (acquired timed) on
+      takes_one v free f = ends w _ q _ (word_comes w t l _ v q f (op.Exchange v (v - 2)) (takes_free l v free)) (acquired timed) on
         where
-          exchanges : semaphore_act l (Acquire timed again (acquire.Decide v)) ≡ act.Word l (op.Exchange v (v - 2))
-          exchanges = ap (λ (b : Bool). if b then act.Word l (op.Exchange v (v - 2)) else if v == 0 then act.Word l (op.Exchange 0 1) else act.Enter (One (2 * l))) free
-
           on : semaphore_next (Acquire timed again (acquire.Decide v)) (Value v) ≡ next.End (acquired timed)
           on = ap (λ (b : Bool). in_acquire timed again (if not b then next.At (acquire.Decide v) else if is_free v then next.End (acquired timed) else next.At (acquire.Decide 1))) (same v)
               ∙ ap (λ (b : Bool). in_acquire timed again (if b then next.End (acquired timed) else next.At (acquire.Decide 1))) free
@@ -131,12 +156,7 @@ module _ (t l : ℕ) where
 
     pub loads : (again : Bool) (w : State) (q : Queues) (v : ℕ) (free : Bool) → is_free v ≡ free
         → Alone w (Acquire timed again acquire.Load) v q → Leads 5 w t (Ended q free)
-    loads again w q v free e f = goes w v q _ (word_comes w t l _ v q f op.Load refl) 4 (Ended q free) (Acquire timed again (acquire.Decide v)) refl (steps (is_free v) (v == 0)) (λ g. decides again (after w (go_of t)) q v free e g)
-      where
-        steps : (b c : Bool) → outcome_of (if b then act.Word l (op.Exchange v (v - 2)) else if c then act.Word l (op.Exchange 0 1) else act.Enter (One (2 * l))) ≡ outcome.Step
-        steps true c = refl
-        steps false true = refl
-        steps false false = refl
+    loads again w q v free e f = goes w v q _ (word_comes w t l _ v q f op.Load refl) 4 (Ended q free) (Acquire timed again (acquire.Decide v)) refl (steps_on l v) (λ g. decides again (after w (go_of t)) q v free e g)
 
   -- ---------------------------------------------------------------- who only tries
 
@@ -145,11 +165,8 @@ module _ (t l : ℕ) where
 
   pub try_decides : (w : State) (q : Queues) (v : ℕ) → is_free v ≡ true → Alone w (Try (tries.Decide v)) v q
       → Leads 1 w t (Answers answer.Yes)
-  try_decides w q v free f = ends w _ q _ (word_comes w t l _ v q f (op.Exchange v (v - 2)) exchanges) answer.Yes on
+  try_decides w q v free f = ends w _ q _ (word_comes w t l _ v q f (op.Exchange v (v - 2)) (tries_so l v true free)) answer.Yes on
     where
-      exchanges : semaphore_act l (Try (tries.Decide v)) ≡ act.Word l (op.Exchange v (v - 2))
-      exchanges = ap (λ (b : Bool). if b then act.Word l (op.Exchange v (v - 2)) else act.Word l op.Load) free
-
       on : semaphore_next (Try (tries.Decide v)) (Value v) ≡ next.End answer.Yes
       on = ap (λ (b : Bool). in_try (if b && is_free v then next.End answer.Yes else looked v)) (same v)
           ∙ ap (λ (b : Bool). in_try (if b then next.End answer.Yes else looked v)) free
@@ -158,7 +175,7 @@ module _ (t l : ℕ) where
       → Comes w t l (semaphore_goes l (in_try (looked v))) (outcome_of (semaphore_does l (in_try (looked v)))) v q
       → Leads 2 w t (Answers (tried free))
   try_looks w q v true free c = goes w v q _ c 1 (Answers answer.Yes) (Try (tries.Decide v)) (ap (λ (b : Bool). in_try (if b then next.At (tries.Decide v) else next.End answer.No)) free)
-      (ap (λ (b : Bool). outcome_of (if b then act.Word l (op.Exchange v (v - 2)) else act.Word l op.Load)) free) (λ g. try_decides _ q v free g)
+      (ap outcome_of (tries_so l v true free)) (λ g. try_decides _ q v free g)
   try_looks w q v false none c = leads_more 1 2 w t (Answers answer.No) (omega arith) (ends w v q _ c answer.No (ap (λ (b : Bool). in_try (if b then next.At (tries.Decide v) else next.End answer.No)) none))
 
   pub try_loads : (w : State) (q : Queues) (v : ℕ) (free : Bool) → is_free v ≡ free → Alone w (Try tries.Load) v q

@@ -2,7 +2,6 @@
 use Rattle.std.proofs.lemmas.Bool.{eqb-true}
 use Rattle.std.proofs.Common.{ℕ, Bool, true, false, if◌then◌else◌, ◌==◌, ◌≡◌, ◌≢◌, ◌+◌, ◌-◌, ◌*◌, ◌≤◌, List, refl, sym, ◌∙◌, ap, subst, arith}
 use Rattle.std.specs.Prelude.{◌&&◌, not}
-use Rattle.lot_base.specs.declared.keys.Keys.TheVariants.{One}
 use Rattle.lot_base.specs.declared.ops.Op.{Op}
 use Rattle.lot_base.specs.declared.ops.Op.TheVariants as op
 use Rattle.lot_base.specs.declared.wants.Waiter.{Waiter}
@@ -34,7 +33,7 @@ use Rattle.lot_steps.specs.Steps.{act_of, semaphore_does, semaphore_goes}
 use Rattle.lot_machine.specs.Machine.{State, after, go_of, step_outcome}
 use Rattle.lot_laws.specs.Solo.{Rests}
 use Rattle.lot_laws.proofs.LineSolo.{Comes, StepsAlone, enter_comes, finds_free, leave_comes, park_comes, remove_comes, word_comes}
-use Rattle.lot_laws.proofs.SemaphoreEnds.{Answers, Ended, decides, loads, release_adds, release_clears, release_enters, release_leaves, release_takes, tried, try_decides, try_loads, try_looks}
+use Rattle.lot_laws.proofs.SemaphoreEnds.{Answers, Ended, decides, goes_inside, loads, release_adds, release_clears, release_enters, release_leaves, release_takes, sets_bit, steps_on, takes_free, tried, tries_so, try_decides, try_loads, try_looks}
 use Rattle.lot_laws.proofs.Leads.{Leads, leads_more, leads_rest, leads_so, leads_step}
 
 module _ (t l : ℕ) where
@@ -92,29 +91,17 @@ module _ (t l : ℕ) where
       sees : semaphore_next (Acquire timed again (acquire.Decide seen)) (Value v) ≡ next.At (Acquire timed again (acquire.Decide v))
       sees = ap (λ b. in_acquire timed again (if not b then next.At (acquire.Decide v) else if is_free v then next.End (acquired timed) else next.At (acquire.Decide 1))) other
 
-      steps : (b c : Bool) → outcome_of (if b then act.Word l (op.Exchange v (v - 2)) else if c then act.Word l (op.Exchange 0 1) else act.Enter (One (2 * l))) ≡ outcome.Step
-      steps true c = refl
-      steps false true = refl
-      steps false false = refl
-
       fails : (o : Op) → act_of (Semaphore l (Acquire timed again (acquire.Decide seen))) ≡ act.Word l o → apply o v ≡ v → RestsIn 8 w
-      fails o is same_word = more 5 8 w (omega arith) (goes 4 v w q (Acquire timed again (acquire.Decide v)) _ (steps (is_free v) (v == 0))
+      fails o is same_word = more 5 8 w (omega arith) (goes 4 v w q (Acquire timed again (acquire.Decide v)) _ (steps_on l v)
           (subst (λ n. Comes w t l (semaphore_goes l n) (outcome_of (semaphore_does l n)) v q) sees
           (subst (λ x. Comes w t l (semaphore_goes l (semaphore_next (Acquire timed again (acquire.Decide seen)) (Value v))) (outcome_of (semaphore_does l (semaphore_next (Acquire timed again (acquire.Decide seen)) (Value v)))) x q) same_word
           (word_comes w t l _ v q f o is)))
           (λ g. decides_rests_now again v _ q g))
 
       by_seen : (b c : Bool) → is_free seen ≡ b → (seen == 0) ≡ c → RestsIn 8 w
-      by_seen true c e g = fails (op.Exchange seen (seen - 2)) (ap (λ (b : Bool). if b then act.Word l (op.Exchange seen (seen - 2)) else if seen == 0 then act.Word l (op.Exchange 0 1) else act.Enter (One (2 * l))) e)
-          (ap (λ b. if b then seen - 2 else v) other)
-      by_seen false true e g = fails (op.Exchange 0 1)
-          (ap (λ (b : Bool). if b then act.Word l (op.Exchange seen (seen - 2)) else if seen == 0 then act.Word l (op.Exchange 0 1) else act.Enter (One (2 * l))) e
-          ∙ ap (λ (b : Bool). if b then act.Word l (op.Exchange 0 1) else act.Enter (One (2 * l))) g)
-          (ap (λ b. if b then 1 else v) (ap (λ n. v == n) (sym (eqb-true seen 0 g)) ∙ other))
-      by_seen false false e g = goes 7 v w q (Acquire timed again acquire.Check) _ refl (enter_comes w t l _ v q f Main
-          (ap (λ (b : Bool). if b then act.Word l (op.Exchange seen (seen - 2)) else if seen == 0 then act.Word l (op.Exchange 0 1) else act.Enter (One (2 * l))) e
-          ∙ ap (λ (b : Bool). if b then act.Word l (op.Exchange 0 1) else act.Enter (One (2 * l))) g)
-          (finds_free w t l _ v q f refl Main)) (λ h. checks again v _ q h)
+      by_seen true c e g = fails (op.Exchange seen (seen - 2)) (takes_free l seen e) (ap (λ b. if b then seen - 2 else v) other)
+      by_seen false true e g = fails (op.Exchange 0 1) (sets_bit l seen e g) (ap (λ b. if b then 1 else v) (ap (λ n. v == n) (sym (eqb-true seen 0 g)) ∙ other))
+      by_seen false false e g = goes 7 v w q (Acquire timed again acquire.Check) _ refl (enter_comes w t l _ v q f Main (goes_inside l seen e g) (finds_free w t l _ v q f refl Main)) (λ h. checks again v _ q h)
 
     decides_rests : (again : Bool) (seen v : ℕ) (w : State) (q : Queues) → Alone w (Acquire timed again (acquire.Decide seen)) v q → RestsIn 8 w
     decides_rests again seen v w q f = either (v == seen) refl
@@ -172,11 +159,11 @@ module _ (t l : ℕ) where
       either : (b c : Bool) → (v == seen) ≡ b → is_free seen ≡ c → RestsIn 2 w
       either true true e g = let s : v ≡ seen = eqb-true v seen e in
           more 1 2 w (omega arith) (answer_rests 1 w answer.Yes (try_decides t l w q v (ap is_free s ∙ g) (subst (λ x. Alone w (Try (tries.Decide x)) v q) (sym s) f)))
-      either true false e g = anew op.Load (ap (λ (b : Bool). if b then act.Word l (op.Exchange seen (seen - 2)) else act.Word l op.Load) g) refl
+      either true false e g = anew op.Load (tries_so l seen false g) refl
           (ap (λ (b : Bool). b && is_free v) e ∙ ap is_free (eqb-true v seen e) ∙ g)
-      either false true e g = anew (op.Exchange seen (seen - 2)) (ap (λ (b : Bool). if b then act.Word l (op.Exchange seen (seen - 2)) else act.Word l op.Load) g)
+      either false true e g = anew (op.Exchange seen (seen - 2)) (tries_so l seen true g)
           (ap (λ b. if b then seen - 2 else v) e) (ap (λ (b : Bool). b && is_free v) e)
-      either false false e g = anew op.Load (ap (λ (b : Bool). if b then act.Word l (op.Exchange seen (seen - 2)) else act.Word l op.Load) g) refl
+      either false false e g = anew op.Load (tries_so l seen false g) refl
           (ap (λ (b : Bool). b && is_free v) e)
 
   -- ---------------------------------------------------------------- who gives a permit back
