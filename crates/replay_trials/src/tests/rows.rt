@@ -1,5 +1,5 @@
-//! Worked schedules, as lines in and lines out: of mutexes, fair releases, reader-writer locks, `Once`s and
-//! condition variables.
+//! Worked schedules, as lines in and lines out: of mutexes, fair releases, reader-writer locks, semaphores,
+//! `Once`s and condition variables.
 pub(crate) mod condvars;
 pub(crate) mod fair;
 pub(crate) mod lates;
