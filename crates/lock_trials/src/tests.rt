@@ -3,6 +3,7 @@ mod crowds;
 mod fair;
 mod mutexes;
 mod raw;
+mod street;
 mod timed;
 
 ghost use Rattle.std.specs.Prelude.{◌≡◌, ◌<◌, ◌≤◌, All, IfSome};

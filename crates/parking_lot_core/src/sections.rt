@@ -124,7 +124,7 @@ impl<'a> Section<'a> {
         }
     }
 
-    // Notes of whoever stands under a key that it does so.
+    // Notes the key of whoever stands under it.
     fn note_line(&self, key: Key) {
         if let Some(other) = &self.other {
             other.note_line(&self.lot.stands, key);

@@ -71,8 +71,9 @@ impl ParkingLot {
         told
     }
 
-    // The section of the key where the thread stands. None where it was taken meanwhile: whoever moves
-    // a thread notes its key inside the bucket that it leaves, so it stands there, or was taken.
+    // The section of the key where the thread stands. None where it was taken meanwhile. Another thread
+    // that moves it notes its new key inside both buckets. So the thread was taken where the key is the
+    // same as before, read inside that key's bucket, and nobody of its number stands there.
     fn give_up<'a, R: Wait>(&'a self, rt: &R, thread: usize) -> Option<Slept<'a>>
         ensures { IfSome result (IsLate self.now thread) }
     {
@@ -82,8 +83,9 @@ impl ParkingLot {
             if section.key_of(thread) == Some(key) {
                 return Some(Slept::Late(section, key));
             }
+            let taken = self.stands.key(thread) == key;
             section.shut();
-            if self.stands.key(thread) == key {
+            if taken {
                 return None;
             }
         }

@@ -137,8 +137,15 @@ fn shift<R: Wait>(rt: &R, lot: &ParkingLot, token: &mut Token, back: bool)
     section.leave(rt, token, Note::Normal);
 }
 
-// Moves whoever lines up to another key, back and there again, and takes the first. How many it took.
-pub fn wake_moved<R: Wait>(rt: &R, lot: &ParkingLot, token: &mut Token, done: &AtomicBool) -> usize
+// Moves whoever lines up to another key, back and there again, and may take the first. How many it
+// took.
+pub fn wake_moved<R: Wait>(
+    rt: &R,
+    lot: &ParkingLot,
+    token: &mut Token,
+    done: &AtomicBool,
+    takes: bool,
+) -> usize
     requires { IsTokenOf lot.now token.old }
 {
     let mut taken = 0usize;
@@ -149,7 +156,7 @@ pub fn wake_moved<R: Wait>(rt: &R, lot: &ParkingLot, token: &mut Token, done: &A
         for back in [false, true, false] {
             shift(rt, lot, token, back);
         }
-        if in_section(rt, lot, token, OTHER, Task::TakeFirst).is_some() {
+        if takes && in_section(rt, lot, token, OTHER, Task::TakeFirst).is_some() {
             taken = taken.saturating_add(1);
         }
         yield_now();
@@ -164,4 +171,10 @@ fn who_was_moved_is_taken_or_late(rt: HostRuntime) {
     let ((woken, late), taken) = play(&rt, rt.alloc(), (Part::SleepBriefly, Part::WakeMoved));
     let ended = (woken, woken.saturating_add(late));
     same(&rt, ended, (taken.0, 200));
+}
+
+#[test]
+fn who_was_moved_and_not_taken_is_late(rt: HostRuntime) {
+    let (ended, _) = play(&rt, rt.alloc(), (Part::SleepBriefly, Part::Move));
+    same(&rt, ended, (0, 200));
 }

@@ -25,6 +25,7 @@ pub enum Part {
     SleepBriefly,
     WakeUntilDone,
     WakeMoved,
+    Move,
     SleepInLine,
     WakeThree,
 }
@@ -54,7 +55,8 @@ fn act<R: Wait>(
         }
         Part::SleepBriefly => sleep_briefly(rt, lot, &mut token, word, done),
         Part::WakeUntilDone => (wake_until(rt, lot, &mut token, done), 0),
-        Part::WakeMoved => (wake_moved(rt, lot, &mut token, done), 0),
+        Part::WakeMoved => (wake_moved(rt, lot, &mut token, done, true), 0),
+        Part::Move => (wake_moved(rt, lot, &mut token, done, false), 0),
         Part::SleepInLine => (sleep_in_line(rt, lot, &mut token, word), 0),
         Part::WakeThree => {
             until_taken(rt, lot, &mut token, KEY, Task::TakeThree);
