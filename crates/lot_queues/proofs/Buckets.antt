@@ -1,6 +1,5 @@
 -- The waiters of a bucket after each call.
-use Rattle.std.proofs.Common.{ℕ, ◌≡◌, ◌≢◌, ◌+◌, ◌≤◌, ◌<◌, inl, inr, List, [], ◌∷◌, ◌++◌, Option, Some, None, length, drop, take, map, refl, sym, ap, ◌∙◌, arith}
-use Rattle.std.specs.Prelude.{◌==◌}
+use Rattle.std.proofs.Common.{ℕ, ◌≡◌, ◌≢◌, ◌+◌, ◌<◌, inl, inr, List, [], ◌∷◌, ◌++◌, drop, take, map, refl, sym, ap, ◌∙◌, arith}
 use Rattle.std.proofs.lemmas.Bool.{cases_eq}
 use Rattle.std.proofs.lemmas.Bool.Decides.{nat_tests}
 use Rattle.std.proofs.lemmas.List.Elements.{filter-append}
@@ -59,9 +58,6 @@ bucket_after bits number seats new after none seated same = record {
   hashed = λ key differ. same_line new after key same ∙ none key differ;
   seated = seated_as seats new after same seated;
 }
-
-pub bucket_same : (bits number seats : ℕ) (new old : List Waiter) → IsOfBucket bits number seats old → lines new ≡ lines old → IsOfBucket bits number seats new
-bucket_same bits number seats new old is same = bucket_after bits number seats new old is.hashed is.seated same
 
 none_without : (thread key : ℕ) (old : List Waiter) → line key old ≡ [] → line key (without thread old) ≡ []
 none_without thread key old none = line_without key thread old ∙ ap (without thread) none

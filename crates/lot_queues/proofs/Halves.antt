@@ -1,7 +1,6 @@
 -- Two lists, each with the keys of a bucket of its own.
-use Rattle.std.proofs.Common.{Bool, ℕ, zero, suc, ◌≡◌, ◌≢◌, ◌+◌, ◌≤◌, ◌<◌, ◌⊎◌, inl, inr, List, [], ◌∷◌, ◌++◌, Option, Some, None, IfSome, length, drop, take, map, refl, sym, ap, subst, ◌∙◌, arith, append_assoc}
-use Rattle.std.specs.Prelude.{◌==◌}
-use Rattle.std.proofs.lemmas.Bool.{cases_eq, cases_lt}
+use Rattle.std.proofs.Common.{Bool, ℕ, ◌≡◌, ◌≢◌, ◌+◌, ◌≤◌, ◌⊎◌, inl, inr, List, [], ◌∷◌, ◌++◌, Option, Some, None, length, drop, take, map, refl, sym, ap, subst, ◌∙◌, arith, append_assoc}
+use Rattle.std.proofs.lemmas.Bool.{cases_eq}
 use Rattle.std.proofs.lemmas.Bool.Decides.{nat_tests}
 use Rattle.std.proofs.lemmas.List.{append-nil}
 use Rattle.std.proofs.lemmas.List.Elements.{filter-append}
@@ -13,7 +12,7 @@ use Rattle.lot_base.specs.declared.wants.Want.TheVariants.{Exclusive}
 use Rattle.lot_base.specs.Lines.{waiter, times, line, lines, without, without_first, without_key, first_of, key_of}
 use Rattle.lot_base.specs.Picks.{without_lock_picked, lock_answer, next_picker, lock_picker}
 use Rattle.lot_base.specs.Requeues.{moved_by, requeued}
-use Rattle.lot_base.proofs.Counts.{times_append, times_gone}
+use Rattle.lot_base.proofs.Counts.{times_gone}
 use Rattle.lot_base.proofs.Moves.{line_without_first, take_then_all}
 use Rattle.lot_base.proofs.Seats.{line_seated}
 use Rattle.bucket_queues.specs.Chains.{bucket_of}
@@ -61,14 +60,6 @@ side_key key = one_side key (without_key key) (λ _. []) (line_key_same key) (λ
 
 pub side_picked : (start : Option Want) (recursive : Bool) (key : ℕ) (xs xs' old : List Waiter) (others : Option (List Waiter)) → HasNone key others → lines (both xs others) ≡ lines old → lines xs' ≡ lines (without_lock_picked start recursive key xs) → lines (both xs' others) ≡ lines (without_lock_picked start recursive key old)
 side_picked start recursive key = one_side key (without_lock_picked start recursive key) (without_lock_picked start recursive key) (λ l. line_picked lock_answer next_picker (lock_picker start recursive) key l) (λ k l differ. line_picked_other lock_answer next_picker (lock_picker start recursive) k key l differ)
-
--- ---------------------------------------------------------------- both lists in the other order
-
-pub turned : (bits one other seats : ℕ) (xs ys : List Waiter) → IsOfBucket bits one seats xs → IsOfBucket bits other seats ys → other ≢ one → lines (ys ++ xs) ≡ lines (xs ++ ys)
-turned bits one other seats xs ys first second differ = everywhere _ _ (λ k. elim (cases_eq (bucket_of bits k) one) [
-  | inl here ↦ let none : line k ys ≡ [] = second.hashed k (λ (e : bucket_of bits k ≡ other). differ (sym e ∙ here)) in line_both k ys xs ∙ ap (λ (l : List Waiter). l ++ line k xs) none ∙ sym (first_of_both k xs ys none)
-  | inr there ↦ let none : line k xs ≡ [] = first.hashed k there in first_of_both k ys xs none ∙ sym (line_both k xs ys ∙ ap (λ (l : List Waiter). l ++ line k ys) none)
-])
 
 -- ---------------------------------------------------------------- who stands in one of them alone
 
@@ -130,9 +121,9 @@ appended key thread wanted old new is =
 pub apart_still : (thread key : ℕ) (xs ys xs' ys' : List Waiter) → NoMore thread xs xs' → NoMore thread ys ys' → (times thread xs' ≡ 0) ⊎ (times thread ys' ≡ 0) → AreApart key xs ys → AreApart key xs' ys'
 apart_still thread key xs ys xs' ys' one other nowhere apart t stands = elim (cases_eq t thread) [
   | inl same ↦ elim nowhere [
-      | inl left ↦ let none : times t xs' ≡ 0 = ap (λ (u : ℕ). times u xs') same ∙ left in absurd (omega (arith, times_line t key xs', none, stands))
-      | inr left ↦ ap (λ (u : ℕ). times u ys') same ∙ left
-    ]
+    | inl left ↦ let none : times t xs' ≡ 0 = ap (λ (u : ℕ). times u xs') same ∙ left in absurd (omega (arith, times_line t key xs', none, stands))
+    | inr left ↦ ap (λ (u : ℕ). times u ys') same ∙ left
+  ]
   | inr differ ↦ let none : times t ys ≡ 0 = apart t (omega (arith, one.in_line t key differ, stands)) in omega (arith, other.in_all t differ, none)
 ]
 
@@ -156,7 +147,7 @@ came_first key thread wanted xs ys xs' ys' none one other =
           let left : line key (without thread ys) ≡ [] = line_without key thread ys ∙ ap (without thread) none in
           first_of_both key (without thread xs ++ new) (without thread ys) left ∙ line_both key (without thread xs) new
           ∙ ap (λ (l : List Waiter). l ++ line key new) (sym (ap (line key) (filter-append _ xs ys) ∙ first_of_both key (without thread xs) (without thread ys) left)) ∙ sym (line_both key (without thread (xs ++ ys)) new)
-        )
+          )
       | inr differ ↦
           let no : line k new ≡ [] = one_line k key thread wanted differ in
           line_both k (without thread xs ++ new) (without thread ys) ∙ ap (λ (l : List Waiter). l ++ line k (without thread ys)) (first_of_both k (without thread xs) new no)
@@ -226,8 +217,8 @@ pub apart_moved : (from to thread : ℕ) (xs ys xs' ys' : List Waiter) → ((t :
 apart_moved from to thread xs ys xs' ys' once first taken come apart t stands =
     let later : 1 ≤ times t (drop 1 (line from xs)) = subst (λ (l : List Waiter). 1 ≤ times t l) (rest_of_line from xs xs' taken) stands in
     let differ : t ≢ thread = λ (same : t ≡ thread).
-        let none : times t (drop 1 (line from xs)) ≡ 0 = ap (λ (u : ℕ). times u (drop 1 (line from xs))) same ∙ gone_first thread (line from xs) first (omega (arith, times_line thread from xs, once thread)) in
-        omega (arith, none, later) in
+    let none : times t (drop 1 (line from xs)) ≡ 0 = ap (λ (u : ℕ). times u (drop 1 (line from xs))) same ∙ gone_first thread (line from xs) first (omega (arith, times_line thread from xs, once thread)) in
+    omega (arith, none, later) in
     let none : times t ys ≡ 0 = apart t (omega (arith, times_drop t (line from xs), later)) in
     omega (arith, (appended to thread Exclusive ys ys' come).in_all t differ, none)
 
@@ -237,27 +228,18 @@ apart_moved from to thread xs ys xs' ys' once first taken come apart t stands =
 abbrev pub AreAsked : ℕ → List Waiter → List Waiter → List Waiter → Type 0
 AreAsked key xs rest ys = (thread : ℕ) → 1 ≤ times thread (line key xs) → (1 ≤ times thread rest) ⊎ (times thread ys ≡ 0)
 
-pub none_asked : (key : ℕ) (xs ys : List Waiter) → AreAsked key xs (line key xs) ys
-none_asked key xs ys thread stands = inl stands
-
 pub one_asked : (key : ℕ) (xs rest more ys : List Waiter) (x : Waiter) → rest ≡ x ∷ more → None ≡ key_of x.thread ys → AreAsked key xs rest ys → AreAsked key xs more ys
 one_asked key xs rest more ys x is none asked thread stands = elim (asked thread stands) [
   | inl there ↦ elim (cases_eq x.thread thread) [
-      | inl same ↦ inr (ap (λ (t : ℕ). times t ys) (sym same) ∙ no_times x.thread ys (sym none))
-      | inr differ ↦
-          let one : 1 ≤ times thread (x ∷ more) = subst (λ (l : List Waiter). 1 ≤ times thread l) is there in
-          inl (later x more thread differ one)
-    ]
+    | inl same ↦ inr (ap (λ (t : ℕ). times t ys) (sym same) ∙ no_times x.thread ys (sym none))
+    | inr differ ↦
+        let one : 1 ≤ times thread (x ∷ more) = subst (λ (l : List Waiter). 1 ≤ times thread l) is there in
+        inl (later x more thread differ one)
+  ]
   | inr gone ↦ inr gone
 ] where
   later : (x : Waiter) (more : List Waiter) (thread : ℕ) → x.thread ≢ thread → 1 ≤ times thread (x ∷ more) → 1 ≤ times thread more
   later x more thread differ one = grind (arith, nat_tests)
-
-pub all_asked : (key : ℕ) (xs rest ys : List Waiter) → rest ≡ [] → AreAsked key xs rest ys → AreApart key xs ys
-all_asked key xs rest ys is asked thread stands = elim (asked thread stands) [
-  | inl there ↦ absurd (omega (arith, ap (times thread) is, there))
-  | inr none ↦ none
-]
 
 -- ---------------------------------------------------------------- how many are moved
 

@@ -1,5 +1,5 @@
 -- The buckets of a section after each call.
-use Rattle.std.proofs.Common.{ℕ, ◌≡◌, ◌≢◌, ◌<◌, inl, inr, List, [], ◌++◌, Option, Some, None, refl, sym, ap, subst, ◌∙◌}
+use Rattle.std.proofs.Common.{ℕ, ◌≡◌, ◌≢◌, inl, inr, List, [], ◌++◌, Some, sym, ap, subst, ◌∙◌}
 use Rattle.std.proofs.lemmas.Bool.{cases_eq}
 use Rattle.lot_base.specs.declared.keys.Keys.{Keys}
 use Rattle.lot_base.specs.declared.wants.Waiter.{Waiter}
@@ -10,7 +10,7 @@ use Rattle.lot_queues.specs.Places.{AreTwo, IsSameBucket, KeepApart}
 use Rattle.lot_queues.specs.declared.queueing.Queueing.{Queueing}
 use Rattle.lot_queues.proofs.Halves.{first_of_both, line_both}
 use Rattle.parking_lot_core.specs.Keys.{IsKeyOf}
-use Rattle.parking_lot_core.specs.Pairs.{AreApartAt, AreBuckets, AreSplit, IsAlone}
+use Rattle.parking_lot_core.specs.Pairs.{AreApartAt, AreBuckets, IsAlone}
 
 pub for_some : {A : Type 0} (P : A → Type 0) (a : A) → P a → (x : A) → Some a ≡ Some x → P x
 for_some P a h x e = let same : a ≡ x = cc in subst P same h

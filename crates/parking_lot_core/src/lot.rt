@@ -42,11 +42,7 @@ pub struct ParkingLot {
 }
 
 // The queues of each bucket, with nobody in them.
-fn empty_buckets(
-    alloc: Global,
-    seats: usize,
-    bits: u32,
-) -> Result<Vec<Mutex<Queueing>>, Fault>
+fn empty_buckets(alloc: Global, seats: usize, bits: u32) -> Result<Vec<Mutex<Queueing>>, Fault>
     requires { bits < 64 }
     ensures ok { IfOk result (λ buckets. length buckets.items ≡ 2 ^ bits) }
     ensures err { IfErr result (λ fault. fault ≡ Fault.NoMemory) }

@@ -176,17 +176,35 @@ pub(super) fn give_up<R: Wait>(
 
 #[test]
 fn who_waits_gets_the_mutex_by_a_release(rt: HostRuntime) {
-    for_rooms(&rt, rt.alloc(), 2, Part::GiveUp(GivesUp::Plain), (true, 1, 0));
+    for_rooms(
+        &rt,
+        rt.alloc(),
+        2,
+        Part::GiveUp(GivesUp::Plain),
+        (true, 1, 0),
+    );
 }
 
 #[test]
 fn who_waits_is_handed_the_mutex(rt: HostRuntime) {
-    for_rooms(&rt, rt.alloc(), 2, Part::GiveUp(GivesUp::Fair), (true, 1, 0));
+    for_rooms(
+        &rt,
+        rt.alloc(),
+        2,
+        Part::GiveUp(GivesUp::Fair),
+        (true, 1, 0),
+    );
 }
 
 #[test]
 fn who_waits_has_the_mutex_during_a_bump(rt: HostRuntime) {
-    for_rooms(&rt, rt.alloc(), 2, Part::GiveUp(GivesUp::Bump), (true, 1, 0));
+    for_rooms(
+        &rt,
+        rt.alloc(),
+        2,
+        Part::GiveUp(GivesUp::Bump),
+        (true, 1, 0),
+    );
 }
 
 #[test]

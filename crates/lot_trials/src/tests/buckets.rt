@@ -31,12 +31,7 @@ pub fn lie_apart(seats: usize, one: Key, other: Key) -> bool
 }
 
 // Two mutexes' main keys, the second of which is drawn until it has another bucket.
-fn keys_apart<A: Abort>(
-    rt: &A,
-    lot: &ParkingLot,
-    token: &mut Token,
-    seats: usize,
-) -> (Key, Key)
+fn keys_apart<A: Abort>(rt: &A, lot: &ParkingLot, token: &mut Token, seats: usize) -> (Key, Key)
     requires { IsTokenOf lot.now token.old × (seats ≤ 1024) }
     ensures { IsSameThread lot.now token.old token.new }
 {

@@ -7,7 +7,8 @@ use super::fair::{Giver, give};
 use super::guards::read_twice;
 use super::values::read_together;
 use super::{
-    Lock, end_reader, end_writer, holds, keep, read_upgradable, replace, same, seats, value_of, write,
+    Lock, end_reader, end_writer, holds, keep, read_upgradable, replace, same, seats, value_of,
+    write,
 };
 use parking_lot::{ParkingLot, Ticket, Token};
 use parking_lot_core::pauses::{SHORT_PAUSE, pause};

@@ -1,4 +1,4 @@
-use Rattle.std.proofs.Common.{◌≡◌, ◌∙◌, sym, [], inl, inr, refl}
+use Rattle.std.proofs.Common.{◌≡◌, [], inl, inr}
 use Rattle.lot_base.specs.Lines.{line}
 use Rattle.lot_queues.proofs.Halves.{appended, removed, gone, apart_still, came_first, came_other, in_another}
 use Rattle.lot_queues.proofs.queueing.Queueing.append_beside.Goals as goal

@@ -1,5 +1,4 @@
-use Rattle.std.proofs.Common.{sym}
-use Rattle.lot_queues.proofs.Halves.{one_asked, none_asked, all_asked}
+use Rattle.lot_queues.proofs.Halves.{one_asked}
 use Rattle.lot_queues.proofs.queueing.Queueing.is_apart.Goals as goal
 
 pub loop-waiter-preserved : goal.loop-waiter-preserved

@@ -1,10 +1,9 @@
 use Rattle.std.proofs.Common.{◌≡◌, ◌+◌, ◌++◌, length}
-use Rattle.bucket_queues.specs.Chains.{bucket_of}
 use Rattle.lot_base.specs.Lines.{line, lines}
 use Rattle.lot_base.specs.Requeues.{requeued}
 use Rattle.lot_base.specs.declared.requeues.Requeue.TheVariants.{All}
 use Rattle.lot_queues.specs.Buckets.{AreApart}
-use Rattle.lot_queues.specs.Places.{AreTwo, IsSameBucket, TookSame}
+use Rattle.lot_queues.specs.Places.{IsSameBucket, TookSame}
 use Rattle.lot_queues.proofs.queueing.Queueing.move_all.Given as goal
 
 abbrev pub invariant-loop-number : goal.invariant-loop-number

@@ -1,4 +1,4 @@
-use Rattle.std.proofs.Common.{◌≡◌, ◌∙◌, sym, []}
+use Rattle.std.proofs.Common.{◌≡◌, sym, []}
 use Rattle.lot_base.specs.Lines.{line}
 use Rattle.lot_queues.proofs.Buckets.{bucket_first}
 use Rattle.lot_queues.proofs.Halves.{apart_moved, in_another, moved_over, none_over}

@@ -1,4 +1,4 @@
-use Rattle.std.proofs.Common.{◌≡◌, ◌≤◌, ◌∙◌, ◌++◌, length, arith, rules}
+use Rattle.std.proofs.Common.{◌≡◌, ◌∙◌, ◌++◌, length, arith, rules}
 use Rattle.lot_base.specs.Lines.{line}
 use Rattle.lot_base.specs.Requeues.{moved_by}
 use Rattle.lot_base.specs.declared.requeues.Requeue.TheVariants.{One}

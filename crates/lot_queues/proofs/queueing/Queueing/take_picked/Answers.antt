@@ -1,4 +1,4 @@
-use Rattle.lot_base.specs.Picks.{lock_answer, next_picker, lock_picker}
+use Rattle.lot_base.specs.Picks.{lock_answer, next_picker}
 use Rattle.lot_queues.proofs.Buckets.{bucket_picked}
 use Rattle.lot_queues.proofs.queueing.Queueing.take_picked.Goals as goal
 

@@ -1,5 +1,4 @@
-use Rattle.std.proofs.Common.{◌≡◌, ◌∙◌, ap, length}
-use Rattle.lot_base.specs.Lines.{line}
+use Rattle.std.proofs.Common.{◌∙◌, ap, length}
 use Rattle.lot_base.specs.Requeues.{moved_by, taken_by}
 use Rattle.bucket_queues.proofs.Places.{same_line}
 use Rattle.lot_queues.specs.Wants.{taken_in_line, wants_of}
