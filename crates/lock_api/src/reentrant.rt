@@ -1,8 +1,8 @@
 //! Mutexes that their owner may lock again.
-ghost use Rattle.std.specs.Prelude.{◌≡◌, Err, IfSome, IsOk, MatchOption, MatchResult};
+ghost use Rattle.std.specs.Prelude.{◌≡◌, ◌+◌, Err, IfOk, IfSome, IsOk, MatchOption, MatchResult};
 ghost use Rattle.std.specs.Arc.{arc_value};
 ghost use Rattle.lock_raw.specs.Answers.{IsRefusal};
-ghost use Rattle.lock_raw.specs.Counts.{CountedAgain, CountedLess, CountedOut, CountedOutAlone, SawFull, SawMore, SawOthers, first_count};
+ghost use Rattle.lock_raw.specs.Counts.{CountedAgain, CountedLess, CountedMore, CountedOut, CountedOutAlone, SawFull, SawMore, SawOthers, first_count};
 ghost use Rattle.lock_api.specs.Reentrant.{Bumped, CameIn, StayedOut, WentOff};
 ghost use Rattle.lot_base.specs.declared.faults.Fault.TheVariants.{LockCountFull};
 ghost use Rattle.lot_calls.specs.declared.calls.MutexCall.TheVariants.{Bump, Lock, TryLock, Unlock, UnlockFair};
@@ -80,7 +80,7 @@ impl<R: RawMutexCounted, G: GetThreadId<R>, T> ReentrantMutex<R, G, T> {
     #[inline]
     fn guard(&self, share: R::Share) -> ReentrantMutexGuard<'_, R, G, T>
         requires { R.is_share_of self.now.0 share }
-        ensures { result.mutex.now ≡ self.now }
+        ensures { (result.mutex.now ≡ self.now) × (result.share ≡ share) }
     {
         ReentrantMutexGuard {
             mutex: self,
@@ -104,6 +104,7 @@ impl<R: RawMutexCounted, G: GetThreadId<R>, T> ReentrantMutex<R, G, T> {
         ensures token { R.is_token_of (R.lot_of self.now.0) token.new × R.stays token.old token.new }
         ensures guard { MatchResult result (λ guard. guard.mutex.now ≡ self.now)
             (λ fault. fault ≡ LockCountFull) }
+        ensures named { IfOk result (λ guard. R.thread_of guard.share ≡ R.number_of token.old + 1) }
         ensures path { MatchResult result
             (λ _. CameIn
             (CountedAgain (R.saw_count self.now.0) (R.stored_count self.now.0)
@@ -141,6 +142,8 @@ impl<R: RawMutexCounted, G: GetThreadId<R>, T> ReentrantMutex<R, G, T> {
         ensures guard { MatchResult result
             (λ taken. IfSome taken (λ guard. guard.mutex.now ≡ self.now))
             (λ fault. fault ≡ LockCountFull) }
+        ensures named { IfOk result (λ taken. IfSome taken
+            (λ guard. R.thread_of guard.share ≡ R.number_of token.old + 1)) }
         ensures path { MatchResult result
             (λ taken. MatchOption taken
             (StayedOut (SawOthers (R.saw_count self.now.0) (R.number_of token.old))
@@ -219,6 +222,54 @@ impl<R: RawMutexCounted, G, T> ReentrantMutexGuard<'_, R, G, T> {
     }
 }
 
+impl<'a, R: RawMutexCounted, G: GetThreadId<R>, T> ReentrantMutexGuard<'a, R, G, T> {
+    /// Locks the mutex once more, by a guard of this thread, which is named on the count word. It
+    /// never waits for another to unlock, and is not refused below the limit.
+    ///
+    /// # Errors
+    ///
+    /// `LockCountFull` with the guard, where this thread has locked the mutex 4294967295 times.
+    #[inline]
+    pub fn again<W: Wait>(
+        self,
+        rt: &W,
+        token: &mut R::Token,
+    ) -> Result<
+        (ReentrantMutexGuard<'a, R, G, T>, ReentrantMutexGuard<'a, R, G, T>),
+        (Fault, ReentrantMutexGuard<'a, R, G, T>),
+    >
+        requires token { R.is_token_of (R.lot_of self.mutex.now.0) token.old }
+        requires named { R.thread_of self.share ≡ R.number_of token.old + 1 }
+        ensures token { R.is_token_of (R.lot_of self.entry.mutex.now.0) token.new
+            × R.stays token.old token.new }
+        ensures guard { MatchResult result
+            (λ guards. (guards.0.mutex.now ≡ self.entry.mutex.now)
+            × (guards.1.mutex.now ≡ self.entry.mutex.now))
+            (λ refused. (refused.0 ≡ LockCountFull)
+            × (refused.1.mutex.now ≡ self.entry.mutex.now)) }
+        ensures named { MatchResult result
+            (λ guards. (R.thread_of guards.0.share ≡ R.number_of token.old + 1)
+            × (R.thread_of guards.1.share ≡ R.number_of token.old + 1))
+            (λ refused. R.thread_of refused.1.share ≡ R.number_of token.old + 1) }
+        ensures path { MatchResult result
+            (λ _. CountedMore (R.stored_count self.entry.mutex.now.0) (R.number_of token.old)
+            token.old token.new)
+            (λ _. SawFull (R.saw_count self.entry.mutex.now.0) (R.number_of token.old) token.old
+            token.new) }
+    {
+        let ReentrantMutexGuard {
+            mutex,
+            share,
+            here: _,
+        } = self;
+        let thread = mutex.thread.nonzero_thread_id(token);
+        match mutex.raw.count_more(rt, token, &mutex.count, thread, share) {
+            Ok((share, another)) => Ok((mutex.guard(share), mutex.guard(another))),
+            Err((fault, share)) => Err((fault, mutex.guard(share))),
+        }
+    }
+}
+
 impl<'a, R: RawMutexCounted + RawMutexFair, G: GetThreadId<R>, T> ReentrantMutexGuard<'a, R, G, T> {
     /// Hands the mutex to the first who waits for it, and waits to take it again. Where nobody
     /// waits, or this thread has locked the mutex more than once, it keeps the mutex.
@@ -228,6 +279,8 @@ impl<'a, R: RawMutexCounted + RawMutexFair, G: GetThreadId<R>, T> ReentrantMutex
         ensures token { R.is_token_of (R.lot_of self.entry.mutex.now.0) token.new
             × R.stays token.old token.new }
         ensures guard { result.mutex.now ≡ self.entry.mutex.now }
+        ensures named { R.thread_of self.entry.share ≡ R.number_of token.old + 1
+            → R.thread_of result.share ≡ R.number_of token.old + 1 }
         ensures path { Bumped (SawMore (R.saw_count self.entry.mutex.now.0))
             (CountedOutAlone (R.saw_count self.entry.mutex.now.0)
             (R.stored_count self.entry.mutex.now.0))

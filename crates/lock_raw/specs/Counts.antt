@@ -40,6 +40,11 @@ CountedAgain {Token} saw stored number old new = (word : ℕ) × (looked : Token
     × saw word old looked × Names number word × (times_in word < 4294967295)
     × stored word (word + 1) looked new
 
+-- it found itself named, with a count below the greatest, and counted once more by one step
+abbrev pub CountedMore : {Token : Type 0} → Stores Token → ℕ → Token → Token → Type 0
+CountedMore stored number old new = (word : ℕ) × Names number word × (times_in word < 4294967295)
+    × stored word (word + 1) old new
+
 -- it saw itself named with the greatest count
 abbrev pub SawFull : {Token : Type 0} → Looks Token → ℕ → Token → Token → Type 0
 SawFull saw number old new = (word : ℕ) × saw word old new × Names number word

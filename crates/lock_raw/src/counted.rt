@@ -1,8 +1,8 @@
 //! Raw mutexes that their owners may lock again.
-ghost use Rattle.std.specs.Prelude.{◌≡◌, ℕ, ◌+◌, MatchOption, MatchResult};
+ghost use Rattle.std.specs.Prelude.{◌≡◌, ℕ, ◌+◌, IfErr, IfOk, IfSome, MatchOption, MatchResult};
 ghost use Rattle.std.specs.Arc.{arc_value};
 ghost use Rattle.lock_raw.specs.Answers.{IsRefusal};
-ghost use Rattle.lock_raw.specs.Counts.{CountedAgain, CountedLess, CountedOut, CountedOutAlone, SawFull, SawMore, SawOthers, first_count};
+ghost use Rattle.lock_raw.specs.Counts.{CountedAgain, CountedLess, CountedMore, CountedOut, CountedOutAlone, SawFull, SawMore, SawOthers, first_count};
 ghost use Rattle.lot_base.specs.declared.faults.Fault.TheVariants.{LockCountFull};
 
 use crate::RawMutex;
@@ -37,6 +37,8 @@ pub trait RawMutexCounted: RawMutex {
     ghost is_share_of: { Self → Self.Share → Type 0 };
 
     ghost share_once: { (mutex : Self) (share : Self.Share) → IsProp (is_share_of mutex share) };
+    // One more than the number of the thread that a share names.
+    ghost thread_of: { Self.Share → ℕ };
     // Between the two states of a thread it drew the words of this mutex, on which nobody has
     // stepped.
     ghost drew_pair: { Self → Self.Token → Self.Token → Type 0 };
@@ -91,7 +93,36 @@ pub trait RawMutexCounted: RawMutex {
             × CountedAgain (saw_count self.now) (stored_count self.now) (Self.number_of token.old)
             token.old token.new))
             (λ fault. (fault ≡ LockCountFull)
-            × SawFull (saw_count self.now) (Self.number_of token.old) token.old token.new) };
+            × SawFull (saw_count self.now) (Self.number_of token.old) token.old token.new) }
+        ensures named { IfOk result (λ taken. IfSome taken (λ share. thread_of share ≡ thread)) };
+
+    /// Counts once more by a share of the thread, which is named on the count word.
+    ///
+    /// # Errors
+    ///
+    /// `LockCountFull` with the share, where it has locked the mutex as often as can be counted.
+    fn count_more<R: Wait>(
+        &self,
+        rt: &R,
+        token: &mut Self::Token,
+        count: &Self::Count,
+        thread: usize,
+        share: Self::Share,
+    ) -> Result<(Self::Share, Self::Share), (Fault, Self::Share)>
+        requires token { Self.is_token_of (Self.lot_of self.now) token.old }
+        requires count { is_count_of self.now count.now }
+        requires thread { thread ≡ Self.number_of token.old + 1 }
+        requires share { is_share_of self.now share × (thread_of share ≡ thread) }
+        ensures token { Self.is_token_of (Self.lot_of self.now) token.new
+            × Self.stays token.old token.new }
+        ensures share { MatchResult result
+            (λ shares. is_share_of self.now shares.0 × is_share_of self.now shares.1
+            × CountedMore (stored_count self.now) (Self.number_of token.old) token.old token.new)
+            (λ refused. (refused.0 ≡ LockCountFull) × is_share_of self.now refused.1
+            × SawFull (saw_count self.now) (Self.number_of token.old) token.old token.new) }
+        ensures named { MatchResult result
+            (λ shares. (thread_of shares.0 ≡ thread) × (thread_of shares.1 ≡ thread))
+            (λ refused. thread_of refused.1 ≡ thread) };
 
     /// Begins to count for a thread that has the mutex. Its guard is spent, and comes back with the
     /// last share.
@@ -111,7 +142,8 @@ pub trait RawMutexCounted: RawMutex {
             × Self.stays token.old token.new }
         ensures share { is_share_of self.now result }
         ensures begun { stored_count self.now 0 (first_count (Self.number_of token.old)) token.old
-            token.new };
+            token.new }
+        ensures named { thread_of result ≡ thread };
 
     /// Counts once less. The guard comes back with the last share.
     fn count_off<R: Wait>(
@@ -149,5 +181,6 @@ pub trait RawMutexCounted: RawMutex {
             (λ guard. Self.is_guard_of self.now guard
             × CountedOutAlone (saw_count self.now) (stored_count self.now) token.old token.new)
             (λ share. is_share_of self.now share
-            × SawMore (saw_count self.now) token.old token.new) };
+            × SawMore (saw_count self.now) token.old token.new) }
+        ensures named { IfErr result (λ kept. thread_of kept ≡ thread_of share) };
 }

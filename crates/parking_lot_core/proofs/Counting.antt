@@ -1,6 +1,6 @@
 -- Counts of mutexes: an ownership is taken in, says another count, and is split off again.
 use Rattle.std.proofs.Common.{◌≡◌, ◌≢◌, ◌∙◌, ℕ, ◌+◌, List, ◌∷◌, ◌||◌, true, cond, eqb, eq-eqb, ne_eqb, ap, arith, refl, sym, subst}
-use Rattle.lot_base.specs.declared.ops.Op.TheVariants.{Store}
+use Rattle.lot_base.specs.declared.ops.Op.TheVariants.{Load, Store}
 use Rattle.lot_words.proofs.Trades.{is_itself}
 use Rattle.lot_words.specs.Codes.{exclusive}
 use Rattle.lot_words.specs.Indices.{mutex_of_count, word_index}
@@ -45,6 +45,23 @@ module _ (m n said next : ℕ) (behind : n ≡ m + 1) (other : said ≢ next) wh
     pub splits_next : left_over (x next) u ≡ stepping v (word_index n Count) (Store next) said
     splits_next = ap (λ (y : View). left_over (x next) y) said_behind
         ∙ ap (λ os. view (listed v (word_index n Count) (Store next) said) os v.drawn v.saw) (without_first (x next) v.owns)
+
+-- behind a look at the count the thread says what it said
+module _ (m n said : ℕ) (v w u : View) (joined : w ≡ takes_in v (piece (owning_with (word_index m Mutex) said))) (stepped : u ≡ after_step Count (word_index n Count) Load said w) where
+  abbrev kept : Ownership
+  kept = owning_with (word_index m Mutex) said
+
+  heard_behind : u ≡ view (listed v (word_index n Count) Load said) (kept ∷ v.owns) v.drawn v.saw
+  heard_behind = stepped ∙ (ap (λ (y : View). after_step Count (word_index n Count) Load said y) joined
+      ∙ ap (λ b. view (listed v (word_index n Count) Load said) (cond b (kept ∷ v.owns) (owning_with (mutex_of_count (word_index n Count)) said ∷ without (owning_with (mutex_of_count (word_index n Count)) said) (kept ∷ v.owns))) v.drawn v.saw)
+      (eq-eqb said said refl))
+
+  pub says_still : has kept u.owns ≡ true
+  says_still = subst (λ (y : View). has kept y.owns ≡ true) (sym heard_behind) (has_first kept v.owns)
+
+  pub splits_still : left_over kept u ≡ stepping v (word_index n Count) Load said
+  splits_still = ap (λ (y : View). left_over kept y) heard_behind
+      ∙ ap (λ os. view (listed v (word_index n Count) Load said) os v.drawn v.saw) (without_first kept v.owns)
 
 -- nobody owns a mutex twice
 pub owned_once : (i said n : ℕ) (rest owns : List Ownership) → owns ≡ owning_with i said ∷ owning i Exclusive ∷ rest → CodesWith Mutex i n owns → ⊥

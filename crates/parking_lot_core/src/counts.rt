@@ -1,8 +1,8 @@
 //! Mutexes that their owners lock again: how often is counted on the word behind each.
 #![tactic(auto, unfolding(crate::specs::Tokens::view_of))]
 
-ghost use Rattle.std.specs.Prelude.{◌≡◌, ◌≢◌, ◌+◌, ◌<◌, None};
-ghost use Rattle.lot_base.specs.declared.ops.Op.TheVariants.{Store};
+ghost use Rattle.std.specs.Prelude.{◌≡◌, ◌≢◌, ◌+◌, ◌/◌, ◌<◌, None};
+ghost use Rattle.lot_base.specs.declared.ops.Op.TheVariants.{Load, Store};
 ghost use Rattle.lot_words.specs.Codes.{IsCountCode};
 ghost use Rattle.lot_words.specs.Indices.{word_index};
 ghost use Rattle.lot_words.specs.Lots.{IsWordOf, permit_of};
@@ -33,6 +33,9 @@ impl Shared<LotWords> for Kept {
     ghost use Rattle.parking_lot_core.specs.Counts.{IsKept};
 
     ghost fits = { IsKept };
+
+    // The thread that is named, by one more than its number.
+    ghost tag = { λ kept. kept.said / 4294967296 };
 }
 
 impl ParkingLot {
@@ -64,6 +67,21 @@ impl ParkingLot {
         count_may_step();
         let _pair = (mutex, said);
         self.word(token, count, Op::Store(next));
+    }
+
+    // Looks at the count. The thread owns the mutex, and says what the count is.
+    #[inline]
+    fn hear_count(&self, token: &mut Token, mutex: Word, count: Word, said: u64)
+        requires own { IsTokenOf self.now token.old × IsWordOf self.now.words count }
+        requires pair { IsPair mutex count }
+        requires owned { OwnsWith mutex said (view_of token.old) }
+        ensures own { IsSameThread self.now token.old token.new × (last_of token.new ≡ None) }
+        ensures stepped { view_of token.new
+            ≡ after_step Count (word_index count.number Count) Load said (view_of token.old) }
+    {
+        count_may_step();
+        let _pair = (mutex, said);
+        self.load(token, count);
     }
 
     /// Begins to count a mutex whose guard is spent: stores its first count by one step, and splits
@@ -125,6 +143,27 @@ impl ParkingLot {
             counted,
             said: next,
         }
+    }
+
+    /// Looks at the count of a counted mutex, by one step. It sees what is kept.
+    #[inline]
+    pub fn look_kept(&self, token: &mut Token, mutex: Word, count: Word, kept: Kept) -> Kept
+        requires own { IsTokenOf self.now token.old × IsWordOf self.now.words mutex
+            × IsWordOf self.now.words count }
+        requires pair { IsPair mutex count }
+        requires kept { IsCountedOf self.now.words mutex.number kept.said kept.counted }
+        ensures own { IsSameThread self.now token.old token.new × (last_of token.new ≡ None) }
+        ensures stepped { view_of token.new
+            ≡ stepping (view_of token.old) (word_index count.number Count) Load kept.said }
+        ensures kept { IsCountedOf self.now.words mutex.number result.said result.counted
+            × (result.said ≡ kept.said) }
+    {
+        let Kept { counted, said } = kept;
+        self.words
+            .join_counted(&mut token.seat, mutex, said, counted);
+        self.hear_count(token, mutex, count, said);
+        let counted = self.words.split_counted(&mut token.seat, mutex, said);
+        Kept { counted, said }
     }
 
     /// Ends the count of a mutex: stores 0 by one step, and gives the guard back.
