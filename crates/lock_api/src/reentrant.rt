@@ -235,7 +235,10 @@ impl<'a, R: RawMutexCounted, G: GetThreadId<R>, T> ReentrantMutexGuard<'a, R, G,
         rt: &W,
         token: &mut R::Token,
     ) -> Result<
-        (ReentrantMutexGuard<'a, R, G, T>, ReentrantMutexGuard<'a, R, G, T>),
+        (
+            ReentrantMutexGuard<'a, R, G, T>,
+            ReentrantMutexGuard<'a, R, G, T>,
+        ),
         (Fault, ReentrantMutexGuard<'a, R, G, T>),
     >
         requires token { R.is_token_of (R.lot_of self.mutex.now.0) token.old }

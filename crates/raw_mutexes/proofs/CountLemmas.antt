@@ -1,5 +1,5 @@
 -- Counts of mutexes, as words and as numbers of shares.
-use Rattle.std.proofs.Common.{◌≡◌, ◌≢◌, ◌∙◌, ℕ, ◌+◌, ◌-◌, ◌*◌, ◌%◌, ◌<◌, ◌++◌, List, [], ◌∷◌, inr, ap, arith, subst, sym, refl}
+use Rattle.std.proofs.Common.{◌≡◌, ◌≢◌, ◌∙◌, ℕ, ◌+◌, ◌-◌, ◌*◌, ◌/◌, ◌%◌, ◌<◌, ◌++◌, List, [], ◌∷◌, inr, ap, arith, subst, sym, refl}
 use Rattle.lock_raw.specs.Counts.{times_in}
 use Rattle.lot_words.specs.Codes.{IsCountCode}
 use Rattle.lot_words.specs.RightsOf.{IsCountedOf}
@@ -42,6 +42,14 @@ pub less_kept : (words key : LotWords) (m n at : ℕ) (kept new : Kept) (g : ℕ
 less_kept words key m n at kept new g same here number some is several counted = let few = is.1 in let t = is.2.0 in let said = is.2.1 in let times = times_of t g kept.said said few in
     let left = counted.1 in let two : 1 < g = omega (arith, some, several, times) in
     (omega (arith, two), kept_at words key m n at new t (g - 1) same here number counted.0 (omega (arith, few)) (omega (arith, said, left, two)))
+
+-- who counts once more, or once less, is named as before
+pub more_named : (said seen next new found : ℕ) → said ≡ seen → next ≡ seen + 1 → times_in seen < 4294967295 → new ≡ next → said / 4294967296 ≡ found → new / 4294967296 ≡ found
+more_named said seen next new found saw more below left is = omega (arith, saw, more, below, left, is)
+
+pub less_named : (key : LotWords) (n : ℕ) (kept : Kept) (g new found : ℕ) → 0 < g → IsKept key n kept g → kept.said % 4294967296 ≢ 1 → new ≡ kept.said - 1 → kept.said / 4294967296 ≡ found → new / 4294967296 ≡ found
+less_named key n kept g new found some is several left same = let few = is.1 in let t = is.2.0 in let said = is.2.1 in let times = times_of t g kept.said said few in
+    let two : 1 < g = omega (arith, some, several, times) in omega (arith, two, few, said, left, same)
 
 -- for the first time
 pub first_kept : (words key : LotWords) (m n at : ℕ) (counted : Counted) (said thread number g : ℕ) → key ≡ words → at ≡ n → n ≡ m → g ≡ 0 → thread ≡ number + 1 → said ≡ thread * 4294967296 + 1

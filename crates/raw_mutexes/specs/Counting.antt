@@ -33,6 +33,10 @@ pub IsShareOf-prop : (lot : ParkingLot) (mutex : Word) (share : RawShare)
     → IsProp (IsShareOf lot mutex share)
 IsShareOf-prop lot mutex share = Prim.hlevel props
 
+-- one more than the number of the thread that a share names
+abbrev pub thread_of : RawShare → ℕ
+thread_of share = share.share.seat.me.0.tag
+
 -- where the count word of a mutex of this number stands
 abbrev pub count_at : ℕ → ℕ
 count_at number = word_index (number + 1) Count

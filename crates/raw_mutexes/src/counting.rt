@@ -1,11 +1,11 @@
 //! Raw mutexes that their owners lock again.
-ghost use Rattle.std.specs.Prelude.{◌≡◌, ◌+◌, ◌<◌, ◌++◌, ◌∷◌, [], MatchOption, MatchResult};
+ghost use Rattle.std.specs.Prelude.{◌≡◌, ◌+◌, ◌/◌, ◌<◌, ◌++◌, ◌∷◌, [], IfErr, IfOk, IfSome, MatchOption, MatchResult};
 ghost use Rattle.std.specs.Arc.{arc_value};
 ghost use Rattle.lock_raw.specs.Counts.{Names, times_in};
 ghost use Rattle.lot_base.specs.declared.faults.Fault.TheVariants.{LockCountFull};
 ghost use Rattle.lot_driver.specs.Telling.{steps_of};
 ghost use Rattle.parking_lot_core.specs.Tokens.{IsTokenOf};
-ghost use Rattle.raw_mutexes.specs.Counting.{DrewPair, FoundFew, IsCountOf, IsCountOf-prop, IsShareOf, IsShareOf-prop, SawCount, StoredCount, count_at, looks};
+ghost use Rattle.raw_mutexes.specs.Counting.{DrewPair, FoundFew, IsCountOf, IsCountOf-prop, IsShareOf, IsShareOf-prop, SawCount, StoredCount, count_at, looks, thread_of};
 ghost use Rattle.raw_mutexes.specs.MutexGuards.{IsGuardOf, StaysAs};
 
 use crate::guards::RawGuard;
@@ -72,6 +72,7 @@ impl RawMutex {
         ensures share { MatchOption result (token.new ≡ token.old)
             (λ share. IsShareOf (lot_of self.now) (word_of self.now) share
             × StoredCount (word_of self.now).number seen next token.old token.new) }
+        ensures named { IfSome result (λ share. thread_of share ≡ seen / 4294967296) }
     {
         let lot: &ParkingLot = &self.lot;
         let holders = lot.holders();
@@ -110,6 +111,7 @@ impl RawMutex {
             × StoredCount (word_of self.now).number seen (seen + 1) token.old token.new))
             (λ fault. (fault ≡ LockCountFull) × (times_in seen ≡ 4294967295)
             × (token.new ≡ token.old)) }
+        ensures named { IfOk result (λ taken. IfSome taken (λ share. thread_of share ≡ thread)) }
     {
         let next = advance_count(seen, thread - 1)?;
         Ok(self.count_inside(rt, token, count, seen, next))
@@ -136,6 +138,7 @@ impl RawMutex {
             × StoredCount (word_of self.now).number seen 0 token.old token.new)
             (λ share. IsShareOf (lot_of self.now) (word_of self.now) share
             × (token.new ≡ token.old)) }
+        ensures named { IfErr result (λ kept. thread_of kept ≡ thread_of share) }
     {
         let lot: &ParkingLot = &self.lot;
         let holders = lot.holders();
@@ -163,6 +166,8 @@ impl RawMutexCounted for RawMutex {
     ghost is_share_of = { λ mutex share. IsShareOf (arc_value mutex.lot) mutex.word share };
 
     ghost share_once = { λ mutex share. IsShareOf-prop (arc_value mutex.lot) mutex.word share };
+
+    ghost thread_of = { thread_of };
 
     ghost drew_pair = { λ mutex old new. DrewPair (arc_value mutex.lot) mutex.word old new };
 
@@ -202,6 +207,33 @@ impl RawMutexCounted for RawMutex {
             }
         }
         unreachable!()
+    }
+
+    #[inline]
+    fn count_more<R: Wait>(
+        &self,
+        rt: &R,
+        token: &mut Token,
+        count: &Word,
+        thread: usize,
+        share: RawShare,
+    ) -> Result<(RawShare, RawShare), (Fault, RawShare)> {
+        let lot: &ParkingLot = &self.lot;
+        let holders = lot.holders();
+        let RawShare { share } = share;
+        let (kept, entered) = holders.enter_with(rt, self.word.number(), share);
+        match advance_count(kept.said, thread - 1) {
+            Ok(next) => {
+                let kept = lot.change_count(token, self.word, *count, kept, next);
+                let (share, another) = holders.leave_with_another(kept, entered);
+                Ok((RawShare { share }, RawShare { share: another }))
+            }
+            Err(fault) => {
+                let kept = lot.look_kept(token, self.word, *count, kept);
+                let share = holders.leave_with_share(kept, entered);
+                Err((fault, RawShare { share }))
+            }
+        }
     }
 
     #[inline]

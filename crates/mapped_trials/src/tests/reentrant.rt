@@ -135,6 +135,46 @@ fn tries_of_the_owner_succeed_and_of_others_fail(rt: HostRuntime) {
     same(&rt, mutex.into_inner(), 7);
 }
 
+// Locks once more by a guard. Whether the mutex is locked for the other thread while either guard is
+// there, and when both are gone.
+fn locked_by_a_guard<R: Wait + Abort>(
+    rt: &R,
+    mutex: &ReentrantMutex<u8>,
+    one: &mut Token,
+    other: &mut Token,
+) -> [bool; 3]
+    requires { IsTokenOf (lot_of mutex.now.0) one.old × IsTokenOf (lot_of mutex.now.0) other.old }
+{
+    let Ok(guard) = mutex.lock(rt, one) else {
+        panic!(rt; "full");
+    };
+    let (guard, another) = match guard.again(rt, one) {
+        Ok(guards) => guards,
+        Err((_, guard)) => {
+            guard.unlock(rt, one);
+            panic!(rt; "full");
+        }
+    };
+    let beside_both = tried(rt, mutex, other);
+    let beside_both = given_up(rt, mutex, other, beside_both);
+    guard.unlock(rt, one);
+    let beside_one = tried(rt, mutex, other);
+    let beside_one = given_up(rt, mutex, other, beside_one);
+    another.unlock(rt, one);
+    let later = tried(rt, mutex, other);
+    [beside_both, beside_one, given_up(rt, mutex, other, later)]
+}
+
+#[test]
+fn a_guard_gives_another(rt: HostRuntime) {
+    let (mutex, mut one, mut tickets) = reentrant(&rt, rt.alloc(), 7);
+    if let Some(ticket) = tickets.pop() {
+        let mut other = ticket.enter();
+        let found = locked_by_a_guard(&rt, &mutex, &mut one, &mut other);
+        same(&rt, found, [false, false, true]);
+    }
+}
+
 // Locks so often, each time inside the last, reads, and unlocks as often.
 fn nested<R: Wait + Abort>(
     rt: &R,
