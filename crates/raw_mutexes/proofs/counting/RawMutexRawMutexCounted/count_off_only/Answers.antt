@@ -25,5 +25,6 @@ loop-preserved g c = let mutex = c.args.self.now in let n = mutex.word.number in
       turns = search rules;
       own = own;
       share = got.0;
+      named = search rules;
       saw = (before.0 ++ seen ∷ [], ap steps_of got.1 ∙ saw);
     }
