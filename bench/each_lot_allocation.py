@@ -14,7 +14,7 @@ import sys
 CRATE = os.path.join(os.path.dirname(os.path.abspath(__file__)), "..", "crates", "lot_trials")
 TEST = "tests::single::a_lot_is_made_or_refused"
 # The lot makes fewer.
-LAST = 30
+LAST = 40
 
 
 def main():
