@@ -1,7 +1,7 @@
 //! Calls of one semaphore, by one thread and by many.
 mod crowds;
 
-ghost use Rattle.std.specs.Prelude.{◌≡◌, ◌<◌, ◌≤◌, ◌^◌, ◌×◌, All, IfSome};
+ghost use Rattle.std.specs.Prelude.{◌≡◌, ◌<◌, ◌≤◌, ◌^◌, All, IfSome};
 ghost use Rattle.std.specs.Arc.{arc_value};
 ghost use Rattle.run_semaphore.specs.Users.{IsTicketOf, IsTokenOf, lot_of};
 
