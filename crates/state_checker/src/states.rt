@@ -218,8 +218,7 @@ fn check_thread(seen: &Seen, thread: usize) -> Result<(), Violation> {
         return Err(Violation::StandsTwice(thread));
     }
     match seen.standing(thread) {
-        Standing::Idle if places != 0 => Err(Violation::WaitsAwake(thread)),
-        Standing::Awake if seen.taker(thread).is_some() => Err(Violation::WaitsAwake(thread)),
+        Standing::Idle if places != 0 => Err(Violation::WaitsIdle(thread)),
         Standing::Asleep if places == 0 => Err(Violation::SleepsNowhere(thread)),
         _ => Ok(()),
     }

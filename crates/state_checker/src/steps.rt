@@ -45,6 +45,16 @@ fn check_size(before: &Seen, after: &Seen) -> Result<(), Violation> {
     Ok(())
 }
 
+/// Whether a turn may change owners, and where it does so words or queues. A look again changes no word,
+/// but may show a pending writer that no reader is left.
+fn may_touch(turn: Turn, changes_more: bool) -> bool {
+    match turn {
+        Turn::Go | Turn::Ok | Turn::Err => true,
+        Turn::Spin => !changes_more,
+        Turn::Begin(_) | Turn::Late => false,
+    }
+}
+
 /// Only an act changes a word, an owner or a queue, and one act changes one word at most, or queues.
 fn check_touched(before: &Seen, step: Step, after: &Seen) -> Result<(), Violation> {
     let mut words = 0usize;
@@ -52,7 +62,7 @@ fn check_touched(before: &Seen, step: Step, after: &Seen) -> Result<(), Violatio
         let is_word_new = old.word != new.word;
         let is_queue_new = old.main != new.main || old.aside != new.aside;
         let is_touched = is_word_new || is_queue_new || old.owners != new.owners;
-        if is_touched && step.turn != Turn::Go {
+        if is_touched && !may_touch(step.turn, is_word_new || is_queue_new) {
             return Err(Violation::TouchedWithoutAct(lock));
         }
         if is_word_new && is_queue_new {

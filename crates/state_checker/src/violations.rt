@@ -24,8 +24,8 @@ pub enum Violation {
     StandsTwice(usize),
     #[error("thread {0} sleeps in no queue and in nobody's hand")]
     SleepsNowhere(usize),
-    #[error("thread {0} waits and is in no call, or waits in a hand and is awake")]
-    WaitsAwake(usize),
+    #[error("thread {0} waits and is in no call")]
+    WaitsIdle(usize),
     // Of two neighbours.
     #[error("another number of threads or locks, or another kind of lock {0}")]
     OtherWorld(usize),

@@ -1,0 +1,11 @@
+mod checked;
+mod walks;
+
+use std::fmt::Debug;
+use std::process::Abort;
+
+// What was found is what was wanted. All tests share this one assertion, since each is proved where
+// it stands.
+fn same<T: PartialEq + Debug + Drop>(rt: &impl Abort, found: T, wanted: T) {
+    assert_eq!(rt; found, wanted);
+}
