@@ -1,4 +1,6 @@
+mod bad_input;
 mod checked;
+mod planted;
 mod walks;
 
 use std::fmt::Debug;

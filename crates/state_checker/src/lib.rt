@@ -11,8 +11,6 @@ pub mod rights;
 pub mod seen;
 pub mod states;
 pub mod steps;
-#[cfg(test)]
-mod tests;
 pub mod violations;
 pub mod watch;
 
