@@ -23,15 +23,31 @@ const INPUTS: &[(&[u8], &[u8], u8)] = &[
     (b"threads 01\nshow\n", b"line 1 malformed\n", 2),
     (b"show\n", b"line 1 malformed\n", 2),
     // A carriage return before a line feed, behind answered lines, and alone.
-    (b"threads 1\nlock m mutex\nshow\nshow\r\n", b"m 0\nline 4 malformed\n", 2),
+    (
+        b"threads 1\nlock m mutex\nshow\nshow\r\n",
+        b"m 0\nline 4 malformed\n",
+        2,
+    ),
     (b"threads 1\nlock m mutex\r\n", b"line 2 malformed\n", 2),
     (b"threads 1\rlock m mutex\rshow\r", b"line 1 malformed\n", 2),
     (b"\r\n", b"line 1 malformed\n", 2),
     // Bytes that aren't ASCII: of a letter, and of none.
-    (b"threads 1\nlock m mutex\n0 do lock \xc3\xa9\n", b"line 3 malformed\n", 2),
+    (
+        b"threads 1\nlock m mutex\n0 do lock \xc3\xa9\n",
+        b"line 3 malformed\n",
+        2,
+    ),
     (b"threads 1\nlock m mutex\n\xff\n", b"line 3 malformed\n", 2),
-    (b"threads 1\nlock m mutex\nshow\n\x80show\n", b"m 0\nline 4 malformed\n", 2),
-    (b"threads 1\nlock m mutex\n0 go\0\n", b"line 3 malformed\n", 2),
+    (
+        b"threads 1\nlock m mutex\nshow\n\x80show\n",
+        b"m 0\nline 4 malformed\n",
+        2,
+    ),
+    (
+        b"threads 1\nlock m mutex\n0 go\0\n",
+        b"line 3 malformed\n",
+        2,
+    ),
     (b"\xef\xbb\xbfthreads 1\n", b"line 1 malformed\n", 2),
     // A number of 19 digits, of 20, and one that no word holds.
     (
@@ -46,7 +62,11 @@ const INPUTS: &[(&[u8], &[u8], u8)] = &[
         2,
     ),
     // A `lock` line behind each other sort of line.
-    (b"threads 1\nlock m mutex\ndrain\nlock n mutex\n", b"line 4 malformed\n", 2),
+    (
+        b"threads 1\nlock m mutex\ndrain\nlock n mutex\n",
+        b"line 4 malformed\n",
+        2,
+    ),
     (
         b"threads 1\nlock m mutex\n0 solo\nlock n mutex\n",
         b"0 not now\nline 4 malformed\n",
@@ -109,7 +129,11 @@ fn long_lines_are_malformed(rt: HostRuntime) -> Result<(), Fail> {
         for byte in [b' ', b'0', b's', 0xff] {
             let input = long_line(rt.alloc(), len, byte)?;
             let (text, status) = replayed(rt.alloc(), input.as_slice());
-            same(&rt, (len, text.as_slice()), (len, b"m 0\nline 4 malformed\n"));
+            same(
+                &rt,
+                (len, text.as_slice()),
+                (len, b"m 0\nline 4 malformed\n"),
+            );
             same(&rt, (len, status), (len, 2));
         }
     }

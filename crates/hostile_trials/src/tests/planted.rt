@@ -187,7 +187,10 @@ const STATES: &[(Planned<'static>, Option<Violation>)] = &[
     // A free mutex, a free reader-writer lock, a writer aside without readers, a free permit and a new
     // `Once`, whose waiters nobody wakes; and one whose debtor sleeps.
     (
-        (&[IDLE, ASLEEP], &[(MUTEX, 2, &[], &[(1, X)], &[], &[], &[])]),
+        (
+            &[IDLE, ASLEEP],
+            &[(MUTEX, 2, &[], &[(1, X)], &[], &[], &[])],
+        ),
         Some(Violation::Forgotten(0)),
     ),
     (
@@ -235,7 +238,10 @@ const STATES: &[(Planned<'static>, Option<Violation>)] = &[
         ),
         Some(Violation::StandsTwice(1)),
     ),
-    ((&[IDLE, ASLEEP], &[FREE]), Some(Violation::SleepsNowhere(1))),
+    (
+        (&[IDLE, ASLEEP], &[FREE]),
+        Some(Violation::SleepsNowhere(1)),
+    ),
     (
         (
             &[IDLE, IDLE],
@@ -421,7 +427,11 @@ fn steps_are_named(rt: HostRuntime) -> Result<(), Fail> {
         let found = check_step(&before, step, Outcome::Step, &after).err();
         same(&rt, (number, found), (number, Some(*wanted)));
         let found = check_step(&before, step, Outcome::NotNow, &after).err();
-        same(&rt, (number, found), (number, Some(Violation::ChangedByNothing)));
+        same(
+            &rt,
+            (number, found),
+            (number, Some(Violation::ChangedByNothing)),
+        );
     }
     Ok(())
 }
@@ -483,7 +493,11 @@ fn answers_are_named(rt: HostRuntime) -> Result<(), Fail> {
             thread: 0,
             turn: Turn::Go,
         };
-        same(&rt, watch.follow(&still, begins, Outcome::Step, &still), Ok(()));
+        same(
+            &rt,
+            watch.follow(&still, begins, Outcome::Step, &still),
+            Ok(()),
+        );
         let found = watch.follow(&still, goes, Outcome::End(*answer), &still);
         same(&rt, found.err(), Some(*wanted));
     }

@@ -91,7 +91,10 @@ fn condvar_call(dice: &mut Dice, mutex: usize) -> CondvarCall {
     match dice.below(4) {
         0 => CondvarCall::Notify { all: false },
         1 => CondvarCall::Notify { all: true },
-        2 => CondvarCall::Wait { mutex, timed: false },
+        2 => CondvarCall::Wait {
+            mutex,
+            timed: false,
+        },
         _ => CondvarCall::Wait { mutex, timed: true },
     }
 }
@@ -204,9 +207,21 @@ fn mutexes_keep_their_rules(rt: HostRuntime) {
 fn reader_writer_locks_keep_their_rules(rt: HostRuntime) {
     for threads in 2..17 {
         walks(&rt, rt.alloc(), &[Kind::RwLock { limit: 16 }], threads, 4);
-        walks(&rt, rt.alloc(), &[Kind::Recursive { limit: 16 }], threads, 4);
+        walks(
+            &rt,
+            rt.alloc(),
+            &[Kind::Recursive { limit: 16 }],
+            threads,
+            4,
+        );
         walks(&rt, rt.alloc(), &[Kind::RwLock { limit: 1000 }], threads, 4);
-        walks(&rt, rt.alloc(), &[Kind::Recursive { limit: 1000 }], threads, 4);
+        walks(
+            &rt,
+            rt.alloc(),
+            &[Kind::Recursive { limit: 1000 }],
+            threads,
+            4,
+        );
     }
 }
 
@@ -223,8 +238,20 @@ fn condition_variables_keep_their_rules(rt: HostRuntime) {
 fn onces_and_semaphores_keep_their_rules(rt: HostRuntime) {
     for threads in 2..17 {
         walks(&rt, rt.alloc(), &[Kind::Once, Kind::Once], threads, 4);
-        walks(&rt, rt.alloc(), &[Kind::Semaphore { permits: 1 }], threads, 3);
-        walks(&rt, rt.alloc(), &[Kind::Semaphore { permits: 3 }], threads, 3);
+        walks(
+            &rt,
+            rt.alloc(),
+            &[Kind::Semaphore { permits: 1 }],
+            threads,
+            3,
+        );
+        walks(
+            &rt,
+            rt.alloc(),
+            &[Kind::Semaphore { permits: 3 }],
+            threads,
+            3,
+        );
     }
 }
 
