@@ -1,6 +1,7 @@
 mod bad_input;
 mod checked;
 mod planted;
+mod schedules;
 mod walks;
 
 use std::fmt::Debug;
