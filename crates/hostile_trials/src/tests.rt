@@ -7,8 +7,8 @@ mod walks;
 use std::fmt::Debug;
 use std::process::Abort;
 
-// What was found is what was wanted. All tests share this one assertion, since each is proved where
-// it stands.
+// Compares what was found with what was wanted. All tests share this one assertion, since each is
+// proved where it stands.
 fn same<T: PartialEq + Debug + Drop>(rt: &impl Abort, found: T, wanted: T) {
     assert_eq!(rt; found, wanted);
 }

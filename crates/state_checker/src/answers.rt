@@ -1,4 +1,4 @@
-//! What each answer of a call means.
+//! The meaning of each answer of a call.
 
 use crate::seen::{Rights, Seen, SeenLock};
 use crate::violations::Violation;
@@ -209,7 +209,7 @@ fn is_refused_free(call: Call, answer: Answer, seen: &SeenLock) -> bool {
     }
 }
 
-/// What a notification says beside the number of waiters that it moved.
+/// Whether a notification tells the number of waiters that it moved.
 fn is_number(call: CondvarCall, answer: Answer, moved: usize) -> bool {
     match (call, answer) {
         (CondvarCall::Notify { all: false }, Answer::Yes) => moved == 1,
@@ -219,7 +219,7 @@ fn is_number(call: CondvarCall, answer: Answer, moved: usize) -> bool {
     }
 }
 
-/// What a `Once` is where a call of it is told so.
+/// Whether a `Once` is as a call of it is told.
 fn is_state(answer: Answer, begun: Begun, word: u64) -> bool {
     match answer {
         Answer::Ok | Answer::Yes => word & 1 != 0,

@@ -1,4 +1,4 @@
-//! What a world shows of itself at one moment.
+//! A world as it shows itself at one moment.
 
 use lot_base::Want;
 use lot_calls::Kind;

@@ -1,4 +1,4 @@
-//! What every state keeps.
+//! The rules of one state.
 
 use crate::seen::{Right, Seen, SeenLock, SeenWaiter, Standing};
 use crate::violations::Violation;

@@ -1,4 +1,4 @@
-//! What one step leaves, and what it may change.
+//! The rules of one step: what it leaves, and what it may change.
 
 use crate::queues::check_queues;
 use crate::rights::check_rights;

@@ -2,10 +2,10 @@
 
 use thiserror::Error;
 
-/// What no world may show, with the lock or the thread where it stands.
+/// Names what no world may show, with the lock or the thread where it stands.
 #[derive(Clone, Copy, Debug, PartialEq, Eq, Error)]
 pub enum Violation {
-    // Of one state.
+    // In one state.
     #[error("the owners of lock {0} don't exclude each other")]
     OwnersClash(usize),
     #[error("lock {0} has an owner or a waiter of a sort that its kind lacks")]
@@ -26,7 +26,7 @@ pub enum Violation {
     SleepsNowhere(usize),
     #[error("thread {0} waits and is in no call")]
     WaitsIdle(usize),
-    // Of two neighbours.
+    // Between two neighbours.
     #[error("another number of threads or locks, or another kind of lock {0}")]
     OtherWorld(usize),
     #[error("a step that isn't possible changed something")]
@@ -63,7 +63,7 @@ pub enum Violation {
     Undone(usize),
     #[error("condition variable {0} shows another mutex while it has waiters")]
     ShowsAnother(usize),
-    // Of what calls answer.
+    // In the answers of calls.
     #[error("thread {0} was told what its call never tells")]
     StrangeAnswer(usize),
     #[error("thread {0} was told so and doesn't own what this means")]

@@ -1,4 +1,4 @@
-//! What calls answer, beside what happened since they began.
+//! The answers of calls, beside what happened since they began.
 
 use crate::answers::{rights_after, told_violation};
 use crate::seen::{Rights, Seen};

@@ -14,7 +14,7 @@ use std::alloc::{AllocError, Global};
 #[derive(Clone, Copy, Debug, PartialEq, Eq)]
 pub enum Stop {
     NoMemory,
-    /// What is wrong with the step of this number, counted from 0.
+    /// The step of this number, counted from 0, is wrong.
     Wrong(usize, Step, Violation),
 }
 
@@ -100,7 +100,7 @@ fn look_at_lock<Q: Queues + Drop>(
     })
 }
 
-/// What a world shows.
+/// Lists all that a world shows.
 fn look<Q: Queues + Drop>(alloc: Global, world: &World<Q>) -> Result<Seen, AllocError> {
     let mut threads = Vec::new(alloc);
     for thread in 0..world.threads() {

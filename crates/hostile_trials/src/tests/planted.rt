@@ -260,7 +260,7 @@ fn states_are_named(rt: HostRuntime) -> Result<(), Fail> {
     Ok(())
 }
 
-/// What the thread 0 does between two states, and what is wrong with it.
+/// A turn of the thread 0 between two states, and what is wrong with it.
 type Pair<'a> = (Planned<'a>, Turn, Planned<'a>, Violation);
 
 const PAIRS: &[Pair<'static>] = &[
@@ -464,8 +464,8 @@ const TRY_LOCK: Call = Call::Mutex {
     call: MutexCall::TryLock,
 };
 
-/// What a call of the thread 0 beside a free mutex and an empty condition variable is told, and what is
-/// wrong with it.
+/// A call of the thread 0 beside a free mutex and an empty condition variable, what it is told, and what
+/// is wrong with that.
 const ANSWERS: &[(Call, Answer, Violation)] = &[
     (LOCK, Answer::Yes, Violation::StrangeAnswer(0)),
     (LOCK, Answer::Ok, Violation::ToldWrong(0)),

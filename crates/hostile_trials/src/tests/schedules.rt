@@ -14,7 +14,7 @@ use lot_calls::{
 use std::alloc::Global;
 use std::process::Abort;
 
-/// What a thread does.
+/// A line of a schedule.
 #[derive(Clone, Copy)]
 enum Line {
     /// It begins a call and goes on alone until it rests.
@@ -46,7 +46,7 @@ fn play_line<Q: Queues + Drop>(checked: &mut Checked<Q>, line: Line) -> Result<(
     }
 }
 
-/// What comes between two lines.
+/// A disturbance between two lines.
 #[derive(Clone, Copy, Debug, PartialEq, Eq)]
 enum Disturbance {
     Late,

@@ -140,7 +140,7 @@ fn call_of(dice: &mut Dice, seen: &Seen, thread: usize) -> Option<Call> {
     })
 }
 
-/// What a thread does next: now and then what isn't possible.
+/// Chooses a thread's turn, now and then one that isn't possible.
 fn turn_of(dice: &mut Dice, seen: &Seen, thread: usize) -> Turn {
     let roll = dice.below(16);
     if seen.standing(thread) == Standing::Idle || roll == 0 {
