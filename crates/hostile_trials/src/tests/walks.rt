@@ -181,8 +181,7 @@ fn walk<Q: Queues + Drop>(
     Ok(checked.possible)
 }
 
-/// Walks over worlds of these locks, by lists and by buckets in turn, in which no step is wrong and at
-/// least so many in all are possible.
+/// No step is wrong in so many walks over worlds of these locks, by a list and by buckets each.
 fn walks<A: Abort>(rt: &A, alloc: Global, kinds: &[Kind], threads: usize, count: u64)
     requires few { (1 ≤ threads) × (threads ≤ 16) × (length kinds.now ≤ 256) }
     requires fit { All (λ kind. fits kind threads ≡ true) kinds.now }
