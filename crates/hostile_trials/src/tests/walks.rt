@@ -197,29 +197,35 @@ fn walks<A: Abort>(rt: &A, alloc: Global, kinds: &[Kind], threads: usize, count:
 #[test]
 fn mutexes_keep_their_rules(rt: HostRuntime) {
     for threads in 2..17 {
-        walks(&rt, rt.alloc(), &[Kind::Mutex], threads, 4);
-        walks(&rt, rt.alloc(), &[Kind::Fair, Kind::Mutex], threads, 4);
+        walks(&rt, rt.alloc(), &[Kind::Mutex], threads, 20);
+        walks(&rt, rt.alloc(), &[Kind::Fair, Kind::Mutex], threads, 20);
     }
 }
 
 #[test]
 fn reader_writer_locks_keep_their_rules(rt: HostRuntime) {
     for threads in 2..17 {
-        walks(&rt, rt.alloc(), &[Kind::RwLock { limit: 16 }], threads, 4);
+        walks(&rt, rt.alloc(), &[Kind::RwLock { limit: 16 }], threads, 20);
         walks(
             &rt,
             rt.alloc(),
             &[Kind::Recursive { limit: 16 }],
             threads,
-            4,
+            20,
         );
-        walks(&rt, rt.alloc(), &[Kind::RwLock { limit: 1000 }], threads, 4);
+        walks(
+            &rt,
+            rt.alloc(),
+            &[Kind::RwLock { limit: 1000 }],
+            threads,
+            20,
+        );
         walks(
             &rt,
             rt.alloc(),
             &[Kind::Recursive { limit: 1000 }],
             threads,
-            4,
+            20,
         );
     }
 }
@@ -227,29 +233,29 @@ fn reader_writer_locks_keep_their_rules(rt: HostRuntime) {
 #[test]
 fn condition_variables_keep_their_rules(rt: HostRuntime) {
     for threads in 2..17 {
-        walks(&rt, rt.alloc(), &[Kind::Mutex, Kind::Condvar], threads, 6);
+        walks(&rt, rt.alloc(), &[Kind::Mutex, Kind::Condvar], threads, 30);
         let kinds = [Kind::Mutex, Kind::Condvar, Kind::Mutex, Kind::Condvar];
-        walks(&rt, rt.alloc(), &kinds, threads, 4);
+        walks(&rt, rt.alloc(), &kinds, threads, 20);
     }
 }
 
 #[test]
 fn onces_and_semaphores_keep_their_rules(rt: HostRuntime) {
     for threads in 2..17 {
-        walks(&rt, rt.alloc(), &[Kind::Once, Kind::Once], threads, 4);
+        walks(&rt, rt.alloc(), &[Kind::Once, Kind::Once], threads, 20);
         walks(
             &rt,
             rt.alloc(),
             &[Kind::Semaphore { permits: 1 }],
             threads,
-            3,
+            15,
         );
         walks(
             &rt,
             rt.alloc(),
             &[Kind::Semaphore { permits: 3 }],
             threads,
-            3,
+            15,
         );
     }
 }
@@ -266,6 +272,6 @@ fn all_kinds_together_keep_their_rules(rt: HostRuntime) {
             Kind::Recursive { limit: 16 },
             Kind::Fair,
         ];
-        walks(&rt, rt.alloc(), &kinds, threads, 6);
+        walks(&rt, rt.alloc(), &kinds, threads, 30);
     }
 }
