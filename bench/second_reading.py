@@ -1012,4 +1012,5 @@ def main():
             return 1
     print("agree", {k: v for k, v in sorted(seen.items(), key=lambda kv: -kv[1])[:14]})
     return 0
-sys.exit(main())
+if __name__ == "__main__":
+    sys.exit(main())

@@ -1,0 +1,14 @@
+mod bad_input;
+mod checked;
+mod planted;
+mod schedules;
+mod walks;
+
+use std::fmt::Debug;
+use std::process::Abort;
+
+// Compares what was found with what was wanted. All tests share this one assertion, since each is
+// proved where it stands.
+fn same<T: PartialEq + Debug + Drop>(rt: &impl Abort, found: T, wanted: T) {
+    assert_eq!(rt; found, wanted);
+}

@@ -1,0 +1,277 @@
+//! Random walks over worlds of all kinds of locks, from fixed seeds.
+ghost use Rattle.std.specs.Prelude.{◌≤◌, ◌≡◌, ◌<◌, All, length, true};
+ghost use Rattle.lot_calls.specs.Kinds.{fits};
+
+use super::checked::{Checked, Stop};
+use super::same;
+use bucket_queues::BucketQueues;
+use lot_base::{ListQueues, Queues};
+use lot_calls::{
+    Access, Call, CondvarCall, Downgrade, Kind, MutexCall, OnceCall, Patience, RwLockCall,
+    SemaphoreCall, Step, Turn,
+};
+use state_checker::{Seen, Standing};
+use std::alloc::Global;
+use std::process::Abort;
+
+/// Numbers that look random, from one on.
+#[derive(Clone, Copy)]
+struct Dice {
+    seed: u64,
+}
+
+impl Dice {
+    /// A number below this one.
+    fn below(&mut self, limit: usize) -> usize
+        requires { 1 ≤ limit }
+        ensures { result < limit }
+    {
+        self.seed = self
+            .seed
+            .wrapping_mul(6364136223846793005)
+            .wrapping_add(1442695040888963407);
+        (self.seed >> 33) as usize % limit
+    }
+}
+
+const ACCESSES: [Access; 3] = [Access::Shared, Access::Upgradable, Access::Exclusive];
+
+const PATIENCES: [Patience; 3] = [Patience::Patient, Patience::Timed, Patience::Try];
+
+const MUTEX_CALLS: [MutexCall; 6] = [
+    MutexCall::Unlock,
+    MutexCall::UnlockFair,
+    MutexCall::Bump,
+    MutexCall::Lock,
+    MutexCall::LockTimed,
+    MutexCall::TryLock,
+];
+
+const ONCE_CALLS: [OnceCall; 5] = [
+    OnceCall::CallOnce { forced: false },
+    OnceCall::CallOnce { forced: true },
+    OnceCall::Wait { forced: false },
+    OnceCall::Wait { forced: true },
+    OnceCall::WaitTimed,
+];
+
+const DOWNGRADES: [Downgrade; 3] = [
+    Downgrade::ToShared,
+    Downgrade::ToUpgradable,
+    Downgrade::UpgradableToShared,
+];
+
+/// A call of a mutex, by a thread that owns it or doesn't.
+fn mutex_call(dice: &mut Dice, owns: bool) -> MutexCall {
+    if owns {
+        MUTEX_CALLS[dice.below(3)]
+    } else {
+        MUTEX_CALLS[3 + dice.below(3)]
+    }
+}
+
+/// A call of a reader-writer lock, by a thread that has a right to it or doesn't.
+fn rwlock_call(dice: &mut Dice, owns: bool) -> RwLockCall {
+    let access = ACCESSES[dice.below(3)];
+    let patience = PATIENCES[dice.below(3)];
+    if !owns {
+        return RwLockCall::Enter { access, patience };
+    }
+    match dice.below(8) {
+        0 | 1 => RwLockCall::Release(access),
+        2 | 3 => RwLockCall::ReleaseFair(access),
+        4 => RwLockCall::Downgrade(DOWNGRADES[dice.below(3)]),
+        5 => RwLockCall::Upgrade(patience),
+        6 => RwLockCall::Bump(access),
+        _ => RwLockCall::Enter { access, patience },
+    }
+}
+
+fn condvar_call(dice: &mut Dice, mutex: usize) -> CondvarCall {
+    match dice.below(4) {
+        0 => CondvarCall::Notify { all: false },
+        1 => CondvarCall::Notify { all: true },
+        2 => CondvarCall::Wait {
+            mutex,
+            timed: false,
+        },
+        _ => CondvarCall::Wait { mutex, timed: true },
+    }
+}
+
+fn semaphore_call(dice: &mut Dice, owns: bool) -> SemaphoreCall {
+    if owns && dice.below(4) != 0 {
+        SemaphoreCall::Release
+    } else {
+        SemaphoreCall::Acquire(PATIENCES[dice.below(3)])
+    }
+}
+
+/// A call of any lock.
+fn call_of(dice: &mut Dice, seen: &Seen, thread: usize) -> Option<Call> {
+    if seen.locks.is_empty() {
+        return None;
+    }
+    let lock = dice.below(seen.locks.len());
+    let mutex = dice.below(seen.locks.len());
+    let shown = &seen.locks[lock];
+    let owns = shown.owners.iter().any(|owner| owner.thread == thread);
+    Some(match shown.kind {
+        Kind::Mutex | Kind::Fair => Call::Mutex {
+            lock,
+            call: mutex_call(dice, owns),
+        },
+        Kind::RwLock { .. } | Kind::Recursive { .. } => Call::RwLock {
+            lock,
+            call: rwlock_call(dice, owns),
+        },
+        Kind::Condvar => Call::Condvar {
+            lock,
+            call: condvar_call(dice, mutex),
+        },
+        Kind::Once => Call::Once {
+            lock,
+            call: ONCE_CALLS[dice.below(5)],
+        },
+        Kind::Semaphore { .. } => Call::Semaphore {
+            lock,
+            call: semaphore_call(dice, owns),
+        },
+    })
+}
+
+/// Chooses a thread's turn, now and then one that isn't possible.
+fn turn_of(dice: &mut Dice, seen: &Seen, thread: usize) -> Turn {
+    let roll = dice.below(16);
+    if seen.standing(thread) == Standing::Idle || roll == 0 {
+        if let Some(call) = call_of(dice, seen, thread) {
+            return Turn::Begin(call);
+        }
+    }
+    if seen.standing(thread) == Standing::Asleep && roll < 4 {
+        return Turn::Late;
+    }
+    match roll {
+        1 => Turn::Late,
+        2 | 3 => Turn::Spin,
+        4 | 5 => Turn::Ok,
+        6 => Turn::Err,
+        _ => Turn::Go,
+    }
+}
+
+/// So many turns of any threads, and how many of them were possible.
+fn walk<Q: Queues + Drop>(
+    alloc: Global,
+    kinds: &[Kind],
+    threads: usize,
+    seed: u64,
+    turns: usize,
+) -> Result<usize, Stop>
+    requires few { (1 ≤ threads) × (threads ≤ 1024) × (length kinds.now ≤ 256) }
+    requires fit { All (λ kind. fits kind threads ≡ true) kinds.now }
+{
+    let mut checked = Checked::<Q>::new(alloc, kinds, threads)?;
+    let mut dice = Dice { seed };
+    for _ in 0..turns {
+        let thread = dice.below(threads);
+        let turn = turn_of(&mut dice, &checked.seen, thread);
+        checked.step(Step { thread, turn })?;
+    }
+    Ok(checked.possible)
+}
+
+/// No step is wrong in so many walks over worlds of these locks, by a list and by buckets each.
+fn walks<A: Abort>(rt: &A, alloc: Global, kinds: &[Kind], threads: usize, count: u64)
+    requires few { (1 ≤ threads) × (threads ≤ 16) × (length kinds.now ≤ 256) }
+    requires fit { All (λ kind. fits kind threads ≡ true) kinds.now }
+{
+    for seed in 0..count {
+        let found = walk::<ListQueues>(alloc, kinds, threads, seed, 200);
+        same(rt, (threads, seed, found.err()), (threads, seed, None));
+        let found = walk::<BucketQueues>(alloc, kinds, threads, seed ^ 0xffff, 200);
+        same(rt, (threads, seed, found.err()), (threads, seed, None));
+    }
+}
+
+#[test]
+fn mutexes_keep_their_rules(rt: HostRuntime) {
+    for threads in 2..17 {
+        walks(&rt, rt.alloc(), &[Kind::Mutex], threads, 20);
+        walks(&rt, rt.alloc(), &[Kind::Fair, Kind::Mutex], threads, 20);
+    }
+}
+
+#[test]
+fn reader_writer_locks_keep_their_rules(rt: HostRuntime) {
+    for threads in 2..17 {
+        walks(&rt, rt.alloc(), &[Kind::RwLock { limit: 16 }], threads, 20);
+        walks(
+            &rt,
+            rt.alloc(),
+            &[Kind::Recursive { limit: 16 }],
+            threads,
+            20,
+        );
+        walks(
+            &rt,
+            rt.alloc(),
+            &[Kind::RwLock { limit: 1000 }],
+            threads,
+            20,
+        );
+        walks(
+            &rt,
+            rt.alloc(),
+            &[Kind::Recursive { limit: 1000 }],
+            threads,
+            20,
+        );
+    }
+}
+
+#[test]
+fn condition_variables_keep_their_rules(rt: HostRuntime) {
+    for threads in 2..17 {
+        walks(&rt, rt.alloc(), &[Kind::Mutex, Kind::Condvar], threads, 30);
+        let kinds = [Kind::Mutex, Kind::Condvar, Kind::Mutex, Kind::Condvar];
+        walks(&rt, rt.alloc(), &kinds, threads, 20);
+    }
+}
+
+#[test]
+fn onces_and_semaphores_keep_their_rules(rt: HostRuntime) {
+    for threads in 2..17 {
+        walks(&rt, rt.alloc(), &[Kind::Once, Kind::Once], threads, 20);
+        walks(
+            &rt,
+            rt.alloc(),
+            &[Kind::Semaphore { permits: 1 }],
+            threads,
+            15,
+        );
+        walks(
+            &rt,
+            rt.alloc(),
+            &[Kind::Semaphore { permits: 3 }],
+            threads,
+            15,
+        );
+    }
+}
+
+#[test]
+fn all_kinds_together_keep_their_rules(rt: HostRuntime) {
+    for threads in 2..17 {
+        let kinds = [
+            Kind::Mutex,
+            Kind::RwLock { limit: 16 },
+            Kind::Condvar,
+            Kind::Semaphore { permits: 2 },
+            Kind::Once,
+            Kind::Recursive { limit: 16 },
+            Kind::Fair,
+        ];
+        walks(&rt, rt.alloc(), &kinds, threads, 30);
+    }
+}
