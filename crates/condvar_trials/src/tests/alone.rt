@@ -1,4 +1,5 @@
 //! One thread, which nobody notifies.
+ghost use Rattle.std.specs.Prelude.{◌<◌, ◌≤◌};
 ghost use Rattle.parking_lot.specs.Users.{IsTokenOf, lot_of};
 
 use super::rooms::{Room, look, room_for};
@@ -12,12 +13,20 @@ use std::time::Duration;
 
 const FAR: u64 = 1000;
 
-// A room that one thread has for itself.
+// A room that one thread has for itself, in a lot of so many seats.
+fn room_among<A: Abort>(rt: &A, alloc: Global, seats: usize) -> (Room, Token)
+    requires { (0 < seats) × (seats ≤ 1024) }
+    ensures { IsTokenOf (lot_of result.0.mutex) result.1 }
+{
+    let (_lot, room, token, _others) = room_for(rt, alloc, seats);
+    (room, token)
+}
+
+// The same where no other thread has a seat.
 fn room_alone<A: Abort>(rt: &A, alloc: Global) -> (Room, Token)
     ensures { IsTokenOf (lot_of result.0.mutex) result.1 }
 {
-    let (_lot, room, token, _others) = room_for(rt, alloc, 1);
-    (room, token)
+    room_among(rt, alloc, 1)
 }
 
 #[test]
@@ -96,15 +105,25 @@ fn calls_in_time<R: Wait>(
     late.map(|late| (calls, late))
 }
 
+// Waits in vain in a lot of so many seats: up to a deadline that has passed, and up to one to come.
+fn waits_past_its_time<R: Wait + Abort>(rt: &R, alloc: Global, seats: usize)
+    requires { (0 < seats) × (seats ≤ 1024) }
+{
+    let (room, mut token) = room_among(rt, alloc, seats);
+    let clock = TickClock::new();
+    let told = calls_in_time(rt, &room, &mut token, 1, &clock, Limit::Until(0));
+    same(rt, told, Some((2, false)));
+    let told = calls_in_time(rt, &room, &mut token, 9, &clock, Limit::Until(40));
+    same(rt, told, Some((4, true)));
+    holds(rt, is_just_past(&clock, 40));
+}
+
+// By queues of one bucket, of eight, and of 64.
 #[test]
 fn a_condition_is_called_again_where_the_time_is_up(rt: HostRuntime) {
-    let (room, mut token) = room_alone(&rt, rt.alloc());
-    let clock = TickClock::new();
-    let told = calls_in_time(&rt, &room, &mut token, 1, &clock, Limit::Until(0));
-    same(&rt, told, Some((2, false)));
-    let told = calls_in_time(&rt, &room, &mut token, 9, &clock, Limit::Until(40));
-    same(&rt, told, Some((4, true)));
-    holds(&rt, is_just_past(&clock, 40));
+    waits_past_its_time(&rt, rt.alloc(), 1);
+    waits_past_its_time(&rt, rt.alloc(), 8);
+    waits_past_its_time(&rt, rt.alloc(), 64);
 }
 
 // By a time that passes, of a clock that is far from 0.
