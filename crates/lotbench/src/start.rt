@@ -1,7 +1,7 @@
 //! What the program does for its arguments.
 use bench_runs::plans::{MODES, Plan, plan_of};
 use bench_runs::runs::{Figures, carry_out};
-use parking_lot::Fault;
+use parking_lot::{Fault, ParkingLot};
 use std::alloc::Global;
 use std::io;
 use std::sync::Wait;
@@ -21,7 +21,7 @@ pub(crate) const NO_MEMORY: u8 = 3;
 pub(crate) const BROKEN: u8 = 4;
 
 const USAGE: &str =
-    "usage: lotbench raw_mutex|raw_mutex_try|mutex|mutex_try|fair|many|many_fair|remutex|remutex2|raw_read|raw_write|read|write|rw_mix|read_recursive|upgradable|upgrade|downgrade|once|semaphore|semaphore2|notify|notify_all|pingpong|queue THREADS N, or lotbench each";
+    "usage: lotbench raw_mutex|raw_mutex_try|mutex|mutex_try|fair|many|many_fair|remutex|remutex2|raw_read|raw_write|read|write|rw_mix|read_recursive|upgradable|upgrade|downgrade|once|semaphore|semaphore2|notify|notify_all|pingpong|many_turns|queue THREADS N, lotbench each, or lotbench lot SEATS";
 
 /// Carries out the plan of the arguments and tells its figures, and gives the status of the
 /// process.
@@ -39,9 +39,14 @@ pub(crate) fn start<R: Threads + Wait + Sync + Clock + Print + Eprint>(
             return try_each(rt, alloc);
         }
     }
+    if let [word, seats] = args {
+        if *word == "lot" {
+            return make_lot(rt, alloc, seats);
+        }
+    }
     let Some(plan) = plan_of(args) else {
         eprintln!(rt;
-            "lotbench: no such plan; {}, 1 to 64 threads, 1 to 10^12 operations",
+            "lotbench: no such plan; {}, 1 to 64 threads, 1 to 10^12 operations, 1 to 1024 seats",
             USAGE
         )?;
         return Ok(MALFORMED);
@@ -78,6 +83,25 @@ fn try_each<R: Threads + Wait + Sync + Clock + Print + Eprint>(
         }
     }
     Ok(DONE)
+}
+
+// Makes a lot of one word and so many seats, which a profiler of memory measures, and tells that.
+fn make_lot<R: Print + Eprint>(rt: &R, alloc: Global, seats: &str) -> io::Result<u8> {
+    let Some(seats) = seats
+        .parse::<usize>()
+        .ok()
+        .filter(|seats: &usize| ParkingLot::fits(1, *seats))
+    else {
+        eprintln!(rt; "lotbench: a lot has 1 to 1024 seats")?;
+        return Ok(MALFORMED);
+    };
+    match ParkingLot::new(alloc, 1, seats) {
+        Ok(_) => {
+            println!(rt; "lot {seats}")?;
+            Ok(DONE)
+        }
+        Err(_) => refused(rt),
+    }
 }
 
 fn refused(rt: &impl Eprint) -> io::Result<u8> {
