@@ -1,5 +1,5 @@
 #!/usr/bin/env python3
-"""Times the least that a lock over the kit's table can take, by `least_steps`, beside ours and the Rust crate's, run by run in turn.
+"""Times the least that a lock over the kit's table can take, by `lotbench least`, beside ours and the Rust crate's, run by run in turn.
 
 It needs what bench/locks.py needs.
 
@@ -8,21 +8,16 @@ operation of one thread, the best in brackets, and the instructions.
 """
 
 import argparse
-import os
 import statistics
 import subprocess
 
 from locks import COLLECTED, OURS, THEIRS, build
 
-CRATE = os.path.join(os.path.dirname(os.path.abspath(__file__)), "..", "crates", "least_steps")
-LEAST = os.path.join(CRATE, "out", "least_steps")
 # Each loop, and the modes of `lotbench` that it is held against.
 LOOPS = {
     "look": ["once", "std_once", "notify"],
     "hold": ["raw_mutex"],
     "hold_told": ["raw_mutex", "mutex", "raw_write"],
-    "inner_read": ["read"],
-    "inner_write": ["write"],
 }
 # Ours has another name where the Rust program has two.
 OUR_NAME = {"std_once": "once"}
@@ -30,12 +25,12 @@ OUR_NAME = {"std_once": "once"}
 
 def commands(loop, mode, operations):
     ours = [OURS, OUR_NAME.get(mode, mode), "1", str(operations)]
-    return [[LEAST, loop, str(operations)], ours, [THEIRS, mode, "1", str(operations)]]
+    return [[OURS, "least", loop, str(operations)], ours, [THEIRS, mode, "1", str(operations)]]
 
 
 def nanos(command, operations):
     told = subprocess.run(command, capture_output=True, text=True, check=True).stdout.split()
-    return int(told[0] if len(told) == 1 else told[3]) / operations
+    return int(told[3]) / operations
 
 
 def instructions(command):
@@ -67,7 +62,6 @@ def main():
     parser.add_argument("--runs", type=int, default=9)
     asked = parser.parse_args()
     build()
-    subprocess.run(["rt", "run"], cwd=CRATE, check=True, stdout=subprocess.DEVNULL, stderr=subprocess.DEVNULL)
     print("| loop | beside | least, ns | ours, ns | Rust, ns | least by Rust | least, instructions | ours | Rust |")
     print("|---|---|---|---|---|---|---|---|---|")
     for loop, modes in LOOPS.items():

@@ -1,6 +1,7 @@
 //! What the program does for its arguments.
 use bench_runs::plans::{MODES, Plan, plan_of};
 use bench_runs::runs::{Figures, carry_out};
+use least_steps::timing::{Loop, time_loop};
 use parking_lot::{Fault, ParkingLot};
 use std::alloc::Global;
 use std::io;
@@ -21,29 +22,32 @@ pub(crate) const NO_MEMORY: u8 = 3;
 pub(crate) const BROKEN: u8 = 4;
 
 const USAGE: &str =
-    "usage: lotbench raw_mutex|raw_mutex_try|mutex|mutex_try|fair|many|many_fair|remutex|remutex2|raw_read|raw_write|read|write|rw_mix|read_recursive|upgradable|upgrade|downgrade|once|semaphore|semaphore2|notify|notify_all|pingpong|many_turns|queue THREADS N, lotbench each, or lotbench lot SEATS";
+    "usage: lotbench raw_mutex|raw_mutex_try|mutex|mutex_try|fair|many|many_fair|remutex|remutex2|raw_read|raw_write|read|write|rw_mix|read_recursive|upgradable|upgrade|downgrade|once|semaphore|semaphore2|notify|notify_all|pingpong|many_turns|queue THREADS N, lotbench each, lotbench lot SEATS, or lotbench least look|take|hold|hold_told N";
 
-/// Carries out the plan of the arguments and tells its figures, and gives the status of the
-/// process.
+/// Does what the arguments ask for, and gives the status of the process.
 pub(crate) fn start<R: Threads + Wait + Sync + Clock + Print + Eprint>(
     rt: &R,
     alloc: Global,
     args: &[&str],
 ) -> io::Result<u8> {
-    if args.is_empty() {
-        println!(rt; "{}", USAGE)?;
-        return Ok(DONE);
-    }
-    if let [word] = args {
-        if *word == "each" {
-            return try_each(rt, alloc);
+    match args {
+        [] => {
+            println!(rt; "{}", USAGE)?;
+            Ok(DONE)
         }
+        [word] if *word == "each" => try_each(rt, alloc),
+        [word, seats] if *word == "lot" => make_lot(rt, alloc, seats),
+        [word, name, times] if *word == "least" => time_least(rt, alloc, name, times),
+        _ => time_plan(rt, alloc, args),
     }
-    if let [word, seats] = args {
-        if *word == "lot" {
-            return make_lot(rt, alloc, seats);
-        }
-    }
+}
+
+// Carries out the plan of the arguments and tells its figures.
+fn time_plan<R: Threads + Wait + Sync + Clock + Print + Eprint>(
+    rt: &R,
+    alloc: Global,
+    args: &[&str],
+) -> io::Result<u8> {
     let Some(plan) = plan_of(args) else {
         eprintln!(rt;
             "lotbench: no such plan; {}, 1 to 64 threads, 1 to 10^12 operations, 1 to 1024 seats",
@@ -98,6 +102,27 @@ fn make_lot<R: Print + Eprint>(rt: &R, alloc: Global, seats: &str) -> io::Result
     match ParkingLot::new(alloc, 1, seats) {
         Ok(_) => {
             println!(rt; "lot {seats}")?;
+            Ok(DONE)
+        }
+        Err(_) => refused(rt),
+    }
+}
+
+// Times the least that a lock over the kit's table can take, and tells the nanoseconds.
+fn time_least<R: Wait + Clock + Print + Eprint>(
+    rt: &R,
+    alloc: Global,
+    name: &str,
+    times: &str,
+) -> io::Result<u8> {
+    let (Some(which), Ok(times)) = (Loop::named(name), times.parse::<u64>()) else {
+        eprintln!(rt; "lotbench: no such loop; look, take, hold or hold_told, and how often")?;
+        return Ok(MALFORMED);
+    };
+    match time_loop(rt, alloc, which, times) {
+        Ok(nanos) => {
+            let nanos = nanos?;
+            println!(rt; "least {name} {times} {nanos}")?;
             Ok(DONE)
         }
         Err(_) => refused(rt),
