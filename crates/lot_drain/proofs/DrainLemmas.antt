@@ -1,4 +1,4 @@
--- What is left of a drain leads where all of it leads.
+-- The rest of a drain leads where all of it leads.
 use Rattle.std.proofs.Common.{ℕ, zero, suc, Bool, true, false, cond, Some, None, List, ◌≡◌, ◌≢◌, ◌+◌, ◌-◌, ◌<◌, refl, sym, ap, ◌∙◌, arith, add-one}
 use Rattle.std.specs.Prelude.{◌&&◌}
 use Rattle.lot_calls.specs.declared.calls.Step.{Step}

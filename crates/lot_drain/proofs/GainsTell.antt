@@ -1,4 +1,4 @@
--- What the test says of a place and of rights: its call began with nothing, or has given up what it
+-- The test of a place and of rights tells: its call began with nothing, or has given up the right that it
 -- began with, and has got no more than its gain.
 use Rattle.std.proofs.Common.{ℕ, Bool, true, false, cond, Some, ◌≡◌, ◌+◌, ◌-◌, ◌≤◌, refl, ap, arith}
 use Rattle.std.specs.Prelude.{◌↔◌, ◌==◌, ◌||◌}

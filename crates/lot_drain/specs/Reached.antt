@@ -1,5 +1,5 @@
--- Whoever owns the lock of a world that was reached is a thread that is there; and a thread is
--- pending only in a call that waits for a right.
+-- An owner of the lock of a world that was reached is a thread that is there; and a thread is pending only
+-- in a call that waits for a right.
 use Rattle.std.specs.Prelude.{ℕ, true, ◌≡◌, ◌≤◌, List, [], ◌∷◌, length}
 use Rattle.lot_calls.specs.declared.calls.Step.{Step}
 use Rattle.lot_calls.specs.declared.kinds.Kind.{Kind}

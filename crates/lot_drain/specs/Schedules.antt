@@ -1,6 +1,6 @@
--- The schedule that drains a world of one lock. Whoever is inside a section leaves it. Then one
--- thread after another goes on alone until it rests: the first that is up, and where none is, the
--- first between its calls that may release the lock, which it does.
+-- The schedule that drains a world of one lock. A thread inside a section leaves it. Then one thread after
+-- another goes on alone until it rests: the first that is up. Where none is, the first between its calls
+-- that may release the lock does so.
 use Rattle.std.specs.Prelude.{ℕ, zero, suc, if◌then◌else◌, Option, Some, None, ◌==◌, ◌+◌, ◌*◌, List, [], ◌∷◌, ◌++◌, length}
 use Rattle.lot_calls.specs.declared.calls.Access.TheVariants as access
 use Rattle.lot_calls.specs.declared.calls.Call.{Call}

@@ -136,7 +136,7 @@ impl<Q: Queues + Drop> Drain<Q> {
         self.go_alone(thread)
     }
 
-    /// Whoever is inside the section of the second queue leaves it.
+    /// The thread inside the section of the second queue leaves it.
     fn leave_second(&mut self) -> Result<(), Fault>
         ensures ok { IfOk result (λ _. self.new ≡ out_of_second 3 self.old) }
         ensures err { IfErr result (λ fault. fault ≡ Fault.NoMemory) }
@@ -150,7 +150,7 @@ impl<Q: Queues + Drop> Drain<Q> {
         Ok(())
     }
 
-    /// Whoever is inside the section of the main queue goes on until it rests.
+    /// The thread inside the section of the main queue goes on until it rests.
     fn leave_main(&mut self) -> Result<(), Fault>
         ensures ok { IfOk result (λ _. self.new ≡ out_of_main self.old) }
         ensures err { IfErr result (λ fault. fault ≡ Fault.NoMemory) }

@@ -1,4 +1,4 @@
-//! What a call has got by now that began with nothing, or that has given up what it began with.
+//! The gain of a call that began with nothing, or that has given up the right that it began with.
 ghost use Rattle.std.specs.Prelude.{◌≡◌};
 ghost use Rattle.lot_drain.specs.Drainable.{gain_of, may_pend, mutex_gain, call_gain, bump_gain, entry_gain, handed_gain};
 
@@ -8,7 +8,7 @@ use lot_rwlock::{RwLockAt, RwLockPlace, RwLockPurpose};
 use lot_rwlock_fair::{HandOverAt, HandedAt, RwLockCallPlace};
 use lot_steps::Place;
 
-/// What such a call has got.
+/// The right that such a call has got.
 #[derive(Clone, Copy)]
 pub(crate) enum Gain {
     Nothing,
@@ -17,8 +17,8 @@ pub(crate) enum Gain {
     Right(Access),
 }
 
-/// What the call of a thread at this place has got, where it began with nothing or has given its
-/// own right up.
+/// Returns the gain of the call of a thread at this place, where it began with nothing or has given
+/// its own right up.
 pub(crate) fn gain_of(place: Place) -> Option<Gain>
     ensures { result ≡ gain_of place }
 {
@@ -113,7 +113,7 @@ fn entry_gain(at: RwLockAt) -> Gain
     }
 }
 
-/// Whoever was handed the lock has its right; a writer beside readers is pending.
+/// A thread that was handed the lock has its right; a writer beside readers is pending.
 fn handed_gain(access: Access, at: HandedAt) -> Gain
     ensures { result ≡ handed_gain access at }
 {

@@ -1,4 +1,5 @@
--- What holds between steps, of a thread at a place: the section that it is inside, the lines in which it stands, and what it owns.
+-- A thread at a place, between steps: the section that it is inside, the lines in which it stands, and its
+-- rights.
 use Rattle.std.proofs.Common.{ℕ, Bool, true, false, Option, Some, None, if◌then◌else◌, ◌==◌, ◌≡◌, ◌*◌, ◌≤◌, ◌<◌, List, [], length, get_or, map, refl, sym, ◌∙◌, ap, arith, inl, inr}
 use Rattle.std.proofs.lemmas.Bool.{cases_lt}
 use Rattle.std.proofs.lemmas.List.{get_or_past}

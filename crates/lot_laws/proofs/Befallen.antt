@@ -1,4 +1,5 @@
--- What a thread keeps, whatever befalls it: as long as its own turn doesn't come, it keeps all that no wake, take or hand-over changes.
+-- A thread keeps, whatever befalls it, all that no wake, take or hand-over changes, as long as its own turn
+-- doesn't come.
 use Rattle.std.proofs.Common.{ℕ, Bool, true, false, Option, Some, None, if◌then◌else◌, ◌≡◌, ◌≢◌, refl, ◌∙◌, ap, get_or-set_other}
 use Rattle.lot_base.specs.declared.keys.Keys.TheVariants.{One}
 use Rattle.lot_calls.specs.declared.calls.Turn.{Turn}

@@ -1,5 +1,5 @@
--- What each call of a reader-writer lock comes to whose thread steps alone from its beginning: a bump ends with its right, or gives it up and is as
--- a call that enters.
+-- Each call of a reader-writer lock that steps alone from its beginning: a bump ends with its right, or
+-- gives it up and is as a call that enters.
 use Rattle.std.proofs.Common.{ℕ, zero, suc, Bool, true, false, Option, Some, None, ◌==◌, ◌&&◌, ◌||◌, not, ◌≡◌, ◌≢◌, ◌+◌, ◌-◌, ◌≤◌, ◌<◌, ◌^◌, inl, inr, [], length, replicate, refl, sym, ◌∙◌, ap, subst, arith}
 use Rattle.std.specs.Prelude.{slice_index, slice_set, sum}
 use Rattle.std.proofs.lemmas.Bool.{eqb-true}

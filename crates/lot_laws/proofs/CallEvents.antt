@@ -1,5 +1,5 @@
--- What a step of a thread is to the abstract locks, whatever lock it calls and wherever it stands: the event is the one case of its deeds, and
--- its call comes to what its rows say.
+-- A step of a thread is one event of the abstract locks, whatever lock it calls and wherever it stands: the
+-- one case of its deeds. Its call comes to what its rows say.
 use Rattle.std.proofs.Common.{ℕ, Bool, true, false, Option, Some, None, if◌then◌else◌, ◌==◌, ◌≡◌, ◌≢◌, ◌⊎◌, ◌≤◌, List, [], ◌∷◌, ◌++◌, inl, inr, refl, sym, ◌∙◌, ap, subst, arith}
 use Rattle.abstract_locks.specs.Condvars.{line_of, moved_of, taken_of}
 use Rattle.abstract_locks.specs.Runs.{Nothing, Moves, gives_up, joined_by}

@@ -1,5 +1,5 @@
--- Who sleeps in a call of a condition variable stands in the queue of one of its locks, is in a hand, or was handed its mutex; and such a
--- call hands over no lock itself.
+-- A sleeper in a call of a condition variable stands in the queue of one of its locks, is in a hand, or was
+-- handed its mutex. Such a call hands over no lock itself.
 use Rattle.std.proofs.Common.{ℕ, Bool, true, false, Option, Some, None, if◌then◌else◌, ◌==◌, ◌≡◌, ◌≢◌, ◌⊎◌, inl, inr, refl, sym, ◌∙◌}
 use Rattle.lot_base.specs.declared.wants.Want.TheVariants.{Exclusive}
 use Rattle.lot_acts.specs.declared.acts.Act.TheVariants.{Sleep}

@@ -1,5 +1,6 @@
--- Who is to look after the waiters of a mutex, in a call of a condition variable beside it, does so: a wait that has released it, or was woken
--- to lock it again, and a notification that has taken one whom it wakes.
+-- The thread that is to look after the waiters of a mutex, in a call of a condition variable beside it,
+-- does so: a wait that has released it, or was woken to lock it again, and a notification that has taken
+-- one that it wakes.
 use Rattle.std.proofs.Common.{ℕ, Bool, true, false, Option, Some, None, if◌then◌else◌, ◌==◌, ◌≡◌, ◌≢◌, ◌⊎◌, inl, inr, refl, sym, ◌∙◌, ap, subst}
 use Rattle.std.proofs.lemmas.Bool.{eqb-true}
 use Rattle.lot_base.specs.declared.wants.Want.TheVariants.{Exclusive}

@@ -1,5 +1,5 @@
--- What a step in a call of a condition variable is to the abstract locks: one event of one of its two locks, or a move of waiters between them; its
--- call is made of it, and comes to what the next place says.
+-- A step in a call of a condition variable is one event of one of its two locks, or a move of waiters
+-- between them. Its call is made of that event, and comes to what the next place says.
 use Rattle.std.proofs.Common.{ℕ, Bool, false, Option, Some, None, if◌then◌else◌, ◌≡◌, ◌≢◌, ◌⊎◌, List, [], ◌∷◌, append-nil, inl, inr, refl, sym, ◌∙◌, ap, subst}
 use Rattle.std.proofs.lemmas.Bool.{cases_eq}
 use Rattle.lot_calls.specs.declared.outcomes.Outcome.{Outcome}

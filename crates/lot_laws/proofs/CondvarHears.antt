@@ -1,5 +1,5 @@
--- What a thread is told that goes on in a call of a condition variable, as the laws of its places take it: at the condition variable, and at the mutex
--- beside it.
+-- A thread that goes on in a call of a condition variable is told its reply as the laws of its places take
+-- it: at the condition variable, and at the mutex beside it.
 use Rattle.std.proofs.Common.{ℕ, suc, Bool, true, false, Option, Some, None, if◌then◌else◌, ◌==◌, ◌≡◌, ◌≢◌, ◌+◌, ◌*◌, ◌≤◌, List, [], ◌∷◌, map, drop, length, not, refl, sym, ◌∙◌, ap, subst, arith}
 use Rattle.std.specs.Prelude.{is_none}
 use Rattle.lot_base.specs.declared.keys.Keys.TheVariants.{One}

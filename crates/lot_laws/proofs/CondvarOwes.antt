@@ -1,5 +1,5 @@
--- What a thread in a call of a condition variable owes once it has gone on: what it is inside, and on its mutex where its release has just seen the
--- parked bit.
+-- A thread that has gone on in a call of a condition variable owes by the section that it is inside, and on
+-- its mutex where its release has just seen the parked bit.
 use Rattle.std.proofs.Common.{ℕ, Bool, true, false, Option, Some, None, if◌then◌else◌, ◌==◌, ◌≡◌, ◌<◌, ◌⊎◌, ◌↔◌, ◌||◌, inl, inr, length, refl, sym, ◌∙◌, ap, subst}
 use Rattle.lot_base.specs.declared.keys.Keys.TheVariants.{One}
 use Rattle.lot_base.specs.declared.notes.Note.TheVariants as note

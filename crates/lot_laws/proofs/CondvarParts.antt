@@ -1,4 +1,5 @@
--- What each lock sees of a place in a call of a condition variable, and of the next one: by the row there, by the row beside, and nothing elsewhere.
+-- Each lock sees of a place in a call of a condition variable, and of the next one, its own part: the row
+-- there, the row beside, or nothing.
 use Rattle.std.proofs.Common.{ℕ, true, false, Some, None, ◌==◌, ◌≡◌, ◌≢◌, refl, sym, ◌∙◌, ap}
 use Rattle.lot_acts.specs.declared.acts.Next.{Next}
 use Rattle.lot_acts.specs.declared.acts.Next.TheVariants.{At, End as Over}

@@ -1,4 +1,4 @@
--- What is promised of a thread in a call of a condition variable, by its rows at both its locks.
+-- The promises of a thread in a call of a condition variable, by its rows at both its locks.
 use Rattle.std.proofs.Common.{ℕ, Bool, true, false, Some, None, if◌then◌else◌, ◌==◌, ◌&&◌, ◌||◌, not, ◌≡◌, ◌≢◌, ◌⊎◌, ◌↔◌, inl, inr, refl, sym, ◌∙◌, ap, subst}
 use Rattle.std.proofs.lemmas.Bool.{eqb-true}
 use Rattle.lot_acts.specs.Profiles.{in_line, taken_from}

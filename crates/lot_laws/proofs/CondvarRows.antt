@@ -1,5 +1,5 @@
--- What a place says of its thread at a condition variable: what it is about to do inside, and which mutex its wait names. Nothing that befalls the
--- thread changes either.
+-- A place says of its thread at a condition variable: its next act inside, and the mutex that its wait
+-- names. Nothing that befalls the thread changes either.
 use Rattle.std.proofs.Common.{ℕ, Bool, true, false, Option, None, if◌then◌else◌, ◌==◌, ◌≡◌, refl, ◌∙◌, ap}
 use Rattle.lot_semaphore.specs.declared.places.SemaphorePlace.TheVariants as semaphore
 use Rattle.lot_semaphore.specs.declared.release.ReleaseAt.TheVariants as release

@@ -1,4 +1,5 @@
--- What a thread does at its condition variable, where at the mutex beside it all is as it was: every lock is a site again.
+-- A thread acts at its condition variable, where at the mutex beside it all is as it was: every lock is a
+-- site again.
 use Rattle.std.proofs.Common.{ℕ, Bool, true, false, Option, Some, None, if◌then◌else◌, ◌||◌, ◌≡◌, ◌≢◌, ◌+◌, ◌*◌, ◌≤◌, ◌<◌, List, [], ◌∷◌, length, map, refl, sym, ◌∙◌, ap, subst, arith, inl, inr}
 use Rattle.std.proofs.lemmas.Bool.{cases_eq}
 use Rattle.std.proofs.Math.Bool.{or-false}

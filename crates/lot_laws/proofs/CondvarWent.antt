@@ -1,4 +1,5 @@
--- What an act of a call of a condition variable makes of it in the machine, is what its deeds make of it: which mutex is shown, and who waits.
+-- An act makes of the machine's condition variable the same as its deeds make of the abstract one: the
+-- mutex that is shown, and the waiters.
 use Rattle.std.proofs.Common.{ℕ, Bool, true, false, Option, Some, None, if◌then◌else◌, ◌==◌, ◌≡◌, ◌≢◌, ◌+◌, ◌*◌, ◌<◌, ◌||◌, List, [], ◌∷◌, ◌++◌, drop, get_or, length, map, not, set, refl, sym, ◌∙◌, ap, subst, arith, get_or-set_other, get_or-set_same}
 use Rattle.std.proofs.Math.ListN.{get_or-map}
 use Rattle.std.proofs.lemmas.List.{length-map}

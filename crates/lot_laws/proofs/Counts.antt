@@ -1,4 +1,4 @@
--- What the changes of a line do to its counts.
+-- The changes of a line, and its counts.
 use Rattle.std.proofs.Common.{ℕ, Bool, true, false, Option, Some, None, cond, if◌then◌else◌, ◌≡◌, ◌+◌, ◌≤◌, List, [], ◌∷◌, ◌==◌, refl, arith, drop}
 use Rattle.std.proofs.lemmas.Bool.Decides.{nat_tests}
 use Rattle.lot_base.specs.declared.wants.Waiter.{Waiter}

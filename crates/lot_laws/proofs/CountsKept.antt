@@ -1,5 +1,5 @@
--- What a call has counted of those whom its thread has in hand stays so, whatever a thread does: as long as it hasn't handed the lock over, no other
--- thread brings anybody into its hand or lets anybody go.
+-- The counts that a call has made of the threads in its hand stay true, whatever any thread does. As long
+-- as it hasn't handed the lock over, no other thread brings anybody into its hand or lets anybody go.
 use Rattle.std.proofs.Common.{ℕ, Bool, true, false, Option, Some, None, if◌then◌else◌, ◌==◌, ◌≡◌, ◌≢◌, ◌<◌, inl, inr, length, nat_lt, refl, sym, ◌∙◌, ap, subst, get_or, get_or-set_same, length-set, set}
 use Rattle.lot_semaphore.specs.SemaphoreSteps.{semaphore_act, semaphore_next}
 use Rattle.lot_laws.proofs.Glue.{IsOfTwo, IsSingle, fits_two, single_or_two}

@@ -1,4 +1,5 @@
--- What holds of each lock behind a step of the abstract locks, where it holds behind each case, and each move of a notification.
+-- A property of each lock holds behind a step of the abstract locks, where it holds behind each case, and
+-- behind each move of a notification.
 use Rattle.std.proofs.Common.{ℕ, Bool, true, false, Option, Some, if◌then◌else◌, ◌==◌, ◌≡◌, ◌⊎◌, List, [], ◌∷◌, inl, inr, eqb-true, refl, sym, ◌∙◌, ap, subst}
 use Rattle.lot_calls.specs.declared.calls.Turn.{Turn}
 use Rattle.lot_calls.specs.declared.calls.Turn as turn

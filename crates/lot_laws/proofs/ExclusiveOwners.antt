@@ -1,4 +1,4 @@
--- Who owns a mutex exclusively behind a step on its word.
+-- The exclusive owner of a mutex behind a step on its word.
 use Rattle.std.proofs.Common.{ℕ, Bool, true, false, Option, Some, None, if◌then◌else◌, ◌==◌, ◌&&◌, not, ◌≡◌, inl, inr, refl}
 use Rattle.lot_acts.specs.declared.owners.Owners.{Owners}
 use Rattle.lot_mutex.specs.declared.places.MutexPlace.TheVariants.{Lock, TryLock, Unlock, UnlockFair, Bump, HandOff}

@@ -1,5 +1,5 @@
--- What the cases of an abstract lock make of a hand: no case of another thread brings anybody into it or lets anybody go, and a thread that has nobody
--- in hand takes one at most that wants more than to share.
+-- The cases of an abstract lock change a hand little: no case of another thread brings anybody into it or
+-- lets anybody go. A thread that has nobody in hand takes one at most that wants more than to share.
 use Rattle.std.proofs.Common.{ℕ, zero, suc, Bool, true, false, Option, Some, None, if◌then◌else◌, ◌==◌, ◌≡◌, ◌≢◌, ◌+◌, ◌≤◌, ◌⊎◌, inl, inr, List, [], ◌∷◌, refl, sym, ◌∙◌, ap, arith}
 use Rattle.std.proofs.lemmas.Bool.{eqb-true}
 use Rattle.std.proofs.lemmas.Bool.Decides.{nat_tests}

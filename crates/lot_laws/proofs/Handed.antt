@@ -1,5 +1,5 @@
--- Whom a thread has in hand that has somebody in hand at one lock alone: whoever is in its hand is so there, and where that lock lets one go at a time there is
--- one at most. What its leaving and its hand-over make of it.
+-- A thread that has somebody in hand at one lock alone: each thread in its hand is so there, and one at
+-- most where that lock lets one go at a time. Its leaving and its hand-over empty the hand.
 use Rattle.std.proofs.Common.{ℕ, Bool, true, false, Option, Some, None, if◌then◌else◌, ◌==◌, ◌≡◌, ◌≢◌, ◌+◌, List, inl, inr, refl, ◌∙◌, ap, subst, arith}
 use Rattle.abstract_locks.proofs.LockKeeps.{sharing_same}
 use Rattle.abstract_locks.specs.Locks.{IsLockState}

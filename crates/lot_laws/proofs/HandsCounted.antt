@@ -1,4 +1,5 @@
--- What a place says of those whom its thread has in hand, counted anew from where all threads stand: that is what the lock hands over.
+-- A place's counts of the threads in hand, made anew from where all threads stand: these are handed the
+-- lock.
 use Rattle.std.proofs.Common.{ℕ, zero, suc, Bool, true, false, Option, Some, None, if◌then◌else◌, ◌==◌, ◌&&◌, not, ◌≡◌, ◌≢◌, ◌+◌, ◌<◌, ◌≤◌, List, [], ◌∷◌, length, get_or, cond, refl, sym, ◌∙◌, ap, subst, arith}
 use Rattle.std.specs.List.{filter}
 use Rattle.std.proofs.lemmas.Bool.{eqb-true}

@@ -1,5 +1,5 @@
--- Whom a thread has in hand, by what they want: how many want to share, and which one wants more. What a place may say of it stays so as long as nobody
--- comes into the hand or leaves it, and is what the lock hands over.
+-- The threads in a hand by their wants: how many want to share, and which one wants more. A place's word on
+-- it stays true as long as nobody comes into the hand or leaves it, and the lock hands over by it.
 use Rattle.std.proofs.Common.{ℕ, zero, suc, Bool, true, false, Option, Some, None, if◌then◌else◌, ◌==◌, ◌&&◌, ◌≡◌, ◌+◌, List, [], ◌∷◌, length, get_or, cond, refl, sym, ◌∙◌, ap, subst, arith}
 use Rattle.std.specs.Prelude.{sum}
 use Rattle.std.specs.List.{filter}

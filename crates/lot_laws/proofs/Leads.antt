@@ -1,4 +1,4 @@
--- What some steps of a thread alone lead to.
+-- Some steps of a thread alone, and to where they lead.
 use Rattle.std.proofs.Common.{ℕ, zero, suc, ◌≡◌, ◌+◌, ◌≤◌, subst, arith}
 use Rattle.lot_calls.specs.declared.outcomes.Outcome.{Outcome}
 use Rattle.lot_calls.specs.declared.outcomes.Outcome as outcome

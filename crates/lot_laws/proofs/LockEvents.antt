@@ -1,4 +1,4 @@
--- What becomes of the calls of those whom a thread has in hand: they try again, or were handed the lock.
+-- The calls of the threads in a hand, as they are let go: they try again, or were handed the lock.
 use Rattle.lot_rwlock_fair.specs.declared.places.RwLockCallPlace.{RwLockCallPlace}
 use Rattle.lot_rwlock.specs.declared.places.Admission.{Admission}
 use Rattle.lot_once.specs.declared.places.OncePlace.{OncePlace}

@@ -1,4 +1,5 @@
--- Who waits to be notified is taken by a notification, or moved to its mutex: where it goes, at both locks.
+-- A waiter of a condition variable is taken by a notification, or moved to its mutex: where it goes, at
+-- both locks.
 use Rattle.std.proofs.Common.{ℕ, Bool, true, false, Option, Some, None, ◌≡◌, ◌≢◌, ◌*◌, ◌≤◌, refl, sym, ◌∙◌, ap, subst, arith}
 use Rattle.lot_base.specs.declared.wants.Want.TheVariants.{Exclusive}
 use Rattle.lot_base.specs.Lines.{times}

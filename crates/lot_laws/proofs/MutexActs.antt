@@ -1,4 +1,5 @@
--- What a thread does at a mutex, by its rows there and whatever its call: every lock is a site again. Elsewhere it is as it was.
+-- A thread acts at a mutex, by its rows there and whatever its call: every lock is a site again. Elsewhere
+-- it is as it was.
 use Rattle.std.proofs.Common.{ℕ, Bool, true, false, Option, Some, None, if◌then◌else◌, ◌||◌, ◌≡◌, ◌+◌, ◌*◌, ◌<◌, List, [], ◌∷◌, length, refl, sym, ◌∙◌, ap, subst}
 use Rattle.std.specs.Prelude.{nat_le, ◌&&◌}
 use Rattle.std.proofs.Math.Bool.{or-false}

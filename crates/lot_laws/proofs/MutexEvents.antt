@@ -1,4 +1,4 @@
--- What the word of a mutex tells, and who claims the mutex by a step.
+-- The word of a mutex tells its owner, and a step claims the mutex where the word says so.
 use Rattle.std.proofs.Common.{ℕ, true, false, Option, Some, None, ◌≡◌, inl, inr, List, [], ◌∷◌, ◌++◌, refl, ap}
 use Rattle.lot_acts.specs.declared.acts.Reply.{Reply}
 use Rattle.lot_acts.specs.declared.acts.Reply.TheVariants.{Value}

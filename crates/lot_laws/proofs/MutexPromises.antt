@@ -1,4 +1,4 @@
--- What is promised of every state, and of every step, says of a mutex what its users know it by.
+-- The promises of every state, and of every step, in the words that users of a mutex know.
 use Rattle.std.proofs.Common.{ℕ, true, false, Option, Some, None, ◌≡◌, ◌⊎◌, inl, inr, refl, sym, ◌∙◌, ap, subst}
 use Rattle.lot_base.specs.declared.wants.Want.{Want}
 use Rattle.lot_base.specs.declared.wants.Want.TheVariants.{Exclusive, Upgradable, Shared}

@@ -1,4 +1,4 @@
--- What else is asked of the rows of a mutex, beside their promises.
+-- The rows of a mutex: all that is asked of them beside their promises.
 use Rattle.std.proofs.Common.{ℕ, Bool, true, false, if◌then◌else◌, not, ◌≡◌, ◌≢◌, ◌+◌, ◌*◌, inl, inr, refl}
 use Rattle.lot_base.specs.declared.keys.Keys.TheVariants.{One}
 use Rattle.lot_base.specs.declared.ops.Op as op

@@ -1,4 +1,4 @@
--- What a call of a `Once` comes to, from its beginning, whose thread steps alone.
+-- A call of a `Once` that steps alone from its beginning, and to what it comes.
 use Rattle.std.proofs.Common.{ℕ, Bool, true, false, Some, if◌then◌else◌, ◌≡◌, ◌+◌, ◌*◌, ◌≤◌, ◌++◌, ◌∷◌, [], List, map, refl, sym, ◌∙◌, ap, subst, arith}
 use Rattle.std.specs.Prelude.{◌&&◌, not}
 use Rattle.lot_base.specs.declared.keys.Keys.TheVariants.{One}

@@ -1,4 +1,4 @@
--- What else is asked of the rows of a `Once`, beside their promises.
+-- The rows of a `Once`: all that is asked of them beside their promises.
 use Rattle.std.proofs.Common.{ℕ, Bool, true, false, Option, Some, ◌≡◌, inl, inr, refl, subst}
 use Rattle.lot_base.specs.declared.wants.Want.{Want}
 use Rattle.lot_calls.specs.declared.calls.OnceCall.{OnceCall}

@@ -1,4 +1,5 @@
--- What a step of one thread does to the site of the lock that it calls, for locks of any rules and places of any sort.
+-- A step of one thread and the site of the lock that it calls, for locks of any rules and places of any
+-- sort.
 use Rattle.std.proofs.Common.{ℕ, Bool, true, false, Option, Some, None, if◌then◌else◌, ◌==◌, ◌||◌, ◌≡◌, ◌≢◌, ◌+◌, ◌*◌, ◌≤◌, ◌<◌, length, length-set, List, [], ◌∷◌, ◌++◌, inl, inr, map, cond, not, refl, sym, ◌∙◌, ap, arith}
 use Rattle.std.specs.Prelude.{sum}
 use Rattle.std.proofs.lemmas.Bool.{cases_eq}

@@ -1,4 +1,5 @@
--- What an act of one thread makes of the calls of the others: nothing, but where it wakes those in its hand or hands them the lock.
+-- An act of one thread makes nothing of the calls of the others, but where it wakes those in its hand or
+-- hands them the lock.
 use Rattle.std.proofs.Common.{ℕ, Bool, true, false, Option, Some, None, if◌then◌else◌, ◌≡◌, ◌≢◌, ◌⊎◌, inl, inr, List, [], ◌∷◌, get_or, refl, sym, ◌∙◌, ap, subst, get_or-set_other, ◌==◌}
 use Rattle.lot_once.proofs.OnceActs.{once_sleepers_move}
 use Rattle.lot_once.specs.OnceProfiles.{once_profile}

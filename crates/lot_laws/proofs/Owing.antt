@@ -1,4 +1,4 @@
--- Who owes a wake does so since it saw waiters, or since it entered the section.
+-- A debtor owes its wake since it saw waiters, or since it entered the section.
 use Rattle.lot_acts.specs.Acts.{outcome_of}
 use Rattle.std.proofs.Common.{ℕ, Bool, true, false, Option, Some, None, if◌then◌else◌, ◌≡◌, ◌≢◌, ◌<◌, ◌⊎◌, ◌↔◌, inl, inr, length, refl, sym, ◌∙◌, ap, subst, get_or-set_same, nat_lt, is_some, length-set}
 use Rattle.lot_machine.specs.Machine.{closed_place}

@@ -1,4 +1,4 @@
--- What is promised of a thread at any place of a call, by its row, and what that says of the state.
+-- The promises of a thread at any place of a call, by its row, and their sense in the state.
 use Rattle.std.proofs.Common.{ℕ, Bool, true, false, Option, Some, None, if◌then◌else◌, ◌≡◌, ◌≢◌, ◌*◌, ◌+◌, ◌≤◌, ◌⊎◌, ◌↔◌, inl, inr, refl, sym, ◌∙◌, ap, subst, arith, ◌&&◌, not}
 use Rattle.lot_once.proofs.OnceRowCheck.{once_promises}
 use Rattle.lot_semaphore.proofs.SemaphoreRowCheck.{semaphore_promises}

@@ -1,4 +1,4 @@
--- What a step makes of what a thread owes, at each place.
+-- A step changes the debt of its thread as its place says.
 use Rattle.lot_calls.specs.declared.calls.CondvarCall.TheVariants as condvar
 use Rattle.std.proofs.Common.{Bool, ℕ, true, false, Some, None, if◌then◌else◌, ◌≡◌, refl, sym, ◌∙◌, ap, subst}
 use Rattle.lot_laws.proofs.CondvarOwing.{condvar_befallen}

@@ -1,4 +1,4 @@
--- What the row of a place says of a step to the next one, whatever the sort of its lock.
+-- The row of a place promises of a step to the next one, whatever the sort of its lock.
 use Rattle.std.proofs.Common.{ℕ, Bool, true, false, Option, Some, None, ◌||◌, ◌≡◌, ◌≢◌, ◌⊎◌, inl, inr, refl, sym, ◌∙◌}
 use Rattle.lot_base.specs.declared.keys.Keys.TheVariants.{One}
 use Rattle.lot_base.specs.declared.wants.Want.{Want}

@@ -1,4 +1,4 @@
--- What the places of a semaphore owe, whatever befalls their thread, and as its time is up.
+-- The places of a semaphore owe the same, whatever befalls their thread, and as its time is up.
 use Rattle.std.proofs.Common.{ℕ, Bool, true, false, ◌≡◌, Some, refl, sym, ap, subst}
 use Rattle.lot_base.specs.declared.keys.Line.{Line}
 use Rattle.lot_base.specs.declared.keys.Line.TheVariants.{Main}

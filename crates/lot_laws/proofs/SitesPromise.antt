@@ -1,4 +1,4 @@
--- What its lock's being a site says of the word of a mutex, and of who waits for it.
+-- A site of a mutex promises of its word and of its waiters.
 use Rattle.std.proofs.Common.{ℕ, Bool, true, false, Option, Some, None, ◌⊎◌, ◌≡◌, ◌≢◌, ◌+◌, ◌*◌, ◌≤◌, List, [], ◌∷◌, inl, inr, sym, ◌∙◌, ap, subst, arith}
 use Rattle.lot_base.specs.Lines as Lines
 use Rattle.lot_mutex.specs.MutexSteps.{is_parked}

@@ -1,4 +1,4 @@
--- What the answer says of a call whose thread has stepped alone to its end.
+-- The answer of a call that has stepped alone to its end is true.
 use Rattle.std.proofs.Common.{Some, None, ℕ, zero, suc, Bool, true, false, Option, if◌then◌else◌, ◌≡◌, ◌≢◌, inl, inr, List, [], ◌∷◌, length, replicate, refl, sym, ◌∙◌, ap, subst}
 use Rattle.lot_calls.specs.declared.outcomes.Answer.{Answer}
 use Rattle.lot_calls.specs.declared.outcomes.Outcome.{Outcome}

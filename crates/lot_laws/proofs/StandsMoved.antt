@@ -1,4 +1,4 @@
--- What the machine keeps beside its locks' being sites, where one thread goes elsewhere, or two.
+-- The machine keeps more than its locks' being sites, where one thread goes elsewhere, or two.
 use Rattle.std.proofs.Common.{ℕ, true, Option, Some, None, ◌≡◌, ◌≢◌, List, inl, inr, refl, sym, ◌∙◌, ap, subst}
 use Rattle.std.proofs.lemmas.Bool.{cases_eq}
 use Rattle.lot_base.specs.declared.wants.Waiter.{Waiter}

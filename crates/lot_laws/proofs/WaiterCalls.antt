@@ -1,4 +1,5 @@
--- What befalls a waiter of a condition variable at its mutex makes of its call what the event makes of it: it is taken there, woken, or handed the mutex.
+-- A waiter of a condition variable at its mutex goes on in its call as the event says: it is taken there,
+-- woken, or handed the mutex.
 use Rattle.std.proofs.Common.{ℕ, Bool, true, false, Option, Some, None, if◌then◌else◌, ◌==◌, ◌&&◌, not, ◌≡◌, ◌≢◌, ◌⊎◌, inl, inr, refl, sym, ◌∙◌, ap, subst}
 use Rattle.std.proofs.lemmas.Bool.{eqb-true}
 use Rattle.lot_base.specs.declared.notes.Note.TheVariants as note

@@ -1,5 +1,5 @@
--- What befalls who stands in the queue of a mutex, or is in a hand there: by its rows at the mutex, in a call of that mutex or in one of a
--- condition variable beside it. Every other lock sees of it what it saw.
+-- A waiter in the queue of a mutex, or in a hand there, and all that befalls it: by its rows at the mutex,
+-- in a call of that mutex or of a condition variable beside it. No other lock sees a change of it.
 use Rattle.std.proofs.Common.{ℕ, Bool, true, false, Option, Some, None, if◌then◌else◌, ◌==◌, ◌≡◌, ◌≢◌, ◌⊎◌, inl, inr, refl, sym, ◌∙◌, ap, subst}
 use Rattle.std.proofs.lemmas.Bool.{cases_eq, eqb-true}
 use Rattle.lot_base.specs.declared.notes.Note.TheVariants as note

@@ -1,4 +1,5 @@
--- Who waits to be notified stands nowhere at its mutex, is in no hand there, and doesn't try it again.
+-- A thread that waits to be notified stands nowhere at its mutex, is in no hand there, and doesn't try it
+-- again.
 use Rattle.std.proofs.Common.{ℕ, Bool, true, false, Option, Some, None, if◌then◌else◌, ◌==◌, ◌≡◌, ◌≢◌, ◌+◌, ◌*◌, ◌≤◌, refl, sym, ◌∙◌, ap, subst, arith}
 use Rattle.std.proofs.lemmas.Bool.{eqb-true}
 use Rattle.lot_calls.specs.declared.kinds.Kind.{Kind}

@@ -1,4 +1,5 @@
--- Who owes a wake on a line is inside its section or on its way into it, whoever is inside owes, and so does whoever is on its way but for a wait.
+-- A debtor of a line is inside its section or on its way into it. Each thread inside owes, and so does each
+-- one on its way but for a wait.
 use Rattle.std.proofs.Common.{ℕ, Bool, true, false, Option, Some, None, if◌then◌else◌, ◌==◌, ◌≡◌, ◌≢◌, ◌⊎◌, ◌↔◌, inl, inr, refl, sym, ◌∙◌, ap, subst}
 use Rattle.std.proofs.lemmas.Bool.{eqb-true}
 use Rattle.lot_base.specs.declared.keys.Keys.TheVariants.{One}

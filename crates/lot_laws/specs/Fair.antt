@@ -1,6 +1,6 @@
--- What a fair release does. Of a mutex it lets it go only where nobody waits for it, and else the
--- first waiter owns it in its place; of a lock that is shared all whom it takes have what they
--- waited for in that one step, or they would pass the limit, and it wakes them.
+-- The promises of a fair release. It lets a mutex go only where nobody waits for it, and else the first
+-- waiter owns it in its place. At a lock that is shared each waiter that it takes has its right in that one
+-- step, or would pass the limit, and is woken.
 use Rattle.std.specs.Prelude.{ℕ, true, false, Option, Some, None, MatchOption, ◌≡◌, ◌≢◌, ◌⊎◌, []}
 use Rattle.lot_base.specs.declared.wants.Want.{Want}
 use Rattle.lot_base.specs.declared.wants.Want.TheVariants.{Exclusive, Shared}

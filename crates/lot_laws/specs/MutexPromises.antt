@@ -1,4 +1,4 @@
--- What is promised of every state, in the words of a mutex.
+-- The promises of every state, in the words of a mutex.
 use Rattle.std.specs.Prelude.{ℕ, true, false, Option, None, Some, ◌≡◌, ◌≢◌, ◌+◌, ◌*◌, ◌⊎◌, ◌↔◌}
 use Rattle.lot_base.specs.declared.keys.Keys.TheVariants.{One}
 use Rattle.lot_base.specs.declared.wants.Want.TheVariants.{Exclusive}

@@ -1,5 +1,5 @@
--- Who owes a wake on a line, by what has happened: from the step that saw waiters, or from entering
--- the section, until the section is left.
+-- A thread owes a wake on a line by its history: from the step that saw waiters, or from entering the
+-- section, until the section is left.
 use Rattle.lot_acts.specs.Rows.{IsDowngrade}
 use Rattle.std.specs.Prelude.{ℕ, Bool, true, false, if◌then◌else◌, ◌==◌, ◌&&◌, ◌||◌, Option, Some, ◌≡◌, ◌≢◌, ◌⊎◌, ◌↔◌}
 use Rattle.lot_base.specs.declared.wants.Want.TheVariants.{Exclusive, Shared}

@@ -1,5 +1,5 @@
--- What is promised of every state, before and after each step, under every schedule. Each clause is
--- told by the sort of lock, so that it stays as it is for sorts that have no call yet.
+-- The promises of every state, before and after each step, under every schedule. Each clause is told by the
+-- sort of lock, so that it stays as it is for a further sort.
 use Rattle.lot_acts.specs.Rows.{KnowsRights, WakesAside}
 use Rattle.abstract_locks.specs.Locks as locks
 use Rattle.std.specs.Prelude.{ℕ, Bool, false, true, None, Option, ◌≡◌, ◌≢◌, ◌≤◌, ◌⊎◌, ◌↔◌, Some, ◌*◌, ◌+◌, []}

@@ -1,5 +1,4 @@
--- What a place says of its thread at a lock: what the thread does about it, and where the machine
--- has the thread.
+-- A place says of its thread at a lock: its role there, and where the machine has the thread.
 use Rattle.std.specs.Prelude.{ℕ, if◌then◌else◌}
 use Rattle.lot_steps.specs.declared.places.Place.{Place}
 use Rattle.lot_steps.specs.Steps.{beside_of, calls, is_lock, profile, profile_beside}

@@ -18,15 +18,15 @@ pub fn nobody_is_passed_over()
     ensures { NobodyIsPassedOver }
 {}
 
-/// What is promised of every state says of a mutex: its word tells whether it is owned, a waiter
-/// implies the parked bit or a thread that is about to set it, and whoever waits while nobody owns
-/// it has a thread that owes its wake or tries again.
+/// The promises of every state say of a mutex: its word tells whether it is owned; a waiter implies
+/// the parked bit or a thread that is about to set it. A waiter beside no owner has a thread that
+/// owes its wake or tries again.
 pub fn mutexes_are_kept()
     ensures { MutexesAreKept }
 {}
 
-/// What is promised of every step says of a mutex: a thread owes a wake since its call, which
-/// releases the mutex, saw the parked bit, or since it entered the section, until it leaves it.
+/// The promises of every step say of a mutex: a thread owes a wake since its call, which releases
+/// the mutex, saw the parked bit, or since it entered the section, until it leaves it.
 pub fn mutexes_owe()
     ensures { MutexesOwe }
 {}

@@ -1,4 +1,4 @@
--- What the program writes of its threads, and how it ends.
+-- The text that the program writes of its threads, and how it ends.
 use Rattle.std.specs.Prelude.{ℕ, ◌≡◌, ◌⊎◌, ◌++◌, Bool, if◌then◌else◌, List, [], Option, codes, decimal}
 use Rattle.lot_text.specs.Sent.{Sends, SendsFront}
 use Rattle.lot_live.specs.declared.lines.Told.{Told}

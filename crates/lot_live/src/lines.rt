@@ -7,12 +7,12 @@ use crate::{DONE, NOT_MET};
 use lot_text::Page;
 use std::io::Write;
 
-/// What came of the threads.
+/// The end of the threads' work.
 #[derive(Clone, Copy)]
 pub(crate) struct Told {
     /// Whether each of two readers saw the other while it read.
     pub(crate) met: bool,
-    /// What was read behind a write.
+    /// The value that was read behind a write.
     pub(crate) read: u64,
     /// To what several threads counted.
     pub(crate) count: u64,

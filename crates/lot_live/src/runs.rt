@@ -24,7 +24,7 @@ const COUNTERS: usize = 6;
 // So often each of them adds 1.
 const TIMES: u32 = 1_000;
 
-// What is written, and then read.
+// The value that is written, and then read.
 const WRITTEN: u64 = 7;
 
 // The locks of one lot.
@@ -110,7 +110,7 @@ fn sees_all(arrived: &AtomicUsize) -> bool {
     false
 }
 
-// What is read of what was written before.
+// The value that is read of what was written before.
 fn write_and_read<R: Wait>(rt: &R, lock: &RwLock<u64>, token: &mut Token) -> Result<u64, Fault>
     requires { IsTokenOf (rwlot_of lock.now) token.old }
     ensures { IsTokenOf (rwlot_of lock.now) token.new }

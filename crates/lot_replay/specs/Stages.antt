@@ -1,4 +1,4 @@
--- What the lines of a schedule do, one after another.
+-- The lines of a schedule, one after another, and the stages to which they lead.
 use Rattle.std.specs.Prelude.{ℕ, Bool, true, false, ◌&&◌, nat_le, nat_lt, is_none, List, [], ◌∷◌, ◌++◌, length, if◌then◌else◌, Option, None, Some, option_map, option_and_then}
 use Rattle.lot_calls.specs.declared.kinds.Kind.{Kind}
 use Rattle.lot_text.specs.declared.grammar.NamedCall.{NamedCall}

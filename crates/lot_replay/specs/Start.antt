@@ -1,4 +1,4 @@
--- What the program does for its arguments.
+-- The program's work for its arguments.
 use Rattle.std.specs.Prelude.{◌≡◌, ◌⊎◌, ℕ, List, map, codes, Option}
 use Rattle.std.specs.Io.KnownBytes.{Appends}
 use Rattle.lot_text.specs.Sent.{SendsFront}

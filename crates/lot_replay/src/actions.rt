@@ -1,4 +1,4 @@
-//! What a thread is told to do, of locks by their numbers, and how it is done.
+//! A thread's orders, of locks by their numbers, and how they are carried out.
 ghost use Rattle.std.specs.Prelude.{◌≡◌, ℕ, List, ◌<◌, ◌&&◌, if◌then◌else◌, None, Some, length};
 ghost use Rattle.lot_machine.specs.Machine.{kind_at, State as LotState};
 ghost use Rattle.lot_text.specs.Turns.{named_turn};
@@ -11,7 +11,7 @@ use lot_calls::{CondvarCall, OnceCall};
 use lot_text::{Name, NamedCall, NamedTurn, PlainTurn};
 use lot_world::{Call, Kind, Outcome, Step, Turn, World};
 
-/// What a thread does, of locks by their numbers.
+/// The order of a thread, of locks by their numbers.
 #[derive(Clone, Copy)]
 pub enum Action {
     Turn(Turn),
@@ -96,7 +96,7 @@ fn once_call(lock: usize, call: OnceCall, on_condvar: bool) -> Option<Call>
     Some(Call::Once { lock, call })
 }
 
-/// What a plain turn tells a thread.
+/// Returns the action of a plain turn.
 pub fn plain_action(turn: PlainTurn) -> Action
     ensures { (names : List (List ℕ)) (w : LotState)
         → action_of names w (named_turn turn) ≡ Some result }

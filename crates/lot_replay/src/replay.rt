@@ -174,7 +174,7 @@ pub fn beginnings_begin()
     ensures { BeginningsBegin }
 {}
 
-/// What was answered before memory or a device failed begins the text of the whole input.
+/// The answers given before memory or a device failed begin the text of the whole input.
 pub fn early_texts_begin()
     ensures { EarlyTextsBegin }
 {}

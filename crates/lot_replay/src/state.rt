@@ -26,7 +26,7 @@ pub enum Refusal {
     NoMemory,
 }
 
-/// What the lines of a replay have led to: nothing before the threads are there.
+/// The stage to which the lines of a replay have led: nothing before the threads are there.
 #[derive(Drop)]
 pub struct State<Q: Queues + Drop> {
     session: Option<Session<Q>>,

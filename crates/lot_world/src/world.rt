@@ -120,7 +120,7 @@ impl<Q: Queues + Drop> World<Q> {
         // While a writer is pending on a lock that isn't recursive, nobody begins to share it.
         ensures readers_stay_out { ReadersStayOut (locks_of self.old) (locks_of self.new) }
 
-        // Who shares a recursive lock isn't queued to share it once more.
+        // A thread that shares a recursive lock isn't queued to share it once more.
         ensures rereaders_pass { RereadersPass (locks_of self.old) (locks_of self.new) }
 
         // From the upgradable right to the exclusive one, an upgrade lets no other writer in, and a
@@ -321,8 +321,8 @@ impl<Q: Queues + Drop> World<Q> {
         self.machine.place(thread)
     }
 
-    /// Who owns a lock: the exclusive, pending, upgradable and running owner, then who shares it,
-    /// once for each right.
+    /// Returns the owners of a lock: the exclusive, pending, upgradable and running owner, then
+    /// each sharer, once for each right.
     pub fn owners(&self, lock: usize) -> OwnersOf<'_>
         requires { lock < length self.now.locks }
         ensures { result ≡ owners_of self.now lock }
@@ -330,7 +330,7 @@ impl<Q: Queues + Drop> World<Q> {
         self.machine.owners(lock)
     }
 
-    /// Who waits on a lock: its main queue from the front, then who waits aside.
+    /// Returns the waiters of a lock: its main queue from the front, then the waiter aside.
     pub fn queue(&self, lock: usize) -> QueueOf<'_, Q>
         requires { lock < length self.now.locks }
         ensures waiters { result ≡ queue_of self.now lock }
@@ -340,7 +340,7 @@ impl<Q: Queues + Drop> World<Q> {
         self.machine.queue(lock)
     }
 
-    /// Who has debts, for whoever asks about many locks.
+    /// Returns the debts, for a caller that asks about many locks.
     pub fn debts(&self) -> DebtBook<'_>
         ensures { result ≡ self.now.places }
     {
