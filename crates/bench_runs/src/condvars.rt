@@ -1,4 +1,4 @@
-//! What is timed of condition variables.
+//! The operations on condition variables.
 ghost use Rattle.std.specs.Prelude.{◌≡◌, All, IfOk};
 ghost use Rattle.std.specs.Arc.{arc_value};
 ghost use Rattle.crossbeam_utils.specs.Padded.{padded_value};
@@ -15,7 +15,7 @@ use std::sync::{Arc, Wait};
 // How many items a queue holds.
 const PLACES: u64 = 16;
 
-// What comes of a thread's coming to a meeting.
+// A thread's state once it has come to a meeting.
 #[derive(Clone, Copy)]
 enum Meeting {
     // Nothing is left to meet for.
@@ -26,12 +26,12 @@ enum Meeting {
     Waits { round: u64 },
 }
 
-// What threads share that meet, take turns, or send items to one another.
+// The counts of threads that meet, take turns, or send items to one another.
 #[derive(Drop)]
 struct Tally {
     // How many threads have come, by which each has its number.
     came: u64,
-    // Whose turn it is, or how many have met or are in the queue.
+    // The thread whose turn it is, or how many have met or are in the queue.
     at: u64,
     left: u64,
     done: u64,

@@ -1,7 +1,7 @@
-//! What was made, where nothing was refused.
+//! Things that were made, where nothing was refused.
 //!
-//! Who makes several things returns early behind none of them: at each such return all that was
-//! made so far would have to be dropped, and that dropping proved.
+//! A function that makes several things returns early behind none of them: at each such return all
+//! that was made so far would have to be dropped, and that dropping proved.
 ghost use Rattle.std.specs.Prelude.{◌≡◌, IfOk, Ok};
 
 use parking_lot::Fault;
@@ -17,7 +17,7 @@ pub(crate) fn both<A: Drop, B: Drop>(
     Ok((one?, other?))
 }
 
-/// What was made, or why not. A value that was given back is dropped.
+/// Returns the thing that was made, or why not. A value that was given back is dropped.
 pub(crate) fn unless_refused<A: Drop, V: Drop>(made: Result<A, (Fault, V)>) -> Result<A, Fault>
     ensures { IfOk result (λ one. made ≡ Ok one) }
 {
@@ -27,8 +27,8 @@ pub(crate) fn unless_refused<A: Drop, V: Drop>(made: Result<A, (Fault, V)>) -> R
     }
 }
 
-/// What was made, in a box: a local is taken apart wherever it is moved or dropped, and that
-/// proved.
+/// Returns the thing that was made, in a box: a local is taken apart wherever it is moved or
+/// dropped, and that proved.
 pub(crate) fn boxed<A: Drop>(alloc: Global, made: Result<A, Fault>) -> Result<Box<A>, Fault>
     ensures { IfOk result (λ boxed. made ≡ Ok boxed.value) }
 {

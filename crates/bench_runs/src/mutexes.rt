@@ -1,4 +1,4 @@
-//! What is timed of mutexes.
+//! The operations on mutexes.
 ghost use Rattle.std.specs.Prelude.{◌≡◌, IfOk};
 ghost use Rattle.std.specs.Arc.{arc_value};
 ghost use Rattle.parking_lot.specs.Users.{lock_of, lot_of};

@@ -1,4 +1,4 @@
-//! What the arguments ask for.
+//! Plans, as the arguments ask for them.
 ghost use Rattle.std.specs.Prelude.{◌≡◌, ◌≤◌};
 ghost use Rattle.bench_runs.specs.Modes.{IsModeNamed, name_of};
 ghost use Rattle.bench_runs.specs.declared.plans.TheConstants.{MOST_THREADS, MOST_OPERATIONS};
@@ -39,7 +39,7 @@ pub const MODES: &[Mode] = &[
     Mode::Queue,
 ];
 
-/// What an operation is.
+/// One operation.
 #[derive(Clone, Copy, Debug, PartialEq, Eq)]
 pub enum Mode {
     /// A lock and an unlock of a raw mutex.
@@ -187,7 +187,7 @@ pub fn plan_of(args: &[&str]) -> Option<Plan> {
     if threads == 0 || threads > MOST_THREADS || operations == 0 || operations > MOST_OPERATIONS {
         return None;
     }
-    // Who sends alone through a queue waits for ever.
+    // A thread that sends alone through a queue waits for ever.
     if mode == Mode::Queue && threads == 1 {
         return None;
     }

@@ -1,4 +1,4 @@
-//! What is timed of many locks of one lot.
+//! The operations on many locks of one lot.
 ghost use Rattle.std.specs.Prelude.{◌≡◌, All, IfOk};
 ghost use Rattle.std.specs.Arc.{arc_value};
 ghost use Rattle.crossbeam_utils.specs.Padded.{padded_value};

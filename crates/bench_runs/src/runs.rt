@@ -38,7 +38,7 @@ use std::sync::{Arc, Wait};
 use std::thread::{Threads, map_vec};
 use std::time::{Clock, Instant};
 
-/// What came of a plan.
+/// The figures of a plan that was carried out.
 #[derive(Clone, Copy, Debug, PartialEq, Eq)]
 pub struct Figures {
     pub nanos: u128,
@@ -268,7 +268,7 @@ fn total_of<R: Wait>(rt: &R, mode: Mode, bench: &Bench, maker: Ticket, counts: &
     }
 }
 
-// What came of the work, and how long it took.
+// Returns the figures of the work, and how long it took.
 fn figures_of(nanos: u128, answer: u64, counts: &[u64]) -> Figures {
     Figures {
         nanos,

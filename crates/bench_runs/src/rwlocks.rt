@@ -1,4 +1,4 @@
-//! What is timed of reader-writer locks.
+//! The operations on reader-writer locks.
 ghost use Rattle.std.specs.Prelude.{◌≡◌, IfOk};
 ghost use Rattle.std.specs.Arc.{arc_value};
 ghost use Rattle.parking_lot.specs.RwLockUsers.{lot_of};

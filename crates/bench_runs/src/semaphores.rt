@@ -1,4 +1,4 @@
-//! What is timed of semaphores.
+//! The operations on semaphores.
 ghost use Rattle.std.specs.Prelude.{◌≡◌, IfOk};
 ghost use Rattle.std.specs.Arc.{arc_value};
 ghost use Rattle.parking_lot.specs.SemaphoreUsers.{lot_of};

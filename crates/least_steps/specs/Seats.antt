@@ -1,4 +1,4 @@
--- Who steps on the word of a lock.
+-- The seats that step on the word of a lock.
 use Rattle.std.specs.Prelude.{◌≡◌}
 use Rattle.std.specs.Arc.{arc_value}
 use Rattle.atomic_table.specs.declared.shared.Seat.{Seat}

@@ -90,7 +90,7 @@ impl LeastLock {
         self.words.shared.fetch_sub::<AnyStep>(seat, self.at, 1) == 1
     }
 
-    // What an owner has apart from its thread.
+    // Splits off the part that an owner has apart from its thread.
     #[inline]
     pub(crate) fn split(&self, seat: &mut Seat<(), ()>) -> Seat<(), ()>
         requires { IsSeatOf self.now seat.old }

@@ -7,7 +7,7 @@ use atomic_table::Seat;
 use std::sync::Wait;
 use std::thread::yield_now;
 
-// What a thread does that finds the word otherwise, as none does here: it may wait.
+// Waits until the word is free, as no thread has to here: so a loop may wait, as a lock may.
 #[cold]
 #[inline(never)]
 fn wait<R: Wait>(rt: &R, lock: &LeastLock) {
@@ -85,7 +85,7 @@ fn leave<R: Wait>(rt: &R, lock: &LeastLock, seat: &mut Seat<(), ()>, owner: Seat
     }
 }
 
-/// What a thread tells of its last section, until it steps again.
+/// A thread's word on its last section, until it steps again.
 #[derive(Drop)]
 pub(crate) struct Told {
     pub(crate) is_told: bool,

@@ -6,7 +6,7 @@ use std::io;
 use std::sync::Wait;
 use std::time::{Clock, Instant};
 
-/// What a loop does so many times.
+/// The work of one round of a loop.
 #[derive(Clone, Copy, Debug, PartialEq, Eq)]
 pub enum Loop {
     /// Looks at the word.

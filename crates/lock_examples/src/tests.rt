@@ -20,13 +20,13 @@ use std::test::Fail;
 use std::thread::{Threads, map_vec};
 use std::time::Duration;
 
-// What was found is what was wanted. All tests share this one assertion, since each is proved where
-// it stands.
+// Asserts that the thing found is the thing wanted. All tests share this one assertion, since each
+// is proved where it stands.
 fn same<T: PartialEq + Debug + Drop>(rt: &impl Abort, found: T, wanted: T) {
     assert_eq!(rt; found, wanted);
 }
 
-// What a test asks for holds.
+// Asserts that a condition holds.
 fn holds(rt: &impl Abort, truth: bool) {
     assert!(rt; truth);
 }
@@ -36,7 +36,7 @@ fn all_are<T: PartialEq + Drop>(answers: Result<Vec<T>, AllocError>, wanted: T) 
     answers.is_ok_and(|answers| answers.iter().all(|answer| *answer == wanted))
 }
 
-// What the answers of all threads come to.
+// Returns the sum of the answers of all threads.
 fn sum_of(answers: Result<Vec<u64>, AllocError>) -> Result<u64, Fault> {
     match answers {
         Ok(answers) => Ok(answers.iter().fold(0u64, |all, one| all.wrapping_add(*one))),
@@ -89,7 +89,7 @@ fn count<R: Wait>(rt: &R, total: &Mutex<u64>, ticket: Ticket)
     drop(token.leave());
 }
 
-// What threads with these tickets count to.
+// Returns the count of threads with these tickets.
 fn count_all<R: Threads + Wait + Sync>(
     rt: &R,
     counter: Mutex<u64>,
@@ -135,7 +135,7 @@ fn work<R: Wait>(rt: &R, jobs: &Mutex<Vec<u32>>, ticket: Ticket) -> u64
     done
 }
 
-// What workers with these tickets do together.
+// Returns the work of threads with these tickets, together.
 fn work_all<R: Threads + Wait + Sync>(
     rt: &R,
     jobs: &Mutex<Vec<u32>>,

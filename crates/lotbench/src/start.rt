@@ -1,4 +1,4 @@
-//! What the program does for its arguments.
+//! The program's work for its arguments.
 use bench_runs::plans::{MODES, Plan, plan_of};
 use bench_runs::runs::{Figures, carry_out};
 use least_steps::timing::{Loop, time_loop};

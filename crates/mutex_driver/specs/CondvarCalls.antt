@@ -1,4 +1,4 @@
--- What the calls of a condition variable did.
+-- The calls of a condition variable, by the steps that they took.
 use Rattle.std.specs.Prelude.{ℕ, ◌≡◌, ◌≢◌, ◌<◌, ◌==◌, ◌*◌, ◌+◌, ◌++◌, ◌⊎◌, Bool, true, false, cond, List, Ok, Err, if◌then◌else◌}
 use Rattle.std.specs.declared.result.Result.{Result}
 use Rattle.lot_base.specs.declared.faults.Fault.{Fault}

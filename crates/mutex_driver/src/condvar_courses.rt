@@ -1,6 +1,5 @@
-//! What the straight courses of waits and of notifications share: what a call does where nothing
-//! comes between. What does leads off it, to the driver, which goes on through the places one by
-//! one.
+//! The straight courses of waits and of notifications, where nothing comes between. Anything else
+//! leads off them, to the driver, which goes on through the places one by one.
 ghost use Rattle.std.specs.Prelude.{◌≡◌};
 ghost use Rattle.lot_base.specs.Clocks.{IsUp};
 ghost use Rattle.lot_driver.specs.Turns.{HasEnded, IsAt};

@@ -49,7 +49,7 @@ fn leave_both<'a, R: Wait>(
     notified_so(all, number)
 }
 
-// What a notification answers that has moved so many.
+// Returns the answer of a notification that has moved so many.
 fn notified_so(all: bool, number: usize) -> Answer
     ensures { result ≡ notified all number }
 {
@@ -62,7 +62,7 @@ fn notified_so(all: bool, number: usize) -> Answer
     }
 }
 
-// Behind its move of the first: where that was the last, nobody waits any more.
+// Goes on from its move of the first: where that was the last, nobody waits any more.
 fn clear_and_leave<'a, R: Wait>(
     rt: &R,
     lot: &'a ParkingLot,

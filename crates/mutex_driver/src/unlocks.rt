@@ -43,7 +43,7 @@ fn leave_and_wake<'a, R: Wait>(
     end(section);
 }
 
-// Behind its take: where none is left, nobody waits any more.
+// Goes on from its take: where none is left, nobody waits any more.
 fn clear_and_wake<'a, R: Wait>(
     rt: &R,
     lot: &'a ParkingLot,

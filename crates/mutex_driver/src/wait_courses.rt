@@ -23,7 +23,7 @@ use lot_steps::{Reply, Wakes};
 use parking_lot_core::{Clock, Keys, Note, Op, ParkingLot, Section, Token, Want};
 use std::sync::Wait;
 
-// What a wait answers that was notified.
+// Returns the answer of a wait that was notified.
 fn notified_answer(timed: bool) -> Answer
     ensures { result ≡ waited timed false }
 {
@@ -181,7 +181,7 @@ fn wake_and_sleep<'a, R: Wait, C: Clock>(
     fall_asleep(rt, lot, token, pair, limit, section, timed)
 }
 
-// Behind its take: where none is left, nobody waits for the mutex any more.
+// Goes on from its take: where none is left, nobody waits for the mutex any more.
 fn clear_and_sleep<'a, R: Wait, C: Clock>(
     rt: &R,
     lot: &'a ParkingLot,

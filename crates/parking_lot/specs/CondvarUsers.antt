@@ -1,2 +1,2 @@
--- What the clauses of users of a condition variable cite.
+-- The names that clauses of users of a condition variable cite.
 pub use Rattle.raw_mutexes.specs.CondvarWords.{lot_of}

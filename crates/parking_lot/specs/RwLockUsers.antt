@@ -1,2 +1,2 @@
--- What the clauses of users of reader-writer locks cite.
+-- The names that clauses of users of reader-writer locks cite.
 pub use Rattle.raw_rwlocks.specs.RwLockUsers.{admission_of, lot_of, word_of}

@@ -1,4 +1,4 @@
--- What the waits of a raw condition variable answer, by what they give.
+-- The waits of a raw condition variable answer by what they give back.
 use Rattle.std.proofs.Common.{ℕ, ◌≡◌, ◌+◌, ◌++◌, ◌∙◌, ap, Bool, true, false, List, inl, inr, refl, sym, subst}
 use Rattle.lot_base.specs.declared.ops.Op.TheVariants.{Load}
 use Rattle.lot_calls.specs.declared.outcomes.Answer.{Answer}

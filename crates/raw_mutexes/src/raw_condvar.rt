@@ -172,7 +172,7 @@ impl lock_raw::RawCondvar for RawCondvar {
     fn notify_all_behind<R: Wait>(&self, rt: &R, token: &mut Token, seen: u64) -> usize {
         match self.notify_rest(rt, token, true, seen) {
             Answer::Number(number) => number,
-            // Who notifies all answers a number.
+            // A notification of all answers a number.
             _ => unreachable!(),
         }
     }

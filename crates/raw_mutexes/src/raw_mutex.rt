@@ -83,7 +83,8 @@ impl RawMutex {
         lot.join_open(token, self.word, opened, permit);
     }
 
-    // The first step of a fair release. What it saw, where the thread still owns the mutex.
+    // Takes the first step of a fair release, and returns the value seen where the thread still
+    // owns the mutex.
     #[inline]
     pub(crate) fn begin_unlock_fair(
         &self,

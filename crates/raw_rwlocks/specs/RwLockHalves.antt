@@ -1,4 +1,4 @@
--- What the halves of a call of a reader-writer lock come to, of which the fast one may be all.
+-- The halves of a call of a reader-writer lock, of which the fast one may be all, and to what they come.
 use Rattle.std.specs.Prelude.{◌≡◌, Option, IfErr, IfNone, IfOk, IfSome, MatchResult}
 use Rattle.std.specs.declared.result.Result.{Result}
 use Rattle.lot_base.specs.declared.faults.Fault.{Fault}

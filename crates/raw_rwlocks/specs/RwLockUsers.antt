@@ -1,4 +1,4 @@
--- What the clauses of users of reader-writer locks cite.
+-- The names that clauses of users of reader-writer locks cite.
 use Rattle.std.specs.Prelude.{ℕ}
 use Rattle.std.specs.Arc.{arc_value}
 use Rattle.lot_rwlock.specs.declared.places.Admission.{Admission}

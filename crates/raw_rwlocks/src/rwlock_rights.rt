@@ -152,7 +152,7 @@ impl LotRwLock {
         lot.join_held(token, self.word, want, right);
     }
 
-    // What a call to enter gives that is over with this answer.
+    // Gives the result of a call to enter that is over with this answer.
     #[inline(always)]
     fn entered<C: Clock>(
         &self,

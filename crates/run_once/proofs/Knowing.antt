@@ -1,4 +1,4 @@
--- What a thread knows and owns behind a call of a `Once`.
+-- A thread's knowledge and rights behind a call of a `Once`.
 use Rattle.std.proofs.Common.{ℕ, zero, suc, ◌≡◌, Bool, true, false, List, ◌∷◌, Option, None, refl, sym, ap, ◌∙◌, subst}
 use Rattle.abstract_locks.specs.Codes.{is_done}
 use Rattle.lot_acts.specs.declared.acts.Act.{Act}

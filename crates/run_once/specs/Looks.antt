@@ -1,4 +1,4 @@
--- What a call of a `Once` comes to, before its closure.
+-- A call of a `Once`, up to its closure.
 use Rattle.std.specs.Prelude.{ℕ, ◌≡◌, Bool, true, false}
 use Rattle.lot_calls.specs.declared.calls.OnceCall.{OnceCall}
 use Rattle.lot_calls.specs.declared.calls.OnceCall.TheVariants.{CallOnce}

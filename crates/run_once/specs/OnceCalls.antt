@@ -1,4 +1,4 @@
--- What the calls of a `Once` did.
+-- The calls of a `Once`, by the steps that they took.
 use Rattle.std.specs.Prelude.{ℕ, ◌≡◌, ◌<◌, Bool, true, false, List, [], ◌++◌, Option, None}
 use Rattle.abstract_locks.specs.Codes.{is_marked}
 use Rattle.lot_acts.specs.declared.acts.Reply.TheVariants.{Value}

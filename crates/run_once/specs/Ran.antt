@@ -1,4 +1,4 @@
--- What the calls of a `Once` did.
+-- The calls of a `Once` that have run a closure, or waited for a run.
 use Rattle.std.specs.Prelude.{ℕ, ◌≡◌, ◌≢◌, ◌⊎◌, ◌++◌, Bool, true, false, List, Ok, Err, if◌then◌else◌}
 use Rattle.std.specs.declared.result.Result.{Result}
 use Rattle.abstract_locks.specs.Codes.{is_done, is_poisoned, is_running}

@@ -42,7 +42,7 @@ pub enum OnceFault<E> {
     Failed(E),
 }
 
-// What the rest of a call comes to: in a register, so that the first step has no local to clear for
+// The end of the rest of a call: in a register, so that the first step has no local to clear for
 // it.
 enum Came {
     Done,
@@ -52,7 +52,8 @@ enum Came {
     Runs(OnceState),
 }
 
-/// Runs one closure of all that are brought to it. Whoever calls beside that run waits for its end.
+/// Runs one closure of all that are brought to it. A thread that calls beside that run waits for
+/// its end.
 ///
 /// A closure that answers an error leaves it poisoned: then it runs a closure again for
 /// `call_once_force` alone.

@@ -26,7 +26,7 @@ use lot_steps::{Place, Reply, advance};
 use parking_lot_core::{Clock, Op, ParkingLot, Token, Word};
 use std::sync::Wait;
 
-/// What a call of a `Once` comes to.
+/// The end of a call of a `Once`, or its closure.
 pub(crate) enum Look {
     /// It is over, and ran nothing.
     Ended(Answer),

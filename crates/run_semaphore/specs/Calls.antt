@@ -1,4 +1,4 @@
--- What the calls of a semaphore did.
+-- The calls of a semaphore, by the steps that they took.
 use Rattle.std.specs.Prelude.{ℕ, ◌≡◌, ◌<◌, ◌-◌, Bool, true, false, List, [], ◌++◌, Option, Some, None}
 use Rattle.abstract_locks.specs.Codes.{has_parked}
 use Rattle.lot_base.specs.declared.ops.Op.TheVariants.{Add, Exchange, Load}

@@ -1,4 +1,4 @@
--- What the clauses of users cite.
+-- The names that clauses of users cite.
 use Rattle.std.specs.Prelude.{ℕ, ◌≡◌, ◌≤◌, ◌<◌, ◌+◌, ◌*◌, ◌++◌, ◌^◌, ◌/◌}
 use Rattle.std.specs.Arc.{arc_value}
 pub use Rattle.parking_lot_core.specs.Tokens.{IsTicketOf, IsTokenOf, view_of, last_of}

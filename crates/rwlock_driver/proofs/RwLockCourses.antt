@@ -1,4 +1,4 @@
--- What a call does behind its first step is what its transition does.
+-- The rest of a call, from its first step on, is as its transition says.
 use Rattle.std.proofs.Common.{ℕ, Bool, true, false, List, Some, if◌then◌else◌, ◌==◌, ◌&&◌, ◌≡◌, refl, ap, ◌∙◌, sym, subst, eq-eqb, nat_le}
 use Rattle.lot_base.specs.declared.keys.Line.{Line}
 use Rattle.lot_base.specs.declared.keys.Line.TheVariants.{Main, Second}

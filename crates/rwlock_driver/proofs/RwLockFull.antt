@@ -1,4 +1,4 @@
--- Who finds a lock full of readers saw so by its last step.
+-- A thread that finds a lock full of readers saw so by its last step.
 use Rattle.std.proofs.Common.{ℕ, Bool, true, false, not, List, Option, Some, None, if◌then◌else◌, ◌==◌, ◌≡◌, ◌≤◌, ◌+◌, ◌/◌, ◌%◌, ◌&&◌, ◌||◌, ◌∙◌, ◌++◌, nat_le, refl, ap, sym, subst, arith}
 use Rattle.std.proofs.lemmas.List.{append_assoc}
 use Rattle.std.proofs.lemmas.Bool.Decides.{nat_tests}

@@ -1,4 +1,4 @@
--- What calls of a reader-writer lock leave of a thread's rights.
+-- A thread's rights behind calls of a reader-writer lock.
 use Rattle.std.proofs.Common.{ℕ, Bool, true, false, List, ◌∷◌, Some, None, ◌≡◌, ◌==◌, ◌<◌, ◌-◌, ◌^◌, if◌then◌else◌, inl, inr, refl, ap, ◌∙◌, sym, eq-eqb}
 use Rattle.lot_base.specs.declared.ops.Op.TheVariants.{Exchange}
 use Rattle.lot_base.specs.declared.wants.Want.{Want}

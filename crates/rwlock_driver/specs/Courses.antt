@@ -1,4 +1,4 @@
--- What a call of a reader-writer lock does about the value that its first step saw.
+-- A call of a reader-writer lock, by the value that its first step saw.
 use Rattle.std.specs.Prelude.{ℕ, ◌==◌, ◌&&◌, Bool, if◌then◌else◌, nat_le}
 use Rattle.abstract_locks.specs.Codes.{count_in, has_aside, has_parked, is_blocked}
 use Rattle.lot_calls.specs.declared.calls.Access.{Access}

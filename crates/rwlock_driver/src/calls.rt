@@ -30,7 +30,7 @@ use parking_lot_core::pauses::{SHORT_PAUSE, pause};
 use parking_lot_core::{Clock, Op, ParkingLot, Token, Word};
 use std::sync::Wait;
 
-/// What the fast half of a call leaves to the slow one.
+/// The rest of a call, which the fast half leaves to the slow one.
 #[derive(Clone, Copy)]
 pub enum Rest {
     /// Its first step saw this, and it goes on.
@@ -226,9 +226,9 @@ pub fn behind<R: Wait, C: Clock>(
     )
 }
 
-// The same by reference. Whose exchange missed met another thread, and would meet it again at once.
-// So it pauses once, for 0.7 microseconds where a round takes 11 nanoseconds: meanwhile the other
-// keeps the word's cache line, and takes many turns as if it were alone.
+// The same by reference. A thread whose exchange missed met another, and would meet it again at
+// once. So it pauses once, for 0.7 microseconds where a round takes 11 nanoseconds: meanwhile the
+// other thread keeps the word's cache line, and takes many turns as if it were alone.
 #[cold]
 #[inline(never)]
 fn rest_missed<R: Wait, C: Clock>(

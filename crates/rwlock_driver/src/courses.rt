@@ -13,7 +13,7 @@ use lot_rwlock::places::WRITER;
 use lot_rwlock::purposes::{self, entered, wanted};
 use lot_rwlock::{Admission, RwLockPurpose};
 
-/// What a call does behind its first step.
+/// The rest of a call, from its first step on.
 #[derive(Clone, Copy)]
 pub(crate) enum Course {
     Ends(Answer),
@@ -22,7 +22,7 @@ pub(crate) enum Course {
     GoesOn,
 }
 
-/// What who has the greater right of a downgrade wants.
+/// Returns the want of the greater right of a downgrade.
 #[inline(always)]
 pub fn greater(downgrade: Downgrade) -> Want
     ensures { result ≡ steps.wanted (steps.from_of downgrade) }
@@ -30,7 +30,7 @@ pub fn greater(downgrade: Downgrade) -> Want
     wanted(purposes::greater(downgrade))
 }
 
-/// What who has the lesser one wants, which its thread keeps.
+/// Returns the want of the lesser right, which its thread keeps.
 #[inline(always)]
 pub fn lesser(downgrade: Downgrade) -> Want
     ensures { result ≡ steps.wanted (steps.to_of downgrade) }
@@ -38,7 +38,7 @@ pub fn lesser(downgrade: Downgrade) -> Want
     wanted(purposes::lesser(downgrade))
 }
 
-/// What a call answers with its right.
+/// Returns the answer of a call that has its right.
 #[inline(always)]
 pub(crate) fn answer_with(purpose: RwLockPurpose) -> Answer
     ensures { result ≡ steps.entered (steps.patience_of purpose) }
@@ -64,7 +64,7 @@ pub(crate) fn opening(purpose: RwLockPurpose) -> Op
     }
 }
 
-// Who may not come in goes on to wait, but for one that only tries.
+// A thread that may not come in goes on to wait, but for one that only tries.
 #[inline(always)]
 fn kept_out(patience: Patience) -> Course
     ensures { result ≡ courses.kept_out patience }
@@ -122,7 +122,7 @@ fn upgrading(patience: Patience, seen: u64) -> Course
     }
 }
 
-// Who gives a right up goes on to wake others, where there may be some.
+// A thread that gives a right up goes on to wake others, where there may be some.
 #[inline(always)]
 fn leaving(waited_for: bool) -> Course
     ensures { result ≡ courses.leaving waited_for }
@@ -134,7 +134,7 @@ fn leaving(waited_for: bool) -> Course
     }
 }
 
-/// What a call does whose first step saw this.
+/// Returns the rest of a call whose first step saw this.
 #[inline(always)]
 pub(crate) fn course_of(admission: Admission, purpose: RwLockPurpose, seen: u64) -> Course
     ensures { result ≡ courses.course_of admission purpose seen }

@@ -89,7 +89,7 @@ fn fill_in<R: Wait>(
     }
 }
 
-// What all prices come to.
+// Returns the sum of all prices.
 fn look_up_all<R: Wait>(rt: &R, cache: &RwLock<Vec<Priced>>, ticket: Ticket) -> Result<u64, Fault>
     requires { IsTicketOf (lot_of cache.now) ticket }
 {

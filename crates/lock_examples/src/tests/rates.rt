@@ -15,7 +15,7 @@ use std::thread::{Threads, map_vec};
 
 const RATES: &str = "19";
 
-/// What a price is taxed by, in percent.
+/// Returns the rate by which a price is taxed, in percent.
 #[derive(Drop)]
 struct Rate {
     percent: u32,
@@ -39,7 +39,7 @@ fn rate_of<'a, R: Wait>(
     })
 }
 
-// What a price comes to with its tax, or nothing where the rate can't be read.
+// Returns a price with its tax, or nothing where the rate can't be read.
 fn taxed<R: Wait>(rt: &R, rate: &OnceCell<Rate>, ticket: Ticket, reads: &AtomicUsize) -> Option<u64>
     requires { IsTicketOf (lot_of rate.now) ticket }
 {

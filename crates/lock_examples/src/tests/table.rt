@@ -17,7 +17,7 @@ struct Table {
     fills: AtomicUsize,
 }
 
-// What the table says, which is filled first if nobody has.
+// Returns the table's entry. The table is filled first if no thread has done so.
 fn look_up<R: Wait>(rt: &R, filled: &Once, table: &Table, ticket: Ticket) -> u64
     requires { IsTicketOf (lot_of filled.now) ticket }
 {

@@ -1,5 +1,5 @@
-//! A queue of jobs with few places. Who brings jobs waits while it is full, and workers wait while
-//! it is empty.
+//! A queue of jobs with few places. A thread that brings jobs waits while it is full, and workers
+//! wait while it is empty.
 ghost use Rattle.std.specs.Prelude.{◌≡◌, All, IfOk};
 ghost use Rattle.std.specs.Arc.{arc_value};
 ghost use Rattle.parking_lot.specs.CondvarUsers.{lot_of as condvar_lot};
@@ -146,7 +146,7 @@ fn work<R: Wait>(rt: &R, desk: &Desk, ticket: Ticket) -> u64
     done
 }
 
-// What workers with these tickets do together.
+// Returns the work of threads with these tickets, together.
 fn work_all<R: Threads + Wait + Sync>(rt: &R, desk: &Desk, tickets: Vec<Ticket>) -> u64
     requires { All (IsTicketOf (lot_of desk.now.jobs)) tickets.items }
 {
