@@ -17,13 +17,13 @@ use std::process::Abort;
 use std::sync::{Arc, Wait};
 use std::time::Duration;
 
-// What was found is what was wanted. All tests share this one assertion, since each is proved where
-// it stands.
+// Asserts that the thing found is the thing wanted. All tests share this one assertion, since each
+// is proved where it stands.
 fn same<T: PartialEq + Debug + Drop>(rt: &impl Abort, found: T, wanted: T) {
     assert_eq!(rt; found, wanted);
 }
 
-// What a test asks for holds.
+// Asserts that a condition holds.
 fn holds(rt: &impl Abort, truth: bool) {
     assert!(rt; truth);
 }
@@ -46,9 +46,9 @@ fn next_of(lot: &ParkingLot, tickets: &mut Vec<Ticket>) -> Option<Ticket>
     tickets.pop()
 }
 
-// A lot of three words and so many threads, the token of the first thread, and the tickets of the
-// others. What makes lots and what is in them gives up where memory is refused, so that no test has
-// anything to drop in its midst.
+// Makes a lot of three words and so many threads, with the token of the first thread, and the
+// tickets of the others. A maker of lots, and of locks in them, gives up where memory is refused,
+// so that no test has anything to drop in its midst.
 fn seats<A: Abort>(rt: &A, alloc: Global, threads: usize) -> (Arc<ParkingLot>, Token, Vec<Ticket>)
     requires { (0 < threads) × (threads ≤ 1024) }
     ensures { IsTokenOf (arc_value result.0) result.1

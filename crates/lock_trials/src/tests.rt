@@ -17,13 +17,13 @@ use std::fmt::Debug;
 use std::process::Abort;
 use std::sync::Arc;
 
-// What was found is what was wanted. All tests share this one assertion, since each is proved where
-// it stands.
+// Asserts that the thing found is the thing wanted. All tests share this one assertion, since each
+// is proved where it stands.
 fn same<T: PartialEq + Debug + Drop>(rt: &impl Abort, found: T, wanted: T) {
     assert_eq!(rt; found, wanted);
 }
 
-// What a test asks for holds.
+// Asserts that a condition holds.
 fn holds(rt: &impl Abort, truth: bool) {
     assert!(rt; truth);
 }
@@ -46,9 +46,9 @@ fn keep(lot: &ParkingLot, tickets: &mut Vec<Ticket>, number: usize)
     }
 }
 
-// A lot of so many words and threads, with the token of the first and the tickets of the others.
-// What makes lots and mutexes gives up where memory is refused, so that no test has anything to
-// drop in its midst.
+// Makes a lot of so many words and threads, with the token of the first and the tickets of the
+// others. A maker of lots and mutexes gives up where memory is refused, so that no test has
+// anything to drop in its midst.
 fn seats<A: Abort>(
     rt: &A,
     alloc: Global,

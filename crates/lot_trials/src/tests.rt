@@ -32,18 +32,18 @@ use std::thread::yield_now;
 
 const TURNS: usize = 2000;
 
-// What was found is what was wanted. All tests share this one assertion, since each is proved where
-// it stands.
+// Asserts that the thing found is the thing wanted. All tests share this one assertion, since each
+// is proved where it stands.
 fn same<T: PartialEq + Debug + Drop>(rt: &impl Abort, found: T, wanted: T) {
     assert_eq!(rt; found, wanted);
 }
 
-// What a test asks for holds.
+// Asserts that a condition holds.
 fn holds(rt: &impl Abort, truth: bool) {
     assert!(rt; truth);
 }
 
-// What makes lots and words gives up where memory is refused, so that no test has anything to drop
+// A maker of lots and words gives up where memory is refused, so that no test has anything to drop
 // in its midst.
 fn new_lot<A: Abort>(
     rt: &A,
@@ -146,7 +146,7 @@ fn delay(turns: usize) {
     }
 }
 
-// What a thread does in a section of one key.
+// The part of a thread in a section of one key.
 #[derive(Clone, Copy)]
 enum Task {
     LineUp(Want),
@@ -228,7 +228,7 @@ fn sleep<R: Wait>(
     }
 }
 
-// What a thread is told in such a sleep. A right that it is handed is forgotten.
+// Returns the note that a thread is given in such a sleep. A right that it is handed is forgotten.
 fn told<R: Wait>(rt: &R, lot: &ParkingLot, token: &mut Token, word: Word, want: Want) -> Note
     requires { IsTokenOf lot.now token.old }
     ensures { IsSameThread lot.now token.old token.new }

@@ -1,4 +1,4 @@
--- What was written at a key is found there.
+-- A value that was written at a key is found there.
 use Rattle.std.specs.Prelude.{◌≡◌, ℕ, Bool, true, false, cond, List, [], ◌∷◌, Option, Some, None, Result, Ok, Err, map, not, ◌+◌}
 use Rattle.std.specs.Option.{ok_or}
 use Rattle.std.specs.List.{position_or_len}

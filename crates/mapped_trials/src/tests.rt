@@ -15,8 +15,8 @@ use std::fmt::Debug;
 use std::process::Abort;
 use std::sync::Arc;
 
-// What was found is what was wanted. All tests share this one assertion, since each is proved where
-// it stands.
+// Asserts that the thing found is the thing wanted. All tests share this one assertion, since each
+// is proved where it stands.
 fn same<T: PartialEq + Debug + Drop>(rt: &impl Abort, found: T, wanted: T) {
     assert_eq!(rt; found, wanted);
 }

@@ -17,8 +17,8 @@ use std::sync::atomic::Ordering::SeqCst;
 use std::sync::atomic::{AtomicBool, AtomicUsize};
 use std::sync::{Arc, Wait};
 
-/// What was found is what was wanted. The tests share this one assertion, since each is proved
-/// where it stands.
+/// Asserts that the thing found is the thing wanted. The tests share this one assertion, since each
+/// is proved where it stands.
 fn same<T: PartialEq + Debug + Drop>(rt: &impl Abort, found: T, wanted: T) {
     assert_eq!(rt; found, wanted);
 }
@@ -36,9 +36,9 @@ fn next_of(lot: &ParkingLot, tickets: &mut Vec<Ticket>) -> Option<Ticket>
     tickets.pop()
 }
 
-// A lot of two words with so many threads, the token of the first, and the tickets of the others.
-// What makes lots and what is in them gives up where memory is refused, so that no test has
-// anything to drop in its midst.
+// Makes a lot of two words with so many threads, the token of the first, and the tickets of the
+// others. A maker of lots, and of locks in them, gives up where memory is refused, so that no test
+// has anything to drop in its midst.
 fn seats<A: Abort>(rt: &A, alloc: Global, threads: usize) -> (Arc<ParkingLot>, Token, Vec<Ticket>)
     requires { (0 < threads) × (threads ≤ 1024) }
     ensures { IsTokenOf (arc_value result.0) result.1
@@ -108,7 +108,7 @@ fn count_run<R: Wait>(rt: &R, once: &Once, token: &mut Token, runs: &AtomicUsize
     told(answer)
 }
 
-// What comes of such a call is what was wanted.
+// Asserts that such a call ends as wanted.
 fn answers<R: Wait + Abort>(
     rt: &R,
     once: &Once,

@@ -20,7 +20,7 @@ use std::process::Abort;
 use std::sync::Wait;
 use std::test::Fail;
 
-// What a test asks for holds.
+// Asserts that a condition holds.
 fn holds(rt: &impl Abort, truth: bool) {
     assert!(rt; truth);
 }
@@ -155,7 +155,7 @@ const UPGRADABLE: [bool; 5] = [true, false, true, false, false];
 
 const WRITTEN: [bool; 5] = [true, true, false, false, false];
 
-// What is seen beside a reader, and behind it.
+// Checks all that is seen beside a reader, and behind it.
 fn sees_readers<const RECURSIVE: bool, R: Wait>(
     rt: &R,
     lock: &RawRwLock<RECURSIVE>,

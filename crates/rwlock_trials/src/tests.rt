@@ -17,9 +17,9 @@ use std::fmt::Debug;
 use std::process::Abort;
 use std::sync::{Arc, Wait};
 
-// Locks and guards are of both kinds: whether who shares a lock may read once more beside a writer
-// that waits. What is done to a guard in several tests has a function here, since a call by the
-// trait of a lock is dear to prove, and a call of such a function is not.
+// Locks and guards are of both kinds: whether a thread that shares a lock may read once more beside
+// a writer that waits. An act on a guard that several tests have is a function here, since a call
+// by the trait of a lock is dear to prove, and a call of such a function is not.
 type Lock<const RECURSIVE: bool> = lock_api_rw::RwLock<RawRwLock<RECURSIVE>, u64>;
 
 type Reader<'l, const RECURSIVE: bool> = lock_api_rw::RwLockReadGuard<
@@ -40,13 +40,13 @@ type Writer<'l, const RECURSIVE: bool> = lock_api_rw::RwLockWriteGuard<
     u64,
 >;
 
-// What was found is what was wanted. All tests share this one assertion, since each is proved where
-// it stands.
+// Asserts that the thing found is the thing wanted. All tests share this one assertion, since each
+// is proved where it stands.
 fn same<T: PartialEq + Debug + Drop>(rt: &impl Abort, found: T, wanted: T) {
     assert_eq!(rt; found, wanted);
 }
 
-// What a test asks for holds.
+// Asserts that a condition holds.
 fn holds(rt: &impl Abort, truth: bool) {
     assert!(rt; truth);
 }
@@ -59,7 +59,7 @@ fn next_of(lot: &ParkingLot, tickets: &mut Vec<Ticket>) -> Option<Ticket>
     tickets.pop()
 }
 
-// A lock, which only 1024 may share where it is limited. What makes lots and locks gives up where
+// A lock, which only 1024 may share where it is limited. A maker of lots and locks gives up where
 // memory is refused, so that no test has anything to drop in its midst.
 fn lock_in<const RECURSIVE: bool, A: Abort>(
     rt: &A,
@@ -215,7 +215,7 @@ fn end_writer<const RECURSIVE: bool, R: Wait>(
     found
 }
 
-// What is read by a closure.
+// Returns the value that a closure reads.
 fn value_of<const RECURSIVE: bool, R: Wait>(
     rt: &R,
     lock: &Lock<RECURSIVE>,
@@ -318,7 +318,7 @@ fn tries<const RECURSIVE: bool, R: Wait>(
     ]
 }
 
-// What tries get beside a writer, behind each of its downgrades, and in the end.
+// Checks the tries beside a writer, behind each of its downgrades, and in the end.
 fn tries_beside<const RECURSIVE: bool, R: Wait>(
     rt: &R,
     lock: &Lock<RECURSIVE>,

@@ -15,8 +15,8 @@ use std::time::Duration;
 
 const MOST_PERMITS: u64 = 4611686018427387904;
 
-/// What was found is what was wanted. The tests share this one assertion, since each is proved
-/// where it stands.
+/// Asserts that the thing found is the thing wanted. The tests share this one assertion, since each
+/// is proved where it stands.
 fn same<T: PartialEq + Debug + Drop>(rt: &impl Abort, found: T, wanted: T) {
     assert_eq!(rt; found, wanted);
 }

@@ -10,13 +10,13 @@ mod sizes;
 use std::fmt::Debug;
 use std::process::Abort;
 
-// What was found is what was wanted. All tests share this one assertion, since each is proved where
-// it stands.
+// Asserts that the thing found is the thing wanted. All tests share this one assertion, since each
+// is proved where it stands.
 fn same<T: PartialEq + Debug + Drop>(rt: &impl Abort, found: T, wanted: T) {
     assert_eq!(rt; found, wanted);
 }
 
-// What a test asks for holds.
+// Asserts that a condition holds.
 fn holds(rt: &impl Abort, truth: bool) {
     assert!(rt; truth);
 }

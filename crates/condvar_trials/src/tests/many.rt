@@ -8,7 +8,7 @@ use parking_lot::{MutexGuard, TickClock, Token};
 use std::sync::Wait;
 use std::thread::yield_now;
 
-// Whom a thread notifies, and whether it has the mutex then.
+// The waiters that a thread notifies, and whether it has the mutex then.
 #[derive(Clone, Copy)]
 pub(super) enum Whom {
     AllUnderMutex,

@@ -264,7 +264,7 @@ fn ten_send_to_one(rt: HostRuntime) {
 
 #[test]
 fn ten_send_to_ten(rt: HostRuntime) {
-    // Who notify all, who notify one, and in bounded waits.
+    // The threads that notify all, those that notify one, and those in bounded waits.
     for (most, style) in [(1, Style::All), (1, Style::One), (5, Style::Bounded)] {
         holds(&rt, passes(&rt, rt.alloc(), 10, 10, most, style));
     }

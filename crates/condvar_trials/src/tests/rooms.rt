@@ -48,7 +48,7 @@ pub(super) fn room_for<A: Abort>(
     (lot, room, token, others)
 }
 
-// What the number is, under the mutex.
+// Returns the number, under the mutex.
 pub(super) fn look<R: Wait>(rt: &R, room: &Room, token: &mut Token) -> usize
     requires { IsTokenOf (lot_of room.now.mutex) token.old }
     ensures { IsTokenOf (lot_of room.now.mutex) token.new }
@@ -56,7 +56,7 @@ pub(super) fn look<R: Wait>(rt: &R, room: &Room, token: &mut Token) -> usize
     room.mutex.with(rt, token, |value: &mut usize| *value)
 }
 
-/// What the threads of a room do. The first who comes is the one of whom each case speaks first.
+/// The parts of the threads of a room. Each case speaks first of the thread that comes first.
 #[derive(Clone, Copy)]
 pub(super) enum Part {
     /// One waits, and another notifies it.

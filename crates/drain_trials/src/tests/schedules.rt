@@ -51,8 +51,9 @@ fn steps_in(alloc: Global, text: &[u8]) -> Result<Vec<u8>, AllocError> {
     Ok(steps)
 }
 
-/// Behind the schedule the lock is drained: the last line tells that its word is 0, and nobody owns
-/// it or waits. So it does where the steps of the drain are lines of the schedule.
+/// Checks that the lock is drained once the schedule has ended: the last line tells that its word
+/// is 0, and nobody owns it or waits. The same holds where the steps of the drain are lines of the
+/// schedule.
 fn is_drained(rt: &impl Abort, alloc: Global, schedule: &[u8]) -> Result<(), AllocError> {
     let drained = with_lines(alloc, schedule, b"drain\nshow\n")?;
     let (text, status) = replayed::<BucketQueues>(alloc, drained.as_slice());
@@ -80,7 +81,7 @@ fn is_refused(text: &[u8]) -> bool {
         .any(|line| line == b"drain refused".as_slice())
 }
 
-/// Behind each line of the schedule a drain empties the lock, or is refused.
+/// Checks that a drain after each line of the schedule empties the lock, or is refused.
 fn are_drained_or_refused(
     rt: &impl Abort,
     alloc: Global,

@@ -173,7 +173,7 @@ fn owns<Q: Queues + Drop>(world: &World<Q>, thread: usize) -> bool {
     false
 }
 
-/// What a thread of the walk does next.
+/// Returns the next turn of a thread of the walk.
 fn turn_of(dice: &mut Dice, kind: Kind, owns: bool) -> Turn {
     match dice.below(12) {
         0 | 1 | 2 => Turn::Begin(call_of(dice, kind, owns)),
@@ -251,7 +251,7 @@ fn calls<Q: Queues + Drop>(world: &mut World<Q>, thread: usize, call: RwLockCall
     world.solo(thread);
 }
 
-/// Behind a writer all others wait, to write and to read by turns.
+/// All others wait for a writer, to write and to read by turns.
 fn queue_up(world: &mut World<BucketQueues>) {
     for thread in 0..world.threads() {
         let access = if thread % 2 == 0 {

@@ -27,7 +27,7 @@ struct Hall {
     ghost together: { lot_of fair ≡ lot_of plain },
 }
 
-/// What each thread of a crowd does.
+/// The part of each thread of a crowd.
 #[derive(Clone, Copy)]
 pub(super) enum Part {
     Add,

@@ -62,7 +62,7 @@ fn seats<A: Abort>(
     }
 }
 
-/// What two threads do, by the order in which they come.
+/// The parts of two threads, by the order in which they come.
 #[derive(Clone, Copy)]
 enum Part<'a> {
     /// Both try once, and hold what they got until both have tried.
@@ -77,7 +77,7 @@ enum Part<'a> {
     Race(&'a AtomicU64, &'a AtomicU64),
 }
 
-/// What the threads tell one another.
+/// The flags and counts that the threads share.
 #[derive(Drop)]
 struct Told {
     came: AtomicUsize,

@@ -71,7 +71,7 @@ fn sum_of(mutexes: Vec<Mutex<u64>>) -> u64 {
     sum
 }
 
-// What all come to together.
+// Returns the sum of all.
 fn play<R: Threads + Wait + Abort + Sync>(rt: &R, alloc: Global) -> u64 {
     let (lot, mut token, mut tickets) = seats(rt, alloc, MUTEXES, MUTEXES);
     keep(&lot, &mut tickets, THREADS);

@@ -12,8 +12,9 @@ use std::sync::atomic::Ordering::SeqCst;
 
 const KEY: Key = 4;
 
-// What a thread is told in a sleep up to a deadline, or the key under which it was late, and that
-// under which it stood. Who is late leaves its place, and a right that it is handed is forgotten.
+// Returns the note that a thread is given in a sleep up to a deadline, or the key under which it
+// was late, and the key under which it stood. A late thread leaves its place, and a right that it
+// is handed is forgotten.
 pub fn told_until<R: Wait, C: Clock>(
     rt: &R,
     lot: &ParkingLot,

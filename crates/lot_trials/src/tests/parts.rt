@@ -1,4 +1,4 @@
-//! What threads do that meet in the queue, and two of them side by side.
+//! The parts of threads that meet in the queue, and two of them side by side.
 ghost use Rattle.std.specs.Prelude.{◌≡◌};
 ghost use Rattle.lot_words.specs.Lots.{IsWordOf};
 ghost use Rattle.lot_words.specs.declared.words.WordKind.TheVariants.{Mutex};
@@ -15,7 +15,7 @@ use std::sync::Wait;
 use std::sync::atomic::AtomicBool;
 use std::thread::{Threads, join};
 
-/// What a thread does.
+/// The part of a thread.
 #[derive(Clone, Copy)]
 pub enum Part {
     Serve,

@@ -139,7 +139,7 @@ fn take_three<R: Wait>(
     given
 }
 
-/// What a thread that was taken is told. It sleeps until it is.
+/// Returns the note of a thread that was taken. It sleeps until it has one.
 pub fn told_to<R: Wait>(rt: &R, lot: &ParkingLot, ticket: Ticket, word: Word) -> Note
     requires { IsTicketOf lot.now ticket }
 {
@@ -149,7 +149,7 @@ pub fn told_to<R: Wait>(rt: &R, lot: &ParkingLot, ticket: Ticket, word: Word) ->
     note
 }
 
-// What each of three is told that are taken together.
+// Returns the notes of three threads that are taken together.
 fn notes_of_three<R: Wait>(
     rt: &R,
     alloc: Global,

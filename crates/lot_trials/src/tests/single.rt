@@ -112,7 +112,7 @@ fn a_lot_has_as_many_words_as_may_be(rt: HostRuntime) {
     same(&rt, locked, Some((true, Want::Exclusive, false, [1, 0])));
 }
 
-// What each operation finds, one after another.
+// Returns the values that the operations find, one after another.
 fn found_by_each(lot: &ParkingLot, token: &mut Token, word: Word) -> [u64; 6]
     requires { IsTokenOf lot.now token.old × IsWordOf lot.now.words word × (word.kind ≡ Mutex) }
 {
@@ -135,7 +135,7 @@ fn each_operation_changes_the_word(rt: HostRuntime) {
     same(&rt, found, [0, 1, 3, 3, 1, 1]);
 }
 
-// What a store finds of its owner, and what is there then.
+// Returns the value that a store finds, and the value that is there then.
 fn found_by_a_store(lot: &ParkingLot, token: &mut Token, word: Word) -> [u64; 4]
     requires { IsTokenOf lot.now token.old × IsWordOf lot.now.words word × (word.kind ≡ Mutex) }
 {

@@ -21,7 +21,7 @@ const KEY: Key = 0;
 
 const ROUNDS: usize = 200;
 
-// Of rounds in which both threads let time pass.
+// The rounds in which both threads let time pass.
 const SLOW_ROUNDS: usize = 20;
 
 // For how many short pauses a thread lets others run then.

@@ -312,7 +312,7 @@ fn add_while_held<R: Wait + Abort>(
     guard.unlock(rt, token);
 }
 
-// What is there once the mutex is locked, behind the thread that has it.
+// Returns the value once the mutex is locked, behind the thread that has it.
 fn read_behind<R: Wait + Abort>(
     rt: &R,
     mutex: &ReentrantMutex<AtomicU64>,
@@ -360,7 +360,7 @@ fn take_part<R: Wait + Abort>(
     read_behind(rt, mutex, token, is_held)
 }
 
-// What both threads saw together, and what is there at last.
+// The values that both threads saw together, and the last one.
 fn play<R: Threads + Wait + Abort + Sync>(rt: &R, alloc: Global, alternate: bool) -> (u64, u64) {
     let (mutex, token, mut tickets) = reentrant(rt, alloc, AtomicU64::new(0));
     if tickets.push(token.leave()).is_err() {

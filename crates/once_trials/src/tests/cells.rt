@@ -30,7 +30,7 @@ fn value_of<R: Wait>(
     found.ok().copied()
 }
 
-// What it is told that asks is what was wanted.
+// Asserts that the answer is the one wanted.
 fn finds<R: Wait + Abort>(
     rt: &R,
     cell: &OnceCell<u64>,

@@ -23,7 +23,7 @@ struct Room {
     ghost together: { lot_of cell ≡ lot_of once },
 }
 
-/// What each thread does.
+/// The part of each thread.
 #[derive(Clone, Copy)]
 pub(super) enum Part {
     /// Calls the `Once`.
@@ -39,7 +39,7 @@ pub(super) enum Part {
     Race,
 }
 
-/// What the threads tell one another.
+/// The flags and counts that the threads share.
 #[derive(Drop)]
 pub(super) struct Told {
     came: AtomicUsize,

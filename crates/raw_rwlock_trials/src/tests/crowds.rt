@@ -13,7 +13,7 @@ use std::sync::atomic::Ordering::SeqCst;
 use std::sync::atomic::{AtomicBool, AtomicUsize};
 use std::thread::{Threads, map_vec};
 
-/// What each thread does.
+/// The part of each thread.
 #[derive(Clone, Copy)]
 pub(super) enum Part {
     /// Makes all calls, in an order of its own.
@@ -23,7 +23,7 @@ pub(super) enum Part {
     LetIn(bool),
 }
 
-/// What the threads tell one another.
+/// The flags and counts that the threads share.
 #[derive(Drop)]
 pub(super) struct Told {
     parts: AtomicUsize,

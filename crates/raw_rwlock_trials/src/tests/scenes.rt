@@ -22,8 +22,8 @@ use std::sync::Wait;
 use std::sync::atomic::Ordering::SeqCst;
 use std::thread::{Threads, map_vec};
 
-// What was found is what was wanted. All tests share this one assertion, since each is proved where
-// it stands.
+// Asserts that the thing found is the thing wanted. All tests share this one assertion, since each
+// is proved where it stands.
 fn same<T: PartialEq + Debug + Drop>(rt: &impl Abort, found: T, wanted: T) {
     assert_eq!(rt; found, wanted);
 }

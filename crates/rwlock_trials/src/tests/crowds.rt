@@ -24,10 +24,10 @@ const TIMES: u64 = 1000;
 // The rounds for which a thread holds the lock: long enough for others to come meanwhile.
 const LINGER: u32 = 8 * SHORT_PAUSE;
 
-// What a value is while somebody writes.
+// The value while a thread writes.
 const TORN: u64 = u64::MAX;
 
-// Adds 1 to a value that is torn meanwhile. What it was before.
+// Adds 1 to a value that is torn meanwhile, and returns the value before.
 fn add_torn(value: &mut u64) -> u64 {
     let before = *value;
     *value = TORN;
@@ -214,7 +214,7 @@ fn write_later<const RECURSIVE: bool, R: Wait>(
     replace(rt, lock, token, 7) == 0
 }
 
-/// What each thread of a crowd does.
+/// The part of each thread of a crowd.
 #[derive(Clone, Copy)]
 pub(super) enum Part<'a> {
     /// Adds 1, a hundred times.
@@ -231,7 +231,7 @@ pub(super) enum Part<'a> {
     Give(Giver, bool),
 }
 
-// What the threads of a crowd tell one another.
+// The flags and counts that the threads of a crowd share.
 #[derive(Drop)]
 struct Told {
     came: AtomicUsize,

@@ -1,4 +1,5 @@
-//! What a guard keeps out, on a lock as it is made and on one that so many may share.
+//! Guards, and the threads that they keep out, on a lock as it is made and on one that so many may
+//! share.
 ghost use Rattle.std.specs.Prelude.{◌≡◌};
 ghost use Rattle.parking_lot_core.specs.Tokens.{IsTokenOf};
 ghost use Rattle.parking_lot.specs.RwLockUsers.{lot_of};
@@ -32,7 +33,7 @@ fn look<R: Wait>(rt: &R, lock: &Lock<false>, token: &mut Token) -> [bool; 5]
     ]
 }
 
-// What is seen beside a reader.
+// Checks all that is seen beside a reader.
 fn beside_reader<R: Wait>(rt: &R, lock: &Lock<false>, token: &mut Token) -> Option<[bool; 5]>
     requires { IsTokenOf (lot_of lock.now) token.old }
     ensures { IsTokenOf (lot_of lock.now) token.new }

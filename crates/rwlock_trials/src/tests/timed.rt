@@ -90,7 +90,7 @@ fn writes_in_time<R: Wait>(rt: &R, lock: &Lock<false>, token: &mut Token, until:
     }
 }
 
-// Who comes in beside a writer: a reader, an upgradable one, another writer.
+// The threads that try to come in beside a writer: a reader, an upgradable one, another writer.
 fn come_beside_a_writer<R: Wait>(
     rt: &R,
     lock: &Lock<false>,
@@ -158,7 +158,7 @@ fn upgrades_in_time<R: Wait>(
     Some(is_writer)
 }
 
-// What upgrades come to, of both forms.
+// The ends of upgrades, of both forms.
 fn upgrades<R: Wait>(rt: &R, lock: &Lock<false>, token: &mut Token) -> [Option<bool>; 2]
     requires { IsTokenOf (lot_of lock.now) token.old }
     ensures { IsTokenOf (lot_of lock.now) token.new }
@@ -169,7 +169,7 @@ fn upgrades<R: Wait>(rt: &R, lock: &Lock<false>, token: &mut Token) -> [Option<b
     ]
 }
 
-// What they come to beside a reader, and then without one.
+// The ends of upgrades beside a reader, and then without one.
 fn upgrades_beside_a_reader<R: Wait>(
     rt: &R,
     lock: &Lock<false>,

@@ -17,7 +17,7 @@ const TIMES: u64 = 1000;
 
 const TURNS: usize = 1_000_000;
 
-/// What each thread of a crowd does.
+/// The part of each thread of a crowd.
 #[derive(Clone, Copy)]
 enum Part {
     /// Counts up beside as many as there are permits.
@@ -30,7 +30,7 @@ enum Part {
     Wake,
 }
 
-/// What the threads tell one another.
+/// The flags and counts that the threads share.
 #[derive(Drop)]
 struct Told {
     came: AtomicUsize,

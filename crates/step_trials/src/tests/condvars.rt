@@ -36,7 +36,7 @@ const WAKES_THE_TAKEN: Act = Act::Leave {
     wakes: Wakes::All(Note::Normal),
 };
 
-/// What a call is told, and what it does then, where a test asks.
+/// A reply to a call, and its next act, where a test asks for that.
 type Turn = (Reply, Option<Act>);
 
 /// Where a call beside the mutex 5 goes on from a place by a reply, which doesn't end it.

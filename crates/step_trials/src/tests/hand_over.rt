@@ -31,12 +31,12 @@ fn taken(sharers: usize, successor: Option<Want>, none_left: bool) -> Taken {
     }
 }
 
-/// What an exclusive owner does that has taken these.
+/// Returns the act of an exclusive owner that has taken these.
 fn stores(taken: Taken) -> Act {
     at(Access::Exclusive, HandOverAt::Store(taken)).act(0, admission(false))
 }
 
-/// What an upgradable owner does about a word that it has seen.
+/// Returns the act of an upgradable owner that has seen this word.
 fn exchanges(taken: Taken, seen: u64) -> Act {
     at(Access::Upgradable, HandOverAt::Exchange { taken, seen }).act(0, admission(true))
 }
@@ -72,7 +72,8 @@ fn an_upgradable_owner_hands_over_where_there_is_room(rt: HostRuntime) {
     holds(&rt, found == Act::HandOver { lock, op });
 }
 
-/// Whom an upgradable owner wakes that has taken another such for a word, and finds this one.
+/// Returns the threads that an upgradable owner wakes, which has taken another such for a word, and
+/// finds this one.
 fn wakes(seen: u64) -> Option<Wakes> {
     let taken = taken(0, Some(Want::Upgradable), true);
     let place = at(Access::Upgradable, HandOverAt::Exchange { taken, seen: 69 });

@@ -6,7 +6,7 @@ use lot_calls::{Answer, OnceCall, OnceState, Outcome};
 use lot_once::{NOT_MARKED, OncePlace};
 use std::process::Abort;
 
-/// What a call is told, and what it does then, where a test asks.
+/// A reply to a call, and its next act, where a test asks for that.
 type Turn = (Reply, Option<Act>);
 
 /// Where a call goes on from a place by a reply, which doesn't end it.

@@ -21,7 +21,7 @@ fn mutex(at: MutexPlace) -> Place {
     Place::Mutex { lock: 3, at }
 }
 
-/// What a call of the lock 3 does at a place.
+/// Returns the act of a call of the lock 3 at a place.
 fn act_at(rt: &impl Abort, place: Place) -> Act {
     match place {
         Place::Mutex { lock: 3, .. }

@@ -102,8 +102,8 @@ fn takes_all_behind_what_was_taken<Q: Queues + Drop>(rt: &impl Abort, alloc: Glo
     counts(rt, &queues, &[(6, 0), (7, 2)]);
 }
 
-/// Whom a thread takes of a line with these wants, whose threads are numbered from 1, of a normal
-/// and of a recursive lock.
+/// Returns the threads that are taken of a line with these wants, numbered from 1, of a normal and
+/// of a recursive lock.
 struct Picks {
     wants: &'static [Want],
     start: Option<Want>,
@@ -216,7 +216,7 @@ fn line_is<Q: Queues + Drop>(
     Some(place)
 }
 
-/// What comes of two lines of which the first is requeued: the answer, and both lines.
+/// Requeues the first of two lines, and returns the answer, and both lines.
 struct Requeued {
     op: Requeue,
     answer: (Option<usize>, usize),
@@ -412,7 +412,7 @@ fn tells_faults(rt: HostRuntime) {
     }
 }
 
-/// What an operation makes of a word.
+/// Returns the word that an operation leaves.
 const OPERATIONS: &[(Op, u64, u64)] = &[
     (Op::Load, 5, 5),
     (Op::Store(3), 5, 3),

@@ -308,7 +308,7 @@ const WAITS_WITH_THE_FIRST: &[Line] = &[
     Calls(1, LOCK_THE_FAIR, DONE),
 ];
 
-// What is no plain mutex, or isn't there.
+// Locks that are no plain mutex, or aren't there.
 const NO_MUTEXES: [usize; 3] = [3, CONDVAR, 4];
 
 fn wait_with(mutex: usize) -> Call {

@@ -85,7 +85,7 @@ const FOLLOW: &[Line] = &[
     Rests(0, 8, Some((Owner::Exclusive, 3))),
 ];
 
-/// Who owns the lock, in the order in which they are listed.
+/// Returns the owners of the lock, in the order in which they are listed.
 const OWNERS: &[(Owner, usize)] = &[(Owner::Pending, 3), (Owner::Shared, 1), (Owner::Shared, 2)];
 
 fn is_owned<A: Abort>(rt: &A, alloc: Global, world: &World<ListQueues>) {

@@ -17,8 +17,8 @@ const RECURSIVE: Admission = Admission {
     limit: 2,
 };
 
-// What a call that nobody disturbs makes of a word, until it ends or does what is no operation on
-// the word.
+// Returns the words that a call makes which nobody disturbs, until it ends or its act is no
+// operation on the word.
 fn alone(admission: Admission, purpose: RwLockPurpose, at: RwLockAt, word: u64) -> (u64, Act) {
     let mut place = RwLockPlace {
         purpose,

@@ -12,8 +12,8 @@ use std::process::Abort;
 
 pub const DONE: Outcome = Outcome::End(Answer::Ok);
 
-/// What a lock shows: its word, the first of its owners, of those that wait for it, and of those
-/// that owe it a wake or try it again.
+/// The view of a lock: its word, the first of its owners, of its waiters, and of the threads that
+/// owe it a wake or try it again.
 type Shown = (
     u64,
     Option<(Owner, usize)>,
@@ -21,7 +21,7 @@ type Shown = (
     Option<(Debt, usize)>,
 );
 
-/// What happens in a script, and what comes of it.
+/// An event of a script, and its outcome.
 #[derive(Clone, Copy)]
 pub enum Line {
     /// A thread begins a call and goes on alone until it rests: it is told this.
@@ -44,7 +44,7 @@ fn call_alone<Q: Queues + Drop>(world: &mut World<Q>, thread: usize, call: Call)
     }
 }
 
-/// What a lock that is there shows.
+/// Returns the view of a lock that is there.
 fn look<Q: Queues + Drop>(world: &World<Q>, lock: usize) -> Option<Shown> {
     if lock >= world.locks() {
         return None;

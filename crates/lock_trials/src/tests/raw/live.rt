@@ -1,4 +1,4 @@
-//! What is written, and how it ends where nothing more can be.
+//! The text that is written, and how it ends where nothing more can be written.
 use super::super::same;
 use lot_live::{BROKEN, DONE, live};
 use std::test::Fail;

@@ -80,8 +80,7 @@ fn a_reader_that_bumps_lets_a_writer_in(rt: HostRuntime) {
     play::<false, HostRuntime>(&rt, rt.alloc(), bumped);
 }
 
-// What is seen of a lock that one thread has to itself, where it bumps each right and releases it
-// fairly.
+// Checks a lock that one thread has to itself, where it bumps each right and releases it fairly.
 fn goes_alone<const RECURSIVE: bool, R: Wait>(
     rt: &R,
     lock: &RawRwLock<RECURSIVE>,

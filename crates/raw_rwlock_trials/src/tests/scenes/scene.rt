@@ -1,4 +1,4 @@
-//! Who comes to a lock that is held, and how they are let in.
+//! Threads that come to a lock that is held, and how they are let in.
 use super::super::fixtures::{Inside, TURNS};
 use std::sync::atomic::Ordering::SeqCst;
 use std::sync::atomic::{AtomicBool, AtomicUsize};
@@ -25,9 +25,9 @@ pub(super) enum Manner {
     Downgraded,
     /// A writer goes on with the upgradable right.
     ToUpgradable,
-    /// Who has the upgradable right goes on as a reader.
+    /// The owner of the upgradable right goes on as a reader.
     UpgradableToReader,
-    /// Who has the upgradable right goes.
+    /// The owner of the upgradable right goes.
     UpgradableGone,
     /// A reader goes.
     ReaderGone,
@@ -37,16 +37,16 @@ pub(super) enum Manner {
     Handed,
     /// A writer bumps.
     Bumped,
-    /// Who has the upgradable right hands the lock over.
+    /// The owner of the upgradable right hands the lock over.
     UpgradableHanded,
-    /// Who has it bumps.
+    /// The owner bumps.
     UpgradableBumped,
     /// A reader bumps.
     ReaderBumped,
 }
 
-/// Who comes to a lock that is held, how many of them stand in its queues then, and how many come
-/// in beside who goes on.
+/// The threads that come to a lock that is held, how many of them stand in its queues then, and how
+/// many come in beside the one that goes on.
 #[derive(Drop)]
 pub(super) struct Scene {
     pub(super) manner: Manner,
@@ -56,7 +56,7 @@ pub(super) struct Scene {
     pub(super) beside: usize,
 }
 
-/// What the threads of a scene tell one another.
+/// The flags and counts that the threads of a scene share.
 #[derive(Drop)]
 pub(super) struct Told {
     // How many have begun their parts.
@@ -94,7 +94,7 @@ impl Told {
         self.came.load(SeqCst) != 0
     }
 
-    /// Who has come in stays from now on, or goes.
+    /// A thread that has come in stays from now on, or goes.
     pub(super) fn keep_inside(&self, stays: bool) {
         self.stays.store(stays, SeqCst);
     }
