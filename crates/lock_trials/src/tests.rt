@@ -1,6 +1,7 @@
 //! Mutexes of one thread, of two and of many, raw and with a value; and what a live run writes.
 mod crowds;
 mod fair;
+mod fair_unlocks;
 mod mutexes;
 mod raw;
 mod street;

@@ -4,6 +4,7 @@ ghost use Rattle.parking_lot_core.specs.Tokens.{IsTicketOf, IsTokenOf};
 ghost use Rattle.parking_lot.specs.Users.{lot_of};
 
 use super::fair::{GivesUp, give_up, take_and_keep};
+use super::fair_unlocks::{take_in_turn, unlock_in_turn};
 use super::{fair_mutex_of, keep, mutex_of, same, seats};
 use parking_lot::{FairMutex, Mutex, ParkingLot, Ticket, Token, lock_api};
 use std::alloc::Global;
@@ -34,6 +35,8 @@ pub(super) enum Part {
     AddFair,
     /// The first gives the mutex up so, and the other waits for it.
     GiveUp(GivesUp),
+    /// The first unlocks the fair mutex, and the other waits for it.
+    UnlockFair,
 }
 
 // Adds 1 under any raw mutex.
@@ -73,6 +76,10 @@ fn take_part<R: Wait>(rt: &R, lot: &ParkingLot, hall: &Hall, token: &mut Token, 
             return give_up(rt, lot, plain, token, held, told, by);
         }
         Part::GiveUp(_) => take_and_keep(rt, plain, token, held, told),
+        Part::UnlockFair if is_first => {
+            return unlock_in_turn(rt, lot, &hall.fair, token, held, told);
+        }
+        Part::UnlockFair => take_in_turn(rt, &hall.fair, token, held, told),
         Part::Add => add_many(rt, hall, token, false),
         Part::AddFair => add_many(rt, hall, token, true),
     }
@@ -99,7 +106,7 @@ fn play<R: Threads + Wait + Abort + Sync>(
         fair,
         came: AtomicUsize::new(0),
         held: AtomicBool::new(false),
-        told: AtomicBool::new(!matches!(part, Part::GiveUp(GivesUp::Fair))),
+        told: AtomicBool::new(!matches!(part, Part::GiveUp(GivesUp::Fair) | Part::UnlockFair)),
     };
     let (lot, shared) = (&*lot, &hall);
     let found = map_vec(

@@ -5,7 +5,7 @@ ghost use Rattle.parking_lot.specs.Users.{lock_of, lot_of};
 
 use super::crowds::{Part, for_rooms};
 use super::{fair_mutex_alone, same};
-use parking_lot::{Mutex, MutexGuard, ParkingLot, RawFairMutex, Token, lock_api};
+use parking_lot::{Key, Mutex, MutexGuard, ParkingLot, RawFairMutex, Token, lock_api};
 use std::sync::Wait;
 use std::sync::atomic::AtomicBool;
 use std::sync::atomic::Ordering::SeqCst;
@@ -13,9 +13,9 @@ use std::thread::yield_now;
 
 const TURNS: usize = 1_000_000;
 
-const TRIES: usize = 1000;
+pub(super) const TRIES: usize = 1000;
 
-fn wait_until<R: Wait>(rt: &R, flag: &AtomicBool) {
+pub(super) fn wait_until<R: Wait>(rt: &R, flag: &AtomicBool) {
     for _ in rt.forever() {
         if flag.load(SeqCst) {
             break;
@@ -24,13 +24,13 @@ fn wait_until<R: Wait>(rt: &R, flag: &AtomicBool) {
     }
 }
 
-// Whether somebody came to wait for the mutex.
-fn is_waited_for<R: Wait>(rt: &R, lot: &ParkingLot, mutex: &Mutex<u64>, token: &mut Token) -> bool
-    requires { IsTokenOf lot.now token.old × (lot_of mutex.now ≡ lot.now) }
+// Whether a thread came to wait under a key.
+pub(super) fn is_waited_for<R: Wait>(rt: &R, lot: &ParkingLot, key: Key, token: &mut Token) -> bool
+    requires { IsTokenOf lot.now token.old }
     ensures { IsTokenOf lot.now token.new }
 {
     for _ in 0..TURNS {
-        if lot.queued(rt, token, mutex.raw().key()) == 1 {
+        if lot.queued(rt, token, key) == 1 {
             return true;
         }
         yield_now();
@@ -165,7 +165,7 @@ pub(super) fn give_up<R: Wait>(
 {
     let guard = mutex.lock(rt, token);
     held.store(true, SeqCst);
-    let came = is_waited_for(rt, lot, mutex, token);
+    let came = is_waited_for(rt, lot, mutex.raw().key(), token);
     let has = match by {
         GivesUp::Plain => release(rt, mutex, token, guard),
         GivesUp::Fair => hand_over(rt, mutex, token, guard, told),
