@@ -207,11 +207,11 @@ module _ (w : State) (t l : ℕ) (a : Admission) (x : Access) (holds : IsWorld w
   writes_pending : 1 ≤ readers s → (writers s == 1) ≡ true → s.pending ≢ None
   writes_pending shared h = writer_beside_readers (rules_in w l) s site.state shared h
 
-  gives_so : (x2 : Access) → x2 ≡ x → ((u : ℕ) → section_at w (key_of l Main) ≡ Some u → u ≡ t)
+  gives_so : (x2 : Access) → HasWhatItReads w t (Some (Bumps l (wanted x2)))
       → GivesWay (rules_in w l) s (wanted x2) → gives_way a x2 word ≡ true
-  gives_so access.Shared e way g = ap (λ b. b && (not a.recursive || (count_in word == 1))) (writer_is ∙ pending_writes g.0) ∙ last_reader g.1
-  gives_so access.Upgradable e way g = has_waiter way g
-  gives_so access.Exclusive e way g = has_waiter way g
+  gives_so access.Shared reads g = ap (λ b. b && (not a.recursive || (count_in word == 1))) (writer_is ∙ pending_writes g.0) ∙ last_reader g.1
+  gives_so access.Upgradable reads g = has_waiter reads g
+  gives_so access.Exclusive reads g = has_waiter reads g
 
   some_share : Owns s t Shared → 1 ≤ readers s
   some_share shares = let e : sum (slice_set s.shared t (slice_index s.shared t - 1)) + 1 ≡ sum s.shared = fewer_share s.shared t shares in omega arith
@@ -295,15 +295,15 @@ module _ (w : State) (t l : ℕ) (a : Admission) (x : Access) (holds : IsWorld w
           | inr barred ↦ inr (subst (λ (z : State). IsBarred z t) (ap (λ (r : Ran). r.state) from_there ∙ e.state) (same_ends.2 barred))
         ]
 
-  pub bumps_shared : ((u : ℕ) → section_at w (key_of l Main) ≡ Some u → u ≡ t) → Ends t l a (gives_way a x word) x w v2 o
+  pub bumps_shared : HasWhatItReads w t (Some (Bumps l (wanted x))) → Ends t l a (gives_way a x word) x w v2 o
       → BumpsShared (has_parked word ≡ false) (locks_behind w t) (locks_of w) t l (wanted x) o (locks_of v2) ⊎ IsBarred v2 t
-  bumps_shared way h = either (gives_way a x word) refl
+  bumps_shared reads h = either (gives_way a x word) refl
     where
       either : (b : Bool) → gives_way a x word ≡ b
           → BumpsShared (has_parked word ≡ false) (locks_behind w t) (locks_of w) t l (wanted x) o (locks_of v2) ⊎ IsBarred v2 t
       either true gives = or_so (λ back. record { gives_way = λ g. back; stays = λ none. absurd (let f : true ≡ false = sym gives ∙ keeps_so x refl none in cc) }) (comes_back (h.0 gives))
       either false keeps = inl (record {
-        gives_way = λ g. absurd (let f : false ≡ true = sym keeps ∙ gives_so x refl way g in cc);
+        gives_way = λ g. absurd (let f : false ≡ true = sym keeps ∙ gives_so x reads g in cc);
         stays = λ none. let told = h.1 keeps in (told, ends_owning told);
       })
 

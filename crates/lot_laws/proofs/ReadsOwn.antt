@@ -26,19 +26,21 @@ use Rattle.lot_laws.specs.Solo.{HasItsWay, HasMainLine, HasWhatItReads}
 
 module _ (w : State) (t l : ℕ) (own : HasMainLine w t l) where
   mutex_reads : (fair : Bool) (c : MutexCall) → HasWhatItReads w t (Some (mutex_purpose fair l c))
-  mutex_reads true mutex_call.Unlock = own
+  mutex_reads true mutex_call.Unlock = λ sort. own
   mutex_reads false mutex_call.Unlock = tt
-  mutex_reads fair mutex_call.UnlockFair = own
+  mutex_reads fair mutex_call.UnlockFair = λ sort. own
   mutex_reads fair mutex_call.Bump = own
   mutex_reads fair mutex_call.Lock = tt
   mutex_reads fair mutex_call.LockTimed = tt
   mutex_reads fair mutex_call.TryLock = tt
 
   rwlock_reads : (c : RwLockCall) → HasWhatItReads w t (Some (rwlock_purpose l c))
-  rwlock_reads (rwlock_call.Bump x) = own
+  rwlock_reads (rwlock_call.Bump access.Shared) = tt
+  rwlock_reads (rwlock_call.Bump access.Upgradable) = own
+  rwlock_reads (rwlock_call.Bump access.Exclusive) = own
   rwlock_reads (rwlock_call.ReleaseFair access.Shared) = tt
-  rwlock_reads (rwlock_call.ReleaseFair access.Upgradable) = own
-  rwlock_reads (rwlock_call.ReleaseFair access.Exclusive) = own
+  rwlock_reads (rwlock_call.ReleaseFair access.Upgradable) = λ sort. own
+  rwlock_reads (rwlock_call.ReleaseFair access.Exclusive) = λ sort. own
   rwlock_reads (rwlock_call.Enter x how) = tt
   rwlock_reads (rwlock_call.Release x) = tt
   rwlock_reads (rwlock_call.Downgrade d) = tt

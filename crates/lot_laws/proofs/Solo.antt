@@ -251,8 +251,8 @@ module _ (w : State) (t : ℕ) (shape : IsShaped w) (steady : IsSteady w) (count
       (try_leads t l (queue_at w (2 * l)) (section_at w (2 * l)) (word_at w l) (owner_at w l) w (facing l _ tt is lt) n last (omega arith))
   call_alone l false mutex_call.TheVariants.Unlock is lt kind reads n last le = or_so (unlock_alone l kind (solo n w t last).state (solo n w t last).outcome)
       (subtract_leads t l (queue_at w (2 * l)) (word_at w l) (owner_at w l) (section_at w (2 * l)) w (facing l _ tt is lt) n last (omega arith))
-  call_alone l true mutex_call.TheVariants.Unlock is lt kind reads n last le = fairly l is lt kind reads n last le
-  call_alone l fair mutex_call.TheVariants.UnlockFair is lt kind reads n last le = fairly l is lt kind reads n last le
+  call_alone l true mutex_call.TheVariants.Unlock is lt kind reads n last le = fairly l is lt kind (reads (ap (λ (r : Rules). r.sort) (mutex_rules (kind_at w l) kind))) n last le
+  call_alone l fair mutex_call.TheVariants.UnlockFair is lt kind reads n last le = fairly l is lt kind (reads (ap (λ (r : Rules). r.sort) (mutex_rules (kind_at w l) kind))) n last le
   call_alone l fair mutex_call.TheVariants.Bump is lt kind reads n last le = or_so (bump_alone l kind (solo n w t last).state (solo n w t last).outcome)
       (bump_leads t l (queue_at w (2 * l)) (word_at w l) (owner_at w l) w (at_first l _ tt is refl reads lt) n last (omega arith))
 

@@ -82,10 +82,12 @@ pub record IsBarred (w : State) (t : ℕ) : Type 0 where
 abbrev pub HasMainLine : State → ℕ → ℕ → Type 0
 HasMainLine w t l = IsOnly t (section_at w (key_of l Main))
 
--- a fair release, a bump and a notification may end by what they read of the queue, which whoever
--- is inside its section may be about to change
+-- a fair release of a mutex, a bump of a right that isn't shared and a notification may end by what
+-- they read of the queue, which a thread inside its section may be about to change
 abbrev pub HasWhatItReads : State → ℕ → Option Purpose → Type 0
-HasWhatItReads w t (Some (Releases l x true)) = HasMainLine w t l
+HasWhatItReads w t (Some (Releases l x true)) =
+    (rules_of (kind_at w l)).sort ≡ Mutex → HasMainLine w t l
+HasWhatItReads w t (Some (Bumps l Shared)) = Unit {0}
 HasWhatItReads w t (Some (Bumps l x)) = HasMainLine w t l
 HasWhatItReads w t (Some (Notifies l all)) = HasMainLine w t l
 HasWhatItReads w t purpose = Unit {0}

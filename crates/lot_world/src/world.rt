@@ -166,8 +166,9 @@ impl<Q: Queues + Drop> World<Q> {
         ensures rests_or_barred { IsUnderWay self.old thread
             → Rests result ⊎ IsBarred self.new thread }
 
-        // And from its beginning it ends as above, or is barred. A fair release, a bump and a
-        // notification need that nobody else is inside the section of the queue that they read.
+        // And from its beginning it ends as above, or is barred. A fair release of a mutex, a bump
+        // of a right that isn't shared and a notification read a queue: they need that nobody else
+        // is inside its section.
         ensures ends_or_barred { (call : Call)
             → place_at self.old thread ≡ first_place (kind_at self.old (lock_in call)) call
             → HasWhatItReads self.old thread (purpose_at (locks_of self.old) call)
