@@ -1,5 +1,5 @@
 -- A thread that steps alone in a call of a condition variable: where each of its acts leads it.
-use Rattle.std.proofs.Common.{ℕ, true, Option, Some, None, if◌then◌else◌, ◌≡◌, ◌⊎◌, ◌+◌, ◌*◌, ◌<◌, [], length, get_or-set_same, inl, inr, refl, sym, ◌∙◌, ap, subst, arith}
+use Rattle.std.proofs.Common.{ℕ, true, Option, Some, None, if◌then◌else◌, ◌≡◌, ◌⊎◌, ◌+◌, ◌*◌, ◌<◌, length, get_or-set_same, inl, inr, refl, sym, ◌∙◌, ap, subst, arith}
 use Rattle.std.proofs.lemmas.Bool.{lt-ltb}
 use Rattle.lot_base.specs.declared.ops.Op.{Op}
 use Rattle.lot_base.specs.Words.{apply}
@@ -10,7 +10,7 @@ use Rattle.lot_acts.specs.declared.acts.Act.TheVariants as act
 use Rattle.lot_acts.specs.declared.acts.Next.{Next}
 use Rattle.lot_acts.specs.declared.acts.Next.TheVariants as next
 use Rattle.lot_acts.specs.declared.acts.Reply.{Reply}
-use Rattle.lot_acts.specs.Acts.{holds, outcome_of}
+use Rattle.lot_acts.specs.Acts.{outcome_of}
 use Rattle.lot_acts.specs.Stations.{Station, station_by}
 use Rattle.lot_condvar.specs.declared.places.CondvarPlace.{CondvarPlace}
 use Rattle.lot_condvar.specs.CondvarCalls.{IsReached}
