@@ -184,7 +184,6 @@ module _ (w : State) (d : Progress) (ready : IsReady d.state) (over : IsOver d.s
       single = tt;
       word = is;
       queue = over.queues;
-      way = λ m u inside. absurd (let a : ◌≡◌ {A = Option ℕ} None (Some u) = sym (ready.outside (key_of 0 m)) ∙ inside in cc);
     };
     others = λ u ne. over.idle u;
     kind = e;

@@ -1,5 +1,5 @@
 -- A thread alone at a lock in whose lines nobody stands, while all others are in no call: what each of its acts leads to.
-use Rattle.std.proofs.Common.{ℕ, zero, suc, Bool, true, false, None, if◌then◌else◌, cond, ◌==◌, ◌≡◌, ◌≢◌, ◌+◌, ◌*◌, ◌<◌, List, [], ◌∷◌, length, drop, get_or, refl, sym, ◌∙◌, ap, subst, arith, get_or-set_same, get_or-set_other}
+use Rattle.std.proofs.Common.{ℕ, zero, suc, Bool, true, false, Option, Some, None, if◌then◌else◌, cond, ◌==◌, ◌≡◌, ◌≢◌, ◌+◌, ◌*◌, ◌<◌, List, [], ◌∷◌, length, drop, get_or, refl, sym, ◌∙◌, ap, subst, arith, get_or-set_same, get_or-set_other}
 use Rattle.std.specs.List.{filter}
 use Rattle.std.proofs.lemmas.Bool.{lt-ltb}
 use Rattle.lot_base.specs.declared.keys.Line.{Line}
@@ -30,13 +30,13 @@ use Rattle.lot_machine.specs.Fits.{SameSize}
 use Rattle.lot_machine.proofs.Acted.{acted_keeps}
 use Rattle.lot_machine.proofs.Shape.{after_shaped, after_size}
 use Rattle.lot_laws.specs.SitesOf.{key_of}
-use Rattle.lot_laws.specs.Stations.{station}
+use Rattle.lot_laws.specs.Stations.{station, station_at}
 use Rattle.lot_laws.proofs.CondvarSteps.{after_condvars}
 use Rattle.lot_laws.proofs.CountsKept.{counted_after}
-use Rattle.lot_laws.proofs.Glue.{IsSingle}
+use Rattle.lot_laws.proofs.Glue.{IsSingle, nothing_at}
 use Rattle.lot_laws.proofs.KindsKept.{after_kinds}
-use Rattle.lot_laws.proofs.Leads.{Leads, leads_rest, leads_step}
-use Rattle.lot_laws.proofs.LineSolo.{Comes, StepsAlone, enter_comes, finds_free, hand_comes, leave_comes, take_comes, word_comes}
+use Rattle.lot_laws.proofs.Leads.{LeadsSurely, surely_rest, surely_step}
+use Rattle.lot_laws.proofs.LineSolo.{Comes, StepsAlone, enter_comes, hand_comes, leave_comes, take_comes, word_comes}
 use Rattle.lot_laws.proofs.RunsKept.{running_after}
 use Rattle.lot_laws.proofs.TurnsKept.{after_steady}
 use Rattle.drain_runs.specs.Turns.{begin_of}
@@ -78,7 +78,6 @@ same_lines w p v q e f = record {
   single = f.single;
   word = f.word;
   queue = λ m. f.queue m ∙ e m;
-  way = f.way;
 }
 
 module _ (k : Kind) (w : State) (p : Place) (v : ℕ) (f : Passes k w p v) where
@@ -87,36 +86,52 @@ module _ (k : Kind) (w : State) (p : Place) (v : ℕ) (f : Passes k w p v) where
 
   -- where it is told to go on, and where it has ended
   goes_on : (n : ℕ) (e : ℕ) (p2 : Place) (v2 : ℕ) (told : Outcome) → told ≡ outcome.Step → Comes w 0 0 p2 told v2 no_lines
-      → (Passes k (after w (go_of 0)) p2 v2 → Leads n (after w (go_of 0)) 0 (Ended k e)) → Leads (n + 1) w 0 (Ended k e)
-  goes_on n e p2 v2 told step c more = leads_step w 0 (Ended k e) n (c.0 ∙ step) (more (passes p2 v2 c.1))
+      → (Passes k (after w (go_of 0)) p2 v2 → LeadsSurely n (after w (go_of 0)) 0 (Ended k e)) → LeadsSurely (n + 1) w 0 (Ended k e)
+  goes_on n e p2 v2 told step c more = surely_step w 0 (Ended k e) n (c.0 ∙ step) (more (passes p2 v2 c.1))
 
-  ends : (e : ℕ) (told : Outcome) → told ≡ outcome.End Ok → Comes w 0 0 Idle told e no_lines → Leads 1 w 0 (Ended k e)
-  ends e told end c = leads_rest w 0 (Ended k e) (outcome.End Ok) (c.0 ∙ end) tt (passes Idle e c.1)
+  ends : (e : ℕ) (told : Outcome) → told ≡ outcome.End Ok → Comes w 0 0 Idle told e no_lines → LeadsSurely 1 w 0 (Ended k e)
+  ends e told end c = surely_rest w 0 (Ended k e) (outcome.End Ok) (c.0 ∙ end) tt (passes Idle e c.1)
 
   -- a step on the word
   pub on_word : (n : ℕ) (e : ℕ) (x : Op) → act_of p ≡ act.Word 0 x → outcome_of (next_act p (Value v)) ≡ outcome.Step
-      → (Passes k (after w (go_of 0)) (next_place p (Value v)) (apply x v) → Leads n (after w (go_of 0)) 0 (Ended k e))
-      → Leads (n + 1) w 0 (Ended k e)
+      → (Passes k (after w (go_of 0)) (next_place p (Value v)) (apply x v) → LeadsSurely n (after w (go_of 0)) 0 (Ended k e))
+      → LeadsSurely (n + 1) w 0 (Ended k e)
   on_word n e x is step more = goes_on n e _ _ _ step (word_comes w 0 0 p v no_lines f.alone x is) more
 
   pub by_hand : (n : ℕ) (e : ℕ) (x : Op) → act_of p ≡ act.HandOver 0 x → outcome_of (next_act p (Value v)) ≡ outcome.Step
-      → (Passes k (after w (go_of 0)) (next_place p (Value v)) (apply x v) → Leads n (after w (go_of 0)) 0 (Ended k e))
-      → Leads (n + 1) w 0 (Ended k e)
+      → (Passes k (after w (go_of 0)) (next_place p (Value v)) (apply x v) → LeadsSurely n (after w (go_of 0)) 0 (Ended k e))
+      → LeadsSurely (n + 1) w 0 (Ended k e)
   by_hand n e x is step more = goes_on n e _ _ _ step (hand_comes w 0 0 p v no_lines f.alone x is) more
+
+  -- outside of its section it finds it free, since all others are in no call
+  free_main : (station p).inside ≡ None → section_at w 0 ≡ None
+  free_main outside = by_who (section_at w 0) refl
+    where
+      none_inside : (u : ℕ) (q : Place) → place_at w u ≡ q → IsSingle q → (station q).inside ≡ None → (station_at (place_at w u) 0).inside ≡ None
+      none_inside u q is single out = nothing_at (place_at w u) 0 (subst IsSingle (sym is) single) (λ x. x.inside) refl (ap (λ x. (station x).inside) is ∙ out)
+
+      out_there : (u : ℕ) → (station_at (place_at w u) 0).inside ≡ None
+      out_there zero = none_inside 0 p f.alone.place f.alone.single outside
+      out_there (suc u) = none_inside (suc u) Idle (f.others (suc u) (λ h. omega arith)) tt refl
+
+      by_who : (who : Option ℕ) → section_at w 0 ≡ who → section_at w 0 ≡ None
+      by_who None e = e
+      by_who (Some u) e = absurd (let within : (station_at (place_at w u) 0).inside ≡ Some Main = (f.alone.steady.stands.sections u 0 Main).1 e in
+          let out : (station_at (place_at w u) 0).inside ≡ None = out_there u in cc)
 
   -- into the section of the main line
   pub into : (n : ℕ) (e : ℕ) → act_of p ≡ act.Enter (One 0) → (station p).inside ≡ None → outcome_of (next_act p Done) ≡ outcome.Step
-      → (Passes k (after w (go_of 0)) (next_place p Done) v → Leads n (after w (go_of 0)) 0 (Ended k e))
-      → Leads (n + 1) w 0 (Ended k e)
-  into n e is outside step more = goes_on n e _ _ _ step (enter_comes w 0 0 p v no_lines f.alone Main is (finds_free w 0 0 p v no_lines f.alone outside Main)) more
+      → (Passes k (after w (go_of 0)) (next_place p Done) v → LeadsSurely n (after w (go_of 0)) 0 (Ended k e))
+      → LeadsSurely (n + 1) w 0 (Ended k e)
+  into n e is outside step more = goes_on n e _ _ _ step (enter_comes w 0 0 p v no_lines f.alone Main is (free_main outside)) more
 
   -- the last step: out of it, or on the word
-  pub out_of : act_of p ≡ act.Leave (One 0) wakes.Nobody → next_place p Done ≡ Idle → outcome_of (next_act p Done) ≡ outcome.End Ok → Leads 1 w 0 (Ended k v)
+  pub out_of : act_of p ≡ act.Leave (One 0) wakes.Nobody → next_place p Done ≡ Idle → outcome_of (next_act p Done) ≡ outcome.End Ok → LeadsSurely 1 w 0 (Ended k v)
   out_of is idle end =
       let c = leave_comes w 0 0 p v no_lines f.alone Main wakes.Nobody is in
       ends v _ end (c.0, subst (λ q. StepsAlone (after w (go_of 0)) 0 0 q v no_lines) idle c.1)
 
-  pub word_ends : (x : Op) → act_of p ≡ act.Word 0 x → next_place p (Value v) ≡ Idle → outcome_of (next_act p (Value v)) ≡ outcome.End Ok → Leads 1 w 0 (Ended k (apply x v))
+  pub word_ends : (x : Op) → act_of p ≡ act.Word 0 x → next_place p (Value v) ≡ Idle → outcome_of (next_act p (Value v)) ≡ outcome.End Ok → LeadsSurely 1 w 0 (Ended k (apply x v))
   word_ends x is idle end =
       let c = word_comes w 0 0 p v no_lines f.alone x is in
       ends (apply x v) _ end (c.0, subst (λ q. StepsAlone (after w (go_of 0)) 0 0 q (apply x v) no_lines) idle c.1)
@@ -137,15 +152,15 @@ module _ (k : Kind) (w : State) (p : Place) (v : ℕ) (f : Passes k w p v) where
   left = record w { queues = queues_without_first w.queues 0 }
 
   pub none_first : (n : ℕ) (e : ℕ) → act_of p ≡ act.Take 0 whoms.First → outcome_of (next_act p (Took false true)) ≡ outcome.Step
-      → (Passes k (after w (go_of 0)) (next_place p (Took false true)) v → Leads n (after w (go_of 0)) 0 (Ended k e))
-      → Leads (n + 1) w 0 (Ended k e)
+      → (Passes k (after w (go_of 0)) (next_place p (Took false true)) v → LeadsSurely n (after w (go_of 0)) 0 (Ended k e))
+      → LeadsSurely (n + 1) w 0 (Ended k e)
   none_first n e is step more = goes_on n e _ _ _ step (subst (λ r. Comes w 0 0 (next_place p r) (outcome_of (next_act p r)) v no_lines) heard (c.0, same_lines (after w (go_of 0)) _ v _ lines c.1)) more
     where
       nobody : first_of (queue_at w 0) ≡ None
       nobody = ap first_of empty
 
       c : Comes w 0 0 (next_place p (reply_to w 0 (act.Take 0 whoms.First))) (outcome_of (next_act p (reply_to w 0 (act.Take 0 whoms.First)))) v (λ m. queue_at (state_after_take w 0 0 whoms.First) (key_of 0 m))
-      c = take_comes w 0 0 p v no_lines f.alone 0 whoms.First is (ap (λ o. word_at (state_after_taking left 0 o) 0) nobody) (λ key. ap (λ o. section_at (state_after_taking left 0 o) key) nobody)
+      c = take_comes w 0 0 p v no_lines f.alone 0 whoms.First is (ap (λ o. word_at (state_after_taking left 0 o) 0) nobody)
 
       heard : reply_to w 0 (act.Take 0 whoms.First) ≡ Took false true
       heard = ap (λ q. Took (is_there (first_of q)) (length (drop 1 q) == 0)) empty
@@ -173,12 +188,12 @@ module _ (k : Kind) (w : State) (p : Place) (v : ℕ) (f : Passes k w p v) where
 
     pub none_picked : (n : ℕ) (e : ℕ) (recursive : Bool) → act_of p ≡ act.Take 0 (whoms.Picked None recursive)
         → outcome_of (next_act p (Picked 0 None true)) ≡ outcome.Step
-        → (Passes k (after w (go_of 0)) (next_place p (Picked 0 None true)) v → Leads n (after w (go_of 0)) 0 (Ended k e))
-        → Leads (n + 1) w 0 (Ended k e)
+        → (Passes k (after w (go_of 0)) (next_place p (Picked 0 None true)) v → LeadsSurely n (after w (go_of 0)) 0 (Ended k e))
+        → LeadsSurely (n + 1) w 0 (Ended k e)
     none_picked n e recursive is step more = goes_on n e _ _ _ step (subst (λ r. Comes w 0 0 (next_place p r) (outcome_of (next_act p r)) v no_lines) heard (c.0, same_lines (after w (go_of 0)) _ v _ lines c.1)) more
       where
         c : Comes w 0 0 (next_place p (reply_to w 0 (act.Take 0 (picking recursive)))) (outcome_of (next_act p (reply_to w 0 (act.Take 0 (picking recursive))))) v (λ m. queue_at (state_after_take w 0 0 (picking recursive)) (key_of 0 m))
-        c = take_comes w 0 0 p v no_lines f.alone 0 (picking recursive) is refl (λ key. refl)
+        c = take_comes w 0 0 p v no_lines f.alone 0 (picking recursive) is refl
 
         places : (state_after_take w 0 0 (picking recursive)).places ≡ w.places
         places = ap (λ q. places_told (TakenBy 0) (threads_of (lock_picked None recursive q)) w.places) empty
@@ -218,7 +233,6 @@ module _ (k : Kind) (w : State) (v : ℕ) (f : Passes k w Idle v) (c : Call) (ca
       single = single;
       word = ap (λ (x : State). word_at x 0) led ∙ f.alone.word;
       queue = λ m. ap (λ (x : State). queue_at x (key_of 0 m)) led ∙ f.alone.queue m;
-      way = λ m u e. f.alone.way m u (sym (ap (λ (x : State). section_at x (key_of 0 m)) led) ∙ e);
     };
     others = λ u ne. ap (λ (x : State). place_at x u) led ∙ get_or-set_other w.places 0 u first Idle ne ∙ f.others u ne;
     kind = after_kinds w (begin_of 0 c) 0 ∙ f.kind;

@@ -21,13 +21,13 @@ use Rattle.lot_rwlock_fair.specs.declared.hand_over.HandOverAt.TheVariants as ha
 use Rattle.lot_steps.specs.declared.places.Place.{Place}
 use Rattle.lot_steps.specs.declared.places.Place.TheVariants.{Mutex, RwLock}
 use Rattle.lot_machine.specs.Machine.{State}
-use Rattle.lot_laws.proofs.Leads.{Leads}
+use Rattle.lot_laws.proofs.Leads.{LeadsSurely}
 use Rattle.lot_drain.proofs.Passes.{Ended, Passes, by_hand, into, none_first, none_picked, on_word, out_of, word_ends}
 
 module _ (k : Kind) where
   -- the run of the thread from a place on, where the word is v, ends with the word e
   abbrev pub Runs : ℕ → Place → (v e : ℕ) → Type 0
-  Runs n p v e = (w : State) → Passes k w p v → Leads n w 0 (Ended k e)
+  Runs n p v e = (w : State) → Passes k w p v → LeadsSurely n w 0 (Ended k e)
 
   -- ---------------------------------------------------------------- a mutex
 

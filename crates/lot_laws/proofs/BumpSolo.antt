@@ -1,5 +1,5 @@
 -- A bump that enters again steps alone as a call that enters: each of its steps is the same, but for the call that its place is of.
-use Rattle.std.proofs.Common.{ℕ, zero, suc, Bool, true, false, Option, Some, None, if◌then◌else◌, ◌==◌, ◌&&◌, ◌≡◌, ◌≢◌, ◌+◌, ◌*◌, ◌^◌, ◌<◌, List, [], ◌∷◌, length, set, get_or, nat_lt, replicate, slice_index_or, slice_set, refl, sym, ◌∙◌, ap, subst, arith, get_or-set_same, length-set}
+use Rattle.std.proofs.Common.{ℕ, zero, suc, Bool, true, false, Option, Some, None, if◌then◌else◌, ◌==◌, ◌&&◌, ◌≡◌, ◌≢◌, ◌+◌, ◌*◌, ◌^◌, ◌<◌, List, [], ◌∷◌, length, set, get_or, nat_lt, replicate, slice_index_or, slice_set, inl, inr, refl, sym, ◌∙◌, ap, subst, arith, get_or-set_same, length-set}
 use Rattle.lot_base.specs.declared.keys.Keys.TheVariants.{One}
 use Rattle.lot_base.specs.declared.keys.Line.{Line}
 use Rattle.lot_base.specs.declared.keys.Line.TheVariants.{Main, Second}
@@ -50,14 +50,14 @@ use Rattle.lot_laws.proofs.Closures.{call_runs_none}
 use Rattle.lot_laws.proofs.RunsKept.{put_running}
 use Rattle.lot_laws.specs.Stations.{doing_on, station}
 use Rattle.lot_laws.specs.Refinement.{lock_seen, lock_state, taken_at}
-use Rattle.lot_laws.specs.Solo.{Rests}
+use Rattle.lot_laws.specs.Solo.{IsBarred, Rests}
 use Rattle.lot_laws.proofs.ActsKept.{goes_steady, place_goes}
 use Rattle.lot_laws.proofs.Glue.{parts_at}
 use Rattle.lot_laws.proofs.OneStep.{steps_by}
 use Rattle.lot_laws.proofs.PlainCalls.{never_given}
 use Rattle.lot_laws.proofs.RwLockRows.{of}
 use Rattle.lot_laws.proofs.RwLockSolo.{is_ready, rwlock_rests, word_small}
-use Rattle.lot_laws.proofs.Leads.{Leads, leads_more, leads_so}
+use Rattle.lot_laws.proofs.Leads.{Leads, OrBarred, barred_as, leads_more, leads_so, leads_then}
 use Rattle.lot_laws.proofs.LineSolo.{StepsAlone}
 use Rattle.lot_laws.proofs.CallSolo.{Ends, Resting, Shares, shares_on, accepts_rest, gives_rest, glance_rests, hands_over_rest, wakes_rest}
 use Rattle.lot_laws.proofs.CondvarSteps.{after_condvars}
@@ -294,19 +294,22 @@ module _ (t l : ℕ) (a : Admission) (x : Access) where
     pub place : place_at w t ≡ RwLock l a (Bump (of (purpose.Enter x Patient) retries to))
     pub stands : MayStand a (of (purpose.Enter x Patient) retries to)
 
-  -- two runs tell the same, and leave the locks the same
+  abbrev BarredAs : State → State → Type 0
+  BarredAs v v2 = IsBarred v t → IsBarred v2 t
+
+  -- two runs tell the same, leave the locks the same, and the second is barred where the first is
   abbrev pub SameEnd : Ran → Ran → Type 0
-  SameEnd r r2 = (r.outcome ≡ r2.outcome) × ((k : ℕ) → lock_state r.state k ≡ lock_state r2.state k)
+  SameEnd r r2 = (r.outcome ≡ r2.outcome) × ((k : ℕ) → lock_state r.state k ≡ lock_state r2.state k) × BarredAs r.state r2.state
 
   -- what one more step comes to
   ends_same : (o : Outcome) (w v w2 v2 : State) (last : Outcome) (more more2 : Ran) → ((k : ℕ) → lock_state w k ≡ lock_state w2 k)
-      → ((k : ℕ) → lock_state v k ≡ lock_state v2 k) → (o ≡ outcome.Step → SameEnd more more2)
+      → ((k : ℕ) → lock_state v k ≡ lock_state v2 k) → BarredAs w w2 → BarredAs v v2 → (o ≡ outcome.Step → SameEnd more more2)
       → SameEnd (alone_after o w v last more) (alone_after o w2 v2 last more2)
-  ends_same outcome.NotNow w v w2 v2 last more more2 before behind h = (refl, before)
-  ends_same outcome.Step w v w2 v2 last more more2 before behind h = h refl
-  ends_same outcome.Sleep w v w2 v2 last more more2 before behind h = (refl, behind)
-  ends_same (outcome.Closure state) w v w2 v2 last more more2 before behind h = (refl, behind)
-  ends_same (outcome.End answer) w v w2 v2 last more more2 before behind h = (refl, behind)
+  ends_same outcome.NotNow w v w2 v2 last more more2 before behind bars bars_then h = (refl, before, bars)
+  ends_same outcome.Step w v w2 v2 last more more2 before behind bars bars_then h = h refl
+  ends_same outcome.Sleep w v w2 v2 last more more2 before behind bars bars_then h = (refl, behind, bars_then)
+  ends_same (outcome.Closure state) w v w2 v2 last more more2 before behind bars bars_then h = (refl, behind, bars_then)
+  ends_same (outcome.End answer) w v w2 v2 last more more2 before behind bars bars_then h = (refl, behind, bars_then)
 
   module _ (w : State) (retries : Bool) (to : RwLockAt) (g : Again w retries to) where
     abbrev p : RwLockPlace
@@ -393,6 +396,27 @@ module _ (t l : ℕ) (a : Admission) (x : Access) where
         either true able = ap (λ (s : State). lock_state s k) (went_plain able) ∙ locks_then n k ∙ sym (ap (λ (s : State). lock_state s k) (went able))
         either false able = ap (λ (b : Bool). lock_state (if b then state_after_go plain_w t else plain_w) k) (possible ∙ able) ∙ locks_here k ∙ sym (ap (λ (b : Bool). lock_state (if b then state_after_go w t else w) k) able)
 
+    -- nor whether it is barred
+    bars_here : BarredAs plain_w w
+    bars_here = barred_as plain_w w t refl (ap act_of here ∙ sym (ap act_of g.place))
+
+    acted_there : t < length acted.places
+    acted_there = rw ((performed_counts w t (RwLock l a (Bump p)) y).0) g.thread
+
+    bars_then : (m : Next RwLockPlace)
+        → BarredAs (put acted t (rwlock_goes l a (plain_next m))) (put acted t (rwlock_goes l a (bump_next (purpose.Enter x Patient) m)))
+    bars_then (At q) = barred_as (put acted t (RwLock l a (Plain q))) (put acted t (RwLock l a (Bump q))) t refl
+        (ap act_of (get_or-set_same acted.places t (RwLock l a (Plain q)) Idle acted_there) ∙ sym (ap act_of (get_or-set_same acted.places t (RwLock l a (Bump q)) Idle acted_there)))
+    bars_then (End answer) = λ b. b
+
+    bars_behind : BarredAs (after plain_w (go_of t)) (after w (go_of t))
+    bars_behind = either (is_possible w (go_of t)) refl
+      where
+        either : (b : Bool) → is_possible w (go_of t) ≡ b → BarredAs (after plain_w (go_of t)) (after w (go_of t))
+        either true able = λ b. subst (λ (s : State). IsBarred s t) (sym (went able)) (bars_then n (subst (λ (s : State). IsBarred s t) (went_plain able) b))
+        either false able = λ b. subst (λ (s : State). IsBarred s t) (sym (ap (λ (c : Bool). if c then state_after_go w t else w) able))
+            (bars_here (subst (λ (s : State). IsBarred s t) (ap (λ (c : Bool). if c then state_after_go plain_w t else plain_w) (possible ∙ able)) b))
+
     -- where it goes on
     module _ (able : is_possible w (go_of t) ≡ true) (q : RwLockPlace) (is : n ≡ At q) where
       stays : q.purpose ≡ purpose.Enter x Patient
@@ -439,12 +463,12 @@ module _ (t l : ℕ) (a : Admission) (x : Access) where
   same_run : (k : ℕ) (w : State) (retries : Bool) (to : RwLockAt) (last : Outcome) → Again w retries to
       → SameEnd (solo k (as_plain w t l a (of (purpose.Enter x Patient) retries to)) t last) (solo k w t last)
   unfolding solo
-  same_run zero w retries to last g = (refl, locks_here w retries to g)
+  same_run zero w retries to last g = (refl, locks_here w retries to g, bars_here w retries to g)
   same_run (suc k) w retries to last g = subst
       (λ o. SameEnd (alone_after o (plain_w w retries to g) (after (plain_w w retries to g) (go_of t)) last (solo k (after (plain_w w retries to g) (go_of t)) t outcome.Step)) (alone_after (step_outcome w (go_of t)) w (after w (go_of t)) last (solo k (after w (go_of t)) t outcome.Step)))
       (sym (outs w retries to g))
       (ends_same (step_outcome w (go_of t)) (plain_w w retries to g) (after (plain_w w retries to g) (go_of t)) w (after w (go_of t)) last
-      (solo k (after (plain_w w retries to g) (go_of t)) t outcome.Step) (solo k (after w (go_of t)) t outcome.Step) (locks_here w retries to g) (locks_behind w retries to g)
+      (solo k (after (plain_w w retries to g) (go_of t)) t outcome.Step) (solo k (after w (go_of t)) t outcome.Step) (locks_here w retries to g) (locks_behind w retries to g) (bars_here w retries to g) (bars_behind w retries to g)
       (λ step. let next = goes_on w retries to g step in
       subst (λ s. SameEnd (solo k s t outcome.Step) (solo k (after w (go_of t)) t outcome.Step)) (sym (related w retries to g next.1.0 next.0 next.1.1))
       (same_run k (after w (go_of t)) next.0.retries next.0.at outcome.Step (again_then w retries to g next.1.0 next.0 next.1.1))))
@@ -476,7 +500,6 @@ module _ (t l : ℕ) (a : Admission) where
     single = tt;
     word = f.word;
     queue = f.queue;
-    way = f.way;
   }
 
   pub as_entry : (x : Access) (retries : Bool) (to : RwLockAt) (v : ℕ) (w : State) (q : Line → List Waiter) → Shares t l a w
@@ -494,8 +517,11 @@ module _ (t l : ℕ) (a : Admission) where
       → MayStand a (of (purpose.Enter x Patient) retries to)
       → rwlock_act l a (of (purpose.Enter x Patient) retries to) ≢ act.Sleep
       → StepsAlone w t l (RwLock l a (Bump (of (purpose.Enter x Patient) retries to))) v q → Leads 11 w t Resting
-  entry_rests x retries to v w q shares may up f = λ k last enough. subst Rests (as_entry x retries to v w q shares may f k last).0
-      (rwlock_rests t l a entry v (as_plain w t l a entry) q (small_at w v q (Bump entry) shares f) (is_ready t l a entry may up) (plain_alone w entry v q shares may f) k last enough)
+  entry_rests x retries to v w q shares may up f = λ k last enough. let same_end = as_entry x retries to v w q shares may f k last in
+      elim (rwlock_rests t l a entry v (as_plain w t l a entry) q (small_at w v q (Bump entry) shares f) (is_ready t l a entry may up) (plain_alone w entry v q shares may f) k last enough) [
+        | inl rests ↦ inl (subst Rests same_end.0 rests)
+        | inr barred ↦ inr (same_end.2 barred)
+      ]
     where
       entry : RwLockPlace
       entry = of (purpose.Enter x Patient) retries to
@@ -525,7 +551,8 @@ module _ (t l : ℕ) (a : Admission) where
   again_rests access.Upgradable v w q shares f = entry_rests access.Upgradable false at.Load v w q shares (first_may access.Upgradable) (λ e. cc) f
 
   ends_rest : (b : Bool) (x : Access) (k : ℕ) (w : State) → Leads k w t (Ends t l a b x w) → Leads k w t Resting
-  ends_rest true x k w h = leads_so k w t (Ends t l a true x w) Resting (λ v o e. let again = e.0 refl in subst Rests again.outcome_is (again_rests x again.word _ again.queues again.shares again.alone again.room again.last again.enough)) h
+  ends_rest true x k w h = leads_then k w t (Ends t l a true x w) Resting (λ v o e. let again = e.0 refl in
+      subst (λ (z : State × Outcome). OrBarred t Resting z.0 z.1) (λ i. (again.state i, again.outcome_is i)) (again_rests x again.word _ again.queues again.shares again.alone again.room again.last again.enough)) h
   ends_rest false x k w h = leads_so k w t (Ends t l a false x w) Resting (λ v o e. subst Rests (sym (e.1 refl)) tt) h
 
   bump_rests : (q : RwLockPurpose) (retries : Bool) (to : RwLockAt) (v : ℕ) (w : State) (line : Line → List Waiter)

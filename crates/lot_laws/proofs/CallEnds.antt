@@ -1,6 +1,6 @@
 -- Each call of a reader-writer lock that steps alone from its beginning: a bump ends with its right, or
 -- gives it up and is as a call that enters.
-use Rattle.std.proofs.Common.{ℕ, zero, suc, Bool, true, false, Option, Some, None, ◌==◌, ◌&&◌, ◌||◌, not, ◌≡◌, ◌≢◌, ◌+◌, ◌-◌, ◌≤◌, ◌<◌, ◌^◌, inl, inr, [], length, replicate, refl, sym, ◌∙◌, ap, subst, arith}
+use Rattle.std.proofs.Common.{ℕ, zero, suc, Bool, true, false, Option, Some, None, ◌==◌, ◌&&◌, ◌||◌, not, ◌≡◌, ◌≢◌, ◌+◌, ◌-◌, ◌≤◌, ◌<◌, ◌^◌, ◌⊎◌, inl, inr, [], length, replicate, refl, sym, ◌∙◌, ap, subst, arith}
 use Rattle.std.specs.Prelude.{slice_index, slice_set, sum}
 use Rattle.std.proofs.lemmas.Bool.{eqb-true}
 use Rattle.std.proofs.lemmas.Bool.Decides.{nat_tests}
@@ -33,14 +33,15 @@ use Rattle.abstract_locks.proofs.CodeLaws.{rw_is, words_tell_true}
 use Rattle.abstract_locks.proofs.Seen.{packed_writer}
 use Rattle.abstract_locks.proofs.SiteFacts.{fewer_share}
 use Rattle.lot_steps.specs.declared.places.Place.TheVariants.{RwLock}
+use Rattle.lot_steps.specs.Steps.{act_of}
 use Rattle.lot_machine.specs.Machine.{Alone as Ran, State, after, after_steps, alone_after, go_of, place_at, queue_at, section_at, solo, step_outcome, step_outcomes, word_at}
 use Rattle.lot_laws.specs.Refinement.{call_at, call_state, lock_state, locks_of}
 use Rattle.lot_laws.specs.SitesOf.{IsSteady, IsWorld, key_of, rules_in, site_of}
 use Rattle.lot_laws.specs.Stations.{doing_on}
-use Rattle.lot_laws.specs.Solo.{BumpsShared, ComesBack, EndsAlone, locks_behind, EntersAlone, GivesWay, MayEnterAtOnce, NeedsNoWay, Rests, WaitsAlone, WaitsForReaders}
+use Rattle.lot_laws.specs.Solo.{BumpsShared, ComesBack, EndsAlone, locks_behind, EntersAlone, GivesWay, MayEnterAtOnce, NeedsNoWay, Rests, WaitsAlone, WaitsForReaders, EntersAt, HasWhatItReads, IsBarred}
 use Rattle.lot_laws.specs.WorldRuns.{IsWorldRun}
 use Rattle.lot_laws.proofs.Glue.{doing_here, inside_is, put_here}
-use Rattle.lot_laws.proofs.Leads.{Leads}
+use Rattle.lot_laws.proofs.Leads.{Leads, or_so}
 use Rattle.lot_laws.proofs.LineSolo.{StepsAlone}
 use Rattle.lot_laws.proofs.SoloAnswers.{HasAnswered, answered, former_kept}
 use Rattle.lot_laws.proofs.WorldRuns.{RunsAlone, run_refines, runs_alone, world_run}
@@ -56,10 +57,17 @@ steps_run : (n : ℕ) (w : State) (t : ℕ) → IsWorld w → step_outcomes w (r
 steps_run n w t h told = run_refines w (after_steps w (replicate n (go_of t))) (replicate n (go_of t)) (replicate n outcome.Step)
     (subst (λ os. IsWorldRun w (replicate n (go_of t)) os (after_steps w (replicate n (go_of t)))) told (world_run w (replicate n (go_of t)) h))
 
--- a call that comes to rest steps first
-moves : (k : ℕ) (w : State) (t : ℕ) → Leads k w t Resting → step_outcome w (go_of t) ≢ outcome.NotNow
+-- a run ends so, or is barred
+abbrev ComesTo : ℕ → Ran → Type 0
+ComesTo t r = Rests r.outcome ⊎ IsBarred r.state t
+
+-- a call that comes to rest steps first, unless it is barred
+moves : (k : ℕ) (w : State) (t : ℕ) → Leads k w t Resting → (IsBarred w t → ⊥) → step_outcome w (go_of t) ≢ outcome.NotNow
 unfolding solo
-moves k w t h e = subst (λ o. Rests (alone_after o w (after w (go_of t)) outcome.NotNow (solo k (after w (go_of t)) t outcome.Step)).outcome) e (h (suc k) outcome.NotNow (omega arith))
+moves k w t h free e = elim (subst (λ o. ComesTo t (alone_after o w (after w (go_of t)) outcome.NotNow (solo k (after w (go_of t)) t outcome.Step))) e (h (suc k) outcome.NotNow (omega arith))) [
+  | inl rests ↦ rests
+  | inr barred ↦ free barred
+]
 
 -- and then it is the same what was told it before
 solo_from : (n : ℕ) (w : State) (t : ℕ) (last last2 : Outcome) → step_outcome w (go_of t) ≢ outcome.NotNow → 1 ≤ n
@@ -199,11 +207,11 @@ module _ (w : State) (t l : ℕ) (a : Admission) (x : Access) (holds : IsWorld w
   writes_pending : 1 ≤ readers s → (writers s == 1) ≡ true → s.pending ≢ None
   writes_pending shared h = writer_beside_readers (rules_in w l) s site.state shared h
 
-  gives_so : (x2 : Access) → x2 ≡ x → ((u : ℕ) → section_at w (key_of l Main) ≡ Some u → u ≡ t)
+  gives_so : (x2 : Access) → HasWhatItReads w t (Some (Bumps l (wanted x2)))
       → GivesWay (rules_in w l) s (wanted x2) → gives_way a x2 word ≡ true
-  gives_so access.Shared e way g = ap (λ b. b && (not a.recursive || (count_in word == 1))) (writer_is ∙ pending_writes g.0) ∙ last_reader g.1
-  gives_so access.Upgradable e way g = has_waiter way g
-  gives_so access.Exclusive e way g = has_waiter way g
+  gives_so access.Shared reads g = ap (λ b. b && (not a.recursive || (count_in word == 1))) (writer_is ∙ pending_writes g.0) ∙ last_reader g.1
+  gives_so access.Upgradable reads g = has_waiter reads g
+  gives_so access.Exclusive reads g = has_waiter reads g
 
   some_share : Owns s t Shared → 1 ≤ readers s
   some_share shares = let e : sum (slice_set s.shared t (slice_index s.shared t - 1)) + 1 ≡ sum s.shared = fewer_share s.shared t shares in omega arith
@@ -237,11 +245,20 @@ module _ (w : State) (t l : ℕ) (a : Admission) (x : Access) (holds : IsWorld w
     plain : StepsAlone plain_w t l (RwLock l a (Plain entry)) e.word e.queues
     plain = plain_alone t l a between entry e.word e.queues e.shares (first_may t l a x) e.alone
 
+    -- it enters no section there
+    unbarred : IsBarred between t → ⊥
+    unbarred b = by_access x (subst (λ p. EntersAt (key_of b.lock b.line) (act_of p)) e.alone.place b.enters)
+      where
+        by_access : (y : Access) → EntersAt (key_of b.lock b.line) (act_of (RwLock l a (enters_again y))) → ⊥
+        by_access access.Exclusive h = h
+        by_access access.Shared h = h
+        by_access access.Upgradable h = h
+
     same_ends : SameEnd t l a x (solo e.room plain_w t outcome.NotNow) (solo e.room between t outcome.NotNow)
     same_ends = as_first t l a x e.word between e.queues e.shares e.alone e.room outcome.NotNow
 
     from_there : solo e.room between t outcome.NotNow ≡ solo e.room between t e.last
-    from_there = solo_from e.room between t outcome.NotNow e.last (moves 11 between t (again_rests t l a x e.word between e.queues e.shares e.alone)) (let enough : 11 ≤ e.room = e.enough in omega arith)
+    from_there = solo_from e.room between t outcome.NotNow e.last (moves 11 between t (again_rests t l a x e.word between e.queues e.shares e.alone) unbarred) (let enough : 11 ≤ e.room = e.enough in omega arith)
 
     run_there : IsRun (locks_of w) (replicate e.steps (go_of t)) (replicate e.steps outcome.Step) (locks_of between)
     run_there = steps_run e.steps w t holds e.told
@@ -257,26 +274,38 @@ module _ (w : State) (t l : ℕ) (a : Admission) (x : Access) (holds : IsWorld w
         ∙ ap (λ f. f l) (sym (ap (λ p. (call_state p (λ k. rights_of (lock_state between k) t)).former) e.alone.place ∙ former_at x (λ k. rights_of (lock_state between k) t))
         ∙ former_kept e.steps (locks_of w) (locks_of between) t run_there ∙ began)
 
-    comes_back : ComesBack (locks_behind w t) (locks_of w) t l (wanted x) o (locks_of v2)
-    comes_back = record {
+    -- where it comes to what a call comes to that enters
+    comes_so : EntersAlone (word_at plain_w l ≡ 0) (locks_of plain_w) t l (wanted x) Patient (solo e.room plain_w t outcome.NotNow).outcome (locks_of (solo e.room plain_w t outcome.NotNow).state)
+        → ComesBack (locks_behind w t) (locks_of w) t l (wanted x) o (locks_of v2)
+    comes_so h = record {
       steps = e.steps;
       run = run_there;
       given_up = gave_up;
       enters = enters_so (word_at plain_w l ≡ 0) (locks_of plain_w) (locks_of between) (locks_of (solo e.room plain_w t outcome.NotNow).state) (locks_of v2) t l (solo e.room plain_w t outcome.NotNow).outcome o
           (first_seen t l a x between e.alone.place l) refl
           (same_ends.1 l ∙ ap (λ (r : Ran). lock_state r.state l) from_there ∙ ap (λ (z : State). lock_state z l) e.state)
-          (same_ends.0 ∙ ap (λ (r : Ran). r.outcome) from_there ∙ e.outcome_is) x
-          (enters_alone plain_w t l a x Patient e.room outcome.NotNow e.enough plain.steady e.shares plain.place
-          (record { shape = plain.shape; steady = plain.steady; counted = plain.counted; condvars = plain.condvars; running = plain.running; thread = plain.thread; lock = plain.lock; place = plain.place; single = plain.single; word = refl; queue = λ m. refl; way = plain.way })
-          (runs_alone e.room plain_w t (record { shaped = plain.shape; steady = plain.steady; counted = plain.counted; condvars = plain.condvars; running = plain.running })));
+          (same_ends.0 ∙ ap (λ (r : Ran). r.outcome) from_there ∙ e.outcome_is) x h;
     }
 
-  pub bumps_shared : ((u : ℕ) → section_at w (key_of l Main) ≡ Some u → u ≡ t) → Ends t l a (gives_way a x word) x w v2 o
-      → BumpsShared (has_parked word ≡ false) (locks_behind w t) (locks_of w) t l (wanted x) o (locks_of v2)
-  bumps_shared way h = record {
-    gives_way = λ g. comes_back (h.0 (gives_so x refl way g));
-    stays = λ none. let told = h.1 (keeps_so x refl none) in (told, ends_owning told);
-  }
+    comes_back : ComesBack (locks_behind w t) (locks_of w) t l (wanted x) o (locks_of v2) ⊎ IsBarred v2 t
+    comes_back = elim (enters_alone plain_w t l a x Patient e.room outcome.NotNow e.enough plain.steady e.shares plain.place
+        (record { shape = plain.shape; steady = plain.steady; counted = plain.counted; condvars = plain.condvars; running = plain.running; thread = plain.thread; lock = plain.lock; place = plain.place; single = plain.single; word = refl; queue = λ m. refl })
+        (runs_alone e.room plain_w t (record { shaped = plain.shape; steady = plain.steady; counted = plain.counted; condvars = plain.condvars; running = plain.running }))) [
+          | inl h ↦ inl (comes_so h)
+          | inr barred ↦ inr (subst (λ (z : State). IsBarred z t) (ap (λ (r : Ran). r.state) from_there ∙ e.state) (same_ends.2 barred))
+        ]
+
+  pub bumps_shared : HasWhatItReads w t (Some (Bumps l (wanted x))) → Ends t l a (gives_way a x word) x w v2 o
+      → BumpsShared (has_parked word ≡ false) (locks_behind w t) (locks_of w) t l (wanted x) o (locks_of v2) ⊎ IsBarred v2 t
+  bumps_shared reads h = either (gives_way a x word) refl
+    where
+      either : (b : Bool) → gives_way a x word ≡ b
+          → BumpsShared (has_parked word ≡ false) (locks_behind w t) (locks_of w) t l (wanted x) o (locks_of v2) ⊎ IsBarred v2 t
+      either true gives = or_so (λ back. record { gives_way = λ g. back; stays = λ none. absurd (let f : true ≡ false = sym gives ∙ keeps_so x refl none in cc) }) (comes_back (h.0 gives))
+      either false keeps = inl (record {
+        gives_way = λ g. absurd (let f : false ≡ true = sym keeps ∙ gives_so x reads g in cc);
+        stays = λ none. let told = h.1 keeps in (told, ends_owning told);
+      })
 
 -- ---------------------------------------------------------------- each call, from its beginning
 
@@ -284,8 +313,9 @@ pub rwlock_alone : (w : State) (t l : ℕ) (a : Admission) (c : RwLockCall) (n :
     → Admits (rules_in w l) a → place_at w t ≡ RwLock l a (call_first c)
     → StepsAlone w t l (RwLock l a (call_first c)) (word_at w l) (λ m. queue_at w (key_of l m))
     → RunsAlone w t (solo n w t last).outcome (solo n w t last).state
-    → EndsAlone w t (Some (rwlock_purpose l c)) (solo n w t last).outcome (solo n w t last).state
-rwlock_alone w t l a c n last le steady admits is f run = by_call c is f
+    → HasWhatItReads w t (Some (rwlock_purpose l c))
+    → EndsAlone w t (Some (rwlock_purpose l c)) (solo n w t last).outcome (solo n w t last).state ⊎ IsBarred (solo n w t last).state t
+rwlock_alone w t l a c n last le steady admits is f run reads = by_call c is f reads
   where
     small : word_at w l < 2 ^ 64
     small = word_small w l steady admits.0
@@ -298,17 +328,21 @@ rwlock_alone w t l a c n last le steady admits is f run = by_call c is f
 
     by_call : (c : RwLockCall) → place_at w t ≡ RwLock l a (call_first c)
         → StepsAlone w t l (RwLock l a (call_first c)) (word_at w l) (λ m. queue_at w (key_of l m))
-        → EndsAlone w t (Some (rwlock_purpose l c)) x v2
-    by_call (call.Enter y how) is f = enters_alone w t l a y how n last (omega arith) steady admits is f run
-    by_call (call.Release y) is f = releases_alone w t l a steady admits v2 x run y is (release_ends t l a y false (word_at w l) w (λ m. queue_at w (key_of l m)) f n last (omega arith))
-    by_call (call.Downgrade d) is f = downgrades_alone w t l a steady admits v2 x run d is (downgrade_ends t l a d false (word_at w l) w (λ m. queue_at w (key_of l m)) f n last (omega arith))
-    by_call (call.Upgrade Try) is f = tries_upgrade w t l a steady admits v2 x run is (load_leads t l a _ (word_at w l) w (λ m. queue_at w (key_of l m)) small f n last (omega arith))
-    by_call (call.Upgrade Patient) is f = upgrades_alone w t l a steady admits v2 x run Patient (λ h. cc) is (upgrade_leads t l a Patient false (word_at w l) w (λ m. queue_at w (key_of l m)) f n last (omega arith))
-    by_call (call.Upgrade Timed) is f = upgrades_alone w t l a steady admits v2 x run Timed (λ h. cc) is (upgrade_leads t l a Timed false (word_at w l) w (λ m. queue_at w (key_of l m)) f n last (omega arith))
-    by_call (call.ReleaseFair access.Shared) is f = releases_alone w t l a steady admits v2 x run access.Shared is (release_ends t l a access.Shared false (word_at w l) w (λ m. queue_at w (key_of l m)) f n last (omega arith))
-    by_call (call.ReleaseFair access.Upgradable) is f = upgradable_released w t l a steady admits v2 x run is ((hands_over_rest t l a access.Upgradable false handing.Load tt (word_at w l) w (λ m. queue_at w (key_of l m)) admits f n last (omega arith)).1 refl)
-    by_call (call.ReleaseFair access.Exclusive) is f = exclusive_released w t l a steady admits v2 x run is ((hands_over_rest t l a access.Exclusive false (handing.Free 8) refl (word_at w l) w (λ m. queue_at w (key_of l m)) admits f n last (omega arith)).1 refl)
-    by_call (call.Bump y) is f = (
-      (λ mutex. no_mutex w t l a steady admits v2 x run mutex),
-      λ readers. bumps_shared w t l a y (record { shaped = f.shape; steady = f.steady; counted = f.counted; condvars = f.condvars; running = f.running }) admits is v2 x run (f.way Main) (glance_rests t l a y (word_at w l) w (λ m. queue_at w (key_of l m)) admits f n last (omega arith)),
-    )
+        → HasWhatItReads w t (Some (rwlock_purpose l c))
+        → EndsAlone w t (Some (rwlock_purpose l c)) x v2 ⊎ IsBarred v2 t
+    by_call (call.Enter y how) is f reads = enters_alone w t l a y how n last (omega arith) steady admits is f run
+    by_call (call.Release y) is f reads = or_so (releases_alone w t l a steady admits v2 x run y is) (release_ends t l a y false (word_at w l) w (λ m. queue_at w (key_of l m)) f n last (omega arith))
+    by_call (call.Downgrade d) is f reads = or_so (downgrades_alone w t l a steady admits v2 x run d is) (downgrade_ends t l a d false (word_at w l) w (λ m. queue_at w (key_of l m)) f n last (omega arith))
+    by_call (call.Upgrade Try) is f reads = or_so (tries_upgrade w t l a steady admits v2 x run is) (load_leads t l a _ (word_at w l) w (λ m. queue_at w (key_of l m)) small f n last (omega arith))
+    by_call (call.Upgrade Patient) is f reads = or_so (upgrades_alone w t l a steady admits v2 x run Patient (λ h. cc) is) (upgrade_leads t l a Patient false (word_at w l) w (λ m. queue_at w (key_of l m)) f n last (omega arith))
+    by_call (call.Upgrade Timed) is f reads = or_so (upgrades_alone w t l a steady admits v2 x run Timed (λ h. cc) is) (upgrade_leads t l a Timed false (word_at w l) w (λ m. queue_at w (key_of l m)) f n last (omega arith))
+    by_call (call.ReleaseFair access.Shared) is f reads = or_so (releases_alone w t l a steady admits v2 x run access.Shared is) (release_ends t l a access.Shared false (word_at w l) w (λ m. queue_at w (key_of l m)) f n last (omega arith))
+    by_call (call.ReleaseFair access.Upgradable) is f reads = or_so (λ h. upgradable_released w t l a steady admits v2 x run is (h.1 refl))
+        (hands_over_rest t l a access.Upgradable false handing.Load tt (word_at w l) w (λ m. queue_at w (key_of l m)) admits f n last (omega arith))
+    by_call (call.ReleaseFair access.Exclusive) is f reads = or_so (λ h. exclusive_released w t l a steady admits v2 x run is (h.1 refl))
+        (hands_over_rest t l a access.Exclusive false (handing.Free 8) refl (word_at w l) w (λ m. queue_at w (key_of l m)) admits f n last (omega arith))
+    by_call (call.Bump y) is f reads = elim (glance_rests t l a y (word_at w l) w (λ m. queue_at w (key_of l m)) admits f n last (omega arith)) [
+      | inl h ↦ or_so (λ shared. ((λ mutex. no_mutex w t l a steady admits v2 x run mutex), λ readers. shared))
+          (bumps_shared w t l a y (record { shaped = f.shape; steady = f.steady; counted = f.counted; condvars = f.condvars; running = f.running }) admits is v2 x run reads h)
+      | inr barred ↦ inr barred
+    ]

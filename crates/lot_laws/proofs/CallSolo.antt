@@ -1,7 +1,8 @@
 -- A fair release, a bump, or who was handed the lock, whose thread steps alone: from each place it ends, or begins to enter again.
-use Rattle.std.proofs.Common.{ℕ, suc, Bool, true, false, None, if◌then◌else◌, ◌==◌, ◌&&◌, ◌≡◌, ◌+◌, ◌*◌, ◌≤◌, List, ◌∷◌, replicate, refl, sym, ◌∙◌, ap, subst, arith}
+use Rattle.std.proofs.Common.{ℕ, suc, Bool, true, false, None, if◌then◌else◌, ◌==◌, ◌&&◌, ◌≡◌, ◌+◌, ◌*◌, ◌≤◌, List, ◌∷◌, replicate, inl, inr, refl, sym, ◌∙◌, ap, subst, arith}
 use Rattle.lot_base.specs.declared.keys.Line.{Line}
 use Rattle.lot_base.specs.declared.keys.Line.TheVariants.{Main, Second}
+use Rattle.lot_base.specs.declared.keys.Keys.TheVariants.{One}
 use Rattle.lot_base.specs.declared.ops.Op.TheVariants as op
 use Rattle.lot_base.specs.declared.wants.Waiter.{Waiter}
 use Rattle.lot_base.specs.Lines.{first_of}
@@ -16,6 +17,7 @@ use Rattle.lot_acts.specs.declared.acts.Act.{Act}
 use Rattle.lot_acts.specs.declared.acts.Act.TheVariants as act
 use Rattle.lot_acts.specs.declared.acts.Next.{Next}
 use Rattle.lot_acts.specs.declared.acts.Next.TheVariants.{At, End}
+use Rattle.lot_acts.specs.declared.acts.Reply.TheVariants.{Done}
 use Rattle.lot_acts.specs.declared.acts.Whom.TheVariants as whoms
 use Rattle.lot_acts.specs.Acts.{outcome_of, wakes_taken}
 use Rattle.lot_rwlock.specs.declared.places.Admission.{Admission}
@@ -37,15 +39,16 @@ use Rattle.lot_rwlock_fair.specs.FairCalls.{HandsOverAt}
 use Rattle.abstract_locks.specs.Codes.{count_in, has_aside, has_parked}
 use Rattle.abstract_locks.specs.Purposes.{rules_of}
 use Rattle.lot_steps.specs.declared.places.Place.TheVariants.{RwLock}
-use Rattle.lot_steps.specs.Steps.{rwlock_does, rwlock_goes}
+use Rattle.lot_steps.specs.Steps.{act_of, next_act, next_place, rwlock_does, rwlock_goes}
 use Rattle.lot_machine.specs.Machine.{State, after, after_steps, go_of, queue_at, queues_without_first, solo, step_outcome, step_outcomes}
-use Rattle.lot_laws.specs.SitesOf.{rules_in}
+use Rattle.lot_laws.specs.SitesOf.{key_of, rules_in}
 use Rattle.lot_laws.specs.Solo.{Rests}
+use Rattle.lot_laws.specs.Stations.{station}
 use Rattle.lot_laws.proofs.Glue.{same}
 use Rattle.lot_laws.proofs.KindsKept.{after_kinds}
 use Rattle.lot_laws.proofs.RwLockRows.{of}
-use Rattle.lot_laws.proofs.RwLockSolo.{taken_word, taken_sections}
-use Rattle.lot_laws.proofs.Leads.{Leads, leads_rest, leads_step, leads_more, leads_so}
+use Rattle.lot_laws.proofs.RwLockSolo.{taken_word}
+use Rattle.lot_laws.proofs.Leads.{Leads, leads_barred, leads_rest, leads_step, leads_more, leads_so}
 use Rattle.lot_laws.proofs.LineSolo.{StepsAlone, Comes, word_comes, enter_comes, leave_comes, take_comes, hand_comes, accept_comes, finds_free}
 
 abbrev pub Resting : State → Outcome → Type 0
@@ -78,7 +81,7 @@ module _ (t l : ℕ) (a : Admission) where
 
   again_now : (x : Access) (v : ℕ) (w : State) (q : Line → List Waiter) → Shares w → Alone w (enters_again x) v q
       → Leads 11 w t (EntersAgain x w)
-  again_now x v w q shares f n last enough = record { steps = 0; told = refl; word = v; queues = q; shares = shares; alone = f; room = n; enough = enough; last = last; state = refl; outcome_is = refl }
+  again_now x v w q shares f n last enough = inl (record { steps = 0; told = refl; word = v; queues = q; shares = shares; alone = f; room = n; enough = enough; last = last; state = refl; outcome_is = refl })
 
   again_behind : (x : Access) (w v : State) (o : Outcome) → step_outcome w (go_of t) ≡ outcome.Step
       → EntersAgain x (after w (go_of t)) v o → EntersAgain x w v o
@@ -109,6 +112,18 @@ module _ (t l : ℕ) (a : Admission) where
     where
       step : step_outcome w (go_of t) ≡ outcome.Step
       step = comes.0 ∙ more
+
+  -- into a section, or it is barred
+  enters : (b : Bool) (x : Access) (k v : ℕ) (w : State) (q : Line → List Waiter) (c to : RwLockCallPlace) (m : Line) → Shares w
+      → Alone w c v q → act_of (RwLock l a c) ≡ act.Enter (One (key_of l m)) → (station (RwLock l a c)).inside ≡ None
+      → next_place (RwLock l a c) Done ≡ RwLock l a to → outcome_of (next_act (RwLock l a c) Done) ≡ outcome.Step
+      → (Shares (after w (go_of t)) → Alone (after w (go_of t)) to v q → Leads k (after w (go_of t)) t (Ends b x (after w (go_of t))))
+      → Leads (k + 1) w t (Ends b x w)
+  enters b x k v w q c to m shares f is outside leads steps on = elim (finds_free w t l (RwLock l a c) v q f outside m is) [
+    | inl free ↦ goes b x k v w q to (outcome_of (next_act (RwLock l a c) Done)) shares steps
+        (subst (λ p. Comes w t l p (outcome_of (next_act (RwLock l a c) Done)) v q) leads (enter_comes w t l (RwLock l a c) v q f m is free)) on
+    | inr barred ↦ leads_barred w t (Ends b x w) (k + 1) barred
+  ]
 
   -- it has given its right up
   released_rests : (x : Access) (b : Bool) (v : ℕ) (w : State) (q : Line → List Waiter) → Shares w
@@ -203,12 +218,12 @@ module _ (t l : ℕ) (a : Admission) where
   take_rests : (x : Access) (b : Bool) → HandsOverAt x handing.Take → (v : ℕ) (w : State) (q : Line → List Waiter) → Shares w
       → Alone w (HandOver x b handing.Take) v q → Leads 15 w t (Ends b x w)
   take_rests access.Shared b fits v w q shares f = absurd fits
-  take_rests access.Upgradable b fits v w q shares f = goes b access.Upgradable 14 v w _ (HandOver access.Upgradable b (handing.Look _)) _ shares refl (take_comes w t l _ v q f (2 * l) (whoms.Picked None a.recursive) refl refl (λ k. refl)) (λ s g. look_rests b _ v _ _ s g)
-  take_rests access.Exclusive b fits v w q shares f = leads_more 14 15 w t (Ends b access.Exclusive w) (omega arith) (goes b access.Exclusive 13 v w _ (HandOver access.Exclusive b (handing.Store _)) _ shares refl (take_comes w t l _ v q f (2 * l) (whoms.Picked None a.recursive) refl refl (λ k. refl)) (λ s g. store_rests access.Exclusive b _ v _ _ s g))
+  take_rests access.Upgradable b fits v w q shares f = goes b access.Upgradable 14 v w _ (HandOver access.Upgradable b (handing.Look _)) _ shares refl (take_comes w t l _ v q f (2 * l) (whoms.Picked None a.recursive) refl refl) (λ s g. look_rests b _ v _ _ s g)
+  take_rests access.Exclusive b fits v w q shares f = leads_more 14 15 w t (Ends b access.Exclusive w) (omega arith) (goes b access.Exclusive 13 v w _ (HandOver access.Exclusive b (handing.Store _)) _ shares refl (take_comes w t l _ v q f (2 * l) (whoms.Picked None a.recursive) refl refl) (λ s g. store_rests access.Exclusive b _ v _ _ s g))
 
   enters_rest : (x : Access) (b : Bool) → HandsOverAt x handing.Take → (v : ℕ) (w : State) (q : Line → List Waiter) → Shares w
       → Alone w (HandOver x b handing.Enter) v q → Leads 16 w t (Ends b x w)
-  enters_rest x b fits v w q shares f = goes b x 15 v w q (HandOver x b handing.Take) _ shares refl (enter_comes w t l _ v q f Main refl (finds_free w t l _ v q f refl Main)) (λ s g. take_rests x b fits v _ q s g)
+  enters_rest x b fits v w q shares f = enters b x 15 v w q (HandOver x b handing.Enter) (HandOver x b handing.Take) Main shares f refl refl refl refl (λ s g. take_rests x b fits v _ q s g)
 
   -- it tries the word as it is
   free_now : (x : Access) (b : Bool) (v : ℕ) (w : State) (q : Line → List Waiter) → Shares w
@@ -283,12 +298,12 @@ module _ (t l : ℕ) (a : Admission) where
   wakes_take : (v : ℕ) (w : State) (q : Line → List Waiter) → Shares w → Alone w (leaving (at.Wake Second waking.Take)) v q
       → Leads 14 w t (Ends true access.Shared w)
   wakes_take v w q shares f = goes true access.Shared 13 v w _ (leaving (at.Wake Second (waking.Clear _))) _ shares refl (take_comes w t l _ v q f (2 * l + 1) whoms.First refl
-      (taken_word t l a (record w { queues = queues_without_first w.queues (2 * l + 1) }) (first_of (queue_at w (2 * l + 1)))) (taken_sections t l a (record w { queues = queues_without_first w.queues (2 * l + 1) }) (first_of (queue_at w (2 * l + 1)))))
+      (taken_word t l a (record w { queues = queues_without_first w.queues (2 * l + 1) }) (first_of (queue_at w (2 * l + 1)))))
       (λ s g. wakes_clear _ v _ _ s g)
 
   wakes_enter : (v : ℕ) (w : State) (q : Line → List Waiter) → Shares w → Alone w (leaving (at.Wake Second waking.Enter)) v q
       → Leads 15 w t (Ends true access.Shared w)
-  wakes_enter v w q shares f = goes true access.Shared 14 v w q (leaving (at.Wake Second waking.Take)) _ shares refl (enter_comes w t l _ v q f Second refl (finds_free w t l _ v q f refl Second)) (λ s g. wakes_take v _ q s g)
+  wakes_enter v w q shares f = enters true access.Shared 14 v w q (leaving (at.Wake Second waking.Enter)) (leaving (at.Wake Second waking.Take)) Second shares f refl refl refl refl (λ s g. wakes_take v _ q s g)
 
   pub wakes_rest : (to : WakeAt) (v : ℕ) (w : State) (q : Line → List Waiter) → Shares w
       → Alone w (leaving (at.Wake Second to)) v q → Leads 15 w t (Ends true access.Shared w)

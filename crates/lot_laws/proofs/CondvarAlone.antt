@@ -1,22 +1,16 @@
 -- A thread that steps alone in a call of a condition variable: where each of its acts leads it.
-use Rattle.std.proofs.Common.{ℕ, zero, suc, Bool, true, false, Option, Some, None, if◌then◌else◌, ◌≡◌, ◌⊎◌, ◌+◌, ◌*◌, ◌<◌, List, [], ◌∷◌, length, get_or, set, get_or-set_same, inl, inr, refl, sym, ◌∙◌, ap, subst, arith}
+use Rattle.std.proofs.Common.{ℕ, true, Option, Some, None, if◌then◌else◌, ◌≡◌, ◌⊎◌, ◌+◌, ◌*◌, ◌<◌, length, get_or-set_same, inl, inr, refl, sym, ◌∙◌, ap, subst, arith}
 use Rattle.std.proofs.lemmas.Bool.{lt-ltb}
-use Rattle.lot_base.specs.declared.keys.Keys.{Keys}
-use Rattle.lot_base.specs.declared.keys.Keys.TheVariants.{One, Two}
 use Rattle.lot_base.specs.declared.ops.Op.{Op}
 use Rattle.lot_base.specs.Words.{apply}
-use Rattle.lot_base.specs.Lines.{first_of}
 use Rattle.lot_calls.specs.declared.kinds.Kind.TheVariants as kind
 use Rattle.lot_calls.specs.declared.outcomes.Outcome.{Outcome}
 use Rattle.lot_calls.specs.declared.outcomes.Outcome.TheVariants as outcome
-use Rattle.lot_acts.specs.declared.acts.Act.{Act}
 use Rattle.lot_acts.specs.declared.acts.Act.TheVariants as act
 use Rattle.lot_acts.specs.declared.acts.Next.{Next}
 use Rattle.lot_acts.specs.declared.acts.Next.TheVariants as next
 use Rattle.lot_acts.specs.declared.acts.Reply.{Reply}
-use Rattle.lot_acts.specs.declared.acts.Wakes.TheVariants as wakes
-use Rattle.lot_acts.specs.declared.acts.Whom.TheVariants as whoms
-use Rattle.lot_acts.specs.Acts.{holds, outcome_of, takes_effect}
+use Rattle.lot_acts.specs.Acts.{outcome_of}
 use Rattle.lot_acts.specs.Stations.{Station, station_by}
 use Rattle.lot_condvar.specs.declared.places.CondvarPlace.{CondvarPlace}
 use Rattle.lot_condvar.specs.CondvarCalls.{IsReached}
@@ -25,84 +19,27 @@ use Rattle.lot_condvar.specs.CondvarProfiles.{condvar_profile, mutex_side}
 use Rattle.lot_condvar.specs.CondvarSteps.{condvar_act, condvar_next, mutex_beside}
 use Rattle.lot_steps.specs.declared.places.Place.{Place}
 use Rattle.lot_steps.specs.declared.places.Place.TheVariants.{Idle, Condvar}
-use Rattle.lot_steps.specs.Steps.{condvar_does, condvar_goes, next_act, next_place}
+use Rattle.lot_steps.specs.Steps.{act_of, condvar_does, condvar_goes, next_act, next_place}
 use Rattle.abstract_locks.specs.Sites.{Line, Main}
 use Rattle.lot_machine.specs.Fits.{IsThere, PlaceFits, SameSize}
-use Rattle.lot_machine.specs.Machine.{State, after, can_do, go_of, go_outcome, going_outcome, is_possible, place_at, put, queue_at, queues_with_last, queues_without_first, reply_to, section_at, state_after_act, state_after_go, state_after_going, state_after_hand_over_by, state_after_taking, state_with_sections, step_outcome, unlocked, word_at}
+use Rattle.lot_machine.specs.Machine.{State, after, can_do, go_of, go_outcome, going_outcome, is_possible, place_at, put, reply_to, section_at, state_after_act, state_after_go, state_after_going, step_outcome, unlocked, word_at}
 use Rattle.lot_machine.proofs.Shape.{after_size, performed_counts}
 use Rattle.lot_laws.specs.Refinement.{lock_state}
 use Rattle.lot_laws.specs.Stations.{station_at}
 use Rattle.lot_laws.specs.SitesOf.{IsWorld, condvar_of}
+use Rattle.lot_laws.specs.Solo.{EntersAt, IsBarred}
 use Rattle.lot_laws.proofs.CondvarHears.{fits_here, may_hear, station_beside}
 use Rattle.lot_laws.proofs.CondvarSites.{station_there}
 use Rattle.lot_laws.proofs.CondvarWent.{goes_led}
 use Rattle.lot_laws.proofs.Leads.{Leads, leads_more, leads_rest, leads_step}
 
--- ---------------------------------------------------------------- sections
-
--- it is the thread, if anybody
-abbrev pub IsOnly : ℕ → Option ℕ → Type 0
-IsOnly t o = (u : ℕ) → o ≡ Some u → u ≡ t
-
-set_only : (t : ℕ) (ss : List (Option ℕ)) (key k : ℕ) (who : Option ℕ) → IsOnly t who → IsOnly t (get_or ss k None)
-    → IsOnly t (get_or (set ss key who) k None)
-set_only t [] key k who new old = old
-set_only t (x ∷ ss) zero zero who new old = new
-set_only t (x ∷ ss) zero (suc k) who new old = old
-set_only t (x ∷ ss) (suc key) zero who new old = old
-set_only t (x ∷ ss) (suc key) (suc k) who new old = set_only t ss key k who new old
-
--- an act lets nobody else into a section
-module _ (w : State) (t k : ℕ) (only : IsOnly t (section_at w k)) where
-  abbrev OnlyIn : State → Type 0
-  OnlyIn v = IsOnly t (section_at v k)
-
-  filled_only : (keys : Keys) (who : Option ℕ) → IsOnly t who → OnlyIn (state_with_sections w keys who)
-  filled_only (One key) who mine = set_only t w.sections key k who mine only
-  filled_only (Two first second) who mine = set_only t (set w.sections first who) second k who mine (set_only t w.sections first k who mine only)
-
-  itself : IsOnly t (Some t)
-  itself u e = let f : t ≡ u = cc in sym f
-
-  nobody : IsOnly t None
-  nobody u e = cc
-
-  acted_only : (p : Place) (a : Act) → OnlyIn (state_after_act w t p a)
-  acted_only p (act.Word l op) = only
-  acted_only p (act.HandOver l op) = by_effect (takes_effect op (word_at w l))
-    where
-      by_effect : (b : Bool) → OnlyIn (state_after_hand_over_by b w t p l op)
-      by_effect true = only
-      by_effect false = only
-  acted_only p (act.Enter keys) = filled_only keys (Some t) itself
-  acted_only p (act.Park l key check x) = by_check (holds check (word_at w l))
-    where
-      by_check : (b : Bool) → OnlyIn (if b then record w { queues = queues_with_last w.queues key t x } else w)
-      by_check true = only
-      by_check false = only
-  acted_only p (act.Stand key x) = only
-  acted_only p (act.Take key whoms.First) = by_first (first_of (queue_at w key))
-    where
-      by_first : (o : Option ℕ) → OnlyIn (state_after_taking (record w { queues = queues_without_first w.queues key }) t o)
-      by_first None = only
-      by_first (Some u) = only
-  acted_only p (act.Take key (whoms.Picked start recursive)) = only
-  acted_only p (act.Take key whoms.All) = only
-  acted_only p (act.Requeue from to how) = only
-  acted_only p (act.Remove key) = only
-  acted_only p (act.Leave keys wakes.Nobody) = filled_only keys None nobody
-  acted_only p (act.Leave keys (wakes.All note)) = filled_only keys None nobody
-  acted_only p a = only
-
 -- ---------------------------------------------------------------- a step
 
--- the thread stands at this place, and nobody else is inside a section of the condition variable, or of the mutex
+-- the thread stands at this place
 pub record GoesAlone (w : State) (t l m : ℕ) (p : CondvarPlace) : Type 0 where
   pub world : IsWorld w
   pub thread : t < length w.places
   pub place : place_at w t ≡ Condvar l p
-  pub way : IsOnly t (section_at w (2 * l))
-  pub way_beside : IsOnly t (section_at w (2 * m))
 
 -- what holds of a world holds after each step of the thread
 abbrev pub Keeps : ℕ → Type 0
@@ -121,24 +58,35 @@ module _ (t l m : ℕ) (keeps : Keeps t) (w : State) (p : CondvarPlace) (g : Goe
   pub mutex_there : mutex_beside p ≡ Some m → m < length w.locks
   mutex_there beside = subst (IsThere (length w.locks)) beside fits.1
 
-  -- outside of a section it finds it free
-  pub free_here : (station_by (condvar_profile p)).inside ≡ None → section_at w (2 * l) ≡ None
-  free_here outside = by_who (section_at w (2 * l)) refl
-    where
-      by_who : (o : Option ℕ) → section_at w (2 * l) ≡ o → o ≡ None
-      by_who None e = refl
-      by_who (Some u) e = absurd (let within : (station_at (place_at w t) l).inside ≡ Some Main = (g.world.steady.stands.sections t l Main).1 (e ∙ ap Some (g.way u e)) in
-          let without : (station_at (place_at w t) l).inside ≡ None = ap (λ (y : Station). y.inside) (station_there w g.world.steady.stands t l p g.place) ∙ outside in
-          let both : ◌≡◌ {A = Option Line} None (Some Main) = sym without ∙ within in cc)
+  -- who is inside bars it, where it is outside and its act enters
+  barred_by : (k u : ℕ) → EntersAt (2 * k) (condvar_act l p) → (station_at (place_at w t) k).inside ≡ None
+      → section_at w (2 * k) ≡ Some u → IsBarred w t
+  barred_by k u enters outside e = record {
+    lock = k;
+    line = Main;
+    other = u;
+    enters = subst (λ x. EntersAt (2 * k) (act_of x)) (sym g.place) enters;
+    inside = e;
+    another = λ mine. let within : (station_at (place_at w t) k).inside ≡ Some Main = (g.world.steady.stands.sections t k Main).1 (e ∙ ap Some mine) in
+        let both : ◌≡◌ {A = Option Line} None (Some Main) = sym outside ∙ within in cc;
+  }
 
-  pub free_beside : mutex_beside p ≡ Some m → (station_by (mutex_side p)).inside ≡ None → section_at w (2 * m) ≡ None
-  free_beside beside outside = by_who (section_at w (2 * m)) refl
+  free_or_barred : (k : ℕ) → EntersAt (2 * k) (condvar_act l p) → (station_at (place_at w t) k).inside ≡ None
+      → (section_at w (2 * k) ≡ None) ⊎ IsBarred w t
+  free_or_barred k enters outside = by_who (section_at w (2 * k)) refl
     where
-      by_who : (o : Option ℕ) → section_at w (2 * m) ≡ o → o ≡ None
-      by_who None e = refl
-      by_who (Some u) e = absurd (let within : (station_at (place_at w t) m).inside ≡ Some Main = (g.world.steady.stands.sections t m Main).1 (e ∙ ap Some (g.way_beside u e)) in
-          let without : (station_at (place_at w t) m).inside ≡ None = ap (λ (y : Station). y.inside) (station_beside w t l p g.world.steady g.place m beside) ∙ outside in
-          let both : ◌≡◌ {A = Option Line} None (Some Main) = sym without ∙ within in cc)
+      by_who : (o : Option ℕ) → section_at w (2 * k) ≡ o → (section_at w (2 * k) ≡ None) ⊎ IsBarred w t
+      by_who None e = inl e
+      by_who (Some u) e = inr (barred_by k u enters outside e)
+
+  -- outside of a section that its act enters it finds it free, or is barred
+  pub free_here : EntersAt (2 * l) (condvar_act l p) → (station_by (condvar_profile p)).inside ≡ None
+      → (section_at w (2 * l) ≡ None) ⊎ IsBarred w t
+  free_here enters outside = free_or_barred l enters (ap (λ (y : Station). y.inside) (station_there w g.world.steady.stands t l p g.place) ∙ outside)
+
+  pub free_beside : EntersAt (2 * m) (condvar_act l p) → mutex_beside p ≡ Some m → (station_by (mutex_side p)).inside ≡ None
+      → (section_at w (2 * m) ≡ None) ⊎ IsBarred w t
+  free_beside enters beside outside = free_or_barred m enters (ap (λ (y : Station). y.inside) (station_beside w t l p g.world.steady g.place m beside) ∙ outside)
 
   -- where it goes, at first or once its act has befallen it too
   module _ (can : can_do w (condvar_act l p) ≡ true) where
@@ -186,8 +134,6 @@ module _ (t l m : ℕ) (keeps : Keeps t) (w : State) (p : CondvarPlace) (g : Goe
         world = keeps w g.world;
         thread = let size : SameSize w (after w (go_of t)) = after_size w (go_of t) in rw size.threads g.thread;
         place = ap (λ (s : State). place_at s t) led ∙ get_or-set_same acted.places t _ Idle (rw ((performed_counts w t (Condvar l p) (condvar_act l p)).0) g.thread) ∙ ap (condvar_goes l) e;
-        way = subst (IsOnly t) (sym (so_then (λ s. section_at s (2 * l)) (λ q. refl))) (acted_only w t (2 * l) g.way (Condvar l p) (condvar_act l p));
-        way_beside = subst (IsOnly t) (sym (so_then (λ s. section_at s (2 * m)) (λ q. refl))) (acted_only w t (2 * m) g.way_beside (Condvar l p) (condvar_act l p));
       }
 
   -- what is left to do behind a step: nothing where it rests, and else the rest

@@ -182,3 +182,7 @@ pub mod Filled
 pub mod Tries
 pub mod Sleepers
 pub mod HeadlineHolds
+pub mod EntersOwn
+pub mod ReadsOwn
+pub mod TriesAlone
+pub mod WayKept

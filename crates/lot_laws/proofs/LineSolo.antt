@@ -1,5 +1,5 @@
 -- A thread that steps alone at a lock of two lines: what each of its acts leads to.
-use Rattle.std.proofs.Common.{ℕ, true, false, Bool, Option, Some, None, if◌then◌else◌, ◌≡◌, ◌+◌, ◌*◌, ◌<◌, List, [], ◌∷◌, ◌++◌, length, get_or, map, refl, sym, ◌∙◌, ap, arith, get_or-set_same, get_or-set_other, subst}
+use Rattle.std.proofs.Common.{ℕ, true, false, Bool, Option, Some, None, if◌then◌else◌, ◌≡◌, ◌+◌, ◌*◌, ◌<◌, ◌⊎◌, inl, inr, List, [], ◌∷◌, ◌++◌, length, get_or, map, refl, sym, ◌∙◌, ap, arith, get_or-set_same, subst}
 use Rattle.std.proofs.lemmas.Bool.{lt-ltb}
 use Rattle.std.proofs.lemmas.List.{length-map}
 use Rattle.std.proofs.Math.ListN.{get_or-map}
@@ -30,14 +30,16 @@ use Rattle.lot_machine.proofs.Shape.{after_shaped, after_size, main_key_there, p
 use Rattle.lot_laws.proofs.OwnPlace.{goes_from_there, told_from_there}
 use Rattle.lot_laws.specs.SitesOf.{AreCondvars, AreCounted, IsSteady, RunsInClosures, key_of, stood_in}
 use Rattle.lot_laws.proofs.RunsKept.{running_after}
+use Rattle.lot_laws.specs.Solo.{EntersAt, IsBarred}
 use Rattle.lot_laws.specs.Stations.{station, station_at}
+use Rattle.lot_laws.proofs.Leads.{Leads, leads_barred, leads_step}
 use Rattle.lot_laws.proofs.Glue.{nothing_at, next_single, IsSingle}
 use Rattle.lot_laws.proofs.Counts.{without_absent}
 use Rattle.lot_laws.proofs.CondvarSteps.{after_condvars}
 use Rattle.lot_laws.proofs.CountsKept.{counted_after}
 use Rattle.lot_laws.proofs.TurnsKept.{after_steady}
 
--- how a thread stands that steps alone: its place at the lock, the word, and who waits there; nobody else is inside a section of the lock
+-- how a thread stands that steps alone: its place at the lock, the word, and who waits there
 pub record StepsAlone (w : State) (t l : ℕ) (p : Place) (v : ℕ) (q : Line → List Waiter) : Type 0 where
   pub shape : IsShaped w
   pub steady : IsSteady w
@@ -50,7 +52,6 @@ pub record StepsAlone (w : State) (t l : ℕ) (p : Place) (v : ℕ) (q : Line �
   pub single : IsSingle p
   pub word : word_at w l ≡ v
   pub queue : (m : Line) → queue_at w (key_of l m) ≡ q m
-  pub way : (m : Line) (u : ℕ) → section_at w (key_of l m) ≡ Some u → u ≡ t
 
 -- the thread is told this, and stands so then
 abbrev pub Comes : State → ℕ → ℕ → Place → Outcome → ℕ → (Line → List Waiter) → Type 0
@@ -75,9 +76,8 @@ module _ (w : State) (t l : ℕ) (p : Place) (v : ℕ) (q : Line → List Waiter
   comes : (b : State) (reply : Reply) (v2 : ℕ) (q2 : Line → List Waiter) → can_do w (act_of p) ≡ true
       → state_after_act w t p (act_of p) ≡ b → reply_to w t (act_of p) ≡ reply → word_at b l ≡ v2
       → ((m : Line) → queue_at b (key_of l m) ≡ q2 m)
-      → ((m : Line) (u : ℕ) → section_at b (key_of l m) ≡ Some u → u ≡ t)
       → Comes w t l (next_place p reply) (outcome_of (next_act p reply)) v2 q2
-  comes b reply v2 q2 can does heard word queue way = (
+  comes b reply v2 q2 can does heard word queue = (
     told can ∙ ap (λ r. outcome_of (next_act p r)) heard,
     record {
       shape = after_shaped w (go_of t) f.shape;
@@ -91,7 +91,6 @@ module _ (w : State) (t l : ℕ) (p : Place) (v : ℕ) (q : Line → List Waiter
       place = ap (λ (x : State). place_at x t) led ∙ get_or-set_same b.places t (next_place p reply) Idle (rw places f.thread);
       word = ap (λ (x : State). word_at x l) led ∙ word;
       queue = λ m. ap (λ (x : State). queue_at x (key_of l m)) led ∙ queue m;
-      way = λ m u e. way m u (sym (ap (λ (x : State). section_at x (key_of l m)) led) ∙ e);
     },
   )
     where
@@ -105,7 +104,7 @@ module _ (w : State) (t l : ℕ) (p : Place) (v : ℕ) (q : Line → List Waiter
   pub word_comes : (x : Op) → act_of p ≡ act.Word l x
       → Comes w t l (next_place p (Value v)) (outcome_of (next_act p (Value v))) (apply x v) q
   word_comes x is = comes (state_after_operation w t p l x) (Value v) (apply x v) q (rw is refl) (ap (state_after_act w t p) is) (ap (reply_to w t) is ∙ ap Value f.word)
-      (ap (λ y. y.word) (get_or-set_same w.locks l _ (unlocked kind.Mutex) f.lock) ∙ ap (apply x) f.word) f.queue f.way
+      (ap (λ y. y.word) (get_or-set_same w.locks l _ (unlocked kind.Mutex) f.lock) ∙ ap (apply x) f.word) f.queue
 
   -- a right is handed over to those in hand, or an exchange fails
   pub hand_comes : (x : Op) → act_of p ≡ act.HandOver l x
@@ -120,34 +119,18 @@ module _ (w : State) (t l : ℕ) (p : Place) (v : ℕ) (q : Line → List Waiter
       queue true m = f.queue m
       queue false m = f.queue m
 
-      way : (b : Bool) (m : Line) (u : ℕ) → section_at (state_after_hand_over_by b w t p l x) (key_of l m) ≡ Some u → u ≡ t
-      way true m u e = f.way m u e
-      way false m u e = f.way m u e
-
       by_effect : (b : Bool) → takes_effect x (word_at w l) ≡ b
           → Comes w t l (next_place p (Value v)) (outcome_of (next_act p (Value v))) (apply x v) q
-      by_effect b e = comes (state_after_hand_over_by b w t p l x) (Value v) (apply x v) q (rw is refl) (ap (state_after_act w t p) is ∙ ap (λ b. state_after_hand_over_by b w t p l x) e) (ap (reply_to w t) is ∙ ap Value f.word) (word b) (queue b) (way b)
+      by_effect b e = comes (state_after_hand_over_by b w t p l x) (Value v) (apply x v) q (rw is refl) (ap (state_after_act w t p) is ∙ ap (λ b. state_after_hand_over_by b w t p l x) e) (ap (reply_to w t) is ∙ ap Value f.word) (word b) (queue b)
 
   -- it was handed the lock
   pub accept_comes : act_of p ≡ act.Accept → Comes w t l (next_place p Done) (outcome_of (next_act p Done)) v q
-  accept_comes is = comes w Done v q (rw is refl) (ap (state_after_act w t p) is) (ap (reply_to w t) is) f.word f.queue f.way
-
-  -- somebody is inside the section of a line then, or nobody
-  way_then : (m : Line) (who : Option ℕ) → ((u : ℕ) → who ≡ Some u → u ≡ t) → (n : Line) (u : ℕ)
-      → section_at (state_with_sections w (One (key_of l m)) who) (key_of l n) ≡ Some u → u ≡ t
-  way_then Main who mine Main u e = mine u (sym (get_or-set_same w.sections (2 * l) who None (key_there w l Main f.shape f.lock)) ∙ e)
-  way_then Second who mine Second u e = mine u (sym (get_or-set_same w.sections (2 * l + 1) who None (key_there w l Second f.shape f.lock)) ∙ e)
-  way_then Main who mine Second u e = f.way Second u (sym (get_or-set_other w.sections (2 * l) (2 * l + 1) who None (λ h. omega arith)) ∙ e)
-  way_then Second who mine Main u e = f.way Main u (sym (get_or-set_other w.sections (2 * l + 1) (2 * l) who None (λ h. omega arith)) ∙ e)
+  accept_comes is = comes w Done v q (rw is refl) (ap (state_after_act w t p) is) (ap (reply_to w t) is) f.word f.queue
 
   -- into a section that is free
   pub enter_comes : (m : Line) → act_of p ≡ act.Enter (One (key_of l m)) → section_at w (key_of l m) ≡ None
       → Comes w t l (next_place p Done) (outcome_of (next_act p Done)) v q
   enter_comes m is free = comes (state_with_sections w (One (key_of l m)) (Some t)) Done v q (rw (is, free) refl) (ap (state_after_act w t p) is) (ap (reply_to w t) is) f.word f.queue
-      (way_then m (Some t) (λ u e. let g : t ≡ u = cc in sym g))
-
-  nobody : (u : ℕ) → ◌≡◌ {A = Option ℕ} None (Some u) → u ≡ t
-  nobody u e = cc
 
   -- and out of it, with whomever it has in hand
   pub leave_comes : (m : Line) (wakes : Wakes) → act_of p ≡ act.Leave (One (key_of l m)) wakes
@@ -156,8 +139,8 @@ module _ (w : State) (t l : ℕ) (p : Place) (v : ℕ) (q : Line → List Waiter
     where
       by_wakes : (x : Wakes) → act_of p ≡ act.Leave (One (key_of l m)) x
           → Comes w t l (next_place p Done) (outcome_of (next_act p Done)) v q
-      by_wakes notes.Nobody is = comes (state_with_sections w (One (key_of l m)) None) Done v q (rw is refl) (ap (state_after_act w t p) is) (ap (reply_to w t) is) f.word f.queue (way_then m None nobody)
-      by_wakes (notes.All note) is = comes (state_after_wake (state_with_sections w (One (key_of l m)) None) t (notes.All note)) Done v q (rw is refl) (ap (state_after_act w t p) is) (ap (reply_to w t) is) f.word f.queue (way_then m None nobody)
+      by_wakes notes.Nobody is = comes (state_with_sections w (One (key_of l m)) None) Done v q (rw is refl) (ap (state_after_act w t p) is) (ap (reply_to w t) is) f.word f.queue
+      by_wakes (notes.All note) is = comes (state_after_wake (state_with_sections w (One (key_of l m)) None) t (notes.All note)) Done v q (rw is refl) (ap (state_after_act w t p) is) (ap (reply_to w t) is) f.word f.queue
 
   -- the check holds, and it stands somewhere in the lines then
   pub park_comes : (key : ℕ) (check : Check) (x : Want) (b : Bool) → act_of p ≡ act.Park l key check x → holds check v ≡ b
@@ -166,22 +149,21 @@ module _ (w : State) (t l : ℕ) (p : Place) (v : ℕ) (q : Line → List Waiter
   park_comes key check x b is h = by_check b (ap (holds check) f.word ∙ h)
     where
       by_check : (b : Bool) → holds check (word_at w l) ≡ b → Comes w t l (next_place p (Parked b)) (outcome_of (next_act p (Parked b))) v (λ m. queue_at (if b then record w { queues = queues_with_last w.queues key t x } else w) (key_of l m))
-      by_check true e = comes (record w { queues = queues_with_last w.queues key t x }) (Parked true) v _ (rw is refl) (ap (state_after_act w t p) is ∙ ap (λ c. if c then record w { queues = queues_with_last w.queues key t x } else w) e) (ap (reply_to w t) is ∙ ap Parked e) f.word (λ m. refl) f.way
-      by_check false e = comes w (Parked false) v _ (rw is refl) (ap (state_after_act w t p) is ∙ ap (λ c. if c then record w { queues = queues_with_last w.queues key t x } else w) e) (ap (reply_to w t) is ∙ ap Parked e) f.word (λ m. refl) f.way
+      by_check true e = comes (record w { queues = queues_with_last w.queues key t x }) (Parked true) v _ (rw is refl) (ap (state_after_act w t p) is ∙ ap (λ c. if c then record w { queues = queues_with_last w.queues key t x } else w) e) (ap (reply_to w t) is ∙ ap Parked e) f.word (λ m. refl)
+      by_check false e = comes w (Parked false) v _ (rw is refl) (ap (state_after_act w t p) is ∙ ap (λ c. if c then record w { queues = queues_with_last w.queues key t x } else w) e) (ap (reply_to w t) is ∙ ap Parked e) f.word (λ m. refl)
 
   -- it leaves its line, or takes others of one
   pub remove_comes : (key : ℕ) → act_of p ≡ act.Remove key
       → Comes w t l (next_place p (reply_to w t (act.Remove key))) (outcome_of (next_act p (reply_to w t (act.Remove key)))) v
       (λ m. queue_at (state_after_act w t p (act.Remove key)) (key_of l m))
-  remove_comes key is = comes (state_after_act w t p (act.Remove key)) (reply_to w t (act.Remove key)) v _ (rw is refl) (ap (state_after_act w t p) is) (ap (reply_to w t) is) f.word (λ m. refl) f.way
+  remove_comes key is = comes (state_after_act w t p (act.Remove key)) (reply_to w t (act.Remove key)) v _ (rw is refl) (ap (state_after_act w t p) is) (ap (reply_to w t) is) f.word (λ m. refl)
 
   pub take_comes : (key : ℕ) (whom : Whom) → act_of p ≡ act.Take key whom
       → word_at (state_after_take w t key whom) l ≡ word_at w l
-      → ((k : ℕ) → section_at (state_after_take w t key whom) k ≡ section_at w k)
       → Comes w t l (next_place p (reply_to w t (act.Take key whom)))
       (outcome_of (next_act p (reply_to w t (act.Take key whom)))) v
       (λ m. queue_at (state_after_take w t key whom) (key_of l m))
-  take_comes key whom is word sections = comes (state_after_take w t key whom) (reply_to w t (act.Take key whom)) v _ (rw is refl) (ap (state_after_act w t p) is) (ap (reply_to w t) is) (word ∙ f.word) (λ m. refl) (λ m u e. f.way m u (sym (sections (key_of l m)) ∙ e))
+  take_comes key whom is word = comes (state_after_take w t key whom) (reply_to w t (act.Take key whom)) v _ (rw is refl) (ap (state_after_act w t p) is) (ap (reply_to w t) is) (word ∙ f.word) (λ m. refl)
 
   -- a thread that stands in no line is the last of one where it parks
   line_there : (m : Line) → key_of l m < length w.queues
@@ -197,12 +179,29 @@ module _ (w : State) (t l : ℕ) (p : Place) (v : ℕ) (q : Line → List Waiter
   parks_last nowhere m x = get_or-set_same (map (without t) w.queues) (key_of l m) _ [] (rw (length-map w.queues (without t)) (line_there m))
       ∙ ap (λ xs. xs ++ waiter (key_of l m) t x ∷ []) (unmoved nowhere m)
 
-  -- outside of its section it finds it free
-  pub finds_free : (station p).inside ≡ None → (m : Line) → section_at w (key_of l m) ≡ None
-  finds_free outside m = by_who (section_at w (key_of l m)) refl
+  -- outside of a section that its act enters it finds it free, or is barred
+  pub finds_free : (station p).inside ≡ None → (m : Line) → act_of p ≡ act.Enter (One (key_of l m))
+      → (section_at w (key_of l m) ≡ None) ⊎ IsBarred w t
+  finds_free outside m is = by_who (section_at w (key_of l m)) refl
     where
-      by_who : (who : Option ℕ) → section_at w (key_of l m) ≡ who → section_at w (key_of l m) ≡ None
-      by_who None e = e
-      by_who (Some u) e = absurd (let mine : u ≡ t = f.way m u e in
-          let within : (station_at (place_at w t) l).inside ≡ Some m = (f.steady.stands.sections t l m).1 (e ∙ ap Some mine) in
-          let out : (station_at (place_at w t) l).inside ≡ None = nothing_at (place_at w t) l (subst IsSingle (sym f.place) f.single) (λ x. x.inside) refl (ap (λ x. (station x).inside) f.place ∙ outside) in cc)
+      by_who : (who : Option ℕ) → section_at w (key_of l m) ≡ who → (section_at w (key_of l m) ≡ None) ⊎ IsBarred w t
+      by_who None e = inl e
+      by_who (Some u) e = inr (record {
+        lock = l;
+        line = m;
+        other = u;
+        enters = subst (EntersAt (key_of l m)) (sym (ap act_of f.place ∙ is)) refl;
+        inside = e;
+        another = λ mine. let within : (station_at (place_at w t) l).inside ≡ Some m = (f.steady.stands.sections t l m).1 (e ∙ ap Some mine) in
+            let out : (station_at (place_at w t) l).inside ≡ None = nothing_at (place_at w t) l (subst IsSingle (sym f.place) f.single) (λ x. x.inside) refl (ap (λ x. (station x).inside) f.place ∙ outside) in cc;
+      })
+
+  -- it goes on from there, or is barred
+  pub leads_into : (P : State → Outcome → Type 0) (k : ℕ) (m : Line) → act_of p ≡ act.Enter (One (key_of l m))
+      → (station p).inside ≡ None → outcome_of (next_act p Done) ≡ outcome.Step
+      → (StepsAlone (after w (go_of t)) t l (next_place p Done) v q → Leads k (after w (go_of t)) t P)
+      → Leads (k + 1) w t P
+  leads_into P k m is outside steps on = elim (finds_free outside m is) [
+    | inl free ↦ let c = enter_comes m is free in leads_step w t P k (c.0 ∙ steps) (on c.1)
+    | inr barred ↦ leads_barred w t P (k + 1) barred
+  ]

@@ -32,7 +32,7 @@ use Rattle.lot_machine.specs.Machine.{State, place_at, word_at, queue_at, go_of,
 use Rattle.lot_laws.specs.MutexPromises.{IsMutexWord}
 use Rattle.abstract_locks.specs.Sites.{Site}
 use Rattle.lot_laws.specs.MutexDeeds.{acts, takes, queued}
-use Rattle.lot_laws.specs.Stations.{station, Station, hand}
+use Rattle.lot_laws.specs.Stations.{Station, hand}
 use Rattle.lot_laws.specs.SitesOf.{IsSteady, Goes, hand_at}
 use Rattle.lot_laws.proofs.ExclusiveOwners.{by_code, owner_after}
 use Rattle.abstract_locks.specs.Locks.{first_thread}
@@ -52,7 +52,7 @@ use Rattle.lot_acts.specs.Owners.{with_exclusive}
 use Rattle.lot_laws.proofs.GoneKept.{gone_goes}
 use Rattle.lot_laws.proofs.AtPlaces.{coded_for, rules_for, owns}
 use Rattle.lot_laws.proofs.Leads.{Leads, leads_rest, leads_step, leads_more, leads_so}
-use Rattle.lot_laws.proofs.SoloActs.{Facing, Faces, word_faces, enter_faces, leave_faces, wake_faces, hand_faces, accept_faces, park_faces, unparked_faces, remove_faces, take_faces, act_led}
+use Rattle.lot_laws.proofs.SoloActs.{Facing, Faces, word_faces, faces_into, leave_faces, wake_faces, hand_faces, accept_faces, park_faces, unparked_faces, remove_faces, take_faces, act_led}
 
 -- ---------------------------------------------------------------- lock
 
@@ -72,34 +72,34 @@ module _ (t l : ℕ) (entry : Entry) (q : List Waiter) where
       → Leads 2 w t (LockEnds t l entry (Some u) q)
   check_full retries u w f = let h = park_faces w t l _ 3 (Some u) (Some t) q f refl refl refl in leads_step w t (LockEnds t l entry (Some u) q) 1 h.0 (sleep_leads (retries && not true) u _ h.1)
 
-  decide_full : (retries : Bool) (u : ℕ) (w : State) → Facing w t l (Mutex l (Lock entry retries (Decide 3))) 3 (Some u) None q
-      → Leads 3 w t (LockEnds t l entry (Some u) q)
-  decide_full retries u w f = let h = enter_faces w t l _ 3 (Some u) None q f refl refl in leads_step w t (LockEnds t l entry (Some u) q) 2 h.0 (check_full retries u _ h.1)
+  decide_full : (retries : Bool) (u : ℕ) (s : Option ℕ) (w : State)
+      → Facing w t l (Mutex l (Lock entry retries (Decide 3))) 3 (Some u) s q → Leads 3 w t (LockEnds t l entry (Some u) q)
+  decide_full retries u s w f = faces_into w t l _ 3 (Some u) s q f (LockEnds t l entry (Some u) q) 2 refl refl refl (λ h. check_full retries u _ h)
 
   -- it decides by the word as it is
-  decide_leads : (retries : Bool) (v : ℕ) (o : Option ℕ) → IsMutexWord v o → (w : State)
-      → Facing w t l (Mutex l (Lock entry retries (Decide v))) v o None q → Leads 4 w t (LockEnds t l entry o q)
-  decide_leads retries = by_code (λ v o. (w : State) → Facing w t l (Mutex l (Lock entry retries (Decide v))) v o None q → Leads 4 w t (LockEnds t l entry o q))
-      (λ w f. let h = word_faces w t l _ 0 None None q f (op.TheVariants.Exchange 0 1) refl in leads_more 1 4 w t (LockEnds t l entry None q) (omega arith) (leads_rest w t (LockEnds t l entry None q) (outcome.TheVariants.End (entered entry)) h.0 tt (refl, h.1.owner)))
-      (λ w f. let h = word_faces w t l _ 2 None None q f (op.TheVariants.Exchange 2 3) refl in leads_more 1 4 w t (LockEnds t l entry None q) (omega arith) (leads_rest w t (LockEnds t l entry None q) (outcome.TheVariants.End (entered entry)) h.0 tt (refl, h.1.owner)))
-      (λ u w f. let h = word_faces w t l _ 1 (Some u) None q f (op.TheVariants.Exchange 1 3) refl in leads_step w t (LockEnds t l entry (Some u) q) 3 h.0 (decide_full retries u _ h.1))
-      (λ u w f. leads_more 3 4 w t (LockEnds t l entry (Some u) q) (omega arith) (decide_full retries u w f))
+  decide_leads : (retries : Bool) (v : ℕ) (o : Option ℕ) → IsMutexWord v o → (s : Option ℕ) (w : State)
+      → Facing w t l (Mutex l (Lock entry retries (Decide v))) v o s q → Leads 4 w t (LockEnds t l entry o q)
+  decide_leads retries = by_code (λ v o. (s : Option ℕ) (w : State) → Facing w t l (Mutex l (Lock entry retries (Decide v))) v o s q → Leads 4 w t (LockEnds t l entry o q))
+      (λ s w f. let h = word_faces w t l _ 0 None s q f (op.TheVariants.Exchange 0 1) refl in leads_more 1 4 w t (LockEnds t l entry None q) (omega arith) (leads_rest w t (LockEnds t l entry None q) (outcome.TheVariants.End (entered entry)) h.0 tt (refl, h.1.owner)))
+      (λ s w f. let h = word_faces w t l _ 2 None s q f (op.TheVariants.Exchange 2 3) refl in leads_more 1 4 w t (LockEnds t l entry None q) (omega arith) (leads_rest w t (LockEnds t l entry None q) (outcome.TheVariants.End (entered entry)) h.0 tt (refl, h.1.owner)))
+      (λ u s w f. let h = word_faces w t l _ 1 (Some u) s q f (op.TheVariants.Exchange 1 3) refl in leads_step w t (LockEnds t l entry (Some u) q) 3 h.0 (decide_full retries u s _ h.1))
+      (λ u s w f. leads_more 3 4 w t (LockEnds t l entry (Some u) q) (omega arith) (decide_full retries u s w f))
 
   coded : (w : State) (at : MutexPlace) (v : ℕ) (o s : Option ℕ) → Facing w t l (Mutex l at) v o s q → IsMutexWord v o
   coded w at v o s f = let c : IsMutexWord (word_at w l) (owner_at w l) = coded_for w f.steady t l at f.place in rw (f.word, f.owner) at c
 
-  load_leads : (retries : Bool) (v : ℕ) (o : Option ℕ) (w : State) → Facing w t l (Mutex l (Lock entry retries Load)) v o None q
+  load_leads : (retries : Bool) (v : ℕ) (o s : Option ℕ) (w : State) → Facing w t l (Mutex l (Lock entry retries Load)) v o s q
       → Leads 5 w t (LockEnds t l entry o q)
-  load_leads retries v o w f = let h = word_faces w t l (Mutex l (Lock entry retries Load)) v o None q f op.TheVariants.Load refl in
-      leads_step w t (LockEnds t l entry o q) 4 (h.0 ∙ decides l v) (decide_leads retries v o (coded w _ v o None f) _ h.1)
+  load_leads retries v o s w f = let h = word_faces w t l (Mutex l (Lock entry retries Load)) v o s q f op.TheVariants.Load refl in
+      leads_step w t (LockEnds t l entry o q) 4 (h.0 ∙ decides l v) (decide_leads retries v o (coded w _ v o s f) s _ h.1)
 
-  pub first_leads : (retries : Bool) (v : ℕ) (o : Option ℕ) → IsMutexWord v o → (w : State)
-      → Facing w t l (Mutex l (Lock entry retries First)) v o None q → Leads 6 w t (LockEnds t l entry o q)
-  first_leads retries = by_code (λ v o. (w : State) → Facing w t l (Mutex l (Lock entry retries First)) v o None q → Leads 6 w t (LockEnds t l entry o q))
-      (λ w f. let h = word_faces w t l _ 0 None None q f (op.TheVariants.Exchange 0 1) refl in leads_more 1 6 w t (LockEnds t l entry None q) (omega arith) (leads_rest w t (LockEnds t l entry None q) (outcome.TheVariants.End (entered entry)) h.0 tt (refl, h.1.owner)))
-      (λ w f. let h = word_faces w t l _ 2 None None q f (op.TheVariants.Exchange 0 1) refl in leads_step w t (LockEnds t l entry None q) 5 h.0 (load_leads retries 2 None _ h.1))
-      (λ u w f. let h = word_faces w t l _ 1 (Some u) None q f (op.TheVariants.Exchange 0 1) refl in leads_step w t (LockEnds t l entry (Some u) q) 5 h.0 (load_leads retries 1 (Some u) _ h.1))
-      (λ u w f. let h = word_faces w t l _ 3 (Some u) None q f (op.TheVariants.Exchange 0 1) refl in leads_step w t (LockEnds t l entry (Some u) q) 5 h.0 (load_leads retries 3 (Some u) _ h.1))
+  pub first_leads : (retries : Bool) (v : ℕ) (o : Option ℕ) → IsMutexWord v o → (s : Option ℕ) (w : State)
+      → Facing w t l (Mutex l (Lock entry retries First)) v o s q → Leads 6 w t (LockEnds t l entry o q)
+  first_leads retries = by_code (λ v o. (s : Option ℕ) (w : State) → Facing w t l (Mutex l (Lock entry retries First)) v o s q → Leads 6 w t (LockEnds t l entry o q))
+      (λ s w f. let h = word_faces w t l _ 0 None s q f (op.TheVariants.Exchange 0 1) refl in leads_more 1 6 w t (LockEnds t l entry None q) (omega arith) (leads_rest w t (LockEnds t l entry None q) (outcome.TheVariants.End (entered entry)) h.0 tt (refl, h.1.owner)))
+      (λ s w f. let h = word_faces w t l _ 2 None s q f (op.TheVariants.Exchange 0 1) refl in leads_step w t (LockEnds t l entry None q) 5 h.0 (load_leads retries 2 None s _ h.1))
+      (λ u s w f. let h = word_faces w t l _ 1 (Some u) s q f (op.TheVariants.Exchange 0 1) refl in leads_step w t (LockEnds t l entry (Some u) q) 5 h.0 (load_leads retries 1 (Some u) s _ h.1))
+      (λ u s w f. let h = word_faces w t l _ 3 (Some u) s q f (op.TheVariants.Exchange 0 1) refl in leads_step w t (LockEnds t l entry (Some u) q) 5 h.0 (load_leads retries 3 (Some u) s _ h.1))
 
   -- ---------------------------------------------------------------- from any place
 
@@ -110,9 +110,9 @@ module _ (t l : ℕ) (entry : Entry) (q : List Waiter) where
   rests_so None v x h = rw (h.0) tt
   rests_so (Some u) v x h = rw (h.0) tt
 
-  load_rests : (retries : Bool) (v : ℕ) (o : Option ℕ) (w : State) → Facing w t l (Mutex l (Lock entry retries Load)) v o None q
+  load_rests : (retries : Bool) (v : ℕ) (o s : Option ℕ) (w : State) → Facing w t l (Mutex l (Lock entry retries Load)) v o s q
       → Leads 5 w t Resting
-  load_rests retries v o w f = leads_so 5 w t (LockEnds t l entry o q) Resting (rests_so o) (load_leads retries v o w f)
+  load_rests retries v o s w f = leads_so 5 w t (LockEnds t l entry o q) Resting (rests_so o) (load_leads retries v o s w f)
 
 module _ (t l : ℕ) (entry : Entry) where
   -- from this place it rests within so many steps
@@ -122,7 +122,7 @@ module _ (t l : ℕ) (entry : Entry) where
 
   leave_rests : (b : Bool) → RestsFrom (Leave b) 6
   leave_rests true retries v o s q w f = let h = leave_faces w t l _ v o s q f refl in leads_more 1 6 w t (λ x y. Rests y) (omega arith) (leads_rest w t (λ x y. Rests y) outcome.TheVariants.Sleep h.0 tt tt)
-  leave_rests false retries v o s q w f = let h = leave_faces w t l _ v o s q f refl in leads_step w t (λ x y. Rests y) 5 h.0 (load_rests t l entry q retries v o _ h.1)
+  leave_rests false retries v o s q w f = let h = leave_faces w t l _ v o s q f refl in leads_step w t (λ x y. Rests y) 5 h.0 (load_rests t l entry q retries v o None _ h.1)
 
   check_rests : RestsFrom Check 7
   check_rests retries v o s q w f = either (v == 3) refl
@@ -145,11 +145,11 @@ module _ (t l : ℕ) (entry : Entry) where
       either false h = leads_more 2 3 w t (λ x y. Rests y) (omega arith) (leads_step w t (λ x y. Rests y) 1 h.0 (gives_up_rests retries v o s _ _ h.1))
 
   -- it decides by a value that the word has no longer, or still
-  decide_rests : (retries : Bool) (x v : ℕ) (o : Option ℕ) (q : List Waiter) (w : State)
-      → Facing w t l (Mutex l (Lock entry retries (Decide x))) v o None q → Leads 8 w t (λ a y. Rests y)
-  decide_rests retries x v o q w f = elim (cases_eq v x) [
-    | inl e ↦ let g : Facing w t l (Mutex l (Lock entry retries (Decide v))) v o None q = subst (λ y. Facing w t l (Mutex l (Lock entry retries (Decide y))) v o None q) (sym e) f in
-        leads_more 4 8 w t (λ a y. Rests y) (omega arith) (leads_so 4 w t (LockEnds t l entry o q) (λ a y. Rests y) (rests_so t l entry q o) (decide_leads t l entry q retries v o (coded t l entry q w _ v o None f) w g))
+  decide_rests : (retries : Bool) (x v : ℕ) (o s : Option ℕ) (q : List Waiter) (w : State)
+      → Facing w t l (Mutex l (Lock entry retries (Decide x))) v o s q → Leads 8 w t (λ a y. Rests y)
+  decide_rests retries x v o s q w f = elim (cases_eq v x) [
+    | inl e ↦ let g : Facing w t l (Mutex l (Lock entry retries (Decide v))) v o s q = subst (λ y. Facing w t l (Mutex l (Lock entry retries (Decide y))) v o s q) (sym e) f in
+        leads_more 4 8 w t (λ a y. Rests y) (omega arith) (leads_so 4 w t (LockEnds t l entry o q) (λ a y. Rests y) (rests_so t l entry q o) (decide_leads t l entry q retries v o (coded t l entry q w _ v o s f) s w g))
     | inr ne ↦ either (is_locked x) (x == 1) refl refl (stale ne)
   ]
     where
@@ -162,46 +162,41 @@ module _ (t l : ℕ) (entry : Entry) where
       -- the exchange fails, and it decides by what it has seen
       exchanged : (y : op.Op) → act_of (Mutex l (Lock entry retries (Decide x))) ≡ act.TheVariants.Word l y → apply y v ≡ v
           → (v == x) ≡ false → Leads 8 w t (λ a z. Rests z)
-      exchanged y is stays no_more = again (word_faces w t l (Mutex l (Lock entry retries (Decide x))) v o None q f y is)
+      exchanged y is stays no_more = again (word_faces w t l (Mutex l (Lock entry retries (Decide x))) v o s q f y is)
         where
           again : Faces w t l (next_place (Mutex l (Lock entry retries (Decide x))) (Value v))
               (outcome_of (next_act (Mutex l (Lock entry retries (Decide x))) (Value v))) (apply y v)
-              (owner_after (Mutex l (Lock entry retries (Decide x))) t v o) None q
+              (owner_after (Mutex l (Lock entry retries (Decide x))) t v o) s q
               → Leads 8 w t (λ a z. Rests z)
           again h = let told : outcome_of (next_act (Mutex l (Lock entry retries (Decide x))) (Value v)) ≡ outcome.TheVariants.Step = rw no_more (decides l v) in
               let to : next_place (Mutex l (Lock entry retries (Decide x))) (Value v) ≡ Mutex l (Lock entry retries (Decide v)) = rw no_more refl in
               let own : owner_after (Mutex l (Lock entry retries (Decide x))) t v o ≡ o = rw no_more refl in
-              let g : Facing (after w (go_of t)) t l (Mutex l (Lock entry retries (Decide v))) v o None q =
-              subst (λ z. Facing (after w (go_of t)) t l z v o None q) to (subst (λ n. Facing (after w (go_of t)) t l (next_place (Mutex l (Lock entry retries (Decide x))) (Value v)) n o None q) stays
-              (subst (λ u. Facing (after w (go_of t)) t l (next_place (Mutex l (Lock entry retries (Decide x))) (Value v)) (apply y v) u None q) own h.1)) in
+              let g : Facing (after w (go_of t)) t l (Mutex l (Lock entry retries (Decide v))) v o s q =
+              subst (λ z. Facing (after w (go_of t)) t l z v o s q) to (subst (λ n. Facing (after w (go_of t)) t l (next_place (Mutex l (Lock entry retries (Decide x))) (Value v)) n o s q) stays
+              (subst (λ u. Facing (after w (go_of t)) t l (next_place (Mutex l (Lock entry retries (Decide x))) (Value v)) (apply y v) u s q) own h.1)) in
               leads_more 5 8 w t (λ a z. Rests z) (omega arith) (leads_step w t (λ a z. Rests z) 4 (h.0 ∙ told)
-              (leads_so 4 (after w (go_of t)) t (LockEnds t l entry o q) (λ a z. Rests z) (rests_so t l entry q o) (decide_leads t l entry q retries v o (coded t l entry q w _ v o None f) (after w (go_of t)) g)))
+              (leads_so 4 (after w (go_of t)) t (LockEnds t l entry o q) (λ a z. Rests z) (rests_so t l entry q o) (decide_leads t l entry q retries v o (coded t l entry q w _ v o s f) s (after w (go_of t)) g)))
 
       either : (a b : Bool) → is_locked x ≡ a → (x == 1) ≡ b → (v == x) ≡ false → Leads 8 w t (λ c y. Rests y)
       either false b ea eb no_more = exchanged (op.TheVariants.Exchange x (x + 1)) (rw ea refl) (rw no_more refl) no_more
       either true true ea eb no_more = let not_1 : (v == 1) ≡ false = subst (λ n. (v == n) ≡ false) (eqb-true x 1 eb) no_more in exchanged (op.TheVariants.Exchange 1 3) (rw (ea, eb) refl) (rw not_1 refl) no_more
-      either true false ea eb no_more = let h = enter_faces w t l (Mutex l (Lock entry retries (Decide x))) v o None q f (rw (ea, eb) refl) refl in leads_step w t (λ c y. Rests y) 7 h.0 (check_rests retries v o (Some t) q _ h.1)
-
-  -- a section that is free where the thread is outside, and its own where it is inside
-  abbrev Way : Place → Option ℕ → Type 0
-  Way p s = (station p).inside ≡ None → s ≡ None
+      either true false ea eb no_more = faces_into w t l (Mutex l (Lock entry retries (Decide x))) v o s q f (λ c y. Rests y) 7 (rw (ea, eb) refl) refl refl (λ h. check_rests retries v o (Some t) q _ h)
 
   pub lock_rests : (retries : Bool) (a : LockAt) (v : ℕ) (o s : Option ℕ) (q : List Waiter) (w : State)
-      → Facing w t l (Mutex l (Lock entry retries a)) v o s q → Way (Mutex l (Lock entry retries a)) s
+      → Facing w t l (Mutex l (Lock entry retries a)) v o s q
       → act_of (Mutex l (Lock entry retries a)) ≢ act.TheVariants.Sleep → Leads 8 w t (λ c y. Rests y)
-  lock_rests retries First v o s q w f way up = let g : Facing w t l (Mutex l (Lock entry retries First)) v o None q = subst (λ x. Facing w t l (Mutex l (Lock entry retries First)) v o x q) (way refl) f in
-      leads_more 6 8 w t (λ c y. Rests y) (omega arith) (leads_so 6 w t (LockEnds t l entry o q) (λ c y. Rests y) (rests_so t l entry q o) (first_leads t l entry q retries v o (coded t l entry q w _ v o None g) w g))
-  lock_rests retries Load v o s q w f way up = leads_more 5 8 w t (λ c y. Rests y) (omega arith) (load_rests t l entry q retries v o w (subst (λ x. Facing w t l (Mutex l (Lock entry retries Load)) v o x q) (way refl) f))
-  lock_rests retries (Decide x) v o s q w f way up = decide_rests retries x v o q w (subst (λ y. Facing w t l (Mutex l (Lock entry retries (Decide x))) v o y q) (way refl) f)
-  lock_rests retries Check v o s q w f way up = leads_more 7 8 w t (λ c y. Rests y) (omega arith) (check_rests retries v o s q w f)
-  lock_rests retries (Leave b) v o s q w f way up = leads_more 6 8 w t (λ c y. Rests y) (omega arith) (leave_rests b retries v o s q w f)
-  lock_rests retries Asleep v o s q w f way up = absurd (up refl)
-  lock_rests retries (Taken by) v o s q w f way up = absurd (up refl)
-  lock_rests retries (Handed by) v o s q w f way up = absurd (up refl)
-  lock_rests retries Accept v o s q w f way up = let h = accept_faces w t l (Mutex l (Lock entry retries Accept)) v o s q f refl in leads_more 1 8 w t (λ c y. Rests y) (omega arith) (leads_rest w t (λ c y. Rests y) (outcome.TheVariants.End (entered entry)) h.0 tt tt)
-  lock_rests retries Remove v o s q w f way up = leads_more 3 8 w t (λ c y. Rests y) (omega arith) (remove_rests retries v o s q w f)
-  lock_rests retries Clear v o s q w f way up = leads_more 2 8 w t (λ c y. Rests y) (omega arith) (clear_rests retries v o s q w f)
-  lock_rests retries GiveUp v o s q w f way up = leads_more 1 8 w t (λ c y. Rests y) (omega arith) (gives_up_rests retries v o s q w f)
+  lock_rests retries First v o s q w f up = leads_more 6 8 w t (λ c y. Rests y) (omega arith) (leads_so 6 w t (LockEnds t l entry o q) (λ c y. Rests y) (rests_so t l entry q o) (first_leads t l entry q retries v o (coded t l entry q w _ v o s f) s w f))
+  lock_rests retries Load v o s q w f up = leads_more 5 8 w t (λ c y. Rests y) (omega arith) (load_rests t l entry q retries v o s w f)
+  lock_rests retries (Decide x) v o s q w f up = decide_rests retries x v o s q w f
+  lock_rests retries Check v o s q w f up = leads_more 7 8 w t (λ c y. Rests y) (omega arith) (check_rests retries v o s q w f)
+  lock_rests retries (Leave b) v o s q w f up = leads_more 6 8 w t (λ c y. Rests y) (omega arith) (leave_rests b retries v o s q w f)
+  lock_rests retries Asleep v o s q w f up = absurd (up refl)
+  lock_rests retries (Taken by) v o s q w f up = absurd (up refl)
+  lock_rests retries (Handed by) v o s q w f up = absurd (up refl)
+  lock_rests retries Accept v o s q w f up = let h = accept_faces w t l (Mutex l (Lock entry retries Accept)) v o s q f refl in leads_more 1 8 w t (λ c y. Rests y) (omega arith) (leads_rest w t (λ c y. Rests y) (outcome.TheVariants.End (entered entry)) h.0 tt tt)
+  lock_rests retries Remove v o s q w f up = leads_more 3 8 w t (λ c y. Rests y) (omega arith) (remove_rests retries v o s q w f)
+  lock_rests retries Clear v o s q w f up = leads_more 2 8 w t (λ c y. Rests y) (omega arith) (clear_rests retries v o s q w f)
+  lock_rests retries GiveUp v o s q w f up = leads_more 1 8 w t (λ c y. Rests y) (omega arith) (gives_up_rests retries v o s q w f)
 
 -- ---------------------------------------------------------------- try_lock and unlock
 
@@ -244,33 +239,33 @@ module _ (t l : ℕ) where
       either true h = leads_step w t (UnlockEnds l o) 2 h.0 (cleared_leads (is_there (first_of q)) (drop 1 q) v o s _ h.1)
       either false h = leads_more 2 3 w t (UnlockEnds l o) (omega arith) (leads_step w t (UnlockEnds l o) 1 h.0 (woke_leads (is_there (first_of q)) (drop 1 q) v o s _ h.1))
 
-  enter_leads : (q : List Waiter) (v : ℕ) (o : Option ℕ) (w : State) → Facing w t l (Mutex l (Unlock unlock.Enter)) v o None q
+  enter_leads : (q : List Waiter) (v : ℕ) (o s : Option ℕ) (w : State) → Facing w t l (Mutex l (Unlock unlock.Enter)) v o s q
       → Leads 4 w t (UnlockEnds l o)
-  enter_leads q v o w f = let h = enter_faces w t l (Mutex l (Unlock unlock.Enter)) v o None q f refl refl in leads_step w t (UnlockEnds l o) 3 h.0 (take_leads q v o (Some t) _ h.1)
+  enter_leads q v o s w f = faces_into w t l (Mutex l (Unlock unlock.Enter)) v o s q f (UnlockEnds l o) 3 refl refl refl (λ h. take_leads q v o (Some t) _ h)
 
-  pub subtract_leads : (q : List Waiter) (v : ℕ) (o : Option ℕ) (w : State)
-      → Facing w t l (Mutex l (Unlock unlock.Subtract)) v o None q → Leads 5 w t (UnlockEnds l None)
-  subtract_leads q v o w f = either (is_parked v) (word_faces w t l (Mutex l (Unlock unlock.Subtract)) v o None q f (op.TheVariants.Sub 1) refl)
+  pub subtract_leads : (q : List Waiter) (v : ℕ) (o s : Option ℕ) (w : State)
+      → Facing w t l (Mutex l (Unlock unlock.Subtract)) v o s q → Leads 5 w t (UnlockEnds l None)
+  subtract_leads q v o s w f = either (is_parked v) (word_faces w t l (Mutex l (Unlock unlock.Subtract)) v o s q f (op.TheVariants.Sub 1) refl)
     where
       either : (b : Bool)
           → Faces w t l
           (mutex_goes l (in_unlock (if b then next.TheVariants.At unlock.Enter else next.TheVariants.End answer.TheVariants.Ok)))
           (outcome_of (mutex_does l (in_unlock (if b then next.TheVariants.At unlock.Enter else next.TheVariants.End answer.TheVariants.Ok))))
-          (apply (op.TheVariants.Sub 1) v) None None q → Leads 5 w t (UnlockEnds l None)
-      either true h = leads_step w t (UnlockEnds l None) 4 h.0 (enter_leads q _ None _ h.1)
+          (apply (op.TheVariants.Sub 1) v) None s q → Leads 5 w t (UnlockEnds l None)
+      either true h = leads_step w t (UnlockEnds l None) 4 h.0 (enter_leads q _ None s _ h.1)
       either false h = leads_more 1 5 w t (UnlockEnds l None) (omega arith) (leads_rest w t (UnlockEnds l None) (outcome.TheVariants.End answer.TheVariants.Ok) h.0 tt (refl, h.1.owner))
 
   ends_so : (o : Option ℕ) (v : State) (x : Outcome) → UnlockEnds l o v x → Rests x
   ends_so o v x h = rw (h.0) tt
 
   pub unlock_rests : (a : UnlockAt) (v : ℕ) (o s : Option ℕ) (q : List Waiter) (w : State)
-      → Facing w t l (Mutex l (Unlock a)) v o s q → ((station (Mutex l (Unlock a))).inside ≡ None → s ≡ None)
+      → Facing w t l (Mutex l (Unlock a)) v o s q
       → Leads 8 w t (λ c y. Rests y)
-  unlock_rests unlock.Subtract v o s q w f way = leads_more 5 8 w t (λ c y. Rests y) (omega arith) (leads_so 5 w t (UnlockEnds l None) (λ c y. Rests y) (ends_so None) (subtract_leads q v o w (subst (λ x. Facing w t l (Mutex l (Unlock unlock.Subtract)) v o x q) (way refl) f)))
-  unlock_rests unlock.Enter v o s q w f way = leads_more 4 8 w t (λ c y. Rests y) (omega arith) (leads_so 4 w t (UnlockEnds l o) (λ c y. Rests y) (ends_so o) (enter_leads q v o w (subst (λ x. Facing w t l (Mutex l (Unlock unlock.Enter)) v o x q) (way refl) f)))
-  unlock_rests unlock.Take v o s q w f way = leads_more 3 8 w t (λ c y. Rests y) (omega arith) (leads_so 3 w t (UnlockEnds l o) (λ c y. Rests y) (ends_so o) (take_leads q v o s w f))
-  unlock_rests (unlock.Clear any) v o s q w f way = leads_more 2 8 w t (λ c y. Rests y) (omega arith) (leads_so 2 w t (UnlockEnds l o) (λ c y. Rests y) (ends_so o) (cleared_leads any q v o s w f))
-  unlock_rests (unlock.Leave any) v o s q w f way = leads_more 1 8 w t (λ c y. Rests y) (omega arith) (leads_so 1 w t (UnlockEnds l o) (λ c y. Rests y) (ends_so o) (woke_leads any q v o s w f))
+  unlock_rests unlock.Subtract v o s q w f = leads_more 5 8 w t (λ c y. Rests y) (omega arith) (leads_so 5 w t (UnlockEnds l None) (λ c y. Rests y) (ends_so None) (subtract_leads q v o s w f))
+  unlock_rests unlock.Enter v o s q w f = leads_more 4 8 w t (λ c y. Rests y) (omega arith) (leads_so 4 w t (UnlockEnds l o) (λ c y. Rests y) (ends_so o) (enter_leads q v o s w f))
+  unlock_rests unlock.Take v o s q w f = leads_more 3 8 w t (λ c y. Rests y) (omega arith) (leads_so 3 w t (UnlockEnds l o) (λ c y. Rests y) (ends_so o) (take_leads q v o s w f))
+  unlock_rests (unlock.Clear any) v o s q w f = leads_more 2 8 w t (λ c y. Rests y) (omega arith) (leads_so 2 w t (UnlockEnds l o) (λ c y. Rests y) (ends_so o) (cleared_leads any q v o s w f))
+  unlock_rests (unlock.Leave any) v o s q w f = leads_more 1 8 w t (λ c y. Rests y) (omega arith) (leads_so 1 w t (UnlockEnds l o) (λ c y. Rests y) (ends_so o) (woke_leads any q v o s w f))
 
 -- ---------------------------------------------------------------- fair releases
 
@@ -301,9 +296,9 @@ module _ (t l : ℕ) where
   told_leads : (bumps any : Bool) (q : List Waiter) (v : ℕ) (o s : Option ℕ) (w : State)
       → Facing w t l (Mutex l (HandOff bumps (hand_off.Leave any))) v o s q → Leads 7 w t (FairEnds bumps t l o q)
   told_leads true false q v o s w f = let h = leave_faces w t l (Mutex l (HandOff true (hand_off.Leave false))) v o s q f refl in
-      leads_step w t (FairEnds true t l o q) 6 h.0 (first_leads t l entries.Bump q false v o (coded t l entries.Bump q w _ v o s f) _ h.1)
+      leads_step w t (FairEnds true t l o q) 6 h.0 (first_leads t l entries.Bump q false v o (coded t l entries.Bump q w _ v o s f) None _ h.1)
   told_leads true true q v o s w f = let h = wake_faces w t l (Mutex l (HandOff true (hand_off.Leave true))) v o s q f note.HandOff refl in
-      leads_step w t (FairEnds true t l o q) 6 h.0 (first_leads t l entries.Bump q false v o (coded t l entries.Bump q w _ v o s f) _ h.1)
+      leads_step w t (FairEnds true t l o q) 6 h.0 (first_leads t l entries.Bump q false v o (coded t l entries.Bump q w _ v o s f) None _ h.1)
   told_leads false false q v o s w f = let h = leave_faces w t l (Mutex l (HandOff false (hand_off.Leave false))) v o s q f refl in
       leads_more 1 7 w t (UnlockEnds l o) (omega arith) (leads_rest w t (UnlockEnds l o) (outcome.TheVariants.End answer.TheVariants.Ok) h.0 tt (refl, h.1.owner))
   told_leads false true q v o s w f = let h = wake_faces w t l (Mutex l (HandOff false (hand_off.Leave true))) v o s q f note.HandOff refl in
@@ -364,11 +359,11 @@ module _ (t l : ℕ) where
   fair_take_leads bumps (x ∷ rest) v o s w f = let h = take_faces w t l (Mutex l (HandOff bumps hand_off.Take)) v o s (x ∷ rest) f refl in
       leads_step w t (FairEnds bumps t l (Some x.thread) rest) 8 h.0 (store_leads bumps (length rest == 0) (Some x.thread) rest v o s _ h.1 (λ u e o2. heir_first bumps v o s x rest w f o2 ∙ ap (λ (z : Option ℕ). with_exclusive o2 z) e))
 
-  fair_enter_leads : (bumps : Bool) (q : List Waiter) (v : ℕ) (o : Option ℕ) (w : State)
-      → Facing w t l (Mutex l (HandOff bumps hand_off.Enter)) v o None q
+  fair_enter_leads : (bumps : Bool) (q : List Waiter) (v : ℕ) (o s : Option ℕ) (w : State)
+      → Facing w t l (Mutex l (HandOff bumps hand_off.Enter)) v o s q
       → Leads 10 w t (FairEnds bumps t l (first_of q) (drop 1 q))
-  fair_enter_leads bumps q v o w f = let h = enter_faces w t l (Mutex l (HandOff bumps hand_off.Enter)) v o None q f refl refl in
-      leads_step w t (FairEnds bumps t l (first_of q) (drop 1 q)) 9 h.0 (fair_take_leads bumps q v o (Some t) _ h.1)
+  fair_enter_leads bumps q v o s w f = faces_into w t l (Mutex l (HandOff bumps hand_off.Enter)) v o s q f (FairEnds bumps t l (first_of q) (drop 1 q)) 9 refl refl refl
+      (λ h. fair_take_leads bumps q v o (Some t) _ h)
 
   pub unlock_fair_leads : (q : List Waiter) (v : ℕ) (o : Option ℕ) (w : State) → Facing w t l (Mutex l UnlockFair) v o None q
       → Leads 11 w t (FairEnds false t l (first_of q) (drop 1 q))
@@ -380,7 +375,7 @@ module _ (t l : ℕ) where
           → Leads 11 w t (FairEnds false t l (first_of q) (drop 1 q))
       either true e h = let one : v ≡ 1 = eqb-true v 1 e in let none : first_of q ≡ None = ap first_of (none_waits t l UnlockFair v o q w f (omega arith)) in
           leads_more 1 11 w t (UnlockEnds l (first_of q)) (omega arith) (leads_rest w t (UnlockEnds l (first_of q)) (outcome.TheVariants.End answer.TheVariants.Ok) h.0 tt (refl, h.1.owner ∙ sym none))
-      either false e h = leads_step w t (UnlockEnds l (first_of q)) 10 h.0 (fair_enter_leads false q v o _ h.1)
+      either false e h = leads_step w t (UnlockEnds l (first_of q)) 10 h.0 (fair_enter_leads false q v o None _ h.1)
 
   pub bump_leads : (q : List Waiter) (v : ℕ) (o : Option ℕ) (w : State) → Facing w t l (Mutex l Bump) v o None q
       → Leads 11 w t (FairEnds true t l (first_of q) (drop 1 q))
@@ -392,7 +387,7 @@ module _ (t l : ℕ) where
       either : (b : Bool) → is_parked v ≡ b
           → Faces w t l (mutex_goes l (looked true b)) (outcome_of (mutex_does l (looked true b))) v o None q
           → Leads 11 w t (FairEnds true t l (first_of q) (drop 1 q))
-      either true e h = leads_step w t (FairEnds true t l (first_of q) (drop 1 q)) 10 h.0 (fair_enter_leads true q v o _ h.1)
+      either true e h = leads_step w t (FairEnds true t l (first_of q) (drop 1 q)) 10 h.0 (fair_enter_leads true q v o None _ h.1)
       either false e h = let empty : q ≡ [] = none_waits t l Bump v o q w f (unparked v o (coded t l entries.Bump q w _ v o None f) e) in
           leads_more 1 11 w t (FairEnds true t l (first_of q) (drop 1 q)) (omega arith)
           (leads_rest w t (FairEnds true t l (first_of q) (drop 1 q)) (outcome.TheVariants.End answer.TheVariants.Ok) h.0 tt (rw empty (refl, h.1.owner ∙ owned)))
@@ -401,17 +396,42 @@ module _ (t l : ℕ) where
   fair_so true o q v x h = rests_so t l entries.Bump q o v x h
   fair_so false o q v x h = ends_so t l o v x h
 
+  entered_rests : (bumps : Bool) (q : List Waiter) (v : ℕ) (o s : Option ℕ) (w : State)
+      → Facing w t l (Mutex l (HandOff bumps hand_off.Enter)) v o s q → Leads 10 w t (λ c y. Rests y)
+  entered_rests bumps q v o s w f = leads_so 10 w t (FairEnds bumps t l (first_of q) (drop 1 q)) (λ c y. Rests y) (fair_so bumps (first_of q) (drop 1 q)) (fair_enter_leads bumps q v o s w f)
+
   pub fair_rests : (k : ℕ) (bumps : Bool) (o : Option ℕ) (q : List Waiter) (w : State) → k ≤ 12
       → Leads k w t (FairEnds bumps t l o q) → Leads 12 w t (λ c y. Rests y)
   fair_rests k bumps o q w le h = leads_more k 12 w t (λ c y. Rests y) le (leads_so k w t (FairEnds bumps t l o q) (λ c y. Rests y) (fair_so bumps o q) h)
 
-  pub hand_off_rests : (bumps : Bool) (a : HandOffAt) (v : ℕ) (o s : Option ℕ) (q : List Waiter) (w : State)
-      → Facing w t l (Mutex l (HandOff bumps a)) v o s q → ((station (Mutex l (HandOff bumps a))).inside ≡ None → s ≡ None)
+  -- from its beginning, whoever is inside its section
+  pub unlock_fair_rests : (q : List Waiter) (v : ℕ) (o s : Option ℕ) (w : State) → Facing w t l (Mutex l UnlockFair) v o s q
       → Leads 12 w t (λ c y. Rests y)
-  hand_off_rests bumps hand_off.Enter v o s q w f way = fair_rests 10 bumps (first_of q) (drop 1 q) w (omega arith) (fair_enter_leads bumps q v o w (subst (λ x. Facing w t l (Mutex l (HandOff bumps hand_off.Enter)) v o x q) (way refl) f))
-  hand_off_rests bumps hand_off.Take v o s q w f way = fair_rests 9 bumps (first_of q) (drop 1 q) w (omega arith) (fair_take_leads bumps q v o s w f)
-  hand_off_rests bumps (hand_off.Store false none_left) v o s q w f way = fair_rests 8 bumps None q w (omega arith) (store_leads bumps none_left None q v o s w f (λ u e. absurd cc))
-  hand_off_rests bumps (hand_off.Store true none_left) v o s q w f way =
+  unlock_fair_rests q v o s w f = either (v == 1) (word_faces w t l (Mutex l UnlockFair) v o s q f (op.TheVariants.Exchange 1 0) refl)
+    where
+      either : (b : Bool)
+          → Faces w t l (mutex_goes l (looked false (not b))) (outcome_of (mutex_does l (looked false (not b))))
+          (if v == 1 then 0 else v) (if b then None else o) s q
+          → Leads 12 w t (λ c y. Rests y)
+      either true h = leads_more 1 12 w t (λ c y. Rests y) (omega arith) (leads_rest w t (λ c y. Rests y) (outcome.TheVariants.End answer.TheVariants.Ok) h.0 tt tt)
+      either false h = leads_more 11 12 w t (λ c y. Rests y) (omega arith) (leads_step w t (λ c y. Rests y) 10 h.0 (entered_rests false q _ o s _ h.1))
+
+  pub bump_rests : (q : List Waiter) (v : ℕ) (o s : Option ℕ) (w : State) → Facing w t l (Mutex l Bump) v o s q
+      → Leads 12 w t (λ c y. Rests y)
+  bump_rests q v o s w f = either (is_parked v) (word_faces w t l (Mutex l Bump) v o s q f op.TheVariants.Load refl)
+    where
+      either : (b : Bool) → Faces w t l (mutex_goes l (looked true b)) (outcome_of (mutex_does l (looked true b))) v o s q
+          → Leads 12 w t (λ c y. Rests y)
+      either true h = leads_more 11 12 w t (λ c y. Rests y) (omega arith) (leads_step w t (λ c y. Rests y) 10 h.0 (entered_rests true q v o s _ h.1))
+      either false h = leads_more 1 12 w t (λ c y. Rests y) (omega arith) (leads_rest w t (λ c y. Rests y) (outcome.TheVariants.End answer.TheVariants.Ok) h.0 tt tt)
+
+  pub hand_off_rests : (bumps : Bool) (a : HandOffAt) (v : ℕ) (o s : Option ℕ) (q : List Waiter) (w : State)
+      → Facing w t l (Mutex l (HandOff bumps a)) v o s q
+      → Leads 12 w t (λ c y. Rests y)
+  hand_off_rests bumps hand_off.Enter v o s q w f = fair_rests 10 bumps (first_of q) (drop 1 q) w (omega arith) (fair_enter_leads bumps q v o s w f)
+  hand_off_rests bumps hand_off.Take v o s q w f = fair_rests 9 bumps (first_of q) (drop 1 q) w (omega arith) (fair_take_leads bumps q v o s w f)
+  hand_off_rests bumps (hand_off.Store false none_left) v o s q w f = fair_rests 8 bumps None q w (omega arith) (store_leads bumps none_left None q v o s w f (λ u e. absurd cc))
+  hand_off_rests bumps (hand_off.Store true none_left) v o s q w f =
       let one : (u : ℕ) × (hand_at (place_at w u) l ≡ hand t false) = f.steady.stands.hands.carried t l false (ap (λ (x : Station). x.carries) (own_stance l (place_at w t) (HandOff bumps (hand_off.Store true none_left)) f.place)) in
       fair_rests 8 bumps (Some one.0) q w (omega arith) (store_leads bumps none_left (Some one.0) q v o s w f (λ u e o2. successor_one w t l one.0 false (aparts w f.steady) f.steady.stands.hands (single_at w t l (HandOff bumps (hand_off.Store true none_left)) f.steady f.place) (of_carries l (place_at w t) (rw f.place refl)) one.1 (alone_at w t l (HandOff bumps (hand_off.Store true none_left)) f.steady f.place) (unshared_at w t l (HandOff bumps (hand_off.Store true none_left)) f.steady f.place) o2 ∙ ap (λ (z : Option ℕ). with_exclusive o2 z) e))
-  hand_off_rests bumps (hand_off.Leave any) v o s q w f way = fair_rests 7 bumps o q w (omega arith) (told_leads bumps any q v o s w f)
+  hand_off_rests bumps (hand_off.Leave any) v o s q w f = fair_rests 7 bumps o q w (omega arith) (told_leads bumps any q v o s w f)

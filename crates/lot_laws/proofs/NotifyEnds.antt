@@ -1,5 +1,5 @@
 -- A notification from its beginning, whose thread steps alone: it moves the first, or all, where a mutex is shown.
-use Rattle.std.proofs.Common.{ℕ, Bool, true, false, Option, Some, None, if◌then◌else◌, ◌==◌, ◌≡◌, ◌≢◌, ◌+◌, List, [], ◌∷◌, is_none, inr, refl, sym, ◌∙◌, ap, subst, arith, get_or-set_same}
+use Rattle.std.proofs.Common.{ℕ, Bool, true, false, Option, Some, None, if◌then◌else◌, ◌==◌, ◌≡◌, ◌*◌, ◌≢◌, ◌+◌, List, [], ◌∷◌, is_none, inr, refl, sym, ◌∙◌, ap, subst, arith, get_or-set_same}
 use Rattle.std.proofs.lemmas.Bool.Decides.{nat_tests}
 use Rattle.lot_calls.specs.declared.kinds.Kind.TheVariants as kind
 use Rattle.lot_calls.specs.declared.outcomes.Outcome.{Outcome}
@@ -11,11 +11,11 @@ use Rattle.lot_condvar.specs.CondvarDeeds.{word_of}
 use Rattle.lot_condvar.specs.CondvarSteps.{is_shown, look_next, mutex_shown, notified, shown_as}
 use Rattle.abstract_locks.specs.Condvars.{IsAsInside, IsSettledAt}
 use Rattle.abstract_locks.specs.Locks.{Queued}
-use Rattle.lot_machine.specs.Machine.{State, after, go_of, unlocked, word_at}
+use Rattle.lot_machine.specs.Machine.{State, after, go_of, section_at, unlocked, word_at}
 use Rattle.lot_laws.specs.Refinement.{lock_state}
 use Rattle.lot_laws.specs.SitesOf.{condvar_of}
 use Rattle.lot_laws.specs.Solo.{NotifiesAlone, Rests}
-use Rattle.lot_laws.proofs.CondvarAlone.{Behind, GoesAlone, Keeps, free_here, leads_behind, lock_there, queue_then, so_then}
+use Rattle.lot_laws.proofs.CondvarAlone.{Behind, GoesAlone, Keeps, leads_behind, lock_there, queue_then, so_then}
 use Rattle.lot_laws.proofs.CondvarHears.{fits_here, free_inside, word_is}
 use Rattle.lot_laws.proofs.Leads.{Leads, leads_more, leads_so}
 use Rattle.lot_laws.proofs.NotifySolo.{Ends, enters_seeing, left_then, moved_number}
@@ -23,7 +23,7 @@ use Rattle.lot_laws.proofs.NotifySolo.{Ends, enters_seeing, left_then, moved_num
 shown_one : (m : ℕ) → (shown_as m == 0) ≡ false
 shown_one m = grind (arith, nat_tests)
 
-shown_again : (m : ℕ) → mutex_shown (shown_as m) ≡ m
+pub shown_again : (m : ℕ) → mutex_shown (shown_as m) ≡ m
 shown_again m = omega arith
 
 shows_itself : (m : ℕ) → is_shown (shown_as m) m ≡ true
@@ -62,9 +62,9 @@ module _ (t l m : ℕ) (keeps : Keeps t) (w : State) (all : Bool) (g : GoesAlone
 
   -- ---------------------------------------------------------------- the law
 
-  -- it is settled, since nobody is inside its section
-  settled : IsSettledAt (lock_state w l).shown (condvar_of w l)
-  settled = subst (IsAsInside (condvar_of w l)) (free_inside w t l (Look all) g.world.steady g.place (ap is_none (free_here t l m keeps w (Look all) g refl)))
+  -- it is settled, where nobody is inside its section
+  settled : section_at w (2 * l) ≡ None → IsSettledAt (lock_state w l).shown (condvar_of w l)
+  settled free = subst (IsAsInside (condvar_of w l)) (free_inside w t l (Look all) g.world.steady g.place (ap is_none free))
       (g.world.condvars l (fits_here w t l (Look all) g.world.steady g.place).sort).inside
 
   -- the word that is shown
@@ -87,12 +87,12 @@ module _ (t l m : ℕ) (keeps : Keeps t) (w : State) (all : Bool) (g : GoesAlone
   some_moved v o false (x ∷ q) some h = h
 
   -- where no mutex is shown, or this one
-  pub notifies_alone : (o : Option ℕ) → (lock_state w l).shown ≡ o → (o ≢ None → o ≡ Some m)
+  pub notifies_alone : section_at w (2 * l) ≡ None → (o : Option ℕ) → (lock_state w l).shown ≡ o → (o ≢ None → o ≡ Some m)
       → Leads 9 w t (λ v x. NotifiesAlone all (lock_state w l).queue x (lock_state v l).queue)
-  notifies_alone None e of = leads_more 1 9 w t (λ v x. NotifiesAlone all (lock_state w l).queue x (lock_state v l).queue) (omega arith) (leads_so 1 w t (Ends t l m keeps all 0 (lock_state w l).queue) (λ v x. NotifiesAlone all (lock_state w l).queue x (lock_state v l).queue)
-      (λ v x h. none_moved v x (lock_state w l).queue (subst (λ s. IsSettledAt s (condvar_of w l)) e settled) h) (finds_none (shows None e)))
-  notifies_alone (Some k) e of = leads_so 9 w t (Ends t l m keeps all (moved_number all (lock_state w l).queue) (left_then all (lock_state w l).queue)) (λ v x. NotifiesAlone all (lock_state w l).queue x (lock_state v l).queue)
-      (λ v x h. some_moved v x all (lock_state w l).queue (subst (λ s. IsSettledAt s (condvar_of w l)) e settled).0 h)
+  notifies_alone free None e of = leads_more 1 9 w t (λ v x. NotifiesAlone all (lock_state w l).queue x (lock_state v l).queue) (omega arith) (leads_so 1 w t (Ends t l m keeps all 0 (lock_state w l).queue) (λ v x. NotifiesAlone all (lock_state w l).queue x (lock_state v l).queue)
+      (λ v x h. none_moved v x (lock_state w l).queue (subst (λ s. IsSettledAt s (condvar_of w l)) e (settled free)) h) (finds_none (shows None e)))
+  notifies_alone free (Some k) e of = leads_so 9 w t (Ends t l m keeps all (moved_number all (lock_state w l).queue) (left_then all (lock_state w l).queue)) (λ v x. NotifiesAlone all (lock_state w l).queue x (lock_state v l).queue)
+      (λ v x h. some_moved v x all (lock_state w l).queue (subst (λ s. IsSettledAt s (condvar_of w l)) e (settled free)).0 h)
       (finds_some (shows (Some k) e ∙ ap word_of (of (λ f. cc))))
 
   pub look_rests : (o : Option ℕ) → (lock_state w l).shown ≡ o → (o ≢ None → o ≡ Some m) → Leads 9 w t (λ v x. Rests x)

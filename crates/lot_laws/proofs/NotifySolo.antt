@@ -1,5 +1,5 @@
 -- A notification whose thread steps alone: from each place it ends, and has moved the first, or all, or nobody where its mutex is not shown.
-use Rattle.std.proofs.Common.{ℕ, Bool, true, false, if◌then◌else◌, ◌==◌, ◌&&◌, ◌≡◌, ◌+◌, ◌*◌, ◌≤◌, List, [], ◌∷◌, drop, length, nat_lt, not, inr, refl, sym, ◌∙◌, ap, subst, arith}
+use Rattle.std.proofs.Common.{ℕ, Bool, true, false, if◌then◌else◌, ◌==◌, ◌&&◌, ◌≡◌, ◌+◌, ◌*◌, ◌≤◌, List, [], ◌∷◌, drop, length, nat_lt, not, inl, inr, refl, sym, ◌∙◌, ap, subst, arith}
 use Rattle.lot_base.specs.declared.ops.Op.{Op}
 use Rattle.lot_base.specs.declared.ops.Op.TheVariants as op
 use Rattle.lot_base.specs.Words.{apply}
@@ -27,7 +27,7 @@ use Rattle.lot_laws.specs.Solo.{Rests}
 use Rattle.lot_laws.proofs.CondvarAlone.{Behind, GoesAlone, Keeps, free_beside, free_here, hears, leads_behind, queue_then, reached, so_then, word_then}
 use Rattle.lot_laws.proofs.CondvarOwn.{notifier_still}
 use Rattle.lot_laws.proofs.Glue.{same}
-use Rattle.lot_laws.proofs.Leads.{Leads, leads_more, leads_so}
+use Rattle.lot_laws.proofs.Leads.{leads_barred, Leads, leads_more, leads_so}
 
 -- how many it moves of those who wait, and who is left
 abbrev pub moved_number : Bool → List Queued → ℕ
@@ -185,25 +185,31 @@ module _ (t l m : ℕ) (keeps : Keeps t) where
         left : (lock_state (after w (go_of t)) l).queue ≡ q
         left = queue_is w all notify.Again g refl ∙ ap (λ b. (after_all (if b then SeeAgain m ∷ [] else MissIt m ∷ []) (condvar_of w l) t).waiters) shown ∙ e
 
-  -- it enters both sections, which nobody else is inside
+  -- it enters both sections, or is barred
   module _ (w : State) (all : Bool) (g : Alone w all notify.Enter) where
-    both_free : can_do w (notify_act all l m notify.Enter) ≡ true
-    both_free = rw (free_here t l m keeps w (Notify all m notify.Enter) g refl, free_beside t l m keeps w (Notify all m notify.Enter) g refl refl) refl
+    abbrev BothFree : Type 0
+    BothFree = can_do w (notify_act all l m notify.Enter) ≡ true
 
     -- and finds the condition variable as it was
-    same_word : word_at (after w (go_of t)) l ≡ word_at w l
-    same_word = so_then t l m keeps w (Notify all m notify.Enter) g both_free (λ s. word_at s l) (λ x. refl)
+    same_word : BothFree → word_at (after w (go_of t)) l ≡ word_at w l
+    same_word can = so_then t l m keeps w (Notify all m notify.Enter) g can (λ s. word_at s l) (λ x. refl)
 
-    same_queue : (lock_state (after w (go_of t)) l).queue ≡ (lock_state w l).queue
-    same_queue = queue_is w all notify.Enter g both_free
+    same_queue : BothFree → (lock_state (after w (go_of t)) l).queue ≡ (lock_state w l).queue
+    same_queue can = queue_is w all notify.Enter g can
 
     enters : (P : State → Outcome → Type 0) (k : ℕ)
-        → (Alone (after w (go_of t)) all notify.Again → Leads k (after w (go_of t)) t P) → Leads (k + 1) w t P
-    enters P k on = goes w all notify.Enter g P k both_free (λ h. inr (refl, on h))
+        → (BothFree → Alone (after w (go_of t)) all notify.Again → Leads k (after w (go_of t)) t P) → Leads (k + 1) w t P
+    enters P k on = elim (free_here t l m keeps w (Notify all m notify.Enter) g (inl refl) refl) [
+      | inl here ↦ elim (free_beside t l m keeps w (Notify all m notify.Enter) g (inr refl) refl refl) [
+        | inl beside ↦ let can : BothFree = rw (here, beside) refl in goes w all notify.Enter g P k can (λ h. inr (refl, on can h))
+        | inr barred ↦ leads_barred w t P (k + 1) barred
+      ]
+      | inr barred ↦ leads_barred w t P (k + 1) barred
+    ]
 
   pub enters_seeing : (w : State) (all : Bool) (q : List Queued) → is_shown (word_at w l) m ≡ true → (lock_state w l).queue ≡ q
       → Alone w all notify.Enter → Leads 8 w t (Ends all (moved_number all q) (left_then all q))
-  enters_seeing w all q shown e g = enters w all g (Moves all q) 7 (sees all q (after w (go_of t)) (ap (λ v. is_shown v m) (same_word w all g) ∙ shown) (same_queue w all g ∙ e))
+  enters_seeing w all q shown e g = enters w all g (Moves all q) 7 (λ can. sees all q (after w (go_of t)) (ap (λ v. is_shown v m) (same_word w all g can) ∙ shown) (same_queue w all g can ∙ e))
 
   -- ---------------------------------------------------------------- from any place
 
@@ -219,7 +225,7 @@ module _ (t l m : ℕ) (keeps : Keeps t) where
       either false e = leads_more 2 7 w t (λ v o. Rests o) (omega arith) (leads_so 2 w t (Ends all 0 (lock_state w l).queue) (λ v o. Rests o) (λ v o x. subst Rests (sym x.0) tt) (misses all (lock_state w l).queue w e refl g))
 
   pub notify_rests : (w : State) (all : Bool) (at : NotifyAt) → Alone w all at → Leads 8 w t (λ v o. Rests o)
-  notify_rests w all notify.Enter g = enters w all g (λ v o. Rests o) 7 (again_rests (after w (go_of t)) all)
+  notify_rests w all notify.Enter g = enters w all g (λ v o. Rests o) 7 (λ can. again_rests (after w (go_of t)) all)
   notify_rests w all notify.Again g = leads_more 7 8 w t (λ v o. Rests o) (omega arith) (again_rests w all g)
   notify_rests w all notify.Hide g = ends_rest 6 w all _ _ (omega arith) (hides all (lock_state w l).queue w refl g)
   notify_rests w all notify.Mark g = ends_rest 5 w all _ _ (omega arith) (begins_marking all (lock_state w l).queue w refl g)

@@ -1,5 +1,5 @@
 -- A call of a `Once` that steps alone from its beginning, and to what it comes.
-use Rattle.std.proofs.Common.{ℕ, Bool, true, false, Some, if◌then◌else◌, ◌≡◌, ◌+◌, ◌*◌, ◌≤◌, ◌++◌, ◌∷◌, [], List, map, refl, sym, ◌∙◌, ap, subst, arith}
+use Rattle.std.proofs.Common.{ℕ, Bool, true, false, Some, if◌then◌else◌, ◌≡◌, ◌+◌, ◌*◌, ◌≤◌, ◌⊎◌, ◌++◌, ◌∷◌, [], List, map, refl, sym, ◌∙◌, ap, subst, arith}
 use Rattle.std.specs.Prelude.{◌&&◌, not}
 use Rattle.lot_base.specs.declared.keys.Keys.TheVariants.{One}
 use Rattle.lot_base.specs.declared.ops.Op.TheVariants as op
@@ -34,12 +34,12 @@ use Rattle.lot_steps.specs.Steps.{once_does, once_goes}
 use Rattle.lot_machine.specs.Machine.{State, after, go_of, queue_at, solo, word_at}
 use Rattle.lot_laws.specs.Refinement.{lock_state}
 use Rattle.lot_laws.specs.SitesOf.{FitsItsLock, key_of, rules_in, site_of}
-use Rattle.lot_laws.specs.Solo.{EndsAlone}
+use Rattle.lot_laws.specs.Solo.{EndsAlone, IsBarred}
 use Rattle.lot_laws.specs.Stations.{doing_on}
 use Rattle.lot_laws.proofs.Glue.{same}
-use Rattle.lot_laws.proofs.LineSolo.{Comes, StepsAlone, enter_comes, finds_free, leave_comes, park_comes, parks_last, word_comes}
+use Rattle.lot_laws.proofs.LineSolo.{Comes, StepsAlone, leads_into, leave_comes, park_comes, parks_last, word_comes}
 use Rattle.lot_laws.proofs.MutexTable.{queued_behind}
-use Rattle.lot_laws.proofs.Leads.{Leads, leads_more, leads_rest, leads_step}
+use Rattle.lot_laws.proofs.Leads.{Leads, leads_more, leads_rest, leads_step, or_so}
 
 -- who waits for a run still does so while none has ended
 none_yet : (forced : Bool) → holds (check_of (Wait forced)) 8 ≡ true
@@ -100,7 +100,7 @@ module _ (t l : ℕ) where
     parks : (again : Bool) (seen v : ℕ) (w : State) (q : Queues)
         → once_act l (Look c again (look.Decide seen)) ≡ act.Enter (One (2 * l)) → holds (check_of c) v ≡ true
         → Alone w (Look c again (look.Decide seen)) v q → Leads 3 w t (Sleeps c q)
-    parks again seen v w q is h f = goes w v q _ (enter_comes w t l _ v q f Main is (finds_free w t l _ v q f refl Main)) 2 (Sleeps c q) (Look c again look.Check) refl refl (λ g. checks again v _ q h g)
+    parks again seen v w q is h f = leads_into w t l _ v q f (Sleeps c q) 2 Main is refl refl (λ g. checks again v _ q h g)
 
   -- what a call comes to, by how far its lock has come
   abbrev pub Ended : Queues → OnceCall → Phase → State → Outcome → Type 0
@@ -261,7 +261,7 @@ module _ (w : State) (t l : ℕ) where
 
   pub once_alone : (c : OnceCall) (n : ℕ) (last : Outcome) → 18 ≤ n
       → StepsAlone w t l (Once l (once_first c)) (word_at w l) (λ m. queue_at w (key_of l m))
-      → EndsAlone w t (Some (once_purpose l c)) (solo n w t last).outcome (solo n w t last).state
-  once_alone c n last le f = ended_so w t l (solo n w t last).state (solo n w t last).outcome c (lock_state w l).phase refl
+      → EndsAlone w t (Some (once_purpose l c)) (solo n w t last).outcome (solo n w t last).state ⊎ IsBarred (solo n w t last).state t
+  once_alone c n last le f = or_so (ended_so w t l (solo n w t last).state (solo n w t last).outcome c (lock_state w l).phase refl)
       (loads t l false w (λ m. queue_at w (key_of l m)) c (site_of w l).parked (lock_state w l).phase
       (subst (λ v. StepsAlone w t l (Once l (once_first c)) v (λ m. queue_at w (key_of l m))) (told_by_word _ _ _ f) f) n last (omega arith))

@@ -5,16 +5,14 @@ use Rattle.lot_calls.specs.declared.calls.OnceCall.{OnceCall}
 use Rattle.lot_calls.specs.declared.calls.OnceCall.TheVariants.{CallOnce, Wait, WaitTimed}
 use Rattle.lot_acts.specs.Rows.{LetsIn}
 use Rattle.abstract_locks.specs.Locks as locks
-use Rattle.abstract_locks.specs.Sites.{Line, Second, has_readers}
+use Rattle.abstract_locks.specs.Sites.{Line}
 use Rattle.abstract_locks.specs.Purposes.{IsReleasing, once_purpose}
 use Rattle.lot_once.specs.OnceSteps.{is_timed}
 use Rattle.lot_once.specs.declared.give_up.GiveUpAt.{GiveUpAt}
 use Rattle.lot_once.specs.declared.look.LookAt.{LookAt}
 use Rattle.lot_once.specs.declared.look.LookAt.TheVariants as look
-use Rattle.lot_once.specs.declared.places.OncePlace.{OncePlace}
 use Rattle.lot_once.specs.declared.places.OncePlace.TheVariants.{Look, GiveUp}
 use Rattle.lot_once.specs.OnceProfiles.{again_of, look_row, once_profile}
-use Rattle.lot_once.proofs.OnceRowCheck.{once_promises}
 
 unreleased : (timed : Bool) (wanted : Option Want) (at : LookAt) → (look_row timed wanted at).released ≡ false
 unreleased timed wanted look.Load = refl
@@ -39,7 +37,3 @@ pub look_owes : (timed : Bool) (wanted : Option Want) (at : LookAt) (m : Line) �
 look_owes timed wanted look.Check m h = h
 look_owes timed wanted (look.Leave parked) m h = h
 look_owes timed wanted at m h = absurd cc
-
--- it has no second line
-pub main_only : (at : OncePlace) → (once_profile at).doing.inside ≡ Some Second → ⊥
-main_only at h = let f : has_readers locks.Once ≡ true = (once_promises 0 at).owing.second ((once_promises 0 at).owing.inside Second h) in cc

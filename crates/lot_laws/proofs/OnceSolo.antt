@@ -39,7 +39,7 @@ use Rattle.lot_machine.specs.Machine.{State, after, go_of, runs_closure, step_ou
 use Rattle.lot_laws.specs.Refinement.{lock_state}
 use Rattle.lot_laws.specs.SitesOf.{site_of}
 use Rattle.lot_laws.specs.Solo.{Rests}
-use Rattle.lot_laws.proofs.LineSolo.{Comes, StepsAlone, enter_comes, finds_free, leave_comes, park_comes, remove_comes, take_comes, word_comes}
+use Rattle.lot_laws.proofs.LineSolo.{Comes, StepsAlone, leads_into, leave_comes, park_comes, remove_comes, take_comes, word_comes}
 use Rattle.lot_laws.proofs.OnceEnds.{Ended, Looked, decides, loads, looks, told_by_word}
 use Rattle.lot_laws.proofs.Leads.{Leads, leads_more, leads_rest, leads_so, leads_step}
 
@@ -72,10 +72,10 @@ module _ (t l : ℕ) where
   run_leaves forced b any v w q f = rests w (outcome.End (ended b)) (leave_comes w t l _ v q f Main (wakes_taken any Normal) refl).0 tt
 
   run_takes : (forced b : Bool) (v : ℕ) (w : State) (q : Queues) → Alone w (Run forced (run.Take b)) v q → RestsIn 2 w
-  run_takes forced b v w q f = goes 1 v w _ (Run forced (run.Leave b _)) _ refl (take_comes w t l _ v q f (2 * l) whom.All refl refl (λ k. refl)) (λ g. run_leaves forced b _ v _ _ g)
+  run_takes forced b v w q f = goes 1 v w _ (Run forced (run.Leave b _)) _ refl (take_comes w t l _ v q f (2 * l) whom.All refl refl) (λ g. run_leaves forced b _ v _ _ g)
 
   run_enters : (forced b : Bool) (v : ℕ) (w : State) (q : Queues) → Alone w (Run forced (run.Enter b)) v q → RestsIn 3 w
-  run_enters forced b v w q f = goes 2 v w q (Run forced (run.Take b)) _ refl (enter_comes w t l _ v q f Main refl (finds_free w t l _ v q f refl Main)) (λ g. run_takes forced b v _ q g)
+  run_enters forced b v w q f = leads_into w t l _ v q f (λ v o. Rests o) 2 Main refl refl refl (λ g. run_takes forced b v _ q g)
 
   run_closes : (forced b : Bool) (v : ℕ) (w : State) (q : Queues) → Alone w (Run forced (run.Close b)) v q → RestsIn 4 w
   run_closes forced b v w q f = either (is_marked v) (word_comes w t l _ v q f (op.Swap (word_behind b)) refl)
@@ -160,7 +160,7 @@ module _ (t l : ℕ) where
       by_course (Ends answer) e = looks_anew op.Load (ap (course_act l seen) e) refl
       by_course Runs e = looks_anew (op.Exchange seen (started seen)) (ap (course_act l seen) e) (unchanged (started seen))
       by_course Marks e = looks_anew (op.Exchange seen (marked seen)) (ap (course_act l seen) e) (unchanged (marked seen))
-      by_course Parks e = goes 7 v w q (Look c again look.Check) _ refl (enter_comes w t l _ v q f Main (ap (course_act l seen) e) (finds_free w t l _ v q f refl Main)) (λ g. checks again v _ q g)
+      by_course Parks e = leads_into w t l _ v q f (λ v o. Rests o) 7 Main (ap (course_act l seen) e) refl refl (λ g. checks again v _ q g)
 
     decides_rests : (again : Bool) (seen v : ℕ) (w : State) (q : Queues) → Alone w (Look c again (look.Decide seen)) v q
         → RestsIn 8 w

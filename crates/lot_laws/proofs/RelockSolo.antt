@@ -24,14 +24,14 @@ use Rattle.lot_steps.specs.declared.places.Place.TheVariants.{Condvar}
 use Rattle.lot_machine.specs.Machine.{State, after, can_do, go_of, place_at, reply_to, state_after_act, word_at}
 use Rattle.lot_laws.specs.MutexPromises.{IsMutexWord}
 use Rattle.lot_laws.specs.Refinement.{owner_at}
-use Rattle.lot_laws.specs.Solo.{Rests}
+use Rattle.lot_laws.specs.Solo.{EntersAt, Rests}
 use Rattle.lot_laws.proofs.AtPlaces.{coded}
 use Rattle.lot_laws.proofs.CondvarAlone.{Behind, GoesAlone, Keeps, free_beside, leads_behind, reached, so_then, word_then}
 use Rattle.lot_laws.proofs.CondvarHears.{fits_here}
 use Rattle.lot_laws.proofs.CondvarOwn.{calm_waiter}
 use Rattle.lot_laws.proofs.ExclusiveOwners.{by_code}
 use Rattle.lot_laws.proofs.Glue.{differ, plain_rules}
-use Rattle.lot_laws.proofs.Leads.{Leads, leads_more}
+use Rattle.lot_laws.proofs.Leads.{leads_barred, Leads, leads_more}
 
 module _ (t l m : ℕ) (keeps : Keeps t) (timed late : Bool) where
   abbrev pub relocks : Bool → LockAt → CondvarPlace
@@ -70,21 +70,22 @@ module _ (t l m : ℕ) (keeps : Keeps t) (timed late : Bool) where
   checks_full : (w : State) (again : Bool) → word_at w m ≡ 3 → Alone w again lock.Check → RestsIn 2 w
   checks_full w again full g = goes w again lock.Check g 1 refl (subst (λ v. Left w again lock.Check g 1 (Parked (v == 3))) (sym full) (λ h. inr (refl, sleeps (after w (go_of t)) (again && not true) h)))
 
-  -- into the section, which nobody else is inside
+  -- into the section, or it is barred
   enters : (w : State) (again : Bool) (seen k : ℕ) (g : Alone w again (lock.Decide seen)) → is_locked seen ≡ true
       → (seen == 1) ≡ false
       → (word_at (after w (go_of t)) m ≡ word_at w m → Alone (after w (go_of t)) again lock.Check → RestsIn k (after w (go_of t)))
       → RestsIn (k + 1) w
-  enters w again seen k g locked marked on = goes w again (lock.Decide seen) g k can (subst (λ a. Left w again (lock.Decide seen) g k (reply_to w t a)) (sym is) (λ h. inr (refl, on same_word h)))
+  enters w again seen k g locked marked on = elim (free_beside t l m keeps w (relocks again (lock.Decide seen)) g (subst (EntersAt (2 * m)) (sym is) refl) refl refl) [
+    | inl free ↦ let can : can_do w (lock_act m (lock.Decide seen)) ≡ true = rw is (ap is_none free) in
+        goes w again (lock.Decide seen) g k can (subst (λ a. Left w again (lock.Decide seen) g k (reply_to w t a)) (sym is) (λ h. inr (refl, on (same_word can) h)))
+    | inr barred ↦ leads_barred w t (λ v o. Rests o) (k + 1) barred
+  ]
     where
       is : lock_act m (lock.Decide seen) ≡ act.Enter (One (2 * m))
       is = rw (locked, marked) refl
 
-      can : can_do w (lock_act m (lock.Decide seen)) ≡ true
-      can = rw is (ap is_none (free_beside t l m keeps w (relocks again (lock.Decide seen)) g refl refl))
-
-      same_word : word_at (after w (go_of t)) m ≡ word_at w m
-      same_word = so_then t l m keeps w (relocks again (lock.Decide seen)) g can (λ s. word_at s m) (λ q. refl) ∙ ap (λ a. word_at (state_after_act w t (Condvar l (relocks again (lock.Decide seen))) a) m) is
+      same_word : can_do w (lock_act m (lock.Decide seen)) ≡ true → word_at (after w (go_of t)) m ≡ word_at w m
+      same_word can = so_then t l m keeps w (relocks again (lock.Decide seen)) g can (λ s. word_at s m) (λ q. refl) ∙ ap (λ a. word_at (state_after_act w t (Condvar l (relocks again (lock.Decide seen))) a) m) is
 
   decides_full : (w : State) (again : Bool) → word_at w m ≡ 3 → Alone w again (lock.Decide 3) → RestsIn 3 w
   decides_full w again full g = enters w again 3 2 g refl refl (λ e h. checks_full (after w (go_of t)) again (e ∙ full) h)

@@ -1,5 +1,5 @@
 -- Each call of a reader-writer lock that steps alone from its beginning, and to what it comes.
-use Rattle.std.proofs.Common.{ℕ, Bool, true, false, Option, Some, None, if◌then◌else◌, ◌==◌, ◌&&◌, ◌||◌, ◌≡◌, ◌≢◌, ◌+◌, ◌*◌, ◌/◌, ◌%◌, ◌≤◌, ◌<◌, ◌^◌, nat_le, List, [], ◌∷◌, ◌++◌, map, length, replicate, refl, sym, ◌∙◌, ap, subst, arith}
+use Rattle.std.proofs.Common.{ℕ, Bool, true, false, Option, Some, None, if◌then◌else◌, ◌==◌, ◌&&◌, ◌||◌, ◌≡◌, ◌≢◌, ◌+◌, ◌*◌, ◌/◌, ◌%◌, ◌≤◌, ◌<◌, ◌⊎◌, ◌^◌, nat_le, List, [], ◌∷◌, ◌++◌, map, length, replicate, refl, sym, ◌∙◌, ap, subst, arith}
 use Rattle.std.proofs.lemmas.Bool.{eqb-true}
 use Rattle.std.proofs.lemmas.Bool.Decides.{nat_tests}
 use Rattle.lot_base.specs.declared.wants.Waiter.{Waiter}
@@ -47,12 +47,13 @@ use Rattle.lot_machine.specs.Machine.{State, go_of, place_at, word_at, queue_at,
 use Rattle.lot_laws.specs.Refinement.{lock_state, locks_of, call_at, call_state}
 use Rattle.lot_laws.specs.SitesOf.{IsSteady, key_of, rules_in, site_of}
 use Rattle.lot_laws.specs.Stations.{doing_on}
-use Rattle.lot_laws.specs.Solo.{EntersAlone, ReleasesAlone, ConvertsAlone, MayEnterAtOnce, WaitsAlone, WaitsForReaders, entered_answer}
+use Rattle.lot_laws.specs.Solo.{EntersAlone, ReleasesAlone, ConvertsAlone, MayEnterAtOnce, WaitsAlone, WaitsForReaders, entered_answer, IsBarred}
 use Rattle.lot_laws.proofs.Glue.{put_here, same}
 use Rattle.lot_laws.proofs.MutexTable.{queued_behind}
 use Rattle.lot_laws.proofs.LineSolo.{StepsAlone}
 use Rattle.lot_laws.proofs.SoloAnswers.{HasAnswered, answered}
 use Rattle.lot_laws.proofs.WorldRuns.{RunsAlone, run_refines}
+use Rattle.lot_laws.proofs.Leads.{or_so}
 use Rattle.lot_laws.proofs.RwLockSolo.{Decides, Takes, Settles, Sleeps, Tries, Upgrades, place_for, load_leads, first_leads, word_small}
 
 same_answer : (how : Patience) → entered how ≡ entered_answer how
@@ -491,6 +492,7 @@ pub enters_alone : (w : State) (t l : ℕ) (a : Admission) (x : Access) (how : P
     → StepsAlone w t l (RwLock l a (call_first (call.Enter x how))) (word_at w l) (λ m. queue_at w (key_of l m))
     → RunsAlone w t (solo n w t last).outcome (solo n w t last).state
     → EntersAlone (word_at w l ≡ 0) (locks_of w) t l (wanted x) how (solo n w t last).outcome (locks_of (solo n w t last).state)
+    ⊎ IsBarred (solo n w t last).state t
 enters_alone w t l a x how n last le steady admits is f run = by_access x is f
   where
     small : word_at w l < 2 ^ 64
@@ -499,7 +501,7 @@ enters_alone w t l a x how n last le steady admits is f run = by_access x is f
     by_access : (x : Access) → place_at w t ≡ RwLock l a (call_first (call.Enter x how))
         → StepsAlone w t l (RwLock l a (call_first (call.Enter x how))) (word_at w l) (λ m. queue_at w (key_of l m))
         → EntersAlone (word_at w l ≡ 0) (locks_of w) t l (wanted x) how (solo n w t last).outcome
-        (locks_of (solo n w t last).state)
-    by_access access.Exclusive is f = writes_alone w t l a steady admits (solo n w t last).state (solo n w t last).outcome run how is (first_leads t l a _ (word_at w l) w (λ m. queue_at w (key_of l m)) small f n last (omega arith))
-    by_access access.Shared is f = shares_alone w t l a steady admits (solo n w t last).state (solo n w t last).outcome run access.Shared how (λ h. cc) is (load_leads t l a _ (word_at w l) w (λ m. queue_at w (key_of l m)) small f n last (omega arith))
-    by_access access.Upgradable is f = shares_alone w t l a steady admits (solo n w t last).state (solo n w t last).outcome run access.Upgradable how (λ h. cc) is (load_leads t l a _ (word_at w l) w (λ m. queue_at w (key_of l m)) small f n last (omega arith))
+        (locks_of (solo n w t last).state) ⊎ IsBarred (solo n w t last).state t
+    by_access access.Exclusive is f = or_so (writes_alone w t l a steady admits (solo n w t last).state (solo n w t last).outcome run how is) (first_leads t l a _ (word_at w l) w (λ m. queue_at w (key_of l m)) small f n last (omega arith))
+    by_access access.Shared is f = or_so (shares_alone w t l a steady admits (solo n w t last).state (solo n w t last).outcome run access.Shared how (λ h. cc) is) (load_leads t l a _ (word_at w l) w (λ m. queue_at w (key_of l m)) small f n last (omega arith))
+    by_access access.Upgradable is f = or_so (shares_alone w t l a steady admits (solo n w t last).state (solo n w t last).outcome run access.Upgradable how (λ h. cc) is) (load_leads t l a _ (word_at w l) w (λ m. queue_at w (key_of l m)) small f n last (omega arith))

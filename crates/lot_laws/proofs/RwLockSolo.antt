@@ -42,7 +42,7 @@ use Rattle.lot_steps.specs.declared.places.Place.TheVariants.{Idle, RwLock}
 use Rattle.lot_rwlock_fair.specs.declared.places.RwLockCallPlace.TheVariants.{Plain}
 use Rattle.lot_steps.specs.Steps.{act_of}
 use Rattle.lot_laws.proofs.PlainCalls.{plain_goes, plain_does}
-use Rattle.lot_machine.specs.Machine.{State, word_at, section_at, queue_at, queues_without_first, state_after_taking, after, go_of}
+use Rattle.lot_machine.specs.Machine.{State, word_at, queue_at, queues_without_first, state_after_taking, after, go_of}
 use Rattle.lot_rwlock.specs.RwLockCalls.{IsNoRefusal, MayStand, StandsAt, IsDecided}
 use Rattle.lot_rwlock.proofs.RwLockStands.{decides_to_park, aside_set}
 use Rattle.lot_laws.specs.SitesOf.{IsSteady, key_of, rules_in, site_of}
@@ -50,7 +50,7 @@ use Rattle.abstract_locks.specs.Locks.{Rules, Sort, Mutex, Normal, Recursive, Se
 use Rattle.lot_laws.specs.Solo.{Rests}
 use Rattle.lot_laws.proofs.Glue.{same}
 use Rattle.lot_laws.proofs.Leads.{Leads, leads_rest, leads_step, leads_more, leads_so}
-use Rattle.lot_laws.proofs.LineSolo.{StepsAlone, Comes, word_comes, enter_comes, leave_comes, park_comes, parks_last, remove_comes, take_comes, finds_free}
+use Rattle.lot_laws.proofs.LineSolo.{StepsAlone, Comes, leads_into, word_comes, leave_comes, park_comes, parks_last, remove_comes, take_comes}
 
 -- ---------------------------------------------------------------- runs of a thread alone
 
@@ -156,8 +156,7 @@ module _ (t l : ℕ) (a : Admission) where
 
   parks_leads : (p : RwLockPlace) (v : ℕ) (w : State) (q : Line → List Waiter) → decided a p v ≡ decisions.Park → Alone w (decides p v) v q → Leads 3 w t (Sleeps Main p q)
   parks_leads p v w q e f = let b = barred p v true e in
-      let c = enter_comes w t l _ v q f Main (ap (λ d. decided_act l p.purpose v d) e) (finds_free w t l _ v q f refl Main) in
-      goes w (Sleeps Main p q) 2 v q (again p (at.Park parking.Check) p.retries) _ refl refl c (λ g. check_sleeps p v _ q (rw (b.bit, b.blocked) refl) g)
+      leads_into w t l _ v q f (Sleeps Main p q) 2 Main (ap (λ d. decided_act l p.purpose v d) e) refl refl (λ g. check_sleeps p v _ q (rw (b.bit, b.blocked) refl) g)
 
   marks_leads : (p : RwLockPlace) (v : ℕ) (w : State) (q : Line → List Waiter) → v < 2 ^ 64 → decided a p v ≡ decisions.Mark → Alone w (decides p v) v q → Leads 4 w t (Sleeps Main p q)
   marks_leads p v w q small e f = let c = word_comes w t l _ v q f (op.Exchange v (plus v 1)) (ap (λ d. decided_act l p.purpose v d) e) in
@@ -168,12 +167,12 @@ module _ (t l : ℕ) (a : Admission) where
   -- ---------------------------------------------------------------- a pending writer
 
   count_aside : (p : RwLockPlace) (v : ℕ) (w : State) (q : Line → List Waiter) → has_aside v ≡ true → (count_in v == 0) ≡ false → Alone w (to p (at.Count v)) v q → Leads 3 w t (Sleeps Second p q)
-  count_aside p v w q bit left f = let c = enter_comes w t l _ v q f Second (ap (λ (b : Bool). if b then act.Enter (One (2 * l + 1)) else exchange l v (plus v 2)) bit) (finds_free w t l _ v q f refl Second) in
-      goes w (Sleeps Second p q) 2 v q (again p (at.Aside parking.Check) p.retries) _ refl refl c (λ g. aside_sleeps p v _ q (rw (bit, left) refl) g)
+  count_aside p v w q bit left f =
+      leads_into w t l _ v q f (Sleeps Second p q) 2 Second (ap (λ (b : Bool). if b then act.Enter (One (2 * l + 1)) else exchange l v (plus v 2)) bit) refl refl (λ g. aside_sleeps p v _ q (rw (bit, left) refl) g)
 
   marked_aside : (p : RwLockPlace) (v : ℕ) (w : State) (q : Line → List Waiter) → has_aside v ≡ true → (count_in v == 0) ≡ false → Alone w (to p at.Marked) v q → Leads 3 w t (Sleeps Second p q)
-  marked_aside p v w q bit left f = let c = enter_comes w t l _ v q f Second refl (finds_free w t l _ v q f refl Second) in
-      goes w (Sleeps Second p q) 2 v q (again p (at.Aside parking.Check) p.retries) _ refl refl c (λ g. aside_sleeps p v _ q (rw (bit, left) refl) g)
+  marked_aside p v w q bit left f =
+      leads_into w t l _ v q f (Sleeps Second p q) 2 Second refl refl refl (λ g. aside_sleeps p v _ q (rw (bit, left) refl) g)
 
   count_marks : (p : RwLockPlace) (v : ℕ) (w : State) (q : Line → List Waiter) → v < 2 ^ 64 → has_aside v ≡ false → (count_in v == 0) ≡ false → Alone w (to p (at.Count v)) v q → Leads 4 w t (Sleeps Second p q)
   count_marks p v w q small bit left f = let c = word_comes w t l _ v q f (op.Exchange v (plus v 2)) (ap (λ (b : Bool). if b then act.Enter (One (2 * l + 1)) else exchange l v (plus v 2)) bit) in
@@ -356,17 +355,13 @@ module _ (t l : ℕ) (a : Admission) where
   taken_word b None = refl
   taken_word b (Some u) = refl
 
-  pub taken_sections : (b : State) (x : Option ℕ) (k : ℕ) → section_at (state_after_taking b t x) k ≡ section_at b k
-  taken_sections b None k = refl
-  taken_sections b (Some u) k = refl
-
   wakes_take : (p : RwLockPlace) (m : Line) (v : ℕ) (w : State) (q : Line → List Waiter) → Alone w (to p (at.Wake m waking.Take)) v q → Leads 4 w t (Ends p.purpose)
-  wakes_take p Main v w q f = leads_more 3 4 w t (Ends p.purpose) (omega arith) (took_ends p Main _ _ v w _ (take_comes w t l _ v q f (2 * l) (whom a (start_of p.purpose) Main) refl refl (λ k. refl)))
+  wakes_take p Main v w q f = leads_more 3 4 w t (Ends p.purpose) (omega arith) (took_ends p Main _ _ v w _ (take_comes w t l _ v q f (2 * l) (whom a (start_of p.purpose) Main) refl refl))
   wakes_take p Second v w q f = leads_more 3 4 w t (Ends p.purpose) (omega arith) (took_ends p Second _ (length (drop 1 (queue_at w (2 * l + 1))) == 0) v w _ (take_comes w t l _ v q f (2 * l + 1) whoms.First refl
-      (taken_word (record w { queues = queues_without_first w.queues (2 * l + 1) }) (first_of (queue_at w (2 * l + 1)))) (taken_sections (record w { queues = queues_without_first w.queues (2 * l + 1) }) (first_of (queue_at w (2 * l + 1))))))
+      (taken_word (record w { queues = queues_without_first w.queues (2 * l + 1) }) (first_of (queue_at w (2 * l + 1))))))
 
   wakes_enter : (p : RwLockPlace) (m : Line) (v : ℕ) (w : State) (q : Line → List Waiter) → Alone w (to p (at.Wake m waking.Enter)) v q → Leads 5 w t (Ends p.purpose)
-  wakes_enter p m v w q f = goes w (Ends p.purpose) 4 v q (again p (at.Wake m waking.Take) p.retries) _ refl refl (enter_comes w t l _ v q f m refl (finds_free w t l _ v q f refl m)) (λ g. wakes_take p m v _ q g)
+  wakes_enter p m v w q f = leads_into w t l _ v q f (Ends p.purpose) 4 m refl refl refl (λ g. wakes_take p m v _ q g)
 
   wakes_end : (p : RwLockPlace) (m : Line) (x : WakeAt) (v : ℕ) (w : State) (q : Line → List Waiter) → Alone w (to p (at.Wake m x)) v q → Leads 5 w t (Ends p.purpose)
   wakes_end p m waking.Enter v w q f = wakes_enter p m v w q f
@@ -498,7 +493,7 @@ module _ (t l : ℕ) (a : Admission) where
       is_stale : (d : Decision) → IsNoRefusal d → decided a p x ≡ d → (v == x) ≡ false → Leads 10 w t Resting
       is_stale decisions.Take h e ne = leads_more 9 10 w t Resting (omega arith) (stale_rests p x v (word_taken p.purpose x) w q decisions.Take small ne (λ g. cc) e (ap (decided_act l p.purpose x) e) f)
       is_stale decisions.Mark h e ne = leads_more 9 10 w t Resting (omega arith) (stale_rests p x v (plus x 1) w q decisions.Mark small ne (λ g. cc) e (ap (decided_act l p.purpose x) e) f)
-      is_stale decisions.Park h e ne = goes w Resting 9 v q (again p (at.Park parking.Check) p.retries) _ refl refl (enter_comes w t l _ v q f Main (ap (decided_act l p.purpose x) e) (finds_free w t l _ v q f refl Main)) (λ g. check_rests Main p v _ q small g)
+      is_stale decisions.Park h e ne = leads_into w t l _ v q f Resting 9 Main (ap (decided_act l p.purpose x) e) refl refl (λ g. check_rests Main p v _ q small g)
       is_stale (decisions.Refuse answer) h e ne = absurd h
 
       either : (b : Bool) → (v == x) ≡ b → Leads 10 w t Resting
@@ -507,13 +502,13 @@ module _ (t l : ℕ) (a : Admission) where
       either false g = is_stale d h e g
 
   marked_rests : (p : RwLockPlace) (v : ℕ) (w : State) (q : Line → List Waiter) → v < 2 ^ 64 → Alone w (to p at.Marked) v q → Leads 10 w t Resting
-  marked_rests p v w q small f = goes w Resting 9 v q (again p (at.Aside parking.Check) p.retries) _ refl refl (enter_comes w t l _ v q f Second refl (finds_free w t l _ v q f refl Second)) (λ g. check_rests Second p v _ q small g)
+  marked_rests p v w q small f = leads_into w t l _ v q f Resting 9 Second refl refl refl (λ g. check_rests Second p v _ q small g)
 
   count_rests : (p : RwLockPlace) (x v : ℕ) (w : State) (q : Line → List Waiter) → v < 2 ^ 64 → Alone w (to p (at.Count x)) v q → Leads 11 w t Resting
   count_rests p x v w q small f = either (has_aside x) refl
     where
       aside_rests : (x v : ℕ) (w : State) → v < 2 ^ 64 → has_aside x ≡ true → Alone w (again p (at.Count x) p.retries) v q → Leads 10 w t Resting
-      aside_rests x v w small e f = goes w Resting 9 v q (again p (at.Aside parking.Check) p.retries) _ refl refl (enter_comes w t l _ v q f Second (ap (λ (b : Bool). if b then act.Enter (One (2 * l + 1)) else exchange l x (plus x 2)) e) (finds_free w t l _ v q f refl Second)) (λ g. check_rests Second p v _ q small g)
+      aside_rests x v w small e f = leads_into w t l _ v q f Resting 9 Second (ap (λ (b : Bool). if b then act.Enter (One (2 * l + 1)) else exchange l x (plus x 2)) e) refl refl (λ g. check_rests Second p v _ q small g)
 
       counted_rests : (b : Bool) → (count_in v == 0) ≡ b → Comes w t l (plain_goes l a (if b then End (entered (patience_of p.purpose)) else At (again p (at.Count v) p.retries))) (outcome_of (plain_does l a (if b then End (entered (patience_of p.purpose)) else At (again p (at.Count v) p.retries)))) v q → Leads 11 w t Resting
       counted_rests true e c = leads_more 1 11 w t Resting (omega arith) (leads_rest w t Resting (outcome.End (entered (patience_of p.purpose))) c.0 tt tt)

@@ -1,6 +1,6 @@
 -- A call of a semaphore that steps alone from its beginning, and to what it comes.
 use Rattle.std.proofs.lemmas.Bool.Decides.{nat_tests}
-use Rattle.std.proofs.Common.{ℕ, zero, suc, Bool, true, false, Option, Some, None, if◌then◌else◌, ◌==◌, ◌≡◌, ◌+◌, ◌-◌, ◌*◌, ◌<◌, ◌≤◌, ◌++◌, ◌∷◌, [], List, length, map, replicate, refl, sym, ◌∙◌, ap, subst, arith}
+use Rattle.std.proofs.Common.{ℕ, zero, suc, Bool, true, false, Option, Some, None, if◌then◌else◌, ◌==◌, ◌≡◌, ◌+◌, ◌-◌, ◌*◌, ◌<◌, ◌≤◌, ◌⊎◌, ◌++◌, ◌∷◌, [], List, length, map, replicate, refl, sym, ◌∙◌, ap, subst, arith}
 use Rattle.std.specs.Prelude.{◌&&◌, not}
 use Rattle.lot_base.specs.declared.keys.Keys.TheVariants.{One}
 use Rattle.lot_base.specs.declared.ops.Op.TheVariants as op
@@ -42,22 +42,21 @@ use Rattle.lot_semaphore.specs.SemaphoreProfiles.{semaphore_profile}
 use Rattle.lot_semaphore.proofs.SemaphoreWords as words
 use Rattle.lot_steps.specs.declared.places.Place.TheVariants.{Semaphore}
 use Rattle.lot_steps.specs.Steps.{semaphore_does, semaphore_goes}
-use Rattle.lot_machine.specs.Machine.{State, after, go_of, place_at, queue_at, section_at, queues_without_first, solo, state_after_taking, word_at}
+use Rattle.lot_machine.specs.Machine.{State, after, go_of, place_at, queue_at, queues_without_first, solo, state_after_taking, word_at}
 use Rattle.lot_laws.specs.Refinement.{call_at, call_state, lock_state, locks_of}
 use Rattle.lot_laws.specs.SitesOf.{IsSteady, key_of, rules_in, site_of}
-use Rattle.lot_laws.specs.Solo.{EndsAlone, EntersAlone, ReleasesAlone, SleepsLast, WaitsAlone, entered_answer}
+use Rattle.lot_laws.specs.Solo.{EndsAlone, EntersAlone, IsBarred, ReleasesAlone, SleepsLast, WaitsAlone, entered_answer}
 use Rattle.lot_laws.proofs.Glue.{put_here, same}
-use Rattle.lot_laws.proofs.LineSolo.{Comes, StepsAlone, enter_comes, finds_free, leave_comes, park_comes, parks_last, take_comes, word_comes}
+use Rattle.lot_laws.proofs.LineSolo.{Comes, StepsAlone, leads_into, leave_comes, park_comes, parks_last, take_comes, word_comes}
 use Rattle.lot_laws.proofs.MutexTable.{queued_behind}
-use Rattle.lot_laws.proofs.Leads.{Leads, leads_more, leads_rest, leads_step}
+use Rattle.lot_laws.proofs.Leads.{Leads, leads_more, leads_rest, leads_step, or_so}
 use Rattle.lot_laws.proofs.SoloAnswers.{HasAnswered, answered}
 use Rattle.lot_laws.proofs.WorldRuns.{RunsAlone, run_refines}
 
--- to take the first of a line changes no word and no section
-takes_apart : (b : State) (t l k : ℕ) (o : Option ℕ)
-    → (word_at (state_after_taking b t o) l ≡ word_at b l) × (section_at (state_after_taking b t o) k ≡ section_at b k)
-takes_apart b t l k None = (refl, refl)
-takes_apart b t l k (Some u) = (refl, refl)
+-- to take the first of a line changes no word
+taken_word : (b : State) (t l : ℕ) (o : Option ℕ) → word_at (state_after_taking b t o) l ≡ word_at b l
+taken_word b t l None = refl
+taken_word b t l (Some u) = refl
 
 -- a word by which none is free is 0, or its bit is set
 few_words : (v : ℕ) → is_free v ≡ false → v ≤ 1
@@ -126,7 +125,7 @@ module _ (t l : ℕ) where
         (λ g. leaves (again && not true) 1 _ q _ (parks_last w t l _ 1 q f refl Main Shared) g)
 
     parks : (again : Bool) (w : State) (q : Queues) → Alone w (Acquire timed again (acquire.Decide 1)) 1 q → Leads 3 w t (Sleeps q)
-    parks again w q f = goes w 1 q _ (enter_comes w t l _ 1 q f Main refl (finds_free w t l _ 1 q f refl Main)) 2 (Sleeps q) (Acquire timed again acquire.Check) refl refl (λ g. checks again _ q g)
+    parks again w q f = leads_into w t l _ 1 q f (Sleeps q) 2 Main refl refl refl (λ g. checks again _ q g)
 
     -- what it comes to, by whether a permit is free
     abbrev pub Ended : Queues → Bool → State → Outcome → Type 0
@@ -194,7 +193,7 @@ module _ (t l : ℕ) where
   taken_from w = record w { queues = queues_without_first w.queues (2 * l) }
 
   pub release_takes : (w : State) (q : Queues) (v : ℕ) → Alone w (Release release.Take) v q → Leads 3 w t (Answers answer.Ok)
-  release_takes w q v f = either _ _ (take_comes w t l _ v q f (2 * l) whom.First refl (takes_apart (taken_from w) t l 0 (first_of (queue_at w (2 * l)))).0 (λ k. (takes_apart (taken_from w) t l k (first_of (queue_at w (2 * l)))).1))
+  release_takes w q v f = either _ _ (take_comes w t l _ v q f (2 * l) whom.First refl (taken_word (taken_from w) t l (first_of (queue_at w (2 * l)))))
     where
       either : (any none_left : Bool) {q2 : Queues}
           → Comes w t l (semaphore_goes l (in_release (if none_left then next.At (release.Clear any) else next.At (release.Leave any))))
@@ -204,7 +203,7 @@ module _ (t l : ℕ) where
       either any false {q2} c = leads_more 2 3 w t (Answers answer.Ok) (omega arith) (goes w v q2 _ c 1 (Answers answer.Ok) (Release (release.Leave any)) refl refl (λ g. release_leaves any _ q2 v g))
 
   pub release_enters : (w : State) (q : Queues) (v : ℕ) → Alone w (Release release.Enter) v q → Leads 4 w t (Answers answer.Ok)
-  release_enters w q v f = goes w v q _ (enter_comes w t l _ v q f Main refl (finds_free w t l _ v q f refl Main)) 3 (Answers answer.Ok) (Release release.Take) refl refl (λ g. release_takes _ q v g)
+  release_enters w q v f = leads_into w t l _ v q f (Answers answer.Ok) 3 Main refl refl refl (λ g. release_takes _ q v g)
 
   pub release_adds : (w : State) (q : Queues) (v : ℕ) → Alone w (Release release.Add) v q → Leads 5 w t (Answers answer.Ok)
   release_adds w q v f = either (has_parked v) (word_comes w t l _ v q f (op.Add 2) refl)
@@ -310,7 +309,7 @@ pub semaphore_alone : (w : State) (t l : ℕ) (c : SemaphoreCall) (n : ℕ) (las
     → (rules_in w l).sort ≡ OfSemaphores → place_at w t ≡ Semaphore l (semaphore_first c)
     → StepsAlone w t l (Semaphore l (semaphore_first c)) (word_at w l) (λ m. queue_at w (key_of l m))
     → RunsAlone w t (solo n w t last).outcome (solo n w t last).state
-    → EndsAlone w t (Some (semaphore_purpose l c)) (solo n w t last).outcome (solo n w t last).state
+    → EndsAlone w t (Some (semaphore_purpose l c)) (solo n w t last).outcome (solo n w t last).state ⊎ IsBarred (solo n w t last).state t
 semaphore_alone w t l c n last le steady sort is f run = by_call c is f
   where
     v2 : State
@@ -327,13 +326,16 @@ semaphore_alone w t l c n last le steady sort is f run = by_call c is f
 
     by_call : (c : SemaphoreCall) → place_at w t ≡ Semaphore l (semaphore_first c)
         → StepsAlone w t l (Semaphore l (semaphore_first c)) (word_at w l) lines
-        → EndsAlone w t (Some (semaphore_purpose l c)) x v2
-    by_call (call.Acquire Patient) is f = let h = loads t l false false w lines (word_at w l) (is_free (word_at w l)) refl f n last (omega arith) in
-        enters_alone w t l steady sort v2 x run (Acquire false false acquire.Load) Patient is refl
-        (λ e. subst (λ b. Ended t l false lines b v2 x) e h) (λ e. asleep w t l steady sort v2 x run (subst (λ b. Ended t l false lines b v2 x) e h))
-    by_call (call.Acquire Timed) is f = let h = loads t l true false w lines (word_at w l) (is_free (word_at w l)) refl f n last (omega arith) in
-        enters_alone w t l steady sort v2 x run (Acquire true false acquire.Load) Timed is refl
-        (λ e. subst (λ b. Ended t l true lines b v2 x) e h) (λ e. asleep w t l steady sort v2 x run (subst (λ b. Ended t l true lines b v2 x) e h))
-    by_call (call.Acquire OnlyTry) is f = let h = try_loads t l w lines (word_at w l) (is_free (word_at w l)) refl f n last (omega arith) in
-        enters_alone w t l steady sort v2 x run (Try tries.Load) OnlyTry is refl (tried_so h true) (tried_so h false)
-    by_call call.Release is f = releases_alone w t l steady sort v2 x run is (release_adds t l w lines (word_at w l) f n last (omega arith))
+        → EndsAlone w t (Some (semaphore_purpose l c)) x v2 ⊎ IsBarred v2 t
+    by_call (call.Acquire Patient) is f = or_so
+        (λ h. enters_alone w t l steady sort v2 x run (Acquire false false acquire.Load) Patient is refl
+        (λ e. subst (λ b. Ended t l false lines b v2 x) e h) (λ e. asleep w t l steady sort v2 x run (subst (λ b. Ended t l false lines b v2 x) e h)))
+        (loads t l false false w lines (word_at w l) (is_free (word_at w l)) refl f n last (omega arith))
+    by_call (call.Acquire Timed) is f = or_so
+        (λ h. enters_alone w t l steady sort v2 x run (Acquire true false acquire.Load) Timed is refl
+        (λ e. subst (λ b. Ended t l true lines b v2 x) e h) (λ e. asleep w t l steady sort v2 x run (subst (λ b. Ended t l true lines b v2 x) e h)))
+        (loads t l true false w lines (word_at w l) (is_free (word_at w l)) refl f n last (omega arith))
+    by_call (call.Acquire OnlyTry) is f = or_so
+        (λ h. enters_alone w t l steady sort v2 x run (Try tries.Load) OnlyTry is refl (tried_so h true) (tried_so h false))
+        (try_loads t l w lines (word_at w l) (is_free (word_at w l)) refl f n last (omega arith))
+    by_call call.Release is f = or_so (releases_alone w t l steady sort v2 x run is) (release_adds t l w lines (word_at w l) f n last (omega arith))

@@ -7,7 +7,7 @@ use Rattle.lot_acts.specs.Acts.{outcome_of}
 use Rattle.lot_acts.specs.Rows.{LetsIn}
 use Rattle.lot_calls.specs.declared.outcomes.Answer.TheVariants as answer
 use Rattle.abstract_locks.specs.Locks as locks
-use Rattle.abstract_locks.specs.Sites.{Line, Main, Second, has_readers}
+use Rattle.abstract_locks.specs.Sites.{Line, Main}
 use Rattle.abstract_locks.specs.Codes.{has_parked}
 use Rattle.lot_semaphore.specs.declared.acquire.AcquireAt.{AcquireAt}
 use Rattle.lot_semaphore.specs.declared.acquire.AcquireAt.TheVariants as acquire
@@ -18,7 +18,6 @@ use Rattle.lot_semaphore.specs.declared.places.SemaphorePlace.{SemaphorePlace}
 use Rattle.lot_semaphore.specs.declared.places.SemaphorePlace.TheVariants.{Acquire, Try, Release}
 use Rattle.lot_semaphore.specs.SemaphoreProfiles.{semaphore_profile}
 use Rattle.lot_semaphore.specs.SemaphoreSteps.{acquire_act, in_acquire, in_release, in_try, next_acquire, next_release, next_try, release_act, semaphore_act, semaphore_next, still_retries, try_act}
-use Rattle.lot_semaphore.proofs.SemaphoreRowCheck.{semaphore_promises}
 use Rattle.lot_steps.specs.Steps.{act_of, profile, semaphore_does, semaphore_goes}
 use Rattle.lot_machine.specs.Machine.{State, reply_to, word_at}
 use Rattle.lot_laws.specs.Owing.{tells_by, tells_of}
@@ -113,7 +112,3 @@ semaphore_owes_next w t l (Acquire timed retries at) = owes_then (λ m. tells_so
   where
     r : Reply
     r = reply_to w t (acquire_act l at)
-
--- it has no second line
-pub main_only : (at : SemaphorePlace) → (semaphore_profile at).doing.inside ≡ Some Second → ⊥
-main_only at h = let f : has_readers locks.Semaphore ≡ true = (semaphore_promises 0 at).owing.second ((semaphore_promises 0 at).owing.inside Second h) in cc

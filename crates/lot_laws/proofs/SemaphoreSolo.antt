@@ -32,7 +32,7 @@ use Rattle.lot_steps.specs.declared.places.Place.TheVariants.{Semaphore}
 use Rattle.lot_steps.specs.Steps.{act_of, semaphore_does, semaphore_goes}
 use Rattle.lot_machine.specs.Machine.{State, after, go_of, step_outcome}
 use Rattle.lot_laws.specs.Solo.{Rests}
-use Rattle.lot_laws.proofs.LineSolo.{Comes, StepsAlone, enter_comes, finds_free, leave_comes, park_comes, remove_comes, word_comes}
+use Rattle.lot_laws.proofs.LineSolo.{Comes, StepsAlone, leads_into, leave_comes, park_comes, remove_comes, word_comes}
 use Rattle.lot_laws.proofs.SemaphoreEnds.{Answers, Ended, decides, goes_inside, loads, release_adds, release_clears, release_enters, release_leaves, release_takes, sets_bit, steps_on, takes_free, tried, tries_so, try_decides, try_loads, try_looks}
 use Rattle.lot_laws.proofs.Leads.{Leads, leads_more, leads_rest, leads_so, leads_step}
 
@@ -101,7 +101,7 @@ module _ (t l : ℕ) where
       by_seen : (b c : Bool) → is_free seen ≡ b → (seen == 0) ≡ c → RestsIn 8 w
       by_seen true c e g = fails (op.Exchange seen (seen - 2)) (takes_free l seen e) (ap (λ b. if b then seen - 2 else v) other)
       by_seen false true e g = fails (op.Exchange 0 1) (sets_bit l seen e g) (ap (λ b. if b then 1 else v) (ap (λ n. v == n) (sym (eqb-true seen 0 g)) ∙ other))
-      by_seen false false e g = goes 7 v w q (Acquire timed again acquire.Check) _ refl (enter_comes w t l _ v q f Main (goes_inside l seen e g) (finds_free w t l _ v q f refl Main)) (λ h. checks again v _ q h)
+      by_seen false false e g = leads_into w t l _ v q f (λ v o. Rests o) 7 Main (goes_inside l seen e g) refl refl (λ h. checks again v _ q h)
 
     decides_rests : (again : Bool) (seen v : ℕ) (w : State) (q : Queues) → Alone w (Acquire timed again (acquire.Decide seen)) v q → RestsIn 8 w
     decides_rests again seen v w q f = either (v == seen) refl

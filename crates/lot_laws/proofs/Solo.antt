@@ -1,6 +1,5 @@
 -- A call whose thread steps alone: from each place, where it ends or falls asleep.
-use Rattle.std.proofs.Common.{ℕ, Bool, true, false, Option, Some, None, if◌then◌else◌, ◌==◌, ◌≡◌, ◌≢◌, ◌*◌, ◌≤◌, ◌<◌, inl, List, [], ◌∷◌, length, drop, map, refl, sym, ◌∙◌, ap, subst, arith}
-use Rattle.std.proofs.lemmas.Bool.{eqb-true}
+use Rattle.std.proofs.Common.{ℕ, Bool, true, false, Option, Some, None, if◌then◌else◌, ◌≡◌, ◌≢◌, ◌*◌, ◌≤◌, ◌<◌, ◌⊎◌, inl, inr, List, [], ◌∷◌, length, drop, map, refl, sym, ◌∙◌, ap, subst, arith}
 use Rattle.lot_base.specs.declared.wants.Waiter.{Waiter}
 use Rattle.lot_base.specs.declared.wants.Want.TheVariants.{Exclusive}
 use Rattle.lot_base.specs.Lines.{times, first_of}
@@ -19,48 +18,41 @@ use Rattle.lot_mutex.specs.declared.lock.Entry.TheVariants as entries
 use Rattle.lot_mutex.specs.declared.places.MutexPlace.TheVariants.{Lock, TryLock, Unlock, UnlockFair, Bump, HandOff}
 use Rattle.lot_calls.specs.declared.calls.CondvarCall.{CondvarCall}
 use Rattle.lot_calls.specs.declared.calls.OnceCall.{OnceCall}
-use Rattle.lot_once.specs.declared.places.OncePlace.{OncePlace}
 use Rattle.lot_condvar.specs.CondvarSteps.{condvar_first}
 use Rattle.lot_once.specs.OnceSteps.{once_first}
 use Rattle.lot_laws.proofs.OnceEnds.{once_alone}
-use Rattle.lot_laws.proofs.OnceRows.{main_only}
 use Rattle.lot_laws.proofs.OnceSolo.{once_rests}
 use Rattle.lot_steps.specs.declared.places.Place.{Place}
 use Rattle.lot_steps.specs.declared.places.Place.TheVariants.{Idle, Mutex, RwLock, Once, Condvar, Semaphore}
 use Rattle.lot_semaphore.specs.declared.places.SemaphorePlace.{SemaphorePlace}
 use Rattle.lot_calls.specs.declared.calls.SemaphoreCall.{SemaphoreCall}
 use Rattle.lot_semaphore.specs.SemaphoreSteps.{semaphore_first}
-use Rattle.lot_laws.proofs.SemaphoreNext.{main_only as only_main}
 use Rattle.lot_laws.proofs.SemaphoreEnds.{semaphore_alone}
 use Rattle.lot_laws.proofs.SemaphoreSolo.{semaphore_rests}
 use Rattle.lot_mutex.specs.MutexSteps.{mutex_first, is_locked}
 use Rattle.lot_calls.specs.Kinds.{is_fair}
 use Rattle.lot_calls.specs.Calls.{lock_in}
-use Rattle.lot_steps.specs.Steps.{act_of, lock_of, first_place}
+use Rattle.lot_steps.specs.Steps.{act_of, first_place}
 use Rattle.lot_machine.specs.Machine.{State, place_at, word_at, kind_at, queue_at, section_at, go_of, after, runs_closure, solo}
 use Rattle.lot_machine.specs.Fits.{IsShaped, PlaceFits}
-use Rattle.abstract_locks.specs.Sites.{Line, Main, Second, has_readers}
-use Rattle.lot_laws.specs.Stations.{nowhere, station, station_at}
+use Rattle.abstract_locks.specs.Sites.{Main, has_readers}
+use Rattle.lot_laws.specs.Stations.{station, station_at}
 use Rattle.lot_laws.specs.SitesOf.{AreCondvars, AreCounted, IsSteady, IsWorld, RunsInClosures, key_of, FitsItsLock, is_mutex, rules_in}
-use Rattle.abstract_locks.specs.Locks.{readers, Rules, MayEnter, IsBlocked, Sort}
+use Rattle.abstract_locks.specs.Locks.{readers, Rules, MayEnter, IsBlocked}
 use Rattle.abstract_locks.specs.Locks as locks
-use Rattle.abstract_locks.specs.Purposes.{rules_of, purpose_of, rwlock_purpose, Releases, Bumps, Patience, Patient, Timed, Try, mutex_purpose}
+use Rattle.abstract_locks.specs.Purposes.{Bumps, Patience, Patient, Purpose, Releases, Timed, Try, mutex_purpose, purpose_of, rules_of, rwlock_purpose}
 use Rattle.abstract_locks.specs.Runs.{IsFull, rules_at, purpose_at}
 use Rattle.abstract_locks.specs.Picks.{queued_of}
 use Rattle.lot_laws.specs.Refinement.{lock_state, locks_of, owner_at}
-use Rattle.lot_laws.specs.Solo.{HasLine, Rests, IsUnderWay, HasItsWay, EntersAlone, BumpsAlone, EndsAlone, successor}
-use Rattle.lot_laws.proofs.MutexSolo.{LockEnds, UnlockEnds, bump_leads, fair_rests, first_leads, hand_off_rests, lock_rests, subtract_leads, try_leads, unlock_fair_leads, unlock_rests}
+use Rattle.lot_laws.specs.Solo.{BumpsAlone, EndsAlone, EntersAlone, HasItsWay, HasWhatItReads, IsBarred, IsOnly, IsUnderWay, OnlyTries, Rests, successor}
+use Rattle.lot_laws.proofs.MutexSolo.{LockEnds, UnlockEnds, bump_leads, bump_rests, first_leads, hand_off_rests, lock_rests, subtract_leads, try_leads, unlock_fair_leads, unlock_fair_rests, unlock_rests}
 use Rattle.lot_laws.proofs.MutexTable.{mutex, queued_behind}
 use Rattle.lot_laws.proofs.StandsMoved.{mutex_rules}
 use Rattle.lot_laws.proofs.MutexEvents.{free_word, owned_word}
 use Rattle.lot_laws.proofs.Tries.{first_busy, stands_there}
 use Rattle.lot_laws.proofs.CallBegins.{purpose_is}
 use Rattle.lot_laws.proofs.Counts.{first_times}
-use Rattle.lot_steps.specs.Steps.{is_lock}
-use Rattle.lot_laws.specs.Stations.{station_by}
-use Rattle.lot_condvar.specs.CondvarSteps.{mutex_beside}
-use Rattle.lot_condvar.specs.CondvarProfiles.{mutex_side}
-use Rattle.lot_laws.proofs.Glue.{IsSingle, nothing_at, not_beside}
+use Rattle.lot_laws.proofs.Glue.{IsSingle, nothing_at}
 use Rattle.lot_mutex.specs.declared.places.MutexPlace.{MutexPlace}
 use Rattle.lot_laws.proofs.SitesKept.{mutex_unshared}
 use Rattle.lot_calls.specs.declared.calls.RwLockCall.{RwLockCall}
@@ -76,8 +68,11 @@ use Rattle.lot_rwlock_fair.specs.declared.places.RwLockCallPlace.{RwLockCallPlac
 use Rattle.lot_rwlock_fair.specs.FairBegins.{call_first}
 use Rattle.lot_laws.proofs.RwLockKept.{admits_by}
 use Rattle.lot_laws.proofs.AtPlaces.{coded as words_coded, coded_for, absent}
-use Rattle.lot_laws.proofs.Leads.{Leads, leads_more, leads_so}
+use Rattle.lot_laws.proofs.Leads.{Leads, OrBarred, leads_more, leads_so, or_so}
+use Rattle.lot_laws.proofs.ReadsOwn.{reads_its_own}
 use Rattle.lot_laws.proofs.SoloActs.{Facing}
+use Rattle.lot_laws.proofs.TriesAlone.{tries_freely}
+use Rattle.lot_laws.proofs.WayKept.{unbarred}
 
 -- ---------------------------------------------------------------- the laws
 
@@ -86,45 +81,8 @@ try_so : (b : Bool) (x : Outcome)
 try_so true x h = rw h tt
 try_so false x h = rw h tt
 
--- nobody is in a second section of a lock that has none, at a lock of its own
-aside_there : (l k : ℕ) (p : Place) → ((station p).inside ≡ Some Second → ⊥)
-    → (if k == l then station p else nowhere).inside ≡ Some Second → ⊥
-aside_there l k p none e = either (k == l) e
-  where
-    either : (b : Bool) → (if b then station p else nowhere).inside ≡ Some Second → ⊥
-    either true h = none h
-    either false h = cc
-
--- nor at a lock of another sort
-aside_elsewhere : (w : State) (l k : ℕ) (p : Place) (own : Sort) → (rules_in w k).sort ≡ own → ((rules_in w l).sort ≡ own → ⊥)
-    → (if k == l then station p else nowhere).inside ≡ Some Second → ⊥
-aside_elsewhere w l k p own fits other e = either (k == l) refl e
-  where
-    either : (b : Bool) → (k == l) ≡ b → (if b then station p else nowhere).inside ≡ Some Second → ⊥
-    either true same_lock h = other (ap (λ n. (rules_in w n).sort) (sym (eqb-true k l same_lock)) ∙ fits)
-    either false same_lock h = cc
-
--- nobody is in a second section of a `Once`, or of a semaphore
-never_aside : (w : State) (l : ℕ) (p : Place) → FitsItsLock w p → has_readers (rules_in w l).sort ≡ false
-    → ((rules_in w l).sort ≡ locks.Mutex → ⊥) → ((rules_in w l).sort ≡ locks.Condvar → ⊥)
-    → (station_at p l).inside ≡ Some Second → ⊥
-never_aside w l Idle fits shared mutex condvar e = absurd cc
-never_aside w l (Mutex k at) fits shared mutex condvar e =
-    aside_elsewhere w l k (Mutex k at) locks.Mutex (ap (λ (r : Rules). r.sort) (mutex_rules (kind_at w k) fits)) mutex e
-never_aside w l (RwLock k a c) fits shared mutex condvar e =
-    aside_elsewhere w l k (RwLock k a c) (rules_in w k).sort refl (λ one. let f : false ≡ true = sym shared ∙ ap has_readers one ∙ fits.0.0 in cc) e
-never_aside w l (Once k at) fits shared mutex condvar e = aside_there l k (Once k at) (main_only at) e
-never_aside w l (Semaphore k at) fits shared mutex condvar e = aside_there l k (Semaphore k at) (only_main at) e
-never_aside w l (Condvar k at) fits shared mutex condvar e = either (k == l) (is_lock l (mutex_beside at)) refl (not_beside w (Condvar k at) l fits mutex) e
-  where
-    either : (b c : Bool) → (k == l) ≡ b → c ≡ false
-        → (if b then station (Condvar k at) else if c then station_by (mutex_side at) else nowhere).inside ≡ Some Second → ⊥
-    either true c same_lock out h = condvar (ap (λ n. (rules_in w n).sort) (sym (eqb-true k l same_lock)) ∙ fits.sort)
-    either false true same_lock out h = cc
-    either false false same_lock out h = cc
-
 module _ (w : State) (t : ℕ) (shape : IsShaped w) (steady : IsSteady w) (counted : AreCounted w) (condvars : AreCondvars w)
-    (running : RunsInClosures w) (there : t < length w.places) (way : HasItsWay w t) where
+    (running : RunsInClosures w) (there : t < length w.places) where
   world : IsWorld w
   world = record { shaped = shape; steady = steady; counted = counted; condvars = condvars; running = running }
 
@@ -136,25 +94,28 @@ module _ (w : State) (t : ℕ) (shape : IsShaped w) (steady : IsSteady w) (count
       → Facing w t l p (word_at w l) (owner_at w l) (section_at w (2 * l)) (queue_at w (2 * l))
   facing l p single is lt = record { single = single; shape = shape; steady = steady; counted = counted; condvars = condvars; thread = there; lock = lt; place = is; word = refl; owner = refl; section = refl; queue = refl }
 
-  -- outside its section it finds it free
-  free : (l : ℕ) (p : Place) → IsSingle p → place_at w t ≡ p → lock_of p ≡ Some l → (station p).inside ≡ None → (x : Option ℕ)
-      → section_at w (2 * l) ≡ x → x ≡ None
-  free l p single is own outside None e = refl
-  free l p single is own outside (Some u) e = let mine : u ≡ t = way l u Main (inl (ap lock_of is ∙ own)) tt e in
-      let within : (station_at (place_at w t) l).inside ≡ Some Main = (steady.stands.sections t l Main).1 (e ∙ ap Some mine) in
+  facing_now : (l : ℕ) (p : Place) → IsSingle p → place_at w t ≡ p → l < length w.locks → (s : Option ℕ) → section_at w (2 * l) ≡ s
+      → Facing w t l p (word_at w l) (owner_at w l) s (queue_at w (2 * l))
+  facing_now l p single is lt s e = subst (λ x. Facing w t l p (word_at w l) (owner_at w l) x (queue_at w (2 * l))) e (facing l p single is lt)
+
+  -- outside its section it finds it free where nobody else is inside
+  free : (l : ℕ) (p : Place) → IsSingle p → place_at w t ≡ p → (station p).inside ≡ None → IsOnly t (section_at w (2 * l))
+      → (x : Option ℕ) → section_at w (2 * l) ≡ x → x ≡ None
+  free l p single is outside only None e = refl
+  free l p single is outside only (Some u) e = let within : (station_at (place_at w t) l).inside ≡ Some Main = (steady.stands.sections t l Main).1 (e ∙ ap Some (only u e)) in
       let out : (station_at (place_at w t) l).inside ≡ None = nothing_at (place_at w t) l (subst IsSingle (sym is) single) (λ y. y.inside) refl (ap (λ y. (station y).inside) is ∙ outside) in absurd cc
 
-  at_first : (l : ℕ) (p : Place) → IsSingle p → place_at w t ≡ p → lock_of p ≡ Some l → (station p).inside ≡ None
+  at_first : (l : ℕ) (p : Place) → IsSingle p → place_at w t ≡ p → (station p).inside ≡ None → IsOnly t (section_at w (2 * l))
       → l < length w.locks → Facing w t l p (word_at w l) (owner_at w l) None (queue_at w (2 * l))
-  at_first l p single is own outside lt = subst (λ s. Facing w t l p (word_at w l) (owner_at w l) s (queue_at w (2 * l))) (free l p single is own outside (section_at w (2 * l)) refl) (facing l p single is lt)
+  at_first l p single is outside only lt = facing_now l p single is lt None (free l p single is outside only (section_at w (2 * l)) refl)
 
   -- at a place of a reader-writer lock
   admitted : (l : ℕ) (a : Admission) (c : RwLockCallPlace) → place_at w t ≡ RwLock l a c → FitsItsLock w (RwLock l a c)
   admitted l a c is = subst (FitsItsLock w) is (steady.stands.calls t)
 
-  steps_alone_at : (l : ℕ) (p : Place) → IsSingle p → ((m : Line) (u : ℕ) → section_at w (key_of l m) ≡ Some u → u ≡ t)
-      → place_at w t ≡ p → l < length w.locks → StepsAlone w t l p (word_at w l) (λ m. queue_at w (key_of l m))
-  steps_alone_at l p single free_way is lt = record {
+  steps_alone : (l : ℕ) (p : Place) → IsSingle p → place_at w t ≡ p → l < length w.locks
+      → StepsAlone w t l p (word_at w l) (λ m. queue_at w (key_of l m))
+  steps_alone l p single is lt = record {
     single = single;
     shape = shape;
     steady = steady;
@@ -166,69 +127,37 @@ module _ (w : State) (t : ℕ) (shape : IsShaped w) (steady : IsSteady w) (count
     place = is;
     word = refl;
     queue = λ m. refl;
-    way = free_way;
   }
-
-  steps_alone : (l : ℕ) (a : Admission) (c : RwLockCallPlace) → has_readers (rules_in w l).sort ≡ true
-      → place_at w t ≡ RwLock l a c → l < length w.locks
-      → StepsAlone w t l (RwLock l a c) (word_at w l) (λ m. queue_at w (key_of l m))
-  steps_alone l a c readers is lt = steps_alone_at l (RwLock l a c) tt (λ m u e. way l u m (inl (ap lock_of is)) (line m) e) is lt
-    where
-      line : (m : Line) → HasLine (rules_of (kind_at w l)).sort m
-      line Main = tt
-      line Second = readers
-
-  -- at a place of a `Once` or of a semaphore, which has no second line
-  one_line_alone : (l : ℕ) (p : Place) → IsSingle p → lock_of p ≡ Some l → has_readers (rules_in w l).sort ≡ false
-      → ((rules_in w l).sort ≡ locks.Mutex → ⊥) → ((rules_in w l).sort ≡ locks.Condvar → ⊥)
-      → place_at w t ≡ p → l < length w.locks
-      → StepsAlone w t l p (word_at w l) (λ m. queue_at w (key_of l m))
-  one_line_alone l p single own shared mutex condvar is lt = steps_alone_at l p single free_way is lt
-    where
-      free_way : (m : Line) (u : ℕ) → section_at w (key_of l m) ≡ Some u → u ≡ t
-      free_way Main u e = way l u Main (inl (ap lock_of is ∙ own)) tt e
-      free_way Second u e = absurd (never_aside w l (place_at w u) (steady.stands.calls u) shared mutex condvar ((steady.stands.sections u l Second).1 e))
-
-  once_steps_alone : (l : ℕ) (at : OncePlace) → place_at w t ≡ Once l at → l < length w.locks
-      → StepsAlone w t l (Once l at) (word_at w l) (λ m. queue_at w (key_of l m))
-  once_steps_alone l at is lt = one_line_alone l (Once l at) tt refl (ap has_readers sort) (λ e. let f : locks.Once ≡ locks.Mutex = sym sort ∙ e in cc) (λ e. let f : locks.Once ≡ locks.Condvar = sym sort ∙ e in cc) is lt
-    where
-      sort : (rules_in w l).sort ≡ locks.Once
-      sort = subst (FitsItsLock w) is (steady.stands.calls t)
 
   of_semaphore : (l : ℕ) (at : SemaphorePlace) → place_at w t ≡ Semaphore l at → (rules_in w l).sort ≡ locks.Semaphore
   of_semaphore l at is = (subst (FitsItsLock w) is (steady.stands.calls t)).0
 
-  semaphore_steps_alone : (l : ℕ) (at : SemaphorePlace) → place_at w t ≡ Semaphore l at → l < length w.locks
-      → StepsAlone w t l (Semaphore l at) (word_at w l) (λ m. queue_at w (key_of l m))
-  semaphore_steps_alone l at is lt = one_line_alone l (Semaphore l at) tt refl (ap has_readers (of_semaphore l at is)) (λ e. let f : locks.Semaphore ≡ locks.Mutex = sym (of_semaphore l at is) ∙ e in cc) (λ e. let f : locks.Semaphore ≡ locks.Condvar = sym (of_semaphore l at is) ∙ e in cc) is lt
-
   mutex_place_rests : (l : ℕ) (c : MutexPlace) → place_at w t ≡ Mutex l c → PlaceFits (length w.locks) (Mutex l c)
-      → Mutex l c ≢ Idle → act_of (Mutex l c) ≢ act.TheVariants.Sleep → Leads 12 w t (λ v x. Rests x)
-  mutex_place_rests l (Lock entry retries a) is fits busy up = leads_more 8 12 w t (λ v x. Rests x) (omega arith) (lock_rests t l entry retries a (word_at w l) (owner_at w l) (section_at w (2 * l)) (queue_at w (2 * l)) w (facing l (Mutex l (Lock entry retries a)) tt is fits.0) (λ outside. free l (Mutex l (Lock entry retries a)) tt is refl outside (section_at w (2 * l)) refl) up)
-  mutex_place_rests l TryLock is fits busy up = leads_more 1 12 w t (λ v x. Rests x) (omega arith)
+      → act_of (Mutex l c) ≢ act.TheVariants.Sleep → Leads 12 w t (λ v x. Rests x)
+  mutex_place_rests l (Lock entry retries a) is fits up = leads_more 8 12 w t (λ v x. Rests x) (omega arith) (lock_rests t l entry retries a (word_at w l) (owner_at w l) (section_at w (2 * l)) (queue_at w (2 * l)) w (facing l (Mutex l (Lock entry retries a)) tt is fits.0) up)
+  mutex_place_rests l TryLock is fits up = leads_more 1 12 w t (λ v x. Rests x) (omega arith)
       (leads_so 1 w t (λ v x. (x ≡ (if is_locked (word_at w l) then outcome.TheVariants.End answer.TheVariants.No else outcome.TheVariants.End answer.TheVariants.Yes)) × (owner_at v l ≡ (if is_locked (word_at w l) then owner_at w l else Some t))) (λ v x. Rests x)
       (λ v x h. try_so (is_locked (word_at w l)) x h.0) (try_leads t l (queue_at w (2 * l)) (section_at w (2 * l)) (word_at w l) (owner_at w l) w (facing l (Mutex l TryLock) tt is fits.0)))
-  mutex_place_rests l (Unlock a) is fits busy up = leads_more 8 12 w t (λ v x. Rests x) (omega arith) (unlock_rests t l a (word_at w l) (owner_at w l) (section_at w (2 * l)) (queue_at w (2 * l)) w (facing l (Mutex l (Unlock a)) tt is fits.0) (λ outside. free l (Mutex l (Unlock a)) tt is refl outside (section_at w (2 * l)) refl))
-  mutex_place_rests l UnlockFair is fits busy up = fair_rests t l 11 false (first_of (queue_at w (2 * l))) (drop 1 (queue_at w (2 * l))) w (omega arith) (unlock_fair_leads t l (queue_at w (2 * l)) (word_at w l) (owner_at w l) w (at_first l (Mutex l UnlockFair) tt is refl refl fits.0))
-  mutex_place_rests l Bump is fits busy up = fair_rests t l 11 true (first_of (queue_at w (2 * l))) (drop 1 (queue_at w (2 * l))) w (omega arith) (bump_leads t l (queue_at w (2 * l)) (word_at w l) (owner_at w l) w (at_first l (Mutex l Bump) tt is refl refl fits.0))
-  mutex_place_rests l (HandOff bumps a) is fits busy up = hand_off_rests t l bumps a (word_at w l) (owner_at w l) (section_at w (2 * l)) (queue_at w (2 * l)) w (facing l (Mutex l (HandOff bumps a)) tt is fits.0) (λ outside. free l (Mutex l (HandOff bumps a)) tt is refl outside (section_at w (2 * l)) refl)
+  mutex_place_rests l (Unlock a) is fits up = leads_more 8 12 w t (λ v x. Rests x) (omega arith) (unlock_rests t l a (word_at w l) (owner_at w l) (section_at w (2 * l)) (queue_at w (2 * l)) w (facing l (Mutex l (Unlock a)) tt is fits.0))
+  mutex_place_rests l UnlockFair is fits up = unlock_fair_rests t l (queue_at w (2 * l)) (word_at w l) (owner_at w l) (section_at w (2 * l)) w (facing l (Mutex l UnlockFair) tt is fits.0)
+  mutex_place_rests l Bump is fits up = bump_rests t l (queue_at w (2 * l)) (word_at w l) (owner_at w l) (section_at w (2 * l)) w (facing l (Mutex l Bump) tt is fits.0)
+  mutex_place_rests l (HandOff bumps a) is fits up = hand_off_rests t l bumps a (word_at w l) (owner_at w l) (section_at w (2 * l)) (queue_at w (2 * l)) w (facing l (Mutex l (HandOff bumps a)) tt is fits.0)
 
   place_rests : (p : Place) → place_at w t ≡ p → PlaceFits (length w.locks) p → p ≢ Idle → act_of p ≢ act.TheVariants.Sleep
       → runs_closure (act_of p) ≡ false → Leads 18 w t (λ v x. Rests x)
   place_rests Idle is fits busy up outside = absurd (busy refl)
-  place_rests (Condvar l at) is fits busy up outside = leads_more 17 18 w t (λ v x. Rests x) (omega arith) (condvar_rests t stays_world w world there way l at is up)
+  place_rests (Condvar l at) is fits busy up outside = leads_more 17 18 w t (λ v x. Rests x) (omega arith) (condvar_rests t stays_world w world there l at is up)
   place_rests (Semaphore l at) is fits busy up outside =
-      leads_more 8 18 w t (λ v x. Rests x) (omega arith) (semaphore_rests t l at (word_at w l) w (λ m. queue_at w (key_of l m)) up (semaphore_steps_alone l at is fits))
+      leads_more 8 18 w t (λ v x. Rests x) (omega arith) (semaphore_rests t l at (word_at w l) w (λ m. queue_at w (key_of l m)) up (steps_alone l (Semaphore l at) tt is fits))
   place_rests (Once l at) is fits busy up outside =
-      leads_more 8 18 w t (λ v x. Rests x) (omega arith) (once_rests t l at (word_at w l) w (λ m. queue_at w (key_of l m)) up outside (once_steps_alone l at is fits))
+      leads_more 8 18 w t (λ v x. Rests x) (omega arith) (once_rests t l at (word_at w l) w (λ m. queue_at w (key_of l m)) up outside (steps_alone l (Once l at) tt is fits))
   place_rests (RwLock l a c) is fits busy up outside =
       let h = admitted l a c is in
-      call_rests t l a c (word_at w l) w (λ m. queue_at w (key_of l m)) h.0 (word_small w l steady h.0.0) h.1 up (steps_alone l a c h.0.0 is fits)
-  place_rests (Mutex l c) is fits busy up outside = leads_more 12 18 w t (λ v x. Rests x) (omega arith) (mutex_place_rests l c is fits busy up)
+      call_rests t l a c (word_at w l) w (λ m. queue_at w (key_of l m)) h.0 (word_small w l steady h.0.0) h.1 up (steps_alone l (RwLock l a c) tt is fits)
+  place_rests (Mutex l c) is fits busy up outside = leads_more 12 18 w t (λ v x. Rests x) (omega arith) (mutex_place_rests l c is fits up)
 
-  -- a call under way ends or sleeps
-  pub solo_rests : IsUnderWay w t → (n : ℕ) (last : Outcome) → 18 ≤ n → Rests (solo n w t last).outcome
+  -- a call under way ends or sleeps, or is barred
+  pub solo_rests : IsUnderWay w t → (n : ℕ) (last : Outcome) → 18 ≤ n → OrBarred t (λ v x. Rests x) (solo n w t last).state (solo n w t last).outcome
   solo_rests up n last le = place_rests (place_at w t) refl (shape.places t) up.0 up.1 up.2 n last le
 
   -- ---------------------------------------------------------------- calls from their beginning
@@ -302,34 +231,40 @@ module _ (w : State) (t : ℕ) (shape : IsShaped w) (steady : IsSteady w) (count
         by_queue [] g = g
         by_queue (y ∷ q) g = (g.0, g.1, ap (map queued_of) g.2 ∙ queued_behind (2 * l) t Exclusive q)
 
+  -- what its solo run comes to, or it is barred
+  abbrev Comes : ℕ → Outcome → Option Purpose → Type 0
+  Comes n last purpose = EndsAlone w t purpose (solo n w t last).outcome (solo n w t last).state ⊎ IsBarred (solo n w t last).state t
+
   fairly : (l : ℕ) → place_at w t ≡ Mutex l UnlockFair → l < length w.locks → is_mutex (kind_at w l) ≡ true
-      → (n : ℕ) (last : Outcome) → 12 ≤ n
-      → EndsAlone w t (Some (Releases l Exclusive true)) (solo n w t last).outcome (solo n w t last).state
-  fairly l is lt kind n last le = unlock_fair_alone l kind (solo n w t last).state (solo n w t last).outcome (subst IsSingle (sym is) tt) (ap (λ p. (station p).stands) is)
-      (unlock_fair_leads t l (queue_at w (2 * l)) (word_at w l) (owner_at w l) w (at_first l _ tt is refl refl lt) n last (omega arith))
+      → IsOnly t (section_at w (2 * l)) → (n : ℕ) (last : Outcome) → 12 ≤ n → Comes n last (Some (Releases l Exclusive true))
+  fairly l is lt kind only n last le = or_so (unlock_fair_alone l kind (solo n w t last).state (solo n w t last).outcome (subst IsSingle (sym is) tt) (ap (λ p. (station p).stands) is))
+      (unlock_fair_leads t l (queue_at w (2 * l)) (word_at w l) (owner_at w l) w (at_first l _ tt is refl only lt) n last (omega arith))
 
   call_alone : (l : ℕ) (fair : Bool) (c : MutexCall) → place_at w t ≡ Mutex l (mutex_first fair c) → l < length w.locks
-      → is_mutex (kind_at w l) ≡ true → (n : ℕ) (last : Outcome) → 12 ≤ n
-      → EndsAlone w t (Some (mutex_purpose fair l c)) (solo n w t last).outcome (solo n w t last).state
-  call_alone l fair mutex_call.TheVariants.Lock is lt kind n last le = lock_alone l kind (solo n w t last).state (solo n w t last).outcome entries.Lock (owner_at w l) refl
-      (first_leads t l entries.Lock (queue_at w (2 * l)) false (word_at w l) (owner_at w l) (coded_for w steady t l _ is) w (at_first l _ tt is refl refl lt) n last (omega arith))
-  call_alone l fair mutex_call.TheVariants.LockTimed is lt kind n last le = lock_alone l kind (solo n w t last).state (solo n w t last).outcome entries.LockTimed (owner_at w l) refl
-      (first_leads t l entries.LockTimed (queue_at w (2 * l)) false (word_at w l) (owner_at w l) (coded_for w steady t l _ is) w (at_first l _ tt is refl refl lt) n last (omega arith))
-  call_alone l fair mutex_call.TheVariants.TryLock is lt kind n last le = try_alone l kind (solo n w t last).state (solo n w t last).outcome (is_locked (word_at w l)) refl
-      (try_leads t l (queue_at w (2 * l)) None (word_at w l) (owner_at w l) w (at_first l _ tt is refl refl lt) n last (omega arith))
-  call_alone l false mutex_call.TheVariants.Unlock is lt kind n last le = unlock_alone l kind (solo n w t last).state (solo n w t last).outcome
-      (subtract_leads t l (queue_at w (2 * l)) (word_at w l) (owner_at w l) w (at_first l _ tt is refl refl lt) n last (omega arith))
-  call_alone l true mutex_call.TheVariants.Unlock is lt kind n last le = fairly l is lt kind n last le
-  call_alone l fair mutex_call.TheVariants.UnlockFair is lt kind n last le = fairly l is lt kind n last le
-  call_alone l fair mutex_call.TheVariants.Bump is lt kind n last le = bump_alone l kind (solo n w t last).state (solo n w t last).outcome
-      (bump_leads t l (queue_at w (2 * l)) (word_at w l) (owner_at w l) w (at_first l _ tt is refl refl lt) n last (omega arith))
+      → is_mutex (kind_at w l) ≡ true → HasWhatItReads w t (Some (mutex_purpose fair l c)) → (n : ℕ) (last : Outcome) → 12 ≤ n
+      → Comes n last (Some (mutex_purpose fair l c))
+  call_alone l fair mutex_call.TheVariants.Lock is lt kind reads n last le = or_so (lock_alone l kind (solo n w t last).state (solo n w t last).outcome entries.Lock (owner_at w l) refl)
+      (first_leads t l entries.Lock (queue_at w (2 * l)) false (word_at w l) (owner_at w l) (coded_for w steady t l _ is) (section_at w (2 * l)) w (facing l _ tt is lt) n last (omega arith))
+  call_alone l fair mutex_call.TheVariants.LockTimed is lt kind reads n last le = or_so (lock_alone l kind (solo n w t last).state (solo n w t last).outcome entries.LockTimed (owner_at w l) refl)
+      (first_leads t l entries.LockTimed (queue_at w (2 * l)) false (word_at w l) (owner_at w l) (coded_for w steady t l _ is) (section_at w (2 * l)) w (facing l _ tt is lt) n last (omega arith))
+  call_alone l fair mutex_call.TheVariants.TryLock is lt kind reads n last le = or_so (try_alone l kind (solo n w t last).state (solo n w t last).outcome (is_locked (word_at w l)) refl)
+      (try_leads t l (queue_at w (2 * l)) (section_at w (2 * l)) (word_at w l) (owner_at w l) w (facing l _ tt is lt) n last (omega arith))
+  call_alone l false mutex_call.TheVariants.Unlock is lt kind reads n last le = or_so (unlock_alone l kind (solo n w t last).state (solo n w t last).outcome)
+      (subtract_leads t l (queue_at w (2 * l)) (word_at w l) (owner_at w l) (section_at w (2 * l)) w (facing l _ tt is lt) n last (omega arith))
+  call_alone l true mutex_call.TheVariants.Unlock is lt kind reads n last le = fairly l is lt kind (reads (ap (λ (r : Rules). r.sort) (mutex_rules (kind_at w l) kind))) n last le
+  call_alone l fair mutex_call.TheVariants.UnlockFair is lt kind reads n last le = fairly l is lt kind (reads (ap (λ (r : Rules). r.sort) (mutex_rules (kind_at w l) kind))) n last le
+  call_alone l fair mutex_call.TheVariants.Bump is lt kind reads n last le = or_so (bump_alone l kind (solo n w t last).state (solo n w t last).outcome)
+      (bump_leads t l (queue_at w (2 * l)) (word_at w l) (owner_at w l) w (at_first l _ tt is refl reads lt) n last (omega arith))
+
+  -- the run of a call from its beginning
+  abbrev Ends : Option Purpose → Type 0
+  Ends purpose = HasWhatItReads w t purpose → Comes 64 outcome.TheVariants.NotNow purpose
 
   -- a call that begins, stepped alone
-  pub mutex_ends : (l : ℕ) (c : MutexCall) → place_at w t ≡ Mutex l (mutex_first (is_fair (kind_at w l)) c)
-      → (n : ℕ) (last : Outcome) → 12 ≤ n
-      → EndsAlone w t (purpose_at (locks_of w) (call.TheVariants.Mutex l c)) (solo n w t last).outcome (solo n w t last).state
-  mutex_ends l c is n last le = subst (λ o. EndsAlone w t o (solo n w t last).outcome (solo n w t last).state) (sym (purpose_is (kind_at w l) l c calls))
-      (call_alone l (is_fair (kind_at w l)) c is fits.0 calls n last le)
+  mutex_ends : (l : ℕ) (c : MutexCall) → place_at w t ≡ Mutex l (mutex_first (is_fair (kind_at w l)) c)
+      → Ends (purpose_at (locks_of w) (call.TheVariants.Mutex l c))
+  mutex_ends l c is = subst Ends (sym (purpose_is (kind_at w l) l c calls))
+      (λ reads. call_alone l (is_fair (kind_at w l)) c is fits.0 calls reads 64 outcome.TheVariants.NotNow (omega arith))
     where
       calls : FitsItsLock w (Mutex l (mutex_first (is_fair (kind_at w l)) c))
       calls = subst (FitsItsLock w) is (steady.stands.calls t)
@@ -337,79 +272,94 @@ module _ (w : State) (t : ℕ) (shape : IsShaped w) (steady : IsSteady w) (count
       fits : PlaceFits (length w.locks) (Mutex l (mutex_first (is_fair (kind_at w l)) c))
       fits = subst (PlaceFits (length w.locks)) is (shape.places t)
 
-  pub rwlock_ends : (l : ℕ) (c : RwLockCall) → place_at w t ≡ RwLock l (admission_of (kind_at w l)) (call_first c)
-      → EndsAlone w t (purpose_at (locks_of w) (call.TheVariants.RwLock l c)) (solo 64 w t outcome.TheVariants.NotNow).outcome
-      (solo 64 w t outcome.TheVariants.NotNow).state
+  rwlock_ends : (l : ℕ) (c : RwLockCall) → place_at w t ≡ RwLock l (admission_of (kind_at w l)) (call_first c)
+      → Ends (purpose_at (locks_of w) (call.TheVariants.RwLock l c))
   rwlock_ends l c is = by_kind (kind_at w l) refl
     where
       fits : l < length w.locks
       fits = subst (PlaceFits (length w.locks)) is (shape.places t)
 
-      ends : has_readers (rules_in w l).sort ≡ true
-          → EndsAlone w t (Some (rwlock_purpose l c)) (solo 64 w t outcome.TheVariants.NotNow).outcome
-          (solo 64 w t outcome.TheVariants.NotNow).state
-      ends readers = rwlock_alone w t l (admission_of (kind_at w l)) c 64 outcome.TheVariants.NotNow (omega arith) steady (admits_by (kind_at w l) readers) is (steps_alone l (admission_of (kind_at w l)) (call_first c) readers is fits) (runs_alone 64 w t world)
+      ends : has_readers (rules_in w l).sort ≡ true → Ends (Some (rwlock_purpose l c))
+      ends readers reads = rwlock_alone w t l (admission_of (kind_at w l)) c 64 outcome.TheVariants.NotNow (omega arith) steady (admits_by (kind_at w l) readers) is (steps_alone l (RwLock l (admission_of (kind_at w l)) (call_first c)) tt is fits) (runs_alone 64 w t world) reads
 
-      by_kind : (k : Kind) → kind_at w l ≡ k
-          → EndsAlone w t (purpose_of k (call.TheVariants.RwLock l c)) (solo 64 w t outcome.TheVariants.NotNow).outcome
-          (solo 64 w t outcome.TheVariants.NotNow).state
-      by_kind kinds.Mutex e = tt
-      by_kind kinds.Fair e = tt
+      by_kind : (k : Kind) → kind_at w l ≡ k → Ends (purpose_of k (call.TheVariants.RwLock l c))
+      by_kind kinds.Mutex e = λ reads. inl tt
+      by_kind kinds.Fair e = λ reads. inl tt
       by_kind (kinds.RwLock limit) e = ends (ap (λ k. has_readers (rules_of k).sort) e)
       by_kind (kinds.Recursive limit) e = ends (ap (λ k. has_readers (rules_of k).sort) e)
-      by_kind k e = tt
+      by_kind k e = λ reads. inl tt
 
-  pub condvar_ends : (l : ℕ) (c : CondvarCall) → place_at w t ≡ Condvar l (condvar_first c)
-      → EndsAlone w t (purpose_at (locks_of w) (call.TheVariants.Condvar l c)) (solo 64 w t outcome.TheVariants.NotNow).outcome
-      (solo 64 w t outcome.TheVariants.NotNow).state
+  condvar_ends : (l : ℕ) (c : CondvarCall) → place_at w t ≡ Condvar l (condvar_first c)
+      → Ends (purpose_at (locks_of w) (call.TheVariants.Condvar l c))
   condvar_ends l c is = by_kind (kind_at w l)
     where
-      by_kind : (k : Kind)
-          → EndsAlone w t (purpose_of k (call.TheVariants.Condvar l c)) (solo 64 w t outcome.TheVariants.NotNow).outcome
-          (solo 64 w t outcome.TheVariants.NotNow).state
-      by_kind kinds.Condvar = condvar_alone t stays_world w world there way l c is 64 outcome.TheVariants.NotNow (omega arith)
-      by_kind k = tt
+      by_kind : (k : Kind) → Ends (purpose_of k (call.TheVariants.Condvar l c))
+      by_kind kinds.Condvar = λ reads. condvar_alone t stays_world w world there l c is reads 64 outcome.TheVariants.NotNow (omega arith)
+      by_kind k = λ reads. inl tt
 
-  pub once_ends : (l : ℕ) (c : OnceCall) → place_at w t ≡ Once l (once_first c)
-      → EndsAlone w t (purpose_at (locks_of w) (call.TheVariants.Once l c)) (solo 64 w t outcome.TheVariants.NotNow).outcome
-      (solo 64 w t outcome.TheVariants.NotNow).state
-  once_ends l c is = by_kind (kind_at w l) refl
+  once_ends : (l : ℕ) (c : OnceCall) → place_at w t ≡ Once l (once_first c)
+      → Ends (purpose_at (locks_of w) (call.TheVariants.Once l c))
+  once_ends l c is = by_kind (kind_at w l)
     where
       fits : l < length w.locks
       fits = subst (PlaceFits (length w.locks)) is (shape.places t)
 
-      by_kind : (k : Kind) → kind_at w l ≡ k
-          → EndsAlone w t (purpose_of k (call.TheVariants.Once l c)) (solo 64 w t outcome.TheVariants.NotNow).outcome
-          (solo 64 w t outcome.TheVariants.NotNow).state
-      by_kind kinds.Once e = once_alone w t l c 64 outcome.TheVariants.NotNow (omega arith) (once_steps_alone l (once_first c) is fits)
-      by_kind k e = tt
+      by_kind : (k : Kind) → Ends (purpose_of k (call.TheVariants.Once l c))
+      by_kind kinds.Once = λ reads. once_alone w t l c 64 outcome.TheVariants.NotNow (omega arith) (steps_alone l (Once l (once_first c)) tt is fits)
+      by_kind k = λ reads. inl tt
 
-  pub semaphore_ends : (l : ℕ) (c : SemaphoreCall) → place_at w t ≡ Semaphore l (semaphore_first c)
-      → EndsAlone w t (purpose_at (locks_of w) (call.TheVariants.Semaphore l c)) (solo 64 w t outcome.TheVariants.NotNow).outcome
-      (solo 64 w t outcome.TheVariants.NotNow).state
-  semaphore_ends l c is = by_kind (kind_at w l) refl
+  semaphore_ends : (l : ℕ) (c : SemaphoreCall) → place_at w t ≡ Semaphore l (semaphore_first c)
+      → Ends (purpose_at (locks_of w) (call.TheVariants.Semaphore l c))
+  semaphore_ends l c is = by_kind (kind_at w l)
     where
       fits : l < length w.locks
       fits = subst (PlaceFits (length w.locks)) is (shape.places t)
 
-      by_kind : (k : Kind) → kind_at w l ≡ k
-          → EndsAlone w t (purpose_of k (call.TheVariants.Semaphore l c)) (solo 64 w t outcome.TheVariants.NotNow).outcome
-          (solo 64 w t outcome.TheVariants.NotNow).state
-      by_kind (kinds.Semaphore permits) e = semaphore_alone w t l c 64 outcome.TheVariants.NotNow (omega arith) steady (of_semaphore l (semaphore_first c) is) is (semaphore_steps_alone l (semaphore_first c) is fits) (runs_alone 64 w t world)
-      by_kind k e = tt
+      by_kind : (k : Kind) → Ends (purpose_of k (call.TheVariants.Semaphore l c))
+      by_kind (kinds.Semaphore permits) = λ reads. semaphore_alone w t l c 64 outcome.TheVariants.NotNow (omega arith) steady (of_semaphore l (semaphore_first c) is) is (steps_alone l (Semaphore l (semaphore_first c)) tt is fits) (runs_alone 64 w t world)
+      by_kind k = λ reads. inl tt
+
+  -- a call from its beginning ends so, or is barred
+  pub solo_ends : (c : Call) → place_at w t ≡ first_place (kind_at w (lock_in c)) c → Ends (purpose_at (locks_of w) c)
+  solo_ends (call.TheVariants.Condvar l c) is = condvar_ends l c is
+  solo_ends (call.TheVariants.Once l c) is = once_ends l c is
+  solo_ends (call.TheVariants.Semaphore l c) is = semaphore_ends l c is
+  solo_ends (call.TheVariants.Mutex l c) is = mutex_ends l c is
+  solo_ends (call.TheVariants.RwLock l c) is = rwlock_ends l c is
 
 -- ---------------------------------------------------------------- as the world is told them
 
 module _ (w : State) (t : ℕ) (shape : IsShaped w) (steady : IsSteady w) (counted : AreCounted w) (condvars : AreCondvars w)
     (running : RunsInClosures w) where
+  pub rests_or_barred : IsUnderWay w t
+      → Rests (solo 64 w t outcome.TheVariants.NotNow).outcome ⊎ IsBarred (solo 64 w t outcome.TheVariants.NotNow).state t
+  rests_or_barred up = solo_rests w t shape steady counted condvars running (stands_there w.places t up.0) up 64 outcome.TheVariants.NotNow (omega arith)
+
+  pub ends_or_barred : (c : Call) → place_at w t ≡ first_place (kind_at w (lock_in c)) c
+      → HasWhatItReads w t (purpose_at (locks_of w) c)
+      → EndsAlone w t (purpose_at (locks_of w) c) (solo 64 w t outcome.TheVariants.NotNow).outcome
+      (solo 64 w t outcome.TheVariants.NotNow).state
+      ⊎ IsBarred (solo 64 w t outcome.TheVariants.NotNow).state t
+  ends_or_barred c is reads = solo_ends w t shape steady counted condvars running (stands_there w.places t (first_busy (kind_at w (lock_in c)) c (place_at w t) is)) c is reads
+
+  -- who has its way isn't barred
+  unless_barred : {A : Type 0} → HasItsWay w t → A ⊎ IsBarred (solo 64 w t outcome.TheVariants.NotNow).state t → A
+  unless_barred way (inl a) = a
+  unless_barred way (inr b) = absurd (unbarred 64 w t outcome.TheVariants.NotNow (record { shaped = shape; steady = steady; counted = counted; condvars = condvars; running = running }) way b)
+
   pub rests_alone : IsUnderWay w t → HasItsWay w t → Rests (solo 64 w t outcome.TheVariants.NotNow).outcome
-  rests_alone up way = solo_rests w t shape steady counted condvars running (stands_there w.places t up.0) way up 64 outcome.TheVariants.NotNow (omega arith)
+  rests_alone up way = unless_barred way (rests_or_barred up)
 
   pub ends_alone : (c : Call) → place_at w t ≡ first_place (kind_at w (lock_in c)) c → HasItsWay w t
       → EndsAlone w t (purpose_at (locks_of w) c) (solo 64 w t outcome.TheVariants.NotNow).outcome
       (solo 64 w t outcome.TheVariants.NotNow).state
-  ends_alone (call.TheVariants.Condvar l c) is way = condvar_ends w t shape steady counted condvars running (stands_there w.places t (first_busy (kind_at w l) (call.TheVariants.Condvar l c) (place_at w t) is)) way l c is
-  ends_alone (call.TheVariants.Once l c) is way = once_ends w t shape steady counted condvars running (stands_there w.places t (first_busy (kind_at w l) (call.TheVariants.Once l c) (place_at w t) is)) way l c is
-  ends_alone (call.TheVariants.Semaphore l c) is way = semaphore_ends w t shape steady counted condvars running (stands_there w.places t (first_busy (kind_at w l) (call.TheVariants.Semaphore l c) (place_at w t) is)) way l c is
-  ends_alone (call.TheVariants.Mutex l c) is way = mutex_ends w t shape steady counted condvars running (stands_there w.places t (first_busy (kind_at w l) (call.TheVariants.Mutex l c) (place_at w t) is)) way l c is 64 outcome.TheVariants.NotNow (omega arith)
-  ends_alone (call.TheVariants.RwLock l c) is way = rwlock_ends w t shape steady counted condvars running (stands_there w.places t (first_busy (kind_at w l) (call.TheVariants.RwLock l c) (place_at w t) is)) way l c is
+  ends_alone c is way = unless_barred way (ends_or_barred c is (reads_its_own w t c is way))
+
+  -- a try ends so whoever is inside a section
+  pub tries_alone : (c : Call) → place_at w t ≡ first_place (kind_at w (lock_in c)) c → OnlyTries (purpose_at (locks_of w) c)
+      → EndsAlone w t (purpose_at (locks_of w) c) (solo 64 w t outcome.TheVariants.NotNow).outcome
+      (solo 64 w t outcome.TheVariants.NotNow).state
+  tries_alone c is only = let free = tries_freely w t c is only 64 outcome.TheVariants.NotNow in elim (ends_or_barred c is free.0) [
+    | inl ends ↦ ends
+    | inr barred ↦ absurd (free.1 barred)
+  ]

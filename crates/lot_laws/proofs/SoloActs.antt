@@ -1,5 +1,5 @@
 -- A thread that steps alone: what each of its acts leads to, of the lock that it calls.
-use Rattle.std.proofs.Common.{subst, ℕ, true, false, Option, Some, None, if◌then◌else◌, ◌==◌, ◌≡◌, ◌*◌, ◌<◌, List, [], ◌∷◌, ◌++◌, length, get_or, map, drop, is_none, refl, sym, ◌∙◌, ap, get_or-set_same, length-set}
+use Rattle.std.proofs.Common.{subst, ℕ, true, false, Option, Some, None, if◌then◌else◌, ◌==◌, ◌≡◌, ◌+◌, ◌*◌, ◌<◌, List, [], ◌∷◌, ◌++◌, length, get_or, map, drop, is_none, refl, sym, ◌∙◌, ap, get_or-set_same, length-set}
 use Rattle.std.proofs.lemmas.Bool.{lt-ltb}
 use Rattle.std.proofs.lemmas.List.{length-map}
 use Rattle.std.proofs.Math.ListN.{get_or-map}
@@ -24,10 +24,13 @@ use Rattle.lot_acts.specs.Acts.{takes_effect, outcome_of}
 use Rattle.lot_steps.specs.Steps.{act_of, next_place, next_act}
 use Rattle.lot_machine.specs.Machine.{state_after_hand_over_by, hand_over_told, State, unlocked, place_at, word_at, owners_at, section_at, queue_at, put, state_after_operation, state_with_sections, queues_with_last, queues_without, queues_without_first, state_after_taking, state_after_reply, state_after_act, reply_to, can_do, state_after_go, go_of, is_possible, after, step_outcome, go_outcome, place_after_telling, state_after_telling, state_after_hand_over, owners_handed_over, is_there, going_outcome, state_after_going}
 use Rattle.lot_machine.specs.Fits.{IsShaped, SameSize}
-use Rattle.lot_laws.proofs.Glue.{IsSingle, next_single}
+use Rattle.lot_laws.proofs.Glue.{IsSingle, next_single, nothing_at}
+use Rattle.lot_laws.proofs.Leads.{Leads, leads_barred, leads_step}
 use Rattle.lot_laws.proofs.OwnPlace.{goes_from_there, told_from_there}
 use Rattle.lot_laws.specs.Refinement.{owner_at}
-use Rattle.lot_laws.specs.Stations.{station}
+use Rattle.abstract_locks.specs.Sites.{Main}
+use Rattle.lot_laws.specs.Solo.{EntersAt}
+use Rattle.lot_laws.specs.Stations.{station, station_at}
 use Rattle.lot_laws.specs.SitesOf.{AreCondvars, AreCounted, IsSteady}
 use Rattle.lot_machine.proofs.Shape.{after_shaped, after_size, main_key_there, main_line_there}
 use Rattle.lot_laws.proofs.CondvarSteps.{after_condvars}
@@ -156,6 +159,25 @@ module _ (w : State) (t l : ℕ) (p : Place) (v : ℕ) (o s : Option ℕ) (q : L
 
       heard : reply_to w t (act_of p) ≡ Done
       heard = ap (reply_to w t) is
+
+  -- outside of the section it enters it, or is barred
+  pub faces_into : (P : State → Outcome → Type 0) (k : ℕ) → act_of p ≡ act.TheVariants.Enter (One (2 * l))
+      → (station p).inside ≡ None → outcome_of (next_act p Done) ≡ outcome.TheVariants.Step
+      → (Facing (after w (go_of t)) t l (next_place p Done) v o (Some t) q → Leads k (after w (go_of t)) t P)
+      → Leads (k + 1) w t P
+  faces_into P k is outside steps on = by_who s f.section
+    where
+      by_who : (who : Option ℕ) → section_at w (2 * l) ≡ who → Leads (k + 1) w t P
+      by_who None e = let h = enter_faces is (sym f.section ∙ e) in leads_step w t P k (h.0 ∙ steps) (on h.1)
+      by_who (Some u) e = leads_barred w t P (k + 1) (record {
+        lock = l;
+        line = Main;
+        other = u;
+        enters = subst (EntersAt (2 * l)) (sym (ap act_of f.place ∙ is)) refl;
+        inside = e;
+        another = λ mine. let within : (station_at (place_at w t) l).inside ≡ Some Main = (f.steady.stands.sections t l Main).1 (e ∙ ap Some mine) in
+            let out : (station_at (place_at w t) l).inside ≡ None = nothing_at (place_at w t) l (subst IsSingle (sym f.place) f.single) (λ x. x.inside) refl (ap (λ x. (station x).inside) f.place ∙ outside) in cc;
+      })
 
   pub leave_faces : act_of p ≡ act.TheVariants.Leave (One (2 * l)) wakes.TheVariants.Nobody
       → Faces w t l (next_place p Done) (outcome_of (next_act p Done)) v o None q

@@ -168,21 +168,22 @@ module _ (t l m : ℕ) (keeps : Keeps t) (timed : Bool) where
     shown = (lock_state w l).shown
 
     -- inside it finds the condition variable as it was
-    same_word : word_at (after w (go_of t)) l ≡ word_of shown
-    same_word = so_then t l m keeps w (Wait m timed wait.Enter) g (into_section t l m keeps timed w g) (λ s. word_at s l) (λ q. refl) ∙ word_is w t l (Wait m timed wait.Enter) g.world.steady g.place
+    same_word : can_do w (wait_act l m wait.Enter) ≡ true → word_at (after w (go_of t)) l ≡ word_of shown
+    same_word can = so_then t l m keeps w (Wait m timed wait.Enter) g can (λ s. word_at s l) (λ q. refl) ∙ word_is w t l (Wait m timed wait.Enter) g.world.steady g.place
 
-    enters : (P : State → Outcome → Type 0) → (Alone (after w (go_of t)) wait.Show → Leads 16 (after w (go_of t)) t P)
+    enters : (P : State → Outcome → Type 0)
+        → (can_do w (wait_act l m wait.Enter) ≡ true → Alone (after w (go_of t)) wait.Show → Leads 16 (after w (go_of t)) t P)
         → Leads 17 w t P
-    enters P on = goes t l m keeps timed w wait.Enter g P 16 refl (into_section t l m keeps timed w g) (λ h. inr (refl, on h))
+    enters P on = into_section t l m keeps timed w g P (λ can. goes t l m keeps timed w wait.Enter g P 16 refl can (λ h. inr (refl, on can h)))
 
     -- what it comes to
     pub wait_alone : Leads 17 w t (λ v o. StandsAlone (locks_of w) t l m o (locks_of v))
     wait_alone = either (may_show (word_of shown)) refl
       where
         either : (b : Bool) → may_show (word_of shown) ≡ b → Leads 17 w t (λ v o. StandsAlone (locks_of w) t l m o (locks_of v))
-        either true e = enters (λ v o. StandsAlone (locks_of w) t l m o (locks_of v)) (λ h. leads_so 16 (after w (go_of t)) t (Sleeps (behind_last (lock_state w l).queue)) (λ v o. StandsAlone (locks_of w) t l m o (locks_of v))
+        either true e = enters (λ v o. StandsAlone (locks_of w) t l m o (locks_of v)) (λ can h. leads_so 16 (after w (go_of t)) t (Sleeps (behind_last (lock_state w l).queue)) (λ v o. StandsAlone (locks_of w) t l m o (locks_of v))
             (λ v o x. record { other = λ other. absurd (let no : may_show (word_of shown) ≡ false = shows_other shown other in cc); own = λ own. ((x.0, x.1.0), x.1.1) })
-            (shows (after w (go_of t)) h (lock_state w l).queue (queue_is w wait.Enter g (into_section t l m keeps timed w g) (lock_state w l).queue refl) (ap may_show same_word ∙ e)))
-        either false e = enters (λ v o. StandsAlone (locks_of w) t l m o (locks_of v)) (λ h. leads_so 16 (after w (go_of t)) t Refused (λ v o. StandsAlone (locks_of w) t l m o (locks_of v))
+            (shows (after w (go_of t)) h (lock_state w l).queue (queue_is w wait.Enter g can (lock_state w l).queue refl) (ap may_show (same_word can) ∙ e)))
+        either false e = enters (λ v o. StandsAlone (locks_of w) t l m o (locks_of v)) (λ can h. leads_so 16 (after w (go_of t)) t Refused (λ v o. StandsAlone (locks_of w) t l m o (locks_of v))
             (λ v o x. record { other = λ other. x; own = λ own. absurd (own (refused_by shown e)) })
-            (sees_other (after w (go_of t)) h (ap may_show same_word ∙ e)))
+            (sees_other (after w (go_of t)) h (ap may_show (same_word can) ∙ e)))

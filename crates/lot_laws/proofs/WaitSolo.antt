@@ -31,7 +31,7 @@ use Rattle.lot_machine.proofs.Acted.{Befalls, acted_keeps}
 use Rattle.lot_laws.specs.Solo.{Rests}
 use Rattle.lot_laws.proofs.CondvarAlone.{Behind, GoesAlone, Keeps, free_beside, free_here, leads_behind, reached}
 use Rattle.lot_laws.proofs.CondvarOwn.{calm_waiter, is_release}
-use Rattle.lot_laws.proofs.Leads.{Leads, leads_more}
+use Rattle.lot_laws.proofs.Leads.{leads_barred, Leads, leads_more}
 use Rattle.lot_laws.proofs.RelockSolo.{relock_rests}
 
 module _ (t l m : ℕ) (keeps : Keeps t) (timed : Bool) where
@@ -99,10 +99,11 @@ module _ (t l m : ℕ) (keeps : Keeps t) (timed : Bool) where
         taken s2 any false h = inr (refl, leads_more 9 10 (after w (go_of t)) t P (omega arith) (wakes (after w (go_of t)) s2 any (kept w s unlock.Take g (λ e. cc) refl j) h))
 
     enters : (w : State) (s : Stands) → J w → Alone w (releasing s unlock.Enter) → Leads 12 w t P
-    enters w s j g = goes_there w s unlock.Enter g P 11 can (λ s2 h. inr (refl, takes (after w (go_of t)) s2 (kept w s unlock.Enter g (λ e. cc) can j) h))
-      where
-        can : can_do w (unlock_act m unlock.Enter) ≡ true
-        can = ap is_none (free_beside t l m keeps w (Wait m timed (releasing s unlock.Enter)) g refl refl)
+    enters w s j g = elim (free_beside t l m keeps w (Wait m timed (releasing s unlock.Enter)) g refl refl refl) [
+      | inl free ↦ let can : can_do w (unlock_act m unlock.Enter) ≡ true = ap is_none free in
+          goes_there w s unlock.Enter g P 11 can (λ s2 h. inr (refl, takes (after w (go_of t)) s2 (kept w s unlock.Enter g (λ e. cc) can j) h))
+      | inr barred ↦ leads_barred w t P 12 barred
+    ]
 
     pub subtracts : (w : State) (s : Stands) (g : Alone w (releasing s unlock.Subtract)) → J (after w (go_of t)) → Leads 13 w t P
     subtracts w s g j = goes_there w s unlock.Subtract g P 12 refl (λ s2. seen s2 (word_at w m))
@@ -194,14 +195,18 @@ module _ (t l m : ℕ) (keeps : Keeps t) (timed : Bool) where
           either true = λ h. inr (refl, stands_last (after w (go_of t)) h)
           either false = λ h. inr (refl, leads_more 1 15 (after w (go_of t)) t (λ v o. Rests o) (omega arith) (refuses (after w (go_of t)) h))
 
-  -- it enters the section, which nobody else is inside
-  pub into_section : (w : State) (g : Alone w wait.Enter) → can_do w (wait_act l m wait.Enter) ≡ true
-  into_section w g = ap is_none (free_here t l m keeps w (Wait m timed wait.Enter) g refl)
+  -- it enters the section, or is barred
+  pub into_section : (w : State) (g : Alone w wait.Enter) (P : State → Outcome → Type 0)
+      → (can_do w (wait_act l m wait.Enter) ≡ true → Leads 17 w t P) → Leads 17 w t P
+  into_section w g P on = elim (free_here t l m keeps w (Wait m timed wait.Enter) g refl refl) [
+    | inl free ↦ on (ap is_none free)
+    | inr barred ↦ leads_barred w t P 17 barred
+  ]
 
   -- from any place where it is awake
   pub wait_rests : (w : State) (at : WaitAt) → IsReached (Wait m timed at) → wait_act l m at ≢ act.Sleep → Alone w at
       → RestsIn 17 w
-  wait_rests w wait.Enter reached up g = goes w wait.Enter g (λ v o. Rests o) 16 refl (into_section w g) (λ h. inr (refl, shows (after w (go_of t)) h))
+  wait_rests w wait.Enter reached up g = into_section w g (λ v o. Rests o) (λ can. goes w wait.Enter g (λ v o. Rests o) 16 refl can (λ h. inr (refl, shows (after w (go_of t)) h)))
   wait_rests w wait.Show reached up g = leads_more 16 17 w t (λ v o. Rests o) (omega arith) (shows w g)
   wait_rests w wait.Stand reached up g = leads_more 15 17 w t (λ v o. Rests o) (omega arith) (stands_last w g)
   wait_rests w wait.Leave reached up g = leads_more 14 17 w t (λ v o. Rests o) (omega arith) (goes_out w g)

@@ -1,8 +1,10 @@
 -- A call whose thread steps alone, and to what it comes.
 use Rattle.std.specs.Prelude.{ℕ, Bool, true, false, if◌then◌else◌, List, Option, Some, None, ◌≡◌, ◌≢◌, ◌≤◌, ◌⊎◌, ◌++◌, ◌∷◌, [], length, replicate}
+use Rattle.lot_base.specs.declared.keys.Keys.TheVariants.{One, Two}
 use Rattle.lot_base.specs.declared.wants.Want.{Want}
 use Rattle.lot_base.specs.declared.wants.Want.TheVariants.{Exclusive, Shared, CallOnce, Wait}
-use Rattle.lot_acts.specs.declared.acts.Act.TheVariants.{Sleep}
+use Rattle.lot_acts.specs.declared.acts.Act.{Act}
+use Rattle.lot_acts.specs.declared.acts.Act.TheVariants.{Enter, Sleep}
 use Rattle.lot_calls.specs.declared.outcomes.Answer.{Answer}
 use Rattle.lot_calls.specs.declared.outcomes.Answer as answer
 use Rattle.lot_calls.specs.declared.outcomes.Outcome.{Outcome}
@@ -44,6 +46,10 @@ mutex_to_come w p = None
 abbrev pub MayEnterOf : State → Place → ℕ → Type 0
 MayEnterOf w p l = (lock_of p ≡ Some l) ⊎ ((beside_of p ≡ Some l) ⊎ (mutex_to_come w p ≡ Some l))
 
+-- it is this thread, if anybody
+abbrev pub IsOnly : ℕ → Option ℕ → Type 0
+IsOnly t who = (u : ℕ) → who ≡ Some u → u ≡ t
+
 -- nobody else is inside a section that its call may enter
 abbrev pub HasItsWay : State → ℕ → Type 0
 HasItsWay w t =
@@ -56,6 +62,41 @@ Rests (outcome.TheVariants.End a) = Unit {0}
 Rests outcome.TheVariants.Sleep = Unit {0}
 Rests (outcome.TheVariants.Closure state) = Unit {0}
 Rests o = ⊥
+
+-- the act enters the section of this key
+abbrev pub EntersAt : ℕ → Act → Type 0
+EntersAt key (Enter (One k)) = k ≡ key
+EntersAt key (Enter (Two j k)) = (j ≡ key) ⊎ (k ≡ key)
+EntersAt key act = ⊥
+
+-- the thread is barred: its next act enters a section that another thread is inside
+pub record IsBarred (w : State) (t : ℕ) : Type 0 where
+  pub lock : ℕ
+  pub line : Line
+  pub other : ℕ
+  pub enters : EntersAt (key_of lock line) (act_of (place_at w t))
+  pub inside : section_at w (key_of lock line) ≡ Some other
+  pub another : other ≢ t
+
+-- nobody else is inside the section of a lock's main line
+abbrev pub HasMainLine : State → ℕ → ℕ → Type 0
+HasMainLine w t l = IsOnly t (section_at w (key_of l Main))
+
+-- a fair release of a mutex, a bump of a right that isn't shared and a notification may end by what
+-- they read of the queue, which a thread inside its section may be about to change
+abbrev pub HasWhatItReads : State → ℕ → Option Purpose → Type 0
+HasWhatItReads w t (Some (Releases l x true)) =
+    (rules_of (kind_at w l)).sort ≡ Mutex → HasMainLine w t l
+HasWhatItReads w t (Some (Bumps l Shared)) = Unit {0}
+HasWhatItReads w t (Some (Bumps l x)) = HasMainLine w t l
+HasWhatItReads w t (Some (Notifies l all)) = HasMainLine w t l
+HasWhatItReads w t purpose = Unit {0}
+
+-- a call that ends where it can't have its right at once
+abbrev pub OnlyTries : Option Purpose → Type 0
+OnlyTries (Some (Enters l x Try)) = Unit {0}
+OnlyTries (Some (Converts l x y Try)) = Unit {0}
+OnlyTries purpose = ⊥
 
 -- what a call answers that has entered
 abbrev pub entered_answer : Patience → Answer

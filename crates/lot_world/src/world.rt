@@ -1,5 +1,5 @@
 //! Any number of threads over locks, by a list of steps.
-ghost use Rattle.std.specs.Prelude.{ℕ, List, [], ◌∷◌, ◌≡◌, ◌<◌, ◌≤◌, ◌++◌, ◌+◌, ◌*◌, IfOk, IfErr, OnOk, IsTrue, ◌↔◌, All, length, take, true, false, vec_len, vec_capacity};
+ghost use Rattle.std.specs.Prelude.{ℕ, List, [], ◌∷◌, ◌≡◌, ◌<◌, ◌≤◌, ◌++◌, ◌+◌, ◌*◌, ◌⊎◌, IfOk, IfErr, OnOk, IsTrue, ◌↔◌, All, length, take, true, false, vec_len, vec_capacity};
 ghost use Rattle.lot_calls.specs.Kinds.{fits};
 ghost use Rattle.lot_calls.specs.Calls.{lock_in};
 ghost use Rattle.lot_steps.specs.Steps.{first_place};
@@ -14,7 +14,7 @@ ghost use Rattle.lot_laws.specs.Promises.{IsKept};
 ghost use Rattle.lot_laws.specs.Fair.{IsFair};
 ghost use Rattle.lot_laws.specs.Owing.{OwesSince};
 ghost use Rattle.lot_laws.specs.WorldRuns.{IsWorldRun, Tells, SleepersStay, TouchesOnlyByGoing, TriesAtOnce};
-ghost use Rattle.lot_laws.specs.Solo.{IsUnderWay, HasItsWay, Rests, EndsAlone, IsSoloRun};
+ghost use Rattle.lot_laws.specs.Solo.{IsUnderWay, HasItsWay, HasWhatItReads, IsBarred, OnlyTries, Rests, EndsAlone, IsSoloRun};
 ghost use Rattle.lot_machine.specs.Views.{StandUnder, owners_of, queue_of, debts_of};
 ghost use Rattle.lot_drain.specs.Drains.{IsDrainable, IsDrain};
 ghost use Rattle.lot_drain.specs.Drainable.{is_drainable};
@@ -159,6 +159,26 @@ impl<Q: Queues + Drop> World<Q> {
         ensures ends { (call : Call)
             → place_at self.old thread ≡ first_place (kind_at self.old (lock_in call)) call
             → HasItsWay self.old thread
+            → EndsAlone self.old thread (purpose_at (locks_of self.old) call) result self.new }
+
+        // A call under way ends, sleeps or is barred, whoever else is inside sections. It is barred
+        // where its next act enters a section that another thread is inside.
+        ensures rests_or_barred { IsUnderWay self.old thread
+            → Rests result ⊎ IsBarred self.new thread }
+
+        // And from its beginning it ends as above, or is barred. A fair release of a mutex, a bump
+        // of a right that isn't shared and a notification read a queue: they need that nobody else
+        // is inside its section.
+        ensures ends_or_barred { (call : Call)
+            → place_at self.old thread ≡ first_place (kind_at self.old (lock_in call)) call
+            → HasWhatItReads self.old thread (purpose_at (locks_of self.old) call)
+            → EndsAlone self.old thread (purpose_at (locks_of self.old) call) result self.new
+            ⊎ IsBarred self.new thread }
+
+        // A try ends as above whoever is inside a section, since it enters none.
+        ensures tries { (call : Call)
+            → place_at self.old thread ≡ first_place (kind_at self.old (lock_in call)) call
+            → OnlyTries (purpose_at (locks_of self.old) call)
             → EndsAlone self.old thread (purpose_at (locks_of self.old) call) result self.new }
         ensures same_size { SameSize self.old self.new }
     {

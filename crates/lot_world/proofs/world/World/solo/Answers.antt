@@ -1,5 +1,5 @@
 use Rattle.lot_laws.specs.SitesOf.{IsWorld}
-use Rattle.lot_laws.proofs.Solo.{rests_alone, ends_alone}
+use Rattle.lot_laws.proofs.Solo.{ends_alone, ends_or_barred, rests_alone, rests_or_barred, tries_alone}
 use Rattle.lot_laws.proofs.WorldRuns.{solo_runs}
 use Rattle.lot_world.proofs.world.World.solo.Goals as goal
 
@@ -17,3 +17,18 @@ pub returns-clause-ends : goal.returns-clause-ends
 returns-clause-ends g c =
     let before : IsWorld c.self.inside.machine = c.self.invariant in
     rw (c.step_alone.ensures.outcome, c.step_alone.ensures.state, ← c.self.view_is) (ends_alone c.self.inside.machine c.args.thread before.shaped before.steady before.counted before.condvars before.running)
+
+pub returns-clause-rests_or_barred : goal.returns-clause-rests_or_barred
+returns-clause-rests_or_barred g c =
+    let before : IsWorld c.self.inside.machine = c.self.invariant in
+    rw (c.step_alone.ensures.outcome, c.step_alone.ensures.state, ← c.self.view_is) (rests_or_barred c.self.inside.machine c.args.thread before.shaped before.steady before.counted before.condvars before.running)
+
+pub returns-clause-ends_or_barred : goal.returns-clause-ends_or_barred
+returns-clause-ends_or_barred g c =
+    let before : IsWorld c.self.inside.machine = c.self.invariant in
+    rw (c.step_alone.ensures.outcome, c.step_alone.ensures.state, ← c.self.view_is) (ends_or_barred c.self.inside.machine c.args.thread before.shaped before.steady before.counted before.condvars before.running)
+
+pub returns-clause-tries : goal.returns-clause-tries
+returns-clause-tries g c =
+    let before : IsWorld c.self.inside.machine = c.self.invariant in
+    rw (c.step_alone.ensures.outcome, c.step_alone.ensures.state, ← c.self.view_is) (tries_alone c.self.inside.machine c.args.thread before.shaped before.steady before.counted before.condvars before.running)
