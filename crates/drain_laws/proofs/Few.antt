@@ -13,7 +13,7 @@ use Rattle.abstract_locks.specs.Locks.{LockState, LockCase, Needs, Owns, Queued,
 use Rattle.abstract_locks.specs.Purposes.{Purpose, Enters, Releases, Converts, Bumps, CallsOnce, Awaits, Waits, Notifies, Patience, Patient, Timed, Try, Recall, lock_for}
 use Rattle.abstract_locks.specs.Runs.{Agrees, AnswerHolds, AreLockStates, AtLock, CallState, Event, GoesOn, LocksState, MayHappen, Moves, Nothing, Stays, calls_after, going_on, gives_up, locks_after, new_call, EntersAnswer, ConvertsAnswer, Keeps, Gains, Loses, Replaces, HasRight, no_call, no_rights, one_more_at, purpose_at, rights_in, rules_at, unless_ended, woken}
 use Rattle.abstract_locks.proofs.Rights.{others_keep, regained}
-use Rattle.lot_laws.proofs.HandRights.{others_have}
+use Rattle.lot_laws.proofs.hands.Rights.{others_have}
 use Rattle.drain_laws.specs.Few.{AllHaveFew, FewBegin, FewGoOn, HasFew, IsPlain, IsOfOneLock, IsRelease, number}
 
 -- ---------------------------------------------------------------- calls

@@ -11,7 +11,7 @@ use Rattle.abstract_locks.specs.Locks.{LockState, LockCase, Needs, Rights, Taken
 use Rattle.abstract_locks.specs.Purposes.{MayWait, Purpose, Enters, Releases, Converts, Bumps, CallsOnce, Awaits, Waits, Notifies, Patience, Patient, Timed, Try, ReleasesBy, lock_for}
 use Rattle.abstract_locks.specs.Runs.{Agrees, AnswerHolds, AreLockStates, AtLock, BumpsAnswer, CallState, ConvertsAnswer, EntersAnswer, Event, Gains, GoesOn, Keeps, LocksState, Loses, MayDo, MayHappen, Moves, Nothing, Replaces, going_on, locks_after, no_call, rights_in, rules_at, unless_ended, woken}
 use Rattle.abstract_locks.proofs.Rights.{left}
-use Rattle.lot_laws.proofs.HandRights.{giver_has}
+use Rattle.lot_laws.proofs.hands.Rights.{giver_has}
 use Rattle.drain_laws.specs.Few.{IsOfOneLock}
 use Rattle.drain_laws.specs.Pending.{AllBeganUnpending, BeganUnpending, OnlyWaitersStand, UnpendingGoOn}
 use Rattle.drain_laws.proofs.Few.{SameBeginning, case_leaves, going_same, pending_stays, put_other, put_same, woken_same}

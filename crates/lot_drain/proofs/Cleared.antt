@@ -19,9 +19,9 @@ use Rattle.lot_machine.specs.Machine.{State, after, can_begin, kind_at, place_at
 use Rattle.lot_laws.specs.Refinement.{call_state, lock_state, locks_of}
 use Rattle.lot_laws.specs.SitesOf.{IsWorld, key_of, rules_in, site_of}
 use Rattle.lot_laws.specs.Solo.{EndsAlone, EndsBy, HasItsWay, locks_behind}
-use Rattle.lot_laws.proofs.CallBegins.{begin_possible}
-use Rattle.lot_laws.proofs.Glue.{IsSingle}
-use Rattle.lot_laws.proofs.Solo.{ends_alone}
+use Rattle.lot_laws.proofs.calls.Begins.{begin_possible}
+use Rattle.lot_laws.proofs.machine.Parts.{IsSingle}
+use Rattle.lot_laws.proofs.alone.Rests.{ends_alone}
 use Rattle.drain_laws.specs.Drained.{Drains}
 use Rattle.drain_runs.specs.Drains.{IsOver}
 use Rattle.drain_runs.specs.Turns.{NobodyInside, begin_of}

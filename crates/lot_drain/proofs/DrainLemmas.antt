@@ -7,7 +7,7 @@ use Rattle.lot_calls.specs.declared.outcomes.Outcome.TheVariants as outcome
 use Rattle.abstract_locks.specs.Locks.{rights_of}
 use Rattle.lot_machine.specs.Machine.{State, after, go_of, kind_at, place_at, section_at, step_outcome}
 use Rattle.lot_laws.specs.Refinement.{lock_state}
-use Rattle.lot_laws.proofs.Alone.{after_stuck}
+use Rattle.lot_laws.proofs.alone.Steps.{after_stuck}
 use Rattle.lot_drain.specs.Schedules.{Progress, one_more, alone, alone_by, where_inside, out_of_second, is_up, first_up, releases, first_begin, or_else, first_release, next_turn, turn_taken, where_some, turns}
 use Rattle.lot_drain.specs.Drainable.{holds_few, all_hold_few}
 

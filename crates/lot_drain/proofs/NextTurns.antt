@@ -19,7 +19,7 @@ use Rattle.lot_steps.specs.declared.places.Place.TheVariants.{Idle}
 use Rattle.lot_steps.specs.Steps.{act_of, is_idle}
 use Rattle.lot_machine.specs.Machine.{State, can_begin, go_of, kind_at, place_at}
 use Rattle.lot_laws.specs.Refinement.{lock_state, locks_of, sleeps}
-use Rattle.lot_laws.proofs.CallBegins.{begin_goes, begin_possible}
+use Rattle.lot_laws.proofs.calls.Begins.{begin_goes, begin_possible}
 use Rattle.drain_laws.specs.Drained.{Drains}
 use Rattle.drain_laws.specs.Few.{number}
 use Rattle.drain_laws.proofs.Few.{rights_are}

@@ -31,14 +31,14 @@ use Rattle.lot_machine.proofs.Acted.{acted_keeps}
 use Rattle.lot_machine.proofs.Shape.{after_shaped, after_size}
 use Rattle.lot_laws.specs.SitesOf.{key_of}
 use Rattle.lot_laws.specs.Stations.{station, station_at}
-use Rattle.lot_laws.proofs.CondvarSteps.{after_condvars}
-use Rattle.lot_laws.proofs.CountsKept.{counted_after}
-use Rattle.lot_laws.proofs.Glue.{IsSingle, nothing_at}
-use Rattle.lot_laws.proofs.KindsKept.{after_kinds}
-use Rattle.lot_laws.proofs.Leads.{LeadsSurely, surely_rest, surely_step}
-use Rattle.lot_laws.proofs.LineSolo.{Comes, StepsAlone, enter_comes, hand_comes, leave_comes, take_comes, word_comes}
-use Rattle.lot_laws.proofs.RunsKept.{running_after}
-use Rattle.lot_laws.proofs.TurnsKept.{after_steady}
+use Rattle.lot_laws.proofs.condvar.StepsKeep.{after_condvars}
+use Rattle.lot_laws.proofs.hands.CountsKept.{counted_after}
+use Rattle.lot_laws.proofs.machine.Parts.{IsSingle, nothing_at}
+use Rattle.lot_laws.proofs.machine.KindsStay.{after_kinds}
+use Rattle.lot_laws.proofs.alone.Leads.{LeadsSurely, surely_rest, surely_step}
+use Rattle.lot_laws.proofs.alone.TwoLines.{Comes, StepsAlone, enter_comes, hand_comes, leave_comes, take_comes, word_comes}
+use Rattle.lot_laws.proofs.once.Runs.{running_after}
+use Rattle.lot_laws.proofs.sites.TurnsKept.{after_steady}
 use Rattle.drain_runs.specs.Turns.{begin_of}
 
 abbrev pub no_lines : Line → List Waiter

@@ -21,7 +21,7 @@ use Rattle.lot_rwlock_fair.specs.declared.hand_over.HandOverAt.TheVariants as ha
 use Rattle.lot_steps.specs.declared.places.Place.{Place}
 use Rattle.lot_steps.specs.declared.places.Place.TheVariants.{Mutex, RwLock}
 use Rattle.lot_machine.specs.Machine.{State}
-use Rattle.lot_laws.proofs.Leads.{LeadsSurely}
+use Rattle.lot_laws.proofs.alone.Leads.{LeadsSurely}
 use Rattle.lot_drain.proofs.Passes.{Ended, Passes, by_hand, into, none_first, none_picked, on_word, out_of, word_ends}
 
 module _ (k : Kind) where

@@ -27,14 +27,14 @@ use Rattle.lot_machine.proofs.Shape.{after_size, opening_shaped}
 use Rattle.lot_laws.specs.Promises.{IsKept}
 use Rattle.lot_laws.specs.Refinement.{call_state, lock_state, locks_of}
 use Rattle.lot_laws.specs.SitesOf.{IsWorld}
-use Rattle.lot_laws.proofs.CountsPut.{opening_counted}
-use Rattle.lot_laws.proofs.KindsKept.{after_kinds}
-use Rattle.lot_laws.proofs.LockSteps.{after_step}
-use Rattle.lot_laws.proofs.OpeningSites.{opening_condvars, opening_steady}
-use Rattle.lot_laws.proofs.Possible.{turner_there}
-use Rattle.lot_laws.proofs.Promises.{opening_is}
-use Rattle.lot_laws.proofs.RunsKept.{opening_running}
-use Rattle.lot_laws.proofs.WorldRuns.{world_after, world_kept}
+use Rattle.lot_laws.proofs.hands.CountsPut.{opening_counted}
+use Rattle.lot_laws.proofs.machine.KindsStay.{after_kinds}
+use Rattle.lot_laws.proofs.calls.LockSteps.{after_step}
+use Rattle.lot_laws.proofs.sites.Opening.{opening_condvars, opening_steady}
+use Rattle.lot_laws.proofs.machine.Possible.{turner_there}
+use Rattle.lot_laws.proofs.promises.Promises.{opening_is}
+use Rattle.lot_laws.proofs.once.Runs.{opening_running}
+use Rattle.lot_laws.proofs.alone.WorldRuns.{world_after, world_kept}
 use Rattle.drain_laws.specs.Drained.{Drains}
 use Rattle.drain_laws.specs.Few.{IsOfOneLock, PendsInCall}
 use Rattle.drain_laws.specs.Pending.{AllBeganUnpending, BeganUnpending, OnlyWaitersStand}

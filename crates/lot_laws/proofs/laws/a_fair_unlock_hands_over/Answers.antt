@@ -1,4 +1,4 @@
-use Rattle.lot_laws.proofs.RowLaws.{hands_over}
+use Rattle.lot_laws.proofs.promises.RowLaws.{hands_over}
 use Rattle.lot_laws.proofs.laws.a_fair_unlock_hands_over.Goals as goal
 
 pub returns : goal.returns

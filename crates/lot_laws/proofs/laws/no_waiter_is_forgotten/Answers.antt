@@ -1,4 +1,4 @@
-use Rattle.lot_laws.proofs.RowLaws.{no_waiter_forgotten}
+use Rattle.lot_laws.proofs.promises.RowLaws.{no_waiter_forgotten}
 use Rattle.lot_laws.proofs.laws.no_waiter_is_forgotten.Goals as goal
 
 pub returns : goal.returns

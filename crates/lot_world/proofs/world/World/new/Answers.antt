@@ -1,9 +1,9 @@
 use Rattle.lot_machine.proofs.Shape.{opening_shaped}
-use Rattle.lot_laws.proofs.CountsPut.{opening_counted}
-use Rattle.lot_laws.proofs.HeadlineHolds.{opens}
-use Rattle.lot_laws.proofs.OpeningSites.{opening_condvars, opening_steady, unfilled_0}
-use Rattle.lot_laws.proofs.Promises.{kept, opening_is}
-use Rattle.lot_laws.proofs.RunsKept.{opening_running}
+use Rattle.lot_laws.proofs.hands.CountsPut.{opening_counted}
+use Rattle.lot_laws.proofs.promises.Headline.{opens}
+use Rattle.lot_laws.proofs.sites.Opening.{opening_condvars, opening_steady, unfilled_0}
+use Rattle.lot_laws.proofs.promises.Promises.{kept, opening_is}
+use Rattle.lot_laws.proofs.once.Runs.{opening_running}
 use Rattle.lot_world.proofs.world.World.new.Goals as goal
 
 pub invariant_of-result : goal.invariant_of-result

@@ -2,12 +2,12 @@ use Rattle.lot_laws.specs.SitesOf.{IsWorld}
 use Rattle.std.proofs.Common.{◌+◌, take}
 use Rattle.std.proofs.lemmas.List.{take_more}
 use Rattle.lot_machine.proofs.Shape.{size_more}
-use Rattle.lot_laws.proofs.Runs.{run_state, run_outcomes}
+use Rattle.lot_laws.proofs.calls.Runs.{run_state, run_outcomes}
 use Rattle.std.proofs.lemmas.List.{take_all}
 use Rattle.std.proofs.Common.{◌≡◌, ap, ◌∙◌, ◌++◌, arith}
 use Rattle.lot_machine.specs.Machine.{after_steps, step_outcomes}
-use Rattle.lot_laws.proofs.WorldRuns.{tells_run, tells_refines, world_kept}
-use Rattle.lot_laws.proofs.HeadlineHolds.{tells_behaves, tells_headline}
+use Rattle.lot_laws.proofs.alone.WorldRuns.{tells_run, tells_refines, world_kept}
+use Rattle.lot_laws.proofs.promises.Headline.{tells_behaves, tells_headline}
 use Rattle.lot_world.proofs.world.World.run.Goals as goal
 
 pub loop-taken-preserved : goal.loop-taken-preserved

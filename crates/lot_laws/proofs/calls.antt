@@ -1,0 +1,17 @@
+pub mod PlainCalls
+pub mod Closures
+pub mod Closings
+pub mod Runs
+pub mod Beside
+pub mod OwnPlace
+pub mod Looking
+pub mod SingleCalls
+pub mod Events
+pub mod LockEvents
+pub mod OtherCalls
+pub mod Begins
+pub mod LockSteps
+pub mod EachLock
+pub mod TriesPass
+pub mod LooksOnce
+pub mod Tries

@@ -1,0 +1,170 @@
+-- A try neither sleeps nor enters a section.
+use Rattle.std.proofs.Common.{◌-◌, ℕ, Bool, true, false, None, if◌then◌else◌, ◌&&◌, nat_le, ◌==◌, ◌≡◌, refl}
+use Rattle.lot_calls.specs.declared.calls.Access.{Access}
+use Rattle.lot_calls.specs.declared.calls.Access.TheVariants as access
+use Rattle.lot_calls.specs.declared.calls.OnceCall.TheVariants as once_call
+use Rattle.lot_calls.specs.declared.calls.Patience.{Patience}
+use Rattle.lot_calls.specs.declared.calls.Patience.TheVariants.{Patient, Timed, Try}
+use Rattle.lot_calls.specs.declared.outcomes.Answer.TheVariants as answer
+use Rattle.lot_acts.specs.declared.acts.Act.{Act}
+use Rattle.lot_mutex.specs.declared.places.MutexPlace.{MutexPlace}
+use Rattle.lot_mutex.specs.declared.places.MutexPlace.TheVariants as mutex
+use Rattle.lot_mutex.specs.declared.lock.Entry.TheVariants as entry
+use Rattle.lot_once.specs.declared.places.OncePlace.{OncePlace}
+use Rattle.lot_semaphore.specs.declared.places.SemaphorePlace.{SemaphorePlace}
+use Rattle.lot_semaphore.specs.declared.places.SemaphorePlace.TheVariants as semaphores
+use Rattle.lot_semaphore.specs.declared.tries.TryAt.TheVariants as tries
+use Rattle.lot_semaphore.specs.SemaphoreSteps.{is_free}
+use Rattle.lot_once.specs.declared.places.OncePlace.TheVariants as once
+use Rattle.lot_acts.specs.declared.acts.Act.TheVariants.{Word}
+use Rattle.lot_base.specs.declared.ops.Op.TheVariants.{Exchange, Load}
+use Rattle.lot_rwlock.specs.declared.places.Admission.{Admission}
+use Rattle.lot_rwlock.specs.declared.places.RwLockAt.{RwLockAt}
+use Rattle.lot_rwlock.specs.declared.places.RwLockAt.TheVariants as at
+use Rattle.lot_rwlock.specs.declared.enter.Decision.{Decision}
+use Rattle.lot_rwlock.specs.declared.enter.Decision.TheVariants as decisions
+use Rattle.lot_rwlock.specs.declared.purposes.RwLockPurpose.{RwLockPurpose}
+use Rattle.lot_rwlock.specs.declared.purposes.RwLockPurpose.TheVariants as purpose
+use Rattle.lot_base.specs.declared.keys.Line.TheVariants.{Main, Second}
+use Rattle.lot_rwlock.specs.RwLockSteps.{decided_act, decided_for, is_counted, wanted}
+use Rattle.lot_rwlock.specs.RwLockCalls.{IsDecided, IsNoRefusal, StandsAt}
+use Rattle.abstract_locks.specs.Codes.{count_in, is_blocked}
+use Rattle.abstract_locks.specs.Locks.{Rights}
+use Rattle.lot_rwlock_fair.specs.declared.places.RwLockCallPlace.{RwLockCallPlace}
+use Rattle.lot_rwlock_fair.specs.declared.places.RwLockCallPlace.TheVariants as fair
+use Rattle.lot_rwlock_fair.specs.FairCalls.{CallStands, WaitsFor}
+use Rattle.lot_rwlock_fair.specs.declared.handed.HandedAt.{HandedAt}
+use Rattle.lot_condvar.specs.declared.places.CondvarPlace.TheVariants as condvar
+use Rattle.lot_steps.specs.declared.places.Place.{Place}
+use Rattle.lot_steps.specs.declared.places.Place.TheVariants.{Idle, Mutex, RwLock, Once, Condvar, Semaphore}
+use Rattle.lot_steps.specs.Steps.{act_of}
+use Rattle.lot_machine.specs.Machine.{State, place_at}
+use Rattle.lot_laws.specs.Refinement.{call_at, call_state, keys_entered, runs_closure, sleeps}
+use Rattle.lot_laws.specs.SitesOf.{FitsItsLock, IsSteady}
+use Rattle.lot_laws.specs.Promises.{IsTry}
+use Rattle.lot_laws.proofs.rwlock.Rows.{parks_wait}
+
+-- it lets no other thread keep it from going on
+abbrev pub IsFree : Act → Type 0
+IsFree a = (sleeps a ≡ false) × (runs_closure a ≡ false) × (keys_entered a ≡ None)
+
+-- ---------------------------------------------------------------- a reader-writer lock
+
+-- a try that is to decide takes what it wants
+by_decision : (l : ℕ) (q : RwLockPurpose) (seen : ℕ) (d : Decision) → (d ≡ decisions.Park → ⊥) → IsNoRefusal d → IsFree (decided_act l q seen d)
+by_decision l q seen decisions.Take never some = (refl, refl, refl)
+by_decision l q seen decisions.Mark never some = (refl, refl, refl)
+by_decision l q seen decisions.Park never some = absurd (never refl)
+by_decision l q seen (decisions.Refuse a) never some = absurd some
+
+never_parks : (a : Admission) (x : Access) (seen : ℕ) → decided_for a (purpose.Enter x Try) seen ≡ decisions.Park → ⊥
+never_parks a x seen = by_bits (is_blocked a.recursive (wanted x) seen) (is_counted (wanted x) && nat_le a.limit (count_in seen))
+  where
+    by_bits : (b c : Bool) → (if b then decisions.Refuse answer.No else if c then decisions.Refuse answer.ReadersFull else decisions.Take) ≡ decisions.Park → ⊥
+    by_bits true c e = cc
+    by_bits false true e = cc
+    by_bits false false e = cc
+
+never_upgrades : (a : Admission) (seen : ℕ) → decided_for a (purpose.Upgrade Try) seen ≡ decisions.Park → ⊥
+never_upgrades a seen = by_count (count_in seen == 1)
+  where
+    by_count : (b : Bool) → (if b then decisions.Take else decisions.Refuse answer.No) ≡ decisions.Park → ⊥
+    by_count true e = cc
+    by_count false e = cc
+
+abbrev place : RwLockPurpose → Bool → RwLockAt → RwLockCallPlace
+place q again to = fair.Plain (record { purpose = q; retries = again; at = to })
+
+writes_free : (l : ℕ) (a : Admission) (again : Bool) (to : RwLockAt) → StandsAt (purpose.Enter access.Exclusive Try) again to
+    → IsFree (act_of (RwLock l a (place (purpose.Enter access.Exclusive Try) again to)))
+writes_free l a again at.First stands = (refl, refl, refl)
+writes_free l a again (at.Park to) stands = absurd (parks_wait Try to stands refl)
+writes_free l a again (at.Aside to) stands = absurd (parks_wait Try to stands refl)
+writes_free l a again (at.Wake Main to) stands = absurd stands
+writes_free l a again (at.Wake Second to) stands = absurd stands
+writes_free l a again to stands = absurd stands
+
+shares_free : (l : ℕ) (a : Admission) (x : Access) (again : Bool) (to : RwLockAt) → StandsAt (purpose.Enter x Try) again to
+    → IsDecided a (purpose.Enter x Try) to → IsFree (act_of (RwLock l a (place (purpose.Enter x Try) again to)))
+shares_free l a access.Exclusive again to stands decided = writes_free l a again to stands
+shares_free l a access.Shared again at.Load stands decided = (refl, refl, refl)
+shares_free l a access.Shared again (at.Decide seen) stands decided = by_decision l (purpose.Enter access.Shared Try) seen (decided_for a (purpose.Enter access.Shared Try) seen) (never_parks a access.Shared seen) decided
+shares_free l a access.Shared again (at.Park to) stands decided = absurd (parks_wait Try to stands refl)
+shares_free l a access.Shared again to stands decided = absurd stands
+shares_free l a access.Upgradable again at.Load stands decided = (refl, refl, refl)
+shares_free l a access.Upgradable again (at.Decide seen) stands decided = by_decision l (purpose.Enter access.Upgradable Try) seen (decided_for a (purpose.Enter access.Upgradable Try) seen) (never_parks a access.Upgradable seen) decided
+shares_free l a access.Upgradable again (at.Park to) stands decided = absurd (parks_wait Try to stands refl)
+shares_free l a access.Upgradable again to stands decided = absurd stands
+
+upgrades_free : (l : ℕ) (a : Admission) (again : Bool) (to : RwLockAt) → StandsAt (purpose.Upgrade Try) again to
+    → IsDecided a (purpose.Upgrade Try) to → IsFree (act_of (RwLock l a (place (purpose.Upgrade Try) again to)))
+upgrades_free l a again at.Load stands decided = (refl, refl, refl)
+upgrades_free l a again (at.Decide seen) stands decided = by_decision l (purpose.Upgrade Try) seen (decided_for a (purpose.Upgrade Try) seen) (never_upgrades a seen) decided
+upgrades_free l a again to stands decided = absurd stands
+
+plain_free : (l : ℕ) (a : Admission) (q : RwLockPurpose) (again : Bool) (to : RwLockAt) → StandsAt q again to → IsDecided a q to → (rights : ℕ → Rights)
+    → IsTry (call_state (RwLock l a (place q again to)) rights).purpose → IsFree (act_of (RwLock l a (place q again to)))
+plain_free l a (purpose.Enter x Try) again to stands decided rights h = shares_free l a x again to stands decided
+plain_free l a (purpose.Upgrade Try) again to stands decided rights h = upgrades_free l a again to stands decided
+plain_free l a (purpose.Enter x how) again to stands decided rights h = absurd cc
+plain_free l a (purpose.Upgrade how) again to stands decided rights h = absurd cc
+plain_free l a (purpose.Release x) again to stands decided rights h = absurd h
+plain_free l a (purpose.Downgrade d) again to stands decided rights h = absurd cc
+
+handed_free : (l : ℕ) (a : Admission) (x : Access) (how : Patience) (b : Bool) (to : HandedAt) → WaitsFor b how → (rights : ℕ → Rights)
+    → IsTry (call_state (RwLock l a (fair.Handed x how b to)) rights).purpose → IsFree (act_of (RwLock l a (fair.Handed x how b to)))
+handed_free l a x how true to waits rights h = absurd h
+handed_free l a x Patient false to waits rights h = absurd cc
+handed_free l a x Timed false to waits rights h = absurd cc
+handed_free l a x Try false to waits rights h = absurd waits
+
+call_free : (l : ℕ) (a : Admission) (c : RwLockCallPlace) → CallStands a c → (rights : ℕ → Rights)
+    → IsTry (call_state (RwLock l a c) rights).purpose → IsFree (act_of (RwLock l a c))
+call_free l a (fair.Plain p) stands rights h = plain_free l a p.purpose p.retries p.at stands.place stands.decided rights h
+call_free l a (fair.Bump p) stands rights h = absurd h
+call_free l a (fair.Glance x) stands rights h = absurd h
+call_free l a (fair.HandOver x true to) stands rights h = absurd h
+call_free l a (fair.HandOver x false to) stands rights h = absurd h
+call_free l a (fair.Handed x how b to) stands rights h = handed_free l a x how b to stands rights h
+
+-- ---------------------------------------------------------------- any place
+
+mutex_free : (l : ℕ) (at : MutexPlace) (rights : ℕ → Rights) → IsTry (call_state (Mutex l at) rights).purpose → IsFree (act_of (Mutex l at))
+mutex_free l mutex.TryLock rights h = (refl, refl, refl)
+mutex_free l (mutex.Lock entry.Lock again to) rights h = absurd cc
+mutex_free l (mutex.Lock entry.LockTimed again to) rights h = absurd cc
+mutex_free l (mutex.Lock entry.Bump again to) rights h = absurd h
+mutex_free l (mutex.HandOff true to) rights h = absurd h
+mutex_free l (mutex.HandOff false to) rights h = absurd h
+mutex_free l at rights h = absurd h
+
+once_free : (l : ℕ) (at : OncePlace) (rights : ℕ → Rights) → IsTry (call_state (Once l at) rights).purpose → IsFree (act_of (Once l at))
+once_free l (once.Look (once_call.CallOnce forced) again to) rights h = absurd h
+once_free l (once.Look (once_call.Wait forced) again to) rights h = absurd h
+once_free l (once.Look once_call.WaitTimed again to) rights h = absurd h
+once_free l (once.Run forced to) rights h = absurd h
+once_free l (once.GiveUp again to) rights h = absurd h
+
+semaphore_free : (l : ℕ) (at : SemaphorePlace) (rights : ℕ → Rights) → IsTry (call_state (Semaphore l at) rights).purpose → IsFree (act_of (Semaphore l at))
+semaphore_free l (semaphores.Acquire true again to) rights h = absurd cc
+semaphore_free l (semaphores.Acquire false again to) rights h = absurd cc
+semaphore_free l (semaphores.Release to) rights h = absurd h
+semaphore_free l (semaphores.Try tries.Load) rights h = (refl, refl, refl)
+semaphore_free l (semaphores.Try (tries.Decide seen)) rights h = either (is_free seen)
+  where
+    either : (b : Bool) → IsFree (if b then Word l (Exchange seen (seen - 2)) else Word l Load)
+    either true = (refl, refl, refl)
+    either false = (refl, refl, refl)
+
+place_free : (w : State) (p : Place) → FitsItsLock w p → (rights : ℕ → Rights) → IsTry (call_state p rights).purpose → IsFree (act_of p)
+place_free w Idle fits rights h = absurd h
+place_free w (Mutex l at) fits rights h = mutex_free l at rights h
+place_free w (RwLock l a c) fits rights h = call_free l a c fits.1 rights h
+place_free w (Once l at) fits rights h = once_free l at rights h
+place_free w (Semaphore l at) fits rights h = semaphore_free l at rights h
+place_free w (Condvar l (condvar.Wait m timed to)) fits rights h = absurd h
+place_free w (Condvar l (condvar.Look all)) fits rights h = absurd h
+place_free w (Condvar l (condvar.Notify all m to)) fits rights h = absurd h
+
+pub tries_go : (w : State) → IsSteady w → (t : ℕ) → IsTry (call_at w t).purpose → IsFree (act_of (place_at w t))
+tries_go w steady t h = place_free w (place_at w t) (steady.stands.calls t) _ h

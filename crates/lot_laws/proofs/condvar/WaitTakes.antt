@@ -1,0 +1,270 @@
+-- A wait that releases its mutex takes the first of its line, itself too where a notification brought it there: every lock is a site again.
+use Rattle.std.proofs.Common.{ℕ, Bool, true, false, Option, Some, None, if◌then◌else◌, ◌==◌, ◌||◌, ◌≡◌, ◌≢◌, ◌*◌, ◌≤◌, ◌<◌, List, [], ◌∷◌, length, map, drop, get_or, set, refl, sym, ◌∙◌, ap, subst, inl, inr, arith, get_or-set_same, get_or-set_other}
+use Rattle.std.proofs.lemmas.Bool.{cases_eq}
+use Rattle.lot_base.specs.declared.wants.Waiter.{Waiter}
+use Rattle.lot_base.specs.declared.wants.Want.TheVariants.{Exclusive}
+use Rattle.lot_base.specs.Lines.{first_of, times}
+use Rattle.lot_acts.specs.declared.acts.Next.TheVariants.{At}
+use Rattle.lot_acts.specs.declared.acts.Reply.{Reply}
+use Rattle.lot_acts.specs.declared.acts.Reply.TheVariants.{Took, TakenBy}
+use Rattle.lot_acts.specs.Profiles.{taken_from}
+use Rattle.lot_acts.specs.Stations.{Station, station_by}
+use Rattle.lot_steps.specs.declared.places.Place.{Place}
+use Rattle.lot_steps.specs.declared.places.Place.TheVariants.{Condvar, Idle}
+use Rattle.lot_steps.specs.Steps.{next_place}
+use Rattle.lot_mutex.specs.declared.places.MutexPlace.TheVariants as mutex
+use Rattle.lot_mutex.specs.declared.unlock.UnlockAt.{UnlockAt}
+use Rattle.lot_mutex.specs.declared.unlock.UnlockAt.TheVariants as unlock
+use Rattle.lot_condvar.specs.declared.places.CondvarPlace.{CondvarPlace}
+use Rattle.lot_condvar.specs.declared.places.CondvarPlace.TheVariants.{Wait}
+use Rattle.lot_condvar.specs.declared.wait.Stands.{Stands}
+use Rattle.lot_condvar.specs.declared.wait.Stands.TheVariants as stands
+use Rattle.lot_condvar.specs.declared.wait.WaitAt.{WaitAt}
+use Rattle.lot_condvar.specs.declared.wait.WaitAt.TheVariants as wait
+use Rattle.lot_condvar.specs.CondvarSteps.{released}
+use Rattle.lot_mutex.specs.MutexSteps.{in_unlock}
+use Rattle.lot_condvar.specs.CondvarMoves.{row_beside, row_there, there}
+use Rattle.lot_condvar.specs.CondvarProfiles.{wait_row}
+use Rattle.lot_condvar.specs.CondvarWaits.{WaiterFollows, waiter_deeds}
+use Rattle.abstract_locks.specs.Locks as locks
+use Rattle.abstract_locks.specs.Locks.{TakeFirst, Taken, first_thread}
+use Rattle.abstract_locks.specs.Picks.{queued_of}
+use Rattle.abstract_locks.specs.Sites.{Case, Deed, IsSite, Main, Site}
+use Rattle.lot_machine.specs.Machine.{State, is_there, place_at, put, queue_at, queues_without_first, section_at, state_after_taking}
+use Rattle.lot_laws.specs.MutexDeeds.{acts, queued}
+use Rattle.lot_laws.specs.Refinement.{taken_at}
+use Rattle.lot_laws.specs.Stations.{doing_on, station_at}
+use Rattle.lot_laws.specs.SitesOf.{ActsNeeded, FitsItsLock, Goes, IsSteady, after_acts, key_of, rules_in, site_of, stood_in}
+use Rattle.lot_laws.proofs.machine.Parts as glue
+use Rattle.lot_laws.proofs.machine.Parts.{differ, parts_at, same, seen_in}
+use Rattle.lot_laws.proofs.sites.Following.{lock_by}
+use Rattle.lot_laws.proofs.sites.LawsKept.{after_same, needed_same}
+use Rattle.lot_laws.proofs.condvar.TwoParts.{station_beside, taken_beside}
+use Rattle.lot_laws.proofs.condvar.Replies.{waiter_hears}
+use Rattle.lot_laws.proofs.mutex.Acts.{finds_nobody_at}
+use Rattle.lot_laws.proofs.mutex.Hands.{first_goes}
+use Rattle.lot_laws.proofs.mutex.Sections.{exclusive_wanted}
+use Rattle.lot_laws.proofs.sites.StandsKept.{AlikeBeside, in_main}
+use Rattle.lot_laws.proofs.sites.TakesAt.{behind_take, member, member_times}
+use Rattle.lot_laws.proofs.mutex.Waiters.{SleepsAt, calls_mutex_at, release_sleeps, stands_or_sleeps}
+use Rattle.lot_laws.proofs.condvar.WaitWords as beside
+
+module _ (w : State) (t l m : ℕ) (timed : Bool) (steady : IsSteady w) (here : t < length w.places) (apart : m ≢ l)
+    (sort : (rules_in w m).sort ≡ locks.Mutex) (plain : rules_in w m ≡ glue.mutex) (line : key_of m Main < length w.queues) where
+  abbrev waits : WaitAt → CondvarPlace
+  waits at = Wait m timed at
+
+  abbrev lock : Site
+  lock = site_of w m
+
+  abbrev releasing : Stands → UnlockAt → WaitAt
+  releasing s at = wait.Release s (mutex.Unlock at)
+
+  abbrev taking : Stands → WaitAt
+  taking s = releasing s unlock.Take
+
+  abbrev beside_of : WaitAt → Station
+  beside_of at = station_by (row_beside (At (waits at)))
+
+  abbrev taken_of : WaitAt → Option Taken
+  taken_of at = taken_from (row_beside (At (waits at))).hand (row_beside (At (waits at))).wants true
+
+  -- behind it the bit goes, where nobody is left
+  abbrev goes_to : Stands → Bool → Bool → WaitAt
+  goes_to s any none_left = released s (in_unlock (if none_left then At (unlock.Clear any) else At (unlock.Leave any)))
+
+  -- by who stands in the line
+  abbrev told : List Waiter → Reply
+  told q = Took (is_there (first_of q)) (length (drop 1 q) == 0)
+
+  abbrev after : List Waiter → State
+  after q = state_after_taking (record w { queues = queues_without_first w.queues (2 * m) }) t (first_of q)
+
+  abbrev deeds_of : List Waiter → Stands → List Deed
+  deeds_of q s = waiter_deeds (taking s) (first_thread (map queued_of q)) (told q)
+
+  abbrev KeptBy : List Waiter → Stands → Type 0
+  KeptBy q s = Goes w (put (after q) t (next_place (place_at (after q) t) (told q))) m (acts t (deeds_of q s))
+
+  abbrev FitsBy : List Waiter → Type 0
+  FitsBy q = FitsItsLock w (next_place (place_at (after q) t) (told q))
+
+  module _ (s : Stands) (is : place_at w t ≡ Condvar l (waits (taking s))) where
+    station_was : station_at (place_at w t) m ≡ beside_of (taking s)
+    station_was = ap (λ q. station_at q m) is ∙ station_beside l m apart (At (waits (taking s))) refl
+
+    taken_was : taken_at (place_at w t) m ≡ taken_of (taking s)
+    taken_was = ap (λ q. taken_at q m) is ∙ taken_beside l m apart (At (waits (taking s))) refl
+
+    follows : WaiterFollows (rules_in w m) lock t m timed (taking s) (first_thread (map queued_of (queue_at w (2 * m))))
+        (told (queue_at w (2 * m)))
+    follows = beside.follows w t l m timed steady here apart sort (taking s) is (first_thread (map queued_of (queue_at w (2 * m)))) (told (queue_at w (2 * m))) (waiter_hears w t l m timed (taking s) steady is refl)
+
+    follows_by : (q : List Waiter) → queue_at w (2 * m) ≡ q
+        → WaiterFollows (rules_in w m) lock t m timed (taking s) (first_thread (map queued_of q)) (told q)
+    follows_by q e = subst (λ q. WaiterFollows (rules_in w m) lock t m timed (taking s) (first_thread (map queued_of q)) (told q)) e follows
+
+    -- where it goes on, as it stands then
+    module _ (s2 : Stands) (any none_left : Bool)
+        (stays : station_by (row_there (At (waits (goes_to s2 any none_left)))) ≡ there (waits (taking s))) where
+      abbrev then_at : Place
+      then_at = Condvar l (waits (goes_to s2 any none_left))
+
+      alike : AlikeBeside m (place_at w t) then_at
+      alike = beside.alike w t l m timed steady here apart sort (taking s) is (At (waits (goes_to s2 any none_left))) (refl, stays)
+
+      station_then : station_at then_at m ≡ beside_of (goes_to s2 any none_left)
+      station_then = station_beside l m apart (At (waits (goes_to s2 any none_left))) refl
+
+      taken_then : taken_at then_at m ≡ taken_of (goes_to s2 any none_left)
+      taken_then = taken_beside l m apart (At (waits (goes_to s2 any none_left))) refl
+
+      does_then : doing_on then_at m ≡ (wait_row m (goes_to s2 any none_left)).doing
+      does_then = beside.does_next w t l m timed steady here apart sort (At (goes_to s2 any none_left)) refl
+
+    next_there : (any none_left : Bool) → station_by (row_there (At (waits (goes_to s any none_left)))) ≡ there (waits (taking s))
+    next_there any true = refl
+    next_there any false = refl
+
+    -- nobody stands there
+    finds_nobody : queue_at w (2 * m) ≡ [] → FitsBy [] → KeptBy [] s
+    finds_nobody empty fits = subst (λ p. FitsItsLock w (next_place p (told [])) → Goes w (put (after []) t (next_place p (told []))) m (acts t (deeds_of [] s))) (sym is) (λ fits. finds_nobody_at w t m steady here sort then_there (alike s false true refl) fits line empty
+        (follows_by [] empty).needed ((follows_by [] empty).doing ∙ sym (does_then s false true refl)) (station_then s false true refl ∙ sym station_was) (taken_was ∙ sym (taken_then s false true refl))) fits
+      where
+        then_there : Place
+        then_there = Condvar l (waits (releasing s (unlock.Clear false)))
+
+    -- ---------------------------------------------------------------- the first comes into its hand
+
+    module _ (x : Waiter) (rest : List Waiter) (first : queue_at w (2 * m) ≡ x ∷ rest) where
+      abbrev none_left : Bool
+      none_left = length rest == 0
+
+      abbrev takes_it : List Deed
+      takes_it = Case (TakeFirst (queued x.thread)) ∷ []
+
+      follows_first : WaiterFollows (rules_in w m) lock t m timed (taking s) (Some x.thread) (Took true none_left)
+      follows_first = follows_by (x ∷ rest) first
+
+      needed : ActsNeeded glue.mutex (acts t takes_it) (lock_by w m glue.mutex)
+      needed = subst (λ y. ActsNeeded y (acts t takes_it) (lock_by w m y)) plain (needed_same (rules_in w m) takes_it lock t follows_first.needed)
+
+      does : (after_acts glue.mutex (acts t takes_it) (lock_by w m glue.mutex)).doing t
+          ≡ (wait_row m (goes_to s true none_left)).doing
+      does = subst (λ y. (after_acts y (acts t takes_it) (lock_by w m y)).doing t ≡ (wait_row m (goes_to s true none_left)).doing) plain (ap (λ (y : Site). y.doing t) (after_same (rules_in w m) takes_it lock t) ∙ follows_first.doing)
+
+      wants : x.want ≡ Exclusive
+      wants = exclusive_wanted x.want (subst (λ q. IsSite glue.mutex (seen_in glue.mutex m (record (parts_at w m) { main = q }) (place_at w))) first (subst (λ y. IsSite y (lock_by w m y)) plain (steady.sites.site m))).state.known_queue.0
+
+      stood : (station_at (place_at w x.thread) m).stands ≡ Some Main
+      stood = in_main (station_at (place_at w x.thread) m).stands (let a : 1 ≤ times x.thread (queue_at w (2 * m)) = subst (λ q. 1 ≤ times x.thread q) (sym first) (member_times x.thread (x ∷ rest) (ap (λ b. b || member x.thread rest) (same x.thread))) in
+          let c : times x.thread (queue_at w (2 * m)) ≡ stood_in (station_at (place_at w x.thread) m).stands Main = steady.stands.lines x.thread m Main in omega arith)
+
+      bare : (station_at (place_at w t) m).carries ≡ None
+      bare = ap (λ (y : Station). y.carries) station_was
+
+      -- another thread
+      module _ (other : x.thread ≢ t) where
+        sleeps : SleepsAt m (place_at w x.thread)
+        sleeps = elim (stands_or_sleeps (place_at w x.thread) m (calls_mutex_at w m (place_at w x.thread) (steady.stands.calls x.thread) plain) stood) [
+          | inl within ↦ absurd (other (let a : section_at w (2 * m) ≡ Some x.thread = (steady.stands.sections x.thread m Main).0 within in
+              let b : section_at w (2 * m) ≡ Some t = (steady.stands.sections t m Main).0 (ap (λ (y : Station). y.inside) station_was) in let c : Some x.thread ≡ Some t = sym a ∙ b in cc))
+          | inr asleep ↦ asleep
+        ]
+
+        not_self : member t (x ∷ []) ≡ false
+        not_self = rw (differ x.thread t other) refl
+
+        next_beside : (b : Bool) → beside_of (goes_to s true b) ≡ record (beside_of (taking s)) { carries = Some false }
+        next_beside true = refl
+        next_beside false = refl
+
+        next_taken : (b : Bool) → taken_of (goes_to s true b) ≡ taken_of (taking s)
+        next_taken true = refl
+        next_taken false = refl
+
+        place_then : place_at (after (x ∷ rest)) t ≡ Condvar l (waits (taking s))
+        place_then = get_or-set_other w.places x.thread t (next_place (place_at w x.thread) (TakenBy t)) Idle (λ e. other (sym e)) ∙ is
+
+        takes_another : FitsBy (x ∷ rest) → KeptBy (x ∷ rest) s
+        takes_another fits = subst (λ p. FitsItsLock w (next_place p (Took true none_left)) → Goes w (put (after (x ∷ rest)) t (next_place p (Took true none_left))) m (acts t takes_it)) (sym place_then)
+            (λ fits. first_goes w t m steady here (then_at s true none_left (next_there true none_left)) (alike s true none_left (next_there true none_left)) fits plain line x rest first wants stood sleeps bare
+            (station_then s true none_left (next_there true none_left) ∙ next_beside none_left ∙ sym (ap (λ (y : Station). record y { carries = Some false }) station_was) ∙ sym (ap (λ b. record (behind_take t b (station_at (place_at w t) m)) { carries = Some false }) not_self))
+            (taken_then s true none_left (next_there true none_left) ∙ next_taken none_left ∙ sym taken_was ∙ sym (ap (λ b. if b then taken_at (next_place (place_at w t) (TakenBy t)) m else taken_at (place_at w t) m) not_self))
+            needed (does_then s true none_left (next_there true none_left) ∙ sym does)) fits
+
+  -- ---------------------------------------------------------------- it takes itself
+
+  -- who stands in the line of the mutex was moved there
+  moved_so : (s : Stands) → (beside_of (taking s)).stands ≡ Some Main → s ≡ stands.Moved
+  moved_so stands.Moved h = refl
+  moved_so stands.Listed h = absurd cc
+  moved_so (stands.InHand by) h = absurd cc
+  moved_so (stands.Handed by) h = absurd cc
+  moved_so (stands.Noted by) h = absurd cc
+
+  module _ (is : place_at w t ≡ Condvar l (waits (taking stands.Moved))) (x : Waiter) (rest : List Waiter)
+      (first : queue_at w (2 * m) ≡ x ∷ rest) (itself : x.thread ≡ t) where
+    abbrev nobody_left : Bool
+    nobody_left = length rest == 0
+
+    taken_place : next_place (place_at w t) (TakenBy t) ≡ Condvar l (waits (taking (stands.InHand t)))
+    taken_place = ap (λ q. next_place q (TakenBy t)) is
+
+    own_place : place_at (after (x ∷ rest)) t ≡ Condvar l (waits (taking (stands.InHand t)))
+    own_place = subst (λ u. get_or (set w.places u (next_place (place_at w u) (TakenBy t))) t Idle ≡ Condvar l (waits (taking (stands.InHand t)))) (sym itself) (get_or-set_same w.places t (next_place (place_at w t) (TakenBy t)) Idle here ∙ taken_place)
+
+    own_sleeps : SleepsAt m (place_at w x.thread)
+    own_sleeps = subst (λ q. SleepsAt m q) (sym (ap (place_at w) itself ∙ is)) (release_sleeps l m (λ e. apart (sym e)) m timed refl (mutex.Unlock unlock.Take))
+
+    own_member : member t (x ∷ []) ≡ true
+    own_member = rw (itself, same t) refl
+
+    own_there : (b : Bool)
+        → station_by (row_there (At (waits (goes_to (stands.InHand t) true b)))) ≡ there (waits (taking stands.Moved))
+    own_there true = refl
+    own_there false = refl
+
+    own_beside : (b : Bool) → beside_of (goes_to (stands.InHand t) true b) ≡ record (behind_take t true (beside_of (taking stands.Moved))) { carries = Some false }
+    own_beside true = refl
+    own_beside false = refl
+
+    own_taken : (b : Bool) → taken_of (goes_to (stands.InHand t) true b) ≡ taken_of (taking (stands.InHand t))
+    own_taken true = refl
+    own_taken false = refl
+
+    own_does : (b : Bool)
+        → (wait_row m (goes_to (stands.InHand t) true b)).doing ≡ (wait_row m (goes_to stands.Moved true b)).doing
+    own_does true = refl
+    own_does false = refl
+
+    takes_itself : FitsBy (x ∷ rest) → KeptBy (x ∷ rest) stands.Moved
+    takes_itself fits = subst (λ p. FitsItsLock w (next_place p (Took true nobody_left)) → Goes w (put (after (x ∷ rest)) t (next_place p (Took true nobody_left))) m (acts t (takes_it stands.Moved is x rest first))) (sym own_place)
+        (λ fits. first_goes w t m steady here (then_at stands.Moved is (stands.InHand t) true nobody_left (own_there nobody_left)) (alike stands.Moved is (stands.InHand t) true nobody_left (own_there nobody_left)) fits plain line x rest first
+        (wants stands.Moved is x rest first) (stood stands.Moved is x rest first) own_sleeps (bare stands.Moved is x rest first)
+        (station_then stands.Moved is (stands.InHand t) true nobody_left (own_there nobody_left) ∙ own_beside nobody_left ∙ sym (ap (λ (y : Station). record (behind_take t true y) { carries = Some false }) (station_was stands.Moved is))
+        ∙ sym (ap (λ b. record (behind_take t b (station_at (place_at w t) m)) { carries = Some false }) own_member))
+        (taken_then stands.Moved is (stands.InHand t) true nobody_left (own_there nobody_left) ∙ own_taken nobody_left ∙ sym (taken_beside l m apart (At (waits (taking (stands.InHand t)))) refl)
+        ∙ sym (ap (λ q. taken_at q m) taken_place) ∙ sym (ap (λ b. if b then taken_at (next_place (place_at w t) (TakenBy t)) m else taken_at (place_at w t) m) own_member))
+        (needed stands.Moved is x rest first) (does_then stands.Moved is (stands.InHand t) true nobody_left (own_there nobody_left) ∙ own_does nobody_left ∙ sym (does stands.Moved is x rest first))) fits
+
+  pub moved_first : (s : Stands) → place_at w t ≡ Condvar l (waits (taking s)) → (x : Waiter) (rest : List Waiter)
+      → queue_at w (2 * m) ≡ x ∷ rest → x.thread ≡ t → s ≡ stands.Moved
+  moved_first s is x rest e itself = moved_so s (sym (ap (λ (y : Station). y.stands) (station_was s is)) ∙ sym (ap (λ u. (station_at (place_at w u) m).stands) itself) ∙ stood s is x rest e)
+
+  -- ---------------------------------------------------------------- whoever it takes
+
+  pub takes : (s : Stands) → place_at w t ≡ Condvar l (waits (taking s)) → FitsBy (queue_at w (2 * m))
+      → KeptBy (queue_at w (2 * m)) s
+  takes s is fits = by_line (queue_at w (2 * m)) refl fits
+    where
+      by_line : (q : List Waiter) → queue_at w (2 * m) ≡ q → FitsBy q → KeptBy q s
+      by_line [] e fits = finds_nobody s is e fits
+      by_line (x ∷ rest) e fits = elim (cases_eq x.thread t) [
+        | inr other ↦ takes_another s is x rest e other fits
+        | inl itself ↦ by_stand s is (moved_first s is x rest e itself) itself
+      ]
+        where
+          by_stand : (s : Stands) → place_at w t ≡ Condvar l (waits (taking s)) → s ≡ stands.Moved → x.thread ≡ t
+              → KeptBy (x ∷ rest) s
+          by_stand s is f itself = subst (λ z. KeptBy (x ∷ rest) z) (sym f) (takes_itself (subst (λ z. place_at w t ≡ Condvar l (waits (taking z))) f is) x rest e itself fits)

@@ -1,0 +1,176 @@
+-- A thread goes on by the act that hands its right over, at a lock that is shared: where the operation takes effect all whom it has in hand own, and else
+-- nothing changes. No place is named, as in `MovesKept`.
+use Rattle.std.proofs.Common.{ℕ, Bool, true, false, Option, Some, None, ◌≡◌, ◌+◌, ◌*◌, ◌<◌, List, [], ◌∷◌, ◌++◌, length, refl, sym, ◌∙◌, ap, subst}
+use Rattle.lot_base.specs.declared.ops.Op.{Op}
+use Rattle.lot_base.specs.Words.{apply}
+use Rattle.lot_acts.specs.declared.acts.Act.TheVariants as act
+use Rattle.lot_acts.specs.declared.acts.Reply.TheVariants.{Done, Value}
+use Rattle.lot_acts.specs.declared.acts.Wakes.{Wakes}
+use Rattle.lot_base.specs.declared.keys.Keys.TheVariants.{One}
+use Rattle.lot_base.specs.declared.notes.Note.TheVariants.{HandOff as HandOffNote}
+use Rattle.lot_acts.specs.Acts.{takes_effect, wakes_taken}
+use Rattle.lot_acts.specs.Moves.{Move, Hears, Accepts, HandsOver, TellsHanded, bit_left, heir_of, inside_of}
+use Rattle.lot_acts.specs.Owners.{lock_seen}
+use Rattle.lot_acts.specs.Profiles.{Profile, in_hand}
+use Rattle.lot_acts.specs.Stations.{Station, station_by, nowhere}
+use Rattle.lot_steps.specs.declared.places.Place.{Place}
+use Rattle.lot_steps.specs.Steps.{owners_after, profile}
+use Rattle.abstract_locks.specs.Locks.{Rules, HandOff, without_owner}
+use Rattle.abstract_locks.specs.Sites.{Site, Deed, Case, End, Main, has_readers}
+use Rattle.abstract_locks.specs.Codes.{code}
+use Rattle.abstract_locks.specs.Deeds as laws
+use Rattle.lot_machine.specs.declared.hands.Successor.{Successor}
+use Rattle.lot_machine.specs.Machine.{State, place_at, word_at, owners_at, shares_at, queue_at, put, state_after_act, state_after_leave, state_after_hand_over_by, successor_from, unshared_then, want_of_successor}
+use Rattle.lot_laws.specs.Refinement.{taken_at}
+use Rattle.lot_laws.specs.MutexDeeds.{acts}
+use Rattle.lot_laws.specs.MutexDeeds as deeds
+use Rattle.lot_laws.specs.Stations.{doing_on, hand, station}
+use Rattle.lot_laws.specs.SitesOf.{ActsNeeded, IsSteady, Goes, after_acts, key_of, rules_in, hand_at}
+use Rattle.lot_laws.proofs.sites.ActsKept.{lock_by, operated, place_goes}
+use Rattle.lot_laws.proofs.machine.Parts.{free_of, IsOf, doing_here, lock_in, parts_at, of_single}
+use Rattle.lot_laws.proofs.hands.Kept.{IsGiven, HandsLawful, claims_given, hand_over_goes, heir_in}
+use Rattle.lot_laws.proofs.sites.LawsKept.{after_same, lawful_goes, needed_same}
+use Rattle.lot_laws.proofs.sites.MovesKept.{IsFollowed, goes_out_alone}
+use Rattle.lot_laws.proofs.sites.OneStep.{steps_by}
+use Rattle.lot_laws.proofs.sites.WakesAt.{IsWokenAt}
+use Rattle.lot_laws.proofs.sites.WakesKept.{wake_goes}
+
+-- who succeeds, and what it wants, are the heir
+abbrev pub thread_of : Option Successor → Option ℕ
+thread_of None = None
+thread_of (Some x) = Some x.thread
+
+heirs_same : (x : Option Successor) → heir_of (thread_of x) (want_of_successor x) ≡ heir_in x
+heirs_same None = refl
+heirs_same (Some x) = refl
+
+module _ (w : State) (t l : ℕ) (steady : IsSteady w) (there : t < length w.places) (own : IsOf l (place_at w t)) (r : Rules)
+    (rules : rules_in w l ≡ r) (readers : has_readers r.sort ≡ true) (x : Move) (same_row : profile (place_at w t) ≡ x.row)
+    (lt : l < length w.locks) (p : Place) (op : Op) (g : HandsOver x op) where
+  abbrev here : Site
+  here = lock_by w l r
+
+  abbrev pub seen : ℕ
+  seen = word_at w l
+
+  -- who succeeds is no part of the place
+  abbrev pub whom : Option ℕ
+  whom = thread_of (successor_from t 0 w.places)
+
+  abbrev pub claims : List deeds.Act
+  claims = claims_given t (unshared_then w t l) (λ u. taken_at (place_at w u) l) (length w.places)
+
+  station_is : station (place_at w t) ≡ record (inside_of Main) { carries = in_hand g.any false }
+  station_is = ap station_by same_row ∙ g.was
+
+  free : (station (place_at w t)).hand ≡ None
+  free = ap (λ (y : Station). y.hand) station_is
+
+  -- where the operation takes effect
+  module _ (takes : takes_effect op seen ≡ true) (p2 : Place)
+      (f : IsFollowed w t l steady there own r rules x same_row whom (Value seen) p2)
+      (given : (u : ℕ) (b : Bool) → hand_at (place_at w u) l ≡ hand t b → IsGiven w t l b (unshared_then w t l) (place_at w u)) (knows : g.successor ≡ want_of_successor (successor_from t 0 w.places)) where
+    abbrev hands : List Deed
+    hands = Case (HandOff g.right (heir_in (successor_from t 0 w.places))) ∷ bit_left g.none_left ∷ []
+
+    pub deeds_are : x.deeds whom (Value seen) ≡ hands
+    deeds_are = g.deeds whom seen takes ∙ ap (λ q. Case (HandOff g.right q) ∷ bit_left g.none_left ∷ []) (ap (heir_of whom) knows ∙ heirs_same (successor_from t 0 w.places))
+
+    there_is : station p2 ≡ record (inside_of Main) { carries = in_hand g.any true }
+    there_is = ap station_by f.row ∙ g.goes seen takes
+
+    pub hands_over : lock_seen (shares_at w l) (owners_after p t seen (owners_at w l)) (queue_at w (2 * l))
+        (queue_at w (2 * l + 1)) (λ u. taken_at (place_at w u) l)
+        ≡ without_owner t g.right here.lock
+        → apply op seen ≡ code r (laws.after_all r (x.deeds whom (Value seen)) here t)
+        → Goes w (put (state_after_act w t p (act.HandOver l op)) t p2) l (acts t (x.deeds whom (Value seen)) ++ claims)
+    hands_over owners word = subst (λ ds. Goes w (put (state_after_act w t p (act.HandOver l op)) t p2) l (acts t ds ++ claims)) (sym deeds_are)
+        (subst (λ b. Goes w (put (state_after_hand_over_by b w t p l op) t p2) l (acts t hands ++ claims)) (sym takes)
+        (hand_over_goes w t l steady own there lt p p2 f.of f.fits op r rules readers given free g.right g.none_left law (ap (λ (y : Station). y.hand) there_is) g.any
+        (ap (λ (y : Station). y.inside) there_is ∙ sym (ap (λ (y : Station). y.inside) station_is)) (ap (λ (y : Station). y.stands) there_is ∙ sym (ap (λ (y : Station). y.stands) station_is)) (ap (λ (y : Station). y.waits) there_is ∙ sym (ap (λ (y : Station). y.waits) station_is))
+        (ap (λ (y : Station). y.carries) station_is) (ap (λ (y : Station). y.carries) there_is)))
+      where
+        law : HandsLawful w t l steady own there lt p p2 f.of f.fits op r rules readers given free g.right g.none_left
+        law = record {
+          needed = subst (λ ds. laws.AllNeeded r ds here t) deeds_are f.needed;
+          doing = ap (λ ds. (laws.after_all r ds here t).doing t) (sym deeds_are) ∙ f.doing ∙ sym (doing_here l p2 f.of ∙ ap (λ (y : Profile). y.doing) f.row);
+          owners = owners;
+          word = word ∙ ap (λ ds. code r (laws.after_all r ds here t)) deeds_are;
+        }
+
+  -- where it fails, the thread looks again
+  module _ (fails : takes_effect op seen ≡ false) (p2 : Place)
+      (f : IsFollowed w t l steady there own r rules x same_row whom (Value seen) p2) where
+    nothing : x.deeds whom (Value seen) ≡ []
+    nothing = g.fails whom seen fails
+
+    same_station : station p2 ≡ station (place_at w t)
+    same_station = ap station_by f.row ∙ g.stays seen fails ∙ sym (ap station_by same_row)
+
+    pub looks_again : lock_in (operated w t p l op) (λ u. taken_at (place_at w u) l) ≡ here.lock → apply op seen ≡ code r here
+        → Goes w (put (state_after_act w t p (act.HandOver l op)) t p2) l (acts t (x.deeds whom (Value seen)))
+    looks_again owners word = subst (λ ds. Goes w (put (state_after_act w t p (act.HandOver l op)) t p2) l (acts t ds)) (sym nothing)
+        (subst (λ b. Goes w (put (state_after_hand_over_by b w t p l op) t p2) l []) (sym fails)
+        (lawful_goes w t l steady own there r rules p2 f.of f.fits readers p op []
+        (record { needed = tt; doing = ap (λ ds. (laws.after_all r ds here t).doing t) (sym nothing) ∙ f.doing ∙ sym (doing_here l p2 f.of ∙ ap (λ (y : Profile). y.doing) f.row); owners = owners; word = word })
+        tt tt lt tt (free_of (place_at w t) l (of_single l (place_at w t) own) free ∙ sym (free_of p2 l (of_single l p2 f.of) (ap (λ (y : Station). y.hand) same_station ∙ free))) same_station))
+
+-- ---------------------------------------------------------------- they are told so
+
+module _ (w : State) (t l : ℕ) (steady : IsSteady w) (there : t < length w.places) (own : IsOf l (place_at w t)) (r : Rules)
+    (rules : rules_in w l ≡ r) (readers : has_readers r.sort ≡ true) (x : Move) (same_row : profile (place_at w t) ≡ x.row)
+    (hears : Hears) where
+  abbrev now : Site
+  now = lock_by w l r
+
+  module _ (wakes : Wakes) (g : TellsHanded x hears wakes) where
+    stands_so : station (place_at w t) ≡ record (inside_of Main) { carries = in_hand g.any true }
+    stands_so = ap station_by same_row ∙ g.was
+
+    bare : (station (place_at w t)).hand ≡ None
+    bare = ap (λ (y : Station). y.hand) stands_so
+
+    pub told_hears : hears r now t None Done
+    told_hears = g.may r now t (free_of (place_at w t) l (of_single l (place_at w t) own) bare)
+
+    -- out of the section, and whom it has handed its right hears of it
+    pub tells_handed : (p2 : Place) → key_of l Main < length w.sections
+        → IsFollowed w t l steady there own r rules x same_row None Done p2
+        → ((u : ℕ) (b : Bool) → hand_at (place_at w u) l ≡ hand t b → IsWokenAt w t l HandOffNote (place_at w u))
+        → Goes w (put (state_after_leave w t (One (key_of l Main)) wakes) t p2) l (acts t (x.deeds None Done))
+    tells_handed p2 line f woken = subst (λ y. Goes w (put (state_after_leave w t (One (key_of l Main)) y) t p2) l (acts t (x.deeds None Done))) (sym g.notes) (either g.any refl)
+      where
+        goes_nowhere : station p2 ≡ nowhere
+        goes_nowhere = ap station_by f.row ∙ g.goes
+
+        own_then : doing_on p2 l ≡ (after_acts r (acts t (x.deeds None Done)) now).doing t
+        own_then = doing_here l p2 f.of ∙ ap (λ (y : Profile). y.doing) f.row ∙ sym f.doing ∙ sym (ap (λ (s : Site). s.doing t) (after_same r (x.deeds None Done) now t))
+
+        either : (b : Bool) → g.any ≡ b
+            → Goes w (put (state_after_leave w t (One (key_of l Main)) (wakes_taken b HandOffNote)) t p2) l
+            (acts t (x.deeds None Done))
+        either false e = goes_out_alone w t l steady there own r rules x same_row hears Main p2 line g.deeds (ap (λ (y : Station). y.inside) g.was) (ap (λ (y : Station). y.carries) g.was ∙ ap (λ b. in_hand b true) e) (ap (λ (y : Station). y.hand) g.was)
+            (g.goes ∙ sym (ap (λ (y : Station). record y { inside = None; carries = None }) g.was)) f
+        either true e = wake_goes w t l steady own there p2 f.of f.fits HandOffNote woken bare (ap (λ (y : Station). y.carries) goes_nowhere) (ap (λ (y : Station). y.hand) goes_nowhere)
+            Main line (ap (λ (y : Station). y.inside) stands_so) (ap (λ (y : Station). y.stands) goes_nowhere ∙ sym (ap (λ (y : Station). y.stands) stands_so)) (ap (λ (y : Station). y.waits) goes_nowhere ∙ sym (ap (λ (y : Station). y.waits) stands_so)) (ap (λ (y : Station). y.inside) goes_nowhere)
+            r rules (free_of (place_at w t) l (of_single l (place_at w t) own) bare) (free_of p2 l (of_single l p2 f.of) (ap (λ (y : Station). y.hand) goes_nowhere)) (x.deeds None Done) g.deeds (needed_same r (x.deeds None Done) now t f.needed) own_then
+
+  -- who was told so ends its call
+  pub accepts : (g : Accepts x hears) (p2 : Place)
+      → (hears r now t None Done → IsFollowed w t l steady there own r rules x same_row None Done p2)
+      → Goes w (put w t p2) l (acts t (x.deeds None Done))
+  accepts g p2 followed = subst (λ ds. Goes w (put w t p2) l (acts t ds)) (sym g.deeds)
+      (place_goes w t l steady own there r rules p2 f.of f.fits (End ∷ []) (λ h. tt)
+      (steps_by r l (parts_at w l) (parts_at w l) (place_at w) t p2 (End ∷ []) (subst (λ ds. ActsNeeded r (acts t ds) now) g.deeds (needed_same r (x.deeds None Done) now t f.needed)) (tt, tt)
+      (free_of (place_at w t) l (of_single l (place_at w t) own) (ap (λ (y : Station). y.hand) stood) ∙ sym (free_of p2 l (of_single l p2 f.of) (ap (λ (y : Station). y.hand) goes_nowhere))) refl refl refl refl
+      (doing_here l p2 f.of ∙ ap (λ (y : Profile). y.doing) f.row ∙ sym f.doing ∙ ap (λ ds. (laws.after_all r ds now t).doing t) g.deeds))
+      (goes_nowhere ∙ sym stood))
+    where
+      f : IsFollowed w t l steady there own r rules x same_row None Done p2
+      f = followed (g.may r now t)
+
+      stood : station (place_at w t) ≡ nowhere
+      stood = ap station_by same_row ∙ g.was
+
+      goes_nowhere : station p2 ≡ nowhere
+      goes_nowhere = ap station_by f.row ∙ g.goes

@@ -1,0 +1,12 @@
+pub mod KindsStay
+pub mod Parts
+pub mod Befallen
+pub mod AtPlaces
+pub mod Possible
+pub mod OneChange
+pub mod PlacesAlone
+pub mod InsideAwake
+pub mod Filled
+pub mod Sleepers
+pub mod EntersOwn
+pub mod ReadsOwn

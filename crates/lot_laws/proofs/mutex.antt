@@ -1,0 +1,10 @@
+pub mod Waiters
+pub mod Hands
+pub mod Words
+pub mod Sections
+pub mod Acts
+pub mod Kept
+pub mod Rows
+pub mod Events
+pub mod Owing
+pub mod Promises

@@ -1,0 +1,176 @@
+-- A mutex's steps that take its first waiter, hand the mutex over, or let go whom they have in hand: what they do to the lock, by what befalls the other thread.
+use Rattle.std.proofs.Common.{ℕ, Bool, true, false, Some, None, if◌then◌else◌, ◌≡◌, ◌≢◌, ◌*◌, ◌<◌, List, [], ◌∷◌, length, drop, map, inl, inr, refl, sym, ◌∙◌, ap, subst, arith, length-set, get_or-set_same, get_or-set_other}
+use Rattle.abstract_locks.specs.Picks.{queued_of}
+use Rattle.lot_laws.specs.MutexDeeds.{acts}
+use Rattle.lot_laws.specs.Stations.{station_at}
+use Rattle.lot_laws.proofs.machine.Parts.{put_places}
+use Rattle.abstract_locks.specs.Locks.{IsLockState}
+use Rattle.std.proofs.lemmas.Bool.{cases_eq}
+use Rattle.lot_base.specs.declared.wants.Waiter.{Waiter}
+use Rattle.lot_base.specs.declared.wants.Want.TheVariants.{Exclusive}
+use Rattle.lot_base.specs.declared.notes.Note.TheVariants as note
+use Rattle.lot_acts.specs.declared.owners.Owners.{Owners}
+use Rattle.lot_steps.specs.declared.places.Place.{Place}
+use Rattle.lot_steps.specs.declared.places.Place.TheVariants.{Mutex}
+use Rattle.lot_mutex.specs.declared.places.MutexPlace.TheVariants.{HandOff}
+use Rattle.lot_mutex.specs.declared.hand_off.HandOffAt.TheVariants as hand_off
+use Rattle.lot_acts.specs.declared.acts.Reply.TheVariants.{Woken, TakenBy, HandedBy}
+use Rattle.std.proofs.Math.Bool.{or-false}
+use Rattle.lot_mutex.specs.MutexSteps.{is_parked}
+use Rattle.lot_steps.specs.Steps.{next_place}
+use Rattle.abstract_locks.specs.Locks.{Rules, TakeFirst, keep_from, let_go, putting}
+use Rattle.lot_acts.specs.Owners.{with_exclusive}
+use Rattle.abstract_locks.specs.Locks as locks
+use Rattle.abstract_locks.specs.Sites.{Has, Site, Main, Begin, Mark, Clear, Case, wakened}
+use Rattle.lot_machine.specs.Machine.{held}
+use Rattle.lot_laws.specs.Refinement.{lock_seen, taken_at}
+use Rattle.lot_laws.specs.MutexDeeds.{Act, mutex_station, queued}
+use Rattle.lot_laws.specs.Stations.{hand, nowhere, doing_on}
+use Rattle.lot_laws.specs.SitesOf.{after_acts, hand_at, Hands}
+use Rattle.lot_laws.proofs.machine.Parts.{mutex, Base, seen, LetGo, untaken, put_here, put_other, same, differ}
+use Rattle.lot_laws.proofs.hands.Handed.{handed_is, heir}
+use Rattle.lot_base.specs.Lines.{times, threads_of}
+use Rattle.lot_machine.specs.Machine.{State, filled_at, place_at, places_told, put, queue_at, queues_without_first, state_after_reply}
+use Rattle.lot_machine.proofs.QueueLemmas.{told_count}
+use Rattle.lot_laws.proofs.sites.StandsKept.{AlikeBeside}
+use Rattle.lot_laws.proofs.sites.Following.{lock_by}
+use Rattle.lot_laws.proofs.sites.TakesAt.{IsTakenAt, SplitsAt, behind_take, member, told_by, told_places, take_goes, only_member}
+use Rattle.lot_laws.specs.SitesOf.{stations_of, ActsNeeded, AreWaiting, FitsItsLock, Goes, IsSteady, rules_in}
+use Rattle.lot_laws.proofs.mutex.Waiters.{CallsMutex, IsHeldThere, SleepsAt, WasGivenThere, held_there}
+
+-- who was taken is woken and tries again
+pub tries : (l t : ℕ) (p : Place) → IsHeldThere l t p → LetGo t l p (next_place p (Woken note.Normal))
+tries l t p held = record {
+  taken = held.woken.taken ∙ sym (ap (keep_from t) held.was ∙ ap (λ b. if b then None else Some (record { by = t; want = Exclusive })) (same t));
+  doing = held.woken.doing ∙ sym (ap (λ o. wakened t o (doing_on p l)) held.was ∙ ap (λ b. if b then record (doing_on p l) { retries = Some Exclusive } else doing_on p l) (same t));
+}
+
+-- who was handed the lock has it
+pub accepts : (l t by : ℕ) (p : Place) → WasGivenThere l by p → LetGo t l p (next_place p (Woken note.HandOff))
+accepts l t by p given = record {
+  taken = given.told.taken ∙ sym (ap (keep_from t) given.was);
+  doing = given.told.doing ∙ sym (ap (λ o. wakened t o (doing_on p l)) given.was);
+}
+
+-- ---------------------------------------------------------------- the first of the line is taken
+
+-- whoever takes it, in whatever call, and whoever it is: itself too
+module _ (w : State) (t l : ℕ) (steady : IsSteady w) (there : t < length w.places) (p2 : Place)
+    (beside : AlikeBeside l (place_at w t) p2) (fits : FitsItsLock w p2) (rules : rules_in w l ≡ mutex)
+    (line : 2 * l < length w.queues)
+    (x : Waiter) (rest : List Waiter) (first : queue_at w (2 * l) ≡ x ∷ rest) (wants : x.want ≡ Exclusive) (stood : (station_at (place_at w x.thread) l).stands ≡ Some Main) (sleeps : SleepsAt l (place_at w x.thread)) where
+  abbrev pub taken_state : State
+  taken_state = put (state_after_reply (record w { queues = queues_without_first w.queues (2 * l) }) x.thread (TakenBy t)) t p2
+
+  first_sleeps : IsTakenAt w t l Main (place_at w x.thread)
+  first_sleeps = let k = sleeps.taken t in record { stands = stood; unheld = sleeps.free; goes = k.station; alike = k.others; doing = k.doing; fits = k.fits tt w (steady.stands.calls x.thread) }
+
+  splits : SplitsAt w t l Main (x ∷ []) rest
+  splits = record {
+    counts = λ u. let a : times u (queue_at w (2 * l)) ≡ times u (x ∷ rest) = ap (times u) first in omega arith;
+    sleeps = λ u h. subst (λ j. IsTakenAt w t l Main (place_at w j)) (only_member x u h) first_sleeps;
+    lefts = (subst (AreWaiting (stations_of (place_at w)) l Main) first (steady.stands.waits l Main)).1;
+    wants = ((sleeps.taken t).taken ∙ (λ i. Some (record { by = t; want = sym wants i })), tt);
+  }
+
+  threads : length taken_state.places ≡ length w.places
+  threads = length-set (places_told (TakenBy t) (threads_of (x ∷ [])) w.places) t p2 ∙ told_count (TakenBy t) (threads_of (x ∷ [])) w.places
+
+  places : place_at taken_state ≡ putting (told_by (TakenBy t) (x ∷ []) (place_at w)) t p2
+  places = put_places (state_after_reply (record w { queues = queues_without_first w.queues (2 * l) }) x.thread (TakenBy t)) t p2 (λ h. absurd (let n : length (places_told (TakenBy t) (threads_of (x ∷ [])) w.places) ≡ length w.places = told_count (TakenBy t) (threads_of (x ∷ [])) w.places in omega arith))
+      ∙ ap (λ (f : ℕ → Place). putting f t p2) (told_places (TakenBy t) (x ∷ []) w.places)
+
+  same_one : member x.thread (x ∷ []) ≡ true
+  same_one = rw (same x.thread) refl
+
+  pub first_goes : (station_at (place_at w t) l).carries ≡ None → station_at p2 l ≡ record (behind_take t (member t (x ∷ [])) (station_at (place_at w t) l)) { carries = Some false }
+      → taken_at p2 l
+      ≡ (if member t (x ∷ []) then taken_at (next_place (place_at w t) (TakenBy t)) l else taken_at (place_at w t) l)
+      → ActsNeeded mutex (acts t (Case (TakeFirst (queued x.thread)) ∷ [])) (lock_by w l mutex)
+      → doing_on p2 l ≡ (after_acts mutex (acts t (Case (TakeFirst (queued x.thread)) ∷ [])) (lock_by w l mutex)).doing t
+      → Goes w taken_state l (acts t (Case (TakeFirst (queued x.thread)) ∷ []))
+  first_goes bare now own_taken needed own_is = take_goes w t l steady there p2 beside fits Main (x ∷ []) rest splits
+      (λ one u v h g. sym (only_member x u h) ∙ only_member x v g) bare (Some false) now mutex rules own_taken taken_state refl refl refl threads places
+      (get_or-set_same w.queues (2 * l) (drop 1 (queue_at w (2 * l))) [] line ∙ ap (drop 1) first) (λ key ne. get_or-set_other w.queues (2 * l) key (drop 1 (queue_at w (2 * l))) [] ne)
+      (λ b e. let g : false ≡ b = cc in (sym g, (x.thread, same_one))) (λ u h. refl)
+      (Case (TakeFirst (queued x.thread))) (tt, tt) ((λ h. h), tt) needed
+      (λ i. record (lock_by w l mutex).lock { queue = sym (ap (λ (q : List Waiter). drop 1 (map queued_of q)) first) i; taken = locks.taking t (record { thread = x.thread; want = wants i } ∷ []) (λ u. taken_at (place_at w u) l) })
+      refl refl (sym (or-false (filled_at w l))) own_is
+
+module _ (r : Rules) (l : ℕ) (n : Base) (word : ℕ) (o : Owners) (m s : List Waiter) (p : ℕ → Place) (one : ℕ → Type 0)
+    (hands : Hands one p) (single : one l) (mutexes : (x : ℕ) → CallsMutex l (p x)) (t u : ℕ) (alone bumps none_left : Bool)
+    (sort : r.sort ≡ locks.Mutex) (state : IsLockState mutex (lock_seen n.shared o m s (λ x. taken_at (p x) l)))
+    (store : p t ≡ Mutex l (HandOff bumps (hand_off.Store true none_left))) (held : hand_at (p u) l ≡ hand t false) where
+  abbrev at_store : Site
+  at_store = seen l n word o m s p
+
+  abbrev pub handed_places : ℕ → Place
+  handed_places = putting (putting p u (next_place (p u) (HandedBy t alone))) t (Mutex l (HandOff bumps (hand_off.Leave true)))
+
+  pub taken_there : IsHeldThere l t (p u)
+  taken_there = held_there (p u) t l (mutexes u) held
+
+  apart : u ≢ t
+  apart e = let a : hand_at (p t) l ≡ hand t false = subst (λ j. hand_at (p j) l ≡ hand t false) e held in let b : hand_at (p t) l ≡ None = ap (λ q. hand_at q l) store ∙ ap (λ c. (if c then mutex_station (HandOff bumps (hand_off.Store true none_left)) else nowhere).hand) (same l) in cc
+
+  let_go_now : (x : ℕ) → taken_at (handed_places x) l ≡ keep_from t (taken_at (p x) l)
+  let_go_now x = elim (cases_eq x t) [
+    | inl e ↦ rw (e, put_here (putting p u (next_place (p u) (HandedBy t alone))) t (Mutex l (HandOff bumps (hand_off.Leave true))), store) refl
+    | inr nt ↦ rw (put_other (putting p u (next_place (p u) (HandedBy t alone))) t (Mutex l (HandOff bumps (hand_off.Leave true))) x nt) (elim (cases_eq x u) [
+      | inl e ↦ rw (e, put_here p u (next_place (p u) (HandedBy t alone))) ((taken_there.handed alone).taken ∙ sym (ap (keep_from t) taken_there.was ∙ ap (λ b. if b then None else Some (record { by = t; want = Exclusive })) (same t)))
+      | inr nu ↦ rw (put_other p u (next_place (p u) (HandedBy t alone)) x nu) (sym (untaken (p x) t l (λ h. nu (hands.alone t l u x false false single held h))))
+    ])
+  ]
+
+  abbrev pub hands_acts : Bool → List Act
+  hands_acts b = record { by = t; deed = Case (locks.HandOff Exclusive (Some (queued u))) } ∷ record { by = t; deed = if b then Clear Main else Mark Main } ∷ record { by = u; deed = Begin (Some (Has Exclusive)) } ∷ []
+
+  doing_then : (b : Bool) → none_left ≡ b → (x : ℕ)
+      → doing_on (handed_places x) l ≡ (after_acts r (hands_acts b) at_store).doing x
+  doing_then true f x = elim (cases_eq x t) [
+    | inl e ↦ rw (e, put_here (putting p u (next_place (p u) (HandedBy t alone))) t (Mutex l (HandOff bumps (hand_off.Leave true))), differ t u (λ g. apart (sym g)), same t, store, same l) refl
+    | inr nt ↦ rw (put_other (putting p u (next_place (p u) (HandedBy t alone))) t (Mutex l (HandOff bumps (hand_off.Leave true))) x nt) (elim (cases_eq x u) [
+      | inl e ↦ rw (e, put_here p u (next_place (p u) (HandedBy t alone)), same u, differ u t apart) (taken_there.handed alone).doing
+      | inr nu ↦ rw (put_other p u (next_place (p u) (HandedBy t alone)) x nu, differ x u nu, differ x t nt) refl
+    ])
+  ]
+  doing_then false f x = elim (cases_eq x t) [
+    | inl e ↦ rw (e, put_here (putting p u (next_place (p u) (HandedBy t alone))) t (Mutex l (HandOff bumps (hand_off.Leave true))), differ t u (λ g. apart (sym g)), same t, store, same l, f) refl
+    | inr nt ↦ rw (put_other (putting p u (next_place (p u) (HandedBy t alone))) t (Mutex l (HandOff bumps (hand_off.Leave true))) x nt) (elim (cases_eq x u) [
+      | inl e ↦ rw (e, put_here p u (next_place (p u) (HandedBy t alone)), same u, differ u t apart) (taken_there.handed alone).doing
+      | inr nu ↦ rw (put_other p u (next_place (p u) (HandedBy t alone)) x nu, differ x u nu, differ x t nt) refl
+    ])
+  ]
+
+  -- the store does what its deeds do
+  pub handing : (b : Bool) → none_left ≡ b
+      → seen l n (if b then 1 else 3) (with_exclusive o (Some u)) m s handed_places ≡ after_acts r (hands_acts b) at_store
+  handing b f = λ i. record at_store {
+    lock = (let_go_lock ∙ sym (handed_is t n o m s p l (Some u) state) ∙ same_lock b) i;
+    parked = bit b i;
+    aside_parked = no_aside b i;
+    filled = unfilled b i;
+    doing = λ x. doing_then b f x i;
+  }
+    where
+      let_go_lock : lock_seen n.shared (with_exclusive o (Some u)) m s (λ x. taken_at (handed_places x) l)
+          ≡ lock_seen n.shared (with_exclusive o (Some u)) m s (let_go t (λ x. taken_at (p x) l))
+      let_go_lock = λ i. lock_seen n.shared (with_exclusive o (Some u)) m s (λ x. let_go_now x i)
+
+      same_lock : (b : Bool)
+          → locks.handed t Exclusive (heir (Some u)) (lock_seen n.shared o m s (λ x. taken_at (p x) l))
+          ≡ (after_acts r (hands_acts b) at_store).lock
+      same_lock true = refl
+      same_lock false = refl
+
+      bit : (b : Bool) → is_parked (if b then 1 else 3) ≡ (after_acts r (hands_acts b) at_store).parked
+      bit true = refl
+      bit false = refl
+
+      no_aside : (b : Bool) → false ≡ (after_acts r (hands_acts b) at_store).aside_parked
+      no_aside true = refl
+      no_aside false = refl
+
+      unfilled : (b : Bool) → n.filled ≡ (after_acts r (hands_acts b) at_store).filled
+      unfilled true = rw sort (sym (or-false n.filled))
+      unfilled false = rw sort (sym (or-false n.filled))

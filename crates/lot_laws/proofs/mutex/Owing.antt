@@ -1,0 +1,254 @@
+-- How a call of a mutex comes to owe a wake: by the word that it sees, and by entering the section. Whatever befalls a thread asleep changes
+-- nothing of that.
+use Rattle.std.proofs.Common.{ℕ, Bool, true, false, Some, None, if◌then◌else◌, ◌==◌, not, ◌≡◌, ◌*◌, inl, inr, length, drop, refl, sym, ◌∙◌, ap, subst}
+use Rattle.lot_base.specs.declared.notes.Note.{Note}
+use Rattle.lot_base.specs.declared.notes.Note.TheVariants as note
+use Rattle.lot_base.specs.Lines.{first_of}
+use Rattle.lot_calls.specs.declared.calls.MutexCall.{MutexCall}
+use Rattle.lot_calls.specs.declared.calls.MutexCall as mutex_call
+use Rattle.lot_calls.specs.declared.outcomes.Outcome.{Outcome}
+use Rattle.lot_calls.specs.declared.outcomes.Outcome as outcome
+use Rattle.lot_acts.specs.declared.acts.Reply.{Reply}
+use Rattle.lot_acts.specs.declared.acts.Reply.TheVariants.{TakenBy, MovedTo, HandedBy, Woken, Late}
+use Rattle.lot_mutex.specs.declared.places.MutexPlace.{MutexPlace}
+use Rattle.lot_mutex.specs.declared.places.MutexPlace.TheVariants.{Lock, TryLock, Unlock, UnlockFair, Bump, HandOff}
+use Rattle.lot_mutex.specs.declared.lock.LockAt.{LockAt}
+use Rattle.lot_mutex.specs.declared.lock.LockAt.TheVariants as lock
+use Rattle.lot_mutex.specs.declared.unlock.UnlockAt.TheVariants as unlock
+use Rattle.lot_mutex.specs.declared.hand_off.HandOffAt.TheVariants as hand_off
+use Rattle.lot_steps.specs.declared.places.Place.{Place}
+use Rattle.lot_steps.specs.declared.places.Place.TheVariants.{Idle, Mutex}
+use Rattle.lot_acts.specs.Acts.{outcome_of}
+use Rattle.lot_mutex.specs.declared.lock.Entry.{Entry}
+use Rattle.lot_mutex.specs.declared.lock.Entry.TheVariants as entries
+use Rattle.lot_acts.specs.declared.acts.Next.{Next}
+use Rattle.lot_acts.specs.declared.acts.Next.TheVariants as next
+use Rattle.lot_calls.specs.declared.outcomes.Answer as answer
+use Rattle.lot_mutex.specs.declared.unlock.UnlockAt.{UnlockAt}
+use Rattle.lot_mutex.specs.declared.hand_off.HandOffAt.{HandOffAt}
+use Rattle.lot_mutex.specs.MutexSteps.{in_lock, in_unlock, is_parked, is_locked, looked, next_lock, lock_act, mutex_first}
+use Rattle.lot_steps.specs.Steps.{next_place, mutex_goes, mutex_does}
+use Rattle.lot_machine.specs.Machine.{State, place_at, word_at, queue_at, is_there, reply_to}
+use Rattle.lot_laws.specs.Refinement.{owner_at}
+use Rattle.abstract_locks.specs.Sites.{Main}
+use Rattle.lot_laws.specs.MutexPromises.{IsMutexWord}
+use Rattle.lot_laws.specs.SitesOf.{IsSteady}
+use Rattle.lot_laws.proofs.machine.AtPlaces.{coded_for, owns}
+use Rattle.lot_steps.specs.Steps.{line_owed, profile}
+use Rattle.lot_laws.proofs.promises.RowPromises.{LetsIn, RowSees, RowOwesNext, IsLateNext, Befalls}
+use Rattle.lot_laws.proofs.mutex.Rows.{lock_owes, shut}
+use Rattle.lot_laws.specs.MutexDeeds.{mutex_row}
+use Rattle.lot_mutex.specs.MutexSteps.{mutex_act, mutex_next, is_timed}
+use Rattle.lot_laws.specs.Owing.{line_let_in, tells_of}
+use Rattle.abstract_locks.specs.Locks as locks
+use Rattle.abstract_locks.specs.Sites.{Line, Second}
+
+-- ---------------------------------------------------------------- what befalls another thread
+
+owes_same_lock : (l k : ℕ) (e : _) (r : Bool) (a : LockAt) (t : ℕ)
+    → line_owed (next_place (Mutex l (Lock e r a)) (TakenBy t)) k ≡ line_owed (Mutex l (Lock e r a)) k
+owes_same_lock l k e r lock.Asleep t = refl
+owes_same_lock l k e r lock.First t = refl
+owes_same_lock l k e r a t = refl
+
+befalls_taken : (l : ℕ) (at : MutexPlace) (t k : ℕ) → line_owed (next_place (Mutex l at) (TakenBy t)) k ≡ line_owed (Mutex l at) k
+befalls_taken l (Lock e r a) t k = owes_same_lock l k e r a t
+befalls_taken l TryLock t k = refl
+befalls_taken l (Unlock unlock.Subtract) t k = refl
+befalls_taken l (Unlock a) t k = refl
+befalls_taken l UnlockFair t k = refl
+befalls_taken l Bump t k = refl
+befalls_taken l (HandOff b hand_off.Enter) t k = refl
+befalls_taken l (HandOff b a) t k = refl
+
+befalls_moved : (l : ℕ) (at : MutexPlace) (key k : ℕ)
+    → line_owed (next_place (Mutex l at) (MovedTo key)) k ≡ line_owed (Mutex l at) k
+befalls_moved l (Lock e r lock.First) key k = refl
+befalls_moved l (Lock e r a) key k = refl
+befalls_moved l TryLock key k = refl
+befalls_moved l (Unlock unlock.Subtract) key k = refl
+befalls_moved l (Unlock a) key k = refl
+befalls_moved l UnlockFair key k = refl
+befalls_moved l Bump key k = refl
+befalls_moved l (HandOff b hand_off.Enter) key k = refl
+befalls_moved l (HandOff b a) key k = refl
+
+befalls_handed : (l : ℕ) (at : MutexPlace) (t : ℕ) (alone : Bool) (k : ℕ)
+    → line_owed (next_place (Mutex l at) (HandedBy t alone)) k ≡ line_owed (Mutex l at) k
+befalls_handed l (Lock e r (lock.Taken by)) t alone k = refl
+befalls_handed l (Lock e r lock.First) t alone k = refl
+befalls_handed l (Lock e r a) t alone k = refl
+befalls_handed l TryLock t alone k = refl
+befalls_handed l (Unlock unlock.Subtract) t alone k = refl
+befalls_handed l (Unlock a) t alone k = refl
+befalls_handed l UnlockFair t alone k = refl
+befalls_handed l Bump t alone k = refl
+befalls_handed l (HandOff b hand_off.Enter) t alone k = refl
+befalls_handed l (HandOff b a) t alone k = refl
+
+befalls_woken : (l : ℕ) (at : MutexPlace) (n : Note) (k : ℕ)
+    → line_owed (next_place (Mutex l at) (Woken n)) k ≡ line_owed (Mutex l at) k
+befalls_woken l (Lock e r lock.Asleep) note.Normal k = refl
+befalls_woken l (Lock e r lock.Asleep) note.HandOff k = refl
+befalls_woken l (Lock e r (lock.Taken by)) note.Normal k = refl
+befalls_woken l (Lock e r (lock.Taken by)) note.HandOff k = refl
+befalls_woken l (Lock e r (lock.Handed by)) note.Normal k = refl
+befalls_woken l (Lock e r (lock.Handed by)) note.HandOff k = refl
+befalls_woken l (Lock e r lock.First) n k = refl
+befalls_woken l (Lock e r a) n k = refl
+befalls_woken l TryLock n k = refl
+befalls_woken l (Unlock unlock.Subtract) n k = refl
+befalls_woken l (Unlock a) n k = refl
+befalls_woken l UnlockFair n k = refl
+befalls_woken l Bump n k = refl
+befalls_woken l (HandOff b hand_off.Enter) n k = refl
+befalls_woken l (HandOff b a) n k = refl
+
+-- whatever befalls a thread, it owes what it owed
+pub mutex_befallen : (l : ℕ) (at : MutexPlace) (r : Reply) → Befalls r → (k : ℕ)
+    → line_owed (next_place (Mutex l at) r) k ≡ line_owed (Mutex l at) k
+mutex_befallen l at (TakenBy t) b k = befalls_taken l at t k
+mutex_befallen l at (MovedTo key) b k = befalls_moved l at key k
+mutex_befallen l at (HandedBy t alone) b k = befalls_handed l at t alone k
+mutex_befallen l at (Woken n) b k = befalls_woken l at n k
+mutex_befallen l at r b k = absurd b
+
+-- ---------------------------------------------------------------- the thread of the step
+
+-- a row that owes just while it is inside
+abbrev Within : Place → Type 0
+Within q = (m : Line) → (profile q).owes ≡ Some m → (profile q).doing.inside ≡ Some m
+
+locked_within : (k : ℕ) (e : Entry) (r : Bool) (n : Next LockAt) → Within (mutex_goes k (in_lock e r n))
+locked_within k e r (next.At at) m h = lock_owes (is_timed e) r at ∙ h
+locked_within k e r (next.End a) m h = absurd cc
+
+-- a call that ends owes nothing
+ended : (word k : ℕ) (at : MutexPlace) (a : _)
+    → RowOwesNext locks.Mutex k word (mutex_row at) (outcome.TheVariants.End a) (profile Idle)
+ended word k at a = record { since = λ m h. absurd cc; sees = λ m s o. absurd cc }
+
+-- who goes on inside the section, or on its way to it, owes on the main line
+main_is : (m : Line) (word k : ℕ) (at : MutexPlace) → RowSees locks.Mutex k word (mutex_row at) m → m ≡ Main
+main_is Main word k at s = refl
+main_is Second word k at s = absurd (let f : false ≡ true = s.2 in cc)
+
+within : (word k : ℕ) (at : MutexPlace) (o : Outcome) (q : Place) → (profile q).owes ≡ Some Main
+    → (profile q).doing.inside ≡ Some Main → RowOwesNext locks.Mutex k word (mutex_row at) o (profile q)
+within word k at o q owes inside = record {
+  since = λ m h. inl (inside ∙ sym owes ∙ h);
+  sees = λ m s step. owes ∙ ap Some (sym (main_is m word k at s));
+}
+
+-- who releases and sees the parked bit is to wake
+seen_parked : (word k : ℕ) (at : MutexPlace) (q : Place) → LetsIn locks.Mutex k (mutex_row at) → is_parked word ≡ true
+    → line_let_in locks.Mutex (Some ((mutex_row at).purpose k)) ≡ Main → (profile q).owes ≡ Some Main
+    → RowOwesNext locks.Mutex k word (mutex_row at) outcome.TheVariants.Step (profile q)
+seen_parked word k at q lets parked main owes = record {
+  since = λ m h. inr (let e : Main ≡ m = some_same Main m (sym owes ∙ h) in ((lets, main ∙ e, subst (λ x. tells_of locks.Mutex x word ≡ true) e parked), refl));
+  sees = λ m s step. owes ∙ ap Some (sym (main_is m word k at s));
+}
+  where
+    some_same : (m n : Line) → Some m ≡ Some n → m ≡ n
+    some_same m n e = cc
+
+-- who enters lets nobody in
+entering : (word k : ℕ) (e : Entry) (r : Bool) (a : LockAt) (o : Outcome) (q : Place) → Within q
+    → RowOwesNext locks.Mutex k word (mutex_row (Lock e r a)) o (profile q)
+entering word k e r a o q within = record {
+  since = λ m h. inl (within m h);
+  sees = λ m s step. absurd (shut k e r a s.0);
+}
+
+-- where the reply to its act leads it
+abbrev pub OwesNext : ℕ → ℕ → MutexPlace → Next MutexPlace → Type 0
+OwesNext k word at n = RowOwesNext locks.Mutex k word (mutex_row at) (outcome_of (mutex_does k n)) (profile (mutex_goes k n))
+
+module _ (w : State) (t : ℕ) (steady : IsSteady w) (k : ℕ) where
+  -- the word of an owner that isn't 1 says that somebody may wait
+  beside_owner : (at : MutexPlace) → place_at w t ≡ Mutex k at → owner_at w k ≡ Some t → (word_at w k == 1) ≡ false
+      → is_parked (word_at w k) ≡ true
+  beside_owner at is own ne = by_code (subst (λ o. IsMutexWord (word_at w k) o) own (coded_for w steady t k at is))
+    where
+      by_code : IsMutexWord (word_at w k) (Some t) → is_parked (word_at w k) ≡ true
+      by_code (inl e) = let f : (1 == 1) ≡ false = rw e at ne in absurd cc
+      by_code (inr e) = rw e refl
+
+  from_unlock : (a : UnlockAt)
+      → OwesNext k (word_at w k) (Unlock a) (mutex_next (Unlock a) (reply_to w t (mutex_act k (Unlock a))))
+  from_unlock unlock.Subtract = either (is_parked (word_at w k)) refl
+    where
+      either : (b : Bool) → is_parked (word_at w k) ≡ b
+          → OwesNext k (word_at w k) (Unlock unlock.Subtract)
+          (in_unlock (if b then next.At unlock.Enter else next.End answer.TheVariants.Ok))
+      either true e = seen_parked (word_at w k) k (Unlock unlock.Subtract) (Mutex k (Unlock unlock.Enter)) (inl refl) e refl refl
+      either false e = ended (word_at w k) k (Unlock unlock.Subtract) answer.TheVariants.Ok
+  from_unlock unlock.Enter = within (word_at w k) k (Unlock unlock.Enter) _ (Mutex k (Unlock unlock.Take)) refl refl
+  from_unlock unlock.Take = either (length (drop 1 (queue_at w (2 * k))) == 0)
+    where
+      any : Bool
+      any = is_there (first_of (queue_at w (2 * k)))
+
+      either : (b : Bool)
+          → OwesNext k (word_at w k) (Unlock unlock.Take)
+          (in_unlock (if b then next.At (unlock.Clear (is_there (first_of (queue_at w (2 * k))))) else next.At (unlock.Leave (is_there (first_of (queue_at w (2 * k)))))))
+      either true = within (word_at w k) k (Unlock unlock.Take) _ (Mutex k (Unlock (unlock.Clear any))) refl refl
+      either false = within (word_at w k) k (Unlock unlock.Take) _ (Mutex k (Unlock (unlock.Leave any))) refl refl
+  from_unlock (unlock.Clear any) = within (word_at w k) k (Unlock (unlock.Clear any)) _ (Mutex k (Unlock (unlock.Leave any))) refl refl
+  from_unlock (unlock.Leave any) = ended (word_at w k) k (Unlock (unlock.Leave any)) answer.TheVariants.Ok
+
+  from_hand_off : (b : Bool) (a : HandOffAt)
+      → OwesNext k (word_at w k) (HandOff b a) (mutex_next (HandOff b a) (reply_to w t (mutex_act k (HandOff b a))))
+  from_hand_off b hand_off.Enter = within (word_at w k) k (HandOff b hand_off.Enter) _ (Mutex k (HandOff b hand_off.Take)) refl refl
+  from_hand_off b hand_off.Take = within (word_at w k) k (HandOff b hand_off.Take) _ (Mutex k (HandOff b (hand_off.Store _ _))) refl refl
+  from_hand_off b (hand_off.Store false n) = within (word_at w k) k (HandOff b (hand_off.Store false n)) _ (Mutex k (HandOff b (hand_off.Leave false))) refl refl
+  from_hand_off b (hand_off.Store true n) = within (word_at w k) k (HandOff b (hand_off.Store true n)) _ (Mutex k (HandOff b (hand_off.Leave true))) refl refl
+  from_hand_off true (hand_off.Leave any) = record {
+    since = λ m h. absurd cc;
+    sees = λ m s step. absurd (elim s.0 [ inl releases ↦ let f : true ≡ false = releases.1 in cc | inr shared ↦ let f = shared.0 in cc ]);
+  }
+  from_hand_off false (hand_off.Leave any) = ended (word_at w k) k (HandOff false (hand_off.Leave any)) answer.TheVariants.Ok
+
+  pub mutex_owes_next : (at : MutexPlace) → place_at w t ≡ Mutex k at
+      → OwesNext k (word_at w k) at (mutex_next at (reply_to w t (mutex_act k at)))
+  mutex_owes_next (Lock e r a) is = entering (word_at w k) k e r a _ (mutex_goes k (in_lock e _ (next_lock e a (reply_to w t (lock_act k a))))) (locked_within k e _ (next_lock e a (reply_to w t (lock_act k a))))
+  mutex_owes_next TryLock is = either (is_locked (word_at w k))
+    where
+      either : (b : Bool)
+          → OwesNext k (word_at w k) TryLock (if b then next.End answer.TheVariants.No else next.End answer.TheVariants.Yes)
+      either true = ended (word_at w k) k TryLock answer.TheVariants.No
+      either false = ended (word_at w k) k TryLock answer.TheVariants.Yes
+  mutex_owes_next (Unlock a) is = from_unlock a
+  mutex_owes_next UnlockFair is = either (word_at w k == 1) refl
+    where
+      either : (b : Bool) → (word_at w k == 1) ≡ b → OwesNext k (word_at w k) UnlockFair (looked false (not b))
+      either true e = ended (word_at w k) k UnlockFair answer.TheVariants.Ok
+      either false e = seen_parked (word_at w k) k UnlockFair (Mutex k (HandOff false hand_off.Enter)) (inl refl) (beside_owner UnlockFair is (owns w steady t k UnlockFair is refl) e) refl refl
+  mutex_owes_next Bump is = either (is_parked (word_at w k)) refl
+    where
+      either : (b : Bool) → is_parked (word_at w k) ≡ b → OwesNext k (word_at w k) Bump (looked true b)
+      either true e = seen_parked (word_at w k) k Bump (Mutex k (HandOff true hand_off.Enter)) (inl (refl, refl)) e refl refl
+      either false e = ended (word_at w k) k Bump answer.TheVariants.Ok
+  mutex_owes_next (HandOff b a) is = from_hand_off b a
+
+-- ---------------------------------------------------------------- the other turns
+
+-- a call begins before it owes anything
+pub mutex_first_owes : (fair : Bool) (c : MutexCall) → (mutex_row (mutex_first fair c)).owes ≡ None
+mutex_first_owes fair mutex_call.TheVariants.Lock = refl
+mutex_first_owes fair mutex_call.TheVariants.LockTimed = refl
+mutex_first_owes fair mutex_call.TheVariants.TryLock = refl
+mutex_first_owes true mutex_call.TheVariants.Unlock = refl
+mutex_first_owes false mutex_call.TheVariants.Unlock = refl
+mutex_first_owes fair mutex_call.TheVariants.UnlockFair = refl
+mutex_first_owes fair mutex_call.TheVariants.Bump = refl
+
+-- whose time is up is then awake, inside the section of the line where it slept
+pub mutex_late : (k : ℕ) (at : MutexPlace) (m : Line) → (mutex_row at).late_line ≡ Some m
+    → IsLateNext (next_place (Mutex k at) Late) m
+mutex_late k (Lock entries.LockTimed r lock.Asleep) m h = record { inside = h; owes = h; awake = λ e. cc }
+mutex_late k (Lock entries.Lock r lock.Asleep) m h = absurd cc
+mutex_late k (Lock entries.Bump r lock.Asleep) m h = absurd cc
+mutex_late k (Lock e r lock.First) m h = absurd cc
+mutex_late k (Lock e r a) m h = absurd cc
+mutex_late k at m h = absurd cc

@@ -1,0 +1,447 @@
+-- A thread in a call of a `Once` goes on: every lock is a site again.
+use Rattle.std.proofs.Common.{inl, rules, ℕ, Bool, true, false, Option, Some, None, ◌==◌, ◌≡◌, ◌+◌, ◌*◌, ◌<◌, List, [], ◌∷◌, length, is_none, refl, sym, ◌∙◌, ap, subst, arith}
+use Rattle.std.proofs.lemmas.Bool.{eqb-true}
+use Rattle.lot_base.specs.declared.keys.Keys.{Keys}
+use Rattle.lot_base.specs.declared.keys.Keys.TheVariants.{One}
+use Rattle.lot_base.specs.declared.notes.Note.TheVariants.{Normal}
+use Rattle.lot_base.specs.declared.ops.Op.{Op}
+use Rattle.lot_base.specs.Words.{apply}
+use Rattle.lot_base.specs.declared.wants.Want.{Want}
+use Rattle.lot_calls.specs.declared.calls.OnceCall.{OnceCall}
+use Rattle.lot_calls.specs.declared.calls.OnceCall.TheVariants.{CallOnce, Wait, WaitTimed}
+use Rattle.lot_acts.specs.declared.acts.Check.{Check}
+use Rattle.lot_acts.specs.declared.acts.Act.{Act}
+use Rattle.lot_acts.specs.declared.acts.Act.TheVariants as act
+use Rattle.lot_acts.specs.declared.acts.Next.{Next}
+use Rattle.lot_acts.specs.declared.acts.Next.TheVariants as next
+use Rattle.lot_acts.specs.declared.acts.Reply.{Reply}
+use Rattle.lot_acts.specs.declared.acts.Reply.TheVariants.{Done, Value, Parked, Took, Removed, TakenBy, Late, Woken, Closed}
+use Rattle.lot_acts.specs.declared.acts.Wakes.{Wakes}
+use Rattle.lot_acts.specs.declared.acts.Whom.TheVariants as whom
+use Rattle.lot_acts.specs.Acts.{holds, wakes_taken}
+use Rattle.lot_acts.specs.Moves.{StaysPut, GoesIn, GoesOut, LeavesLine, AreLeaving, Waits, row_of}
+use Rattle.lot_acts.specs.Calls.{IsNotLate}
+use Rattle.lot_acts.specs.Profiles.{Profile, in_hand}
+use Rattle.lot_acts.specs.Owners.{lock_seen}
+use Rattle.abstract_locks.specs.Onces.{Rest, TakeAll}
+use Rattle.abstract_locks.specs.Locks.{Rules, OfOnce}
+use Rattle.abstract_locks.specs.Locks as locks
+use Rattle.abstract_locks.specs.Sites.{Site, Deed, Line, Main, Second, Case, In, has_readers}
+use Rattle.abstract_locks.specs.Codes.{aside_in, code, is_marked, parked_in}
+use Rattle.abstract_locks.specs.Deeds.{case_of}
+use Rattle.abstract_locks.specs.Deeds as laws
+use Rattle.lot_once.specs.declared.give_up.GiveUpAt.TheVariants as give_up
+use Rattle.lot_once.specs.declared.look.LookAt.TheVariants as look
+use Rattle.lot_once.specs.declared.look.Course.{Course}
+use Rattle.lot_once.specs.declared.look.Course.TheVariants.{Ends, Runs, Marks, Parks}
+use Rattle.lot_once.specs.declared.run.RunAt.TheVariants as run
+use Rattle.lot_once.specs.declared.places.OncePlace.{OncePlace}
+use Rattle.lot_once.specs.declared.places.OncePlace.TheVariants.{Look, Run, GiveUp}
+use Rattle.lot_once.specs.OnceCalls.{CallFollowsBy, next_row}
+use Rattle.lot_once.specs.OnceDeeds.{Follows, IsAt, OnceSectionsFollow, MayHear, closes, doing_next, exchanged_deeds, looked_deeds, once_deeds, once_doing}
+use Rattle.lot_once.specs.OnceMoves.{OnceMoves, RestsBehind, TakesAll, once_hears, once_move}
+use Rattle.lot_once.specs.OnceProfiles.{once_profile}
+use Rattle.lot_once.specs.OnceSteps.{course_act, course_of, once_act, once_first, once_next, once_owners}
+use Rattle.lot_once.proofs.OnceActs.{once_acts_move, once_late_move, once_sleepers_move}
+use Rattle.lot_once.proofs.OnceFit.{once_owners_follow, once_steps_code, once_steps_follow}
+use Rattle.lot_once.proofs.OnceTells.{once_sections_tell, once_steps_tell}
+use Rattle.lot_once.proofs.OnceWords as words
+use Rattle.lot_semaphore.specs.declared.places.SemaphorePlace.{SemaphorePlace}
+use Rattle.lot_steps.specs.declared.places.Place.{Place}
+use Rattle.lot_steps.specs.declared.places.Place.TheVariants.{Idle, Mutex, RwLock, Once, Condvar, Semaphore}
+use Rattle.lot_mutex.specs.declared.places.MutexPlace.{MutexPlace}
+use Rattle.lot_rwlock.specs.declared.places.Admission.{Admission}
+use Rattle.lot_rwlock_fair.specs.declared.places.RwLockCallPlace.{RwLockCallPlace}
+use Rattle.lot_steps.specs.Steps.{calls, next_place, once_goes, profile}
+use Rattle.lot_machine.specs.Machine.{State, are_free, can_do, is_free, state_after_late_under, kind_at, owners_at, place_at, put, queue_at, reply_to, section_at, shares_at, state_after_act, word_at}
+use Rattle.lot_machine.specs.Fits.{IsShaped}
+use Rattle.lot_machine.proofs.Shape.{main_key_there}
+use Rattle.lot_laws.specs.Refinement.{taken_at}
+use Rattle.lot_laws.specs.MutexDeeds.{acts}
+use Rattle.lot_laws.specs.Stations.{doing_on, station}
+use Rattle.lot_laws.specs.SitesOf.{FitsItsLock, Goes, IsSteady, TakesOne, is_mutex, key_of, rules_in}
+use Rattle.lot_laws.proofs.sites.ActsKept.{lock_by, place_goes}
+use Rattle.lot_laws.proofs.sites.OneStep.{steps_by}
+use Rattle.lot_condvar.specs.declared.places.CondvarPlace.{CondvarPlace}
+use Rattle.lot_laws.proofs.machine.Parts.{not_beside, IsOf, doing_here, free_of, next_of, parts_at}
+use Rattle.lot_laws.proofs.sites.MovesKept.{IsFollowed, SleepsIfCalls, IsSleeper, entered_hears, goes_in, goes_out, leaves_line, left_hears, removed_hears, wakes_one}
+use Rattle.lot_laws.proofs.once.MovesKept.{all_hears, closes_so, rests_or_turns, stays_unshared, takes_all, told_so}
+use Rattle.lot_laws.proofs.calls.OtherCalls.{IsCalm, WakesOwn}
+use Rattle.lot_laws.proofs.rwlock.Kept.{left_calm, left_wakes, word_calm, calm_case, AreCalm}
+use Rattle.lot_laws.proofs.sites.StandsMoved.{mutex_rules}
+
+-- ---------------------------------------------------------------- rows
+
+-- where a place leads, its row does
+goes_row : (l : ℕ) (n : Next OncePlace) → profile (once_goes l n) ≡ row_of (next_row n)
+goes_row l (next.At p) = refl
+goes_row l (next.End answer) = refl
+
+doing_is : (n : Next OncePlace) → doing_next n ≡ (row_of (next_row n)).doing
+doing_is (next.At p) = refl
+doing_is (next.End answer) = refl
+
+-- ---------------------------------------------------------------- its word
+
+-- it has no second line
+module _ (r : Rules) (s : Site) (t : ℕ) where
+  abbrev StaysAside : List Deed → Type 0
+  StaysAside ds = (laws.after_all r ds s t).aside_parked ≡ s.aside_parked
+
+  looked_aside : (k : Course) → StaysAside (looked_deeds k)
+  looked_aside (Ends answer) = refl
+  looked_aside Runs = refl
+  looked_aside Marks = refl
+  looked_aside Parks = refl
+
+  exchanged_aside : (c : OnceCall) (won : Bool) (k : Course) → StaysAside (exchanged_deeds c won k)
+  exchanged_aside c true Runs = refl
+  exchanged_aside c true Marks = refl
+  exchanged_aside c true (Ends answer) = refl
+  exchanged_aside c true Parks = refl
+  exchanged_aside c false k = looked_aside k
+
+  closed_aside : (succeeded marked : Bool) → StaysAside (closes succeeded marked)
+  closed_aside succeeded true = refl
+  closed_aside succeeded false = refl
+
+  stays_aside : (p : OncePlace) (v : ℕ) → StaysAside (once_deeds p (Value v))
+  stays_aside (Look c again look.Load) v = looked_aside (course_of c v)
+  stays_aside (Look c again (look.Decide expected)) v = exchanged_aside c (v == expected) (course_of c v)
+  stays_aside (Look c again look.Check) v = refl
+  stays_aside (Look c again (look.Leave parked)) v = refl
+  stays_aside (Look c again look.Asleep) v = refl
+  stays_aside (Look c again (look.Taken by)) v = refl
+  stays_aside (Run forced (run.Closure poisoned)) v = refl
+  stays_aside (Run forced (run.Close succeeded)) v = closed_aside succeeded (is_marked v)
+  stays_aside (Run forced (run.Enter succeeded)) v = refl
+  stays_aside (Run forced (run.Take succeeded)) v = refl
+  stays_aside (Run forced (run.Leave succeeded any)) v = refl
+  stays_aside (GiveUp again give_up.Remove) v = refl
+  stays_aside (GiveUp again give_up.Clear) v = refl
+  stays_aside (GiveUp again give_up.Leave) v = refl
+
+-- ---------------------------------------------------------------- its acts
+
+-- it goes on by these; it sleeps until it is woken, and runs its closure until that has answered
+abbrev IsOnceAct : Act → Type 0
+IsOnceAct (act.Word k op) = Unit {0}
+IsOnceAct (act.Enter keys) = Unit {0}
+IsOnceAct (act.Park k key check want) = Unit {0}
+IsOnceAct (act.Take key whom.All) = Unit {0}
+IsOnceAct (act.Remove key) = Unit {0}
+IsOnceAct (act.Leave keys wakes) = Unit {0}
+IsOnceAct act.Sleep = Unit {0}
+IsOnceAct (act.Closure state) = Unit {0}
+IsOnceAct y = ⊥
+
+course_acts : (l v : ℕ) (k : Course) → IsOnceAct (course_act l v k)
+course_acts l v (Ends answer) = tt
+course_acts l v Runs = tt
+course_acts l v Marks = tt
+course_acts l v Parks = tt
+
+once_acts : (l : ℕ) (p : OncePlace) → IsOnceAct (once_act l p)
+once_acts l (Look c again look.Load) = tt
+once_acts l (Look c again (look.Decide seen)) = course_acts l seen (course_of c seen)
+once_acts l (Look c again look.Check) = tt
+once_acts l (Look c again (look.Leave parked)) = tt
+once_acts l (Look c again look.Asleep) = tt
+once_acts l (Look c again (look.Taken by)) = tt
+once_acts l (Run forced (run.Closure poisoned)) = tt
+once_acts l (Run forced (run.Close succeeded)) = tt
+once_acts l (Run forced (run.Enter succeeded)) = tt
+once_acts l (Run forced (run.Take succeeded)) = tt
+once_acts l (Run forced (run.Leave succeeded any)) = tt
+once_acts l (GiveUp again give_up.Remove) = tt
+once_acts l (GiveUp again give_up.Clear) = tt
+once_acts l (GiveUp again give_up.Leave) = tt
+
+once_sections_follow : OnceSectionsFollow
+once_sections_follow r s t (Look c again (look.Decide seen)) Done a h = search rules
+once_sections_follow r s t (Look (CallOnce forced) again look.Check) (Parked true) a h = search rules
+once_sections_follow r s t (Look (Wait forced) again look.Check) (Parked true) a h = search rules
+once_sections_follow r s t (Look WaitTimed again look.Check) (Parked true) a h = search rules
+once_sections_follow r s t (Look c again look.Check) (Parked false) a h = search rules
+once_sections_follow r s t (Look c again (look.Leave parked)) Done a h = search rules
+once_sections_follow r s t (Run forced (run.Enter succeeded)) Done a h = search rules
+once_sections_follow r s t (Run forced (run.Take succeeded)) (Took any none_left) a h = search rules
+once_sections_follow r s t (Run forced (run.Leave succeeded any)) Done a h = search rules
+once_sections_follow r s t (Look WaitTimed again look.Asleep) Late a h = search rules
+once_sections_follow r s t (Look (CallOnce forced) again look.Asleep) Late a h = absurd (let f : false ≡ true = h.0 in cc)
+once_sections_follow r s t (Look (Wait forced) again look.Asleep) Late a h = absurd (let f : false ≡ true = h.0 in cc)
+once_sections_follow r s t (GiveUp again give_up.Remove) (Removed true) a h = search rules
+once_sections_follow r s t (GiveUp again give_up.Remove) (Removed false) a h = search rules
+once_sections_follow r s t (GiveUp again give_up.Leave) Done a h = search rules
+once_sections_follow r s t p told a h = absurd h
+
+nobody_is : (o : Option ℕ) → is_none o ≡ true → o ≡ None
+nobody_is None h = refl
+nobody_is (Some u) h = absurd cc
+
+-- ---------------------------------------------------------------- one thread
+
+module _ (w : State) (t l : ℕ) (at : OncePlace) (steady : IsSteady w) (shape : IsShaped w) (there : t < length w.places)
+    (lt : l < length w.locks) (is : place_at w t ≡ Once l at) where
+  pub sort_is : (rules_in w l).sort ≡ locks.Once
+  sort_is = subst (FitsItsLock w) is (steady.stands.calls t)
+
+  own : IsOf l (place_at w t)
+  own = rw is refl
+
+  same_row : profile (place_at w t) ≡ once_profile at
+  same_row = ap profile is
+
+  abbrev here : Site
+  here = lock_by w l (rules_in w l)
+
+  doing_now : here.doing t ≡ once_doing at
+  doing_now = doing_here l (place_at w t) own ∙ ap (λ (y : Profile). y.doing) same_row
+
+  pub at_now : IsAt (rules_in w l) here t at
+  at_now = record { sort = sort_is; site = steady.sites.site l; doing = doing_now }
+
+  unshared : has_readers (rules_in w l).sort ≡ false
+  unshared = ap has_readers sort_is
+
+  pub fits_next : (k : ℕ) (n : Next OncePlace) → (rules_in w k).sort ≡ locks.Once → FitsItsLock w (once_goes k n)
+  fits_next k (next.At p) h = h
+  fits_next k (next.End answer) h = tt
+
+  -- what its laws conclude
+  abbrev Followed : Reply → Type 0
+  Followed told = IsFollowed w t l steady there own (rules_in w l) refl (once_move at) same_row None told (next_place (place_at w t) told)
+
+  followed_by : (told : Reply) → Follows (rules_in w l) here t at told → Followed told
+  followed_by told f = record {
+    of = next_of l (place_at w t) told own;
+    fits = subst (λ q. FitsItsLock w (next_place q told)) (sym is) (fits_next l (once_next at told) sort_is);
+    row = ap (λ q. profile (next_place q told)) is ∙ goes_row l (once_next at told);
+    needed = f.needed;
+    doing = f.doing ∙ doing_is (once_next at told);
+  }
+
+  followed : (told : Reply) → MayHear (rules_in w l) here t at told → Followed told
+  followed told hears = followed_by told (once_sections_follow (rules_in w l) here t at told at_now hears)
+
+  -- ---------------------------------------------------------------- who else calls the `Once`
+
+  many : TakesOne w l → ⊥
+  many one = let both : locks.Mutex ≡ locks.Once = sym one ∙ sort_is in cc
+
+  asleep : (u : ℕ) → SleepsIfCalls w t l steady there own (rules_in w l) refl (once_move at) same_row u
+  asleep u = record { apart = not_beside w (place_at w u) l (steady.stands.calls u) many; sleeper = λ h. by_place (place_at w u) refl h }
+    where
+      of_condvar : (k : ℕ) (c : CondvarPlace) → place_at w u ≡ Condvar k c → k ≡ l → ⊥
+      of_condvar k c e same_lock =
+          let fits : FitsItsLock w (Condvar k c) = subst (FitsItsLock w) e (steady.stands.calls u) in
+          let both : locks.Condvar ≡ locks.Once = sym fits.sort ∙ ap (λ j. (rules_in w j).sort) same_lock ∙ sort_is in cc
+
+      of_mutex : (k : ℕ) (m : MutexPlace) → place_at w u ≡ Mutex k m → k ≡ l → ⊥
+      of_mutex k m e same_lock =
+          let fits : is_mutex (kind_at w k) ≡ true = subst (FitsItsLock w) e (steady.stands.calls u) in
+          let one : (rules_in w k).sort ≡ locks.Mutex = ap (λ (r : Rules). r.sort) (mutex_rules (kind_at w k) fits) in
+          let both : locks.Mutex ≡ locks.Once = sym one ∙ ap (λ j. (rules_in w j).sort) same_lock ∙ sort_is in cc
+
+      of_rwlock : (k : ℕ) (a : Admission) (c : RwLockCallPlace) → place_at w u ≡ RwLock k a c → k ≡ l → ⊥
+      of_rwlock k a c e same_lock =
+          let fits : FitsItsLock w (RwLock k a c) = subst (FitsItsLock w) e (steady.stands.calls u) in
+          let both : true ≡ false = sym fits.0.0 ∙ ap (λ j. has_readers (rules_in w j).sort) same_lock ∙ unshared in cc
+
+      of_semaphore : (k : ℕ) (p : SemaphorePlace) → place_at w u ≡ Semaphore k p → k ≡ l → ⊥
+      of_semaphore k p e same_lock =
+          let fits : FitsItsLock w (Semaphore k p) = subst (FitsItsLock w) e (steady.stands.calls u) in
+          let both : locks.Semaphore ≡ locks.Once = sym fits.0 ∙ ap (λ j. (rules_in w j).sort) same_lock ∙ sort_is in cc
+
+      by_place : (q : Place) → place_at w u ≡ q → calls q l ≡ true
+          → IsSleeper w t l steady there own (rules_in w l) refl (once_move at) same_row u
+      by_place Idle e g = absurd cc
+      by_place (Condvar k c) e g = absurd (of_condvar k c e (eqb-true k l g))
+      by_place (Semaphore k p) e g = absurd (of_semaphore k p e (eqb-true k l g))
+      by_place (Mutex k m) e g = absurd (of_mutex k m e (eqb-true k l g))
+      by_place (RwLock k a c) e g = absurd (of_rwlock k a c e (eqb-true k l g))
+      by_place (Once k p) e g = record {
+        single = rw e tt;
+        move = once_move p;
+        row = ap profile e;
+        waits = record { aside = z.aside; stands = z.stands; held = λ v h. (z.held v false h).1 };
+        taken = ap (λ y. profile (next_place y (TakenBy t))) e ∙ goes_row k (once_next p (TakenBy t));
+        woken = ap (λ y. profile (next_place y (Woken Normal))) e ∙ goes_row k (once_next p (Woken Normal));
+        taken_fits = subst (λ y. FitsItsLock w (next_place y (TakenBy t))) (sym e) (fits_next k (once_next p (TakenBy t)) fits_u);
+        woken_fits = subst (λ y. FitsItsLock w (next_place y (Woken Normal))) (sym e) (fits_next k (once_next p (Woken Normal)) fits_u);
+      }
+        where
+          z : Waits (once_move p)
+          z = once_sleepers_move p
+
+          fits_u : FitsItsLock w (Once k p)
+          fits_u = subst (FitsItsLock w) e (steady.stands.calls u)
+
+  -- ---------------------------------------------------------------- each act
+
+  -- its deeds as it goes on from a place, what they make of its call, and of those of the others
+  pub record GoesFrom (q : Place) (y : Act) : Type 0 where
+    pub goes : Goes w (put (state_after_act w t (Once l at) y) t (next_place q (reply_to w t y))) l
+        (acts t (once_deeds at (reply_to w t y)))
+    pub tells : CallFollowsBy (rules_in w l) here t l at (reply_to w t y)
+    pub others : WakesOwn ((once_profile at).carries) y (case_of ((once_profile at).carries) (once_deeds at (reply_to w t y)))
+
+  tells_by : (told : Reply) → IsNotLate told → MayHear (rules_in w l) here t at told → CallFollowsBy (rules_in w l) here t l at told
+  tells_by told now hears = once_sections_tell (rules_in w l) here t l at told at_now hears now
+
+  calm_by : (ds : List Deed) {x : List Deed} → x ≡ ds → AreCalm ds → IsCalm (case_of ((once_profile at).carries) x)
+  calm_by ds e h = subst (λ (x : List Deed). IsCalm (case_of ((once_profile at).carries) x)) (sym e) (calm_case ((once_profile at).carries) ds h)
+
+  section_there : (m : Line) → key_of l m < length w.sections
+  section_there Main = main_key_there w l shape lt
+  section_there Second = let e : length w.sections ≡ 2 * length w.locks = shape.sections in omega arith
+
+  line_there : 2 * l < length w.queues
+  line_there = let e : length w.queues ≡ length w.sections = shape.queues in let h : 2 * l < length w.sections = section_there Main in omega arith
+
+  word_is : word_at w l ≡ code (rules_in w l) here
+  word_is = steady.sites.word l
+
+  -- one operation on the word
+  on_word : (op : Op) → once_act l at ≡ act.Word l op → StaysPut (once_move at) → GoesFrom (place_at w t) (act.Word l op)
+  on_word op e g = record {
+    goes = stays_unshared w t l steady there own (rules_in w l) refl (once_move at) same_row unshared (Once l at) (next_place (place_at w t) (Value (word_at w l))) op g on.0 lt on.1 on.2 parked aside;
+    tells = subst (λ v. CallFollowsBy (rules_in w l) here t l at (Value v)) (sym word_is) (once_steps_tell (rules_in w l) here t l at op at_now e);
+    others = calm_by (once_deeds at (Value (word_at w l))) refl (word_calm (once_deeds at (Value (word_at w l))) (g.deeds (word_at w l)));
+  }
+    where
+      at_word : ℕ → Type 0
+      at_word v = Followed (Value v)
+          × (lock_seen (shares_at w l) (once_owners at t v (owners_at w l)) (queue_at w (2 * l)) (queue_at w (2 * l + 1)) (λ u. taken_at (place_at w u) l) ≡ (laws.after_all (rules_in w l) (once_deeds at (Value v)) here t).lock)
+          × (apply op v ≡ code (rules_in w l) (laws.after_all (rules_in w l) (once_deeds at (Value v)) here t))
+
+      on : at_word (word_at w l)
+      on = subst at_word (sym word_is) (
+        followed_by (Value (code (rules_in w l) here)) (once_steps_follow (rules_in w l) here t l at op at_now e),
+        once_owners_follow (rules_in w l) here t l at op (shares_at w l) (owners_at w l) (queue_at w (2 * l)) (queue_at w (2 * l + 1)) (λ u. taken_at (place_at w u) l) at_now e refl,
+        once_steps_code (rules_in w l) here t l at op at_now e,
+      )
+
+      behind : Site
+      behind = laws.after_all (rules_in w l) (once_deeds at (Value (word_at w l))) here t
+
+      parked : parked_in (rules_in w l).sort (apply op (word_at w l)) ≡ behind.parked
+      parked = ap (λ x. parked_in x (apply op (word_at w l))) sort_is ∙ ap is_marked (on.2 ∙ words.coded (rules_in w l) behind sort_is) ∙ words.marks_tell behind.parked behind.lock.phase
+
+      aside : aside_in (rules_in w l).sort (apply op (word_at w l)) ≡ behind.aside_parked
+      aside = ap (λ x. aside_in x (apply op (word_at w l))) sort_is ∙ sym (ap (λ x. aside_in x (word_at w l)) sort_is) ∙ sym (stays_aside (rules_in w l) here t at (word_at w l))
+
+  into : (m : Line) (keys : Keys) → keys ≡ One (key_of l m) → are_free w keys ≡ true
+      → GoesIn (once_move at) (once_hears at) m Done → GoesFrom (place_at w t) (act.Enter keys)
+  into m keys e free g = subst (λ k. GoesFrom (place_at w t) (act.Enter k)) (sym e) (record {
+    goes = goes_in w t l steady there own (rules_in w l) refl (once_move at) same_row (once_hears at) m Done (next_place (place_at w t) Done) (section_there m) is_free_now g (λ h. followed Done h);
+    tells = tells_by Done tt (entered_hears w t l steady there own (rules_in w l) refl (once_move at) same_row (once_hears at) m Done is_free_now g);
+    others = calm_by (In m ∷ []) g.deeds tt;
+  })
+    where
+      is_free_now : section_at w (key_of l m) ≡ None
+      is_free_now = nobody_is (section_at w (key_of l m)) (subst (λ k. are_free w k ≡ true) e free)
+
+  out_of : (m : Line) (keys : Keys) (wakes : Wakes) → keys ≡ One (key_of l m) → GoesOut (once_move at) (once_hears at) m wakes
+      → GoesFrom (place_at w t) (act.Leave keys wakes)
+  out_of m keys wakes e g = subst (λ k. GoesFrom (place_at w t) (act.Leave k wakes)) (sym e) (record {
+    goes = goes_out w t l steady there own (rules_in w l) refl (once_move at) same_row (once_hears at) m wakes (next_place (place_at w t) Done) (section_there m) g (λ h. followed Done h) (wakes_one w t l steady there own (rules_in w l) refl (once_move at) same_row asleep g.any g.carries);
+    tells = tells_by Done tt (left_hears w t l steady there own (rules_in w l) refl (once_move at) same_row (once_hears at) m wakes g);
+    others = subst (λ x. WakesOwn ((once_profile at).carries) (act.Leave (One (key_of l m)) x) (case_of ((once_profile at).carries) (once_deeds at Done))) (sym g.notes) (wakes_any ((once_profile at).carries) g.any g.carries (once_deeds at Done) g.deeds);
+  })
+    where
+      wakes_any : (hand : Option Bool) (any : Bool) → hand ≡ in_hand any false → (ds : List Deed) → AreLeaving ds
+          → WakesOwn hand (act.Leave (One (key_of l m)) (wakes_taken any Normal)) (case_of hand ds)
+      wakes_any hand false f ds h = subst (λ x. IsCalm (case_of x ds)) (sym f) (left_calm ds h)
+      wakes_any hand true f ds h = inl (f, (refl, ap (λ x. case_of x ds) f ∙ left_wakes ds h))
+
+  rested : (k key : ℕ) (check : Check) (want : Want) → k ≡ l → key ≡ key_of l Main
+      → RestsBehind (once_move at) (once_hears at) check want → GoesFrom (place_at w t) (act.Park k key check want)
+  rested k key check x ke e g = subst (λ j. GoesFrom (place_at w t) (act.Park j key check x)) (sym ke) (subst (λ j. GoesFrom (place_at w t) (act.Park l j check x)) (sym e) (record {
+    goes = rests_or_turns w t l steady there own (rules_in w l) refl (once_move at) same_row (once_hears at) check x line_there g (λ b h. followed (Parked b) h);
+    tells = tells_by (Parked (holds check (word_at w l))) tt (told_so w t l steady there own (rules_in w l) refl (once_move at) same_row (once_hears at) check x line_there g (λ b h. followed (Parked b) h) (holds check (word_at w l)) refl);
+    others = rests_calm (holds check (word_at w l));
+  }))
+    where
+      rests_calm : (b : Bool) → IsCalm (case_of ((once_profile at).carries) (once_deeds at (Parked b)))
+      rests_calm true = calm_by (Case (OfOnce (Rest x g.forced)) ∷ []) g.rests tt
+      rests_calm false = calm_by [] g.turns tt
+
+  took : (key : ℕ) → key ≡ key_of l Main → TakesAll (once_move at) (once_hears at)
+      → GoesFrom (place_at w t) (act.Take key whom.All)
+  took key e g = subst (λ j. GoesFrom (place_at w t) (act.Take j whom.All)) (sym e) (record {
+    goes = takes_all w t l steady there own (rules_in w l) refl (once_move at) same_row asleep (once_hears at) many line_there g follows;
+    tells = tells_by _ tt (all_hears w t l steady there own (rules_in w l) refl (once_move at) same_row asleep (once_hears at) many line_there g follows);
+    others = calm_by (Case (OfOnce TakeAll) ∷ []) (g.deeds _ _) tt;
+  })
+    where
+      follows : (any none_left : Bool) → MayHear (rules_in w l) here t at (Took any none_left) → Followed (Took any none_left)
+      follows any none_left h = followed (Took any none_left) h
+
+  left : (m : Line) (key : ℕ) → key ≡ key_of l m → LeavesLine (once_move at) (once_hears at) m
+      → GoesFrom (place_at w t) (act.Remove key)
+  left m key e g = subst (λ j. GoesFrom (place_at w t) (act.Remove j)) (sym e) (record {
+    goes = leaves_line w t l steady there own (rules_in w l) refl (once_move at) same_row asleep (once_hears at) m g (λ b h. followed (Removed b) h);
+    tells = tells_by (reply_to w t (act.Remove (key_of l m))) tt (removed_hears w t l steady there own (rules_in w l) refl (once_move at) same_row asleep (once_hears at) m g);
+    others = calm_by (Case locks.Late ∷ []) (g.deeds _) tt;
+  })
+
+  -- by any act but its closure, which another turn ends
+  by_act : (y : Act) → once_act l at ≡ y → IsOnceAct y → OnceMoves l (once_move at) (once_hears at) y → can_do w y ≡ true
+      → GoesFrom (place_at w t) y
+  by_act (act.Word k op) e h g can = subst (λ j. GoesFrom (place_at w t) (act.Word j op)) (sym g.0) (on_word op (e ∙ ap (λ j. act.Word j op) g.0) g.1)
+  by_act (act.Enter keys) e h g can = into g.0 keys g.1 can g.2
+  by_act (act.Park k key check want) e h g can = rested k key check want g.0 g.1 g.2
+  by_act (act.Take key whom.All) e h g can = took key g.0 g.1
+  by_act (act.Remove key) e h g can = left g.0 key g.1 g.2
+  by_act (act.Leave keys wakes) e h g can = out_of g.0 keys wakes g.1 g.2
+  by_act act.Sleep e h g can = absurd cc
+  by_act (act.Closure state) e h g can = absurd cc
+  by_act y e h g can = absurd h
+
+  -- its deeds are what the place and the reply say
+  pub goes_once : can_do w (once_act l at) ≡ true → GoesFrom (Once l at) (once_act l at)
+  goes_once can = subst (λ q. GoesFrom q (once_act l at)) is (by_act (once_act l at) refl (once_acts l at) (once_acts_move l at) can)
+
+  -- its time is up
+  pub once_goes_late : (m : Line) → (once_profile at).late_line ≡ Some m → is_free w (key_of l m) ≡ true
+      → Goes w (state_after_late_under w t (key_of l m)) l (acts t (once_deeds at Late))
+  once_goes_late m e free = goes_in w t l steady there own (rules_in w l) refl (once_move at) same_row (once_hears at) m Late (next_place (place_at w t) Late) (section_there m)
+      (nobody_is (section_at w (key_of l m)) free) (once_late_move at m e) (λ h. followed Late h)
+
+-- its closure has answered, and it goes on behind it
+module _ (w : State) (t l : ℕ) (forced poisoned succeeded : Bool) (steady : IsSteady w) (there : t < length w.places)
+    (is : place_at w t ≡ Once l (Run forced (run.Closure poisoned))) where
+  of : IsOf l (place_at w t)
+  of = rw is refl
+
+  row : profile (place_at w t) ≡ once_profile (Run forced (run.Closure poisoned))
+  row = ap profile is
+
+  abbrev pub behind_closure : Place
+  behind_closure = next_place (place_at w t) (Closed succeeded)
+
+  pub closes_kept : Goes w (put w t behind_closure) l (acts t [])
+  closes_kept = closes_so w t l steady there of (rules_in w l) refl (once_move (Run forced (run.Closure poisoned))) row (once_acts_move l (Run forced (run.Closure poisoned))) succeeded (record {
+    of = next_of l (place_at w t) (Closed succeeded) of;
+    fits = subst (λ q. FitsItsLock w (next_place q (Closed succeeded))) (sym is) (subst (FitsItsLock w) is (steady.stands.calls t));
+    row = ap (λ q. profile (next_place q (Closed succeeded))) is;
+    needed = tt;
+    doing = doing_here l (place_at w t) of ∙ ap (λ (y : Profile). y.doing) row;
+  })
+
+-- ---------------------------------------------------------------- a call begins
+
+module _ (w : State) (t l : ℕ) (c : OnceCall) (steady : IsSteady w) (there : t < length w.places) (idle_now : place_at w t ≡ Idle)
+    (sort : (rules_in w l).sort ≡ locks.Once) where
+  abbrev pub first : Place
+  first = Once l (once_first c)
+
+  -- it claims nothing
+  pub once_begins : Goes w (put w t first) l (acts t [])
+  once_begins = place_goes w t l steady (rw idle_now tt) there (rules_in w l) refl first refl sort [] (λ h. tt)
+      (steps_by (rules_in w l) l (parts_at w l) (parts_at w l) (place_at w) t first [] tt tt
+      (ap (λ q. taken_at q l) idle_now ∙ sym (free_of first l tt refl))
+      refl refl refl refl
+      (doing_here l first refl ∙ sym (ap (λ q. doing_on q l) idle_now)))
+      (sym (ap station idle_now))

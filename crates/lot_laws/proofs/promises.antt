@@ -1,0 +1,12 @@
+pub mod SitesPromise
+pub mod RowPromises
+pub mod PlacePromises
+pub mod Debtors
+pub mod ExclusiveOwners
+pub mod LineActs
+pub mod PlaceSteps
+pub mod Promises
+pub mod Fair
+pub mod Owing
+pub mod RowLaws
+pub mod Headline

@@ -1,0 +1,57 @@
+-- One run of the world, and what its definitions refuse.
+use Rattle.std.proofs.Common.{ℕ, zero, suc, true, Some, None, ◌≡◌, inl, inr, [], ◌∷◌, refl, sym, ◌∙◌, arith, Option}
+use Rattle.lot_calls.specs.declared.kinds.Kind.TheVariants as kind
+use Rattle.lot_machine.specs.Machine.{after_steps}
+use Rattle.abstract_locks.specs.Sites.{Line, Main}
+use Rattle.lot_laws.specs.Promises.{IsLookedAfter}
+use Rattle.lot_laws.specs.Laws.{FairUnlockHandsOver, NoWaiterIsForgotten, NobodyIsPassedOver, three, row, row_told, forgotten}
+use Rattle.lot_machine.proofs.Shape.{opening_shaped}
+use Rattle.std.proofs.lemmas.List.Elements.{All-cons, All-nil}
+use Rattle.lot_calls.specs.Kinds.{fits}
+use Rattle.lot_laws.specs.SitesOf.{IsWorld}
+use Rattle.lot_laws.proofs.sites.Opening.{opening_condvars, opening_steady}
+use Rattle.lot_laws.proofs.hands.CountsPut.{opening_counted}
+use Rattle.lot_laws.proofs.once.Runs.{opening_running}
+use Rattle.lot_laws.proofs.alone.WorldRuns.{world_run, run_refines}
+
+three_hold : IsWorld three
+three_hold = record {
+  shaped = opening_shaped (kind.Mutex ∷ []) 3 (omega arith);
+  steady = opening_steady (kind.Mutex ∷ []) 3 (omega arith) (All-cons (λ k. fits k 3 ≡ true) kind.Mutex [] refl (All-nil (λ k. fits k 3 ≡ true)));
+  counted = opening_counted (kind.Mutex ∷ []) 3;
+  condvars = opening_condvars (kind.Mutex ∷ []) 3;
+  running = opening_running (kind.Mutex ∷ []) 3;
+}
+
+pub hands_over : FairUnlockHandsOver
+hands_over = record {
+  run = run_refines three (after_steps three row) row row_told (world_run three row three_hold);
+  owner = refl;
+  queue = refl;
+  word = refl;
+}
+
+-- nobody owes or retries
+nobody_looks : (u : ℕ) (h : IsLookedAfter forgotten 0 Main) → h.debtor ≡ u → ⊥
+nobody_looks zero h e = elim h.debt [
+  | inl owes ↦ let f : ◌≡◌ {A = Option Line} None (Some Main) = rw e at owes.0 in cc
+  | inr retries ↦ let f : None ≡ Some 0 = rw e at retries.0 in cc
+]
+nobody_looks (suc zero) h e = elim h.debt [
+  | inl owes ↦ let f : ◌≡◌ {A = Option Line} None (Some Main) = rw e at owes.0 in cc
+  | inr retries ↦ let f : None ≡ Some 0 = rw e at retries.0 in cc
+]
+nobody_looks (suc (suc u)) h e = elim h.debt [
+  | inl owes ↦ let f : ◌≡◌ {A = Option Line} None (Some Main) = rw e at owes.0 in cc
+  | inr retries ↦ let f : None ≡ Some 0 = rw e at retries.0 in cc
+]
+
+pub no_waiter_forgotten : NoWaiterIsForgotten
+no_waiter_forgotten kept = let looked = kept.nobody_forgotten.main 1 0 (omega arith) (inl refl) (λ h. absurd cc) in nobody_looks looked.debtor looked refl
+
+pub nobody_passed_over : NobodyIsPassedOver
+nobody_passed_over v free fair = elim (fair.gives 0 0 ((refl, refl), refl, refl)) [
+  | inl owns ↦ let e : None ≡ Some 0 = sym free ∙ owns.0 in cc
+  | inr (inl hands) ↦ let e : None ≡ Some hands.0 = sym free ∙ hands.2 in cc
+  | inr (inr lets) ↦ lets.1 1 _ refl
+]

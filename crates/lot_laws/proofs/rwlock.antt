@@ -1,0 +1,9 @@
+pub mod Kept
+pub mod Rows
+pub mod CallRows
+pub mod Owing
+pub mod CallOwing
+pub mod Events
+pub mod Steps
+pub mod Late
+pub mod FairHands

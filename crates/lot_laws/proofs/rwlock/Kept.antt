@@ -1,0 +1,681 @@
+-- A thread in a call of a reader-writer lock goes on: every lock is a site again.
+use Rattle.std.proofs.Common.{inl, inr, ℕ, Bool, true, false, Option, Some, None, if◌then◌else◌, ◌==◌, ◌≡◌, ◌≢◌, ◌+◌, ◌*◌, ◌-◌, ◌^◌, ◌≤◌, ◌<◌, List, [], ◌∷◌, length, is_none, refl, sym, ◌∙◌, ap, subst, arith}
+use Rattle.std.proofs.lemmas.Bool.{eqb-true}
+use Rattle.lot_base.specs.declared.keys.Keys.{Keys}
+use Rattle.lot_base.specs.declared.keys.Keys.TheVariants.{One}
+use Rattle.lot_base.specs.declared.notes.Note.TheVariants.{HandOff, Normal}
+use Rattle.lot_base.specs.declared.ops.Op.{Op}
+use Rattle.lot_base.specs.Words.{apply}
+use Rattle.lot_base.specs.declared.wants.Want.{Want}
+use Rattle.lot_acts.specs.Calls.{IsNotLate}
+use Rattle.lot_acts.specs.declared.acts.Check.{Check}
+use Rattle.lot_calls.specs.declared.calls.RwLockCall.{RwLockCall}
+use Rattle.lot_calls.specs.declared.kinds.Kind.{Kind}
+use Rattle.lot_calls.specs.declared.kinds.Kind.TheVariants as kinds
+use Rattle.lot_calls.specs.declared.calls.Patience.{Patience}
+use Rattle.lot_calls.specs.declared.calls.Patience.TheVariants as patience
+use Rattle.lot_acts.specs.declared.acts.Act.{Act}
+use Rattle.lot_acts.specs.declared.acts.Act.TheVariants as act
+use Rattle.lot_acts.specs.declared.acts.Next.{Next}
+use Rattle.lot_acts.specs.declared.acts.Next.TheVariants as next
+use Rattle.lot_acts.specs.declared.acts.Reply.{Reply}
+use Rattle.lot_acts.specs.declared.acts.Reply.TheVariants.{Done, Value, Parked, Took, Picked, Removed, Late, TakenBy, Woken}
+use Rattle.lot_acts.specs.declared.acts.Wakes.{Wakes}
+use Rattle.lot_acts.specs.declared.acts.Whom as whom
+use Rattle.lot_acts.specs.Acts.{holds, wakes_taken}
+use Rattle.lot_acts.specs.Moves.{StaysPut, GoesIn, GoesOut, Parks, Picks, TakesAside, LeavesLine, TellsHanded, Accepts, AreOfWord, AreLeaving, parks_in, takes_aside, row_of}
+use Rattle.lot_acts.specs.Profiles.{Profile, hand, in_hand, taken_from}
+use Rattle.lot_acts.specs.Stations.{Station, nowhere, station_by}
+use Rattle.lot_acts.specs.Owners.{lock_seen, shares_then}
+use Rattle.lot_rwlock.specs.declared.places.Admission.{Admission}
+use Rattle.lot_rwlock.specs.declared.places.RwLockPlace.{RwLockPlace}
+use Rattle.lot_rwlock.specs.declared.places.RwLockAt.{RwLockAt}
+use Rattle.lot_rwlock.specs.declared.places.RwLockAt.TheVariants as at
+use Rattle.lot_rwlock.specs.declared.park.ParkAt.TheVariants as parking
+use Rattle.lot_rwlock.specs.RwLockSteps.{patience_of}
+use Rattle.lot_rwlock.specs.RwLockDeeds.{Admits, MayHear}
+use Rattle.lot_rwlock.specs.RwLockProfiles.{late_line_at}
+use Rattle.lot_rwlock.specs.RwLockCalls.{HasDeadline, MayBeTold}
+use Rattle.lot_rwlock.specs.RwLockBegins.{admission_of}
+use Rattle.lot_rwlock_fair.specs.declared.places.RwLockCallPlace.{RwLockCallPlace}
+use Rattle.lot_rwlock_fair.specs.declared.places.RwLockCallPlace.TheVariants.{Plain, Glance, HandOver, Bump, Handed}
+use Rattle.lot_rwlock_fair.specs.FairCalls.{CallMayBeTold, CallMayHear, CallStands, CallStandsNext, IsInCall}
+use Rattle.lot_rwlock_fair.specs.FairDeeds.{call_deeds, call_doing, call_doing_next}
+use Rattle.lot_rwlock_fair.specs.FairMoves.{CallMoves, call_hears, call_move}
+use Rattle.lot_rwlock_fair.specs.FairProfiles.{call_late_line, call_profile}
+use Rattle.lot_rwlock_fair.proofs.FairActs.{fair_acts_move, fair_late_moves, fair_sleepers_move}
+use Rattle.lot_rwlock_fair.proofs.FairCallTells.{fair_sections_tell, fair_steps_tell}
+use Rattle.lot_rwlock_fair.proofs.FairCodes.{fair_steps_code}
+use Rattle.lot_rwlock_fair.proofs.FairFit.{fair_steps_follow}
+use Rattle.lot_rwlock_fair.proofs.FairMoves.{handed_move}
+use Rattle.lot_rwlock_fair.proofs.FairOwners.{fair_owners_follow}
+use Rattle.lot_rwlock_fair.proofs.FairSections.{fair_sections_follow}
+use Rattle.lot_rwlock_fair.proofs.FairStands.{fair_calls_stand}
+use Rattle.lot_rwlock_fair.specs.FairBegins.{call_first, call_right}
+use Rattle.lot_rwlock_fair.specs.FairLaws.{CallOpens, CallTells, next_rows}
+use Rattle.lot_rwlock_fair.specs.FairSteps.{call_act, call_next, call_owners, call_shares}
+use Rattle.lot_rwlock_fair.proofs.FairOpenings.{calls_open}
+use Rattle.lot_semaphore.specs.declared.places.SemaphorePlace.{SemaphorePlace}
+use Rattle.lot_steps.specs.declared.places.Place.{Place}
+use Rattle.lot_steps.specs.declared.places.Place.TheVariants.{Idle, Mutex, RwLock, Once, Condvar, Semaphore as OfSemaphore}
+use Rattle.lot_mutex.specs.declared.places.MutexPlace.{MutexPlace}
+use Rattle.lot_once.specs.declared.places.OncePlace.{OncePlace}
+use Rattle.lot_steps.specs.Steps.{next_place, profile, calls, rwlock_goes}
+use Rattle.abstract_locks.specs.Locks.{Rules, Sort, Normal as NormalSort, Recursive, Semaphore, count, keep_from, one_if_some, standing}
+use Rattle.abstract_locks.specs.Locks as locks
+use Rattle.abstract_locks.specs.Sites.{Site, IsSite, Deed, Line, Main, Second, Begin, Case, Clear, End, In, Mark, Out, has_readers, wakened, LeaveLine}
+use Rattle.abstract_locks.specs.Codes.{HasLimit, bit, code, code_of, packed, writers}
+use Rattle.abstract_locks.specs.Deeds.{case_of}
+use Rattle.abstract_locks.specs.Deeds as laws
+use Rattle.abstract_locks.specs.Purposes.{rules_of}
+use Rattle.lot_machine.specs.Machine.{State, place_at, word_at, kind_at, owners_at, shares_at, share_at, queue_at, section_at, can_do, are_free, is_free, put, state_after_act, state_after_late_under, reply_to}
+use Rattle.lot_machine.specs.Fits.{IsShaped}
+use Rattle.lot_machine.proofs.Shape.{main_key_there}
+use Rattle.lot_laws.specs.Refinement.{taken_at}
+use Rattle.lot_laws.specs.MutexDeeds.{acts}
+use Rattle.lot_laws.specs.Stations.{station, doing_on}
+use Rattle.lot_laws.specs.SitesOf.{IsSteady, Goes, FitsItsLock, TakesOne, HasRoom, carried_at, hand_at, is_mutex, rules_in, key_of}
+use Rattle.lot_condvar.specs.declared.places.CondvarPlace.{CondvarPlace}
+use Rattle.lot_steps.specs.Steps.{is_lock}
+use Rattle.lot_acts.specs.Profiles.{Hand}
+use Rattle.lot_condvar.specs.CondvarSteps.{mutex_beside}
+use Rattle.lot_laws.proofs.machine.Parts.{not_beside, condvar_unheld, free_of, IsOf, next_of, parts_at, put_here, doing_here, station_here, of_single}
+use Rattle.lot_laws.proofs.hands.Moved.{accepts, tells_handed, told_hears}
+use Rattle.lot_laws.proofs.sites.WakesAt.{IsWokenAt}
+use Rattle.lot_laws.proofs.sites.WakesKept.{woken_of}
+use Rattle.lot_laws.proofs.sites.StandsMoved.{mutex_rules}
+use Rattle.lot_laws.proofs.sites.ActsKept.{lock_by, place_goes}
+use Rattle.lot_laws.proofs.sites.OneStep.{steps_by}
+use Rattle.lot_laws.proofs.calls.OtherCalls.{IsCalm, WakesOwn}
+use Rattle.lot_laws.proofs.sites.MovesKept.{entered_hears, left_hears, parked_hears, removed_hears, picked_hears, picked_deeds, IsFollowed, SleepsIfCalls, IsSleeper, stays, goes_in, goes_out, parks_or_turns, leaves_line, takes_whom_aside, takes_chosen, wakes_one, nowhere_here}
+
+-- ---------------------------------------------------------------- rows
+
+-- where a place leads, its row does
+pub goes_row : (l : ℕ) (a : Admission) (n : Next RwLockCallPlace) → profile (rwlock_goes l a n) ≡ row_of (next_rows a n)
+goes_row l a (next.At c) = refl
+goes_row l a (next.End answer) = refl
+
+doing_row : (a : Admission) (c : RwLockCallPlace) → (call_profile a c).doing ≡ call_doing c
+doing_row a (Plain p) = refl
+doing_row a (Glance x) = refl
+doing_row a (HandOver x b to) = refl
+doing_row a (Bump p) = refl
+doing_row a (Handed x how b to) = refl
+
+doing_is : (a : Admission) (n : Next RwLockCallPlace) → call_doing_next n ≡ (row_of (next_rows a n)).doing
+doing_is a (next.At c) = sym (doing_row a c)
+doing_is a (next.End answer) = refl
+
+-- ---------------------------------------------------------------- what a thread may be told
+
+-- but of its entering, of the word, or of its time
+abbrev IsOther : Reply → Type 0
+IsOther Done = ⊥
+IsOther (Value seen) = ⊥
+IsOther Late = ⊥
+IsOther told = Unit {0}
+
+module _ (a : Admission) (p : RwLockPlace) where
+  told_other : (to : RwLockAt) (told : Reply) → IsOther told → MayBeTold a p to told
+  told_other (at.Decide seen) Done h = absurd h
+  told_other (at.Decide seen) (Value v) h = absurd h
+  told_other (at.Decide seen) Late h = absurd h
+  told_other (at.Decide seen) told h = tt
+  told_other to Done h = absurd h
+  told_other to (Value v) h = absurd h
+  told_other to Late h = absurd h
+  told_other to told h = tt
+
+  told_value : (to : RwLockAt) (v : ℕ) → v < 2 ^ 64 → MayBeTold a p to (Value v)
+  told_value (at.Decide seen) v h = h
+  told_value to v h = h
+
+  told_late : (to : RwLockAt) (how : Patience) → patience_of p.purpose ≡ how → (m : Line) → late_line_at how to ≡ Some m
+      → MayBeTold a p to Late
+  told_late (at.Park parking.Asleep) patience.Timed e m h = subst HasDeadline (sym e) tt
+  told_late (at.Aside parking.Asleep) patience.Timed e m h = subst HasDeadline (sym e) tt
+  told_late (at.Park parking.Asleep) patience.Patient e m h = absurd cc
+  told_late (at.Aside parking.Asleep) patience.Patient e m h = absurd cc
+  told_late (at.Park parking.Asleep) patience.Try e m h = absurd cc
+  told_late (at.Aside parking.Asleep) patience.Try e m h = absurd cc
+  told_late (at.Park to) how e m h = absurd cc
+  told_late (at.Aside to) how e m h = absurd cc
+  told_late to how e m h = absurd cc
+
+  told_done : (r : Rules) (s : Site) (t : ℕ) (to : RwLockAt) (whom : Option ℕ) → MayHear r a s t p to whom Done
+      → MayBeTold a p to Done
+  told_done r s t (at.Decide seen) whom h = h.0
+  told_done r s t to whom h = tt
+
+-- in any call
+module _ (a : Admission) where
+  pub call_told_other : (c : RwLockCallPlace) (told : Reply) → IsOther told → CallMayBeTold a c told
+  call_told_other (Plain p) told h = told_other a p p.at told h
+  call_told_other (Bump p) told h = told_other a p p.at told h
+  call_told_other (Glance x) told h = tt
+  call_told_other (HandOver x b to) told h = tt
+  call_told_other (Handed x how b to) told h = tt
+
+  pub call_told_value : (c : RwLockCallPlace) (v : ℕ) → v < 2 ^ 64 → CallMayBeTold a c (Value v)
+  call_told_value (Plain p) v h = told_value a p p.at v h
+  call_told_value (Bump p) v h = told_value a p p.at v h
+  call_told_value (Glance x) v h = tt
+  call_told_value (HandOver x b to) v h = tt
+  call_told_value (Handed x how b to) v h = tt
+
+  call_told_late : (c : RwLockCallPlace) (m : Line) → call_late_line c ≡ Some m → CallMayBeTold a c Late
+  call_told_late (Plain p) m h = told_late a p p.at (patience_of p.purpose) refl m h
+  call_told_late (Bump p) m h = told_late a p p.at (patience_of p.purpose) refl m h
+  call_told_late (Glance x) m h = tt
+  call_told_late (HandOver x b to) m h = tt
+  call_told_late (Handed x how b to) m h = tt
+
+  call_told_done : (r : Rules) (s : Site) (t : ℕ) (c : RwLockCallPlace) (whom : Option ℕ) → CallMayHear r a s t c whom Done
+      → CallMayBeTold a c Done
+  call_told_done r s t (Plain p) whom h = told_done a p r s t p.at whom h
+  call_told_done r s t (Bump p) whom h = told_done a p r s t p.at whom h
+  call_told_done r s t (Glance x) whom h = tt
+  call_told_done r s t (HandOver x b to) whom h = tt
+  call_told_done r s t (Handed x how b to) whom h = tt
+
+-- ---------------------------------------------------------------- words
+
+-- the word of a lock with room has 64 bits
+pub word_few : (r : Rules) (s : Site) → has_readers r.sort ≡ true → IsSite r s → r.limit < 2 ^ 60 - 1 → HasLimit r s.lock
+    → code r s < 2 ^ 64
+word_few r s readers site room limit = by_sort r.sort refl readers
+  where
+    one : s.lock.exclusive ≡ None → writers s.lock ≤ 1
+    one e = let x : one_if_some s.lock.exclusive ≡ 0 = ap one_if_some e in let y : one_if_some s.lock.pending ≤ 1 = at_most s.lock.pending in omega arith
+      where
+        at_most : {A : Type 0} (o : Option A) → one_if_some o ≤ 1
+        at_most None = omega arith
+        at_most (Some x) = omega arith
+
+    few_writers : (o : Option ℕ) → s.lock.exclusive ≡ o → writers s.lock ≤ 1
+    few_writers None e = one e
+    few_writers (Some u) e = let x : one_if_some s.lock.exclusive ≡ 1 = ap one_if_some e in let y : one_if_some s.lock.pending ≡ 0 = ap one_if_some (site.state.exclusive_alone u e).0 in omega arith
+
+    few_upgradable : (o : Option ℕ) → one_if_some o ≤ 1
+    few_upgradable None = omega arith
+    few_upgradable (Some x) = omega arith
+
+    bit_few : (b : Bool) → bit b ≤ 1
+    bit_few true = omega arith
+    bit_few false = omega arith
+
+    small : packed (count s.lock) (writers s.lock) (one_if_some s.lock.upgradable) (bit s.aside_parked) (bit s.parked) < 2 ^ 64
+    small = let c : count s.lock ≤ r.limit + 1 = limit.top in
+        let x : writers s.lock ≤ 1 = few_writers s.lock.exclusive refl in
+        let u : one_if_some s.lock.upgradable ≤ 1 = few_upgradable s.lock.upgradable in
+        let b : bit s.aside_parked ≤ 1 = bit_few s.aside_parked in
+        let d : bit s.parked ≤ 1 = bit_few s.parked in
+        omega arith
+
+    by_sort : (sort : Sort) → r.sort ≡ sort → has_readers sort ≡ true → code_of r.sort r.limit s < 2 ^ 64
+    by_sort NormalSort e h = subst (λ sort. code_of sort r.limit s < 2 ^ 64) (sym e) small
+    by_sort Recursive e h = subst (λ sort. code_of sort r.limit s < 2 ^ 64) (sym e) small
+    by_sort locks.Mutex e h = absurd cc
+    by_sort Semaphore e h = absurd cc
+    by_sort locks.Once e h = absurd cc
+    by_sort locks.Condvar e h = absurd cc
+
+-- ---------------------------------------------------------------- deeds that leave the others as they are
+
+abbrev pub AreCalm : List Deed → Type 0
+AreCalm [] = Unit {0}
+AreCalm (Case case ∷ ds) = IsCalm (Some case)
+AreCalm (LeaveLine ∷ ds) = IsCalm (Some locks.Late)
+AreCalm (Out ∷ ds) = ⊥
+AreCalm (d ∷ ds) = AreCalm ds
+
+pub calm_case : (hand : Option Bool) (ds : List Deed) → AreCalm ds → IsCalm (case_of hand ds)
+calm_case hand [] h = tt
+calm_case hand (Case case ∷ ds) h = h
+calm_case hand (LeaveLine ∷ ds) h = h
+calm_case hand (Out ∷ ds) h = absurd h
+calm_case hand (d ∷ ds) h = calm_case hand ds h
+
+pub word_calm : (ds : List Deed) → AreOfWord ds → AreCalm ds
+word_calm [] h = tt
+word_calm (End ∷ []) h = tt
+word_calm (Mark m ∷ []) h = tt
+word_calm (Clear m ∷ []) h = tt
+word_calm (Case locks.Wake ∷ ds) h = absurd h
+word_calm (Case (locks.HandOff right successor) ∷ ds) h = absurd h
+word_calm (Case case ∷ ds) h = tt
+word_calm ds h = absurd h
+
+in_line_calm : (m : Line) (x : Want) → AreCalm (parks_in m x ∷ [])
+in_line_calm Main x = tt
+in_line_calm Second x = tt
+
+aside_calm : (o : Option ℕ) → AreCalm (takes_aside o ∷ [])
+aside_calm None = tt
+aside_calm (Some u) = tt
+
+-- who leaves a section wakes those in its hand, if anybody
+pub left_calm : (ds : List Deed) → AreLeaving ds → IsCalm (case_of None ds)
+left_calm (Out ∷ []) h = tt
+left_calm (Out ∷ End ∷ []) h = tt
+left_calm ds h = absurd h
+
+-- or tells those to whom it has handed the lock
+handed_calm : (ds : List Deed) → AreLeaving ds → IsCalm (case_of (Some true) ds)
+handed_calm (Out ∷ []) h = tt
+handed_calm (Out ∷ End ∷ []) h = tt
+handed_calm ds h = absurd h
+
+pub left_wakes : (ds : List Deed) → AreLeaving ds → case_of (Some false) ds ≡ Some locks.Wake
+left_wakes (Out ∷ []) h = refl
+left_wakes (Out ∷ End ∷ []) h = refl
+left_wakes ds h = absurd h
+
+-- ---------------------------------------------------------------- one thread
+
+module _ (w : State) (t l : ℕ) (a : Admission) (c : RwLockCallPlace) (steady : IsSteady w) (shape : IsShaped w)
+    (there : t < length w.places) (lt : l < length w.locks) (is : place_at w t ≡ RwLock l a c) where
+  pub fits_now : FitsItsLock w (RwLock l a c)
+  fits_now = subst (FitsItsLock w) is (steady.stands.calls t)
+
+  pub admits : Admits (rules_in w l) a
+  admits = fits_now.0
+
+  pub stands : CallStands a c
+  stands = fits_now.1
+
+  pub own : IsOf l (place_at w t)
+  own = rw is refl
+
+  pub same_row : profile (place_at w t) ≡ call_profile a c
+  same_row = ap profile is
+
+  abbrev here : Site
+  here = lock_by w l (rules_in w l)
+
+  pub site : IsSite (rules_in w l) here
+  site = steady.sites.site l
+
+  pub doing_now : here.doing t ≡ call_doing c
+  doing_now = doing_here l (place_at w t) own ∙ ap (λ (y : Profile). y.doing) same_row ∙ doing_row a c
+
+  pub at_now : IsInCall (rules_in w l) a here t c
+  at_now = record { admits = admits; site = site; doing = doing_now; stands = stands; there = subst (λ n. t < n) (sym (steady.numbers.threads l)) there }
+
+  pub fits_next : (k : ℕ) (b : Admission) (n : Next RwLockCallPlace) → Admits (rules_in w k) b → CallStandsNext b n
+      → FitsItsLock w (rwlock_goes k b n)
+  fits_next k b (next.At q) admitted may = (admitted, may)
+  fits_next k b (next.End answer) admitted may = tt
+
+  -- what its laws conclude
+  abbrev Followed : Option ℕ → Reply → Type 0
+  Followed whom told = IsFollowed w t l steady there own (rules_in w l) refl (call_move a c) same_row whom told (next_place (place_at w t) told)
+
+  pub followed_by : (whom : Option ℕ) (told : Reply) → laws.AllNeeded (rules_in w l) (call_deeds a c whom told) here t
+      → (laws.after_all (rules_in w l) (call_deeds a c whom told) here t).doing t ≡ call_doing_next (call_next a c told)
+      → CallMayBeTold a c told → Followed whom told
+  followed_by whom told needed does may = record {
+    of = next_of l (place_at w t) told own;
+    fits = subst (λ q. FitsItsLock w (next_place q told)) (sym is) (fits_next l a (call_next a c told) admits (fair_calls_stand a c told stands may));
+    row = ap (λ q. profile (next_place q told)) is ∙ goes_row l a (call_next a c told);
+    needed = needed;
+    doing = does ∙ doing_is a (call_next a c told);
+  }
+
+  followed : (whom : Option ℕ) (told : Reply) → CallMayHear (rules_in w l) a here t c whom told → CallMayBeTold a c told
+      → Followed whom told
+  followed whom told hears may = let f = fair_sections_follow (rules_in w l) a here t c whom told at_now hears in followed_by whom told f.needed f.doing may
+
+  -- ---------------------------------------------------------------- who else calls the lock
+
+  pub of_no_mutex : (u k : ℕ) (m : MutexPlace) → place_at w u ≡ Mutex k m → k ≡ l → ⊥
+  of_no_mutex u k m e same_lock =
+      let of_mutex : is_mutex (kind_at w k) ≡ true = subst (FitsItsLock w) e (steady.stands.calls u) in
+      let none : has_readers (rules_in w k).sort ≡ false = ap (λ (r : Rules). has_readers r.sort) (mutex_rules (kind_at w k) of_mutex) in
+      let some : has_readers (rules_in w l).sort ≡ true = admits.0 in
+      let both : true ≡ false = sym some ∙ ap (λ j. has_readers (rules_in w j).sort) (sym same_lock) ∙ none in cc
+
+  pub of_no_once : (u k : ℕ) (p : OncePlace) → place_at w u ≡ Once k p → k ≡ l → ⊥
+  of_no_once u k p e same_lock =
+      let of_once : (rules_in w k).sort ≡ locks.Once = subst (FitsItsLock w) e (steady.stands.calls u) in
+      let some : has_readers (rules_in w l).sort ≡ true = admits.0 in
+      let both : true ≡ false = sym some ∙ ap (λ j. has_readers (rules_in w j).sort) (sym same_lock) ∙ ap has_readers of_once in cc
+
+  pub of_no_semaphore : (u k : ℕ) (at : SemaphorePlace) → place_at w u ≡ OfSemaphore k at → k ≡ l → ⊥
+  of_no_semaphore u k at e same_lock =
+      let of_semaphore : FitsItsLock w (OfSemaphore k at) = subst (FitsItsLock w) e (steady.stands.calls u) in
+      let some : has_readers (rules_in w l).sort ≡ true = admits.0 in
+      let both : true ≡ false = sym some ∙ ap (λ j. has_readers (rules_in w j).sort) (sym same_lock) ∙ ap has_readers of_semaphore.0 in cc
+
+  pub of_no_condvar : (u k : ℕ) (at : CondvarPlace) → place_at w u ≡ Condvar k at → k ≡ l → ⊥
+  of_no_condvar u k at e same_lock =
+      let of_condvar : FitsItsLock w (Condvar k at) = subst (FitsItsLock w) e (steady.stands.calls u) in
+      let some : has_readers (rules_in w l).sort ≡ true = admits.0 in
+      let both : true ≡ false = sym some ∙ ap (λ j. has_readers (rules_in w j).sort) (sym same_lock) ∙ ap has_readers of_condvar.sort in cc
+
+  many : TakesOne w l → ⊥
+  many one = let none : has_readers (rules_in w l).sort ≡ false = ap has_readers one in let some : has_readers (rules_in w l).sort ≡ true = admits.0 in cc
+
+  -- and no condition variable is beside it
+  pub beside_no_call : (u k : ℕ) (at : CondvarPlace) → place_at w u ≡ Condvar k at → is_lock l (mutex_beside at) ≡ false
+  beside_no_call u k at e = not_beside w (Condvar k at) l (subst (FitsItsLock w) e (steady.stands.calls u)) many
+
+  asleep : (u : ℕ) → SleepsIfCalls w t l steady there own (rules_in w l) refl (call_move a c) same_row u
+  asleep u = record { apart = not_beside w (place_at w u) l (steady.stands.calls u) many; sleeper = λ h. by_place (place_at w u) refl h }
+    where
+      by_place : (q : Place) → place_at w u ≡ q → calls q l ≡ true
+          → IsSleeper w t l steady there own (rules_in w l) refl (call_move a c) same_row u
+      by_place Idle e g = absurd cc
+      by_place (Condvar k at) e g = absurd (of_no_condvar u k at e (eqb-true k l g))
+      by_place (Once k at) e g = absurd (of_no_once u k at e (eqb-true k l g))
+      by_place (OfSemaphore k at) e g = absurd (of_no_semaphore u k at e (eqb-true k l g))
+      by_place (Mutex k m) e g = absurd (of_no_mutex u k m e (eqb-true k l g))
+      by_place (RwLock k b q) e g = record {
+        single = rw e tt;
+        move = call_move b q;
+        row = ap profile e;
+        waits = fair_sleepers_move b q fits_u.1;
+        taken = ap (λ y. profile (next_place y (TakenBy t))) e ∙ goes_row k b (call_next b q (TakenBy t));
+        woken = ap (λ y. profile (next_place y (Woken Normal))) e ∙ goes_row k b (call_next b q (Woken Normal));
+        taken_fits = subst (λ y. FitsItsLock w (next_place y (TakenBy t))) (sym e) (fits_next k b (call_next b q (TakenBy t)) fits_u.0 (fair_calls_stand b q (TakenBy t) fits_u.1 (call_told_other b q (TakenBy t) tt)));
+        woken_fits = subst (λ y. FitsItsLock w (next_place y (Woken Normal))) (sym e) (fits_next k b (call_next b q (Woken Normal)) fits_u.0 (fair_calls_stand b q (Woken Normal) fits_u.1 (call_told_other b q (Woken Normal) tt)));
+      }
+        where
+          fits_u : FitsItsLock w (RwLock k b q)
+          fits_u = subst (FitsItsLock w) e (steady.stands.calls u)
+
+  -- ---------------------------------------------------------------- each act
+
+  -- its deeds as it goes on from a place, what they make of its call, and of those of the others
+  pub record GoesFrom (q : Place) (y : Act) : Type 0 where
+    pub whom : Option ℕ
+    pub goes : Goes w (put (state_after_act w t (RwLock l a c) y) t (next_place q (reply_to w t y))) l
+        (acts t (call_deeds a c whom (reply_to w t y)))
+    pub tells : CallTells (rules_in w l) a here t l c whom (reply_to w t y)
+    pub others : WakesOwn ((call_profile a c).carries) y
+        (case_of ((call_profile a c).carries) (call_deeds a c whom (reply_to w t y)))
+
+  tells_by : (whom : Option ℕ) (told : Reply) → IsNotLate told → CallMayHear (rules_in w l) a here t c whom told
+      → CallTells (rules_in w l) a here t l c whom told
+  tells_by whom told now hears = fair_sections_tell (rules_in w l) a here t l c whom told at_now hears now
+
+  calm_by : (ds : List Deed) {x : List Deed} → x ≡ ds → AreCalm ds → IsCalm (case_of ((call_profile a c).carries) x)
+  calm_by ds e h = subst (λ (x : List Deed). IsCalm (case_of ((call_profile a c).carries) x)) (sym e) (calm_case ((call_profile a c).carries) ds h)
+
+  section_there : (m : Line) → key_of l m < length w.sections
+  section_there Main = main_key_there w l shape lt
+  section_there Second = let e : length w.sections ≡ 2 * length w.locks = shape.sections in omega arith
+
+  line_there : (m : Line) → key_of l m < length w.queues
+  line_there m = let e : length w.queues ≡ length w.sections = shape.queues in let h : key_of l m < length w.sections = section_there m in omega arith
+
+  pub word_is : word_at w l ≡ code (rules_in w l) here
+  word_is = steady.sites.word l
+
+  -- one operation on the word
+  on_word : (op : Op) → call_act l a c ≡ act.Word l op → StaysPut (call_move a c) → GoesFrom (place_at w t) (act.Word l op)
+  on_word op e g = record {
+    whom = None;
+    goes = stays w t l steady there own (rules_in w l) refl (call_move a c) same_row admits.0 (RwLock l a c) (next_place (place_at w t) (Value (word_at w l))) op lt g on.0 on.1 on.2;
+    tells = subst (λ v. CallTells (rules_in w l) a here t l c None (Value v)) (sym word_is) (fair_steps_tell (rules_in w l) a here t l c op at_now nowhere e);
+    others = calm_by (call_deeds a c None (Value (word_at w l))) refl (word_calm (call_deeds a c None (Value (word_at w l))) (g.deeds (word_at w l)));
+  }
+    where
+      nowhere : standing t here.lock ≡ 0
+      nowhere = nowhere_here w t l steady there own (rules_in w l) refl (call_move a c) same_row g.out g.free
+
+      limits : HasRoom (length w.places) (rules_in w l) × HasLimit (rules_in w l) here.lock
+      limits = steady.sites.limits l admits.0
+
+      room : a.limit < 2 ^ 60 - 1
+      room = subst (λ n. n < 2 ^ 60 - 1) admits.2 limits.0.1
+
+      few : code (rules_in w l) here < 2 ^ 64
+      few = word_few (rules_in w l) here admits.0 site limits.0.1 limits.1
+
+      at_word : ℕ → Type 0
+      at_word v = Followed None (Value v)
+          × (lock_seen (shares_then (shares_at w l) t (call_shares a c v (share_at w l t))) (call_owners a c t v (owners_at w l)) (queue_at w (2 * l)) (queue_at w (2 * l + 1)) (λ u. taken_at (place_at w u) l) ≡ (laws.after_all (rules_in w l) (call_deeds a c None (Value v)) here t).lock)
+          × (apply op v ≡ code (rules_in w l) (laws.after_all (rules_in w l) (call_deeds a c None (Value v)) here t))
+
+      on : at_word (word_at w l)
+      on = subst at_word (sym word_is) (let f = fair_steps_follow (rules_in w l) a here t l c op at_now nowhere e in (
+        followed_by None (Value (code (rules_in w l) here)) f.needed f.doing (call_told_value a c (code (rules_in w l) here) few),
+        fair_owners_follow (rules_in w l) a here t l c op (shares_at w l) (owners_at w l) (queue_at w (2 * l)) (queue_at w (2 * l + 1)) (λ u. taken_at (place_at w u) l) at_now e room limits.1 refl,
+        fair_steps_code (rules_in w l) a here t l c op at_now nowhere e few room limits.1,
+      ))
+
+  none_is : (o : Option ℕ) → is_none o ≡ true → o ≡ None
+  none_is None h = refl
+  none_is (Some u) h = absurd cc
+
+  into : (m : Line) (keys : Keys) → keys ≡ One (key_of l m) → are_free w keys ≡ true
+      → GoesIn (call_move a c) (call_hears a c) m Done → GoesFrom (place_at w t) (act.Enter keys)
+  into m keys e free g = subst (λ k. GoesFrom (place_at w t) (act.Enter k)) (sym e) (record {
+    whom = None;
+    goes = goes_in w t l steady there own (rules_in w l) refl (call_move a c) same_row (call_hears a c) m Done (next_place (place_at w t) Done) (section_there m) is_free_now g (λ h. followed None Done h (call_told_done a (rules_in w l) here t c None h));
+    tells = tells_by None Done tt (entered_hears w t l steady there own (rules_in w l) refl (call_move a c) same_row (call_hears a c) m Done is_free_now g);
+    others = calm_by (In m ∷ []) g.deeds tt;
+  })
+    where
+      is_free_now : section_at w (key_of l m) ≡ None
+      is_free_now = none_is (section_at w (key_of l m)) (subst (λ k. are_free w k ≡ true) e free)
+
+  out_of : (m : Line) (keys : Keys) (wakes : Wakes) → keys ≡ One (key_of l m) → GoesOut (call_move a c) (call_hears a c) m wakes
+      → GoesFrom (place_at w t) (act.Leave keys wakes)
+  out_of m keys wakes e g = subst (λ k. GoesFrom (place_at w t) (act.Leave k wakes)) (sym e) (record {
+    whom = None;
+    goes = goes_out w t l steady there own (rules_in w l) refl (call_move a c) same_row (call_hears a c) m wakes (next_place (place_at w t) Done) (section_there m) g (λ h. followed None Done h (call_told_done a (rules_in w l) here t c None h)) (wakes_one w t l steady there own (rules_in w l) refl (call_move a c) same_row asleep g.any g.carries);
+    tells = tells_by None Done tt (left_hears w t l steady there own (rules_in w l) refl (call_move a c) same_row (call_hears a c) m wakes g);
+    others = subst (λ x. WakesOwn ((call_profile a c).carries) (act.Leave (One (key_of l m)) x) (case_of ((call_profile a c).carries) (call_deeds a c None Done))) (sym g.notes) (wakes_any ((call_profile a c).carries) g.any g.carries (call_deeds a c None Done) g.deeds);
+  })
+    where
+      wakes_any : (hand : Option Bool) (any : Bool) → hand ≡ in_hand any false → (ds : List Deed) → AreLeaving ds
+          → WakesOwn hand (act.Leave (One (key_of l m)) (wakes_taken any Normal)) (case_of hand ds)
+      wakes_any hand false f ds h = subst (λ x. IsCalm (case_of x ds)) (sym f) (left_calm ds h)
+      wakes_any hand true f ds h = inl (f, (refl, ap (λ x. case_of x ds) f ∙ left_wakes ds h))
+
+  parked : (m : Line) (k key : ℕ) (check : Check) (want : Want) → k ≡ l → key ≡ key_of l m
+      → Parks (call_move a c) (call_hears a c) m check want → GoesFrom (place_at w t) (act.Park k key check want)
+  parked m k key check x ke e g = subst (λ j. GoesFrom (place_at w t) (act.Park j key check x)) (sym ke) (subst (λ j. GoesFrom (place_at w t) (act.Park l j check x)) (sym e) (record {
+    whom = None;
+    goes = parks_or_turns w t l steady there own (rules_in w l) refl (call_move a c) same_row (call_hears a c) m check x (line_there m) g (λ b h. followed None (Parked b) h (call_told_other a c (Parked b) tt));
+    tells = tells_by None (Parked (holds check (word_at w l))) tt (parked_hears w t l steady there own (rules_in w l) refl (call_move a c) same_row (call_hears a c) m check x g (holds check (word_at w l)) refl);
+    others = parks_calm (holds check (word_at w l));
+  }))
+    where
+      parks_calm : (b : Bool) → IsCalm (case_of ((call_profile a c).carries) (call_deeds a c None (Parked b)))
+      parks_calm true = calm_by (parks_in m x ∷ []) g.parks (in_line_calm m x)
+      parks_calm false = calm_by [] g.turns tt
+
+  -- whom it has handed the lock goes on where its wake leads it
+  hears_so : (u : ℕ) → hand_at (place_at w u) l ≡ hand t true → IsWokenAt w t l HandOff (place_at w u)
+  hears_so u held = by_place (place_at w u) refl held
+    where
+      by_place : (q : Place) → place_at w u ≡ q → hand_at q l ≡ hand t true → IsWokenAt w t l HandOff q
+      by_place Idle e h = absurd cc
+      by_place (Condvar k at) e h = absurd (let none : hand_at (Condvar k at) l ≡ None = condvar_unheld k at l (beside_no_call u k at e) in let both : ◌≡◌ {A = Option Hand} None (hand t true) = sym none ∙ h in cc)
+      by_place (Once k at) e h = either (k == l) refl h
+        where
+          either : (b : Bool) → (k == l) ≡ b → (if b then station (Once k at) else nowhere).hand ≡ hand t true
+              → IsWokenAt w t l HandOff (Once k at)
+          either true same_lock g = absurd (of_no_once u k at e (eqb-true k l same_lock))
+          either false same_lock g = absurd cc
+      by_place (OfSemaphore k at) e h = either (k == l) refl h
+        where
+          either : (b : Bool) → (k == l) ≡ b → (if b then station (OfSemaphore k at) else nowhere).hand ≡ hand t true
+              → IsWokenAt w t l HandOff (OfSemaphore k at)
+          either true same_lock g = absurd (of_no_semaphore u k at e (eqb-true k l same_lock))
+          either false same_lock g = absurd cc
+      by_place (Mutex k m) e h = either (k == l) refl h
+        where
+          either : (b : Bool) → (k == l) ≡ b → (if b then station (Mutex k m) else nowhere).hand ≡ hand t true
+              → IsWokenAt w t l HandOff (Mutex k m)
+          either true same_lock g = absurd (of_no_mutex u k m e (eqb-true k l same_lock))
+          either false same_lock g = absurd cc
+      by_place (RwLock k b q) e h = either (k == l) refl h
+        where
+          fits_u : FitsItsLock w (RwLock k b q)
+          fits_u = subst (FitsItsLock w) e (steady.stands.calls u)
+
+          then_u : Place
+          then_u = next_place (RwLock k b q) (Woken HandOff)
+
+          then_row : profile then_u ≡ row_of (next_rows b (call_next b q (Woken HandOff)))
+          then_row = goes_row k b (call_next b q (Woken HandOff))
+
+          at_lock : k ≡ l → (call_profile b q).hand ≡ hand t true → IsWokenAt w t l HandOff (RwLock k b q)
+          at_lock same_lock g = let z = (handed_move b q fits_u.1).was_given t g in woken_of w t l HandOff (RwLock k b q) true same_lock (record {
+            taken = free_of then_u l (of_single l then_u (next_of l (RwLock k b q) (Woken HandOff) same_lock)) (ap (λ (y : Station). y.hand) (ap station_by then_row ∙ z.goes)) ∙ sym (ap (keep_from t) untaken);
+            doing = doing_here l then_u (next_of l (RwLock k b q) (Woken HandOff) same_lock) ∙ ap (λ (y : Profile). y.doing) then_row ∙ z.doing ∙ sym (ap (λ o. wakened t o (doing_on (RwLock k b q) l)) untaken ∙ doing_here l (RwLock k b q) same_lock);
+          }) z.was (ap station_by then_row ∙ z.goes)
+              (fits_next k b (call_next b q (Woken HandOff)) fits_u.0 (fair_calls_stand b q (Woken HandOff) fits_u.1 (call_told_other b q (Woken HandOff) tt)))
+            where
+              untaken : taken_at (RwLock k b q) l ≡ None
+              untaken = ap (λ o. taken_from o (call_profile b q).wants (calls (RwLock k b q) l)) g
+
+          either : (d : Bool) → (k == l) ≡ d → (if d then station (RwLock k b q) else nowhere).hand ≡ hand t true
+              → IsWokenAt w t l HandOff (RwLock k b q)
+          either true same_lock g = at_lock (eqb-true k l same_lock) g
+          either false same_lock g = absurd cc
+
+  tells_all : (keys : Keys) (wakes : Wakes) → keys ≡ One (key_of l Main) → TellsHanded (call_move a c) (call_hears a c) wakes
+      → GoesFrom (place_at w t) (act.Leave keys wakes)
+  tells_all keys wakes e g = subst (λ k. GoesFrom (place_at w t) (act.Leave k wakes)) (sym e) (record {
+    whom = None;
+    goes = tells_handed w t l steady there own (rules_in w l) refl admits.0 (call_move a c) same_row (call_hears a c) wakes g (next_place (place_at w t) Done) (section_there Main)
+        (followed None Done hears_done (call_told_done a (rules_in w l) here t c None hears_done)) told_so;
+    tells = tells_by None Done tt hears_done;
+    others = subst (λ x. WakesOwn (call_profile a c).carries (act.Leave (One (key_of l Main)) x) (case_of (call_profile a c).carries (call_deeds a c None Done))) (sym g.notes) (tells_any (call_profile a c).carries g.any (ap (λ (y : Station). y.carries) g.was) (call_deeds a c None Done) g.deeds);
+  })
+    where
+      hears_done : CallMayHear (rules_in w l) a here t c None Done
+      hears_done = told_hears w t l steady there own (rules_in w l) refl admits.0 (call_move a c) same_row (call_hears a c) wakes g
+
+      -- they were handed it
+      told_so : (u : ℕ) (b : Bool) → hand_at (place_at w u) l ≡ hand t b → IsWokenAt w t l HandOff (place_at w u)
+      told_so u b held = by_handed b held (sym (carried_now ∙ ap (λ (y : Station). y.carries) g.was) ∙ steady.stands.hands.taken t u l b held) g.any
+        where
+          carried_now : carried_at (place_at w t) l ≡ (call_profile a c).carries
+          carried_now = ap (λ (y : Station). y.carries) (station_here l (place_at w t) own) ∙ ap (λ (y : Profile). y.carries) same_row
+
+          by_handed : (b : Bool) → hand_at (place_at w u) l ≡ hand t b → in_hand g.any true ≡ Some b → (any : Bool)
+              → IsWokenAt w t l HandOff (place_at w u)
+          by_handed true h f any = hears_so u h
+          by_handed false h f any = absurd (never g.any f)
+            where
+              never : (any : Bool) → in_hand any true ≡ Some false → ⊥
+              never true f = cc
+              never false f = cc
+
+      tells_any : (hand : Option Bool) (any : Bool) → hand ≡ in_hand any true → (ds : List Deed) → AreLeaving ds
+          → WakesOwn hand (act.Leave (One (key_of l Main)) (wakes_taken any HandOff)) (case_of hand ds)
+      tells_any hand false f ds h = subst (λ x. IsCalm (case_of x ds)) (sym f) (left_calm ds h)
+      tells_any hand true f ds h = inr (f, (refl, subst (λ x. IsCalm (case_of x ds)) (sym f) (handed_calm ds h)))
+
+  accepted : Accepts (call_move a c) (call_hears a c) → GoesFrom (place_at w t) act.Accept
+  accepted g = record {
+    whom = None;
+    goes = accepts w t l steady there own (rules_in w l) refl admits.0 (call_move a c) same_row (call_hears a c) g (next_place (place_at w t) Done) (λ h. followed None Done h (call_told_done a (rules_in w l) here t c None h));
+    tells = tells_by None Done tt (g.may (rules_in w l) here t);
+    others = calm_by (End ∷ []) g.deeds tt;
+  }
+
+  left : (m : Line) (key : ℕ) → key ≡ key_of l m → LeavesLine (call_move a c) (call_hears a c) m
+      → GoesFrom (place_at w t) (act.Remove key)
+  left m key e g = subst (λ j. GoesFrom (place_at w t) (act.Remove j)) (sym e) (record {
+    whom = None;
+    goes = leaves_line w t l steady there own (rules_in w l) refl (call_move a c) same_row asleep (call_hears a c) m g (λ b h. followed None (Removed b) h (call_told_other a c (Removed b) tt));
+    tells = tells_by None (reply_to w t (act.Remove (key_of l m))) tt (removed_hears w t l steady there own (rules_in w l) refl (call_move a c) same_row asleep (call_hears a c) m g);
+    others = calm_by (Case locks.Late ∷ []) (g.deeds _) tt;
+  })
+
+  picked : (key : ℕ) (start : Option Want) (b : Bool) → key ≡ key_of l Main → b ≡ a.recursive
+      → Picks (call_move a c) (call_hears a c) start → GoesFrom (place_at w t) (act.Take key (whom.TheVariants.Picked start b))
+  picked key start b e same_rule g = subst (λ j. GoesFrom (place_at w t) (act.Take j (whom.TheVariants.Picked start b))) (sym e) (subst (λ c. GoesFrom (place_at w t) (act.Take (key_of l Main) (whom.TheVariants.Picked start c))) (admits.1 ∙ sym same_rule) (record {
+    whom = None;
+    goes = takes_chosen w t l steady there own (rules_in w l) refl (call_move a c) same_row asleep (call_hears a c) many (line_there Main) start g follows;
+    tells = tells_by None _ tt (picked_hears w t l steady there own (rules_in w l) refl (call_move a c) same_row asleep (call_hears a c) many (line_there Main) start g follows);
+    others = calm_by (Case (locks.TakePicked start) ∷ []) (picked_deeds w t l steady there own (rules_in w l) refl (call_move a c) same_row asleep (call_hears a c) many (line_there Main) start g follows) tt;
+  }))
+    where
+      follows : (n : ℕ) (y : Option Want) (none_left : Bool) → call_hears a c (rules_in w l) here t None (Picked n y none_left)
+          → Followed None (Picked n y none_left)
+      follows n y none_left h = followed None (Picked n y none_left) h (call_told_other a c (Picked n y none_left) tt)
+
+  took : (key : ℕ) → key ≡ key_of l Second → TakesAside (call_move a c) (call_hears a c)
+      → GoesFrom (place_at w t) (act.Take key whom.TheVariants.First)
+  took key e g = subst (λ j. GoesFrom (place_at w t) (act.Take j whom.TheVariants.First)) (sym e) (record {
+    whom = here.lock.aside;
+    goes = takes_whom_aside w t l steady there own (rules_in w l) refl (call_move a c) same_row asleep (call_hears a c) many (line_there Second) g (λ any none_left h. followed here.lock.aside (Took any none_left) h (call_told_other a c (Took any none_left) tt));
+    tells = tells_by here.lock.aside (reply_to w t (act.Take (key_of l Second) whom.TheVariants.First)) tt (g.may (rules_in w l) here t _ _);
+    others = calm_by (takes_aside here.lock.aside ∷ []) (g.deeds here.lock.aside _ _) (aside_calm here.lock.aside);
+  })
+
+  -- by any act that hands nothing over
+  by_act : ((k : ℕ) (op : Op) → call_act l a c ≢ act.HandOver k op) → (y : Act) → call_act l a c ≡ y
+      → CallMoves l a.recursive (call_move a c) (call_hears a c) y → can_do w y ≡ true → GoesFrom (place_at w t) y
+  by_act plain (act.Word k op) e g can = subst (λ j. GoesFrom (place_at w t) (act.Word j op)) (sym g.0) (on_word op (e ∙ ap (λ j. act.Word j op) g.0) g.1)
+  by_act plain (act.Enter keys) e g can = into g.0 keys g.1 can g.2
+  by_act plain (act.Park k key check want) e g can = parked g.0 k key check want g.1 g.2 g.3
+  by_act plain (act.Take key (whom.TheVariants.Picked start b)) e g can = picked key start b g.0 g.1 g.2
+  by_act plain (act.Take key whom.TheVariants.First) e g can = took key g.0 g.1
+  by_act plain (act.Take key whom.TheVariants.All) e g can = absurd g
+  by_act plain (act.Remove key) e g can = left g.0 key g.1 g.2
+  by_act plain (act.Leave keys wakes) e g can = elim g [
+    | inl h ↦ out_of h.0 keys wakes h.1 h.2
+    | inr h ↦ tells_all keys wakes h.0 h.1
+  ]
+  by_act plain (act.HandOver k op) e g can = absurd (plain k op e)
+  by_act plain act.Accept e g can = accepted g
+  by_act plain act.Sleep e g can = absurd cc
+  by_act plain (act.End answer) e g can = absurd cc
+  by_act plain y e g can = absurd g
+
+  -- its deeds are what the place and the reply say
+  pub goes_unhanded : ((k : ℕ) (op : Op) → call_act l a c ≢ act.HandOver k op) → can_do w (call_act l a c) ≡ true
+      → GoesFrom (RwLock l a c) (call_act l a c)
+  goes_unhanded plain can = subst (λ q. GoesFrom q (call_act l a c)) is (by_act plain (call_act l a c) refl (fair_acts_move l a c stands) can)
+
+  -- ---------------------------------------------------------------- its time is up
+
+  pub rwlock_goes_late : (m : Line) → call_late_line c ≡ Some m → is_free w (key_of l m) ≡ true
+      → Goes w (state_after_late_under w t (key_of l m)) l (acts t (call_deeds a c None Late))
+  rwlock_goes_late m e free = goes_in w t l steady there own (rules_in w l) refl (call_move a c) same_row (call_hears a c) m Late (next_place (place_at w t) Late) (section_there m)
+      (none_is (section_at w (key_of l m)) free) (fair_late_moves a c m e) (λ h. followed None Late h (call_told_late a c m e))
+
+-- ---------------------------------------------------------------- a call begins
+
+-- a lock of such a kind lets in whom the call says
+pub admits_by : (k : Kind) → has_readers (rules_of k).sort ≡ true → Admits (rules_of k) (admission_of k)
+admits_by (kinds.RwLock limit) h = (refl, refl, refl)
+admits_by (kinds.Recursive limit) h = (refl, refl, refl)
+admits_by k h = absurd cc
+
+-- it begins where it fits its lock
+first_fits : (w : State) (l : ℕ) (a : Admission) (c : RwLockCall) → Admits (rules_in w l) a
+    → FitsItsLock w (RwLock l a (call_first c))
+first_fits w l a c admits = (admits, (calls_open a c).stands)
+
+module _ (w : State) (t l : ℕ) (c : RwLockCall) (steady : IsSteady w) (there : t < length w.places)
+    (idle_now : place_at w t ≡ Idle) (readers : has_readers (rules_in w l).sort ≡ true)
+    (right : call_right c t (owners_at w l) (share_at w l t) ≡ true) where
+  abbrev pub first : Place
+  first = RwLock l (admission_of (kind_at w l)) (call_first c)
+
+  pub opens : CallOpens (admission_of (kind_at w l)) c
+  opens = calls_open (admission_of (kind_at w l)) c
+
+  free_now : taken_at (place_at w t) l ≡ None
+  free_now = ap (λ q. taken_at q l) idle_now
+
+  -- with what it claims
+  pub rwlock_begins : Goes w (put w t first) l (acts t (Begin opens.opening.claims ∷ []))
+  rwlock_begins = place_goes w t l steady (rw idle_now tt) there (rules_in w l) refl first refl (first_fits w l (admission_of (kind_at w l)) c (admits_by (kind_at w l) readers)) (Begin opens.opening.claims ∷ []) (λ h. tt)
+      (steps_by (rules_in w l) l (parts_at w l) (parts_at w l) (place_at w) t first (Begin opens.opening.claims ∷ [])
+      (opens.has t (shares_at w l) (owners_at w l) (queue_at w (2 * l)) (queue_at w (2 * l + 1)) (λ u. taken_at (place_at w u) l) right, tt) (tt, tt)
+      (free_now ∙ sym (free_of first l tt (ap (λ (y : Station). y.hand) opens.opening.station)))
+      refl refl refl refl
+      (doing_here l first refl ∙ opens.opening.doing ∙ sym (put_here (λ u. doing_on (place_at w u) l) t (record (doing_on (place_at w t) l) { claims = opens.opening.claims }) ∙ ap (λ q. record (doing_on q l) { claims = opens.opening.claims }) idle_now)))
+      (opens.opening.station ∙ sym (ap station idle_now))

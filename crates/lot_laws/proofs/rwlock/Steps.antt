@@ -1,0 +1,198 @@
+-- A thread in a call of a reader-writer lock goes on by its act: for itself alone, or handing its right over to those whom it has in hand.
+use Rattle.std.proofs.Common.{ℕ, Bool, true, false, Option, Some, ◌≡◌, ◌≢◌, ◌<◌, List, [], length, refl, sym, ◌∙◌, ap, subst, append-nil}
+use Rattle.lot_base.specs.declared.ops.Op.{Op}
+use Rattle.lot_calls.specs.declared.calls.Access.TheVariants as access
+use Rattle.lot_acts.specs.declared.acts.Act.{Act}
+use Rattle.lot_acts.specs.declared.acts.Act.TheVariants as act
+use Rattle.lot_acts.specs.declared.acts.Reply.TheVariants.{Value}
+use Rattle.lot_acts.specs.Acts.{takes_effect}
+use Rattle.lot_acts.specs.Stations.{Station}
+use Rattle.lot_rwlock.specs.declared.places.Admission.{Admission}
+use Rattle.lot_rwlock.specs.declared.places.RwLockPlace.{RwLockPlace}
+use Rattle.lot_rwlock.specs.RwLockCalls.{MayStand}
+use Rattle.lot_rwlock.specs.RwLockMoves.{rwlock_move, rwlock_hears}
+use Rattle.lot_rwlock.specs.RwLockSteps.{rwlock_act}
+use Rattle.lot_rwlock.proofs.RwLockMoves.{rwlock_acts_move}
+use Rattle.lot_acts.specs.Moves.{Moves}
+use Rattle.lot_rwlock_fair.specs.declared.places.RwLockCallPlace.{RwLockCallPlace}
+use Rattle.lot_rwlock_fair.specs.declared.places.RwLockCallPlace.TheVariants.{Plain, Glance, HandOver, Bump, Handed}
+use Rattle.lot_rwlock_fair.specs.declared.hand_over.Taken.{Taken as Counted}
+use Rattle.lot_rwlock_fair.specs.declared.hand_over.HandOverAt.TheVariants as handing
+use Rattle.lot_rwlock_fair.specs.declared.handed.HandedAt.TheVariants as handed
+use Rattle.lot_rwlock_fair.specs.FairCalls.{CallStands, in_hand_of}
+use Rattle.lot_rwlock_fair.specs.FairDeeds.{call_deeds}
+use Rattle.lot_rwlock_fair.specs.FairLaws.{CallTells}
+use Rattle.lot_rwlock_fair.specs.FairMoves.{CallMoves, call_hears, call_move}
+use Rattle.lot_rwlock_fair.specs.FairProfiles.{call_profile}
+use Rattle.lot_rwlock_fair.specs.FairSteps.{call_act}
+use Rattle.lot_rwlock_fair.proofs.FairActs.{fair_acts_move}
+use Rattle.lot_steps.specs.declared.places.Place.TheVariants.{RwLock}
+use Rattle.lot_steps.specs.Steps.{lock_of, next_place}
+use Rattle.abstract_locks.specs.Deeds.{case_of, event_by}
+use Rattle.abstract_locks.specs.Locks.{LockCase}
+use Rattle.abstract_locks.specs.Sites.{Deed}
+use Rattle.lot_machine.specs.Machine.{State, can_do, place_at, put, reply_to, state_after_hand_over_by, word_at}
+use Rattle.lot_machine.specs.Fits.{IsShaped}
+use Rattle.lot_laws.specs.MutexDeeds.{acts}
+use Rattle.lot_laws.specs.SitesOf.{AreCounted, Goes, IsSteady, carried_at, rules_in}
+use Rattle.lot_laws.specs.Stations.{station}
+use Rattle.lot_laws.proofs.sites.ActsKept.{lock_by}
+use Rattle.lot_laws.proofs.machine.AtPlaces.{in_no_hand}
+use Rattle.lot_laws.proofs.calls.Events.{Happens, OthersFollow, happens, others_follow}
+use Rattle.lot_laws.proofs.hands.HandsOn.{g, hands_fails, hands_tell, whom}
+use Rattle.lot_laws.proofs.hands.HandsOnEvents.{hands_happen, hands_others}
+use Rattle.abstract_locks.specs.Sites.{has_readers}
+use Rattle.lot_laws.proofs.rwlock.Kept.{admits}
+use Rattle.lot_laws.proofs.promises.LineActs.{TakesHere, call_lines, takes_here}
+use Rattle.lot_laws.proofs.calls.OtherCalls.{Stay, IsCalm, WakesOwn, calm, hands_nothing, lonely, no_hand_off, wakes_own}
+use Rattle.lot_laws.proofs.promises.PlacePromises.{station_own}
+use Rattle.lot_laws.proofs.rwlock.Kept.{GoesFrom, goes_unhanded, stands}
+use Rattle.lot_laws.proofs.sites.SitesKept.{go_by}
+
+-- ---------------------------------------------------------------- who hands over
+
+-- a call that only enters and releases hands nothing over
+plain_gives : (l k : ℕ) (a : Admission) (p : RwLockPlace) (op : Op) → MayStand a p → rwlock_act l a p ≡ act.HandOver k op → ⊥
+plain_gives l k a p op may e = subst (λ x. Moves l a.recursive (rwlock_move a p) (rwlock_hears a p) x) e (rwlock_acts_move l a p may)
+
+-- who hands over says whom it has in hand
+pub gives_counted : (l k : ℕ) (a : Admission) (c : RwLockCallPlace) (op : Op) → CallStands a c
+    → call_act l a c ≡ act.HandOver k op → (n : Counted) × (in_hand_of c ≡ Some n)
+gives_counted l k a (HandOver x b (handing.Store n)) op may e = (n, refl)
+gives_counted l k a (HandOver x b (handing.Exchange n seen)) op may e = (n, refl)
+gives_counted l k a (HandOver x b (handing.Look n)) op may e = (n, refl)
+gives_counted l k a (HandOver x b (handing.Leave any given)) op may e = absurd cc
+gives_counted l k a (HandOver x b to) op may e = absurd cc
+gives_counted l k a (Plain p) op may e = absurd (plain_gives l k a p op may e)
+gives_counted l k a (Bump p) op may e = absurd (plain_gives l k a p op may.0 e)
+gives_counted l k a (Glance x) op may e = absurd cc
+gives_counted l k a (Handed x how b (handed.Asleep u alone)) op may e = absurd cc
+gives_counted l k a (Handed access.Exclusive how b handed.Accept) op may e = absurd cc
+gives_counted l k a (Handed access.Shared how b handed.Accept) op may e = absurd cc
+gives_counted l k a (Handed access.Upgradable how b handed.Accept) op may e = absurd cc
+
+-- ---------------------------------------------------------------- what an act does
+
+module _ (w : State) (t l : ℕ) (a : Admission) (c : RwLockCallPlace) where
+  -- where it leads
+  abbrev pub then_by : Act → State
+  then_by y = go_by w t (RwLock l a c) y
+
+  abbrev pub deeds_by : Option ℕ → Act → List Deed
+  deeds_by whom y = call_deeds a c whom (reply_to w t y)
+
+  abbrev pub case_by : Option ℕ → Act → Option LockCase
+  case_by whom y = case_of (call_profile a c).carries (deeds_by whom y)
+
+  -- its deeds are one event of the lock, which its call allows, and by which it goes on with those of the others
+  pub record GoesOnBy (y : Act) : Type 0 where
+    pub whom : Option ℕ
+    pub tells : CallTells (rules_in w l) a (lock_by w l (rules_in w l)) t l c whom (reply_to w t y)
+    pub happened : Happens w (then_by y) t (event_by l (case_by whom y))
+    pub others : OthersFollow w (then_by y) t (event_by l (case_by whom y))
+
+module _ (w : State) (t l : ℕ) (a : Admission) (c : RwLockCallPlace) (steady : IsSteady w) (shape : IsShaped w)
+    (there : t < length w.places) (lt : l < length w.locks) (is : place_at w t ≡ RwLock l a c) where
+  of : lock_of (place_at w t) ≡ Some l
+  of = ap lock_of is
+
+  -- whom it has in hand, by its place
+  pub carries : carried_at (place_at w t) l ≡ (call_profile a c).carries
+  carries = ap (λ (y : Station). y.carries) (station_own (place_at w t) l of) ∙ ap (λ q. (station q).carries) is
+
+  abbrev goes : Option ℕ → Act → Type 0
+  goes whom y = Goes w (then_by w t l a c y) l (acts t (deeds_by w t l a c whom y))
+
+  abbrev tells : Option ℕ → Act → Type 0
+  tells whom y = CallTells (rules_in w l) a (lock_by w l (rules_in w l)) t l c whom (reply_to w t y)
+
+  -- nobody else claims anything
+  happens_by : (y : Act) (whom : Option ℕ) → goes whom y → tells whom y
+      → Happens w (then_by w t l a c y) t (event_by l (case_by w t l a c whom y))
+  happens_by y whom went told = happens w (then_by w t l a c y) t l (call_profile a c).carries (deeds_by w t l a c whom y) [] steady (subst (Goes w (then_by w t l a c y) l) (sym (append-nil (acts t (deeds_by w t l a c whom y)))) went) tt told.one
+      (λ none. in_no_hand w steady t l (λ h. none (sym carries ∙ h)))
+
+  -- for itself alone
+  module _ (y : Act) (here : TakesHere l y) (from : GoesFrom w t l a c steady shape there lt is (RwLock l a c) y) where
+    abbrev own_case : Option LockCase
+    own_case = case_by w t l a c from.whom y
+
+    own_happened : Happens w (then_by w t l a c y) t (event_by l own_case)
+    own_happened = happens_by y from.whom from.goes from.tells
+
+    -- those in its hand are woken, and nobody else's call changes
+    own_others : OthersFollow w (then_by w t l a c y) t (event_by l own_case)
+    own_others = others_follow w (then_by w t l a c y) t l own_case own_happened (hands_nothing w (then_by w t l a c y) t l own_case own_happened (call_profile a c).carries y own_case from.others)
+        (wakes_own w t l steady (rw is refl) (next_place (RwLock l a c) (reply_to w t y)) (λ e. let some : has_readers (rules_in w l).sort ≡ true = (admits w t l a c steady shape there lt is).0 in let none : has_readers (rules_in w l).sort ≡ false = ap has_readers e in cc) (RwLock l a c) y here own_case (subst (λ h. WakesOwn h y own_case) (sym carries) from.others))
+
+    by_own : GoesOnBy w t l a c y
+    by_own = record { whom = from.whom; tells = from.tells; happened = own_happened; others = own_others }
+
+  -- to those whom it has in hand, where its operation takes effect
+  module _ (k : Counted) (is_k : in_hand_of c ≡ Some k) (counted : AreCounted w) (op : Op)
+      (e : call_act l a c ≡ act.HandOver l op) where
+    abbrev heir : Option ℕ
+    heir = whom w t l a c steady shape there lt is k is_k (counted t l a c k is is_k) op e
+
+    told_so : tells heir (act.HandOver l op)
+    told_so = hands_tell w t l a c steady shape there lt is k is_k (counted t l a c k is is_k) op e
+
+    hands : takes_effect op (word_at w l) ≡ true → GoesOnBy w t l a c (act.HandOver l op)
+    hands takes = record {
+      whom = heir;
+      tells = told_so;
+      happened = hands_happen w t l a c steady shape there lt is k is_k (counted t l a c k is is_k) op e takes;
+      others = hands_others w t l a c steady shape there lt is k is_k (counted t l a c k is is_k) op e takes;
+    }
+
+    -- and else it looks again
+    module _ (fails : takes_effect op (word_at w l) ≡ false) where
+      abbrev behind : State
+      behind = then_by w t l a c (act.HandOver l op)
+
+      abbrev case : Option LockCase
+      case = case_by w t l a c heir (act.HandOver l op)
+
+      happened : Happens w behind t (event_by l case)
+      happened = happens_by (act.HandOver l op) heir (subst (λ q. Goes w (put (state_after_hand_over_by (takes_effect op (word_at w l)) w t (RwLock l a c) l op) t (next_place q (Value (word_at w l)))) l (acts t (deeds_by w t l a c heir (act.HandOver l op)))) is
+          (hands_fails w t l a c steady shape there lt is k is_k (counted t l a c k is is_k) op e fails)) told_so
+
+      calmly : IsCalm case
+      calmly = subst (λ ds. IsCalm (case_of (call_profile a c).carries ds)) (sym ((g w t l a c steady shape there lt is k is_k (counted t l a c k is is_k) op e).fails heir (word_at w l) fails)) tt
+
+      stay : Stay w t (next_place (RwLock l a c) (Value (word_at w l))) behind
+      stay = subst (λ b. Stay w t (next_place (RwLock l a c) (Value (word_at w l))) (put (state_after_hand_over_by b w t (RwLock l a c) l op) t (next_place (RwLock l a c) (Value (word_at w l))))) (sym fails)
+          (lonely w t (next_place (RwLock l a c) (Value (word_at w l))) (RwLock l a c) (act.Word l op) tt)
+
+      others : OthersFollow w behind t (event_by l case)
+      others = others_follow w behind t l case happened (no_hand_off w behind t l case happened case calmly) (calm w t (next_place (RwLock l a c) (Value (word_at w l))) behind l case calmly stay)
+
+      looks : GoesOnBy w t l a c (act.HandOver l op)
+      looks = record { whom = heir; tells = told_so; happened = happened; others = others }
+
+    pub by_effect : (b : Bool) → takes_effect op (word_at w l) ≡ b → GoesOnBy w t l a c (act.HandOver l op)
+    by_effect true f = hands f
+    by_effect false f = looks f
+
+    pub effect_whom : (b : Bool) (f : takes_effect op (word_at w l) ≡ b) → (by_effect b f).whom ≡ heir
+    unfolding by_effect hands looks
+    effect_whom true f = refl
+    effect_whom false f = refl
+
+  -- wherever it stands
+  pub rwlock_goes_on : AreCounted w → can_do w (call_act l a c) ≡ true → GoesOnBy w t l a c (call_act l a c)
+  rwlock_goes_on counted can = by_act (call_act l a c) refl
+    where
+      may : CallStands a c
+      may = stands w t l a c steady shape there lt is
+
+      alone : ((k : ℕ) (op : Op) → call_act l a c ≢ act.HandOver k op) → GoesOnBy w t l a c (call_act l a c)
+      alone plain = by_own (call_act l a c) (takes_here l (station (RwLock l a c)) (call_act l a c) (call_lines l a c)) (goes_unhanded w t l a c steady shape there lt is plain can)
+
+      by_act : (y : Act) → call_act l a c ≡ y → GoesOnBy w t l a c (call_act l a c)
+      by_act (act.HandOver k op) e =
+          let n = gives_counted l k a c op may e in
+          let same_lock : k ≡ l = (subst (CallMoves l a.recursive (call_move a c) (call_hears a c)) e (fair_acts_move l a c may)).0 in
+          let here : call_act l a c ≡ act.HandOver l op = e ∙ ap (λ j. act.HandOver j op) same_lock in
+          subst (GoesOnBy w t l a c) (sym here) (by_effect n.0 n.1 counted op here (takes_effect op (word_at w l)) refl)
+      by_act y e = alone (λ k op f. let g : y ≡ act.HandOver k op = sym e ∙ f in cc)

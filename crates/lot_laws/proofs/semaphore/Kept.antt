@@ -1,0 +1,473 @@
+-- A thread in a call of a semaphore goes on: every lock is a site again.
+use Rattle.std.proofs.Common.{inl, ℕ, Bool, true, false, Option, Some, None, if◌then◌else◌, ◌-◌, ◌==◌, ◌≡◌, ◌≢◌, ◌+◌, ◌*◌, ◌≤◌, ◌<◌, List, [], ◌∷◌, length, not, refl, sym, ◌∙◌, ap, subst, arith}
+use Rattle.std.specs.Prelude.{is_none, ◌&&◌}
+use Rattle.std.proofs.lemmas.Bool.{eqb-true}
+use Rattle.std.proofs.lemmas.Bool.Decides.{nat_tests}
+use Rattle.lot_base.specs.declared.keys.Keys.{Keys}
+use Rattle.lot_base.specs.declared.keys.Keys.TheVariants.{One}
+use Rattle.lot_base.specs.declared.notes.Note.TheVariants.{Normal}
+use Rattle.lot_base.specs.declared.ops.Op.{Op}
+use Rattle.lot_base.specs.declared.ops.Op.TheVariants as ops
+use Rattle.lot_base.specs.Words.{apply}
+use Rattle.lot_base.specs.Lines.{first_of}
+use Rattle.lot_base.specs.declared.wants.Want.{Want}
+use Rattle.lot_base.specs.declared.wants.Want.TheVariants.{Shared}
+use Rattle.lot_calls.specs.declared.calls.Patience.TheVariants as how
+use Rattle.lot_calls.specs.declared.calls.SemaphoreCall.{SemaphoreCall}
+use Rattle.lot_calls.specs.declared.calls.SemaphoreCall.TheVariants as semaphore_call
+use Rattle.lot_acts.specs.declared.acts.Check.{Check}
+use Rattle.lot_acts.specs.declared.acts.Act.{Act}
+use Rattle.lot_acts.specs.declared.acts.Act.TheVariants as act
+use Rattle.lot_acts.specs.declared.acts.Next.{Next}
+use Rattle.lot_acts.specs.declared.acts.Next.TheVariants as next
+use Rattle.lot_acts.specs.declared.acts.Reply.{Reply}
+use Rattle.lot_acts.specs.declared.acts.Reply.TheVariants.{Done, Value, Parked, Took, Removed, TakenBy, Late, Woken}
+use Rattle.lot_acts.specs.declared.acts.Wakes.{Wakes}
+use Rattle.lot_acts.specs.declared.acts.Whom.TheVariants as whom
+use Rattle.lot_acts.specs.Acts.{holds, wakes_taken}
+use Rattle.lot_acts.specs.Calls.{CallFollows}
+use Rattle.lot_acts.specs.Moves.{StaysPut, GoesIn, GoesOut, LeavesLine, AreLeaving, Parks, Waits, parks_in, row_of}
+use Rattle.lot_acts.specs.Profiles.{Profile, in_hand}
+use Rattle.lot_acts.specs.Owners.{lock_seen, shares_then}
+use Rattle.abstract_locks.specs.Locks.{LockState, Rules}
+use Rattle.abstract_locks.specs.Locks as locks
+use Rattle.abstract_locks.specs.Sites.{Begin, Case, Claim, Deed, End, Has, In, Line, Main, Mark, Second, Site, has_readers}
+use Rattle.abstract_locks.specs.Codes.{aside_in, code, has_parked, parked_in}
+use Rattle.abstract_locks.specs.Deeds.{case_of}
+use Rattle.abstract_locks.specs.Deeds as laws
+use Rattle.lot_semaphore.specs.declared.acquire.AcquireAt.TheVariants as acquire
+use Rattle.lot_semaphore.specs.declared.tries.TryAt.TheVariants as tries
+use Rattle.lot_semaphore.specs.declared.release.ReleaseAt.TheVariants as release
+use Rattle.lot_semaphore.specs.declared.places.SemaphorePlace.{SemaphorePlace}
+use Rattle.lot_semaphore.specs.declared.places.SemaphorePlace.TheVariants.{Acquire, Try, Release}
+use Rattle.lot_semaphore.specs.SemaphoreDeeds.{enters, semaphore_deeds, takes}
+use Rattle.lot_semaphore.specs.SemaphoreLaws.{Follows, IsAt, LeavesWord, MayHear, doing_next, next_row, semaphore_doing}
+use Rattle.lot_semaphore.specs.SemaphoreProfiles.{semaphore_profile}
+use Rattle.lot_semaphore.specs.SemaphoreSteps.{is_free, semaphore_act, semaphore_first, semaphore_next, semaphore_right, semaphore_shares}
+use Rattle.lot_semaphore.proofs.SemaphoreCode.{semaphore_steps_code}
+use Rattle.lot_semaphore.proofs.SemaphoreFit.{semaphore_steps_follow}
+use Rattle.lot_semaphore.proofs.SemaphoreTells.{semaphore_steps_tell}
+use Rattle.lot_semaphore.proofs.SemaphoreWords as words
+use Rattle.lot_steps.specs.declared.places.Place.{Place}
+use Rattle.lot_steps.specs.declared.places.Place.TheVariants.{Idle, Mutex, RwLock, Once, Condvar, Semaphore}
+use Rattle.lot_mutex.specs.declared.places.MutexPlace.{MutexPlace}
+use Rattle.lot_once.specs.declared.places.OncePlace.{OncePlace}
+use Rattle.lot_rwlock.specs.declared.places.Admission.{Admission}
+use Rattle.lot_rwlock_fair.specs.declared.places.RwLockCallPlace.{RwLockCallPlace}
+use Rattle.lot_condvar.specs.declared.places.CondvarPlace.{CondvarPlace}
+use Rattle.lot_steps.specs.Steps.{calls, next_place, profile, semaphore_goes}
+use Rattle.lot_machine.specs.Machine.{State, are_free, can_do, is_free as is_free_in, state_after_late_under, kind_at, owners_at, place_at, put, queue_at, reply_to, section_at, share_at, shares_at, state_after_act, word_at}
+use Rattle.lot_machine.specs.Fits.{IsShaped}
+use Rattle.lot_machine.proofs.Shape.{main_key_there}
+use Rattle.lot_laws.specs.Refinement.{taken_at}
+use Rattle.lot_laws.specs.MutexDeeds.{acts}
+use Rattle.lot_laws.specs.Stations.{doing_on, station}
+use Rattle.lot_laws.specs.SitesOf.{FitsItsLock, GivesUpTimed, Goes, IsSteady, TakesOne, is_mutex, key_of, rules_in}
+use Rattle.lot_laws.proofs.sites.ActsKept.{lock_by, place_goes}
+use Rattle.lot_laws.proofs.sites.OneStep.{steps_by}
+use Rattle.lot_laws.proofs.machine.Parts.{not_beside, IsOf, doing_here, free_of, next_of, parts_at, put_here}
+use Rattle.lot_laws.proofs.sites.MovesKept.{IsFollowed, SleepsIfCalls, IsSleeper, entered_hears, goes_in, goes_out, leaves_line, left_hears, parked_hears, parks_or_turns, removed_hears, wakes_one}
+use Rattle.lot_laws.proofs.once.MovesKept.{stays_unshared}
+use Rattle.lot_laws.proofs.calls.OtherCalls.{IsCalm, WakesOwn}
+use Rattle.lot_laws.proofs.rwlock.Kept.{left_calm, left_wakes, word_calm, calm_case, AreCalm}
+use Rattle.lot_laws.proofs.semaphore.Moves.{NextTimed, SemaphoreMoves, TakesFirst, next_timed, semaphore_acts_move, semaphore_hears, semaphore_late_move, semaphore_move, semaphore_sleepers_move}
+use Rattle.lot_laws.proofs.semaphore.MovesKept.{takes_first}
+use Rattle.lot_laws.proofs.sites.StandsMoved.{mutex_rules}
+
+-- ---------------------------------------------------------------- rows
+
+-- where a place leads, its row does
+goes_row : (l : ℕ) (n : Next SemaphorePlace) → profile (semaphore_goes l n) ≡ row_of (next_row n)
+goes_row l (next.At p) = refl
+goes_row l (next.End answer) = refl
+
+doing_is : (n : Next SemaphorePlace) → doing_next n ≡ (row_of (next_row n)).doing
+doing_is (next.At p) = refl
+doing_is (next.End answer) = refl
+
+-- ---------------------------------------------------------------- its word
+
+-- it has no second line, and nothing but who holds a permit changes
+module _ (r : Rules) (s : Site) (t : ℕ) where
+  pub record OnlyPermits (ds : List Deed) : Type 0 where
+    pub aside : (laws.after_all r ds s t).aside_parked ≡ s.aside_parked
+    pub lock : (laws.after_all r ds s t).lock ≡ record s.lock { shared = (laws.after_all r ds s t).lock.shared }
+
+  exchanged_only : (other free : Bool) → OnlyPermits (if other then [] else if free then enters else Mark Main ∷ [])
+  exchanged_only true free = record { aside = refl; lock = refl }
+  exchanged_only false true = record { aside = refl; lock = refl }
+  exchanged_only false false = record { aside = refl; lock = refl }
+
+  looked_only : (free : Bool) → OnlyPermits (if free then [] else End ∷ [])
+  looked_only true = record { aside = refl; lock = refl }
+  looked_only false = record { aside = refl; lock = refl }
+
+  attempted_only : (won free : Bool) → OnlyPermits (if won then enters else if free then [] else End ∷ [])
+  attempted_only true free = record { aside = refl; lock = refl }
+  attempted_only false free = looked_only free
+
+  given_only : (parked : Bool) → OnlyPermits (Case (locks.Leave Shared) ∷ (if parked then [] else End ∷ []))
+  given_only true = record { aside = refl; lock = refl }
+  given_only false = record { aside = refl; lock = refl }
+
+  only_permits : (l : ℕ) (p : SemaphorePlace) (op : Op) (v : ℕ) → semaphore_act l p ≡ act.Word l op → OnlyPermits (semaphore_deeds p None (Value v))
+  only_permits l (Acquire timed again acquire.Load) op v e = record { aside = refl; lock = refl }
+  only_permits l (Acquire timed again (acquire.Decide was)) op v e = exchanged_only (not (v == was)) (is_free v)
+  only_permits l (Acquire timed again acquire.Clear) op v e = record { aside = refl; lock = refl }
+  only_permits l (Acquire timed again at) op v e = absurd cc
+  only_permits l (Try tries.Load) op v e = looked_only (is_free v)
+  only_permits l (Try (tries.Decide was)) op v e = attempted_only ((v == was) && is_free v) (is_free v)
+  only_permits l (Release release.Add) op v e = given_only (has_parked v)
+  only_permits l (Release (release.Clear any)) op v e = record { aside = refl; lock = refl }
+  only_permits l (Release at) op v e = absurd cc
+
+  -- it sees the word as it is
+  sees_word : (l : ℕ) (p : SemaphorePlace) (op : Op) → semaphore_act l p ≡ act.Word l op → MayHear r s t p None (Value (code r s))
+  sees_word l (Acquire timed again acquire.Load) op e = refl
+  sees_word l (Acquire timed again (acquire.Decide was)) op e = refl
+  sees_word l (Acquire timed again acquire.Clear) op e = refl
+  sees_word l (Acquire timed again at) op e = absurd cc
+  sees_word l (Try tries.Load) op e = refl
+  sees_word l (Try (tries.Decide was)) op e = refl
+  sees_word l (Release release.Add) op e = refl
+  sees_word l (Release (release.Clear any)) op e = refl
+  sees_word l (Release at) op e = absurd cc
+
+nobody_is : (o : Option ℕ) → is_none o ≡ true → o ≡ None
+nobody_is None h = refl
+nobody_is (Some u) h = absurd cc
+
+takes_calm : (who : Option ℕ) → AreCalm (takes who)
+takes_calm None = tt
+takes_calm (Some u) = tt
+
+-- whom an act takes, if anybody
+abbrev pub whom_by : State → Act → Option ℕ
+whom_by w (act.Take key whom.First) = first_of (queue_at w key)
+whom_by w y = None
+
+-- only the end of its time is told a thread as such
+late_tells_timed : (timed : Bool) (told : Reply) → told ≢ Late → told ≡ Late → timed ≡ true
+late_tells_timed timed told ne e = absurd (ne e)
+
+-- ---------------------------------------------------------------- one thread
+
+module _ (w : State) (t l : ℕ) (at : SemaphorePlace) (steady : IsSteady w) (shape : IsShaped w) (there : t < length w.places)
+    (lt : l < length w.locks) (is : place_at w t ≡ Semaphore l at) where
+  pub fits_now : FitsItsLock w (Semaphore l at)
+  fits_now = subst (FitsItsLock w) is (steady.stands.calls t)
+
+  pub sort_is : (rules_in w l).sort ≡ locks.Semaphore
+  sort_is = fits_now.0
+
+  pub own : IsOf l (place_at w t)
+  own = rw is refl
+
+  same_row : profile (place_at w t) ≡ semaphore_profile at
+  same_row = ap profile is
+
+  abbrev here : Site
+  here = lock_by w l (rules_in w l)
+
+  doing_now : here.doing t ≡ semaphore_doing at
+  doing_now = doing_here l (place_at w t) own ∙ ap (λ (y : Profile). y.doing) same_row
+
+  pub at_now : IsAt (rules_in w l) here t at
+  at_now = record {
+    sort = sort_is;
+    small = (steady.sites.permits l sort_is).1;
+    site = steady.sites.site l;
+    few = (steady.sites.site l).state.within sort_is;
+    here = subst (λ n. t < n) (sym (steady.numbers.threads l)) there;
+    doing = doing_now;
+  }
+
+  unshared : has_readers (rules_in w l).sort ≡ false
+  unshared = ap has_readers sort_is
+
+  pub fits_next : (k : ℕ) (n : Next SemaphorePlace) → (rules_in w k).sort ≡ locks.Semaphore → NextTimed n → FitsItsLock w (semaphore_goes k n)
+  fits_next k (next.At p) h timed = (h, timed)
+  fits_next k (next.End answer) h timed = tt
+
+  -- what its laws conclude
+  abbrev Followed : Option ℕ → Reply → Type 0
+  Followed who told = IsFollowed w t l steady there own (rules_in w l) refl (semaphore_move at) same_row who told (next_place (place_at w t) told)
+
+  followed_by : (who : Option ℕ) (told : Reply) → (told ≡ Late → (semaphore_profile at).timed ≡ true) → Follows (rules_in w l) here t at who told → Followed who told
+  followed_by who told late f = record {
+    of = next_of l (place_at w t) told own;
+    fits = subst (λ q. FitsItsLock w (next_place q told)) (sym is) (fits_next l (semaphore_next at told) sort_is (next_timed at told fits_now.1 late));
+    row = ap (λ q. profile (next_place q told)) is ∙ goes_row l (semaphore_next at told);
+    needed = f.needed;
+    doing = f.doing ∙ doing_is (semaphore_next at told);
+  }
+
+  followed : (who : Option ℕ) (told : Reply) → told ≢ Late → MayHear (rules_in w l) here t at who told → Followed who told
+  followed who told now hears = followed_by who told (late_tells_timed (semaphore_profile at).timed told now) (semaphore_steps_follow (rules_in w l) here t at who told at_now hears)
+
+  -- ---------------------------------------------------------------- who else calls the semaphore
+
+  many : TakesOne w l → ⊥
+  many one = let both : locks.Mutex ≡ locks.Semaphore = sym one ∙ sort_is in cc
+
+  asleep : (u : ℕ) → SleepsIfCalls w t l steady there own (rules_in w l) refl (semaphore_move at) same_row u
+  asleep u = record { apart = not_beside w (place_at w u) l (steady.stands.calls u) many; sleeper = λ h. by_place (place_at w u) refl h }
+    where
+      of_condvar : (k : ℕ) (c : CondvarPlace) → place_at w u ≡ Condvar k c → k ≡ l → ⊥
+      of_condvar k c e same_lock =
+          let fits : FitsItsLock w (Condvar k c) = subst (FitsItsLock w) e (steady.stands.calls u) in
+          let both : locks.Condvar ≡ locks.Semaphore = sym fits.sort ∙ ap (λ j. (rules_in w j).sort) same_lock ∙ sort_is in cc
+
+      of_once : (k : ℕ) (c : OncePlace) → place_at w u ≡ Once k c → k ≡ l → ⊥
+      of_once k c e same_lock =
+          let fits : (rules_in w k).sort ≡ locks.Once = subst (FitsItsLock w) e (steady.stands.calls u) in
+          let both : locks.Once ≡ locks.Semaphore = sym fits ∙ ap (λ j. (rules_in w j).sort) same_lock ∙ sort_is in cc
+
+      of_mutex : (k : ℕ) (m : MutexPlace) → place_at w u ≡ Mutex k m → k ≡ l → ⊥
+      of_mutex k m e same_lock =
+          let fits : is_mutex (kind_at w k) ≡ true = subst (FitsItsLock w) e (steady.stands.calls u) in
+          let one : (rules_in w k).sort ≡ locks.Mutex = ap (λ (r : Rules). r.sort) (mutex_rules (kind_at w k) fits) in
+          let both : locks.Mutex ≡ locks.Semaphore = sym one ∙ ap (λ j. (rules_in w j).sort) same_lock ∙ sort_is in cc
+
+      of_rwlock : (k : ℕ) (a : Admission) (c : RwLockCallPlace) → place_at w u ≡ RwLock k a c → k ≡ l → ⊥
+      of_rwlock k a c e same_lock =
+          let fits : FitsItsLock w (RwLock k a c) = subst (FitsItsLock w) e (steady.stands.calls u) in
+          let both : true ≡ false = sym fits.0.0 ∙ ap (λ j. has_readers (rules_in w j).sort) same_lock ∙ unshared in cc
+
+      by_place : (q : Place) → place_at w u ≡ q → calls q l ≡ true
+          → IsSleeper w t l steady there own (rules_in w l) refl (semaphore_move at) same_row u
+      by_place Idle e g = absurd cc
+      by_place (Condvar k c) e g = absurd (of_condvar k c e (eqb-true k l g))
+      by_place (Once k c) e g = absurd (of_once k c e (eqb-true k l g))
+      by_place (Mutex k m) e g = absurd (of_mutex k m e (eqb-true k l g))
+      by_place (RwLock k a c) e g = absurd (of_rwlock k a c e (eqb-true k l g))
+      by_place (Semaphore k p) e g = record {
+        single = rw e tt;
+        move = semaphore_move p;
+        row = ap profile e;
+        waits = record { aside = z.aside; stands = z.stands; held = λ v h. (z.held v false h).1 };
+        taken = ap (λ y. profile (next_place y (TakenBy t))) e ∙ goes_row k (semaphore_next p (TakenBy t));
+        woken = ap (λ y. profile (next_place y (Woken Normal))) e ∙ goes_row k (semaphore_next p (Woken Normal));
+        taken_fits = subst (λ y. FitsItsLock w (next_place y (TakenBy t))) (sym e) (fits_next k (semaphore_next p (TakenBy t)) fits_u.0 (next_timed p (TakenBy t) fits_u.1 (λ x. absurd cc)));
+        woken_fits = subst (λ y. FitsItsLock w (next_place y (Woken Normal))) (sym e) (fits_next k (semaphore_next p (Woken Normal)) fits_u.0 (next_timed p (Woken Normal) fits_u.1 (λ x. absurd cc)));
+      }
+        where
+          z : Waits (semaphore_move p)
+          z = semaphore_sleepers_move p
+
+          fits_u : FitsItsLock w (Semaphore k p)
+          fits_u = subst (FitsItsLock w) e (steady.stands.calls u)
+
+  -- ---------------------------------------------------------------- each act
+
+  -- its deeds as it goes on from a place, what they make of its call, and of those of the others
+  pub record GoesFrom (q : Place) (y : Act) : Type 0 where
+    pub goes : Goes w (put (state_after_act w t (Semaphore l at) y) t (next_place q (reply_to w t y))) l
+        (acts t (semaphore_deeds at (whom_by w y) (reply_to w t y)))
+    pub tells : CallFollows (rules_in w l) here.lock t l (semaphore_profile at) (semaphore_deeds at (whom_by w y) (reply_to w t y))
+        (next_row (semaphore_next at (reply_to w t y)))
+    pub others : WakesOwn ((semaphore_profile at).carries) y
+        (case_of ((semaphore_profile at).carries) (semaphore_deeds at (whom_by w y) (reply_to w t y)))
+
+  tells_by : (who : Option ℕ) (told : Reply) → told ≢ Late → MayHear (rules_in w l) here t at who told
+      → CallFollows (rules_in w l) here.lock t l (semaphore_profile at) (semaphore_deeds at who told) (next_row (semaphore_next at told))
+  tells_by who told now hears = semaphore_steps_tell (rules_in w l) here t l at who told at_now hears now
+
+  calm_by : (ds : List Deed) {x : List Deed} → x ≡ ds → AreCalm ds → IsCalm (case_of ((semaphore_profile at).carries) x)
+  calm_by ds e h = subst (λ (x : List Deed). IsCalm (case_of ((semaphore_profile at).carries) x)) (sym e) (calm_case ((semaphore_profile at).carries) ds h)
+
+  section_there : (m : Line) → key_of l m < length w.sections
+  section_there Main = main_key_there w l shape lt
+  section_there Second = let e : length w.sections ≡ 2 * length w.locks = shape.sections in omega arith
+
+  line_there : (m : Line) → key_of l m < length w.queues
+  line_there m = let e : length w.queues ≡ length w.sections = shape.queues in let h : key_of l m < length w.sections = section_there m in omega arith
+
+  word_is : word_at w l ≡ code (rules_in w l) here
+  word_is = steady.sites.word l
+
+  -- one operation on the word
+  on_word : (op : Op) → semaphore_act l at ≡ act.Word l op → StaysPut (semaphore_move at) → GoesFrom (place_at w t) (act.Word l op)
+  on_word op e g = record {
+    goes = stays_unshared w t l steady there own (rules_in w l) refl (semaphore_move at) same_row unshared (Semaphore l at) (next_place (place_at w t) (Value (word_at w l))) op g on.0 lt on.1 on.2 parked aside;
+    tells = subst (λ v. CallFollows (rules_in w l) here.lock t l (semaphore_profile at) (semaphore_deeds at None (Value v)) (next_row (semaphore_next at (Value v)))) (sym word_is) (tells_by None (Value (code (rules_in w l) here)) (λ x. cc) sees);
+    others = calm_by (semaphore_deeds at None (Value (word_at w l))) refl (word_calm (semaphore_deeds at None (Value (word_at w l))) (g.deeds (word_at w l)));
+  }
+    where
+      sees : MayHear (rules_in w l) here t at None (Value (code (rules_in w l) here))
+      sees = sees_word (rules_in w l) here t l at op e
+
+      leaves : LeavesWord (rules_in w l) here t at None op
+      leaves = semaphore_steps_code (rules_in w l) here t l at None op at_now sees e
+
+      only : OnlyPermits (rules_in w l) here t (semaphore_deeds at None (Value (code (rules_in w l) here)))
+      only = only_permits (rules_in w l) here t l at op (code (rules_in w l) here) e
+
+      at_word : ℕ → Type 0
+      at_word v = Followed None (Value v)
+          × (lock_seen (shares_then (shares_at w l) t (semaphore_shares at v (share_at w l t))) (owners_at w l) (queue_at w (2 * l)) (queue_at w (2 * l + 1)) (λ u. taken_at (place_at w u) l)
+          ≡ (laws.after_all (rules_in w l) (semaphore_deeds at None (Value v)) here t).lock)
+          × (apply op v ≡ code (rules_in w l) (laws.after_all (rules_in w l) (semaphore_deeds at None (Value v)) here t))
+          × ((laws.after_all (rules_in w l) (semaphore_deeds at None (Value v)) here t).aside_parked ≡ here.aside_parked)
+
+      on : at_word (word_at w l)
+      on = subst at_word (sym word_is) (
+        followed None (Value (code (rules_in w l) here)) (λ x. cc) sees,
+        (λ i. record here.lock { shared = leaves.permits i }) ∙ sym only.lock,
+        leaves.word,
+        only.aside,
+      )
+
+      behind : Site
+      behind = laws.after_all (rules_in w l) (semaphore_deeds at None (Value (word_at w l))) here t
+
+      parked : parked_in (rules_in w l).sort (apply op (word_at w l)) ≡ behind.parked
+      parked = ap (λ x. parked_in x (apply op (word_at w l))) sort_is ∙ ap has_parked (on.2 ∙ words.coded (rules_in w l) behind sort_is) ∙ words.parked_is _ behind.parked
+
+      aside : aside_in (rules_in w l).sort (apply op (word_at w l)) ≡ behind.aside_parked
+      aside = ap (λ x. aside_in x (apply op (word_at w l))) sort_is ∙ sym (ap (λ x. aside_in x (word_at w l)) sort_is) ∙ sym on.3
+
+  into : (m : Line) (keys : Keys) → keys ≡ One (key_of l m) → are_free w keys ≡ true
+      → GoesIn (semaphore_move at) (semaphore_hears at) m Done → GoesFrom (place_at w t) (act.Enter keys)
+  into m keys e free g = subst (λ k. GoesFrom (place_at w t) (act.Enter k)) (sym e) (record {
+    goes = goes_in w t l steady there own (rules_in w l) refl (semaphore_move at) same_row (semaphore_hears at) m Done (next_place (place_at w t) Done) (section_there m) is_free_now g (λ h. followed None Done (λ x. cc) h);
+    tells = tells_by None Done (λ x. cc) (entered_hears w t l steady there own (rules_in w l) refl (semaphore_move at) same_row (semaphore_hears at) m Done is_free_now g);
+    others = calm_by (In m ∷ []) g.deeds tt;
+  })
+    where
+      is_free_now : section_at w (key_of l m) ≡ None
+      is_free_now = nobody_is (section_at w (key_of l m)) (subst (λ k. are_free w k ≡ true) e free)
+
+  out_of : (m : Line) (keys : Keys) (wakes : Wakes) → keys ≡ One (key_of l m) → GoesOut (semaphore_move at) (semaphore_hears at) m wakes
+      → GoesFrom (place_at w t) (act.Leave keys wakes)
+  out_of m keys wakes e g = subst (λ k. GoesFrom (place_at w t) (act.Leave k wakes)) (sym e) (record {
+    goes = goes_out w t l steady there own (rules_in w l) refl (semaphore_move at) same_row (semaphore_hears at) m wakes (next_place (place_at w t) Done) (section_there m) g (λ h. followed None Done (λ x. cc) h) (wakes_one w t l steady there own (rules_in w l) refl (semaphore_move at) same_row asleep g.any g.carries);
+    tells = tells_by None Done (λ x. cc) (left_hears w t l steady there own (rules_in w l) refl (semaphore_move at) same_row (semaphore_hears at) m wakes g);
+    others = subst (λ x. WakesOwn ((semaphore_profile at).carries) (act.Leave (One (key_of l m)) x) (case_of ((semaphore_profile at).carries) (semaphore_deeds at None Done))) (sym g.notes) (wakes_any ((semaphore_profile at).carries) g.any g.carries (semaphore_deeds at None Done) g.deeds);
+  })
+    where
+      wakes_any : (hand : Option Bool) (any : Bool) → hand ≡ in_hand any false → (ds : List Deed) → AreLeaving ds
+          → WakesOwn hand (act.Leave (One (key_of l m)) (wakes_taken any Normal)) (case_of hand ds)
+      wakes_any hand false f ds h = subst (λ x. IsCalm (case_of x ds)) (sym f) (left_calm ds h)
+      wakes_any hand true f ds h = inl (f, (refl, ap (λ x. case_of x ds) f ∙ left_wakes ds h))
+
+  parked : (m : Line) (k key : ℕ) (check : Check) (want : Want) → k ≡ l → key ≡ key_of l m
+      → Parks (semaphore_move at) (semaphore_hears at) m check want → GoesFrom (place_at w t) (act.Park k key check want)
+  parked m k key check x ke e g = subst (λ j. GoesFrom (place_at w t) (act.Park j key check x)) (sym ke) (subst (λ j. GoesFrom (place_at w t) (act.Park l j check x)) (sym e) (record {
+    goes = parks_or_turns w t l steady there own (rules_in w l) refl (semaphore_move at) same_row (semaphore_hears at) m check x (line_there m) g (λ b h. followed None (Parked b) (λ x. cc) h);
+    tells = tells_by None (Parked (holds check (word_at w l))) (λ x. cc) (parked_hears w t l steady there own (rules_in w l) refl (semaphore_move at) same_row (semaphore_hears at) m check x g (holds check (word_at w l)) refl);
+    others = parks_calm (holds check (word_at w l));
+  }))
+    where
+      parks_in_calm : (n : Line) → AreCalm (parks_in n x ∷ [])
+      parks_in_calm Main = tt
+      parks_in_calm Second = tt
+
+      parks_calm : (b : Bool) → IsCalm (case_of ((semaphore_profile at).carries) (semaphore_deeds at None (Parked b)))
+      parks_calm true = calm_by (parks_in m x ∷ []) g.parks (parks_in_calm m)
+      parks_calm false = calm_by [] g.turns tt
+
+  took : (key : ℕ) → key ≡ key_of l Main → TakesFirst (semaphore_move at) (semaphore_hears at)
+      → GoesFrom (place_at w t) (act.Take key whom.First)
+  took key e g = let first = takes_first w t l steady there own (rules_in w l) refl (semaphore_move at) same_row asleep (semaphore_hears at) many (line_there Main) sort_is g (λ who any none_left h. followed who (Took any none_left) (λ x. cc) h) in
+      subst (λ j. GoesFrom (place_at w t) (act.Take j whom.First)) (sym e) (record {
+        goes = first.1;
+        tells = tells_by (first_of (queue_at w (key_of l Main))) (reply_to w t (act.Take (key_of l Main) whom.First)) (λ x. cc) first.0;
+        others = calm_by (takes (first_of (queue_at w (key_of l Main)))) (g.deeds (first_of (queue_at w (key_of l Main))) _ _) (takes_calm (first_of (queue_at w (key_of l Main))));
+      })
+
+  left : (m : Line) (key : ℕ) → key ≡ key_of l m → LeavesLine (semaphore_move at) (semaphore_hears at) m
+      → GoesFrom (place_at w t) (act.Remove key)
+  left m key e g = subst (λ j. GoesFrom (place_at w t) (act.Remove j)) (sym e) (record {
+    goes = leaves_line w t l steady there own (rules_in w l) refl (semaphore_move at) same_row asleep (semaphore_hears at) m g (λ b h. followed None (Removed b) (λ x. cc) h);
+    tells = tells_by None (reply_to w t (act.Remove (key_of l m))) (λ x. cc) (removed_hears w t l steady there own (rules_in w l) refl (semaphore_move at) same_row asleep (semaphore_hears at) m g);
+    others = calm_by (Case locks.Late ∷ []) (g.deeds _) tt;
+  })
+
+  -- by any act of its own
+  by_act : (y : Act) → semaphore_act l at ≡ y → SemaphoreMoves l (semaphore_move at) (semaphore_hears at) y → can_do w y ≡ true
+      → GoesFrom (place_at w t) y
+  by_act (act.Word k op) e g can = subst (λ j. GoesFrom (place_at w t) (act.Word j op)) (sym g.0) (on_word op (e ∙ ap (λ j. act.Word j op) g.0) g.1)
+  by_act (act.Enter keys) e g can = into g.0 keys g.1 can g.2
+  by_act (act.Park k key check want) e g can = parked g.0 k key check want g.1 g.2 g.3
+  by_act (act.Take key whom.First) e g can = took key g.0 g.1
+  by_act (act.Take key (whom.Picked start recursive)) e g can = absurd (no_pick at e)
+    where
+      no_try : (b : Bool) (was : ℕ) → (if b then act.Word l (ops.Exchange was (was - 2)) else act.Word l ops.Load) ≡ act.Take key (whom.Picked start recursive) → ⊥
+      no_try true was h = cc
+      no_try false was h = cc
+
+      no_decision : (a b : Bool) (was : ℕ) → (if a then act.Word l (ops.Exchange was (was - 2)) else if b then act.Word l (ops.Exchange 0 1) else act.Enter (One (2 * l))) ≡ act.Take key (whom.Picked start recursive) → ⊥
+      no_decision true b was h = cc
+      no_decision false true was h = cc
+      no_decision false false was h = cc
+
+      no_pick : (p : SemaphorePlace) → semaphore_act l p ≡ act.Take key (whom.Picked start recursive) → ⊥
+      no_pick (Acquire timed again (acquire.Decide was)) h = no_decision (is_free was) (was == 0) was h
+      no_pick (Acquire timed again to) h = cc
+      no_pick (Try (tries.Decide was)) h = no_try (is_free was) was h
+      no_pick (Try tries.Load) h = cc
+      no_pick (Release release.Add) h = cc
+      no_pick (Release release.Take) h = cc
+      no_pick (Release to) h = cc
+  by_act (act.Remove key) e g can = left g.0 key g.1 g.2
+  by_act (act.Leave keys wakes) e g can = out_of g.0 keys wakes g.1 g.2
+  by_act act.Sleep e g can = absurd cc
+  by_act (act.End answer) e g can = absurd cc
+  by_act y e g can = absurd g
+
+  -- its deeds are what the place and the reply say
+  pub goes_semaphore : can_do w (semaphore_act l at) ≡ true → GoesFrom (Semaphore l at) (semaphore_act l at)
+  goes_semaphore can = subst (λ q. GoesFrom q (semaphore_act l at)) is (by_act (semaphore_act l at) refl (semaphore_acts_move l at fits_now.1) can)
+
+  -- its time is up
+  pub semaphore_goes_late : (m : Line) → (semaphore_profile at).late_line ≡ Some m → is_free_in w (key_of l m) ≡ true
+      → Goes w (state_after_late_under w t (key_of l m)) l (acts t (semaphore_deeds at None Late))
+  semaphore_goes_late m e free = goes_in w t l steady there own (rules_in w l) refl (semaphore_move at) same_row (semaphore_hears at) m Late (next_place (place_at w t) Late) (section_there m)
+      (nobody_is (section_at w (key_of l m)) free) (semaphore_late_move at m e) (λ h. followed_by None Late (λ x. late_timed at m e) (semaphore_steps_follow (rules_in w l) here t at None Late at_now h))
+    where
+      late_timed : (p : SemaphorePlace) (m : Line) → (semaphore_profile p).late_line ≡ Some m → (semaphore_profile p).timed ≡ true
+      late_timed (Acquire true again to) m h = refl
+      late_timed (Acquire false again acquire.Asleep) m h = absurd cc
+      late_timed (Acquire false again to) m h = absurd cc
+      late_timed (Try to) m h = absurd cc
+      late_timed (Release release.Add) m h = absurd cc
+      late_timed (Release to) m h = absurd cc
+
+-- ---------------------------------------------------------------- a call begins
+
+-- what it claims: who is to give a permit back holds one
+abbrev pub claims_first : SemaphoreCall → Option Claim
+claims_first (semaphore_call.Acquire patience) = None
+claims_first semaphore_call.Release = Some (Has Shared)
+
+pub record Opens (c : SemaphoreCall) : Type 0 where
+  pub station : station (Semaphore 0 (semaphore_first c)) ≡ station Idle
+  pub doing : semaphore_doing (semaphore_first c) ≡ record (semaphore_doing (Try tries.Load)) { claims = claims_first c }
+  pub timed : GivesUpTimed (semaphore_first c)
+
+pub opens : (c : SemaphoreCall) → Opens c
+opens (semaphore_call.Acquire how.Patient) = record { station = refl; doing = refl; timed = λ e. absurd cc }
+opens (semaphore_call.Acquire how.Timed) = record { station = refl; doing = refl; timed = λ e. absurd cc }
+opens (semaphore_call.Acquire how.Try) = record { station = refl; doing = refl; timed = λ e. absurd cc }
+opens semaphore_call.Release = record { station = refl; doing = refl; timed = λ e. absurd cc }
+
+some_held : (n : ℕ) → not (n == 0) ≡ true → 1 ≤ n
+some_held n h = grind (arith, nat_tests)
+
+module _ (w : State) (t l : ℕ) (c : SemaphoreCall) (steady : IsSteady w) (there : t < length w.places) (idle_now : place_at w t ≡ Idle)
+    (sort : (rules_in w l).sort ≡ locks.Semaphore) (right : semaphore_right c (share_at w l t) ≡ true) where
+  abbrev pub first : Place
+  first = Semaphore l (semaphore_first c)
+
+  has_claim : (c : SemaphoreCall) → semaphore_right c (share_at w l t) ≡ true → laws.AllNeeded (rules_in w l) (Begin (claims_first c) ∷ []) (lock_by w l (rules_in w l)) t
+  has_claim (semaphore_call.Acquire patience) h = (tt, tt)
+  has_claim semaphore_call.Release h = (some_held (share_at w l t) h, tt)
+
+  pub semaphore_begins : Goes w (put w t first) l (acts t (Begin (claims_first c) ∷ []))
+  semaphore_begins = place_goes w t l steady (rw idle_now tt) there (rules_in w l) refl first refl (sort, (opens c).timed) (Begin (claims_first c) ∷ []) (λ h. tt)
+      (steps_by (rules_in w l) l (parts_at w l) (parts_at w l) (place_at w) t first (Begin (claims_first c) ∷ []) (has_claim c right) (tt, tt)
+      (ap (λ q. taken_at q l) idle_now ∙ sym (free_of first l tt (ap (λ y. y.hand) (opens c).station)))
+      refl refl refl refl
+      (doing_here l first refl ∙ (opens c).doing ∙ sym (put_here (λ u. doing_on (place_at w u) l) t (record (doing_on (place_at w t) l) { claims = claims_first c }) ∙ ap (λ q. record (doing_on q l) { claims = claims_first c }) idle_now)))
+      ((opens c).station ∙ sym (ap station idle_now))

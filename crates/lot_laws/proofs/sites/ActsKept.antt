@@ -1,0 +1,107 @@
+-- Each act of one thread in a call of one lock keeps every lock of the world a site whose word says so.
+use Rattle.std.proofs.Common.{ℕ, true, Some, None, ◌≡◌, ◌≢◌, ◌<◌, List, [], ◌∷◌, ◌++◌, length, sym, ◌∙◌, ap}
+use Rattle.lot_base.specs.declared.keys.Keys.TheVariants.{One}
+use Rattle.lot_base.specs.declared.ops.Op.{Op}
+use Rattle.lot_base.specs.declared.wants.Waiter.{Waiter}
+use Rattle.lot_base.specs.declared.wants.Want.{Want}
+use Rattle.lot_base.specs.Words.{apply}
+use Rattle.lot_base.specs.Lines.{waiter, without}
+use Rattle.lot_steps.specs.declared.places.Place.{Place}
+use Rattle.abstract_locks.specs.Locks.{Rules, putting}
+use Rattle.abstract_locks.specs.Sites.{Doing, IsSite, Deed, Line, In, FindNobody, has_readers, after_deed}
+use Rattle.abstract_locks.specs.Codes.{code}
+use Rattle.lot_machine.specs.Machine.{State, place_at, word_at, queue_at, section_at, put, state_after_operation, state_with_sections, queues_with_last, queues_without, queues_without_first}
+use Rattle.lot_laws.specs.Refinement.{taken_at}
+use Rattle.lot_laws.specs.MutexDeeds.{acts}
+use Rattle.lot_laws.specs.Stations.{Station, station, station_at, nowhere, doing_on}
+use Rattle.lot_laws.specs.SitesOf.{ActsNeeded, IsSteady, Goes, FitsItsLock, rules_in, key_of}
+use Rattle.lot_laws.proofs.machine.Parts.{parts_at, seen_in, IsOf, station_here, station_elsewhere}
+use Rattle.lot_laws.proofs.sites.OneStep.{Steps}
+use Rattle.lot_laws.proofs.sites.StandsKept.{AlikeBeside, own_alike}
+pub use Rattle.lot_laws.proofs.sites.Following.{AlikeAt, Moves, NoHandOff, asides, follows_by, goes_all_steady, goes_steady, lates, limited, lock_by, operated, ordinary_by, parks, stood_one, stood_other, with_line}
+use Rattle.lot_laws.proofs.sites.Following as following
+use Rattle.lot_laws.proofs.sites.ActsAt as at
+
+pub alike_put : (l k : ℕ) (p : ℕ → Place) (t : ℕ) (p2 : Place) → IsOf l (p t) → IsOf l p2 → k ≢ l → (u : ℕ)
+    → AlikeAt k (p u) (putting p t p2 u)
+alike_put l k p t p2 h h2 = following.alike_put l k p t p2 (own_alike l (p t) p2 h h2)
+
+module _ (w : State) (t l : ℕ) (steady : IsSteady w) (own : IsOf l (place_at w t)) (there : t < length w.places) (r : Rules)
+    (rules : rules_in w l ≡ r) (p2 : Place) (of : IsOf l p2) (fits : FitsItsLock w p2) where
+  alike : AlikeBeside l (place_at w t) p2
+  alike = own_alike l (place_at w t) p2 own of
+
+  was_here : station_at (place_at w t) l ≡ station (place_at w t)
+  was_here = station_here l (place_at w t) own
+
+  is_here : station_at p2 l ≡ station p2
+  is_here = station_here l p2 of
+
+  same_here : station p2 ≡ station (place_at w t) → station_at p2 l ≡ station_at (place_at w t) l
+  same_here e = is_here ∙ e ∙ sym was_here
+
+  -- it stands at no other lock
+  out : (k : ℕ) → k ≢ l → (station_at (place_at w t) k).stands ≡ None
+  out k ne = ap (λ (x : Station). x.stands) (station_elsewhere l k (place_at w t) own ne)
+
+  pub site_by : IsSite r (lock_by w l r)
+  site_by = at.site_by w t l steady there r rules p2 alike fits
+
+  pub word_by_lines : (m s : List Waiter) (q : ℕ → Place) → word_at w l ≡ code r (seen_in r l (record (parts_at w l) { main = m; second = s }) q)
+  word_by_lines = at.word_by_lines w t l steady there r rules p2 alike fits
+
+  pub word_goes : (p : Place) → l < length w.locks → l < length w.shares → (f : Op) (ds : List Deed)
+      → (has_readers r.sort ≡ true → NoHandOff ds) → Steps r l (parts_at w l) (operated w t p l f) (place_at w) t p2 ds
+      → apply f (word_at w l) ≡ code r (seen_in r l (operated w t p l f) (putting (place_at w) t p2))
+      → station p2 ≡ station (place_at w t) → Goes w (put (state_after_operation w t p l f) t p2) l (acts t ds)
+  word_goes p lt shared f ds plain steps coded e = at.word_goes w t l steady there r rules p2 alike fits p lt shared f ds plain steps coded (same_here e)
+
+  pub place_goes : (ds : List Deed) → (has_readers r.sort ≡ true → NoHandOff ds)
+      → Steps r l (parts_at w l) (parts_at w l) (place_at w) t p2 ds → station p2 ≡ station (place_at w t)
+      → Goes w (put w t p2) l (acts t ds)
+  place_goes ds plain steps e = at.place_goes w t l steady there r rules p2 alike fits ds plain steps (same_here e)
+
+  pub nobody_inside : (m : Line) → section_at w (key_of l m) ≡ None → (u : ℕ) → (doing_on (place_at w u) l).inside ≢ Some m
+  nobody_inside = at.nobody_inside w t l steady there r rules p2 alike fits
+
+  module _ (hand : taken_at (place_at w t) l ≡ taken_at p2 l) where
+    pub goes_into : (m : Line) → ActsNeeded r (acts t (In m ∷ [])) (lock_by w l r) → doing_on p2 l ≡ record (doing_on (place_at w t) l) { inside = Some m } → Steps r l (parts_at w l) (parts_at w l) (place_at w) t p2 (In m ∷ [])
+    goes_into = at.goes_into w t l steady there r rules p2 alike fits hand
+
+    pub finds_none : (m : Line) (d : Doing) → ActsNeeded r (acts t (FindNobody m ∷ [])) (lock_by w l r)
+        → doing_on p2 l ≡ (after_deed r (FindNobody m) (lock_by w l r) t).doing t
+        → Steps r l (parts_at w l) (parts_at w l) (place_at w) t p2 (FindNobody m ∷ [])
+    finds_none = at.finds_none w t l steady there r rules p2 alike fits hand
+
+  module _ (m : Line) (line : key_of l m < length w.sections) where
+    pub enter_goes : section_at w (key_of l m) ≡ None → (station (place_at w t)).inside ≡ None → Steps r l (parts_at w l) (parts_at w l) (place_at w) t p2 (In m ∷ []) → station p2 ≡ record (station (place_at w t)) { inside = Some m }
+        → Goes w (put (state_with_sections w (One (key_of l m)) (Some t)) t p2) l (acts t (In m ∷ []))
+    enter_goes free outside steps e = at.enter_goes w t l steady there r rules p2 alike fits m line free (ap (λ (x : Station). x.inside) was_here ∙ outside) steps
+        (is_here ∙ e ∙ sym (ap (λ (x : Station). record x { inside = Some m }) was_here))
+
+    pub leave_goes : (station (place_at w t)).inside ≡ Some m → (ds : List Deed) → (has_readers r.sort ≡ true → NoHandOff ds) → Steps r l (parts_at w l) (parts_at w l) (place_at w) t p2 ds → station p2 ≡ record (station (place_at w t)) { inside = None } → Goes w (put (state_with_sections w (One (key_of l m)) None) t p2) l (acts t ds)
+    leave_goes within ds plain steps e = at.leave_goes w t l steady there r rules p2 alike fits m line (ap (λ (x : Station). x.inside) was_here ∙ within) ds plain steps
+        (is_here ∙ e ∙ sym (ap (λ (x : Station). record x { inside = None }) was_here))
+
+  pub park_goes : (m : Line) (x : Want) (ds : List Deed) → (has_readers r.sort ≡ true → NoHandOff ds)
+      → key_of l m < length w.queues → (station (place_at w t)).stands ≡ None
+      → Steps r l (parts_at w l) (with_line (parts_at w l) m (queue_at w (key_of l m) ++ waiter (key_of l m) t x ∷ []))
+      (place_at w) t p2 ds
+      → station p2 ≡ record (station (place_at w t)) { stands = Some m; waits = Some x }
+      → Goes w (put (record w { queues = queues_with_last w.queues (key_of l m) t x }) t p2) l (acts t ds)
+  park_goes m x ds plain line nowhere steps e = at.park_goes w t l steady there r rules p2 alike fits out m x ds plain line (ap (λ (y : Station). y.stands) was_here ∙ nowhere) steps
+      (is_here ∙ e ∙ sym (ap (λ (y : Station). record y { stands = Some m; waits = Some x }) was_here))
+
+  pub remove_goes : (m : Line) (ds : List Deed) → (has_readers r.sort ≡ true → NoHandOff ds)
+      → (station (place_at w t)).stands ≡ Some m
+      → Steps r l (parts_at w l) (with_line (parts_at w l) m (without t (queue_at w (key_of l m)))) (place_at w) t p2 ds
+      → station p2 ≡ record (station (place_at w t)) { stands = None; waits = None }
+      → Goes w (put (record w { queues = queues_without w.queues t }) t p2) l (acts t ds)
+  remove_goes m ds plain stands steps e = at.remove_goes w t l steady there r rules p2 alike fits out m ds plain (ap (λ (y : Station). y.stands) was_here ∙ stands) steps
+      (is_here ∙ e ∙ sym (ap (λ (y : Station). record y { stands = None; waits = None }) was_here))
+
+  pub nobody_goes : (m : Line) (ds : List Deed) → (has_readers r.sort ≡ true → NoHandOff ds) → key_of l m < length w.queues
+      → queue_at w (key_of l m) ≡ [] → Steps r l (parts_at w l) (parts_at w l) (place_at w) t p2 ds
+      → station p2 ≡ station (place_at w t)
+      → Goes w (put (record w { queues = queues_without_first w.queues (key_of l m) }) t p2) l (acts t ds)
+  nobody_goes m ds plain line empty steps e = at.nobody_goes w t l steady there r rules p2 alike fits m ds plain line empty steps (same_here e)

@@ -1,0 +1,196 @@
+-- Each turn of a thread keeps every lock a site, and every thread in the line, the section and the hand that its place says.
+use Rattle.std.proofs.Common.{ℕ, Bool, true, false, Option, Some, None, if◌then◌else◌, ◌≡◌, ◌<◌, [], ◌∷◌, length, length-set, nat_lt, inl, inr, refl, subst, sym, ◌∙◌, ap}
+use Rattle.lot_laws.proofs.once.Kept.{once_goes_late, once_begins}
+use Rattle.lot_machine.specs.Machine.{can_close, can_do, can_go, state_after_close, state_after_go, state_after_going}
+use Rattle.lot_laws.proofs.calls.Looking.{closing_steady}
+use Rattle.lot_laws.proofs.calls.Closings.{closing, closing_counted, closing_may, closing_shaped, closing_there}
+use Rattle.lot_laws.proofs.calls.Closures.{closes_one}
+use Rattle.lot_once.specs.OnceProfiles.{once_profile}
+use Rattle.lot_semaphore.specs.SemaphoreProfiles.{semaphore_profile}
+use Rattle.lot_laws.proofs.semaphore.Kept.{semaphore_begins, semaphore_goes_late}
+use Rattle.std.proofs.lemmas.Bool.{ltb-true}
+use Rattle.lot_base.specs.declared.wants.Want.TheVariants.{Exclusive}
+use Rattle.lot_calls.specs.declared.calls.Call.{Call}
+use Rattle.lot_calls.specs.declared.calls.Call as calling
+use Rattle.lot_calls.specs.declared.calls.MutexCall.{MutexCall}
+use Rattle.lot_calls.specs.declared.calls.MutexCall.TheVariants as call
+use Rattle.lot_calls.specs.declared.calls.Step.{Step}
+use Rattle.lot_calls.specs.declared.calls.Turn.{Turn}
+use Rattle.lot_calls.specs.declared.calls.Turn as turn
+use Rattle.lot_calls.specs.Kinds.{has_call, is_fair}
+use Rattle.lot_steps.specs.declared.places.Place.{Place}
+use Rattle.lot_steps.specs.declared.places.Place.TheVariants.{Idle, Mutex, RwLock, Once, Condvar, Semaphore}
+use Rattle.lot_mutex.specs.declared.lock.Entry.{Entry}
+use Rattle.lot_mutex.specs.declared.lock.Entry.TheVariants as entries
+use Rattle.lot_mutex.specs.declared.lock.LockAt.{LockAt}
+use Rattle.lot_mutex.specs.declared.lock.LockAt.TheVariants as lock
+use Rattle.lot_mutex.specs.declared.places.MutexPlace.{MutexPlace}
+use Rattle.lot_mutex.specs.declared.places.MutexPlace.TheVariants.{Lock, TryLock, Unlock, UnlockFair, Bump, HandOff}
+use Rattle.lot_mutex.specs.MutexSteps.{mutex_first, mutex_right}
+use Rattle.lot_steps.specs.Steps.{act_of, is_idle, looking, late_key, key_in}
+use Rattle.abstract_locks.specs.Sites.{Claim, Has, Begin, HasClaim, idle}
+use Rattle.lot_machine.specs.Machine.{State, place_at, owners_at, kind_at, put, state_after_begin, can_begin, is_open_to, state_after_look, state_after_late_on, is_free_under, state_after_turn, can_turn, is_possible, after}
+use Rattle.lot_machine.specs.Fits.{IsShaped, PlaceFits}
+use Rattle.lot_laws.specs.Refinement.{lock_state, taken_at}
+use Rattle.lot_laws.specs.SitesOf.{is_mutex}
+use Rattle.lot_laws.specs.MutexDeeds.{mutex_doing, mutex_station, acts, begins}
+use Rattle.lot_laws.specs.Stations.{nowhere, station}
+use Rattle.lot_laws.specs.SitesOf.{AreCondvars, AreCounted, IsSteady, Goes}
+use Rattle.lot_machine.proofs.Shape.{both, looking_shaped}
+use Rattle.lot_laws.proofs.machine.KindsStay.{calls_mutex, calls_readers, calls_once, calls_semaphore}
+use Rattle.lot_laws.proofs.machine.Parts.{parts_at, same, single_or_two, thread_is}
+use Rattle.lot_laws.proofs.mutex.Words.{mutex, own_doing, meets, others_same}
+use Rattle.lot_laws.proofs.sites.StandsMoved.{mutex_rules}
+use Rattle.lot_laws.proofs.sites.SitesKept.{mutex_at, goes_steady, place_goes}
+use Rattle.lot_laws.proofs.calls.Looking.{looking_steady, looks_now}
+use Rattle.lot_laws.proofs.hands.CountsPut.{looking_counted}
+use Rattle.lot_laws.proofs.mutex.Kept.{enters, gone_kept}
+use Rattle.lot_laws.proofs.condvar.ActsRefine.{condvar_steady}
+use Rattle.lot_laws.proofs.condvar.SameCondvars.{closing_condvars, looking_condvars}
+use Rattle.lot_laws.proofs.condvar.BeginsKept.{begins_at, condvar_begins, condvar_goes_late}
+use Rattle.lot_laws.proofs.calls.OwnPlace.{gone}
+use Rattle.lot_laws.proofs.rwlock.Kept.{rwlock_begins, rwlock_goes_late}
+use Rattle.lot_rwlock.specs.declared.places.Admission.{Admission}
+use Rattle.lot_rwlock_fair.specs.declared.places.RwLockCallPlace.{RwLockCallPlace}
+use Rattle.lot_rwlock_fair.specs.declared.places.RwLockCallPlace.TheVariants.{Plain, Bump as BumpCall}
+use Rattle.lot_rwlock_fair.specs.FairProfiles.{call_late_line}
+use Rattle.lot_base.specs.declared.keys.Line.{Line}
+
+pub idle_is : (p : Place) → is_idle p ≡ true → p ≡ Idle
+idle_is Idle h = refl
+idle_is (Mutex l at) h = absurd cc
+idle_is (RwLock l a at) h = absurd cc
+idle_is (Once l at) h = absurd cc
+idle_is (Condvar l at) h = absurd cc
+idle_is (Semaphore l at) h = absurd cc
+
+module _ (w : State) (t : ℕ) (steady : IsSteady w) (shape : IsShaped w) (there : t < length w.places) where
+  -- a thread goes on from its place
+  gone_steady : AreCounted w → AreCondvars w → can_go w t ≡ true → IsSteady (state_after_go w t)
+  gone_steady counted condvars can = elim (single_or_two (place_at w t)) [
+    | inl single ↦ subst IsSteady (sym (gone w t single)) (gone_kept w t steady shape there counted (place_at w t) refl single (shape.places t) can)
+    | inr two ↦ subst (λ p. IsSteady (state_after_going w t p)) (sym two.is) (condvar_steady w t two.lock shape steady condvars there two.at two.is (ap (λ p. can_do w (act_of p)) (sym two.is) ∙ can))
+  ]
+
+module _ (w : State) (t : ℕ) (steady : IsSteady w) (shape : IsShaped w) (there : t < length w.places) where
+  -- it begins, with the claim that the call needs
+  begin_kept : (l : ℕ) (at : MutexPlace) (c : Option Claim) → is_mutex (kind_at w l) ≡ true → place_at w t ≡ Idle → taken_at (Mutex l at) l ≡ None → mutex_doing at ≡ record idle { claims = c } → HasClaim (lock_state w l) t c → mutex_station at ≡ nowhere → Goes w (put w t (Mutex l at)) l (acts t (Begin c ∷ []))
+  begin_kept l at c of_mutex is none e has s = place_goes w t l steady (rw is tt) there mutex (mutex_rules (kind_at w l) of_mutex) (Mutex l at) refl of_mutex (Begin c ∷ []) (λ h. tt) (record {
+    site = meets mutex l (parts_at w l) (place_at w) t (Mutex l at) _ (rw is (sym none)) refl refl refl refl (own_doing l (Mutex l at) at refl ∙ e ∙ rw (same t, is) refl)
+        (λ u ne. others_same mutex (Begin c ∷ []) (mutex_at w l) t u (tt, tt) ne);
+    needed = (has, tt);
+  }) (s ∙ sym (ap station is))
+
+  -- each call of a mutex
+  calls_begin : (l : ℕ) (fair : Bool) (c : MutexCall) → is_mutex (kind_at w l) ≡ true → place_at w t ≡ Idle
+      → mutex_right c t (owners_at w l) ≡ true
+      → Goes w (put w t (Mutex l (mutex_first fair c))) l (acts t (begins (mutex_first fair c) ∷ []))
+  calls_begin l fair call.Lock of is right = begin_kept l _ None of is refl refl tt refl
+  calls_begin l fair call.LockTimed of is right = begin_kept l _ None of is refl refl tt refl
+  calls_begin l fair call.TryLock of is right = begin_kept l _ None of is refl refl tt refl
+  calls_begin l true call.Unlock of is right = begin_kept l _ (Some (Has Exclusive)) of is refl refl (thread_is t (owners_at w l).exclusive right) refl
+  calls_begin l false call.Unlock of is right = begin_kept l _ (Some (Has Exclusive)) of is refl refl (thread_is t (owners_at w l).exclusive right) refl
+  calls_begin l fair call.UnlockFair of is right = begin_kept l _ (Some (Has Exclusive)) of is refl refl (thread_is t (owners_at w l).exclusive right) refl
+  calls_begin l fair call.Bump of is right = begin_kept l _ (Some (Has Exclusive)) of is refl refl (thread_is t (owners_at w l).exclusive right) refl
+
+  begun_kept : (c : Call) → can_begin w t c ≡ true → IsSteady (state_after_begin w t c)
+  begun_kept (calling.TheVariants.Mutex l c) can =
+      let parts = both (is_idle (place_at w t)) (is_open_to w t (calling.TheVariants.Mutex l c)) can in
+      let open_to = both (nat_lt l (length w.locks)) _ parts.1 in
+      let right = both (has_call (kind_at w l) (calling.TheVariants.Mutex l c)) _ open_to.1 in
+      goes_steady w _ l _ steady (calls_begin l (is_fair (kind_at w l)) c (calls_mutex (kind_at w l) l c right.0) (idle_is (place_at w t) parts.0) right.1)
+  begun_kept (calling.TheVariants.Once l c) can =
+      let parts = both (is_idle (place_at w t)) (is_open_to w t (calling.TheVariants.Once l c)) can in
+      let open_to = both (nat_lt l (length w.locks)) _ parts.1 in
+      let right = both (has_call (kind_at w l) (calling.TheVariants.Once l c)) _ open_to.1 in
+      goes_steady w _ l _ steady (once_begins w t l c steady there (idle_is (place_at w t) parts.0) (calls_once (kind_at w l) l c right.0))
+  begun_kept (calling.TheVariants.Semaphore l c) can =
+      let parts = both (is_idle (place_at w t)) (is_open_to w t (calling.TheVariants.Semaphore l c)) can in
+      let open_to = both (nat_lt l (length w.locks)) _ parts.1 in
+      let right = both (has_call (kind_at w l) (calling.TheVariants.Semaphore l c)) _ open_to.1 in
+      goes_steady w _ l _ steady (semaphore_begins w t l c steady there (idle_is (place_at w t) parts.0) (calls_semaphore (kind_at w l) l c right.0) right.1)
+  begun_kept (calling.TheVariants.Condvar l c) can =
+      let parts = both (is_idle (place_at w t)) (is_open_to w t (calling.TheVariants.Condvar l c)) can in
+      goes_steady w _ (begins_at l c) _ steady (condvar_begins w t l steady there (idle_is (place_at w t) parts.0) c parts.1)
+  begun_kept (calling.TheVariants.RwLock l c) can =
+      let parts = both (is_idle (place_at w t)) (is_open_to w t (calling.TheVariants.RwLock l c)) can in
+      let open_to = both (nat_lt l (length w.locks)) _ parts.1 in
+      let right = both (has_call (kind_at w l) (calling.TheVariants.RwLock l c)) _ open_to.1 in
+      goes_steady w _ l _ steady (rwlock_begins w t l c steady there (idle_is (place_at w t) parts.0) (calls_readers (kind_at w l) l c right.0) right.1)
+
+  -- it looks at the word once more
+  spun_kept : AreCounted w → AreCondvars w → (o : Option Place) → looking (place_at w t) ≡ o → IsSteady (state_after_look w t o)
+  spun_kept counted condvars None is = steady
+  spun_kept counted condvars (Some q) is = gone_steady (put w t q) t (looking_steady w t there q is steady) (looking_shaped w t q shape is) (rw (length-set w.places t q) there) (looking_counted w t there q is counted) (looking_condvars w t q there is condvars) (looks_now w t there q is)
+
+  -- its time is up, and it goes into the section of its line
+  asleep_late : (l : ℕ) (e : Entry) (r : Bool) → place_at w t ≡ Mutex l (Lock e r lock.Asleep) → l < length w.locks
+      → is_free_under w (late_key (Mutex l (Lock e r lock.Asleep))) ≡ true
+      → IsSteady (state_after_late_on w t (late_key (Mutex l (Lock e r lock.Asleep))))
+  asleep_late l entries.LockTimed r is lt can = rw is (goes_steady w _ l _ steady (enters w t steady shape there l (Lock entries.LockTimed r lock.Asleep) (Lock entries.LockTimed r lock.Remove) is lt can refl refl refl refl refl refl))
+  asleep_late l entries.Lock r is lt can = absurd cc
+  asleep_late l entries.Bump r is lt can = absurd cc
+
+  lock_late : (l : ℕ) (e : Entry) (r : Bool) (a : LockAt) → place_at w t ≡ Mutex l (Lock e r a) → l < length w.locks
+      → is_free_under w (late_key (Mutex l (Lock e r a))) ≡ true
+      → IsSteady (state_after_late_on w t (late_key (Mutex l (Lock e r a))))
+  lock_late l e r lock.Asleep is lt can = asleep_late l e r is lt can
+  lock_late l e r lock.First is lt can = absurd cc
+  lock_late l e r a is lt can = absurd cc
+
+  rwlock_late : (l : ℕ) (a : Admission) (c : RwLockCallPlace) → place_at w t ≡ RwLock l a c → l < length w.locks
+      → (m : Option Line) → call_late_line c ≡ m → is_free_under w (key_in (Some l) m) ≡ true
+      → IsSteady (state_after_late_on w t (key_in (Some l) m))
+  rwlock_late l a c is lt None e can = absurd cc
+  rwlock_late l a c is lt (Some m) e can = goes_steady w _ l _ steady (rwlock_goes_late w t l a c steady shape there lt is m e can)
+
+  late_kept : (p : Place) → place_at w t ≡ p → PlaceFits (length w.locks) p → is_free_under w (late_key p) ≡ true
+      → IsSteady (state_after_late_on w t (late_key p))
+  late_kept (Mutex l (Lock e r a)) is fits can = lock_late l e r a is fits.0 can
+  late_kept (Mutex l TryLock) is fits can = absurd cc
+  late_kept (Mutex l (Unlock a)) is fits can = absurd cc
+  late_kept (Mutex l UnlockFair) is fits can = absurd cc
+  late_kept (Mutex l Bump) is fits can = absurd cc
+  late_kept (Mutex l (HandOff bumps a)) is fits can = absurd cc
+  late_kept (RwLock l a (Plain p)) is fits can = rwlock_late l a (Plain p) is fits (call_late_line (Plain p)) refl can
+  late_kept (RwLock l a (BumpCall p)) is fits can = rwlock_late l a (BumpCall p) is fits (call_late_line (BumpCall p)) refl can
+  late_kept (RwLock l a c) is fits can = absurd cc
+  late_kept Idle is fits can = absurd cc
+  late_kept (Condvar l at) is fits can = let goes = condvar_goes_late w t l shape steady there at is can in goes_steady w _ goes.0 _ steady goes.1
+  late_kept (Semaphore l at) is fits can = semaphore_late (semaphore_profile at).late_line refl can
+    where
+      semaphore_late : (m : Option Line) → (semaphore_profile at).late_line ≡ m → is_free_under w (key_in (Some l) m) ≡ true
+          → IsSteady (state_after_late_on w t (key_in (Some l) m))
+      semaphore_late None e h = absurd cc
+      semaphore_late (Some m) e h = goes_steady w _ l _ steady (semaphore_goes_late w t l at steady shape there fits is m e h)
+  late_kept (Once l at) is fits can = once_late (once_profile at).late_line refl can
+    where
+      once_late : (m : Option Line) → (once_profile at).late_line ≡ m → is_free_under w (key_in (Some l) m) ≡ true
+          → IsSteady (state_after_late_on w t (key_in (Some l) m))
+      once_late None e h = absurd cc
+      once_late (Some m) e h = goes_steady w _ l _ steady (once_goes_late w t l at steady shape there fits is m e h)
+
+  -- its closure has answered, and it goes on behind it
+  closed_kept : AreCounted w → AreCondvars w → (succeeded : Bool) → can_close w t succeeded ≡ true
+      → IsSteady (state_after_close w t succeeded)
+  closed_kept counted condvars succeeded can =
+      let one = closes_one w t succeeded can in
+      gone_steady (closing w t there succeeded one) t (closing_steady w t there succeeded one steady) (closing_shaped w t there succeeded one shape) (closing_there w t there succeeded one)
+      (closing_counted w t there succeeded one counted) (closing_condvars w t there succeeded one condvars) (closing_may w t there succeeded one)
+
+  turned_kept : AreCounted w → AreCondvars w → (x : Turn) → can_turn w t x ≡ true → IsSteady (state_after_turn w t x)
+  turned_kept counted condvars (turn.TheVariants.Begin c) can = begun_kept c can
+  turned_kept counted condvars turn.TheVariants.Go can = gone_steady w t steady shape there counted condvars can
+  turned_kept counted condvars turn.TheVariants.Spin can = spun_kept counted condvars (looking (place_at w t)) refl
+  turned_kept counted condvars turn.TheVariants.Late can = late_kept (place_at w t) refl (shape.places t) can
+  turned_kept counted condvars turn.TheVariants.Ok can = closed_kept counted condvars true can
+  turned_kept counted condvars turn.TheVariants.Err can = closed_kept counted condvars false can
+
+-- a step keeps what holds between steps
+pub after_steady : (w : State) (s : Step) → IsShaped w → IsSteady w → AreCounted w → AreCondvars w → IsSteady (after w s)
+after_steady w s shape steady counted condvars = either (is_possible w s) refl
+  where
+    either : (b : Bool) → is_possible w s ≡ b → IsSteady (if b then state_after_turn w s.thread s.turn else w)
+    either true can = let parts = both (nat_lt s.thread (length w.places)) (can_turn w s.thread s.turn) can in
+        turned_kept w s.thread steady shape (ltb-true s.thread (length w.places) parts.0) counted condvars s.turn parts.1
+    either false can = steady
