@@ -60,8 +60,10 @@ def main():
     parser = argparse.ArgumentParser(description=__doc__, formatter_class=argparse.RawDescriptionHelpFormatter)
     parser.add_argument("--n", type=int, default=10_000_000)
     parser.add_argument("--runs", type=int, default=9)
+    parser.add_argument("--built", action="store_true")
     asked = parser.parse_args()
-    build()
+    if not asked.built:
+        build()
     print("| loop | beside | least, ns | ours, ns | Rust, ns | least by Rust | least, instructions | ours | Rust |")
     print("|---|---|---|---|---|---|---|---|---|")
     for loop, modes in LOOPS.items():
