@@ -39,6 +39,16 @@ impl<Q: Queues + Drop> State<Q> {
         State { session: None }
     }
 
+    /// The world with the names of its locks, from the first turn, `show` or `drain` on.
+    pub fn scene(&self) -> Option<(&World<Q>, &[Name])>
+        ensures { IfSome result
+            (λ scene. stage_of self.now.session ≡ running scene.1.now scene.0.now) }
+    {
+        let session = self.session.as_ref()?;
+        let world = session.world.as_ref()?;
+        Some((world, session.names.as_slice()))
+    }
+
     /// Answers a line that says this, and has the text `kept`. One that is refused changes nothing,
     /// and nothing is said of it here.
     #[inline]

@@ -3,7 +3,7 @@ ghost use Rattle.std.specs.Prelude.{ℕ, List, [], ◌∷◌, ◌≡◌, ◌<◌
 ghost use Rattle.lot_calls.specs.Kinds.{fits};
 ghost use Rattle.lot_calls.specs.Calls.{lock_in};
 ghost use Rattle.lot_steps.specs.Steps.{first_place};
-ghost use Rattle.lot_machine.specs.Machine.{opening, place_at, word_at, kind_at, filled_at, queue_at, after, step_outcome, after_steps, step_outcomes, solo};
+ghost use Rattle.lot_machine.specs.Machine.{opening, place_at, word_at, kind_at, filled_at, queue_at, section_at, after, step_outcome, after_steps, step_outcomes, solo};
 ghost use Rattle.lot_machine.specs.Fits.{SameSize};
 ghost use Rattle.abstract_locks.specs.Runs.{IsOpening, IsStep, IsRun, purpose_at};
 ghost use Rattle.abstract_locks.specs.Headline.{Behaves, MayTell, Opens, full_by};
@@ -20,7 +20,7 @@ ghost use Rattle.lot_drain.specs.Drains.{IsDrainable, IsDrain};
 ghost use Rattle.lot_drain.specs.Drainable.{is_drainable};
 ghost use Rattle.lot_drain.specs.Schedules.{schedule_of};
 
-use lot_base::{Fault, Queues};
+use lot_base::{Fault, Queues, main_key, second_key};
 use lot_drain::{is_drainable, schedule};
 use lot_machine::{DebtBook, Debts, Machine, OwnersOf, QueueOf};
 use lot_steps::{Call, Kind, Outcome, Place, Step, Turn};
@@ -331,6 +331,17 @@ impl<Q: Queues + Drop> World<Q> {
         ensures { result ≡ filled_at self.now lock }
     {
         self.machine.filled(lock)
+    }
+
+    /// Who is inside a section of a lock: that of its main queue, then that of those who wait aside.
+    pub fn inside(&self, lock: usize) -> (Option<usize>, Option<usize>)
+        requires { lock < length self.now.locks }
+        ensures main { result.0 ≡ section_at self.now (2 * lock) }
+        ensures aside { result.1 ≡ section_at self.now (2 * lock + 1) }
+    {
+        let main = self.machine.inside(main_key(lock));
+        let aside = self.machine.inside(second_key(lock));
+        (main, aside)
     }
 
     /// Where a thread stands.

@@ -1,0 +1,2 @@
+pub mod Escapes
+pub mod Endings

@@ -1,0 +1,297 @@
+//! How cells look, and the legend that says what they mean.
+
+use crate::layout::{MARGIN, Pixels};
+use lot_record::{Cell, Deed, Recording};
+use lot_world::Owner;
+use std::io;
+use std::io::Write;
+
+/// The rights and the deeds that cells have, as the legend lists them.
+const RIGHTS: [Owner; 5] = [
+    Owner::Exclusive,
+    Owner::Pending,
+    Owner::Upgradable,
+    Owner::Shared,
+    Owner::Running,
+];
+
+const DEEDS: [Deed; 6] = [
+    Deed::Calls,
+    Deed::Waits,
+    Deed::WaitsAside,
+    Deed::Taken,
+    Deed::Retries,
+    Deed::Owes,
+];
+
+/// The room of a line of the legend.
+pub const LEGEND_LINE: Pixels = Pixels(18);
+
+/// How a right or a deed looks.
+#[derive(Clone, Copy)]
+pub struct Look {
+    /// The class of its rectangle.
+    pub class: &'static str,
+    /// Its letter, which is light where the rectangle is dark.
+    pub letter: &'static str,
+    pub is_dark: bool,
+    pub means: &'static str,
+}
+
+/// Returns how a right looks.
+pub fn look_of_right(right: Owner) -> Look {
+    match right {
+        Owner::Exclusive => Look {
+            class: "owns",
+            letter: "x",
+            is_dark: true,
+            means: "owns it alone",
+        },
+        Owner::Pending => Look {
+            class: "pending",
+            letter: "p",
+            is_dark: false,
+            means: "is to own it alone, once its readers have left",
+        },
+        Owner::Upgradable => Look {
+            class: "upgradable",
+            letter: "u",
+            is_dark: true,
+            means: "reads, and may upgrade",
+        },
+        Owner::Shared => Look {
+            class: "shares",
+            letter: "s",
+            is_dark: false,
+            means: "shares it, or has a permit",
+        },
+        Owner::Running => Look {
+            class: "runs",
+            letter: "r",
+            is_dark: false,
+            means: "runs its closure",
+        },
+    }
+}
+
+/// Returns how a deed looks.
+pub fn look_of_deed(deed: Deed) -> Look {
+    match deed {
+        Deed::Owes => Look {
+            class: "owes",
+            letter: "o",
+            is_dark: true,
+            means: "owes a wake-up",
+        },
+        Deed::Waits => Look {
+            class: "waits",
+            letter: "q",
+            is_dark: false,
+            means: "waits in the queue",
+        },
+        Deed::WaitsAside => Look {
+            class: "aside",
+            letter: "a",
+            is_dark: false,
+            means: "waits aside for readers to leave",
+        },
+        Deed::Retries => Look {
+            class: "retries",
+            letter: "t",
+            is_dark: false,
+            means: "was woken, and tries again",
+        },
+        Deed::Taken => Look {
+            class: "taken",
+            letter: "z",
+            is_dark: false,
+            means: "asleep, taken off the queue",
+        },
+        Deed::Calls => Look {
+            class: "calls",
+            letter: "",
+            is_dark: false,
+            means: "is in a call",
+        },
+    }
+}
+
+/// An entry of the legend.
+#[derive(Clone, Copy)]
+enum Entry {
+    Right(Owner),
+    Deed(Deed),
+    Inside,
+    Step,
+    NoStep,
+}
+
+impl Entry {
+    fn means(self) -> &'static str {
+        match self {
+            Entry::Right(right) => look_of_right(right).means,
+            Entry::Deed(deed) => look_of_deed(deed).means,
+            Entry::Inside => "is inside a section",
+            Entry::Step => "takes the step",
+            Entry::NoStep => "can't take it now",
+        }
+    }
+
+    /// Tells whether the picture has what the entry explains.
+    fn occurs(self, recording: &Recording) -> bool {
+        match self {
+            Entry::Step => some_column(recording, true),
+            Entry::NoStep => some_column(recording, false),
+            _ => recording
+                .lanes
+                .iter()
+                .any(|lane| lane.cells.iter().any(|cell| self.is_of(*cell))),
+        }
+    }
+
+    fn is_of(self, cell: Cell) -> bool {
+        match self {
+            Entry::Right(right) => cell.right == Some(right),
+            Entry::Deed(deed) => cell.deed == Some(deed),
+            Entry::Inside => cell.is_inside,
+            Entry::Step | Entry::NoStep => false,
+        }
+    }
+}
+
+fn some_column(recording: &Recording, is_taken: bool) -> bool {
+    recording.columns.iter().any(|column| column.thread.is_some() && column.is_taken == is_taken)
+}
+
+/// Where the next entry stands.
+#[derive(Clone, Copy)]
+pub struct Place {
+    x: Pixels,
+    y: Pixels,
+    width: Pixels,
+}
+
+impl Place {
+    pub fn new(y: Pixels, width: Pixels) -> Place {
+        Place {
+            x: MARGIN,
+            y,
+            width,
+        }
+    }
+
+    /// Returns the place of an entry, and moves behind it.
+    fn take(&mut self, entry: Entry) -> Place {
+        let room = Pixels(38) + Pixels::of_text(entry.means().len(), 52);
+        if self.x > MARGIN && self.x + room > self.width {
+            self.x = MARGIN;
+            self.y = self.y + LEGEND_LINE;
+        }
+        let place = *self;
+        self.x = self.x + room;
+        place
+    }
+
+    /// Returns the bottom of the lines so far.
+    fn bottom(&self) -> Pixels {
+        self.y + LEGEND_LINE
+    }
+}
+
+/// Returns the bottom of the legend.
+pub fn legend_bottom(recording: &Recording, from: Place) -> Pixels {
+    let mut place = from;
+    for entry in entries() {
+        if entry.occurs(recording) {
+            place.take(entry);
+        }
+    }
+    place.bottom()
+}
+
+/// Writes the legend.
+pub fn draw_legend<W: Write>(out: &mut W, recording: &Recording, from: Place) -> io::Result<()> {
+    let mut place = from;
+    for entry in entries() {
+        if entry.occurs(recording) {
+            draw_entry(out, entry, place.take(entry))?;
+        }
+    }
+    Ok(())
+}
+
+fn entries() -> [Entry; 14] {
+    [
+        Entry::Step,
+        Entry::NoStep,
+        Entry::Right(RIGHTS[0]),
+        Entry::Right(RIGHTS[1]),
+        Entry::Right(RIGHTS[2]),
+        Entry::Right(RIGHTS[3]),
+        Entry::Right(RIGHTS[4]),
+        Entry::Deed(DEEDS[0]),
+        Entry::Deed(DEEDS[1]),
+        Entry::Deed(DEEDS[2]),
+        Entry::Deed(DEEDS[3]),
+        Entry::Deed(DEEDS[4]),
+        Entry::Deed(DEEDS[5]),
+        Entry::Inside,
+    ]
+}
+
+fn draw_entry<W: Write>(out: &mut W, entry: Entry, place: Place) -> io::Result<()> {
+    let (x, y) = (place.x, place.y);
+    match entry {
+        Entry::Right(right) => draw_swatch(out, look_of_right(right), x, y)?,
+        Entry::Deed(deed) => draw_swatch(out, look_of_deed(deed), x, y)?,
+        Entry::Inside => {
+            let bar = y + Pixels(10);
+            writeln!(
+                out,
+                "<rect class=\"empty\" x=\"{x}\" y=\"{y}\" width=\"16\" height=\"13\"/>"
+            )?;
+            writeln!(
+                out,
+                "<rect class=\"inside\" x=\"{x}\" y=\"{bar}\" width=\"16\" height=\"3\"/>"
+            )?;
+        }
+        Entry::Step => draw_marker(out, x + Pixels(8), y + Pixels(9), true)?,
+        Entry::NoStep => draw_marker(out, x + Pixels(8), y + Pixels(9), false)?,
+    }
+    let (text, base, means) = (x + Pixels(21), y + Pixels(10), entry.means());
+    writeln!(out, "<text x=\"{text}\" y=\"{base}\">{means}</text>")
+}
+
+fn draw_swatch<W: Write>(out: &mut W, look: Look, x: Pixels, y: Pixels) -> io::Result<()> {
+    let class = look.class;
+    writeln!(
+        out,
+        "<rect class=\"{class}\" x=\"{x}\" y=\"{y}\" width=\"16\" height=\"13\"/>"
+    )?;
+    draw_letter(out, look, x + Pixels(8), y + Pixels(10), "letter")
+}
+
+/// Writes the letter of a right or a deed.
+pub fn draw_letter<W: Write>(
+    out: &mut W,
+    look: Look,
+    x: Pixels,
+    y: Pixels,
+    class: &str,
+) -> io::Result<()> {
+    if look.letter.is_empty() {
+        return Ok(());
+    }
+    let (letter, light) = (look.letter, if look.is_dark { " light" } else { "" });
+    writeln!(
+        out,
+        "<text class=\"{class}{light}\" x=\"{x}\" y=\"{y}\">{letter}</text>"
+    )
+}
+
+/// Writes the mark of a thread that takes a step, whose tip is here. One that can't take it has a
+/// hollow mark.
+pub fn draw_marker<W: Write>(out: &mut W, x: Pixels, y: Pixels, is_taken: bool) -> io::Result<()> {
+    let class = if is_taken { "mark" } else { "mark hollow" };
+    writeln!(out, "<path class=\"{class}\" d=\"M{x} {y}l-4 -6h8z\"/>")
+}
