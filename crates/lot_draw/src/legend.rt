@@ -6,24 +6,6 @@ use lot_world::Owner;
 use std::io;
 use std::io::Write;
 
-/// The rights and the deeds that cells have, as the legend lists them.
-const RIGHTS: [Owner; 5] = [
-    Owner::Exclusive,
-    Owner::Pending,
-    Owner::Upgradable,
-    Owner::Shared,
-    Owner::Running,
-];
-
-const DEEDS: [Deed; 6] = [
-    Deed::Calls,
-    Deed::Waits,
-    Deed::WaitsAside,
-    Deed::Taken,
-    Deed::Retries,
-    Deed::Owes,
-];
-
 /// The room of a line of the legend.
 pub const LEGEND_LINE: Pixels = Pixels(18);
 
@@ -126,7 +108,26 @@ enum Entry {
     NoStep,
 }
 
+/// All entries, in their order.
+const ENTRIES: [Entry; 14] = [
+    Entry::Step,
+    Entry::NoStep,
+    Entry::Right(Owner::Exclusive),
+    Entry::Right(Owner::Pending),
+    Entry::Right(Owner::Upgradable),
+    Entry::Right(Owner::Shared),
+    Entry::Right(Owner::Running),
+    Entry::Deed(Deed::Calls),
+    Entry::Deed(Deed::Waits),
+    Entry::Deed(Deed::WaitsAside),
+    Entry::Deed(Deed::Taken),
+    Entry::Deed(Deed::Retries),
+    Entry::Deed(Deed::Owes),
+    Entry::Inside,
+];
+
 impl Entry {
+    /// Returns what the entry says.
     fn means(self) -> &'static str {
         match self {
             Entry::Right(right) => look_of_right(right).means,
@@ -165,31 +166,31 @@ fn some_column(recording: &Recording, is_taken: bool) -> bool {
 
 /// Where the next entry stands.
 #[derive(Clone, Copy)]
-pub struct Place {
+pub struct Spot {
     x: Pixels,
     y: Pixels,
     width: Pixels,
 }
 
-impl Place {
-    pub fn new(y: Pixels, width: Pixels) -> Place {
-        Place {
+impl Spot {
+    pub fn new(y: Pixels, width: Pixels) -> Spot {
+        Spot {
             x: MARGIN,
             y,
             width,
         }
     }
 
-    /// Returns the place of an entry, and moves behind it.
-    fn take(&mut self, entry: Entry) -> Place {
+    /// Returns the spot of an entry, and moves behind it.
+    fn take(&mut self, entry: Entry) -> Spot {
         let room = Pixels(38) + Pixels::of_text(entry.means().len(), 52);
         if self.x > MARGIN && self.x + room > self.width {
             self.x = MARGIN;
             self.y = self.y + LEGEND_LINE;
         }
-        let place = *self;
+        let spot = *self;
         self.x = self.x + room;
-        place
+        spot
     }
 
     /// Returns the bottom of the lines so far.
@@ -199,48 +200,29 @@ impl Place {
 }
 
 /// Returns the bottom of the legend.
-pub fn legend_bottom(recording: &Recording, from: Place) -> Pixels {
-    let mut place = from;
-    for entry in entries() {
+pub fn legend_bottom(recording: &Recording, from: Spot) -> Pixels {
+    let mut spot = from;
+    for entry in ENTRIES {
         if entry.occurs(recording) {
-            place.take(entry);
+            spot.take(entry);
         }
     }
-    place.bottom()
+    spot.bottom()
 }
 
 /// Writes the legend.
-pub fn draw_legend<W: Write>(out: &mut W, recording: &Recording, from: Place) -> io::Result<()> {
-    let mut place = from;
-    for entry in entries() {
+pub fn draw_legend<W: Write>(out: &mut W, recording: &Recording, from: Spot) -> io::Result<()> {
+    let mut spot = from;
+    for entry in ENTRIES {
         if entry.occurs(recording) {
-            draw_entry(out, entry, place.take(entry))?;
+            draw_entry(out, entry, spot.take(entry))?;
         }
     }
     Ok(())
 }
 
-fn entries() -> [Entry; 14] {
-    [
-        Entry::Step,
-        Entry::NoStep,
-        Entry::Right(RIGHTS[0]),
-        Entry::Right(RIGHTS[1]),
-        Entry::Right(RIGHTS[2]),
-        Entry::Right(RIGHTS[3]),
-        Entry::Right(RIGHTS[4]),
-        Entry::Deed(DEEDS[0]),
-        Entry::Deed(DEEDS[1]),
-        Entry::Deed(DEEDS[2]),
-        Entry::Deed(DEEDS[3]),
-        Entry::Deed(DEEDS[4]),
-        Entry::Deed(DEEDS[5]),
-        Entry::Inside,
-    ]
-}
-
-fn draw_entry<W: Write>(out: &mut W, entry: Entry, place: Place) -> io::Result<()> {
-    let (x, y) = (place.x, place.y);
+fn draw_entry<W: Write>(out: &mut W, entry: Entry, spot: Spot) -> io::Result<()> {
+    let (x, y) = (spot.x, spot.y);
     match entry {
         Entry::Right(right) => draw_swatch(out, look_of_right(right), x, y)?,
         Entry::Deed(deed) => draw_swatch(out, look_of_deed(deed), x, y)?,

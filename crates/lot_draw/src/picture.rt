@@ -1,7 +1,7 @@
 //! The picture: one text of SVG, with no scripts and nothing from elsewhere.
 
 use crate::layout::{APART, Layout, MARGIN, Pixels, TITLE};
-use crate::legend::{Place, draw_legend, legend_bottom};
+use crate::legend::{Spot, draw_legend, legend_bottom};
 use crate::panels::{draw_panel, height_of_panel};
 use crate::texts::{put_text, title_of};
 use crate::words::height_of_words;
@@ -79,7 +79,7 @@ pub fn draw<W: Write>(alloc: Global, out: &mut W, recording: &Recording) -> io::
         draw_panel(alloc, out, recording, &layout, panel, top)?;
         top = top + height_of_panel(recording, panel) + frame.words + APART;
     }
-    draw_legend(out, recording, Place::new(frame.legend, frame.width))?;
+    draw_legend(out, recording, Spot::new(frame.legend, frame.width))?;
     draw_notes(out, recording, frame.notes)?;
     writeln!(out, "</svg>")
 }
@@ -99,7 +99,7 @@ fn frame_of(
         let panel = layout.panel(number, recording);
         legend = legend + height_of_panel(recording, panel) + words + APART;
     }
-    let notes = legend_bottom(recording, Place::new(legend, width));
+    let notes = legend_bottom(recording, Spot::new(legend, width));
     Ok(Frame {
         width,
         words,

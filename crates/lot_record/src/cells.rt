@@ -1,4 +1,4 @@
-//! What a thread is to a lock, by the views of their world.
+//! Cells: each says what a thread is to a lock, by the views of their world.
 ghost use Rattle.std.specs.Prelude.{◌≡◌, ◌<◌, length};
 ghost use Rattle.lot_steps.specs.Steps.{calls};
 ghost use Rattle.lot_machine.specs.Machine.{place_at};
@@ -7,7 +7,7 @@ ghost use Rattle.lot_record.specs.Cells.{right_in, is_inside, waiting_in, deed_o
 use lot_base::{Queues, main_key};
 use lot_world::{MOST_LOCKS, Owner, OwnersOf, Place, QueueOf, World};
 
-/// What the call of a thread does at a lock.
+/// Tells what the call of a thread does at a lock.
 #[derive(Clone, Copy, Debug, PartialEq, Eq)]
 pub enum Deed {
     /// Owes a wake-up.
@@ -24,7 +24,7 @@ pub enum Deed {
     Calls,
 }
 
-/// What a thread is to a lock.
+/// Tells what a thread is to a lock.
 #[derive(Clone, Copy, Debug, PartialEq, Eq)]
 pub struct Cell {
     /// The first of its rights, in the order of `World::owners`.

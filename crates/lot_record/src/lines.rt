@@ -33,6 +33,7 @@ pub struct Lines<Q: Queues + Drop> {
 }
 
 impl<Q: Queues + Drop> Lines<Q> {
+    /// Returns the state before the first line.
     pub fn new(alloc: Global) -> Lines<Q> {
         Lines {
             state: State::new(),
@@ -95,7 +96,7 @@ impl<Q: Queues + Drop> Lines<Q> {
             None => return b"",
         };
         match first.iter().position(|byte| *byte == b' ') {
-            Some(space) if !is_text(&first[space..], b" step") && first[0].is_ascii_digit() => {
+            Some(space) if &first[space..] != b" step".as_slice() && first[0].is_ascii_digit() => {
                 &first[space + 1..]
             }
             _ => b"",
@@ -104,15 +105,11 @@ impl<Q: Queues + Drop> Lines<Q> {
 
     /// Tells whether the last line changed anything.
     pub fn is_taken(&self) -> bool {
-        !is_text(self.outcome(), b"not now")
+        self.outcome() != b"not now".as_slice()
     }
 
     /// Returns that memory was refused at the last line.
     pub fn refused_memory(&self) -> Failure {
         Failure::NoMemory(self.number)
     }
-}
-
-fn is_text(bytes: &[u8], text: &[u8]) -> bool {
-    bytes == text
 }

@@ -18,7 +18,7 @@ pub const MOST_COLUMNS: usize = 1000;
 #[derive(Drop)]
 pub struct Column {
     pub line: Vec<u8>,
-    /// What the line answers, or nothing where it says no more than that a step was taken.
+    /// The line's answer, or nothing where it says no more than that a step was taken.
     pub said: Vec<u8>,
     /// The thread that takes the steps, where the line names one that is there.
     pub thread: Option<usize>,
@@ -38,7 +38,7 @@ impl Column {
     }
 }
 
-/// What a thread is to a lock, behind each column.
+/// Tells what a thread is to a lock, behind each column.
 #[derive(Drop)]
 pub struct Lane {
     pub thread: usize,
@@ -55,7 +55,7 @@ pub struct LockRow {
     pub words: Vec<u64>,
 }
 
-/// What a picture shows.
+/// Holds all that a picture shows.
 #[derive(Drop)]
 pub struct Recording {
     /// How many threads and locks the schedule has.
