@@ -1,3 +1,4 @@
+mod refusals;
 mod rows;
 mod schedules;
 mod walks;

@@ -1,7 +1,7 @@
-mod bad_input;
 mod checked;
+mod disturbed;
 mod planted;
-mod schedules;
+mod scripts;
 mod walks;
 
 use std::fmt::Debug;

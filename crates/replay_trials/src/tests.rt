@@ -1,6 +1,7 @@
 //! Inputs through `start`: what they answer, and what a broken device leaves.
+mod bad_input;
+mod broken;
 mod devices;
-mod rows;
 mod text;
 
 use bucket_queues::BucketQueues;
@@ -8,23 +9,15 @@ use devices::{Pieces, Refusal, Short};
 use lot_base::{ListQueues, Queues};
 use lot_replay::start::start;
 use lot_world::{Answer, Call, Kind, MutexCall, Outcome, Step, Turn, World};
-use rows::condvars::MUTEX_ROWS;
-use rows::fair::FAIR_ROWS;
-use rows::lates::LATE_ROWS;
-use rows::malformed::MALFORMED;
-use rows::meanwhile::MEANWHILE_ROWS;
-use rows::moves::MOVE_ROWS;
-use rows::mutexes::{ROWS, TWO_TRIES};
-use rows::onces::ONCE_ROWS;
-use rows::refused::REFUSED_ROWS;
-use rows::releases::RELEASE_ROWS;
-use rows::rwlocks::RWLOCK_ROWS;
-use rows::semaphores::SEMAPHORE_ROWS;
 use std::alloc::{AllocError, Global};
 use std::fmt::Debug;
 use std::io::BufRead;
 use std::process::Abort;
 use std::test::Fail;
+use worked_schedules::{
+    FAIR_RELEASES, LATE_WAITERS, MEANWHILE, MOVES, MUTEXES, ONCES, REFUSALS, RELEASES, RWLOCKS,
+    SEMAPHORES, SHOWN_MUTEXES, Schedule, TWO_TRIES,
+};
 
 // What was found is what was wanted. All tests share this one assertion, since each is proved where
 // it stands.
@@ -77,50 +70,54 @@ fn leads_to(rt: &impl Abort, replayed: (Vec<u8>, u8), text: &[u8], status: u8) {
     same(rt, ended, status);
 }
 
-/// Inputs and the texts to which they lead.
-type Rows<'a> = &'a [(&'a [u8], &'a [u8])];
-
-fn answers(rt: &impl Abort, alloc: Global, rows: Rows<'_>) {
-    for (input, text) in rows {
-        leads_both_to(rt, alloc, input, text, 0);
+/// Each schedule of a table leads to its text and its status, over each kind of queues.
+fn answers(rt: &impl Abort, alloc: Global, table: &[Schedule]) {
+    for schedule in table {
+        answers_over::<ListQueues>(rt, alloc, schedule);
+        answers_over::<BucketQueues>(rt, alloc, schedule);
     }
+}
+
+fn answers_over<Q: Queues + Drop>(rt: &impl Abort, alloc: Global, schedule: &Schedule) {
+    let name = schedule.name;
+    let (text, status) = replayed_over::<Q, _>(alloc, schedule.lines);
+    same(rt, (name, text.as_slice()), (name, schedule.told));
+    same(rt, (name, status), (name, schedule.status));
 }
 
 #[test]
 fn answers_inputs(rt: HostRuntime) {
-    for (input, text, status) in ROWS.iter() {
-        leads_both_to(&rt, rt.alloc(), input, text, *status);
-    }
+    answers(&rt, rt.alloc(), &MUTEXES);
 }
 
 #[test]
 fn answers_inputs_of_reader_writer_locks(rt: HostRuntime) {
-    answers(&rt, rt.alloc(), &RWLOCK_ROWS);
+    answers(&rt, rt.alloc(), &RWLOCKS);
 }
 
 #[test]
 fn answers_inputs_of_onces(rt: HostRuntime) {
-    answers(&rt, rt.alloc(), &ONCE_ROWS);
+    answers(&rt, rt.alloc(), &ONCES);
 }
 
 #[test]
 fn answers_inputs_of_semaphores(rt: HostRuntime) {
-    answers(&rt, rt.alloc(), &SEMAPHORE_ROWS);
+    answers(&rt, rt.alloc(), &SEMAPHORES);
 }
 
 #[test]
 fn answers_inputs_of_condition_variables(rt: HostRuntime) {
-    answers(&rt, rt.alloc(), &RELEASE_ROWS);
-    answers(&rt, rt.alloc(), &MOVE_ROWS);
-    answers(&rt, rt.alloc(), &MEANWHILE_ROWS);
-    answers(&rt, rt.alloc(), &MUTEX_ROWS);
-    answers(&rt, rt.alloc(), &LATE_ROWS);
-    answers(&rt, rt.alloc(), &REFUSED_ROWS);
+    answers(&rt, rt.alloc(), &RELEASES);
+    answers(&rt, rt.alloc(), &MOVES);
+    answers(&rt, rt.alloc(), &MEANWHILE);
+    answers(&rt, rt.alloc(), &SHOWN_MUTEXES);
+    answers(&rt, rt.alloc(), &LATE_WAITERS);
+    answers(&rt, rt.alloc(), &REFUSALS);
 }
 
 #[test]
 fn answers_inputs_of_fair_releases_and_bumps(rt: HostRuntime) {
-    answers(&rt, rt.alloc(), &FAIR_ROWS);
+    answers(&rt, rt.alloc(), &FAIR_RELEASES);
 }
 
 /// What an input leads to that comes in pieces, and breaks off behind them, if it is to.
@@ -136,19 +133,12 @@ fn replayed_in_pieces(alloc: Global, bytes: &[u8], len: usize, is_broken: bool) 
 
 #[test]
 fn reads_pieces(rt: HostRuntime) {
-    for (input, want, status) in ROWS.iter() {
+    for schedule in MUTEXES.iter() {
         for len in [1, 2, 3, 127, 128, 129, 130] {
-            let (text, ended) = replayed_in_pieces(rt.alloc(), input, len, false);
-            same(&rt, (len, ended), (len, *status));
-            same(&rt, (len, text.as_slice()), (len, *want));
+            let (text, ended) = replayed_in_pieces(rt.alloc(), schedule.lines, len, false);
+            same(&rt, (len, ended), (len, schedule.status));
+            same(&rt, (len, text.as_slice()), (len, schedule.told));
         }
-    }
-}
-
-#[test]
-fn stops_at_a_malformed_line(rt: HostRuntime) {
-    for (input, want) in MALFORMED.iter() {
-        leads_both_to(&rt, rt.alloc(), input.as_bytes(), want.as_bytes(), 2);
     }
 }
 
@@ -300,7 +290,7 @@ fn a_failing_read_leaves_the_lines_before(rt: HostRuntime) {
 
 /// What an input leads to where only so many bytes can be written before a write is refused.
 fn replayed_into(alloc: Global, mut input: &[u8], room: usize, refusal: Refusal) -> (Vec<u8>, u8) {
-    let mut writer = Short::new(alloc, room, refusal);
+    let mut writer = Short::new(alloc, room, refusal, 3);
     let mut errors = Vec::new(alloc);
     let args = ["replay"];
     let status = start::<BucketQueues, _, _, _>(alloc, &args, &mut input, &mut writer, &mut errors);
@@ -333,9 +323,9 @@ fn a_failing_write_leaves_a_beginning(rt: HostRuntime) -> Result<(), Fail> {
 
 #[test]
 fn a_slow_write_loses_nothing(rt: HostRuntime) {
-    for (input, text, status) in ROWS.iter() {
-        let found = replayed_into(rt.alloc(), input, 9999, Refusal::Fails);
-        leads_to(&rt, found, text, *status);
+    for schedule in MUTEXES.iter() {
+        let found = replayed_into(rt.alloc(), schedule.lines, 9999, Refusal::Fails);
+        leads_to(&rt, found, schedule.told, schedule.status);
     }
 }
 
@@ -366,24 +356,5 @@ fn tells_the_usage(rt: HostRuntime) {
         same(&rt, (*args, errors.as_slice()), (*args, usage));
         same(&rt, (*args, text.as_slice()), (*args, b"".as_slice()));
         same(&rt, (*args, status), (*args, 2));
-    }
-}
-
-#[test]
-fn a_failing_write_leaves_a_beginning_of_the_usage(rt: HostRuntime) {
-    for args in WRONG {
-        let mut text = Vec::new(rt.alloc());
-        let mut errors = Short::new(rt.alloc(), 5, Refusal::Fails);
-        let mut reader = TWO_TRIES;
-        let status = start::<BucketQueues, _, _, _>(
-            rt.alloc(),
-            args,
-            &mut reader,
-            &mut text,
-            &mut errors,
-        );
-        let beginning = b"usage".as_slice();
-        same(&rt, (*args, errors.taken.as_slice()), (*args, beginning));
-        same(&rt, (*args, status), (*args, 4));
     }
 }

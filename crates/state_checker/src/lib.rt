@@ -6,6 +6,7 @@
 #![tactic(auto)]
 
 pub mod answers;
+pub mod picks;
 pub mod queues;
 pub mod rights;
 pub mod seen;

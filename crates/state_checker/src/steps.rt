@@ -1,4 +1,7 @@
 //! The rules of one step: what it leaves, and what it may change.
+ghost use Rattle.std.specs.Prelude.{◌≢◌, OnOk};
+ghost use Rattle.lot_calls.specs.declared.outcomes.Outcome.{Outcome};
+ghost use Rattle.state_checker.specs.Sizes.{IsSameSize};
 
 use crate::queues::check_queues;
 use crate::rights::check_rights;
@@ -13,7 +16,9 @@ pub fn check_step(
     step: Step,
     outcome: Outcome,
     after: &Seen,
-) -> Result<(), Violation> {
+) -> Result<(), Violation>
+    ensures sizes { OnOk result (outcome ≢ Outcome.NotNow → IsSameSize before.now after.now) }
+{
     if outcome == Outcome::NotNow {
         if before == after {
             return Ok(());
@@ -32,7 +37,9 @@ pub fn check_step(
     Ok(())
 }
 
-fn check_size(before: &Seen, after: &Seen) -> Result<(), Violation> {
+fn check_size(before: &Seen, after: &Seen) -> Result<(), Violation>
+    ensures { OnOk result (IsSameSize before.now after.now) }
+{
     let threads = before.threads.len() == after.threads.len();
     if !threads || before.locks.len() != after.locks.len() {
         return Err(Violation::OtherWorld(after.locks.len()));

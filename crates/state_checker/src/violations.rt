@@ -49,6 +49,8 @@ pub enum Violation {
     JoinedByOther(usize),
     #[error("a waiter of lock {0} was passed by a later one")]
     OutOfTurn(usize),
+    #[error("those who were taken of lock {0} are not those whom the waking thread lets in")]
+    WrongPicks(usize),
     #[error("thread {0} got a right in another thread's step, and nobody handed it over")]
     RightFromNobody(usize),
     #[error("thread {0} lost a right in another thread's step")]

@@ -1,6 +1,7 @@
 //! The answers of calls, beside what happened since they began.
 
 use crate::answers::{rights_after, told_violation};
+use crate::picks::check_picks;
 use crate::seen::{Rights, Seen};
 use crate::violations::Violation;
 use lot_calls::{Answer, Call, Kind, Outcome, Step, Turn};
@@ -32,7 +33,8 @@ impl Watch {
         })
     }
 
-    /// Follows one step, and names the first violation where its thread was told what isn't so.
+    /// Follows one step, and names the first violation where its thread was told what isn't so, or took
+    /// others of a queue than its call lets in.
     pub fn follow(
         &mut self,
         before: &Seen,
@@ -44,6 +46,9 @@ impl Watch {
             return Ok(());
         }
         self.note_turn(before, step);
+        if let Some(Some(begun)) = self.begun.get(step.thread) {
+            check_picks(before, step.thread, begun.call, after)?;
+        }
         self.note_moves(before, step.thread, after);
         match outcome {
             Outcome::End(answer) => self.end(before, step.thread, answer, after),

@@ -1,9 +1,9 @@
 //! Worlds whose every step is checked.
-ghost use Rattle.std.specs.Prelude.{◌≤◌, ◌≡◌, ◌<◌, All, length, true};
+ghost use Rattle.std.specs.Prelude.{◌≡◌, ◌<◌, All, IsTrue, length, true};
 ghost use Rattle.lot_calls.specs.Kinds.{fits};
 
 use lot_base::{Queues, main_key};
-use lot_world::{Debt, Kind, Outcome, Owner, Step, Turn, World};
+use lot_world::{Debt, Kind, MOST_LOCKS, MOST_THREADS, Outcome, Owner, Step, Turn, World};
 use state_checker::{
     Right, Seen, SeenLock, SeenOwner, SeenThread, SeenWaiter, Standing, Violation, Watch,
     check_state, check_step,
@@ -14,6 +14,8 @@ use std::alloc::{AllocError, Global};
 #[derive(Clone, Copy, Debug, PartialEq, Eq)]
 pub enum Stop {
     NoMemory,
+    /// No world has so many threads, or locks of these kinds.
+    NoWorld,
     /// The step of this number, counted from 0, is wrong.
     Wrong(usize, Step, Violation),
 }
@@ -118,6 +120,13 @@ fn look<Q: Queues + Drop>(alloc: Global, world: &World<Q>) -> Result<Seen, Alloc
     Ok(Seen { threads, locks })
 }
 
+/// Whether a world of so many threads may have locks of these kinds.
+fn all_fit(kinds: &[Kind], threads: usize) -> bool
+    ensures { IsTrue result → All (λ kind. fits kind threads ≡ true) kinds.now }
+{
+    kinds.iter().all(|kind| kind.fits(threads))
+}
+
 /// A world, what it showed last, and the calls that were begun in it.
 #[derive(Drop)]
 pub struct Checked<Q: Queues + Drop> {
@@ -130,10 +139,13 @@ pub struct Checked<Q: Queues + Drop> {
 }
 
 impl<Q: Queues + Drop> Checked<Q> {
-    pub fn new(alloc: Global, kinds: &[Kind], threads: usize) -> Result<Self, Stop>
-        requires few { (1 ≤ threads) × (threads ≤ 1024) × (length kinds.now ≤ 256) }
-        requires fit { All (λ kind. fits kind threads ≡ true) kinds.now }
-    {
+    pub fn new(alloc: Global, kinds: &[Kind], threads: usize) -> Result<Self, Stop> {
+        if threads < 1 || threads > MOST_THREADS || kinds.len() > MOST_LOCKS {
+            return Err(Stop::NoWorld);
+        }
+        if !all_fit(kinds, threads) {
+            return Err(Stop::NoWorld);
+        }
         let Ok(world) = World::new(alloc, kinds, threads) else {
             return Err(Stop::NoMemory);
         };

@@ -2,7 +2,9 @@
 
 use super::same;
 use lot_base::Want;
-use lot_calls::{Answer, Call, CondvarCall, Kind, MutexCall, Outcome, Step, Turn};
+use lot_calls::{
+    Access, Answer, Call, CondvarCall, Downgrade, Kind, MutexCall, Outcome, RwLockCall, Step, Turn,
+};
 use state_checker::{
     Right, Seen, SeenLock, SeenOwner, SeenThread, SeenWaiter, Standing, Violation, Watch,
     check_state, check_step,
@@ -500,6 +502,129 @@ fn answers_are_named(rt: HostRuntime) -> Result<(), Fail> {
         );
         let found = watch.follow(&still, goes, Outcome::End(*answer), &still);
         same(&rt, found.err(), Some(*wanted));
+    }
+    Ok(())
+}
+
+const RECURSIVE: Kind = Kind::Recursive { limit: 9 };
+
+const S: Want = Want::Shared;
+
+const U: Want = Want::Upgradable;
+
+/// A lock's kind, the right that the thread 0 keeps, its call, the wants of the threads from 1 on that
+/// wait, and which of these it takes.
+type Taking<'a> = (
+    Kind,
+    Option<Right>,
+    RwLockCall,
+    &'a [Want],
+    &'a [usize],
+    bool,
+);
+
+const UNWRITE: RwLockCall = RwLockCall::Release(Access::Exclusive);
+
+const UNWRITE_FAIR: RwLockCall = RwLockCall::ReleaseFair(Access::Exclusive);
+
+const TO_SHARED: RwLockCall = RwLockCall::Downgrade(Downgrade::ToShared);
+
+const TO_UPGRADABLE: RwLockCall = RwLockCall::Downgrade(Downgrade::ToUpgradable);
+
+/// Calls that take waiters, and whether each takes the right ones.
+const TAKINGS: &[Taking<'static>] = &[
+    (NORMAL, None, UNWRITE, &[S, X, S], &[1, 2], true),
+    (NORMAL, None, UNWRITE, &[S, X, S], &[1], false),
+    (NORMAL, None, UNWRITE, &[S, X, S], &[1, 2, 3], false),
+    (RECURSIVE, None, UNWRITE, &[S, X, S], &[1, 2, 3], true),
+    (RECURSIVE, None, UNWRITE, &[S, X, S], &[1, 2], false),
+    (NORMAL, None, UNWRITE, &[S, U, X, S], &[1, 2, 4], true),
+    (NORMAL, None, UNWRITE, &[S, U, X, S], &[1, 2, 3, 4], false),
+    (NORMAL, None, UNWRITE, &[X, X, S], &[1], true),
+    (RECURSIVE, None, UNWRITE, &[X, X, S], &[1, 2, 3], false),
+    (
+        NORMAL,
+        Some(Right::Exclusive),
+        UNWRITE_FAIR,
+        &[X, S],
+        &[1],
+        true,
+    ),
+    (
+        NORMAL,
+        Some(Right::Exclusive),
+        UNWRITE_FAIR,
+        &[X, S],
+        &[2],
+        false,
+    ),
+    (NORMAL, Some(Right::Shared), TO_SHARED, &[X, S], &[1], true),
+    (
+        NORMAL,
+        Some(Right::Upgradable),
+        TO_UPGRADABLE,
+        &[X, S],
+        &[2],
+        true,
+    ),
+    (
+        NORMAL,
+        Some(Right::Upgradable),
+        TO_UPGRADABLE,
+        &[U, S],
+        &[1, 2],
+        false,
+    ),
+];
+
+/// The moments before and behind the step in which the thread 0 takes them.
+fn taking(alloc: Global, taking: &Taking<'_>) -> Result<(Seen, Seen), AllocError> {
+    let (kind, kept, _, wants, taken, _) = taking;
+    let (mut waiters, mut left) = (Vec::new(alloc), Vec::new(alloc));
+    let (mut before, mut after) = (Vec::new(alloc), Vec::new(alloc));
+    before.push(AWAKE)?;
+    after.push(AWAKE)?;
+    for (place, want) in wants.iter().enumerate() {
+        let thread = place.wrapping_add(1);
+        let is_taken = taken.iter().any(|other| *other == thread);
+        before.push(ASLEEP)?;
+        after.push(if is_taken { HELD } else { ASLEEP })?;
+        waiters.push((thread, *want))?;
+        if !is_taken {
+            left.push((thread, *want))?;
+        }
+    }
+    let mut owners = Vec::new(alloc);
+    if let Some(right) = kept {
+        owners.push((*right, 0))?;
+    }
+    let (owners, waiters, left) = (owners.as_slice(), waiters.as_slice(), left.as_slice());
+    let old = [(*kind, 1, owners, waiters, &[][..], &[0][..], &[][..])];
+    let new = [(*kind, 1, owners, left, &[][..], &[0][..], &[][..])];
+    Ok((
+        seen(alloc, &(before.as_slice(), &old))?,
+        seen(alloc, &(after.as_slice(), &new))?,
+    ))
+}
+
+#[test]
+fn picks_are_named(rt: HostRuntime) -> Result<(), Fail> {
+    for plan in TAKINGS {
+        let (_, _, call, _, _, is_right) = *plan;
+        let (before, after) = taking(rt.alloc(), plan)?;
+        let mut watch = Watch::new(rt.alloc(), before.threads.len())?;
+        let (thread, call) = (0, Call::RwLock { lock: 0, call });
+        let turn = Turn::Begin(call);
+        let begun = watch.follow(&before, Step { thread, turn }, Outcome::Step, &before);
+        same(&rt, begun, Ok(()));
+        let turn = Turn::Go;
+        let found = watch.follow(&before, Step { thread, turn }, Outcome::Step, &after);
+        let wanted = if is_right {
+            None
+        } else {
+            Some(Violation::WrongPicks(0))
+        };
+        same(&rt, found.err(), wanted);
     }
     Ok(())
 }

@@ -1,6 +1,5 @@
 //! Random walks over worlds of all kinds of locks, from fixed seeds.
-ghost use Rattle.std.specs.Prelude.{◌≤◌, ◌≡◌, ◌<◌, All, length, true};
-ghost use Rattle.lot_calls.specs.Kinds.{fits};
+ghost use Rattle.std.specs.Prelude.{◌≤◌, ◌<◌};
 
 use super::checked::{Checked, Stop};
 use super::same;
@@ -160,20 +159,21 @@ fn turn_of(dice: &mut Dice, seen: &Seen, thread: usize) -> Turn {
     }
 }
 
-/// So many turns of any threads, and how many of them were possible.
+/// The turns of a walk.
+const TURNS: usize = 200;
+
+/// A walk by any threads, and how many of its turns were possible.
 fn walk<Q: Queues + Drop>(
     alloc: Global,
     kinds: &[Kind],
     threads: usize,
     seed: u64,
-    turns: usize,
 ) -> Result<usize, Stop>
-    requires few { (1 ≤ threads) × (threads ≤ 1024) × (length kinds.now ≤ 256) }
-    requires fit { All (λ kind. fits kind threads ≡ true) kinds.now }
+    requires some { 1 ≤ threads }
 {
     let mut checked = Checked::<Q>::new(alloc, kinds, threads)?;
     let mut dice = Dice { seed };
-    for _ in 0..turns {
+    for _ in 0..TURNS {
         let thread = dice.below(threads);
         let turn = turn_of(&mut dice, &checked.seen, thread);
         checked.step(Step { thread, turn })?;
@@ -181,97 +181,104 @@ fn walk<Q: Queues + Drop>(
     Ok(checked.possible)
 }
 
-/// No step is wrong in so many walks over worlds of these locks, by a list and by buckets each.
-fn walks<A: Abort>(rt: &A, alloc: Global, kinds: &[Kind], threads: usize, count: u64)
-    requires few { (1 ≤ threads) × (threads ≤ 16) × (length kinds.now ≤ 256) }
-    requires fit { All (λ kind. fits kind threads ≡ true) kinds.now }
+/// No step is wrong in so many walks over worlds of these locks, by a list and by buckets each. It
+/// answers how many turns were possible.
+fn walks<A: Abort>(rt: &A, alloc: Global, kinds: &[Kind], threads: usize, count: u64) -> usize
+    requires some { 1 ≤ threads }
 {
+    let mut possible = 0usize;
     for seed in 0..count {
-        let found = walk::<ListQueues>(alloc, kinds, threads, seed, 200);
+        let found = walk::<ListQueues>(alloc, kinds, threads, seed);
         same(rt, (threads, seed, found.err()), (threads, seed, None));
-        let found = walk::<BucketQueues>(alloc, kinds, threads, seed ^ 0xffff, 200);
+        possible = possible.wrapping_add(found.unwrap_or(0));
+        let found = walk::<BucketQueues>(alloc, kinds, threads, seed ^ 0xffff);
         same(rt, (threads, seed, found.err()), (threads, seed, None));
+        possible = possible.wrapping_add(found.unwrap_or(0));
     }
+    possible
+}
+
+/// How many walks there are over each of these worlds, with each number of threads, by each kind of
+/// queues.
+const WALKS: u64 = 20;
+
+const MUTEXES: [&[Kind]; 2] = [&[Kind::Mutex], &[Kind::Fair, Kind::Mutex]];
+
+const RWLOCKS: [&[Kind]; 4] = [
+    &[Kind::RwLock { limit: 16 }],
+    &[Kind::Recursive { limit: 16 }],
+    &[Kind::RwLock { limit: 1000 }],
+    &[Kind::Recursive { limit: 1000 }],
+];
+
+const CONDVARS: [&[Kind]; 2] = [
+    &[Kind::Mutex, Kind::Condvar],
+    &[Kind::Mutex, Kind::Condvar, Kind::Mutex, Kind::Condvar],
+];
+
+const ONCES_AND_SEMAPHORES: [&[Kind]; 3] = [
+    &[Kind::Once, Kind::Once],
+    &[Kind::Semaphore { permits: 1 }],
+    &[Kind::Semaphore { permits: 3 }],
+];
+
+const ALL_KINDS: [&[Kind]; 2] = [
+    &[
+        Kind::Mutex,
+        Kind::RwLock { limit: 16 },
+        Kind::Condvar,
+        Kind::Semaphore { permits: 2 },
+        Kind::Once,
+        Kind::Recursive { limit: 16 },
+        Kind::Fair,
+    ],
+    &[
+        Kind::Mutex,
+        Kind::Condvar,
+        Kind::Once,
+        Kind::Semaphore { permits: 1 },
+    ],
+];
+
+/// The walks over each of these worlds with 2 to 16 threads. At least so many turns of a hundred
+/// were possible, so that a walk is no idle one.
+fn all_walks<A: Abort>(rt: &A, alloc: Global, worlds: &[&[Kind]], least: usize) {
+    let mut possible = 0usize;
+    let mut turns = 0usize;
+    for threads in 2..17 {
+        for kinds in worlds {
+            possible = possible.wrapping_add(walks(rt, alloc, kinds, threads, WALKS));
+            turns = turns.wrapping_add(2 * TURNS * WALKS as usize);
+        }
+    }
+    same(
+        rt,
+        (turns, possible),
+        (turns, possible.max((turns / 100).wrapping_mul(least))),
+    );
 }
 
 #[test]
 fn mutexes_keep_their_rules(rt: HostRuntime) {
-    for threads in 2..17 {
-        walks(&rt, rt.alloc(), &[Kind::Mutex], threads, 20);
-        walks(&rt, rt.alloc(), &[Kind::Fair, Kind::Mutex], threads, 20);
-    }
+    all_walks(&rt, rt.alloc(), &MUTEXES, 30);
 }
 
 #[test]
 fn reader_writer_locks_keep_their_rules(rt: HostRuntime) {
-    for threads in 2..17 {
-        walks(&rt, rt.alloc(), &[Kind::RwLock { limit: 16 }], threads, 20);
-        walks(
-            &rt,
-            rt.alloc(),
-            &[Kind::Recursive { limit: 16 }],
-            threads,
-            20,
-        );
-        walks(
-            &rt,
-            rt.alloc(),
-            &[Kind::RwLock { limit: 1000 }],
-            threads,
-            20,
-        );
-        walks(
-            &rt,
-            rt.alloc(),
-            &[Kind::Recursive { limit: 1000 }],
-            threads,
-            20,
-        );
-    }
+    all_walks(&rt, rt.alloc(), &RWLOCKS, 30);
 }
 
 #[test]
 fn condition_variables_keep_their_rules(rt: HostRuntime) {
-    for threads in 2..17 {
-        walks(&rt, rt.alloc(), &[Kind::Mutex, Kind::Condvar], threads, 30);
-        let kinds = [Kind::Mutex, Kind::Condvar, Kind::Mutex, Kind::Condvar];
-        walks(&rt, rt.alloc(), &kinds, threads, 20);
-    }
+    all_walks(&rt, rt.alloc(), &CONDVARS, 35);
 }
 
 #[test]
 fn onces_and_semaphores_keep_their_rules(rt: HostRuntime) {
-    for threads in 2..17 {
-        walks(&rt, rt.alloc(), &[Kind::Once, Kind::Once], threads, 20);
-        walks(
-            &rt,
-            rt.alloc(),
-            &[Kind::Semaphore { permits: 1 }],
-            threads,
-            15,
-        );
-        walks(
-            &rt,
-            rt.alloc(),
-            &[Kind::Semaphore { permits: 3 }],
-            threads,
-            15,
-        );
-    }
+    all_walks(&rt, rt.alloc(), &ONCES_AND_SEMAPHORES, 30);
 }
 
 #[test]
 fn all_kinds_together_keep_their_rules(rt: HostRuntime) {
-    for threads in 2..17 {
-        let kinds = [
-            Kind::Mutex,
-            Kind::RwLock { limit: 16 },
-            Kind::Condvar,
-            Kind::Semaphore { permits: 2 },
-            Kind::Once,
-            Kind::Recursive { limit: 16 },
-            Kind::Fair,
-        ];
-        walks(&rt, rt.alloc(), &kinds, threads, 30);
-    }
+    all_walks(&rt, rt.alloc(), &ALL_KINDS, 35);
 }

@@ -10,22 +10,24 @@ pub enum Refusal {
     TakesNothing,
 }
 
-/// Takes `room` bytes, three at a time, and is interrupted now and then. It refuses one write, and
-/// has room again.
+/// Takes `room` bytes, so many at a time, and is interrupted at each third write. It refuses one
+/// write, and has room again.
 #[derive(Drop)]
 pub struct Short {
     pub taken: Vec<u8>,
     room: usize,
     refusal: Refusal,
+    width: usize,
     calls: u8,
 }
 
 impl Short {
-    pub fn new(alloc: Global, room: usize, refusal: Refusal) -> Short {
+    pub fn new(alloc: Global, room: usize, refusal: Refusal, width: usize) -> Short {
         Short {
             taken: Vec::new(alloc),
             room,
             refusal,
+            width,
             calls: 0,
         }
     }
@@ -45,7 +47,7 @@ impl Write for Short {
         if self.calls % 3 == 0 {
             return Err(io::Error::from(ErrorKind::Interrupted));
         }
-        let n = buf.len().min(self.room).min(3);
+        let n = buf.len().min(self.room).min(self.width);
         if n == 0 {
             self.refuse()?;
             return Ok(0);
@@ -93,5 +95,40 @@ impl BufRead for Pieces<'_> {
     fn consume(&mut self, amount: usize) {
         let n = amount.min(self.bytes.len());
         self.bytes = &self.bytes[n..];
+    }
+}
+
+/// Shows its bytes up to a place, refuses one look there, and shows the rest from then on.
+#[derive(Drop)]
+pub struct Stumbling<'a> {
+    pub bytes: &'a [u8],
+    pub before: usize,
+    /// How it refuses the look, until it has done so.
+    pub refusal: Option<ErrorKind>,
+}
+
+impl Read for Stumbling<'_> {
+    fn read(&mut self, _buf: &mut [u8]) -> io::Result<usize> {
+        Err(io::Error::from(ErrorKind::Unsupported))
+    }
+}
+
+impl BufRead for Stumbling<'_> {
+    fn fill_buf(&mut self) -> io::Result<&[u8]> {
+        let Some(kind) = self.refusal else {
+            return Ok(self.bytes);
+        };
+        if self.before == 0 {
+            self.refusal = None;
+            return Err(io::Error::from(kind));
+        }
+        let n = self.bytes.len().min(self.before);
+        Ok(&self.bytes[..n])
+    }
+
+    fn consume(&mut self, amount: usize) {
+        let n = amount.min(self.bytes.len());
+        self.bytes = &self.bytes[n..];
+        self.before = self.before.saturating_sub(n);
     }
 }

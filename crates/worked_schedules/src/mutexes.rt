@@ -1,7 +1,9 @@
-//! Worked schedules of mutexes and of whole inputs, with the text and the status that they lead to.
+//! Worked schedules of mutexes and of whole inputs.
 
-/// One thread tries twice, and unlocks.
-pub(crate) const TWO_TRIES: &[u8] = b"threads 1
+use crate::schedule::Schedule;
+
+/// One thread tries a mutex twice, and unlocks it.
+pub const TWO_TRIES: &[u8] = b"threads 1
 lock m mutex
 0 begin try_lock m
 0 go
@@ -12,44 +14,47 @@ lock m mutex
 show
 ";
 
-/// Inputs, with the text and the status that they lead to.
-pub(crate) const ROWS: [(&[u8], &[u8], u8); 21] = [
-    // No line.
-    (b"", b"", 0),
-    // A lock that nobody has.
-    (
-        b"threads 1
+pub const MUTEXES: [Schedule; 21] = [
+    Schedule {
+        name: "no line",
+        lines: b"",
+        told: b"",
+        status: 0,
+    },
+    Schedule {
+        name: "a lock that nobody has",
+        lines: b"threads 1
 lock m mutex
 show
 ",
-        b"m 0
+        told: b"m 0
 ",
-        0,
-    ),
-    // No thread.
-    (
-        b"threads 0
+        status: 0,
+    },
+    Schedule {
+        name: "no thread",
+        lines: b"threads 0
 ",
-        b"line 1 malformed
+        told: b"line 1 malformed
 ",
-        2,
-    ),
-    // A word that no line has.
-    (
-        b"threads 1
+        status: 2,
+    },
+    Schedule {
+        name: "a word that no line has",
+        lines: b"threads 1
 lock m mutex
 show
 0 fly
 ",
-        b"m 0
+        told: b"m 0
 line 4 malformed
 ",
-        2,
-    ),
-    // One thread tries twice, and unlocks.
-    (
-        TWO_TRIES,
-        b"0 step
+        status: 2,
+    },
+    Schedule {
+        name: "two tries and an unlock",
+        lines: TWO_TRIES,
+        told: b"0 step
 0 end yes
 0 step
 0 end no
@@ -57,11 +62,11 @@ line 4 malformed
 0 end ok
 m 0
 ",
-        0,
-    ),
-    // One thread sleeps behind another, and is woken.
-    (
-        b"threads 2
+        status: 0,
+    },
+    Schedule {
+        name: "a sleeper is woken",
+        lines: b"threads 2
 lock m mutex
 0 begin lock m
 0 go
@@ -85,7 +90,7 @@ show
 1 go
 show
 ",
-        b"0 step
+        told: b"0 step
 0 end ok
 1 step
 1 step
@@ -107,11 +112,11 @@ m 0 retry=1
 1 end ok
 m 1 own=1x
 ",
-        0,
-    ),
-    // One thread spins while another unlocks.
-    (
-        b"threads 2
+        status: 0,
+    },
+    Schedule {
+        name: "a spin beside an unlock",
+        lines: b"threads 2
 lock m mutex
 0 do lock m
 1 begin lock m
@@ -123,7 +128,7 @@ lock m mutex
 1 go
 1 go
 ",
-        b"0 end ok
+        told: b"0 end ok
 1 step
 1 step
 1 step
@@ -133,27 +138,27 @@ lock m mutex
 1 step
 1 end ok
 ",
-        0,
-    ),
-    // One thread alone.
-    (
-        b"threads 1
+        status: 0,
+    },
+    Schedule {
+        name: "one thread alone",
+        lines: b"threads 1
 lock m mutex
 0 do try_lock m
 0 do try_lock m
 0 do unlock m
 0 do try_lock m
 ",
-        b"0 end yes
+        told: b"0 end yes
 0 end no
 0 end ok
 0 end yes
 ",
-        0,
-    ),
-    // A third thread is quicker than the one that is woken.
-    (
-        b"threads 3
+        status: 0,
+    },
+    Schedule {
+        name: "a third thread is quicker than the woken one",
+        lines: b"threads 3
 lock m mutex
 0 do lock m
 1 do lock m
@@ -166,7 +171,7 @@ show
 1 solo
 show
 ",
-        b"0 end ok
+        told: b"0 end ok
 1 sleep
 0 step
 0 step
@@ -177,11 +182,11 @@ m 1 own=2x retry=1
 1 sleep
 m 3 own=2x queue=1x
 ",
-        0,
-    ),
-    // A waiter whose time is up.
-    (
-        b"threads 2
+        status: 0,
+    },
+    Schedule {
+        name: "a waiter's time is up",
+        lines: b"threads 2
 lock m mutex
 0 do lock m
 1 do lock_timed m
@@ -189,17 +194,17 @@ lock m mutex
 1 solo
 show
 ",
-        b"0 end ok
+        told: b"0 end ok
 1 sleep
 1 step
 1 end no
 m 1 own=0x
 ",
-        0,
-    ),
-    // A waiter whose time is up too late, since it is being woken.
-    (
-        b"threads 2
+        status: 0,
+    },
+    Schedule {
+        name: "a waiter is late while it is being woken",
+        lines: b"threads 2
 lock m mutex
 0 do lock m
 1 do lock_timed m
@@ -214,7 +219,7 @@ lock m mutex
 1 solo
 show
 ",
-        b"0 end ok
+        told: b"0 end ok
 1 sleep
 0 step
 0 step
@@ -227,11 +232,12 @@ show
 1 end yes
 m 1 own=1x
 ",
-        0,
-    ),
+        status: 0,
+    },
     // A fair release hands the lock to the first waiter, and that one to the next.
-    (
-        b"threads 3
+    Schedule {
+        name: "a fair release hands over twice",
+        lines: b"threads 3
 lock m mutex
 0 do lock m
 1 do lock m
@@ -243,7 +249,7 @@ show
 show
 2 solo
 ",
-        b"0 end ok
+        told: b"0 end ok
 1 sleep
 2 sleep
 0 end ok
@@ -253,12 +259,13 @@ m 3 own=1x queue=2x
 m 1 own=2x
 2 end ok
 ",
-        0,
-    ),
+        status: 0,
+    },
     // A waiter that has set the parked bit finds it gone, since the owner handed the lock to
     // another.
-    (
-        b"threads 3
+    Schedule {
+        name: "a parked bit is gone after a hand-over",
+        lines: b"threads 3
 lock m mutex
 0 do lock m
 1 do lock m
@@ -273,7 +280,7 @@ show
 2 solo
 show
 ",
-        b"0 end ok
+        told: b"0 end ok
 1 sleep
 2 step
 2 step
@@ -286,44 +293,45 @@ m 1 own=1x owe=2
 2 sleep
 m 3 own=1x queue=2x
 ",
-        0,
-    ),
-    // A bump hands the lock over, and waits behind the new owner.
-    (
-        b"threads 2
+        status: 0,
+    },
+    Schedule {
+        name: "a bump hands over and waits",
+        lines: b"threads 2
 lock m mutex
 0 do lock m
 1 do lock m
 0 do bump m
 show
 ",
-        b"0 end ok
+        told: b"0 end ok
 1 sleep
 0 sleep
 m 3 own=1x queue=0x
 ",
-        0,
-    ),
-    // A fair mutex is handed over by its unlock.
-    (
-        b"threads 2
+        status: 0,
+    },
+    Schedule {
+        name: "a fair mutex is handed over by its unlock",
+        lines: b"threads 2
 lock f fair
 0 do lock f
 1 do lock f
 0 do unlock f
 show
 ",
-        b"0 end ok
+        told: b"0 end ok
 1 sleep
 0 end ok
 f 1 own=1x
 ",
-        0,
-    ),
+        status: 0,
+    },
     // A hand-over, step by step: the waiter owns the lock from the store on, and sleeps until the
     // section is left.
-    (
-        b"threads 3
+    Schedule {
+        name: "a hand-over step by step",
+        lines: b"threads 3
 lock m fair
 0 do lock m
 1 do lock_timed m
@@ -344,7 +352,7 @@ show
 1 go
 show
 ",
-        b"0 end ok
+        told: b"0 end ok
 1 sleep
 2 sleep
 0 step
@@ -363,12 +371,13 @@ m 3 own=1x queue=2x
 1 end yes
 m 3 own=1x queue=2x
 ",
-        0,
-    ),
+        status: 0,
+    },
     // A bump beside nobody, and beside one that has set the parked bit and doesn't stand in the
     // queue yet.
-    (
-        b"threads 2
+    Schedule {
+        name: "a bump beside nobody, and beside a bit without a waiter",
+        lines: b"threads 2
 lock m mutex
 0 do lock m
 0 do bump m
@@ -383,7 +392,7 @@ show
 1 solo
 show
 ",
-        b"0 end ok
+        told: b"0 end ok
 0 end ok
 m 1 own=0x
 1 step
@@ -396,42 +405,42 @@ m 1 own=0x
 1 sleep
 m 3 own=0x queue=1x
 ",
-        0,
-    ),
-    // No threads yet.
-    (
-        b"show
+        status: 0,
+    },
+    Schedule {
+        name: "no threads line",
+        lines: b"show
 ",
-        b"line 1 malformed
+        told: b"line 1 malformed
 ",
-        2,
-    ),
-    // A line that is too long.
-    (
-        b"threads 1
+        status: 2,
+    },
+    Schedule {
+        name: "a line that is too long",
+        lines: b"threads 1
 lock m mutex
 xxxxxxxxxxxxxxxxxxxxxxxxxxxxxxxxxxxxxxxxxxxxxxxxxxxxxxxxxxxxxxxxxxxxxxxxxxxxxxxxxxxxxxxxxxxxxxxxxxxxxxxxxxxxxxxxxxxxxxxxxxxxxxxxx
 ",
-        b"line 3 malformed
+        told: b"line 3 malformed
 ",
-        2,
-    ),
-    // A last line that is cut off.
-    (
-        b"threads 1
+        status: 2,
+    },
+    Schedule {
+        name: "a last line that is cut off",
+        lines: b"threads 1
 lock m mutex
 sh",
-        b"line 3 malformed
+        told: b"line 3 malformed
 ",
-        2,
-    ),
-    // A last line without a line feed.
-    (
-        b"threads 1
+        status: 2,
+    },
+    Schedule {
+        name: "a last line without a line feed",
+        lines: b"threads 1
 lock m mutex
 show",
-        b"m 0
+        told: b"m 0
 ",
-        0,
-    ),
+        status: 0,
+    },
 ];

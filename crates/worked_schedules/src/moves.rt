@@ -1,10 +1,12 @@
 //! Worked schedules in which waiters are moved to the queue of their mutex.
 
-/// Inputs, with the text that they lead to.
-pub(crate) const MOVE_ROWS: [(&[u8], &[u8]); 4] = [
+use crate::schedule::Schedule;
+
+pub const MOVES: [Schedule; 4] = [
     // Beside an unlocked mutex the first of all is woken, and the rest wait for the mutex.
-    (
-        b"threads 5
+    Schedule {
+        name: "all are moved beside an unlocked mutex",
+        lines: b"threads 5
 lock m mutex
 lock c condvar
 0 do lock m
@@ -17,7 +19,7 @@ lock c condvar
 show
 3 do notify_all c
 ",
-        b"0 end ok
+        told: b"0 end ok
 0 sleep
 1 end ok
 1 sleep
@@ -28,10 +30,11 @@ m 2 queue=1x,2x retry=0
 c 0
 3 end 0
 ",
-    ),
-    // Beside a locked mutex all wait for it.
-    (
-        b"threads 5
+        status: 0,
+    },
+    Schedule {
+        name: "all are moved beside a locked mutex",
+        lines: b"threads 5
 lock m mutex
 lock c condvar
 0 do lock m
@@ -44,7 +47,7 @@ lock c condvar
 3 do notify_all c
 show
 ",
-        b"0 end ok
+        told: b"0 end ok
 0 sleep
 1 end ok
 1 sleep
@@ -55,10 +58,12 @@ show
 m 3 own=3x queue=0x,1x,2x
 c 0
 ",
-    ),
-    // Who owes while all are moved to a locked mutex; it goes from one to the next in their order.
-    (
-        b"threads 5
+        status: 0,
+    },
+    // Debts while all are moved to a locked mutex; it goes from one to the next in their order.
+    Schedule {
+        name: "all are moved step by step, and take turns",
+        lines: b"threads 5
 lock m mutex
 lock c condvar
 0 do lock m
@@ -97,7 +102,7 @@ show
 2 do unlock m
 show
 ",
-        b"0 end ok
+        told: b"0 end ok
 0 sleep
 1 end ok
 1 sleep
@@ -142,10 +147,11 @@ c 0
 m 0
 c 0
 ",
-    ),
-    // Waiters that come behind its look are moved with the others.
-    (
-        b"threads 4
+        status: 0,
+    },
+    Schedule {
+        name: "a waiter comes behind a notification's look",
+        lines: b"threads 4
 lock m mutex
 lock c condvar
 0 do lock m
@@ -163,7 +169,7 @@ show
 1 do unlock m
 0 solo
 ",
-        b"0 end ok
+        told: b"0 end ok
 0 sleep
 3 step
 3 step
@@ -179,5 +185,6 @@ c 0
 1 end ok
 0 end ok
 ",
-    ),
+        status: 0,
+    },
 ];

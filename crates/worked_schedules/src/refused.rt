@@ -1,10 +1,11 @@
 //! Worked schedules of turns and calls that are not taken, and of notifications of nobody.
 
-/// Inputs, with the text that they lead to.
-pub(crate) const REFUSED_ROWS: [(&[u8], &[u8]); 2] = [
-    // Turns that a thread in no call lacks, and notifications of nobody.
-    (
-        b"threads 1
+use crate::schedule::Schedule;
+
+pub const REFUSALS: [Schedule; 2] = [
+    Schedule {
+        name: "turns of a thread in no call, and notifications of nobody",
+        lines: b"threads 1
 lock m mutex
 lock c condvar
 0 begin unlock m
@@ -15,7 +16,7 @@ lock c condvar
 0 do notify_one c
 0 do notify_all c
 ",
-        b"0 not now
+        told: b"0 not now
 0 not now
 0 not now
 0 not now
@@ -23,11 +24,13 @@ lock c condvar
 0 end no
 0 end 0
 ",
-    ),
+        status: 0,
+    },
     // Calls that are not begun: of a lock of another kind, with a fair mutex, and by who does not
     // own the mutex.
-    (
-        b"threads 2
+    Schedule {
+        name: "calls that are not begun",
+        lines: b"threads 2
 lock m mutex
 lock f fair
 lock c condvar
@@ -57,7 +60,7 @@ show
 0 do unlock f
 show
 ",
-        b"0 end ok
+        told: b"0 end ok
 0 not now
 0 not now
 0 not now
@@ -88,5 +91,6 @@ f 1 own=0x
 c 1 queue=0w
 r 0
 ",
-    ),
+        status: 0,
+    },
 ];

@@ -1,11 +1,12 @@
 //! Worked schedules of fair releases and bumps of reader-writer locks, with the text that they lead
 //! to.
 
-/// Inputs, with the text that they lead to.
-pub(crate) const FAIR_ROWS: [(&[u8], &[u8]); 11] = [
-    // A fair release would pass the limit: it wakes whom it has taken.
-    (
-        b"threads 3
+use crate::schedule::Schedule;
+
+pub const FAIR_RELEASES: [Schedule; 11] = [
+    Schedule {
+        name: "a fair release would pass the limit",
+        lines: b"threads 3
 lock r recursive 3
 0 do upgradable r
 1 do read r
@@ -20,7 +21,7 @@ show
 show
 2 solo
 ",
-        b"0 end ok
+        told: b"0 end ok
 1 end ok
 2 sleep
 0 sleep
@@ -33,10 +34,12 @@ r 69 own=0u,1s,1s,1s queue=2u
 r 48 own=1s,1s,1s retry=2
 2 end readers full
 ",
-    ),
+        status: 0,
+    },
     // A fair release of the upgradable right hands it over, and leaves who is behind.
-    (
-        b"threads 3
+    Schedule {
+        name: "a fair release of the upgradable right",
+        lines: b"threads 3
 lock r rwlock
 0 do upgradable r
 1 do upgradable r
@@ -44,16 +47,17 @@ lock r rwlock
 0 do unlock_upgradable_fair r
 show
 ",
-        b"0 end ok
+        told: b"0 end ok
 1 sleep
 2 sleep
 0 end ok
 r 21 own=1u queue=2x
 ",
-    ),
-    // A bump of a shared right gives way to a pending writer, and waits.
-    (
-        b"threads 2
+        status: 0,
+    },
+    Schedule {
+        name: "a bump of a shared right gives way to a writer",
+        lines: b"threads 2
 lock r recursive
 0 do read r
 1 do write r
@@ -62,32 +66,36 @@ show
 1 solo
 show
 ",
-        b"0 end ok
+        told: b"0 end ok
 1 sleep
 0 sleep
 r 9 own=1p queue=0s retry=1
 1 end ok
 r 9 own=1x queue=0s
 ",
-    ),
+        status: 0,
+    },
     // A bump of the exclusive right hands over to a reader, and is pending beside it.
-    (
-        b"threads 2
+    Schedule {
+        name: "a bump of the exclusive right is pending behind a reader",
+        lines: b"threads 2
 lock r rwlock
 0 do write r
 1 do read r
 0 do bump_exclusive r
 show
 ",
-        b"0 end ok
+        told: b"0 end ok
 1 sleep
 0 sleep
 r 26 own=0p,1s aside=0
 ",
-    ),
+        status: 0,
+    },
     // A fair release hands over to all whom it picks at once: a writer beside readers is pending.
-    (
-        b"threads 4
+    Schedule {
+        name: "a fair release hands over to all at once",
+        lines: b"threads 4
 lock r rwlock
 0 do write r
 1 do read r
@@ -97,7 +105,7 @@ show
 0 do unlock_exclusive_fair r
 show
 ",
-        b"0 end ok
+        told: b"0 end ok
 1 sleep
 2 sleep
 3 sleep
@@ -105,10 +113,11 @@ r 9 own=0x queue=1s,2x,3s
 0 end ok
 r 25 own=2p,1s queue=3s
 ",
-    ),
-    // On a recursive lock the readers behind the writer are picked too.
-    (
-        b"threads 4
+        status: 0,
+    },
+    Schedule {
+        name: "a fair release takes readers behind a writer",
+        lines: b"threads 4
 lock r recursive
 0 do write r
 1 do read r
@@ -118,7 +127,7 @@ show
 0 do unlock_exclusive_fair r
 show
 ",
-        b"0 end ok
+        told: b"0 end ok
 1 sleep
 2 sleep
 3 sleep
@@ -126,10 +135,12 @@ r 9 own=0x queue=1s,2x,3s
 0 end ok
 r 40 own=2p,1s,3s
 ",
-    ),
+        status: 0,
+    },
     // A bump of the upgradable right hands it over, and waits for it again.
-    (
-        b"threads 3
+    Schedule {
+        name: "a bump of the upgradable right waits for it again",
+        lines: b"threads 3
 lock r rwlock
 0 do upgradable r
 1 do upgradable r
@@ -141,7 +152,7 @@ show
 0 solo
 show
 ",
-        b"0 end ok
+        told: b"0 end ok
 1 sleep
 0 sleep
 r 21 own=1u queue=0u
@@ -151,10 +162,11 @@ r 0 retry=0
 0 end ok
 r 20 own=0u
 ",
-    ),
-    // Where nobody waits a bump ends with its right.
-    (
-        b"threads 2
+        status: 0,
+    },
+    Schedule {
+        name: "bumps where nobody waits",
+        lines: b"threads 2
 lock r rwlock
 0 do write r
 0 do bump_exclusive r
@@ -169,7 +181,7 @@ show
 0 do unlock_shared_fair r
 show
 ",
-        b"0 end ok
+        told: b"0 end ok
 0 end ok
 r 8 own=0x
 0 end ok
@@ -182,10 +194,12 @@ r 36 own=1u,0s
 0 end ok
 r 0
 ",
-    ),
+        status: 0,
+    },
     // A bump of a shared right of a recursive lock stays beside another reader.
-    (
-        b"threads 3
+    Schedule {
+        name: "a bump stays beside another reader",
+        lines: b"threads 3
 lock r recursive
 0 do read r
 1 do read r
@@ -193,16 +207,17 @@ lock r recursive
 0 do bump_shared r
 show
 ",
-        b"0 end ok
+        told: b"0 end ok
 1 end ok
 2 sleep
 0 end ok
 r 42 own=2p,0s,1s aside=2
 ",
-    ),
-    // A bump that finds the lock full has given its right up.
-    (
-        b"threads 3
+        status: 0,
+    },
+    Schedule {
+        name: "a bump finds the lock full",
+        lines: b"threads 3
 lock r recursive 3
 0 do upgradable r
 1 do read r
@@ -218,7 +233,7 @@ show
 2 solo
 show
 ",
-        b"0 end ok
+        told: b"0 end ok
 1 end ok
 2 sleep
 0 sleep
@@ -232,11 +247,13 @@ r 48 own=1s,1s,1s retry=2
 2 end readers full
 r 48 own=1s,1s,1s
 ",
-    ),
-    // Whom a hand-over has given its right owns though it sleeps, and the one who hands over owes
+        status: 0,
+    },
+    // A thread to whom a hand-over has given its right owns though it sleeps, and the one who hands over owes
     // the wake.
-    (
-        b"threads 3
+    Schedule {
+        name: "an owner by hand-over sleeps on",
+        lines: b"threads 3
 lock r rwlock
 0 do write r
 1 do upgradable r
@@ -254,7 +271,7 @@ show
 2 go
 show
 ",
-        b"0 end ok
+        told: b"0 end ok
 1 sleep
 2 sleep
 0 step
@@ -270,5 +287,6 @@ r 36 own=1u,2s owe=0
 2 end ok
 r 36 own=1u,2s
 ",
-    ),
+        status: 0,
+    },
 ];

@@ -1,10 +1,12 @@
-//! Worked schedules of semaphores, with the text that they lead to.
+//! Worked schedules of semaphores.
 
-/// Inputs, with the text that they lead to.
-pub(crate) const SEMAPHORE_ROWS: [(&[u8], &[u8]); 3] = [
+use crate::schedule::Schedule;
+
+pub const SEMAPHORES: [Schedule; 3] = [
     // A release owes a wake-up while another thread takes the permit that it gave back.
-    (
-        b"threads 3
+    Schedule {
+        name: "a release owes while another takes its permit",
+        lines: b"threads 3
 lock s semaphore 1
 show
 0 do acquire s
@@ -17,7 +19,7 @@ show
 0 solo
 show
 ",
-        b"s 2
+        told: b"s 2
 0 end ok
 1 sleep
 s 1 own=0s queue=1s
@@ -28,10 +30,12 @@ s 3 queue=1s owe=0
 0 end ok
 s 0 own=2s retry=1
 ",
-    ),
+        status: 0,
+    },
     // Two permits are free beside two waiters: both releases owe, also the one that found one free.
-    (
-        b"threads 4
+    Schedule {
+        name: "two free permits beside two waiters",
+        lines: b"threads 4
 lock s semaphore 2
 0 do acquire s
 1 do acquire s
@@ -49,7 +53,7 @@ show
 3 solo
 show
 ",
-        b"0 end ok
+        told: b"0 end ok
 1 end ok
 2 sleep
 3 sleep
@@ -65,11 +69,13 @@ s 3 own=2s queue=3s owe=1
 3 end ok
 s 0 own=2s,3s
 ",
-    ),
+        status: 0,
+    },
     // A thread may hold several permits, and no call but a release needs one; the last waiter that
     // gives up clears the bit. No semaphore is drained.
-    (
-        b"threads 2
+    Schedule {
+        name: "several permits of one thread, and the last that gives up",
+        lines: b"threads 2
 lock s semaphore 2
 1 do release s
 0 do acquire s
@@ -91,7 +97,7 @@ show
 show
 drain
 ",
-        b"1 not now
+        told: b"1 not now
 0 end ok
 0 end yes
 1 end no
@@ -111,5 +117,6 @@ s 0 own=0s,0s
 s 4
 drain refused
 ",
-    ),
+        status: 0,
+    },
 ];

@@ -1,10 +1,12 @@
 //! Worked schedules of timed waiters whose time is up.
 
-/// Inputs, with the text that they lead to.
-pub(crate) const LATE_ROWS: [(&[u8], &[u8]); 6] = [
+use crate::schedule::Schedule;
+
+pub const LATE_WAITERS: [Schedule; 6] = [
     // A timed waiter that was moved gives up in the queue of its mutex: it was notified.
-    (
-        b"threads 2
+    Schedule {
+        name: "a moved waiter gives up",
+        lines: b"threads 2
 lock m mutex
 lock c condvar
 0 do lock m
@@ -19,7 +21,7 @@ show
 1 do unlock m
 0 solo
 ",
-        b"0 end ok
+        told: b"0 end ok
 0 sleep
 1 end ok
 1 end yes
@@ -33,11 +35,13 @@ c 0
 1 end ok
 0 end notified
 ",
-    ),
+        status: 0,
+    },
     // Timed waiters give up in the queue of their mutex, stand there again behind the others, and
     // can be late no more.
-    (
-        b"threads 3
+    Schedule {
+        name: "moved waiters give up and stand again",
+        lines: b"threads 3
 lock m mutex
 lock c condvar
 0 do lock m
@@ -68,7 +72,7 @@ show
 1 do unlock m
 show
 ",
-        b"0 end ok
+        told: b"0 end ok
 0 sleep
 1 end ok
 1 sleep
@@ -104,10 +108,12 @@ c 0
 m 0
 c 0
 ",
-    ),
+        status: 0,
+    },
     // The last to give up there leaves the bit, and the release that finds nobody clears it.
-    (
-        b"threads 2
+    Schedule {
+        name: "the last moved waiter gives up and leaves the bit",
+        lines: b"threads 2
 lock m mutex
 lock c condvar
 0 do lock m
@@ -128,7 +134,7 @@ show
 show
 0 go
 ",
-        b"0 end ok
+        told: b"0 end ok
 0 sleep
 1 end ok
 1 end yes
@@ -148,11 +154,13 @@ m 0
 c 0
 0 end notified
 ",
-    ),
+        status: 0,
+    },
     // Timed waiters give up in the queue of the condition variable, beside one that stays and is
     // notified.
-    (
-        b"threads 3
+    Schedule {
+        name: "waiters give up beside one that stays",
+        lines: b"threads 3
 lock m mutex
 lock c condvar
 0 do lock m
@@ -176,7 +184,7 @@ show
 0 do unlock m
 1 solo
 ",
-        b"0 end ok
+        told: b"0 end ok
 0 sleep
 1 end ok
 1 sleep
@@ -202,10 +210,12 @@ c 0
 0 end ok
 1 end ok
 ",
-    ),
-    // Who is taken can be late no more, and who is late finds its mutex owned.
-    (
-        b"threads 4
+        status: 0,
+    },
+    // A waiter that is taken can be late no more, and one that is late finds its mutex owned.
+    Schedule {
+        name: "a taken waiter can be late no more",
+        lines: b"threads 4
 lock m mutex
 lock c condvar
 0 do lock m
@@ -238,7 +248,7 @@ show
 1 do unlock m
 0 solo
 ",
-        b"0 end ok
+        told: b"0 end ok
 0 sleep
 1 end ok
 1 sleep
@@ -273,10 +283,12 @@ c 0
 1 end ok
 0 end notified
 ",
-    ),
+        status: 0,
+    },
     // Where the waiter has given up behind their look, notifications find none.
-    (
-        b"threads 3
+    Schedule {
+        name: "a waiter gives up behind a notification's look",
+        lines: b"threads 3
 lock m mutex
 lock c condvar
 0 do lock m
@@ -296,7 +308,7 @@ show
 2 solo
 show
 ",
-        b"0 end ok
+        told: b"0 end ok
 0 sleep
 1 step
 1 step
@@ -316,5 +328,6 @@ c 0 owe=1
 m 1 own=0x
 c 0
 ",
-    ),
+        status: 0,
+    },
 ];

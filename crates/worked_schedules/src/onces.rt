@@ -1,10 +1,11 @@
-//! Worked schedules of `Once`, with the text that they lead to.
+//! Worked schedules of `Once`.
 
-/// Inputs, with the text that they lead to.
-pub(crate) const ONCE_ROWS: [(&[u8], &[u8]); 8] = [
-    // A run that fails poisons, and a forced call mends.
-    (
-        b"threads 1
+use crate::schedule::Schedule;
+
+pub const ONCES: [Schedule; 8] = [
+    Schedule {
+        name: "a failed run poisons, a forced call mends",
+        lines: b"threads 1
 lock o once
 0 do call_once o
 show
@@ -16,7 +17,7 @@ show
 show
 0 do call_once o
 ",
-        b"0 closure New
+        told: b"0 closure New
 o 4 own=0r
 0 end failed
 o 2
@@ -26,10 +27,12 @@ o 2
 o 1
 0 end ok
 ",
-    ),
-    // Who waits sleeps until another's run succeeds, and that one wakes it.
-    (
-        b"threads 2
+        status: 0,
+    },
+    // A waiter sleeps until another's run succeeds, and that one wakes it.
+    Schedule {
+        name: "a waiter sleeps until a run succeeds",
+        lines: b"threads 2
 lock o once
 0 do wait o
 show
@@ -40,7 +43,7 @@ show
 1 solo
 0 solo
 ",
-        b"0 sleep
+        told: b"0 sleep
 o 8 queue=0w
 1 closure New
 o 12 own=1r queue=0w
@@ -49,10 +52,11 @@ o 1 queue=0w owe=1
 1 end ok
 0 end ok
 ",
-    ),
-    // A run that fails wakes all who wait, and each is told of it.
-    (
-        b"threads 3
+        status: 0,
+    },
+    Schedule {
+        name: "a failed run wakes all who wait",
+        lines: b"threads 3
 lock o once
 0 do call_once o
 1 do call_once o
@@ -71,7 +75,7 @@ show
 2 solo
 show
 ",
-        b"0 closure New
+        told: b"0 closure New
 1 sleep
 2 sleep
 o 12 own=0r queue=1c,2w
@@ -88,10 +92,12 @@ o 2 retry=1,2
 2 end ok
 o 1
 ",
-    ),
+        status: 0,
+    },
     // A closure ends by its answer alone, and only its own thread has one.
-    (
-        b"threads 2
+    Schedule {
+        name: "a closure ends by its own thread's answer alone",
+        lines: b"threads 2
 lock o once
 lock m mutex
 0 do call_once m
@@ -107,7 +113,7 @@ lock m mutex
 0 ok
 show
 ",
-        b"0 not now
+        told: b"0 not now
 0 not now
 0 not now
 0 closure New
@@ -121,10 +127,11 @@ show
 o 1
 m 0
 ",
-    ),
-    // A wait with a deadline gives up, and leaves the word as it was.
-    (
-        b"threads 2
+        status: 0,
+    },
+    Schedule {
+        name: "a wait with a deadline gives up",
+        lines: b"threads 2
 lock o once
 0 do wait_timed o
 show
@@ -132,17 +139,19 @@ show
 0 solo
 show
 ",
-        b"0 sleep
+        told: b"0 sleep
 o 8 queue=0w
 0 step
 0 end no
 o 0
 ",
-    ),
+        status: 0,
+    },
     // A thread that gives up leaves the bit to those who stand in the queue still. No thread is late
     // that sleeps without a deadline, or is awake.
-    (
-        b"threads 3
+    Schedule {
+        name: "a waiter gives up and leaves the bit to the others",
+        lines: b"threads 3
 lock o once
 0 do call_once o
 1 do call_once o
@@ -156,7 +165,7 @@ show
 1 solo
 show
 ",
-        b"0 closure New
+        told: b"0 closure New
 1 sleep
 2 sleep
 2 step
@@ -168,10 +177,12 @@ o 12 own=0r queue=1c
 1 end ok
 o 1
 ",
-    ),
+        status: 0,
+    },
     // A run ends before the time of a wait is up, which is told how; so is one that comes later.
-    (
-        b"threads 3
+    Schedule {
+        name: "a run ends before the time of a wait is up",
+        lines: b"threads 3
 lock o once
 0 do call_once o
 1 do wait_timed o
@@ -190,7 +201,7 @@ show
 0 solo
 1 solo
 ",
-        b"0 closure New
+        told: b"0 closure New
 1 sleep
 2 sleep
 2 not now
@@ -207,10 +218,12 @@ o 2 retry=1,2
 0 end ok
 1 end yes
 ",
-    ),
+        status: 0,
+    },
     // The time of a wait is up as a run has ended, before that takes its waiters: nobody is left.
-    (
-        b"threads 2
+    Schedule {
+        name: "the time of a wait is up as a run has ended",
+        lines: b"threads 2
 lock o once
 0 do call_once o
 1 do wait_timed o
@@ -227,7 +240,7 @@ show
 0 solo
 1 do wait_timed o
 ",
-        b"0 closure New
+        told: b"0 closure New
 1 sleep
 0 step
 o 1 queue=1w owe=0
@@ -242,5 +255,6 @@ o 1 owe=0
 0 end ok
 1 end yes
 ",
-    ),
+        status: 0,
+    },
 ];

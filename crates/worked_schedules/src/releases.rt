@@ -1,12 +1,14 @@
 //! Worked schedules in which a waiter is moved, woken or handed its mutex while it still releases
 //! it.
 
-/// Inputs, with the text that they lead to.
-pub(crate) const RELEASE_ROWS: [(&[u8], &[u8]); 7] = [
+use crate::schedule::Schedule;
+
+pub const RELEASES: [Schedule; 7] = [
     // A timed waiter that is moved before it has released its mutex takes and wakes itself by that
     // release.
-    (
-        b"threads 2
+    Schedule {
+        name: "a moved waiter takes itself by its release",
+        lines: b"threads 2
 lock m mutex
 lock c condvar
 0 do lock m
@@ -23,7 +25,7 @@ show
 0 solo
 show
 ",
-        b"0 end ok
+        told: b"0 end ok
 0 step
 0 step
 0 step
@@ -41,10 +43,11 @@ c 0
 m 1 own=0x
 c 0
 ",
-    ),
-    // The same of a wait without a limit, step by step: it is not lost.
-    (
-        b"threads 2
+        status: 0,
+    },
+    Schedule {
+        name: "a moved waiter without a limit takes itself",
+        lines: b"threads 2
 lock m mutex
 lock c condvar
 0 do lock m
@@ -71,7 +74,7 @@ show
 0 go
 show
 ",
-        b"0 end ok
+        told: b"0 end ok
 0 step
 0 step
 m 1 own=0x
@@ -105,10 +108,12 @@ c 0
 m 1 own=0x
 c 0
 ",
-    ),
-    // Who has woken itself finds another owner, and sleeps until that one releases the mutex.
-    (
-        b"threads 2
+        status: 0,
+    },
+    // A waiter that has woken itself finds another owner, and sleeps until that one releases the mutex.
+    Schedule {
+        name: "a waiter that took itself finds another owner",
+        lines: b"threads 2
 lock m mutex
 lock c condvar
 0 do lock m
@@ -136,7 +141,7 @@ show
 show
 0 solo
 ",
-        b"0 end ok
+        told: b"0 end ok
 0 step
 0 step
 0 step
@@ -165,11 +170,13 @@ m 0 retry=0
 c 0
 0 end ok
 ",
-    ),
+        status: 0,
+    },
     // Another owner wakes a waiter that still releases: the waiter finds nobody in the queue, and
     // goes on by its note.
-    (
-        b"threads 2
+    Schedule {
+        name: "an owner wakes a waiter that still releases",
+        lines: b"threads 2
 lock m mutex
 lock c condvar
 0 do lock m
@@ -192,7 +199,7 @@ show
 0 go
 show
 ",
-        b"0 end ok
+        told: b"0 end ok
 0 step
 0 step
 0 step
@@ -216,10 +223,11 @@ c 0
 m 1 own=0x
 c 0
 ",
-    ),
-    // Another owner hands the mutex to a waiter that still releases.
-    (
-        b"threads 2
+        status: 0,
+    },
+    Schedule {
+        name: "an owner hands over to a waiter that still releases",
+        lines: b"threads 2
 lock m mutex
 lock c condvar
 0 do lock m
@@ -244,7 +252,7 @@ show
 0 do unlock m
 show
 ",
-        b"0 end ok
+        told: b"0 end ok
 0 step
 0 step
 0 step
@@ -270,11 +278,13 @@ c 0
 m 0
 c 0
 ",
-    ),
+        status: 0,
+    },
     // A waiter is taken and woken while it releases a mutex for which another waits, which it wakes
     // before it goes on.
-    (
-        b"threads 3
+    Schedule {
+        name: "a waiter is taken while it wakes another",
+        lines: b"threads 3
 lock m mutex
 lock c condvar
 0 do lock m
@@ -306,7 +316,7 @@ show
 2 solo
 show
 ",
-        b"0 end ok
+        told: b"0 end ok
 2 sleep
 0 step
 0 step
@@ -340,11 +350,13 @@ c 0
 m 3 own=0x queue=2x
 c 0
 ",
-    ),
+        status: 0,
+    },
     // The owner that the notification saw is the waiter itself, which has released the mutex before
     // its bit is set.
-    (
-        b"threads 2
+    Schedule {
+        name: "a notification sees the waiter itself as owner",
+        lines: b"threads 2
 lock m mutex
 lock c condvar
 0 do lock m
@@ -368,7 +380,7 @@ lock c condvar
 show
 0 go
 ",
-        b"0 end ok
+        told: b"0 end ok
 0 step
 0 step
 0 step
@@ -390,5 +402,6 @@ m 0 retry=0
 c 0
 0 end ok
 ",
-    ),
+        status: 0,
+    },
 ];

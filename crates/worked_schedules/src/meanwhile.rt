@@ -1,12 +1,14 @@
 //! Worked schedules in which another locks or releases the mutex, or begins to wait, in the midst
 //! of a notification.
 
-/// Inputs, with the text that they lead to.
-pub(crate) const MEANWHILE_ROWS: [(&[u8], &[u8]); 5] = [
+use crate::schedule::Schedule;
+
+pub const MEANWHILE: [Schedule; 5] = [
     // Somebody owns the mutex as the rest are moved to it, and has released it before they set its
     // bit.
-    (
-        b"threads 5
+    Schedule {
+        name: "the owner has gone before the bit is set",
+        lines: b"threads 5
 lock m mutex
 lock c condvar
 0 do lock m
@@ -28,7 +30,7 @@ show
 3 solo
 show
 ",
-        b"0 end ok
+        told: b"0 end ok
 0 sleep
 1 end ok
 1 sleep
@@ -49,11 +51,13 @@ c 0 owe=3
 m 2 queue=1x,2x retry=0
 c 0
 ",
-    ),
+        status: 0,
+    },
     // Between the look at the mutex and the move, and between the move and the bit, another locks
     // it, releases it and locks it again.
-    (
-        b"threads 5
+    Schedule {
+        name: "another locks, releases and locks again meanwhile",
+        lines: b"threads 5
 lock m mutex
 lock c condvar
 0 do lock m
@@ -102,7 +106,7 @@ show
 1 do unlock m
 show
 ",
-        b"0 end ok
+        told: b"0 end ok
 0 sleep
 1 end ok
 1 sleep
@@ -156,10 +160,12 @@ c 0
 m 0
 c 0
 ",
-    ),
+        status: 0,
+    },
     // Between the move and the bit another begins to wait, and finds no mutex shown.
-    (
-        b"threads 5
+    Schedule {
+        name: "another begins to wait between the move and the bit",
+        lines: b"threads 5
 lock m mutex
 lock c condvar
 0 do lock m
@@ -200,7 +206,7 @@ show
 3 do unlock m
 show
 ",
-        b"0 end ok
+        told: b"0 end ok
 0 sleep
 1 end ok
 1 sleep
@@ -243,11 +249,13 @@ c 0
 m 0
 c 0
 ",
-    ),
+        status: 0,
+    },
     // The owner releases the mutex before its bit is set: the first waiter is woken in place of
     // moved, though another owns it then.
-    (
-        b"threads 3
+    Schedule {
+        name: "the first is woken in place of moved",
+        lines: b"threads 3
 lock m mutex
 lock c condvar
 0 do lock m
@@ -274,7 +282,7 @@ show
 1 do unlock m
 0 solo
 ",
-        b"0 end ok
+        told: b"0 end ok
 0 sleep
 1 end ok
 2 step
@@ -303,10 +311,12 @@ c 0
 1 end ok
 0 end ok
 ",
-    ),
+        status: 0,
+    },
     // Another sets the bit of the mutex first, and stands behind the one that is moved.
-    (
-        b"threads 4
+    Schedule {
+        name: "another sets the bit of the mutex first",
+        lines: b"threads 4
 lock m mutex
 lock c condvar
 0 do lock m
@@ -335,7 +345,7 @@ show
 0 do unlock m
 3 solo
 ",
-        b"0 end ok
+        told: b"0 end ok
 0 sleep
 1 end ok
 2 step
@@ -363,5 +373,6 @@ c 0
 0 end ok
 3 end ok
 ",
-    ),
+        status: 0,
+    },
 ];

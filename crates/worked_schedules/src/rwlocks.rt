@@ -1,25 +1,28 @@
-//! Worked schedules of reader-writer locks, with the text that they lead to.
+//! Worked schedules of reader-writer locks.
 
-/// Inputs, with the text that they lead to.
-pub(crate) const RWLOCK_ROWS: [(&[u8], &[u8]); 15] = [
+use crate::schedule::Schedule;
+
+pub const RWLOCKS: [Schedule; 15] = [
     // A writer beside a reader is pending, and keeps a further reader out.
-    (
-        b"threads 3
+    Schedule {
+        name: "a pending writer keeps a reader out",
+        lines: b"threads 3
 lock r rwlock
 0 do read r
 1 do write r
 show
 2 do try_read r
 ",
-        b"0 end ok
+        told: b"0 end ok
 1 sleep
 r 26 own=1p,0s aside=1
 2 end no
 ",
-    ),
-    // Readers of a recursive lock read beside a pending writer.
-    (
-        b"threads 4
+        status: 0,
+    },
+    Schedule {
+        name: "readers of a recursive lock pass a pending writer",
+        lines: b"threads 4
 lock r recursive
 0 do read r
 1 do read r
@@ -28,17 +31,18 @@ show
 3 do try_read r
 show
 ",
-        b"0 end ok
+        told: b"0 end ok
 1 end ok
 2 sleep
 r 42 own=2p,0s,1s aside=2
 3 end yes
 r 58 own=2p,0s,1s,3s aside=2
 ",
-    ),
-    // A pending writer gives up: readers that waited behind it come in.
-    (
-        b"threads 3
+        status: 0,
+    },
+    Schedule {
+        name: "a pending writer gives up",
+        lines: b"threads 3
 lock r rwlock
 0 do read r
 1 do write_timed r
@@ -56,7 +60,7 @@ show
 2 solo
 show
 ",
-        b"0 end ok
+        told: b"0 end ok
 1 sleep
 2 sleep
 r 27 own=1p,0s queue=2s aside=1
@@ -72,10 +76,12 @@ r 16 own=0s retry=2
 2 end ok
 r 32 own=0s,2s
 ",
-    ),
+        status: 0,
+    },
     // A release wakes a reader and who wants more, and leaves the reader behind them.
-    (
-        b"threads 4
+    Schedule {
+        name: "a release wakes a reader and an upgrader",
+        lines: b"threads 4
 lock r rwlock
 0 do write r
 1 do read r
@@ -84,17 +90,18 @@ lock r rwlock
 0 do unlock_exclusive r
 show
 ",
-        b"0 end ok
+        told: b"0 end ok
 1 sleep
 2 sleep
 3 sleep
 0 end ok
 r 1 queue=3s retry=1,2
 ",
-    ),
-    // A recursive lock lets in all who wait.
-    (
-        b"threads 4
+        status: 0,
+    },
+    Schedule {
+        name: "a recursive lock lets all in",
+        lines: b"threads 4
 lock r recursive
 0 do write r
 1 do read r
@@ -103,17 +110,18 @@ lock r recursive
 0 do unlock_exclusive r
 show
 ",
-        b"0 end ok
+        told: b"0 end ok
 1 sleep
 2 sleep
 3 sleep
 0 end ok
 r 0 retry=1,2,3
 ",
-    ),
-    // Readers are as many as the limit.
-    (
-        b"threads 2
+        status: 0,
+    },
+    Schedule {
+        name: "as many readers as the limit",
+        lines: b"threads 2
 lock r rwlock 2
 0 do read r
 1 do read r
@@ -121,16 +129,17 @@ lock r rwlock 2
 1 do try_read r
 show
 ",
-        b"0 end ok
+        told: b"0 end ok
 1 end ok
 1 end readers full
 1 end readers full
 r 32 own=0s,1s
 ",
-    ),
-    // An upgrade that gives up has its upgradable right again.
-    (
-        b"threads 2
+        status: 0,
+    },
+    Schedule {
+        name: "an upgrade gives up",
+        lines: b"threads 2
 lock r rwlock
 0 do upgradable r
 1 do read r
@@ -141,7 +150,7 @@ show
 0 solo
 show
 ",
-        b"0 end ok
+        told: b"0 end ok
 1 end ok
 r 36 own=0u,1s
 0 sleep
@@ -150,10 +159,11 @@ r 26 own=0p,1s aside=0
 0 end no
 r 36 own=0u,1s
 ",
-    ),
-    // It has it beside as many readers as the limit lets in.
-    (
-        b"threads 2
+        status: 0,
+    },
+    Schedule {
+        name: "an upgrade gives up beside as many readers as the limit",
+        lines: b"threads 2
 lock r recursive 2
 0 do upgradable r
 1 do read r
@@ -165,7 +175,7 @@ show
 show
 1 do read r
 ",
-        b"0 end ok
+        told: b"0 end ok
 1 end ok
 0 sleep
 1 end ok
@@ -175,10 +185,12 @@ r 42 own=0p,1s,1s aside=0
 r 52 own=0u,1s,1s
 1 end readers full
 ",
-    ),
+        status: 0,
+    },
     // A parked bit may stand where a writer was: its try is refused, and it enters.
-    (
-        b"threads 3
+    Schedule {
+        name: "a parked bit stands where a writer was",
+        lines: b"threads 3
 lock r rwlock
 0 do read r
 1 begin write r
@@ -202,7 +214,7 @@ show
 2 do try_write r
 show
 ",
-        b"0 end ok
+        told: b"0 end ok
 1 step
 1 step
 1 step
@@ -224,10 +236,11 @@ r 0
 2 end yes
 r 8 own=2x
 ",
-    ),
-    // An upgradable right is turned into others.
-    (
-        b"threads 2
+        status: 0,
+    },
+    Schedule {
+        name: "an upgradable right is turned into others",
+        lines: b"threads 2
 lock r rwlock
 0 do upgradable r
 1 do try_upgradable r
@@ -241,7 +254,7 @@ show
 0 do downgrade_upgradable r
 show
 ",
-        b"0 end ok
+        told: b"0 end ok
 1 end no
 1 end ok
 0 end no
@@ -253,10 +266,11 @@ r 20 own=0u
 0 end ok
 r 16 own=0s
 ",
-    ),
-    // A wake that comes late takes another writer.
-    (
-        b"threads 3
+        status: 0,
+    },
+    Schedule {
+        name: "a late wake takes another writer",
+        lines: b"threads 3
 lock r rwlock
 0 do read r
 1 begin write_timed r
@@ -277,7 +291,7 @@ show
 2 solo
 show
 ",
-        b"0 end ok
+        told: b"0 end ok
 1 step
 1 step
 1 step
@@ -296,10 +310,12 @@ r 24 own=2p,1s retry=2
 2 sleep
 r 26 own=2p,1s aside=2
 ",
-    ),
+        status: 0,
+    },
     // Upgrades wait for the readers, and one of them is told that its time is up.
-    (
-        b"threads 3
+    Schedule {
+        name: "an upgrade waits for the readers and gives up",
+        lines: b"threads 3
 lock r rwlock
 0 do upgradable r
 1 do read r
@@ -316,7 +332,7 @@ show
 0 do unlock_exclusive r
 show
 ",
-        b"0 end ok
+        told: b"0 end ok
 1 end ok
 2 sleep
 0 sleep
@@ -331,10 +347,12 @@ r 8 own=0x
 0 end ok
 r 0
 ",
-    ),
+        status: 0,
+    },
     // A call that the kind lacks, or whose right is missing, is not possible.
-    (
-        b"threads 2
+    Schedule {
+        name: "calls that the kind lacks, or whose right is missing",
+        lines: b"threads 2
 lock r rwlock
 lock m mutex
 0 do lock r
@@ -351,7 +369,7 @@ lock m mutex
 0 do unlock_shared r
 show
 ",
-        b"0 not now
+        told: b"0 not now
 0 not now
 0 not now
 0 end ok
@@ -366,25 +384,28 @@ show
 r 0
 m 0
 ",
-    ),
-    // The greatest limit, and the least.
-    (
-        b"threads 2
+        status: 0,
+    },
+    Schedule {
+        name: "the greatest limit and the least",
+        lines: b"threads 2
 lock a rwlock 1152921504606846974
 lock b recursive 2
 0 do read a
 1 do upgradable a
 show
 ",
-        b"0 end ok
+        told: b"0 end ok
 1 end ok
 a 36 own=1u,0s
 b 0
 ",
-    ),
+        status: 0,
+    },
     // A pending writer spins before it sets its parked bit, and no more behind it.
-    (
-        b"threads 2
+    Schedule {
+        name: "a pending writer spins before it sets its bit",
+        lines: b"threads 2
 lock r rwlock
 0 do read r
 1 begin write r
@@ -400,7 +421,7 @@ lock r rwlock
 1 go
 show
 ",
-        b"0 end ok
+        told: b"0 end ok
 1 step
 1 step
 1 step
@@ -414,5 +435,6 @@ show
 1 sleep
 r 26 own=1p,0s aside=1
 ",
-    ),
+        status: 0,
+    },
 ];

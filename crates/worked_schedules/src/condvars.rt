@@ -1,10 +1,11 @@
 //! Worked schedules of the mutex that waiters show, and of two condition variables with one mutex.
 
-/// Inputs, with the text that they lead to.
-pub(crate) const MUTEX_ROWS: [(&[u8], &[u8]); 4] = [
-    // A second mutex is refused while another is shown.
-    (
-        b"threads 2
+use crate::schedule::Schedule;
+
+pub const SHOWN_MUTEXES: [Schedule; 4] = [
+    Schedule {
+        name: "a second mutex is refused",
+        lines: b"threads 2
 lock a mutex
 lock b mutex
 lock c condvar
@@ -14,7 +15,7 @@ lock c condvar
 1 do wait c b
 show
 ",
-        b"0 end ok
+        told: b"0 end ok
 0 sleep
 1 end ok
 1 end two mutexes
@@ -22,10 +23,11 @@ a 0
 b 1 own=1x
 c 1 queue=0w
 ",
-    ),
-    // Once nobody waits with the first mutex, another may be shown.
-    (
-        b"threads 3
+        status: 0,
+    },
+    Schedule {
+        name: "another mutex is shown once nobody waits",
+        lines: b"threads 3
 lock a mutex
 lock b mutex
 lock c condvar
@@ -52,7 +54,7 @@ show
 0 solo
 show
 ",
-        b"0 end ok
+        told: b"0 end ok
 1 end ok
 0 sleep
 1 end two mutexes
@@ -85,10 +87,12 @@ a 1 own=0x
 b 1 own=1x
 c 0
 ",
-    ),
+        status: 0,
+    },
     // Waiters of two condition variables wait for one mutex, and it is handed to them.
-    (
-        b"threads 3
+    Schedule {
+        name: "two condition variables with one mutex",
+        lines: b"threads 3
 lock c condvar
 lock m mutex
 lock d condvar
@@ -119,7 +123,7 @@ show
 1 solo
 show
 ",
-        b"0 end ok
+        told: b"0 end ok
 0 sleep
 1 end ok
 1 sleep
@@ -158,10 +162,12 @@ c 0
 m 1 own=1x
 d 0
 ",
-    ),
+        status: 0,
+    },
     // The mutex that a notification saw is not the one that is shown when it looks again.
-    (
-        b"threads 3
+    Schedule {
+        name: "another mutex is shown at the second look",
+        lines: b"threads 3
 lock a mutex
 lock b mutex
 lock c condvar
@@ -176,7 +182,7 @@ lock c condvar
 1 solo
 show
 ",
-        b"0 end ok
+        told: b"0 end ok
 0 sleep
 1 step
 1 step
@@ -189,5 +195,6 @@ a 1 own=0x
 b 0
 c 2 queue=2w
 ",
-    ),
+        status: 0,
+    },
 ];
