@@ -19,18 +19,18 @@ use worked_schedules::{
     SEMAPHORES, SHOWN_MUTEXES, Schedule, TWO_TRIES,
 };
 
-// What was found is what was wanted. All tests share this one assertion, since each is proved where
-// it stands.
+// Asserts that the thing found is the thing wanted. All tests share this one assertion, since each
+// is proved where it stands.
 fn same<T: PartialEq + Debug + Drop>(rt: &impl Abort, found: T, wanted: T) {
     assert_eq!(rt; found, wanted);
 }
 
-// What a test asks for holds.
+// Asserts that a condition holds.
 fn holds(rt: &impl Abort, truth: bool) {
     assert!(rt; truth);
 }
 
-/// What an input leads to over a kind of queues.
+/// Returns the text and the status to which an input leads over a kind of queues.
 fn replayed_over<Q: Queues + Drop, R: BufRead + Drop>(
     alloc: Global,
     mut reader: R,
@@ -42,7 +42,7 @@ fn replayed_over<Q: Queues + Drop, R: BufRead + Drop>(
     (text, status)
 }
 
-/// What an input leads to over buckets.
+/// Returns the text and the status to which an input leads over buckets.
 fn replayed<R: BufRead + Drop>(alloc: Global, reader: R) -> (Vec<u8>, u8) {
     replayed_over::<BucketQueues, R>(alloc, reader)
 }
@@ -120,7 +120,8 @@ fn answers_inputs_of_fair_releases_and_bumps(rt: HostRuntime) {
     answers(&rt, rt.alloc(), &FAIR_RELEASES);
 }
 
-/// What an input leads to that comes in pieces, and breaks off behind them, if it is to.
+/// Returns the end of a replay whose input comes in pieces, and breaks off behind them, if it is
+/// to.
 fn replayed_in_pieces(alloc: Global, bytes: &[u8], len: usize, is_broken: bool) -> (Vec<u8>, u8) {
     let pieces = Pieces {
         bytes,
@@ -288,7 +289,7 @@ fn a_failing_read_leaves_the_lines_before(rt: HostRuntime) {
     }
 }
 
-/// What an input leads to where only so many bytes can be written before a write is refused.
+/// Returns the end of a replay where only so many bytes can be written before a write is refused.
 fn replayed_into(alloc: Global, mut input: &[u8], room: usize, refusal: Refusal) -> (Vec<u8>, u8) {
     let mut writer = Short::new(alloc, room, refusal, 3);
     let mut errors = Vec::new(alloc);
