@@ -333,7 +333,7 @@ impl<Q: Queues + Drop> World<Q> {
         self.machine.filled(lock)
     }
 
-    /// Who is inside a section of a lock: that of its main queue, then that of those who wait aside.
+    /// Returns the threads inside the sections of a lock: of its main queue, then of the waiter aside.
     pub fn inside(&self, lock: usize) -> (Option<usize>, Option<usize>)
         requires { lock < length self.now.locks }
         ensures main { result.0 ≡ section_at self.now (2 * lock) }
@@ -344,7 +344,7 @@ impl<Q: Queues + Drop> World<Q> {
         (main, aside)
     }
 
-    /// Where a thread stands.
+    /// Returns the place at which a thread stands.
     pub fn place(&self, thread: usize) -> Place
         requires { thread < length self.now.places }
         ensures { result ≡ place_at self.now thread }
