@@ -1,5 +1,6 @@
 pub mod KindsStay
 pub mod Parts
+pub mod PlaceTest
 pub mod Befallen
 pub mod AtPlaces
 pub mod Possible
