@@ -59,6 +59,7 @@ use Rattle.lot_laws.proofs.condvar.WaiterCalls.{waiter_claims, waiter_does, wait
 use Rattle.lot_laws.proofs.mutex.Waiters.{calls_mutex_at}
 use Rattle.lot_condvar.specs.declared.places.CondvarPlace.{CondvarPlace}
 use Rattle.lot_condvar.specs.CondvarProfiles.{mutex_side}
+use Rattle.lot_laws.proofs.machine.PlaceTest.{call_facts, mutex_row_facts, once_facts, semaphore_facts}
 use Rattle.lot_laws.proofs.machine.Parts.{IsTakenAt, put_same, same, IsMutexCall, taken_elsewhere, IsSingle, single_taken}
 use Rattle.lot_mutex.specs.MutexLaws.{heir}
 use Rattle.lot_mutex.proofs.HandOffRights.{got, neither}
@@ -185,52 +186,12 @@ taken_call (Mutex k (HandOff bumps hand_off.Enter)) by single r = refl
 taken_call (Mutex k (HandOff bumps at)) by single r = refl
 
 -- only a call of a condition variable recalls anything, so that no wake changes what another recalls
-mutex_recalls : (at : MutexPlace) → (mutex_profile at).recalls ≡ Blank
-mutex_recalls (Lock e retries First) = refl
-mutex_recalls (Lock e retries at) = refl
-mutex_recalls at = refl
-
-once_recalls : (at : OncePlace) → (once_profile at).recalls ≡ Blank
-once_recalls (Look c retries look_at.Load) = refl
-once_recalls (Look c retries at) = refl
-once_recalls (Run forced (run_at.Closure poisoned)) = refl
-once_recalls (Run forced at) = refl
-once_recalls (GiveUp again give_up.Remove) = refl
-once_recalls (GiveUp again at) = refl
-
-semaphore_recalls : (at : SemaphorePlace) → (semaphore_profile at).recalls ≡ Blank
-semaphore_recalls (Acquire timed retries at) = acquire_recalls timed retries at
-  where
-    acquire_recalls : (timed retries : Bool) (at : AcquireAt) → (acquire_row timed retries at).recalls ≡ Blank
-    acquire_recalls timed retries acquire_at.Load = refl
-    acquire_recalls timed retries (acquire_at.Decide seen) = refl
-    acquire_recalls timed retries acquire_at.Check = refl
-    acquire_recalls timed retries (acquire_at.Leave parked) = refl
-    acquire_recalls timed retries acquire_at.Asleep = refl
-    acquire_recalls timed retries (acquire_at.Taken by) = refl
-    acquire_recalls timed retries acquire_at.Remove = refl
-    acquire_recalls timed retries acquire_at.Clear = refl
-    acquire_recalls timed retries acquire_at.GiveUp = refl
-semaphore_recalls (Try at) = refl
-semaphore_recalls (Release at) = release_recalls at
-  where
-    release_recalls : (at : ReleaseAt) → (release_row at).recalls ≡ Blank
-    release_recalls release_at.Add = refl
-    release_recalls release_at.Enter = refl
-    release_recalls release_at.Take = refl
-    release_recalls (release_at.Clear any) = refl
-    release_recalls (release_at.Leave any) = refl
-
-shared_recalls : (a : Admission) (at : RwLockCallPlace) → (call_profile a at).recalls ≡ Blank
-shared_recalls a (places.Plain p) = refl
-shared_recalls a at = refl
-
 pub recalls_nothing : (p : Place) → IsSingle p → (r : ℕ → Rights) → (call_state p r).recalls ≡ Blank
 recalls_nothing Idle single r = refl
-recalls_nothing (Mutex k at) single r = mutex_recalls at
-recalls_nothing (RwLock k a at) single r = shared_recalls a at
-recalls_nothing (Once k at) single r = once_recalls at
-recalls_nothing (Semaphore k at) single r = semaphore_recalls at
+recalls_nothing (Mutex k at) single r = (mutex_row_facts k at).silent.recalls
+recalls_nothing (RwLock k a at) single r = (call_facts k a at).silent.recalls
+recalls_nothing (Once k at) single r = (once_facts k at).silent.recalls
+recalls_nothing (Semaphore k at) single r = (semaphore_facts k at).silent.recalls
 recalls_nothing (Condvar k at) single r = absurd single
 
 pub unmoved : (q : Option ℕ) (c : CallState) → c.recalls ≡ Blank → record c { retries = q } ≡ record c { retries = q; recalls = behind_wake c.recalls }

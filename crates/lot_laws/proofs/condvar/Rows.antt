@@ -46,8 +46,9 @@ use Rattle.lot_condvar.specs.CondvarProfiles.{condvar_profile, condvar_row, mute
 use Rattle.lot_condvar.specs.CondvarSteps.{condvar_next, in_wait, mutex_beside, relocked}
 use Rattle.lot_steps.specs.declared.places.Place.{Place}
 use Rattle.lot_steps.specs.declared.places.Place.TheVariants.{Idle, Mutex, RwLock, Once, Condvar, Semaphore}
-use Rattle.lot_steps.specs.Steps.{condvar_goes, is_lock, mutex_goes, next_place, once_goes, profile_at, rwlock_goes, semaphore_goes}
+use Rattle.lot_steps.specs.Steps.{condvar_goes, is_lock, mutex_goes, profile, next_place, once_goes, profile_at, rwlock_goes, semaphore_goes}
 use Rattle.abstract_locks.specs.Condvars.{Stage}
+use Rattle.lot_laws.proofs.machine.PlaceTest.{IsSilent, call_facts, mutex_row_facts, once_facts, semaphore_facts}
 use Rattle.lot_laws.proofs.promises.RowPromises.{Befalls}
 
 -- ---------------------------------------------------------------- by the place
@@ -61,55 +62,16 @@ names_of (Condvar c at) k = if c == k then (condvar_row at).waits_with else None
 names_of p k = None
 
 -- a call of another lock says nothing of either
-abbrev SaysNothing : Profile → Type 0
-SaysNothing row = (row.stage ≡ None) × (row.names ≡ None)
-
-mutex_says : (at : MutexPlace) → SaysNothing (mutex_profile at)
-mutex_says (mutex.Lock e retries lock.First) = (refl, refl)
-mutex_says (mutex.Lock e retries at) = (refl, refl)
-mutex_says at = (refl, refl)
-
-once_says : (at : OncePlace) → SaysNothing (once_profile at)
-once_says (once.Look c retries look.Load) = (refl, refl)
-once_says (once.Look c retries at) = (refl, refl)
-once_says (once.Run forced (run.Closure poisoned)) = (refl, refl)
-once_says (once.Run forced at) = (refl, refl)
-once_says (once.GiveUp retries give_up.Remove) = (refl, refl)
-once_says (once.GiveUp retries at) = (refl, refl)
-
-semaphore_says : (at : SemaphorePlace) → SaysNothing (semaphore_profile at)
-semaphore_says (semaphore.Acquire timed retries acquire.Load) = (refl, refl)
-semaphore_says (semaphore.Acquire timed retries at) = (refl, refl)
-semaphore_says (semaphore.Try at) = (refl, refl)
-semaphore_says (semaphore.Release release.Add) = (refl, refl)
-semaphore_says (semaphore.Release at) = (refl, refl)
-
-shared_says : (a : Admission) (at : RwLockCallPlace) → SaysNothing (call_profile a at)
-shared_says a (places.Plain p) = (refl, refl)
-shared_says a at = (refl, refl)
+nothing : (row : Profile) → IsSilent row → (b : Bool) → ((if b then row else blank).stage ≡ None) × ((if b then row else blank).names ≡ None)
+nothing row says true = (says.stage, says.names)
+nothing row says false = (refl, refl)
 
 pub row_says : (p : Place) (k : ℕ) → ((profile_at p k).stage ≡ stage_of p k) × ((profile_at p k).names ≡ names_of p k)
 row_says Idle k = (refl, refl)
-row_says (Mutex l at) k = either (l == k)
-  where
-    either : (b : Bool) → SaysNothing (if b then bringing_nobody (mutex_profile at) else blank)
-    either true = mutex_says at
-    either false = (refl, refl)
-row_says (RwLock l a at) k = either (l == k)
-  where
-    either : (b : Bool) → SaysNothing (if b then call_profile a at else blank)
-    either true = shared_says a at
-    either false = (refl, refl)
-row_says (Once l at) k = either (l == k)
-  where
-    either : (b : Bool) → SaysNothing (if b then once_profile at else blank)
-    either true = once_says at
-    either false = (refl, refl)
-row_says (Semaphore l at) k = either (l == k)
-  where
-    either : (b : Bool) → SaysNothing (if b then semaphore_profile at else blank)
-    either true = semaphore_says at
-    either false = (refl, refl)
+row_says (Mutex l at) k = nothing (profile (Mutex l at)) (mutex_row_facts l at).silent (l == k)
+row_says (RwLock l a c) k = nothing (profile (RwLock l a c)) (call_facts l a c).silent (l == k)
+row_says (Once l at) k = nothing (profile (Once l at)) (once_facts l at).silent (l == k)
+row_says (Semaphore l at) k = nothing (profile (Semaphore l at)) (semaphore_facts l at).silent (l == k)
 row_says (Condvar c at) k = either (c == k) (is_lock k (mutex_beside at))
   where
     either : (here there : Bool)

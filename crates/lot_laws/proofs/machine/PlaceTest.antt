@@ -12,7 +12,8 @@ use Rattle.lot_acts.specs.declared.acts.Act.TheVariants as act
 use Rattle.lot_acts.specs.Profiles.{Hand, Profile, in_line}
 use Rattle.lot_acts.proofs.RowCheck.{both, is_line, is_try, no_line}
 use Rattle.abstract_locks.specs.Codes.{has_aside}
-use Rattle.abstract_locks.specs.Purposes.{Purpose, Enters, Converts, Patience, Try, once_purpose}
+use Rattle.abstract_locks.specs.Condvars.{Stage}
+use Rattle.abstract_locks.specs.Purposes.{Recall, Blank, Purpose, Enters, Converts, Patience, Try, once_purpose}
 use Rattle.abstract_locks.specs.Sites.{Line, Main, Second}
 use Rattle.lot_mutex.specs.declared.lock.Entry.{Entry}
 use Rattle.lot_mutex.specs.declared.lock.Entry.TheVariants as entry
@@ -119,9 +120,17 @@ pub record RowFacts (row : Profile) (a : Act) : Type 0 where
   -- one that stands in a line is in no hand
   pub unheld : (m : Line) → row.stands ≡ Some m → row.hand ≡ None
 
+-- only a call of a condition variable has a stage, names a mutex, or recalls anything
+pub record IsSilent (row : Profile) : Type 0 where
+  pub stage : row.stage ≡ None
+  pub names : row.names ≡ None
+  pub recalls : row.recalls ≡ Blank
+
 -- and of a call of one lock, which readers share or not
 pub record PlaceFacts (shared : Bool) (l : ℕ) (row : Profile) (a : Act) : Type 0 where
   pub by_row : RowFacts row a
+  -- it says nothing of a condition variable
+  pub silent : IsSilent row
   -- one that is in a hand has nobody in hand
   pub bare : (row.hand ≡ None) ⊎ (row.carries ≡ None)
   -- its act is on a line of the lock
@@ -154,6 +163,21 @@ row_test row a =
     && ((not (row.doing.sets && is_line Main row.doing.wakes) || is_line Main row.owes)
     && (no_hand row.hand || no_line row.stands)))
 
+abbrev no_stage : Option Stage → Bool
+no_stage None = true
+no_stage s = false
+
+abbrev no_name : Option ℕ → Bool
+no_name None = true
+no_name m = false
+
+abbrev is_blank : Recall → Bool
+is_blank Blank = true
+is_blank r = false
+
+abbrev silent_test : Profile → Bool
+silent_test row = no_stage row.stage && (no_name row.names && is_blank row.recalls)
+
 -- the key that an act touches, or else this one
 abbrev key_or : ℕ → Act → ℕ
 key_or other (act.Enter (One key)) = key
@@ -182,8 +206,8 @@ tries q = false
 
 abbrev place_test : Bool → Line → Profile → Act → Bool → Bool
 place_test shared m row a tried =
-    row_test row a && ((no_hand row.hand || carries_none row.carries)
-    && (line_test m row a && ((shared || is_line Main (Some m)) && (shared || (goes_free a || not tried)))))
+    row_test row a && (silent_test row && ((no_hand row.hand || carries_none row.carries)
+    && (line_test m row a && ((shared || is_line Main (Some m)) && (shared || (goes_free a || not tried))))))
 
 -- ---------------------------------------------------------------- it says so
 
@@ -244,6 +268,24 @@ row_so row a h =
       unheld = λ m e. elim (either (no_hand row.hand) _ t3.1) [ inl x ↦ hand_so row.hand x | inr x ↦ absurd (no_line_so row.stands m x e) ];
     }
 
+stage_so : (x : Option Stage) → no_stage x ≡ true → x ≡ None
+stage_so None h = refl
+stage_so (Some s) h = absurd cc
+
+name_so : (x : Option ℕ) → no_name x ≡ true → x ≡ None
+name_so None h = refl
+name_so (Some m) h = absurd cc
+
+blank_so : (r : Recall) → is_blank r ≡ true → r ≡ Blank
+blank_so Blank h = refl
+blank_so r h = absurd cc
+
+silent_so : (row : Profile) → silent_test row ≡ true → IsSilent row
+silent_so row h =
+    let t1 = both (no_stage row.stage) _ h in
+    let t2 = both (no_name row.names) (is_blank row.recalls) t1.1 in
+    record { stage = stage_so row.stage t1.0; names = name_so row.names t2.0; recalls = blank_so row.recalls t2.1 }
+
 module _ (l : ℕ) (m : Line) (row : Profile) where
   within_so : (key : ℕ) → is_line m row.doing.inside ≡ true → key ≡ key_of l m → IsWithinLine l (station_by row) key
   within_so key h e = (m, line_is m row.doing.inside h, e)
@@ -294,11 +336,13 @@ facts : (shared : Bool) (l : ℕ) (row : Profile) (a : Act) (m : Line) (tried : 
     → tries (row.purpose l) ≡ tried → place_test shared m row a tried ≡ true → PlaceFacts shared l row a
 facts shared l row a m tried e q h =
     let t1 = both (row_test row a) _ h in
-    let t2 = both (no_hand row.hand || carries_none row.carries) _ t1.1 in
+    let s1 = both (silent_test row) _ t1.1 in
+    let t2 = both (no_hand row.hand || carries_none row.carries) _ s1.1 in
     let t3 = both (line_test m row a) _ t2.1 in
     let t4 = both (shared || is_line Main (Some m)) _ t3.1 in
     record {
       by_row = row_so row a t1.0;
+      silent = silent_so row s1.0;
       bare = elim (either (no_hand row.hand) _ t2.0) [ inl x ↦ inl (hand_so row.hand x) | inr x ↦ inr (carries_so row.carries x) ];
       line = line_so l m row a e t3.0;
       main = λ alone. main_so l m row a e t3.0 (subst (λ b. (b || is_line Main (Some m)) ≡ true) alone t4.0);
@@ -351,6 +395,7 @@ mutex_facts l (mutex.HandOff bumps to) = waits Main refl (no_release l bumps) re
 pub mutex_row_facts : (l : ℕ) (p : MutexPlace) → PlaceFacts false l (mutex_row p) (mutex_act l p)
 mutex_row_facts l p = let f = mutex_facts l p in record {
   by_row = record { goes = f.by_row.goes; carries = f.by_row.carries; owed = λ sets wakes. absurd cc; unheld = f.by_row.unheld };
+  silent = record { stage = f.silent.stage; names = f.silent.names; recalls = f.silent.recalls };
   bare = f.bare;
   line = f.line;
   main = f.main;
@@ -446,6 +491,7 @@ pub call_facts : (l : ℕ) (a : Admission) (c : RwLockCallPlace) → PlaceFacts 
 call_facts l a (fair.Plain p) = rwlock_facts l a p.purpose p.retries p.at
 call_facts l a (fair.Bump p) = let f = rwlock_facts l a p.purpose p.retries p.at in record {
   by_row = record { goes = f.by_row.goes; carries = f.by_row.carries; owed = f.by_row.owed; unheld = f.by_row.unheld };
+  silent = record { stage = f.silent.stage; names = f.silent.names; recalls = f.silent.recalls };
   bare = f.bare;
   line = f.line;
   main = λ alone. absurd cc;
