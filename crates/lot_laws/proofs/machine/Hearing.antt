@@ -3,11 +3,9 @@
 use Rattle.std.proofs.Common.{ℕ, Bool, true, false, Option, Some, None, if◌then◌else◌, ◌==◌, ◌≡◌, not, ◌+◌, ◌-◌, ◌*◌, refl, sym, ap, ◌∙◌}
 use Rattle.lot_base.specs.declared.keys.Keys.TheVariants.{One}
 use Rattle.lot_base.specs.declared.keys.Line.{Line}
-use Rattle.lot_base.specs.declared.keys.Line.TheVariants.{Main, Second}
 use Rattle.lot_base.specs.declared.notes.Note.{Note}
 use Rattle.lot_base.specs.declared.notes.Note.TheVariants as note
 use Rattle.lot_base.specs.declared.ops.Op as op
-use Rattle.lot_base.specs.declared.wants.Want.{Want}
 use Rattle.lot_calls.specs.declared.calls.Access.{Access}
 use Rattle.lot_calls.specs.declared.calls.Access.TheVariants as access
 use Rattle.abstract_locks.specs.Codes.{has_aside}
@@ -36,12 +34,11 @@ use Rattle.lot_rwlock.specs.declared.purposes.RwLockPurpose.{RwLockPurpose}
 use Rattle.lot_rwlock.specs.declared.purposes.RwLockPurpose.TheVariants as purpose
 use Rattle.lot_rwlock.specs.declared.enter.Decision.{Decision}
 use Rattle.lot_rwlock.specs.declared.enter.Decision.TheVariants as decisions
-use Rattle.lot_rwlock.specs.declared.park.ParkAt.{ParkAt}
 use Rattle.lot_rwlock.specs.declared.park.ParkAt.TheVariants as parking
 use Rattle.lot_rwlock.specs.declared.release.WakeAt.{WakeAt}
 use Rattle.lot_rwlock.specs.declared.release.WakeAt.TheVariants as waking
 use Rattle.lot_rwlock.specs.RwLockProfiles.{rwlock_profile}
-use Rattle.lot_rwlock.specs.RwLockSteps.{access_of, act_at, decided, decided_act, park_act, plus, rwlock_act, rwlock_next, wake_next, want_at, wanted}
+use Rattle.lot_rwlock.specs.RwLockSteps.{access_of, act_at, decided, decided_act, plus, rwlock_act, rwlock_next, wake_next, wanted}
 use Rattle.lot_rwlock.proofs.RwLockCallPlaces.{taken_goes, woken_goes}
 use Rattle.lot_rwlock_fair.specs.declared.places.RwLockCallPlace.{RwLockCallPlace}
 use Rattle.lot_rwlock_fair.specs.declared.places.RwLockCallPlace.TheVariants as fair
@@ -49,7 +46,7 @@ use Rattle.lot_rwlock_fair.specs.declared.hand_over.HandOverAt.{HandOverAt}
 use Rattle.lot_rwlock_fair.specs.declared.hand_over.HandOverAt.TheVariants as handing
 use Rattle.lot_rwlock_fair.specs.declared.handed.HandedAt.TheVariants as handed
 use Rattle.lot_rwlock_fair.specs.FairProfiles.{bump_former, bump_released, bumping}
-use Rattle.lot_rwlock_fair.specs.FairSteps.{bump_next, call_act, call_next, given, handed_by, has_room, hand_over_act, plain_next, unless_given}
+use Rattle.lot_rwlock_fair.specs.FairSteps.{bump_next, call_act, given, handed_by, has_room, hand_over_act, plain_next, unless_given}
 use Rattle.lot_once.specs.declared.look.LookAt.TheVariants as look
 use Rattle.lot_once.specs.declared.look.Course.{Course}
 use Rattle.lot_once.specs.declared.look.Course.TheVariants as course
@@ -70,7 +67,6 @@ use Rattle.lot_steps.specs.Steps.{act_of, next_place, profile, rwlock_goes}
 use Rattle.lot_machine.proofs.Acted.{Befalls, tells}
 use Rattle.lot_laws.specs.Refinement.{call_by, call_state, sleeps}
 use Rattle.lot_laws.proofs.calls.PlainCalls.{plain_goes}
-use Rattle.lot_laws.proofs.rwlock.Rows.{awake_at}
 
 -- a reply that befalls a thread, but for a wake
 abbrev pub Quiet : Reply → Type 0
@@ -213,46 +209,10 @@ semaphore_hears l (semaphore.Release at) = deaf refl refl (λ t. refl) (λ key. 
 
 -- ---------------------------------------------------------------- a reader-writer lock
 
-rwlock_decides_quietly : (l : ℕ) (q : RwLockPurpose) (s : ℕ) (d : Decision) → tells (decided_act l q s d) ≡ false
-rwlock_decides_quietly l q s decisions.Take = refl
-rwlock_decides_quietly l q s decisions.Mark = refl
-rwlock_decides_quietly l q s decisions.Park = refl
-rwlock_decides_quietly l q s (decisions.Refuse answer) = refl
+abbrev place : RwLockPurpose → Bool → RwLockAt → RwLockPlace
+place q retries to = record { purpose = q; retries = retries; at = to }
 
-counts_quietly : (l s : ℕ) (b : Bool)
-    → tells (if b then Enter (One (2 * l + 1)) else Word l (op.TheVariants.Exchange s (plus s 2))) ≡ false
-counts_quietly l s true = refl
-counts_quietly l s false = refl
-
-parks_quietly : (l : ℕ) (a : Admission) (x : Want) (m : Line) (to : ParkAt) → tells (park_act l a x m to) ≡ false
-parks_quietly l a x m parking.Check = refl
-parks_quietly l a x m to = refl
-
--- only who wakes others tells them something
-abbrev Wakes : RwLockAt → Type 0
-Wakes (at.Wake m to) = Unit {0}
-Wakes to = ⊥
-
-rwlock_tells : (l : ℕ) (a : Admission) (p : RwLockPlace) (to : RwLockAt) → tells (act_at l a p to) ≡ true → Wakes to
-rwlock_tells l a p (at.Wake m to) loud = tt
-rwlock_tells l a p (at.Decide s) loud = absurd (let x : false ≡ true = sym (rwlock_decides_quietly l p.purpose s (decided a p s)) ∙ loud in cc)
-rwlock_tells l a p (at.Park to) loud = absurd (let x : false ≡ true = sym (parks_quietly l a (want_at p) Main to) ∙ loud in cc)
-rwlock_tells l a p (at.Aside to) loud = absurd (let x : false ≡ true = sym (parks_quietly l a (want_at p) Second to) ∙ loud in cc)
-rwlock_tells l a p (at.Count s) loud = absurd (let x : false ≡ true = sym (counts_quietly l s (has_aside s)) ∙ loud in cc)
-rwlock_tells l a p to loud = absurd cc
-
-wake_deaf : (p : RwLockPlace) (m : Line) (to : WakeAt) (r : Reply) → Befalls r → wake_next p m to r ≡ At (record p { at = at.Wake m to })
-wake_deaf p m waking.Enter (TakenBy u) h = refl
-wake_deaf p m to (TakenBy u) h = refl
-wake_deaf p m waking.Enter (MovedTo key) h = refl
-wake_deaf p m to (MovedTo key) h = refl
-wake_deaf p m waking.Enter (HandedBy u alone) h = refl
-wake_deaf p m to (HandedBy u alone) h = refl
-wake_deaf p m waking.Enter (Woken n) h = refl
-wake_deaf p m to (Woken n) h = refl
-wake_deaf p m to r h = absurd h
-
--- nor is it handed a lock
+-- a thread that wakes others is handed no lock
 none_given : (b : Bool) (q : RwLockPurpose) (again : Bool) (m : Line) (to : WakeAt) (r : Reply) → Befalls r → given b (record { purpose = q; retries = again; at = at.Wake m to }) r ≡ None
 none_given b (purpose.Enter x how) again m to (HandedBy u alone) h = refl
 none_given b q again m to (HandedBy u alone) h = refl
@@ -263,46 +223,76 @@ none_given b q again m to (TakenBy u) h = refl
 none_given b q again m to (MovedTo key) h = refl
 none_given b q again m to r h = absurd h
 
-plain_deaf : (a : Admission) (q : RwLockPurpose) (again : Bool) (to : RwLockAt) → Wakes to → (r : Reply) → Befalls r
-    → let p : RwLockPlace = record { purpose = q; retries = again; at = to } in (call_next a (fair.Plain p) r ≡ At (fair.Plain p))
-    × (call_next a (fair.Bump p) r ≡ At (fair.Bump p))
-plain_deaf a q again (at.Wake m to) wakes r h =
-    let p : RwLockPlace = record { purpose = q; retries = again; at = at.Wake m to } in
-    let same = wake_deaf p m to r h in
-    ((λ i. unless_given (none_given false q again m to r h i) (plain_next (same i))), (λ i. unless_given (none_given true q again m to r h i) (bump_next q (same i))))
-plain_deaf a q again to wakes r h = absurd wakes
+-- it sleeps on in a call of the lock
+abbrev Stays : ℕ → Admission → RwLockPlace → Reply → Type 0
+Stays l a p r = (q : RwLockPlace) × ((rwlock_next a p r ≡ At q) × (rwlock_act l a q ≡ Sleep))
 
-abbrev place : RwLockPurpose → Bool → RwLockAt → RwLockPlace
-place q retries to = record { purpose = q; retries = retries; at = to }
+-- it stays where it stands, and is handed nothing
+abbrev IsDeaf : Admission → RwLockPlace → Reply → Type 0
+IsDeaf a p r = (rwlock_next a p r ≡ At p) × ((bumps : Bool) → given bumps p r ≡ None)
 
--- in a call of it
-abbrev Stays : ℕ → Admission → RwLockPurpose → Bool → RwLockAt → Reply → Type 0
-Stays l a q retries to r = (p : RwLockPlace) × ((rwlock_next a (place q retries to) r ≡ At p) × (rwlock_act l a p ≡ Sleep))
+-- at a place of a plain call, or of a bump
+record HearsAt (l : ℕ) (a : Admission) (p : RwLockPlace) (x : Act) : Type 0 where
+  pub deaf : tells x ≡ true → (r : Reply) → Befalls r → IsDeaf a p r
+  pub sleeps_on : x ≡ Sleep → (r : Reply) → Quiet r → Stays l a p r
 
-rwlock_quiet : (l : ℕ) (a : Admission) (q : RwLockPurpose) (retries : Bool) (to : RwLockAt) (r : Reply) → Quiet r
-    → rwlock_act l a (place q retries to) ≡ Sleep → Stays l a q retries to r
-rwlock_quiet l a q retries (at.Park parking.Asleep) (TakenBy t) quiet h = (place q retries (at.Park (parking.Taken t)), (refl, refl))
-rwlock_quiet l a q retries (at.Park parking.Asleep) (MovedTo key) quiet h = (place q retries (at.Park parking.Asleep), (refl, refl))
-rwlock_quiet l a q retries (at.Park parking.Asleep) (HandedBy t alone) quiet h = (place q retries (at.Park parking.Asleep), (refl, refl))
-rwlock_quiet l a q retries (at.Park (parking.Taken u)) (TakenBy t) quiet h = (place q retries (at.Park (parking.Taken u)), (refl, refl))
-rwlock_quiet l a q retries (at.Park (parking.Taken u)) (MovedTo key) quiet h = (place q retries (at.Park (parking.Taken u)), (refl, refl))
-rwlock_quiet l a q retries (at.Park (parking.Taken u)) (HandedBy t alone) quiet h = (place q retries (at.Park (parking.Taken u)), (refl, refl))
-rwlock_quiet l a q retries (at.Aside parking.Asleep) (TakenBy t) quiet h = (place q retries (at.Aside (parking.Taken t)), (refl, refl))
-rwlock_quiet l a q retries (at.Aside parking.Asleep) (MovedTo key) quiet h = (place q retries (at.Aside parking.Asleep), (refl, refl))
-rwlock_quiet l a q retries (at.Aside parking.Asleep) (HandedBy t alone) quiet h = (place q retries (at.Aside parking.Asleep), (refl, refl))
-rwlock_quiet l a q retries (at.Aside (parking.Taken u)) (TakenBy t) quiet h = (place q retries (at.Aside (parking.Taken u)), (refl, refl))
-rwlock_quiet l a q retries (at.Aside (parking.Taken u)) (MovedTo key) quiet h = (place q retries (at.Aside (parking.Taken u)), (refl, refl))
-rwlock_quiet l a q retries (at.Aside (parking.Taken u)) (HandedBy t alone) quiet h = (place q retries (at.Aside (parking.Taken u)), (refl, refl))
-rwlock_quiet l a q retries (at.Park parking.Asleep) r quiet h = absurd quiet
-rwlock_quiet l a q retries (at.Park (parking.Taken u)) r quiet h = absurd quiet
-rwlock_quiet l a q retries (at.Aside parking.Asleep) r quiet h = absurd quiet
-rwlock_quiet l a q retries (at.Aside (parking.Taken u)) r quiet h = absurd quiet
-rwlock_quiet l a q retries (at.Park to) r quiet h = absurd cc
-rwlock_quiet l a q retries (at.Aside to) r quiet h = absurd cc
-rwlock_quiet l a q retries (at.Decide seen) r quiet h = absurd (awake_at l a (place q retries (at.Decide seen)) (at.Decide seen) tt h)
-rwlock_quiet l a q retries (at.Count seen) r quiet h = absurd (awake_at l a (place q retries (at.Count seen)) (at.Count seen) tt h)
-rwlock_quiet l a q retries (at.Wake m to) r quiet h = absurd (awake_at l a (place q retries (at.Wake m to)) (at.Wake m to) tt h)
-rwlock_quiet l a q retries to r quiet h = absurd cc
+alone_at : {l : ℕ} {a : Admission} {p : RwLockPlace} {x : Act} → tells x ≡ false → sleeps x ≡ false → HearsAt l a p x
+alone_at {l} {a} {p} {x} silent awake = record {
+  deaf = λ loud. absurd (silent_so x silent loud);
+  sleeps_on = λ h. absurd (awake_so x awake h);
+}
+
+asleep_at : {l : ℕ} {a : Admission} {p : RwLockPlace} → ((t : ℕ) → Stays l a p (TakenBy t)) → ((key : ℕ) → Stays l a p (MovedTo key))
+    → ((t : ℕ) (alone : Bool) → Stays l a p (HandedBy t alone)) → HearsAt l a p Sleep
+asleep_at {l} {a} {p} taken moved handed = record {
+  deaf = λ loud. absurd cc;
+  sleeps_on = λ h. sleeps_on;
+}
+  where
+    sleeps_on : (r : Reply) → Quiet r → Stays l a p r
+    sleeps_on (TakenBy t) h = taken t
+    sleeps_on (MovedTo key) h = moved key
+    sleeps_on (HandedBy t alone) h = handed t alone
+    sleeps_on r h = absurd h
+
+wakes_at : {l : ℕ} {a : Admission} {x : Act} (q : RwLockPurpose) (again : Bool) (m : Line) (to : WakeAt) → sleeps x ≡ false
+    → ((t : ℕ) → wake_next (place q again (at.Wake m to)) m to (TakenBy t) ≡ At (place q again (at.Wake m to)))
+    → ((key : ℕ) → wake_next (place q again (at.Wake m to)) m to (MovedTo key) ≡ At (place q again (at.Wake m to)))
+    → ((t : ℕ) (alone : Bool) → wake_next (place q again (at.Wake m to)) m to (HandedBy t alone) ≡ At (place q again (at.Wake m to)))
+    → ((n : Note) → wake_next (place q again (at.Wake m to)) m to (Woken n) ≡ At (place q again (at.Wake m to)))
+    → HearsAt l a (place q again (at.Wake m to)) x
+wakes_at {l} {a} {x} q again m to awake taken moved handed woken = record {
+  deaf = λ loud r h. (stays r h, λ bumps. none_given bumps q again m to r h);
+  sleeps_on = λ h. absurd (awake_so x awake h);
+}
+  where
+    stays : (r : Reply) → Befalls r → wake_next (place q again (at.Wake m to)) m to r ≡ At (place q again (at.Wake m to))
+    stays (TakenBy t) h = taken t
+    stays (MovedTo key) h = moved key
+    stays (HandedBy t alone) h = handed t alone
+    stays (Woken n) h = woken n
+    stays r h = absurd h
+
+rwlock_hears : (l : ℕ) (a : Admission) (q : RwLockPurpose) (again : Bool) (to : RwLockAt) → HearsAt l a (place q again to) (act_at l a (place q again to) to)
+rwlock_hears l a q again (at.Decide seen) = by_decision (decided a (place q again (at.Decide seen)) seen)
+  where
+    by_decision : (d : Decision) → HearsAt l a (place q again (at.Decide seen)) (decided_act l q seen d)
+    by_decision decisions.Park = alone_at refl refl
+    by_decision d = alone_at refl refl
+rwlock_hears l a q again (at.Count seen) = by_aside (has_aside seen)
+  where
+    by_aside : (b : Bool) → HearsAt l a (place q again (at.Count seen)) (if b then Enter (One (2 * l + 1)) else Word l (op.TheVariants.Exchange seen (plus seen 2)))
+    by_aside true = alone_at refl refl
+    by_aside false = alone_at refl refl
+rwlock_hears l a q again (at.Park parking.Asleep) = asleep_at (λ t. (_, (refl, refl))) (λ key. (_, (refl, refl))) (λ t alone. (_, (refl, refl)))
+rwlock_hears l a q again (at.Park (parking.Taken by)) = asleep_at (λ t. (_, (refl, refl))) (λ key. (_, (refl, refl))) (λ t alone. (_, (refl, refl)))
+rwlock_hears l a q again (at.Park to) = alone_at refl refl
+rwlock_hears l a q again (at.Aside parking.Asleep) = asleep_at (λ t. (_, (refl, refl))) (λ key. (_, (refl, refl))) (λ t alone. (_, (refl, refl)))
+rwlock_hears l a q again (at.Aside (parking.Taken by)) = asleep_at (λ t. (_, (refl, refl))) (λ key. (_, (refl, refl))) (λ t alone. (_, (refl, refl)))
+rwlock_hears l a q again (at.Aside to) = alone_at refl refl
+rwlock_hears l a q again (at.Wake m waking.Take) = wakes_at q again m waking.Take refl (λ t. refl) (λ key. refl) (λ t alone. refl) (λ n. refl)
+rwlock_hears l a q again (at.Wake m to) = wakes_at q again m to refl (λ t. refl) (λ key. refl) (λ t alone. refl) (λ n. refl)
+rwlock_hears l a q again to = alone_at refl refl
 
 abbrev CallStays : ℕ → Admission → Next RwLockCallPlace → Type 0
 CallStays l a n = (c : RwLockCallPlace) × ((n ≡ At c) × (call_act l a c ≡ Sleep))
@@ -349,15 +339,15 @@ slept l a n stays = ap (λ x. act_of (rwlock_goes l a x)) stays.1.0 ∙ stays.1.
 
 pub call_hears : (l : ℕ) (a : Admission) (c : RwLockCallPlace) → Hears l (RwLock l a c) (call_act l a c)
 call_hears l a (fair.Plain p) = record {
-  deaf = λ loud r h. ap (rwlock_goes l a) (plain_deaf a p.purpose p.retries p.at (rwlock_tells l a p p.at loud) r h).0;
-  sleeps_on = λ h r quiet. let stays = rwlock_quiet l a p.purpose p.retries p.at r quiet h in
+  deaf = λ loud r h. let d = (rwlock_hears l a p.purpose p.retries p.at).deaf loud r h in λ i. rwlock_goes l a (unless_given (d.1 false i) (plain_next (d.0 i)));
+  sleeps_on = λ h r quiet. let stays = (rwlock_hears l a p.purpose p.retries p.at).sleeps_on h r quiet in
       slept l a _ (unless_sleeps l a (given false p r) (plain_next (rwlock_next a p r)) (given_sleeps l a false p.purpose p.retries p.at r quiet) (fair.Plain stays.0, (ap plain_next stays.1.0, stays.1.1)));
   taken = λ by r. let goes = taken_goes a l p by in ap (λ n. call_state (plain_goes l a n) r) goes.1 ∙ goes.2 r;
   woken = λ t held r. let goes = woken_goes a l p t held in ap (λ n. call_state (plain_goes l a n) r) goes.1 ∙ goes.2 r;
 }
 call_hears l a (fair.Bump p) = record {
-  deaf = λ loud r h. ap (rwlock_goes l a) (plain_deaf a p.purpose p.retries p.at (rwlock_tells l a p p.at loud) r h).1;
-  sleeps_on = λ h r quiet. let stays = rwlock_quiet l a p.purpose p.retries p.at r quiet h in
+  deaf = λ loud r h. let d = (rwlock_hears l a p.purpose p.retries p.at).deaf loud r h in λ i. rwlock_goes l a (unless_given (d.1 true i) (bump_next p.purpose (d.0 i)));
+  sleeps_on = λ h r quiet. let stays = (rwlock_hears l a p.purpose p.retries p.at).sleeps_on h r quiet in
       slept l a _ (unless_sleeps l a (given true p r) (bump_next p.purpose (rwlock_next a p r)) (given_sleeps l a true p.purpose p.retries p.at r quiet) (fair.Bump stays.0, (ap (bump_next p.purpose) stays.1.0, stays.1.1)));
   taken = λ by r. let goes = taken_goes a l p by in
       ap (λ n. call_state (rwlock_goes l a (bump_next p.purpose n)) r) goes.1 ∙ ap (λ q. call_by l (bumping q (rwlock_profile a goes.0)) r) goes.3 ∙ ap (in_bump p.purpose l) (goes.2 r);
