@@ -80,7 +80,7 @@ use Rattle.lot_laws.specs.Stations.{Station, station_by}
 
 -- ---------------------------------------------------------------- acts
 
--- it lets no other thread keep it from going on
+-- no other thread can keep its thread from it
 abbrev pub IsFree : Act → Type 0
 IsFree a = (sleeps a ≡ false) × (runs_closure a ≡ false) × (keys_entered a ≡ None)
 
@@ -91,7 +91,7 @@ IsOfLine l key = (m : Line) × (key ≡ key_of l m)
 abbrev pub IsWithinLine : ℕ → Station → ℕ → Type 0
 IsWithinLine l s key = (m : Line) × (s.inside ≡ Some m) × (key ≡ key_of l m)
 
--- who stands in a line stands in that one
+-- a thread that stands in a line stands in that one
 abbrev pub StandsThere : Station → Type 0
 StandsThere s = (s.stands ≡ None) ⊎ (s.stands ≡ s.inside)
 
