@@ -1,5 +1,7 @@
 pub mod KindsStay
 pub mod Parts
+pub mod PlaceTest
+pub mod Hearing
 pub mod Befallen
 pub mod AtPlaces
 pub mod Possible

@@ -18,7 +18,8 @@ use Rattle.lot_acts.specs.declared.acts.Reply.TheVariants.{Done, Value, Parked, 
 use Rattle.lot_calls.specs.declared.outcomes.Outcome.{Outcome}
 use Rattle.lot_calls.specs.declared.outcomes.Outcome as outcome
 use Rattle.lot_steps.specs.declared.places.Place.{Place}
-use Rattle.lot_steps.specs.declared.places.Place.TheVariants.{Idle}
+use Rattle.lot_steps.specs.declared.places.Place.TheVariants.{Idle, Mutex}
+use Rattle.lot_mutex.specs.declared.places.MutexPlace.{MutexPlace}
 use Rattle.lot_acts.specs.declared.acts.Whom as whoms
 use Rattle.lot_acts.specs.Acts.{takes_effect, outcome_of}
 use Rattle.lot_steps.specs.Steps.{act_of, next_place, next_act}
@@ -37,7 +38,7 @@ use Rattle.lot_laws.proofs.condvar.StepsKeep.{after_condvars}
 use Rattle.lot_laws.proofs.hands.CountsKept.{counted_after}
 use Rattle.lot_laws.proofs.sites.TurnsKept.{after_steady}
 use Rattle.lot_laws.proofs.machine.AtPlaces.{same_without}
-use Rattle.lot_laws.proofs.promises.ExclusiveOwners.{owner_after, exclusive-owners}
+use Rattle.lot_laws.proofs.promises.ExclusiveOwners.{mutex_is, mutex_owner_after}
 use Rattle.lot_acts.specs.declared.owners.Owners.{Owners}
 use Rattle.lot_acts.specs.Owners.{with_exclusive}
 use Rattle.lot_steps.specs.Steps.{owners_after}
@@ -99,25 +100,6 @@ module _ (w : State) (t l : ℕ) (p : Place) (v : ℕ) (o s : Option ℕ) (q : L
     where
       led : after w (go_of t) ≡ put b t p2
       led = act_led can ∙ (λ i. put (does i) t (to i))
-
-  word_led : (x : Op) → word_at (state_after_operation w t p l x) l ≡ apply x v
-  word_led x = ap (λ y. y.word) (get_or-set_same w.locks l _ (unlocked kind.TheVariants.Mutex) f.lock) ∙ ap (apply x) f.word
-
-  owner_led : (x : Op) → owner_at (state_after_operation w t p l x) l ≡ owner_after p t v o
-  owner_led x = ap (λ y. y.owners.exclusive) (get_or-set_same w.locks l _ (unlocked kind.TheVariants.Mutex) f.lock) ∙ exclusive-owners p t (word_at w l) (owners_at w l) ∙ (λ i. owner_after p t (f.word i) (f.owner i))
-
-  pub word_faces : (x : Op) → act_of p ≡ act.TheVariants.Word l x
-      → Faces w t l (next_place p (Value v)) (outcome_of (next_act p (Value v))) (apply x v) (owner_after p t v o) s q
-  word_faces x is = (
-    told can ∙ ap (λ r. outcome_of (next_act p r)) heard,
-    faces (state_after_operation w t p l x) (next_place p (Value v)) (apply x v) (owner_after p t v o) s q can (ap (state_after_act w t p) is) refl (ap (next_place p) heard) (word_led x) (owner_led x) f.section f.queue,
-  )
-    where
-      can : can_do w (act_of p) ≡ true
-      can = rw is refl
-
-      heard : reply_to w t (act_of p) ≡ Value v
-      heard = ap (reply_to w t) is ∙ ap Value f.word
 
   pub hand_faces : (x : Op) (u : ℕ) → takes_effect x (word_at w l) ≡ true → act_of p ≡ act.TheVariants.HandOver l x
       → ((o : Owners) → owners_handed_over w t l o ≡ with_exclusive o (Some u))
@@ -287,3 +269,27 @@ module _ (w : State) (t l : ℕ) (p : Place) (v : ℕ) (o s : Option ℕ) (q : L
         told can ∙ ap (λ r. outcome_of (next_act p r)) heard,
         faces (state_after_reply (record w { queues = queues_without_first w.queues (2 * l) }) u (TakenBy t)) _ v o s (drop 1 q) can (does (Some u) e) (length-set w.places u _) (ap (next_place p) heard) f.word f.owner f.section queue,
       )
+
+-- by a step on the word of a mutex
+module _ (w : State) (t l : ℕ) (at : MutexPlace) (v : ℕ) (o s : Option ℕ) (q : List Waiter) (f : Facing w t l (Mutex l at) v o s q) where
+  abbrev there : Place
+  there = Mutex l at
+
+  word_led : (x : Op) → word_at (state_after_operation w t there l x) l ≡ apply x v
+  word_led x = ap (λ y. y.word) (get_or-set_same w.locks l _ (unlocked kind.TheVariants.Mutex) f.lock) ∙ ap (apply x) f.word
+
+  owner_led : (x : Op) → owner_at (state_after_operation w t there l x) l ≡ mutex_owner_after at t v o
+  owner_led x = ap (λ y. y.owners.exclusive) (get_or-set_same w.locks l _ (unlocked kind.TheVariants.Mutex) f.lock) ∙ mutex_is at t (word_at w l) (owners_at w l) ∙ (λ i. mutex_owner_after at t (f.word i) (f.owner i))
+
+  pub word_faces : (x : Op) → act_of there ≡ act.TheVariants.Word l x
+      → Faces w t l (next_place there (Value v)) (outcome_of (next_act there (Value v))) (apply x v) (mutex_owner_after at t v o) s q
+  word_faces x is = (
+    told w t l there v o s q f can ∙ ap (λ r. outcome_of (next_act there r)) heard,
+    faces w t l there v o s q f (state_after_operation w t there l x) (next_place there (Value v)) (apply x v) (mutex_owner_after at t v o) s q can (ap (state_after_act w t there) is) refl (ap (next_place there) heard) (word_led x) (owner_led x) f.section f.queue,
+  )
+    where
+      can : can_do w (act_of there) ≡ true
+      can = rw is refl
+
+      heard : reply_to w t (act_of there) ≡ Value v
+      heard = ap (reply_to w t) is ∙ ap Value f.word

@@ -119,7 +119,7 @@ pub record HasAnswered (t : ℕ) (purpose : Option Purpose) (former : ℕ → Ri
   pub holds : AnswerHolds purpose v t call a
 
 -- a step of the thread that was possible
-gone : (w v : LocksState) (t : ℕ) (o : Outcome) → o ≢ outcome.NotNow → IsStep w (go_of t) o v → GoesOn w t o v
+pub gone : (w v : LocksState) (t : ℕ) (o : Outcome) → o ≢ outcome.NotNow → IsStep w (go_of t) o v → GoesOn w t o v
 gone w v t o possible step = elim step.1 [
   | inl does ↦ does.1
   | inr refused ↦ absurd (possible refused.1.0)

@@ -34,7 +34,7 @@ use Rattle.abstract_locks.specs.Sites.{Site}
 use Rattle.lot_laws.specs.MutexDeeds.{acts, takes, queued}
 use Rattle.lot_laws.specs.Stations.{Station, hand}
 use Rattle.lot_laws.specs.SitesOf.{IsSteady, Goes, hand_at}
-use Rattle.lot_laws.proofs.promises.ExclusiveOwners.{by_code, owner_after}
+use Rattle.lot_laws.proofs.promises.ExclusiveOwners.{by_code, mutex_owner_after}
 use Rattle.abstract_locks.specs.Locks.{first_thread}
 use Rattle.abstract_locks.specs.Picks.{queued_of}
 use Rattle.lot_laws.specs.Refinement.{owner_at, taken_at}
@@ -90,7 +90,7 @@ module _ (t l : ℕ) (entry : Entry) (q : List Waiter) where
 
   load_leads : (retries : Bool) (v : ℕ) (o s : Option ℕ) (w : State) → Facing w t l (Mutex l (Lock entry retries Load)) v o s q
       → Leads 5 w t (LockEnds t l entry o q)
-  load_leads retries v o s w f = let h = word_faces w t l (Mutex l (Lock entry retries Load)) v o s q f op.TheVariants.Load refl in
+  load_leads retries v o s w f = let h = word_faces w t l (Lock entry retries Load) v o s q f op.TheVariants.Load refl in
       leads_step w t (LockEnds t l entry o q) 4 (h.0 ∙ decides l v) (decide_leads retries v o (coded w _ v o s f) s _ h.1)
 
   pub first_leads : (retries : Bool) (v : ℕ) (o : Option ℕ) → IsMutexWord v o → (s : Option ℕ) (w : State)
@@ -162,15 +162,15 @@ module _ (t l : ℕ) (entry : Entry) where
       -- the exchange fails, and it decides by what it has seen
       exchanged : (y : op.Op) → act_of (Mutex l (Lock entry retries (Decide x))) ≡ act.TheVariants.Word l y → apply y v ≡ v
           → (v == x) ≡ false → Leads 8 w t (λ a z. Rests z)
-      exchanged y is stays no_more = again (word_faces w t l (Mutex l (Lock entry retries (Decide x))) v o s q f y is)
+      exchanged y is stays no_more = again (word_faces w t l (Lock entry retries (Decide x)) v o s q f y is)
         where
           again : Faces w t l (next_place (Mutex l (Lock entry retries (Decide x))) (Value v))
               (outcome_of (next_act (Mutex l (Lock entry retries (Decide x))) (Value v))) (apply y v)
-              (owner_after (Mutex l (Lock entry retries (Decide x))) t v o) s q
+              (mutex_owner_after (Lock entry retries (Decide x)) t v o) s q
               → Leads 8 w t (λ a z. Rests z)
           again h = let told : outcome_of (next_act (Mutex l (Lock entry retries (Decide x))) (Value v)) ≡ outcome.TheVariants.Step = rw no_more (decides l v) in
               let to : next_place (Mutex l (Lock entry retries (Decide x))) (Value v) ≡ Mutex l (Lock entry retries (Decide v)) = rw no_more refl in
-              let own : owner_after (Mutex l (Lock entry retries (Decide x))) t v o ≡ o = rw no_more refl in
+              let own : mutex_owner_after (Lock entry retries (Decide x)) t v o ≡ o = rw no_more refl in
               let g : Facing (after w (go_of t)) t l (Mutex l (Lock entry retries (Decide v))) v o s q =
               subst (λ z. Facing (after w (go_of t)) t l z v o s q) to (subst (λ n. Facing (after w (go_of t)) t l (next_place (Mutex l (Lock entry retries (Decide x))) (Value v)) n o s q) stays
               (subst (λ u. Facing (after w (go_of t)) t l (next_place (Mutex l (Lock entry retries (Decide x))) (Value v)) (apply y v) u s q) own h.1)) in
@@ -210,9 +210,9 @@ try_leads t l q s v o w f = either (is_locked v) refl
     either : (b : Bool) → is_locked v ≡ b
         → Leads 1 w t
         (λ x y. (y ≡ (if b then outcome.TheVariants.End answer.TheVariants.No else outcome.TheVariants.End answer.TheVariants.Yes)) × (owner_at x l ≡ (if b then o else Some t)))
-    either true e = let h = word_faces w t l (Mutex l TryLock) v o s q f (op.TheVariants.Or 1) refl in
+    either true e = let h = word_faces w t l TryLock v o s q f (op.TheVariants.Or 1) refl in
         leads_rest w t (λ x y. (y ≡ outcome.TheVariants.End answer.TheVariants.No) × (owner_at x l ≡ o)) (outcome.TheVariants.End answer.TheVariants.No) (h.0 ∙ rw e refl) tt (refl, h.1.owner ∙ rw e refl)
-    either false e = let h = word_faces w t l (Mutex l TryLock) v o s q f (op.TheVariants.Or 1) refl in
+    either false e = let h = word_faces w t l TryLock v o s q f (op.TheVariants.Or 1) refl in
         leads_rest w t (λ x y. (y ≡ outcome.TheVariants.End answer.TheVariants.Yes) × (owner_at x l ≡ Some t)) (outcome.TheVariants.End answer.TheVariants.Yes) (h.0 ∙ rw e refl) tt (refl, h.1.owner ∙ rw e refl)
 
 abbrev pub UnlockEnds : ℕ → Option ℕ → State → Outcome → Type 0
@@ -226,7 +226,7 @@ module _ (t l : ℕ) where
 
   cleared_leads : (any : Bool) (q : List Waiter) (v : ℕ) (o s : Option ℕ) (w : State)
       → Facing w t l (Mutex l (Unlock (unlock.Clear any))) v o s q → Leads 2 w t (UnlockEnds l o)
-  cleared_leads any q v o s w f = let h = word_faces w t l (Mutex l (Unlock (unlock.Clear any))) v o s q f (op.TheVariants.And NOT_PARKED) refl in leads_step w t (UnlockEnds l o) 1 h.0 (woke_leads any q _ o s _ h.1)
+  cleared_leads any q v o s w f = let h = word_faces w t l (Unlock (unlock.Clear any)) v o s q f (op.TheVariants.And NOT_PARKED) refl in leads_step w t (UnlockEnds l o) 1 h.0 (woke_leads any q _ o s _ h.1)
 
   take_leads : (q : List Waiter) (v : ℕ) (o s : Option ℕ) (w : State) → Facing w t l (Mutex l (Unlock unlock.Take)) v o s q
       → Leads 3 w t (UnlockEnds l o)
@@ -245,7 +245,7 @@ module _ (t l : ℕ) where
 
   pub subtract_leads : (q : List Waiter) (v : ℕ) (o s : Option ℕ) (w : State)
       → Facing w t l (Mutex l (Unlock unlock.Subtract)) v o s q → Leads 5 w t (UnlockEnds l None)
-  subtract_leads q v o s w f = either (is_parked v) (word_faces w t l (Mutex l (Unlock unlock.Subtract)) v o s q f (op.TheVariants.Sub 1) refl)
+  subtract_leads q v o s w f = either (is_parked v) (word_faces w t l (Unlock unlock.Subtract) v o s q f (op.TheVariants.Sub 1) refl)
     where
       either : (b : Bool)
           → Faces w t l
@@ -309,7 +309,7 @@ module _ (t l : ℕ) where
       → Facing w t l (Mutex l (HandOff bumps (hand_off.Store (is_there to) none_left))) v o s q
       → ((u : ℕ) → to ≡ Some u → (o : Owners) → owners_handed_over w t l o ≡ with_exclusive o (Some u))
       → Leads 8 w t (FairEnds bumps t l to q)
-  store_leads bumps none_left None q v o s w f heir = let h = word_faces w t l (Mutex l (HandOff bumps (hand_off.Store false none_left))) v o s q f (op.TheVariants.Store 0) refl in
+  store_leads bumps none_left None q v o s w f heir = let h = word_faces w t l (HandOff bumps (hand_off.Store false none_left)) v o s q f (op.TheVariants.Store 0) refl in
       leads_step w t (FairEnds bumps t l None q) 7 h.0 (told_leads bumps false q 0 None s _ h.1)
   store_leads bumps none_left (Some u) q v o s w f heir = let h = hand_faces w t l (Mutex l (HandOff bumps (hand_off.Store true none_left))) v o s q f (op.TheVariants.Store (hand_off_word true none_left)) u refl refl (heir u refl) in
       leads_step w t (FairEnds bumps t l (Some u) q) 7 h.0 (told_leads bumps true q (hand_off_word true none_left) (Some u) s _ h.1)
@@ -367,7 +367,7 @@ module _ (t l : ℕ) where
 
   pub unlock_fair_leads : (q : List Waiter) (v : ℕ) (o : Option ℕ) (w : State) → Facing w t l (Mutex l UnlockFair) v o None q
       → Leads 11 w t (FairEnds false t l (first_of q) (drop 1 q))
-  unlock_fair_leads q v o w f = either (v == 1) refl (word_faces w t l (Mutex l UnlockFair) v o None q f (op.TheVariants.Exchange 1 0) refl)
+  unlock_fair_leads q v o w f = either (v == 1) refl (word_faces w t l UnlockFair v o None q f (op.TheVariants.Exchange 1 0) refl)
     where
       either : (b : Bool) → (v == 1) ≡ b
           → Faces w t l (mutex_goes l (looked false (not b))) (outcome_of (mutex_does l (looked false (not b))))
@@ -379,7 +379,7 @@ module _ (t l : ℕ) where
 
   pub bump_leads : (q : List Waiter) (v : ℕ) (o : Option ℕ) (w : State) → Facing w t l (Mutex l Bump) v o None q
       → Leads 11 w t (FairEnds true t l (first_of q) (drop 1 q))
-  bump_leads q v o w f = either (is_parked v) refl (word_faces w t l (Mutex l Bump) v o None q f op.TheVariants.Load refl)
+  bump_leads q v o w f = either (is_parked v) refl (word_faces w t l Bump v o None q f op.TheVariants.Load refl)
     where
       owned : o ≡ Some t
       owned = sym f.owner ∙ owns w f.steady t l Bump f.place refl
@@ -407,7 +407,7 @@ module _ (t l : ℕ) where
   -- from its beginning, whoever is inside its section
   pub unlock_fair_rests : (q : List Waiter) (v : ℕ) (o s : Option ℕ) (w : State) → Facing w t l (Mutex l UnlockFair) v o s q
       → Leads 12 w t (λ c y. Rests y)
-  unlock_fair_rests q v o s w f = either (v == 1) (word_faces w t l (Mutex l UnlockFair) v o s q f (op.TheVariants.Exchange 1 0) refl)
+  unlock_fair_rests q v o s w f = either (v == 1) (word_faces w t l UnlockFair v o s q f (op.TheVariants.Exchange 1 0) refl)
     where
       either : (b : Bool)
           → Faces w t l (mutex_goes l (looked false (not b))) (outcome_of (mutex_does l (looked false (not b))))
@@ -418,7 +418,7 @@ module _ (t l : ℕ) where
 
   pub bump_rests : (q : List Waiter) (v : ℕ) (o s : Option ℕ) (w : State) → Facing w t l (Mutex l Bump) v o s q
       → Leads 12 w t (λ c y. Rests y)
-  bump_rests q v o s w f = either (is_parked v) (word_faces w t l (Mutex l Bump) v o s q f op.TheVariants.Load refl)
+  bump_rests q v o s w f = either (is_parked v) (word_faces w t l Bump v o s q f op.TheVariants.Load refl)
     where
       either : (b : Bool) → Faces w t l (mutex_goes l (looked true b)) (outcome_of (mutex_does l (looked true b))) v o s q
           → Leads 12 w t (λ c y. Rests y)

@@ -359,7 +359,7 @@ module _ (w : State) (t : ℕ) (shape : IsShaped w) (steady : IsSteady w) (count
   pub tries_alone : (c : Call) → place_at w t ≡ first_place (kind_at w (lock_in c)) c → OnlyTries (purpose_at (locks_of w) c)
       → EndsAlone w t (purpose_at (locks_of w) c) (solo 64 w t outcome.TheVariants.NotNow).outcome
       (solo 64 w t outcome.TheVariants.NotNow).state
-  tries_alone c is only = let free = tries_freely w t c is only 64 outcome.TheVariants.NotNow in elim (ends_or_barred c is free.0) [
+  tries_alone c is only = let free = tries_freely w t c (record { shaped = shape; steady = steady; counted = counted; condvars = condvars; running = running }) is only 64 outcome.TheVariants.NotNow in elim (ends_or_barred c is free.0) [
     | inl ends ↦ ends
     | inr barred ↦ absurd (free.1 barred)
   ]

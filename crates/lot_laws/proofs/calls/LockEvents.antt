@@ -1,12 +1,5 @@
 -- The calls of the threads in a hand, as they are let go: they try again, or were handed the lock.
-use Rattle.lot_rwlock_fair.specs.declared.places.RwLockCallPlace.{RwLockCallPlace}
-use Rattle.lot_rwlock.specs.declared.places.Admission.{Admission}
-use Rattle.lot_once.specs.declared.places.OncePlace.{OncePlace}
-use Rattle.lot_once.specs.OnceProfiles.{once_profile}
-use Rattle.lot_mutex.specs.MutexProfiles.{mutex_profile}
 use Rattle.std.proofs.Common.{ℕ, Bool, true, false, Option, Some, None, if◌then◌else◌, ◌==◌, ◌≡◌, ◌≢◌, ◌+◌, ◌-◌, ◌⊎◌, inl, inr, refl, sym, ◌∙◌, ap, arith}
-use Rattle.lot_rwlock.proofs.RwLockCallPlaces.{taken_goes, woken_goes}
-use Rattle.lot_rwlock.specs.RwLockProfiles.{rwlock_profile}
 use Rattle.lot_acts.specs.Profiles.{Hand, Of, hand, taken_from}
 use Rattle.lot_base.specs.declared.wants.Want.{Want}
 use Rattle.std.proofs.lemmas.Bool.{cases_eq, eqb-true}
@@ -15,42 +8,19 @@ use Rattle.lot_base.specs.declared.wants.Want.{Want}
 use Rattle.lot_base.specs.declared.wants.Want.TheVariants.{Exclusive, Shared}
 use Rattle.lot_acts.specs.declared.acts.Reply.{Reply}
 use Rattle.lot_acts.specs.declared.acts.Reply.TheVariants.{TakenBy, HandedBy, Woken}
-use Rattle.lot_mutex.specs.declared.places.MutexPlace.TheVariants.{Lock, TryLock, Unlock, UnlockFair, Bump, HandOff}
+use Rattle.lot_mutex.specs.declared.places.MutexPlace.TheVariants.{Lock}
 use Rattle.lot_mutex.specs.declared.lock.LockAt.TheVariants.{First, Taken}
-use Rattle.lot_mutex.specs.declared.unlock.UnlockAt.TheVariants as unlock
-use Rattle.lot_mutex.specs.declared.hand_off.HandOffAt.TheVariants as hand_off
-use Rattle.lot_rwlock.specs.declared.purposes.RwLockPurpose.{RwLockPurpose}
-use Rattle.lot_rwlock.specs.RwLockSteps.{access_of, wanted}
-use Rattle.lot_rwlock_fair.specs.declared.places.RwLockCallPlace.TheVariants as places
-use Rattle.lot_rwlock_fair.specs.declared.hand_over.HandOverAt.TheVariants as handing
-use Rattle.lot_rwlock_fair.specs.declared.handed.HandedAt.TheVariants as handed
-use Rattle.lot_rwlock_fair.specs.FairSteps.{bump_next}
-use Rattle.lot_rwlock_fair.specs.FairProfiles.{bump_former, bump_released, bumping, call_profile}
-use Rattle.lot_once.specs.declared.places.OncePlace.TheVariants.{Look, Run, GiveUp}
-use Rattle.lot_once.specs.declared.look.LookAt.TheVariants as look_at
-use Rattle.lot_once.specs.declared.give_up.GiveUpAt.TheVariants as give_up
-use Rattle.lot_once.specs.declared.run.RunAt.TheVariants as run_at
-use Rattle.lot_semaphore.specs.declared.acquire.AcquireAt.{AcquireAt}
-use Rattle.lot_semaphore.specs.declared.acquire.AcquireAt.TheVariants as acquire_at
-use Rattle.lot_semaphore.specs.declared.tries.TryAt.TheVariants as try_at
-use Rattle.lot_semaphore.specs.declared.release.ReleaseAt.{ReleaseAt}
-use Rattle.lot_semaphore.specs.declared.release.ReleaseAt.TheVariants as release_at
-use Rattle.lot_semaphore.specs.declared.places.SemaphorePlace.{SemaphorePlace}
-use Rattle.lot_semaphore.specs.declared.places.SemaphorePlace.TheVariants.{Acquire, Try, Release}
-use Rattle.lot_semaphore.specs.SemaphoreProfiles.{acquire_row, release_row, semaphore_profile}
-use Rattle.lot_steps.specs.Steps.{next_place, profile, rwlock_goes, calls}
-use Rattle.lot_mutex.specs.declared.places.MutexPlace.{MutexPlace}
+use Rattle.lot_steps.specs.Steps.{next_place, profile, calls}
 use Rattle.lot_steps.specs.declared.places.Place.{Place}
 use Rattle.lot_steps.specs.declared.places.Place.TheVariants.{Idle, Mutex, RwLock, Once, Condvar, Semaphore}
 use Rattle.abstract_locks.specs.Locks.{LockState, Queued, Taken as LockTaken, Rights, Enter, Wake, HandOff as HandsOff, IsTaken, IsLockState, Knows, Needs, rights_of, with_right, without_right, is_thread, putting}
 use Rattle.abstract_locks.specs.Locks as locks
-use Rattle.abstract_locks.specs.Purposes.{Bumps, Blank}
+use Rattle.abstract_locks.specs.Purposes.{Blank}
 use Rattle.abstract_locks.specs.Runs.{CallState, behind_wake, is_taken_by, AtLock, one_more_at, one_less_at}
 use Rattle.lot_machine.specs.Machine.{State, place_at}
-use Rattle.lot_laws.specs.Refinement.{owner_at, lock_state, taken_at, is_bump, before_entry, mutex_call_state, call_state, call_by}
+use Rattle.lot_laws.specs.Refinement.{owner_at, lock_state, taken_at, is_bump, before_entry, mutex_call_state, call_state}
 use Rattle.lot_laws.specs.MutexDeeds.{queued}
 use Rattle.lot_laws.specs.SitesOf.{rules_in}
-use Rattle.lot_laws.proofs.calls.PlainCalls.{plain_goes}
 use Rattle.lot_laws.specs.SitesOf.{FitsItsLock}
 use Rattle.std.proofs.Common.{subst}
 use Rattle.abstract_locks.specs.Sites.{Doing, Has}
@@ -59,6 +29,8 @@ use Rattle.lot_laws.proofs.condvar.WaiterCalls.{waiter_claims, waiter_does, wait
 use Rattle.lot_laws.proofs.mutex.Waiters.{calls_mutex_at}
 use Rattle.lot_condvar.specs.declared.places.CondvarPlace.{CondvarPlace}
 use Rattle.lot_condvar.specs.CondvarProfiles.{mutex_side}
+use Rattle.lot_laws.proofs.machine.Hearing.{TriesAgain, call_hears, mutex_hears, once_hears, semaphore_hears}
+use Rattle.lot_laws.proofs.machine.PlaceTest.{call_facts, mutex_row_facts, once_facts, semaphore_facts}
 use Rattle.lot_laws.proofs.machine.Parts.{IsTakenAt, put_same, same, IsMutexCall, taken_elsewhere, IsSingle, single_taken}
 use Rattle.lot_mutex.specs.MutexLaws.{heir}
 use Rattle.lot_mutex.proofs.HandOffRights.{got, neither}
@@ -110,127 +82,36 @@ taken_hand p t l single h = by_row (profile p).hand (profile p).wants (calls p l
     by_row (Some (Of u false)) (Some x) true g = (ap (λ y. hand y false) (eqb-true u t g), refl)
     by_row (Some (Of u false)) (Some x) false g = absurd cc
 
--- what a bump makes of a call by its purpose
-abbrev in_bump : RwLockPurpose → ℕ → CallState → CallState
-in_bump q l c = record c { purpose = Some (Bumps l (wanted (access_of q))); released = bump_released q c.released; former = bump_former q l c.former }
+-- a thread that is woken tries the lock again, by what its place says of whom it is in the hand
+again_by : (l : ℕ) (p : Place) (t : ℕ) (k : ℕ) → IsSingle p → is_taken_by t (taken_at p l) ≡ true → calls p l ≡ (k == l) → TriesAgain k p
+    → (r : ℕ → Rights) → call_state (next_place p (Woken Normal)) r ≡ record (call_state p r) { retries = Some l }
+again_by l p t k single h own again r = let held = taken_hand p t l single h in let here : k ≡ l = eqb-true k l (sym own ∙ held.1) in
+    again t held.0 r ∙ ap (λ n. record (call_state p r) { retries = Some n }) here
 
--- whoever is woken tries the lock again
 pub woken_call : (p : Place) (t l : ℕ) → IsSingle p → is_taken_by t (taken_at p l) ≡ true → (r : ℕ → Rights) → call_state (next_place p (Woken Normal)) r ≡ record (call_state p r) { retries = Some l }
 woken_call Idle t l single h r = absurd cc
-woken_call (Mutex k at) t l single h r = by_place (Mutex k at) (taken_place (Mutex k at) t l tt h)
-  where
-    by_place : (p : Place) → IsTakenAt p t l → call_state (next_place p (Woken Normal)) r ≡ record (call_state p r) { retries = Some l }
-    by_place p there = rw there.is refl
+woken_call (Mutex k at) t l single h r = again_by l (Mutex k at) t k tt h refl (mutex_hears k at).woken r
+woken_call (RwLock k a c) t l single h r = again_by l (RwLock k a c) t k tt h refl (call_hears k a c).woken r
+woken_call (Once k at) t l single h r = again_by l (Once k at) t k tt h refl (once_hears k at).woken r
+woken_call (Semaphore k at) t l single h r = again_by l (Semaphore k at) t k tt h refl (semaphore_hears k at).woken r
 woken_call (Condvar k at) t l single h r = absurd single
-woken_call (Once k (Look c again (look_at.Taken by))) t l single h r = let held = taken_hand (Once k (Look c again (look_at.Taken by))) t l tt h in
-    ap (λ n. record (call_state (Once k (Look c again (look_at.Taken by))) r) { retries = Some n }) (eqb-true k l held.1)
-woken_call (Once k (Look c again at)) t l single h r = absurd (let held = taken_hand (Once k (Look c again at)) t l tt h in let f : ◌≡◌ {A = Option Hand} None (hand t false) = held.0 in cc)
-woken_call (Once k (Run forced (run_at.Closure poisoned))) t l single h r = absurd (let held = taken_hand (Once k (Run forced (run_at.Closure poisoned))) t l tt h in let f : ◌≡◌ {A = Option Hand} None (hand t false) = held.0 in cc)
-woken_call (Once k (Run forced at)) t l single h r = absurd (let held = taken_hand (Once k (Run forced at)) t l tt h in let f : ◌≡◌ {A = Option Hand} None (hand t false) = held.0 in cc)
-woken_call (Once k (GiveUp again give_up.Remove)) t l single h r = absurd (let held = taken_hand (Once k (GiveUp again give_up.Remove)) t l tt h in let f : ◌≡◌ {A = Option Hand} None (hand t false) = held.0 in cc)
-woken_call (Once k (GiveUp again at)) t l single h r = absurd (let held = taken_hand (Once k (GiveUp again at)) t l tt h in let f : ◌≡◌ {A = Option Hand} None (hand t false) = held.0 in cc)
-woken_call (Semaphore k (Acquire timed again (acquire_at.Taken by))) t l single h r = let held = taken_hand (Semaphore k (Acquire timed again (acquire_at.Taken by))) t l tt h in
-    ap (λ n. record (call_state (Semaphore k (Acquire timed again (acquire_at.Taken by))) r) { retries = Some n }) (eqb-true k l held.1)
-woken_call (Semaphore k (Acquire timed again at)) t l single h r = absurd (let held = taken_hand (Semaphore k (Acquire timed again at)) t l tt h in let f : ◌≡◌ {A = Option Hand} None (hand t false) = held.0 in cc)
-woken_call (Semaphore k (Try at)) t l single h r = absurd (let held = taken_hand (Semaphore k (Try at)) t l tt h in let f : ◌≡◌ {A = Option Hand} None (hand t false) = held.0 in cc)
-woken_call (Semaphore k (Release at)) t l single h r = absurd (let held = taken_hand (Semaphore k (Release at)) t l tt h in let f : ◌≡◌ {A = Option Hand} None (hand t false) = sym (no_hand at) ∙ held.0 in cc)
-  where
-    no_hand : (at : ReleaseAt) → (semaphore_profile (Release at)).hand ≡ None
-    no_hand release_at.Add = refl
-    no_hand release_at.Enter = refl
-    no_hand release_at.Take = refl
-    no_hand (release_at.Clear any) = refl
-    no_hand (release_at.Leave any) = refl
-woken_call (RwLock k a (places.Plain p)) t l single h r = let held = taken_hand (RwLock k a (places.Plain p)) t l tt h in let here : k ≡ l = eqb-true k l held.1 in let goes = woken_goes a k p t held.0 in
-    ap (λ n. call_state (plain_goes k a n) r) goes.1 ∙ goes.2 r ∙ ap (λ n. record (call_by k (rwlock_profile a p) r) { retries = Some n }) here
-woken_call (RwLock k a (places.Bump p)) t l single h r = let held = taken_hand (RwLock k a (places.Bump p)) t l tt h in let here : k ≡ l = eqb-true k l held.1 in let goes = woken_goes a k p t held.0 in
-    ap (λ n. call_state (rwlock_goes k a (bump_next p.purpose n)) r) goes.1 ∙ ap (λ q. call_by k (bumping q (rwlock_profile a goes.0)) r) goes.3 ∙ ap (in_bump p.purpose k) (goes.2 r) ∙ ap (λ n. record (in_bump p.purpose k (call_by k (rwlock_profile a p) r)) { retries = Some n }) here
-woken_call (RwLock k a (places.Glance x)) t l single h r = absurd (let held = taken_hand (RwLock k a (places.Glance x)) t l tt h in let f : ◌≡◌ {A = Option Hand} None (hand t false) = held.0 in cc)
-woken_call (RwLock k a (places.HandOver x b to)) t l single h r = absurd (let held = taken_hand (RwLock k a (places.HandOver x b to)) t l tt h in let f : ◌≡◌ {A = Option Hand} None (hand t false) = held.0 in cc)
-woken_call (RwLock k a (places.Handed x how b (handed.Asleep u alone))) t l single h r = absurd (let held = taken_hand (RwLock k a (places.Handed x how b (handed.Asleep u alone))) t l tt h in let f : hand u true ≡ hand t false = held.0 in cc)
-woken_call (RwLock k a (places.Handed x how b handed.Accept)) t l single h r = absurd (let held = taken_hand (RwLock k a (places.Handed x how b handed.Accept)) t l tt h in let f : ◌≡◌ {A = Option Hand} None (hand t false) = held.0 in cc)
 
 -- a call goes on as it is where a thread is taken
 pub taken_call : (p : Place) (by : ℕ) → IsSingle p → (r : ℕ → Rights) → call_state (next_place p (TakenBy by)) r ≡ call_state p r
 taken_call Idle by single r = refl
-taken_call (RwLock k a (places.Plain p)) by single r = let goes = taken_goes a k p by in ap (λ n. call_state (plain_goes k a n) r) goes.1 ∙ goes.2 r
-taken_call (RwLock k a (places.Bump p)) by single r = let goes = taken_goes a k p by in
-    ap (λ n. call_state (rwlock_goes k a (bump_next p.purpose n)) r) goes.1 ∙ ap (λ q. call_by k (bumping q (rwlock_profile a goes.0)) r) goes.3 ∙ ap (in_bump p.purpose k) (goes.2 r)
-taken_call (RwLock k a (places.Glance x)) by single r = refl
-taken_call (RwLock k a (places.HandOver x b handing.Load)) by single r = refl
-taken_call (RwLock k a (places.HandOver x b to)) by single r = refl
-taken_call (RwLock k a (places.Handed x how b (handed.Asleep u alone))) by single r = refl
-taken_call (RwLock k a (places.Handed x how b handed.Accept)) by single r = refl
-taken_call (Once k (Look c again look_at.Asleep)) by single r = refl
-taken_call (Once k (Look c again at)) by single r = refl
-taken_call (Once k (Run forced (run_at.Closure poisoned))) by single r = refl
-taken_call (Once k (Run forced at)) by single r = refl
-taken_call (Once k (GiveUp again give_up.Remove)) by single r = refl
-taken_call (Once k (GiveUp again at)) by single r = refl
-taken_call (Semaphore k (Acquire timed again acquire_at.Asleep)) by single r = refl
-taken_call (Semaphore k (Acquire timed again at)) by single r = refl
-taken_call (Semaphore k (Try try_at.Load)) by single r = refl
-taken_call (Semaphore k (Try (try_at.Decide seen))) by single r = refl
-taken_call (Semaphore k (Release release_at.Add)) by single r = refl
-taken_call (Semaphore k (Release at)) by single r = refl
+taken_call (Mutex k at) by single r = (mutex_hears k at).taken by r
+taken_call (RwLock k a c) by single r = (call_hears k a c).taken by r
+taken_call (Once k at) by single r = (once_hears k at).taken by r
+taken_call (Semaphore k at) by single r = (semaphore_hears k at).taken by r
 taken_call (Condvar k at) by single r = absurd single
-taken_call (Mutex k (Lock entry retries First)) by single r = refl
-taken_call (Mutex k (Lock entry retries at)) by single r = refl
-taken_call (Mutex k TryLock) by single r = refl
-taken_call (Mutex k (Unlock unlock.Subtract)) by single r = refl
-taken_call (Mutex k (Unlock at)) by single r = refl
-taken_call (Mutex k UnlockFair) by single r = refl
-taken_call (Mutex k Bump) by single r = refl
-taken_call (Mutex k (HandOff bumps hand_off.Enter)) by single r = refl
-taken_call (Mutex k (HandOff bumps at)) by single r = refl
 
 -- only a call of a condition variable recalls anything, so that no wake changes what another recalls
-mutex_recalls : (at : MutexPlace) → (mutex_profile at).recalls ≡ Blank
-mutex_recalls (Lock e retries First) = refl
-mutex_recalls (Lock e retries at) = refl
-mutex_recalls at = refl
-
-once_recalls : (at : OncePlace) → (once_profile at).recalls ≡ Blank
-once_recalls (Look c retries look_at.Load) = refl
-once_recalls (Look c retries at) = refl
-once_recalls (Run forced (run_at.Closure poisoned)) = refl
-once_recalls (Run forced at) = refl
-once_recalls (GiveUp again give_up.Remove) = refl
-once_recalls (GiveUp again at) = refl
-
-semaphore_recalls : (at : SemaphorePlace) → (semaphore_profile at).recalls ≡ Blank
-semaphore_recalls (Acquire timed retries at) = acquire_recalls timed retries at
-  where
-    acquire_recalls : (timed retries : Bool) (at : AcquireAt) → (acquire_row timed retries at).recalls ≡ Blank
-    acquire_recalls timed retries acquire_at.Load = refl
-    acquire_recalls timed retries (acquire_at.Decide seen) = refl
-    acquire_recalls timed retries acquire_at.Check = refl
-    acquire_recalls timed retries (acquire_at.Leave parked) = refl
-    acquire_recalls timed retries acquire_at.Asleep = refl
-    acquire_recalls timed retries (acquire_at.Taken by) = refl
-    acquire_recalls timed retries acquire_at.Remove = refl
-    acquire_recalls timed retries acquire_at.Clear = refl
-    acquire_recalls timed retries acquire_at.GiveUp = refl
-semaphore_recalls (Try at) = refl
-semaphore_recalls (Release at) = release_recalls at
-  where
-    release_recalls : (at : ReleaseAt) → (release_row at).recalls ≡ Blank
-    release_recalls release_at.Add = refl
-    release_recalls release_at.Enter = refl
-    release_recalls release_at.Take = refl
-    release_recalls (release_at.Clear any) = refl
-    release_recalls (release_at.Leave any) = refl
-
-shared_recalls : (a : Admission) (at : RwLockCallPlace) → (call_profile a at).recalls ≡ Blank
-shared_recalls a (places.Plain p) = refl
-shared_recalls a at = refl
-
 pub recalls_nothing : (p : Place) → IsSingle p → (r : ℕ → Rights) → (call_state p r).recalls ≡ Blank
 recalls_nothing Idle single r = refl
-recalls_nothing (Mutex k at) single r = mutex_recalls at
-recalls_nothing (RwLock k a at) single r = shared_recalls a at
-recalls_nothing (Once k at) single r = once_recalls at
-recalls_nothing (Semaphore k at) single r = semaphore_recalls at
+recalls_nothing (Mutex k at) single r = (mutex_row_facts k at).silent.recalls
+recalls_nothing (RwLock k a at) single r = (call_facts k a at).silent.recalls
+recalls_nothing (Once k at) single r = (once_facts k at).silent.recalls
+recalls_nothing (Semaphore k at) single r = (semaphore_facts k at).silent.recalls
 recalls_nothing (Condvar k at) single r = absurd single
 
 pub unmoved : (q : Option ℕ) (c : CallState) → c.recalls ≡ Blank → record c { retries = q } ≡ record c { retries = q; recalls = behind_wake c.recalls }

@@ -19,6 +19,10 @@ use Rattle.abstract_locks.specs.Runs.{Closes}
 use Rattle.abstract_locks.specs.Locks.{Rules}
 use Rattle.abstract_locks.specs.Locks as locks
 use Rattle.lot_mutex.proofs.MutexRowCheck.{mutex_promises}
+use Rattle.lot_once.proofs.OnceRowCheck.{once_promises}
+use Rattle.abstract_locks.specs.Purposes.{Purpose, lock_for}
+use Rattle.lot_semaphore.proofs.SemaphoreRowCheck.{semaphore_promises}
+use Rattle.lot_laws.proofs.rwlock.CallRows.{call_promises}
 use Rattle.lot_laws.proofs.promises.RowPromises.{RowPromises}
 use Rattle.lot_laws.proofs.calls.Events.{RunsNothing, begins_nothing, runs_nothing}
 use Rattle.abstract_locks.specs.Runs.{is_closure}
@@ -33,16 +37,11 @@ use Rattle.lot_laws.proofs.semaphore.Steps.{semaphore_step}
 use Rattle.lot_laws.proofs.semaphore.Owing.{late_place as semaphore_late_place}
 use Rattle.lot_semaphore.specs.declared.acquire.AcquireAt.TheVariants as acquire
 use Rattle.lot_semaphore.specs.declared.places.SemaphorePlace.{SemaphorePlace}
-use Rattle.lot_semaphore.specs.declared.places.SemaphorePlace.TheVariants.{Acquire, Try as OfTry, Release}
+use Rattle.lot_semaphore.specs.declared.places.SemaphorePlace.TheVariants.{Acquire}
 use Rattle.lot_semaphore.specs.SemaphoreProfiles.{semaphore_profile}
 use Rattle.lot_acts.specs.Profiles.{taken_from}
 use Rattle.lot_base.specs.Keys.{key_of}
 use Rattle.lot_base.specs.declared.keys.Line.{Line}
-use Rattle.lot_rwlock.specs.declared.places.Admission.{Admission}
-use Rattle.lot_rwlock.specs.declared.purposes.RwLockPurpose.{RwLockPurpose}
-use Rattle.lot_rwlock.specs.declared.purposes.RwLockPurpose.TheVariants as purposes
-use Rattle.lot_rwlock.specs.RwLockProfiles.{purpose_by}
-use Rattle.lot_rwlock.specs.RwLockDeeds.{Admits}
 use Rattle.abstract_locks.specs.Sites.{has_readers}
 use Rattle.abstract_locks.specs.Locks.{Mutex as Mutual}
 use Rattle.std.proofs.lemmas.Bool.{ltb-true, lt-ltb}
@@ -96,7 +95,7 @@ use Rattle.lot_laws.proofs.condvar.Begins.{condvar_is_late}
 use Rattle.lot_laws.proofs.machine.PlacesAlone.{placed}
 use Rattle.lot_laws.proofs.rwlock.Events.{rwlock_step}
 use Rattle.lot_rwlock_fair.specs.declared.places.RwLockCallPlace.{RwLockCallPlace}
-use Rattle.lot_rwlock_fair.specs.declared.places.RwLockCallPlace.TheVariants.{Plain, Glance, HandOver, Bump as BumpCall, Handed}
+use Rattle.lot_rwlock_fair.specs.declared.places.RwLockCallPlace.TheVariants.{Handed}
 use Rattle.lot_rwlock_fair.specs.FairCalls.{CallStands}
 use Rattle.lot_rwlock_fair.specs.FairProfiles.{call_profile}
 use Rattle.lot_rwlock_fair.proofs.FairSleepers.{fair_sleepers_hear}
@@ -472,48 +471,15 @@ module _ (w : State) (t : ℕ) (shape : IsShaped w) (steady : IsSteady w) (there
 
 -- ---------------------------------------------------------------- a look at the word once more
 
--- a call of a reader-writer lock is of no mutex
-not_mutex : (w : State) (l : ℕ) (a : Admission) (c : RwLockCallPlace) → Admits (rules_in w l) a → (r : ℕ → Rights)
-    → IsOfMutex (locks_of w) (call_state (RwLock l a c) r).purpose → ⊥
-not_mutex w l a c admits r of = by_call c of
-  where
-    readers : (rules_in w l).sort ≡ Mutual → ⊥
-    readers e = let f : has_readers (rules_in w l).sort ≡ false = ap has_readers e in let g : has_readers (rules_in w l).sort ≡ true = admits.0 in cc
+-- a call of another lock is of no mutex
+own_sort : (w : State) (l : ℕ) (q : Purpose) → lock_for q ≡ l → (rules_in w l).sort ≢ locks.Mutex → IsOfMutex (locks_of w) (Some q) → ⊥
+own_sort w l q own other of = other (ap (λ k. (rules_in w k).sort) (sym own) ∙ of)
 
-    by_purpose : (q : RwLockPurpose) → IsOfMutex (locks_of w) (Some (purpose_by q l)) → ⊥
-    by_purpose (purposes.Enter x how) e = readers e
-    by_purpose (purposes.Release x) e = readers e
-    by_purpose (purposes.Downgrade d) e = readers e
-    by_purpose (purposes.Upgrade how) e = readers e
-
-    by_call : (d : RwLockCallPlace) → IsOfMutex (locks_of w) (Some ((call_profile a d).purpose l)) → ⊥
-    by_call (Plain p) e = by_purpose p.purpose e
-    by_call (BumpCall p) e = readers e
-    by_call (Glance x) e = readers e
-    by_call (HandOver x true to) e = readers e
-    by_call (HandOver x false to) e = readers e
-    by_call (Handed x how true to) e = readers e
-    by_call (Handed x how false to) e = readers e
-
-once_no_mutex : (w : State) (l : ℕ) (at : OncePlace) → (rules_in w l).sort ≡ locks.Once → (r : ℕ → Rights)
-    → IsOfMutex (locks_of w) (call_state (Once l at) r).purpose → ⊥
-once_no_mutex w l (Look (once_call.CallOnce forced) again at) once r of = let both : locks.Once ≡ locks.Mutex = sym once ∙ of in cc
-once_no_mutex w l (Look (once_call.Wait forced) again at) once r of = let both : locks.Once ≡ locks.Mutex = sym once ∙ of in cc
-once_no_mutex w l (Look once_call.WaitTimed again at) once r of = let both : locks.Once ≡ locks.Mutex = sym once ∙ of in cc
-once_no_mutex w l (GiveUp again at) once r of = let both : locks.Once ≡ locks.Mutex = sym once ∙ of in cc
-once_no_mutex w l (Run forced at) once r of = let both : locks.Once ≡ locks.Mutex = sym once ∙ of in cc
-
-semaphore_no_mutex : (w : State) (l : ℕ) (at : SemaphorePlace) → (rules_in w l).sort ≡ locks.Semaphore → (r : ℕ → Rights)
-    → IsOfMutex (locks_of w) (call_state (Semaphore l at) r).purpose → ⊥
-semaphore_no_mutex w l (Acquire timed again at) sort r of = let both : locks.Semaphore ≡ locks.Mutex = sym sort ∙ of in cc
-semaphore_no_mutex w l (OfTry at) sort r of = let both : locks.Semaphore ≡ locks.Mutex = sym sort ∙ of in cc
-semaphore_no_mutex w l (Release at) sort r of = let both : locks.Semaphore ≡ locks.Mutex = sym sort ∙ of in cc
-
-condvar_no_mutex : (w : State) (l : ℕ) (at : CondvarPlace) → (rules_in w l).sort ≡ locks.Condvar → (r : ℕ → Rights)
+condvar_no_mutex : (w : State) (l : ℕ) (at : CondvarPlace) → (rules_in w l).sort ≢ locks.Mutex → (r : ℕ → Rights)
     → IsOfMutex (locks_of w) (call_state (Condvar l at) r).purpose → ⊥
-condvar_no_mutex w l (condvars.Wait m timed at) condvar r of = let both : locks.Condvar ≡ locks.Mutex = sym condvar ∙ of in cc
-condvar_no_mutex w l (condvars.Look all) condvar r of = let both : locks.Condvar ≡ locks.Mutex = sym condvar ∙ of in cc
-condvar_no_mutex w l (condvars.Notify all m at) condvar r of = let both : locks.Condvar ≡ locks.Mutex = sym condvar ∙ of in cc
+condvar_no_mutex w l (condvars.Wait m timed at) other r of = other of
+condvar_no_mutex w l (condvars.Look all) other r of = other of
+condvar_no_mutex w l (condvars.Notify all m at) other r of = other of
 
 -- its call goes on by what it sees there
 module _ (w : State) (t : ℕ) (shape : IsShaped w) (steady : IsSteady w) (there : t < length w.places) (q : Place)
@@ -533,10 +499,10 @@ module _ (w : State) (t : ℕ) (shape : IsShaped w) (steady : IsSteady w) (there
   look_stays : (p : Place) → place_at w t ≡ p → IsOfMutex (locks_of w) (call_state p (rights w t)).purpose
       → Stays (locks_of w) t ((locks_of w).calls t) (go_outcome moved t) (locks_of (state_after_go moved t))
   look_stays Idle e of = absurd of
-  look_stays (Condvar l at) e of = absurd (let calls : FitsCondvar w l at = subst (FitsItsLock w) e (steady.stands.calls t) in condvar_no_mutex w l at calls.sort (rights w t) of)
-  look_stays (Once l at) e of = absurd (let calls : FitsItsLock w (Once l at) = subst (FitsItsLock w) e (steady.stands.calls t) in once_no_mutex w l at calls (rights w t) of)
-  look_stays (Semaphore l at) e of = absurd (let calls : FitsItsLock w (Semaphore l at) = subst (FitsItsLock w) e (steady.stands.calls t) in semaphore_no_mutex w l at calls.0 (rights w t) of)
-  look_stays (RwLock l a c) e of = absurd (let calls : FitsItsLock w (RwLock l a c) = subst (FitsItsLock w) e (steady.stands.calls t) in not_mutex w l a c calls.0 (rights w t) of)
+  look_stays (Condvar l at) e of = absurd (let calls : FitsCondvar w l at = subst (FitsItsLock w) e (steady.stands.calls t) in condvar_no_mutex w l at (λ f. let both : locks.Condvar ≡ locks.Mutex = sym calls.sort ∙ f in cc) (rights w t) of)
+  look_stays (Once l at) e of = absurd (let calls : FitsItsLock w (Once l at) = subst (FitsItsLock w) e (steady.stands.calls t) in own_sort w l ((once_profile at).purpose l) (once_promises l at).own (λ f. let both : locks.Once ≡ locks.Mutex = sym calls ∙ f in cc) of)
+  look_stays (Semaphore l at) e of = absurd (let calls : FitsItsLock w (Semaphore l at) = subst (FitsItsLock w) e (steady.stands.calls t) in own_sort w l ((semaphore_profile at).purpose l) (semaphore_promises l at).own (λ f. let both : locks.Semaphore ≡ locks.Mutex = sym calls.0 ∙ f in cc) of)
+  look_stays (RwLock l a c) e of = absurd (let calls : FitsItsLock w (RwLock l a c) = subst (FitsItsLock w) e (steady.stands.calls t) in own_sort w l ((call_profile a c).purpose l) (call_promises (rules_in w l) a l c calls.0 calls.1).own (λ f. let both : false ≡ true = sym (ap has_readers f) ∙ calls.0.0 in cc) of)
   look_stays (Mutex l at) e of = let loads = mutex_looks l at q (ap looking (sym e) ∙ is) in
       let now : place_at moved t ≡ Mutex l (Lock loads.0 loads.1 Load) = here w t there q is ∙ loads.2 in
       stays_as_before w t there q is _ (locks_of (state_after_go moved t)) (subst (λ p. Stays (locks_of moved) t ((locks_of moved).calls t) (going_outcome moved t p) (locks_of (state_after_going moved t p))) (sym now)

@@ -20,8 +20,6 @@ use Rattle.lot_steps.specs.Steps.{in_once}
 use Rattle.lot_once.specs.OnceSteps.{once_looking}
 use Rattle.lot_once.specs.declared.places.OncePlace.{OncePlace}
 use Rattle.lot_semaphore.specs.declared.places.SemaphorePlace.{SemaphorePlace}
-use Rattle.lot_semaphore.specs.declared.places.SemaphorePlace.TheVariants as semaphores
-use Rattle.lot_semaphore.specs.declared.acquire.AcquireAt.TheVariants as acquire
 use Rattle.lot_semaphore.specs.SemaphoreSteps.{semaphore_looking}
 use Rattle.lot_rwlock_fair.specs.declared.places.RwLockCallPlace.{RwLockCallPlace}
 use Rattle.lot_rwlock_fair.proofs.FairSleepers.{fair_looks_stand}
@@ -41,6 +39,7 @@ use Rattle.lot_steps.specs.Steps.{act_of, looking, lock_of, profile, in_mutex, i
 use Rattle.lot_mutex.specs.MutexSteps.{mutex_looking}
 use Rattle.lot_machine.specs.Machine.{State, unlocked, place_at, put, can_go, state_after_act, state_after_go}
 use Rattle.lot_machine.proofs.Looks.{IsLook, look}
+use Rattle.lot_acts.specs.Profiles.{Profile}
 use Rattle.abstract_locks.specs.Locks.{Rights, rights_of}
 use Rattle.abstract_locks.specs.Runs.{LocksState, GoesOn, Stays}
 use Rattle.abstract_locks.specs.Sites.{idle}
@@ -107,20 +106,12 @@ calls_on w (Once l at) q is calls = by_place (once_looking at) is
     by_place : (o : Option OncePlace) → in_once l o ≡ Some q → FitsItsLock w q
     by_place None is = absurd cc
     by_place (Some at2) is = let there : Once l at2 ≡ q = cc in subst (FitsItsLock w) there calls
-calls_on w (Semaphore l at) q is calls = by_at at is
+calls_on w (Semaphore l at) q is calls = by_place (semaphore_looking at) is
   where
-    on : (timed again : Bool) → Semaphore l (semaphores.Acquire timed again acquire.Load) ≡ q → FitsItsLock w q
-    on timed again there = subst (FitsItsLock w) there (calls.0, λ late. absurd cc)
-
-    by_seen : (timed again b : Bool) → in_semaphore l (if b then Some (semaphores.Acquire timed again acquire.Load) else None) ≡ Some q → FitsItsLock w q
-    by_seen timed again true is = on timed again cc
-    by_seen timed again false is = absurd cc
-
-    by_at : (at : SemaphorePlace) → in_semaphore l (semaphore_looking at) ≡ Some q → FitsItsLock w q
-    by_at (semaphores.Acquire timed again (acquire.Decide seen)) is = by_seen timed again (seen == 0) is
-    by_at (semaphores.Acquire timed again at) is = absurd cc
-    by_at (semaphores.Try at) is = absurd cc
-    by_at (semaphores.Release at) is = absurd cc
+    by_place : (o : Option SemaphorePlace) → in_semaphore l o ≡ Some q → FitsItsLock w q
+    by_place None is = absurd cc
+    by_place (Some at2) e = let there : Semaphore l at2 ≡ q = cc in
+        subst (FitsItsLock w) there (calls.0, subst (λ (row : Profile). row.late ≡ true → row.timed ≡ true) (sym (ap profile there ∙ (look (Semaphore l at) q is).row)) calls.1)
 calls_on w (RwLock l a c) q is calls = by_place (call_looking a c) refl is
   where
     by_place : (o : Option RwLockCallPlace) → call_looking a c ≡ o → in_rwlock l a o ≡ Some q → FitsItsLock w q

@@ -1,23 +1,10 @@
 -- A try neither sleeps nor enters a section.
-use Rattle.std.proofs.Common.{◌-◌, ℕ, Bool, true, false, None, if◌then◌else◌, ◌&&◌, nat_le, ◌==◌, ◌≡◌, refl}
+use Rattle.std.proofs.Common.{ℕ, Bool, true, false, if◌then◌else◌, ◌&&◌, nat_le, ◌==◌, ◌≡◌, refl}
 use Rattle.lot_calls.specs.declared.calls.Access.{Access}
 use Rattle.lot_calls.specs.declared.calls.Access.TheVariants as access
-use Rattle.lot_calls.specs.declared.calls.OnceCall.TheVariants as once_call
 use Rattle.lot_calls.specs.declared.calls.Patience.{Patience}
 use Rattle.lot_calls.specs.declared.calls.Patience.TheVariants.{Patient, Timed, Try}
 use Rattle.lot_calls.specs.declared.outcomes.Answer.TheVariants as answer
-use Rattle.lot_acts.specs.declared.acts.Act.{Act}
-use Rattle.lot_mutex.specs.declared.places.MutexPlace.{MutexPlace}
-use Rattle.lot_mutex.specs.declared.places.MutexPlace.TheVariants as mutex
-use Rattle.lot_mutex.specs.declared.lock.Entry.TheVariants as entry
-use Rattle.lot_once.specs.declared.places.OncePlace.{OncePlace}
-use Rattle.lot_semaphore.specs.declared.places.SemaphorePlace.{SemaphorePlace}
-use Rattle.lot_semaphore.specs.declared.places.SemaphorePlace.TheVariants as semaphores
-use Rattle.lot_semaphore.specs.declared.tries.TryAt.TheVariants as tries
-use Rattle.lot_semaphore.specs.SemaphoreSteps.{is_free}
-use Rattle.lot_once.specs.declared.places.OncePlace.TheVariants as once
-use Rattle.lot_acts.specs.declared.acts.Act.TheVariants.{Word}
-use Rattle.lot_base.specs.declared.ops.Op.TheVariants.{Exchange, Load}
 use Rattle.lot_rwlock.specs.declared.places.Admission.{Admission}
 use Rattle.lot_rwlock.specs.declared.places.RwLockAt.{RwLockAt}
 use Rattle.lot_rwlock.specs.declared.places.RwLockAt.TheVariants as at
@@ -39,14 +26,11 @@ use Rattle.lot_steps.specs.declared.places.Place.{Place}
 use Rattle.lot_steps.specs.declared.places.Place.TheVariants.{Idle, Mutex, RwLock, Once, Condvar, Semaphore}
 use Rattle.lot_steps.specs.Steps.{act_of}
 use Rattle.lot_machine.specs.Machine.{State, place_at}
-use Rattle.lot_laws.specs.Refinement.{call_at, call_state, keys_entered, runs_closure, sleeps}
+use Rattle.lot_laws.specs.Refinement.{call_at, call_state}
 use Rattle.lot_laws.specs.SitesOf.{FitsItsLock, IsSteady}
 use Rattle.lot_laws.specs.Promises.{IsTry}
+use Rattle.lot_laws.proofs.machine.PlaceTest.{IsFree, mutex_row_facts, once_facts, semaphore_facts}
 use Rattle.lot_laws.proofs.rwlock.Rows.{parks_wait}
-
--- it lets no other thread keep it from going on
-abbrev pub IsFree : Act → Type 0
-IsFree a = (sleeps a ≡ false) × (runs_closure a ≡ false) × (keys_entered a ≡ None)
 
 -- ---------------------------------------------------------------- a reader-writer lock
 
@@ -129,39 +113,12 @@ call_free l a (fair.Handed x how b to) stands rights h = handed_free l a x how b
 
 -- ---------------------------------------------------------------- any place
 
-mutex_free : (l : ℕ) (at : MutexPlace) (rights : ℕ → Rights) → IsTry (call_state (Mutex l at) rights).purpose → IsFree (act_of (Mutex l at))
-mutex_free l mutex.TryLock rights h = (refl, refl, refl)
-mutex_free l (mutex.Lock entry.Lock again to) rights h = absurd cc
-mutex_free l (mutex.Lock entry.LockTimed again to) rights h = absurd cc
-mutex_free l (mutex.Lock entry.Bump again to) rights h = absurd h
-mutex_free l (mutex.HandOff true to) rights h = absurd h
-mutex_free l (mutex.HandOff false to) rights h = absurd h
-mutex_free l at rights h = absurd h
-
-once_free : (l : ℕ) (at : OncePlace) (rights : ℕ → Rights) → IsTry (call_state (Once l at) rights).purpose → IsFree (act_of (Once l at))
-once_free l (once.Look (once_call.CallOnce forced) again to) rights h = absurd h
-once_free l (once.Look (once_call.Wait forced) again to) rights h = absurd h
-once_free l (once.Look once_call.WaitTimed again to) rights h = absurd h
-once_free l (once.Run forced to) rights h = absurd h
-once_free l (once.GiveUp again to) rights h = absurd h
-
-semaphore_free : (l : ℕ) (at : SemaphorePlace) (rights : ℕ → Rights) → IsTry (call_state (Semaphore l at) rights).purpose → IsFree (act_of (Semaphore l at))
-semaphore_free l (semaphores.Acquire true again to) rights h = absurd cc
-semaphore_free l (semaphores.Acquire false again to) rights h = absurd cc
-semaphore_free l (semaphores.Release to) rights h = absurd h
-semaphore_free l (semaphores.Try tries.Load) rights h = (refl, refl, refl)
-semaphore_free l (semaphores.Try (tries.Decide seen)) rights h = either (is_free seen)
-  where
-    either : (b : Bool) → IsFree (if b then Word l (Exchange seen (seen - 2)) else Word l Load)
-    either true = (refl, refl, refl)
-    either false = (refl, refl, refl)
-
 place_free : (w : State) (p : Place) → FitsItsLock w p → (rights : ℕ → Rights) → IsTry (call_state p rights).purpose → IsFree (act_of p)
 place_free w Idle fits rights h = absurd h
-place_free w (Mutex l at) fits rights h = mutex_free l at rights h
+place_free w (Mutex l at) fits rights h = (mutex_row_facts l at).tries refl h
 place_free w (RwLock l a c) fits rights h = call_free l a c fits.1 rights h
-place_free w (Once l at) fits rights h = once_free l at rights h
-place_free w (Semaphore l at) fits rights h = semaphore_free l at rights h
+place_free w (Once l at) fits rights h = (once_facts l at).tries refl h
+place_free w (Semaphore l at) fits rights h = (semaphore_facts l at).tries refl h
 place_free w (Condvar l (condvar.Wait m timed to)) fits rights h = absurd h
 place_free w (Condvar l (condvar.Look all)) fits rights h = absurd h
 place_free w (Condvar l (condvar.Notify all m to)) fits rights h = absurd h

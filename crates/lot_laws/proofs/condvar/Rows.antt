@@ -1,11 +1,7 @@
 -- A place says of its thread at a condition variable: its next act inside, and the mutex that its wait
 -- names. Nothing that befalls the thread changes either.
 use Rattle.std.proofs.Common.{ℕ, Bool, true, false, Option, None, if◌then◌else◌, ◌==◌, ◌≡◌, refl, ◌∙◌, ap}
-use Rattle.lot_semaphore.specs.declared.places.SemaphorePlace.TheVariants as semaphore
-use Rattle.lot_semaphore.specs.declared.release.ReleaseAt.TheVariants as release
-use Rattle.lot_semaphore.specs.declared.acquire.AcquireAt.TheVariants as acquire
 use Rattle.lot_semaphore.specs.declared.places.SemaphorePlace.{SemaphorePlace}
-use Rattle.lot_semaphore.specs.SemaphoreProfiles.{semaphore_profile}
 use Rattle.lot_semaphore.specs.SemaphoreSteps.{semaphore_next}
 use Rattle.lot_base.specs.declared.notes.Note.{Note}
 use Rattle.lot_base.specs.declared.notes.Note.TheVariants as note
@@ -13,7 +9,7 @@ use Rattle.lot_acts.specs.declared.acts.Next.{Next}
 use Rattle.lot_acts.specs.declared.acts.Next.TheVariants as next
 use Rattle.lot_acts.specs.declared.acts.Reply.{Reply}
 use Rattle.lot_acts.specs.declared.acts.Reply.TheVariants.{TakenBy, MovedTo, HandedBy, Woken}
-use Rattle.lot_acts.specs.Profiles.{Profile, blank, bringing_nobody}
+use Rattle.lot_acts.specs.Profiles.{Profile, blank}
 use Rattle.lot_mutex.specs.declared.places.MutexPlace.{MutexPlace}
 use Rattle.lot_mutex.specs.declared.places.MutexPlace.TheVariants as mutex
 use Rattle.lot_mutex.specs.declared.lock.LockAt.{LockAt}
@@ -22,19 +18,10 @@ use Rattle.lot_mutex.specs.declared.unlock.UnlockAt.{UnlockAt}
 use Rattle.lot_mutex.specs.declared.unlock.UnlockAt.TheVariants as unlock
 use Rattle.lot_mutex.specs.declared.hand_off.HandOffAt.{HandOffAt}
 use Rattle.lot_mutex.specs.declared.hand_off.HandOffAt.TheVariants as hand_off
-use Rattle.lot_mutex.specs.MutexProfiles.{mutex_profile}
 use Rattle.lot_mutex.specs.MutexSteps.{in_hand_off, in_lock, in_unlock, mutex_next, next_hand_off, next_lock, next_unlock, still_retries}
 use Rattle.lot_rwlock_fair.specs.declared.places.RwLockCallPlace.{RwLockCallPlace}
-use Rattle.lot_rwlock_fair.specs.declared.places.RwLockCallPlace.TheVariants as places
-use Rattle.lot_rwlock_fair.specs.FairProfiles.{call_profile}
 use Rattle.lot_rwlock_fair.specs.FairSteps.{call_next}
-use Rattle.lot_rwlock.specs.declared.places.Admission.{Admission}
 use Rattle.lot_once.specs.declared.places.OncePlace.{OncePlace}
-use Rattle.lot_once.specs.declared.places.OncePlace.TheVariants as once
-use Rattle.lot_once.specs.declared.give_up.GiveUpAt.TheVariants as give_up
-use Rattle.lot_once.specs.declared.look.LookAt.TheVariants as look
-use Rattle.lot_once.specs.declared.run.RunAt.TheVariants as run
-use Rattle.lot_once.specs.OnceProfiles.{once_profile}
 use Rattle.lot_once.specs.OnceSteps.{once_next}
 use Rattle.lot_condvar.specs.declared.notify.NotifyAt.{NotifyAt}
 use Rattle.lot_condvar.specs.declared.notify.NotifyAt.TheVariants as notify
@@ -46,8 +33,9 @@ use Rattle.lot_condvar.specs.CondvarProfiles.{condvar_profile, condvar_row, mute
 use Rattle.lot_condvar.specs.CondvarSteps.{condvar_next, in_wait, mutex_beside, relocked}
 use Rattle.lot_steps.specs.declared.places.Place.{Place}
 use Rattle.lot_steps.specs.declared.places.Place.TheVariants.{Idle, Mutex, RwLock, Once, Condvar, Semaphore}
-use Rattle.lot_steps.specs.Steps.{condvar_goes, is_lock, mutex_goes, next_place, once_goes, profile_at, rwlock_goes, semaphore_goes}
+use Rattle.lot_steps.specs.Steps.{condvar_goes, is_lock, mutex_goes, profile, next_place, once_goes, profile_at, rwlock_goes, semaphore_goes}
 use Rattle.abstract_locks.specs.Condvars.{Stage}
+use Rattle.lot_laws.proofs.machine.PlaceTest.{IsSilent, call_facts, mutex_row_facts, once_facts, semaphore_facts}
 use Rattle.lot_laws.proofs.promises.RowPromises.{Befalls}
 
 -- ---------------------------------------------------------------- by the place
@@ -61,55 +49,16 @@ names_of (Condvar c at) k = if c == k then (condvar_row at).waits_with else None
 names_of p k = None
 
 -- a call of another lock says nothing of either
-abbrev SaysNothing : Profile → Type 0
-SaysNothing row = (row.stage ≡ None) × (row.names ≡ None)
-
-mutex_says : (at : MutexPlace) → SaysNothing (mutex_profile at)
-mutex_says (mutex.Lock e retries lock.First) = (refl, refl)
-mutex_says (mutex.Lock e retries at) = (refl, refl)
-mutex_says at = (refl, refl)
-
-once_says : (at : OncePlace) → SaysNothing (once_profile at)
-once_says (once.Look c retries look.Load) = (refl, refl)
-once_says (once.Look c retries at) = (refl, refl)
-once_says (once.Run forced (run.Closure poisoned)) = (refl, refl)
-once_says (once.Run forced at) = (refl, refl)
-once_says (once.GiveUp retries give_up.Remove) = (refl, refl)
-once_says (once.GiveUp retries at) = (refl, refl)
-
-semaphore_says : (at : SemaphorePlace) → SaysNothing (semaphore_profile at)
-semaphore_says (semaphore.Acquire timed retries acquire.Load) = (refl, refl)
-semaphore_says (semaphore.Acquire timed retries at) = (refl, refl)
-semaphore_says (semaphore.Try at) = (refl, refl)
-semaphore_says (semaphore.Release release.Add) = (refl, refl)
-semaphore_says (semaphore.Release at) = (refl, refl)
-
-shared_says : (a : Admission) (at : RwLockCallPlace) → SaysNothing (call_profile a at)
-shared_says a (places.Plain p) = (refl, refl)
-shared_says a at = (refl, refl)
+nothing : (row : Profile) → IsSilent row → (b : Bool) → ((if b then row else blank).stage ≡ None) × ((if b then row else blank).names ≡ None)
+nothing row says true = (says.stage, says.names)
+nothing row says false = (refl, refl)
 
 pub row_says : (p : Place) (k : ℕ) → ((profile_at p k).stage ≡ stage_of p k) × ((profile_at p k).names ≡ names_of p k)
 row_says Idle k = (refl, refl)
-row_says (Mutex l at) k = either (l == k)
-  where
-    either : (b : Bool) → SaysNothing (if b then bringing_nobody (mutex_profile at) else blank)
-    either true = mutex_says at
-    either false = (refl, refl)
-row_says (RwLock l a at) k = either (l == k)
-  where
-    either : (b : Bool) → SaysNothing (if b then call_profile a at else blank)
-    either true = shared_says a at
-    either false = (refl, refl)
-row_says (Once l at) k = either (l == k)
-  where
-    either : (b : Bool) → SaysNothing (if b then once_profile at else blank)
-    either true = once_says at
-    either false = (refl, refl)
-row_says (Semaphore l at) k = either (l == k)
-  where
-    either : (b : Bool) → SaysNothing (if b then semaphore_profile at else blank)
-    either true = semaphore_says at
-    either false = (refl, refl)
+row_says (Mutex l at) k = nothing (profile (Mutex l at)) (mutex_row_facts l at).silent (l == k)
+row_says (RwLock l a c) k = nothing (profile (RwLock l a c)) (call_facts l a c).silent (l == k)
+row_says (Once l at) k = nothing (profile (Once l at)) (once_facts l at).silent (l == k)
+row_says (Semaphore l at) k = nothing (profile (Semaphore l at)) (semaphore_facts l at).silent (l == k)
 row_says (Condvar c at) k = either (c == k) (is_lock k (mutex_beside at))
   where
     either : (here there : Bool)

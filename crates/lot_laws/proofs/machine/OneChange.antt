@@ -35,7 +35,8 @@ use Rattle.lot_condvar.specs.declared.places.CondvarPlace.{CondvarPlace}
 use Rattle.lot_steps.specs.declared.places.Place.TheVariants.{Condvar}
 use Rattle.lot_base.specs.declared.requeues.Requeue.{Requeue}
 use Rattle.lot_laws.proofs.machine.Parts.{IsOf, IsOfTwo, IsSingle, calls_none, fits_two, of_own, single_or_two}
-use Rattle.lot_laws.proofs.promises.LineActs.{IsLineAct, line_act, holds_line, removed_at}
+use Rattle.lot_laws.proofs.promises.LineActs.{line_act, holds_line, removed_at}
+use Rattle.lot_laws.proofs.machine.PlaceTest.{IsLineAct}
 use Rattle.lot_base.specs.declared.wants.Want.{Want}
 use Rattle.lot_base.specs.declared.wants.Waiter.{Waiter}
 use Rattle.lot_base.specs.Picks.{without_lock_picked}

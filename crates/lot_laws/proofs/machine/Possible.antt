@@ -57,7 +57,8 @@ use Rattle.lot_laws.proofs.machine.Parts.{IsOf, of_own, IsOfTwo, IsSingle, fits_
 use Rattle.lot_laws.proofs.condvar.Late.{IsLate, condvar_acts, two_late, two_may_late}
 use Rattle.lot_laws.proofs.condvar.Sections.{IsActOfTwo, IsItsKey, condvar_lines, holds_key, inside_its}
 use Rattle.lot_condvar.specs.declared.places.CondvarPlace.TheVariants.{Wait, Look, Notify}
-use Rattle.lot_laws.proofs.promises.LineActs.{IsOfLine, IsLineAct, line_act, holds_line, key_there, late_line, calls_there}
+use Rattle.lot_laws.proofs.promises.LineActs.{line_act, holds_line, key_there, late_line, calls_there}
+use Rattle.lot_laws.proofs.machine.PlaceTest.{IsOfLine, IsLineAct}
 use Rattle.lot_laws.proofs.mutex.Kept.{none_is}
 use Rattle.lot_machine.specs.Machine.{runs_closure}
 use Rattle.lot_laws.proofs.machine.AtPlaces.{queued_by}

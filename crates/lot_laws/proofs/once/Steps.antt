@@ -53,7 +53,8 @@ use Rattle.lot_laws.specs.Stations.{station}
 use Rattle.lot_laws.proofs.machine.AtPlaces.{in_no_hand}
 use Rattle.lot_laws.proofs.calls.Events.{GoesAs, Happens, LeadsTo, OthersFollow, goes_by, goes_event, happens, others_follow}
 use Rattle.lot_laws.proofs.once.Kept.{GoesFrom, goes_once}
-use Rattle.lot_laws.proofs.promises.LineActs.{once_lines, takes_here}
+use Rattle.lot_laws.proofs.promises.LineActs.{takes_here}
+use Rattle.lot_laws.proofs.machine.PlaceTest.{once_facts}
 use Rattle.lot_laws.proofs.calls.OtherCalls.{WakesOwn, hands_nothing, wakes_own}
 use Rattle.lot_laws.proofs.promises.PlacePromises.{station_own}
 use Rattle.lot_laws.proofs.sites.SitesKept.{go_by}
@@ -142,7 +143,7 @@ module _ (w : State) (t l : ℕ) (at : OncePlace) (steady : IsSteady w) (shape :
 
   others : OthersFollow w behind t (event_by l case)
   others = others_follow w behind t l case happened (hands_nothing w behind t l case happened (once_profile at).carries (once_act l at) case kept.others)
-      (wakes_own w t l steady (rw is refl) (next_place (Once l at) told) (λ e. let both : locks.Condvar ≡ locks.Once = sym e ∙ sort_is w t l at steady shape there lt is in cc) (Once l at) (once_act l at) (takes_here l (station (Once l at)) (once_act l at) (once_lines l at)) case (subst (λ h. WakesOwn h (once_act l at) case) (sym carries) kept.others))
+      (wakes_own w t l steady (rw is refl) (next_place (Once l at) told) (λ e. let both : locks.Condvar ≡ locks.Once = sym e ∙ sort_is w t l at steady shape there lt is in cc) (Once l at) (once_act l at) (takes_here l (station (Once l at)) (once_act l at) (once_facts l at).line) case (subst (λ h. WakesOwn h (once_act l at) case) (sym carries) kept.others))
 
   -- where it is then
   waits : (q : OncePlace) → place_at behind t ≡ Once l q → IsWaiting (once_profile q) → 1 ≤ standing t (lock_state behind l)

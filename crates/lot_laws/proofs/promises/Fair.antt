@@ -55,7 +55,7 @@ use Rattle.lot_laws.proofs.promises.PlacePromises.{row_promises}
 use Rattle.lot_laws.proofs.hands.CountsPut.{looking_counted}
 use Rattle.lot_rwlock.specs.declared.places.Admission.{Admission}
 use Rattle.lot_rwlock_fair.specs.declared.places.RwLockCallPlace.{RwLockCallPlace}
-use Rattle.lot_laws.proofs.promises.ExclusiveOwners.{owner_after, exclusive-owners, by_code}
+use Rattle.lot_laws.proofs.promises.ExclusiveOwners.{mutex_owner_after, mutex_is, by_code}
 use Rattle.lot_laws.proofs.calls.EachLock.{moves_no_owner, moves_no_readers, moves_takes, turned_so}
 use Rattle.lot_laws.proofs.machine.Parts.{IsSingle, own_stance, aparts, single_or_two}
 use Rattle.lot_laws.proofs.hands.Handed.{successor_one, of_carries}
@@ -194,9 +194,9 @@ ComesTo w t l v = ComesFrom (lock_state w l) (word_at w l) t l v
 
 module _ (w : State) (t l : ℕ) (shape : IsShaped w) (steady : IsSteady w) (own : owner_at w l ≡ Some t)
     (of_mutex : is_mutex (kind_at w l) ≡ true) where
-  operated_owner : (p : Place) (f : Op) → l < length w.locks
-      → owner_at (state_after_operation w t p l f) l ≡ owner_after p t (word_at w l) (Some t)
-  operated_owner p f lt = ap (λ x. x.owners.exclusive) (get_or-set_same w.locks l _ (unlocked kind.TheVariants.Mutex) lt) ∙ exclusive-owners p t (word_at w l) (owners_at w l) ∙ ap (owner_after p t (word_at w l)) own
+  operated_owner : (at : MutexPlace) (f : Op) → l < length w.locks
+      → owner_at (state_after_operation w t (Mutex l at) l f) l ≡ mutex_owner_after at t (word_at w l) (Some t)
+  operated_owner at f lt = ap (λ x. x.owners.exclusive) (get_or-set_same w.locks l _ (unlocked kind.TheVariants.Mutex) lt) ∙ mutex_is at t (word_at w l) (owners_at w l) ∙ ap (mutex_owner_after at t (word_at w l)) own
 
   still_own : (b : Bool) → (if b then Some t else Some t) ≡ Some t
   still_own true = refl
@@ -207,8 +207,8 @@ module _ (w : State) (t l : ℕ) (shape : IsShaped w) (steady : IsSteady w) (own
     decided_keeps : (retries : Bool) (s : ℕ) (a b : Bool)
         → ComesTo w t l
         (state_after_act w t (Mutex l (Lock entries.Bump retries (lock.Decide s))) (if not a then act.TheVariants.Word l (op.TheVariants.Exchange s (s + 1)) else if b then act.TheVariants.Word l (op.TheVariants.Exchange 1 3) else act.TheVariants.Enter (One (2 * l))))
-    decided_keeps retries s false b = inl (operated_owner (Mutex l (Lock entries.Bump retries (lock.Decide s))) (op.TheVariants.Exchange s (s + 1)) lt ∙ still_own ((word_at w l == s) && not (is_locked (word_at w l))))
-    decided_keeps retries s true true = inl (operated_owner (Mutex l (Lock entries.Bump retries (lock.Decide s))) (op.TheVariants.Exchange 1 3) lt ∙ still_own ((word_at w l == s) && not (is_locked (word_at w l))))
+    decided_keeps retries s false b = inl (operated_owner (Lock entries.Bump retries (lock.Decide s)) (op.TheVariants.Exchange s (s + 1)) lt ∙ still_own ((word_at w l == s) && not (is_locked (word_at w l))))
+    decided_keeps retries s true true = inl (operated_owner (Lock entries.Bump retries (lock.Decide s)) (op.TheVariants.Exchange 1 3) lt ∙ still_own ((word_at w l == s) && not (is_locked (word_at w l))))
     decided_keeps retries s true false = inl own
 
     parked_keeps : (b : Bool) → ComesTo w t l (if b then record w { queues = queues_with_last w.queues (2 * l) t Exclusive } else w)
@@ -217,8 +217,8 @@ module _ (w : State) (t l : ℕ) (shape : IsShaped w) (steady : IsSteady w) (own
 
     lock_keeps : (retries : Bool) (a : LockAt)
         → ComesTo w t l (state_after_act w t (Mutex l (Lock entries.Bump retries a)) (lock_act l a))
-    lock_keeps retries lock.First = inl (operated_owner (Mutex l (Lock entries.Bump retries lock.First)) (op.TheVariants.Exchange 0 1) lt ∙ still_own (word_at w l == 0))
-    lock_keeps retries lock.Load = inl (operated_owner (Mutex l (Lock entries.Bump retries lock.Load)) op.TheVariants.Load lt)
+    lock_keeps retries lock.First = inl (operated_owner (Lock entries.Bump retries lock.First) (op.TheVariants.Exchange 0 1) lt ∙ still_own (word_at w l == 0))
+    lock_keeps retries lock.Load = inl (operated_owner (Lock entries.Bump retries lock.Load) op.TheVariants.Load lt)
     lock_keeps retries (lock.Decide s) = decided_keeps retries s (is_locked s) (s == 1)
     lock_keeps retries lock.Check = parked_keeps (word_at w l == 3)
     lock_keeps retries (lock.Leave parked) = inl own
@@ -227,7 +227,7 @@ module _ (w : State) (t l : ℕ) (shape : IsShaped w) (steady : IsSteady w) (own
     lock_keeps retries (lock.Handed by) = inl own
     lock_keeps retries lock.Accept = inl own
     lock_keeps retries lock.Remove = inl own
-    lock_keeps retries lock.Clear = inl (operated_owner (Mutex l (Lock entries.Bump retries lock.Clear)) (op.TheVariants.And NOT_PARKED) lt)
+    lock_keeps retries lock.Clear = inl (operated_owner (Lock entries.Bump retries lock.Clear) (op.TheVariants.And NOT_PARKED) lt)
     lock_keeps retries lock.GiveUp = inl own
 
     carries_nobody : (at : MutexPlace) → place_at w t ≡ Mutex l at → ((mutex_station at).carries ≡ Some false → ⊥)
@@ -236,7 +236,7 @@ module _ (w : State) (t l : ℕ) (shape : IsShaped w) (steady : IsSteady w) (own
 
     unlock_fair_gives : place_at w t ≡ Mutex l UnlockFair
         → ComesTo w t l (state_after_operation w t (Mutex l UnlockFair) l (op.TheVariants.Exchange 1 0))
-    unlock_fair_gives is = either (word_at w l == 1) refl (operated_owner (Mutex l UnlockFair) (op.TheVariants.Exchange 1 0) lt)
+    unlock_fair_gives is = either (word_at w l == 1) refl (operated_owner UnlockFair (op.TheVariants.Exchange 1 0) lt)
       where
         either : (b : Bool) → (word_at w l == 1) ≡ b
             → owner_at (state_after_operation w t (Mutex l UnlockFair) l (op.TheVariants.Exchange 1 0)) l
@@ -254,7 +254,7 @@ module _ (w : State) (t l : ℕ) (shape : IsShaped w) (steady : IsSteady w) (own
     hand_off_gives bumps hand_off.Enter is = inl own
     hand_off_gives bumps hand_off.Take is = taken_gives bumps (first_of (queue_at w (2 * l)))
     hand_off_gives bumps (hand_off.Store false none_left) is = inr (inr (
-      operated_owner (Mutex l (HandOff bumps (hand_off.Store false none_left))) (op.TheVariants.Store 0) lt,
+      operated_owner (HandOff bumps (hand_off.Store false none_left)) (op.TheVariants.Store 0) lt,
       carries_nobody (HandOff bumps (hand_off.Store false none_left)) is (λ g. absurd cc),
       inr ((steady.sites.site l).emptied t Main (ap (λ d. d.empty) (own_doing l (place_at w t) _ is))).1,
     ))
@@ -297,7 +297,7 @@ module _ (w : State) (t l : ℕ) (shape : IsShaped w) (steady : IsSteady w) (own
   go_gives (Mutex k TryLock) is fits h = absurd h
   go_gives (Mutex k (Unlock a)) is fits h = absurd (let e : false ≡ true = h.1 in cc)
   go_gives (Mutex k UnlockFair) is fits h = rw h.0 (unlock_fair_gives (here k h.0 fits.0) (is ∙ ap (λ n. Mutex n UnlockFair) h.0))
-  go_gives (Mutex k Bump) is fits h = rw h (inl (operated_owner (Mutex l Bump) op.TheVariants.Load (here k h fits.0)))
+  go_gives (Mutex k Bump) is fits h = rw h (inl (operated_owner Bump op.TheVariants.Load (here k h fits.0)))
   go_gives (Mutex k (HandOff true a)) is fits h = rw h (hand_off_gives (here k h fits.0) true a (is ∙ ap (λ n. Mutex n (HandOff true a)) h))
   go_gives (Mutex k (HandOff false a)) is fits h = rw h.0 (hand_off_gives (here k h.0 fits.0) false a (is ∙ ap (λ n. Mutex n (HandOff false a)) h.0))
 

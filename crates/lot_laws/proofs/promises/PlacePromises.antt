@@ -31,7 +31,8 @@ use Rattle.lot_laws.proofs.machine.Parts.{single_or_two}
 use Rattle.lot_laws.proofs.machine.Parts.{same, differ, taken_out, calls_none, inside_is, IsSingle, single_station, single_doing, single_taken, single_owes}
 use Rattle.lot_laws.proofs.mutex.Words.{queued_times}
 use Rattle.lot_laws.proofs.sites.StandsMoved.{mutex_rules}
-use Rattle.lot_laws.proofs.promises.LineActs.{IsOfLine, IsLineAct, line_act}
+use Rattle.lot_laws.proofs.promises.LineActs.{line_act}
+use Rattle.lot_laws.proofs.machine.PlaceTest.{IsOfLine, IsLineAct}
 use Rattle.lot_mutex.proofs.MutexRowCheck.{mutex_promises}
 use Rattle.lot_laws.proofs.promises.RowPromises.{CallsOneLock, LetsIn, LetsInAt, IsWaiting, calls_one as purpose_of_one, taken_of, RowPromises}
 use Rattle.lot_laws.proofs.calls.Events.{rights}

@@ -43,7 +43,8 @@ use Rattle.lot_laws.proofs.hands.HandsOn.{g, hands_fails, hands_tell, whom}
 use Rattle.lot_laws.proofs.hands.HandsOnEvents.{hands_happen, hands_others}
 use Rattle.abstract_locks.specs.Sites.{has_readers}
 use Rattle.lot_laws.proofs.rwlock.Kept.{admits}
-use Rattle.lot_laws.proofs.promises.LineActs.{TakesHere, call_lines, takes_here}
+use Rattle.lot_laws.proofs.promises.LineActs.{TakesHere, takes_here}
+use Rattle.lot_laws.proofs.machine.PlaceTest.{call_facts}
 use Rattle.lot_laws.proofs.calls.OtherCalls.{Stay, IsCalm, WakesOwn, calm, hands_nothing, lonely, no_hand_off, wakes_own}
 use Rattle.lot_laws.proofs.promises.PlacePromises.{station_own}
 use Rattle.lot_laws.proofs.rwlock.Kept.{GoesFrom, goes_unhanded, stands}
@@ -187,7 +188,7 @@ module _ (w : State) (t l : ℕ) (a : Admission) (c : RwLockCallPlace) (steady :
       may = stands w t l a c steady shape there lt is
 
       alone : ((k : ℕ) (op : Op) → call_act l a c ≢ act.HandOver k op) → GoesOnBy w t l a c (call_act l a c)
-      alone plain = by_own (call_act l a c) (takes_here l (station (RwLock l a c)) (call_act l a c) (call_lines l a c)) (goes_unhanded w t l a c steady shape there lt is plain can)
+      alone plain = by_own (call_act l a c) (takes_here l (station (RwLock l a c)) (call_act l a c) (call_facts l a c).line) (goes_unhanded w t l a c steady shape there lt is plain can)
 
       by_act : (y : Act) → call_act l a c ≡ y → GoesOnBy w t l a c (call_act l a c)
       by_act (act.HandOver k op) e =

@@ -39,7 +39,8 @@ use Rattle.lot_laws.proofs.machine.AtPlaces.{in_no_hand}
 use Rattle.lot_laws.proofs.calls.Events.{GoesAs, Happens, LeadsTo, OthersFollow, RunsNothing, begins_nothing, goes_by, happens, others_follow, runs_nothing}
 use Rattle.lot_laws.proofs.calls.Closures.{closure_told}
 use Rattle.lot_laws.proofs.machine.Parts.{IsSingle}
-use Rattle.lot_laws.proofs.promises.LineActs.{semaphore_lines, takes_here}
+use Rattle.lot_laws.proofs.promises.LineActs.{takes_here}
+use Rattle.lot_laws.proofs.machine.PlaceTest.{semaphore_facts}
 use Rattle.lot_laws.proofs.calls.OtherCalls.{WakesOwn, hands_nothing, wakes_own}
 use Rattle.lot_laws.proofs.promises.PlacePromises.{station_own, waiting_stands}
 use Rattle.lot_laws.proofs.promises.RowPromises.{IsWaiting}
@@ -92,7 +93,7 @@ module _ (w : State) (t l : ℕ) (at : SemaphorePlace) (steady : IsSteady w) (sh
 
   others : OthersFollow w behind t (event_by l case)
   others = others_follow w behind t l case happened (hands_nothing w behind t l case happened (semaphore_profile at).carries (semaphore_act l at) case kept.others)
-      (wakes_own w t l steady (rw is refl) (next_place (Semaphore l at) told) (λ e. let both : locks.Condvar ≡ locks.Semaphore = sym e ∙ sort in cc) (Semaphore l at) (semaphore_act l at) (takes_here l (station (Semaphore l at)) (semaphore_act l at) (semaphore_lines l at)) case (subst (λ h. WakesOwn h (semaphore_act l at) case) (sym carries) kept.others))
+      (wakes_own w t l steady (rw is refl) (next_place (Semaphore l at) told) (λ e. let both : locks.Condvar ≡ locks.Semaphore = sym e ∙ sort in cc) (Semaphore l at) (semaphore_act l at) (takes_here l (station (Semaphore l at)) (semaphore_act l at) (semaphore_facts l at).line) case (subst (λ h. WakesOwn h (semaphore_act l at) case) (sym carries) kept.others))
 
   -- where it is then
   waits : (q : SemaphorePlace) → place_at behind t ≡ Semaphore l q → IsWaiting (semaphore_profile q) → 1 ≤ standing t (lock_state behind l)
