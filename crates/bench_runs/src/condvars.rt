@@ -1,5 +1,6 @@
 //! The operations on condition variables.
-ghost use Rattle.std.specs.Prelude.{◌≡◌, All, IfOk};
+ghost use Rattle.std.specs.Prelude.{◌≡◌, ◌≤◌, All, IfOk};
+ghost use Rattle.bench_runs.specs.declared.condvars.Desk.{Desk};
 ghost use Rattle.std.specs.Arc.{arc_value};
 ghost use Rattle.crossbeam_utils.specs.Padded.{padded_value};
 ghost use Rattle.parking_lot.specs.CondvarUsers.{lot_of as condvar_lot};
@@ -309,7 +310,9 @@ const PAIRS: usize = 32;
 pub(crate) const DESKS: usize = PAIRS * DESK;
 
 // How many pairs the threads of a plan make, where the last thread may be alone.
-fn pairs_of(plan: Plan) -> u64 {
+fn pairs_of(plan: Plan) -> u64
+    ensures { 1 ≤ result }
+{
     (plan.threads as u64).div_ceil(2).max(1)
 }
 
@@ -330,7 +333,7 @@ pub(crate) fn desks_of(
     requires { IsTokenOf (arc_value lot.now) token.old }
     ensures token { IsTokenOf (arc_value lot.now) token.new }
     ensures made { IfOk result
-        (λ desks. All (λ padded. condvar_lot (padded_value padded).filled ≡ arc_value lot.now) desks.items) }
+        (λ desks. All (λ padded. condvar_lot (padded_value {T = Desk} padded).filled ≡ arc_value lot.now) desks.items) }
 {
     let mut desks = Vec::new(alloc);
     for pair in 0..PAIRS {
