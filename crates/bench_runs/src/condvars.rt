@@ -1,14 +1,11 @@
 //! The operations on condition variables.
 ghost use Rattle.std.specs.Prelude.{◌≡◌, ◌≤◌, All, IfOk};
-ghost use Rattle.bench_runs.specs.declared.condvars.Desk.{Desk};
 ghost use Rattle.std.specs.Arc.{arc_value};
-ghost use Rattle.crossbeam_utils.specs.Padded.{padded_value};
 ghost use Rattle.parking_lot.specs.CondvarUsers.{lot_of as condvar_lot};
 ghost use Rattle.parking_lot.specs.Users.{IsTokenOf, lock_of, lot_of};
 
 use crate::made::{both, unless_refused};
 use crate::plans::Plan;
-use crossbeam_utils::CachePadded;
 use parking_lot::{Condvar, Fault, Mutex, MutexGuard, ParkingLot, Token};
 use std::alloc::Global;
 use std::sync::{Arc, Wait};
@@ -108,6 +105,8 @@ pub(crate) struct Desk {
     tally: Mutex<Tally>,
     pub(crate) filled: Condvar,
     emptied: Condvar,
+    // Keeps its neighbours in a row of desks off its cache lines.
+    _apart: [u64; 16],
     ghost together: { (condvar_lot filled ≡ lot_of tally) × (condvar_lot emptied ≡ lot_of tally) },
 }
 
@@ -138,6 +137,7 @@ pub(crate) fn desk_for(
         tally,
         filled,
         emptied,
+        _apart: [0; 16],
     })
 }
 
@@ -329,16 +329,16 @@ pub(crate) fn desks_of(
     lot: &Arc<ParkingLot>,
     token: &mut Token,
     plan: Plan,
-) -> Result<Vec<CachePadded<Desk>>, Fault>
+) -> Result<Vec<Desk>, Fault>
     requires { IsTokenOf (arc_value lot.now) token.old }
     ensures token { IsTokenOf (arc_value lot.now) token.new }
     ensures made { IfOk result
-        (λ desks. All (λ padded. condvar_lot (padded_value {T = Desk} padded).filled ≡ arc_value lot.now) desks.items) }
+        (λ desks. All (λ desk. condvar_lot desk.filled ≡ arc_value lot.now) desks.items) }
 {
     let mut desks = Vec::new(alloc);
-    for pair in 0..PAIRS {
-        let desk = desk_for(lot, token, share_of(plan, pair))?;
-        if desks.push(CachePadded::new(desk)).is_err() {
+    for _ in 0..PAIRS {
+        let desk = desk_for(lot, token, share_of(plan, desks.len()))?;
+        if desks.push(desk).is_err() {
             return Err(Fault::NoMemory);
         }
     }

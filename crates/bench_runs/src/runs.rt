@@ -7,7 +7,6 @@ ghost use Rattle.std.proofs.Props.{props};
 ghost use Rattle.std.specs.Arc.{arc_value};
 ghost use Rattle.crossbeam_utils.specs.Padded.{padded_value};
 ghost use Rattle.parking_lot.specs.CondvarUsers.{lot_of as condvar_lot};
-ghost use Rattle.bench_runs.specs.declared.condvars.Desk.{Desk};
 ghost use Rattle.parking_lot.specs.RwLockUsers.{lot_of as rwlot_of};
 ghost use Rattle.parking_lot.specs.OnceUsers.{lot_of as once_lot};
 ghost use Rattle.parking_lot.specs.SemaphoreUsers.{lot_of as semaphore_lot};
@@ -30,7 +29,6 @@ use crate::rwlocks::{
 };
 use crate::semaphores::{SEMAPHORES, Semaphores, hold_permit, semaphores_of};
 use crate::shares::Shares;
-use crossbeam_utils::CachePadded;
 use parking_lot::lock_api::RawMutex as RawLock;
 use parking_lot::{Fault, Once, ParkingLot, Ticket, Token};
 use std::alloc::Global;
@@ -61,12 +59,12 @@ struct Bench {
     done: Box<Once>,
     semaphores: Box<Semaphores>,
     desk: Box<Desk>,
-    desks: Vec<CachePadded<Desk>>,
+    desks: Vec<Desk>,
     ghost together: { (rwlot_of rwlocks.value.raw ≡ lot_of mutexes.value.raw)
         × (once_lot done.value ≡ lot_of mutexes.value.raw)
         × (semaphore_lot semaphores.value.one ≡ lot_of mutexes.value.raw)
         × (condvar_lot desk.value.filled ≡ lot_of mutexes.value.raw)
-        × All (λ padded. condvar_lot (padded_value {T = Desk} padded).filled ≡ lot_of mutexes.value.raw) desks.items
+        × All (λ one. condvar_lot one.filled ≡ lot_of mutexes.value.raw) desks.items
         × All (λ padded. lot_of (padded_value padded) ≡ lot_of mutexes.value.raw) rows.value.plain.items
         × All (λ padded. lot_of (padded_value padded) ≡ lot_of mutexes.value.raw) rows.value.fair.items } by { Prim.hlevel props },
 }
