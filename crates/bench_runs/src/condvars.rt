@@ -1,13 +1,11 @@
 //! The operations on condition variables.
-ghost use Rattle.std.specs.Prelude.{◌≡◌, ◌≤◌, All, IfOk};
+ghost use Rattle.std.specs.Prelude.{◌≡◌, IfOk};
 ghost use Rattle.std.specs.Arc.{arc_value};
 ghost use Rattle.parking_lot.specs.CondvarUsers.{lot_of as condvar_lot};
 ghost use Rattle.parking_lot.specs.Users.{IsTokenOf, lock_of, lot_of};
 
 use crate::made::{both, unless_refused};
-use crate::plans::Plan;
 use parking_lot::{Condvar, Fault, Mutex, MutexGuard, ParkingLot, Token};
-use std::alloc::Global;
 use std::sync::{Arc, Wait};
 
 // How many items a queue holds.
@@ -105,8 +103,6 @@ pub(crate) struct Desk {
     tally: Mutex<Tally>,
     pub(crate) filled: Condvar,
     emptied: Condvar,
-    // Keeps its neighbours in a row of desks off its cache lines.
-    _apart: [u64; 16],
     ghost together: { (condvar_lot filled ≡ lot_of tally) × (condvar_lot emptied ≡ lot_of tally) },
 }
 
@@ -137,7 +133,6 @@ pub(crate) fn desk_for(
         tally,
         filled,
         emptied,
-        _apart: [0; 16],
     })
 }
 
@@ -301,52 +296,4 @@ pub(crate) fn work_at<R: Wait>(
         done = done.wrapping_add(1);
     }
     done
-}
-
-// The most pairs of threads.
-const PAIRS: usize = 32;
-
-/// How many words the desks of all pairs take of their lot.
-pub(crate) const DESKS: usize = PAIRS * DESK;
-
-// How many pairs the threads of a plan make, where the last thread may be alone.
-fn pairs_of(plan: Plan) -> u64
-    ensures { 1 ≤ result }
-{
-    (plan.threads as u64).div_ceil(2).max(1)
-}
-
-// How many operations a pair is to do.
-fn share_of(plan: Plan, pair: usize) -> u64 {
-    let pairs = pairs_of(plan);
-    let more = u64::from((pair as u64) < plan.operations % pairs);
-    (plan.operations / pairs).saturating_add(more)
-}
-
-/// A desk for each pair of threads, drawn from the lot.
-pub(crate) fn desks_of(
-    alloc: Global,
-    lot: &Arc<ParkingLot>,
-    token: &mut Token,
-    plan: Plan,
-) -> Result<Vec<Desk>, Fault>
-    requires { IsTokenOf (arc_value lot.now) token.old }
-    ensures token { IsTokenOf (arc_value lot.now) token.new }
-    ensures made { IfOk result
-        (λ desks. All (λ desk. condvar_lot desk.filled ≡ arc_value lot.now) desks.items) }
-{
-    let mut desks = Vec::new(alloc);
-    for _ in 0..PAIRS {
-        let desk = desk_for(lot, token, share_of(plan, desks.len()))?;
-        if desks.push(desk).is_err() {
-            return Err(Fault::NoMemory);
-        }
-    }
-    Ok(desks)
-}
-
-/// The number of the pair of a thread, and how many threads it has: the last thread may be alone.
-pub(crate) fn pair_of(plan: Plan, number: usize) -> (usize, u64) {
-    let alone = number % 2 == 0 && number.saturating_add(1) == plan.threads;
-    (number / 2, if alone { 1 } else { 2 })
 }
