@@ -36,7 +36,7 @@ MODES = MUTEXES + RWLOCKS + ["once"] + SEMAPHORES + CONDVARS
 BESIDE = {"once": ["once", "std_once"]}
 THREADS = [1, 2, 4, 8]
 # Where threads wait for one another: for how many, and one operation for so many of another mode.
-TOGETHER = {"notify_all": [2, 4, 8], "pingpong": [2]: [2, 4, 8], "queue": [2, 4, 8]}
+TOGETHER = {"notify_all": [2, 4, 8], "pingpong": [2], "queue": [2, 4, 8]}
 FEWER = 100
 # A process that keeps a processor busy, until its parent ends.
 LOOP = "import os\nparent = os.getppid()\nwhile os.getppid() == parent:\n    for _ in range(1000000):\n        pass"
