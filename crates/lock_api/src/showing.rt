@@ -4,14 +4,14 @@ ghost use Rattle.lock_raw.specs.Answers.{answer_by};
 ghost use Rattle.lock_raw.specs.Counts.{CountedAgain, SawFull, SawOthers, first_count};
 ghost use Rattle.lock_api.specs.Guards.{lock_of};
 ghost use Rattle.lock_api.specs.Reentrant.{CameIn, StayedOut};
-ghost use Rattle.lot_calls.specs.declared.calls.MutexCall.TheVariants.{TryLock};
-ghost use Rattle.lot_calls.specs.declared.outcomes.Answer.TheVariants as answers;
+ghost use Rattle.spec_locks.specs.declared.calls.MutexCall.TheVariants.{TryLock};
+ghost use Rattle.spec_locks.specs.declared.outcomes.Answer.TheVariants as answers;
 
 use crate::guards::MutexGuard;
 use crate::mutex::Mutex;
 use crate::reentrant::{ReentrantMutex, ReentrantMutexGuard};
 use lock_raw::{GetThreadId, RawMutex, RawMutexCounted};
-use projections::{LockName, Shown};
+use lock_values::{LockName, Shown};
 use std::sync::Wait;
 
 impl<R: RawMutex, T> Mutex<R, T> {

@@ -1,11 +1,11 @@
 //! What an open value shows, and what the lock that is taken keeps for it, as guards see them.
 ghost use Rattle.std.specs.Prelude.{◌≡◌, refl};
 ghost use Rattle.std.specs.Borrow.{Lends, sem};
-ghost use Rattle.value_place.specs.PermitIds.{PermitId};
-ghost use Rattle.value_place.specs.Written.{with_value};
+ghost use Rattle.core_parts.specs.PermitIds.{PermitId};
+ghost use Rattle.core_parts.specs.Written.{with_value};
 
 use std::ops::{Deref, DerefMut};
-use value_place::Open;
+use core_parts::Open;
 
 /// A lock that is taken, and has a permit out.
 pub trait Keeps {

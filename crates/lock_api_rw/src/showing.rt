@@ -5,7 +5,7 @@ ghost use Rattle.lock_api_rw.specs.Guards.{lock_of};
 use crate::guards::RwLockReadGuard;
 use crate::rwlock::RwLock;
 use lock_raw::RawRwLock;
-use projections::{LockName, Shown};
+use lock_values::{LockName, Shown};
 use std::sync::Wait;
 
 impl<R: RawRwLock, T> RwLock<R, T> {

@@ -1,12 +1,12 @@
 //! The value that an open place shows, and the right of its lock that lies there, as guards see them.
 ghost use Rattle.std.specs.Prelude.{◌≡◌, refl};
 ghost use Rattle.std.specs.Borrow.{Lends, sem};
-ghost use Rattle.lot_place.specs.Ownership.{PlaceId};
-ghost use Rattle.lot_place.specs.Written.{with_value};
-ghost use Rattle.lot_words.specs.declared.views.View.{View};
+ghost use Rattle.lock_values.specs.Ownership.{PlaceId};
+ghost use Rattle.lock_values.specs.Written.{with_value};
+ghost use Rattle.core_words.specs.declared.views.View.{View};
 ghost use Rattle.lock_api_rw.specs.Written.{seen_with_value};
 
-use lot_place::{Open, Seen};
+use lock_values::{Open, Seen};
 use std::ops::{Deref, DerefMut};
 
 /// A lock that is held, whose right lies in the place of its value.

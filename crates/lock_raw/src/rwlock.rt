@@ -2,22 +2,22 @@
 ghost use Rattle.std.specs.Prelude.{◌≡◌, ◌≤◌, ℕ, Bool, MatchResult, IfErr, IfNone, IfOk, IfSome};
 ghost use Rattle.std.specs.Arc.{arc_value};
 ghost use Rattle.std.specs.Duration.{as_nanos};
-ghost use Rattle.lot_base.specs.Clocks.{HasElapsed, HasPassed};
-ghost use Rattle.lot_calls.specs.declared.calls.Access.{Access};
-ghost use Rattle.lot_calls.specs.declared.calls.Access.TheVariants as access;
-ghost use Rattle.lot_calls.specs.declared.calls.Downgrade.TheVariants as downgrades;
-ghost use Rattle.lot_calls.specs.declared.calls.Patience.TheVariants.{Patient, Timed, Try};
-ghost use Rattle.lot_calls.specs.declared.calls.RwLockCall.{RwLockCall};
-ghost use Rattle.lot_calls.specs.declared.calls.RwLockCall.TheVariants.{Enter, Release, Downgrade, Upgrade};
-ghost use Rattle.lot_calls.specs.declared.outcomes.Answer.{Answer};
-ghost use Rattle.lot_calls.specs.declared.outcomes.Answer.TheVariants as answers;
-ghost use Rattle.lot_place.specs.Ownership.{PlaceId};
-ghost use Rattle.lot_words.specs.declared.views.View.{View};
+ghost use Rattle.core_base.specs.Clocks.{HasElapsed, HasPassed};
+ghost use Rattle.spec_locks.specs.declared.calls.Access.{Access};
+ghost use Rattle.spec_locks.specs.declared.calls.Access.TheVariants as access;
+ghost use Rattle.spec_locks.specs.declared.calls.Downgrade.TheVariants as downgrades;
+ghost use Rattle.spec_locks.specs.declared.calls.Patience.TheVariants.{Patient, Timed, Try};
+ghost use Rattle.spec_locks.specs.declared.calls.RwLockCall.{RwLockCall};
+ghost use Rattle.spec_locks.specs.declared.calls.RwLockCall.TheVariants.{Enter, Release, Downgrade, Upgrade};
+ghost use Rattle.spec_locks.specs.declared.outcomes.Answer.{Answer};
+ghost use Rattle.spec_locks.specs.declared.outcomes.Answer.TheVariants as answers;
+ghost use Rattle.lock_values.specs.Ownership.{PlaceId};
+ghost use Rattle.core_words.specs.declared.views.View.{View};
 ghost use Rattle.lock_raw.specs.Answers.{IsFull, IsRefusal, TriesOrFull, answer_by, counted_answer, reading_answer, upgrade_answer};
 
-use lot_base::{Clock, Fault};
-use lot_calls::Access;
-use lot_place::{Open, Place, Seen};
+use core_base::{Clock, Fault};
+use spec_locks::Access;
+use lock_values::{Open, Place, Seen};
 use std::sync::{Arc, Wait};
 use std::time::Duration;
 

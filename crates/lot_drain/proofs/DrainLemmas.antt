@@ -1,10 +1,10 @@
 -- The rest of a drain leads where all of it leads.
 use Rattle.std.proofs.Common.{ℕ, zero, suc, Bool, true, false, cond, Some, None, List, ◌≡◌, ◌≢◌, ◌+◌, ◌-◌, ◌<◌, refl, sym, ap, ◌∙◌, arith, add-one}
 use Rattle.std.specs.Prelude.{◌&&◌}
-use Rattle.lot_calls.specs.declared.calls.Step.{Step}
-use Rattle.lot_calls.specs.declared.outcomes.Outcome.{Outcome}
-use Rattle.lot_calls.specs.declared.outcomes.Outcome.TheVariants as outcome
-use Rattle.abstract_locks.specs.Locks.{rights_of}
+use Rattle.spec_locks.specs.declared.calls.Step.{Step}
+use Rattle.spec_locks.specs.declared.outcomes.Outcome.{Outcome}
+use Rattle.spec_locks.specs.declared.outcomes.Outcome.TheVariants as outcome
+use Rattle.spec_locks.specs.Locks.{rights_of}
 use Rattle.lot_machine.specs.Machine.{State, after, go_of, kind_at, place_at, section_at, step_outcome}
 use Rattle.lot_laws.specs.Refinement.{lock_state}
 use Rattle.lot_laws.proofs.alone.Steps.{after_stuck}

@@ -6,11 +6,11 @@ use Rattle.std.proofs.Math.Seq.{drop-nil}
 use Rattle.std.specs.Prelude.{◌&&◌}
 use Rattle.lot_steps.specs.declared.places.Place.{Place}
 use Rattle.lot_steps.specs.declared.places.Place.TheVariants.{Idle, Mutex, RwLock, Once, Semaphore}
-use Rattle.lot_mutex.specs.declared.places.MutexPlace.{MutexPlace}
-use Rattle.lot_once.specs.declared.places.OncePlace.{OncePlace}
-use Rattle.lot_semaphore.specs.declared.places.SemaphorePlace.{SemaphorePlace}
-use Rattle.lot_rwlock.specs.declared.places.Admission.{Admission}
-use Rattle.lot_rwlock_fair.specs.declared.places.RwLockCallPlace.{RwLockCallPlace}
+use Rattle.steps_mutex.specs.declared.places.MutexPlace.{MutexPlace}
+use Rattle.steps_once.specs.declared.places.OncePlace.{OncePlace}
+use Rattle.steps_semaphore.specs.declared.places.SemaphorePlace.{SemaphorePlace}
+use Rattle.steps_rwlock.specs.declared.places.Admission.{Admission}
+use Rattle.steps_rwlock_fair.specs.declared.places.RwLockCallPlace.{RwLockCallPlace}
 use Rattle.lot_machine.specs.declared.debts.Debt.{Debt}
 use Rattle.lot_machine.specs.declared.debts.Link.{Link}
 use Rattle.lot_machine.specs.declared.debts.Tag.{Tag}

@@ -2,7 +2,7 @@
 ghost use Rattle.std.specs.Prelude.{◌≡◌, ◌≤◌, vec_capacity, length, map};
 ghost use Rattle.lot_machine.specs.Machine.{places_told, listed, moved_threads, held, shares_in_hand, sharers, wants_more_in_hand, successor_from, want_of_successor, place_after_telling};
 
-use lot_base::{Requeue, Want};
+use core_base::{Requeue, Want};
 use lot_steps::{Place, Reply};
 
 /// The one of those in a hand that wants more than to share.

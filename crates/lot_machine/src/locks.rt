@@ -1,8 +1,8 @@
 //! The locks of a machine.
 ghost use Rattle.std.specs.Prelude.{◌≡◌, IfOk, map};
 ghost use Rattle.lot_machine.specs.Machine.{unlocked, first_word};
-ghost use Rattle.abstract_locks.specs.Codes.{fills};
-ghost use Rattle.abstract_locks.specs.Purposes.{rules_of};
+ghost use Rattle.spec_locks.specs.Codes.{fills};
+ghost use Rattle.spec_locks.specs.Purposes.{rules_of};
 
 use lot_steps::{Kind, Owners};
 use std::alloc::{AllocError, Global};

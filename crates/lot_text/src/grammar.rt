@@ -5,8 +5,8 @@ ghost use Rattle.lot_text.specs.Grammar.{words_of, number_of, digits_after, kind
 
 use crate::names::Name;
 use crate::words::is_text;
-use lot_calls::kinds::MOST_READERS;
-use lot_calls::{
+use spec_locks::kinds::MOST_READERS;
+use spec_locks::{
     Access, Downgrade, Kind, MutexCall, OnceCall, Patience, RwLockCall, SemaphoreCall,
 };
 

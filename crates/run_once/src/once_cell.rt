@@ -1,8 +1,8 @@
 //! `OnceCell`: a value that the first who asks for it makes.
 ghost use Rattle.std.specs.Prelude.{◌≡◌, ◌⊎◌, ◌∷◌, [], Err, IfErr, IfOk, MatchResult};
 ghost use Rattle.std.specs.Arc.{arc_value};
-ghost use Rattle.lot_words.specs.Draws.{IsDrawn, IsDrawRefused};
-ghost use Rattle.lot_words.specs.declared.words.WordKind.TheVariants as kinds;
+ghost use Rattle.core_words.specs.Draws.{IsDrawn, IsDrawRefused};
+ghost use Rattle.core_words.specs.declared.words.WordKind.TheVariants as kinds;
 ghost use Rattle.parking_lot_core.specs.Tokens.{IsTokenOf, view_of};
 
 use crate::once::{Once, OnceFault};

@@ -1,9 +1,9 @@
 -- The changes of a line, and its counts.
 use Rattle.std.proofs.Common.{ℕ, Bool, true, false, Option, Some, None, cond, if◌then◌else◌, ◌≡◌, ◌+◌, ◌≤◌, List, [], ◌∷◌, ◌==◌, refl, arith, drop}
 use Rattle.std.proofs.lemmas.Bool.Decides.{nat_tests}
-use Rattle.lot_base.specs.declared.wants.Waiter.{Waiter}
-use Rattle.lot_base.specs.Lines.{without, times, first_of}
-use Rattle.abstract_locks.specs.Locks as locks
+use Rattle.core_base.specs.declared.wants.Waiter.{Waiter}
+use Rattle.core_base.specs.Lines.{without, times, first_of}
+use Rattle.spec_locks.specs.Locks as locks
 
 pub without_absent : (t : ℕ) (q : List Waiter) → times t q ≡ 0 → without t q ≡ q
 without_absent t [] h = refl

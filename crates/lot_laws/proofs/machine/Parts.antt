@@ -1,45 +1,45 @@
 -- The state of a world by its parts, as total functions, and what each act does to a lock and to what the threads do about it.
 use Rattle.std.proofs.Common.{ℕ, zero, suc, Bool, true, false, Option, Some, None, if◌then◌else◌, ◌==◌, ◌||◌, ◌≡◌, ◌≢◌, ◌+◌, ◌*◌, ◌≤◌, ◌⊎◌, List, [], ◌∷◌, map, length, get_or, set, inl, inr, refl, sym, ◌∙◌, ap, subst, arith, length-set, get_or-set_same, get_or-set_other, not}
-use Rattle.abstract_locks.specs.Locks.{wants_shared}
+use Rattle.spec_locks.specs.Locks.{wants_shared}
 use Rattle.std.proofs.lemmas.Bool.{cases_eq, cases_lt, eqb-true}
 use Rattle.std.proofs.lemmas.Bool.Decides.{nat_tests}
-use Rattle.lot_base.specs.declared.wants.Waiter.{Waiter}
-use Rattle.lot_base.specs.declared.wants.Want.TheVariants.{Exclusive}
-use Rattle.lot_acts.specs.declared.owners.Owners.{Owners}
-use Rattle.lot_once.specs.declared.places.OncePlace.{OncePlace}
-use Rattle.lot_semaphore.specs.declared.places.SemaphorePlace.{SemaphorePlace}
-use Rattle.lot_semaphore.specs.SemaphoreSteps.{semaphore_next}
-use Rattle.lot_once.specs.OnceSteps.{once_next}
-use Rattle.lot_condvar.specs.declared.places.CondvarPlace.{CondvarPlace}
-use Rattle.lot_condvar.specs.declared.places.CondvarPlace.TheVariants.{Wait, Look, Notify}
-use Rattle.lot_condvar.specs.CondvarSteps.{mutex_beside}
-use Rattle.lot_condvar.specs.CondvarProfiles.{mutex_side}
-use Rattle.lot_calls.specs.declared.kinds.Kind.{Kind}
-use Rattle.lot_calls.specs.declared.kinds.Kind as kind
-use Rattle.lot_calls.specs.Kinds.{is_plain_mutex}
-use Rattle.abstract_locks.specs.Purposes.{rules_of}
+use Rattle.core_base.specs.declared.wants.Waiter.{Waiter}
+use Rattle.core_base.specs.declared.wants.Want.TheVariants.{Exclusive}
+use Rattle.steps_base.specs.declared.owners.Owners.{Owners}
+use Rattle.steps_once.specs.declared.places.OncePlace.{OncePlace}
+use Rattle.steps_semaphore.specs.declared.places.SemaphorePlace.{SemaphorePlace}
+use Rattle.steps_semaphore.specs.SemaphoreSteps.{semaphore_next}
+use Rattle.steps_once.specs.OnceSteps.{once_next}
+use Rattle.steps_condvar.specs.declared.places.CondvarPlace.{CondvarPlace}
+use Rattle.steps_condvar.specs.declared.places.CondvarPlace.TheVariants.{Wait, Look, Notify}
+use Rattle.steps_condvar.specs.CondvarSteps.{mutex_beside}
+use Rattle.steps_condvar.specs.CondvarProfiles.{mutex_side}
+use Rattle.spec_locks.specs.declared.kinds.Kind.{Kind}
+use Rattle.spec_locks.specs.declared.kinds.Kind as kind
+use Rattle.spec_locks.specs.Kinds.{is_plain_mutex}
+use Rattle.spec_locks.specs.Purposes.{rules_of}
 use Rattle.lot_steps.specs.declared.places.Place.{Place}
 use Rattle.lot_steps.specs.declared.places.Place.TheVariants.{Idle, Mutex, RwLock, Once, Condvar, Semaphore}
-use Rattle.lot_mutex.specs.declared.lock.Entry.{Entry}
-use Rattle.lot_mutex.specs.declared.places.MutexPlace.{MutexPlace}
-use Rattle.lot_mutex.specs.declared.places.MutexPlace.TheVariants.{Lock}
-use Rattle.lot_mutex.specs.declared.lock.LockAt.TheVariants as lock
-use Rattle.lot_acts.specs.declared.acts.Reply.{Reply}
-use Rattle.abstract_locks.specs.Codes.{parked_in, aside_in}
-use Rattle.lot_mutex.specs.MutexSteps.{is_parked}
-use Rattle.lot_acts.specs.declared.acts.Next.{Next}
-use Rattle.lot_rwlock_fair.specs.declared.places.RwLockCallPlace.{RwLockCallPlace}
-use Rattle.lot_rwlock_fair.specs.FairSteps.{call_next}
-use Rattle.lot_acts.specs.declared.acts.Next as next
-use Rattle.lot_mutex.specs.MutexSteps.{mutex_next}
-use Rattle.lot_base.specs.declared.wants.Want.{Want}
-use Rattle.lot_acts.specs.Profiles.{Hand, Of, hand_owner, taken_from, Profile, blank}
+use Rattle.steps_mutex.specs.declared.lock.Entry.{Entry}
+use Rattle.steps_mutex.specs.declared.places.MutexPlace.{MutexPlace}
+use Rattle.steps_mutex.specs.declared.places.MutexPlace.TheVariants.{Lock}
+use Rattle.steps_mutex.specs.declared.lock.LockAt.TheVariants as lock
+use Rattle.steps_base.specs.declared.acts.Reply.{Reply}
+use Rattle.spec_locks.specs.Codes.{parked_in, aside_in}
+use Rattle.steps_mutex.specs.MutexSteps.{is_parked}
+use Rattle.steps_base.specs.declared.acts.Next.{Next}
+use Rattle.steps_rwlock_fair.specs.declared.places.RwLockCallPlace.{RwLockCallPlace}
+use Rattle.steps_rwlock_fair.specs.FairSteps.{call_next}
+use Rattle.steps_base.specs.declared.acts.Next as next
+use Rattle.steps_mutex.specs.MutexSteps.{mutex_next}
+use Rattle.core_base.specs.declared.wants.Want.{Want}
+use Rattle.steps_base.specs.Profiles.{Hand, Of, hand_owner, taken_from, Profile, blank}
 use Rattle.lot_steps.specs.Steps.{next_place, taker, mutex_goes, rwlock_goes, once_goes, semaphore_goes, lock_of, profile, wants, is_lock, calls, beside_of, or_else, profile_beside, key_in, late_key, line_owed, retries_on}
-use Rattle.abstract_locks.specs.Locks.{LockState, Taken, Rules, keep_from, putting}
+use Rattle.spec_locks.specs.Locks.{LockState, Taken, Rules, keep_from, putting}
 use Rattle.std.specs.Prelude.{◌&&◌, ◌||◌}
-use Rattle.lot_acts.specs.Owners.{is_thread}
-use Rattle.abstract_locks.specs.Locks as locks
-use Rattle.abstract_locks.specs.Sites.{Doing, Site, Out, idle, leaves, wakened, after_deed}
+use Rattle.steps_base.specs.Owners.{is_thread}
+use Rattle.spec_locks.specs.Locks as locks
+use Rattle.spec_locks.specs.Sites.{Doing, Site, Out, idle, leaves, wakened, after_deed}
 use Rattle.lot_machine.specs.Machine.{State, place_at, kind_at, word_at, owners_at, shares_at, filled_at, queue_at, place_after_telling, held, shares_in_hand, with_share, shares_given, wants_more_in_hand, successor_or, successor_from, put, held_by}
 use Rattle.lot_machine.specs.declared.hands.Successor.{Successor}
 use Rattle.lot_laws.specs.Refinement.{lock_seen, taken_at}

@@ -3,27 +3,27 @@
 use Rattle.std.proofs.Common.{ℕ, Bool, true, false, Option, Some, None, if◌then◌else◌, ◌==◌, ◌||◌, ◌≡◌, ◌*◌, ◌≤◌, ◌<◌, List, [], ◌∷◌, ◌++◌, length, not, refl, sym, ◌∙◌, ap, subst, arith}
 use Rattle.std.specs.Prelude.{◌&&◌, nat_le}
 use Rattle.std.proofs.Math.Bool.{or-false}
-use Rattle.lot_base.specs.declared.ops.Op.{Op}
-use Rattle.lot_base.specs.declared.wants.Waiter.{Waiter}
-use Rattle.lot_base.specs.declared.wants.Want.{Want}
-use Rattle.lot_base.specs.Lines.{times, waiter}
-use Rattle.lot_base.specs.Words.{apply}
-use Rattle.lot_acts.specs.declared.acts.Check.{Check}
-use Rattle.lot_acts.specs.declared.acts.Reply.{Reply}
-use Rattle.lot_acts.specs.declared.acts.Reply.TheVariants.{Value, Parked, Took, Closed}
-use Rattle.lot_acts.specs.declared.acts.Whom.TheVariants as whom
-use Rattle.lot_acts.specs.Acts.{holds}
-use Rattle.lot_acts.specs.Moves.{Move, Hears, StaysPut, inside_of, station_of}
-use Rattle.lot_acts.specs.Profiles.{in_hand}
-use Rattle.lot_acts.specs.Stations.{Station}
-use Rattle.abstract_locks.specs.Onces.{Rest, TakeAll}
-use Rattle.abstract_locks.specs.Locks.{Rules, OfOnce, HasTakenNobody}
-use Rattle.abstract_locks.specs.Sites.{Site, Deed, Main, Case, has_readers}
-use Rattle.abstract_locks.specs.Codes.{aside_in, code, count_in, fills, parked_in}
-use Rattle.abstract_locks.specs.Deeds as laws
+use Rattle.core_base.specs.declared.ops.Op.{Op}
+use Rattle.core_base.specs.declared.wants.Waiter.{Waiter}
+use Rattle.core_base.specs.declared.wants.Want.{Want}
+use Rattle.core_base.specs.Lines.{times, waiter}
+use Rattle.core_base.specs.Words.{apply}
+use Rattle.steps_base.specs.declared.acts.Check.{Check}
+use Rattle.steps_base.specs.declared.acts.Reply.{Reply}
+use Rattle.steps_base.specs.declared.acts.Reply.TheVariants.{Value, Parked, Took, Closed}
+use Rattle.steps_base.specs.declared.acts.Whom.TheVariants as whom
+use Rattle.steps_base.specs.Acts.{holds}
+use Rattle.steps_base.specs.Moves.{Move, Hears, StaysPut, inside_of, station_of}
+use Rattle.steps_base.specs.Profiles.{in_hand}
+use Rattle.steps_base.specs.Stations.{Station}
+use Rattle.spec_locks.specs.Onces.{Rest, TakeAll}
+use Rattle.spec_locks.specs.Locks.{Rules, OfOnce, HasTakenNobody}
+use Rattle.spec_locks.specs.Sites.{Site, Deed, Main, Case, has_readers}
+use Rattle.spec_locks.specs.Codes.{aside_in, code, count_in, fills, parked_in}
+use Rattle.spec_locks.specs.Deeds as laws
 use Rattle.lot_steps.specs.declared.places.Place.{Place}
 use Rattle.lot_steps.specs.Steps.{next_place, profile}
-use Rattle.lot_once.specs.OnceMoves.{Closes, RestsBehind, TakesAll}
+use Rattle.steps_once.specs.OnceMoves.{Closes, RestsBehind, TakesAll}
 use Rattle.lot_machine.specs.Machine.{State, filled_at, place_at, put, queue_at, queues_with_last, state_after_operation, state_after_park, state_after_take, word_at}
 use Rattle.lot_laws.specs.Refinement.{lock_state, taken_at}
 use Rattle.lot_laws.specs.MutexDeeds.{acts}

@@ -1,15 +1,15 @@
 -- How the sections, the lines and the hands of the machine are kept, by the stations of threads. No place is named.
 use Rattle.std.proofs.Common.{ℕ, Bool, true, false, Option, Some, None, if◌then◌else◌, ◌==◌, ◌&&◌, ◌≡◌, ◌≢◌, ◌≤◌, ◌↔◌, ◌⊎◌, List, [], ◌∷◌, ◌++◌, cond, not, inl, inr, refl, sym, ◌∙◌, ap, subst, arith}
 use Rattle.std.proofs.lemmas.Bool.{cases_eq, eqb-true}
-use Rattle.lot_base.specs.declared.wants.Waiter.{Waiter}
-use Rattle.lot_base.specs.Lines.{times, without}
-use Rattle.lot_calls.specs.Kinds.{is_plain_mutex}
+use Rattle.core_base.specs.declared.wants.Waiter.{Waiter}
+use Rattle.core_base.specs.Lines.{times, without}
+use Rattle.spec_locks.specs.Kinds.{is_plain_mutex}
 use Rattle.lot_steps.specs.declared.places.Place.{Place}
 use Rattle.lot_steps.specs.declared.places.Place.TheVariants.{Idle, Mutex, RwLock, Once, Condvar, Semaphore}
-use Rattle.abstract_locks.specs.Locks.{putting}
-use Rattle.abstract_locks.specs.Purposes.{rules_of}
-use Rattle.lot_rwlock.specs.RwLockDeeds.{Admits}
-use Rattle.abstract_locks.specs.Sites.{Line, Main, Second}
+use Rattle.spec_locks.specs.Locks.{putting}
+use Rattle.spec_locks.specs.Purposes.{rules_of}
+use Rattle.steps_rwlock.specs.RwLockDeeds.{Admits}
+use Rattle.spec_locks.specs.Sites.{Line, Main, Second}
 use Rattle.lot_machine.specs.Machine.{State, kind_at}
 use Rattle.lot_laws.specs.SitesOf.{is_mutex}
 use Rattle.lot_laws.specs.Refinement.{taken_at}
