@@ -18,7 +18,7 @@ ghost use Rattle.run_base.specs.Stages.{stage_of};
 ghost use Rattle.run_base.specs.Telling.{owns_of, steps_of};
 ghost use Rattle.run_base.specs.Words.{alone, kind_in, at_in};
 
-use crate::courses::{Course, answer_with, course_of, opening};
+use crate::rwlock_courses::{Course, answer_with, course_of, opening};
 use spec_locks::{Access, Answer, Downgrade, Patience};
 use run_base::driver::{Stop, answer_of, run};
 use run_base::words::Words;

@@ -17,7 +17,7 @@ ghost use Rattle.run_base.specs.RwLockFitting.{Answers, IsBeside, OwnsRight};
 ghost use Rattle.run_base.specs.Stages.{stage_of};
 ghost use Rattle.run_base.specs.Telling.{owns_of, steps_of};
 
-use crate::calls::run_out;
+use crate::rwlock_calls::run_out;
 use spec_locks::{Access, Answer};
 use run_base::driver::NO_LIMIT;
 use steps_rwlock::Admission;

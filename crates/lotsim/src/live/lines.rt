@@ -3,7 +3,7 @@ ghost use Rattle.std.specs.Prelude.{◌≡◌};
 ghost use Rattle.lot_text.specs.Sent.{Puts};
 ghost use Rattle.lotsim.specs.Lines.{met_line, refused_line, status_for, told_lines};
 
-use crate::{DONE, NOT_MET};
+use super::{DONE, NOT_MET};
 use lot_text::Page;
 use std::io::Write;
 
