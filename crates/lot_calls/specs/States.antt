@@ -1,4 +1,4 @@
--- What a `Once` shows of itself.
+-- The state that a `Once` shows of itself.
 use Rattle.std.specs.Prelude.{Bool, true, false}
 use Rattle.lot_calls.specs.declared.outcomes.OnceState.{OnceState}
 use Rattle.lot_calls.specs.declared.outcomes.OnceState.TheVariants as states

@@ -1,4 +1,4 @@
-//! What stands behind the lock of a bucket of a lot's queues.
+//! The content of a bucket of a lot's queues, which stands behind the bucket's lock.
 #![tactic(auto)]
 
 mod pairs;

@@ -1,4 +1,4 @@
--- What views name, added up.
+-- Sums over the things that views name.
 use Rattle.std.specs.Prelude.{ℕ, zero, suc, ◌+◌, ◌++◌, ◌≡◌, List, [], ◌∷◌, cond, ◌==◌}
 use Rattle.lot_base.specs.declared.ops.Op.TheVariants.{Load}
 use Rattle.lot_words.specs.declared.owners.Owner.{Owner}
