@@ -1,4 +1,5 @@
--- What a clock told. `tells` is of the clock: of a time, that it told it.
+-- The times that a clock told. `tells` belongs to the clock, and says of a time that the clock told
+-- it.
 use Rattle.std.specs.Prelude.{ℕ, ◌+◌, ◌≤◌, Option, Some, None}
 use denote.Ref.{Bor}
 

@@ -1,4 +1,4 @@
--- What holds of the queues through each of their calls.
+-- The property of the queues that each of their calls keeps.
 use Rattle.std.specs.Prelude.{ℕ, Bool, Option, ◌<◌, ◌++◌, List, [], ◌∷◌}
 use Rattle.core_base.specs.Lines.{IsSeated, waiter, without, without_first, without_key}
 use Rattle.core_base.specs.Picks.{without_lock_picked}

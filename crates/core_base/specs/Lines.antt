@@ -1,4 +1,4 @@
--- Who waits: one list of all waiters, and the line of each key in it.
+-- The waiters: one list of all of them, and the line of each key in it.
 use Rattle.std.specs.Prelude.{ℕ, List, [], ◌∷◌, Option, Some, None, if◌then◌else◌, ◌==◌, not, ◌+◌, ◌≤◌, ◌≡◌, map, drop, refl}
 use Rattle.std.specs.List.{filter}
 use Rattle.core_base.specs.declared.wants.Waiter.{Waiter}

@@ -1,4 +1,4 @@
--- Who is picked of a line.
+-- The waiters that are picked of a line.
 use Rattle.std.specs.Prelude.{ℕ, Bool, false, List, [], ◌∷◌, Option, Some, if◌then◌else◌, ◌==◌}
 use Rattle.core_base.specs.declared.lock_picker.LockPicker.{LockPicker}
 use Rattle.core_base.specs.declared.lock_picker.LockPicker.TheVariants.{Anyone, Readers, Nobody}

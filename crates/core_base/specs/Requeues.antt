@@ -1,4 +1,4 @@
--- Whom a requeue takes, moves and leaves.
+-- The waiters that a requeue takes, moves and leaves.
 use Rattle.std.specs.Prelude.{ℕ, List, Option, None, ◌++◌, map, take, drop}
 use Rattle.core_base.specs.Lines.{waiter, line, without_first, without_key, first_of}
 use Rattle.core_base.specs.declared.requeues.Requeue.{Requeue}

@@ -1,4 +1,4 @@
--- What one operation leaves of a word.
+-- The value of a word after one operation.
 use Rattle.std.specs.Prelude.{ℕ, if◌then◌else◌, ◌==◌, ◌+◌, ◌-◌, ◌%◌, ◌^◌, bit_and, bit_or}
 use Rattle.core_base.specs.declared.ops.Op.{Op}
 use Rattle.core_base.specs.declared.ops.Op.TheVariants.{Load, Store, Swap, Add, Sub, Or, And, Exchange}

@@ -4,10 +4,10 @@ ghost use Rattle.std.specs.Duration.{as_nanos};
 
 use std::time::Duration;
 
-/// What tells the time to a sleeper with a deadline.
+/// A clock, which tells the time to a sleeper with a deadline.
 pub trait Clock {
-    /// That it told a time. Who knows no more of a clock than that it is one learns this of a look
-    /// at it alone.
+    /// Says that the clock told this time. Code that knows nothing else of a clock learns it only
+    /// by a look at the clock.
     ghost tells: { Self → ℕ → Type 0 };
 
     /// Nanoseconds since some start. It doesn't go back.

@@ -1,4 +1,4 @@
-//! What the contracts of the queues come to.
+//! A consequence of the contracts of the queues.
 ghost use Rattle.std.specs.Prelude.{ℕ, List};
 ghost use Rattle.core_base.specs.Laws.{EachStandsOnce};
 ghost use Rattle.core_base.specs.Lines.{IsSeated};

@@ -1,5 +1,5 @@
-//! What every lock stands on: faults, the operations of a word, the keys of its queues, the queues,
-//! and clocks.
+//! The parts on which every lock stands: faults, the operations of a word, the keys of its queues,
+//! the queues, and clocks.
 #![tactic(auto)]
 
 pub mod clocks;

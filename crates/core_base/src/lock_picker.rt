@@ -1,4 +1,4 @@
-//! Who is picked of a reader-writer lock's main queue.
+//! The picker of a reader-writer lock's main queue.
 ghost use Rattle.std.specs.Prelude.{◌≡◌};
 ghost use Rattle.core_base.specs.Picks.{lock_picker, lock_answer, next_picker};
 
@@ -8,17 +8,17 @@ use crate::wants::Want;
 /// Picks whom a thread wakes that gives up a right to a reader-writer lock.
 #[derive(Clone, Copy)]
 pub enum LockPicker {
-    /// Whoever wants to share, and the first who wants more.
+    /// Every waiter that wants to share, and the first that wants more.
     Anyone { recursive: bool },
-    /// Whoever wants to share.
+    /// Every waiter that wants to share.
     Readers,
     /// Nobody: a writer was picked, and none may pass it.
     Nobody,
 }
 
 impl LockPicker {
-    /// The picker of a thread that keeps a right of its own, or none. Who keeps the upgradable
-    /// right wakes readers alone.
+    /// Makes the picker of a thread that keeps a right of its own, or none. A thread that keeps the
+    /// upgradable or the exclusive right wakes readers alone.
     pub fn new(start: Option<Want>, recursive: bool) -> LockPicker
         ensures { result ≡ lock_picker start recursive }
     {

@@ -1,6 +1,6 @@
 //! How a waiter is woken.
 
-/// What a waiter that was taken from its queue is told.
+/// The wake note of a waiter that was taken from its queue.
 #[derive(Clone, Copy, Debug, PartialEq, Eq)]
 pub enum Note {
     /// It is to try again.

@@ -17,8 +17,8 @@ pub enum Op {
 }
 
 impl Op {
-    /// What the operation leaves of a word. Sums and differences wrap, as those of an atomic word
-    /// do.
+    /// Applies the operation to a word's value, and returns the value after it. Sums and
+    /// differences wrap, as those of an atomic word do.
     #[inline]
     pub fn apply(self, seen: u64) -> u64
         ensures { result ≡ apply self seen }

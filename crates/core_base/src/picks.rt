@@ -1,11 +1,11 @@
-//! Who is picked of a queue.
+//! Pickers, which choose the waiters that are taken of a queue.
 ghost use Rattle.std.specs.Prelude.{◌≡◌};
 ghost use Rattle.core_base.specs.declared.wants.Want.{Want};
 ghost use Rattle.core_base.specs.declared.picks.Pick.{Pick};
 
 use crate::wants::Want;
 
-/// What a picker answers to the want of a waiter.
+/// A picker's answer to the want of a waiter.
 #[derive(Clone, Copy)]
 pub enum Pick {
     /// The waiter is taken.
@@ -19,10 +19,10 @@ pub enum Pick {
 /// Picks who is taken of a line. It is asked for each want from the front, and may remember what it
 /// answered.
 pub trait Picker {
-    /// What it answers to a want.
+    /// The answer to a want.
     ghost answer: { Self → Want → Pick };
 
-    /// What it is from then on.
+    /// The picker after it answered this want.
     ghost next: { Self → Want → Self };
 
     fn pick(&mut self, want: Want) -> Pick

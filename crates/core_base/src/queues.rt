@@ -17,13 +17,13 @@ use std::alloc::Global;
 /// A caller sees no more of the list than the line of each key, first in, first out. No call but
 /// `with_capacity` takes memory.
 pub trait Queues {
-    /// Who waits.
+    /// The list of all waiters.
     ghost waiting: { Self → List Waiter };
 
     /// Threads below this number may be appended.
     ghost capacity: { Self → ℕ };
 
-    /// Who stands under a key from a place of the queues on.
+    /// The waiters under a key, from a place of the queues on.
     ghost rest: { Self → ℕ → ℕ → List Waiter };
 
     /// Nobody waits, and there is room for this many threads.

@@ -1,8 +1,8 @@
-//! Who waits, and for what.
+//! Waiters, and their wants.
 
 use crate::keys::Key;
 
-/// What a waiter waits for.
+/// The right or the event for which a waiter waits.
 #[derive(Clone, Copy, Debug, PartialEq, Eq)]
 pub enum Want {
     Exclusive,

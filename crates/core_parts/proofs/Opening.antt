@@ -1,4 +1,5 @@
--- Who has the permit takes the borrow of the value, and lays it back for the permit. Assumes `Logic`.
+-- A thread that has the permit takes the borrow of the value, and lays it back for the permit.
+-- Assumes `Logic`.
 use mathlib.Core.Path.{◌≡◌, refl}
 use mathlib.Core.Bool.{Bool, true, false}
 use mathlib.Core.List.{[], ◌∷◌}

@@ -1,6 +1,6 @@
--- What a `Place` shares, and what an `Open` owns. Shared for α, an invariant holds the borrow of
--- the value and the token δ, or else the permit. Who has the permit lays it there, and has the
--- other two until it is taken back.
+-- The share of a `Place`, and the ownership of an `Open`. Shared for α, an invariant holds the
+-- borrow of the value and the token δ, or else the permit. A thread that has the permit lays it
+-- there, and has the other two until it is taken back.
 use Rattle.std.specs.Prelude.{ℕ, ◌+◌, Bool, true, false}
 use base.Fraction.{full_share}
 use base.Fml.{Lft, GName, Fml, ffalse, fsep, fex, fobs, fbor}

@@ -45,8 +45,8 @@ abbrev pub AllTagged : {K : Type 0} → ℕ → ℕ → List (View K) → Type 0
 AllTagged {K} i tag views = (seat : ℕ) (v : View K) → get_elem? views seat ≡ some v
     → 0 < times i v.owns → v.tag ≡ tag
 
--- where nobody is inside a place, what is there fits the shares, which have its tag. Who is inside
--- knows their number and their tag
+-- where nobody is inside a place, what is there fits the shares, which have its tag. A thread that
+-- is inside knows their number and their tag
 pub record Shares {T K : Type 0} (fits : ℕ → T → ℕ → Type 0) (tag : T → ℕ)
     (s : State (Option T) (View K)) : Type 0 where
   pub slots : length s.words ≡ length s.homes

@@ -13,8 +13,9 @@ pub trait Keyed<K> {
     ghost fits: { K → Self → Type 0 };
 }
 
-// What a word says: the value is at home, or it is and was marked as it was given back, or it is
-// out, or it is out and whoever gives it back is to wake a thread that may be parked on the word.
+// The states of a word. In the first two the value is at home, and in the second it was marked as it was
+// given back. In the others it is out. In the last, the thread that gives it back is to wake a thread that
+// may be parked on the word.
 const FREE: u64 = 0;
 
 const MARKED: u64 = 1;
@@ -60,7 +61,7 @@ pub struct KeyedLocks<K, T: Keyed<K>> {
     ghost sized: { (table.shared.table_id.words ≡ count) × (table.shared.table_id.slots ≡ count) },
 }
 
-/// Whose value is out. It is given back with a value.
+/// The hold of a value that is out. It is given back with a value.
 pub struct Held<K, T> {
     seat: Seat<Option<T>, K>,
     at: usize,

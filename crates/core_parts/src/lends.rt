@@ -1,5 +1,5 @@
-// What lends the value, apart from the file that declares the place, since the clauses read its
-// row.
+// Lends the value. It stands apart from the file that declares the place, since the clauses read
+// its row.
 ghost use Rattle.std.specs.Prelude.{◌≡◌, []};
 ghost use mir.Syntax.{named};
 ghost use types.Logic.{sem};

@@ -9,7 +9,7 @@ use std::marker::{Model, PhantomData};
 
 /// Where permits come from. It has no bytes.
 pub struct Permits {
-    /// What no other value of this type has.
+    /// A number that no other value of this type has.
     pub ghost family: { ℕ },
     /// The number of the next permit.
     pub ghost next: { ℕ },
@@ -90,7 +90,7 @@ impl Drop for Permit {
 
 unsafe impl Send for Permit {}
 
-/// What says which permit opens the places that are made of it.
+/// Names the permit that opens the places that are made of it.
 pub trait NamesPermit {
     ghost permit: { Self → PermitId };
 }

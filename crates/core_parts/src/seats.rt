@@ -1,4 +1,4 @@
-//! What seats of a table do with no step: the rule is asked, and no word is read.
+//! Changes that seats of a table make with no step: the rule is asked, and no word is read.
 ghost use Rattle.std.specs.Prelude.{◌≡◌, [], ◌∷◌};
 ghost use Rattle.atomic_table.specs.Table.{Joins, Me, Splits};
 ghost use Rattle.core_parts.specs.Changes.{Stirs};
@@ -54,7 +54,7 @@ pub fn join_seat<S, V, K, P: TableRule<S, V, K>, M: Join<V>>(
     merge::<S, V, K, P, M>(table, seat, &mut other);
 }
 
-/// What a change tells its caller, of the seat before and after.
+/// A change of a seat, which tells its caller of the seat before and after.
 pub trait Change<S, V> {
     ghost then: { Me S V → Me S V → Type 0 };
 }

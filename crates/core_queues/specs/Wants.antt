@@ -1,4 +1,4 @@
--- What the waiters of a line want.
+-- The wants of the waiters of a line.
 use Rattle.std.specs.Prelude.{List, [], map, take}
 use Rattle.core_base.specs.declared.requeues.Requeue.{Requeue}
 use Rattle.core_base.specs.declared.requeues.Requeue.TheVariants.{TakeOneMoveRest}

@@ -19,7 +19,7 @@ pub struct Queueing {
     pub(crate) queues: ListQueues,
     // In the order in which they were taken.
     taken: Vec<usize>,
-    // What each of them wants.
+    // The want of each of them.
     wants: Vec<Want>,
     // Those of them that have not been given a right.
     rightless: Vec<usize>,
@@ -222,14 +222,14 @@ impl Queueing {
         (self.number, self.bits, self.seats)
     }
 
-    /// Whom the section took, in order.
+    /// Returns the threads that the section took, in order.
     pub fn taken(&self) -> &[usize]
         ensures { result.now ≡ self.now.taken.items }
     {
         self.taken.as_slice()
     }
 
-    /// What each of them wants, in the same order.
+    /// Returns the want of each of them, in the same order.
     pub fn wants(&self) -> &[Want]
         ensures { result.now ≡ self.now.wants.items }
     {

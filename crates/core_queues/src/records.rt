@@ -1,4 +1,4 @@
-//! What the chain of a bucket is made of.
+//! The records of which the chain of a bucket is made.
 
 use core_base::{Key, Want};
 

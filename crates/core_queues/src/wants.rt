@@ -1,4 +1,4 @@
-//! What those want whom a section takes.
+//! The wants of the waiters that a section takes.
 ghost use Rattle.std.specs.Prelude.{◌≡◌, ◌≤◌, [], take};
 ghost use Rattle.std.specs.Vec.{vec_capacity};
 ghost use Rattle.core_base.specs.Lines.{line};
@@ -22,7 +22,7 @@ impl Picker for Everybody {
     }
 }
 
-/// What those under a key want whom a picker picks, into an empty list that has room.
+/// Pushes the wants of the waiters that a picker picks under a key, to an empty list that has room.
 pub(crate) fn note_wants<P: Picker + Drop>(
     queues: &ListQueues,
     key: Key,
@@ -45,7 +45,8 @@ pub(crate) fn note_wants<P: Picker + Drop>(
     }
 }
 
-/// What the first under a key wants, if any, into an empty list that has room.
+/// Pushes the want of the first waiter under a key, if there is one, to an empty list that has
+/// room.
 pub(crate) fn note_first_want(queues: &ListQueues, key: Key, wants: &mut Vec<Want>)
     requires { (wants.old.items ≡ []) × (queues.now.capacity ≤ vec_capacity wants.old) }
     ensures wants { wants.new.items ≡ wants_of (take 1 (line key queues.now.waiters)) }

@@ -1,4 +1,4 @@
--- What the codes say of owners.
+-- An exclusive owner stands alone in every code.
 use Rattle.std.proofs.Common.{arith}
 use Rattle.core_words.specs.Laws.{ExclusiveIsAlone}
 use Rattle.core_words.specs.declared.words.WordKind.TheVariants.{Mutex, RwLock, Condvar, Once, Count, Semaphore}

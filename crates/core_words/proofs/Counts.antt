@@ -1,4 +1,4 @@
--- What views say of a count word.
+-- The facts that views tell about a count word.
 use Rattle.std.proofs.Common.{◌≡◌, ℕ, ◌≤◌, List, [], ◌∷◌, set, true, cond, eqb, refl, arith}
 use mathlib.Core.Logic.{dite}
 use mathlib.Core.Option.{some}

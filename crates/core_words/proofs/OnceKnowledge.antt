@@ -1,4 +1,4 @@
--- Who knows that a `Once` is done, by the steps on its word.
+-- The views that know that a `Once` is done, by the steps on its word.
 use Rattle.std.proofs.Common.{◌≡◌, ℕ, ◌/◌, ◌%◌, ◌<◌, List, [], ◌∷◌, ◌++◌, map, Bool, true, false, cond, eqb, ◌&&◌, ◌||◌, refl, sym, ap, ◌∙◌, subst, arith, eq-eqb}
 use Rattle.std.proofs.lemmas.Bool.{false≢true}
 use Rattle.core_base.specs.Words.{apply}

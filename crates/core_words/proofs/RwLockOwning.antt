@@ -1,4 +1,5 @@
--- What who steps on a reader-writer lock's word owns then, by what it owned and by the value that it found.
+-- The ownerships of a thread after its step on a reader-writer lock's word, by those before it and
+-- by the value that it found.
 use Rattle.std.proofs.Common.{◌≡◌, ◌≢◌, ◌⊎◌, inl, inr, ℕ, ◌+◌, ◌-◌, ◌/◌, ◌%◌, ◌^◌, ◌<◌, List, [], ◌∷◌, true, false, cond, eqb, ◌∙◌, sym, refl, ap, subst, arith, eq-eqb, ne_eqb}
 use mathlib.Core.Logic.{dite}
 use native.Mathlib.Decide.{ℕ_discrete}

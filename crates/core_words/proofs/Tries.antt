@@ -1,4 +1,5 @@
--- What a try of a mutex tells: it finds the mutex locked, or the seat owns it from then on and its permit is out.
+-- The two ends of a try of a mutex. It finds the mutex locked, or the seat owns it from then on and
+-- its permit is out.
 use Rattle.std.proofs.Common.{◌≡◌, ℕ, ◌%◌, ◌<◌, [], ◌∷◌, true, ◌∙◌, ap, refl, subst, sym, arith}
 use Rattle.atomic_table.specs.Table.{Me}
 use Rattle.atomic_table.specs.declared.shared.Seat.{Seat}

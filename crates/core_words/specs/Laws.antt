@@ -1,4 +1,4 @@
--- What the codes say of owners.
+-- The laws of codes and their owners.
 use Rattle.std.specs.Prelude.{◌≡◌, ◌≢◌, ◌⊎◌, ℕ, ◌+◌, ◌-◌, ◌*◌, ◌/◌, ◌%◌, ◌^◌, ◌<◌, ◌≤◌, List, ◌∷◌, ◌++◌, true}
 use Rattle.core_base.specs.Words.{apply}
 use Rattle.core_base.specs.declared.ops.Op.{Op}

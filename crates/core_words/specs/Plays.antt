@@ -1,5 +1,5 @@
--- What each step tells who takes it: of the step, the seat before, the value found and the seat
--- after.
+-- The facts that each step tells the thread that takes it: of the step, the seat before, the value
+-- found and the seat after.
 use Rattle.std.specs.Prelude.{Ok, Err, ◌≡◌, ◌≢◌, bit_or, ℕ, ◌+◌, ◌/◌, ◌%◌, ◌^◌, ◌<◌, ◌≤◌, List, [], ◌∷◌, ◌++◌}
 use Rattle.std.specs.declared.result.Result.{Result}
 use Rattle.atomic_table.specs.Table.{Me, Step}

@@ -1,4 +1,4 @@
--- What a right names.
+-- The word and the owner that a right names.
 use Rattle.std.specs.Prelude.{◌≡◌, ◌⊎◌, ◌/◌, ◌==◌, ℕ, List, [], ◌∷◌, Bool, cond, map, true, false}
 use Rattle.core_words.specs.Indices.{word_index}
 use Rattle.core_words.specs.Views.{owning, owning_with, with_out}
@@ -22,7 +22,7 @@ owner_for wants.TheVariants.Shared = Shared
 owner_for wants.TheVariants.Wait = Witness
 owner_for wants.TheVariants.CallOnce = Runner
 
--- what an owner wanted. Who waits for the last readers wants to own alone
+-- the want of an owner. A writer that waits for the last readers wants to own alone
 abbrev pub want_of : Owner → wants.Want
 want_of Exclusive = wants.TheVariants.Exclusive
 want_of Pending = wants.TheVariants.Exclusive

@@ -1,4 +1,4 @@
--- What the rule says of a lot's words and of all views, whoever took which steps.
+-- The laws of the rule about a lot's words and all views, whichever threads took which steps.
 use Rattle.std.specs.Prelude.{◌≡◌, ℕ, ◌+◌, ◌/◌, ◌%◌, ◌<◌, ◌≤◌, cond, ◌==◌, List, length, slice_index}
 use mathlib.Core.Option.{some}
 use lib.ListN.{get_elem?}

@@ -1,4 +1,4 @@
--- What a step on a word does to who owns it.
+-- The effect of a step on a word on the owners of the word.
 use Rattle.std.specs.Prelude.{◌≡◌, ◌≢◌, ℕ, ◌+◌, ◌%◌, ◌^◌, ◌<◌, ◌≤◌, ◌⊎◌, zero, suc, ◌-◌, ◌/◌, List, [], ◌∷◌, ◌++◌, Bool, true, false, cond, ◌==◌, ◌&&◌, ◌||◌, not, map}
 use Rattle.core_base.specs.Words.{apply}
 use Rattle.core_base.specs.declared.ops.Op.{Op}
@@ -154,8 +154,8 @@ CountAgrees Count at n owns =
     → count ≡ n)
 CountAgrees _ at n owns = Unit {0}
 
--- who changes what a condition variable shows hides it, or shows a mutex of another number that it
--- owns. Who changes a count word owns its mutex
+-- a step that changes a condition variable's word hides the mutex that it shows, or shows a mutex
+-- of another number that the thread owns. Only the owner of its mutex changes a count word
 abbrev pub MayTie : WordKind → ℕ → ℕ → ℕ → List Ownership → Type 0
 MayTie Condvar at found left owns = (left ≡ found)
     ⊎ Shows (λ mutex. (at ≢ word_index mutex Condvar)

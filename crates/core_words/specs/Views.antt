@@ -1,4 +1,4 @@
--- What views name, added up.
+-- Sums over the things that views name.
 use Rattle.std.specs.Prelude.{ℕ, zero, suc, ◌+◌, ◌++◌, ◌≡◌, List, [], ◌∷◌, cond, ◌==◌}
 use Rattle.core_base.specs.declared.ops.Op.TheVariants.{Load}
 use Rattle.core_words.specs.declared.owners.Owner.{Owner}

@@ -1,4 +1,4 @@
-//! What can be owned of a word.
+//! The ways in which a word can be owned.
 ghost use Rattle.std.specs.Prelude.{◌≡◌, ◌↔◌, IsTrue};
 
 use crate::words::WordKind;
@@ -55,7 +55,7 @@ impl Owner {
         }
     }
 
-    /// What such an owner wanted.
+    /// Returns the want of such an owner.
     #[inline]
     pub fn want(self) -> Want
         ensures { result ≡ want_of self }
@@ -98,6 +98,6 @@ impl Owner {
 pub struct Ownership {
     pub at: usize,
     pub owner: Owner,
-    /// What the count word of a reentrant mutex says that is owned so. 0 for every other word.
+    /// The value of the count word of a reentrant mutex that is owned so. 0 for every other word.
     pub count: u64,
 }

@@ -135,8 +135,8 @@ impl LotWords {
         owner
     }
 
-    // What an owner has done, and owns still, goes to the thread: behind the owner's step, so that
-    // it doesn't wait for the load.
+    // Gives the thread what an owner has done and still owns. It does so after the owner's step, so
+    // that this doesn't wait for the load.
     #[inline]
     fn go_on(&self, seat: &mut Seat, owner: Seat)
         requires own { IsSeatOf self.now seat.old × IsSeatOf self.now owner }

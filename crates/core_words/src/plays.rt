@@ -22,7 +22,7 @@ impl TableRule<PermitSlot, View, (usize, Permits)> for OwnershipRule {
     ghost first = { λ _. blank };
 }
 
-/// Whose permits, picked at each call: where a lot's come from, and beside which word one lies.
+/// Picks permits at each call: where those of a lot come from, and beside which word one lies.
 pub trait PermitPick {
     ghost family: { ℕ };
 
@@ -305,7 +305,7 @@ impl<P: PermitPick> Change<PermitSlot, View> for TakesOut<P> {
     ghost then = { takes_out P.family P.at };
 }
 
-/// What is out with a seat is laid back.
+/// A seat lays back what is out with it.
 pub struct LaysBack;
 
 impl Change<PermitSlot, View> for LaysBack {

@@ -33,7 +33,7 @@ impl Held {
         seat
     }
 
-    /// What a seat owns, as a right.
+    /// Makes a right of what a seat owns.
     #[inline]
     pub fn of_seat(seat: Seat) -> Held
         ensures { (result.seat.table_id ≡ seat.table_id) × (result.seat.me ≡ seat.me) }
@@ -42,8 +42,8 @@ impl Held {
     }
 }
 
-/// The same with its word and owner, as it goes to a thread that is to be told them. Who is handed
-/// a mutex is handed its slot with it, in which the permit of its value lies.
+/// The same with its word and owner, as it goes to a thread that is to be told them. A thread that
+/// is handed a mutex is handed its slot too, in which the permit of its value lies.
 pub struct Right {
     seat: Seat,
     word: Word,

@@ -1,4 +1,4 @@
-//! What condition variables show.
+//! The mutexes that condition variables show.
 ghost use Rattle.std.specs.Prelude.{◌≡◌, ◌≢◌, ◌+◌, ◌≤◌};
 ghost use Rattle.core_base.specs.declared.ops.Op.TheVariants.{Load};
 ghost use Rattle.core_words.specs.Codes.{ShowsBeside};

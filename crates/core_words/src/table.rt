@@ -16,7 +16,8 @@ use std::sync::atomic::AtomicU32;
 use std::sync::atomic::Ordering::SeqCst;
 use core_parts::{PermitSlot, Permits};
 
-/// What a thread steps with. It takes no memory, and its view is what the thread has done and owns.
+/// The seat with which a thread steps. It takes no memory, and its view is what the thread has done
+/// and owns.
 pub type Seat = atomic_table::Seat<PermitSlot, View>;
 
 /// The words of a lot, and the counter of those that were drawn.
@@ -24,13 +25,14 @@ pub type Seat = atomic_table::Seat<PermitSlot, View>;
 pub struct LotWords {
     pub(crate) table: Table<PermitSlot, View, (usize, Permits), OwnershipRule, Global>,
     pub(crate) count: usize,
-    // What its words carry.
+    // The tag that its words carry.
     pub(crate) tag: u32,
     ghost sized: { (table.shared.table_id.words ≡ table_size count) × (table.shared.key.0 ≡ count)
         × (count ≤ most_words) },
 }
 
-// Of what an atomic holds nothing is known, so nobody can show that two lots have one tag.
+// Makes a tag. Nothing is known of the value that an atomic holds, so nobody can show that two lots
+// have one tag.
 pub(crate) fn new_tag() -> u32 {
     AtomicU32::new(0).load(SeqCst)
 }
@@ -126,8 +128,9 @@ impl LotWords {
         }
     }
 
-    /// One step on a word. It answers the value before. Who locks a mutex by it has the permit of
-    /// the mutex's value out with that step, and who unlocks one lays it back with that step.
+    /// Takes one step on a word, and returns the value before. A thread that locks a mutex by it
+    /// has the permit of the mutex's value out with that step. A thread that unlocks one lays the
+    /// permit back with that step.
     #[inline]
     pub fn step(&self, seat: &mut Seat, word: Word, op: Op) -> u64
         requires own { IsSeatOf self.now seat.old × IsWordOf self.now word }

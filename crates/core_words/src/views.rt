@@ -1,4 +1,4 @@
-//! What a seat of a lot knows. No value of it is made.
+//! The knowledge of a lot's seat. No value of it is made.
 ghost use Rattle.std.specs.Prelude.{ℕ, List};
 ghost use Rattle.std.specs.Borrow.{ftrue};
 ghost use Rattle.core_words.specs.declared.owners.Ownership.{Ownership};
@@ -22,7 +22,7 @@ pub struct Drawn {
     pub kind: WordKind,
 }
 
-/// What a seat has done, what it owns, and what it saw.
+/// A seat's view: what the seat has done, what it owns, and what it saw.
 pub struct View {
     // Its steps, the first at the front.
     pub ghost steps: { List WordStep },

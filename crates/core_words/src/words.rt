@@ -2,7 +2,7 @@
 ghost use Rattle.std.specs.Prelude.{IsTrue, ◌≡◌, ◌<◌, ◌↔◌};
 ghost use Rattle.core_words.specs.Indices.{rank, word_index, most_words};
 
-/// What a word is for. It is fixed as the word is drawn.
+/// The use of a word, which is fixed as the word is drawn.
 #[derive(Clone, Copy, Debug, PartialEq, Eq)]
 pub enum WordKind {
     Mutex,
@@ -41,7 +41,7 @@ impl WordKind {
 pub struct Word {
     number: usize,
     kind: WordKind,
-    // Of its lot.
+    // The tag of its lot.
     tag: u32,
     // So that no step computes it.
     at: usize,
@@ -79,7 +79,7 @@ impl Word {
         self.kind
     }
 
-    /// Tells whether this word has the number and the kind of another. Of one lot they are the same
+    /// Tells whether this word has the number and the kind of another. In one lot they are the same
     /// word then.
     #[inline]
     pub fn is_same(self, other: Word) -> bool

@@ -1,4 +1,4 @@
--- What who has opened a place holds, and lends. Assumes `Logic`.
+-- The holdings of a thread that has opened a place, and its loans. Assumes `Logic`.
 use Rattle.std.proofs.Common.{◌≡◌, ℕ, ◌+◌, [], ◌∷◌, ◌++◌, refl}
 use mathlib.Core.Bool.{true}
 use seplogic.Ra.Ura.{Ura}

@@ -1,4 +1,4 @@
--- What is done to a place, in one update of its invariant. Assumes `Logic`.
+-- The steps at a place, each in one update of its invariant. Assumes `Logic`.
 use Rattle.std.proofs.Common.{◌≡◌, ℕ, ◌+◌, List, [], ◌∷◌, ◌++◌, length, set, sym, refl, subst, arith}
 use mathlib.Core.Bool.{Bool, true, false}
 use mathlib.Core.Option.{some}

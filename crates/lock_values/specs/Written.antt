@@ -1,4 +1,4 @@
--- What an open place is once this was written through it.
+-- An open place once this was written through it.
 use Rattle.lock_values.specs.declared.place.Open.{Open}
 
 module _ {X : Type 0} where

@@ -9,7 +9,7 @@ use atomic_table::{Badge, Shared, TableRule};
 use core_words::View;
 use std::marker::{Model, Move, Owns, PhantomData};
 
-/// What says which word guards the places that are made of it.
+/// Names the word that guards the places that are made of it.
 pub trait NamesPlace {
     ghost place: { Self → PlaceId };
 }

@@ -3,19 +3,19 @@ ghost use Rattle.std.specs.Prelude.{◌≡◌, Result, Ok, IsOk};
 ghost use Rattle.std.specs.Borrow.{Lends, sem};
 ghost use Rattle.lock_values.specs.Finds.{checked};
 
-/// Finds a part of a value, which may not be there, and lends it to read or to write. What is written
-/// to the part is found there afterwards.
+/// Finds a part of a value, which may not be there, and lends it to read or to write. A look after
+/// a write finds the part as it was written.
 pub trait Project<T>: Copy {
     type Target;
 
     type Error;
 
-    // What it finds in a value.
+    // The result of its look at a value.
     ghost finds: { Self → T → Result Self.Target Self.Error };
     // A value once this was written to the part that was found.
     ghost written: { Self → T → Self.Target → T };
 
-    // What was written there is found.
+    // A look after a write finds what was written.
     ghost finds_written: { (by : Self) (value : T) (found next : Self.Target)
         → finds by value ≡ Ok found → finds by (written by value next) ≡ Ok next };
 

@@ -6,12 +6,12 @@ ghost use Rattle.std.specs.Borrow.{Lends, sem};
 pub trait Shows {
     type Value;
 
-    // What it shows.
+    // The value that it shows.
     ghost shown: { Self → Self.Value };
     // The same, once this was written.
     ghost written: { Self → Self.Value → Self };
 
-    // What was written is shown.
+    // After a write it shows what was written.
     ghost shows_written: { (guard : Self) (value : Self.Value)
         → shown (written guard value) ≡ value };
 

@@ -10,7 +10,7 @@ pub trait Unlocks {
 
     // A thread may spend it.
     ghost may_unlock: { Self → Self.Token → Type 0 };
-    // What spending it does to the thread.
+    // The effect on the thread that spends it.
     ghost unlocked: { Self → Self.Token → Self.Token → Type 0 };
 
     fn unlock<W: Wait>(self, rt: &W, token: &mut Self::Token)

@@ -1,4 +1,4 @@
--- What is left to be given, place by place.
+-- The rights that are left to be given, place by place.
 use Rattle.std.proofs.Common.{◌≡◌, ◌∙◌, ℕ, List, [], ◌∷◌, ◌<◌, ◌≤◌, ◌+◌, ◌==◌, Bool, true, false, cond, not, drop, length, slice_index, slice_index_or, sym, refl, ap, subst, eq-eqb}
 use Rattle.std.specs.List.{filter}
 use Rattle.std.proofs.lemmas.List.{drop_more, drop_all}

@@ -1,4 +1,4 @@
--- What a sleep that was told something, or that gave up, has ended in.
+-- The end of a sleep that was told something, or that gave up.
 use Rattle.std.proofs.Common.{ℕ}
 use Rattle.core_words.specs.declared.words.Word.{Word}
 use Rattle.core_base.specs.declared.wants.Want.{Want}

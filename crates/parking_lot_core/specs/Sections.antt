@@ -1,4 +1,4 @@
--- What stands in the queues of a section, and whom it took.
+-- The waiters in the queues of a section, and those that it took.
 use Rattle.std.specs.Prelude.{ℕ, ◌≡◌, List, [], Option}
 use Rattle.std.specs.Sync.Mutex.{mutex_guard_value}
 use Rattle.core_base.specs.declared.notes.Note.{Note}

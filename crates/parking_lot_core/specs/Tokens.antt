@@ -1,4 +1,4 @@
--- Who belongs to a lot.
+-- The threads that belong to a lot.
 use Rattle.std.specs.Prelude.{◌≡◌, ◌<◌, ◌==◌, ℕ, List, [], Option, Some, None, if◌then◌else◌}
 use Rattle.core_words.specs.Views.{blank, shown}
 use Rattle.core_words.specs.Lots.{IsSeatOf}

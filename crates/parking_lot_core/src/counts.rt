@@ -21,7 +21,7 @@ use core_words::{Counted, LotWords, OpenHeld, Word};
 use core_parts::{ShareRow, Shared};
 use core_parts::Permit;
 
-/// What all guards of a reentrant mutex have together: the ownership of the mutex, and what it says
+/// The common hold of all guards of a reentrant mutex: the ownership of the mutex, and what it says
 /// of the count word.
 #[derive(Drop)]
 pub struct Kept {

@@ -201,7 +201,8 @@ impl ParkingLot {
         }
     }
 
-    // Who comes after a thread is read before it is woken: once it runs, it may be taken again.
+    // Wakes so many threads that were taken one after the other. Each one's successor is read
+    // before its wake: once the thread runs, it may be taken again.
     pub(crate) fn wake_tied<R: Wait>(&self, rt: &R, first: usize, number: usize, note: Note) {
         let mut thread = first;
         for _ in 0..number {

@@ -28,7 +28,7 @@ pub struct ParkingLot {
     pub(crate) bits: u32,
     pub(crate) records: KeyedLocks<LotWords, WakeRecord>,
     pub(crate) unparkers: Vec<Unparker>,
-    // Of a thread that was taken, the one that was taken next with it.
+    // For each thread that was taken, the one that was taken next with it.
     pub(crate) next_taken: Vec<AtomicUsize>,
     pub(crate) stands: Stands,
     // The mutexes that their owners lock again, by their numbers.

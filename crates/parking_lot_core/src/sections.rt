@@ -23,7 +23,7 @@ use core_words::{Owner, Right, Word};
 use std::mem::swap;
 use std::sync::{MutexGuard, Wait};
 
-/// What a thread may do to the queues of its keys while nobody else does anything to them.
+/// The right of a thread to the queues of its keys, while no other thread does anything to them.
 ///
 /// It takes or moves waiters by one call at most, and wakes those that it took as it leaves. It has
 /// to be left: it can't be dropped.
@@ -266,15 +266,15 @@ impl<'a> Section<'a> {
         }
     }
 
-    /// Whom the section took, in order.
+    /// Returns the threads that the section took, in order.
     pub fn taken(&self) -> &[usize]
         ensures { result.now ≡ taken_in self.now }
     {
         self.first.taken()
     }
 
-    /// What each of them wants, in the same order. So who hands a lock over to several gives each
-    /// the right that it wants.
+    /// Returns the want of each of them, in the same order. By these a thread that hands a lock
+    /// over to several gives each the right that it wants.
     pub fn wants(&self) -> &[Want]
         ensures { result.now ≡ wants_in self.now }
     {
@@ -401,8 +401,8 @@ impl<'a> Section<'a> {
         drop(first);
     }
 
-    /// Leaves, with the token that entered. Whom the section took gets the note and is woken, and the
-    /// token keeps the record of it. With another token it never returns.
+    /// Leaves, with the token that entered. The threads that the section took get the note and are
+    /// woken, and the token keeps the record of it. With another token it never returns.
     #[tactic(auto, unfolding(crate::specs::Tokens::view_of))]
     pub fn leave<R: Wait>(self, rt: &R, token: &mut Token, note: Note)
         requires own { IsTokenOf self.lot.now token.old }

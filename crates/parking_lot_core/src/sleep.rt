@@ -45,9 +45,9 @@ impl ParkingLot {
         }
     }
 
-    // What the thread was told, if anything. The right is looked at only once there is a note:
-    // whoever gives a right writes the note after it, and a note that came later would wake the
-    // next sleep.
+    // Looks whether the thread was told something. It looks at the right only once there is a note.
+    // A thread that gives a right writes the note after it, and a note that came later would wake
+    // the next sleep.
     fn look<'a, R: Wait>(
         &'a self,
         rt: &R,
@@ -127,7 +127,7 @@ impl ParkingLot {
                         if let Some(late) = self.give_up(rt, token.number) {
                             return late;
                         }
-                        // Whoever took the thread is about to wake it.
+                        // The thread that took this one is about to wake it.
                         limit = None;
                     }
                 }

@@ -1,4 +1,4 @@
-//! What a thread that takes a waiter leaves for it.
+//! The records by which a thread that takes a waiter wakes it.
 ghost use Rattle.std.specs.Prelude.{◌≡◌, IfSome, None};
 ghost use Rattle.core_words.specs.RightsOf.{IsRightOf, IsFor};
 

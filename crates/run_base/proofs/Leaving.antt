@@ -1,4 +1,4 @@
--- What the record of a section says that was left.
+-- The facts that the record of a section that was left tells.
 use Rattle.std.proofs.Common.{◌≡◌, ◌+◌, length, Option, Some, subst}
 use Rattle.parking_lot_core.specs.Keys.{first_key}
 use Rattle.parking_lot_core.specs.declared.tokens.SectionRecord.{SectionRecord}

@@ -1,4 +1,4 @@
--- What a thread's decision says of the word that it saw.
+-- The facts that a thread's decision tells about the word that it saw.
 use Rattle.std.proofs.Common.{ℕ, Bool, true, false, if◌then◌else◌, ◌&&◌, ◌≡◌, ◌⊎◌, inl, inr, ◌+◌, ◌-◌, ◌/◌, ◌%◌, ◌^◌, ◌<◌, refl, arith, nat_le}
 use Rattle.std.proofs.lemmas.Bool.Decides.{nat_tests}
 use Rattle.core_base.specs.declared.wants.Want.{Want}

@@ -1,4 +1,5 @@
--- What is claimed of a reader-writer lock stays owned by steps on its word, or is turned into what is claimed then.
+-- A step on a reader-writer lock's word keeps the ownership that is claimed, or turns it into what
+-- is claimed then.
 use Rattle.std.proofs.Common.{ℕ, Bool, true, false, List, ◌∷◌, Option, Some, ◌≡◌, ◌≢◌, ◌⊎◌, inl, inr, ◌+◌, ◌-◌, ◌/◌, ◌%◌, ◌<◌, cond, eqb, refl, ap, ◌∙◌, sym, subst, arith, eq-eqb, ne_eqb}
 use mathlib.Core.Logic.{dite}
 use native.Mathlib.Decide.{ℕ_discrete}

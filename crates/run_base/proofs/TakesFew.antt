@@ -1,4 +1,5 @@
--- Of those who are picked of a reader-writer lock's queue, one at most wants more than to share.
+-- One at most of the waiters that are picked of a reader-writer lock's queue wants more than to
+-- share.
 use Rattle.std.proofs.Common.{Bool, Option, ◌≡◌, ◌≤◌, ◌<◌, ◌^◌, List, [], ◌∷◌, length, refl, ap, arith, suc}
 use Rattle.core_base.specs.Lines.{threads_of}
 use Rattle.core_base.specs.Picks.{lock_picked}

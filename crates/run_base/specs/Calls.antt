@@ -1,4 +1,4 @@
--- What the calls of a mutex did.
+-- The effects of the calls of a mutex.
 use Rattle.std.specs.Prelude.{ℕ, ◌≡◌, ◌≢◌, ◌<◌, ◌==◌, not, Bool, true, false, List, [], ◌++◌, Option, None}
 use Rattle.core_base.specs.declared.ops.Op.{Op}
 use Rattle.core_base.specs.declared.ops.Op.TheVariants.{Load, Sub, Or, Exchange}

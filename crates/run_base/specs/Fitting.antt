@@ -1,5 +1,5 @@
--- What a thread has at each place of its call, and at its end. Each sort of lock says so in a file
--- of its own.
+-- The holdings of a thread in its call, at each place and at its end. Each sort of lock has a file
+-- of its own for them.
 use Rattle.std.specs.Prelude.{ℕ, ◌≡◌, ◌≢◌, List, Option, Some, None, true, false, unwrap_or, Bool}
 use Rattle.steps_rwlock_fair.specs.FairProfiles.{call_wants}
 use Rattle.core_base.specs.declared.wants.Want.TheVariants.{Exclusive}

@@ -1,4 +1,4 @@
--- What a call of a reader-writer lock on real threads did.
+-- The effects of a call of a reader-writer lock on real threads.
 use Rattle.std.specs.Prelude.{ℕ, ◌≡◌, ◌==◌, ◌<◌, ◌^◌, ◌-◌, ◌++◌, ◌&&◌, ◌||◌, not, Bool, true, false, List, [], Option, Some, None, Ok, Err}
 use Rattle.std.proofs.Common.{◌∙◌, sym, subst}
 use Rattle.std.specs.declared.result.Result.{Result}

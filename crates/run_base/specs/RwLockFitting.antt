@@ -1,5 +1,5 @@
--- What a thread of a reader-writer call has at each place, read off the place's row, and what it
--- has at its end.
+-- The holdings of a thread in a call of a reader-writer lock, at each place and at its end. Those
+-- at a place are read off the place's row.
 use Rattle.std.specs.Prelude.{ℕ, ◌≡◌, ◌<◌, ◌-◌, ◌^◌, ◌++◌, ◌⊎◌, Bool, true, false, List, ◌∷◌, Option, Some, None, ◌≤◌, ◌*◌, ◌/◌, ◌%◌, [], length}
 use Rattle.core_base.specs.Keys.{key_of}
 use Rattle.core_base.specs.Lines.{threads_of}

@@ -1,4 +1,4 @@
--- What a thread of a semaphore's call has at each place, and at its end.
+-- The holdings of a thread in a call of a semaphore, at each place and at its end.
 use Rattle.std.specs.Prelude.{ℕ, ◌≡◌, Bool, true, false, List, ◌∷◌, ◌++◌}
 use Rattle.core_base.specs.declared.ops.Op.{Op}
 use Rattle.spec_locks.specs.declared.outcomes.Answer.{Answer}

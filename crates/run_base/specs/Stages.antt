@@ -1,5 +1,5 @@
--- What a thread has between two acts of a call, and what each act needs and changes, whatever the
--- lock is.
+-- The holdings of a thread between two acts of a call, and what each act needs and changes,
+-- whatever the lock is.
 use Rattle.std.specs.Prelude.{ℕ, ◌≡◌, ◌≢◌, ◌≤◌, ◌==◌, ◌+◌, not, length, ◌++◌, List, [], ◌∷◌, Option, Some, None, Bool, true, false, ◌<◌, ◌^◌, if◌then◌else◌}
 use Rattle.core_base.specs.Keys.{key_of}
 use Rattle.core_base.specs.Lines.{threads_of}

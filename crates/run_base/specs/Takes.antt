@@ -1,4 +1,4 @@
--- What a take tells of those whom it took.
+-- The facts that a take tells of the waiters that it took.
 use Rattle.std.specs.Prelude.{ℕ, suc, Bool, true, false, cond, List, [], ◌∷◌, Option, Some, None, length}
 use Rattle.std.specs.List.{filter}
 use Rattle.core_base.specs.declared.wants.Want.{Want}

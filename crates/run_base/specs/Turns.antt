@@ -1,5 +1,5 @@
--- What a thread has at a place of its call, what one turn does there, and what a call has done that
--- ran from there to its answer.
+-- The holdings of a thread at a place of its call, and the effect of one turn there. Then the effect of a
+-- call that ran from there to its answer.
 use Rattle.std.specs.Prelude.{◌≡◌, List, Option, None}
 use Rattle.steps_base.specs.declared.acts.Act.{Act}
 use Rattle.steps_base.specs.declared.acts.Reply.{Reply}

@@ -1,4 +1,4 @@
-//! What a thread does in one act of any call, whatever the lock is.
+//! The acts of a thread in any call, whatever the lock is.
 ghost use Rattle.std.specs.Prelude.{◌≡◌, ◌++◌, ◌∷◌, ◌==◌, ℕ, [], None, Some, length, MatchBool};
 ghost use Rattle.core_base.specs.Clocks.{IsUp};
 ghost use Rattle.core_base.specs.Lines.{key_of as queued_under, waiter, line, lines, without};
@@ -249,8 +249,8 @@ fn awake_late<'a, R: Wait>(
     Reply::Woken(Note::Normal)
 }
 
-// Sleeps until another thread has taken this one, or its time is up. What was handed over is the
-// token's then.
+// Sleeps until another thread has taken this one, or its time is up. A right that was handed over
+// is the token's then.
 pub(crate) fn sleep<'a, R: Wait, C: Clock>(
     rt: &R,
     lot: &'a ParkingLot,

@@ -51,7 +51,7 @@ pub const NO_LIMIT: Option<(&'static NoClock, u64)> = None;
 /// The same where it is asked for by reference.
 pub const FOR_EVER: &Option<(&'static NoClock, u64)> = &None;
 
-/// What a run of a call comes to.
+/// The stop of a call's run: at the call's end, or at its closure.
 #[derive(Drop)]
 pub enum Stop {
     /// The call is over.
@@ -70,7 +70,7 @@ fn closure_of(act: Act) -> Option<OnceState>
     }
 }
 
-/// What a call answers whose act this is, if it is over.
+/// Returns the answer of the call whose act this is, if the call is over.
 pub fn answer_of(act: Act) -> Option<Answer>
     ensures { result ≡ answer_of act }
 {
@@ -128,7 +128,8 @@ pub(crate) fn places_lead<C: Clock>(_limit: Option<(&C, u64)>)
     ensures { PlacesLead (IsUp C.tells _limit.entry) }
 {}
 
-// One turn of a call: the act of its place. Whatever fitted there leads on to what fits.
+// Takes one turn of a call: the act of its place. Each stage that fitted there leads on to one that
+// fits.
 fn turn<'a, R: Wait, C: Clock>(
     rt: &R,
     lot: &'a ParkingLot,

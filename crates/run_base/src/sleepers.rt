@@ -14,8 +14,8 @@ use steps_rwlock_fair::RwLockCallPlace;
 use lot_steps::Place;
 use parking_lot_core::{Key, Want};
 
-/// What a thread waits for where it sleeps, the key under which it may be late, and the key to
-/// which it may be moved meanwhile.
+/// The aim of a thread that sleeps, the key under which it may be late, and the key to which it may
+/// be moved meanwhile.
 #[derive(Clone, Copy)]
 pub(crate) struct Sleeper {
     pub lock: usize,

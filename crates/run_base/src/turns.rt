@@ -1,4 +1,4 @@
-//! Turns whose act is known where their call is compiled. What a call mostly does it does by these,
+//! Turns whose act is known where their call is compiled. A call does most of its work by these,
 //! and all else by `run_from`.
 ghost use Rattle.core_base.specs.Clocks.{IsUp};
 ghost use Rattle.steps_base.specs.declared.acts.Act.TheVariants as acts;

@@ -1,4 +1,4 @@
--- Who is taken from a queue, and that the turn is passed on.
+-- The waiters that are taken from a queue, and the turn that is passed on.
 use Rattle.std.proofs.Common.{ℕ, Bool, true, false, Option, Some, None, ◌≡◌, ◌≢◌, ◌≤◌, ◌<◌, ◌+◌, ◌⊎◌, inl, inr, List, [], ◌∷◌, ◌++◌, take, drop, subst, refl, ap, length, ◌∙◌, arith, suc}
 use Rattle.std.specs.Prelude.{filter, not, zero, suc, slice_index, if◌then◌else◌, ◌==◌, ◌-◌}
 use Rattle.std.proofs.lemmas.Bool.Decides.{nat_tests}

@@ -1,4 +1,5 @@
--- Of those whom a thread picks, one at most wants more than to share: so one at most succeeds it.
+-- One at most of the waiters that a thread picks wants more than to share: so one at most succeeds
+-- it.
 use Rattle.std.proofs.Common.{ℕ, Bool, true, false, Option, if◌then◌else◌, ◌≡◌, ◌+◌, ◌≤◌, List, [], ◌∷◌, refl, arith}
 use Rattle.core_base.specs.declared.lock_picker.LockPicker.{LockPicker}
 use Rattle.core_base.specs.declared.lock_picker.LockPicker.TheVariants.{Anyone, Readers, Nobody}

@@ -1,4 +1,4 @@
--- What a thread reads in a word is so.
+-- The parts that a thread reads in a word are those of the lock.
 use Rattle.std.proofs.Common.{ℕ, ◌≡◌, ◌+◌, ◌*◌, ◌/◌, ◌%◌, ◌≤◌, ◌<◌, ◌^◌, refl, ap, sym, ◌∙◌, bit_and, arith}
 use Rattle.std.proofs.lemmas.Nat.{and_block, and_mask, and_comm, and_le_l, and-not}
 use Rattle.std.proofs.lemmas.Grind.{and_high_numeral}

@@ -1,4 +1,5 @@
--- Who begins, ends, enters a section or sets a bit keeps what holds of a lock of the lot between steps.
+-- A thread that begins, ends, enters a section or sets a bit keeps what holds of a lock of the lot
+-- between steps.
 use Rattle.std.proofs.Common.{ℕ, Bool, true, false, Option, inl, inr, refl, arith}
 use Rattle.spec_locks.specs.Locks.{Rules, putting}
 use Rattle.spec_locks.specs.Sites.{Line, Main, Second, Claim, Doing, Site, IsSite, Begin, End, In, Mark, Clear, FindNobody, MarkOwned, MarkBrought, Needed, after_deed, with_doing}

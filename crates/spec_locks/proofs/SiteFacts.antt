@@ -1,4 +1,5 @@
--- What the deeds of a lock have in common: who shares it, whether it is open, and what a case leaves.
+-- The facts that the deeds of a lock have in common: who shares it, whether it is open, and what a
+-- case leaves.
 use Rattle.std.proofs.Common.{ℕ, Bool, true, Option, Some, None, ◌≡◌, ◌≢◌, ◌≤◌, ◌<◌, ◌+◌, inl, inr, List, [], ◌∷◌, ◌++◌, refl, sym, ◌∙◌, arith, get_or-set_same, get_or-set_other}
 use Rattle.std.specs.Prelude.{filter, ◌-◌, ◌||◌, slice_index, slice_set, sum, length}
 use Rattle.std.proofs.lemmas.Bool.{cases_lt}

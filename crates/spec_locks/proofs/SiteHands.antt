@@ -1,4 +1,5 @@
--- Who hands its right to all whom it has taken keeps what holds of a lock of the lot between steps.
+-- A thread that hands its right to all whom it has taken keeps what holds of a lock of the lot
+-- between steps.
 use Rattle.std.proofs.Common.{ℕ, true, false, Option, Some, None, ◌≡◌, ◌≢◌, ◌≤◌, ◌+◌, ◌⊎◌, inl, inr, [], refl, ◌∙◌, arith}
 use Rattle.std.proofs.lemmas.Bool.Decides.{nat_tests}
 use Rattle.core_base.specs.declared.wants.Want.{Want}

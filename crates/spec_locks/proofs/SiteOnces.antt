@@ -1,4 +1,4 @@
--- What a thread does to a `Once` keeps what holds of it between steps.
+-- Each deed of a thread at a `Once` keeps what holds of it between steps.
 use Rattle.std.proofs.Common.{ℕ, Bool, true, false, Option, Some, None, ◌≡◌, ◌≤◌, ◌⊎◌, inl, inr, refl, arith}
 use Rattle.std.proofs.lemmas.Bool.Decides.{nat_tests}
 use Rattle.core_base.specs.declared.wants.Want.{Want}

@@ -1,4 +1,4 @@
--- Who takes some of the queue keeps what holds of a lock of the lot between steps.
+-- A thread that takes some of the queue keeps what holds of a lock of the lot between steps.
 use Rattle.std.proofs.Common.{ℕ, Bool, true, false, Option, Some, None, ◌≡◌, ◌≢◌, ◌≤◌, ◌+◌, ◌⊎◌, inl, inr, List, [], ◌∷◌, refl, ap, arith}
 use Rattle.std.proofs.Math.Seq.{take-nil, drop-nil}
 use Rattle.std.specs.Prelude.{not, drop, ◌||◌}

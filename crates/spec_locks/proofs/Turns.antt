@@ -4,7 +4,8 @@ use Rattle.std.proofs.lemmas.Bool.{cases_eq}
 use Rattle.spec_locks.specs.Locks.{Taken, Mutex, Rules, IsLockState, standing, readers}
 use Rattle.spec_locks.specs.Sites.{Line, Main, Second, Claim, Doing, Site, IsSite, IsEmpty, IsOpen, IsDebtor, LooksAfter, Holds, is_full, counts_taken}
 
--- What a step of thread t asks: it leads from s to v, and what t does goes from d to d2. It speaks of t alone, and of no other thread's doing.
+-- The conditions on a step of thread t: it leads from s to v, and what t does goes from d to d2.
+-- They speak of t alone, and of no other thread's doing.
 pub record Local (r : Rules) (s v : Site) (t : ℕ) (d d2 : Doing) : Type 0 where
   pub state : IsLockState r v.lock
   pub parked : v.lock.queue ≢ [] → (v.parked ≡ true) ⊎ ((d2.sets ≡ true) ⊎ ((s.lock.queue ≢ []) × (s.parked ≡ false) × (d.sets ≡ false)))

@@ -1,4 +1,4 @@
--- What users of a condition variable rely on, of each step of any thread.
+-- The laws on which users of a condition variable rely, of each step of any thread.
 use Rattle.std.specs.Prelude.{ℕ, Bool, Some, ◌≡◌, ◌≢◌, ◌≤◌}
 use Rattle.spec_locks.specs.Locks.{times}
 use Rattle.spec_locks.specs.Purposes.{Notifies, Waits}

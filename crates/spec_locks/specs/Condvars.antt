@@ -5,7 +5,7 @@ use Rattle.core_base.specs.declared.wants.Want.TheVariants.{Exclusive, Wait}
 use Rattle.spec_locks.specs.Locks.{Queued, Mutex, Rules, putting, times, standing, without}
 use Rattle.spec_locks.specs.Sites.{Main, Site, Bring, Needed, is_empty}
 
--- What a thread inside the section is about to do, `m` being a mutex.
+-- The deed that a thread inside the section is about to do, `m` being a mutex.
 pub data Stage : Type 0 where
   -- nothing: it has come, or has done what it came for
   Rests : Stage

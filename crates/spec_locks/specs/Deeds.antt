@@ -34,8 +34,8 @@ AreOneCase (Send all ∷ ds) = ⊥
 AreOneCase (LeaveLine ∷ ds) = KeepLock ds
 AreOneCase (d ∷ ds) = AreOneCase ds
 
--- That case. Who leaves a section wakes whom it has in hand, if anybody, where it hasn't handed the
--- lock over: hand says.
+-- That case. A thread that leaves a section wakes those that it has in hand, if any, where it
+-- hasn't handed the lock over. `hand` tells both.
 abbrev pub case_of : Option Bool → List Deed → Option LockCase
 case_of hand [] = None
 case_of hand (Case case ∷ ds) = Some case

@@ -1,4 +1,4 @@
--- What is relied on of a `Once`.
+-- The laws on which users of a `Once` rely.
 use Rattle.std.specs.Prelude.{ℕ, true, false, Some, ◌≡◌, ◌⊎◌}
 use Rattle.spec_locks.specs.Onces.{Done, IsRunning}
 use Rattle.spec_locks.specs.Locks.{LockState, LockCase, Rules, Once, Needs, after_case, has_caller}

@@ -17,8 +17,8 @@ pub data Claim : Type 0 where
   Runs : Claim
   Ran : Claim
 
--- What one thread does about the lock. A place is mapped to this, and nothing else of a place
--- matters to what is kept.
+-- The things that one thread does about the lock. A place is mapped to this, and nothing else of a
+-- place matters to what is kept.
 pub record Doing : Type 0 where
   -- inside whose section it is
   pub inside : Option Line

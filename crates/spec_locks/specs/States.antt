@@ -1,4 +1,4 @@
--- What a `Once` shows of itself.
+-- The state that a `Once` shows of itself.
 use Rattle.std.specs.Prelude.{Bool, true, false}
 use Rattle.spec_locks.specs.declared.outcomes.OnceState.{OnceState}
 use Rattle.spec_locks.specs.declared.outcomes.OnceState.TheVariants as states

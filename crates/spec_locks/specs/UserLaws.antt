@@ -1,4 +1,4 @@
--- What users of a reader-writer lock rely on, of each step of any thread.
+-- The laws on which users of a reader-writer lock rely, of each step of any thread.
 use Rattle.std.specs.Prelude.{ℕ, true, Some, None, ◌≡◌, ◌≢◌, ◌≤◌, ◌<◌, ◌⊎◌, length}
 use Rattle.core_base.specs.declared.wants.Want.{Want}
 use Rattle.core_base.specs.declared.wants.Want.TheVariants.{Exclusive, Upgradable, Shared}

@@ -107,7 +107,7 @@ pub enum CondvarCall {
     Notify { all: bool },
 }
 
-/// What a thread is to do.
+/// The next turn of a thread.
 #[derive(Clone, Copy, Debug, PartialEq, Eq)]
 pub enum Turn {
     /// Begins a call. It touches no word and no queue.

@@ -1,8 +1,8 @@
-//! What a call answers, and what comes of a step.
+//! The answers of calls, and the outcomes of steps.
 ghost use Rattle.std.specs.Prelude.{◌≡◌};
 ghost use Rattle.spec_locks.specs.States.{is_completed, is_poisoned};
 
-/// What a `Once` shows of itself.
+/// The state that a `Once` shows of itself.
 #[derive(Clone, Copy, Debug, PartialEq, Eq)]
 pub enum OnceState {
     New,
@@ -57,7 +57,7 @@ pub enum Answer {
     Number(usize),
 }
 
-/// What came of a step.
+/// The outcome of a step.
 #[derive(Clone, Copy, Debug, PartialEq, Eq)]
 pub enum Outcome {
     /// The step isn't possible, and nothing changed.

@@ -1,4 +1,4 @@
--- What lies in the slot is a permit.
+-- The thing that lies in the slot is a permit.
 use Rattle.atomic_table.proofs.Names.{◌≡◌, List, [], ◌∷◌, refl, Val, SProp, emp, ftrue, ‵, raw, ◌⊛◌, given, ◌$◌, ◌∵◌, !, qed, by, move, keep, drop, split, fsplit, fjoin, learn, use0, rewrite, no_more, returns, enter, alloc_all, pass_all, free_all, look_at, sets, agg, tables, yes, RattleType, owns, types_at, plain, nothing, alive, Stays, stay_dropped, walk_of, Goes-dropped, fact, fact_i}
 use Rattle.atomic_table.proofs.Walks.{proved, leaves}
 use Rattle.core_parts.specs.PermitIds.{PermitId, slot_owns}
