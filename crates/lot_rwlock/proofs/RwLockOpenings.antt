@@ -1,4 +1,4 @@
--- What a call of a reader-writer lock begins with.
+-- The first places of the calls of a reader-writer lock.
 use Rattle.std.proofs.Common.{Some, None, refl}
 use Rattle.lot_base.specs.declared.wants.Want.TheVariants.{Exclusive, Upgradable, Shared}
 use Rattle.lot_calls.specs.declared.calls.Access.TheVariants as access

@@ -1,4 +1,4 @@
--- What several sends in a row send.
+-- Several sends in a row send their bytes one after the other.
 use Rattle.std.proofs.Common.{◌≡◌, ℕ, ◌+◌, ◌-◌, ◌≤◌, ◌<◌, ◌∷◌, None, Some, Result, Ok, Err, OnErr, is_ok, Bool, true, false, subst, List, [], ◌++◌, Option, take, drop, length, refl, sym, ap, ◌∙◌, inl, inr, arith, append_assoc, append-nil, take-append-drop, length-append, length-drop}
 use Rattle.std.specs.Io.KnownBytes.{Appends, Keeps}
 use Rattle.std.proofs.KnownBytes.{Appends-nil, Appends-trans, Keeps-refl, Keeps-trans}
