@@ -43,7 +43,6 @@ use Rattle.lot_acts.specs.Profiles.{taken_from}
 use Rattle.lot_base.specs.Keys.{key_of}
 use Rattle.lot_base.specs.declared.keys.Line.{Line}
 use Rattle.abstract_locks.specs.Sites.{has_readers}
-use Rattle.abstract_locks.specs.Locks.{Mutex as Mutual}
 use Rattle.std.proofs.lemmas.Bool.{ltb-true, lt-ltb}
 use Rattle.lot_base.specs.declared.keys.Keys.TheVariants.{One}
 use Rattle.lot_base.specs.declared.ops.Op as op

@@ -10,7 +10,7 @@ use Rattle.lot_acts.specs.declared.owners.Owners.{Owners}
 use Rattle.lot_steps.specs.declared.places.Place.{Place}
 use Rattle.lot_acts.specs.declared.acts.Reply.{Reply}
 use Rattle.lot_steps.specs.Steps.{taker}
-use Rattle.abstract_locks.specs.Locks.{Queued, let_go, putting}
+use Rattle.abstract_locks.specs.Locks.{let_go, putting}
 use Rattle.std.specs.Prelude.{sum}
 use Rattle.lot_acts.specs.Owners.{is_thread, with_exclusive}
 use Rattle.abstract_locks.specs.Locks as locks

@@ -29,7 +29,7 @@ use Rattle.lot_acts.specs.Calls.{CallFollows}
 use Rattle.lot_acts.specs.Moves.{StaysPut, GoesIn, GoesOut, LeavesLine, AreLeaving, Parks, Waits, parks_in, row_of}
 use Rattle.lot_acts.specs.Profiles.{Profile, in_hand}
 use Rattle.lot_acts.specs.Owners.{lock_seen, shares_then}
-use Rattle.abstract_locks.specs.Locks.{LockState, Rules}
+use Rattle.abstract_locks.specs.Locks.{Rules}
 use Rattle.abstract_locks.specs.Locks as locks
 use Rattle.abstract_locks.specs.Sites.{Begin, Case, Claim, Deed, End, Has, In, Line, Main, Mark, Second, Site, has_readers}
 use Rattle.abstract_locks.specs.Codes.{aside_in, code, has_parked, parked_in}

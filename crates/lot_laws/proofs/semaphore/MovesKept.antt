@@ -10,7 +10,7 @@ use Rattle.lot_acts.specs.declared.acts.Whom.TheVariants as whom
 use Rattle.lot_acts.specs.Moves.{Hears, Move, inside_of}
 use Rattle.lot_acts.specs.Profiles.{in_hand}
 use Rattle.lot_acts.specs.Stations.{Station}
-use Rattle.abstract_locks.specs.Locks.{HasTakenNobody, Knows, KnowsAll, Queued, Rules, Semaphore, TakeFirst, first_thread, putting}
+use Rattle.abstract_locks.specs.Locks.{HasTakenNobody, Knows, KnowsAll, Rules, Semaphore, TakeFirst, first_thread, putting}
 use Rattle.abstract_locks.specs.Locks as locks
 use Rattle.abstract_locks.specs.Picks.{queued_of}
 use Rattle.abstract_locks.specs.Sites.{Case, FindNobody, Main, Site, idle, is_empty}
