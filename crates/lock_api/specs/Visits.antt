@@ -1,4 +1,4 @@
--- What a thread did that came in and went again.
+-- The steps and wakes of a thread that came in and went again.
 use Rattle.spec_locks.specs.declared.outcomes.Answer.{Answer}
 use Rattle.spec_locks.specs.declared.outcomes.Answer.TheVariants as answers
 

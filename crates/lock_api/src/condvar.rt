@@ -18,7 +18,7 @@ use std::sync::{Arc, Wait};
 /// The threads of a condition variable's mutexes.
 pub type TokenOf<R> = <<R as RawCondvar>::RawMutex as RawMutex>::Token;
 
-/// What a wait answers: the guard, which is given back too where the wait was refused.
+/// The answer of a wait: the guard, which is given back too where the wait was refused.
 pub type Waited<'a, R, T> = Result<
     MutexGuard<'a, <R as RawCondvar>::RawMutex, T>,
     (Fault, MutexGuard<'a, <R as RawCondvar>::RawMutex, T>),

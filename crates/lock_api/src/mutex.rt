@@ -26,7 +26,7 @@ pub fn run_on<T, U, F: FnOnce(&mut T) -> U>(value: &mut T, f: F) -> U
     f(value)
 }
 
-// What says which permit opens a mutex's value.
+// Names the permit that opens a mutex's value.
 #[derive(Drop)]
 struct Names<'a, R> {
     raw: &'a R,

@@ -16,7 +16,7 @@ use std::sync::Wait;
 
 impl<R: RawMutex, T> Mutex<R, T> {
     /// Shows the mutex, by one try: its value where nobody owns it, and `<locked>` where somebody
-    /// does. What is shown is spent by `close`, which unlocks.
+    /// does. The call `close` spends what is shown, and unlocks.
     pub fn show(&self, token: &mut R::Token) -> Shown<MutexGuard<'_, R, T>>
         requires { R.is_token_of (R.lot_of self.now) token.old }
         ensures token { R.is_token_of (R.lot_of self.now) token.new × R.stays token.old token.new }

@@ -42,7 +42,7 @@ impl WaitTimeoutResult {
     }
 }
 
-/// What a wait with a limit answers: the guard, and how it ended.
+/// The answer of a wait with a limit: the guard, and how it ended.
 pub type WaitedFor<'a, R, T> = Result<
     (
         MutexGuard<'a, <R as RawCondvar>::RawMutex, T>,

@@ -1,4 +1,4 @@
--- What a place that is open to read is, would this stand in it.
+-- A place that is open to read, as it would be with this value in it.
 use Rattle.lock_values.specs.declared.place.Seen.{Seen}
 
 module _ {X : Type 0} where

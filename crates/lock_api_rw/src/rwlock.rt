@@ -17,7 +17,7 @@ use lock_values::{NamesPlace, Place};
 use std::marker::Model;
 use std::sync::{Arc, Wait};
 
-// What says which place a lock's value stands in.
+// Names the place in which a lock's value stands.
 #[derive(Drop)]
 struct Names<'a, R> {
     raw: &'a R,

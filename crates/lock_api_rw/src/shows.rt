@@ -25,7 +25,7 @@ pub trait Shows {
     ghost opened: { Self → PlaceId };
     // The view of the right that lies there.
     ghost opened_by: { Self → View };
-    // What it shows.
+    // The value that it shows.
     ghost shown: { Self → Self.Value };
     // The same with another value, whose place is open by the same right.
     ghost written: { Self → Self.Value → Self };
@@ -35,7 +35,7 @@ pub trait Shows {
 
     ghost stays_opened_by: { (lent : Self) (value : Self.Value)
         → opened_by (written lent value) ≡ opened_by lent };
-    // What was written is shown.
+    // A value that was written is shown.
     ghost shows_written: { (lent : Self) (value : Self.Value)
         → shown (written lent value) ≡ value };
 

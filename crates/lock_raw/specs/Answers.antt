@@ -1,4 +1,4 @@
--- What calls answer.
+-- The answers of calls.
 use Rattle.std.specs.Prelude.{◌≡◌, ◌⊎◌, ℕ, Bool, true, false, Option, Some, None, Ok, Err, IfOk, IfSome, MatchResult}
 use Rattle.std.specs.declared.result.Result.{Result}
 use Rattle.core_base.specs.declared.faults.Fault.{Fault}

@@ -31,7 +31,8 @@ use std::sync::{Arc, Wait};
 use std::time::Duration;
 use core_parts::Permit;
 
-/// A mutex without a value. Who has taken it has its guard, and spends it to give the mutex up.
+/// A mutex without a value. A thread that has taken it has its guard, and spends it to give the
+/// mutex up.
 pub trait RawMutex {
     /// Where the locks and the threads meet.
     type Lot;
@@ -137,7 +138,8 @@ pub trait RawMutex {
     ///
     /// # Errors
     ///
-    /// What the step saw, where somebody has the mutex. `lock_behind` is the rest of the call then.
+    /// The value that the step saw, where somebody has the mutex. `lock_behind` is the rest of the
+    /// call then.
     fn begin_lock(&self, token: &mut Self::Token) -> Result<Self::Guard, u64>
         requires { is_token_of (lot_of self.now) token.old }
         ensures token { is_token_of (lot_of self.now) token.new }

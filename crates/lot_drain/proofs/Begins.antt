@@ -33,9 +33,6 @@ use Rattle.lot_drain.proofs.OnNow.{by_deeds, draining_goes_on, unmutexed}
 use Rattle.lot_drain.proofs.Turns.{solo_keeps}
 use Rattle.lot_drain.proofs.Releases.{begins, new_calling, ordered_begun, own_right}
 
-one_same : (t : ℕ) → (t == t) ≡ true
-one_same t = grind (arith, nat_tests)
-
 one_other : (u t : ℕ) → u ≢ t → (u == t) ≡ false
 one_other u t ne = grind (arith, nat_tests)
 

@@ -26,9 +26,6 @@ use Rattle.lot_drain.proofs.OnNow.{draining_goes_on}
 use Rattle.lot_drain.proofs.Full.{strict_goes_on}
 use Rattle.lot_drain.proofs.Begins.{turns_keep_draining}
 
-abbrev Held : State → Type 0
-Held w = IsDraining w × IsStrict w
-
 abbrev Outside : State → Type 0
 Outside w = IsDraining w × IsStrict w × (section_at w 1 ≡ None)
 

@@ -10,7 +10,7 @@ use Rattle.core_base.specs.Lines.{times}
 use Rattle.spec_locks.specs.declared.outcomes.Outcome.{Outcome}
 use Rattle.spec_locks.specs.declared.outcomes.Outcome.TheVariants as outcome
 use Rattle.spec_locks.specs.Onces.{Start, Rest, Fail}
-use Rattle.spec_locks.specs.Locks.{LockState, LockCase, Rights, count, is_thread, rights_of, with_right}
+use Rattle.spec_locks.specs.Locks.{LockState, Rights, count, is_thread, rights_of, with_right}
 use Rattle.spec_locks.specs.Locks as locks
 use Rattle.spec_locks.specs.Picks.{queued_of}
 use Rattle.spec_locks.specs.Purposes.{Purpose, Recall, Releases, WasMoved}

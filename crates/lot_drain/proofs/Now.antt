@@ -57,10 +57,6 @@ keeps_all r (a ∷ ds) s k =
 abbrev Stays : Rules → LockState → LockState → Type 0
 Stays r s v = (v.queue ≡ []) ⊎ (is_full r v ≡ is_full r s)
 
-by_writing : (r : Rules) (s : LockState) (t : ℕ) (x : Bool) → s.queue ≡ [] → (b : Bool) → Stays r s (if b then with_owner t Exclusive s else pending_for t x s)
-by_writing r s t x e true = inl e
-by_writing r s t x e false = inl e
-
 by_pending : (s v : LockState) (t : ℕ) (p : Option Pending) → v.queue ≡ [] → (falling_back t p v).queue ≡ []
 by_pending s v t None e = e
 by_pending s v t (Some p) e = either p.falls_back

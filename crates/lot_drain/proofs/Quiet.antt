@@ -7,7 +7,7 @@ use Rattle.core_base.specs.Lines.{first_of, times}
 use Rattle.steps_base.specs.declared.acts.Act.TheVariants as act
 use Rattle.spec_locks.proofs.HandLimits.{sum_cons}
 use Rattle.spec_locks.specs.Picks.{queued_of}
-use Rattle.spec_locks.specs.Locks.{LockState, Pending, Rights, Rules, Sort, count, is_pending, is_thread, one_if_some, readers, rights_of}
+use Rattle.spec_locks.specs.Locks.{LockState, Pending, Rights, Rules, count, is_pending, is_thread, one_if_some, readers, rights_of}
 use Rattle.spec_locks.specs.Runs.{no_rights}
 use Rattle.spec_locks.specs.Sites.{Line, Main, Second, has_readers, is_full}
 use Rattle.lot_steps.specs.declared.places.Place.{Place}

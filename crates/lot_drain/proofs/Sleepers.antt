@@ -29,7 +29,7 @@ use Rattle.steps_rwlock.specs.declared.purposes.RwLockPurpose.TheVariants as pur
 use Rattle.steps_rwlock.specs.RwLockSteps.{act_at, decided, wanted}
 use Rattle.steps_rwlock.specs.RwLockCalls.{StandsAt}
 use Rattle.steps_rwlock.specs.RwLockDeeds.{doing_at, again_of}
-use Rattle.steps_rwlock.specs.RwLockProfiles.{before, stands_at}
+use Rattle.steps_rwlock.specs.RwLockProfiles.{stands_at}
 use Rattle.steps_rwlock.specs.RwLockProfiles as rows
 use Rattle.steps_rwlock_fair.specs.FairCalls.{IsOfBump}
 use Rattle.steps_rwlock_fair.specs.declared.places.RwLockCallPlace.TheVariants.{Plain, Glance, HandOver, Bump, Handed}
@@ -156,15 +156,6 @@ main_lock l e retries to rights stands h few = absurd cc
 
 same_lock : (l k : ℕ) → ◌≡◌ {A = Option ℕ} (Some l) (Some k) → l ≡ k
 same_lock l k e = cc
-
-main_plain : (l : ℕ) (a : Admission) (q : RwLockPurpose) (b : Bool) (to : RwLockAt) (rights : ℕ → Rights) → StandsAt q b to
-    → stands_at to ≡ Some Main → act_at l a (record { purpose = q; retries = b; at = to }) to ≡ act.Sleep
-    → (x : Access) (how : Patience) → q ≡ purpose.Enter x how → before q to l rights l ≡ rights l
-main_plain l a q b (at.Park to) rights stands s h x how e = subst (λ y. before y (at.Park to) l rights l ≡ rights l) (sym e) refl
-main_plain l a q b (at.Aside (parking.Leave true)) rights stands s h x how e = absurd cc
-main_plain l a q b (at.Aside (parking.Leave false)) rights stands s h x how e = absurd cc
-main_plain l a q b (at.Aside to) rights stands s h x how e = absurd cc
-main_plain l a q b to rights stands s h x how e = absurd cc
 
 main_rwlock : (l : ℕ) (a : Admission) (q : RwLockPurpose) (b : Bool) (to : RwLockAt) (rights : ℕ → Rights) → StandsAt q b to
     → stands_at to ≡ Some Main → act_at l a (record { purpose = q; retries = b; at = to }) to ≡ act.Sleep

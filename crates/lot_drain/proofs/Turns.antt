@@ -96,10 +96,6 @@ one_lock w h = record {
 
 -- ---------------------------------------------------------------- one step
 
-abbrev Went : State → ℕ → Type 0
-Went w t = GoesOn (locks_of w) t (step_outcome w (go_of t)) (locks_of (after w (go_of t)))
-    ⊎ (after w (go_of t) ≡ w)
-
 module _ (w : State) (t : ℕ) (h : IsOrdered w) where
   abbrev v : State
   v = after w (go_of t)

@@ -38,7 +38,7 @@ use Rattle.steps_rwlock.specs.declared.places.RwLockPlace.{RwLockPlace}
 use Rattle.steps_rwlock.specs.declared.purposes.RwLockPurpose.{RwLockPurpose}
 use Rattle.steps_rwlock.specs.declared.purposes.RwLockPurpose.TheVariants as purpose
 use Rattle.steps_rwlock.specs.RwLockCalls.{StandsAt}
-use Rattle.steps_rwlock.specs.RwLockSteps.{act_at, came_in_for, counted, decided, decided_act, exchanged_next, looked, looked_by, missed, next_at, park_act, park_next, patience_at, rwlock_next, wanted}
+use Rattle.steps_rwlock.specs.RwLockSteps.{act_at, came_in_for, counted, decided, decided_act, exchanged_next, looked, looked_by, missed, next_at, park_next, patience_at, rwlock_next}
 use Rattle.steps_rwlock_fair.specs.declared.places.RwLockCallPlace.{RwLockCallPlace}
 use Rattle.steps_rwlock_fair.specs.declared.places.RwLockCallPlace.TheVariants.{Plain, Glance, HandOver, Bump, Handed}
 use Rattle.steps_rwlock_fair.specs.declared.handed.HandedAt.{HandedAt}
@@ -76,10 +76,6 @@ lock_silent l to = refl
 decided_silent : (l : ℕ) (q : RwLockPurpose) (seen : ℕ) (d : Decision) → IsSilent (decided_act l q seen d)
 decided_silent l q seen decisions.Park = refl
 decided_silent l q seen d = refl
-
-park_silent : (l : ℕ) (a : Admission) (p : RwLockPlace) (m : Line) (to : ParkAt) → IsSilent (park_act l a (wanted access.Shared) m to)
-park_silent l a p m parking.Check = refl
-park_silent l a p m to = refl
 
 place_silent : (l : ℕ) (a : Admission) (q : RwLockPurpose) (b : Bool) (to : RwLockAt) → waits_for q to ≡ true
     → IsSilent (act_at l a (record { purpose = q; retries = b; at = to }) to)

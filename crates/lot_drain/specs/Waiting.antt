@@ -1,6 +1,5 @@
 -- A thread that goes on alone, and the others.
 use Rattle.std.specs.Prelude.{ℕ, true, ◌≡◌, ◌≢◌}
-use Rattle.spec_locks.specs.declared.calls.Step.{Step}
 use Rattle.lot_machine.specs.Machine.{State, after, go_of, place_at}
 use Rattle.lot_drain.specs.Waits.{MayStandAt, waits}
 
@@ -9,9 +8,3 @@ abbrev pub WaitersLeaveOthers : Type 0
 WaitersLeaveOthers =
     (w : State) (t u : ℕ) → MayStandAt (place_at w t) → waits (place_at w t) ≡ true → u ≢ t
     → place_at (after w (go_of t)) u ≡ place_at w u
-
--- and whoever goes on, the others only wait where they did
-abbrev pub OthersWaitAsBefore : Type 0
-OthersWaitAsBefore =
-    (w : State) (s : Step) (u : ℕ) → u ≢ s.thread
-    → waits (place_at (after w s) u) ≡ waits (place_at w u)

@@ -12,7 +12,7 @@ use Rattle.steps_base.specs.declared.acts.Wakes as wakes
 use Rattle.core_base.specs.declared.notes.Note.TheVariants.{HandOff}
 use Rattle.lot_steps.specs.Steps.{act_of, taker, retries_on}
 use Rattle.lot_machine.specs.Machine.{State, place_at, word_at, filled_at, section_at}
-use Rattle.spec_locks.specs.Locks.{LockState, Sort, Recursive, Once, Rules, Taken, Knows, times, standing, readers, count, has_caller}
+use Rattle.spec_locks.specs.Locks.{LockState, Sort, Recursive, Once, Rules, Taken, times, standing, readers, count, has_caller}
 use Rattle.spec_locks.specs.Onces.{InProgress, IsRunning}
 use Rattle.spec_locks.specs.Codes.{word_by, parked_in, aside_in, has_aside, is_running}
 use Rattle.steps_rwlock.specs.RwLockSteps.{plus}

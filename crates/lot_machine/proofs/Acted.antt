@@ -1,4 +1,5 @@
--- What befalls threads by an act of one of them: whatever no wake, take, move or hand-over changes of a place, each place keeps.
+-- The events that befall threads by an act of one of them. Each place keeps a property that no
+-- wake, take, move or hand-over changes.
 use Rattle.std.proofs.Common.{ℕ, Bool, true, false, Option, Some, None, if◌then◌else◌, ◌≡◌, inl, inr, List, [], ◌∷◌, length, set, get_or, map, refl, sym, subst, get_or-set_other, get_or-set_same}
 use Rattle.std.proofs.Math.ListN.{get_or-map}
 use Rattle.std.proofs.lemmas.Bool.{cases_eq, cases_lt}

@@ -1,4 +1,4 @@
--- Who stands in the lines of a machine that is copied: each thread once.
+-- Each thread stands once in the lines of a machine that is copied.
 use Rattle.std.specs.Prelude.{ℕ, ◌≡◌, ◌≢◌, ◌≤◌, List, All}
 use Rattle.core_base.specs.declared.wants.Waiter.{Waiter}
 use Rattle.core_base.specs.Lines.{times}

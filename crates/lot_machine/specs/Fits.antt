@@ -1,4 +1,4 @@
--- What a state is made of: the numbers in it name threads, locks and keys that are there.
+-- A state fits where the numbers in it name threads, locks and keys that are there.
 use Rattle.std.specs.Prelude.{ℕ, Bool, true, false, Option, Some, None, ◌||◌, ◌≡◌, ◌≢◌, ◌<◌, ◌≤◌, ◌*◌, ◌⊎◌, List, [], ◌∷◌, length}
 use Rattle.core_base.specs.declared.keys.Keys.{Keys}
 use Rattle.core_base.specs.declared.keys.Keys.TheVariants.{One, Two}

@@ -1,4 +1,4 @@
--- What the views of a lock show, in the order of a printed line.
+-- The owners, waiters and debts that the views of a lock show, in the order of a printed line.
 use Rattle.std.specs.Prelude.{ℕ, Bool, Option, Some, None, if◌then◌else◌, ◌+◌, ◌*◌, List, [], ◌∷◌, ◌++◌, replicate, ◌≡◌, All}
 use Rattle.steps_base.specs.declared.owners.Owner.{Owner}
 use Rattle.steps_base.specs.declared.owners.Owner.TheVariants.{Exclusive, Pending, Upgradable, Running, Shared}

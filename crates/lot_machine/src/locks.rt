@@ -7,7 +7,7 @@ ghost use Rattle.spec_locks.specs.Purposes.{rules_of};
 use lot_steps::{Kind, Owners};
 use std::alloc::{AllocError, Global};
 
-/// What a reader adds to the word of a reader-writer lock.
+/// The number that a reader adds to the word of a reader-writer lock.
 const READER: u64 = 16;
 
 /// A lock of the world.

@@ -1,4 +1,4 @@
--- What is done where a step leads.
+-- The act of a step that ends no call is the one of the next place.
 use Rattle.std.proofs.Common.{◌≡◌, ◌≢◌, refl}
 use Rattle.spec_locks.specs.declared.outcomes.Answer.{Answer}
 use Rattle.steps_base.specs.declared.acts.Act as act

@@ -76,7 +76,7 @@ impl Place {
         matches!(self, Place::Idle)
     }
 
-    /// What the thread does next.
+    /// Returns the thread's next act.
     pub fn act(self) -> Act
         requires { HasKeys self }
         ensures { result ≡ act_of self }
@@ -203,7 +203,7 @@ impl Place {
         Outcome::End(answer)
     }
 
-    /// What a thread is told that comes here.
+    /// Returns the outcome that a thread is told when it comes here.
     pub fn outcome(&self) -> Outcome
         ensures { result ≡ outcome_of (act_of self.now) }
     {
@@ -226,8 +226,8 @@ impl Place {
         next
     }
 
-    /// Who owns the lock after the thread's operation on its word, which saw this value. Those to
-    /// whom the operation hands the lock are told so, and own it too.
+    /// Returns the owners of the lock after the thread's operation on its word, which saw this
+    /// value. The threads to which the operation hands the lock are told so, and own it too.
     pub fn owners_after(&self, thread: usize, seen: u64, owners: Owners) -> Owners
         ensures { result ≡ owners_after self.now thread seen owners }
     {
@@ -255,7 +255,7 @@ impl Place {
         }
     }
 
-    /// What the thread wants, where it waits.
+    /// Returns what the thread wants, where it waits.
     pub fn wants(&self) -> Option<Want>
         ensures { result ≡ wants self.now }
     {

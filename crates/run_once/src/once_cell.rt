@@ -13,7 +13,8 @@ use std::sync::{Arc, OnceLock, Wait};
 
 /// A value that is made once, by the first who asks for it, and then read by all.
 ///
-/// Whoever asks while another makes it waits. Where making it fails, the next who asks makes it.
+/// A thread waits while another one makes it. Where making it fails, the next thread that asks
+/// makes it.
 #[derive(Drop)]
 pub struct OnceCell<T> {
     made: Once,
@@ -83,7 +84,7 @@ impl<T: Drop> OnceCell<T> {
     ///
     /// # Errors
     ///
-    /// What the closure answers that makes none. The cell stays empty then.
+    /// The error of a closure that makes no value. The cell stays empty then.
     #[inline]
     pub fn get_or_try_init<R: Wait, E, F: FnOnce() -> Result<T, E> + Drop>(
         &self,

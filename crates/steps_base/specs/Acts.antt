@@ -1,4 +1,4 @@
--- What a thread does in one step, and what it is told.
+-- The effects of an act, and the outcome that a thread is told before it.
 use Rattle.std.specs.Prelude.{ℕ, Bool, true, false, Option, Some, None, if◌then◌else◌, ◌==◌, ◌||◌, not}
 use Rattle.core_base.specs.declared.notes.Note.{Note}
 use Rattle.core_base.specs.declared.ops.Op.{Op}

@@ -1,5 +1,5 @@
--- What a step makes of a call, by the rows of the place before it and of the next one, and by its
--- deeds: at one lock, and in no world.
+-- The state of a call after a step, by the rows of the place before and the next place, and by the
+-- step's deeds. It is stated at one lock, and in no world.
 use Rattle.std.specs.Prelude.{ℕ, Some, None, if◌then◌else◌, ◌≡◌, List}
 use Rattle.spec_locks.specs.declared.outcomes.Answer.{Answer}
 use Rattle.steps_base.specs.declared.acts.Next.{Next}

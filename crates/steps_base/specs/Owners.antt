@@ -1,4 +1,4 @@
--- Who owns a lock.
+-- The owners of a lock.
 use Rattle.std.specs.Prelude.{ℕ, Bool, true, false, Option, Some, None, ◌==◌, List, map, slice_set}
 use Rattle.core_base.specs.declared.wants.Waiter.{Waiter}
 use Rattle.core_base.specs.Lines.{first_of}

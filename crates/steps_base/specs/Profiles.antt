@@ -1,5 +1,5 @@
--- What a place says of its thread: all that is asked of a place is read off its profile, and each
--- sort of lock has a row for each place.
+-- The profile of a place says all that is asked of its thread. Each sort of lock has a row for each
+-- place.
 use Rattle.std.specs.Prelude.{ℕ, Bool, false, Option, Some, None, if◌then◌else◌}
 use Rattle.core_base.specs.declared.wants.Want.{Want}
 use Rattle.core_base.specs.declared.wants.Want.TheVariants.{Exclusive}

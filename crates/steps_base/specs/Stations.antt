@@ -1,4 +1,5 @@
--- What the machine's sections, lines and hands say of a thread, read off the row of its place.
+-- The station of a thread in the machine's sections, lines and hands, read off the row of its
+-- place.
 use Rattle.std.specs.Prelude.{Bool, Option, Some, None}
 use Rattle.core_base.specs.declared.wants.Want.{Want}
 use Rattle.steps_base.specs.Profiles.{Hand, Profile, blank}

@@ -1,4 +1,4 @@
-//! What a thread does in one step, and what it is told.
+//! The acts of threads, one a step, and the replies to them.
 ghost use Rattle.std.specs.Prelude.{◌≡◌};
 ghost use Rattle.steps_base.specs.Acts.{wakes_taken, holds, takes_effect, outcome_of};
 
@@ -10,20 +10,20 @@ use spec_locks::{Answer, OnceState, Outcome};
 #[derive(Clone, Copy, PartialEq, Eq)]
 pub enum Check {
     WordIs(u64),
-    /// Of a reader-writer lock: its parked bit is set, and its owners keep out who wants this.
+    /// Holds of a reader-writer lock whose parked bit is set and whose owners keep this want out.
     Blocked { want: Want, recursive: bool },
-    /// Of a reader-writer lock: readers are left, and the bit of the second queue is set.
+    /// Holds of a reader-writer lock with readers left and the bit of the second queue set.
     ReadersLeft,
-    /// Of a `Once`: its parked bit is set, it is not done, and not poisoned either for who isn't
-    /// forced.
+    /// Holds of a `Once` that isn't done and whose parked bit is set. It isn't poisoned either,
+    /// unless the call is forced.
     Unfinished { forced: bool },
 }
 
-/// Whom a thread takes of a queue.
+/// The waiters that a thread takes from a queue.
 #[derive(Clone, Copy, PartialEq, Eq)]
 pub enum Whom {
     First,
-    /// Whom a reader-writer lock picks, by the right of its own that the thread keeps.
+    /// The waiters that a reader-writer lock picks, by the right of its own that the thread keeps.
     Picked {
         start: Option<Want>,
         recursive: bool,
@@ -31,7 +31,7 @@ pub enum Whom {
     All,
 }
 
-/// Whom a thread wakes as it leaves its sections.
+/// The waiters that a thread wakes as it leaves its sections.
 #[derive(Clone, Copy, PartialEq, Eq)]
 pub enum Wakes {
     Nobody,
@@ -39,7 +39,7 @@ pub enum Wakes {
     All(Note),
 }
 
-/// What a thread does in one step.
+/// One step of a thread.
 #[derive(Clone, Copy, PartialEq, Eq)]
 pub enum Act {
     /// Nothing: the thread is in no call.
@@ -98,7 +98,7 @@ pub enum Act {
     End(Answer),
 }
 
-/// What an act came to, or what befell a thread asleep.
+/// The result of an act, or an event that befell a thread asleep.
 #[derive(Clone, Copy)]
 pub enum Reply {
     /// The sections are entered, or left, or a hand-off is accepted.
@@ -142,7 +142,7 @@ pub enum Reply {
     Late,
     /// The wake note is there.
     Woken(Note),
-    /// What the closure has answered.
+    /// The answer of the closure.
     Closed {
         succeeded: bool,
     },
@@ -193,7 +193,7 @@ pub fn takes_effect(op: Op, seen: u64) -> bool
 }
 
 impl Act {
-    /// What a thread is told that is about to do this.
+    /// Returns the outcome that a thread is told when this is its next act.
     pub fn outcome(self) -> Outcome
         ensures { result ≡ outcome_of self }
     {

@@ -1,4 +1,4 @@
-//! What a thread reads in the word of a reader-writer lock, and in that of a `Once`.
+//! The bits in the word of a reader-writer lock, and in that of a `Once`.
 //!
 //! | bits of a reader-writer lock | mean |
 //! |---|---|

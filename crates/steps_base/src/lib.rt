@@ -1,5 +1,5 @@
-//! What a thread does in one step, what it is told, and who owns a lock: the words in which the
-//! steps of all calls are written.
+//! The acts of threads, the outcomes that they are told, and the owners of locks. The steps of all
+//! calls are written in these words.
 #![tactic(auto)]
 
 pub mod acts;

@@ -1,4 +1,4 @@
-//! Who owns a lock.
+//! The owners of a lock.
 ghost use Rattle.std.specs.Prelude.{◌≡◌, Option};
 ghost use Rattle.steps_base.specs.Owners.{runner};
 
@@ -14,7 +14,7 @@ pub enum Owner {
     Shared,
 }
 
-/// What a pending writer has again when it gives up.
+/// The right that a pending writer has again when it gives up.
 #[derive(Clone, Copy)]
 pub enum Fallback {
     Nothing,

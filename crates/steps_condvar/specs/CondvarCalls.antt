@@ -1,6 +1,6 @@
--- What each step in a call of a condition variable makes of that call: it is made of what the step
--- does to the two locks, the rows of the next place are what that makes of it, and its answer is
--- true. What befalls a waiter makes of its call what its next row says.
+-- The effect of each step in a call of a condition variable on that call. The call is made of what
+-- the step does to the two locks. The rows of the next place are what that makes of it, and its
+-- answer is true. An event that befalls a waiter makes of its call what its next row says.
 use Rattle.std.specs.Prelude.{ℕ, Bool, true, false, Option, Some, None, if◌then◌else◌, ◌==◌, ◌≡◌, ◌≢◌, ◌≤◌, List, ◌∷◌}
 use Rattle.core_base.specs.declared.notes.Note.TheVariants.{Normal}
 use Rattle.core_base.specs.declared.wants.Want.TheVariants.{Exclusive, Wait as WaitHere}

@@ -1,5 +1,5 @@
--- What each step does to the condition variable: the deeds of each place, and their laws. What it
--- does to the mutex beside it is no part of them.
+-- The deeds of each place at the condition variable, which are the effects of a step on it, and
+-- their laws. The step's effects on the mutex beside it are no part of them.
 use Rattle.std.specs.Prelude.{ℕ, Bool, true, false, Option, Some, None, if◌then◌else◌, ◌==◌, ◌||◌, ◌≡◌, ◌≢◌, List, [], ◌∷◌, drop, length}
 use Rattle.core_base.specs.declared.ops.Op.{Op}
 use Rattle.core_base.specs.Words.{apply}

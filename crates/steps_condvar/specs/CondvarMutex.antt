@@ -1,5 +1,4 @@
--- What each step of a notification does to the mutex beside it: the deeds of each place, and their
--- law.
+-- The deeds of each place of a notification at the mutex beside it, and their law.
 use Rattle.std.specs.Prelude.{ℕ, Bool, true, false, None, if◌then◌else◌, ◌==◌, ◌≡◌, ◌≢◌, Some, List, [], ◌∷◌, length}
 use Rattle.core_base.specs.declared.ops.Op.{Op}
 use Rattle.core_base.specs.Words.{apply}

@@ -1,5 +1,5 @@
--- What each place of a condition variable says of its thread, there and at the mutex beside it: a
--- row for each place. All that is asked of a place is read off its row.
+-- The rows of the places of a condition variable, there and at the mutex beside it. A row says all
+-- that is asked of a place's thread.
 use Rattle.std.specs.Prelude.{ℕ, Bool, true, false, Option, Some, None, if◌then◌else◌, ◌==◌, ◌&&◌, ◌||◌, ◌*◌, is_none}
 use Rattle.core_base.specs.declared.notes.Note.TheVariants as note
 use Rattle.core_base.specs.declared.wants.Want.{Want}

@@ -1,5 +1,4 @@
--- What each step of a wait does to its mutex, and what befalls it there: the deeds of each place,
--- and their laws.
+-- The deeds of each place of a wait at its mutex, the events that befall it there, and their laws.
 use Rattle.std.specs.Prelude.{ℕ, Bool, false, Option, Some, None, ◌==◌, not, ◌≡◌, ◌≢◌, ◌≤◌, List, [], ◌∷◌, drop, is_none}
 use Rattle.core_base.specs.declared.notes.Note.TheVariants.{Normal, HandOff as HandOffNote}
 use Rattle.core_base.specs.declared.ops.Op.{Op}
@@ -38,8 +37,8 @@ unended [] = []
 unended (End ∷ ds) = unended ds
 unended (d ∷ ds) = d ∷ unended ds
 
--- As in calls of the mutex, but for a wait that was moved to it and is late: that leaves the bit.
--- Whom the release takes is no part of a place: `whom`.
+-- The deeds are those of calls of the mutex, but a wait that was moved to it and is late leaves the
+-- bit. The thread that the release takes is no part of a place: `whom`.
 abbrev pub waiter_deeds : WaitAt → Option ℕ → Reply → List Deed
 waiter_deeds wait.Refuse whom Done = End ∷ []
 waiter_deeds (wait.Release s at) whom told = unended (mutex_deeds at whom told)

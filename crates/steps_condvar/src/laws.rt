@@ -1,4 +1,4 @@
-//! What the steps of a condition variable do to it.
+//! The laws of the steps of a condition variable.
 ghost use Rattle.steps_condvar.specs.CondvarCalls.{CondvarPlacesReached, LooksTell, NotifiesTell, WaitersAreTold, WaitsTell};
 ghost use Rattle.steps_condvar.specs.CondvarDeeds.{CondvarMovesFit, CondvarOwnersFollow, CondvarStepsCode, CondvarStepsFollow};
 ghost use Rattle.steps_condvar.specs.CondvarMoves.{LooksMove, NotifiesMove, WaitersLookAgain, WaitersMove, WaitsBegin, WaitsMove};
@@ -50,8 +50,8 @@ pub fn waiters_code()
     ensures { WaitersCode }
 {}
 
-/// What befalls it, as it stands in a queue or is in a hand, makes of what it does there what its
-/// next place says.
+/// An event that befalls a wait, in a queue or in a hand, makes of what it does at its mutex what
+/// its next place says.
 pub fn waiters_hear()
     ensures { WaitersHear }
 {}
@@ -63,7 +63,7 @@ pub fn waits_tell()
     ensures { WaitsTell }
 {}
 
-/// What befalls a waiter makes of its call what its next rows say.
+/// An event that befalls a waiter makes of its call what its next rows say.
 pub fn waiters_are_told()
     ensures { WaitersAreTold }
 {}

@@ -42,7 +42,7 @@ pub enum NotifyAt {
     Leave { any: bool, number: usize },
 }
 
-/// What a notification answers that has moved so many.
+/// Returns the answer of a notification that has moved so many.
 pub(super) fn notified(all: bool, number: usize) -> Answer
     ensures { result ≡ notified all number }
 {
@@ -138,7 +138,7 @@ pub(super) fn next_notify(all: bool, mutex: usize, at: NotifyAt, reply: Reply) -
     }
 }
 
-/// Whom a thread moves, and whom it takes.
+/// Returns the act that moves waiters, and takes one where the mutex is free.
 fn move_act(all: bool, locked: bool, condvar: usize, mutex: usize) -> Act
     requires { (condvar < 2 ^ 63) × (mutex < 2 ^ 63) }
     ensures { result ≡ move_act all locked condvar mutex }
@@ -165,7 +165,7 @@ fn move_act(all: bool, locked: bool, condvar: usize, mutex: usize) -> Act
     }
 }
 
-/// What a notification does next.
+/// Returns the next act of a notification.
 pub(super) fn notify_act(all: bool, condvar: usize, mutex: usize, at: NotifyAt) -> Act
     requires { (condvar < 2 ^ 63) × (mutex < 2 ^ 63) }
     ensures { result ≡ notify_act all condvar mutex at }

@@ -5,7 +5,7 @@
 //! | 0 | nobody waits |
 //! | `m + 1` | somebody may wait, with the mutex `m` |
 //!
-//! Who waits, and whom a notification takes or moves, is also in a call of its mutex.
+//! A thread that waits, and one that a notification takes or moves, is also in a call of its mutex.
 ghost use Rattle.std.specs.Prelude.{ℕ, ◌≡◌, ◌<◌, ◌^◌};
 ghost use Rattle.steps_base.specs.Acts.{outcome_of};
 ghost use Rattle.steps_condvar.specs.CondvarProfiles.{condvar_taker, condvar_wants, condvar_late_key, condvar_owes, condvar_retries};
@@ -103,7 +103,7 @@ impl CondvarPlace {
         }
     }
 
-    /// What the thread does next.
+    /// Returns the thread's next act.
     pub fn act(self, condvar: usize) -> Act
         requires { (condvar < 2 ^ 63) × HasMutexKey self }
         ensures { result ≡ condvar_act condvar self }
@@ -118,7 +118,7 @@ impl CondvarPlace {
         }
     }
 
-    /// What a thread is told that comes here.
+    /// Returns the outcome that a thread is told when it comes here.
     pub fn outcome(self) -> Outcome
         ensures { (c : ℕ) → result ≡ outcome_of (condvar_act c self) }
     {
@@ -155,8 +155,8 @@ impl CondvarPlace {
         }
     }
 
-    /// Who owns the mutex, or which one is shown, after the thread's operation on a word, which saw
-    /// this value.
+    /// Returns the owners of the mutex, or the mutex that is shown, after the thread's operation on
+    /// a word. The operation saw this value.
     pub fn owners_after(self, thread: usize, seen: u64, owners: Owners) -> Owners
         ensures { result ≡ condvar_owners self thread seen owners }
     {
@@ -196,7 +196,7 @@ impl CondvarPlace {
         }
     }
 
-    /// What the thread wants, where it waits: to be notified, or the mutex.
+    /// Returns what the thread wants, where it waits: to be notified, or the mutex.
     pub fn wants(self) -> Option<Want>
         ensures { result ≡ condvar_wants self }
     {

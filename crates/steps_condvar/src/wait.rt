@@ -25,7 +25,7 @@ use core_base::{Keys, Line, Note, Op, Want, main_key};
 use spec_locks::Answer;
 use steps_mutex::{Entry, LockAt, MutexPlace, UnlockAt};
 
-/// What has befallen a thread since it stood behind the last.
+/// The state of a waiter, by what has befallen it since it joined the queue.
 #[derive(Clone, Copy)]
 pub enum Stands {
     /// Nothing: it stands in the queue of the condition variable.
@@ -78,7 +78,7 @@ impl Stands {
         }
     }
 
-    /// What it waits for.
+    /// Returns what the thread waits for.
     pub(super) fn wants(self) -> Want
         ensures { result ≡ want_of self }
     {
@@ -191,7 +191,7 @@ fn late_place(stands: Stands) -> WaitAt
     }
 }
 
-/// What a wait answers with the mutex.
+/// Returns the answer of a wait that has the mutex.
 fn waited(timed: bool, timed_out: bool) -> Answer
     ensures { result ≡ waited timed timed_out }
 {
@@ -282,7 +282,7 @@ pub(super) fn next_wait(mutex: usize, timed: bool, at: WaitAt, reply: Reply) -> 
     }
 }
 
-/// What a wait does next.
+/// Returns the next act of a wait.
 pub(super) fn wait_act(condvar: usize, mutex: usize, at: WaitAt) -> Act
     requires { (condvar < 2 ^ 63) × (mutex < 2 ^ 63) }
     ensures { result ≡ wait_act condvar mutex at }

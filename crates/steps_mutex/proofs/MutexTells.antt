@@ -1,4 +1,5 @@
--- Whatever a thread in a call of a mutex is told of its step, the step makes of its call what its next row says.
+-- A thread in a call of a mutex is told of its step. For each reply, the step makes of the call
+-- what the next row says.
 use Rattle.std.proofs.Common.{ℕ, Bool, true, false, Option, Some, None, if◌then◌else◌, ◌==◌, not, ◌≡◌, ◌≢◌, inl, [], ◌∷◌, refl, sym, ◌∙◌, ap, subst}
 use Rattle.core_base.specs.declared.wants.Want.TheVariants.{Exclusive}
 use Rattle.steps_base.specs.declared.acts.Reply.{Reply}

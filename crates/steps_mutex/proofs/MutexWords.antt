@@ -1,4 +1,5 @@
--- What a thread reads in the word of a mutex is so, and what its operations make of the word.
+-- The word of a mutex tells a thread the truth, and each operation leaves the word that its deeds
+-- say.
 use Rattle.std.proofs.Common.{ℕ, Bool, true, false, Option, Some, None, ◌==◌, ◌≡◌, ◌≢◌, ◌+◌, ◌*◌, List, [], ◌∷◌, refl, ap, ◌∙◌, arith}
 use Rattle.std.proofs.lemmas.Bool.Decides.{nat_tests}
 use Rattle.std.specs.Prelude.{drop}

@@ -1,4 +1,4 @@
--- What each step of a mutex does to it: the deeds of each place.
+-- The deeds of each place of a mutex: the effects of a step on it.
 use Rattle.std.specs.Prelude.{ℕ, Bool, true, Option, Some, None, if◌then◌else◌, ◌==◌, not, List, [], ◌∷◌}
 use Rattle.core_base.specs.declared.wants.Want.TheVariants.{Exclusive}
 use Rattle.steps_mutex.specs.declared.places.MutexPlace.{MutexPlace}
@@ -39,7 +39,7 @@ abbrev pub takes : Option ℕ → List Deed
 takes None = FindNobody Main ∷ []
 takes (Some u) = Case (TakeFirst (queued u)) ∷ []
 
--- Who is taken or handed the lock, if anybody, is no part of a place: `whom`.
+-- The thread that is taken or handed the lock, if any, is no part of a place: `whom`.
 abbrev pub unlock_deeds : UnlockAt → Option ℕ → Reply → List Deed
 unlock_deeds unlock.Subtract whom (Value seen) =
     Case (Leave Exclusive) ∷ (if is_parked seen then [] else End ∷ [])

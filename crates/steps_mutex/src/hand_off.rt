@@ -77,7 +77,7 @@ pub(super) fn hand_off_store(lock: usize, any: bool, none_left: bool) -> Act
     }
 }
 
-/// What an owner does next that saw `PARKED`.
+/// Returns the next act of an owner that saw `PARKED`.
 pub(super) fn hand_off_act(lock: usize, at: HandOffAt) -> Act
     requires { lock < 2 ^ 63 }
     ensures { result ≡ hand_off_act lock at }

@@ -1,4 +1,4 @@
-//! What the steps of a mutex do to it.
+//! The laws of the steps of a mutex.
 ghost use Rattle.steps_mutex.specs.MutexLaws.{MutexHandOversCode, MutexRowsKeep, MutexStepsCode, MutexStepsFollow, MutexStepsTell};
 
 /// Each step of a mutex may do to it what its deeds say, and its next place says what the thread

@@ -72,7 +72,8 @@ impl Entry {
         }
     }
 
-    /// What the call answers with the mutex: a timed one `Yes`, one that waits for ever `Ok`.
+    /// Returns the answer of a call that has the mutex: `Yes` of a timed one, and `Ok` of one that
+    /// waits for ever.
     fn entered(self) -> Answer
         ensures { result ≡ entered self }
     {
@@ -152,7 +153,7 @@ pub(super) fn still_retries(retries: bool, reply: Reply) -> bool
     }
 }
 
-/// What a thread that enters does next.
+/// Returns the next act of a thread that enters.
 pub(super) fn lock_act(lock: usize, at: LockAt) -> Act
     requires { lock < 2 ^ 63 }
     ensures { result ≡ lock_act lock at }
@@ -191,8 +192,8 @@ pub(super) fn lock_act(lock: usize, at: LockAt) -> Act
     }
 }
 
-/// What `lock` does about a value that it saw: it takes an unlocked mutex, sets `PARKED` beside an
-/// owner, and parks where that is set.
+/// Returns the act of `lock` on a value that it saw. It takes an unlocked mutex, sets `PARKED`
+/// beside an owner, and parks where that is set.
 pub(super) fn decided(lock: usize, seen: u64) -> Act
     requires { lock < 2 ^ 63 }
     ensures { result ≡ decided lock seen }
@@ -218,7 +219,7 @@ pub(super) fn decided(lock: usize, seen: u64) -> Act
     Act::Enter(Keys::One(main_key(lock)))
 }
 
-/// Who owns the mutex after an operation on the word by a thread that enters.
+/// Returns the owners of the mutex after an operation on the word by a thread that enters.
 pub(super) fn lock_owners(at: LockAt, thread: usize, seen: u64, owners: Owners) -> Owners
     ensures { result ≡ lock_owners at thread seen owners }
 {

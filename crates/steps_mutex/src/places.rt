@@ -92,7 +92,7 @@ impl MutexPlace {
         }
     }
 
-    /// What the thread does next.
+    /// Returns the thread's next act.
     pub fn act(self, lock: usize) -> Act
         requires { lock < 2 ^ 63 }
         ensures { result ≡ mutex_act lock self }
@@ -116,7 +116,7 @@ impl MutexPlace {
         }
     }
 
-    /// What a thread is told that comes here.
+    /// Returns the outcome that a thread is told when it comes here.
     pub fn outcome(self) -> Outcome
         ensures { (l : ℕ) → result ≡ outcome_of (mutex_act l self) }
     {
@@ -170,8 +170,8 @@ impl MutexPlace {
         }
     }
 
-    /// Who owns the mutex after the thread's operation on the word, which saw this value, but for
-    /// the one to whom it hands the mutex.
+    /// Returns the owners of the mutex after the thread's operation on the word, which saw this
+    /// value. A thread to whom it hands the mutex is not among them yet.
     pub fn owners_after(self, thread: usize, seen: u64, owners: Owners) -> Owners
         ensures { result ≡ mutex_owners self thread seen owners }
     {
@@ -209,7 +209,7 @@ impl MutexPlace {
         }
     }
 
-    /// What the thread wants, where it waits.
+    /// Returns what the thread wants, where it waits.
     pub fn wants(self) -> Option<Want>
         ensures { result ≡ mutex_wants self }
     {

@@ -49,7 +49,7 @@ pub(super) fn next_unlock(at: UnlockAt, reply: Reply) -> Next<UnlockAt>
     }
 }
 
-/// What `unlock` does next.
+/// Returns the next act of `unlock`.
 pub(super) fn unlock_act(lock: usize, at: UnlockAt) -> Act
     requires { lock < 2 ^ 63 }
     ensures { result ≡ unlock_act lock at }

@@ -1,4 +1,4 @@
--- What a thread reads in the word of a `Once` is so.
+-- The word of a `Once` tells a thread the truth.
 use Rattle.std.proofs.Common.{ℕ, Bool, true, false, ◌≡◌, ◌+◌, ◌*◌, refl, ap}
 use Rattle.core_base.specs.declared.ops.Op.TheVariants as op
 use Rattle.core_base.specs.Words.{apply}

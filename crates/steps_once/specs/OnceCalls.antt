@@ -1,5 +1,5 @@
--- What each step of a `Once` makes of its call: the row of the next place is what the step's case
--- makes of the call, the call is made of that case, and its answer is true.
+-- The effect of each step of a `Once` on its call. The row of the next place is what the step's
+-- case makes of the call. The call is made of that case, and its answer is true.
 use Rattle.std.specs.Prelude.{ℕ, Some, None, true, false, ◌≡◌, ◌≢◌}
 use Rattle.core_base.specs.declared.notes.Note.TheVariants.{Normal}
 use Rattle.core_base.specs.declared.ops.Op.{Op}

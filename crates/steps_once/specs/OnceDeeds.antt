@@ -1,4 +1,4 @@
--- What each step of a `Once` does to it: the deeds of each place, and their laws.
+-- The deeds of each place of a `Once`, which are the effects of a step on it, and their laws.
 use Rattle.std.specs.Prelude.{ℕ, Bool, true, false, Option, Some, None, if◌then◌else◌, ◌==◌, ◌≡◌, ◌≢◌, List, [], ◌∷◌}
 use Rattle.core_base.specs.declared.ops.Op.{Op}
 use Rattle.core_base.specs.declared.wants.Waiter.{Waiter}

@@ -1,5 +1,4 @@
--- What each place of a `Once` says of its thread: a row for each place. All that is asked of a
--- place is read off its row.
+-- The rows of the places of a `Once`. A row says all that is asked of a place's thread.
 use Rattle.std.specs.Prelude.{ℕ, Bool, true, false, Option, Some, None, if◌then◌else◌, not}
 use Rattle.core_base.specs.declared.wants.Want.{Want}
 use Rattle.core_base.specs.declared.wants.Want.TheVariants as wants

@@ -1,4 +1,4 @@
-//! What the steps of a `Once` do to it.
+//! The laws of the steps of a `Once`.
 ghost use Rattle.steps_once.specs.OnceCalls.{OnceSectionsTell, OnceSleepersHear, OnceStepsTell};
 ghost use Rattle.steps_once.specs.OnceMoves.{OnceActsMove, OnceLateMove, OnceSleepersMove};
 ghost use Rattle.steps_once.specs.OnceRows.{OnceRowsKeep};
@@ -36,7 +36,7 @@ pub fn once_sections_tell()
     ensures { OnceSectionsTell }
 {}
 
-/// What befalls a thread asleep makes of its call what its row says.
+/// An event that befalls a thread asleep makes of its call what its row says.
 pub fn once_sleepers_hear()
     ensures { OnceSleepersHear }
 {}

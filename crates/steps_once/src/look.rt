@@ -36,7 +36,7 @@ pub enum LookAt {
     Taken { by: usize },
 }
 
-/// What a call does about a value that it saw.
+/// The course that a call takes by the value that it saw.
 #[derive(Clone, Copy, PartialEq, Eq)]
 pub enum Course {
     Ends(Answer),
@@ -70,7 +70,7 @@ fn runs(call: OnceCall) -> bool
     matches!(call, OnceCall::CallOnce { .. })
 }
 
-/// What a call wants that waits.
+/// Returns what a waiting call wants.
 pub(super) fn want_of(call: OnceCall) -> Want
     ensures { result ≡ want_of call }
 {
@@ -201,7 +201,7 @@ fn check(call: OnceCall) -> Check
     }
 }
 
-/// What a thread does about a value that it saw.
+/// Returns the act of a thread on a value that it saw.
 fn decided(lock: usize, call: OnceCall, seen: u64) -> Act
     requires { lock < 2 ^ 63 }
     ensures { result ≡ decided lock call seen }
@@ -226,7 +226,7 @@ fn decided(lock: usize, call: OnceCall, seen: u64) -> Act
     }
 }
 
-/// What a thread does next that looks, or waits.
+/// Returns the next act of a thread that looks, or waits.
 pub(super) fn look_act(lock: usize, call: OnceCall, at: LookAt) -> Act
     requires { lock < 2 ^ 63 }
     ensures { result ≡ look_act lock call at }

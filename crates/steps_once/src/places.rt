@@ -69,7 +69,7 @@ impl OncePlace {
         }
     }
 
-    /// What the thread does next.
+    /// Returns the thread's next act.
     pub fn act(self, lock: usize) -> Act
         requires { lock < 2 ^ 63 }
         ensures { result ≡ once_act lock self }
@@ -81,7 +81,7 @@ impl OncePlace {
         }
     }
 
-    /// What a thread is told that comes here.
+    /// Returns the outcome that a thread is told when it comes here.
     pub fn outcome(self) -> Outcome
         ensures { (l : ℕ) → result ≡ outcome_of (once_act l self) }
     {
@@ -169,7 +169,7 @@ impl OncePlace {
         }
     }
 
-    /// What the thread wants, where it waits.
+    /// Returns what the thread wants, where it waits.
     pub fn wants(self) -> Option<Want>
         ensures { result ≡ once_wants self }
     {

@@ -42,7 +42,7 @@ impl RunAt {
     }
 }
 
-/// What a closure is told that begins.
+/// Returns the state that a closure is told as it begins.
 pub(super) fn state_before(poisoned: bool) -> OnceState
     ensures { result ≡ state_before poisoned }
 {
@@ -102,7 +102,7 @@ pub(super) fn next_run(at: RunAt, reply: Reply) -> Next<RunAt>
     }
 }
 
-/// What a run does next.
+/// Returns the next act of a run.
 pub(super) fn run_act(lock: usize, at: RunAt) -> Act
     requires { lock < 2 ^ 63 }
     ensures { result ≡ run_act lock at }

@@ -1,4 +1,5 @@
--- What a thread owns in a call of a reader-writer lock: what it found, by what it owns now.
+-- The rights that a thread found as its call of a reader-writer lock began, by those that it has
+-- now.
 use Rattle.std.proofs.Common.{ℕ, Bool, true, false, if◌then◌else◌, ◌≡◌, refl, sym, subst}
 use Rattle.core_base.specs.declared.wants.Want.{Want}
 use Rattle.core_base.specs.declared.wants.Want.TheVariants.{Upgradable}

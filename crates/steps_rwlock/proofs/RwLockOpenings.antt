@@ -1,4 +1,4 @@
--- What a call of a reader-writer lock begins with.
+-- The first places of the calls of a reader-writer lock.
 use Rattle.std.proofs.Common.{Some, None, refl}
 use Rattle.core_base.specs.declared.wants.Want.TheVariants.{Exclusive, Upgradable, Shared}
 use Rattle.spec_locks.specs.declared.calls.Access.TheVariants as access

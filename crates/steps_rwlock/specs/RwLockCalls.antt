@@ -1,5 +1,5 @@
--- What each step of a reader-writer lock makes of its call: the row of the next place is what the
--- step's case makes of the call, the call is made of that case, and its answer is true.
+-- The effect of each step of a reader-writer lock on its call. The row of the next place is what
+-- the step's case makes of the call. The call is made of that case, and its answer is true.
 use Rattle.std.specs.Prelude.{ℕ, Bool, true, false, Option, Some, None, ◌≡◌, ◌≢◌, ◌<◌, ◌^◌}
 use Rattle.core_base.specs.declared.keys.Line.TheVariants.{Main, Second}
 use Rattle.core_base.specs.declared.notes.Note.TheVariants.{Normal}

@@ -1,5 +1,5 @@
--- What a call of a reader-writer lock begins with: where it may stand, nowhere in the machine, and
--- with nothing done.
+-- A call of a reader-writer lock begins where it may stand, nowhere in the machine, and with
+-- nothing done.
 use Rattle.std.specs.Prelude.{ℕ, false, Option, ◌≡◌}
 use Rattle.steps_base.specs.Profiles.{Profile}
 use Rattle.steps_base.specs.Stations.{station_by, nowhere}

@@ -1,5 +1,4 @@
--- What each place of a reader-writer lock says of its thread: all that is asked of a place is read
--- off its row.
+-- The rows of the places of a reader-writer lock. A row says all that is asked of a place's thread.
 use Rattle.std.specs.Prelude.{ℕ, Bool, true, false, Option, Some, None, if◌then◌else◌, ◌&&◌, not, ◌-◌}
 use Rattle.core_base.specs.declared.keys.Line.{Line}
 use Rattle.core_base.specs.declared.keys.Line.TheVariants.{Main, Second}

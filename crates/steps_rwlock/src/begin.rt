@@ -8,8 +8,8 @@ use steps_base::Owners;
 use spec_locks::{Access, Kind, Patience};
 
 impl Admission {
-    /// What is chosen for a lock of this kind; where the kind is no reader-writer lock, nobody may
-    /// share it.
+    /// Returns the settings of a lock of this kind. Where the kind is no reader-writer lock, nobody
+    /// may share it.
     pub fn of(kind: Kind) -> Admission
         ensures { result ≡ admission_of kind }
     {

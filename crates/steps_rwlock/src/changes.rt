@@ -1,4 +1,4 @@
-//! Who owns a reader-writer lock behind an operation on its word.
+//! The owners of a reader-writer lock after an operation on its word.
 ghost use Rattle.std.specs.Prelude.{◌≡◌};
 ghost use Rattle.steps_rwlock.specs.RwLockSteps.{came_change, settles, gives_change, rollback_change, change, owners_by, rwlock_owners, rwlock_shares};
 
@@ -9,7 +9,7 @@ use steps_base::bits::count_in;
 use steps_base::{Fallback, Owners, Pending};
 use spec_locks::{Access, Downgrade};
 
-/// What an operation does to the owners.
+/// The effect of an operation on the owners.
 #[derive(Clone, Copy)]
 pub enum Change {
     Nothing,
@@ -23,7 +23,7 @@ pub enum Change {
     RollBack { upgradable: bool },
 }
 
-/// Behind an exchange that succeeded.
+/// Returns the change by an exchange that succeeded.
 fn came(purpose: RwLockPurpose, decision: Decision) -> Change
     ensures { result ≡ came_change purpose decision }
 {
@@ -37,7 +37,7 @@ fn came(purpose: RwLockPurpose, decision: Decision) -> Change
     }
 }
 
-/// Of a pending writer that saw this.
+/// Returns the change by a pending writer that saw this word.
 fn settles(seen: u64) -> Change
     ensures { result ≡ settles seen }
 {
@@ -48,7 +48,7 @@ fn settles(seen: u64) -> Change
     }
 }
 
-/// Of a thread that gave way, and saw this.
+/// Returns the change by a thread that gave way and saw this word.
 fn gives(purpose: RwLockPurpose, seen: u64) -> Change
     ensures { result ≡ gives_change purpose seen }
 {
@@ -123,8 +123,8 @@ impl Change {
 }
 
 impl RwLockPlace {
-    /// Who owns the lock after the thread's operation on the word, which saw this value; the number
-    /// of its shared rights stands apart.
+    /// Returns the owners of the lock after the thread's operation on the word, which saw this
+    /// value. The number of its shared rights stands apart.
     pub fn owners_after(
         self,
         admission: Admission,

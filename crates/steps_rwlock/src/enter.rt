@@ -9,7 +9,7 @@
 //! | `Decide(v)`, blocked, with `PARKED` | enters the main section | `Park` |
 //!
 //! A try to upgrade decides the same way: it takes where nobody else shares, and else ends with
-//! `No`. A try that is blocked ends with `No`. Whoever counts, and isn't blocked, ends with
+//! `No`. A try that is blocked ends with `No`. A thread that counts, and isn't blocked, ends with
 //! `ReadersFull` where the count is at the limit.
 ghost use Rattle.std.specs.Prelude.{◌≡◌, ◌<◌, ◌^◌};
 ghost use Rattle.steps_rwlock.specs.RwLockSteps.{wanted, decision, decided_for, decided_act, exchange, first_next, looked, came_in, exchanged_next, decided_next};
@@ -22,7 +22,7 @@ use steps_base::{Act, Next, Reply};
 use core_base::{Keys, Op, main_key};
 use spec_locks::{Access, Answer, Patience};
 
-/// What a thread that enters does about a word that it saw.
+/// The decision of a thread that enters, about a word that it saw.
 #[derive(Clone, Copy, PartialEq, Eq)]
 pub enum Decision {
     Take,
@@ -53,7 +53,7 @@ impl Admission {
 }
 
 impl Admission {
-    /// What a call does about a word that it saw.
+    /// Returns the decision of a call about a word that it saw.
     pub fn decided(self, purpose: RwLockPurpose, word: u64) -> Decision
         ensures { result ≡ decided_for self purpose word }
     {
@@ -75,7 +75,7 @@ pub(super) fn exchange(lock: usize, from: u64, to: u64) -> Act
     }
 }
 
-/// What a thread does about a value that it saw.
+/// Returns the act of a thread that has decided about a value that it saw.
 pub(super) fn decided_act(lock: usize, decision: Decision, purpose: RwLockPurpose, seen: u64) -> Act
     requires { lock < 2 ^ 63 }
     ensures { result ≡ decided_act lock purpose seen decision }

@@ -1,4 +1,4 @@
-//! What the steps of a lock do to it.
+//! The laws of the steps of a reader-writer lock.
 ghost use Rattle.steps_rwlock.specs.RwLockCalls.{RwLockCallsStand, RwLockLooksStand, RwLockSectionsTell, RwLockSleepersHear, RwLockStepsTell};
 ghost use Rattle.steps_rwlock.specs.RwLockMoves.{RwLockActsMove, RwLockLateMove, RwLockSleepersMove};
 ghost use Rattle.steps_rwlock.specs.RwLockOpenings.{RwLockCallsOpen};
@@ -48,7 +48,7 @@ pub fn rwlock_looks_stand()
     ensures { RwLockLooksStand }
 {}
 
-/// What befalls a thread asleep makes of its call what its row says.
+/// An event that befalls a thread asleep makes of its call what its row says.
 pub fn rwlock_sleepers_hear()
     ensures { RwLockSleepersHear }
 {}
@@ -59,8 +59,8 @@ pub fn rwlock_acts_move()
     ensures { RwLockActsMove }
 {}
 
-/// Who stands in a line sleeps there or is inside its section; who is taken is in a hand, and who
-/// is woken in none.
+/// A thread that stands in a line sleeps there or is inside its section. A thread that is taken is
+/// in a hand, and one that is woken is in none.
 pub fn rwlock_sleepers_move()
     ensures { RwLockSleepersMove }
 {}

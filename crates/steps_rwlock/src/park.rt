@@ -39,7 +39,7 @@ pub enum ParkAt {
 }
 
 impl ParkAt {
-    /// What a thread is told that comes here.
+    /// Returns the outcome that a thread is told when it comes here.
     pub(super) fn outcome(self) -> Outcome
         ensures { IsTold result self }
     {

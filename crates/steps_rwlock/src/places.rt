@@ -1,4 +1,4 @@
-//! The steps of a reader-writer lock. What the bits of its word mean is told in `bits`.
+//! The steps of a reader-writer lock. The module `bits` says what the bits of its word mean.
 ghost use Rattle.std.specs.Prelude.{ℕ, ◌≡◌, ◌<◌, ◌^◌};
 ghost use Rattle.steps_base.specs.Acts.{outcome_of};
 ghost use Rattle.spec_locks.specs.Codes as codes;
@@ -33,7 +33,7 @@ pub const NOT_PARKED: u64 = 18446744073709551614;
 /// All bits but `WRITER_PARKED`.
 pub const NOT_WRITER_PARKED: u64 = 18446744073709551613;
 
-/// What is chosen for a reader-writer lock.
+/// The settings of a reader-writer lock.
 #[derive(Clone, Copy)]
 pub struct Admission {
     /// Whether readers may read again beside a waiting writer.
@@ -99,7 +99,7 @@ impl RwLockPlace {
         })
     }
 
-    /// What a thread is told that comes here.
+    /// Returns the outcome that a thread is told when it comes here.
     pub fn outcome(self, admission: Admission) -> Outcome
         ensures { (l : ℕ) → result ≡ outcome_of (rwlock_act l admission self) }
     {
@@ -113,7 +113,7 @@ impl RwLockPlace {
         }
     }
 
-    /// What the thread does next.
+    /// Returns the thread's next act.
     pub fn act(self, lock: usize, admission: Admission) -> Act
         requires { lock < 2 ^ 63 }
         ensures { result ≡ rwlock_act lock admission self }
@@ -182,7 +182,7 @@ impl RwLockPlace {
         }
     }
 
-    /// What the thread wants, where it waits.
+    /// Returns what the thread wants, where it waits.
     pub fn wants(self) -> Option<Want>
         ensures { result ≡ rwlock_wants self }
     {

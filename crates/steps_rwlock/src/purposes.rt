@@ -1,4 +1,4 @@
-//! What the calls of a reader-writer lock are for.
+//! The purposes of the calls of a reader-writer lock.
 //!
 //! | call | first step on the word | then |
 //! |---|---|---|
@@ -26,7 +26,7 @@ pub enum RwLockPurpose {
 // An upgrade subtracts a reader with the upgradable right, and adds a writer.
 const UPGRADED: u64 = READER + UPGRADABLE - WRITER;
 
-/// What a right adds to the word.
+/// Returns the number that a right adds to the word.
 #[inline]
 pub fn token(access: Access) -> u64
     ensures { result ≡ token (wanted access) }
@@ -72,7 +72,8 @@ pub fn lesser(downgrade: Downgrade) -> Access
     }
 }
 
-/// What a call answers with its right: one that waits for ever `Ok`, another `Yes`.
+/// Returns the answer of a call that has its right: `Ok` of one that waits for ever, and else
+/// `Yes`.
 #[inline]
 pub fn entered(patience: Patience) -> Answer
     ensures { result ≡ entered patience }
@@ -118,7 +119,8 @@ impl RwLockPurpose {
         }
     }
 
-    /// What the call answers behind a wake: who entered or upgraded has given up.
+    /// Returns the answer of the call after a wake. A call that was to enter or to upgrade has
+    /// given up.
     pub(super) fn ends_with(self) -> Answer
         ensures { result ≡ ends_with self }
     {

@@ -71,7 +71,8 @@ fn sees_waiter(place: RwLockPlace, line: Line, is_there: bool) -> Next<RwLockPla
     }
 }
 
-/// Whom a thread takes of a queue: those whom the lock lets in, or the writer aside.
+/// Returns the waiters that a thread takes from a queue: those that the lock lets in, or the writer
+/// aside.
 fn whom(admission: Admission, start: Option<Want>, line: Line) -> Whom
     ensures { result ≡ whom admission start line }
 {
@@ -112,8 +113,8 @@ pub(super) fn wake_act(
     }
 }
 
-/// Behind a take: where nobody is left in the main queue, and always in the second, the parked bit
-/// goes.
+/// Returns the place after a take. The parked bit goes where nobody is left in the main queue, and
+/// always for the second queue.
 fn took(line: Line, any: bool, none_left: bool) -> WakeAt
     ensures { result ≡ took line any none_left }
 {

@@ -1,4 +1,4 @@
--- What each call of a reader-writer lock begins with.
+-- The first places of the calls of a reader-writer lock.
 use Rattle.std.proofs.Common.{ℕ, true, Option, Some, None, not, ◌==◌, ◌≡◌, ◌≤◌, refl, ap, arith}
 use Rattle.std.proofs.lemmas.Bool.{eqb-true}
 use Rattle.std.proofs.lemmas.Bool.Decides.{nat_tests}

@@ -1,4 +1,5 @@
--- What a thread owns in a fair release, in a bump, and as it was handed the lock: what its call found, by what it owns now.
+-- The rights that the call of a thread found, by those that it has now: in a fair release, in a
+-- bump, and as it was handed the lock.
 use Rattle.std.proofs.Common.{ℕ, Bool, true, false, Option, Some, None, List, [], ◌∷◌, if◌then◌else◌, ◌==◌, ◌≡◌, ◌≢◌, ◌+◌, refl, sym, ap, subst, ◌∙◌, arith}
 use Rattle.std.specs.Prelude.{zero, suc, slice_index}
 use Rattle.std.proofs.lemmas.Bool.Decides.{nat_tests}

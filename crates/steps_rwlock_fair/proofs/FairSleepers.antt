@@ -1,4 +1,5 @@
--- What befalls a thread asleep makes of a call that may be handed the lock what its row says, and where it looks once more it is as it was.
+-- An event that befalls a thread asleep in a call that may be handed the lock makes of the call
+-- what its row says. A thread that looks once more is in the same call as before.
 use Rattle.std.proofs.lemmas.Bool.Decides.{nat_tests}
 use Rattle.std.proofs.Common.{ℕ, Bool, true, false, Option, Some, None, ◌==◌, ◌≡◌, ◌+◌, refl, sym, ap, subst, ◌∙◌, arith}
 use Rattle.core_base.specs.declared.keys.Line.TheVariants.{Second}

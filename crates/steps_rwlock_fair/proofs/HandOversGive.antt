@@ -1,4 +1,4 @@
--- Behind a hand-over each in hand has what its place says.
+-- After a hand-over each thread in hand has what its place says.
 use Rattle.std.proofs.Common.{ℕ, Bool, true, false, Option, Some, None, if◌then◌else◌, ◌==◌, ◌≡◌, ◌≢◌, ◌⊎◌, ◌<◌, inl, inr, refl, ap, sym, subst, ◌∙◌, length, arith}
 use Rattle.std.specs.Prelude.{slice_index, ◌≤◌}
 use Rattle.core_base.specs.declared.ops.Op.{Op}

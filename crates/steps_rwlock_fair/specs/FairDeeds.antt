@@ -63,7 +63,7 @@ call_doing_next (next.End answer) = idle
 
 -- ---------------------------------------------------------------- the deeds of each step
 
--- An operation inside the section sets the parked bit anew. Who succeeds is no part of a place:
+-- An operation inside the section sets the parked bit anew. The successor is no part of a place:
 -- `whom`.
 abbrev pub hands_over : Want → Taken → Option ℕ → List Deed
 hands_over x k whom = Case (HandOff x (heir_of whom k.successor)) ∷ bit_left k.none_left ∷ []

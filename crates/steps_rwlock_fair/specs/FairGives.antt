@@ -1,5 +1,5 @@
--- What a fair release, or a bump, of more than a shared right makes of those whom it takes: all of
--- them have what they waited for in one step, or, where the limit would be passed, none of them.
+-- A fair release, or a bump, of more than a shared right gives all whom it takes what they waited
+-- for, in one step. Where the limit would be passed, it gives it to none of them.
 use Rattle.std.specs.Prelude.{ℕ, Bool, true, false, Option, Some, None, ◌≡◌, ◌≢◌, ◌<◌, ◌≤◌, ◌+◌, ◌⊎◌, [], length, slice_index}
 use Rattle.core_base.specs.declared.ops.Op.{Op}
 use Rattle.core_base.specs.declared.wants.Want.{Want}

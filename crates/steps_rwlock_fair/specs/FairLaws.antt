@@ -1,4 +1,4 @@
--- What the steps of fair releases and bumps do to the lock, and what they make of their calls.
+-- The effects of the steps of fair releases and bumps on the lock, and on their calls.
 use Rattle.std.specs.Prelude.{ℕ, Bool, true, false, Option, Some, None, ◌≡◌, ◌≢◌, ◌<◌, ◌+◌, ◌-◌, ◌^◌, ◌==◌, List, length, slice_index}
 use Rattle.core_base.specs.declared.ops.Op.{Op}
 use Rattle.core_base.specs.declared.wants.Want.{Want}

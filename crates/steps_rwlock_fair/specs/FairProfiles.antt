@@ -1,5 +1,5 @@
--- What each place of a fair release, of a bump, and of those to whom they hand the lock says of its
--- thread.
+-- The rows of the places of a fair release, of a bump, and of the threads to which they hand the
+-- lock.
 use Rattle.std.specs.Prelude.{ℕ, Bool, true, false, Option, Some, None, if◌then◌else◌}
 use Rattle.core_base.specs.declared.keys.Line.{Line}
 use Rattle.core_base.specs.declared.keys.Line.TheVariants.{Main}

@@ -23,12 +23,12 @@ use steps_rwlock::Admission;
 use steps_rwlock::places::{PARKED, READER, UPGRADABLE, WRITER};
 use steps_rwlock::purposes::token;
 
-/// Whom an owner has taken, to hand them the lock.
+/// The waiters that an owner has taken, to hand them the lock.
 #[derive(Clone, Copy)]
 pub struct Taken {
     /// How many of them want to share.
     pub sharers: usize,
-    /// What the one of them wants that wants more.
+    /// The want of the one among them that wants more than to share, if there is one.
     pub successor: Option<Want>,
     /// Whether nobody is left in the queue.
     pub none_left: bool,
@@ -73,7 +73,7 @@ impl HandOverAt {
     }
 }
 
-/// What a successor's right adds to the word.
+/// Returns the number that a successor's right adds to the word.
 fn token_of(successor: Option<Want>) -> u64
     ensures { result ≡ token_of successor }
 {
@@ -107,7 +107,7 @@ impl Taken {
         self.sharers != 0 || self.successor.is_some()
     }
 
-    /// What their rights add to the word.
+    /// Returns the number that their rights add to the word.
     fn tokens(self) -> u64
         ensures { result ≡ tokens self }
     {
@@ -226,7 +226,7 @@ fn freed_next(access: Access, seen: u64) -> HandOverAt
     }
 }
 
-/// Behind a take.
+/// Returns the place after a take.
 fn took(access: Access, taken: Taken) -> HandOverAt
     ensures { result ≡ took access taken }
 {

@@ -1,4 +1,4 @@
-//! What the steps of fair releases and bumps do to the lock.
+//! The laws of the steps of fair releases and bumps.
 ghost use Rattle.steps_rwlock_fair.specs.FairLaws.{FairOwnersFollow, GiversKeep, CallsOpen, FairCallsStand, FairLooksStand, FairSectionsFollow, FairSectionsTell, FairSleepersHear, FairStepsTell, HandOversGive, FairStepsCode, FairStepsFollow, HandOversCode, HandOversFollow, HandOversKeepLimit, HandOversTell};
 ghost use Rattle.steps_rwlock_fair.specs.FairGives.{FairReleasesGive};
 ghost use Rattle.steps_rwlock_fair.specs.FairMoves.{FairActsMove, FairLateMove, FairSleepersMove, HandOversMove, HandedMove};
@@ -35,7 +35,7 @@ pub fn fair_sections_follow()
     ensures { FairSectionsFollow }
 {}
 
-/// Whoever the lock is handed to has what its place says from then on.
+/// A thread that is handed the lock has what its place says from then on.
 pub fn hand_overs_give()
     ensures { HandOversGive }
 {}
@@ -67,8 +67,8 @@ pub fn fair_sections_tell()
     ensures { FairSectionsTell }
 {}
 
-/// What befalls a thread asleep makes of its call what its row says; whoever is handed the lock has
-/// what it wants.
+/// An event that befalls a thread asleep makes of its call what its row says. A thread that is
+/// handed the lock has what it wants.
 pub fn fair_sleepers_hear()
     ensures { FairSleepersHear }
 {}
@@ -91,8 +91,8 @@ pub fn fair_acts_move()
     ensures { FairActsMove }
 {}
 
-/// Who stands in a line sleeps there or is inside its section; who is taken is in a hand, and who
-/// is woken in none.
+/// A thread that stands in a line sleeps there or is inside its section. A thread that is taken is
+/// in a hand, and one that is woken is in none.
 pub fn fair_sleepers_move()
     ensures { FairSleepersMove }
 {}
@@ -102,7 +102,8 @@ pub fn fair_late_moves()
     ensures { FairLateMove }
 {}
 
-/// Whoever is handed the lock is so from then on, and out of every hand from its wake on.
+/// A thread that is handed the lock is so from then on, and it is out of every hand from its wake
+/// on.
 pub fn handed_move()
     ensures { HandedMove }
 {}

@@ -141,7 +141,7 @@ fn glance_next(admission: Admission, access: Access, seen: u64) -> Next<RwLockCa
 }
 
 impl RwLockCallPlace {
-    /// What the thread does next.
+    /// Returns the thread's next act.
     pub fn act(self, lock: usize, admission: Admission) -> Act
         requires { lock < 2 ^ 63 }
         ensures { result ≡ call_act lock admission self }
@@ -158,7 +158,7 @@ impl RwLockCallPlace {
         }
     }
 
-    /// What a thread is told that comes here.
+    /// Returns the outcome that a thread is told when it comes here.
     pub fn outcome(self, admission: Admission) -> Outcome
         ensures { (l : ℕ) → result ≡ outcome_of (call_act l admission self) }
     {
@@ -203,8 +203,9 @@ impl RwLockCallPlace {
         }
     }
 
-    /// Who owns the lock after the thread's operation on the word, which saw this value, but for
-    /// those to whom it hands the lock; the number of its shared rights stands apart.
+    /// Returns the owners of the lock after the thread's operation on the word, which saw this
+    /// value. The threads to which it hands the lock are not among them yet, and the number of its
+    /// shared rights stands apart.
     pub fn owners_after(
         self,
         admission: Admission,
@@ -253,7 +254,7 @@ impl RwLockCallPlace {
         }
     }
 
-    /// What the thread wants, where it waits.
+    /// Returns what the thread wants, where it waits.
     pub fn wants(self) -> Option<Want>
         ensures { result ≡ call_wants self }
     {

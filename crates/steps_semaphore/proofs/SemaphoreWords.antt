@@ -1,4 +1,5 @@
--- What a thread reads in the word of a semaphore is so, and what its operations make of the word.
+-- The word of a semaphore tells a thread the truth, and each operation leaves the word that its
+-- deeds say.
 use Rattle.std.proofs.Common.{ℕ, Bool, true, false, Some, None, ◌==◌, ◌≡◌, ◌<◌, ◌≤◌, ◌+◌, ◌-◌, ◌*◌, ◌^◌, List, [], ◌∷◌, refl, ap, ◌∙◌, arith, length, slice_index}
 use Rattle.std.proofs.lemmas.Bool.{eqb-true}
 use Rattle.std.proofs.lemmas.Bool.Decides.{nat_tests}

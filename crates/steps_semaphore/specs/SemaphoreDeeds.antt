@@ -1,4 +1,4 @@
--- What each step of a semaphore does to it: the deeds of each place.
+-- The deeds of each place of a semaphore: the effects of a step on it.
 use Rattle.std.specs.Prelude.{ℕ, true, Option, Some, None, if◌then◌else◌, ◌==◌, not, ◌&&◌, List, [], ◌∷◌}
 use Rattle.core_base.specs.declared.wants.Want.TheVariants.{Shared}
 use Rattle.steps_base.specs.declared.acts.Reply.{Reply}

@@ -43,7 +43,8 @@ pub enum AcquireAt {
     GiveUp,
 }
 
-/// What a call answers that holds its permit: a timed one `Yes`, one that waits for ever `Ok`.
+/// Returns the answer of a call that has its permit: `Yes` of a timed one, and `Ok` of one that
+/// waits for ever.
 fn acquired(timed: bool) -> Answer
     ensures { result ≡ acquired timed }
 {
@@ -99,7 +100,7 @@ pub(super) fn still_retries(retries: bool, reply: Reply) -> bool
     }
 }
 
-/// What a thread that waits for a permit does next.
+/// Returns the next act of a thread that waits for a permit.
 pub(super) fn acquire_act(lock: usize, at: AcquireAt) -> Act
     requires { lock < 2 ^ 63 }
     ensures { result ≡ acquire_act lock at }
@@ -126,8 +127,8 @@ pub(super) fn acquire_act(lock: usize, at: AcquireAt) -> Act
     }
 }
 
-/// What a thread does about a value that it saw: it takes a free permit, sets `PARKED` where none is
-/// free, and parks where that is set.
+/// Returns the act of a thread on a value that it saw. It takes a free permit, sets `PARKED` where
+/// none is free, and parks where that is set.
 fn decided(lock: usize, seen: u64) -> Act
     requires { lock < 2 ^ 63 }
     ensures { result ≡ decided lock seen }

@@ -1,4 +1,4 @@
-//! What the steps of a semaphore do to it.
+//! The laws of the steps of a semaphore.
 ghost use Rattle.steps_semaphore.specs.SemaphoreLaws.{SemaphoreRowsKeep, SemaphoreStepsCode, SemaphoreStepsFollow, SemaphoreStepsTell};
 ghost use Rattle.steps_semaphore.specs.Tended.{NewOnesAreTended, NobodyIsForgotten, StepsKeepTended, WordsTellTrue};
 
@@ -41,7 +41,7 @@ pub fn nobody_is_forgotten()
     ensures { NobodyIsForgotten }
 {}
 
-/// What a thread reads in the word of a semaphore is so.
+/// The word of a semaphore tells a thread the truth.
 pub fn semaphore_words_tell_true()
     ensures { WordsTellTrue }
 {}

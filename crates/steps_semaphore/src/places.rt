@@ -87,7 +87,7 @@ impl SemaphorePlace {
         }
     }
 
-    /// What the thread does next.
+    /// Returns the thread's next act.
     pub fn act(self, lock: usize) -> Act
         requires { lock < 2 ^ 63 }
         ensures { result ≡ semaphore_act lock self }
@@ -99,7 +99,7 @@ impl SemaphorePlace {
         }
     }
 
-    /// What a thread is told that comes here.
+    /// Returns the outcome that a thread is told when it comes here.
     pub fn outcome(self) -> Outcome
         ensures { (l : ℕ) → result ≡ outcome_of (semaphore_act l self) }
     {
@@ -161,7 +161,7 @@ impl SemaphorePlace {
         }
     }
 
-    /// What the thread wants, where it waits.
+    /// Returns what the thread wants, where it waits.
     pub fn wants(self) -> Option<Want>
         ensures { result ≡ semaphore_wants self }
     {

@@ -50,7 +50,7 @@ pub(super) fn next_release(at: ReleaseAt, reply: Reply) -> Next<ReleaseAt>
     }
 }
 
-/// What a release does next.
+/// Returns the next act of a release.
 pub(super) fn release_act(lock: usize, at: ReleaseAt) -> Act
     requires { lock < 2 ^ 63 }
     ensures { result ≡ release_act lock at }

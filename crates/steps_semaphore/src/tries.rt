@@ -48,7 +48,7 @@ pub(super) fn next_try(at: TryAt, reply: Reply) -> Next<TryAt>
     }
 }
 
-/// What a thread that tries does next.
+/// Returns the next act of a thread that tries.
 pub(super) fn try_act(lock: usize, at: TryAt) -> Act
     requires { lock < 2 ^ 63 }
     ensures { result ≡ try_act lock at }

@@ -111,10 +111,6 @@ module _ (t l m : ℕ) (keeps : Keeps t) (w : State) (p : CondvarPlace) (g : Goe
     word_then x beside is = so_then (λ s. word_at s m) (λ q. refl) ∙ ap (λ a. word_at (state_after_act w t (Condvar l p) a) m) is
         ∙ ap (λ y. y.word) (get_or-set_same w.locks m _ (unlocked kind.Mutex) (mutex_there beside))
 
-    -- the condition variable is as its deeds leave it
-    pub shown_then : (lock_state (after w (go_of t)) l).shown ≡ (after_all (condvar_deeds p told) (condvar_of w l) t).shown
-    shown_then = so_then (λ s. (lock_state s l).shown) (λ q. refl) ∙ (goes_led w t l p g.world.shaped g.world.steady g.place lock_there can).0
-
     pub queue_then : (lock_state (after w (go_of t)) l).queue ≡ (after_all (condvar_deeds p told) (condvar_of w l) t).waiters
     queue_then = so_then (λ s. (lock_state s l).queue) (λ q. refl) ∙ (goes_led w t l p g.world.shaped g.world.steady g.place lock_there can).1
 

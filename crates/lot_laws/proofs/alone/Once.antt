@@ -64,10 +64,6 @@ module _ (t l : ℕ) where
 
   -- ---------------------------------------------------------------- who runs
 
-  ended_rests : (b : Bool) → Rests (outcome.End (ended b))
-  ended_rests true = tt
-  ended_rests false = tt
-
   run_leaves : (forced b any : Bool) (v : ℕ) (w : State) (q : Queues) → Alone w (Run forced (run.Leave b any)) v q → RestsIn 1 w
   run_leaves forced b any v w q f = rests w (outcome.End (ended b)) (leave_comes w t l _ v q f Main (wakes_taken any Normal) refl).0 tt
 

@@ -28,9 +28,9 @@ use Rattle.spec_locks.specs.Locks as locks
 use Rattle.spec_locks.specs.Locks.{LockState, Rules, Rights, LockCase, HandOff, HasTakenNobody, Queued, Needs, left_behind, putting, rights_of, standing}
 use Rattle.spec_locks.specs.Runs.{LocksState, IsTimely, rules_at as locks_rules, CallState, Event, AtLock, MayHappen, Agrees, AnswerHolds, GoesOn, locks_after, going_on, woken, unless_ended}
 use Rattle.spec_locks.specs.Sites.{Site, Deed, Begin, Bring, Send, after_deed}
-use Rattle.spec_locks.specs.Deeds.{AreOneCase, KeepLock, case_of, event_by, event_of, EventNeeds, after_event}
+use Rattle.spec_locks.specs.Deeds.{AreOneCase, case_of, event_by, event_of, EventNeeds, after_event}
 use Rattle.spec_locks.specs.Deeds as deeds
-use Rattle.spec_locks.proofs.Deeds.{deeds_lead, deeds_need, kept}
+use Rattle.spec_locks.proofs.Deeds.{deeds_lead, deeds_need}
 use Rattle.spec_locks.proofs.Rights.{others_keep}
 use Rattle.lot_machine.specs.Machine.{State, place_at, kind_at}
 use Rattle.lot_laws.specs.Refinement.{lock_state, call_at, call_state, locks_of}
@@ -142,20 +142,6 @@ happens w v t l hand ds claims steady goes begin one free = happens_at w v t l (
     (ap (λ (s : Site). s.lock) goes.follows.site ∙ deeds_then (rules_in w l) t ds claims (site_of w l) begin ∙ deeds_lead (rules_in w l) t l hand ds (site_of w l) free one)
     (λ k ne. ap (λ (s : Site). s.lock) (goes.follows.others k ne).0)
     (deeds_need (rules_in w l) t l hand ds (site_of w l) (needed_then (rules_in w l) t ds claims (site_of w l) goes.follows.needed) one)
-
--- a step of several locks, of which this one goes through the event of its deeds
-pub happens_all : (w v : State) (t l : ℕ) (hand : Option Bool) (all : ℕ → List Act) (ds : List Deed) (claims : List Act)
-    → IsSteady w → IsSteady v → FollowAll w v all
-    → all l ≡ acts t ds ++ claims → AreClaims claims → AreOneCase ds
-    → ((k : ℕ) → k ≢ l → (other : List Deed) × (all k ≡ acts t other) × KeepLock other)
-    → (hand ≢ Some false → HasTakenNobody (lock_state w l) t) → Happens w v t (event_of l hand ds)
-happens_all w v t l hand all ds claims before after f is begin one others free = happens_at w v t l (case_of hand ds) before after f.kinds
-    (locks_led l ∙ ap (λ done. (after_acts (rules_in w l) done (site_of w l)).lock) is ∙ deeds_then (rules_in w l) t ds claims (site_of w l) begin ∙ deeds_lead (rules_in w l) t l hand ds (site_of w l) free one)
-    (λ k ne. let o = others k ne in locks_led k ∙ ap (λ done. (after_acts (rules_in w k) done (site_of w k)).lock) o.1 ∙ deeds_by (rules_in w k) t o.0 (site_of w k) ∙ kept (rules_in w k) t o.0 (site_of w k) o.2)
-    (deeds_need (rules_in w l) t l hand ds (site_of w l) (needed_then (rules_in w l) t ds claims (site_of w l) (subst (λ done. ActsNeeded (rules_in w l) done (site_of w l)) is (f.needed l))) one)
-  where
-    locks_led : (k : ℕ) → lock_state v k ≡ (after_acts (rules_in w k) (all k) (site_of w k)).lock
-    locks_led k = ap (λ (s : Site). s.lock) (f.site k)
 
 -- or of which waiters of one go to the other
 pub happens_sending : (w v : State) (t c m : ℕ) (all owned : Bool) (number : ℕ) (ds : ℕ → List Act) → IsSteady w → IsSteady v

@@ -13,7 +13,7 @@ use Rattle.steps_mutex.specs.declared.lock.LockAt.TheVariants.{First, Taken}
 use Rattle.lot_steps.specs.Steps.{next_place, profile, calls}
 use Rattle.lot_steps.specs.declared.places.Place.{Place}
 use Rattle.lot_steps.specs.declared.places.Place.TheVariants.{Idle, Mutex, RwLock, Once, Condvar, Semaphore}
-use Rattle.spec_locks.specs.Locks.{LockState, Queued, Taken as LockTaken, Rights, Enter, Wake, HandOff as HandsOff, IsTaken, IsLockState, Knows, Needs, rights_of, with_right, without_right, is_thread, putting}
+use Rattle.spec_locks.specs.Locks.{LockState, Queued, Taken as LockTaken, Rights, Wake, HandOff as HandsOff, IsTaken, IsLockState, Knows, rights_of, with_right, without_right, is_thread, putting}
 use Rattle.spec_locks.specs.Locks as locks
 use Rattle.spec_locks.specs.Purposes.{Blank}
 use Rattle.spec_locks.specs.Runs.{CallState, behind_wake, is_taken_by, AtLock, one_more_at, one_less_at}

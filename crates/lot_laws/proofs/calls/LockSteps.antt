@@ -43,7 +43,6 @@ use Rattle.steps_base.specs.Profiles.{taken_from}
 use Rattle.core_base.specs.Keys.{key_of}
 use Rattle.core_base.specs.declared.keys.Line.{Line}
 use Rattle.spec_locks.specs.Sites.{has_readers}
-use Rattle.spec_locks.specs.Locks.{Mutex as Mutual}
 use Rattle.std.proofs.lemmas.Bool.{ltb-true, lt-ltb}
 use Rattle.core_base.specs.declared.keys.Keys.TheVariants.{One}
 use Rattle.core_base.specs.declared.ops.Op as op

@@ -48,7 +48,7 @@ use Rattle.lot_laws.specs.Stations.{nowhere, station_by}
 use Rattle.lot_laws.specs.WorldRuns.{IsUntouched}
 use Rattle.lot_laws.specs.SitesOf.{FitsCondvar, FitsItsLock, Goes, IsSteady, rules_in}
 use Rattle.lot_laws.proofs.calls.Beside.{looks_beside}
-use Rattle.lot_laws.proofs.machine.Parts.{IsLock, parts_at}
+use Rattle.lot_laws.proofs.machine.Parts.{parts_at}
 use Rattle.lot_laws.proofs.sites.OneStep.{steps_by}
 use Rattle.lot_laws.proofs.sites.ActsAt.{place_goes}
 use Rattle.lot_laws.proofs.sites.Following.{goes_steady}
@@ -67,9 +67,6 @@ set_keeps f (x ∷ xs) (suc i) (suc k) y d e = set_keeps f xs i k y d e
 load_untouched : (w : State) (t l : ℕ) (p : Place) (a : Act) → a ≡ Word l Load → IsUntouched w (state_after_act w t p a)
 load_untouched w t l p a loads = subst (λ x. IsUntouched w (state_after_act w t p x)) (sym loads)
     ((λ k. set_keeps (λ x. x.word) w.locks l k _ (unlocked kind.TheVariants.Mutex) refl), λ key. refl)
-
-of_lock : (l : ℕ) (o : Option ℕ) → o ≡ Some l → IsLock l o
-of_lock l o e = rw e refl
 
 -- it has come on in the same call, beside the same mutex
 pub fits_on : (w : State) (l : ℕ) (at at2 : CondvarPlace) → FitsCondvar w l at → IsReached at2

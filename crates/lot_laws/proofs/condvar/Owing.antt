@@ -1,4 +1,4 @@
--- Whatever befalls a thread in a call of a condition variable, it owes what it owed.
+-- A thread in a call of a condition variable owes what it owed, whichever event befalls it.
 use Rattle.std.proofs.Common.{ℕ, Bool, true, false, Option, None, if◌then◌else◌, ◌==◌, ◌≡◌, refl, sym, ◌∙◌, ap}
 use Rattle.core_base.specs.declared.keys.Line.{Line}
 use Rattle.core_base.specs.declared.notes.Note.TheVariants as note

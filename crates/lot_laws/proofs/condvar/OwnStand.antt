@@ -189,12 +189,3 @@ pub calm_waiter : (w : State) (t l m : ℕ) (timed : Bool) (p : WaitAt) (is : pl
     → is_release p ≡ false
     → place_at (state_after_act w t (Condvar l (Wait m timed p)) (condvar_act l (Wait m timed p))) t ≡ Condvar l (Wait m timed p)
 calm_waiter w t l m timed p is reached there calm = let own = own_place w t l (Wait m timed p) is reached there in own.1 ∙ ap (Condvar l) (calm_still m timed p _ calm own.2)
-
-pub wait_place : (w : State) (t l m : ℕ) (timed : Bool) (p : WaitAt) (is : place_at w t ≡ Condvar l (Wait m timed p))
-    (reached : IsReached (Wait m timed p)) (there : t < length w.places)
-    → is_release p ≡ false
-    → place_at (state_after_going w t (Condvar l (Wait m timed p))) t
-    ≡ condvar_goes l (condvar_next (Wait m timed p) (reply_to w t (condvar_act l (Wait m timed p))))
-unfolding went
-wait_place w t l m timed p is reached there calm = went_place w t l (Wait m timed p) is reached there
-    ∙ ap (λ q. condvar_goes l (condvar_next q (reply_to w t (condvar_act l (Wait m timed p))))) (calm_still m timed p _ calm (own_place w t l (Wait m timed p) is reached there).2)

@@ -123,12 +123,6 @@ module _ (k : ℕ) where
       by_lock false true a false h = cc
       by_lock false false a b h = cc
 
-  -- whoever stands at a lock, or is taken there, may wait for it: it is in a wait, of the condition variable or with the mutex
-  taken_here : (at : CondvarPlace) (l : ℕ)
-      → taken_at (Condvar k at) l
-      ≡ (if is_lock l (mutex_beside at) && not (k == l) then taken_from (mutex_side at).hand (mutex_side at).wants true else None)
-  taken_here at l = refl
-
   out_of_both : (at : CondvarPlace) (l : ℕ) → (k == l) ≡ false → is_lock l (mutex_beside at) ≡ false → StandsAt (Condvar k at) l
       → ⊥
   out_of_both at l c d (inl stands) = stands (stands_at at l ∙ rw (c, d) refl)

@@ -66,10 +66,6 @@ dropped_queue n (x ∷ q) = refl
 left_alone : (q : List Waiter) → (length (drop 1 q) == 0) ≡ is_empty (drop 1 (map queued_of q))
 left_alone q = sym (empty_line (drop 1 q)) ∙ ap is_empty (dropped_queue 0 q)
 
-first_queued : (q : List Waiter) → first_of q ≡ first_thread (map queued_of q)
-first_queued [] = refl
-first_queued (x ∷ q) = refl
-
 length_queued : (q : List Waiter) → length q ≡ length (map queued_of q)
 length_queued [] = refl
 length_queued (x ∷ q) = ap suc (length_queued q)

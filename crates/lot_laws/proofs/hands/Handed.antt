@@ -10,7 +10,7 @@ use Rattle.steps_base.specs.declared.owners.Owners.{Owners}
 use Rattle.lot_steps.specs.declared.places.Place.{Place}
 use Rattle.steps_base.specs.declared.acts.Reply.{Reply}
 use Rattle.lot_steps.specs.Steps.{taker}
-use Rattle.spec_locks.specs.Locks.{Queued, let_go, putting}
+use Rattle.spec_locks.specs.Locks.{let_go, putting}
 use Rattle.std.specs.Prelude.{sum}
 use Rattle.steps_base.specs.Owners.{is_thread, with_exclusive}
 use Rattle.spec_locks.specs.Locks as locks

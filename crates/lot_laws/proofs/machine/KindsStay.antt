@@ -17,7 +17,7 @@ use Rattle.spec_locks.specs.declared.calls.SemaphoreCall.{SemaphoreCall}
 use Rattle.lot_steps.specs.declared.places.Place.{Place}
 use Rattle.spec_locks.specs.Kinds.{has_call}
 use Rattle.lot_steps.specs.Steps.{act_of, looking, late_key}
-use Rattle.lot_machine.specs.Machine.{State, shares_handed_over, unlocked, place_at, word_at, shares_at, filled_at, kind_at, state_after_operation, state_after_hand_over, state_after_look, put, state_after_late_on, state_after_turn, closed_place, is_possible, after}
+use Rattle.lot_machine.specs.Machine.{State, shares_handed_over, unlocked, place_at, word_at, shares_at, filled_at, kind_at, state_after_hand_over, state_after_look, put, state_after_late_on, state_after_turn, closed_place, is_possible, after}
 use Rattle.core_base.specs.Words.{apply}
 use Rattle.spec_locks.specs.Locks as locks
 use Rattle.spec_locks.specs.Codes.{fills}
@@ -25,14 +25,6 @@ use Rattle.spec_locks.specs.Purposes.{rules_of}
 use Rattle.std.proofs.Math.Bool.{or-false}
 pub use Rattle.lot_machine.proofs.KindsStay.{set_field, operated_kinds, given_kinds, performed_kinds}
 use Rattle.lot_laws.specs.SitesOf.{is_mutex}
-
--- who shares what, where none of it changes
-pub shares_kept : (w : State) (n : ℕ) → n ≡ length w.places → (k : ℕ) → get_or w.shares k (replicate n 0) ≡ shares_at w k
-shares_kept w n threads k = ap (λ m. get_or w.shares k (replicate m 0)) threads
-
--- a lock that nobody shares is not filled by an operation
-pub operated_filled : (w : State) (t : ℕ) (p : Place) (l : ℕ) (f : Op) → rules_of (kind_at w l) ≡ record { sort = locks.Mutex; limit = 0 } → (k : ℕ) → filled_at (state_after_operation w t p l f) k ≡ filled_at w k
-operated_filled w t p l f rules k = set_field (λ x. x.filled) w.locks l _ (unlocked kind.TheVariants.Mutex) (ap (λ r. filled_at w l || fills r (apply f (word_at w l))) rules ∙ or-false (filled_at w l)) k
 
 pub given_filled : (w : State) (t : ℕ) (p : Place) (l : ℕ) (f : Op) → rules_of (kind_at w l) ≡ record { sort = locks.Mutex; limit = 0 } → (k : ℕ) → filled_at (state_after_hand_over w t p l f) k ≡ filled_at w k
 given_filled w t p l f rules k = set_field (λ x. x.filled) w.locks l _ (unlocked kind.TheVariants.Mutex) (ap (λ r. filled_at w l || fills r (apply f (word_at w l))) rules ∙ or-false (filled_at w l)) k

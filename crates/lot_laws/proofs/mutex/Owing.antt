@@ -1,5 +1,5 @@
--- How a call of a mutex comes to owe a wake: by the word that it sees, and by entering the section. Whatever befalls a thread asleep changes
--- nothing of that.
+-- A call of a mutex comes to owe a wake by the word that it sees, and by entering the section. An
+-- event that befalls a thread asleep changes nothing of that.
 use Rattle.std.proofs.Common.{ℕ, Bool, true, false, Some, None, if◌then◌else◌, ◌==◌, not, ◌≡◌, ◌*◌, inl, inr, length, drop, refl, sym, ◌∙◌, ap, subst}
 use Rattle.core_base.specs.declared.notes.Note.{Note}
 use Rattle.core_base.specs.declared.notes.Note.TheVariants as note

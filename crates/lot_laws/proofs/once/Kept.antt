@@ -15,7 +15,7 @@ use Rattle.steps_base.specs.declared.acts.Act.TheVariants as act
 use Rattle.steps_base.specs.declared.acts.Next.{Next}
 use Rattle.steps_base.specs.declared.acts.Next.TheVariants as next
 use Rattle.steps_base.specs.declared.acts.Reply.{Reply}
-use Rattle.steps_base.specs.declared.acts.Reply.TheVariants.{Done, Value, Parked, Took, Removed, TakenBy, Late, Woken, Closed}
+use Rattle.steps_base.specs.declared.acts.Reply.TheVariants.{Done, Value, Parked, Took, Removed, TakenBy, Late, Woken}
 use Rattle.steps_base.specs.declared.acts.Wakes.{Wakes}
 use Rattle.steps_base.specs.declared.acts.Whom.TheVariants as whom
 use Rattle.steps_base.specs.Acts.{holds, wakes_taken}
@@ -65,7 +65,7 @@ use Rattle.lot_laws.proofs.sites.OneStep.{steps_by}
 use Rattle.steps_condvar.specs.declared.places.CondvarPlace.{CondvarPlace}
 use Rattle.lot_laws.proofs.machine.Parts.{not_beside, IsOf, doing_here, free_of, next_of, parts_at}
 use Rattle.lot_laws.proofs.sites.MovesKept.{IsFollowed, SleepsIfCalls, IsSleeper, entered_hears, goes_in, goes_out, leaves_line, left_hears, removed_hears, wakes_one}
-use Rattle.lot_laws.proofs.once.MovesKept.{all_hears, closes_so, rests_or_turns, stays_unshared, takes_all, told_so}
+use Rattle.lot_laws.proofs.once.MovesKept.{all_hears, rests_or_turns, stays_unshared, takes_all, told_so}
 use Rattle.lot_laws.proofs.calls.OtherCalls.{IsCalm, WakesOwn}
 use Rattle.lot_laws.proofs.rwlock.Kept.{left_calm, left_wakes, word_calm, calm_case, AreCalm}
 use Rattle.lot_laws.proofs.sites.StandsMoved.{mutex_rules}
@@ -408,27 +408,6 @@ module _ (w : State) (t l : ℕ) (at : OncePlace) (steady : IsSteady w) (shape :
       → Goes w (state_after_late_under w t (key_of l m)) l (acts t (once_deeds at Late))
   once_goes_late m e free = goes_in w t l steady there own (rules_in w l) refl (once_move at) same_row (once_hears at) m Late (next_place (place_at w t) Late) (section_there m)
       (nobody_is (section_at w (key_of l m)) free) (once_late_move at m e) (λ h. followed Late h)
-
--- its closure has answered, and it goes on behind it
-module _ (w : State) (t l : ℕ) (forced poisoned succeeded : Bool) (steady : IsSteady w) (there : t < length w.places)
-    (is : place_at w t ≡ Once l (Run forced (run.Closure poisoned))) where
-  of : IsOf l (place_at w t)
-  of = rw is refl
-
-  row : profile (place_at w t) ≡ once_profile (Run forced (run.Closure poisoned))
-  row = ap profile is
-
-  abbrev pub behind_closure : Place
-  behind_closure = next_place (place_at w t) (Closed succeeded)
-
-  pub closes_kept : Goes w (put w t behind_closure) l (acts t [])
-  closes_kept = closes_so w t l steady there of (rules_in w l) refl (once_move (Run forced (run.Closure poisoned))) row (once_acts_move l (Run forced (run.Closure poisoned))) succeeded (record {
-    of = next_of l (place_at w t) (Closed succeeded) of;
-    fits = subst (λ q. FitsItsLock w (next_place q (Closed succeeded))) (sym is) (subst (FitsItsLock w) is (steady.stands.calls t));
-    row = ap (λ q. profile (next_place q (Closed succeeded))) is;
-    needed = tt;
-    doing = doing_here l (place_at w t) of ∙ ap (λ (y : Profile). y.doing) row;
-  })
 
 -- ---------------------------------------------------------------- a call begins
 

@@ -11,7 +11,7 @@ use Rattle.steps_base.specs.declared.acts.Act.TheVariants.{Sleep}
 use Rattle.lot_steps.specs.declared.places.Place.TheVariants.{Idle}
 use Rattle.lot_steps.specs.Steps.{act_of}
 use Rattle.spec_locks.specs.Headline as headline
-use Rattle.spec_locks.specs.Headline.{MayTell, Behaves, Opens, full_by}
+use Rattle.spec_locks.specs.Headline.{MayTell, Behaves, Opens}
 use Rattle.lot_machine.specs.Machine.{State, opening, unlocked, place_at, filled_at, after, step_outcome, after_steps, step_outcomes}
 use Rattle.lot_laws.specs.Refinement.{locks_of, sleeps, keys_entered}
 use Rattle.lot_laws.specs.Promises.{IsKept, IsDebtorOf, IsLookedAfter, IsHandedOver}

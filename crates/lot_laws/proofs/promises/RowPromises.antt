@@ -11,7 +11,7 @@ use Rattle.steps_base.specs.Profiles.{Profile}
 use Rattle.lot_steps.specs.declared.places.Place.{Place}
 use Rattle.lot_steps.specs.Steps.{act_of, profile}
 use Rattle.spec_locks.specs.Codes.{parked_in}
-use Rattle.spec_locks.specs.Locks.{Sort, Taken}
+use Rattle.spec_locks.specs.Locks.{Sort}
 use Rattle.spec_locks.specs.Locks as sorts
 use Rattle.spec_locks.specs.Purposes.{Purpose, Enters, Releases, Converts, Bumps, CallsOnce, Awaits, IsReleasing, lock_for, Waits, Notifies}
 use Rattle.spec_locks.specs.Sites.{Line, Main, Second}

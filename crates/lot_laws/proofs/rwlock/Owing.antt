@@ -1,5 +1,5 @@
--- How a call of a reader-writer lock comes to owe a wake: by the word that it sees, and by entering a section. Whatever befalls a thread
--- changes nothing of that.
+-- A call of a reader-writer lock comes to owe a wake by the word that it sees, and by entering a
+-- section. An event that befalls a thread changes nothing of that.
 use Rattle.std.proofs.Common.{ℕ, Bool, true, false, Option, Some, None, if◌then◌else◌, ◌==◌, ◌&&◌, ◌≡◌, inl, inr, refl, sym, ◌∙◌, ap, subst}
 use Rattle.core_base.specs.declared.keys.Line.{Line}
 use Rattle.core_base.specs.declared.keys.Line.TheVariants.{Main, Second}

@@ -29,7 +29,7 @@ use Rattle.steps_base.specs.Calls.{CallFollows}
 use Rattle.steps_base.specs.Moves.{StaysPut, GoesIn, GoesOut, LeavesLine, AreLeaving, Parks, Waits, parks_in, row_of}
 use Rattle.steps_base.specs.Profiles.{Profile, in_hand}
 use Rattle.steps_base.specs.Owners.{lock_seen, shares_then}
-use Rattle.spec_locks.specs.Locks.{LockState, Rules}
+use Rattle.spec_locks.specs.Locks.{Rules}
 use Rattle.spec_locks.specs.Locks as locks
 use Rattle.spec_locks.specs.Sites.{Begin, Case, Claim, Deed, End, Has, In, Line, Main, Mark, Second, Site, has_readers}
 use Rattle.spec_locks.specs.Codes.{aside_in, code, has_parked, parked_in}

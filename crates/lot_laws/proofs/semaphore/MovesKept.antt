@@ -10,7 +10,7 @@ use Rattle.steps_base.specs.declared.acts.Whom.TheVariants as whom
 use Rattle.steps_base.specs.Moves.{Hears, Move, inside_of}
 use Rattle.steps_base.specs.Profiles.{in_hand}
 use Rattle.steps_base.specs.Stations.{Station}
-use Rattle.spec_locks.specs.Locks.{HasTakenNobody, Knows, KnowsAll, Queued, Rules, Semaphore, TakeFirst, first_thread, putting}
+use Rattle.spec_locks.specs.Locks.{HasTakenNobody, Knows, KnowsAll, Rules, Semaphore, TakeFirst, first_thread, putting}
 use Rattle.spec_locks.specs.Locks as locks
 use Rattle.spec_locks.specs.Picks.{queued_of}
 use Rattle.spec_locks.specs.Sites.{Case, FindNobody, Main, Site, idle, is_empty}
