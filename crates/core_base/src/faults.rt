@@ -1,7 +1,7 @@
 //! Why a call was refused.
 
 ghost use Rattle.std.specs.Prelude.{◌≡◌};
-ghost use Rattle.lot_base.specs.declared.faults.Fault.TheVariants.{NoMemory};
+ghost use Rattle.core_base.specs.declared.faults.Fault.TheVariants.{NoMemory};
 
 use std::alloc::{AllocError, AllocFailed};
 use thiserror::Error;
