@@ -1,5 +1,5 @@
-//! Pictures of schedules: a row for each thread, a column for each line that takes steps. What a
-//! picture shows is recorded while the schedule is replayed: what threads are to locks after each line.
+//! Pictures of schedules: a row for each thread, a column for each line that takes steps. While the
+//! schedule is replayed, what threads are to locks after each line is recorded.
 #![tactic(auto)]
 
 pub mod cells;
