@@ -3,6 +3,6 @@ pub mod Fields
 pub mod Opening
 pub mod Through
 pub mod Tracked
-mod Keeps
-mod Keeps
+mod KeyKeeps
+mod ShareKeeps
 pub mod Ghostly

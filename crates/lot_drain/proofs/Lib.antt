@@ -20,7 +20,7 @@ pub mod Few
 pub mod Pending
 pub mod Waits
 pub mod Sleepers
-pub mod Owners
+pub mod PlaceOwners
 pub mod Owned
 pub mod Began
 pub mod Waiting

@@ -13,7 +13,7 @@ pub mod Second
 pub mod Owned
 pub mod Began
 pub mod Waiting
-pub mod Drains
+pub mod Quiet
 pub mod Turns
 pub mod Leaving
 pub mod Full
