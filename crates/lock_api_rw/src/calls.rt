@@ -14,9 +14,9 @@ ghost use Rattle.spec_locks.specs.declared.outcomes.Answer.TheVariants as answer
 
 use crate::guards::{RwLockReadGuard, RwLockUpgradableReadGuard, RwLockWriteGuard};
 use crate::rwlock::RwLock;
+use core_base::{Clock, Fault};
 use lock_api::mutex::run_on;
 use lock_raw::{RawRwLock, RawRwLockTimed, RawRwLockUpgradeTimed};
-use core_base::{Clock, Fault};
 use std::sync::Wait;
 use std::time::Duration;
 

@@ -29,17 +29,17 @@ ghost use Rattle.parking_lot_core.specs.declared.tokens.Token.{Token};
 ghost use Rattle.run_locks.specs.Halves.{HasBegun, HasEnded};
 
 use core_base::{main_key, second_key};
-use spec_locks::{Access, Answer, Downgrade, Patience};
-use run_base::driver::FOR_EVER;
-use steps_rwlock::places::WRITER;
-use steps_rwlock::purposes::wanted;
-use steps_rwlock::{Admission, RwLockPurpose};
 use core_words::LotWords;
 use parking_lot_core::{Clock, Fault, Held, Key, Op, ParkingLot, Token, Want, Word, WordKind};
+use run_base::driver::FOR_EVER;
 use run_locks::rwlock_calls::{Rest, behind, call, call_fast, missed};
 use run_locks::rwlock_courses::{Settings, greater, lesser};
 use run_locks::rwlock_fair_calls::{bump, release_exclusive, release_upgradable};
+use spec_locks::{Access, Answer, Downgrade, Patience};
 use std::sync::{Arc, Wait};
+use steps_rwlock::places::WRITER;
+use steps_rwlock::purposes::wanted;
+use steps_rwlock::{Admission, RwLockPurpose};
 
 // Takes a word that is 0.
 const ENTER: Op = Op::Exchange {
