@@ -32,7 +32,7 @@ use Rattle.lot_drain.specs.Drains.{number}
 
 -- ---------------------------------------------------------------- what a call has got
 
--- what a call has got that began with nothing, or that has given up what it began with
+-- the right of a call that began with nothing, or that has given up the right it began with
 abbrev pub handed_off : HandOffAt → Bool
 handed_off hand_off.Enter = false
 handed_off hand_off.Take = false
@@ -69,7 +69,7 @@ bump_gain (purposes.Release x) at = nothing_if (is_waking at)
 bump_gain (purposes.Downgrade d) at = None
 bump_gain (purposes.Upgrade how) at = None
 
--- who was handed the lock has its right; a writer beside readers is pending
+-- a thread that was handed the lock has its right; a writer beside readers is pending
 abbrev pub handed_gain : Access → HandedAt → Gain
 handed_gain access.Exclusive (handed.Asleep by false) = Pending
 handed_gain access.Exclusive (handed.Asleep by true) = Right access.Exclusive

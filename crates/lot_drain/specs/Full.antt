@@ -16,7 +16,7 @@ pub record IsStrict (w : State) : Type 0 where
   pub fresh : (t : ℕ) (x : Want) (fair : Bool) → (call_at w t).purpose ≡ Some (Releases 0 x fair)
       → (call_at w t).released ≡ false
       → (call_at w t).former 0 ≡ with_right x no_rights
-  -- whoever owns is a thread that is there
+  -- each owner is a thread that is there
   pub past : (t : ℕ) → length w.places ≤ t → rights_of (lock_state w 0) t ≡ no_rights
 
 abbrev pub FullIsEmpty : Type 0

@@ -61,7 +61,7 @@ out_of_second zero d = d
 out_of_second (suc n) d = where_inside (section_at d.state 1) d
     (λ t. out_of_second n (one_more d (go_of t)))
 
--- whoever is inside that of the main queue goes on until it rests
+-- a thread inside that of the main queue goes on until it rests
 abbrev pub out_of_main : Progress → Progress
 out_of_main d = where_inside (section_at d.state 0) d (go_alone d)
 

@@ -115,8 +115,7 @@ drained names w =
     then (running names (after_steps w (schedule_of w)), drain_lines names (schedule_of w))
     else (running names w, drain_refused_line)
 
--- what a turn, a `show` or a `drain` leads to in a world, or none where it names no lock or is none
--- of these
+-- the effect of a turn, a `show` or a `drain` in a world, or none where it names no lock or is none of these
 abbrev pub played : List (List ℕ) → State → Command → Option (Stage × List ℕ)
 played names w (command.TheVariants.Turn t turn) =
     option_map (acted names w t) (action_of names w turn)

@@ -60,7 +60,7 @@ abbrev pub LookOwns : Type 0 → ℕ → OnceCall → Look → List Ownership �
 LookOwns up n c (Ended answer) base owns last = LooksAnswer up n c base answer owns last
 LookOwns up n c (Runs state) base owns last = OwnsRun n base owns
 
--- who saw waiters left the section in which it took all of them, and else there was no further step
+-- a thread that saw waiters left the section in which it took all of them, and else there was no further step
 abbrev pub WokeIfMarked : ℕ → Bool → List WordStep → Option SectionRecord → Type 0
 WokeIfMarked n true more last = WokeAll n last
 WokeIfMarked n false more last = (more ≡ []) × (last ≡ None)

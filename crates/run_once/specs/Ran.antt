@@ -73,8 +73,8 @@ HasRun n forced succeeded state old new =
     × EndsRun n forced succeeded mid (steps_of new)
     × Closes n succeeded mid (steps_of new) (last_of new)
 
--- what the answer of a call says, by what its closure answers in a state: it is Ok where the call
--- began no run and saw the `Once` done, or where its own closure succeeded
+-- the answer of a call is true, by what its closure answers in a state: it is Ok where the call began no run
+-- and saw the `Once` done, or where its own closure succeeded
 abbrev pub CalledOnce : {E : Type 0} → ℕ → Bool → (OnceState → Result (Unit {0}) E → Type 0) → Token
     → Token → Result (Unit {0}) (OnceFault E) → Type 0
 CalledOnce n forced ran old new (Ok done) = SawDone n old new

@@ -74,12 +74,12 @@ abbrev pub HasWalked : ℕ → SemaphoreCall → Answer → Token → Token → 
 HasWalked n call answer old new =
     Walks (at_semaphore n) (semaphore_begin n call) (steps_of old) (steps_of new) answer
 
--- of one that waits, up to a deadline or without one
+-- a call that waits, up to a deadline or without one
 abbrev pub HasWaited : ℕ → Bool → Answer → Token → Token → Type 0
 HasWaited n timed answer old new =
     Walks (at_semaphore n) (waiting n timed) (steps_of old) (steps_of new) answer
 
--- what a call answers that gives a permit, or none
+-- the answer of a call that gives a permit, or none
 abbrev pub answer_by : {P : Type 0} → Answer → Option P → Answer
 answer_by given None = answers.No
 answer_by given (Some permit) = given
