@@ -65,13 +65,13 @@ true_lt m n h = grind (arith, nat_tests)
 
 -- ---------------------------------------------------------------- one thread
 
--- what is asked of one
+-- tells what is asked of one
 record Holds (p : Place) (rights : ℕ → Rights) : Type 0 where
   few : IsFew (rights 0)
   none_before : HasNoneBefore (call_state p rights)
   unpending : PendsInCall (call_state p rights).purpose (rights 0)
 
--- who was handed the mutex owns it
+-- a thread that was handed the mutex owns it
 abbrev Owns : Place → Rights → Type 0
 Owns place.Idle r = Unit {0}
 Owns (place.Mutex l m) r = OwnsHanded m r
@@ -151,7 +151,7 @@ owners_drain kind.Condvar = (λ e. absurd cc, λ u. absurd u)
 owners_drain kind.Once = (λ e. absurd cc, λ u. absurd u)
 owners_drain (kind.Semaphore permits) = (λ e. absurd cc, λ u. absurd u)
 
--- whoever owns alone is one of n threads
+-- each thread that owns alone is one of n threads
 past_thread : (o : Option ℕ) (n t : ℕ) → is_below o n ≡ true → n ≤ t → is_thread t o ≡ 0
 past_thread None n t h past = refl
 past_thread (Some u) n t h past = let low = lt_true u n h in grind (arith, nat_tests)
@@ -242,7 +242,7 @@ owns_at w t (place.Once l o) world h is = absurd h
 owns_at w t (place.Semaphore l o) world h is = absurd h
 owns_at w t (place.Condvar l v) world h is = absurd h
 
--- what one thread holds, by its place
+-- tells what one thread holds, by its place
 one_tells : (w : State) (t : ℕ) → IsWorld w → HasOneLock w → (here w t ≡ true) ↔ Holds (place_at w t) (λ l. rights_of (lock_state w l) t)
 one_tells w t world single =
     let own = of_owners (length w.locks) (kind_at w) (place_at w t) single.one single.sort (world.shaped.places t) (world.shaped.kinds t) in
@@ -262,7 +262,7 @@ past_rights w t world below past =
 past_idle : (w : State) (t : ℕ) → length w.places ≤ t → place_at w t ≡ place.Idle
 past_idle w t past = get_or_past w.places t place.Idle past
 
--- who isn't there holds nothing
+-- a thread that isn't there holds nothing
 past_holds : (w : State) (t : ℕ) → length w.places ≤ t → rights_of (lock_state w 0) t ≡ no_rights → Holds (place_at w t) (λ l. rights_of (lock_state w l) t)
 past_holds w t past none =
     let rights : ℕ → Rights = λ l. rights_of (lock_state w l) t in

@@ -109,7 +109,7 @@ lock_tells entry.LockTimed true rights few owns = exclusive_tells (rights 0) few
 lock_tells entry.Bump false rights few owns = bump_tells access.Exclusive (number (rights 0) == 0) (rights 0) (none_tells (rights 0))
 lock_tells entry.Bump true rights few owns = bump_handed (rights 0) few (owns refl)
 
--- who was handed the mutex owns it
+-- a thread that was handed the mutex owns it
 abbrev pub OwnsHanded : MutexPlace → Rights → Type 0
 OwnsHanded (mutex.Lock e retries at) r = was_handed at ≡ true → 1 ≤ r.exclusive
 OwnsHanded mutex.TryLock r = Unit {0}

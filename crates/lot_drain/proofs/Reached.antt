@@ -108,7 +108,7 @@ module _ (w : State) (h : IsReached w) (s : Step) where
   stepped : IsStep (locks_of w) s (step_outcome w s) (locks_of v)
   stepped = after_step w s h.world.shaped h.world.steady h.world.counted h.world.condvars
 
-  -- what is kept, but for the world and its lock
+  -- tells what is kept, but for the world and its lock
   record AreKept : Type 0 where
     pub past : (u : ℕ) → length w.places ≤ u → rights_of (lock_state v 0) u ≡ no_rights
     pub began : AllBeganUnpending (locks_of v)

@@ -17,7 +17,7 @@ use Rattle.lot_replay.specs.Stages.{Stage, nothing, declaring, running, done_by,
 use Rattle.lot_replay.specs.Answers.{MayTakeMemory}
 use Rattle.lot_replay.specs.Replay.{Declares, MayLackMemory, is_declaration}
 
--- what the lines so far are at a stage
+-- tells what the lines so far are at a stage
 abbrev pub StillDeclares : Stage → List (List ℕ) → Type 0
 StillDeclares nothing done = done ≡ []
 StillDeclares (declaring threads names kinds) done = All Declares done × (1 ≤ length done)

@@ -56,7 +56,7 @@ module _ (n : ℕ) where
   on_base true base owns times k = let rest = again k.0 times base in (rest.0, k.1 ∙ ap (λ (owns : List Ownership). owning (once_at n) Witness ∷ owns) rest.1)
   on_base false base owns times k = let rest = again k.0 times base in (rest.0, k.1 ∙ rest.1)
 
-  -- who runs has its run
+  -- a thread that runs has its run
   pub has_run : (base owns : List Ownership) → OwnsRun n base owns → has (owning (once_at n) Runner) owns ≡ true
   has_run base owns r = subst (λ (l : List Ownership). has (owning (once_at n) Runner) l ≡ true) (sym r.2) (has_first (once_at n) Runner r.0)
 
@@ -80,7 +80,7 @@ module _ (n : ℕ) where
   came up c old new answers.Poisoned same by over = ((same, over.1), by, over.0)
   came up c old new answer same by over = absurd over
 
-  -- who finds it done knows it, and any call ends with that
+  -- a thread that finds it done knows it, and any call ends with that
   pub found_done : (seen : ℕ) (old new : Token) → is_done seen ≡ true → HasSeen n seen old new → FoundDone n old new
   found_done seen old new done saw = let call = Wait true in let over = subst (λ (a : Act). ReachedBy ⊥ (owns_of old) (aim_of (once_begin n call)) (next_place (once_begin n call) (Value seen)) (answer_of a) (stage_of new None)) (done_ends n call seen done) (saw.2 call) in
       ((saw.0, stays_of true (owns_of old) (owns_of new) over.1.1), over.1.1, λ (c : OnceCall). looks_ended n c seen (steps_of old) (steps_of new) (when_done c) saw.1 (done_ends n c seen done))

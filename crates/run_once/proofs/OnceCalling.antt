@@ -140,7 +140,7 @@ module _ (n : ℕ) where
       word_tells : (c : OnceCall) (seen : ℕ) → Brings (at_once n) (once_begin n c) (step (once_at n) Load seen) (Value seen)
       word_tells c seen = word (once_begin n c) n Load seen refl
 
-  -- who finds it done ends
+  -- a thread that finds it done ends
   pub done_ends : (c : OnceCall) (seen : ℕ) → is_done seen ≡ true → next_act (once_begin n c) (Value seen) ≡ act.TheVariants.End (when_done c)
   done_ends (CallOnce forced) seen e = rw e refl
   done_ends (Wait forced) seen e = rw e refl
@@ -170,7 +170,7 @@ module _ (n : ℕ) where
       by_answer answers.Poisoned h = h
       by_answer answer h = absurd h
 
-  -- what is owned behind the step that ends a run
+  -- tells what is owned behind the step that ends a run
   abbrev Behind : Bool → List Ownership → ℕ → Type 0
   Behind s owns seen = seen / 4 % 2 ≡ 1 → OwnsBehind n s (without (owning (once_at n) Runner) owns) (owns_after_step kinds.TheVariants.Once (once_at n) (Swap (word_behind s)) seen owns)
 
@@ -192,7 +192,7 @@ module _ (n : ℕ) where
   word_left true = inl refl
   word_left false = inr refl
 
-  -- whoever runs it finds it running
+  -- each thread that runs it finds it running
   pub runs_found : (seen : ℕ) (owns : List Ownership) → CodesWith kinds.TheVariants.Once (once_at n) seen owns → has (owning (once_at n) Runner) owns ≡ true → seen / 4 % 2 ≡ 1
   runs_found seen owns code mine = let some : 0 < owned (once_at n) runner owns = owned_some (once_at n) Runner owns mine runner (omega arith) in omega (arith, code.1.1, code.2 runner, some)
 

@@ -39,7 +39,7 @@ pub semaphore_alone : (w : Word) (at : SemaphorePlace) → IsSemaphore w → w.n
 semaphore_alone w at is small = (small, (is.0, ap {B = ℕ → kinds.WordKind} (λ (kind : kinds.WordKind) (lock : ℕ). kind) is.1), semaphore_at_alone w is)
 
 module _ (n permits p : ℕ) (kind : kinds.WordKind) (is : kind ≡ kinds.TheVariants.Semaphore p) (owns rest : List Ownership) (all : owns ≡ holding (semaphore_at n) permits ++ rest) where
-  -- who holds all permits may give all
+  -- a thread that holds all permits may give all
   pub may_fill : MayStep kind (word_index n kind) (Add (2 * permits)) owns
   may_fill = subst (λ (k : kinds.WordKind). MayStep k (word_index n k) (Add (2 * permits)) owns) (sym is)
       (subst (λ (o : List Ownership). MayStep (kinds.TheVariants.Semaphore p) (semaphore_at n) (Add (2 * permits)) o) (sym all)

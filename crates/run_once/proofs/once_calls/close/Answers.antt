@@ -26,7 +26,7 @@ word-seen-requires-clause-may g c = let n = c.args.word.number in
     (subst (λ (left : ℕ). MayStep Once (once_at c.args.word.number) (Swap left) (owns_of c.args.token.now)) (sym c.word_behind.ensures)
     ((once_steps (once_at n) (owns_of c.args.token.now)).finish (word_behind c.args.succeeded) (word_left n c.args.succeeded) c.requires.runs))
 
--- what the thread owns behind the step that ended its run
+-- tells what the thread owns behind the step that ended its run
 behind : (n : ℕ) (s : Bool) (seen left : ℕ) (kind : WordKind) (owns new : List Ownership) → kind ≡ Once → left ≡ word_behind s → CodesWith kind (word_index n kind) seen owns → has (owning (once_at n) Runner) owns ≡ true
     → new ≡ owns_after_step kind (word_index n kind) (Swap left) seen owns → OwnsBehind n s (without (owning (once_at n) Runner) owns) new
 behind n s seen left kind owns new once same coded runs is = let code = subst (λ (kind : WordKind). CodesWith kind (word_index n kind) seen owns) once coded in
