@@ -3,20 +3,20 @@
 ghost use Rattle.std.specs.Prelude.{◌≡◌, IfErr, IfNone, IfOk, IfSome, MatchResult};
 ghost use Rattle.std.specs.Duration.{as_nanos};
 ghost use Rattle.std.specs.Fn.{FnOnceReturnsAt, FnOnceReturnsAtMut};
-ghost use Rattle.lot_base.specs.Clocks.{HasElapsed, HasPassed};
+ghost use Rattle.core_base.specs.Clocks.{HasElapsed, HasPassed};
 ghost use Rattle.lock_raw.specs.Answers.{IsFull, TriesOrFull, answer_by, counted_answer};
 ghost use Rattle.lock_api.specs.Visits.{CameAndWent};
 ghost use Rattle.lock_api_rw.specs.Guards.{lock_of};
-ghost use Rattle.lot_calls.specs.declared.calls.Access.TheVariants as access;
-ghost use Rattle.lot_calls.specs.declared.calls.Patience.TheVariants.{Patient, Timed};
-ghost use Rattle.lot_calls.specs.declared.calls.RwLockCall.TheVariants.{Enter, Release};
-ghost use Rattle.lot_calls.specs.declared.outcomes.Answer.TheVariants as answers;
+ghost use Rattle.spec_locks.specs.declared.calls.Access.TheVariants as access;
+ghost use Rattle.spec_locks.specs.declared.calls.Patience.TheVariants.{Patient, Timed};
+ghost use Rattle.spec_locks.specs.declared.calls.RwLockCall.TheVariants.{Enter, Release};
+ghost use Rattle.spec_locks.specs.declared.outcomes.Answer.TheVariants as answers;
 
 use crate::guards::{RwLockReadGuard, RwLockUpgradableReadGuard, RwLockWriteGuard};
 use crate::rwlock::RwLock;
 use lock_api::mutex::run_on;
 use lock_raw::{RawRwLock, RawRwLockTimed, RawRwLockUpgradeTimed};
-use lot_base::{Clock, Fault};
+use core_base::{Clock, Fault};
 use std::sync::Wait;
 use std::time::Duration;
 

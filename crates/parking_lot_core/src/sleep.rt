@@ -1,13 +1,13 @@
 //! Sleep, until somebody wakes the thread or its time is up.
 ghost use Rattle.std.specs.Prelude.{◌≡◌, ◌<◌, IfSome, None};
-ghost use Rattle.lot_base.specs.Clocks.{IsUp};
+ghost use Rattle.core_base.specs.Clocks.{IsUp};
 
 use crate::lot::ParkingLot;
 use crate::pauses::pause;
 use crate::sections::Section;
 use crate::tokens::Token;
-use lot_base::{Clock, Key, Keys, Note, Want};
-use lot_words::{Right, Word};
+use core_base::{Clock, Key, Keys, Note, Want};
+use core_words::{Right, Word};
 use std::sync::Wait;
 
 // How often a thread polls its note before it parks, and the rounds of the pause behind each poll:

@@ -3,8 +3,8 @@ ghost use Rattle.std.specs.Prelude.{◌≡◌, ◌==◌, not, None};
 
 use crate::expected::Expected;
 use crossbeam_utils::sync::Parker;
-use lot_base::{Key, Requeue, Want};
-use lot_words::Seat;
+use core_base::{Key, Requeue, Want};
+use core_words::Seat;
 use std::marker::PhantomData;
 
 /// The waiters that a section took or moved.
