@@ -4,3 +4,4 @@ pub mod SemaphoreUsers
 pub mod RwLockGuards
 pub mod RwLockUsers
 pub mod Users
+pub mod Names

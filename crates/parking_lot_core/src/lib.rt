@@ -9,6 +9,7 @@ pub mod lot;
 pub mod pauses;
 pub mod sections;
 pub mod sleep;
+pub mod team;
 pub mod tokens;
 pub mod waiters;
 pub mod words;
@@ -21,5 +22,6 @@ pub use lot_base::{
 pub use lot_words::{Held, OpenHeld, Owner, Right, Word, WordKind};
 pub use sections::Section;
 pub use sleep::Slept;
+pub use team::DEFAULT_WORDS;
 pub use tokens::{Did, SectionRecord, Ticket, Token};
 pub use value_place::Permit;
